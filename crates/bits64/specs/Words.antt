@@ -3,7 +3,7 @@
 -- The manual speaks of XLEN bits, and of 32 bits at the instructions of RV64I that end in W. Here w stands for either; 8 and 16 bits, which
 -- have no instructions of their own, are read in the same words.
 -- Of an operand only the low bits_of w bits count: it may be any number. Each result but sign_extended's is below 2 ^ bits_of w.
-use Rattle.std.specs.Prelude.{◌≡◌, ℕ, ◌+◌, ◌-◌, ◌*◌, ◌/◌, ◌%◌, ◌^◌, ◌==◌, nat_lt, ℤ, pos, negsuc, ◌-ℤ◌, ◌*ℤ◌, if◌then◌else◌, Bool, int_div, int_rem, int_lt}
+use Rattle.std.specs.Prelude.{◌≡◌, ℕ, ◌+◌, ◌-◌, ◌*◌, ◌/◌, ◌%◌, ◌^◌, ◌==◌, nat_lt, ℤ, pos, negsuc, neg_ℤ, ◌-ℤ◌, ◌*ℤ◌, if◌then◌else◌, Bool, int_div, int_rem, int_lt}
 use Rattle.std.specs.Int.{int_shr}
 use Rattle.bits64.specs.declared.Width.{Width}
 use Rattle.bits64.specs.declared.Width.TheVariants.{W8, W16, W32, W64}
@@ -85,6 +85,10 @@ quotient_unsigned w a b = if low w b == 0 then 2 ^ bits_of w - 1 else low w a / 
 -- REMU: the dividend where the divisor is zero
 abbrev pub remainder_unsigned : Width → ℕ → ℕ → ℕ
 remainder_unsigned w a b = if low w b == 0 then low w a else low w a % low w b
+
+-- "Signed division overflow occurs only when the most-negative integer is divided by -1"
+abbrev pub DivisionOverflows : Width → ℕ → ℕ → Type 0
+DivisionOverflows w a b = (signed w a ≡ neg_ℤ (pos (2 ^ (bits_of w - 1)))) × (signed w b ≡ neg_ℤ (pos 1))
 
 -- DIV: rounded towards zero; all bits set, which is -1, where the divisor is zero. The least number divided by -1 is 2 ^ (w - 1), which
 -- wraps to the dividend: the overflow needs no case of its own

@@ -5,10 +5,10 @@
 //! shift counts past the width included, and it takes no memory.
 #![tactic(auto)]
 
-ghost use Rattle.std.specs.Prelude.{◌≡◌, ◌<◌, ◌≤◌, ◌^◌, ◌-◌};
-ghost use Rattle.std.specs.Prelude.{int_div, int_rem, ◌*ℤ◌};
+ghost use Rattle.std.specs.Prelude.{◌≡◌, ◌+◌, ◌*◌, ◌%◌, ◌<◌, ◌≤◌, ◌^◌, ◌-◌, pos};
+ghost use Rattle.std.specs.Prelude.{int_div, int_rem, ◌+ℤ◌, ◌-ℤ◌, ◌*ℤ◌};
 ghost use Rattle.std.specs.Int.{w64, int_shr, IsNonZero};
-ghost use Rattle.bits64.specs.Words.{bits_of, bytes_of, low, sum_of, difference_of, product_of, high_unsigned, quotient_unsigned, remainder_unsigned, shifted_left, shifted_right, less_unsigned, signed, wrapped, sign_extended, zero_extended, high_signed, high_mixed, quotient_signed, remainder_signed, shifted_arithmetic, less_signed};
+ghost use Rattle.bits64.specs.Words.{bits_of, bytes_of, low, sum_of, difference_of, product_of, high_unsigned, quotient_unsigned, remainder_unsigned, shifted_left, shifted_right, less_unsigned, signed, wrapped, sign_extended, zero_extended, high_signed, high_mixed, quotient_signed, remainder_signed, shifted_arithmetic, less_signed, DivisionOverflows};
 
 /// How many bits of a word are meant.
 #[derive(Clone, Copy, Debug, PartialEq, Eq, PartialOrd, Ord)]
@@ -115,4 +115,201 @@ fn wrap_wide(z: i128, w: Width) -> u64
         Width::W32 => (bits & 0xffff_ffff) as u64,
         Width::W64 => (bits & 0xffff_ffff_ffff_ffff) as u64,
     }
+}
+
+/// The product of two signed words, which fits 128 bits.
+fn product(a: i64, b: i64) -> i128
+    ensures { result ≡ a *ℤ b }
+{
+    i128::from(a) * i128::from(b)
+}
+
+/// The product of a signed and an unsigned word, which fits 128 bits.
+fn mixed_product(a: i64, b: u64) -> i128
+    ensures { result ≡ a *ℤ pos b }
+{
+    i128::from(a) * i128::from(b)
+}
+
+/// The upper half of a product of two words.
+fn high_half(product: i128, w: Width) -> u64
+    ensures { result ≡ wrapped w (int_shr product (bits_of w)) }
+{
+    wrap_wide(product >> w.bits(), w)
+}
+
+/// The sum; a carry is dropped.
+pub fn add(a: u64, b: u64, w: Width) -> u64
+    ensures value { result ≡ sum_of w a b }
+    ensures fits { result < 2 ^ bits_of w }
+    ensures signed { result ≡ wrapped w (signed w a +ℤ signed w b) }
+{
+    trunc(a.wrapping_add(b), w)
+}
+
+/// The difference; a borrow is dropped.
+pub fn sub(a: u64, b: u64, w: Width) -> u64
+    ensures value { result ≡ difference_of w a b }
+    ensures fits { result < 2 ^ bits_of w }
+    ensures signed { result ≡ wrapped w (signed w a -ℤ signed w b) }
+{
+    trunc(a.wrapping_sub(b), w)
+}
+
+/// The lower half of the product, which is the same for signed and unsigned words.
+pub fn mul(a: u64, b: u64, w: Width) -> u64
+    ensures value { result ≡ product_of w a b }
+    ensures fits { result < 2 ^ bits_of w }
+    ensures signed { result ≡ wrapped w (signed w a *ℤ signed w b) }
+{
+    trunc(a.wrapping_mul(b), w)
+}
+
+/// The upper half of the product of two signed words.
+pub fn mulh(a: u64, b: u64, w: Width) -> u64
+    ensures value { result ≡ high_signed w a b }
+    ensures fits { result < 2 ^ bits_of w }
+    ensures whole { signed w result *ℤ pos (2 ^ bits_of w) +ℤ pos (product_of w a b) ≡ signed w a *ℤ signed w b }
+{
+    high_half(product(to_signed(a, w), to_signed(b, w)), w)
+}
+
+/// The upper half of the product of two unsigned words.
+pub fn mulhu(a: u64, b: u64, w: Width) -> u64
+    ensures value { result ≡ high_unsigned w a b }
+    ensures fits { result < 2 ^ bits_of w }
+    ensures whole { result * 2 ^ bits_of w + product_of w a b ≡ low w a * low w b }
+{
+    let product = u128::from(trunc(a, w)) * u128::from(trunc(b, w));
+    (product >> w.bits()) as u64
+}
+
+/// The upper half of the product of a signed and an unsigned word.
+pub fn mulhsu(a: u64, b: u64, w: Width) -> u64
+    ensures value { result ≡ high_mixed w a b }
+    ensures fits { result < 2 ^ bits_of w }
+    ensures whole { signed w result *ℤ pos (2 ^ bits_of w) +ℤ pos (product_of w a b) ≡ signed w a *ℤ pos (low w b) }
+{
+    high_half(mixed_product(to_signed(a, w), trunc(b, w)), w)
+}
+
+/// The quotient of two signed words, rounded toward zero. By zero it is -1; the least number divided by -1 gives itself.
+pub fn div(a: u64, b: u64, w: Width) -> u64
+    ensures value { result ≡ quotient_signed w a b }
+    ensures fits { result < 2 ^ bits_of w }
+    ensures overflow { DivisionOverflows w a b → result ≡ low w a }
+{
+    if trunc(b, w) == 0 {
+        w.all_ones()
+    } else {
+        quotient(to_signed(a, w), to_signed(b, w), w)
+    }
+}
+
+/// A quotient, which is 2 ^ 63 where the least number is divided by -1.
+fn quotient(a: i64, b: i64, w: Width) -> u64
+    requires { IsNonZero w64 b }
+    ensures { result ≡ wrapped w (int_div a b) }
+{
+    wrap(a.wrapping_div(b), w)
+}
+
+/// The quotient of two unsigned words, rounded down. By zero it is all ones.
+pub fn udiv(a: u64, b: u64, w: Width) -> u64
+    ensures value { result ≡ quotient_unsigned w a b }
+    ensures fits { result < 2 ^ bits_of w }
+{
+    let divisor = trunc(b, w);
+    if divisor == 0 {
+        w.all_ones()
+    } else {
+        trunc(a, w) / divisor
+    }
+}
+
+/// The remainder of two signed words, with the sign of the dividend. By zero it is the dividend; the least number divided by -1
+/// leaves 0.
+pub fn rem(a: u64, b: u64, w: Width) -> u64
+    ensures value { result ≡ remainder_signed w a b }
+    ensures fits { result < 2 ^ bits_of w }
+    ensures overflow { DivisionOverflows w a b → result ≡ 0 }
+    ensures dividend {
+        ¬ (DivisionOverflows w a b) →
+            signed w (quotient_signed w a b) *ℤ signed w b +ℤ signed w result ≡ signed w a
+    }
+{
+    if trunc(b, w) == 0 {
+        trunc(a, w)
+    } else {
+        remainder(to_signed(a, w), to_signed(b, w), w)
+    }
+}
+
+/// A remainder, which is 0 where the least number is divided by -1.
+fn remainder(a: i64, b: i64, w: Width) -> u64
+    requires { IsNonZero w64 b }
+    ensures { result ≡ wrapped w (int_rem a b) }
+{
+    wrap(a.wrapping_rem(b), w)
+}
+
+/// The remainder of two unsigned words. By zero it is the dividend.
+pub fn urem(a: u64, b: u64, w: Width) -> u64
+    ensures value { result ≡ remainder_unsigned w a b }
+    ensures fits { result < 2 ^ bits_of w }
+    ensures dividend { low w b * quotient_unsigned w a b + result ≡ low w a }
+{
+    let divisor = trunc(b, w);
+    if divisor == 0 {
+        trunc(a, w)
+    } else {
+        trunc(a, w) % divisor
+    }
+}
+
+/// A shift count, modulo the width.
+fn count(b: u64, w: Width) -> u32
+    ensures value { result ≡ b % bits_of w }
+    ensures small { result < 64 }
+{
+    (b % u64::from(w.bits())) as u32
+}
+
+/// The word shifted to the left, with zeros below.
+pub fn shl(a: u64, b: u64, w: Width) -> u64
+    ensures value { result ≡ shifted_left w a b }
+    ensures fits { result < 2 ^ bits_of w }
+{
+    trunc(a << count(b, w), w)
+}
+
+/// The word shifted to the right, with zeros above.
+pub fn shr(a: u64, b: u64, w: Width) -> u64
+    ensures value { result ≡ shifted_right w a b }
+    ensures fits { result < 2 ^ bits_of w }
+{
+    trunc(a, w) >> count(b, w)
+}
+
+/// The word shifted to the right, with copies of its highest bit above.
+pub fn sar(a: u64, b: u64, w: Width) -> u64
+    ensures value { result ≡ shifted_arithmetic w a b }
+    ensures fits { result < 2 ^ bits_of w }
+    ensures signed { signed w result ≡ int_shr (signed w a) (b % bits_of w) }
+{
+    wrap(to_signed(a, w) >> count(b, w), w)
+}
+
+/// Whether the first of two signed words is the smaller.
+pub fn lt(a: u64, b: u64, w: Width) -> bool
+    ensures { result ≡ less_signed w a b }
+{
+    to_signed(a, w) < to_signed(b, w)
+}
+
+/// Whether the first of two unsigned words is the smaller.
+pub fn ltu(a: u64, b: u64, w: Width) -> bool
+    ensures { result ≡ less_unsigned w a b }
+{
+    trunc(a, w) < trunc(b, w)
 }

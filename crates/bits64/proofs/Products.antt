@@ -1,13 +1,13 @@
 -- The lower half of a product is the same for signed and unsigned words, and the two halves make the whole.
-use Rattle.std.proofs.Common.{◌≡◌, ◌<◌, ◌≤◌, ◌+◌, ◌-◌, ◌*◌, ◌/◌, ◌^◌, ◌%◌, ℕ, zero, suc, ℤ, pos, negsuc, neg_ℤ, ◌+ℤ◌, ◌*ℤ◌, unsigned_abs, arith, refl, sym, ap, ◌∙◌, lit≤}
+use Rattle.std.proofs.Common.{◌≡◌, ◌<◌, ◌≤◌, ◌+◌, ◌-◌, ◌*◌, ◌^◌, ℕ, suc, ℤ, pos, negsuc, ◌+ℤ◌, ◌*ℤ◌, unsigned_abs, arith, sym, ap, ◌∙◌, lit≤}
 use Rattle.std.proofs.Math.Nat.{mul-le-mul}
-use Rattle.std.proofs.lemmas.Nat.{mul-mod, div-add-mod', div_below}
+use Rattle.std.proofs.lemmas.Nat.{mul-mod, div-add-mod'}
 use Rattle.std.proofs.lemmas.Int.{unsigned_abs-mul}
 use Rattle.std.specs.Int.{int_shr}
 use Rattle.bits64.specs.declared.Width.{Width}
 use Rattle.bits64.specs.declared.Width.TheVariants.{W8, W16, W32, W64}
 use Rattle.bits64.specs.Words.{bits_of, low, signed, wrapped, product_of, high_signed, high_unsigned, high_mixed}
-use Rattle.bits64.proofs.Readings.{LiesWithin, signed-wrapped, wrapped-neg, low-same, low-fits, by_half, signed-fits, unsigned_abs-signed, whole-half}
+use Rattle.bits64.proofs.Readings.{LiesWithin, signed-wrapped, wrapped-neg, low-same, low-fits, by_half, unsigned_abs-signed}
 
 -- ---- the lower half
 
@@ -45,8 +45,8 @@ wrapped-product w a b =
     by_half (λ y. wrapped w (signed w a *ℤ y) ≡ product_of w a b) w b
     (λ _. wrapped-mixed_product w a b)
     (λ _. by_half (λ x. wrapped w (x *ℤ negsuc (2 ^ bits_of w - 1 - low w b)) ≡ product_of w a b) w a
-        (λ _. wrapped-neg_right w (low w a) (low w b) (low-fits w b) ∙ low-product w a b)
-        (λ _. wrapped-neg_both w (low w a) (low w b) (low-fits w a) (low-fits w b) ∙ low-product w a b))
+    (λ _. wrapped-neg_right w (low w a) (low w b) (low-fits w b) ∙ low-product w a b)
+    (λ _. wrapped-neg_both w (low w a) (low w b) (low-fits w a) (low-fits w b) ∙ low-product w a b))
 
 -- ---- both halves
 

@@ -1,5 +1,5 @@
 -- Wrapping a quotient, and what quotient and remainder make together.
-use Rattle.std.proofs.Common.{◌≡◌, ◌≢◌, ◌<◌, ◌≤◌, ◌+◌, ◌-◌, ◌*◌, ◌^◌, ◌/◌, ◌%◌, ◌==◌, ℕ, zero, suc, ℤ, pos, negsuc, neg_ℤ, ◌+ℤ◌, ◌*ℤ◌, w64, to_z, of_z, arith, unsigned_abs, int_div, int_rem, FitsSigned, Bool, true, false, cond, nat_lt, if◌then◌else◌, refl, sym, ap, ◌∙◌, inl, inr}
+use Rattle.std.proofs.Common.{◌≡◌, ◌<◌, ◌≤◌, ◌-◌, ◌^◌, ◌/◌, ◌%◌, ◌==◌, ℕ, zero, suc, ℤ, pos, negsuc, neg_ℤ, ◌+ℤ◌, ◌*ℤ◌, w64, to_z, of_z, arith, unsigned_abs, int_div, int_rem, FitsSigned, Bool, true, false, cond, nat_lt, if◌then◌else◌, refl, ap, inl, inr}
 use borrow.Author.Tests.{eqb-true}
 use Rattle.std.proofs.Math.Nat.{div-le_self, mod-le, mod-mod, eq-or-lt_of_le}
 use Rattle.std.proofs.lemmas.Nat.{div_below}
@@ -58,8 +58,8 @@ quotient-within h (negsuc a) (pos b) p no_overflow =
     neg-within h (suc a / b) (positive h (negsuc a) p) (omega (arith, p, div-le_self (suc a) b))
 quotient-within h (negsuc a) (negsuc zero) p no_overflow =
     elim (eq-or-lt_of_le {n = suc a} {m = h} (omega (arith, p))) [
-      inl e ↦ absurd (no_overflow (ap (λ k. neg_ℤ (pos k)) e, refl))
-    | inr l ↦ omega (arith, l)
+      | inl e ↦ absurd (no_overflow (ap (λ k. neg_ℤ (pos k)) e, refl))
+      | inr l ↦ omega (arith, l)
     ]
 quotient-within h (negsuc a) (negsuc (suc b)) p no_overflow =
     div_below (suc a) (suc (suc b)) h (omega arith) (omega (arith, p))

@@ -233,10 +233,8 @@ pub fn rem(a: u64, b: u64, w: Width) -> u64
     ensures value { result ≡ remainder_signed w a b }
     ensures fits { result < 2 ^ bits_of w }
     ensures overflow { DivisionOverflows w a b → result ≡ 0 }
-    ensures dividend {
-        ¬ (DivisionOverflows w a b) →
-            signed w (quotient_signed w a b) *ℤ signed w b +ℤ signed w result ≡ signed w a
-    }
+    ensures dividend { ¬ (DivisionOverflows w a b) →
+        signed w (quotient_signed w a b) *ℤ signed w b +ℤ signed w result ≡ signed w a }
 {
     if trunc(b, w) == 0 {
         trunc(a, w)
@@ -313,3 +311,6 @@ pub fn ltu(a: u64, b: u64, w: Width) -> bool
 {
     trunc(a, w) < trunc(b, w)
 }
+
+#[cfg(test)]
+mod tests;

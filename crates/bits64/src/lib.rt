@@ -5,17 +5,23 @@
 //! shift counts past the width included, and it takes no memory.
 #![tactic(auto)]
 
-ghost use Rattle.std.specs.Prelude.{◌≡◌, ◌+◌, ◌*◌, ◌%◌, ◌<◌, ◌≤◌, ◌^◌, ◌-◌, pos};
-ghost use Rattle.std.specs.Prelude.{int_div, int_rem, ◌+ℤ◌, ◌-ℤ◌, ◌*ℤ◌};
+ghost use Rattle.std.specs.Prelude.{◌≡◌, ◌+◌, ◌-◌, ◌*◌, ◌%◌, ◌^◌, ◌<◌, ◌≤◌, pos, ◌+ℤ◌, ◌-ℤ◌, ◌*ℤ◌, int_div, int_rem};
 ghost use Rattle.std.specs.Int.{w64, int_shr, IsNonZero};
-ghost use Rattle.bits64.specs.Words.{bits_of, bytes_of, low, sum_of, difference_of, product_of, high_unsigned, quotient_unsigned, remainder_unsigned, shifted_left, shifted_right, less_unsigned, signed, wrapped, sign_extended, zero_extended, high_signed, high_mixed, quotient_signed, remainder_signed, shifted_arithmetic, less_signed, DivisionOverflows};
+ghost use Rattle.bits64.specs.Words.{bits_of, bytes_of, low, signed, wrapped, sign_extended, zero_extended};
+ghost use Rattle.bits64.specs.Words.{sum_of, difference_of, product_of, high_signed, high_unsigned, high_mixed};
+ghost use Rattle.bits64.specs.Words.{DivisionOverflows, quotient_signed, quotient_unsigned, remainder_signed, remainder_unsigned};
+ghost use Rattle.bits64.specs.Words.{shifted_left, shifted_right, shifted_arithmetic, less_signed, less_unsigned};
 
 /// How many bits of a word are meant.
 #[derive(Clone, Copy, Debug, PartialEq, Eq, PartialOrd, Ord)]
 pub enum Width {
+    /// A byte, GCC's `QI`.
     W8,
+    /// Two bytes, GCC's `HI`.
     W16,
+    /// Four bytes, GCC's `SI`.
     W32,
+    /// Eight bytes, GCC's `DI`.
     W64,
 }
 
@@ -61,7 +67,8 @@ impl Width {
 
 /// The low bits.
 pub fn trunc(x: u64, w: Width) -> u64
-    ensures { result ≡ low w x }
+    ensures value { result ≡ low w x }
+    ensures fits { result < 2 ^ bits_of w }
 {
     match w {
         Width::W8 => x & 0xff,
@@ -73,14 +80,16 @@ pub fn trunc(x: u64, w: Width) -> u64
 
 /// The low bits, with the highest of them copied to all bits above.
 pub fn sext(x: u64, w: Width) -> u64
-    ensures { result ≡ sign_extended w x }
+    ensures value { result ≡ sign_extended w x }
+    ensures signed { signed Width.W64 result ≡ signed w x }
 {
     to_signed(x, w).cast_unsigned()
 }
 
 /// The low bits, with zeros above.
 pub fn zext(x: u64, w: Width) -> u64
-    ensures { result ≡ zero_extended w x }
+    ensures value { result ≡ zero_extended w x }
+    ensures fits { result < 2 ^ bits_of w }
 {
     trunc(x, w)
 }
@@ -138,7 +147,7 @@ fn high_half(product: i128, w: Width) -> u64
     wrap_wide(product >> w.bits(), w)
 }
 
-/// The sum; a carry is dropped.
+/// The sum; a carry is dropped. Signed and unsigned words have the same sum.
 pub fn add(a: u64, b: u64, w: Width) -> u64
     ensures value { result ≡ sum_of w a b }
     ensures fits { result < 2 ^ bits_of w }
@@ -147,7 +156,7 @@ pub fn add(a: u64, b: u64, w: Width) -> u64
     trunc(a.wrapping_add(b), w)
 }
 
-/// The difference; a borrow is dropped.
+/// The difference; a borrow is dropped. Signed and unsigned words have the same difference.
 pub fn sub(a: u64, b: u64, w: Width) -> u64
     ensures value { result ≡ difference_of w a b }
     ensures fits { result < 2 ^ bits_of w }
@@ -156,7 +165,7 @@ pub fn sub(a: u64, b: u64, w: Width) -> u64
     trunc(a.wrapping_sub(b), w)
 }
 
-/// The lower half of the product, which is the same for signed and unsigned words.
+/// The lower half of the product. Signed and unsigned words have the same.
 pub fn mul(a: u64, b: u64, w: Width) -> u64
     ensures value { result ≡ product_of w a b }
     ensures fits { result < 2 ^ bits_of w }
@@ -165,7 +174,7 @@ pub fn mul(a: u64, b: u64, w: Width) -> u64
     trunc(a.wrapping_mul(b), w)
 }
 
-/// The upper half of the product of two signed words.
+/// The upper half of the product of two signed words; `mul` gives the lower half.
 pub fn mulh(a: u64, b: u64, w: Width) -> u64
     ensures value { result ≡ high_signed w a b }
     ensures fits { result < 2 ^ bits_of w }
@@ -174,17 +183,17 @@ pub fn mulh(a: u64, b: u64, w: Width) -> u64
     high_half(product(to_signed(a, w), to_signed(b, w)), w)
 }
 
-/// The upper half of the product of two unsigned words.
+/// The upper half of the product of two unsigned words; `mul` gives the lower half.
 pub fn mulhu(a: u64, b: u64, w: Width) -> u64
     ensures value { result ≡ high_unsigned w a b }
     ensures fits { result < 2 ^ bits_of w }
     ensures whole { result * 2 ^ bits_of w + product_of w a b ≡ low w a * low w b }
 {
-    let product = u128::from(trunc(a, w)) * u128::from(trunc(b, w));
-    (product >> w.bits()) as u64
+    let whole = u128::from(trunc(a, w)) * u128::from(trunc(b, w));
+    (whole >> w.bits()) as u64
 }
 
-/// The upper half of the product of a signed and an unsigned word.
+/// The upper half of the product of a signed and an unsigned word, in this order; `mul` gives the lower half.
 pub fn mulhsu(a: u64, b: u64, w: Width) -> u64
     ensures value { result ≡ high_mixed w a b }
     ensures fits { result < 2 ^ bits_of w }
@@ -206,7 +215,7 @@ pub fn div(a: u64, b: u64, w: Width) -> u64
     }
 }
 
-/// A quotient, which is 2 ^ 63 where the least number is divided by -1.
+/// The word that a quotient wraps to. Of -2 ^ 63 and -1 it is 2 ^ 63, which `i64` wraps first: the word is the same.
 fn quotient(a: i64, b: i64, w: Width) -> u64
     requires { IsNonZero w64 b }
     ensures { result ≡ wrapped w (int_div a b) }
@@ -233,6 +242,7 @@ pub fn rem(a: u64, b: u64, w: Width) -> u64
     ensures value { result ≡ remainder_signed w a b }
     ensures fits { result < 2 ^ bits_of w }
     ensures overflow { DivisionOverflows w a b → result ≡ 0 }
+    // The dividend is the divisor times the quotient plus the remainder, by zero too.
     ensures dividend { ¬ (DivisionOverflows w a b) →
         signed w (quotient_signed w a b) *ℤ signed w b +ℤ signed w result ≡ signed w a }
 {
@@ -243,7 +253,7 @@ pub fn rem(a: u64, b: u64, w: Width) -> u64
     }
 }
 
-/// A remainder, which is 0 where the least number is divided by -1.
+/// The word that a remainder wraps to.
 fn remainder(a: i64, b: i64, w: Width) -> u64
     requires { IsNonZero w64 b }
     ensures { result ≡ wrapped w (int_rem a b) }

@@ -1,5 +1,5 @@
 -- Wrapping a quotient, and what quotient and remainder make together.
-use Rattle.std.proofs.Common.{◌≡◌, ◌<◌, ◌≤◌, ◌-◌, ◌^◌, ◌/◌, ◌%◌, ◌==◌, ℕ, zero, suc, ℤ, pos, negsuc, neg_ℤ, ◌+ℤ◌, ◌*ℤ◌, w64, to_z, of_z, arith, unsigned_abs, int_div, int_rem, FitsSigned, Bool, true, false, cond, nat_lt, if◌then◌else◌, refl, ap, inl, inr}
+use Rattle.std.proofs.Common.{◌≡◌, ◌<◌, ◌≤◌, ◌-◌, ◌^◌, ◌/◌, ◌%◌, ◌==◌, ℕ, zero, suc, ℤ, pos, negsuc, neg_ℤ, ◌+ℤ◌, ◌*ℤ◌, w64, to_z, of_z, arith, unsigned_abs, int_div, int_rem, FitsSigned, Bool, true, false, cond, nat_lt, if◌then◌else◌, refl, ap, ◌∙◌, inl, inr}
 use borrow.Author.Tests.{eqb-true}
 use Rattle.std.proofs.Math.Nat.{div-le_self, mod-le, mod-mod, eq-or-lt_of_le}
 use Rattle.std.proofs.lemmas.Nat.{div_below}
@@ -89,8 +89,8 @@ by_zero : (x : ℤ) → negsuc 0 *ℤ pos 0 +ℤ x ≡ x
 by_zero (pos n) = grind arith
 by_zero (negsuc n) = grind arith
 
-pub dividend_is : (w : Width) (a b : ℕ) → (DivisionOverflows w a b → ⊥) → signed w (quotient_signed w a b) *ℤ signed w b +ℤ signed w (remainder_signed w a b) ≡ signed w a
-dividend_is w a b no_overflow = go (low w b == 0) refl
+dividend_of : (w : Width) (a b : ℕ) → (DivisionOverflows w a b → ⊥) → signed w (quotient_signed w a b) *ℤ signed w b +ℤ signed w (remainder_signed w a b) ≡ signed w a
+dividend_of w a b no_overflow = go (low w b == 0) refl
   where
     go : (t : Bool) → (low w b == 0) ≡ t → signed w (cond t (2 ^ bits_of w - 1) (wrapped w (int_div (signed w a) (signed w b)))) *ℤ signed w b +ℤ signed w (cond t (low w a) (wrapped w (int_rem (signed w a) (signed w b)))) ≡ signed w a
     go true e =
@@ -105,3 +105,8 @@ dividend_is w a b no_overflow = go (low w b == 0) refl
         let r = signed-wrapped w (int_rem (signed w a) (signed w b)) (remainder-within (2 ^ (bits_of w - 1)) (signed w a) (signed w b) fits) in
         let s = quot-rem (signed w a) (signed w b) in
         cc
+
+-- the same of a number that is the remainder
+pub dividend_is : (w : Width) (a b r : ℕ) → r ≡ remainder_signed w a b → (DivisionOverflows w a b → ⊥) → signed w (quotient_signed w a b) *ℤ signed w b +ℤ signed w r ≡ signed w a
+dividend_is w a b r e no_overflow =
+    ap (λ k. signed w (quotient_signed w a b) *ℤ signed w b +ℤ signed w k) e ∙ dividend_of w a b no_overflow

@@ -208,10 +208,9 @@ pub fn div(a: u64, b: u64, w: Width) -> u64
     ensures fits { result < 2 ^ bits_of w }
     ensures overflow { DivisionOverflows w a b → result ≡ low w a }
 {
-    if trunc(b, w) == 0 {
-        w.all_ones()
-    } else {
-        quotient(to_signed(a, w), to_signed(b, w), w)
+    match trunc(b, w) {
+        0 => w.all_ones(),
+        _ => quotient(to_signed(a, w), to_signed(b, w), w),
     }
 }
 
@@ -228,12 +227,7 @@ pub fn udiv(a: u64, b: u64, w: Width) -> u64
     ensures value { result ≡ quotient_unsigned w a b }
     ensures fits { result < 2 ^ bits_of w }
 {
-    let divisor = trunc(b, w);
-    if divisor == 0 {
-        w.all_ones()
-    } else {
-        trunc(a, w) / divisor
-    }
+    trunc(a, w).checked_div(trunc(b, w)).unwrap_or(w.all_ones())
 }
 
 /// The remainder of two signed words, with the sign of the dividend. By zero it is the dividend; the least number divided by -1
@@ -246,10 +240,9 @@ pub fn rem(a: u64, b: u64, w: Width) -> u64
     ensures dividend { ¬ (DivisionOverflows w a b) →
         signed w (quotient_signed w a b) *ℤ signed w b +ℤ signed w result ≡ signed w a }
 {
-    if trunc(b, w) == 0 {
-        trunc(a, w)
-    } else {
-        remainder(to_signed(a, w), to_signed(b, w), w)
+    match trunc(b, w) {
+        0 => trunc(a, w),
+        _ => remainder(to_signed(a, w), to_signed(b, w), w),
     }
 }
 
@@ -267,12 +260,7 @@ pub fn urem(a: u64, b: u64, w: Width) -> u64
     ensures fits { result < 2 ^ bits_of w }
     ensures dividend { low w b * quotient_unsigned w a b + result ≡ low w a }
 {
-    let divisor = trunc(b, w);
-    if divisor == 0 {
-        trunc(a, w)
-    } else {
-        trunc(a, w) % divisor
-    }
+    trunc(a, w).checked_rem(trunc(b, w)).unwrap_or(trunc(a, w))
 }
 
 /// A shift count, modulo the width.

@@ -59,7 +59,7 @@ sum_of w a b = (a + b) % 2 ^ bits_of w
 abbrev pub difference_of : Width → ℕ → ℕ → ℕ
 difference_of w a b = (a + (2 ^ bits_of w - low w b)) % 2 ^ bits_of w
 
--- ---- products ("M Extension for Integer Multiplication and Division", "Multiplication Operations")
+-- ---- products ("'M' Standard Extension for Integer Multiplication and Division", "Multiplication Operations")
 
 -- MUL: the lower XLEN bits of the product
 abbrev pub product_of : Width → ℕ → ℕ → ℕ
@@ -75,7 +75,7 @@ high_unsigned w a b = low w a * low w b / 2 ^ bits_of w
 abbrev pub high_mixed : Width → ℕ → ℕ → ℕ
 high_mixed w a b = wrapped w (int_shr (signed w a *ℤ pos (low w b)) (bits_of w))
 
--- ---- quotients and remainders ("M Extension for Integer Multiplication and Division", "Division Operations", with its table of the
+-- ---- quotients and remainders ("'M' Standard Extension for Integer Multiplication and Division", "Division Operations", with its table of the
 -- semantics for division by zero and division overflow)
 
 -- DIVU: all bits set where the divisor is zero

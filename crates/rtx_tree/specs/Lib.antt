@@ -1,0 +1,5 @@
+pub mod Code
+pub mod Limit
+pub mod Registers
+pub mod Stage
+pub mod Tree

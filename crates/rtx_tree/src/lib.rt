@@ -1,0 +1,26 @@
+//! What RTL is made of: trees of codes, modes, numbers, names and kids ([`Rtx`]), the instructions and
+//! functions that hold them, and what every stage names in its answers ([`Name`], [`Place`], [`Stage`],
+//! [`Limit`]). All of it is plain data in contracts: two trees are equal there exactly where they have
+//! the same shape and parts. So `same` is equality, `copy` gives an equal tree, `size` counts the nodes,
+//! and each name is that of its table: of a code, a mode, a register, a stage or a limit.
+#![tactic(auto)]
+
+mod code;
+mod function;
+mod limit;
+mod name;
+mod place;
+mod registers;
+mod stage;
+mod tree;
+
+pub use code::{Code, Mode};
+pub use function::{ArgUse, ArgUses, Function, Functions, Insn, Insns, Kind};
+pub use limit::Limit;
+pub use name::Name;
+pub use place::Place;
+pub use registers::{
+    FIRST_PSEUDO, HARD_REGS, VIRTUAL_STACK_VARS, pseudo, reg_call_used, reg_name, reg_number,
+};
+pub use stage::Stage;
+pub use tree::{Kids, Rtx, same};

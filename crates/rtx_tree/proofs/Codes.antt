@@ -1,5 +1,7 @@
 -- A name that no entry of the list has is the name of none.
-use Rattle.std.proofs.Common.{◌≡◌, ◌≢◌, ◌<◌, ◌≤◌, ℕ, List, length, get_or, refl, ◌∙◌, ap, arith}
+use Rattle.std.proofs.Common.{◌≡◌, ◌≢◌, ◌<◌, ◌≤◌, ℕ, List, Some, length, get_or, refl, ◌∙◌, ap, arith}
+use Rattle.std.specs.Prelude.{slice_get}
+use Rattle.std.proofs.lemmas.Option.{slice_get_within, get_or_from_slice_get}
 use Rattle.rtx_tree.specs.Code.{code_name, all_codes, mode_name, named_modes}
 use Rattle.rtx_tree.specs.declared.code.Code.{Code}
 use Rattle.rtx_tree.specs.declared.code.Code.TheVariants.{Reg, ConstInt, SymbolRef, Mem, Subreg, Plus, Minus, Mult, Div, Udiv, Mod, Umod, And, Ior, Xor, Neg, Not, Ashift, Ashiftrt, Lshiftrt, SignExtend, ZeroExtend, Truncate, Eq, Ne, Lt, Le, Gt, Ge, Ltu, Leu, Gtu, Geu, Set, Used, Clobber, Parallel, Call, Return, Pc, LabelRef, IfThenElse, Scratch, MatchOperand, MatchDup, MatchScratch, MatchOperator, MatchOpDup}
@@ -56,7 +58,8 @@ place_of MatchScratch = 45
 place_of MatchOperator = 46
 place_of MatchOpDup = 47
 
-stands : (code : Code) → get_or all_codes (place_of code) Reg ≡ code
+-- each code stands in the list
+stands : (code : Code) → slice_get all_codes (place_of code) ≡ Some code
 stands Reg = refl
 stands ConstInt = refl
 stands SymbolRef = refl
@@ -106,66 +109,22 @@ stands MatchScratch = refl
 stands MatchOperator = refl
 stands MatchOpDup = refl
 
-within : (code : Code) → place_of code < length all_codes
-within Reg = omega arith
-within ConstInt = omega arith
-within SymbolRef = omega arith
-within Mem = omega arith
-within Subreg = omega arith
-within Plus = omega arith
-within Minus = omega arith
-within Mult = omega arith
-within Div = omega arith
-within Udiv = omega arith
-within Mod = omega arith
-within Umod = omega arith
-within And = omega arith
-within Ior = omega arith
-within Xor = omega arith
-within Neg = omega arith
-within Not = omega arith
-within Ashift = omega arith
-within Ashiftrt = omega arith
-within Lshiftrt = omega arith
-within SignExtend = omega arith
-within ZeroExtend = omega arith
-within Truncate = omega arith
-within Eq = omega arith
-within Ne = omega arith
-within Lt = omega arith
-within Le = omega arith
-within Gt = omega arith
-within Ge = omega arith
-within Ltu = omega arith
-within Leu = omega arith
-within Gtu = omega arith
-within Geu = omega arith
-within Set = omega arith
-within Used = omega arith
-within Clobber = omega arith
-within Parallel = omega arith
-within Call = omega arith
-within Return = omega arith
-within Pc = omega arith
-within LabelRef = omega arith
-within IfThenElse = omega arith
-within Scratch = omega arith
-within MatchOperand = omega arith
-within MatchDup = omega arith
-within MatchScratch = omega arith
-within MatchOperator = omega arith
-within MatchOpDup = omega arith
-
 pub code_none : (codes : List Code) (name : List ℕ) (i : ℕ) → codes ≡ all_codes → length codes ≤ i → ((k : ℕ) → k < i → code_name (get_or codes k Reg) ≢ name) → (code : Code) → code_name code ≢ name
 code_none codes name i all past others code same =
-    let below = within code in
-    let here = stands code in
+    let within = slice_get_within all_codes (place_of code) code (stands code) in
+    let here = get_or_from_slice_get all_codes (place_of code) code Reg (stands code) in
     let less : place_of code < i = omega (arith, ap length all) in
     others (place_of code) less (ap (λ cs. code_name (get_or cs (place_of code) Reg)) all ∙ (ap code_name here ∙ same))
 
+-- a mode that stands at a place of the list
+at : (modes : List Mode) (name : List ℕ) (k i : ℕ) → modes ≡ named_modes → length modes ≤ i → k < 4 → ((k : ℕ) → k < i → mode_name (get_or modes k Void) ≢ name) → mode_name (get_or named_modes k Void) ≢ name
+at modes name k i all past less others same =
+    let within : k < i = omega (arith, ap length all) in
+    others k within (ap (λ ms. mode_name (get_or ms k Void)) all ∙ same)
+
 pub mode_none : (modes : List Mode) (name : List ℕ) (i : ℕ) → modes ≡ named_modes → length modes ≤ i → ((k : ℕ) → k < i → mode_name (get_or modes k Void) ≢ name) → (mode : Mode) → mode ≢ Void → mode_name mode ≢ name
-mode_none modes name i all past others Void named same = named refl
-mode_none modes name i all past others QI named same = let e = ap (λ ms. mode_name (get_or ms 0 Void)) all in others 0 (omega (arith, ap length all)) (e ∙ same)
-mode_none modes name i all past others HI named same = let e = ap (λ ms. mode_name (get_or ms 1 Void)) all in others 1 (omega (arith, ap length all)) (e ∙ same)
-mode_none modes name i all past others SI named same = let e = ap (λ ms. mode_name (get_or ms 2 Void)) all in others 2 (omega (arith, ap length all)) (e ∙ same)
-mode_none modes name i all past others DI named same = let e = ap (λ ms. mode_name (get_or ms 3 Void)) all in others 3 (omega (arith, ap length all)) (e ∙ same)
+mode_none modes name i all past others Void named = absurd (named refl)
+mode_none modes name i all past others QI named = at modes name 0 i all past (omega arith) others
+mode_none modes name i all past others HI named = at modes name 1 i all past (omega arith) others
+mode_none modes name i all past others SI named = at modes name 2 i all past (omega arith) others
+mode_none modes name i all past others DI named = at modes name 3 i all past (omega arith) others

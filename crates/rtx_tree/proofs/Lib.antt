@@ -1,2 +1,4 @@
 pub mod Codes
+pub mod Distinct
+pub mod OperandLaws
 pub mod Trees

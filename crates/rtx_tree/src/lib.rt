@@ -6,18 +6,22 @@
 #![tactic(auto)]
 
 mod code;
+mod constants;
 mod function;
 mod limit;
 mod name;
+mod operands;
 mod place;
 mod registers;
 mod stage;
 mod tree;
 
 pub use code::{Code, Mode};
+pub use constants::{Constant, Constants};
 pub use function::{ArgUse, ArgUses, Function, Functions, Insn, Insns, Kind};
 pub use limit::Limit;
 pub use name::Name;
+pub use operands::Operands;
 pub use place::Place;
 pub use registers::{
     FIRST_PSEUDO, HARD_REGS, VIRTUAL_STACK_VARS, pseudo, reg_call_used, reg_name, reg_number,

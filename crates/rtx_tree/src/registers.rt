@@ -68,9 +68,10 @@ fn is_named(reg: u8, name: &[u8]) -> bool
     reg_name(reg).as_bytes() == name
 }
 
-/// The register with this name, or `None` where no register has it.
+/// The register with this name, or `None` where no register has it. No two have one name.
 pub fn reg_number(name: &[u8]) -> Option<u8>
-    ensures { MatchOption result ((reg : ℕ) → slice_get reg_names reg ≢ Some name.now) (λ reg. slice_get reg_names reg ≡ Some name.now) }
+    ensures only { (one other : ℕ) → slice_get reg_names one ≡ Some name.now → slice_get reg_names other ≡ Some name.now → one ≡ other }
+    ensures number { MatchOption result ((reg : ℕ) → slice_get reg_names reg ≢ Some name.now) (λ reg. slice_get reg_names reg ≡ Some name.now) }
 {
     for reg in 0..HARD_REGS {
         if is_named(reg, name) {

@@ -28,3 +28,6 @@ pub use registers::{
 };
 pub use stage::Stage;
 pub use tree::{Kids, Rtx, same};
+
+#[cfg(test)]
+mod tests;

@@ -1,4 +1,6 @@
 pub mod Codes
 pub mod Distinct
+pub mod Increasing
+pub mod MemoryLaws
 pub mod OperandLaws
 pub mod Trees

@@ -1,5 +1,6 @@
 pub mod Code
 pub mod Limit
+pub mod Memories
 pub mod Operands
 pub mod Registers
 pub mod Stage

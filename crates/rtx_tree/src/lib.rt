@@ -14,9 +14,11 @@ mod memories;
 mod name;
 mod operands;
 mod place;
+mod reg_set;
 mod registers;
 mod stage;
 mod tree;
+mod words;
 
 pub use code::{Code, Mode};
 pub use constants::{Constant, Constants};
@@ -27,6 +29,7 @@ pub use memories::{MemByte, Memories};
 pub use name::Name;
 pub use operands::Operands;
 pub use place::Place;
+pub use reg_set::RegSet;
 pub use registers::{
     FIRST_PSEUDO, HARD_REGS, VIRTUAL_STACK_VARS, pseudo, reg_call_used, reg_name, reg_number,
 };

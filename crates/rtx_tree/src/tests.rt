@@ -125,3 +125,39 @@ fn messages(rt: HostRuntime) {
     assert!(rt; Stage::Frame.same(Stage::Frame) && !Stage::Split1.same(Stage::Split2));
     assert!(rt; Limit::Frame.same(Limit::Frame) && !Limit::Text.same(Limit::Forms));
 }
+
+#[test]
+fn register_sets(rt: HostRuntime) -> Result<(), Fail> {
+    let alloc = rt.alloc();
+    let mut regs = RegSet::new(alloc);
+    assert!(rt; !regs.contains(0));
+    regs.insert(70)?;
+    regs.insert(10)?;
+    regs.insert(70)?;
+    regs.insert(63)?;
+    regs.remove(63);
+    regs.remove(1000);
+    for (reg, has) in [
+        (10, true),
+        (11, false),
+        (63, false),
+        (70, true),
+        (1000, false),
+    ] {
+        assert_eq!(rt; regs.contains(reg), has, "{reg}");
+    }
+    Ok(())
+}
+
+#[test]
+fn memories(rt: HostRuntime) -> Result<(), Fail> {
+    let alloc = rt.alloc();
+    let mut memory = Memories::new(alloc);
+    for address in [65536, 65537, 1179647] {
+        assert!(rt; memory.is_above(address));
+        memory.push(MemByte { address, byte: 7 })?;
+        assert!(rt; !memory.is_above(address));
+    }
+    assert_eq!(rt; memory.bytes().last().map(|b| b.address), Some(1179647));
+    Ok(())
+}

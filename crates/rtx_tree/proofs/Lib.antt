@@ -1,0 +1,10 @@
+pub mod Codes
+pub mod Distinct
+pub mod Increasing
+pub mod MemberLaws
+pub mod MemberOrder
+pub mod MemoryLaws
+pub mod OperandLaws
+pub mod Results
+pub mod Trees
+pub mod WordLaws

@@ -1,0 +1,9 @@
+pub mod Code
+pub mod Limit
+pub mod Memories
+pub mod Operands
+pub mod RegSet
+pub mod Registers
+pub mod Stage
+pub mod Tree
+pub mod Words

@@ -1,0 +1,29 @@
+-- Registers: RISC-V ELF psABI, "Integer Register Convention"; GCC Internals, "Registers and Memory".
+use Rattle.std.specs.Prelude.{ℕ, Bool, ◌||◌, ◌&&◌, nat_le, nat_eq, ◌+◌, List, [], ◌∷◌, codes}
+
+-- the registers' names, in the order of their numbers
+abbrev pub reg_names : List (List ℕ)
+reg_names =
+    codes "zero" ∷ codes "ra" ∷ codes "sp" ∷ codes "gp" ∷ codes "tp" ∷ codes "t0" ∷ codes "t1" ∷ codes "t2" ∷
+    codes "s0" ∷ codes "s1" ∷ codes "a0" ∷ codes "a1" ∷ codes "a2" ∷ codes "a3" ∷ codes "a4" ∷ codes "a5" ∷
+    codes "a6" ∷ codes "a7" ∷ codes "s2" ∷ codes "s3" ∷ codes "s4" ∷ codes "s5" ∷ codes "s6" ∷ codes "s7" ∷
+    codes "s8" ∷ codes "s9" ∷ codes "s10" ∷ codes "s11" ∷ codes "t3" ∷ codes "t4" ∷ codes "t5" ∷ codes "t6" ∷ []
+
+abbrev is_within : ℕ → ℕ → ℕ → Bool
+is_within first last reg = nat_le first reg && nat_le reg last
+
+-- whether a call need not preserve a register: ra, t0 to t2, a0 to a7, t3 to t6
+abbrev pub is_call_used : ℕ → Bool
+is_call_used reg = nat_eq reg 1 || (is_within 5 7 reg || (is_within 10 17 reg || is_within 28 31 reg))
+
+-- the number of hard register k, one of 0 to 31
+abbrev pub hard_reg : ℕ → ℕ
+hard_reg k = k
+
+-- the number of virtual-stack-vars, the register that stands for the address past the locals
+abbrev pub virtual_stack_vars : ℕ
+virtual_stack_vars = 32
+
+-- the number of pseudo register k
+abbrev pub pseudo : ℕ → ℕ
+pseudo k = 64 + k

@@ -1,0 +1,54 @@
+-- Expressions of RTL as trees: GCC Internals, "RTL Objects" and "RTL Expressions".
+use Rattle.std.specs.Prelude.{ℕ, suc, ℤ, pos, List, [], sum}
+use Rattle.rtx_tree.specs.declared.code.Code.{Code}
+use Rattle.rtx_tree.specs.declared.code.Code.TheVariants.{Reg, ConstInt}
+use Rattle.rtx_tree.specs.declared.code.Mode.{Mode}
+use Rattle.rtx_tree.specs.declared.code.Mode.TheVariants.{Void}
+use Rattle.rtx_tree.specs.declared.tree.Rtx.{Rtx, out-Rtx, roll-Rtx}
+use Rattle.rtx_tree.specs.declared.tree.Rtx.TheOpen.{Rtx-F}
+use Rattle.rtx_tree.specs.declared.tree.Rtx.TheFolds.{fold-Rtx}
+
+-- what a tree has besides its kids
+pub record Head : Type 0 where
+  pub code : Code
+  pub mode : Mode
+  pub number : ℤ
+  pub name : List ℕ
+
+abbrev pub head_of : Rtx → Head
+head_of x = let o = out-Rtx x in record { code = o.code; mode = o.mode; number = o.number; name = o.name }
+
+abbrev pub kids_of : Rtx → List Rtx
+kids_of x = (out-Rtx x).kids
+
+-- the tree of a head and kids
+abbrev pub tree_of : Head → List Rtx → Rtx
+tree_of h kids = roll-Rtx (record { code = h.code; mode = h.mode; number = h.number; name = h.name; kids = kids })
+
+-- the tree of a number alone, as of a register or a constant
+abbrev pub leaf_of : Code → Mode → ℤ → Rtx
+leaf_of code mode number = tree_of (record { code = code; mode = mode; number = number; name = [] }) []
+
+-- the tree of a name alone, as of a symbol
+abbrev pub named_of : Code → Mode → List ℕ → Rtx
+named_of code mode name = tree_of (record { code = code; mode = mode; number = pos 0; name = name }) []
+
+-- the tree of kids alone, as of an operation
+abbrev pub node_of : Code → Mode → List Rtx → Rtx
+node_of code mode kids = tree_of (record { code = code; mode = mode; number = pos 0; name = [] }) kids
+
+-- register number reg in a mode
+abbrev pub reg_of : Mode → ℕ → Rtx
+reg_of mode reg = leaf_of Reg mode (pos reg)
+
+-- a constant, which has no mode
+abbrev pub const_of : ℤ → Rtx
+const_of value = leaf_of ConstInt Void value
+
+-- one, and the sizes of the kids
+abbrev pub size_step : Rtx-F ℕ → ℕ
+size_step x = suc (sum x.kids)
+
+-- the number of a tree's nodes
+abbrev pub size_of : Rtx → ℕ
+size_of = fold-Rtx ℕ size_step

@@ -1,0 +1,316 @@
+//! The codes and machine modes of RTL, with their names.
+ghost use Rattle.std.specs.Prelude.{◌≡◌, ◌≢◌, ◌↔◌, IsTrue, MatchOption};
+ghost use Rattle.rtx_tree.specs.Code as spec;
+ghost use Rattle.rtx_tree.specs.Code.{code_name, mode_name};
+
+/// A machine mode: the width of a value. `Void` stands where an expression has none.
+#[derive(Clone, Copy, Debug, PartialEq, Eq)]
+pub enum Mode {
+    /// No mode.
+    Void,
+    /// 8 bits.
+    QI,
+    /// 16 bits.
+    HI,
+    /// 32 bits.
+    SI,
+    /// 64 bits.
+    DI,
+}
+
+/// The code at the head of an expression: what it is.
+#[derive(Clone, Copy, Debug, PartialEq, Eq)]
+pub enum Code {
+    /// A register.
+    Reg,
+    /// A 64-bit number.
+    ConstInt,
+    /// The address of a symbol, by its name.
+    SymbolRef,
+    /// The memory at an address.
+    Mem,
+    /// The low part of a register of a wider mode.
+    Subreg,
+    /// Sum.
+    Plus,
+    /// Difference.
+    Minus,
+    /// Product.
+    Mult,
+    /// Quotient of signed numbers.
+    Div,
+    /// Quotient of unsigned numbers.
+    Udiv,
+    /// Remainder of signed numbers.
+    Mod,
+    /// Remainder of unsigned numbers.
+    Umod,
+    /// Bitwise and.
+    And,
+    /// Bitwise inclusive or.
+    Ior,
+    /// Bitwise exclusive or.
+    Xor,
+    /// Negative.
+    Neg,
+    /// Bitwise complement.
+    Not,
+    /// Left shift.
+    Ashift,
+    /// Arithmetic right shift.
+    Ashiftrt,
+    /// Logical right shift.
+    Lshiftrt,
+    /// Extension by the sign.
+    SignExtend,
+    /// Extension by zeros.
+    ZeroExtend,
+    /// The low bits, in a narrower mode.
+    Truncate,
+    /// Equal.
+    Eq,
+    /// Not equal.
+    Ne,
+    /// Less, signed.
+    Lt,
+    /// Less or equal, signed.
+    Le,
+    /// Greater, signed.
+    Gt,
+    /// Greater or equal, signed.
+    Ge,
+    /// Less, unsigned.
+    Ltu,
+    /// Less or equal, unsigned.
+    Leu,
+    /// Greater, unsigned.
+    Gtu,
+    /// Greater or equal, unsigned.
+    Geu,
+    /// Stores a value in a place.
+    Set,
+    /// `use`: the value is needed here.
+    Used,
+    /// The place is changed in an unknown way.
+    Clobber,
+    /// Several effects at once.
+    Parallel,
+    /// A call of a function.
+    Call,
+    /// A return to the caller.
+    Return,
+    /// The program counter.
+    Pc,
+    /// The address of a label, by its uid.
+    LabelRef,
+    /// One of two values, by a condition.
+    IfThenElse,
+    /// A register that is still to be chosen.
+    Scratch,
+    /// An operand of a pattern, by its number.
+    MatchOperand,
+    /// An operand once more.
+    MatchDup,
+    /// An operand that may be a scratch register.
+    MatchScratch,
+    /// An operand that is an operator.
+    MatchOperator,
+    /// An operator once more.
+    MatchOpDup,
+}
+
+/// Every code, once.
+const CODES: [Code; 48] = [
+    Code::Reg,
+    Code::ConstInt,
+    Code::SymbolRef,
+    Code::Mem,
+    Code::Subreg,
+    Code::Plus,
+    Code::Minus,
+    Code::Mult,
+    Code::Div,
+    Code::Udiv,
+    Code::Mod,
+    Code::Umod,
+    Code::And,
+    Code::Ior,
+    Code::Xor,
+    Code::Neg,
+    Code::Not,
+    Code::Ashift,
+    Code::Ashiftrt,
+    Code::Lshiftrt,
+    Code::SignExtend,
+    Code::ZeroExtend,
+    Code::Truncate,
+    Code::Eq,
+    Code::Ne,
+    Code::Lt,
+    Code::Le,
+    Code::Gt,
+    Code::Ge,
+    Code::Ltu,
+    Code::Leu,
+    Code::Gtu,
+    Code::Geu,
+    Code::Set,
+    Code::Used,
+    Code::Clobber,
+    Code::Parallel,
+    Code::Call,
+    Code::Return,
+    Code::Pc,
+    Code::LabelRef,
+    Code::IfThenElse,
+    Code::Scratch,
+    Code::MatchOperand,
+    Code::MatchDup,
+    Code::MatchScratch,
+    Code::MatchOperator,
+    Code::MatchOpDup,
+];
+
+/// The modes that have a name.
+const NAMED_MODES: [Mode; 4] = [Mode::QI, Mode::HI, Mode::SI, Mode::DI];
+
+fn all_codes() -> &'static [Code]
+    ensures { result.now ≡ spec.all_codes }
+{
+    &CODES
+}
+
+fn named_modes() -> &'static [Mode]
+    ensures { result.now ≡ spec.named_modes }
+{
+    &NAMED_MODES
+}
+
+impl Code {
+    ghost use Rattle.rtx_tree.specs.declared.code.Code.{Code};
+
+    /// The code's name in text, as `const_int`. Different codes have different names.
+    pub fn name(self) -> &'static str
+        ensures name { result.now ≡ code_name self }
+        ensures distinct { (other : Code) → code_name other ≡ code_name self → other ≡ self }
+    {
+        match self {
+            Code::Reg => "reg",
+            Code::ConstInt => "const_int",
+            Code::SymbolRef => "symbol_ref",
+            Code::Mem => "mem",
+            Code::Subreg => "subreg",
+            Code::Plus => "plus",
+            Code::Minus => "minus",
+            Code::Mult => "mult",
+            Code::Div => "div",
+            Code::Udiv => "udiv",
+            Code::Mod => "mod",
+            Code::Umod => "umod",
+            Code::And => "and",
+            Code::Ior => "ior",
+            Code::Xor => "xor",
+            Code::Neg => "neg",
+            Code::Not => "not",
+            Code::Ashift => "ashift",
+            Code::Ashiftrt => "ashiftrt",
+            Code::Lshiftrt => "lshiftrt",
+            Code::SignExtend => "sign_extend",
+            Code::ZeroExtend => "zero_extend",
+            Code::Truncate => "truncate",
+            Code::Eq => "eq",
+            Code::Ne => "ne",
+            Code::Lt => "lt",
+            Code::Le => "le",
+            Code::Gt => "gt",
+            Code::Ge => "ge",
+            Code::Ltu => "ltu",
+            Code::Leu => "leu",
+            Code::Gtu => "gtu",
+            Code::Geu => "geu",
+            Code::Set => "set",
+            Code::Used => "use",
+            Code::Clobber => "clobber",
+            Code::Parallel => "parallel",
+            Code::Call => "call",
+            Code::Return => "return",
+            Code::Pc => "pc",
+            Code::LabelRef => "label_ref",
+            Code::IfThenElse => "if_then_else",
+            Code::Scratch => "scratch",
+            Code::MatchOperand => "match_operand",
+            Code::MatchDup => "match_dup",
+            Code::MatchScratch => "match_scratch",
+            Code::MatchOperator => "match_operator",
+            Code::MatchOpDup => "match_op_dup",
+        }
+    }
+
+    fn is_named(self, name: &[u8]) -> bool
+        ensures { IsTrue result ↔ (code_name self ≡ name.now) }
+    {
+        self.name().as_bytes() == name
+    }
+
+    /// The code with this name, or `None` where no code has it.
+    pub fn named(name: &[u8]) -> Option<Code>
+        ensures { MatchOption result ((code : Code) → code_name code ≢ name.now) (λ code. code_name code ≡ name.now) }
+    {
+        for code in all_codes() {
+            if code.is_named(name) {
+                return Some(*code);
+            }
+        }
+        None
+    }
+
+    /// Whether two codes are the same.
+    pub fn same(self, other: Code) -> bool
+        ensures { IsTrue result ↔ (self ≡ other) }
+    {
+        self == other
+    }
+}
+
+impl Mode {
+    ghost use Rattle.rtx_tree.specs.declared.code.Mode.{Mode};
+
+    /// The mode's name in text, as `DI`. That of `Void` is empty. Different modes have different names.
+    pub fn name(self) -> &'static str
+        ensures name { result.now ≡ mode_name self }
+        ensures distinct { (other : Mode) → mode_name other ≡ mode_name self → other ≡ self }
+    {
+        match self {
+            Mode::Void => "",
+            Mode::QI => "QI",
+            Mode::HI => "HI",
+            Mode::SI => "SI",
+            Mode::DI => "DI",
+        }
+    }
+
+    fn is_named(self, name: &[u8]) -> bool
+        ensures { IsTrue result ↔ (mode_name self ≡ name.now) }
+    {
+        self.name().as_bytes() == name
+    }
+
+    /// The mode other than `Void` with this name, or `None` where none has it.
+    pub fn named(name: &[u8]) -> Option<Mode>
+        ensures { MatchOption result ((mode : Mode) → mode ≢ Mode.Void → mode_name mode ≢ name.now) (λ mode. (mode ≢ Mode.Void) × (mode_name mode ≡ name.now)) }
+    {
+        for mode in named_modes() {
+            if mode.is_named(name) {
+                return Some(*mode);
+            }
+        }
+        None
+    }
+
+    /// Whether two modes are the same.
+    pub fn same(self, other: Mode) -> bool
+        ensures { IsTrue result ↔ (self ≡ other) }
+    {
+        self == other
+    }
+}

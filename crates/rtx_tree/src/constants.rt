@@ -1,0 +1,15 @@
+//! Named numbers of a description.
+use crate::name::Name;
+use plain_data::Items;
+
+/// A name that stands for a number.
+#[derive(Debug, Drop)]
+pub struct Constant {
+    /// What stands in the text.
+    pub name: Name,
+    /// What it stands for.
+    pub number: i64,
+}
+
+/// Named numbers, in order.
+pub type Constants = Items<Constant>;

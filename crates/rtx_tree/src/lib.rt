@@ -1,0 +1,40 @@
+//! What RTL is made of: trees of codes, modes, numbers, names and kids ([`Rtx`]), the instructions and
+//! functions that hold them, and what every stage names in its answers ([`Name`], [`Place`], [`Stage`],
+//! [`Limit`]). All of it is plain data in contracts: two trees are equal there exactly where they have
+//! the same shape and parts. So `same` is equality, `copy` gives an equal tree, `size` counts the nodes,
+//! and each name is that of its table: of a code, a mode, a register, a stage or a limit.
+#![tactic(auto)]
+
+mod code;
+mod constants;
+mod function;
+mod limit;
+mod machine;
+mod memories;
+mod name;
+mod operands;
+mod place;
+mod reg_set;
+mod registers;
+mod stage;
+mod tree;
+mod words;
+
+pub use code::{Code, Mode};
+pub use constants::{Constant, Constants};
+pub use function::{ArgUse, ArgUses, Function, Functions, Insn, Insns, Kind};
+pub use limit::Limit;
+pub use machine::{ByteWrites, RangeAt, Ranges, Replies, Reply, Start, SymbolAt, Symbols, World};
+pub use memories::{MemByte, Memories};
+pub use name::Name;
+pub use operands::Operands;
+pub use place::Place;
+pub use reg_set::RegSet;
+pub use registers::{
+    FIRST_PSEUDO, HARD_REGS, VIRTUAL_STACK_VARS, pseudo, reg_call_used, reg_name, reg_number,
+};
+pub use stage::Stage;
+pub use tree::{Kids, Rtx, same};
+
+#[cfg(test)]
+mod tests;

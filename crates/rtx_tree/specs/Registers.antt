@@ -1,5 +1,6 @@
 -- Registers: RISC-V ELF psABI, "Integer Register Convention"; GCC Internals, "Registers and Memory".
-use Rattle.std.specs.Prelude.{ℕ, Bool, ◌||◌, ◌&&◌, nat_le, nat_eq, ◌+◌, List, [], ◌∷◌, codes}
+use Rattle.std.specs.Prelude.{ℕ, Bool, ◌||◌, ◌&&◌, nat_le, nat_eq, ◌+◌, List, [], ◌∷◌, codes, slice_index_or, Option, position}
+use Rattle.std.specs.Str.{bytes_eq}
 
 -- the registers' names, in the order of their numbers
 abbrev pub reg_names : List (List ℕ)
@@ -8,6 +9,14 @@ reg_names =
     codes "s0" ∷ codes "s1" ∷ codes "a0" ∷ codes "a1" ∷ codes "a2" ∷ codes "a3" ∷ codes "a4" ∷ codes "a5" ∷
     codes "a6" ∷ codes "a7" ∷ codes "s2" ∷ codes "s3" ∷ codes "s4" ∷ codes "s5" ∷ codes "s6" ∷ codes "s7" ∷
     codes "s8" ∷ codes "s9" ∷ codes "s10" ∷ codes "s11" ∷ codes "t3" ∷ codes "t4" ∷ codes "t5" ∷ codes "t6" ∷ []
+
+-- the name of a register
+abbrev pub reg_text : ℕ → List ℕ
+reg_text reg = slice_index_or reg_names reg []
+
+-- the register with a name, where there is one
+abbrev pub number_of_reg : List ℕ → Option ℕ
+number_of_reg name = position (λ text. bytes_eq text name) reg_names
 
 abbrev is_within : ℕ → ℕ → ℕ → Bool
 is_within first last reg = nat_le first reg && nat_le reg last

@@ -1,7 +1,7 @@
 //! Registers: how RTL numbers them, the names of the hard ones, and which of these a call may change.
-ghost use Rattle.std.specs.Prelude.{◌≡◌, ◌≢◌, ◌<◌, ◌^◌, ℕ, IsTrue, MatchOption, ◌↔◌, slice_get};
+ghost use Rattle.std.specs.Prelude.{◌≡◌, ◌<◌, ◌^◌};
 ghost use Rattle.rtx_tree.specs.Registers as spec;
-ghost use Rattle.rtx_tree.specs.Registers.{reg_names, is_call_used};
+ghost use Rattle.rtx_tree.specs.Registers.{reg_text, number_of_reg, is_call_used};
 
 /// How many hard registers there are. Their numbers are those below this.
 pub const HARD_REGS: u8 = 32;
@@ -23,7 +23,7 @@ pub fn pseudo(k: u32) -> u32
 /// The name of register `reg` in the calling convention, as `a0` for 10.
 pub fn reg_name(reg: u8) -> &'static str
     requires { reg < 32 }
-    ensures { slice_get reg_names reg ≡ Some result.now }
+    ensures { result.now ≡ reg_text reg }
 {
     match reg {
         0 => "zero",
@@ -61,24 +61,45 @@ pub fn reg_name(reg: u8) -> &'static str
     }
 }
 
-fn is_named(reg: u8, name: &[u8]) -> bool
-    requires { reg < 32 }
-    ensures { IsTrue result ↔ (slice_get reg_names reg ≡ Some name.now) }
-{
-    reg_name(reg).as_bytes() == name
-}
-
-/// The register with this name, or `None` where no register has it. No two have one name.
+/// The register with this name, or `None` where no register has it.
 pub fn reg_number(name: &[u8]) -> Option<u8>
-    ensures only { (one other : ℕ) → slice_get reg_names one ≡ Some name.now → slice_get reg_names other ≡ Some name.now → one ≡ other }
-    ensures number { MatchOption result ((reg : ℕ) → slice_get reg_names reg ≢ Some name.now) (λ reg. slice_get reg_names reg ≡ Some name.now) }
+    ensures { result ≡ number_of_reg name.now }
 {
-    for reg in 0..HARD_REGS {
-        if is_named(reg, name) {
-            return Some(reg);
-        }
+    match name {
+        b"zero" => Some(0),
+        b"ra" => Some(1),
+        b"sp" => Some(2),
+        b"gp" => Some(3),
+        b"tp" => Some(4),
+        b"t0" => Some(5),
+        b"t1" => Some(6),
+        b"t2" => Some(7),
+        b"s0" => Some(8),
+        b"s1" => Some(9),
+        b"a0" => Some(10),
+        b"a1" => Some(11),
+        b"a2" => Some(12),
+        b"a3" => Some(13),
+        b"a4" => Some(14),
+        b"a5" => Some(15),
+        b"a6" => Some(16),
+        b"a7" => Some(17),
+        b"s2" => Some(18),
+        b"s3" => Some(19),
+        b"s4" => Some(20),
+        b"s5" => Some(21),
+        b"s6" => Some(22),
+        b"s7" => Some(23),
+        b"s8" => Some(24),
+        b"s9" => Some(25),
+        b"s10" => Some(26),
+        b"s11" => Some(27),
+        b"t3" => Some(28),
+        b"t4" => Some(29),
+        b"t5" => Some(30),
+        b"t6" => Some(31),
+        _ => None,
     }
-    None
 }
 
 /// Whether a call may change register `reg`: `ra`, `t0` to `t6` and `a0` to `a7`. From 32 on it is false.

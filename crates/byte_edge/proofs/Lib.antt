@@ -1,0 +1,4 @@
+pub mod CauseLemmas
+pub mod HeldLemmas
+pub mod Known
+pub mod StoredLemmas

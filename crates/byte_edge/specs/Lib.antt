@@ -1,0 +1,9 @@
+pub mod Adapters
+pub mod ByteFiles
+pub mod Calls
+pub mod Causes
+pub mod Fetched
+pub mod InMemory
+pub mod Quiet
+pub mod Reading
+pub mod Stored

@@ -1,0 +1,13 @@
+-- What an answer of reading says of the bytes.
+use Rattle.std.specs.Prelude.{ℕ, List, Result, Ok, Err}
+use Rattle.lisp_read.specs.declared.tree.Tree.{Tree}
+use Rattle.lisp_read.specs.declared.read.ReadRefusal.{ReadRefusal}
+use Rattle.lisp_read.specs.declared.read.ReadRefusal.TheVariants as refusal
+use Rattle.lisp_read.specs.Reading.{ReadsAs, Trees, Syntax, Depth}
+
+-- Each answer is the reading of the bytes; that memory ran out says nothing of them.
+abbrev pub Answers : List ℕ → Result (List Tree) ReadRefusal → Type 0
+Answers bytes (Ok trees) = ReadsAs bytes (Trees trees)
+Answers bytes (Err (refusal.Syntax place)) = ReadsAs bytes (Syntax place)
+Answers bytes (Err (refusal.Depth place)) = ReadsAs bytes (Depth place)
+Answers bytes (Err refusal.Memory) = Unit {0}

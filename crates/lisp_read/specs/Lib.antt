@@ -1,0 +1,9 @@
+pub mod Bytes
+pub mod Class
+pub mod Places
+pub mod Part
+pub mod Nesting
+pub mod Text
+pub mod Reading
+pub mod Answers
+pub mod machine

@@ -1,13 +1,13 @@
 -- Places of bytes in memory, and what a byte written there changes.
-use Rattle.std.proofs.Common.{◌≡◌, ◌≢◌, ◌<◌, ◌≤◌, ◌+◌, ◌-◌, ◌/◌, ℕ, zero, suc, List, [], ◌∷◌, length, get_or, set, map, sym, ap, subst, refl, ◌∙◌, inl, inr, arith}
-use Rattle.std.specs.Prelude.{slice_get, Option, Some, None, is_some, true}
+use Rattle.std.proofs.Common.{◌≡◌, ◌≢◌, ◌<◌, ◌≤◌, ◌+◌, ℕ, zero, suc, List, [], ◌∷◌, length, get_or, set, map, sym, ap, subst, refl, ◌∙◌, inl, inr, arith}
+use Rattle.std.specs.Prelude.{slice_get, Some, None, is_some, true}
 use Rattle.std.proofs.lemmas.List.{length-map, get_or-map}
 use Rattle.std.proofs.lemmas.Option.{get_or_from_slice_get}
 use Rattle.std.proofs.lemmas.Bool.Decides.{nat_tests}
 use Rattle.std.proofs.lemmas.Bool.{cases_lt}
 use Rattle.std.proofs.lemmas.List.Kept.{AllPairs-from_increasing}
 use Rattle.rtx_tree.specs.declared.memories.MemByte.{MemByte}
-use Rattle.rtx_tree.specs.Memories.{IsOrdered, IsPlaceOf, address_at, byte_at, with_byte, with_byte_here}
+use Rattle.rtx_tree.specs.Memories.{IsOrdered, IsPlaceOf, address_at, byte_at, with_byte}
 
 abbrev nowhere : MemByte
 nowhere = record { address = 0; byte = 0 }
@@ -47,17 +47,17 @@ with_byte_none (b ∷ bytes) address byte none = grind (arith, nat_tests, none 0
 
 only_place : (bytes : List MemByte) → IsOrdered bytes → (address place : ℕ) → IsPlaceOf bytes address place → IsFirst bytes address place
 only_place bytes up address place is = record {
-    is_place = is;
-    first = λ k less same. omega (arith, address_less bytes up k place less is.within, is.address_is);
-    last = λ k less within same. omega (arith, address_less bytes up place k less within, is.address_is)
-  }
+  is_place = is;
+  first = λ k less same. omega (arith, address_less bytes up k place less is.within, is.address_is);
+  last = λ k less within same. omega (arith, address_less bytes up place k less within, is.address_is);
+}
 
 tail_first : (b : MemByte) (bytes : List MemByte) (address place : ℕ) → IsFirst (b ∷ bytes) address (suc place) → IsFirst bytes address place
 tail_first b bytes address place is = record {
-    is_place = record { within = omega (arith, is.is_place.within); address_is = is.is_place.address_is };
-    first = λ k less. is.first (suc k) (omega arith);
-    last = λ k less within. is.last (suc k) (omega arith) (omega arith)
-  }
+  is_place = record { within = omega (arith, is.is_place.within); address_is = is.is_place.address_is };
+  first = λ k less. is.first (suc k) (omega arith);
+  last = λ k less within. is.last (suc k) (omega arith) (omega arith);
+}
 
 tail_last : (b : MemByte) (bytes : List MemByte) (address : ℕ) → IsFirst (b ∷ bytes) address 0 → HasNone bytes address
 tail_last b bytes address is k less = is.last (suc k) (omega arith) (omega arith)
@@ -88,20 +88,20 @@ pub none_between : (bytes : List MemByte) (address low high : ℕ) → high ≤ 
 none_between bytes address low high met below above = byte_at_none bytes address (λ k within same. elim (cases_lt k low) [
   | inl less ↦ omega (arith, below k less)
   | inr past ↦ omega (arith, above k (omega arith) within)
-  ])
+])
 
 -- the addresses below one that is too small are too small, and those above one that is too great are too great
 pub below_middle : (bytes : List MemByte) → IsOrdered bytes → (address middle : ℕ) → middle < length bytes → address_at bytes middle < address → (k : ℕ) → k < middle + 1 → address_at bytes k < address
 below_middle bytes up address middle within less k here = elim (cases_lt k middle) [
   | inl before ↦ omega (arith, address_less bytes up k middle before within)
   | inr past ↦ let same : k ≡ middle = omega arith in subst (λ k. address_at bytes k < address) (sym same) less
-  ]
+]
 
 pub above_middle : (bytes : List MemByte) → IsOrdered bytes → (address middle : ℕ) → address < address_at bytes middle → (k : ℕ) → middle ≤ k → k < length bytes → address < address_at bytes k
 above_middle bytes up address middle less k here within = elim (cases_lt middle k) [
   | inl after ↦ omega (arith, address_less bytes up middle k after within)
   | inr past ↦ let same : k ≡ middle = omega arith in subst (λ k. address < address_at bytes k) (sym same) less
-  ]
+]
 
 -- addresses stay
 pub addresses_stay : (bytes : List MemByte) (address byte : ℕ) → map (λ (b : MemByte). b.address) (with_byte bytes address byte) ≡ map (λ (b : MemByte). b.address) bytes

@@ -1,9 +1,9 @@
 -- What a byte that is written changes.
 use Rattle.std.proofs.Common.{◌≡◌, ◌≢◌, ℕ, List, [], ◌∷◌, refl, arith}
-use Rattle.std.specs.Prelude.{Option, Some, None, is_some}
+use Rattle.std.specs.Prelude.{Some, None, is_some}
 use Rattle.std.proofs.lemmas.Bool.Decides.{nat_tests}
 use Rattle.rtx_tree.specs.declared.memories.MemByte.{MemByte}
-use Rattle.rtx_tree.specs.Memories.{byte_at, with_byte, with_byte_here}
+use Rattle.rtx_tree.specs.Memories.{byte_at, with_byte}
 
 -- where memory does not have the address, nothing
 pub with_byte_missing : (bytes : List MemByte) (address byte : ℕ) → byte_at bytes address ≡ None → with_byte bytes address byte ≡ bytes

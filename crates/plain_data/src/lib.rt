@@ -8,3 +8,6 @@ mod memory;
 
 pub use items::Items;
 pub use memory::Memory;
+
+#[cfg(test)]
+mod tests;

@@ -1,3 +1,4 @@
+-- There is room for all that is missing, and an operand put at the number would make the same list.
 use Rattle.std.proofs.Common.{◌≡◌, ◌<◌, ◌+◌, ◌-◌, length}
 use Rattle.rtx_tree.specs.Operands.{put_at}
 use Rattle.rtx_tree.specs.declared.tree.Rtx.{Rtx}

@@ -1,3 +1,4 @@
+-- The kids so far are the same.
 use Rattle.std.proofs.Common.{◌≡◌, take}
 use Rattle.rtx_tree.proofs.tree.+same.Given as goal
 

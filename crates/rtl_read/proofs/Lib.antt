@@ -1,0 +1,4 @@
+pub mod Numbers
+pub mod Heads
+pub mod Each
+pub mod Texts

@@ -1,0 +1,5 @@
+pub mod Shape
+pub mod Word
+pub mod Parsed
+pub mod Syntax
+pub mod Print

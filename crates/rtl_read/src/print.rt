@@ -1,0 +1,174 @@
+//! Prints expressions on one line.
+ghost use Rattle.std.specs.Prelude.{◌≡◌, ◌++◌, ◌∷◌, [], OnOk, flat_map, codes};
+ghost use Rattle.std.specs.Fmt.{decimal, signed_decimal};
+ghost use Rattle.rtl_read.specs.Word.{head_text, mode_suffix};
+ghost use Rattle.rtl_read.specs.Print as spec;
+
+use itoa::Buffer;
+use plain_data::Memory;
+use rtx_tree::{Code, Mode, Rtx, reg_name};
+
+/// Appends a number in decimal.
+pub fn print_number(number: i64, out: &mut Vec<u8>) -> Result<(), Memory>
+    ensures { OnOk result (out.new.items ≡ out.old.items ++ signed_decimal number) }
+{
+    let mut buffer = Buffer::new();
+    out.extend_from_slice(buffer.format(number).as_bytes())?;
+    Ok(())
+}
+
+fn print_mode(mode: Mode, out: &mut Vec<u8>) -> Result<(), Memory>
+    ensures { OnOk result (out.new.items ≡ out.old.items ++ mode_suffix mode) }
+{
+    if mode.same(Mode::Void) {
+        return Ok(());
+    }
+    out.push(b':')?;
+    out.extend_from_slice(mode.name().as_bytes())?;
+    Ok(())
+}
+
+/// Prints the atom at the head of an expression.
+fn print_head(code: Code, mode: Mode, out: &mut Vec<u8>) -> Result<(), Memory>
+    ensures { OnOk result (out.new.items ≡ out.old.items ++ head_text code mode) }
+{
+    out.extend_from_slice(code.name().as_bytes())?;
+    print_mode(mode, out)
+}
+
+/// Prints `<k>` for pseudo register `k`.
+fn print_pseudo(pseudo: u64, out: &mut Vec<u8>) -> Result<(), Memory>
+    ensures { OnOk result (out.new.items ≡ out.old.items ++ (codes "<" ++ (decimal pseudo ++ codes ">"))) }
+{
+    let mut buffer = Buffer::new();
+    out.push(b'<')?;
+    out.extend_from_slice(buffer.format(pseudo).as_bytes())?;
+    out.push(b'>')?;
+    Ok(())
+}
+
+fn print_reg_at(reg: u64, out: &mut Vec<u8>) -> Result<(), Memory>
+    ensures { OnOk result (out.new.items ≡ out.old.items ++ spec.printed_reg_at reg) }
+{
+    if reg < 32 {
+        out.extend_from_slice(reg_name(reg as u8).as_bytes())?;
+        Ok(())
+    } else if reg < 64 {
+        out.extend_from_slice(b"virtual-stack-vars")?;
+        Ok(())
+    } else {
+        print_pseudo(reg - 64, out)
+    }
+}
+
+/// Appends a register: a hard one by its name, `virtual-stack-vars`, or pseudo `k` as `<k>`.
+pub fn print_reg(number: i64, out: &mut Vec<u8>) -> Result<(), Memory>
+    ensures { OnOk result (out.new.items ≡ out.old.items ++ spec.printed_reg number) }
+{
+    if number < 0 {
+        Ok(())
+    } else {
+        print_reg_at(number.unsigned_abs(), out)
+    }
+}
+
+/// Prints a symbol's name, with one star more where it begins with one.
+fn print_starred(name: &[u8], out: &mut Vec<u8>) -> Result<(), Memory>
+    ensures { OnOk result (out.new.items ≡ out.old.items ++ spec.starred name.now) }
+{
+    if let [b'*', ..] = name {
+        out.push(b'*')?;
+    }
+    out.extend_from_slice(name)?;
+    Ok(())
+}
+
+fn print_symbol(name: &[u8], out: &mut Vec<u8>) -> Result<(), Memory>
+    ensures { OnOk result (out.new.items ≡ out.old.items ++ (codes " (\"" ++ (spec.starred name.now ++ codes "\")"))) }
+{
+    out.extend_from_slice(b" (\"")?;
+    print_starred(name, out)?;
+    out.extend_from_slice(b"\")")?;
+    Ok(())
+}
+
+/// Prints the numbers of some expressions, each with a space in front.
+fn print_bare(kids: &[Rtx], out: &mut Vec<u8>) -> Result<(), Memory>
+    ensures { OnOk result (out.new.items ≡ out.old.items ++ flat_map spec.spaced_number kids.now) }
+{
+    for kid in kids {
+        out.push(b' ')?;
+        print_number(kid.number, out)?;
+    }
+    Ok(())
+}
+
+/// Prints some expressions, each with a space in front.
+#[cycle(print)]
+fn print_kids(kids: &[Rtx], out: &mut Vec<u8>) -> Result<(), Memory>
+    ensures { OnOk result (out.new.items ≡ out.old.items ++ flat_map spec.spaced_text kids.now) }
+{
+    for kid in kids {
+        out.push(b' ')?;
+        print_rtx(kid, out)?;
+    }
+    Ok(())
+}
+
+/// Prints some expressions, with a space between each two.
+#[cycle(print)]
+fn print_separated(kids: &[Rtx], out: &mut Vec<u8>) -> Result<(), Memory>
+    ensures { OnOk result (out.new.items ≡ out.old.items ++ spec.separated kids.now) }
+{
+    for i in 0..kids.len() {
+        if i > 0 {
+            out.push(b' ')?;
+        }
+        print_rtx(&kids[i], out)?;
+    }
+    Ok(())
+}
+
+/// Prints what stands behind the head of an expression.
+#[cycle(print)]
+fn print_body(x: &Rtx, out: &mut Vec<u8>) -> Result<(), Memory>
+    ensures { OnOk result (out.new.items ≡ out.old.items ++ spec.body_of x.now) }
+{
+    let kids = x.kids.as_slice();
+    match x.code {
+        Code::Reg => {
+            out.push(b' ')?;
+            print_reg(x.number, out)
+        }
+        Code::ConstInt => {
+            out.push(b' ')?;
+            print_number(x.number, out)
+        }
+        Code::SymbolRef => print_symbol(x.name.bytes(), out),
+        Code::LabelRef => print_bare(kids, out),
+        Code::Subreg => {
+            print_kids(kids, out)?;
+            out.extend_from_slice(b" 0")?;
+            Ok(())
+        }
+        Code::Parallel => {
+            out.extend_from_slice(b" [")?;
+            print_separated(kids, out)?;
+            out.push(b']')?;
+            Ok(())
+        }
+        _ => print_kids(kids, out),
+    }
+}
+
+/// Appends the text of an expression, on one line with single spaces, as it is read.
+#[cycle(print)]
+pub fn print_rtx(x: &Rtx, out: &mut Vec<u8>) -> Result<(), Memory>
+    ensures { OnOk result (out.new.items ≡ out.old.items ++ spec.printed x.now) }
+{
+    out.push(b'(')?;
+    print_head(x.code, x.mode, out)?;
+    print_body(x, out)?;
+    out.push(b')')?;
+    Ok(())
+}

@@ -1,0 +1,5 @@
+pub mod Forms
+pub mod Refusals
+pub mod Assembly
+pub mod Answer
+pub mod Lines

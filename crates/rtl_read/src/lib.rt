@@ -14,3 +14,6 @@ mod word;
 pub use function::functions_of;
 pub use print::{print_number, print_reg, print_rtx};
 pub use refusal::RtlRefusal;
+
+#[cfg(test)]
+mod tests;

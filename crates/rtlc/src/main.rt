@@ -5,9 +5,8 @@
 use byte_edge::{DiskFiles, StdSink, StdSource};
 use plain_data::Memory;
 use rtlc_run::{out_of_memory, run};
-use std::env;
-use std::io;
 use std::process::ExitCode;
+use std::{env, io};
 
 /// The words after the program's name. Where a word isn't UTF-8 it is the list of one empty word, which
 /// is no command.
@@ -41,7 +40,14 @@ fn start(rt: &HostRuntime) -> Result<u8, Memory> {
     let mut input = StdSource::new(rt.stdin());
     let mut output = StdSink::new(rt.stdout());
     let mut errors = StdSink::new(rt.stderr());
-    Ok(run(rt.alloc(), &texts, &mut files, &mut input, &mut output, &mut errors))
+    Ok(run(
+        rt.alloc(),
+        &texts,
+        &mut files,
+        &mut input,
+        &mut output,
+        &mut errors,
+    ))
 }
 
 fn main(rt: HostRuntime) -> ExitCode {

@@ -1,10 +1,9 @@
 -- The answer of a run, from how it ended.
-use Rattle.std.proofs.Common.{◌≡◌, ◌⊎◌, ℕ, ◌≤◌, ◌<◌, ◌++◌, List, [], length, true, false, Result, Ok, Err, Option, Some, None, refl, sym, ap, subst, ◌∙◌, arith, ⊎_elim}
+use Rattle.std.proofs.Common.{◌≡◌, ◌⊎◌, ℕ, List, [], true, Result, Err, Option, Some, None, refl, sym, ap, subst, ◌∙◌, arith, ⊎_elim}
 use Rattle.std.specs.Prelude.{IfSome}
 use Rattle.std.proofs.lemmas.List.{append-nil}
 use Rattle.std.specs.Io.KnownBytes.{Appends}
 use Rattle.byte_edge.specs.Causes.{Rose}
-use Rattle.lisp_read.specs.Reading.{Reading, ReadsAs}
 use Rattle.lisp_read.proofs.Unique.{one_reading}
 use Rattle.rtlc_run.specs.declared.refusal.Refusal.{Refusal}
 use Rattle.rtlc_run.specs.declared.refusal.Refusal.TheVariants as refusal
@@ -34,11 +33,6 @@ pub appends_nothing : (old new : Option (List ℕ)) → new ≡ old → Appends 
 appends_nothing None new e = tt
 appends_nothing (Some xs) None e = cc
 appends_nothing (Some xs) (Some ys) e = let same : ys ≡ xs = cc in same ∙ sym (append-nil xs)
-
-pub answered_ok : (words : List (List ℕ)) (input output output' errors errors' : Option (List ℕ)) (faults faults' : ℕ) → Writes words input output output' → errors' ≡ errors → IsAnswered words input 0 output output' errors errors' faults faults'
-answered_ok words None output output' errors errors' faults faults' h silent = tt
-answered_ok words (Some bytes) output output' errors errors' faults faults' h silent =
-    (Ok h.0, h.1, record { status_is = refl; written = h.2; told = λ _. appends_nothing errors errors' silent })
 
 -- a refusal with its own cause was told as it is, where the status is not 8
 told_itself : (e told : Refusal) (status : ℕ) → status ≡ status_of told → (told ≡ e) ⊎ ((told ≡ refusal.Memory) × (has_values e ≡ true)) → (status ≡ 8 → ⊥) → told ≡ e
@@ -72,18 +66,6 @@ answered_err words input e status output output' errors errors' faults faults' h
     ended words input e status output output' errors errors' faults faults'
     (answers_of words input e h r w (λ memory. other (is ∙ ap status_of memory))) is line same
 
--- ---- the cause of a status
-
-memory_has_cause : (words : List (List ℕ)) (input : Option (List ℕ)) (told e : Refusal) → IsRefused words input e → (told ≡ e) ⊎ ((told ≡ refusal.Memory) × (has_values e ≡ true)) → IsRefused words input told
-memory_has_cause words input told e h which =
-    ⊎_elim (λ same. subst (IsRefused words input) (sym same) h) (λ memory. subst (IsRefused words input) (sym memory.0) tt) which
-
-pub has_cause : (words : List (List ℕ)) (input : Option (List ℕ)) (e : Refusal) (status : ℕ) (errors errors' : Option (List ℕ)) (faults faults' : ℕ) → IsRefused words input e → Reports e status errors errors' faults faults' → HasCause words input status
-has_cause words input e status errors errors' faults faults' h reports = (reports.told, sym reports.status_is, memory_has_cause words input reports.told e h reports.which)
-
-pub tells_cause : (words : List (List ℕ)) (input : Option (List ℕ)) (e : Refusal) (status : ℕ) (errors errors' : Option (List ℕ)) (faults faults' : ℕ) → IsRefused words input e → Reports e status errors errors' faults faults' → ¬ Rose faults faults' →
-    TellsCause words input status errors errors'
-tells_cause words input e status errors errors' faults faults' h reports calm = (reports.told, sym reports.status_is, memory_has_cause words input reports.told e h reports.which, reports.line calm)
-
+-- the refusal of an error
 pub err_of : (d e : Refusal) → ◌≡◌ {A = Result (Unit {0}) Refusal} (Err d) (Err e) → d ≡ e
 err_of d e h = cc

@@ -1,13 +1,13 @@
 -- What an input comes to, from what its parts gave.
-use Rattle.std.proofs.Common.{◌≡◌, ℕ, List, Result, Ok, Err, Vec, codes, refl, sym, ap}
+use Rattle.std.proofs.Common.{◌≡◌, ℕ, List, Result, Ok, Err, Vec, codes, sym, ap}
 use Rattle.std.specs.declared.alloc.Global.{Global}
 use Rattle.rtx_tree.specs.declared.place.Place.{Place}
 use Rattle.lisp_read.specs.declared.tree.Tree.{Tree}
-use Rattle.lisp_read.specs.Reading.{Reading, ReadsAs, Trees, Syntax, Depth}
+use Rattle.lisp_read.specs.Reading.{ReadsAs, Trees, Syntax, Depth}
 use Rattle.rtx_tree.specs.declared.limit.Limit.TheVariants as limit
 use Rattle.rtlc_run.specs.declared.refusal.Refusal.{Refusal}
 use Rattle.rtlc_run.specs.declared.refusal.Refusal.TheVariants as refusal
-use Rattle.rtlc_run.specs.Assembly.{Outcome, Refuses}
+use Rattle.rtlc_run.specs.Assembly.{Outcome}
 use Rattle.rtlc_run.specs.Answer.{trees_text, ComesFrom, IsSyntax, ReadRefused, ComesTo, Tells}
 
 from_syntax : (bytes : List ℕ) (place : Place) (outcome : Outcome) → outcome ≡ Err (refusal.Syntax (codes "-") place) → ReadsAs bytes (Syntax place) → ComesFrom bytes outcome

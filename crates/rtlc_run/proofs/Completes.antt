@@ -1,7 +1,5 @@
 -- An input of which each instruction is matched has a text, and a run that no fault stopped writes it.
-use Rattle.std.proofs.Common.{◌≡◌, ◌⊎◌, ℕ, List, [], ◌∷◌, ◌++◌, Result, Ok, Err, Option, Some, None, IsSome, eqb, Bool, true, false, refl, sym, ap, subst, ◌∙◌, inl, inr, pos, arith}
-use Rattle.std.specs.Prelude.{IfSome}
-use Rattle.std.specs.Io.KnownBytes.{Appends}
+use Rattle.std.proofs.Common.{◌≡◌, ◌⊎◌, ℕ, List, [], ◌∷◌, ◌++◌, Ok, Option, Some, None, IsSome, eqb, Bool, true, false, refl, sym, ap, subst, ◌∙◌, inl, inr, pos, arith}
 use Rattle.std.proofs.lemmas.Bool.{eqb-true}
 use Rattle.lisp_read.specs.Reading.{Trees}
 use Rattle.rtx_tree.specs.declared.code.Code.{Code}
@@ -13,15 +11,12 @@ use Rattle.rtx_tree.proofs.Trees.{head_of-tree, kids_of-tree}
 use Rattle.rtx_tree.specs.declared.function.Insn.{Insn}
 use Rattle.rtx_tree.specs.declared.function.Function.{Function}
 use Rattle.rtlc_run.specs.declared.forms.Match.{Match}
-use Rattle.rtlc_run.specs.declared.refusal.Refusal.{Refusal}
-use Rattle.rtlc_run.specs.declared.refusal.Refusal.TheVariants as refusal
-use Rattle.rtlc_run.specs.Refusals.{status_of}
 use Rattle.rtlc_run.specs.declared.forms.Form.TheVariants as form
 use Rattle.rtlc_run.specs.Forms.{first_match, table, or_later, operands_at}
-use Rattle.rtlc_run.specs.Assembly.{Outcome, outcome_map, outcome_then, each_text, line_by, insn_line, insn_lines, return_insn, body_lines, function_text, program_text}
+use Rattle.rtlc_run.specs.Assembly.{Outcome, outcome_map, outcome_then, line_by, insn_line, insn_lines, return_insn, body_lines, function_text, program_text}
 use Rattle.rtlc_run.specs.Answer as answer
 use Rattle.rtlc_run.specs.Answer.{IsCommand, Answers, EndsWith, IsAnswered, parsed_text, reading_text, status_of_answer}
-use Rattle.rtlc_run.specs.Lines.{IsInput, IsMatched, AreMatched, AllMatched, Completes}
+use Rattle.rtlc_run.specs.Lines.{IsInput, AreMatched, AllMatched, Completes}
 use Rattle.rtlc_run.proofs.Answered.{one_answer}
 
 -- an outcome that is a text

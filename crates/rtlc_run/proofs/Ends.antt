@@ -1,10 +1,9 @@
 -- How a run ends, from what reading, answering and writing gave.
-use Rattle.std.proofs.Common.{◌≡◌, ℕ, ◌≤◌, ◌<◌, ◌++◌, List, [], length, Result, Ok, Err, Option, Some, None, Bool, true, false, IsTrue, ◌↔◌, refl, sym, ap, subst, ◌∙◌}
+use Rattle.std.proofs.Common.{◌≡◌, ℕ, ◌≤◌, ◌++◌, List, [], length, Result, Ok, Err, Option, Some, None, Bool, true, false, IsTrue, ◌↔◌, sym, ap, subst, ◌∙◌}
 use Rattle.std.specs.Prelude.{IfSome}
 use Rattle.std.proofs.lemmas.List.{append-nil}
 use Rattle.std.specs.Io.KnownBytes.{Consumes, IsAtEnd, Appends}
 use Rattle.byte_edge.specs.Causes.{TakesFront}
-use Rattle.lisp_read.specs.Reading.{Reading, ReadsAs}
 use Rattle.rtx_tree.specs.declared.limit.Limit.{Limit}
 use Rattle.rtx_tree.specs.declared.limit.Limit.TheVariants as limit
 use Rattle.rtlc_run.specs.declared.refusal.Refusal.{Refusal}

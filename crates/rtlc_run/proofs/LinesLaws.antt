@@ -1,12 +1,11 @@
 -- The assembly that is defined by what is appended is the one that is defined by its lines.
-use Rattle.std.proofs.Common.{◌≡◌, ℕ, List, [], ◌∷◌, ◌++◌, Result, Ok, Err, Option, Some, None, IsSome, All, refl, sym, ap, subst, ◌∙◌, append_assoc}
+use Rattle.std.proofs.Common.{◌≡◌, ℕ, List, [], ◌∷◌, ◌++◌, Ok, Err, Option, Some, None, refl, sym, ap, subst, ◌∙◌, append_assoc}
 use Rattle.std.proofs.lemmas.List.{append-nil}
 use Rattle.rtx_tree.specs.declared.function.Insn.{Insn}
 use Rattle.rtx_tree.specs.declared.function.Function.{Function}
 use Rattle.rtlc_run.specs.declared.forms.Match.{Match}
-use Rattle.rtlc_run.specs.declared.refusal.Refusal.{Refusal}
 use Rattle.rtlc_run.specs.Forms.{first_match, table}
-use Rattle.rtlc_run.specs.Assembly.{Outcome, outcome_map, outcome_then, each_text, filled_line, line_by, insn_line, insn_lines, return_insn, body_lines, opening_lines, closing_line, function_text, program_text}
+use Rattle.rtlc_run.specs.Assembly.{Outcome, outcome_map, outcome_then, filled_line, line_by, insn_line, insn_lines, return_insn, body_lines, opening_lines, closing_line, function_text, program_text}
 use Rattle.lisp_read.specs.declared.tree.Tree.{Tree}
 use Rattle.lisp_read.specs.Reading.{Reading, ReadsAs, Trees, Syntax, Depth}
 use Rattle.rtl_read.specs.Parsed.{Parsed, stands, construct}

@@ -1,5 +1,5 @@
 -- The statuses that there are.
-use Rattle.std.proofs.Common.{◌≡◌, ℕ, List, [], ◌∷◌, refl, sym, subst, arith}
+use Rattle.std.proofs.Common.{◌≡◌, ℕ, [], ◌∷◌, refl, sym, subst, arith}
 use Rattle.std.specs.Prelude.{Contains}
 use Rattle.rtlc_run.specs.declared.refusal.Refusal.{Refusal}
 use Rattle.rtlc_run.specs.declared.refusal.Refusal.TheVariants as refusal

@@ -1,5 +1,5 @@
 -- What the program answers. It is one answer for the words and the bytes of the input: a text, or a refusal with its values.
-use Rattle.std.specs.Prelude.{◌≡◌, ◌<◌, ◌≤◌, ◌⊎◌, true, ℕ, List, [], ◌∷◌, ◌++◌, length, map, codes, Result, Ok, Err, IfSome, Vec}
+use Rattle.std.specs.Prelude.{◌≡◌, ◌<◌, ◌≤◌, ◌⊎◌, true, ℕ, List, [], ◌∷◌, length, map, codes, Result, Ok, Err, IfSome, Vec}
 use Rattle.std.specs.declared.alloc.Global.{Global}
 use Rattle.rtx_tree.specs.declared.place.Place.{Place}
 use Rattle.std.specs.Borrow.{Bor}

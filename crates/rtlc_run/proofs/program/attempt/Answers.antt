@@ -1,7 +1,6 @@
-use Rattle.std.proofs.Common.{refl, subst, ◌≤◌, length, List, ℕ}
 use Rattle.std.proofs.lemmas.Result.{err_from_is_err_and}
 use Rattle.rtlc_run.specs.declared.refusal.Refusal.TheVariants as refusal
-use Rattle.rtlc_run.specs.Answer.{words_of, IsCommand}
+use Rattle.rtlc_run.specs.Answer.{words_of}
 use Rattle.rtlc_run.proofs.Ends.{writes_all, writes_front, refused_input, refused_reading, refused_words, never, granted, denied}
 use Rattle.rtlc_run.proofs.program.attempt.Goals as goal
 

@@ -1,4 +1,4 @@
-use Rattle.std.proofs.Common.{◌≡◌, ◌↔◌, ◌≤◌, ◌<◌, ℕ, Bool, List, [], ◌∷◌, length, get_or, refl, arith, ap}
+use Rattle.std.proofs.Common.{◌≡◌, ◌↔◌, ◌≤◌, ◌<◌, ℕ, Bool, List, [], ◌∷◌, length, get_or, arith, ap}
 use Rattle.std.specs.Prelude.{IsTrue, codes}
 use Rattle.std.specs.Borrow.{Bor}
 use Rattle.rtlc_run.specs.Answer.{IsCommand, words_of}

@@ -1,0 +1,5 @@
+pub mod Call
+pub mod Effect
+pub mod Jump
+pub mod Regs
+pub mod Value

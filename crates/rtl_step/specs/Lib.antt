@@ -2,4 +2,5 @@ pub mod Call
 pub mod Effect
 pub mod Jump
 pub mod Regs
+pub mod Step
 pub mod Value

@@ -4,7 +4,9 @@ ghost use Rattle.std.specs.Str.{bytes_eq};
 ghost use Rattle.rtl_step.specs.Value as spec;
 
 use crate::regs::Regs;
-use bits64::{Width, add, div, lt, ltu, mul, rem, sar, sext, shl, shr, sub, trunc, udiv, urem, zext};
+use bits64::{
+    Width, add, div, lt, ltu, mul, rem, sar, sext, shl, shr, sub, trunc, udiv, urem, zext,
+};
 use rtx_tree::{Code, Memories, Mode, Name, Rtx, Symbols};
 use run_memory::load;
 

@@ -40,13 +40,7 @@ fn goes_to(label: &Rtx) -> Option<Way>
 }
 
 /// To the label where the test is not 0.
-fn branch(
-    symbols: &Symbols,
-    regs: &Regs,
-    memory: &Memories,
-    test: &Rtx,
-    label: &Rtx,
-) -> Option<Way>
+fn branch(symbols: &Symbols, regs: &Regs, memory: &Memories, test: &Rtx, label: &Rtx) -> Option<Way>
     ensures { result ≡ spec.branch symbols.now regs.now memory.now test.now label.now }
 {
     let holds = value(symbols, regs, memory, test, Width::W64)?;

@@ -10,7 +10,9 @@ mod effect;
 mod expression;
 mod jump;
 mod regs;
+mod step;
 
 pub use call::{ArgValue, ArgValues, CallEvent, Calls};
 pub use expression::{value, width_of};
 pub use regs::{Known, Regs};
+pub use step::{State, StepEnd, result_of, step_insn};

@@ -11,4 +11,4 @@ pub loop-reg-preserved : goal.loop-reg-preserved
 loop-reg-preserved c = elim c.if-reg_call_used.branch [
   | then-reg_call_used w ↦ kept_used c.args.self.now c.loop-reg.self _ c.loop-reg.reg (sym c.reg_call_used.ensures ∙ w.if-reg_call_used.true) (w.self-is ∙ w.unset.ensures ∙ ap (remove c.loop-reg.self) w.from.ensures) c.loop-reg.invariant
   | else-reg_call_used w ↦ w.self-is ∙ kept_other c.args.self.now c.loop-reg.self c.loop-reg.reg (sym c.reg_call_used.ensures ∙ w.if-reg_call_used.false) c.loop-reg.invariant
-  ]
+]

@@ -9,3 +9,6 @@ mod run;
 
 pub use outcome::{Kept, Outcome};
 pub use run::run_function;
+
+#[cfg(test)]
+mod tests;

@@ -103,3 +103,6 @@ pub fn visible_part(alloc: Global, memory: &Memories, ranges: &Ranges) -> Result
     }
     Ok(Memories::from_items(part))
 }
+
+#[cfg(test)]
+mod tests;

@@ -1,0 +1,6 @@
+pub mod Call
+pub mod Effect
+pub mod Jump
+pub mod Regs
+pub mod Step
+pub mod Value

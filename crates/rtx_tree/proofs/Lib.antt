@@ -4,6 +4,8 @@ pub mod Increasing
 pub mod MemberLaws
 pub mod MemberOrder
 pub mod MemoryLaws
+pub mod MemoryPlaces
+pub mod MemoryWrites
 pub mod OperandLaws
 pub mod Results
 pub mod Trees

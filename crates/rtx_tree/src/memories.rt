@@ -1,6 +1,7 @@
 //! Bytes of memory by address.
-ghost use Rattle.std.specs.Prelude.{◌≡◌, ◌↔◌, [], ◌∷◌, ◌++◌, IsTrue, OnOk, OnErr};
-ghost use Rattle.rtx_tree.specs.Memories.{IsAbove, IsOrdered};
+ghost use Rattle.std.specs.Prelude.{◌≡◌, ◌↔◌, ◌<◌, [], ◌∷◌, ◌++◌, IsTrue, IfOk, OnOk, OnErr, MatchOption, is_some, slice_get, length};
+ghost use Rattle.rtx_tree.specs.Memories as spec;
+ghost use Rattle.rtx_tree.specs.Memories.{IsAbove, IsOrdered, IsPlaceOf};
 
 use plain_data::{Items, Memory};
 use std::alloc::Global;
@@ -73,4 +74,64 @@ impl Memories {
             Some(last) => last.address < address,
         }
     }
+
+    /// The memory of a list of bytes. It takes no memory.
+    pub fn from_items(bytes: Items<MemByte>) -> Memories
+        requires { IsOrdered bytes }
+        ensures { result ≡ bytes }
+    {
+        Memories { bytes }
+    }
+
+    /// The byte at an address, or `None` where memory does not have the address.
+    pub fn byte_at(&self, address: u64) -> Option<u8>
+        ensures { result ≡ spec.byte_at self.now address }
+    {
+        let place = place_of(self.bytes.as_slice(), address)?;
+        Some(self.bytes.item(place).byte)
+    }
+
+    /// Puts a byte at an address, and answers whether memory has the address. Else all is as before.
+    pub fn set_byte(&mut self, address: u64, byte: u8) -> bool
+        ensures bytes { self.new ≡ spec.with_byte self.old address byte }
+        ensures has { result ≡ is_some (spec.byte_at self.old address) }
+    {
+        match place_of(self.bytes.as_slice(), address) {
+            None => false,
+            Some(place) => {
+                self.bytes.replace(place, MemByte { address, byte });
+                true
+            }
+        }
+    }
+
+    /// The same memory once more.
+    pub fn copy(&self, alloc: Global) -> Result<Memories, Memory>
+        ensures { IfOk result (λ memory. memory ≡ self.now) }
+    {
+        let bytes = Vec::from_slice(alloc, self.bytes())?;
+        Ok(Memories::from_items(Items::from_vec(bytes)))
+    }
+}
+
+/// The place in the list of the byte at an address, found by halves.
+fn place_of(bytes: &[MemByte], address: u64) -> Option<usize>
+    requires { IsOrdered bytes.now }
+    ensures { MatchOption result (spec.byte_at bytes.now address ≡ None) (IsPlaceOf bytes.now address) }
+{
+    let mut low = 0;
+    let mut high = bytes.len();
+    while low < high {
+        let middle = low + (high - low) / 2;
+        let found = bytes[middle].address;
+        if found == address {
+            return Some(middle);
+        }
+        if found < address {
+            low = middle + 1;
+        } else {
+            high = middle;
+        }
+    }
+    None
 }

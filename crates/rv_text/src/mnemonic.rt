@@ -1,7 +1,7 @@
 //! The mnemonics.
 
 /// The name of a line: of an instruction, or of a pseudo-instruction of the assembly manual.
-#[derive(Clone, Copy, Debug, PartialEq, Eq)]
+#[derive(Clone, Copy)]
 pub enum Mnemonic {
     /// `add`.
     Add,

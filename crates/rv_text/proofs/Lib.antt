@@ -1,1 +1,6 @@
 pub mod Registers
+pub mod Numbers
+pub mod Operands
+pub mod Plain
+pub mod Places
+pub mod Words

@@ -1,7 +1,7 @@
 -- Lines of assembly, and how they are written. The operands are written as the assembly manual has them ("RISC-V Assembly Programmer's Manual",
 -- "Load and Store Instructions" for imm(rs)); registers go by the names of the calling convention alone (RISC-V ELF psABI, "Integer Register
 -- Convention"), and numbers are decimal.
-use Rattle.std.specs.Prelude.{◌≡◌, ◌≢◌, ℕ, ℤ, pos, Bool, true, ◌&&◌, ◌||◌, not, nat_le, nat_eq, int_le, List, [], ◌∷◌, ◌++◌, length, Option, Some, None, is_some, if◌then◌else◌, bytes_eq, codes, option_map, option_and_then, slice_get}
+use Rattle.std.specs.Prelude.{◌≡◌, ◌≢◌, ℕ, ℤ, pos, negsuc, Bool, true, ◌&&◌, ◌||◌, not, nat_le, nat_eq, int_le, List, [], ◌∷◌, ◌++◌, length, Option, Some, None, is_some, if◌then◌else◌, bytes_eq, codes, option_map, option_and_then, slice_get, unwrap_or}
 use Rattle.std.specs.Ordering.{int_eq}
 use Rattle.std.specs.List.{list_all, list_any}
 use Rattle.std.specs.Fmt.{signed_decimal}
@@ -23,10 +23,14 @@ parts_view parts = record { name = parts.name.now; rd = parts.rd; rs = parts.rs;
 abbrev pub register_text : ℕ → Option (List ℕ)
 register_text reg = slice_get reg_names reg
 
-abbrev pub is_within : ℤ → ℤ → ℤ → Bool
-is_within least most number = int_le least number && int_le number most
+-- a signed number of 64 bits
+abbrev pub is_i64 : ℤ → Bool
+is_i64 number = int_le (negsuc 9223372036854775807) number && int_le number (pos 9223372036854775807)
 
--- a number within bounds, in decimal
+abbrev pub is_within : ℤ → ℤ → ℤ → Bool
+is_within least most number = is_i64 number && (int_le least number && int_le number most)
+
+-- such a number within bounds, in decimal: no needless zero, no plus sign, no minus sign before 0
 abbrev pub number_text : ℤ → ℤ → ℤ → Option (List ℕ)
 number_text least most number = if is_within least most number then Some (signed_decimal number) else None
 
@@ -40,7 +44,7 @@ is_symbol text = not (nat_eq (length text) 0) && list_all is_symbol_byte text
 
 -- a number, and a register in parentheses
 abbrev pub place_text : Option (List ℕ) → Option (List ℕ) → Option (List ℕ)
-place_text number reg = option_and_then (λ n. option_map (λ r. n ++ 40 ∷ (r ++ 41 ∷ [])) reg) number
+place_text number reg = option_and_then (λ n. option_map (λ r. n ++ (40 ∷ (r ++ 41 ∷ []))) reg) number
 
 -- the text of an operand of a line, or none where the line's part is not what the operand may be
 abbrev pub operand_text : Operand → Line → Option (List ℕ)
@@ -51,6 +55,16 @@ operand_text (Number least most) line = number_text least most line.imm
 operand_text (Place least most) line = place_text (number_text least most line.imm) (register_text line.rs)
 operand_text Target line = if is_symbol line.target then Some line.target else None
 operand_text Ra line = Some (codes "ra")
+
+-- an operand as it is written, whatever the line's parts are
+abbrev pub shown : Operand → Line → List ℕ
+shown Rd line = unwrap_or (register_text line.rd) []
+shown Rs line = unwrap_or (register_text line.rs) []
+shown Rt line = unwrap_or (register_text line.rt) []
+shown (Number least most) line = signed_decimal line.imm
+shown (Place least most) line = signed_decimal line.imm ++ (40 ∷ (unwrap_or (register_text line.rs) [] ++ 41 ∷ []))
+shown Target line = line.target
+shown Ra line = codes "ra"
 
 -- a line of which nothing but the mnemonic is given
 abbrev pub bare : List ℕ → Line
@@ -87,3 +101,16 @@ is_of_row row line = has_all row.operands line && same_line (filled row.operands
 -- what a line does, or none where it is no line of the table
 abbrev pub action_of : Line → Option Action
 action_of line = option_and_then (λ row. if is_of_row row line then Some row.action else None) (row_named line.name)
+
+-- the operands as they are written: a byte before the first, a comma before each other one
+abbrev pub shown_all : ℕ → List Operand → Line → List ℕ
+shown_all separator [] line = []
+shown_all separator (operand ∷ operands) line = separator ∷ (shown operand line ++ shown_all 44 operands line)
+
+-- a line of a row is written as a tab, the mnemonic, a tab and the operands; what is no line of the row, as nothing
+abbrev pub row_text : Option Row → Line → List ℕ
+row_text None line = []
+row_text (Some row) line = if is_of_row row line then 9 ∷ (line.name ++ shown_all 9 row.operands line) else []
+
+abbrev pub line_text : Line → List ℕ
+line_text line = row_text (row_named line.name) line

@@ -3,10 +3,11 @@ ghost use Rattle.std.specs.Prelude.{◌≡◌, ◌∷◌, [], IfOk, is_some, pos
 ghost use Rattle.std.specs.List.{list_all};
 ghost use Rattle.rv_text.specs.Lines as spec;
 ghost use Rattle.rv_text.specs.Lines.{parts_view};
+ghost use Rattle.rv_text.specs.Table.{row_view};
 
 use crate::action::Action;
 use crate::operand::Operand;
-use crate::table::row_named;
+use crate::table::{Row, row_named};
 use plain_data::Memory;
 use rtx_tree::{HARD_REGS, Name};
 use std::alloc::Global;
@@ -165,7 +166,7 @@ pub(crate) fn is_symbol(text: &[u8]) -> bool
     !text.is_empty() && are_symbol_bytes(text)
 }
 
-fn is_within(number: i64, least: i64, most: i64) -> bool
+pub(crate) fn is_within(number: i64, least: i64, most: i64) -> bool
     ensures { result ≡ spec.is_within least most number }
 {
     least <= number && number <= most
@@ -221,12 +222,19 @@ impl Line {
         parts
     }
 
+    /// Whether the line is one of a row of the table.
+    pub(crate) fn is_of(&self, row: Row) -> bool
+        ensures { result ≡ spec.is_of_row (row_view row) self.now }
+    {
+        self.has_all(row.operands) && self.named(row.operands).same(self.parts())
+    }
+
     /// What the line does, or `None` where it is no line.
     pub fn action(&self) -> Option<Action>
         ensures { result ≡ spec.action_of self.now }
     {
         let row = row_named(self.name.bytes())?;
-        if self.has_all(row.operands) && self.named(row.operands).same(self.parts()) {
+        if self.is_of(row) {
             Some(row.action)
         } else {
             None

@@ -4,3 +4,5 @@ pub mod Operands
 pub mod Plain
 pub mod Places
 pub mod Words
+pub mod Listed
+pub mod Reading

@@ -13,7 +13,7 @@ is_word (byte ∷ bytes) = list_all is_word_byte (byte ∷ bytes)
 pub word_is_no_blank : (byte : ℕ) → is_word_byte byte ≡ true → is_blank byte ≡ false
 word_is_no_blank byte h = grind (arith, nat_tests)
 
-blank_is_no_word : (byte : ℕ) → is_blank byte ≡ true → is_word_byte byte ≡ false
+pub blank_is_no_word : (byte : ℕ) → is_blank byte ≡ true → is_word_byte byte ≡ false
 blank_is_no_word byte h = rw h refl
 
 -- ---- blanks

@@ -39,19 +39,25 @@ abbrev pub IsListed : List Operand → List ℕ → Line → Line → Type 0
 IsListed [] bytes before after = (bytes ≡ []) × (after ≡ before)
 IsListed (operand ∷ operands) bytes before after = IsListedFrom operand operands bytes before after
 
--- bytes are a text of a line: blanks, the mnemonic, blanks, of which there is one at least where operands follow, and the operands. What they do not
--- name is 0 or empty in the line
+-- bytes are what stands behind the mnemonic of a line of a row: blanks, of which there is one at least where operands follow, and the operands.
+-- What these do not name is 0 or empty in the line
+pub record IsRestOf (row : Row) (name bytes : List ℕ) (line : Line) : Type 0 where
+  pub gap : List ℕ
+  pub gap_blank : AreBlanks gap
+  pub apart : row.operands ≢ [] → gap ≢ []
+  pub operands : List ℕ
+  pub spelled : bytes ≡ gap ++ operands
+  pub listed : IsListed row.operands operands (bare name) line
+
+-- bytes are a text of a line: blanks, the mnemonic of a row, and the rest
 pub record IsTextOf (bytes : List ℕ) (line : Line) : Type 0 where
   pub row : Row
   pub named : row_named line.name ≡ Some row
   pub front : List ℕ
   pub front_blank : AreBlanks front
-  pub gap : List ℕ
-  pub gap_blank : AreBlanks gap
-  pub apart : row.operands ≢ [] → gap ≢ []
-  pub operands : List ℕ
-  pub spelled : bytes ≡ front ++ (line.name ++ (gap ++ operands))
-  pub listed : IsListed row.operands operands (bare line.name) line
+  pub rest : List ℕ
+  pub spelled : bytes ≡ front ++ (line.name ++ rest)
+  pub rest_is : IsRestOf row line.name rest line
 
 -- the one thing that has a property, or none where nothing has it
 abbrev pub Finds : {X : Type 0} → (X → Type 0) → Option X → Type 0

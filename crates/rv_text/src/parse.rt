@@ -4,11 +4,12 @@ ghost use Rattle.std.specs.Fmt.{signed_decimal};
 ghost use Rattle.rv_text.specs.Lines as lines;
 ghost use Rattle.rv_text.specs.Lines.{parts_view};
 ghost use Rattle.rv_text.specs.Text as spec;
-ghost use Rattle.rv_text.specs.Text.{Finds, Sets, IsListed, IsListedFrom, IsTextOf};
+ghost use Rattle.rv_text.specs.Text.{Finds, Sets, IsListed, IsListedFrom, IsRestOf, IsTextOf};
+ghost use Rattle.rv_text.specs.Table.{row_view};
 
 use crate::line::{Line, Parts, is_symbol, is_within};
 use crate::operand::Operand;
-use crate::table::row_named;
+use crate::table::{Row, row_named};
 use itoa::Buffer;
 use plain_data::Memory;
 use rtx_tree::reg_number;
@@ -277,8 +278,12 @@ fn read_operands_from<'a>(
         return read_operand(operand, bytes, parts);
     };
     let (text, rest) = split_word(bytes);
-    let parts = read_operand(operand, text, parts)?;
-    let rest = behind_comma(rest)?;
+    let Some(parts) = read_operand(operand, text, parts) else {
+        return None;
+    };
+    let Some(rest) = behind_comma(rest) else {
+        return None;
+    };
     read_operands_from(*next, others, rest, parts)
 }
 
@@ -293,17 +298,26 @@ fn read_operands<'a>(operands: &[Operand], bytes: &'a [u8], parts: Parts<'a>) ->
     }
 }
 
-/// Reads a line.
-fn read_parts(bytes: &[u8]) -> Option<Parts<'_>>
-    ensures { Finds (IsTextOf bytes.entry.now) (option_map parts_view result) }
+/// Reads what stands behind the mnemonic of a row.
+fn read_row<'a>(row: Row, name: &'a [u8], rest: &'a [u8]) -> Option<Parts<'a>>
+    ensures { Finds (IsRestOf (row_view row) name.entry.now rest.entry.now) (option_map parts_view result) }
 {
-    let (name, rest) = split_word(behind_blanks(bytes));
-    let row = row_named(name)?;
     let operands = behind_blanks(rest);
     if operands.len() == rest.len() && !row.operands.is_empty() {
         return None;
     }
     read_operands(row.operands, operands, Parts::bare(name))
+}
+
+/// Reads a line.
+fn read_parts(bytes: &[u8]) -> Option<Parts<'_>>
+    ensures { Finds (IsTextOf bytes.entry.now) (option_map parts_view result) }
+{
+    let (name, rest) = split_word(behind_blanks(bytes));
+    match row_named(name) {
+        None => None,
+        Some(row) => read_row(row, name, rest),
+    }
 }
 
 /// Reads a line: blanks, a mnemonic, blanks, operands with commas, round which blanks may stand. `None` where the bytes are no line.

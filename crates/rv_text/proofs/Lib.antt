@@ -6,3 +6,4 @@ pub mod Places
 pub mod Words
 pub mod Listed
 pub mod Reading
+pub mod Printing

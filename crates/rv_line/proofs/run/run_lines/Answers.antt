@@ -1,0 +1,12 @@
+use Rattle.rv_line.specs.Run.{running_view, run}
+use Rattle.rv_line.proofs.Runs.{run_starts, turn_ends, turn_goes}
+use Rattle.rv_line.proofs.run.run_lines.Goals as goal
+
+pub loop-init : goal.loop-init
+loop-init c = run_starts c.args.lines.now c.args.start.now c.args.world.now c.args.k c.in_ok-entry.field-0 c.as_slice.result.now c.new.result c.in_ok-entry.ensures c.as_slice.ensures.value c.new.ensures
+
+pub returns-in-Some : goal.returns-in-Some
+returns-in-Some c = turn_ends c.args.world.now c.args.start.now.visible c.args.lines.now c.args.k c.loop.counter (running_view c.loop.code) (running_view c.turn.new.self) c.in_ok-outcome.field-0 c.in-Some.outcome (run c.args.lines.now c.args.start.now c.args.world.now c.args.k) c.loop-test.true c.in-Some.is c.in_ok-outcome.ensures c.loop.invariant
+
+pub loop-preserved : goal.loop-preserved
+loop-preserved c = turn_goes c.args.world.now c.args.start.now.visible c.args.lines.now c.args.k c.loop.counter (running_view c.loop.code) (running_view c.turn.new.self) c.in_ok-outcome.field-0 (run c.args.lines.now c.args.start.now c.args.world.now c.args.k) c.loop-test.true c.in_default.is c.in_ok-outcome.ensures c.loop.invariant

@@ -1,10 +1,10 @@
 -- Reading some trees one after the other: what is read so far, and what the rest gives.
 use Rattle.std.proofs.Common.{◌≡◌, ℕ, suc, ◌+◌, ◌<◌, List, [], ◌∷◌, ◌++◌, length, drop, get_or, refl, sym, ap, subst, ◌∙◌, append_assoc, add-one}
-use Rattle.std.proofs.lemmas.List.{append-nil, drop_all}
+use Rattle.std.proofs.lemmas.List.{append-nil}
 use Rattle.std.proofs.Math.Seq.{drop-cons}
 use Rattle.rtx_tree.specs.declared.place.Place.{Place}
 use Rattle.lisp_read.specs.declared.tree.Tree.{Tree}
-use Rattle.rtl_read.specs.Parsed.{Parsed, stands, construct, parsed_map, parsed_then, each_parsed}
+use Rattle.rtl_read.specs.Parsed.{Parsed, stands, construct, parsed_map, each_parsed}
 
 -- what is read with these in front
 abbrev pub with_front : {A : Type 0} → List A → Parsed (List A) → Parsed (List A)

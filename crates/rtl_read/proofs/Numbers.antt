@@ -1,6 +1,5 @@
 -- A text is a number exactly where it is what is printed for the number that is parsed from it.
-use Rattle.std.proofs.Common.{◌≡◌, ℕ, ◌<◌, ◌^◌, ℤ, pos, negsuc, Bool, true, false, ◌&&◌, cond, List, Option, Some, None, Result, Ok, Err, OkIff, IsUtf8, FitsSigned, bytes_eq, get_or, refl, sym, subst, arith, IfErr, ltb}
-use Rattle.std.proofs.lemmas.Bool.{ltb-true}
+use Rattle.std.proofs.Common.{◌≡◌, ℕ, ◌<◌, ◌^◌, ℤ, pos, negsuc, Bool, true, false, ◌&&◌, cond, List, Option, Some, None, Result, Ok, Err, IsUtf8, FitsSigned, bytes_eq, get_or, refl, sym, subst, arith}
 use Rattle.std.proofs.lemmas.Fmt.{IsAscii-signed, parse-signed_decimal}
 use Rattle.std.proofs.lemmas.Str.{IsUtf8-from_ascii}
 use Rattle.std.specs.Int.{w64}

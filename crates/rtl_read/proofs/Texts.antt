@@ -1,12 +1,11 @@
 -- The text of an expression, one level at a time.
-use Rattle.std.proofs.Common.{◌≡◌, ℕ, suc, ◌+◌, ◌<◌, List, [], ◌∷◌, ◌++◌, length, take, drop, get_or, map, flat_map, codes, refl, sym, ap, ◌∙◌, append_assoc, arith}
+use Rattle.std.proofs.Common.{◌≡◌, ℕ, List, [], ◌∷◌, ◌++◌, map, flat_map, codes, refl, sym, ap, ◌∙◌}
 use Rattle.std.specs.Fmt.{signed_decimal}
-use Rattle.std.proofs.lemmas.List.{take_more}
-use Rattle.std.proofs.lemmas.List.Concat.{flat_map-cons, flat_map-append}
+use Rattle.std.proofs.lemmas.List.Concat.{flat_map-cons}
 use Rattle.rtx_tree.specs.declared.tree.Rtx.{Rtx, out-Rtx}
-use Rattle.rtx_tree.specs.declared.tree.Rtx.TheFolds.{fold-Rtx, fold_out-Rtx}
+use Rattle.rtx_tree.specs.declared.tree.Rtx.TheFolds.{fold_out-Rtx}
 use Rattle.rtl_read.specs.Word.{head_text}
-use Rattle.rtl_read.specs.Print.{Printed, printed_step, printed_body, text_of, printed, spaced, spaced_text, spaced_number, separated, body_of}
+use Rattle.rtl_read.specs.Print.{Printed, printed_step, printed_body, text_of, spaced, spaced_text, spaced_number, body_of}
 
 bare_of : (x : Rtx) → (text_of x).bare ≡ signed_decimal (out-Rtx x).number
 bare_of x = ap (λ (p : Printed). p.bare) (fold_out-Rtx Printed printed_step x)

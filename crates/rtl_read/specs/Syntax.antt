@@ -1,6 +1,6 @@
 -- The functions of the input, by the form of their trees: GCC Internals, "RTL Function Units" and "Insns", in the compact
 -- form that GCC dumps for reading by its RTL front end, as far as this program takes it.
-use Rattle.std.specs.Prelude.{ℕ, ℤ, pos, Bool, true, false, ◌&&◌, List, [], ◌∷◌, Option, Some, None, if◌then◌else◌, option_map, option_and_then, codes}
+use Rattle.std.specs.Prelude.{ℕ, ◌&&◌, List, [], ◌∷◌, Option, Some, None, if◌then◌else◌, option_map, option_and_then, codes}
 use Rattle.std.specs.List.{list_all}
 use Rattle.rtx_tree.specs.declared.code.Code.TheVariants.{Reg, ConstInt, Plus, Set}
 use Rattle.rtx_tree.specs.declared.code.Mode.{Mode}

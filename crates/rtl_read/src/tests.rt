@@ -63,7 +63,7 @@ fn instructions_in_order(rt: HostRuntime) -> Result<(), Fail> {
         ),
         (
             1,
-            2147483647,
+            2_147_483_647,
             b"(set (reg:DI a7) (plus:DI (reg:DI a7) (const_int 2047)))",
         ),
         (2, 5, b"(set (reg:DI a0) (const_int -9223372036854775808))"),
@@ -135,146 +135,38 @@ const CHAINS: [(&[u8], u32, u32, &[u8]); 7] = [
     ),
 ];
 
-/// Numbers that no instruction has.
-const UIDS: [(&[u8], u32, u32, &[u8]); 7] = [
-    (
-        b"(function \"f\" (insn-chain (cinsn 0 (set (reg:DI a0) (reg:DI a1)))))",
-        1,
-        27,
-        b"cinsn",
-    ),
-    (
-        b"(function \"f\" (insn-chain (cinsn 2147483648 (set (reg:DI a0) (reg:DI a1)))))",
-        1,
-        27,
-        b"cinsn",
-    ),
-    (
-        b"(function \"f\" (insn-chain (cinsn 007 (set (reg:DI a0) (reg:DI a1)))))",
-        1,
-        27,
-        b"cinsn",
-    ),
-    (
-        b"(function \"f\" (insn-chain (cinsn +5 (set (reg:DI a0) (reg:DI a1)))))",
-        1,
-        27,
-        b"cinsn",
-    ),
-    (
-        b"(function \"f\" (insn-chain (cinsn -1 (set (reg:DI a0) (reg:DI a1)))))",
-        1,
-        27,
-        b"cinsn",
-    ),
-    (
-        b"(function \"f\" (insn-chain (cinsn five (set (reg:DI a0) (reg:DI a1)))))",
-        1,
-        27,
-        b"cinsn",
-    ),
-    (
-        b"(function \"f\" (insn-chain (cinsn \"5\" (set (reg:DI a0) (reg:DI a1)))))",
-        1,
-        27,
-        b"cinsn",
-    ),
+/// Instructions with numbers that none has.
+const UIDS: [&[u8]; 7] = [
+    b"(function \"f\" (insn-chain (cinsn 0 (set (reg:DI a0) (reg:DI a1)))))",
+    b"(function \"f\" (insn-chain (cinsn 2147483648 (set (reg:DI a0) (reg:DI a1)))))",
+    b"(function \"f\" (insn-chain (cinsn 007 (set (reg:DI a0) (reg:DI a1)))))",
+    b"(function \"f\" (insn-chain (cinsn +5 (set (reg:DI a0) (reg:DI a1)))))",
+    b"(function \"f\" (insn-chain (cinsn -1 (set (reg:DI a0) (reg:DI a1)))))",
+    b"(function \"f\" (insn-chain (cinsn five (set (reg:DI a0) (reg:DI a1)))))",
+    b"(function \"f\" (insn-chain (cinsn \"5\" (set (reg:DI a0) (reg:DI a1)))))",
 ];
 
-/// Registers that take no argument in DImode.
-const REGISTERS: [(&[u8], u32, u32, &[u8]); 7] = [
-    (
-        b"(function \"f\" (insn-chain (cinsn 5 (set (reg:DI a8) (reg:DI a1)))))",
-        1,
-        41,
-        b"reg:DI",
-    ),
-    (
-        b"(function \"f\" (insn-chain (cinsn 5 (set (reg:DI t0) (reg:DI a1)))))",
-        1,
-        41,
-        b"reg:DI",
-    ),
-    (
-        b"(function \"f\" (insn-chain (cinsn 5 (set (reg:DI A0) (reg:DI a1)))))",
-        1,
-        41,
-        b"reg:DI",
-    ),
-    (
-        b"(function \"f\" (insn-chain (cinsn 5 (set (reg:DI 10) (reg:DI a1)))))",
-        1,
-        41,
-        b"reg:DI",
-    ),
-    (
-        b"(function \"f\" (insn-chain (cinsn 5 (set (reg:DI a) (reg:DI a1)))))",
-        1,
-        41,
-        b"reg:DI",
-    ),
-    (
-        b"(function \"f\" (insn-chain (cinsn 5 (set (reg:SI a0) (reg:DI a1)))))",
-        1,
-        41,
-        b"reg:SI",
-    ),
-    (
-        b"(function \"f\" (insn-chain (cinsn 5 (set (reg a0) (reg:DI a1)))))",
-        1,
-        41,
-        b"reg",
-    ),
+/// Settings of registers that take no argument.
+const REGISTERS: [&[u8]; 5] = [
+    b"(function \"f\" (insn-chain (cinsn 5 (set (reg:DI a8) (reg:DI a1)))))",
+    b"(function \"f\" (insn-chain (cinsn 5 (set (reg:DI t0) (reg:DI a1)))))",
+    b"(function \"f\" (insn-chain (cinsn 5 (set (reg:DI A0) (reg:DI a1)))))",
+    b"(function \"f\" (insn-chain (cinsn 5 (set (reg:DI 10) (reg:DI a1)))))",
+    b"(function \"f\" (insn-chain (cinsn 5 (set (reg:DI a) (reg:DI a1)))))",
 ];
 
 /// Constants that are not written as a number of 64 bits.
-const NUMBERS: [(&[u8], u32, u32, &[u8]); 7] = [
-    (
-        b"(function \"f\" (insn-chain (cinsn 5 (set (reg:DI a0) (const_int 9223372036854775808)))))",
-        1,
-        53,
-        b"const_int",
-    ),
-    (
-        b"(function \"f\" (insn-chain (cinsn 5 (set (reg:DI a0) (const_int -9223372036854775809)))))",
-        1,
-        53,
-        b"const_int",
-    ),
-    (
-        b"(function \"f\" (insn-chain (cinsn 5 (set (reg:DI a0) (const_int -0)))))",
-        1,
-        53,
-        b"const_int",
-    ),
-    (
-        b"(function \"f\" (insn-chain (cinsn 5 (set (reg:DI a0) (const_int +1)))))",
-        1,
-        53,
-        b"const_int",
-    ),
-    (
-        b"(function \"f\" (insn-chain (cinsn 5 (set (reg:DI a0) (const_int 007)))))",
-        1,
-        53,
-        b"const_int",
-    ),
-    (
-        b"(function \"f\" (insn-chain (cinsn 5 (set (reg:DI a0) (const_int 0x10)))))",
-        1,
-        53,
-        b"const_int",
-    ),
-    (
-        b"(function \"f\" (insn-chain (cinsn 5 (set (reg:DI a0) (const_int:DI 1)))))",
-        1,
-        53,
-        b"const_int:DI",
-    ),
+const NUMBERS: [&[u8]; 6] = [
+    b"(function \"f\" (insn-chain (cinsn 5 (set (reg:DI a0) (const_int 9223372036854775808)))))",
+    b"(function \"f\" (insn-chain (cinsn 5 (set (reg:DI a0) (const_int -9223372036854775809)))))",
+    b"(function \"f\" (insn-chain (cinsn 5 (set (reg:DI a0) (const_int -0)))))",
+    b"(function \"f\" (insn-chain (cinsn 5 (set (reg:DI a0) (const_int +1)))))",
+    b"(function \"f\" (insn-chain (cinsn 5 (set (reg:DI a0) (const_int 007)))))",
+    b"(function \"f\" (insn-chain (cinsn 5 (set (reg:DI a0) (const_int 0x10)))))",
 ];
 
 /// Expressions that are outside.
-const EXPRESSIONS: [(&[u8], u32, u32, &[u8]); 6] = [
+const EXPRESSIONS: [(&[u8], u32, u32, &[u8]); 9] = [
     (
         b"(function \"d\" (insn-chain (cinsn 5 (set (reg:DF a0) (mult:DF (reg:DF a0) (reg:DF a1))))))",
         1,
@@ -310,6 +202,24 @@ const EXPRESSIONS: [(&[u8], u32, u32, &[u8]); 6] = [
         1,
         62,
         b"const_int",
+    ),
+    (
+        b"(function \"f\" (insn-chain (cinsn 5 (set (reg:SI a0) (reg:DI a1)))))",
+        1,
+        41,
+        b"reg:SI",
+    ),
+    (
+        b"(function \"f\" (insn-chain (cinsn 5 (set (reg a0) (reg:DI a1)))))",
+        1,
+        41,
+        b"reg",
+    ),
+    (
+        b"(function \"f\" (insn-chain (cinsn 5 (set (reg:DI a0) (const_int:DI 1)))))",
+        1,
+        53,
+        b"const_int:DI",
     ),
 ];
 
@@ -371,14 +281,14 @@ fn first_construct_is_told(rt: HostRuntime) -> Result<(), Fail> {
     for (text, line, column, name) in CHAINS {
         check_construct(&rt, rt.alloc(), text, line, column, name)?;
     }
-    for (text, line, column, name) in UIDS {
-        check_construct(&rt, rt.alloc(), text, line, column, name)?;
+    for text in UIDS {
+        check_construct(&rt, rt.alloc(), text, 1, 27, b"cinsn")?;
     }
-    for (text, line, column, name) in REGISTERS {
-        check_construct(&rt, rt.alloc(), text, line, column, name)?;
+    for text in REGISTERS {
+        check_construct(&rt, rt.alloc(), text, 1, 41, b"reg:DI")?;
     }
-    for (text, line, column, name) in NUMBERS {
-        check_construct(&rt, rt.alloc(), text, line, column, name)?;
+    for text in NUMBERS {
+        check_construct(&rt, rt.alloc(), text, 1, 53, b"const_int")?;
     }
     for (text, line, column, name) in EXPRESSIONS {
         check_construct(&rt, rt.alloc(), text, line, column, name)?;

@@ -1,4 +1,4 @@
-use Rattle.std.proofs.Common.{◌≡◌, sym}
+use Rattle.std.proofs.Common.{sym}
 use Rattle.rtl_read.proofs.Numbers.{no_number-utf8, no_number-parse}
 use Rattle.rtl_read.proofs.word.number_in.Goals as goal
 

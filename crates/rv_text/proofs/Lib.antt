@@ -7,3 +7,4 @@ pub mod Words
 pub mod Listed
 pub mod Reading
 pub mod Printing
+pub mod Apart

@@ -1,5 +1,5 @@
 //! Text to lines.
-ghost use Rattle.std.specs.Prelude.{◌≡◌, ◌&&◌, ℤ, true, Some, None, if◌then◌else◌, bytes_eq, IfOk, option_map};
+ghost use Rattle.std.specs.Prelude.{◌≡◌, ◌&&◌, ℤ, true, Some, None, IsSome, IfSome, if◌then◌else◌, bytes_eq, IfOk, option_map};
 ghost use Rattle.std.specs.Fmt.{signed_decimal};
 ghost use Rattle.rv_text.specs.Lines as lines;
 ghost use Rattle.rv_text.specs.Lines.{parts_view};
@@ -321,8 +321,10 @@ fn read_parts(bytes: &[u8]) -> Option<Parts<'_>>
 }
 
 /// Reads a line: blanks, a mnemonic, blanks, operands with commas, round which blanks may stand. `None` where the bytes are no line.
+#[tactic(auto, using(crate::proofs::Apart::text_is_line))]
 pub fn parse_line(alloc: Global, bytes: &[u8]) -> Result<Option<Line>, Memory>
-    ensures { IfOk result (Finds (IsTextOf bytes.now)) }
+    ensures line { IfOk result (Finds (IsTextOf bytes.now)) }
+    ensures action { IfOk result (λ found. IfSome found (λ line. IsSome (lines.action_of line))) }
 {
     match read_parts(bytes) {
         None => Ok(None),

@@ -5,7 +5,7 @@ use crate::{Known, Regs, State, StepEnd, step_insn, value};
 use bits64::Width;
 use plain_data::{Items, Memory};
 use rtx_tree::{
-    Code, Function, Insn, Kind, Kids, MemByte, Memories, Mode, Name, Reply, Rtx, SymbolAt, World,
+    Code, Function, Insn, Kids, Kind, MemByte, Memories, Mode, Name, Reply, Rtx, SymbolAt, World,
 };
 use std::alloc::Global;
 use std::test::Fail;
@@ -73,13 +73,28 @@ fn modes(rt: HostRuntime) -> Result<(), Fail> {
     regs.set(11, known)?;
     let byte = Rtx::reg(alloc, Mode::QI, 11);
     let wide = Rtx::of_one(alloc, Code::SignExtend, Mode::DI, byte)?;
-    assert_eq!(rt; value(&symbols, &regs, &memory, &wide, Width::W64), Some(0xffff_ffff_ffff_ff80));
+    assert_eq!(rt;
+        value(&symbols, &regs, &memory, &wide, Width::W64),
+        Some(0xffff_ffff_ffff_ff80)
+    );
     let low = Rtx::of_one(alloc, Code::Subreg, Mode::QI, reg(alloc, 11))?;
-    assert_eq!(rt; value(&symbols, &regs, &memory, &low, Width::W8), Some(0x80));
-    assert_eq!(rt; value(&symbols, &regs, &memory, &reg(alloc, 11), Width::W64), None);
-    assert_eq!(rt; value(&symbols, &regs, &memory, &reg(alloc, 0), Width::W64), Some(0));
+    assert_eq!(rt;
+        value(&symbols, &regs, &memory, &low, Width::W8),
+        Some(0x80)
+    );
+    assert_eq!(rt;
+        value(&symbols, &regs, &memory, &reg(alloc, 11), Width::W64),
+        None
+    );
+    assert_eq!(rt;
+        value(&symbols, &regs, &memory, &reg(alloc, 0), Width::W64),
+        Some(0)
+    );
     let constant = Rtx::const_int(alloc, -1);
-    assert_eq!(rt; value(&symbols, &regs, &memory, &constant, Width::W16), Some(0xffff));
+    assert_eq!(rt;
+        value(&symbols, &regs, &memory, &constant, Width::W16),
+        Some(0xffff)
+    );
     Ok(())
 }
 

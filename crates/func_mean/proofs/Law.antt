@@ -1,5 +1,5 @@
 -- A run that goes on takes jumps or makes calls.
-use Rattle.std.proofs.Common.{◌≡◌, ℕ, zero, suc, ◌+◌, ◌-◌, ◌*◌, ◌<◌, ◌≤◌, arith, Bool, true, false, if◌then◌else◌, cond, List, [], ◌∷◌, drop, refl, sym, ap, subst, ◌∙◌}
+use Rattle.std.proofs.Common.{◌≡◌, ℕ, zero, suc, ◌+◌, ◌-◌, ◌*◌, ◌≤◌, arith, Bool, true, false, if◌then◌else◌, List, [], ◌∷◌, drop, refl, sym, ap, subst, ◌∙◌}
 use Rattle.std.proofs.Math.Seq.{drop-nil}
 use Rattle.std.specs.Prelude.{Option, Some, None, slice_get}
 use Rattle.rtx_tree.specs.declared.function.Kind.{Kind}
@@ -9,7 +9,6 @@ use Rattle.rtx_tree.specs.declared.function.Function.{Function}
 use Rattle.rtx_tree.specs.declared.machine.Reply.{Reply}
 use Rattle.rtx_tree.specs.declared.machine.World.{World}
 use Rattle.rtx_tree.specs.declared.machine.Start.{Start}
-use Rattle.rtx_tree.specs.declared.code.Mode.{Mode}
 use Rattle.bits64.specs.declared.Width.{Width}
 use Rattle.rtl_step.specs.declared.effect.Effect.{Effect}
 use Rattle.rtl_step.specs.declared.jump.Way.{Way}
@@ -18,7 +17,7 @@ use Rattle.rtl_step.specs.declared.call.CallEvent.{CallEvent}
 use Rattle.rtl_step.specs.declared.step.State.{State}
 use Rattle.rtl_step.specs.declared.step.StepEnd.{StepEnd}
 use Rattle.rtl_step.specs.declared.step.StepEnd.TheVariants.{Next, Jumped, Called, Returned, Asked, Undefined}
-use Rattle.rtl_step.specs.Step.{Stepped, step, act, act_at, after_effects, after_jump, after_goes, after_return, after_event, after_reply, has_result, is_mark, passed, place_from, place_of}
+use Rattle.rtl_step.specs.Step.{Stepped, step, act, act_at, after_effects, after_jump, after_goes, after_event, after_reply, has_result, is_mark, passed, place_from, place_of}
 use Rattle.func_mean.specs.Run.{IsRunning, insn_count, go_on, run, run_of, entry_of, taken, taken_on, taken_from}
 
 -- ---- a step that goes on to the next instruction

@@ -1,5 +1,5 @@
 -- Runs by their steps.
-use Rattle.std.proofs.Common.{◌≡◌, ℕ, zero, suc, ◌+◌, ◌-◌, ◌<◌, arith, true, false, if◌then◌else◌, refl, sym, ap, subst, ◌∙◌, Result, IfOk}
+use Rattle.std.proofs.Common.{◌≡◌, ℕ, suc, ◌+◌, ◌-◌, ◌<◌, arith, true, false, if◌then◌else◌, sym, ap, subst, ◌∙◌, Result, IfOk}
 use Rattle.rtx_tree.specs.declared.function.Function.{Function}
 use Rattle.rtx_tree.specs.declared.machine.World.{World}
 use Rattle.rtl_step.specs.declared.step.State.{State}

@@ -12,7 +12,7 @@ use Rattle.rtl_step.specs.Regs.{Regs, known_of, reg_value, with_reg}
 use Rattle.rtl_step.specs.Step.{step, result_of, is_mark}
 use Rattle.rtl_step.specs.declared.step.State.{State}
 use Rattle.rtl_step.specs.declared.step.StepEnd.{StepEnd}
-use Rattle.rtl_step.specs.declared.step.StepEnd.TheVariants.{Next, Jumped, Called, Returned, Asked, Undefined}
+use Rattle.rtl_step.specs.declared.step.StepEnd.TheVariants.{Next, Jumped, Called, Returned, Asked}
 use Rattle.func_mean.specs.declared.outcome.Outcome.{Outcome}
 use Rattle.func_mean.specs.declared.outcome.Outcome.TheVariants as outcomes
 

@@ -1,8 +1,8 @@
 -- Maps of registers by their look-ups.
-use Rattle.std.proofs.Common.{◌≡◌, ◌<◌, ◌≤◌, ◌+◌, ℕ, ltb, eqb, ◌&&◌, not, Bool, true, false, cond, List, [], ◌∷◌, sym, ap, ◌∙◌, refl, arith, Option, Some, None}
+use Rattle.std.proofs.Common.{◌≡◌, ◌+◌, ℕ, ltb, eqb, ◌&&◌, not, Bool, true, false, cond, List, [], ◌∷◌, sym, ap, ◌∙◌, refl, arith, Some, None}
 use Rattle.std.specs.Ordering.{nat_cmp, is_eq, eq_by_cmp}
 use Rattle.std.specs.Cmp.{nat_cmp_total, eq_by_cmp_equiv}
-use Rattle.std.specs.FinMap.{FinMap, get, insert, remove, retain_keys, find, from_entries, same_map, nat_cmp-IsAntisymmetric, get-insert, get-remove, get-retain_keys, get-from_entries}
+use Rattle.std.specs.FinMap.{get, insert, remove, retain_keys, find, from_entries, same_map, nat_cmp-IsAntisymmetric, get-insert, get-remove, get-retain_keys, get-from_entries}
 use Rattle.std.specs.BTreeMap.{BTreeMap, is_at}
 use Rattle.std.specs.BTreeMap as tree
 use Rattle.std.specs.Map.{lookup}

@@ -1,8 +1,8 @@
 -- Laws of values.
-use Rattle.std.proofs.Common.{◌≡◌, ◌↔◌, ◌<◌, ◌≤◌, ◌⊎◌, ⊎_elim, ℕ, IsTrue, Bool, true, false, List, [], ◌∷◌, length, map, sym, ap, subst, ◌∙◌, refl, rules, arith}
+use Rattle.std.proofs.Common.{◌≡◌, ◌↔◌, ◌<◌, ◌≤◌, ◌⊎◌, ⊎_elim, ℕ, IsTrue, Bool, List, [], ◌∷◌, length, map, sym, ap, subst, ◌∙◌, refl, rules, arith}
 use Rattle.std.proofs.lemmas.Slice.Eq.{bytes_eq-Decides}
 use Rattle.std.specs.Str.{bytes_eq}
-use Rattle.std.specs.Prelude.{ℤ, Option, None}
+use Rattle.std.specs.Prelude.{ℤ, None}
 use Rattle.rtx_tree.specs.declared.code.Code.{Code}
 use Rattle.rtl_step.specs.declared.expression.Class.{Class}
 use Rattle.rtl_step.specs.declared.expression.Class.TheVariants.{Shift, Comparison, Conversion}
@@ -11,7 +11,6 @@ use Rattle.rtx_tree.specs.declared.memories.MemByte.{MemByte}
 use Rattle.rtx_tree.specs.declared.machine.SymbolAt.{SymbolAt}
 use Rattle.rtx_tree.specs.declared.tree.Rtx.{Rtx, out-Rtx}
 use Rattle.rtx_tree.specs.declared.tree.Rtx.TheFolds.{fold_out-Rtx}
-use Rattle.rtx_tree.specs.Tree.{kids_of}
 use Rattle.rtl_step.specs.Regs.{Regs}
 use Rattle.rtl_step.specs.Value.{Reading, class_of, width_of, value_by, reading_step, reading_of, value_of}
 

@@ -1,6 +1,6 @@
 use Rattle.std.proofs.Common.{sym, ap, ◌∙◌}
 use Rattle.std.specs.FinMap.{remove}
-use Rattle.rtl_step.proofs.Registers.{kept_none, kept_used, kept_other, kept_all}
+use Rattle.rtl_step.proofs.Registers.{kept_none, kept_used, kept_other}
 use Rattle.rtl_step.proofs.regs.Regs.unset_call_used.Goals as goal
 use Rattle.rtl_step.proofs.regs.Regs.unset_call_used.Goals.{then-reg_call_used, else-reg_call_used}
 

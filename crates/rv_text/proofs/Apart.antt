@@ -1,15 +1,15 @@
 -- What reads as a line is one: the operands of a row name different parts of the line, so that each keeps the text that it was read from.
-use Rattle.std.proofs.Common.{◌≡◌, ℕ, Bool, true, false, cond, ◌&&◌, bytes_eq, nat_eq, List, [], ◌∷◌, Option, Some, None, is_some, IsSome, option_and_then, refl, sym, ◌∙◌, ap, subst}
+use Rattle.std.proofs.Common.{◌≡◌, ℕ, Bool, true, false, cond, ◌&&◌, bytes_eq, nat_eq, List, [], ◌∷◌, Option, Some, None, is_some, IsSome, option_and_then, refl, sym, ◌∙◌, ap}
 use Rattle.std.specs.Ordering.{int_eq}
 use Rattle.std.specs.Cmp.{unsigned_Decides, signed_Decides}
 use Rattle.std.specs.List.{list_all}
 use Rattle.std.proofs.lemmas.Slice.Eq.{bytes_eq-Decides}
-use Rattle.rv_text.specs.Table.{Row, table, find_row, row_named}
+use Rattle.rv_text.specs.Table.{Row, table, find_row}
 use Rattle.rv_text.specs.Lines.{operand_text, put, bare, same_line, filled, has_all, is_of_row, action_of}
 use Rattle.rv_text.specs.Text.{Sets, IsListed, IsListedFrom, IsTextOf}
 use Rattle.rv_text.specs.declared.line.Line.{Line}
 use Rattle.rv_text.specs.declared.operand.Operand.{Operand}
-use Rattle.rv_text.specs.declared.operand.Operand.TheVariants.{Rd, Rs, Rt, Number, Place, Target, Ra}
+use Rattle.rv_text.specs.declared.operand.Operand.TheVariants.{Rd, Rs, Rt, Number, Place, Target}
 use Rattle.rv_text.proofs.Numbers.{and_true, both_true}
 
 -- two operands name different parts

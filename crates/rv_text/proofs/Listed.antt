@@ -1,7 +1,7 @@
 -- Operands in a row: each text is a word, so the bytes are cut in one way alone.
-use Rattle.std.proofs.Common.{◌≡◌, ◌≢◌, ℕ, ℤ, suc, pos, negsuc, ◌+◌, ◌-◌, ◌<◌, ◌≤◌, ◌^◌, Bool, true, false, cond, ◌&&◌, not, nat_eq, length, get_or, take, drop, List, [], ◌∷◌, ◌++◌, Option, Some, None, refl, sym, ◌∙◌, ap, subst, append_assoc, arith}
+use Rattle.std.proofs.Common.{◌≡◌, ◌≢◌, ℕ, ℤ, pos, negsuc, ◌-◌, ◌<◌, ◌≤◌, ◌^◌, Bool, true, not, nat_eq, length, get_or, take, drop, List, [], ◌∷◌, ◌++◌, Option, Some, None, refl, sym, ◌∙◌, ap, subst, arith}
 use Rattle.std.specs.List.{list_all}
-use Rattle.std.specs.Fmt.{decimal, signed_decimal}
+use Rattle.std.specs.Fmt.{signed_decimal}
 use Rattle.std.proofs.lemmas.Bool.Decides.{nat_tests}
 use Rattle.std.proofs.lemmas.Fmt.{decimal_nonempty}
 use Rattle.std.proofs.lemmas.List.Folds.{list_all-append}
@@ -9,8 +9,8 @@ use Rattle.std.proofs.lemmas.List.{append-nil}
 use Rattle.std.proofs.Math.Seq.{take-length}
 use lib.Signed.{mag}
 use Rattle.rtx_tree.specs.Registers.{reg_names}
-use Rattle.rv_text.specs.Lines.{is_i64, is_symbol, is_symbol_byte, number_text, register_text, operand_text, put, bare}
-use Rattle.rv_text.specs.Text.{is_word_byte, behind_blanks, word, behind_word, behind_comma, Finds, Sets, IsParted, IsListedFrom}
+use Rattle.rv_text.specs.Lines.{is_symbol, is_symbol_byte, number_text, register_text, operand_text}
+use Rattle.rv_text.specs.Text.{is_word_byte, behind_blanks, word, behind_word, behind_comma, Finds, Sets, IsListedFrom}
 use Rattle.rv_text.specs.declared.line.Line.{Line}
 use Rattle.rv_text.specs.declared.operand.Operand.{Operand}
 use Rattle.rv_text.specs.declared.operand.Operand.TheVariants.{Rd, Rs, Rt, Number, Place, Target, Ra}

@@ -1,5 +1,5 @@
 -- Numbers of 64 bits and their texts.
-use Rattle.std.proofs.Common.{◌≡◌, ◌≢◌, subst, ℕ, ℤ, pos, negsuc, ◌<◌, ◌^◌, Bool, true, false, ◌&&◌, List, Option, Some, None, Result, Ok, Err, cond, refl, sym, ◌∙◌, ap, bytes_eq, arith}
+use Rattle.std.proofs.Common.{◌≡◌, subst, ℕ, ℤ, pos, negsuc, ◌<◌, ◌^◌, Bool, true, false, ◌&&◌, List, Option, Some, None, Result, Ok, cond, refl, sym, ◌∙◌, ap, bytes_eq, arith}
 use Rattle.std.proofs.lemmas.Bool.Decides.{nat_tests}
 use Rattle.std.proofs.lemmas.Fmt.{IsAscii-signed, parse-signed_decimal}
 use Rattle.std.proofs.lemmas.Str.{IsUtf8-from_ascii}

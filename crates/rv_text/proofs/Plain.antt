@@ -1,5 +1,5 @@
 -- Numbers and registers are written without blanks, commas and parentheses.
-use Rattle.std.proofs.Common.{◌≡◌, ℕ, ℤ, zero, suc, pos, negsuc, ◌+◌, ◌<◌, ◌≤◌, ◌/◌, ◌%◌, ◌^◌, Bool, true, false, ◌&&◌, not, nat_eq, nat_lt, List, [], ◌∷◌, ◌++◌, Option, Some, None, refl, sym, ◌∙◌, ap, arith}
+use Rattle.std.proofs.Common.{◌≡◌, ℕ, ℤ, zero, suc, pos, negsuc, ◌+◌, ◌<◌, ◌≤◌, ◌%◌, ◌^◌, Bool, true, false, ◌&&◌, not, nat_eq, nat_lt, List, [], ◌∷◌, ◌++◌, Some, refl, sym, ◌∙◌, ap, arith}
 use Rattle.std.specs.Prelude.{slice_get}
 use Rattle.std.specs.List.{list_all}
 use Rattle.std.specs.Fmt.{decimal, signed_decimal}
@@ -8,7 +8,7 @@ use Rattle.std.proofs.lemmas.Fmt.{decimal_by_steps}
 use Rattle.std.proofs.lemmas.List.Folds.{list_all-append}
 use lib.Signed.{mag}
 use Rattle.rtx_tree.specs.Registers.{reg_names}
-use Rattle.rv_text.specs.Lines.{is_i64, number_text, register_text}
+use Rattle.rv_text.specs.Lines.{number_text, register_text}
 use Rattle.rv_text.specs.Text.{is_word_byte}
 use Rattle.rv_text.proofs.Numbers.{number_text_says, both_true, and_true, mag_i64}
 

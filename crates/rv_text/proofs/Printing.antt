@@ -1,17 +1,16 @@
 -- What a line is written as reads back as the line.
-use Rattle.std.proofs.Common.{◌≡◌, ◌≢◌, ℕ, Bool, true, false, cond, ◌&&◌, bytes_eq, nat_eq, List, [], ◌∷◌, ◌++◌, Option, Some, None, is_some, IsSome, option_and_then, unwrap_or, refl, sym, ◌∙◌, ap, subst}
+use Rattle.std.proofs.Common.{◌≡◌, ℕ, Bool, true, false, cond, bytes_eq, nat_eq, List, [], ◌∷◌, ◌++◌, Option, Some, None, is_some, IsSome, option_and_then, unwrap_or, refl, sym, ◌∙◌, ap, subst}
 use Rattle.std.specs.Ordering.{int_eq}
 use Rattle.std.specs.Cmp.{unsigned_Decides, signed_Decides}
-use Rattle.std.specs.List.{list_all}
 use Rattle.std.proofs.lemmas.Slice.Eq.{bytes_eq-Decides}
 use Rattle.std.proofs.lemmas.List.{append-nil}
 use Rattle.rv_text.specs.Table.{Row, row_named}
-use Rattle.rv_text.specs.Lines.{register_text, number_text, is_within, is_symbol, place_text, operand_text, put, bare, same_line, filled, has_all, is_of_row, action_of, shown, shown_all, row_text, line_text}
+use Rattle.rv_text.specs.Lines.{register_text, is_within, is_symbol, place_text, operand_text, put, bare, same_line, filled, has_all, is_of_row, action_of, shown, shown_all, row_text, line_text}
 use Rattle.rv_text.specs.Text.{Sets, IsListed, IsListedFrom, IsRestOf, IsTextOf}
 use Rattle.rv_text.specs.declared.line.Line.{Line}
 use Rattle.rv_text.specs.declared.operand.Operand.{Operand}
 use Rattle.rv_text.specs.declared.operand.Operand.TheVariants.{Rd, Rs, Rt, Number, Place, Target, Ra}
-use Rattle.rv_text.proofs.Numbers.{and_true, if_some}
+use Rattle.rv_text.proofs.Numbers.{and_true}
 
 -- ---- equal lines
 

@@ -1,9 +1,9 @@
 -- A line's text: a mnemonic of the table, and the rest of it.
-use Rattle.std.proofs.Common.{◌≡◌, ◌≢◌, ℕ, ◌+◌, Bool, true, false, cond, ◌&&◌, bytes_eq, nat_eq, length, List, [], ◌∷◌, ◌++◌, Option, Some, None, refl, sym, ◌∙◌, ap, subst, arith}
+use Rattle.std.proofs.Common.{◌≡◌, ◌≢◌, ℕ, ◌+◌, Bool, true, false, cond, bytes_eq, nat_eq, length, List, [], ◌∷◌, ◌++◌, Option, Some, None, refl, sym, ◌∙◌, ap, subst, arith}
 use Rattle.std.specs.List.{list_all}
 use Rattle.std.proofs.lemmas.Bool.Decides.{nat_tests}
 use Rattle.std.proofs.lemmas.Slice.Eq.{bytes_eq-Decides}
-use Rattle.std.proofs.lemmas.List.{length-append, append-nil}
+use Rattle.std.proofs.lemmas.List.{length-append}
 use Rattle.rv_text.specs.Table.{Row, table, find_row, row_named}
 use Rattle.rv_text.specs.Lines.{put, bare}
 use Rattle.rv_text.specs.Text.{is_blank, AreBlanks, Finds, Sets, IsListed, IsListedFrom, IsRestOf, IsTextOf, behind_blanks, word, behind_word}

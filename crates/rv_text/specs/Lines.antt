@@ -1,7 +1,7 @@
 -- Lines of assembly, and how they are written. The operands are written as the assembly manual has them ("RISC-V Assembly Programmer's Manual",
 -- "Load and Store Instructions" for imm(rs)); registers go by the names of the calling convention alone (RISC-V ELF psABI, "Integer Register
 -- Convention"), and numbers are decimal.
-use Rattle.std.specs.Prelude.{◌≡◌, ◌≢◌, ℕ, ℤ, pos, negsuc, Bool, true, ◌&&◌, ◌||◌, not, nat_le, nat_eq, int_le, List, [], ◌∷◌, ◌++◌, length, Option, Some, None, is_some, if◌then◌else◌, bytes_eq, codes, option_map, option_and_then, slice_get, unwrap_or}
+use Rattle.std.specs.Prelude.{ℕ, ℤ, pos, negsuc, Bool, ◌&&◌, not, nat_le, nat_eq, int_le, List, [], ◌∷◌, ◌++◌, length, Option, Some, None, is_some, if◌then◌else◌, bytes_eq, codes, option_map, option_and_then, slice_get, unwrap_or}
 use Rattle.std.specs.Ordering.{int_eq}
 use Rattle.std.specs.List.{list_all, list_any}
 use Rattle.std.specs.Fmt.{signed_decimal}

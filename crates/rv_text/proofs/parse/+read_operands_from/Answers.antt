@@ -1,4 +1,4 @@
-use Rattle.std.proofs.Common.{subst, sym, ◌∙◌, ap}
+use Rattle.std.proofs.Common.{sym, ◌∙◌, ap}
 use Rattle.rv_text.specs.Lines.{parts_view}
 use Rattle.rv_text.specs.Text.{behind_comma}
 use Rattle.rv_text.proofs.Listed.{none_at_first, none_at_comma, goes_on_at}

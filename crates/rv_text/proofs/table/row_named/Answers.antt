@@ -1,5 +1,4 @@
 -- The rows that are searched are the table's.
-use Rattle.std.proofs.Common.{◌≡◌}
 use Rattle.rv_text.specs.Table.{table}
 use Rattle.rv_text.proofs.table.row_named.Goals as goal
 

@@ -1,5 +1,5 @@
 -- One line more of a run.
-use Rattle.std.proofs.Common.{◌≡◌, ℕ, suc, ◌+◌, ◌-◌, ◌<◌, List, [], Option, Some, None, refl, sym, ◌∙◌, ap, subst, add-one, arith}
+use Rattle.std.proofs.Common.{◌≡◌, ℕ, suc, ◌+◌, ◌-◌, ◌<◌, List, [], Option, Some, None, sym, ◌∙◌, ap, subst, arith}
 use Rattle.rtx_tree.specs.declared.machine.World.{World}
 use Rattle.rtx_tree.specs.declared.machine.Start.{Start}
 use Rattle.rtx_tree.specs.declared.machine.RangeAt.{RangeAt}
@@ -8,7 +8,7 @@ use Rattle.rv_text.specs.declared.line.CodeItem.{CodeItem}
 use Rattle.rv_line.specs.declared.state.RvState.{RvState}
 use Rattle.rv_line.specs.declared.outcome.CodeCall.{CodeCall}
 use Rattle.rv_line.specs.declared.outcome.CodeOutcome.{CodeOutcome}
-use Rattle.rv_line.specs.Run.{Running, Turn, Turns, Goes, Ends, turn, go_on, run_from, run, entry}
+use Rattle.rv_line.specs.Run.{Running, Turns, Goes, Ends, turn, go_on, run_from, run, entry}
 
 pub run_starts : (items : List CodeItem) (start : Start) (world : World) (k : ℕ) (machine : RvState) (replies : List Reply) (calls : List CodeCall) → machine ≡ entry start → replies ≡ world.replies → calls ≡ [] →
     run_from world start.visible items (k - 0) (record { rest = items; machine = machine; replies = replies; calls = calls }) ≡ run items start world k

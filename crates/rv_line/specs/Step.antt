@@ -2,7 +2,7 @@
 -- Extension for Integer Multiplication and Division". Here a register may also be unset: what a caller or a called function leaves in it is not
 -- known. A line that reads such a register is stuck, and so is one whose access to memory has no value, and one that names a symbol without an
 -- address.
-use Rattle.std.specs.Prelude.{ℕ, ℤ, ◌+◌, ◌%◌, ◌^◌, ◌==◌, Bool, true, false, not, if◌then◌else◌, List, [], ◌∷◌, Option, Some, None, option_map, option_and_then, slice_get, slice_set, bit_and, bit_or, bit_xor, bytes_eq}
+use Rattle.std.specs.Prelude.{ℕ, ◌%◌, ◌==◌, Bool, true, false, not, if◌then◌else◌, List, [], ◌∷◌, Option, Some, None, option_map, option_and_then, slice_get, slice_set, bit_and, bit_or, bit_xor, bytes_eq}
 use Rattle.std.specs.Int.{cast_unsigned, w64}
 use Rattle.bits64.specs.Words.{low, sign_extended, zero_extended, sum_of, difference_of, product_of, high_signed, high_unsigned, high_mixed, quotient_signed, quotient_unsigned, remainder_signed, remainder_unsigned, shifted_left, shifted_right, shifted_arithmetic, less_signed, less_unsigned}
 use Rattle.bits64.specs.declared.Width.{Width}

@@ -3,3 +3,4 @@ pub mod Refusals
 pub mod Assembly
 pub mod Answer
 pub mod Lines
+pub mod Same

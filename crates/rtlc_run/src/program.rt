@@ -5,6 +5,7 @@ ghost use Rattle.byte_edge.specs.Causes.{Rose};
 ghost use Rattle.rtlc_run.specs.Refusals.{status_of, has_values, line_of};
 ghost use Rattle.rtlc_run.specs.Assembly.{Outcome};
 ghost use Rattle.rtlc_run.specs.Lines.{WritesLines, Completes};
+ghost use Rattle.rtlc_run.specs.Same.{WritesSame};
 ghost use Rattle.rtlc_run.specs.Answer.{most_bytes, InputRefused, IsCommand, Answers, EndsWith, Writes, WritesFront, IsRefused, Reports, HasCause, TellsCause, IsAnswered, words_of};
 
 use crate::answer::answer;
@@ -148,6 +149,9 @@ pub fn run<F: Files, S: Source, K: Sink, E: Sink>(
     ensures lines { result ≡ 0 → WritesLines (S.left input.old) (K.taken output.old) (K.taken output.new) }
     ensures complete { IsCommand (words_of words.now) → ¬ Rose (S.fault_count input.old) (S.fault_count input.new) →
         ¬ Rose (K.fault_count output.old) (K.fault_count output.new) → Completes (S.left input.old) result }
+
+    // What the text of status 0 does: the lines that it spells for each function do what the function does.
+    ensures behaves { result ≡ 0 → WritesSame (S.left input.old) (K.taken output.old) (K.taken output.new) }
 
     // Each status has its cause.
     ensures statuses { Contains (0 ∷ 1 ∷ 2 ∷ 3 ∷ 6 ∷ 7 ∷ 8 ∷ []) result }

@@ -5,6 +5,7 @@ use Rattle.rtlc_run.specs.Answer.{words_of}
 use Rattle.rtlc_run.proofs.Answered.{one_answer, answered_err, err_of}
 use Rattle.rtlc_run.proofs.Completes.{completes}
 use Rattle.rtlc_run.proofs.LinesLaws.{writes_lines}
+use Rattle.rtlc_run.proofs.SameLaws.{writes_same}
 use Rattle.rtlc_run.proofs.Statuses.{status_is}
 use Rattle.rtlc_run.proofs.program.run.Goals as goal
 
@@ -19,6 +20,10 @@ returns-in-Err-clause-one g c = λ bytes a b p q. one_answer (words_of c.args.wo
 
 pub returns-in-Ok-clause-lines : goal.returns-in-Ok-clause-lines
 returns-in-Ok-clause-lines g c = λ _. writes_lines (words_of c.args.words.now) (g.S.Source.left c.args.input.now) (g.K.Sink.taken c.args.output.now) (g.K.Sink.taken c.attempt.new.output) c.in-Ok.ensures.done
+
+pub returns-in-Ok-clause-behaves : goal.returns-in-Ok-clause-behaves
+returns-in-Ok-clause-behaves g c = λ zero. writes_same (g.S.Source.left c.args.input.now) (g.K.Sink.taken c.args.output.now) (g.K.Sink.taken c.attempt.new.output)
+    (writes_lines (words_of c.args.words.now) (g.S.Source.left c.args.input.now) (g.K.Sink.taken c.args.output.now) (g.K.Sink.taken c.attempt.new.output) c.in-Ok.ensures.done)
 
 pub returns-in-Err-clause-complete : goal.returns-in-Err-clause-complete
 returns-in-Err-clause-complete g c = λ command calm_in calm_out.

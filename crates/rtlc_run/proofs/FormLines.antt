@@ -1,0 +1,281 @@
+-- The line that the filled template of a form spells.
+use Rattle.std.proofs.Common.{◌≡◌, ℕ, ◌<◌, arith, Bool, true, false, [], ◌∷◌, ◌++◌, Option, Some, None, refl, sym, ap, subst, ◌∙◌}
+use Rattle.std.specs.Prelude.{◌-◌, IsSome, if◌then◌else◌, option_and_then, ℤ, pos, negsuc, codes, is_some, nat_lt, nat_le, nat_eq, unwrap_or}
+use Rattle.std.specs.Fmt.{signed_decimal, decimal}
+use Rattle.std.specs.Ordering.{int_eq}
+use Rattle.std.proofs.lemmas.Bool.Decides.{nat_tests}
+use Rattle.std.specs.Cmp.{signed_Decides}
+use Rattle.bits64.specs.declared.Width.TheVariants.{W64}
+use Rattle.rtx_tree.specs.Tree.{reg_of, const_of, node_of}
+use Rattle.rtx_tree.specs.declared.code.Code.TheVariants.{Return}
+use Rattle.rtx_tree.specs.declared.function.Insn.{Insn}
+use Rattle.rtx_tree.specs.declared.function.Kind.TheVariants.{Plain}
+use Rattle.rtx_tree.specs.Registers.{reg_text}
+use Rattle.rtx_tree.specs.declared.code.Mode.TheVariants.{Void, DI}
+use Rattle.rtx_tree.specs.declared.tree.Rtx.{Rtx, out-roll-Rtx}
+use Rattle.rtx_tree.specs.declared.tree.Rtx.TheOpen.{Rtx-F}
+use Rattle.rv_text.specs.Lines.{action_of, line_text, register_text, is_of_row, is_within, row_text, shown_all}
+use Rattle.rv_text.specs.Table.{Row, row_named, table}
+use Rattle.rv_text.specs.declared.action.Action.{Action}
+use Rattle.rv_text.specs.declared.action.Action.TheVariants as action
+use Rattle.rv_text.specs.declared.action.Operation.TheVariants.{Add}
+use Rattle.rv_text.specs.declared.action.Source.TheVariants.{First, Second, ReturnAddress, Immediate, Constant}
+use Rattle.rv_text.specs.declared.line.Line.{Line}
+use Rattle.rv_text.specs.declared.operand.Operand.TheVariants.{Rd, Rs, Rt, Number}
+use Rattle.rv_text.proofs.Registers.{is_some_register, name_shown}
+use Rattle.same_code.specs.Straight.{IsArgument, IsLineOf, sum_rtx, set_rtx}
+use Rattle.same_code.specs.Straight as straight
+use Rattle.rtlc_run.specs.declared.forms.Match.{Match}
+use Rattle.rtlc_run.specs.declared.forms.Form.{Form}
+use Rattle.rtlc_run.specs.declared.forms.Form.TheVariants as form
+use Rattle.rtlc_run.specs.Forms as forms
+use Rattle.rtlc_run.specs.Assembly.{filled_line}
+
+-- the lines
+abbrev add_line : ℕ → ℕ → ℕ → Line
+add_line t a b = record { name = codes "add"; rd = t; rs = a; rt = b; imm = pos 0; target = [] }
+
+abbrev addi_line : ℕ → ℕ → ℤ → Line
+addi_line t a n = record { name = codes "addi"; rd = t; rs = a; rt = 0; imm = n; target = [] }
+
+abbrev mv_line : ℕ → ℕ → Line
+mv_line t a = record { name = codes "mv"; rd = t; rs = a; rt = 0; imm = pos 0; target = [] }
+
+abbrev ret_line : Line
+ret_line = record { name = codes "ret"; rd = 0; rs = 0; rt = 0; imm = pos 0; target = [] }
+
+add_row : row_named (codes "add") ≡ Some (record { name = codes "add"; operands = Rd ∷ Rs ∷ Rt ∷ []; action = action.Compute Add W64 First Second })
+unfolding table
+add_row = refl
+
+addi_row : row_named (codes "addi") ≡ Some (record { name = codes "addi"; operands = Rd ∷ Rs ∷ Number (negsuc 2047) (pos 2047) ∷ []; action = action.Compute Add W64 First Immediate })
+unfolding table
+addi_row = refl
+
+mv_row : row_named (codes "mv") ≡ Some (record { name = codes "mv"; operands = Rd ∷ Rs ∷ []; action = action.Compute Add W64 First (Constant (pos 0)) })
+unfolding table
+mv_row = refl
+
+ret_row : row_named (codes "ret") ≡ Some (record { name = codes "ret"; operands = []; action = action.Return ReturnAddress })
+unfolding table
+ret_row = refl
+
+is_register : (r : ℕ) → IsArgument r → is_some (register_text r) ≡ true
+is_register r is = sym (is_some_register r) ∙ grind (arith, nat_tests, is.most)
+
+same_nat : (n : ℕ) → nat_eq n n ≡ true
+same_nat n = grind (arith, nat_tests)
+
+-- ---- each line is one of its row
+
+abbrev add_form : Row
+add_form = record { name = codes "add"; operands = Rd ∷ Rs ∷ Rt ∷ []; action = action.Compute Add W64 First Second }
+
+abbrev addi_form : Row
+addi_form = record { name = codes "addi"; operands = Rd ∷ Rs ∷ Number (negsuc 2047) (pos 2047) ∷ []; action = action.Compute Add W64 First Immediate }
+
+abbrev mv_form : Row
+mv_form = record { name = codes "mv"; operands = Rd ∷ Rs ∷ []; action = action.Compute Add W64 First (Constant (pos 0)) }
+
+same_int : (n : ℤ) → int_eq n n ≡ true
+same_int n = (signed_Decides n n).1 refl
+
+add_is_row : (t a b : ℕ) → IsArgument t → IsArgument a → IsArgument b → is_of_row add_form (add_line t a b) ≡ true
+add_is_row t a b is_t is_a is_b = rw (is_register t is_t) (rw (is_register a is_a) (rw (is_register b is_b) (rw (same_nat t) (rw (same_nat a) (rw (same_nat b) refl)))))
+
+addi_is_row : (t a : ℕ) (n : ℤ) → IsArgument t → IsArgument a → is_within (negsuc 2047) (pos 2047) n ≡ true → is_of_row addi_form (addi_line t a n) ≡ true
+addi_is_row t a n is_t is_a small = rw (is_register t is_t) (rw (is_register a is_a) (rw small (rw (same_nat t) (rw (same_nat a) (rw (same_int n) refl)))))
+
+mv_is_row : (t a : ℕ) → IsArgument t → IsArgument a → is_of_row mv_form (mv_line t a) ≡ true
+mv_is_row t a is_t is_a = rw (is_register t is_t) (rw (is_register a is_a) (rw (same_nat t) (rw (same_nat a) refl)))
+
+-- ---- what a line of a row does, and its text
+
+does : (line : Line) (row : Row) → row_named line.name ≡ Some row → is_of_row row line ≡ true → action_of line ≡ Some row.action
+does line row named is = ap (λ o. option_and_then (λ (r : Row). if is_of_row r line then Some r.action else None) o) named ∙ ap (λ b. if b then Some row.action else None) is
+
+text_is : (line : Line) (row : Row) → row_named line.name ≡ Some row → is_of_row row line ≡ true → line_text line ≡ 9 ∷ (line.name ++ shown_all 9 row.operands line)
+text_is line row named is = ap (λ o. row_text o line) named ∙ ap (λ b. if b then 9 ∷ (line.name ++ shown_all 9 row.operands line) else []) is
+
+-- ---- the operands of a pattern
+
+set_is : (f : Form) (target source : Rtx) → forms.operands_of f (set_rtx target source) ≡ forms.set_operands f target source
+set_is f target source = ap (λ (o : Rtx-F Rtx). forms.operands_at f o.code o.kids) (out-roll-Rtx _)
+
+parts_of_sum : (a b : Rtx) → forms.sum_parts (sum_rtx a b) ≡ Some (a, b)
+parts_of_sum a b = ap (λ (o : Rtx-F Rtx). forms.sum_at o.code o.kids) (out-roll-Rtx _)
+
+parts_of_reg : (a : ℕ) → forms.sum_parts (reg_of DI a) ≡ None
+parts_of_reg a = ap (λ (o : Rtx-F Rtx). forms.sum_at o.code o.kids) (out-roll-Rtx _)
+
+parts_of_const : (n : ℤ) → forms.sum_parts (const_of n) ≡ None
+parts_of_const n = ap (λ (o : Rtx-F Rtx). forms.sum_at o.code o.kids) (out-roll-Rtx _)
+
+reg_is : (a : ℕ) → forms.is_reg (reg_of DI a) ≡ true
+reg_is a = ap (λ (o : Rtx-F Rtx). forms.is_reg_code o.code) (out-roll-Rtx _)
+
+const_is_not : (n : ℤ) → forms.is_reg (const_of n) ≡ false
+const_is_not n = ap (λ (o : Rtx-F Rtx). forms.is_reg_code o.code) (out-roll-Rtx _)
+
+sum_is_not : (a b : Rtx) → forms.is_reg (sum_rtx a b) ≡ false
+sum_is_not a b = ap (λ (o : Rtx-F Rtx). forms.is_reg_code o.code) (out-roll-Rtx _)
+
+const_small : (n : ℤ) → forms.is_small (const_of n) ≡ forms.is_small_number n
+const_small n = ap (λ (o : Rtx-F Rtx). forms.is_small_at o.code o.number) (out-roll-Rtx _)
+
+reg_text_is : (t : ℕ) → IsArgument t → forms.operand_text (Some (reg_of DI t)) ≡ unwrap_or (register_text t) []
+reg_text_is t is =
+    let below : nat_lt t 32 ≡ true = grind (arith, nat_tests, is.most) in
+    ap (λ (o : Rtx-F Rtx). forms.operand_at_code o.code o.number) (out-roll-Rtx _) ∙
+    ap (λ b. if b then reg_text t else (if nat_lt t 64 then codes "virtual-stack-vars" else codes "<" ++ (decimal (t - 64) ++ codes ">"))) below ∙ name_shown t
+
+const_text_is : (n : ℤ) → forms.operand_text (Some (const_of n)) ≡ signed_decimal n
+const_text_is n = ap (λ (o : Rtx-F Rtx). forms.operand_at_code o.code o.number) (out-roll-Rtx _)
+
+-- ---- the first match of each pattern
+
+match_add : (t a b : ℕ) → forms.first_match forms.table (set_rtx (reg_of DI t) (sum_rtx (reg_of DI a) (reg_of DI b))) ≡ Some (record { form = form.Add; operands = Some (reg_of DI t) ∷ Some (reg_of DI a) ∷ Some (reg_of DI b) ∷ [] })
+match_add t a b = rw (set_is form.Add (reg_of DI t) (sum_rtx (reg_of DI a) (reg_of DI b))) (rw (parts_of_sum (reg_of DI a) (reg_of DI b)) (rw (reg_is t) (rw (reg_is a) (rw (reg_is b) refl))))
+
+abbrev add_match : ℕ → ℕ → ℕ → Match
+add_match t a b = record { form = form.Add; operands = Some (reg_of DI t) ∷ Some (reg_of DI a) ∷ Some (reg_of DI b) ∷ [] }
+
+abbrev addi_match : ℕ → ℕ → ℤ → Match
+addi_match t a n = record { form = form.Addi; operands = Some (reg_of DI t) ∷ Some (reg_of DI a) ∷ Some (const_of n) ∷ [] }
+
+abbrev mv_match : ℕ → ℕ → Match
+mv_match t a = record { form = form.Mv; operands = Some (reg_of DI t) ∷ Some (reg_of DI a) ∷ [] }
+
+abbrev first_of : Rtx → Option Match
+first_of x = forms.first_match forms.table x
+
+match_addi : (t a : ℕ) (n : ℤ) → forms.is_small_number n ≡ true → first_of (set_rtx (reg_of DI t) (sum_rtx (reg_of DI a) (const_of n))) ≡ Some (addi_match t a n)
+match_addi t a n small =
+    rw (set_is form.Add (reg_of DI t) (sum_rtx (reg_of DI a) (const_of n))) (rw (set_is form.Addi (reg_of DI t) (sum_rtx (reg_of DI a) (const_of n))) (rw (parts_of_sum (reg_of DI a) (const_of n))
+    (rw (reg_is t) (rw (reg_is a) (rw (const_is_not n) (rw (const_small n) (rw small refl)))))))
+
+no_match_large : (t a : ℕ) (n : ℤ) → forms.is_small_number n ≡ false → first_of (set_rtx (reg_of DI t) (sum_rtx (reg_of DI a) (const_of n))) ≡ None
+no_match_large t a n large =
+    rw (set_is form.Add (reg_of DI t) (sum_rtx (reg_of DI a) (const_of n))) (rw (set_is form.Addi (reg_of DI t) (sum_rtx (reg_of DI a) (const_of n))) (rw (set_is form.Mv (reg_of DI t) (sum_rtx (reg_of DI a) (const_of n)))
+    (rw (set_is form.Return (reg_of DI t) (sum_rtx (reg_of DI a) (const_of n))) (rw (parts_of_sum (reg_of DI a) (const_of n))
+    (rw (reg_is t) (rw (reg_is a) (rw (const_is_not n) (rw (const_small n) (rw large (rw (sum_is_not (reg_of DI a) (const_of n)) refl))))))))))
+
+match_mv : (t a : ℕ) → first_of (set_rtx (reg_of DI t) (reg_of DI a)) ≡ Some (mv_match t a)
+match_mv t a =
+    rw (set_is form.Add (reg_of DI t) (reg_of DI a)) (rw (set_is form.Addi (reg_of DI t) (reg_of DI a)) (rw (set_is form.Mv (reg_of DI t) (reg_of DI a)) (rw (parts_of_reg a) (rw (reg_is t) (rw (reg_is a) refl)))))
+
+no_match_const : (t : ℕ) (n : ℤ) → first_of (set_rtx (reg_of DI t) (const_of n)) ≡ None
+no_match_const t n =
+    rw (set_is form.Add (reg_of DI t) (const_of n)) (rw (set_is form.Addi (reg_of DI t) (const_of n)) (rw (set_is form.Mv (reg_of DI t) (const_of n)) (rw (set_is form.Return (reg_of DI t) (const_of n))
+    (rw (parts_of_const n) (rw (reg_is t) (rw (const_is_not n) refl))))))
+
+match_return : (f : Form) → forms.operands_of f (node_of Return Void []) ≡ (if forms.is_return f then Some [] else None)
+match_return f = ap (λ (o : Rtx-F Rtx). forms.operands_at f o.code o.kids) (out-roll-Rtx _)
+
+pub first_return : first_of (node_of Return Void []) ≡ Some (record { form = form.Return; operands = [] })
+first_return = rw (match_return form.Add) (rw (match_return form.Addi) (rw (match_return form.Mv) (rw (match_return form.Return) refl)))
+
+-- ---- the text of each match
+
+add_text : (t a b : ℕ) → IsArgument t → IsArgument a → IsArgument b → filled_line (add_match t a b) ≡ line_text (add_line t a b) ++ 10 ∷ []
+add_text t a b is_t is_a is_b = rw (text_is (add_line t a b) add_form add_row (add_is_row t a b is_t is_a is_b)) (rw (reg_text_is t is_t) (rw (reg_text_is a is_a) (rw (reg_text_is b is_b) refl)))
+
+addi_text : (t a : ℕ) (n : ℤ) → IsArgument t → IsArgument a → is_within (negsuc 2047) (pos 2047) n ≡ true → filled_line (addi_match t a n) ≡ line_text (addi_line t a n) ++ 10 ∷ []
+addi_text t a n is_t is_a small = rw (text_is (addi_line t a n) addi_form addi_row (addi_is_row t a n is_t is_a small)) (rw (reg_text_is t is_t) (rw (reg_text_is a is_a) (rw (const_text_is n) refl)))
+
+mv_text : (t a : ℕ) → IsArgument t → IsArgument a → filled_line (mv_match t a) ≡ line_text (mv_line t a) ++ 10 ∷ []
+mv_text t a is_t is_a = rw (text_is (mv_line t a) mv_form mv_row (mv_is_row t a is_t is_a)) (rw (reg_text_is t is_t) (rw (reg_text_is a is_a) refl))
+
+small_within : (n : ℤ) → forms.is_small_number n ≡ true → is_within (negsuc 2047) (pos 2047) n ≡ true
+small_within (pos n) small =
+    let below : n < 2048 = grind (arith, nat_tests, small) in
+    let first : nat_le n 9223372036854775807 ≡ true = grind (arith, nat_tests, below) in
+    let second : nat_le n 2047 ≡ true = grind (arith, nat_tests, below) in
+    rw first (rw second refl)
+small_within (negsuc n) small =
+    let below : n < 2048 = grind (arith, nat_tests, small) in
+    let first : nat_le n 9223372036854775807 ≡ true = grind (arith, nat_tests, below) in
+    let second : nat_le n 2047 ≡ true = grind (arith, nat_tests, below) in
+    rw first (rw second refl)
+
+-- ---- instructions
+
+-- the patterns that the reader takes
+pub data IsPattern : Rtx → Type 0 where
+  sum : (t a b : ℕ) → IsArgument t → IsArgument a → IsArgument b → IsPattern (set_rtx (reg_of DI t) (sum_rtx (reg_of DI a) (reg_of DI b)))
+  sum_with : (t a : ℕ) (n : ℤ) → IsArgument t → IsArgument a → IsPattern (set_rtx (reg_of DI t) (sum_rtx (reg_of DI a) (const_of n)))
+  copy : (t a : ℕ) → IsArgument t → IsArgument a → IsPattern (set_rtx (reg_of DI t) (reg_of DI a))
+  constant : (t : ℕ) (n : ℤ) → IsArgument t → IsPattern (set_rtx (reg_of DI t) (const_of n))
+
+-- a line of the table that does what the instruction does, and the text of its match
+pub record HasLine (i : Insn) (m : Match) : Type 0 where
+  pub line : Line
+  pub line_of : IsLineOf i line
+  pub is_line : IsSome (action_of line)
+  pub text : filled_line m ≡ line_text line ++ 10 ∷ []
+
+same_match : (a b : Match) → ◌≡◌ {A = Option Match} (Some a) (Some b) → a ≡ b
+same_match a b is = cc
+
+some_action : (line : Line) (a : Action) → action_of line ≡ Some a → IsSome (action_of line)
+some_action line a is = subst IsSome (sym is) refl
+
+has_add : (i : Insn) (m : Match) (t a b : ℕ) → IsArgument t → IsArgument a → IsArgument b → i.kind ≡ Plain → i.pattern ≡ set_rtx (reg_of DI t) (sum_rtx (reg_of DI a) (reg_of DI b)) → add_match t a b ≡ m → HasLine i m
+has_add i m t a b is_t is_a is_b plain pattern is =
+    let acts = does (add_line t a b) add_form add_row (add_is_row t a b is_t is_a is_b) in
+    record {
+      line = add_line t a b;
+      line_of = record { kind_is = plain; source = sum_rtx (reg_of DI a) (reg_of DI b); target = is_t; pattern_is = pattern; source_is = straight.sum a b (add_line t a b) is_a is_b refl refl acts };
+      is_line = some_action (add_line t a b) _ acts;
+      text = ap filled_line (sym is) ∙ add_text t a b is_t is_a is_b;
+    }
+
+has_addi : (i : Insn) (m : Match) (t a : ℕ) (n : ℤ) → IsArgument t → IsArgument a → i.kind ≡ Plain → i.pattern ≡ set_rtx (reg_of DI t) (sum_rtx (reg_of DI a) (const_of n)) → is_within (negsuc 2047) (pos 2047) n ≡ true → addi_match t a n ≡ m → HasLine i m
+has_addi i m t a n is_t is_a plain pattern small is =
+    let acts = does (addi_line t a n) addi_form addi_row (addi_is_row t a n is_t is_a small) in
+    record {
+      line = addi_line t a n;
+      line_of = record { kind_is = plain; source = sum_rtx (reg_of DI a) (const_of n); target = is_t; pattern_is = pattern; source_is = straight.sum_with a n (addi_line t a n) is_a refl refl acts };
+      is_line = some_action (addi_line t a n) _ acts;
+      text = ap filled_line (sym is) ∙ addi_text t a n is_t is_a small;
+    }
+
+has_mv : (i : Insn) (m : Match) (t a : ℕ) → IsArgument t → IsArgument a → i.kind ≡ Plain → i.pattern ≡ set_rtx (reg_of DI t) (reg_of DI a) → mv_match t a ≡ m → HasLine i m
+has_mv i m t a is_t is_a plain pattern is =
+    let acts = does (mv_line t a) mv_form mv_row (mv_is_row t a is_t is_a) in
+    record {
+      line = mv_line t a;
+      line_of = record { kind_is = plain; source = reg_of DI a; target = is_t; pattern_is = pattern; source_is = straight.copy a (mv_line t a) is_a refl acts };
+      is_line = some_action (mv_line t a) _ acts;
+      text = ap filled_line (sym is) ∙ mv_text t a is_t is_a;
+    }
+
+-- an instruction of such a pattern that a form matches has its line
+pub insn_has_line : (i : Insn) (m : Match) (x : Rtx) → IsPattern x → i.kind ≡ Plain → i.pattern ≡ x → first_of x ≡ Some m → HasLine i m
+insn_has_line i m _ (sum t a b is_t is_a is_b) plain pattern found = has_add i m t a b is_t is_a is_b plain pattern (same_match _ m (sym (match_add t a b) ∙ found))
+insn_has_line i m _ (sum_with t a n is_t is_a) plain pattern found = by_size (forms.is_small_number n) refl
+  where
+    by_size : (b : Bool) → forms.is_small_number n ≡ b → HasLine i m
+    by_size true small = has_addi i m t a n is_t is_a plain pattern (small_within n small) (same_match _ m (sym (match_addi t a n small) ∙ found))
+    by_size false large = absurd (let no : ◌≡◌ {A = Option Match} None (Some m) = sym (no_match_large t a n large) ∙ found in let none : ⊥ = cc in none)
+insn_has_line i m _ (copy t a is_t is_a) plain pattern found = has_mv i m t a is_t is_a plain pattern (same_match _ m (sym (match_mv t a) ∙ found))
+insn_has_line i m _ (constant t n is_t) plain pattern found = absurd (let no : ◌≡◌ {A = Option Match} None (Some m) = sym (no_match_const t n) ∙ found in let none : ⊥ = cc in none)
+
+-- the return
+ret_does : action_of ret_line ≡ Some (action.Return ReturnAddress)
+ret_does = does ret_line (record { name = codes "ret"; operands = []; action = action.Return ReturnAddress }) ret_row refl
+
+pub record ReturnLine (m : Match) : Type 0 where
+  pub line : Line
+  pub returns : action_of line ≡ Some (action.Return ReturnAddress)
+  pub is_line : IsSome (action_of line)
+  pub text : filled_line m ≡ line_text line ++ 10 ∷ []
+
+pub return_line : (m : Match) → first_of (node_of Return Void []) ≡ Some m → ReturnLine m
+return_line m found = record {
+  line = ret_line;
+  returns = ret_does;
+  is_line = some_action ret_line _ ret_does;
+  text = ap filled_line (sym (same_match _ m (sym first_return ∙ found))) ∙
+      sym (ap (λ t. t ++ 10 ∷ []) (text_is ret_line (record { name = codes "ret"; operands = []; action = action.Return ReturnAddress }) ret_row refl));
+}

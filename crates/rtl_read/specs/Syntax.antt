@@ -9,19 +9,13 @@ use Rattle.rtx_tree.specs.declared.function.Kind.TheVariants.{Plain}
 use Rattle.rtx_tree.specs.declared.function.Insn.{Insn}
 use Rattle.rtx_tree.specs.declared.function.Function.{Function}
 use Rattle.rtx_tree.specs.declared.tree.Rtx.{Rtx}
-use Rattle.rtx_tree.specs.Tree.{reg_of, const_of, node_of}
+use Rattle.rtx_tree.specs.Tree.{reg_of, const_of}
+use Rattle.rtx_tree.specs.Patterns.{sum_rtx, set_rtx}
 use Rattle.lisp_read.specs.declared.tree.Tree.{Tree}
 use Rattle.rtl_read.specs.Shape.{atom_of, string_of, items_of, is_nested, is_text, is_word}
-use Rattle.rtl_read.specs.Word.{number_in, uid_in, argument_in, is_symbol, head_text}
+use Rattle.text_words.specs.Words.{number_in, is_symbol}
+use Rattle.rtl_read.specs.Word.{uid_in, argument_in, head_text}
 use Rattle.rtl_read.specs.Parsed.{Parsed, stands, outside, or_outside, parsed_map, parsed_then, each_parsed}
-
--- ---- the trees of RTL that are read
-
-abbrev pub sum_rtx : Rtx → Rtx → Rtx
-sum_rtx a b = node_of Plus DI (a ∷ b ∷ [])
-
-abbrev pub set_rtx : Rtx → Rtx → Rtx
-set_rtx target source = node_of Set Void (target ∷ source ∷ [])
 
 -- ---- expressions
 

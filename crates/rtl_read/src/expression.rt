@@ -8,10 +8,11 @@ ghost use Rattle.rtl_read.specs.Word.{head_text};
 
 use crate::refusal::RtlRefusal;
 use crate::shape::{atom, is_nested, items, outside};
-use crate::word::{argument_in, is_head, number_in};
+use crate::word::{argument_in, is_head};
 use lisp_read::Tree;
 use rtx_tree::{Code, Mode, Name, Rtx};
 use std::alloc::Global;
+use text_words::number_in;
 
 /// Whether the tree is the head of an expression of this code and mode.
 fn has_head(tree: &Tree, code: Code, mode: Mode) -> bool

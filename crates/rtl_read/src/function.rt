@@ -10,11 +10,12 @@ ghost use Rattle.rtl_read.specs.Shape as shape;
 use crate::expression::{pattern, sole_atom};
 use crate::refusal::RtlRefusal;
 use crate::shape::{atom, is_nested, is_word, items, outside, string};
-use crate::word::{is_symbol, uid_in};
+use crate::word::uid_in;
 use lisp_read::Tree;
 use plain_data::Items;
 use rtx_tree::{ArgUses, Code, Function, Functions, Insn, Insns, Kind, Mode, Name};
 use std::alloc::Global;
+use text_words::is_symbol;
 
 /// The number of the register that holds a result, `a0`.
 const RESULT_REG: u32 = 10;

@@ -1,7 +1,5 @@
 -- Laws of values.
-use Rattle.std.proofs.Common.{◌≡◌, ◌↔◌, ◌<◌, ◌≤◌, ◌⊎◌, ⊎_elim, ℕ, IsTrue, Bool, List, [], ◌∷◌, length, map, sym, ap, subst, ◌∙◌, refl, rules, arith}
-use Rattle.std.proofs.lemmas.Slice.Eq.{bytes_eq-Decides}
-use Rattle.std.specs.Str.{bytes_eq}
+use Rattle.std.proofs.Common.{◌≡◌, ◌<◌, ◌≤◌, ◌⊎◌, ⊎_elim, ℕ, List, [], ◌∷◌, length, map, sym, ap, subst, ◌∙◌, refl, arith}
 use Rattle.std.specs.Prelude.{ℤ, None}
 use Rattle.rtx_tree.specs.declared.code.Code.{Code}
 use Rattle.rtl_step.specs.declared.expression.Class.{Class}
@@ -13,9 +11,6 @@ use Rattle.rtx_tree.specs.declared.tree.Rtx.{Rtx, out-Rtx}
 use Rattle.rtx_tree.specs.declared.tree.Rtx.TheFolds.{fold_out-Rtx}
 use Rattle.rtl_step.specs.Regs.{Regs}
 use Rattle.rtl_step.specs.Value.{Reading, class_of, width_of, value_by, reading_step, reading_of, value_of}
-
-pub names_decide : (a b : List ℕ) (r : Bool) → (IsTrue r ↔ (a ≡ b)) → r ≡ bytes_eq a b
-names_decide a b r is = search (rules, bytes_eq-Decides)
 
 module _ (symbols : List SymbolAt) (regs : Regs) (memory : List MemByte) where
   reading_out : (x : Rtx) → reading_of symbols regs memory x ≡ record { width = width_of (out-Rtx x).mode; value = value_by symbols regs memory (class_of (out-Rtx x).code) (out-Rtx x).code (out-Rtx x).number (out-Rtx x).name (map (reading_of symbols regs memory) (out-Rtx x).kids) }

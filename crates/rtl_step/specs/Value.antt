@@ -1,7 +1,6 @@
 -- The value of an expression: GCC Internals, chapter "RTL Representation", whose sections the comments name.
 use Rattle.std.specs.Prelude.{ℕ, ◌-◌, ◌^◌, ◌==◌, ℤ, Bool, not, bit_and, bit_or, bit_xor, if◌then◌else◌, List, [], ◌∷◌, Option, Some, None, option_map, option_and_then}
 use Rattle.std.specs.Int.{cast_unsigned, w64}
-use Rattle.std.specs.Str.{bytes_eq}
 use Rattle.bits64.specs.declared.Width.{Width}
 use Rattle.bits64.specs.declared.Width.TheVariants.{W8, W16, W32, W64}
 use Rattle.bits64.specs.Words.{bits_of, low, sign_extended, zero_extended, sum_of, difference_of, product_of, quotient_signed, quotient_unsigned, remainder_signed, remainder_unsigned, shifted_left, shifted_right, shifted_arithmetic, less_signed, less_unsigned}
@@ -14,6 +13,7 @@ use Rattle.rtx_tree.specs.declared.machine.SymbolAt.{SymbolAt}
 use Rattle.rtx_tree.specs.declared.tree.Rtx.{Rtx}
 use Rattle.rtx_tree.specs.declared.tree.Rtx.TheOpen.{Rtx-F}
 use Rattle.rtx_tree.specs.declared.tree.Rtx.TheFolds.{fold-Rtx}
+use Rattle.run_memory.specs.Symbols.{symbol_address}
 use Rattle.run_memory.specs.RunMemory.{load}
 use Rattle.rtl_step.specs.Regs.{Regs, reg_value}
 use Rattle.rtl_step.specs.declared.expression.Class.{Class}
@@ -26,11 +26,6 @@ width_of QI = Some W8
 width_of HI = Some W16
 width_of SI = Some W32
 width_of DI = Some W64
-
--- the address of a symbol: the first that is listed with this name
-abbrev pub address_of : List SymbolAt → List ℕ → Option ℕ
-address_of [] name = None
-address_of (s ∷ symbols) name = if bytes_eq s.name name then Some s.address else address_of symbols name
 
 -- ---- operations on numbers of a width
 
@@ -161,7 +156,7 @@ abbrev pub value_by : List SymbolAt → Regs → List MemByte → Class → Code
 value_by symbols regs memory Register code number name parts w = reg_value regs (cast_unsigned w64 number) w
 -- "Constant Expression Types": a `const_int` has no mode, its low bits count; a `symbol_ref` is an address
 value_by symbols regs memory Constant code number name parts w = Some (low w (cast_unsigned w64 number))
-value_by symbols regs memory Symbol code number name parts w = option_map (low w) (address_of symbols name)
+value_by symbols regs memory Symbol code number name parts w = option_map (low w) (symbol_address symbols name)
 -- "Registers and Memory": the address of a `mem` has mode DI; a lowpart `subreg` reads the low bits alone
 value_by symbols regs memory Memory code number name (a ∷ []) w = of_one (load w memory) (a.value W64)
 value_by symbols regs memory Lowpart code number name (a ∷ []) w = a.value w

@@ -1,14 +1,13 @@
 //! The value of an expression.
 ghost use Rattle.std.specs.Prelude.{◌≡◌, ◌↔◌, IsTrue, IfSome, ◌<◌, ◌^◌};
-ghost use Rattle.std.specs.Str.{bytes_eq};
 ghost use Rattle.rtl_step.specs.Value as spec;
 
 use crate::regs::Regs;
 use bits64::{
     Width, add, div, lt, ltu, mul, rem, sar, sext, shl, shr, sub, trunc, udiv, urem, zext,
 };
-use rtx_tree::{Code, Memories, Mode, Name, Rtx, Symbols};
-use run_memory::load;
+use rtx_tree::{Code, Memories, Mode, Rtx, Symbols};
+use run_memory::{load, symbol_address};
 
 /// How an expression has its value.
 #[derive(Clone, Copy, Debug, PartialEq, Eq)]
@@ -70,24 +69,6 @@ fn class_of(code: Code) -> Class
         Code::SignExtend | Code::ZeroExtend | Code::Truncate => Class::Conversion,
         _ => Class::Other,
     }
-}
-
-#[tactic(auto, using(crate::proofs::Values::names_decide))]
-fn same_name(a: &Name, b: &Name) -> bool
-    ensures { result ≡ bytes_eq a.now b.now }
-{
-    a.same(b)
-}
-
-fn address_of(symbols: &Symbols, name: &Name) -> Option<u64>
-    ensures { result ≡ spec.address_of symbols.now name.now }
-{
-    for symbol in symbols.as_slice() {
-        if same_name(&symbol.name, name) {
-            return Some(symbol.address);
-        }
-    }
-    None
 }
 
 fn unary(code: Code, w: Width, a: u64) -> Option<u64>
@@ -199,7 +180,7 @@ pub fn value(symbols: &Symbols, regs: &Regs, memory: &Memories, x: &Rtx, w: Widt
     match (class_of(x.code), x.kids.as_slice()) {
         (Class::Register, _) => regs.value(x.number.cast_unsigned(), w),
         (Class::Constant, _) => Some(trunc(x.number.cast_unsigned(), w)),
-        (Class::Symbol, _) => Some(trunc(address_of(symbols, &x.name)?, w)),
+        (Class::Symbol, _) => Some(trunc(symbol_address(symbols, x.name.bytes())?, w)),
         (Class::Memory, [a]) => load(memory, w, value(symbols, regs, memory, a, Width::W64)?),
         (Class::Lowpart, [a]) => value(symbols, regs, memory, a, w),
         (Class::Unary, [a]) => unary(x.code, w, value(symbols, regs, memory, a, w)?),

@@ -23,7 +23,8 @@ use Rattle.rv_text.specs.declared.action.Source.TheVariants.{First, Second, Retu
 use Rattle.rv_text.specs.declared.line.Line.{Line}
 use Rattle.rv_text.specs.declared.operand.Operand.TheVariants.{Rd, Rs, Rt, Number}
 use Rattle.rv_text.proofs.Registers.{is_some_register, name_shown}
-use Rattle.same_code.specs.Straight.{IsArgument, IsLineOf, sum_rtx, set_rtx}
+use Rattle.same_code.specs.Straight.{IsArgument, IsLineOf}
+use Rattle.rtx_tree.specs.Patterns.{sum_rtx, set_rtx}
 use Rattle.same_code.specs.Straight as straight
 use Rattle.rtlc_run.specs.declared.forms.Match.{Match}
 use Rattle.rtlc_run.specs.declared.forms.Form.{Form}

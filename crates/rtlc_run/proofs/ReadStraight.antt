@@ -15,9 +15,11 @@ use Rattle.rtx_tree.specs.declared.function.Kind.TheVariants.{Plain}
 use Rattle.lisp_read.specs.declared.tree.Tree.{Tree}
 use Rattle.rtl_read.specs.Parsed.{Parsed, stands, construct, or_outside, parsed_map, parsed_then, each_parsed}
 use Rattle.rtl_read.specs.Shape.{items_of, is_text}
-use Rattle.rtl_read.specs.Word.{argument_from, argument_in, number_in, head_text}
+use Rattle.text_words.specs.Words.{number_in}
+use Rattle.rtl_read.specs.Word.{argument_from, argument_in, head_text}
 use Rattle.rtl_read.specs.Syntax as syntax
-use Rattle.same_code.specs.Straight.{IsArgument, IsStraight, sum_rtx, set_rtx}
+use Rattle.same_code.specs.Straight.{IsArgument, IsStraight}
+use Rattle.rtx_tree.specs.Patterns.{sum_rtx, set_rtx}
 use Rattle.rtlc_run.proofs.FormLines.{IsPattern}
 
 -- ---- what stands

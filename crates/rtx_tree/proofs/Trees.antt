@@ -1,10 +1,11 @@
 -- Laws of trees.
-use Rattle.std.proofs.Common.{◌≡◌, ◌≤◌, ℕ, suc, sum, map, List, sym, ap, ◌∙◌, rules, length, take}
+use Rattle.std.proofs.Common.{◌≡◌, ◌≤◌, ℕ, suc, sum, map, Bool, ◌||◌, List, [], ◌∷◌, refl, sym, ap, ◌∙◌, rules, length, take}
+use Rattle.std.specs.List.{list_any}
 use Rattle.std.proofs.lemmas.List.{take_all}
 use Rattle.rtx_tree.specs.declared.tree.Rtx.{Rtx}
 use Rattle.rtx_tree.specs.declared.tree.Rtx.TheViews.{the_lemmas}
 use Rattle.rtx_tree.specs.declared.tree.Rtx.TheFolds.{fold_out-Rtx}
-use Rattle.rtx_tree.specs.Tree.{Head, head_of, kids_of, tree_of, size_step, size_of}
+use Rattle.rtx_tree.specs.Tree.{Head, head_of, kids_of, tree_of, size_step, size_of, is_reg_numbered, mentions_step, mentions_reg}
 
 -- a tree is made of its head and kids
 pub tree_of-parts : (x : Rtx) → tree_of (head_of x) (kids_of x) ≡ x
@@ -27,3 +28,10 @@ same_from_prefix x y i h k p q = same_parts x y h (sym (take_all i (kids_of x) p
 -- the equation of the fold
 pub size_of_out : (x : Rtx) → size_of x ≡ suc (sum (map size_of (kids_of x)))
 size_of_out = fold_out-Rtx ℕ size_step
+
+any_of_map : {A : Type 0} (f : A → Bool) (xs : List A) → list_any (λ here. here) (map f xs) ≡ list_any f xs
+any_of_map f [] = refl
+any_of_map f (x ∷ xs) = ap (λ rest. f x || rest) (any_of_map f xs)
+
+pub mentions_out : (reg : ℕ) (x : Rtx) → mentions_reg reg x ≡ (is_reg_numbered (head_of x).code (head_of x).number reg || list_any (mentions_reg reg) (kids_of x))
+mentions_out reg x = fold_out-Rtx Bool (mentions_step reg) x ∙ ap (λ rest. is_reg_numbered (head_of x).code (head_of x).number reg || rest) (any_of_map (mentions_reg reg) (kids_of x))

@@ -2,6 +2,7 @@ pub mod Code
 pub mod Limit
 pub mod Memories
 pub mod Operands
+pub mod Patterns
 pub mod RegSet
 pub mod Registers
 pub mod Stage

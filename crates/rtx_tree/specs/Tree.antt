@@ -1,5 +1,7 @@
 -- Expressions of RTL as trees: GCC Internals, "RTL Objects" and "RTL Expressions".
-use Rattle.std.specs.Prelude.{ℕ, suc, ℤ, pos, List, [], sum}
+use Rattle.std.specs.Prelude.{ℕ, suc, ℤ, pos, Bool, false, ◌||◌, List, [], ◌∷◌, sum, Option, Some, option_and_then, slice_get}
+use Rattle.std.specs.Ordering.{int_eq}
+use Rattle.std.specs.List.{list_any}
 use Rattle.rtx_tree.specs.declared.code.Code.{Code}
 use Rattle.rtx_tree.specs.declared.code.Code.TheVariants.{Reg, ConstInt}
 use Rattle.rtx_tree.specs.declared.code.Mode.{Mode}
@@ -52,3 +54,20 @@ size_step x = suc (sum x.kids)
 -- the number of a tree's nodes
 abbrev pub size_of : Rtx → ℕ
 size_of = fold-Rtx ℕ size_step
+
+-- the part at a path of kid indices, if the path exists; the empty path is the tree itself
+abbrev pub part_at : Rtx → List ℕ → Option Rtx
+part_at x [] = Some x
+part_at x (k ∷ path) = option_and_then (λ kid. part_at kid path) (slice_get (kids_of x) k)
+
+-- a register of this number
+abbrev pub is_reg_numbered : Code → ℤ → ℕ → Bool
+is_reg_numbered Reg number reg = int_eq number (pos reg)
+is_reg_numbered _ number reg = false
+
+abbrev pub mentions_step : ℕ → Rtx-F Bool → Bool
+mentions_step reg x = is_reg_numbered x.code x.number reg || list_any (λ here. here) x.kids
+
+-- a register of this number stands in the tree
+abbrev pub mentions_reg : ℕ → Rtx → Bool
+mentions_reg reg = fold-Rtx Bool (mentions_step reg)

@@ -39,7 +39,7 @@ pub use registers::{
     FIRST_PSEUDO, HARD_REGS, VIRTUAL_STACK_VARS, pseudo, reg_call_used, reg_name, reg_number,
 };
 pub use stage::Stage;
-pub use tree::{Kids, Rtx, same};
+pub use tree::{Kids, Path, Rtx, same};
 
 #[cfg(test)]
 mod tests;

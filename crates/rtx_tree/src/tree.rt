@@ -1,6 +1,7 @@
 //! Expressions of RTL.
-ghost use Rattle.std.specs.Prelude.{◌≡◌, ◌-◌, ◌^◌, ◌↔◌, [], ◌∷◌, min, IfOk, IsTrue};
-ghost use Rattle.rtx_tree.specs.Tree.{head_of, size_of, leaf_of, named_of, node_of, reg_of, const_of};
+ghost use Rattle.std.specs.Prelude.{◌≡◌, ◌-◌, ◌^◌, ◌↔◌, [], ◌∷◌, min, slice_get, IfOk, IsTrue};
+ghost use Rattle.rtx_tree.specs.Tree.{head_of, kids_of, size_of, leaf_of, named_of, node_of, reg_of, const_of, is_reg_numbered, part_at, mentions_reg};
+ghost use Rattle.std.specs.Option.{option_copied};
 
 use crate::code::{Code, Mode};
 use crate::name::Name;
@@ -10,6 +11,9 @@ use std::fmt;
 
 /// The kids of an expression, in order.
 pub type Kids = Items<Rtx>;
+
+/// Where a part stands in an expression: the index of a kid, of a kid of that, and so on.
+pub type Path = Items<u32>;
 
 /// An expression: a code with its parts.
 #[derive(Drop)]
@@ -165,6 +169,45 @@ impl Rtx {
             total = total.saturating_add(kid.size());
         }
         total
+    }
+
+    fn kid(&self, index: u32) -> Option<&Rtx>
+        ensures { option_copied result ≡ slice_get (kids_of self.now) index }
+    {
+        self.kids.as_slice().get(index as usize)
+    }
+
+    /// The part at a path, or `None` exactly where the path does not exist. The empty path is the tree itself.
+    pub fn at(&self, path: &Path) -> Option<&Rtx>
+        ensures { option_copied result ≡ part_at self.now path.now }
+    {
+        let mut part = self;
+        for index in path.as_slice() {
+            part = part.kid(*index)?;
+        }
+        Some(part)
+    }
+
+    fn is_register(&self, reg: u32) -> bool
+        ensures { result ≡ is_reg_numbered (head_of self.now).code (head_of self.now).number reg }
+    {
+        matches!(self.code, Code::Reg) && self.number == i64::from(reg)
+    }
+
+    /// Whether register `reg` stands in the tree.
+    #[tactic(auto, using(crate::proofs::Trees::mentions_out))]
+    pub fn mentions(&self, reg: u32) -> bool
+        ensures { result ≡ mentions_reg reg self.now }
+    {
+        if self.is_register(reg) {
+            return true;
+        }
+        for kid in self.kids.as_slice() {
+            if kid.mentions(reg) {
+                return true;
+            }
+        }
+        false
     }
 
     /// The same tree once more.

@@ -1,1 +1,2 @@
 pub mod RunMemory
+pub mod Symbols

@@ -1,5 +1,5 @@
 //! The memory of a run: aligned accesses of one to eight bytes, lowest byte first, the writes of a called function, and the part of
-//! memory that a caller sees.
+//! memory that a caller sees; and the addresses of symbols.
 //!
 //! Each call equals its definition over the list of bytes that [`Memories`] stands for. A look-up takes the logarithm of the memory's
 //! size. Nothing here adds an address to memory or takes one away.
@@ -13,6 +13,10 @@ use bits64::Width;
 use plain_data::{Items, Memory};
 use rtx_tree::{ByteWrites, MemByte, Memories, RangeAt, Ranges};
 use std::alloc::Global;
+
+mod symbols;
+
+pub use symbols::symbol_address;
 
 /// The number that `count` bytes from an address on make, the lowest first, or `None` where one of them is missing.
 fn number_at(memory: &Memories, address: u64, count: u32) -> Option<u64>

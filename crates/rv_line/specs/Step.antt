@@ -2,14 +2,14 @@
 -- Extension for Integer Multiplication and Division". Here a register may also be unset: what a caller or a called function leaves in it is not
 -- known. A line that reads such a register is stuck, and so is one whose access to memory has no value, and one that names a symbol without an
 -- address.
-use Rattle.std.specs.Prelude.{ℕ, ◌%◌, ◌==◌, Bool, true, false, not, if◌then◌else◌, List, [], ◌∷◌, Option, Some, None, option_map, option_and_then, slice_get, slice_set, bit_and, bit_or, bit_xor, bytes_eq}
+use Rattle.std.specs.Prelude.{ℕ, ◌%◌, ◌==◌, Bool, true, false, not, if◌then◌else◌, List, Option, Some, None, option_map, option_and_then, slice_get, slice_set, bit_and, bit_or, bit_xor}
 use Rattle.std.specs.Int.{cast_unsigned, w64}
 use Rattle.bits64.specs.Words.{low, sign_extended, zero_extended, sum_of, difference_of, product_of, high_signed, high_unsigned, high_mixed, quotient_signed, quotient_unsigned, remainder_signed, remainder_unsigned, shifted_left, shifted_right, shifted_arithmetic, less_signed, less_unsigned}
 use Rattle.bits64.specs.declared.Width.{Width}
 use Rattle.bits64.specs.declared.Width.TheVariants.{W64}
-use Rattle.rtx_tree.specs.declared.machine.SymbolAt.{SymbolAt}
 use Rattle.rtx_tree.specs.declared.machine.World.{World}
 use Rattle.rtx_tree.specs.declared.memories.MemByte.{MemByte}
+use Rattle.run_memory.specs.Symbols.{symbol_address}
 use Rattle.run_memory.specs.RunMemory.{load, store}
 use Rattle.rv_text.specs.Lines.{action_of}
 use Rattle.rv_text.specs.declared.line.Line.{Line}
@@ -99,11 +99,6 @@ extended Zero w a = zero_extended w a
 abbrev pub loaded : Width → Extension → RvState → Line → Option ℕ
 loaded w extension state line = option_and_then (λ address. option_map (extended extension w) (load w state.memory address)) (place_of state line)
 
--- the address of a symbol, if it has one
-abbrev pub address_of : List SymbolAt → List ℕ → Option ℕ
-address_of [] name = None
-address_of (symbol ∷ symbols) name = if bytes_eq symbol.name name then Some symbol.address else address_of symbols name
-
 -- ---- the step
 
 -- the state with a number in rd, then the next line; stuck where there is no number
@@ -145,10 +140,10 @@ abbrev pub act : Action → World → Line → RvState → LineEnd × RvState
 act (Compute operation w left right) world line state = set_rd state line (of_both (computed operation w) (source_value state line left) (source_value state line right))
 act (Load w extension) world line state = set_rd state line (loaded w extension state line)
 act (Store w) world line state = set_memory state (stored w state line)
-act SymbolAddress world line state = set_rd state line (address_of world.symbols line.target)
+act SymbolAddress world line state = set_rd state line (symbol_address world.symbols line.target)
 act (Branch comparison left right) world line state = (branch_end (of_both (compares comparison) (source_value state line left) (source_value state line right)), state)
 act Jump world line state = (ends.Jumped, state)
-act Call world line state = (call_end (address_of world.symbols line.target), state)
+act Call world line state = (call_end (symbol_address world.symbols line.target), state)
 act CallRegister world line state = (register_call_end (register state.regs line.rs), state)
 act (Return through) world line state = (return_end state.entry_ra (source_value state line through), state)
 

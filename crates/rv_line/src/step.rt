@@ -7,8 +7,8 @@ use bits64::{
     Width, add, div, lt, ltu, mul, mulh, mulhsu, mulhu, rem, sar, sext, shl, shr, sub, trunc, udiv,
     urem, zext,
 };
-use rtx_tree::{Symbols, World};
-use run_memory::{load, store};
+use rtx_tree::World;
+use run_memory::{load, store, symbol_address};
 use rv_text::{Action, Comparison, Extension, Line, Operation, Source};
 
 /// The result of an operation.
@@ -56,18 +56,6 @@ fn compares(comparison: Comparison, a: u64, b: u64) -> bool
         Comparison::LessUnsigned => ltu(a, b, Width::W64),
         Comparison::NotLessUnsigned => !ltu(a, b, Width::W64),
     }
-}
-
-/// The address of a symbol, if it has one.
-fn address_of(symbols: &Symbols, name: &[u8]) -> Option<u64>
-    ensures { result ≡ spec.address_of symbols.now name.now }
-{
-    for symbol in symbols.as_slice() {
-        if symbol.name.bytes() == name {
-            return Some(symbol.address);
-        }
-    }
-    None
 }
 
 /// What a computing line writes.
@@ -214,7 +202,7 @@ fn act(action: Action, line: &Line, state: &mut RvState, world: &World) -> LineE
         Action::SymbolAddress => set_rd(
             state,
             line,
-            address_of(&world.symbols, line.target.bytes()),
+            symbol_address(&world.symbols, line.target.bytes()),
         ),
         Action::Branch {
             comparison,
@@ -222,7 +210,7 @@ fn act(action: Action, line: &Line, state: &mut RvState, world: &World) -> LineE
             right,
         } => branch_end(holds(state, line, comparison, left, right)),
         Action::Jump => LineEnd::Jumped,
-        Action::Call => call_end(address_of(&world.symbols, line.target.bytes())),
+        Action::Call => call_end(symbol_address(&world.symbols, line.target.bytes())),
         Action::CallRegister => register_call_end(state.register(line.rs)),
         Action::Return { through } => return_end(state.entry_ra, state.source(line, through)),
     }

@@ -23,7 +23,8 @@ use Rattle.rv_line.specs.declared.state.LineEnd.TheVariants as ends
 use Rattle.rv_text.specs.declared.action.Operation.TheVariants.{Add}
 use Rattle.rv_text.specs.declared.action.Source.{Source}
 use Rattle.rv_text.specs.declared.action.Source.TheVariants.{Second, Immediate, Constant}
-use Rattle.same_code.specs.Straight.{IsArgument, IsSourceOf, Adds, sum_rtx, set_rtx, sum, sum_with, copy}
+use Rattle.same_code.specs.Straight.{IsArgument, IsSourceOf, Adds, sum, sum_with, copy}
+use Rattle.rtx_tree.specs.Patterns.{sum_rtx, set_rtx}
 use Rattle.same_code.proofs.Registers.{extended_whole}
 
 module _ (symbols : List SymbolAt) (regs : Regs) (memory : List MemByte) where

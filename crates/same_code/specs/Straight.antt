@@ -2,9 +2,9 @@
 -- Expressions for Arithmetic" and "Side Effect Expressions"), each with a line that does the same.
 use Rattle.std.specs.Prelude.{◌≡◌, ◌⊎◌, ℕ, ◌≤◌, ℤ, pos, List, [], ◌∷◌, Some, None}
 use Rattle.bits64.specs.declared.Width.TheVariants.{W64}
-use Rattle.rtx_tree.specs.Tree.{reg_of, const_of, node_of}
-use Rattle.rtx_tree.specs.declared.code.Code.TheVariants as rtl
-use Rattle.rtx_tree.specs.declared.code.Mode.TheVariants.{Void, DI}
+use Rattle.rtx_tree.specs.Tree.{reg_of, const_of}
+use Rattle.rtx_tree.specs.Patterns.{sum_rtx, set_rtx}
+use Rattle.rtx_tree.specs.declared.code.Mode.TheVariants.{DI}
 use Rattle.rtx_tree.specs.declared.tree.Rtx.{Rtx}
 use Rattle.rtx_tree.specs.declared.function.Insn.{Insn}
 use Rattle.rtx_tree.specs.declared.function.Function.{Function}
@@ -22,13 +22,6 @@ use Rattle.rv_text.specs.declared.line.CodeItem.TheVariants.{Code}
 pub record IsArgument (reg : ℕ) : Type 0 where
   pub least : 10 ≤ reg
   pub most : reg ≤ 17
-
--- (plus:DI A B), (set TARGET SOURCE)
-abbrev pub sum_rtx : Rtx → Rtx → Rtx
-sum_rtx a b = node_of rtl.Plus DI (a ∷ b ∷ [])
-
-abbrev pub set_rtx : Rtx → Rtx → Rtx
-set_rtx target source = node_of rtl.Set Void (target ∷ source ∷ [])
 
 -- a line that adds to what its first register holds
 abbrev pub Adds : Line → Source → Type 0

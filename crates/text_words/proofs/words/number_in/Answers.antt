@@ -1,6 +1,6 @@
 use Rattle.std.proofs.Common.{sym}
-use Rattle.rtl_read.proofs.Numbers.{no_number-utf8, no_number-parse}
-use Rattle.rtl_read.proofs.word.number_in.Goals as goal
+use Rattle.text_words.proofs.Numbers.{no_number-utf8, no_number-parse}
+use Rattle.text_words.proofs.words.number_in.Goals as goal
 
 pub returns-in_default : goal.returns-in_default
 returns-in_default c = sym (no_number-utf8 c.args.text.now c.in_default.ensures.cases.0)

@@ -7,7 +7,7 @@ use Rattle.std.specs.Fmt.{signed_decimal}
 use Rattle.std.specs.Str.Parse.{ParsesSigned, signed_digits_value}
 use Rattle.std.proofs.lemmas.Slice.Eq.{bytes_eq-Decides}
 use lib.Signed.{mag}
-use Rattle.rtl_read.specs.Word.{fits_i64, number_in}
+use Rattle.text_words.specs.Words.{fits_i64, number_in}
 
 fits_mag : (n : ℤ) → fits_i64 n ≡ true → mag n < 2 ^ 63
 fits_mag (pos n) h = grind arith

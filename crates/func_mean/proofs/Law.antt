@@ -17,7 +17,8 @@ use Rattle.rtl_step.specs.declared.call.CallEvent.{CallEvent}
 use Rattle.rtl_step.specs.declared.step.State.{State}
 use Rattle.rtl_step.specs.declared.step.StepEnd.{StepEnd}
 use Rattle.rtl_step.specs.declared.step.StepEnd.TheVariants.{Next, Jumped, Called, Returned, Asked, Undefined}
-use Rattle.rtl_step.specs.Step.{Stepped, step, act, act_at, after_effects, after_jump, after_goes, after_event, after_reply, has_result, is_mark, passed, place_from, place_of}
+use Rattle.rtl_step.specs.Step.{Stepped, step, act, act_at, after_effects, after_jump, after_goes, after_event, after_reply, has_result, is_mark, passed, place_from}
+use Rattle.rtx_tree.specs.Patterns.{place_of}
 use Rattle.func_mean.specs.Run.{IsRunning, insn_count, go_on, run, run_of, entry_of, taken, taken_on, taken_from}
 
 -- ---- a step that goes on to the next instruction

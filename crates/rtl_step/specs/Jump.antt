@@ -1,31 +1,16 @@
 -- Where a jump leads: GCC Internals, "Side Effect Expressions" (`pc`, `return`, `if_then_else`) and "Jump Patterns".
-use Rattle.std.specs.Prelude.{ℕ, ◌==◌, Bool, true, false, if◌then◌else◌, List, [], ◌∷◌, Option, Some, None, option_map}
-use Rattle.std.specs.Int.{cast_unsigned, w64}
+use Rattle.std.specs.Prelude.{ℕ, ◌==◌, if◌then◌else◌, List, [], ◌∷◌, Option, Some, None, option_map}
 use Rattle.bits64.specs.declared.Width.TheVariants.{W64}
 use Rattle.rtx_tree.specs.declared.code.Code.{Code}
-use Rattle.rtx_tree.specs.declared.code.Code.TheVariants.{Set, Pc, LabelRef, IfThenElse, Return}
+use Rattle.rtx_tree.specs.declared.code.Code.TheVariants.{Set, IfThenElse, Return}
 use Rattle.rtx_tree.specs.declared.memories.MemByte.{MemByte}
 use Rattle.rtx_tree.specs.declared.machine.SymbolAt.{SymbolAt}
 use Rattle.rtx_tree.specs.declared.tree.Rtx.{Rtx, out-Rtx}
+use Rattle.rtx_tree.specs.Patterns.{is_pc, label_of}
 use Rattle.rtl_step.specs.Regs.{Regs}
 use Rattle.rtl_step.specs.Value.{of_two, value_of}
 use Rattle.rtl_step.specs.declared.jump.Way.{Way}
 use Rattle.rtl_step.specs.declared.jump.Way.TheVariants.{Falls, Goes, Leaves}
-
--- the uid of a label: (label_ref UID)
-abbrev pub label_uid : Code → List Rtx → Option ℕ
-label_uid LabelRef (uid ∷ []) = Some (cast_unsigned w64 (out-Rtx uid).number)
-label_uid _ parts = None
-
-abbrev pub label_of : Rtx → Option ℕ
-label_of x = label_uid (out-Rtx x).code (out-Rtx x).kids
-
-abbrev pub is_pc_code : Code → Bool
-is_pc_code Pc = true
-is_pc_code _ = false
-
-abbrev pub is_pc : Rtx → Bool
-is_pc x = is_pc_code (out-Rtx x).code
 
 abbrev pub goes_to : Rtx → Option Way
 goes_to label = option_map Goes (label_of label)

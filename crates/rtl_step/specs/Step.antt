@@ -1,6 +1,5 @@
 -- One step of a function: GCC Internals, "Side Effect Expressions", "Insns", "Calls" and "Jump Patterns".
-use Rattle.std.specs.Prelude.{ℕ, ◌+◌, ◌==◌, ◌&&◌, Bool, true, false, if◌then◌else◌, List, [], ◌∷◌, ◌++◌, drop, length, Option, Some, None, option_and_then, is_some, slice_get}
-use Rattle.std.specs.List.{position_from}
+use Rattle.std.specs.Prelude.{ℕ, ◌+◌, Bool, true, false, if◌then◌else◌, List, [], ◌∷◌, ◌++◌, drop, length, Option, Some, None, option_and_then, is_some, slice_get}
 use Rattle.bits64.specs.declared.Width.{Width}
 use Rattle.rtx_tree.specs.declared.code.Mode.{Mode}
 use Rattle.rtx_tree.specs.declared.function.Kind.{Kind}
@@ -10,6 +9,7 @@ use Rattle.rtx_tree.specs.declared.function.Function.{Function}
 use Rattle.rtx_tree.specs.declared.machine.Reply.{Reply}
 use Rattle.rtx_tree.specs.declared.machine.SymbolAt.{SymbolAt}
 use Rattle.rtx_tree.specs.declared.machine.World.{World}
+use Rattle.rtx_tree.specs.Patterns.{place_of}
 use Rattle.run_memory.specs.RunMemory.{written}
 use Rattle.rtl_step.specs.Regs.{Regs, reg_value}
 use Rattle.rtl_step.specs.Value.{width_of}
@@ -33,18 +33,6 @@ Stepped = StepEnd × State
 abbrev pub after_effects : State → ℕ → Option (List Effect) → Stepped
 after_effects s place None = (Undefined, s)
 after_effects s place (Some effects) = (Next, record s { next = place + 1; regs = regs_after effects s.regs; memory = memory_after effects s.memory })
-
--- a label with a uid
-abbrev pub is_label_kind : Kind → Bool
-is_label_kind Label = true
-is_label_kind _ = false
-
-abbrev pub is_label : ℕ → Insn → Bool
-is_label uid i = is_label_kind i.kind && (i.uid == uid)
-
--- the place of the first label with a uid
-abbrev pub place_of : ℕ → List Insn → Option ℕ
-place_of uid insns = position_from (is_label uid) 0 insns
 
 abbrev pub after_goes : State → Option ℕ → Stepped
 after_goes s None = (Undefined, s)

@@ -18,25 +18,10 @@ pub enum Way {
     Leaves,
 }
 
-fn label_of(x: &Rtx) -> Option<u64>
-    ensures { result ≡ spec.label_of x.now }
-{
-    match (x.code, x.kids.as_slice()) {
-        (Code::LabelRef, [uid]) => Some(uid.number.cast_unsigned()),
-        _ => None,
-    }
-}
-
-fn is_pc(x: &Rtx) -> bool
-    ensures { result ≡ spec.is_pc x.now }
-{
-    matches!(x.code, Code::Pc)
-}
-
 fn goes_to(label: &Rtx) -> Option<Way>
     ensures { result ≡ spec.goes_to label.now }
 {
-    Some(Way::Goes(label_of(label)?))
+    Some(Way::Goes(label.label_uid()?))
 }
 
 /// To the label where the test is not 0.
@@ -44,7 +29,7 @@ fn branch(symbols: &Symbols, regs: &Regs, memory: &Memories, test: &Rtx, label: 
     ensures { result ≡ spec.branch symbols.now regs.now memory.now test.now label.now }
 {
     let holds = value(symbols, regs, memory, test, Width::W64)?;
-    let uid = label_of(label)?;
+    let uid = label.label_uid()?;
     if holds == 0 {
         Some(Way::Falls)
     } else {
@@ -57,7 +42,7 @@ fn way_of(symbols: &Symbols, regs: &Regs, memory: &Memories, source: &Rtx) -> Op
 {
     match (source.code, source.kids.as_slice()) {
         (Code::IfThenElse, [test, label, other]) => {
-            if is_pc(other) {
+            if other.is_pc() {
                 branch(symbols, regs, memory, test, label)
             } else {
                 None
@@ -74,7 +59,7 @@ pub fn jump_of(symbols: &Symbols, regs: &Regs, memory: &Memories, x: &Rtx) -> Op
     match (x.code, x.kids.as_slice()) {
         (Code::Return, _) => Some(Way::Leaves),
         (Code::Set, [place, source]) => {
-            if is_pc(place) {
+            if place.is_pc() {
                 way_of(symbols, regs, memory, source)
             } else {
                 None

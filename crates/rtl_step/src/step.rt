@@ -12,7 +12,7 @@ use crate::jump::{Way, jump_of};
 use crate::regs::Regs;
 use bits64::Width;
 use plain_data::Memory;
-use rtx_tree::{Function, Insn, Kind, Memories, Mode, Ranges, Reply, World};
+use rtx_tree::{Function, Insn, Kind, Memories, Mode, Ranges, Reply, World, label_place};
 use run_memory::write_all;
 use std::alloc::Global;
 
@@ -75,19 +75,6 @@ fn plain_step(
     Ok(StepEnd::Next)
 }
 
-fn is_label(insn: &Insn, uid: u64) -> bool
-    ensures { result ≡ spec.is_label uid insn.now }
-{
-    matches!(insn.kind, Kind::Label) && u64::from(insn.uid) == uid
-}
-
-fn place_of(insns: &[Insn], uid: u64) -> Option<usize>
-    ensures place { result ≡ spec.place_of uid insns.now }
-    ensures within { IfSome result (λ place. place < length insns.now) }
-{
-    insns.iter().position(|insn| is_label(insn, uid))
-}
-
 /// The value of a result, where there is one and it is known.
 pub fn result_of(mode: Option<Mode>, regs: &Regs) -> Option<u64>
     ensures { result ≡ spec.result_of mode regs.now }
@@ -123,7 +110,7 @@ fn jump_step(f: &Function, insn: &Insn, place: u32, state: &mut State, world: &W
             state.next = place + 1;
             StepEnd::Next
         }
-        Some(Way::Goes(uid)) => match place_of(f.insns.as_slice(), uid) {
+        Some(Way::Goes(uid)) => match label_place(f.insns.as_slice(), uid) {
             None => StepEnd::Undefined,
             Some(label) => {
                 state.next = label as u32;

@@ -1,9 +1,14 @@
--- The patterns of instructions as trees: GCC Internals, "Side Effect Expressions", "Arithmetic Expressions" and "Jump Patterns".
-use Rattle.std.specs.Prelude.{ℕ, pos, [], ◌∷◌}
+-- The patterns of instructions as trees: GCC Internals, "Side Effect Expressions", "Arithmetic Expressions", "Jump Patterns" and "Insns".
+use Rattle.std.specs.Prelude.{ℕ, pos, ◌==◌, ◌&&◌, Bool, true, false, List, [], ◌∷◌, Option, Some, None}
+use Rattle.std.specs.List.{position_from}
+use Rattle.std.specs.Int.{cast_unsigned, w64}
 use Rattle.rtx_tree.specs.declared.code.Code.{Code}
 use Rattle.rtx_tree.specs.declared.code.Code.TheVariants.{Plus, Set, Pc, LabelRef, IfThenElse, Return}
 use Rattle.rtx_tree.specs.declared.code.Mode.TheVariants.{Void, DI}
-use Rattle.rtx_tree.specs.declared.tree.Rtx.{Rtx}
+use Rattle.rtx_tree.specs.declared.function.Kind.{Kind}
+use Rattle.rtx_tree.specs.declared.function.Kind.TheVariants.{Label}
+use Rattle.rtx_tree.specs.declared.function.Insn.{Insn}
+use Rattle.rtx_tree.specs.declared.tree.Rtx.{Rtx, out-Rtx}
 use Rattle.rtx_tree.specs.Tree.{leaf_of, node_of, const_of}
 
 -- (plus:DI A B)
@@ -37,3 +42,32 @@ branch_rtx test uid = set_rtx pc_rtx (node_of IfThenElse Void (test ∷ label_rt
 -- (return)
 abbrev pub return_rtx : Rtx
 return_rtx = leaf_of Return Void (pos 0)
+
+-- ---- labels
+
+abbrev pub is_pc_code : Code → Bool
+is_pc_code Pc = true
+is_pc_code _ = false
+
+abbrev pub is_pc : Rtx → Bool
+is_pc x = is_pc_code (out-Rtx x).code
+
+-- the uid of a label: (label_ref UID)
+abbrev pub label_uid : Code → List Rtx → Option ℕ
+label_uid LabelRef (uid ∷ []) = Some (cast_unsigned w64 (out-Rtx uid).number)
+label_uid _ parts = None
+
+abbrev pub label_of : Rtx → Option ℕ
+label_of x = label_uid (out-Rtx x).code (out-Rtx x).kids
+
+-- a label with a uid
+abbrev pub is_label_kind : Kind → Bool
+is_label_kind Label = true
+is_label_kind _ = false
+
+abbrev pub is_label : ℕ → Insn → Bool
+is_label uid i = is_label_kind i.kind && (i.uid == uid)
+
+-- the place of the first label with a uid
+abbrev pub place_of : ℕ → List Insn → Option ℕ
+place_of uid insns = position_from (is_label uid) 0 insns

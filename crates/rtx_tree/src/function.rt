@@ -1,4 +1,7 @@
 //! Functions of RTL: chains of instructions.
+ghost use Rattle.std.specs.Prelude.{◌≡◌, ◌<◌, IfSome, length};
+ghost use Rattle.rtx_tree.specs.Patterns as spec;
+
 use crate::code::Mode;
 use crate::name::Name;
 use crate::tree::Rtx;
@@ -64,3 +67,17 @@ pub struct Function {
 
 /// Functions, in order.
 pub type Functions = Items<Function>;
+
+fn is_label(insn: &Insn, uid: u64) -> bool
+    ensures { result ≡ spec.is_label uid insn.now }
+{
+    matches!(insn.kind, Kind::Label) && u64::from(insn.uid) == uid
+}
+
+/// The place in a chain of the first label with this uid, or `None` where there is none.
+pub fn label_place(insns: &[Insn], uid: u64) -> Option<usize>
+    ensures place { result ≡ spec.place_of uid insns.now }
+    ensures within { IfSome result (λ place. place < length insns.now) }
+{
+    insns.iter().position(|insn| is_label(insn, uid))
+}

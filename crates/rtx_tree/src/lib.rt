@@ -27,7 +27,7 @@ mod words;
 
 pub use code::{Code, Mode};
 pub use constants::{Constant, Constants};
-pub use function::{ArgUse, ArgUses, Function, Functions, Insn, Insns, Kind};
+pub use function::{ArgUse, ArgUses, Function, Functions, Insn, Insns, Kind, label_place};
 pub use limit::Limit;
 pub use machine::{ByteWrites, RangeAt, Ranges, Replies, Reply, Start, SymbolAt, Symbols, World};
 pub use memories::{MemByte, Memories};

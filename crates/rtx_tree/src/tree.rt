@@ -1,5 +1,6 @@
 //! Expressions of RTL.
 ghost use Rattle.std.specs.Prelude.{◌≡◌, ◌-◌, ◌^◌, ◌↔◌, [], ◌∷◌, min, slice_get, IfOk, IsTrue};
+ghost use Rattle.rtx_tree.specs.Patterns.{is_pc, label_of};
 ghost use Rattle.rtx_tree.specs.Tree.{head_of, kids_of, size_of, leaf_of, named_of, node_of, reg_of, const_of, is_reg_numbered, part_at, mentions_reg};
 ghost use Rattle.std.specs.Option.{option_copied};
 
@@ -158,6 +159,23 @@ impl Rtx {
         ensures { result ≡ const_of value }
     {
         Rtx::leaf(alloc, Code::ConstInt, Mode::Void, value)
+    }
+
+    /// Whether the tree is `(pc)`.
+    pub fn is_pc(&self) -> bool
+        ensures { result ≡ is_pc self.now }
+    {
+        matches!(self.code, Code::Pc)
+    }
+
+    /// The uid of `(label_ref UID)`, or `None` where the tree is no such one.
+    pub fn label_uid(&self) -> Option<u64>
+        ensures { result ≡ label_of self.now }
+    {
+        match (self.code, self.kids.as_slice()) {
+            (Code::LabelRef, [uid]) => Some(uid.number.cast_unsigned()),
+            _ => None,
+        }
     }
 
     /// The number of the tree's nodes, or the greatest `u64` where there are more.

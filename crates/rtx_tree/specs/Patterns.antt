@@ -3,7 +3,7 @@ use Rattle.std.specs.Prelude.{ℕ, pos, ◌==◌, ◌&&◌, Bool, true, false, L
 use Rattle.std.specs.List.{position_from}
 use Rattle.std.specs.Int.{cast_unsigned, w64}
 use Rattle.rtx_tree.specs.declared.code.Code.{Code}
-use Rattle.rtx_tree.specs.declared.code.Code.TheVariants.{Plus, Set, Pc, LabelRef, IfThenElse, Return}
+use Rattle.rtx_tree.specs.declared.code.Code.TheVariants.{Plus, Set, Parallel, Pc, LabelRef, IfThenElse, Return}
 use Rattle.rtx_tree.specs.declared.code.Mode.TheVariants.{Void, DI}
 use Rattle.rtx_tree.specs.declared.function.Kind.{Kind}
 use Rattle.rtx_tree.specs.declared.function.Kind.TheVariants.{Label}
@@ -71,3 +71,7 @@ is_label uid i = is_label_kind i.kind && (i.uid == uid)
 -- the place of the first label with a uid
 abbrev pub place_of : ℕ → List Insn → Option ℕ
 place_of uid insns = position_from (is_label uid) 0 insns
+
+-- (parallel []), the pattern of labels and barriers, which do nothing
+abbrev pub nothing_rtx : Rtx
+nothing_rtx = node_of Parallel Void []

@@ -37,11 +37,11 @@ pub type ArgUses = Items<ArgUse>;
 /// One place of a function's chain.
 #[derive(Drop)]
 pub struct Insn {
-    /// The number that names it, unlike any other of the function.
+    /// The number that names it, unlike any other of the function; 0 for a barrier.
     pub uid: u32,
     /// What it is.
     pub kind: Kind,
-    /// What it does.
+    /// What it does; `(parallel [])` for a label or a barrier.
     pub pattern: Rtx,
     /// What a call's target reads; for others none.
     pub uses: ArgUses,

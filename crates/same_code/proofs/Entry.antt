@@ -11,7 +11,7 @@ use Rattle.rtl_step.specs.Regs.{Regs, known_of, reg_value, with_reg}
 use Rattle.func_mean.specs.Run as rtl
 use Rattle.rv_line.specs.Run as lines
 use Rattle.rv_line.specs.Step.{register}
-use Rattle.same_code.specs.Straight.{IsArgument}
+use Rattle.same_code.specs.Direct.{IsArgument}
 use Rattle.same_code.specs.Same.{AreWords}
 use Rattle.same_code.proofs.Registers.{value_set, value_kept, low_same}
 use Rattle.same_code.proofs.Insns.{Agree}

@@ -17,7 +17,11 @@ use Rattle.rv_line.specs.Step.{register, with_register, step}
 use Rattle.rv_line.specs.Run as lines
 use Rattle.rv_line.specs.declared.state.RvState.{RvState}
 use Rattle.rv_line.specs.declared.state.LineEnd.TheVariants as ends
-use Rattle.same_code.specs.Straight.{IsArgument, IsLineOf}
+use Rattle.same_code.specs.Direct.{IsArgument, IsSourceOf}
+use Rattle.rtx_tree.specs.Patterns.{set_rtx}
+use Rattle.rtx_tree.specs.Tree.{reg_of}
+use Rattle.rtx_tree.specs.declared.code.Mode.TheVariants.{DI}
+use Rattle.rtx_tree.specs.declared.tree.Rtx.{Rtx}
 use Rattle.same_code.specs.Same.{at_entry}
 use Rattle.same_code.proofs.Registers.{value_set, value_kept, register_set, register_kept, length_written}
 use Rattle.same_code.proofs.Insns.{Agree, effects_set, same_value}
@@ -86,19 +90,31 @@ value_there : (o : Option ℕ) (t : ℕ) (effects : List Effect) → option_and_
 value_there None t effects is = absurd (let no : ⊥ = cc in no)
 value_there (Some value) t effects is = (value, refl, let same : Sets t (known_of W64 value) ∷ [] ≡ effects = cc in same)
 
--- an instruction and its line: where the instruction has effects, the line goes on to a machine that follows
+-- an instruction that sets a register, and its line: where the instruction has effects, the line goes on to a machine that follows
 pub record Goes (start : Start) (world : World) (s : State) (m : RvState) (line : Line) (effects : List Effect) : Type 0 where
   pub after : RvState
   pub line_is : step world line m ≡ (ends.Next, after)
   pub follows : Follows start (state_after s effects) after
 
-pub insn_goes : (start : Start) (world : World) (s : State) (m : RvState) (i : Insn) (line : Line) (effects : List Effect) → IsLineOf i line → Follows start s m →
-    effects_of world.symbols s.regs s.memory i.pattern ≡ Some effects → Goes start world s m line effects
-insn_goes start world s m i line effects line_of follows are =
-    let as_set = sym (effects_set world.symbols s.regs s.memory line.rd line_of.source) ∙ sym (ap (effects_of world.symbols s.regs s.memory) line_of.pattern_is) ∙ are in
-    let there = value_there (value_of world.symbols s.regs s.memory line_of.source W64) line.rd effects as_set in
+pub set_goes : (start : Start) (world : World) (s : State) (m : RvState) (i : Insn) (line : Line) (source : Rtx) (effects : List Effect) → IsArgument line.rd → i.pattern ≡ set_rtx (reg_of DI line.rd) source → IsSourceOf source line →
+    Follows start s m → effects_of world.symbols s.regs s.memory i.pattern ≡ Some effects → Goes start world s m line effects
+set_goes start world s m i line source effects is_t pattern_is source_is follows are =
+    let as_set = sym (effects_set world.symbols s.regs s.memory line.rd source) ∙ sym (ap (effects_of world.symbols s.regs s.memory) pattern_is) ∙ are in
+    let there = value_there (value_of world.symbols s.regs s.memory source W64) line.rd effects as_set in
     record {
       after = machine_after m line.rd (low W64 there.0);
-      line_is = same_value world.symbols s.regs s.memory world m line_of.source line there.0 line_of.source_is follows.agree there.1;
-      follows = subst (λ e. Follows start (state_after s e) (machine_after m line.rd (low W64 there.0))) there.2 (follows_after start s m line.rd there.0 line_of.target follows);
+      line_is = same_value world.symbols s.regs s.memory world m source line there.0 source_is follows.agree there.1;
+      follows = subst (λ e. Follows start (state_after s e) (machine_after m line.rd (low W64 there.0))) there.2 (follows_after start s m line.rd there.0 is_t follows);
     }
+
+-- it does not matter which instruction is next
+pub follows_from : (start : Start) (s : State) (m : RvState) (place : ℕ) → Follows start s m → Follows start (record s { next = place }) m
+follows_from start s m place follows = record {
+  agree = follows.agree;
+  long = follows.long;
+  memory_is = follows.memory_is;
+  ra_is = follows.ra_is;
+  saved_is = follows.saved_is;
+  visible_is = follows.visible_is;
+  no_calls = follows.no_calls;
+}

@@ -23,16 +23,16 @@ use Rattle.rv_line.specs.declared.state.LineEnd.TheVariants as ends
 use Rattle.rv_text.specs.declared.action.Operation.TheVariants.{Add}
 use Rattle.rv_text.specs.declared.action.Source.{Source}
 use Rattle.rv_text.specs.declared.action.Source.TheVariants.{Second, Immediate, Constant}
-use Rattle.same_code.specs.Straight.{IsArgument, IsSourceOf, Adds, sum, sum_with, copy}
+use Rattle.same_code.specs.Direct.{IsArgument, IsSourceOf, Adds, sum, sum_with, copy}
 use Rattle.rtx_tree.specs.Patterns.{sum_rtx, set_rtx}
 use Rattle.same_code.proofs.Registers.{extended_whole}
 
 module _ (symbols : List SymbolAt) (regs : Regs) (memory : List MemByte) where
-  abbrev as_read : Rtx → Reading
+  abbrev pub as_read : Rtx → Reading
   as_read kid = record { width = width_of (out-Rtx kid).mode; value = value_of symbols regs memory kid }
 
   -- the value of an expression, by its code, number, name and parts
-  value_open : (x : Rtx) (o : Rtx-F Rtx) → out-Rtx x ≡ o → value_of symbols regs memory x W64 ≡ value_by symbols regs memory (class_of o.code) o.code o.number o.name (map as_read o.kids) W64
+  pub value_open : (x : Rtx) (o : Rtx-F Rtx) → out-Rtx x ≡ o → value_of symbols regs memory x W64 ≡ value_by symbols regs memory (class_of o.code) o.code o.number o.name (map as_read o.kids) W64
   value_open x o is = value_in symbols regs memory x W64 ∙ ap (λ (o : Rtx-F Rtx). value_by symbols regs memory (class_of o.code) o.code o.number o.name (map as_read o.kids) W64) is
 
   -- the value of a register, a constant and a sum

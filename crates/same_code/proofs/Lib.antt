@@ -2,4 +2,10 @@ pub mod Registers
 pub mod Insns
 pub mod Entry
 pub mod Follows
-pub mod Straight
+pub mod Labels
+pub mod Jumps
+pub mod Places
+pub mod Results
+pub mod Direct
+pub mod Runs
+pub mod Same

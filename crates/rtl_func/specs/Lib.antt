@@ -1,0 +1,4 @@
+pub mod Blocks
+pub mod Labels
+pub mod Paths
+pub mod Successors

@@ -37,7 +37,7 @@ label_is uid small =
     ap (λ (o : Rtx-F Rtx). Some (cast_unsigned w64 o.number)) (out-roll-Rtx _) ∙
     ap Some (small_word uid small)
 
-pc_is : is_pc pc_rtx ≡ true
+pub pc_is : is_pc pc_rtx ≡ true
 pc_is = ap (λ (o : Rtx-F Rtx). is_pc_code o.code) (out-roll-Rtx _)
 
 module _ (symbols : List SymbolAt) (regs : Regs) (memory : List MemByte) where

@@ -9,3 +9,4 @@ pub mod Results
 pub mod Direct
 pub mod Runs
 pub mod Same
+pub mod Reached

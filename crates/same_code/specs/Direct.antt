@@ -22,6 +22,7 @@ use Rattle.rv_text.specs.declared.action.Source.TheVariants.{First, Second, Retu
 use Rattle.rv_text.specs.declared.line.Line.{Line}
 use Rattle.rv_text.specs.declared.line.CodeItem.{CodeItem}
 use Rattle.rv_text.specs.declared.line.CodeItem.TheVariants.{Label, Code}
+use Rattle.rtl_func.specs.Paths.{ReachesExit}
 use Rattle.rv_line.specs.Run.{label_text}
 
 -- one of a0 to a7
@@ -92,3 +93,9 @@ pub record IsDirect (f : Function) : Type 0 where
 pub data IsEnding (Reached : Type 0) : List CodeItem → Type 0 where
   returning : (line : Line) → action_of line ≡ Some (action.Return ReturnAddress) → IsEnding Reached (Code line ∷ [])
   unreached : ¬ Reached → IsEnding Reached []
+
+-- The items of a function of direct code, which has a number. Nothing stands behind them where no path of its instructions leads to the end.
+pub record IsCodeOf (number : ℕ) (f : Function) (items : List CodeItem) : Type 0 where
+  pub ending : List CodeItem
+  pub ends : IsEnding (ReachesExit f.insns) ending
+  pub are : AreItemsOf number ending f.insns items

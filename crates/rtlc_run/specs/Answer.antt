@@ -1,5 +1,5 @@
 -- What the program answers. It is one answer for the words and the bytes of the input: a text, or a refusal with its values.
-use Rattle.std.specs.Prelude.{◌≡◌, ◌<◌, ◌≤◌, ◌⊎◌, true, ℕ, List, [], ◌∷◌, length, map, codes, Result, Ok, Err, IfSome, Vec}
+use Rattle.std.specs.Prelude.{◌≡◌, ◌<◌, ◌≤◌, ◌⊎◌, true, ℕ, ◌+◌, List, [], ◌∷◌, length, map, codes, Some, None, Result, Ok, Err, IfSome, Vec}
 use Rattle.std.specs.declared.alloc.Global.{Global}
 use Rattle.rtx_tree.specs.declared.place.Place.{Place}
 use Rattle.std.specs.Borrow.{Bor}
@@ -12,10 +12,12 @@ use Rattle.rtx_tree.specs.declared.function.Function.{Function}
 use Rattle.rtx_tree.specs.declared.limit.Limit.TheVariants as limit
 use Rattle.rtl_read.specs.Parsed.{Parsed, stands, construct}
 use Rattle.rtl_read.specs.Syntax.{functions_in}
+use Rattle.rtl_func.specs.Rules.{fault_of}
+use Rattle.rtl_func.specs.declared.rules.Fault.{Fault}
 use Rattle.rtlc_run.specs.declared.refusal.Refusal.{Refusal}
 use Rattle.rtlc_run.specs.declared.refusal.Refusal.TheVariants as refusal
 use Rattle.rtlc_run.specs.Refusals.{status_of, has_values, line_of}
-use Rattle.rtlc_run.specs.Assembly.{Outcome, program_text, Refuses}
+use Rattle.rtlc_run.specs.Assembly.{Outcome, AreTexts, RefusesWith}
 
 -- the words of a command: asm, and no other word
 abbrev pub IsCommand : List (List ℕ) → Type 0
@@ -25,26 +27,36 @@ IsCommand words = words ≡ codes "asm" ∷ []
 abbrev pub most_bytes : ℕ
 most_bytes = 16777216
 
--- what the trees of an input come to: the assembly of their functions
-abbrev pub parsed_text : Parsed (List Function) → Outcome
-parsed_text (stands functions) = program_text functions
-parsed_text (construct place name) = Err (refusal.Construct place name)
+-- the first fault of the functions, in order, each with its number among them
+abbrev pub fault_or : Function → Option Fault → Option Refusal → Option Refusal
+fault_or f None later = later
+fault_or f (Some fault) later = Some (refusal.IllFormed f.name fault.uid fault.rule)
 
-abbrev pub trees_text : List Tree → Outcome
-trees_text trees = parsed_text (functions_in trees)
+abbrev pub fault_from : List Function → ℕ → List Function → Option Refusal
+fault_from functions index [] = None
+fault_from functions index (f ∷ rest) = fault_or f (fault_of functions index) (fault_from functions (index + 1) rest)
+
+abbrev pub first_fault : List Function → Option Refusal
+first_fault functions = fault_from functions 0 functions
+
+-- What some functions come to. Each is looked at before the text of any is made.
+pub data FunctionsCome (functions : List Function) : Outcome → Type 0 where
+  ill_formed : (e : Refusal) → first_fault functions ≡ Some e → FunctionsCome functions (Err e)
+  assembled : (outcome : Outcome) → first_fault functions ≡ None → AreTexts 0 functions outcome → FunctionsCome functions outcome
 
 -- what a text comes to, by its reading
-abbrev pub reading_text : Reading → Outcome
-reading_text (Trees trees) = trees_text trees
-reading_text (Syntax place) = Err (refusal.Syntax (codes "-") place)
-reading_text (Depth place) = Err (refusal.Limit limit.Depth 201)
+pub data ReadingComes : Reading → Outcome → Type 0 where
+  syntax : (place : Place) → ReadingComes (Syntax place) (Err (refusal.Syntax (codes "-") place))
+  depth : (place : Place) → ReadingComes (Depth place) (Err (refusal.Limit limit.Depth 201))
+  outside : (trees : List Tree) (place : Place) (name : List ℕ) → functions_in trees ≡ construct place name → ReadingComes (Trees trees) (Err (refusal.Construct place name))
+  functions : (trees : List Tree) (functions : List Function) (outcome : Outcome) → functions_in trees ≡ stands functions → FunctionsCome functions outcome → ReadingComes (Trees trees) outcome
 
 -- The answer to these words and these bytes. The words are looked at first, then how many bytes there are, then their
 -- reading.
 pub data Answers (words : List (List ℕ)) (bytes : List ℕ) : Outcome → Type 0 where
   usage : ¬ IsCommand words → Answers words bytes (Err refusal.Usage)
   too_long : IsCommand words → most_bytes < length bytes → Answers words bytes (Err (refusal.Limit limit.Text 16777217))
-  read : (reading : Reading) → IsCommand words → length bytes ≤ most_bytes → ReadsAs bytes reading → Answers words bytes (reading_text reading)
+  read : (reading : Reading) (outcome : Outcome) → IsCommand words → length bytes ≤ most_bytes → ReadsAs bytes reading → ReadingComes reading outcome → Answers words bytes outcome
 
 -- ---- what an answer is outside
 
@@ -70,21 +82,26 @@ pub record EndsWith (answer : Outcome) (status : ℕ) (output output' errors err
 
 -- ---- the parts of a run
 
--- a call gave the text or the refusal; want of memory is free
-abbrev pub Tells : Result (Vec ℕ Global) Refusal → Outcome → Type 0
-Tells (Ok text) outcome = outcome ≡ Ok text.items
-Tells (Err e) outcome = Refuses e outcome
+-- a call gave a text with a property, or a refusal with it; want of memory is free
+abbrev pub Tells : Result (Vec ℕ Global) Refusal → (Outcome → Type 0) → Type 0
+Tells (Ok text) P = P (Ok text.items)
+Tells (Err e) P = RefusesWith e P
 
 -- a call gave the functions, or told the construct
-abbrev pub Parses : Result (List Function) Refusal → Parsed (List Function) → Type 0
-Parses (Ok functions) parsed = parsed ≡ stands functions
-Parses (Err e) parsed = Refuses e (parsed_text parsed)
+abbrev pub Parses : List Tree → Result (List Function) Refusal → Type 0
+Parses trees (Ok functions) = functions_in trees ≡ stands functions
+Parses trees (Err e) = RefusesWith e (ReadingComes (Trees trees))
+
+-- a call found each function well-formed, or told the first fault
+abbrev pub Checks : List Function → Option Refusal → Type 0
+Checks functions None = first_fault functions ≡ None
+Checks functions (Some e) = RefusesWith e (FunctionsCome functions)
 
 -- the bytes have a reading that comes to this
 pub record ComesFrom (bytes : List ℕ) (outcome : Outcome) : Type 0 where
   pub reading : Reading
   pub reads : ReadsAs bytes reading
-  pub text : outcome ≡ reading_text reading
+  pub comes : ReadingComes reading outcome
 
 abbrev pub IsSyntax : Refusal → Place → Type 0
 IsSyntax refusal.Memory place = Unit {0}
@@ -92,15 +109,10 @@ IsSyntax e place = e ≡ refusal.Syntax (codes "-") place
 
 -- the refusal of the bytes, if it is not want of memory; it is no fault, and nothing of the words
 abbrev pub ReadRefused : List ℕ → Refusal → Type 0
-ReadRefused bytes refusal.Memory = Unit {0}
-ReadRefused bytes refusal.Usage = ⊥
-ReadRefused bytes refusal.ReadFault = ⊥
-ReadRefused bytes refusal.WriteFault = ⊥
-ReadRefused bytes e = ComesFrom bytes (Err e)
+ReadRefused bytes e = RefusesWith e (ComesFrom bytes)
 
 abbrev pub ComesTo : List ℕ → Result (Vec ℕ Global) Refusal → Type 0
-ComesTo bytes (Ok text) = ComesFrom bytes (Ok text.items)
-ComesTo bytes (Err e) = ReadRefused bytes e
+ComesTo bytes result = Tells result (ComesFrom bytes)
 
 -- the text of an answer was written, and nothing else
 abbrev pub Writes : List (List ℕ) → Option (List ℕ) → Option (List ℕ) → Option (List ℕ) → Type 0

@@ -1,16 +1,18 @@
--- The assembly of functions: for each function a frame of lines, and in it one line for each instruction.
-use Rattle.std.specs.Prelude.{◌≡◌, ℕ, ◌+◌, max, List, [], ◌∷◌, ◌++◌, codes, Option, Some, None, Result, Ok, Err, IsOkAnd}
-use Rattle.rtx_tree.specs.declared.code.Code.TheVariants.{Return}
-use Rattle.rtx_tree.specs.declared.code.Mode.TheVariants.{Void}
-use Rattle.rtx_tree.specs.declared.function.Kind.TheVariants.{Jump}
+-- The assembly of functions: for each function a frame of lines, and in it what stands for each item of its chain.
+use Rattle.std.specs.Prelude.{◌≡◌, ◌<◌, ◌^◌, ℕ, suc, ◌+◌, max, List, [], ◌∷◌, ◌++◌, codes, Option, Some, None, Result, Ok, Err, IsOkAnd}
+use Rattle.rtx_tree.specs.Patterns.{return_rtx}
+use Rattle.rtx_tree.specs.declared.function.Kind.{Kind}
+use Rattle.rtx_tree.specs.declared.function.Kind.TheVariants.{Jump, Label, Barrier}
 use Rattle.rtx_tree.specs.declared.function.Insn.{Insn}
 use Rattle.rtx_tree.specs.declared.function.Function.{Function}
 use Rattle.rtx_tree.specs.declared.stage.Stage.TheVariants.{Lower}
-use Rattle.rtx_tree.specs.Tree.{node_of}
+use Rattle.rtl_func.specs.Paths.{ReachesExit}
+use Rattle.rv_line.specs.Run.{label_text}
 use Rattle.rtlc_run.specs.declared.forms.Match.{Match}
 use Rattle.rtlc_run.specs.declared.refusal.Refusal.{Refusal}
 use Rattle.rtlc_run.specs.declared.refusal.Refusal.TheVariants as refusal
-use Rattle.rtlc_run.specs.Forms.{first_match, table, filled, template_of}
+use Rattle.rtlc_run.specs.Forms.{first_match, table}
+use Rattle.rtlc_run.specs.Template.{filled, template_of}
 
 -- a text, or the first refusal on the way to it
 abbrev pub Outcome : Type 0
@@ -33,35 +35,47 @@ each_text text (x ∷ xs) = outcome_then (text x) (each_text text xs)
 -- ---- instructions
 
 -- a tab, and the form's template with the operands put in
-abbrev pub filled_line : Match → List ℕ
-filled_line m = codes "\t" ++ (filled m.operands (template_of m.form) ++ codes "\n")
+abbrev pub filled_line : ℕ → Match → List ℕ
+filled_line number m = codes "\t" ++ (filled number m.operands (template_of m.form) ++ codes "\n")
 
 abbrev pub unmatched : List ℕ → Insn → Refusal
 unmatched function i = refusal.Unmatched function i.uid Lower i.pattern
 
-abbrev pub line_by : List ℕ → Insn → Option Match → Outcome
-line_by function i None = Err (unmatched function i)
-line_by function i (Some m) = Ok (filled_line m)
+abbrev pub line_by : ℕ → List ℕ → Insn → Option Match → Outcome
+line_by number function i None = Err (unmatched function i)
+line_by number function i (Some m) = Ok (filled_line number m)
 
--- the line of an instruction: that of the first form that matches
-abbrev pub insn_line : List ℕ → Insn → Outcome
-insn_line function i = line_by function i (first_match table i.pattern)
+-- the line of a label of a function with a number
+abbrev pub label_item : ℕ → ℕ → List ℕ
+label_item number uid = label_text number uid ++ codes ":\n"
 
-abbrev pub insn_lines : List ℕ → List Insn → Outcome
-insn_lines function insns = each_text (insn_line function) insns
+-- what stands for an item of the chain: the line of the first form that matches an instruction, the line of a label, and nothing for a barrier
+abbrev pub item_by : Kind → ℕ → List ℕ → Insn → Outcome
+item_by Label number function i = Ok (label_item number i.uid)
+item_by Barrier number function i = Ok []
+item_by _ number function i = line_by number function i (first_match table i.pattern)
+
+abbrev pub item_text : ℕ → List ℕ → Insn → Outcome
+item_text number function i = item_by i.kind number function i
+
+abbrev pub body_text : ℕ → List ℕ → List Insn → Outcome
+body_text number function insns = each_text (item_text number function) insns
+
+-- ---- the return
 
 -- the greatest number of an instruction, or 0
 abbrev pub greatest_uid : List Insn → ℕ
 greatest_uid [] = 0
 greatest_uid (i ∷ insns) = max i.uid (greatest_uid insns)
 
--- the return that is added at the end of the chain, with the number after the greatest
+-- the return that is added at the end of a chain, with the number after the greatest
 abbrev pub return_insn : List Insn → Insn
-return_insn insns = record { uid = greatest_uid insns + 1; kind = Jump; pattern = node_of Return Void []; uses = [] }
+return_insn insns = record { uid = greatest_uid insns + 1; kind = Jump; pattern = return_rtx; uses = [] }
 
--- the lines of a function's instructions, and that of the return
-abbrev pub body_lines : List ℕ → List Insn → Outcome
-body_lines function insns = outcome_then (insn_lines function insns) (insn_line function (return_insn insns))
+-- A chain as it is written: with a return at its end where a path of its instructions leads there, and else as it is.
+pub data IsFinished (insns : List Insn) : List Insn → Type 0 where
+  returning : ReachesExit insns → IsFinished insns (insns ++ return_insn insns ∷ [])
+  staying : ¬ ReachesExit insns → IsFinished insns insns
 
 -- ---- functions
 
@@ -88,24 +102,42 @@ opening_lines name = section_lines ++ name_lines name
 abbrev pub closing_line : List ℕ → List ℕ
 closing_line name = codes "\t.size\t" ++ (name ++ (codes ", .-" ++ (name ++ codes "\n")))
 
-abbrev pub function_text : Function → Outcome
-function_text f = outcome_map (λ body. opening_lines f.name ++ (body ++ closing_line f.name)) (body_lines f.name f.insns)
+abbrev pub framed : List ℕ → List ℕ → List ℕ
+framed name body = opening_lines name ++ (body ++ closing_line name)
 
--- the assembly of some functions
-abbrev pub program_text : List Function → Outcome
-program_text functions = each_text function_text functions
+-- the lines of a function's chain
+pub data IsBodyText (number : ℕ) (f : Function) : Outcome → Type 0 where
+  body : (finished : List Insn) → IsFinished f.insns finished → IsBodyText number f (body_text number f.name finished)
+
+-- what a function with a number comes to: a frame of lines round those of its chain
+pub data IsFunctionText (number : ℕ) (f : Function) : Outcome → Type 0 where
+  text : (body : Outcome) → IsBodyText number f body → IsFunctionText number f (outcome_map (framed f.name) body)
+
+-- What some functions come to, of which the first has a number: their texts in order, or the first refusal. A function's number has 32 bits.
+pub data AreTexts (number : ℕ) : List Function → Outcome → Type 0 where
+  none : AreTexts number [] (Ok [])
+  refused : (f : Function) (functions : List Function) (e : Refusal) → IsFunctionText number f (Err e) → AreTexts number (f ∷ functions) (Err e)
+  goes_on : (f : Function) (functions : List Function) (text : List ℕ) (rest : Outcome) → number < 2 ^ 32 → IsFunctionText number f (Ok text) → AreTexts (suc number) functions rest → AreTexts number (f ∷ functions) (outcome_map (λ more. text ++ more) rest)
 
 -- ---- what a call that appends has done
 
 -- it refused as it should, or memory ran out; it tells no fault and nothing of the words
+abbrev pub RefusesWith : Refusal → (Outcome → Type 0) → Type 0
+RefusesWith refusal.Memory P = Unit {0}
+RefusesWith refusal.Usage P = ⊥
+RefusesWith refusal.ReadFault P = ⊥
+RefusesWith refusal.WriteFault P = ⊥
+RefusesWith e P = P (Err e)
+
 abbrev pub Refuses : Refusal → Outcome → Type 0
-Refuses refusal.Memory outcome = Unit {0}
-Refuses refusal.Usage outcome = ⊥
-Refuses refusal.ReadFault outcome = ⊥
-Refuses refusal.WriteFault outcome = ⊥
-Refuses e outcome = outcome ≡ Err e
+Refuses e outcome = RefusesWith e (λ refused. outcome ≡ refused)
 
 -- it appended the text, or it refused
 abbrev pub Appended : {A : Type 0} → List ℕ → List ℕ → Result A Refusal → Outcome → Type 0
 Appended old new (Ok x) outcome = IsOkAnd outcome (λ text. new ≡ old ++ text)
 Appended old new (Err e) outcome = Refuses e outcome
+
+-- it appended a text that has a property, or it refused
+abbrev pub AppendedSome : {A : Type 0} → List ℕ → List ℕ → Result A Refusal → (Outcome → Type 0) → Type 0
+AppendedSome old new (Ok x) P = (text : List ℕ) × P (Ok text) × (new ≡ old ++ text)
+AppendedSome old new (Err e) P = RefusesWith e P

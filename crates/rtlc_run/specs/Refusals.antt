@@ -15,6 +15,7 @@ abbrev pub status_of : Refusal → ℕ
 status_of refusal.Usage = 1
 status_of (refusal.Syntax file place) = 2
 status_of (refusal.Construct place name) = 2
+status_of (refusal.IllFormed function uid rule) = 2
 status_of (refusal.Limit which count) = 2
 status_of (refusal.Unmatched function uid stage insn) = 3
 status_of refusal.ReadFault = 6
@@ -25,6 +26,7 @@ status_of refusal.Memory = 8
 abbrev pub has_values : Refusal → Bool
 has_values (refusal.Syntax file place) = true
 has_values (refusal.Construct place name) = true
+has_values (refusal.IllFormed function uid rule) = true
 has_values (refusal.Limit which count) = true
 has_values (refusal.Unmatched function uid stage insn) = true
 has_values _ = false
@@ -46,6 +48,9 @@ limit_line which count = codes "rtlc: limit " ++ (limit_name which ++ (codes ": 
 abbrev pub at_text : List ℕ → ℕ → List ℕ
 at_text function uid = codes "rtlc: " ++ (function ++ (codes ":" ++ (decimal uid ++ codes ": ")))
 
+abbrev pub rule_line : List ℕ → ℕ → ℕ → List ℕ
+rule_line function uid rule = at_text function uid ++ (codes "rule " ++ (decimal rule ++ codes "\n"))
+
 abbrev pub stage_text : Stage → List ℕ
 stage_text stage = codes "unmatched at " ++ (stage_name stage ++ codes ": ")
 
@@ -57,6 +62,7 @@ abbrev pub line_of : Refusal → List ℕ
 line_of refusal.Usage = codes "rtlc: the words are not a command\n"
 line_of (refusal.Syntax file place) = syntax_line file place
 line_of (refusal.Construct place name) = construct_line place name
+line_of (refusal.IllFormed function uid rule) = rule_line function uid rule
 line_of (refusal.Limit which count) = limit_line which count
 line_of (refusal.Unmatched function uid stage insn) = unmatched_line function uid stage insn
 line_of refusal.ReadFault = codes "rtlc: read fault\n"

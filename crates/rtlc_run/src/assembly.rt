@@ -1,22 +1,31 @@
 //! The assembly of functions.
-ghost use Rattle.std.specs.Prelude.{◌≡◌, ◌++◌, OnOk, IfOk};
+ghost use Rattle.std.specs.Prelude.{◌≡◌, ◌+◌, [], ◌∷◌, ◌++◌, OnOk, IfOk};
 ghost use Rattle.rtlc_run.specs.Assembly as spec;
-ghost use Rattle.rtlc_run.specs.Assembly.{Appended};
+ghost use Rattle.rtlc_run.specs.Forms as forms;
+ghost use Rattle.rtlc_run.specs.Assembly.{Appended, AppendedSome, IsBodyText, IsFunctionText, AreTexts};
 
 use crate::forms::{Match, first_match};
+use crate::print::print_text;
 use crate::refusal::Refusal;
-use crate::template::print_filled;
+use crate::template::{print_filled, print_label, template};
 use plain_data::{Items, Memory};
-use rtx_tree::{Code, Function, Functions, Insn, Insns, Kind, Mode, Name, Rtx, Stage};
+use rtl_func::reaches_exit;
+use rtx_tree::{Code, Function, Insn, Kind, Mode, Name, Rtx, Stage};
 use std::alloc::Global;
 
-fn print_line(found: &Match, out: &mut Vec<u8>) -> Result<(), Memory>
-    ensures { OnOk result (out.new.items ≡ out.old.items ++ spec.filled_line found.now) }
+fn print_line(number: u32, found: &Match, out: &mut Vec<u8>) -> Result<(), Memory>
+    ensures { OnOk result (out.new.items ≡ out.old.items ++ spec.filled_line number found.now) }
 {
-    out.push(b'\t')?;
-    print_filled(found.form.template(), &found.operands, out)?;
-    out.push(b'\n')?;
-    Ok(())
+    print_text(b"\t", out)?;
+    print_filled(number, template(found.form), &found.operands, out)?;
+    print_text(b"\n", out)
+}
+
+fn print_label_line(number: u32, uid: u32, out: &mut Vec<u8>) -> Result<(), Memory>
+    ensures { OnOk result (out.new.items ≡ out.old.items ++ spec.label_item number uid) }
+{
+    print_label(number, u64::from(uid), out)?;
+    print_text(b":\n", out)
 }
 
 fn unmatched(alloc: Global, function: &Name, insn: &Insn) -> Result<Refusal, Memory>
@@ -31,29 +40,56 @@ fn unmatched(alloc: Global, function: &Name, insn: &Insn) -> Result<Refusal, Mem
 }
 
 /// Appends the line of an instruction.
-fn print_insn(alloc: Global, function: &Name, insn: &Insn, out: &mut Vec<u8>) -> Result<(), Refusal>
-    ensures { Appended out.old.items out.new.items result (spec.insn_line function.now insn.now) }
+fn print_insn(
+    alloc: Global,
+    number: u32,
+    function: &Name,
+    insn: &Insn,
+    out: &mut Vec<u8>,
+) -> Result<(), Refusal>
+    ensures { Appended out.old.items out.new.items result (spec.line_by number function.now insn.now (forms.first_match forms.table insn.now.pattern)) }
 {
     match first_match(alloc, &insn.pattern)? {
         Some(found) => {
-            print_line(&found, out)?;
+            print_line(number, &found, out)?;
             Ok(())
         }
         None => Err(unmatched(alloc, function, insn)?),
     }
 }
 
-#[tactic(auto, using(crate::proofs::Texts::goes_start, crate::proofs::Texts::goes_on, crate::proofs::Texts::goes_wrong, crate::proofs::Texts::goes_through))]
-fn print_insns(
+/// Appends what stands for an item of a chain.
+fn print_item(
     alloc: Global,
+    number: u32,
+    function: &Name,
+    insn: &Insn,
+    out: &mut Vec<u8>,
+) -> Result<(), Refusal>
+    ensures { Appended out.old.items out.new.items result (spec.item_text number function.now insn.now) }
+{
+    match insn.kind {
+        Kind::Label => {
+            print_label_line(number, insn.uid, out)?;
+            Ok(())
+        }
+        Kind::Barrier => Ok(()),
+        Kind::Plain | Kind::Jump | Kind::Call => print_insn(alloc, number, function, insn, out),
+    }
+}
+
+#[tactic(auto, using(crate::proofs::Texts::goes_start, crate::proofs::Texts::goes_on, crate::proofs::Texts::goes_wrong, crate::proofs::Texts::goes_through))]
+fn print_items(
+    alloc: Global,
+    number: u32,
     function: &Name,
     insns: &[Insn],
     out: &mut Vec<u8>,
 ) -> Result<(), Refusal>
-    ensures { Appended out.old.items out.new.items result (spec.insn_lines function.now insns.now) }
+    ensures { Appended out.old.items out.new.items result (spec.body_text number function.now insns.now) }
 {
     for insn in insns {
-        print_insn(alloc, function, insn, out)?;
+        print_item(alloc, number, function, insn, out)?;
     }
     Ok(())
 }
@@ -79,49 +115,58 @@ fn return_insn(alloc: Global, insns: &[Insn]) -> Result<Insn, Memory>
     Ok(Insn {
         uid,
         kind: Kind::Jump,
-        pattern: Rtx::of_kids(alloc, Code::Return, Mode::Void, Items::new(alloc)),
+        pattern: Rtx::leaf(alloc, Code::Return, Mode::Void, 0),
         uses: Items::new(alloc),
     })
 }
 
-/// Appends the lines of a function's instructions, and that of the return behind them.
-fn print_body(
+/// Appends the lines of a chain, and that of the return behind them.
+fn print_returning(
     alloc: Global,
+    number: u32,
     function: &Name,
     insns: &[Insn],
     out: &mut Vec<u8>,
 ) -> Result<(), Refusal>
-    ensures { Appended out.old.items out.new.items result (spec.body_lines function.now insns.now) }
+    ensures { Appended out.old.items out.new.items result (spec.body_text number function.now (insns.now ++ spec.return_insn insns.now ∷ [])) }
 {
-    print_insns(alloc, function, insns, out)?;
+    print_items(alloc, number, function, insns, out)?;
     let end = return_insn(alloc, insns)?;
-    print_insn(alloc, function, &end, out)
+    print_item(alloc, number, function, &end, out)
+}
+
+/// Appends the lines of a function's chain, with a return at its end where that is reached.
+fn print_body(alloc: Global, number: u32, f: &Function, out: &mut Vec<u8>) -> Result<(), Refusal>
+    ensures { AppendedSome out.old.items out.new.items result (IsBodyText number f.now) }
+{
+    if reaches_exit(alloc, f)? {
+        print_returning(alloc, number, &f.name, f.insns.as_slice(), out)
+    } else {
+        print_items(alloc, number, &f.name, f.insns.as_slice(), out)
+    }
 }
 
 fn print_global(name: &[u8], out: &mut Vec<u8>) -> Result<(), Memory>
     ensures { OnOk result (out.new.items ≡ out.old.items ++ spec.global_line name.now) }
 {
-    out.extend_from_slice(b"\t.globl\t")?;
-    out.extend_from_slice(name)?;
-    out.push(b'\n')?;
-    Ok(())
+    print_text(b"\t.globl\t", out)?;
+    print_text(name, out)?;
+    print_text(b"\n", out)
 }
 
 fn print_type(name: &[u8], out: &mut Vec<u8>) -> Result<(), Memory>
     ensures { OnOk result (out.new.items ≡ out.old.items ++ spec.type_line name.now) }
 {
-    out.extend_from_slice(b"\t.type\t")?;
-    out.extend_from_slice(name)?;
-    out.extend_from_slice(b", @function\n")?;
-    Ok(())
+    print_text(b"\t.type\t", out)?;
+    print_text(name, out)?;
+    print_text(b", @function\n", out)
 }
 
-fn print_label(name: &[u8], out: &mut Vec<u8>) -> Result<(), Memory>
+fn print_name(name: &[u8], out: &mut Vec<u8>) -> Result<(), Memory>
     ensures { OnOk result (out.new.items ≡ out.old.items ++ spec.label_line name.now) }
 {
-    out.extend_from_slice(name)?;
-    out.extend_from_slice(b":\n")?;
-    Ok(())
+    print_text(name, out)?;
+    print_text(b":\n", out)
 }
 
 fn print_names(name: &[u8], out: &mut Vec<u8>) -> Result<(), Memory>
@@ -129,54 +174,63 @@ fn print_names(name: &[u8], out: &mut Vec<u8>) -> Result<(), Memory>
 {
     print_global(name, out)?;
     print_type(name, out)?;
-    print_label(name, out)
+    print_name(name, out)
 }
 
 fn print_opening(name: &Name, out: &mut Vec<u8>) -> Result<(), Memory>
     ensures { OnOk result (out.new.items ≡ out.old.items ++ spec.opening_lines name.now) }
 {
-    out.extend_from_slice(b"\t.text\n\t.align\t2\n")?;
+    print_text(b"\t.text\n\t.align\t2\n", out)?;
     print_names(name.bytes(), out)
 }
 
 fn print_closing(name: &Name, out: &mut Vec<u8>) -> Result<(), Memory>
     ensures { OnOk result (out.new.items ≡ out.old.items ++ spec.closing_line name.now) }
 {
-    out.extend_from_slice(b"\t.size\t")?;
-    out.extend_from_slice(name.bytes())?;
-    out.extend_from_slice(b", .-")?;
-    out.extend_from_slice(name.bytes())?;
-    out.push(b'\n')?;
+    print_text(b"\t.size\t", out)?;
+    print_text(name.bytes(), out)?;
+    print_text(b", .-", out)?;
+    print_text(name.bytes(), out)?;
+    print_text(b"\n", out)
+}
+
+/// Appends the assembly of a function with a number.
+fn print_function(
+    alloc: Global,
+    number: u32,
+    f: &Function,
+    out: &mut Vec<u8>,
+) -> Result<(), Refusal>
+    ensures { AppendedSome out.old.items out.new.items result (IsFunctionText number f.now) }
+{
+    print_opening(&f.name, out)?;
+    print_body(alloc, number, f, out)?;
+    print_closing(&f.name, out)?;
     Ok(())
 }
 
-fn print_insns_of(alloc: Global, function: &Function, out: &mut Vec<u8>) -> Result<(), Refusal>
-    ensures { Appended out.old.items out.new.items result (spec.body_lines function.now.name function.now.insns) }
+/// The number behind a number of 32 bits. It wants the number, as it wants memory.
+fn next_number(number: u32) -> Result<u32, Memory>
+    ensures { IfOk result (λ next. next ≡ number + 1) }
 {
-    print_body(alloc, &function.name, function.insns.as_slice(), out)
+    match number.checked_add(1) {
+        Some(next) => Ok(next),
+        None => Err(Memory),
+    }
 }
 
-/// Appends the assembly of a function.
-fn print_function(alloc: Global, function: &Function, out: &mut Vec<u8>) -> Result<(), Refusal>
-    ensures { Appended out.old.items out.new.items result (spec.function_text function.now) }
-{
-    print_opening(&function.name, out)?;
-    print_insns_of(alloc, function, out)?;
-    print_closing(&function.name, out)?;
-    Ok(())
-}
-
-/// Appends the assembly of some functions, in order.
-#[tactic(auto, using(crate::proofs::Texts::goes_start, crate::proofs::Texts::goes_through))]
+/// Appends the assembly of some functions, in order, each with its number from 0 on.
 pub fn print_program(
     alloc: Global,
     functions: &[Function],
     out: &mut Vec<u8>,
 ) -> Result<(), Refusal>
-    ensures { Appended out.old.items out.new.items result (spec.program_text functions.now) }
+    ensures { AppendedSome out.old.items out.new.items result (AreTexts 0 functions.now) }
 {
-    for function in functions {
-        print_function(alloc, function, out)?;
+    let mut number: u32 = 0;
+    for f in functions {
+        print_function(alloc, number, f, out)?;
+        number = next_number(number)?;
     }
     Ok(())
 }

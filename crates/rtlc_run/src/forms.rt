@@ -1,5 +1,6 @@
 //! The embedded table of instruction forms: what each matches, and its template.
 ghost use Rattle.std.specs.Prelude.{◌≡◌, IfOk, IsTrue, ◌∷◌, []};
+ghost use Rattle.std.specs.Option.{option_copied};
 ghost use Rattle.rtlc_run.specs.Forms as spec;
 
 use plain_data::Memory;
@@ -15,12 +16,23 @@ pub enum Form {
     Addi,
     /// A register set to another.
     Mv,
+    /// A jump to a label.
+    Jump,
+    /// A branch to a label, on a comparison of a register and a register or the constant 0.
+    Branch,
     /// The return.
     Return,
 }
 
 /// The forms, in the order in which they are tried.
-const TABLE: [Form; 4] = [Form::Add, Form::Addi, Form::Mv, Form::Return];
+const TABLE: [Form; 6] = [
+    Form::Add,
+    Form::Addi,
+    Form::Mv,
+    Form::Jump,
+    Form::Branch,
+    Form::Return,
+];
 
 impl Form {
     fn is_return(self) -> bool
@@ -29,18 +41,6 @@ impl Form {
         match self {
             Form::Return => true,
             _ => false,
-        }
-    }
-
-    /// The template of the form's instruction line.
-    pub fn template(self) -> &'static [u8]
-        ensures { result.now ≡ spec.template_of self }
-    {
-        match self {
-            Form::Add => b"add\t%0,%1,%2",
-            Form::Addi => b"addi\t%0,%1,%2",
-            Form::Mv => b"mv\t%0,%1",
-            Form::Return => b"ret",
         }
     }
 }
@@ -70,6 +70,44 @@ fn is_small(x: &Rtx) -> bool
     }
 }
 
+pub fn is_zero(x: &Rtx) -> bool
+    ensures { result ≡ spec.is_zero x.now }
+{
+    match x.code {
+        Code::ConstInt => x.number == 0,
+        _ => false,
+    }
+}
+
+/// Whether the code is one of the ten comparisons.
+pub fn is_comparison(code: Code) -> bool
+    ensures { result ≡ spec.is_comparison code }
+{
+    match code {
+        Code::Eq | Code::Ne | Code::Lt | Code::Le | Code::Gt | Code::Ge => true,
+        Code::Ltu | Code::Leu | Code::Gtu | Code::Geu => true,
+        _ => false,
+    }
+}
+
+/// The number of a label, as an expression, if the tree is one.
+fn label_part(x: &Rtx) -> Option<&Rtx>
+    ensures { option_copied result ≡ spec.label_part x.now }
+{
+    match (x.code, x.kids.as_slice()) {
+        (Code::LabelRef, [uid]) => Some(uid),
+        _ => None,
+    }
+}
+
+fn one(alloc: Global, a: &Rtx) -> Result<Operands, Memory>
+    ensures { IfOk result (λ ops. ops ≡ spec.one a.now) }
+{
+    let mut operands = Operands::new(alloc);
+    operands.put(0, a.copy(alloc)?)?;
+    Ok(operands)
+}
+
 fn two(alloc: Global, a: &Rtx, b: &Rtx) -> Result<Operands, Memory>
     ensures { IfOk result (λ ops. ops ≡ spec.two a.now b.now) }
 {
@@ -84,6 +122,14 @@ fn three(alloc: Global, a: &Rtx, b: &Rtx, c: &Rtx) -> Result<Operands, Memory>
 {
     let mut operands = two(alloc, a, b)?;
     operands.put(2, c.copy(alloc)?)?;
+    Ok(operands)
+}
+
+fn four(alloc: Global, a: &Rtx, b: &Rtx, c: &Rtx, d: &Rtx) -> Result<Operands, Memory>
+    ensures { IfOk result (λ ops. ops ≡ spec.four a.now b.now c.now d.now) }
+{
+    let mut operands = three(alloc, a, b, c)?;
+    operands.put(3, d.copy(alloc)?)?;
     Ok(operands)
 }
 
@@ -123,6 +169,38 @@ fn reg_operands(alloc: Global, target: &Rtx, source: &Rtx) -> Result<Option<Oper
     }
 }
 
+fn jump_operands(alloc: Global, target: &Rtx, source: &Rtx) -> Result<Option<Operands>, Memory>
+    ensures { IfOk result (λ ops. ops ≡ spec.jump_operands target.now source.now) }
+{
+    match label_part(source) {
+        Some(uid) if target.is_pc() => Ok(Some(one(alloc, uid)?)),
+        _ => Ok(None),
+    }
+}
+
+/// The operands of a branch by its comparison and its label.
+fn test_operands(alloc: Global, test: &Rtx, label: &Rtx) -> Result<Option<Operands>, Memory>
+    ensures { IfOk result (λ ops. ops ≡ spec.test_operands test.now label.now) }
+{
+    match (test.kids.as_slice(), label_part(label)) {
+        ([a, b], Some(uid)) if is_comparison(test.code) && is_reg(a) && (is_reg(b) || is_zero(b)) => {
+            Ok(Some(four(alloc, test, a, b, uid)?))
+        }
+        _ => Ok(None),
+    }
+}
+
+fn branch_operands(alloc: Global, target: &Rtx, source: &Rtx) -> Result<Option<Operands>, Memory>
+    ensures { IfOk result (λ ops. ops ≡ spec.branch_operands target.now source.now) }
+{
+    match (source.code, source.kids.as_slice()) {
+        (Code::IfThenElse, [test, label, other]) if target.is_pc() && other.is_pc() => {
+            test_operands(alloc, test, label)
+        }
+        _ => Ok(None),
+    }
+}
+
 fn set_operands(
     alloc: Global,
     form: Form,
@@ -134,6 +212,8 @@ fn set_operands(
     match form {
         Form::Add | Form::Addi => sum_operands(alloc, form, target, source),
         Form::Mv => reg_operands(alloc, target, source),
+        Form::Jump => jump_operands(alloc, target, source),
+        Form::Branch => branch_operands(alloc, target, source),
         Form::Return => Ok(None),
     }
 }

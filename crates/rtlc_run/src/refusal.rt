@@ -6,7 +6,7 @@ ghost use Rattle.rtx_tree.specs.Stage.{stage_name};
 ghost use Rattle.rtl_read.specs.Print.{printed};
 ghost use Rattle.rtlc_run.specs.Refusals as spec;
 
-use itoa::Buffer;
+use crate::print::{print_count, print_text};
 use plain_data::Memory;
 use rtl_read::print_rtx;
 use rtx_tree::{Limit, Name, Place, Rtx, Stage};
@@ -33,6 +33,13 @@ pub enum Refusal {
     Construct {
         place: Place,
         name: Name,
+    },
+    /// Status 2: a rule of a well-formed function fails at the instruction with this uid; 0 stands for the function.
+    #[error("ill-formed")]
+    IllFormed {
+        function: Name,
+        uid: u32,
+        rule: u8,
     },
     /// Status 2: a counted quantity passes its number.
     #[error("limit")]
@@ -76,27 +83,13 @@ pub fn status(refusal: &Refusal) -> u8
 {
     match refusal {
         Refusal::Usage => 1,
-        Refusal::Syntax { .. } | Refusal::Construct { .. } | Refusal::Limit { .. } => 2,
+        Refusal::Syntax { .. } | Refusal::Construct { .. } | Refusal::IllFormed { .. } => 2,
+        Refusal::Limit { .. } => 2,
         Refusal::Unmatched { .. } => 3,
         Refusal::ReadFault => 6,
         Refusal::WriteFault => 7,
         Refusal::Memory => 8,
     }
-}
-
-fn print_text(text: &[u8], out: &mut Vec<u8>) -> Result<(), Memory>
-    ensures { OnOk result (out.new.items ≡ out.old.items ++ text.now) }
-{
-    out.extend_from_slice(text)?;
-    Ok(())
-}
-
-fn print_count(count: u64, out: &mut Vec<u8>) -> Result<(), Memory>
-    ensures { OnOk result (out.new.items ≡ out.old.items ++ decimal count) }
-{
-    let mut buffer = Buffer::new();
-    out.extend_from_slice(buffer.format(count).as_bytes())?;
-    Ok(())
 }
 
 /// Prints `LINE:COLUMN`.
@@ -155,6 +148,21 @@ fn print_at(function: &Name, uid: u32, out: &mut Vec<u8>) -> Result<(), Memory>
     print_text(b": ", out)
 }
 
+fn print_rule(rule: u8, out: &mut Vec<u8>) -> Result<(), Memory>
+    ensures { OnOk result (out.new.items ≡ out.old.items ++ (codes "rule " ++ (decimal rule ++ codes "\n"))) }
+{
+    print_text(b"rule ", out)?;
+    print_count(u64::from(rule), out)?;
+    print_text(b"\n", out)
+}
+
+fn rule_line(function: &Name, uid: u32, rule: u8, out: &mut Vec<u8>) -> Result<(), Memory>
+    ensures { OnOk result (out.new.items ≡ out.old.items ++ spec.rule_line function.now uid rule) }
+{
+    print_at(function, uid, out)?;
+    print_rule(rule, out)
+}
+
 fn print_stage(stage: Stage, out: &mut Vec<u8>) -> Result<(), Memory>
     ensures { OnOk result (out.new.items ≡ out.old.items ++ spec.stage_text stage) }
 {
@@ -192,6 +200,11 @@ fn print_line(refusal: &Refusal, out: &mut Vec<u8>) -> Result<(), Memory>
         Refusal::Usage => print_text(b"rtlc: the words are not a command\n", out),
         Refusal::Syntax { file, place } => syntax_line(file, *place, out),
         Refusal::Construct { place, name } => construct_line(*place, name, out),
+        Refusal::IllFormed {
+            function,
+            uid,
+            rule,
+        } => rule_line(function, *uid, *rule, out),
         Refusal::Limit { which, count } => limit_line(*which, *count, out),
         Refusal::Unmatched {
             function,

@@ -16,7 +16,7 @@ use Rattle.rtx_tree.specs.declared.function.Kind.TheVariants as kind
 use Rattle.rtl_func.specs.Paths.{Path, Here, Along, leads, has_place}
 use Rattle.rtl_func.specs.Successors.{successors_of, successors_by, flow_of, flow_by, flow_places, jump_flow, jump_flow_by, source_flow, source_flow_by, goes_to, branches_to}
 use Rattle.rtl_func.specs.declared.flow.Flow.{Flow}
-use Rattle.rtl_func.specs.declared.flow.Flow.TheVariants.{Falls, Goes, Branches}
+use Rattle.rtl_func.specs.declared.flow.Flow.TheVariants.{Falls, Goes, Branches, Stops}
 use Rattle.rv_text.specs.declared.line.CodeItem.{CodeItem}
 use Rattle.same_code.specs.Direct.{IsUid, IsDirect, IsCodeOf}
 use Rattle.same_code.specs.Same.{Same}
@@ -32,7 +32,7 @@ further insns _ _ r (Along p q s first rest) leads_on = Along p q r first (furth
 -- ---- where instructions lead
 
 sets_pc : (source : Rtx) → jump_flow (set_rtx pc_rtx source) ≡ source_flow source
-sets_pc source = ap (λ (o : Rtx-F Rtx). jump_flow_by o.code o.kids) (out-roll-Rtx _) ∙ ap (λ b. if b then source_flow source else _) pc_is
+sets_pc source = ap (λ (o : Rtx-F Rtx). jump_flow_by o.code o.kids) (out-roll-Rtx _) ∙ ap (λ b. if b then source_flow source else Stops) pc_is
 
 jump_flow_is : (uid : ℕ) → IsUid uid → jump_flow (jump_rtx uid) ≡ Goes uid
 jump_flow_is uid small =
@@ -45,7 +45,7 @@ branch_flow_is test uid small =
     let source : Rtx = node_of IfThenElse Void (test ∷ label_rtx uid ∷ pc_rtx ∷ []) in
     sets_pc source ∙
     ap (λ (o : Rtx-F Rtx). source_flow_by o.code o.kids source) (out-roll-Rtx _) ∙
-    ap (λ b. if b then branches_to (label_of (label_rtx uid)) else _) pc_is ∙
+    ap (λ b. if b then branches_to (label_of (label_rtx uid)) else Stops) pc_is ∙
     ap branches_to (label_is uid small)
 
 is_here : (n : ℕ) → (n == n) ≡ true

@@ -1,4 +1,6 @@
 pub mod Blocks
 pub mod Labels
+pub mod Nodes
 pub mod Paths
+pub mod Search
 pub mod Successors

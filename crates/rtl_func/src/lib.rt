@@ -4,11 +4,11 @@
 mod block_list;
 mod flow;
 mod labels;
-//mod paths;
+mod paths;
 mod edges;
 
 pub use block_list::{Block, blocks};
-//pub use paths::reaches_exit;
+pub use paths::reaches_exit;
 pub use flow::Successors;
 pub use edges::successors;
 

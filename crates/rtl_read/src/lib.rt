@@ -6,6 +6,7 @@
 
 mod expression;
 mod function;
+mod jump;
 mod print;
 mod refusal;
 mod shape;

@@ -7,7 +7,7 @@ use Rattle.rtx_tree.specs.declared.code.Code.TheVariants.{ConstInt, Eq, Ne, Lt, 
 use Rattle.rtx_tree.specs.declared.code.Mode.TheVariants.{Void}
 use Rattle.rtx_tree.specs.declared.tree.Rtx.{Rtx}
 use Rattle.rtx_tree.specs.Tree.{const_of}
-use Rattle.rtx_tree.specs.Patterns.{label_rtx, jump_rtx, test_rtx, branch_rtx, return_rtx}
+use Rattle.rtx_tree.specs.Patterns.{jump_rtx, test_rtx, branch_rtx, return_rtx}
 use Rattle.lisp_read.specs.declared.tree.Tree.{Tree}
 use Rattle.rtl_read.specs.Shape.{atom_of, items_of, is_nested, is_text, is_word}
 use Rattle.rtl_read.specs.Word.{uid_in, head_text}

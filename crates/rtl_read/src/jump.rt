@@ -154,14 +154,7 @@ fn branch_to(alloc: Global, test: Rtx, uid: u32) -> Result<Rtx, Memory>
     ensures { IfOk result (λ tree. tree ≡ patterns.branch_rtx test uid) }
 {
     let there = label_ref(alloc, uid)?;
-    let place = Rtx::of_three(
-        alloc,
-        Code::IfThenElse,
-        Mode::Void,
-        test,
-        there,
-        pc(alloc),
-    )?;
+    let place = Rtx::of_three(alloc, Code::IfThenElse, Mode::Void, test, there, pc(alloc))?;
     set_pc_to(alloc, place)
 }
 
@@ -190,10 +183,7 @@ fn branch(alloc: Global, tree: &Tree) -> Result<Rtx, RtlRefusal>
             if has_head(head, Code::IfThenElse, Mode::Void)
                 && is_nested(a)
                 && is_nested(b)
-                && is_nested(c) =>
-        {
-            branch_of_parts(alloc, a, b, c)
-        }
+                && is_nested(c) => { branch_of_parts(alloc, a, b, c) }
         _ => Err(outside(alloc, tree)),
     }
 }

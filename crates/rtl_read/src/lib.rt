@@ -17,4 +17,6 @@ pub use print::{print_number, print_reg, print_rtx};
 pub use refusal::RtlRefusal;
 
 #[cfg(test)]
+mod jump_tests;
+#[cfg(test)]
 mod tests;

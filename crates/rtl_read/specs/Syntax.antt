@@ -2,89 +2,27 @@
 -- form that GCC dumps for reading by its RTL front end, as far as this program takes it.
 use Rattle.std.specs.Prelude.{ℕ, ◌&&◌, List, [], ◌∷◌, Option, Some, None, if◌then◌else◌, option_map, option_and_then, codes}
 use Rattle.std.specs.List.{list_all}
-use Rattle.rtx_tree.specs.declared.code.Code.TheVariants.{Reg, ConstInt, Plus, Set}
+use Rattle.rtx_tree.specs.declared.code.Code.TheVariants.{Reg}
 use Rattle.rtx_tree.specs.declared.code.Mode.{Mode}
-use Rattle.rtx_tree.specs.declared.code.Mode.TheVariants.{Void, DI}
-use Rattle.rtx_tree.specs.declared.function.Kind.TheVariants.{Plain}
+use Rattle.rtx_tree.specs.declared.code.Mode.TheVariants.{DI}
+use Rattle.rtx_tree.specs.declared.function.Kind.{Kind}
+use Rattle.rtx_tree.specs.declared.function.Kind.TheVariants.{Plain, Jump, Label, Barrier}
 use Rattle.rtx_tree.specs.declared.function.Insn.{Insn}
 use Rattle.rtx_tree.specs.declared.function.Function.{Function}
 use Rattle.rtx_tree.specs.declared.tree.Rtx.{Rtx}
-use Rattle.rtx_tree.specs.Tree.{reg_of, const_of}
-use Rattle.rtx_tree.specs.Patterns.{sum_rtx, set_rtx}
+use Rattle.rtx_tree.specs.Patterns.{nothing_rtx}
 use Rattle.lisp_read.specs.declared.tree.Tree.{Tree}
 use Rattle.rtl_read.specs.Shape.{atom_of, string_of, items_of, is_nested, is_text, is_word}
-use Rattle.text_words.specs.Words.{number_in, is_symbol}
-use Rattle.rtl_read.specs.Word.{uid_in, argument_in, head_text}
+use Rattle.text_words.specs.Words.{is_symbol}
+use Rattle.rtl_read.specs.Word.{uid_in, head_text}
 use Rattle.rtl_read.specs.Parsed.{Parsed, stands, outside, or_outside, parsed_map, parsed_then, each_parsed}
+use Rattle.rtl_read.specs.Expression.{sole_atom, pattern_of}
+use Rattle.rtl_read.specs.Jump.{jump_pattern_of}
 
--- ---- expressions
+-- ---- items of a chain
 
--- the one atom behind a head
-abbrev pub sole_atom : List ℕ → List Tree → Option (List ℕ)
-sole_atom word (h ∷ t ∷ []) = if is_word word h then atom_of t else None
-sole_atom word _ = None
-
--- (reg:DI R), R being one of a0 to a7
-abbrev pub register_in : Tree → Option Rtx
-register_in t = option_map (reg_of DI) (option_and_then argument_in (sole_atom (head_text Reg DI) (items_of t)))
-
--- (const_int N)
-abbrev pub constant_in : Tree → Option Rtx
-constant_in t = option_map const_of (option_and_then number_in (sole_atom (head_text ConstInt Void) (items_of t)))
-
-abbrev pub either : Option Rtx → Option Rtx → Option Rtx
-either (Some x) y = Some x
-either None y = y
-
--- a register or a constant
-abbrev pub leaf_in : Tree → Option Rtx
-leaf_in t = either (register_in t) (constant_in t)
-
--- the two lists behind a head
-abbrev pub two_parts : List ℕ → List Tree → Option (Tree × Tree)
-two_parts word (h ∷ a ∷ b ∷ []) = if is_word word h && is_nested a && is_nested b then Some (a, b) else None
-two_parts word _ = None
-
-abbrev pub register_of : Tree → Parsed Rtx
-register_of t = or_outside t (register_in t)
-
-abbrev pub leaf_of : Tree → Parsed Rtx
-leaf_of t = or_outside t (leaf_in t)
-
-abbrev pub sum_of_parts : Tree → Tree → Parsed Rtx
-sum_of_parts a b = parsed_then (register_of a) (λ first. parsed_map (λ second. sum_rtx first second) (leaf_of b))
-
-abbrev pub sum_by : Tree → Option (Tree × Tree) → Parsed Rtx
-sum_by t (Some parts) = sum_of_parts parts.0 parts.1
-sum_by t None = outside t
-
--- (plus:DI A B), A being a register and B a register or a constant
-abbrev pub sum_of : Tree → Parsed Rtx
-sum_of t = sum_by t (two_parts (head_text Plus DI) (items_of t))
-
-abbrev pub source_by : Option Rtx → Parsed Rtx → Parsed Rtx
-source_by (Some x) sum = stands x
-source_by None sum = sum
-
--- a register, a constant or a sum
-abbrev pub source_of : Tree → Parsed Rtx
-source_of t = source_by (leaf_in t) (sum_of t)
-
-abbrev pub set_of_parts : Tree → Tree → Parsed Rtx
-set_of_parts a b = parsed_then (register_of a) (λ target. parsed_map (λ source. set_rtx target source) (source_of b))
-
-abbrev pub pattern_by : Tree → Option (Tree × Tree) → Parsed Rtx
-pattern_by t (Some parts) = set_of_parts parts.0 parts.1
-pattern_by t None = outside t
-
--- (set TARGET SOURCE), the target being a register
-abbrev pub pattern_of : Tree → Parsed Rtx
-pattern_of t = pattern_by t (two_parts (head_text Set Void) (items_of t))
-
--- ---- instructions and functions
-
-abbrev pub plain_insn : ℕ → Rtx → Insn
-plain_insn uid pattern = record { uid = uid; kind = Plain; pattern = pattern; uses = [] }
+abbrev pub insn_with : Kind → ℕ → Rtx → Insn
+insn_with kind uid pattern = record { uid = uid; kind = kind; pattern = pattern; uses = [] }
 
 -- the instruction's number that an atom writes
 abbrev pub uid_of : Tree → Option ℕ
@@ -94,20 +32,45 @@ abbrev pub uid_with : Tree → Option ℕ → Option (ℕ × Tree)
 uid_with p (Some uid) = Some (uid, p)
 uid_with p None = None
 
-abbrev pub insn_parts : List Tree → Option (ℕ × Tree)
-insn_parts (h ∷ u ∷ p ∷ []) = if is_word (codes "cinsn") h && is_nested p then uid_with p (uid_of u) else None
-insn_parts _ = None
+-- a number and a list behind it, and no more
+abbrev pub numbered : List Tree → Option (ℕ × Tree)
+numbered (u ∷ p ∷ []) = if is_nested p then uid_with p (uid_of u) else None
+numbered _ = None
 
-abbrev pub insn_of_parts : ℕ → Tree → Parsed Insn
-insn_of_parts uid p = parsed_map (plain_insn uid) (pattern_of p)
+abbrev pub plain_by : Tree → Option (ℕ × Tree) → Parsed Insn
+plain_by t (Some parts) = parsed_map (insn_with Plain parts.0) (pattern_of parts.1)
+plain_by t None = outside t
 
-abbrev pub insn_by : Tree → Option (ℕ × Tree) → Parsed Insn
-insn_by t (Some parts) = insn_of_parts parts.0 parts.1
-insn_by t None = outside t
+abbrev pub jump_by : Tree → Option (ℕ × Tree) → Parsed Insn
+jump_by t (Some parts) = parsed_map (insn_with Jump parts.0) (jump_pattern_of parts.1)
+jump_by t None = outside t
 
--- (cinsn UID PATTERN)
+-- the number that the first tree writes, whatever follows
+abbrev pub leading_uid : List Tree → Option ℕ
+leading_uid (u ∷ _) = uid_of u
+leading_uid [] = None
+
+abbrev pub label_by : Tree → Option ℕ → Parsed Insn
+label_by t (Some uid) = stands (insn_with Label uid nothing_rtx)
+label_by t None = outside t
+
+-- a barrier has no number
+abbrev pub barrier : Insn
+barrier = insn_with Barrier 0 nothing_rtx
+
+abbrev pub insn_by : Tree → List Tree → Parsed Insn
+insn_by t (h ∷ parts) =
+    if is_word (codes "cinsn") h then plain_by t (numbered parts)
+    else (if is_word (codes "cjump_insn") h then jump_by t (numbered parts)
+    else (if is_word (codes "clabel") h then label_by t (leading_uid parts)
+    else (if is_word (codes "cbarrier") h then stands barrier else outside t)))
+insn_by t [] = outside t
+
+-- (cinsn UID PATTERN), (cjump_insn UID PATTERN), (clabel UID ..) or (cbarrier ..); what the dots stand for is passed over
 abbrev pub insn_of : Tree → Parsed Insn
-insn_of t = insn_by t (insn_parts (items_of t))
+insn_of t = insn_by t (items_of t)
+
+-- ---- functions
 
 abbrev pub chain_items : List Tree → Option (List Tree)
 chain_items (h ∷ items) = if is_word (codes "insn-chain") h && list_all is_nested items then Some items else None

@@ -1,7 +1,7 @@
 //! Expressions: registers, constants, sums and the settings of registers.
 ghost use Rattle.std.specs.Prelude.{◌≡◌};
 ghost use Rattle.std.specs.Option.{option_copied};
-ghost use Rattle.rtl_read.specs.Syntax as spec;
+ghost use Rattle.rtl_read.specs.Expression as spec;
 ghost use Rattle.rtl_read.specs.Parsed.{Gives};
 ghost use Rattle.rtl_read.specs.Shape as shape;
 ghost use Rattle.rtl_read.specs.Word.{head_text};
@@ -15,7 +15,7 @@ use std::alloc::Global;
 use text_words::number_in;
 
 /// Whether the tree is the head of an expression of this code and mode.
-fn has_head(tree: &Tree, code: Code, mode: Mode) -> bool
+pub fn has_head(tree: &Tree, code: Code, mode: Mode) -> bool
     ensures { result ≡ shape.is_word (head_text code mode) tree.now }
 {
     match atom(tree) {
@@ -35,7 +35,7 @@ pub fn sole_atom(tree: &Tree, code: Code, mode: Mode) -> Option<&Name>
 }
 
 /// `(reg:DI R)`, `R` being one of `a0` to `a7`.
-fn register_in(alloc: Global, tree: &Tree) -> Option<Rtx>
+pub fn register_in(alloc: Global, tree: &Tree) -> Option<Rtx>
     ensures { result ≡ spec.register_in tree.now }
 {
     let name = sole_atom(tree, Code::Reg, Mode::DI)?;
@@ -62,7 +62,8 @@ fn leaf_in(alloc: Global, tree: &Tree) -> Option<Rtx>
     }
 }
 
-fn register(alloc: Global, tree: &Tree) -> Result<Rtx, RtlRefusal>
+/// The register that the tree is, or its refusal.
+pub fn register(alloc: Global, tree: &Tree) -> Result<Rtx, RtlRefusal>
     ensures { Gives result (spec.register_of tree.now) }
 {
     match register_in(alloc, tree) {

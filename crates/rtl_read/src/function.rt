@@ -3,17 +3,22 @@ ghost use Rattle.std.specs.Prelude.{◌≡◌, List, Some, None};
 ghost use Rattle.std.specs.List.{list_all};
 ghost use Rattle.std.specs.Option.{option_copied};
 ghost use Rattle.lisp_read.specs.declared.tree.Tree.{Tree};
+ghost use Rattle.rtx_tree.specs.Patterns.{nothing_rtx};
+ghost use Rattle.rtx_tree.specs.declared.function.Kind.{Kind};
 ghost use Rattle.rtl_read.specs.Syntax as spec;
-ghost use Rattle.rtl_read.specs.Parsed.{Gives, stands};
+ghost use Rattle.rtl_read.specs.Expression.{sole_atom, pattern_of};
+ghost use Rattle.rtl_read.specs.Jump.{jump_pattern_of};
+ghost use Rattle.rtl_read.specs.Parsed.{Gives, stands, parsed_map};
 ghost use Rattle.rtl_read.specs.Shape as shape;
 
 use crate::expression::{pattern, sole_atom};
+use crate::jump::jump_pattern;
 use crate::refusal::RtlRefusal;
 use crate::shape::{atom, is_nested, is_word, items, outside, string};
 use crate::word::uid_in;
 use lisp_read::Tree;
 use plain_data::Items;
-use rtx_tree::{ArgUses, Code, Function, Functions, Insn, Insns, Kind, Mode, Name};
+use rtx_tree::{Code, Function, Functions, Insn, Insns, Kind, Mode, Name, Rtx};
 use std::alloc::Global;
 use text_words::is_symbol;
 
@@ -31,16 +36,22 @@ fn all_nested(trees: &[Tree]) -> bool
     true
 }
 
-fn insn_of_parts(alloc: Global, uid: u32, tree: &Tree) -> Result<Insn, RtlRefusal>
-    ensures { Gives result (spec.insn_of_parts uid tree.now) }
+fn insn_with(alloc: Global, kind: Kind, uid: u32, pattern: Rtx) -> Insn
+    ensures { result ≡ spec.insn_with kind uid pattern }
 {
-    let pattern = pattern(alloc, tree)?;
-    Ok(Insn {
+    Insn {
         uid,
-        kind: Kind::Plain,
+        kind,
         pattern,
         uses: Items::new(alloc),
-    })
+    }
+}
+
+/// The pattern of what does nothing, `(parallel [])`.
+fn nothing(alloc: Global) -> Rtx
+    ensures { result ≡ nothing_rtx }
+{
+    Rtx::of_kids(alloc, Code::Parallel, Mode::Void, Items::new(alloc))
 }
 
 /// The instruction's number that an atom writes.
@@ -50,15 +61,80 @@ fn uid(tree: &Tree) -> Option<u32>
     uid_in(atom(tree)?.bytes())
 }
 
-/// `(cinsn UID PATTERN)`.
+fn plain_of_parts(alloc: Global, uid: u32, tree: &Tree) -> Result<Insn, RtlRefusal>
+    ensures { Gives result (parsed_map (spec.insn_with Kind.Plain uid) (pattern_of tree.now)) }
+{
+    let pattern = pattern(alloc, tree)?;
+    Ok(insn_with(alloc, Kind::Plain, uid, pattern))
+}
+
+/// `(cinsn UID PATTERN)`, by the trees behind its head.
+fn plain(alloc: Global, tree: &Tree, parts: &[Tree]) -> Result<Insn, RtlRefusal>
+    ensures { Gives result (spec.plain_by tree.now (spec.numbered parts.now)) }
+{
+    match parts {
+        [number, part] if is_nested(part) => match uid(number) {
+            Some(uid) => plain_of_parts(alloc, uid, part),
+            None => Err(outside(alloc, tree)),
+        },
+        _ => Err(outside(alloc, tree)),
+    }
+}
+
+fn jump_of_parts(alloc: Global, uid: u32, tree: &Tree) -> Result<Insn, RtlRefusal>
+    ensures { Gives result (parsed_map (spec.insn_with Kind.Jump uid) (jump_pattern_of tree.now)) }
+{
+    let pattern = jump_pattern(alloc, tree)?;
+    Ok(insn_with(alloc, Kind::Jump, uid, pattern))
+}
+
+/// `(cjump_insn UID PATTERN)`, by the trees behind its head.
+fn jump(alloc: Global, tree: &Tree, parts: &[Tree]) -> Result<Insn, RtlRefusal>
+    ensures { Gives result (spec.jump_by tree.now (spec.numbered parts.now)) }
+{
+    match parts {
+        [number, part] if is_nested(part) => match uid(number) {
+            Some(uid) => jump_of_parts(alloc, uid, part),
+            None => Err(outside(alloc, tree)),
+        },
+        _ => Err(outside(alloc, tree)),
+    }
+}
+
+fn leading_uid(parts: &[Tree]) -> Option<u32>
+    ensures { result ≡ spec.leading_uid parts.now }
+{
+    match parts {
+        [number, ..] => uid(number),
+        [] => None,
+    }
+}
+
+/// `(clabel UID ..)`, by the trees behind its head.
+fn label(alloc: Global, tree: &Tree, parts: &[Tree]) -> Result<Insn, RtlRefusal>
+    ensures { Gives result (spec.label_by tree.now (spec.leading_uid parts.now)) }
+{
+    match leading_uid(parts) {
+        Some(uid) => Ok(insn_with(alloc, Kind::Label, uid, nothing(alloc))),
+        None => Err(outside(alloc, tree)),
+    }
+}
+
+fn barrier(alloc: Global) -> Insn
+    ensures { result ≡ spec.barrier }
+{
+    insn_with(alloc, Kind::Barrier, 0, nothing(alloc))
+}
+
+/// `(cinsn UID PATTERN)`, `(cjump_insn UID PATTERN)`, `(clabel UID ..)` or `(cbarrier ..)`.
 fn insn(alloc: Global, tree: &Tree) -> Result<Insn, RtlRefusal>
     ensures { Gives result (spec.insn_of tree.now) }
 {
     match items(tree) {
-        [head, number, part] if is_word(head, b"cinsn") && is_nested(part) => match uid(number) {
-            Some(uid) => insn_of_parts(alloc, uid, part),
-            None => Err(outside(alloc, tree)),
-        },
+        [head, parts @ ..] if is_word(head, b"cinsn") => plain(alloc, tree, parts),
+        [head, parts @ ..] if is_word(head, b"cjump_insn") => jump(alloc, tree, parts),
+        [head, parts @ ..] if is_word(head, b"clabel") => label(alloc, tree, parts),
+        [head, ..] if is_word(head, b"cbarrier") => Ok(barrier(alloc)),
         _ => Err(outside(alloc, tree)),
     }
 }

@@ -6,6 +6,7 @@
 
 mod expression;
 mod function;
+mod jump;
 mod print;
 mod refusal;
 mod shape;
@@ -15,5 +16,7 @@ pub use function::functions_of;
 pub use print::{print_number, print_reg, print_rtx};
 pub use refusal::RtlRefusal;
 
+#[cfg(test)]
+mod jump_tests;
 #[cfg(test)]
 mod tests;

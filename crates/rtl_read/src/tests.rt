@@ -10,7 +10,7 @@ use std::process::Abort;
 use std::test::Fail;
 
 /// The functions of a text.
-fn functions(alloc: Global, text: &[u8]) -> Result<Functions, Fail>
+pub fn functions(alloc: Global, text: &[u8]) -> Result<Functions, Fail>
     requires { length text.now < 4294967295 }
 {
     let trees = read_trees(alloc, text)?;
@@ -36,7 +36,7 @@ fn functions_in_order(rt: HostRuntime) -> Result<(), Fail> {
 }
 
 /// The text of an expression.
-fn printed(alloc: Global, x: &Rtx) -> Result<Vec<u8>, Memory> {
+pub fn printed(alloc: Global, x: &Rtx) -> Result<Vec<u8>, Memory> {
     let mut out = Vec::new(alloc);
     print_rtx(x, &mut out)?;
     Ok(out)
@@ -249,7 +249,7 @@ const PAIRS: [(&[u8], u32, u32, &[u8]); 6] = [
 ];
 
 /// Asserts that a text is refused for the tree at this line and column, with this name.
-fn check_construct(
+pub fn check_construct(
     rt: &impl Abort,
     alloc: Global,
     text: &[u8],

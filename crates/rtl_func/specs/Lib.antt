@@ -4,3 +4,4 @@ pub mod Nodes
 pub mod Paths
 pub mod Search
 pub mod Successors
+pub mod Rules

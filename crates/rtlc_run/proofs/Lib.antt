@@ -1,10 +1,1 @@
 pub mod Texts
-pub mod FormLines
-pub mod ReadStraight
-pub mod Comes
-pub mod Ends
-pub mod Statuses
-pub mod Answered
-pub mod LinesLaws
-pub mod Completes
-pub mod SameLaws

@@ -12,8 +12,7 @@ use Rattle.rtx_tree.specs.declared.function.Function.{Function}
 use Rattle.rtx_tree.specs.declared.limit.Limit.TheVariants as limit
 use Rattle.rtl_read.specs.Parsed.{Parsed, stands, construct}
 use Rattle.rtl_read.specs.Syntax.{functions_in}
-use Rattle.rtl_func.specs.Rules.{fault_of}
-use Rattle.rtl_func.specs.declared.rules.Fault.{Fault}
+use Rattle.rtl_func.specs.Rules.{Fault, fault_of}
 use Rattle.rtlc_run.specs.declared.refusal.Refusal.{Refusal}
 use Rattle.rtlc_run.specs.declared.refusal.Refusal.TheVariants as refusal
 use Rattle.rtlc_run.specs.Refusals.{status_of, has_values, line_of}

@@ -1,5 +1,5 @@
 -- The assembly of functions: for each function a frame of lines, and in it what stands for each item of its chain.
-use Rattle.std.specs.Prelude.{◌≡◌, ◌<◌, ◌^◌, ℕ, suc, ◌+◌, max, List, [], ◌∷◌, ◌++◌, codes, Option, Some, None, Result, Ok, Err, IsOkAnd}
+use Rattle.std.specs.Prelude.{◌≡◌, ◌<◌, ◌^◌, ℕ, ◌+◌, max, List, [], ◌∷◌, ◌++◌, codes, Option, Some, None, Result, Ok, Err, IsOkAnd}
 use Rattle.rtx_tree.specs.Patterns.{return_rtx}
 use Rattle.rtx_tree.specs.declared.function.Kind.{Kind}
 use Rattle.rtx_tree.specs.declared.function.Kind.TheVariants.{Jump, Label, Barrier}
@@ -114,10 +114,11 @@ pub data IsFunctionText (number : ℕ) (f : Function) : Outcome → Type 0 where
   text : (body : Outcome) → IsBodyText number f body → IsFunctionText number f (outcome_map (framed f.name) body)
 
 -- What some functions come to, of which the first has a number: their texts in order, or the first refusal. A function's number has 32 bits.
-pub data AreTexts (number : ℕ) : List Function → Outcome → Type 0 where
-  none : AreTexts number [] (Ok [])
-  refused : (f : Function) (functions : List Function) (e : Refusal) → IsFunctionText number f (Err e) → AreTexts number (f ∷ functions) (Err e)
-  goes_on : (f : Function) (functions : List Function) (text : List ℕ) (rest : Outcome) → number < 2 ^ 32 → IsFunctionText number f (Ok text) → AreTexts (suc number) functions rest → AreTexts number (f ∷ functions) (outcome_map (λ more. text ++ more) rest)
+pub data AreTexts : ℕ → List Function → Outcome → Type 0 where
+  none : (number : ℕ) → AreTexts number [] (Ok [])
+  refused : (number : ℕ) (f : Function) (functions : List Function) (e : Refusal) → IsFunctionText number f (Err e) → AreTexts number (f ∷ functions) (Err e)
+  goes_on : (number : ℕ) (f : Function) (functions : List Function) (text : List ℕ) (rest : Outcome) → number < 2 ^ 32 → IsFunctionText number f (Ok text) → AreTexts (number + 1) functions rest →
+      AreTexts number (f ∷ functions) (outcome_map (λ more. text ++ more) rest)
 
 -- ---- what a call that appends has done
 

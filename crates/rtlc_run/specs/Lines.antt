@@ -1,6 +1,6 @@
 -- The assembly of an input, said of its lines: for each function, in order, its frame of lines, and in it for each instruction
 -- the filled template of the first form that matches, and for each label its line.
-use Rattle.std.specs.Prelude.{◌≡◌, ◌≤◌, ◌⊎◌, ℕ, suc, true, false, List, [], ◌∷◌, ◌++◌, length, IsSome, Some, None, IfSome}
+use Rattle.std.specs.Prelude.{◌≡◌, ◌≤◌, ◌<◌, ◌^◌, ◌⊎◌, ℕ, ◌+◌, true, false, List, [], ◌∷◌, ◌++◌, length, IsSome, Some, None, IfSome}
 use Rattle.std.specs.declared.option.Option.{Option}
 use Rattle.std.specs.Io.KnownBytes.{Appends}
 use Rattle.lisp_read.specs.declared.tree.Tree.{Tree}
@@ -32,9 +32,9 @@ pub data AreLines (number : ℕ) : List Insn → List ℕ → Type 0 where
   barrier : (i : Insn) (insns : List Insn) (rest : List ℕ) → i.kind ≡ Barrier → AreLines number insns rest → AreLines number (i ∷ insns) rest
 
 -- each function, in order and numbered, has its frame of lines round those of its chain, with a return where its end is reached
-pub data IsAssembly (number : ℕ) : List Function → List ℕ → Type 0 where
-  none : IsAssembly number [] []
-  function : (f : Function) (functions : List Function) (finished : List Insn) (body rest : List ℕ) → IsFinished f.insns finished → AreLines number finished body → IsAssembly (suc number) functions rest →
+pub data IsAssembly : ℕ → List Function → List ℕ → Type 0 where
+  none : (number : ℕ) → IsAssembly number [] []
+  function : (number : ℕ) (f : Function) (functions : List Function) (finished : List Insn) (body rest : List ℕ) → number < 2 ^ 32 → IsFinished f.insns finished → AreLines number finished body → IsAssembly (number + 1) functions rest →
       IsAssembly number (f ∷ functions) (framed f.name body ++ rest)
 
 -- a form matches the instruction, or it is a label or a barrier

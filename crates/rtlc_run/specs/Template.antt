@@ -44,9 +44,15 @@ abbrev pub label_at : ℕ → Code → ℤ → List ℕ
 label_at function ConstInt n = label_numbered function n
 label_at function _ n = unprinted
 
+abbrev pub label_operand : ℕ → Rtx → List ℕ
+label_operand function x = label_at function (out-Rtx x).code (out-Rtx x).number
+
 -- %C: a comparison's code
 abbrev pub comparison_at : Code → List ℕ
 comparison_at code = if is_comparison code then code_name code else unprinted
+
+abbrev pub comparison_operand : Rtx → List ℕ
+comparison_operand x = comparison_at (out-Rtx x).code
 
 -- %z: `zero` for the constant 0, else the operand
 abbrev pub or_zero : Rtx → List ℕ
@@ -57,7 +63,7 @@ abbrev pub is_letter : ℕ → Bool
 is_letter b = b == 108 || b == 67 || b == 122
 
 abbrev pub lettered : ℕ → ℕ → Rtx → List ℕ
-lettered function letter x = if letter == 108 then label_at function (out-Rtx x).code (out-Rtx x).number else (if letter == 67 then comparison_at (out-Rtx x).code else or_zero x)
+lettered function letter x = if letter == 108 then label_operand function x else (if letter == 67 then comparison_operand x else or_zero x)
 
 abbrev pub operand_text : Option Rtx → List ℕ
 operand_text None = unprinted

@@ -1,6 +1,7 @@
 //! The assembly of functions.
-ghost use Rattle.std.specs.Prelude.{◌≡◌, ◌+◌, [], ◌∷◌, ◌++◌, OnOk, IfOk};
+ghost use Rattle.std.specs.Prelude.{◌≡◌, ◌↔◌, ◌<◌, ◌+◌, ◌^◌, [], ◌∷◌, ◌++◌, OnOk, IfOk, IsTrue};
 ghost use Rattle.rtlc_run.specs.Assembly as spec;
+ghost use Rattle.rtl_func.specs.Paths.{ReachesExit};
 ghost use Rattle.rtlc_run.specs.Forms as forms;
 ghost use Rattle.rtlc_run.specs.Assembly.{Appended, AppendedSome, IsBodyText, IsFunctionText, AreTexts};
 
@@ -128,22 +129,47 @@ fn print_returning(
     insns: &[Insn],
     out: &mut Vec<u8>,
 ) -> Result<(), Refusal>
-    ensures { Appended out.old.items out.new.items result (spec.body_text number function.now (insns.now ++ spec.return_insn insns.now ∷ [])) }
+    ensures { Appended out.old.items out.new.items result (spec.outcome_then (spec.body_text number function.now insns.now) (spec.item_text number function.now (spec.return_insn insns.now))) }
 {
     print_items(alloc, number, function, insns, out)?;
     let end = return_insn(alloc, insns)?;
     print_item(alloc, number, function, &end, out)
 }
 
+/// Whether the end of a function's chain is reached. A chain with more places than have a number is wanted as memory is.
+fn is_ended(alloc: Global, f: &Function) -> Result<bool, Memory>
+    ensures { IfOk result (λ reached. IsTrue reached ↔ ReachesExit f.now.insns) }
+{
+    if f.insns.len() < 0xffff_ffff {
+        reaches_exit(alloc, f)
+    } else {
+        Err(Memory)
+    }
+}
+
 /// Appends the lines of a function's chain, with a return at its end where that is reached.
-fn print_body(alloc: Global, number: u32, f: &Function, out: &mut Vec<u8>) -> Result<(), Refusal>
+fn print_chain(
+    alloc: Global,
+    number: u32,
+    f: &Function,
+    reached: bool,
+    out: &mut Vec<u8>,
+) -> Result<(), Refusal>
+    requires { IsTrue reached ↔ ReachesExit f.now.insns }
     ensures { AppendedSome out.old.items out.new.items result (IsBodyText number f.now) }
 {
-    if reaches_exit(alloc, f)? {
+    if reached {
         print_returning(alloc, number, &f.name, f.insns.as_slice(), out)
     } else {
         print_items(alloc, number, &f.name, f.insns.as_slice(), out)
     }
+}
+
+fn print_body(alloc: Global, number: u32, f: &Function, out: &mut Vec<u8>) -> Result<(), Refusal>
+    ensures { AppendedSome out.old.items out.new.items result (IsBodyText number f.now) }
+{
+    let reached = is_ended(alloc, f)?;
+    print_chain(alloc, number, f, reached, out)
 }
 
 fn print_global(name: &[u8], out: &mut Vec<u8>) -> Result<(), Memory>
@@ -211,7 +237,8 @@ fn print_function(
 
 /// The number behind a number of 32 bits. It wants the number, as it wants memory.
 fn next_number(number: u32) -> Result<u32, Memory>
-    ensures { IfOk result (λ next. next ≡ number + 1) }
+    ensures next { IfOk result (λ next. next ≡ number + 1) }
+    ensures small { number < 2 ^ 32 }
 {
     match number.checked_add(1) {
         Some(next) => Ok(next),

@@ -5,12 +5,14 @@
 //!
 //! The parts of a run: the words and the order of the parts (`program`), what an input comes to (`answer`),
 //! the lines of functions (`assembly`), the embedded table of instruction forms (`forms`) with its
-//! templates (`template`), and the refusals with their statuses and lines (`refusal`).
+//! templates (`template`), the refusals with their statuses and lines (`refusal`), and the bytes and numbers
+//! of texts (`print`).
 #![tactic(auto)]
 
 mod answer;
 mod assembly;
 mod forms;
+mod print;
 mod program;
 mod refusal;
 mod template;

@@ -53,7 +53,7 @@ fn print_plain(x: &Rtx, out: &mut Vec<u8>) -> Result<(), Memory>
 }
 
 fn print_label_of(function: u32, x: &Rtx, out: &mut Vec<u8>) -> Result<(), Memory>
-    ensures { OnOk result (out.new.items ≡ out.old.items ++ spec.label_at function x.now.code x.now.number) }
+    ensures { OnOk result (out.new.items ≡ out.old.items ++ spec.label_operand function x.now) }
 {
     match x.code {
         Code::ConstInt if x.number >= 0 => print_label(function, x.number.unsigned_abs(), out),
@@ -62,7 +62,7 @@ fn print_label_of(function: u32, x: &Rtx, out: &mut Vec<u8>) -> Result<(), Memor
 }
 
 fn print_comparison(x: &Rtx, out: &mut Vec<u8>) -> Result<(), Memory>
-    ensures { OnOk result (out.new.items ≡ out.old.items ++ spec.comparison_at x.now.code) }
+    ensures { OnOk result (out.new.items ≡ out.old.items ++ spec.comparison_operand x.now) }
 {
     if is_comparison(x.code) {
         print_text(x.code.name().as_bytes(), out)

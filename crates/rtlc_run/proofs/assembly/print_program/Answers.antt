@@ -1,17 +1,26 @@
-use Rattle.std.proofs.Common.{arith}
+use Rattle.std.proofs.Common.{ℕ, ◌+◌, drop, List, sym, subst, arith}
 use Rattle.std.proofs.lemmas.Result.{err_from_is_err_and}
-use Rattle.rtlc_run.specs.Assembly.{function_text, program_text}
-use Rattle.rtlc_run.proofs.Texts.{goes_on, goes_wrong}
+use Rattle.rtx_tree.specs.declared.function.Function.{Function}
+use Rattle.rtlc_run.specs.Assembly.{AreTexts}
+use Rattle.rtlc_run.proofs.Texts.{MakesTexts, drop_at, drop_end, makes_on, makes_wrong, makes_all}
 use Rattle.rtlc_run.proofs.assembly.print_program.Goals as goal
-
-pub loop-function-preserved : goal.loop-function-preserved
-loop-function-preserved c =
-    goes_on function_text c.args.out.now.items c.loop-function.out.items c.print_function.new.out.items c.args.functions.now c.loop-function.function-index c.function-item.result (program_text c.args.functions.now)
-    (omega arith) c.function-item.is c.in_ok-print_function.ensures c.loop-function.invariant
 
 pub returns-in_err-print_function : goal.returns-in_err-print_function
 returns-in_err-print_function c =
     let p = err_from_is_err_and c.from_residual.result c.from_residual.ensures.1 in
+    let functions = c.args.functions.now in
     rw (p.1, p.2)
-    (goes_wrong function_text c.args.out.now.items c.loop-function.out.items c.args.functions.now c.loop-function.function-index c.function-item.result (program_text c.args.functions.now) c.in_err-print_function.field-0.0
-    (omega arith) c.function-item.is c.in_err-print_function.ensures c.loop-function.invariant)
+    (makes_wrong functions c.args.out.now.items c.loop-f.out.items c.loop-f.number c.f-item.result (drop (c.loop-f.f-index + 1) functions) c.in_err-print_function.field-0.0 c.in_err-print_function.ensures
+    (subst (MakesTexts functions c.args.out.now.items c.loop-f.out.items c.loop-f.number) (drop_at functions c.loop-f.f-index c.f-item.result (omega arith) c.f-item.is) c.loop-f.invariant))
+
+pub loop-f-preserved : goal.loop-f-preserved
+loop-f-preserved c =
+    let functions = c.args.functions.now in
+    subst (λ (n : ℕ). MakesTexts functions c.args.out.now.items c.print_function.new.out.items n (drop (c.loop-f.f-index + 1) functions)) (sym c.in_ok-number.ensures.next)
+    (makes_on functions c.args.out.now.items c.loop-f.out.items c.print_function.new.out.items c.loop-f.number c.f-item.result (drop (c.loop-f.f-index + 1) functions) c.next_number.ensures.small c.in_ok-print_function.ensures
+    (subst (MakesTexts functions c.args.out.now.items c.loop-f.out.items c.loop-f.number) (drop_at functions c.loop-f.f-index c.f-item.result (omega arith) c.f-item.is) c.loop-f.invariant))
+
+pub returns : goal.returns
+returns c =
+    let functions = c.args.functions.now in
+    makes_all functions c.args.out.now.items c.loop-f.out.items c.loop-f.number (subst (MakesTexts functions c.args.out.now.items c.loop-f.out.items c.loop-f.number) (drop_end functions c.loop-f.f-index (omega arith)) c.loop-f.invariant)

@@ -1,7 +1,6 @@
 use Rattle.std.proofs.Common.{drop}
-use Rattle.rtlc_run.specs.Assembly.{function_text, program_text}
-use Rattle.rtlc_run.proofs.Texts.{Goes}
+use Rattle.rtlc_run.proofs.Texts.{MakesTexts}
 use Rattle.rtlc_run.proofs.assembly.print_program.Given as goal
 
-abbrev pub invariant-loop-function : goal.invariant-loop-function
-invariant-loop-function l = Goes function_text l.initial.out.items l.out.items (drop l.function-index l.functions) (program_text l.functions)
+abbrev pub invariant-loop-f : goal.invariant-loop-f
+invariant-loop-f l = MakesTexts l.functions l.initial.out.items l.out.items l.number (drop l.f-index l.functions)

@@ -3,6 +3,7 @@
 
 mod block_list;
 mod flow;
+mod form;
 mod labels;
 mod paths;
 mod edges;

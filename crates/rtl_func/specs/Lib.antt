@@ -1,7 +1,13 @@
 pub mod Blocks
+pub mod Calls
+pub mod Effects
+pub mod Kinds
 pub mod Labels
+pub mod Modes
 pub mod Nodes
 pub mod Paths
 pub mod Search
-pub mod Table
 pub mod Successors
+pub mod Table
+pub mod Tables
+pub mod Uids

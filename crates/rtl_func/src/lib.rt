@@ -2,11 +2,15 @@
 #![tactic(auto)]
 
 mod block_list;
+mod calls;
 mod flow;
 mod form;
+mod kinds;
 mod labels;
 mod paths;
+mod tables;
 mod edges;
+mod effects;
 
 pub use block_list::{Block, blocks};
 pub use paths::reaches_exit;

@@ -1,3 +1,5 @@
 pub mod BlockLaws
 pub mod SearchLaws
 pub mod NodeLaws
+pub mod ModeLaws
+pub mod RuleLaws

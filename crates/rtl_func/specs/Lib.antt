@@ -4,6 +4,7 @@ pub mod Effects
 pub mod Kinds
 pub mod Labels
 pub mod Modes
+pub mod NodeRules
 pub mod Nodes
 pub mod Paths
 pub mod Search

@@ -73,6 +73,7 @@ fn is_changed_again(part: &Rtx, others: &[Rtx]) -> bool
     }
 }
 
+#[tactic(auto, using(crate::proofs::ModeLaws::distinct_cons))]
 fn changes_differ(parts: &[Rtx]) -> bool
     ensures { result ≡ are_distinct (filter_map spec.changed_register parts.now) }
 {

@@ -7,6 +7,7 @@ mod flow;
 mod form;
 mod kinds;
 mod labels;
+mod nodes;
 mod paths;
 mod tables;
 mod edges;

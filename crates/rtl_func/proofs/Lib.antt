@@ -3,3 +3,4 @@ pub mod SearchLaws
 pub mod NodeLaws
 pub mod ModeLaws
 pub mod RuleLaws
+pub mod FaultLaws

@@ -1,14 +1,16 @@
 -- The modes of pseudos, by the parts of a tree.
-use Rattle.std.proofs.Common.{◌≡◌, ℕ, Bool, true, false, ◌==◌, ◌&&◌, not, cond, List, [], ◌∷◌, ◌++◌, append_assoc, Option, Some, None, option_map, refl, sym, ap, ◌∙◌}
+use Rattle.std.proofs.Common.{◌≡◌, ℕ, Bool, true, false, ◌==◌, ◌&&◌, not, cond, filter, List, [], ◌∷◌, ◌++◌, append_assoc, Option, Some, None, option_map, refl, sym, ap, ◌∙◌}
 use Rattle.std.specs.List.{filter_map, flat_map, cons_option, find}
 use Rattle.std.specs.Option.{option_or}
 use Rattle.rtx_tree.specs.declared.code.Mode.{Mode}
+use Rattle.rtx_tree.specs.declared.function.Insn.{Insn}
 use Rattle.rtx_tree.specs.declared.tree.Rtx.{Rtx}
 use Rattle.rtx_tree.specs.Tree.{kids_of}
 use Rattle.rtl_func.specs.Nodes.{nodes_of}
 use Rattle.rtl_func.specs.Calls.{are_distinct}
 use Rattle.rtl_func.specs.Effects.{is_among}
-use Rattle.rtl_func.specs.Modes.{Mention, mention_of, mentions_in, first_mode, mode_in}
+use Rattle.rtl_func.specs.Modes.{Mention, mention_of, mentions_in, first_mode, mode_in, mentions}
+use Rattle.rtl_func.specs.Uids.{is_ruled}
 use Rattle.rtl_func.proofs.NodeLaws.{nodes_out}
 
 cons_append : {A : Type 0} (o : Option A) (xs ys : List A) → cons_option o xs ++ ys ≡ cons_option o (xs ++ ys)
@@ -66,6 +68,12 @@ put_first before after x reg is =
     ap (λ o. option_or o (first_mode (flat_map mentions_in (kids_of x)) reg)) is
     ∙ (or_assoc before (mode_in (mention_of x) reg) _
     ∙ ap (option_or before) (sym (modes_out x reg)))
+
+pub mentions_ruled : (i : Insn) (rest : List Insn) → is_ruled i ≡ true → mentions (i ∷ rest) ≡ mentions_in i.pattern ++ mentions rest
+mentions_ruled i rest is = ap (λ b. flat_map (λ (i : Insn). mentions_in i.pattern) (cond b (i ∷ filter is_ruled rest) (filter is_ruled rest))) is
+
+pub mentions_other : (i : Insn) (rest : List Insn) → is_ruled i ≡ false → mentions (i ∷ rest) ≡ mentions rest
+mentions_other i rest is = ap (λ b. flat_map (λ (i : Insn). mentions_in i.pattern) (cond b (i ∷ filter is_ruled rest) (filter is_ruled rest))) is
 
 -- a register that may be there stands in no place behind
 pub distinct_cons : (o : Option ℕ) (rest : List ℕ) → are_distinct (cons_option o rest) ≡ (not (is_among o rest) && are_distinct rest)

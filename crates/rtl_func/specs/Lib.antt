@@ -1,12 +1,14 @@
 pub mod Blocks
 pub mod Calls
 pub mod Effects
+pub mod Faults
 pub mod Kinds
 pub mod Labels
 pub mod Modes
 pub mod NodeRules
 pub mod Nodes
 pub mod Paths
+pub mod Rules
 pub mod Search
 pub mod Successors
 pub mod Table

@@ -21,6 +21,10 @@ use Rattle.rtl_func.specs.declared.check_rules.CheckRefusal.TheVariants.{IllForm
 abbrev pub uid_faults : List Insn → List Fault
 uid_faults insns = map (fault 1) (bad_uids [] (uids_of insns))
 
+-- the fault of one uid, unless it is good
+abbrev pub uid_fault : Bool → ℕ → List Fault
+uid_fault good uid = if good then [] else fault 1 uid ∷ []
+
 -- ---- rules 2 to 9, which each instruction keeps or breaks
 
 abbrev pub rule_number : InsnRule → ℕ

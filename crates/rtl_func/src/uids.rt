@@ -1,5 +1,5 @@
 //! Uids of a chain.
-ghost use Rattle.std.specs.Prelude.{◌≡◌, ◌∷◌, ◌||◌, ◌==◌, ◌&&◌, ℕ, not, IfOk, OnOk};
+ghost use Rattle.std.specs.Prelude.{◌≡◌, ◌||◌, ◌==◌, ◌&&◌, ℕ, not, OnOk};
 ghost use Rattle.std.specs.Ordering.{nat_cmp};
 ghost use Rattle.std.specs.BTreeSet as set;
 ghost use Rattle.rtl_func.specs.Faults.{earlier, first_fault};
@@ -19,14 +19,20 @@ fn is_uid(uid: u32) -> bool
     1 <= uid && uid <= 2_147_483_647
 }
 
-/// Puts a uid among those met, and says whether it is one that was not.
-fn is_new(met: &mut BTreeSet<u32>, uid: u32) -> Result<bool, Memory>
-    ensures new { IfOk result (λ new. new ≡ (spec.is_uid uid && not (set.contains nat_cmp met.old uid))) }
+/// Notes a uid that is none, or that was met, and puts it among those met.
+fn note_uid(
+    met: &mut BTreeSet<u32>,
+    uid: u32,
+    first: &mut Option<Fault>,
+) -> Result<(), Memory>
+    ensures first { OnOk result (first.new ≡ earlier first.old (first_fault (rules.uid_fault (spec.is_uid uid && not (set.contains nat_cmp met.old uid)) uid))) }
     ensures met { OnOk result ((other : ℕ) → set.contains nat_cmp met.new other ≡ (uid == other || set.contains nat_cmp met.old other)) }
 {
-    let new = is_uid(uid) && !met.contains(&uid);
+    if !(is_uid(uid) && !met.contains(&uid)) {
+        note(first, uid, 1);
+    }
     met.insert(uid)?;
-    Ok(new)
+    Ok(())
 }
 
 /// Notes each uid that is none, or that one before has.
@@ -35,8 +41,8 @@ pub fn note_uids(alloc: Global, insns: &[Insn], first: &mut Option<Fault>) -> Re
 {
     let mut met = BTreeSet::new(alloc);
     for insn in insns {
-        if is_ruled(insn) && !is_new(&mut met, insn.uid)? {
-            note(first, insn.uid, 1);
+        if is_ruled(insn) {
+            note_uid(&mut met, insn.uid, first)?;
         }
     }
     Ok(())

@@ -1,6 +1,6 @@
 -- The trees within a tree, by the trees within its kids.
-use Rattle.std.proofs.Common.{◌≡◌, ℕ, Bool, true, false, ◌||◌, List, [], ◌∷◌, ◌++◌, map, refl, sym, ap, subst, ◌∙◌, rules}
-use Rattle.std.specs.List.{list_any, flat_map}
+use Rattle.std.proofs.Common.{◌≡◌, ℕ, List, [], ◌∷◌, ◌++◌, map, refl, sym, ap, subst, ◌∙◌, rules}
+use Rattle.std.specs.List.{flat_map}
 use Rattle.rtx_tree.specs.declared.tree.Rtx.{Rtx, out-Rtx, roll-Rtx}
 use Rattle.rtx_tree.specs.declared.tree.Rtx.TheOpen.{Rtx-F}
 use Rattle.rtx_tree.specs.declared.tree.Rtx.TheFolds.{fold-Rtx, fold_out-Rtx, fold-roll-Rtx, ind-Rtx}
@@ -38,19 +38,3 @@ nodes_out x =
     ap (λ (n : Nodes). n.all) (fold_out-Rtx Nodes nodes_step x)
     ∙ (ap (λ first. first ∷ flat_map (λ (k : Nodes). k.all) (map (fold-Rtx Nodes nodes_step) (kids_of x))) whole
     ∙ ap (λ rest. x ∷ rest) (all_nodes (kids_of x)))
-
-or_assoc : (a b c : Bool) → ((a || b) || c) ≡ (a || (b || c))
-or_assoc true b c = refl
-or_assoc false b c = refl
-
-pub any-append : {A : Type 0} (test : A → Bool) (xs ys : List A) → list_any test (xs ++ ys) ≡ (list_any test xs || list_any test ys)
-any-append test [] ys = refl
-any-append test (x ∷ xs) ys = ap (λ rest. test x || rest) (any-append test xs ys) ∙ sym (or_assoc (test x) (list_any test xs) (list_any test ys))
-
-any_within : (test : Rtx → Bool) (kids : List Rtx) → list_any test (flat_map nodes_of kids) ≡ list_any (λ k. list_any test (nodes_of k)) kids
-any_within test [] = refl
-any_within test (k ∷ kids) = any-append test (nodes_of k) (flat_map nodes_of kids) ∙ ap (λ rest. list_any test (nodes_of k) || rest) (any_within test kids)
-
--- whether a test holds of the tree or within one of its kids
-pub any_out : (test : Rtx → Bool) (x : Rtx) → list_any test (nodes_of x) ≡ (test x || list_any (λ k. list_any test (nodes_of k)) (kids_of x))
-any_out test x = ap (list_any test) (nodes_out x) ∙ ap (λ rest. test x || rest) (any_within test (kids_of x))

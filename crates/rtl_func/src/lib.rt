@@ -2,12 +2,23 @@
 #![tactic(auto)]
 
 mod block_list;
+mod calls;
+mod check_rules;
 mod flow;
+mod form;
+mod kinds;
 mod labels;
+mod nodes;
 mod paths;
+mod rules;
+mod tables;
+mod uids;
 mod edges;
+mod effects;
+mod fault;
 
 pub use block_list::{Block, blocks};
+pub use check_rules::{CheckRefusal, check};
 pub use paths::reaches_exit;
 pub use flow::Successors;
 pub use edges::successors;

@@ -1,0 +1,90 @@
+-- Hard registers and calls: GCC Internals, "Registers and Memory", "Side Effect Expressions" (`call`) and "Calls"; RISC-V ELF
+-- psABI, "Integer Calling Convention".
+use Rattle.std.specs.Prelude.{ℕ, ◌||◌, ◌&&◌, ◌==◌, nat_le, nat_lt, not, Bool, true, false, List, [], ◌∷◌, map, Option, Some, None}
+use Rattle.std.specs.List.{list_all}
+use Rattle.rtx_tree.specs.declared.code.Mode.TheVariants.{DI}
+use Rattle.rtx_tree.specs.declared.function.ArgUse.{ArgUse}
+use Rattle.rtx_tree.specs.declared.function.Kind.{Kind}
+use Rattle.rtx_tree.specs.declared.function.Kind.TheVariants.{Call}
+use Rattle.rtx_tree.specs.declared.function.Insn.{Insn}
+use Rattle.rtx_tree.specs.declared.tree.Rtx.{Rtx, out-Rtx}
+use Rattle.rtl_func.specs.declared.form.Form.{Form}
+use Rattle.rtl_func.specs.declared.form.Form.TheVariants as form
+use Rattle.rtl_func.specs.Nodes.{nodes_of}
+use Rattle.rtl_func.specs.Paths.{has_place}
+use Rattle.rtl_func.specs.Table.{form_at, mode_at, number_at, same_mode}
+use Rattle.rtl_func.specs.Modes.{register_at}
+
+-- a0 to a7
+abbrev pub is_argument : ℕ → Bool
+is_argument reg = nat_le 10 reg && nat_le reg 17
+
+-- ---- argument registers: hard registers are a0 to a7, in the tree and among a call's uses
+
+abbrev pub is_hard_argument : Option ℕ → Bool
+is_hard_argument None = true
+is_hard_argument (Some reg) = nat_le 32 reg || is_argument reg
+
+abbrev pub has_argument : Rtx → Bool
+has_argument x = is_hard_argument (register_at x)
+
+abbrev pub use_is_argument : ArgUse → Bool
+use_is_argument u = is_argument u.reg
+
+abbrev pub argument_registers : Rtx → List ArgUse → Bool
+argument_registers pattern uses = list_all has_argument (nodes_of pattern) && list_all use_is_argument uses
+
+-- ---- calls: a call's target is a symbol or a register of mode DI, its result is set to a0, and its uses are different ones of
+-- a0 to a7
+
+abbrev pub is_target_form : Form → Bool
+is_target_form form.Symbol = true
+is_target_form form.Register = true
+is_target_form _ = false
+
+abbrev pub is_target_address : Rtx → Bool
+is_target_address x = is_target_form (form_at x) && same_mode (mode_at x) DI
+
+abbrev pub is_target_by : Form → List Rtx → Bool
+is_target_by form.Memory (address ∷ []) = is_target_address address
+is_target_by _ parts = false
+
+abbrev pub is_target : Rtx → Bool
+is_target x = is_target_by (form_at x) (out-Rtx x).kids
+
+abbrev pub calls_target_by : Form → List Rtx → Bool
+calls_target_by form.Calling (place ∷ parts) = is_target place
+calls_target_by _ parts = false
+
+-- (call (mem TARGET) SIZE)
+abbrev pub calls_target : Rtx → Bool
+calls_target x = calls_target_by (form_at x) (out-Rtx x).kids
+
+abbrev pub is_result_by : Form → ℕ → Bool
+is_result_by form.Register reg = reg == 10
+is_result_by _ reg = false
+
+abbrev pub is_result : Rtx → Bool
+is_result x = is_result_by (form_at x) (number_at x)
+
+abbrev pub is_lawful_call_by : Form → List Rtx → Rtx → Bool
+is_lawful_call_by form.Setting (target ∷ source ∷ []) x = is_result target && calls_target source
+is_lawful_call_by _ parts x = calls_target x
+
+abbrev pub is_lawful_call : Rtx → Bool
+is_lawful_call x = is_lawful_call_by (form_at x) (out-Rtx x).kids x
+
+-- no number stands twice
+abbrev pub are_distinct : List ℕ → Bool
+are_distinct [] = true
+are_distinct (x ∷ xs) = not (has_place xs x) && are_distinct xs
+
+abbrev pub used_registers : List ArgUse → List ℕ
+used_registers uses = map (λ u. u.reg) uses
+
+abbrev pub are_lawful_uses : List ArgUse → Bool
+are_lawful_uses uses = list_all use_is_argument uses && are_distinct (used_registers uses)
+
+abbrev pub calls_agree : Kind → Rtx → List ArgUse → Bool
+calls_agree Call pattern uses = is_lawful_call pattern && are_lawful_uses uses
+calls_agree _ pattern uses = true

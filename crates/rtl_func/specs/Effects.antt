@@ -1,0 +1,95 @@
+-- Effects at once, and the locals of a function: GCC Internals, "Side Effect Expressions" (`parallel`) and "Registers and Memory"
+-- (`virtual-stack-vars`).
+use Rattle.std.specs.Prelude.{ℕ, ◌||◌, ◌&&◌, ◌==◌, not, ℤ, pos, ◌+ℤ◌, int_le, Bool, true, false, List, [], ◌∷◌, Option, Some, None}
+use Rattle.std.specs.List.{list_all, filter_map}
+use Rattle.rtx_tree.specs.declared.code.Code.{Code}
+use Rattle.rtx_tree.specs.declared.code.Code.TheVariants.{Plus}
+use Rattle.rtx_tree.specs.declared.tree.Rtx.{Rtx, out-Rtx}
+use Rattle.rtl_func.specs.declared.form.Form.{Form}
+use Rattle.rtl_func.specs.declared.form.Form.TheVariants as form
+use Rattle.rtl_func.specs.Nodes.{nodes_of}
+use Rattle.rtl_func.specs.Table.{form_at, number_at, is_constant}
+use Rattle.rtl_func.specs.Calls.{are_distinct}
+use Rattle.rtl_func.specs.Modes.{register_at}
+use Rattle.rtl_func.specs.Paths.{has_place}
+
+-- ---- parallels: one holds set, use and clobber alone, and changes no register twice
+
+abbrev pub place_register_by : Form → List Rtx → Rtx → Option ℕ
+place_register_by form.Lowpart (whole ∷ []) x = register_at whole
+place_register_by _ parts x = register_at x
+
+-- the register of a place: itself, or that of which it is the low part
+abbrev pub place_register : Rtx → Option ℕ
+place_register x = place_register_by (form_at x) (out-Rtx x).kids x
+
+abbrev pub changed_by : Form → List Rtx → Option ℕ
+changed_by form.Setting (target ∷ parts) = place_register target
+changed_by form.Clobbering (target ∷ parts) = place_register target
+changed_by _ parts = None
+
+-- the register that a set or a clobber changes
+abbrev pub changed_register : Rtx → Option ℕ
+changed_register x = changed_by (form_at x) (out-Rtx x).kids
+
+-- the one register, if there is one
+abbrev pub is_register : Option ℕ → ℕ → Bool
+is_register None reg = false
+is_register (Some changed) reg = changed == reg
+
+-- a register, if there is one, is among others
+abbrev pub is_among : Option ℕ → List ℕ → Bool
+is_among None others = false
+is_among (Some reg) others = has_place others reg
+
+abbrev pub is_simple_form : Form → Bool
+is_simple_form form.Setting = true
+is_simple_form form.Needing = true
+is_simple_form form.Clobbering = true
+is_simple_form _ = false
+
+-- a set, a use or a clobber
+abbrev pub is_simple_effect : Rtx → Bool
+is_simple_effect x = is_simple_form (form_at x)
+
+abbrev pub are_lawful_effects : List Rtx → Bool
+are_lawful_effects parts = list_all is_simple_effect parts && are_distinct (filter_map changed_register parts)
+
+abbrev pub is_lawful_parallel_by : Form → List Rtx → Bool
+is_lawful_parallel_by form.Together parts = are_lawful_effects parts
+is_lawful_parallel_by _ parts = true
+
+abbrev pub is_lawful_parallel : Rtx → Bool
+is_lawful_parallel x = is_lawful_parallel_by (form_at x) (out-Rtx x).kids
+
+abbrev pub parallels_agree : Rtx → Bool
+parallels_agree pattern = list_all is_lawful_parallel (nodes_of pattern)
+
+-- ---- stack variables: virtual-stack-vars is changed nowhere, and a constant is added to it only from -locals to 0
+
+abbrev pub is_stack_register : Option ℕ → Bool
+is_stack_register None = false
+is_stack_register (Some reg) = reg == 32
+
+abbrev pub is_stack_vars : Rtx → Bool
+is_stack_vars x = is_stack_register (register_at x)
+
+abbrev pub is_local_offset : ℕ → ℤ → Bool
+is_local_offset locals offset = int_le offset (pos 0) && int_le (pos 0) (offset +ℤ pos locals)
+
+-- the one is virtual-stack-vars and the other a constant, then one of a local
+abbrev pub is_lawful_sum : ℕ → Rtx → Rtx → Bool
+is_lawful_sum locals a b = not (is_stack_vars a && is_constant b) || is_local_offset locals (out-Rtx b).number
+
+abbrev pub sums_locals_by : ℕ → Code → List Rtx → Bool
+sums_locals_by locals Plus (a ∷ b ∷ []) = is_lawful_sum locals a b && is_lawful_sum locals b a
+sums_locals_by locals _ parts = true
+
+abbrev pub sums_locals : ℕ → Rtx → Bool
+sums_locals locals x = sums_locals_by locals (out-Rtx x).code (out-Rtx x).kids
+
+abbrev pub has_stack_variables : ℕ → Rtx → Bool
+has_stack_variables locals x = not (is_stack_register (changed_register x)) && sums_locals locals x
+
+abbrev pub stack_variables : ℕ → Rtx → Bool
+stack_variables locals pattern = list_all (has_stack_variables locals) (nodes_of pattern)

@@ -1,0 +1,68 @@
+-- Modes: GCC Internals, "Machine Modes" and "Registers and Memory".
+use Rattle.std.specs.Prelude.{ℕ, ◌&&◌, ◌==◌, nat_le, Bool, true, if◌then◌else◌, List, filter, Option, Some, None, option_map}
+use Rattle.std.specs.List.{list_all, find, filter_map, flat_map}
+use Rattle.rtx_tree.specs.declared.code.Mode.{Mode}
+use Rattle.rtx_tree.specs.declared.function.Insn.{Insn}
+use Rattle.rtx_tree.specs.declared.tree.Rtx.{Rtx}
+use Rattle.rtl_func.specs.declared.form.Form.{Form}
+use Rattle.rtl_func.specs.declared.form.Form.TheVariants as form
+use Rattle.rtl_func.specs.Nodes.{nodes_of}
+use Rattle.rtl_func.specs.Table.{form_at, mode_at, number_at, same_mode, is_effect, is_formed}
+use Rattle.rtl_func.specs.Uids.{is_ruled}
+
+-- ---- modes agree: a pattern is an effect, and each tree in it has the parts of its row
+
+abbrev pub modes_agree : Rtx → Bool
+modes_agree pattern = is_effect pattern && list_all is_formed (nodes_of pattern)
+
+-- ---- one mode a pseudo: it has throughout the mode of its first mention, in the order of the chain and of each tree
+
+abbrev pub register_by : Form → ℕ → Option ℕ
+register_by form.Register number = Some number
+register_by _ number = None
+
+-- the register that a tree is
+abbrev pub register_at : Rtx → Option ℕ
+register_at x = register_by (form_at x) (number_at x)
+
+-- a register in a mode
+pub record Mention : Type 0 where
+  pub reg : ℕ
+  pub mode : Mode
+
+abbrev pub mention_by : Mode → Option ℕ → Option Mention
+mention_by mode None = None
+mention_by mode (Some reg) = if nat_le 64 reg then Some (record { reg = reg; mode = mode }) else None
+
+-- the pseudo that a tree is
+abbrev pub mention_of : Rtx → Option Mention
+mention_of x = mention_by (mode_at x) (register_at x)
+
+abbrev pub mentions_in : Rtx → List Mention
+mentions_in pattern = filter_map mention_of (nodes_of pattern)
+
+abbrev pub mentions : List Insn → List Mention
+mentions insns = flat_map (λ i. mentions_in i.pattern) (filter is_ruled insns)
+
+-- the mode of a register's first mention
+abbrev pub first_mode : List Mention → ℕ → Option Mode
+first_mode all reg = option_map (λ m. m.mode) (find (λ m. m.reg == reg) all)
+
+-- the same of a tree alone
+abbrev pub mode_in : Option Mention → ℕ → Option Mode
+mode_in None reg = None
+mode_in (Some m) reg = if m.reg == reg then Some m.mode else None
+
+abbrev pub is_mode : Option Mode → Mode → Bool
+is_mode None mode = true
+is_mode (Some first) mode = same_mode first mode
+
+abbrev pub keeps_mode : List Insn → Option Mention → Bool
+keeps_mode insns None = true
+keeps_mode insns (Some m) = is_mode (first_mode (mentions insns) m.reg) m.mode
+
+abbrev pub has_its_mode : List Insn → Rtx → Bool
+has_its_mode insns x = keeps_mode insns (mention_of x)
+
+abbrev pub one_mode_a_pseudo : List Insn → Rtx → Bool
+one_mode_a_pseudo insns pattern = list_all (has_its_mode insns) (nodes_of pattern)

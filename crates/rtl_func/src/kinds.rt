@@ -1,0 +1,52 @@
+//! Kinds of instructions.
+ghost use Rattle.std.specs.Prelude.{◌≡◌};
+ghost use Rattle.rtl_func.specs.Kinds as spec;
+ghost use Rattle.rtl_func.specs.Table.{form_at, is_call_form};
+
+use crate::form::{Form, form_at};
+use rtx_tree::Rtx;
+
+fn is_calling(x: &Rtx) -> bool
+    ensures { result ≡ is_call_form (form_at x.now) }
+{
+    matches!(form_at(x), Form::Calling)
+}
+
+/// Whether a tree is a return or a set of the pc.
+pub fn is_jump_tree(x: &Rtx) -> bool
+    ensures { result ≡ spec.is_jump_tree x.now }
+{
+    match (form_at(x), x.kids.as_slice()) {
+        (Form::Returning, _) => true,
+        (Form::Setting, [target, ..]) => target.is_pc(),
+        _ => false,
+    }
+}
+
+/// Whether a tree is a call or a set of one.
+pub fn is_call_tree(x: &Rtx) -> bool
+    ensures { result ≡ spec.is_call_tree x.now }
+{
+    match (form_at(x), x.kids.as_slice()) {
+        (Form::Calling, _) => true,
+        (Form::Setting, [_, source]) => is_calling(source),
+        _ => false,
+    }
+}
+
+/// Whether a tree is neither a jump nor a call.
+pub fn is_plain_tree(x: &Rtx) -> bool
+    ensures { result ≡ spec.is_plain_tree x.now }
+{
+    !(is_jump_tree(x) || is_calling(x))
+}
+
+/// Whether a tree is `(parallel [])`.
+pub fn is_nothing(x: &Rtx) -> bool
+    ensures { result ≡ spec.is_nothing x.now }
+{
+    match (form_at(x), x.kids.as_slice()) {
+        (Form::Together, []) => true,
+        _ => false,
+    }
+}

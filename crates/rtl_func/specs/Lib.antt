@@ -11,10 +11,6 @@ pub mod Paths
 pub mod Rules
 pub mod Search
 pub mod Successors
-<<<<<<< HEAD
-pub mod Rules
-=======
 pub mod Table
 pub mod Tables
 pub mod Uids
->>>>>>> 146d46cfbe4e07e32bdfb373c7cc731760207eda

@@ -1,7 +1,7 @@
 -- Texts that are appended one behind the other: what stands there so far, and what the rest gives.
-use Rattle.std.proofs.Common.{◌≡◌, ◌≤◌, ℕ, zero, suc, ◌+◌, ◌<◌, List, [], ◌∷◌, ◌++◌, length, drop, get_or, ◌^◌, Bool, true, false, ◌↔◌, IsTrue, Result, Ok, Err, IsOkAnd, refl, sym, ap, subst, ◌∙◌, append_assoc, add-one}
+use Rattle.std.proofs.Common.{◌≡◌, ℕ, suc, ◌+◌, ◌<◌, List, [], ◌∷◌, ◌++◌, length, drop, get_or, ◌^◌, Bool, true, false, ◌↔◌, IsTrue, Result, Ok, Err, IsOkAnd, refl, sym, ap, subst, ◌∙◌, append_assoc, add-one}
 use Rattle.std.proofs.lemmas.List.{append-nil}
-use Rattle.std.proofs.Math.Seq.{drop-cons, drop-nil}
+use Rattle.std.proofs.Math.Seq.{drop-cons}
 use Rattle.rtlc_run.specs.declared.refusal.Refusal.{Refusal}
 use Rattle.rtlc_run.specs.declared.refusal.Refusal.TheVariants as refusal
 use Rattle.rtx_tree.specs.declared.function.Insn.{Insn}
@@ -29,11 +29,6 @@ drop_at {A = A} xs i x within is =
     let lt : i < length xs = within in
     let cons : drop i xs ≡ get_or xs i x ∷ drop (suc i) xs = drop-cons xs i x lt in
     rw add-one (cons ∙ ap (λ (u : A). u ∷ drop (suc i) xs) (sym is))
-
-pub drop_end : {A : Type 0} (xs : List A) (i : ℕ) → length xs ≤ i → drop i xs ≡ []
-drop_end [] i past = drop-nil i
-drop_end (x ∷ xs) zero past = absurd (omega (arith, past))
-drop_end (x ∷ xs) (suc i) past = drop_end xs i (omega (arith, past))
 
 -- one more was appended
 pub goes_on : {A : Type 0} (text : A → Outcome) (old now new : List ℕ) (xs : List A) (i : ℕ) (x : A) (whole : Outcome) →

@@ -12,7 +12,9 @@ use Rattle.rtx_tree.specs.declared.function.Function.{Function}
 use Rattle.rtx_tree.specs.declared.limit.Limit.TheVariants as limit
 use Rattle.rtl_read.specs.Parsed.{Parsed, stands, construct}
 use Rattle.rtl_read.specs.Syntax.{functions_in}
-use Rattle.rtl_func.specs.Rules.{Fault, fault_of}
+use Rattle.rtl_func.specs.declared.fault.Fault.{Fault}
+use Rattle.rtl_func.specs.Faults as rules
+use Rattle.rtl_func.specs.Rules.{faults}
 use Rattle.rtlc_run.specs.declared.refusal.Refusal.{Refusal}
 use Rattle.rtlc_run.specs.declared.refusal.Refusal.TheVariants as refusal
 use Rattle.rtlc_run.specs.Refusals.{status_of, has_values, line_of}
@@ -33,7 +35,7 @@ fault_or f (Some fault) later = Some (refusal.IllFormed f.name fault.uid fault.r
 
 abbrev pub fault_from : List Function → ℕ → List Function → Option Refusal
 fault_from functions index [] = None
-fault_from functions index (f ∷ rest) = fault_or f (fault_of functions index) (fault_from functions (index + 1) rest)
+fault_from functions index (f ∷ rest) = fault_or f (rules.first_fault (faults functions index)) (fault_from functions (index + 1) rest)
 
 abbrev pub first_fault : List Function → Option Refusal
 first_fault functions = fault_from functions 0 functions
@@ -91,20 +93,26 @@ abbrev pub Parses : List Tree → Result (List Function) Refusal → Type 0
 Parses trees (Ok functions) = functions_in trees ≡ stands functions
 Parses trees (Err e) = RefusesWith e (ReadingComes (Trees trees))
 
+-- a refusal was made, or memory ran out for it
+abbrev pub IsOrMemory : Refusal → Refusal → Type 0
+IsOrMemory refusal.Memory e = Unit {0}
+IsOrMemory made e = made ≡ e
+
+-- a call found the function at an index, which has a name, well-formed, or told its first fault
+abbrev pub ChecksOne : Result (Unit {0}) Refusal → List Function → ℕ → List ℕ → Type 0
+ChecksOne (Ok done) functions index name = rules.first_fault (faults functions index) ≡ None
+ChecksOne (Err e) functions index name = RefusesWith e (λ refused. (fault : Fault) × (rules.first_fault (faults functions index) ≡ Some fault) × (refused ≡ Err (refusal.IllFormed name fault.uid fault.rule)))
+
 -- a call found each function well-formed, or told the first fault
-abbrev pub Checks : List Function → Option Refusal → Type 0
-Checks functions None = first_fault functions ≡ None
-Checks functions (Some e) = RefusesWith e (FunctionsCome functions)
+abbrev pub Checks : Result (Unit {0}) Refusal → List Function → Type 0
+Checks (Ok done) functions = first_fault functions ≡ None
+Checks (Err e) functions = RefusesWith e (FunctionsCome functions)
 
 -- the bytes have a reading that comes to this
 pub record ComesFrom (bytes : List ℕ) (outcome : Outcome) : Type 0 where
   pub reading : Reading
   pub reads : ReadsAs bytes reading
   pub comes : ReadingComes reading outcome
-
-abbrev pub IsSyntax : Refusal → Place → Type 0
-IsSyntax refusal.Memory place = Unit {0}
-IsSyntax e place = e ≡ refusal.Syntax (codes "-") place
 
 -- the refusal of the bytes, if it is not want of memory; it is no fault, and nothing of the words
 abbrev pub ReadRefused : List ℕ → Refusal → Type 0

@@ -1,20 +1,21 @@
 //! What an input comes to: the assembly of its functions, or a refusal.
-ghost use Rattle.std.specs.Prelude.{◌≡◌, ◌≤◌, IfOk, IfErr, length};
+ghost use Rattle.std.specs.Prelude.{◌≡◌, ◌<◌, ◌≤◌, ◌↔◌, ◌^◌, All, IfOk, IfErr, IsTrue, codes, length};
 ghost use Rattle.lisp_read.specs.Reading.{ReadsAs, Trees};
-ghost use Rattle.rtl_read.specs.Syntax.{functions_in};
-ghost use Rattle.rtlc_run.specs.Assembly.{program_text};
-ghost use Rattle.rtlc_run.specs.Answer.{most_bytes, trees_text, Tells, Parses, IsSyntax, ReadRefused, ComesTo};
+ghost use Rattle.rtlc_run.specs.Assembly.{AreTexts};
+ghost use Rattle.rtlc_run.specs.Answer.{most_bytes, Tells, Parses, ChecksOne, Checks, IsOrMemory, FunctionsCome, ReadingComes, ReadRefused, ComesTo};
+ghost use Rattle.rtlc_run.specs.declared.refusal.Refusal.TheVariants as refused;
 
-use crate::assembly::print_program;
+use crate::assembly::{next_number, print_program};
 use crate::refusal::Refusal;
 use lisp_read::{ReadRefusal, Trees, read_trees};
+use rtl_func::{CheckRefusal, check};
 use rtl_read::{RtlRefusal, functions_of};
-use rtx_tree::{Functions, Limit, Name, Place};
+use rtx_tree::{Function, Functions, Limit, Name, Place};
 use std::alloc::Global;
 
 /// The refusal of bytes that are no text.
 fn syntax(alloc: Global, place: Place) -> Refusal
-    ensures { IsSyntax result place }
+    ensures { IsOrMemory result (refused.Syntax (codes "-") place) }
 {
     match Name::of(alloc, b"-") {
         Ok(file) => Refusal::Syntax { file, place },
@@ -41,7 +42,7 @@ fn read(alloc: Global, bytes: &[u8]) -> Result<Trees, Refusal>
 
 /// The functions of an input's trees.
 fn parse(alloc: Global, trees: &Trees) -> Result<Functions, Refusal>
-    ensures { Parses result (functions_in trees.now) }
+    ensures { Parses trees.now result }
 {
     match functions_of(alloc, trees.as_slice()) {
         Ok(functions) => Ok(functions),
@@ -50,21 +51,90 @@ fn parse(alloc: Global, trees: &Trees) -> Result<Functions, Refusal>
     }
 }
 
+fn ill_formed(alloc: Global, function: &Name, uid: u32, rule: u8) -> Refusal
+    ensures { IsOrMemory result (refused.IllFormed function.now uid rule) }
+{
+    match function.copy(alloc) {
+        Ok(function) => Refusal::IllFormed {
+            function,
+            uid,
+            rule,
+        },
+        Err(_) => Refusal::Memory,
+    }
+}
+
+/// Checks the function at an index, which has a name.
+fn check_function(
+    alloc: Global,
+    functions: &[Function],
+    index: u32,
+    name: &Name,
+) -> Result<(), Refusal>
+    requires within { index < length functions.now }
+    requires short { All (λ f. length f.insns < 2 ^ 32) functions.now }
+    ensures { ChecksOne result functions.now index name.now }
+{
+    match check(alloc, functions, index) {
+        Ok(()) => Ok(()),
+        Err(CheckRefusal::IllFormed { uid, rule }) => Err(ill_formed(alloc, name, uid, rule)),
+        Err(CheckRefusal::Memory) => Err(Refusal::Memory),
+    }
+}
+
+/// Checks functions whose places have numbers of 32 bits, in order.
+fn check_each(alloc: Global, functions: &[Function]) -> Result<(), Refusal>
+    requires { All (λ f. length f.insns < 2 ^ 32) functions.now }
+    ensures { Checks result functions.now }
+{
+    let mut index: u32 = 0;
+    for f in functions {
+        check_function(alloc, functions, index, &f.name)?;
+        index = next_number(index)?;
+    }
+    Ok(())
+}
+
+fn are_short(functions: &[Function]) -> bool
+    ensures { IsTrue result ↔ All (λ f. length f.insns < 2 ^ 32) functions.now }
+{
+    functions.iter().all(|f| f.insns.len() <= 0xffff_ffff)
+}
+
+/// Checks that functions are well-formed. A chain with more places than have a number is wanted as memory is.
+fn check_all(alloc: Global, functions: &[Function]) -> Result<(), Refusal>
+    ensures { Checks result functions.now }
+{
+    if are_short(functions) {
+        check_each(alloc, functions)
+    } else {
+        Err(Refusal::Memory)
+    }
+}
+
 /// The assembly of some functions.
-fn assemble(alloc: Global, functions: &Functions) -> Result<Vec<u8>, Refusal>
-    ensures { Tells result (program_text functions.now) }
+fn assemble(alloc: Global, functions: &[Function]) -> Result<Vec<u8>, Refusal>
+    ensures { Tells result (AreTexts 0 functions.now) }
 {
     let mut text = Vec::new(alloc);
-    print_program(alloc, functions.as_slice(), &mut text)?;
+    print_program(alloc, functions, &mut text)?;
     Ok(text)
 }
 
-/// The assembly of the functions of an input's trees.
-fn compile(alloc: Global, trees: &Trees) -> Result<Vec<u8>, Refusal>
-    ensures { Tells result (trees_text trees.now) }
+/// The assembly of functions that are well-formed.
+fn compile(alloc: Global, functions: &[Function]) -> Result<Vec<u8>, Refusal>
+    ensures { Tells result (FunctionsCome functions.now) }
+{
+    check_all(alloc, functions)?;
+    assemble(alloc, functions)
+}
+
+/// What the trees of an input come to.
+fn compile_trees(alloc: Global, trees: &Trees) -> Result<Vec<u8>, Refusal>
+    ensures { Tells result (ReadingComes (Trees trees.now)) }
 {
     let functions = parse(alloc, trees)?;
-    assemble(alloc, &functions)
+    compile(alloc, functions.as_slice())
 }
 
 /// What the bytes of an input come to.
@@ -73,5 +143,5 @@ pub fn answer(alloc: Global, bytes: &[u8]) -> Result<Vec<u8>, Refusal>
     ensures { ComesTo bytes.now result }
 {
     let trees = read(alloc, bytes)?;
-    compile(alloc, &trees)
+    compile_trees(alloc, &trees)
 }

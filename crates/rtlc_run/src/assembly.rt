@@ -236,7 +236,7 @@ fn print_function(
 }
 
 /// The number behind a number of 32 bits. It wants the number, as it wants memory.
-fn next_number(number: u32) -> Result<u32, Memory>
+pub fn next_number(number: u32) -> Result<u32, Memory>
     ensures next { IfOk result (λ next. next ≡ number + 1) }
     ensures small { number < 2 ^ 32 }
 {

@@ -1,8 +1,9 @@
 use Rattle.std.proofs.Common.{ℕ, ◌+◌, drop, List, sym, subst, arith}
+use Rattle.std.proofs.lemmas.List.{drop_all}
 use Rattle.std.proofs.lemmas.Result.{err_from_is_err_and}
 use Rattle.rtx_tree.specs.declared.function.Function.{Function}
 use Rattle.rtlc_run.specs.Assembly.{AreTexts}
-use Rattle.rtlc_run.proofs.Texts.{MakesTexts, drop_at, drop_end, makes_on, makes_wrong, makes_all}
+use Rattle.rtlc_run.proofs.Texts.{MakesTexts, drop_at, makes_on, makes_wrong, makes_all}
 use Rattle.rtlc_run.proofs.assembly.print_program.Goals as goal
 
 pub returns-in_err-print_function : goal.returns-in_err-print_function
@@ -23,4 +24,4 @@ loop-f-preserved c =
 pub returns : goal.returns
 returns c =
     let functions = c.args.functions.now in
-    makes_all functions c.args.out.now.items c.loop-f.out.items c.loop-f.number (subst (MakesTexts functions c.args.out.now.items c.loop-f.out.items c.loop-f.number) (drop_end functions c.loop-f.f-index (omega arith)) c.loop-f.invariant)
+    makes_all functions c.args.out.now.items c.loop-f.out.items c.loop-f.number (subst (MakesTexts functions c.args.out.now.items c.loop-f.out.items c.loop-f.number) (drop_all c.loop-f.f-index functions (omega arith)) c.loop-f.invariant)

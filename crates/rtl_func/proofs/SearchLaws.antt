@@ -11,13 +11,9 @@ use Rattle.std.proofs.lemmas.Option.{slice_get_past}
 use Rattle.rtx_tree.specs.declared.function.Insn.{Insn}
 use Rattle.rtl_func.specs.Successors.{successors_by, successors_of}
 use Rattle.rtl_func.specs.Paths.{Path, Here, Along, has_place, leads, ReachesExit}
+use Rattle.rtl_func.proofs.PathLaws.{path_on}
 use Rattle.rtl_func.specs.Search.{is_found, with_place, with_places, IsSearch}
 use Rattle.rtl_func.specs.declared.paths.Search.{Search}
-
--- a path with one step more at its end
-pub path_on : (insns : List Insn) (p q r : ℕ) → Path insns p q → leads insns q r ≡ true → Path insns p r
-path_on insns p q r (Here _) last = Along _ _ _ last (Here _)
-path_on insns p q r (Along _ m _ first rest) last = Along _ _ _ first (path_on insns m q r rest last)
 
 has_append : (xs ys : List ℕ) (q : ℕ) → has_place (xs ++ ys) q ≡ (has_place xs q || has_place ys q)
 has_append [] ys q = refl

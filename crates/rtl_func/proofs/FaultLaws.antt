@@ -26,15 +26,15 @@ first_no a b is = ap (λ t. cond t a b) is
 
 first_assoc : (a b c : Fault) → first_of (first_of a b) c ≡ first_of a (first_of b c)
 first_assoc a b c = elim (cases_Bool (is_first a b)) [
-    inl ab ↦ elim (cases_Bool (is_first b c)) [
-      inl bc ↦ ap (λ x. first_of x c) (first_yes a b ab) ∙ (first_yes a c (is_first_trans a b c ab bc) ∙ sym (ap (first_of a) (first_yes b c bc) ∙ first_yes a b ab))
+  | inl ab ↦ elim (cases_Bool (is_first b c)) [
+    | inl bc ↦ ap (λ x. first_of x c) (first_yes a b ab) ∙ (first_yes a c (is_first_trans a b c ab bc) ∙ sym (ap (first_of a) (first_yes b c bc) ∙ first_yes a b ab))
     | inr cb ↦ ap (λ x. first_of x c) (first_yes a b ab) ∙ sym (ap (first_of a) (first_no b c cb))
-    ]
-  | inr ba ↦ elim (cases_Bool (is_first b c)) [
-      inl bc ↦ ap (λ x. first_of x c) (first_no a b ba) ∙ (first_yes b c bc ∙ sym (ap (first_of a) (first_yes b c bc) ∙ first_no a b ba))
-    | inr cb ↦ ap (λ x. first_of x c) (first_no a b ba) ∙ (first_no b c cb ∙ sym (ap (first_of a) (first_no b c cb) ∙ first_no a c (not_first_trans a b c ba cb)))
-    ]
   ]
+  | inr ba ↦ elim (cases_Bool (is_first b c)) [
+    | inl bc ↦ ap (λ x. first_of x c) (first_no a b ba) ∙ (first_yes b c bc ∙ sym (ap (first_of a) (first_yes b c bc) ∙ first_no a b ba))
+    | inr cb ↦ ap (λ x. first_of x c) (first_no a b ba) ∙ (first_no b c cb ∙ sym (ap (first_of a) (first_no b c cb) ∙ first_no a c (not_first_trans a b c ba cb)))
+  ]
+]
 
 pub earlier_assoc : (a b c : Option Fault) → earlier (earlier a b) c ≡ earlier a (earlier b c)
 earlier_assoc None b c = refl

@@ -1,5 +1,5 @@
 -- Basic blocks: GCC Internals, "Basic Blocks".
-use Rattle.std.specs.Prelude.{ℕ, suc, zero, Bool, true, false, ◌||◌, List, [], ◌∷◌, Option, Some, None, length, filter, slice_get}
+use Rattle.std.specs.Prelude.{◌≡◌, ◌<◌, ℕ, suc, zero, Bool, true, false, ◌||◌, List, [], ◌∷◌, Option, Some, None, length, filter, slice_get}
 use Rattle.std.specs.List.{range_with_len}
 use Rattle.rtx_tree.specs.declared.function.Kind.{Kind}
 use Rattle.rtx_tree.specs.declared.function.Kind.TheVariants.{Jump}
@@ -41,3 +41,8 @@ blocks_between (first ∷ next ∷ rest) end = block_of first next ∷ blocks_be
 -- the blocks of a chain, in order
 abbrev pub blocks_of : List Insn → List Block
 blocks_of insns = blocks_between (starts insns) (length insns)
+
+-- blocks cover the places from one on to an end, in order and without a gap, and none is empty
+abbrev pub Cover : ℕ → List Block → ℕ → Type 0
+Cover place [] end = place ≡ end
+Cover place (b ∷ blocks) end = (b.first ≡ place) × (b.first < b.end) × Cover b.end blocks end

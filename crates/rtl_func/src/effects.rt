@@ -32,10 +32,7 @@ fn changed_register(x: &Rtx) -> Option<u64>
 fn is_simple_effect(x: &Rtx) -> bool
     ensures { result ≡ spec.is_simple_effect x.now }
 {
-    matches!(
-        form_at(x),
-        Form::Setting | Form::Needing | Form::Clobbering
-    )
+    matches!(form_at(x), Form::Setting | Form::Needing | Form::Clobbering)
 }
 
 fn are_simple(parts: &[Rtx]) -> bool

@@ -4,6 +4,9 @@
 mod block_list;
 mod calls;
 mod check_rules;
+mod edges;
+mod effects;
+mod fault;
 mod flow;
 mod form;
 mod kinds;
@@ -13,15 +16,12 @@ mod paths;
 mod rules;
 mod tables;
 mod uids;
-mod edges;
-mod effects;
-mod fault;
 
 pub use block_list::{Block, blocks};
 pub use check_rules::{CheckRefusal, check};
-pub use paths::reaches_exit;
-pub use flow::Successors;
 pub use edges::successors;
+pub use flow::Successors;
+pub use paths::reaches_exit;
 
-//cfg
-//mod tests;
+#[cfg(test)]
+mod tests;

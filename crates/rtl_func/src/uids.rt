@@ -20,11 +20,7 @@ fn is_uid(uid: u32) -> bool
 }
 
 /// Notes a uid that is none, or that was met, and puts it among those met.
-fn note_uid(
-    met: &mut BTreeSet<u32>,
-    uid: u32,
-    first: &mut Option<Fault>,
-) -> Result<(), Memory>
+fn note_uid(met: &mut BTreeSet<u32>, uid: u32, first: &mut Option<Fault>) -> Result<(), Memory>
     ensures first { OnOk result (first.new ≡ earlier first.old (first_fault (rules.uid_fault (spec.is_uid uid && not (set.contains nat_cmp met.old uid)) uid))) }
     ensures met { OnOk result ((other : ℕ) → set.contains nat_cmp met.new other ≡ (uid == other || set.contains nat_cmp met.old other)) }
 {

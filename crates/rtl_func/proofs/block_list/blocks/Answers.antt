@@ -13,16 +13,16 @@ loop-place-preserved c =
     let within : place < end = omega arith in
     let so_far = c.loop-place.invariant.made in
     elim c.if-starts_block.branch [
-      then-starts_block+in_ok-push w ↦
-        let is : test place ≡ true = sym c.starts_block.ensures ∙ w.if-starts_block.true in
-        record {
-          made = more_yes test c.loop-place.first place end c.if-starts_block.first c.loop-place.blocks.items c.if-starts_block.blocks.items _ within is (ap (λ b. b.items) w.blocks-is ∙ w.in_ok-push.ensures.items) w.first-is so_far;
-          some = omega arith
-        }
-    | else-starts_block w ↦
-        let is : test place ≡ false = sym c.starts_block.ensures ∙ w.if-starts_block.false in
-        record {
-          made = more_no test c.loop-place.first place end c.if-starts_block.first c.loop-place.blocks.items c.if-starts_block.blocks.items _ within is (ap (λ b. b.items) w.blocks-is) w.first-is so_far;
-          some = omega arith
-        }
+      | then-starts_block+in_ok-push w ↦
+          let is : test place ≡ true = sym c.starts_block.ensures ∙ w.if-starts_block.true in
+          record {
+            made = more_yes test c.loop-place.first place end c.if-starts_block.first c.loop-place.blocks.items c.if-starts_block.blocks.items _ within is (ap (λ b. b.items) w.blocks-is ∙ w.in_ok-push.ensures.items) w.first-is so_far;
+            some = omega arith;
+          }
+      | else-starts_block w ↦
+          let is : test place ≡ false = sym c.starts_block.ensures ∙ w.if-starts_block.false in
+          record {
+            made = more_no test c.loop-place.first place end c.if-starts_block.first c.loop-place.blocks.items c.if-starts_block.blocks.items _ within is (ap (λ b. b.items) w.blocks-is) w.first-is so_far;
+            some = omega arith;
+          }
     ]

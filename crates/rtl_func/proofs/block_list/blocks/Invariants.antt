@@ -6,5 +6,5 @@ use Rattle.rtl_func.proofs.block_list.blocks.Given as goal
 abbrev pub invariant-loop-place : goal.invariant-loop-place
 invariant-loop-place l = record {
   made : l.blocks.items ++ blocks_between (l.first ∷ filter (starts_block l.insns) (range_with_len l.place (length l.insns - l.place))) (length l.insns) ≡ blocks_of l.insns;
-  some : l.place < length l.insns + 1
+  some : l.place < length l.insns + 1;
 }

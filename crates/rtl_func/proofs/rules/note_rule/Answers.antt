@@ -21,16 +21,16 @@ loop-insn-preserved c =
     let before = c.loop-insn.first in
     let told = λ (first : Option Fault). earlier first (first_fault (rule_faults_in rule f rest)) in
     elim c.if-breaks.branch [
-      then-breaks w ↦
-        let is : breaks rule f insn ≡ true = sym c.breaks.ensures ∙ w.if-breaks.true in
-        let new = w.note.ensures ∙ ap (λ n. earlier before (Some (fault n insn.uid))) w.rule_number.ensures in
-        ap told w.first-is
-        ∙ noted before _ (fault (rule_number rule) insn.uid) (rule_faults_in rule f rest) new
-        ∙ sym (ap (λ faults. earlier before (first_fault faults)) (ap (rule_faults_in rule f) here ∙ rule_broken rule f insn rest is))
-        ∙ c.loop-insn.invariant
-    | else-breaks w ↦
-        let is : breaks rule f insn ≡ false = sym c.breaks.ensures ∙ w.if-breaks.false in
-        ap told w.first-is
-        ∙ sym (ap (λ faults. earlier before (first_fault faults)) (ap (rule_faults_in rule f) here ∙ rule_kept rule f insn rest is))
-        ∙ c.loop-insn.invariant
+      | then-breaks w ↦
+          let is : breaks rule f insn ≡ true = sym c.breaks.ensures ∙ w.if-breaks.true in
+          let new = w.note.ensures ∙ ap (λ n. earlier before (Some (fault n insn.uid))) w.rule_number.ensures in
+          ap told w.first-is
+          ∙ noted before _ (fault (rule_number rule) insn.uid) (rule_faults_in rule f rest) new
+          ∙ sym (ap (λ faults. earlier before (first_fault faults)) (ap (rule_faults_in rule f) here ∙ rule_broken rule f insn rest is))
+          ∙ c.loop-insn.invariant
+      | else-breaks w ↦
+          let is : breaks rule f insn ≡ false = sym c.breaks.ensures ∙ w.if-breaks.false in
+          ap told w.first-is
+          ∙ sym (ap (λ faults. earlier before (first_fault faults)) (ap (rule_faults_in rule f) here ∙ rule_kept rule f insn rest is))
+          ∙ c.loop-insn.invariant
     ]

@@ -22,15 +22,15 @@ loop-insn-preserved c = λ reg.
     let before = map.get nat_cmp c.loop-insn.modes reg in
     let looked = λ (m : BTreeMap ℕ Mode). option_or (map.get nat_cmp m reg) (first_mode (mentions rest) reg) in
     elim c.if-is_ruled.branch [
-      then-is_ruled+in_ok-put_modes w ↦
-        let is : is_ruled insn ≡ true = sym c.is_ruled.ensures ∙ w.if-is_ruled.true in
-        ap looked w.modes-is
-        ∙ put_more before _ (mentions_in insn.pattern) (mentions rest) reg (w.in_ok-put_modes.ensures reg)
-        ∙ sym (ap (λ all. option_or before (first_mode all reg)) (ap mentions here ∙ mentions_ruled insn rest is))
-        ∙ c.loop-insn.invariant reg
-    | else-is_ruled w ↦
-        let is : is_ruled insn ≡ false = sym c.is_ruled.ensures ∙ w.if-is_ruled.false in
-        ap looked w.modes-is
-        ∙ sym (ap (λ all. option_or before (first_mode all reg)) (ap mentions here ∙ mentions_other insn rest is))
-        ∙ c.loop-insn.invariant reg
+      | then-is_ruled+in_ok-put_modes w ↦
+          let is : is_ruled insn ≡ true = sym c.is_ruled.ensures ∙ w.if-is_ruled.true in
+          ap looked w.modes-is
+          ∙ put_more before _ (mentions_in insn.pattern) (mentions rest) reg (w.in_ok-put_modes.ensures reg)
+          ∙ sym (ap (λ all. option_or before (first_mode all reg)) (ap mentions here ∙ mentions_ruled insn rest is))
+          ∙ c.loop-insn.invariant reg
+      | else-is_ruled w ↦
+          let is : is_ruled insn ≡ false = sym c.is_ruled.ensures ∙ w.if-is_ruled.false in
+          ap looked w.modes-is
+          ∙ sym (ap (λ all. option_or before (first_mode all reg)) (ap mentions here ∙ mentions_other insn rest is))
+          ∙ c.loop-insn.invariant reg
     ]

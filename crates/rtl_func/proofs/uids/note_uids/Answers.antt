@@ -25,21 +25,23 @@ loop-insn-preserved c =
     let met = c.loop-insn.invariant.1 in
     let so_far = c.loop-insn.invariant.2 in
     elim c.if-is_ruled.branch [
-      then-is_ruled+in_ok-note_uid w ↦
-        let is : is_ruled insn ≡ true = sym c.is_ruled.ensures ∙ w.if-is_ruled.true in
-        let good = ap (λ known. uid_fault (is_uid insn.uid && not known) insn.uid) (met insn.uid) in
-        let new = w.in_ok-note_uid.ensures.first ∙ ap (λ faults. earlier first (first_fault faults)) good in
-        (insn.uid ∷ before,
-         λ other. ap (λ (m : BTreeSet ℕ). set.contains nat_cmp m other) w.met-is ∙ w.in_ok-note_uid.ensures.met other ∙ ap (λ known. insn.uid == other || known) (met other),
-         ap (λ o. earlier o (first_fault (uid_faults_in (insn.uid ∷ before) rest))) w.first-is
-         ∙ all_noted first _ (uid_fault (is_uid insn.uid && not (has_place before insn.uid)) insn.uid) (uid_faults_in (insn.uid ∷ before) rest) new
-         ∙ sym (ap (λ faults. earlier first (first_fault faults)) (ap (uid_faults_in before) here ∙ uid_ruled before insn rest is))
-         ∙ so_far)
-    | else-is_ruled w ↦
-        let is : is_ruled insn ≡ false = sym c.is_ruled.ensures ∙ w.if-is_ruled.false in
-        (before,
-         λ other. ap (λ (m : BTreeSet ℕ). set.contains nat_cmp m other) w.met-is ∙ met other,
-         ap (λ o. earlier o (first_fault (uid_faults_in before rest))) w.first-is
-         ∙ sym (ap (λ faults. earlier first (first_fault faults)) (ap (uid_faults_in before) here ∙ uid_other before insn rest is))
-         ∙ so_far)
+      | then-is_ruled+in_ok-note_uid w ↦
+          let is : is_ruled insn ≡ true = sym c.is_ruled.ensures ∙ w.if-is_ruled.true in
+          let good = ap (λ known. uid_fault (is_uid insn.uid && not known) insn.uid) (met insn.uid) in
+          let new = w.in_ok-note_uid.ensures.first ∙ ap (λ faults. earlier first (first_fault faults)) good in (
+            insn.uid ∷ before,
+            λ other. ap (λ (m : BTreeSet ℕ). set.contains nat_cmp m other) w.met-is ∙ w.in_ok-note_uid.ensures.met other ∙ ap (λ known. insn.uid == other || known) (met other),
+            ap (λ o. earlier o (first_fault (uid_faults_in (insn.uid ∷ before) rest))) w.first-is
+                ∙ all_noted first _ (uid_fault (is_uid insn.uid && not (has_place before insn.uid)) insn.uid) (uid_faults_in (insn.uid ∷ before) rest) new
+                ∙ sym (ap (λ faults. earlier first (first_fault faults)) (ap (uid_faults_in before) here ∙ uid_ruled before insn rest is))
+                ∙ so_far,
+          )
+      | else-is_ruled w ↦
+          let is : is_ruled insn ≡ false = sym c.is_ruled.ensures ∙ w.if-is_ruled.false in (
+            before,
+            λ other. ap (λ (m : BTreeSet ℕ). set.contains nat_cmp m other) w.met-is ∙ met other,
+            ap (λ o. earlier o (first_fault (uid_faults_in before rest))) w.first-is
+                ∙ sym (ap (λ faults. earlier first (first_fault faults)) (ap (uid_faults_in before) here ∙ uid_other before insn rest is))
+                ∙ so_far,
+          )
     ]

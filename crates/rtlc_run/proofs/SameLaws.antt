@@ -3,6 +3,7 @@ use Rattle.std.proofs.Common.{◌≡◌, ℕ, List, [], ◌∷◌, ◌++◌, Opt
 use Rattle.rtx_tree.specs.declared.function.Insn.{Insn}
 use Rattle.rtx_tree.specs.declared.function.Function.{Function}
 use Rattle.rv_text.specs.Lines.{line_text}
+use Rattle.rv_text.specs.Body.{Spells}
 use Rattle.rv_text.specs.declared.line.CodeItem.{CodeItem}
 use Rattle.rv_text.specs.declared.line.CodeItem.TheVariants.{Code}
 use Rattle.rv_text.proofs.Printing.{reads_back}
@@ -12,7 +13,7 @@ use Rattle.rtlc_run.specs.declared.forms.Match.{Match}
 use Rattle.rtlc_run.specs.Forms.{first_match, table}
 use Rattle.rtlc_run.specs.Assembly.{filled_line, return_insn}
 use Rattle.rtlc_run.specs.Lines.{AreLines, IsAssembly, WritesLines}
-use Rattle.rtlc_run.specs.Same.{Spells, AreSame, WritesSame}
+use Rattle.rtlc_run.specs.Same.{AreSame, WritesSame}
 use Rattle.rtlc_run.proofs.FormLines.{HasLine, ReturnLine, insn_has_line, return_line}
 use Rattle.rtlc_run.proofs.ReadStraight.{ArePlain, AreRead, functions_are_read}
 

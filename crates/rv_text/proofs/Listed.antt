@@ -22,7 +22,7 @@ use Rattle.rv_text.proofs.Words.{is_word, stays, cut, blanks_end, joined, comma_
 
 -- ---- the texts of operands are words
 
-all_of : (p q : ℕ → Bool) → ((b : ℕ) → p b ≡ true → q b ≡ true) → (bytes : List ℕ) → list_all p bytes ≡ true → list_all q bytes ≡ true
+pub all_of : (p q : ℕ → Bool) → ((b : ℕ) → p b ≡ true → q b ≡ true) → (bytes : List ℕ) → list_all p bytes ≡ true → list_all q bytes ≡ true
 all_of p q each [] all = refl
 all_of p q each (b ∷ bytes) all = let parts = and_true (p b) (list_all p bytes) all in both_true (q b) (list_all q bytes) (each b parts.0) (all_of p q each bytes parts.1)
 
@@ -88,7 +88,7 @@ listed_stays operand (next ∷ others) bytes before after listed =
 
 module _ (operand next : Operand) (others : List Operand) (bytes : List ℕ) (before : Line) where
   -- the first operand is the first word, and the others stand behind the comma
-  listed_cut : (after : Line) (listed : IsListedFrom operand (next ∷ others) bytes before after) → (word bytes ≡ listed.0) × (behind_comma (behind_word bytes) ≡ Some listed.1)
+  pub listed_cut : (after : Line) (listed : IsListedFrom operand (next ∷ others) bytes before after) → (word bytes ≡ listed.0) × (behind_comma (behind_word bytes) ≡ Some listed.1)
   listed_cut after listed =
       let parted = listed.4 in
       let behind = parted.left ++ 44 ∷ (parted.right ++ listed.1) in

@@ -1,5 +1,5 @@
 //! Text to lines.
-ghost use Rattle.std.specs.Prelude.{◌≡◌, ◌&&◌, ℤ, true, Some, None, IsSome, IfSome, if◌then◌else◌, bytes_eq, IfOk, option_map};
+ghost use Rattle.std.specs.Prelude.{◌≡◌, ◌&&◌, ℕ, ℤ, List, true, Some, None, IsSome, IfSome, if◌then◌else◌, bytes_eq, IfOk, option_map};
 ghost use Rattle.std.specs.Fmt.{signed_decimal};
 ghost use Rattle.text_words.specs.Words.{fits_i64};
 ghost use Rattle.rv_text.specs.Lines as lines;
@@ -327,6 +327,7 @@ fn read_parts(bytes: &[u8]) -> Option<Parts<'_>>
 pub fn parse_line(alloc: Global, bytes: &[u8]) -> Result<Option<Line>, Memory>
     ensures line { IfOk result (Finds (IsTextOf bytes.now)) }
     ensures action { IfOk result (λ found. IfSome found (λ line. IsSome (lines.action_of line))) }
+    ensures one { (text : List ℕ) (a b : Line) → IsTextOf text a → IsTextOf text b → a ≡ b }
 {
     match read_parts(bytes) {
         None => Ok(None),

@@ -190,12 +190,12 @@ mv_text t a is_t is_a = rw (text_is (mv_line t a) mv_form mv_row (mv_is_row t a 
 small_within : (n : ℤ) → forms.is_small_number n ≡ true → is_within (negsuc 2047) (pos 2047) n ≡ true
 small_within (pos n) small =
     let below : n < 2048 = grind (arith, nat_tests, small) in
-    let first : nat_le n 9223372036854775807 ≡ true = grind (arith, nat_tests, below) in
+    let first : nat_lt n 9223372036854775808 ≡ true = grind (arith, nat_tests, below) in
     let second : nat_le n 2047 ≡ true = grind (arith, nat_tests, below) in
     rw first (rw second refl)
 small_within (negsuc n) small =
     let below : n < 2048 = grind (arith, nat_tests, small) in
-    let first : nat_le n 9223372036854775807 ≡ true = grind (arith, nat_tests, below) in
+    let first : nat_lt n 9223372036854775808 ≡ true = grind (arith, nat_tests, below) in
     let second : nat_le n 2047 ≡ true = grind (arith, nat_tests, below) in
     rw first (rw second refl)
 

@@ -2,6 +2,7 @@
 ghost use Rattle.std.specs.Prelude.{◌≡◌, ◌≢◌, ◌⊎◌, ℕ, true, List, IsTrue, ◌↔◌, codes, IfOk, IfErr, IfSome, OnOk, OnErr, length, ◌≤◌, Ok, Err, Contains, ◌∷◌, [], map};
 ghost use Rattle.std.specs.Io.KnownBytes.{Appends, Consumes, IsAtEnd};
 ghost use Rattle.byte_edge.specs.Causes.{Rose};
+ghost use Rattle.rv_text.specs.Body.{Spells};
 ghost use Rattle.rtlc_run.specs.Refusals.{status_of, has_values, line_of};
 ghost use Rattle.rtlc_run.specs.Assembly.{Outcome};
 ghost use Rattle.rtlc_run.specs.Lines.{WritesLines, Completes};
@@ -12,6 +13,7 @@ use crate::answer::answer;
 use crate::refusal::{MEMORY_LINE, Refusal, fixed_line, line, status};
 use byte_edge::{Files, ReadAll, Sink, Source, read_all, write_all_of};
 use rtx_tree::Limit;
+use rv_text::CodeItem;
 use std::alloc::Global;
 
 /// How many bytes an input may have.
@@ -152,6 +154,9 @@ pub fn run<F: Files, S: Source, K: Sink, E: Sink>(
 
     // What the text of status 0 does: the lines that it spells for each function do what the function does.
     ensures behaves { result ≡ 0 → WritesSame (S.left input.old) (K.taken output.old) (K.taken output.new) }
+
+    // And they are the only ones: of each text there is one list of lines and labels that it spells.
+    ensures spelled { (text : List ℕ) (a b : List CodeItem) → Spells text a → Spells text b → a ≡ b }
 
     // Each status has its cause.
     ensures statuses { Contains (0 ∷ 1 ∷ 2 ∷ 3 ∷ 6 ∷ 7 ∷ 8 ∷ []) result }

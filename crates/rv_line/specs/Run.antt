@@ -1,12 +1,12 @@
 -- The run of a list of lines and labels.
-use Rattle.std.specs.Prelude.{◌≡◌, ℕ, zero, suc, Bool, false, if◌then◌else◌, List, [], ◌∷◌, ◌++◌, Option, Some, None, slice_index, slice_set, bytes_eq, codes}
-use Rattle.std.specs.Fmt.{decimal}
+use Rattle.std.specs.Prelude.{◌≡◌, ℕ, zero, suc, Bool, false, if◌then◌else◌, List, [], ◌∷◌, ◌++◌, Option, Some, None, slice_index, slice_set, bytes_eq}
 use Rattle.rtx_tree.specs.Registers.{is_call_used}
 use Rattle.rtx_tree.specs.declared.machine.Start.{Start}
 use Rattle.rtx_tree.specs.declared.machine.World.{World}
 use Rattle.rtx_tree.specs.declared.machine.RangeAt.{RangeAt}
 use Rattle.rtx_tree.specs.declared.machine.Reply.{Reply}
 use Rattle.run_memory.specs.RunMemory.{visible, written}
+use Rattle.rv_text.specs.Body.{label_text}
 use Rattle.rv_text.specs.declared.line.Line.{Line}
 use Rattle.rv_text.specs.declared.line.CodeItem.{CodeItem}
 use Rattle.rv_text.specs.declared.line.CodeItem.TheVariants.{Label, Code}
@@ -70,10 +70,6 @@ saved_of regs = record {
 }
 
 -- ---- labels and lines
-
--- the text of a label: .L, the function's number, an underscore, the uid
-abbrev pub label_text : ℕ → ℕ → List ℕ
-label_text function uid = codes ".L" ++ (decimal function ++ (codes "_" ++ decimal uid))
 
 abbrev pub is_label : List ℕ → CodeItem → Bool
 is_label target (Label function uid) = bytes_eq (label_text function uid) target

@@ -1,6 +1,7 @@
 //! Labels, and the lines behind them.
 ghost use Rattle.std.specs.Prelude.{◌≡◌, ◌≢◌, ◌++◌, ◌↔◌, ℕ, List, IsTrue, MatchOption, option_map};
 ghost use Rattle.std.specs.Fmt.{decimal};
+ghost use Rattle.rv_text.specs.Body.{label_text};
 ghost use Rattle.rv_line.specs.Run as spec;
 
 use itoa::Buffer;
@@ -31,7 +32,7 @@ fn behind_decimal<'a>(text: &'a [u8], number: u32) -> Option<&'a [u8]>
 
 /// Whether a text is that of a label.
 fn is_label_text(target: &[u8], function: u32, uid: u32) -> bool
-    ensures { IsTrue result ↔ (target.now ≡ spec.label_text function uid) }
+    ensures { IsTrue result ↔ (target.now ≡ label_text function uid) }
 {
     let Some(rest) = behind(target, b".L") else {
         return false;

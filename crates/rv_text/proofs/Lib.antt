@@ -8,3 +8,8 @@ pub mod Listed
 pub mod Reading
 pub mod Printing
 pub mod Apart
+pub mod OneLine
+pub mod Marks
+pub mod Inner
+pub mod LabelTexts
+pub mod SpelledOnce

@@ -1,5 +1,5 @@
 -- Operands in a row: each text is a word, so the bytes are cut in one way alone.
-use Rattle.std.proofs.Common.{◌≡◌, ◌≢◌, ℕ, ℤ, pos, negsuc, ◌-◌, ◌<◌, ◌≤◌, ◌^◌, Bool, true, not, nat_eq, length, get_or, take, drop, List, [], ◌∷◌, ◌++◌, Option, Some, None, refl, sym, ◌∙◌, ap, subst, arith}
+use Rattle.std.proofs.Common.{◌≡◌, ◌≢◌, ℕ, ℤ, pos, negsuc, ◌-◌, ◌<◌, ◌≤◌, ◌^◌, Bool, true, false, nat_lt, length, get_or, take, drop, List, [], ◌∷◌, ◌++◌, Option, Some, None, refl, sym, ◌∙◌, ap, subst, arith}
 use Rattle.std.specs.List.{list_all}
 use Rattle.std.specs.Fmt.{signed_decimal}
 use Rattle.std.proofs.lemmas.Bool.Decides.{nat_tests}
@@ -9,7 +9,8 @@ use Rattle.std.proofs.lemmas.List.{append-nil}
 use Rattle.std.proofs.Math.Seq.{take-length}
 use lib.Signed.{mag}
 use Rattle.rtx_tree.specs.Registers.{reg_names}
-use Rattle.rv_text.specs.Lines.{is_symbol, is_symbol_byte, number_text, register_text, operand_text}
+use Rattle.text_words.specs.Words.{is_symbol, is_symbol_byte}
+use Rattle.rv_text.specs.Lines.{number_text, register_text, operand_text}
 use Rattle.rv_text.specs.Text.{is_word_byte, behind_blanks, word, behind_word, behind_comma, Finds, Sets, IsListedFrom}
 use Rattle.rv_text.specs.declared.line.Line.{Line}
 use Rattle.rv_text.specs.declared.operand.Operand.{Operand}
@@ -21,7 +22,7 @@ use Rattle.rv_text.proofs.Words.{is_word, stays, cut, blanks_end, joined, comma_
 
 -- ---- the texts of operands are words
 
-all_of : (p q : ℕ → Bool) → ((b : ℕ) → p b ≡ true → q b ≡ true) → (bytes : List ℕ) → list_all p bytes ≡ true → list_all q bytes ≡ true
+pub all_of : (p q : ℕ → Bool) → ((b : ℕ) → p b ≡ true → q b ≡ true) → (bytes : List ℕ) → list_all p bytes ≡ true → list_all q bytes ≡ true
 all_of p q each [] all = refl
 all_of p q each (b ∷ bytes) all = let parts = and_true (p b) (list_all p bytes) all in both_true (q b) (list_all q bytes) (each b parts.0) (all_of p q each bytes parts.1)
 
@@ -34,8 +35,8 @@ symbol_is_word_byte b h = grind (arith, nat_tests)
 
 symbol_is_word : (text : List ℕ) → is_symbol text ≡ true → is_word text ≡ true
 symbol_is_word text symbol =
-    let parts = and_true (not (nat_eq (length text) 0)) (list_all is_symbol_byte text) symbol in
-    word_from_all text (λ none. let zero : length text ≡ 0 = ap length none in let yes : nat_eq (length text) 0 ≡ true = grind (arith, nat_tests) in let e = rw yes at parts.0 in cc) (all_of is_symbol_byte is_word_byte symbol_is_word_byte text parts.1)
+    let parts = and_true (nat_lt 0 (length text)) (list_all is_symbol_byte text) symbol in
+    word_from_all text (λ none. let zero : length text ≡ 0 = ap length none in let no : nat_lt 0 (length text) ≡ false = grind (arith, nat_tests) in let e = parts.0 in cc) (all_of is_symbol_byte is_word_byte symbol_is_word_byte text parts.1)
 
 number_is_some : (z : ℤ) → mag z < 2 ^ 63 → signed_decimal z ≢ []
 number_is_some (pos n) fits none = let some = decimal_nonempty n (omega arith) in omega (arith, some, ap length none)
@@ -87,7 +88,7 @@ listed_stays operand (next ∷ others) bytes before after listed =
 
 module _ (operand next : Operand) (others : List Operand) (bytes : List ℕ) (before : Line) where
   -- the first operand is the first word, and the others stand behind the comma
-  listed_cut : (after : Line) (listed : IsListedFrom operand (next ∷ others) bytes before after) → (word bytes ≡ listed.0) × (behind_comma (behind_word bytes) ≡ Some listed.1)
+  pub listed_cut : (after : Line) (listed : IsListedFrom operand (next ∷ others) bytes before after) → (word bytes ≡ listed.0) × (behind_comma (behind_word bytes) ≡ Some listed.1)
   listed_cut after listed =
       let parted = listed.4 in
       let behind = parted.left ++ 44 ∷ (parted.right ++ listed.1) in

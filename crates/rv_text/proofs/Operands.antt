@@ -1,6 +1,7 @@
 -- What the text of an operand gives to a line.
 use Rattle.std.proofs.Common.{◌≡◌, ◌≢◌, ℕ, ℤ, true, false, List, [], ◌∷◌, Option, Some, None, option_map, refl, sym, ◌∙◌, ap, subst}
-use Rattle.rv_text.specs.Lines.{register_text, number_text, place_text, is_symbol}
+use Rattle.text_words.specs.Words.{is_symbol}
+use Rattle.rv_text.specs.Lines.{register_text, number_text, place_text}
 use Rattle.rv_text.specs.Text.{Finds, Sets}
 use Rattle.rv_text.specs.declared.line.Line.{Line}
 use Rattle.rv_text.specs.declared.operand.Operand.TheVariants.{Rd, Rs, Rt, Number, Place, Target, Ra}

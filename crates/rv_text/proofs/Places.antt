@@ -7,7 +7,7 @@ use Rattle.rv_text.specs.Text.{Finds, parts_at, place_parts, pair}
 use Rattle.rv_text.proofs.Numbers.{and_true}
 use Rattle.rv_text.proofs.Plain.{is_plain, plain_is_not, number_is_plain, register_is_plain}
 
-abbrev two : List ℕ → List ℕ → List ℕ × List ℕ
+abbrev pub two : List ℕ → List ℕ → List ℕ × List ℕ
 two a b = (a, b)
 
 -- a byte that does not stand in the front is found behind it
@@ -87,7 +87,7 @@ no_place least most text none p is =
 
 module _ (least most : ℤ) (text number reg : List ℕ) (parts : place_parts text ≡ Some (two number reg)) where
   -- a place of the text has these parts
-  of_place : (p : ℤ × ℕ) → place_text (number_text least most p.0) (register_text p.1) ≡ Some text → (number_text least most p.0 ≡ Some number) × (register_text p.1 ≡ Some reg)
+  pub of_place : (p : ℤ × ℕ) → place_text (number_text least most p.0) (register_text p.1) ≡ Some text → (number_text least most p.0 ≡ Some number) × (register_text p.1 ≡ Some reg)
   of_place p is =
       let says = place_text_says (number_text least most p.0) (register_text p.1) text is in
       let joined = place_joined says.0 says.1 (number_is_plain least most p.0 says.0 says.2) (register_is_plain p.1 says.1 says.3) in

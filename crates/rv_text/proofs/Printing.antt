@@ -5,7 +5,8 @@ use Rattle.std.specs.Cmp.{unsigned_Decides, signed_Decides}
 use Rattle.std.proofs.lemmas.Slice.Eq.{bytes_eq-Decides}
 use Rattle.std.proofs.lemmas.List.{append-nil}
 use Rattle.rv_text.specs.Table.{Row, row_named}
-use Rattle.rv_text.specs.Lines.{register_text, is_within, is_symbol, place_text, operand_text, put, bare, same_line, filled, has_all, is_of_row, action_of, shown, shown_all, row_text, line_text}
+use Rattle.text_words.specs.Words.{is_symbol}
+use Rattle.rv_text.specs.Lines.{register_text, is_within, place_text, operand_text, put, bare, same_line, filled, has_all, is_of_row, action_of, shown, shown_all, row_text, line_text}
 use Rattle.rv_text.specs.Text.{Sets, IsListed, IsListedFrom, IsRestOf, IsTextOf}
 use Rattle.rv_text.specs.declared.line.Line.{Line}
 use Rattle.rv_text.specs.declared.operand.Operand.{Operand}

@@ -16,21 +16,22 @@ use Rattle.rv_text.proofs.Listed.{listed_stays}
 
 -- ---- the mnemonic
 
-found_is_word : (rows : List Row) (name : List ℕ) (row : Row) → list_all (λ row. is_word row.name) rows ≡ true → find_row name rows ≡ Some row → is_word name ≡ true
-found_is_word [] name row all found = cc
-found_is_word (first ∷ rows) name row all found = tested (bytes_eq first.name name) refl (and_true (is_word first.name) (list_all (λ row. is_word row.name) rows) all) found (found_is_word rows name row)
+-- what each name of the table has, a name that is found has
+pub found_name_has : (p : List ℕ → Bool) (rows : List Row) (name : List ℕ) (row : Row) → list_all (λ row. p row.name) rows ≡ true → find_row name rows ≡ Some row → p name ≡ true
+found_name_has p [] name row all found = cc
+found_name_has p (first ∷ rows) name row all found = tested (bytes_eq first.name name) refl (and_true (p first.name) (list_all (λ row. p row.name) rows) all) found (found_name_has p rows name row)
   where
-    tested : (b : Bool) → bytes_eq first.name name ≡ b → (is_word first.name ≡ true) × (list_all (λ row. is_word row.name) rows ≡ true) → cond b (Some first) (find_row name rows) ≡ Some row →
-        (list_all (λ row. is_word row.name) rows ≡ true → find_row name rows ≡ Some row → is_word name ≡ true) → is_word name ≡ true
-    tested true test parts found further = sym (ap is_word ((bytes_eq-Decides first.name name).0 test)) ∙ parts.0
+    tested : (b : Bool) → bytes_eq first.name name ≡ b → (p first.name ≡ true) × (list_all (λ row. p row.name) rows ≡ true) → cond b (Some first) (find_row name rows) ≡ Some row →
+        (list_all (λ row. p row.name) rows ≡ true → find_row name rows ≡ Some row → p name ≡ true) → p name ≡ true
+    tested true test parts found further = sym (ap p ((bytes_eq-Decides first.name name).0 test)) ∙ parts.0
     tested false test parts found further = further parts.1 found
 
 all_names : list_all (λ row. is_word row.name) table ≡ true
 unfolding table
 all_names = refl
 
-name_is_word : (name : List ℕ) (row : Row) → row_named name ≡ Some row → is_word name ≡ true
-name_is_word name row named = found_is_word table name row all_names named
+pub name_is_word : (name : List ℕ) (row : Row) → row_named name ≡ Some row → is_word name ≡ true
+name_is_word name row named = found_name_has is_word table name row all_names named
 
 put_name : (operand : Operand) (from line : Line) → (put operand from line).name ≡ line.name
 put_name Rd from line = refl
@@ -95,7 +96,7 @@ module _ (row : Row) (name bytes : List ℕ) where
         listed = listed;
       }
 
-  rest_only : (line : Line) → IsRestOf row name bytes line → IsListed row.operands (behind_blanks bytes) (bare name) line
+  pub rest_only : (line : Line) → IsRestOf row name bytes line → IsListed row.operands (behind_blanks bytes) (bare name) line
   rest_only line rest = let P : List ℕ → Type 0 = λ b. IsListed row.operands b (bare name) line in subst P (sym (rest_operands line rest)) rest.listed
 
   pub rest_finds : (row.operands ≢ [] → length (behind_blanks bytes) ≢ length bytes) → (result : Option Line) → Finds (IsListed row.operands (behind_blanks bytes) (bare name)) result → Finds (IsRestOf row name bytes) result
@@ -124,7 +125,7 @@ rest_found row name bytes behind before behind_is before_is apart result found =
 
 module _ (bytes name rest : List ℕ) (name_is : name ≡ word (behind_blanks bytes)) (rest_is : rest ≡ behind_word (behind_blanks bytes)) where
   -- a line of the text has this mnemonic and this rest
-  text_cut : (line : Line) (text : IsTextOf bytes line) → (line.name ≡ name) × (text.rest ≡ rest)
+  pub text_cut : (line : Line) (text : IsTextOf bytes line) → (line.name ≡ name) × (text.rest ≡ rest)
   text_cut line text =
       let is = name_is_word line.name text.row text.named in
       let ends = rest_ends text.row line.name text.rest line text.rest_is in
@@ -136,7 +137,7 @@ module _ (bytes name rest : List ℕ) (name_is : name ≡ word (behind_blanks by
   pub no_row : row_named name ≡ None → (line : Line) → IsTextOf bytes line → ⊥
   no_row none line text = let same : row_named line.name ≡ None = ap row_named (text_cut line text).0 ∙ none in let named = text.named in cc
 
-  text_only : (row : Row) → row_named name ≡ Some row → (line : Line) → IsTextOf bytes line → IsRestOf row name rest line
+  pub text_only : (row : Row) → row_named name ≡ Some row → (line : Line) → IsTextOf bytes line → IsRestOf row name rest line
   text_only row named line text =
       let parts = text_cut line text in
       let rows : Some text.row ≡ Some row = sym text.named ∙ (ap row_named parts.0 ∙ named) in

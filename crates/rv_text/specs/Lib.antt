@@ -1,3 +1,4 @@
 pub mod Table
 pub mod Lines
 pub mod Text
+pub mod Body

@@ -1,11 +1,12 @@
 -- Lines of assembly, and how they are written. The operands are written as the assembly manual has them ("RISC-V Assembly Programmer's Manual",
 -- "Load and Store Instructions" for imm(rs)); registers go by the names of the calling convention alone (RISC-V ELF psABI, "Integer Register
 -- Convention"), and numbers are decimal.
-use Rattle.std.specs.Prelude.{ℕ, ℤ, pos, negsuc, Bool, ◌&&◌, not, nat_le, nat_eq, int_le, List, [], ◌∷◌, ◌++◌, length, Option, Some, None, is_some, if◌then◌else◌, bytes_eq, codes, option_map, option_and_then, slice_get, unwrap_or}
+use Rattle.std.specs.Prelude.{ℕ, ℤ, pos, Bool, ◌&&◌, nat_eq, int_le, List, [], ◌∷◌, ◌++◌, Option, Some, None, is_some, if◌then◌else◌, bytes_eq, codes, option_map, option_and_then, slice_get, unwrap_or}
 use Rattle.std.specs.Ordering.{int_eq}
-use Rattle.std.specs.List.{list_all, list_any}
+use Rattle.std.specs.List.{list_all}
 use Rattle.std.specs.Fmt.{signed_decimal}
 use Rattle.rtx_tree.specs.Registers.{reg_names}
+use Rattle.text_words.specs.Words.{fits_i64, is_symbol}
 use Rattle.rv_text.specs.Table.{Row, row_named}
 use Rattle.rv_text.specs.declared.action.Action.{Action}
 use Rattle.rv_text.specs.declared.line.Line.{Line}
@@ -23,24 +24,12 @@ parts_view parts = record { name = parts.name.now; rd = parts.rd; rs = parts.rs;
 abbrev pub register_text : ℕ → Option (List ℕ)
 register_text reg = slice_get reg_names reg
 
--- a signed number of 64 bits
-abbrev pub is_i64 : ℤ → Bool
-is_i64 number = int_le (negsuc 9223372036854775807) number && int_le number (pos 9223372036854775807)
-
 abbrev pub is_within : ℤ → ℤ → ℤ → Bool
-is_within least most number = is_i64 number && (int_le least number && int_le number most)
+is_within least most number = fits_i64 number && (int_le least number && int_le number most)
 
--- such a number within bounds, in decimal: no needless zero, no plus sign, no minus sign before 0
+-- a number of 64 signed bits within bounds, in decimal: no needless zero, no plus sign, no minus sign before 0
 abbrev pub number_text : ℤ → ℤ → ℤ → Option (List ℕ)
 number_text least most number = if is_within least most number then Some (signed_decimal number) else None
-
--- a byte of a symbol: no control, no blank, and none of " ( ) , : \
-abbrev pub is_symbol_byte : ℕ → Bool
-is_symbol_byte byte = nat_le 33 byte && not (list_any (nat_eq byte) (34 ∷ 40 ∷ 41 ∷ 44 ∷ 58 ∷ 92 ∷ 127 ∷ []))
-
--- one or more such bytes
-abbrev pub is_symbol : List ℕ → Bool
-is_symbol text = not (nat_eq (length text) 0) && list_all is_symbol_byte text
 
 -- a number, and a register in parentheses
 abbrev pub place_text : Option (List ℕ) → Option (List ℕ) → Option (List ℕ)

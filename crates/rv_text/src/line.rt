@@ -1,6 +1,5 @@
 //! A line and its parts.
 ghost use Rattle.std.specs.Prelude.{◌≡◌, ◌∷◌, [], IfOk, is_some, pos, option_map};
-ghost use Rattle.std.specs.List.{list_all};
 ghost use Rattle.rv_text.specs.Lines as spec;
 ghost use Rattle.rv_text.specs.Lines.{parts_view};
 ghost use Rattle.rv_text.specs.Table.{row_view};
@@ -11,6 +10,7 @@ use crate::table::{Row, row_named};
 use plain_data::Memory;
 use rtx_tree::{HARD_REGS, Name};
 use std::alloc::Global;
+use text_words::is_symbol;
 
 /// A line of assembly. What its mnemonic doesn't use is 0 or empty.
 #[derive(Debug, Drop)]
@@ -144,26 +144,6 @@ fn is_register(reg: u8) -> bool
     ensures { result ≡ is_some (spec.register_text reg) }
 {
     reg < HARD_REGS
-}
-
-/// Whether a byte may stand in a symbol.
-pub(crate) fn is_symbol_byte(byte: u8) -> bool
-    ensures { result ≡ spec.is_symbol_byte byte }
-{
-    byte >= 33 && !matches!(byte, b'"' | b'(' | b')' | b',' | b':' | b'\\' | 127)
-}
-
-fn are_symbol_bytes(text: &[u8]) -> bool
-    ensures { result ≡ list_all spec.is_symbol_byte text.now }
-{
-    text.iter().all(|byte| is_symbol_byte(*byte))
-}
-
-/// Whether bytes are a symbol.
-pub(crate) fn is_symbol(text: &[u8]) -> bool
-    ensures { result ≡ spec.is_symbol text.now }
-{
-    !text.is_empty() && are_symbol_bytes(text)
 }
 
 pub(crate) fn is_within(number: i64, least: i64, most: i64) -> bool

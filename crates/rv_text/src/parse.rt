@@ -1,19 +1,21 @@
 //! Text to lines.
-ghost use Rattle.std.specs.Prelude.{◌≡◌, ◌&&◌, ℤ, true, Some, None, IsSome, IfSome, if◌then◌else◌, bytes_eq, IfOk, option_map};
+ghost use Rattle.std.specs.Prelude.{◌≡◌, ◌&&◌, ℕ, ℤ, List, true, Some, None, IsSome, IfSome, if◌then◌else◌, bytes_eq, IfOk, option_map};
 ghost use Rattle.std.specs.Fmt.{signed_decimal};
+ghost use Rattle.text_words.specs.Words.{fits_i64};
 ghost use Rattle.rv_text.specs.Lines as lines;
 ghost use Rattle.rv_text.specs.Lines.{parts_view};
 ghost use Rattle.rv_text.specs.Text as spec;
 ghost use Rattle.rv_text.specs.Text.{Finds, Sets, IsListed, IsListedFrom, IsRestOf, IsTextOf};
 ghost use Rattle.rv_text.specs.Table.{row_view};
 
-use crate::line::{Line, Parts, is_symbol, is_within};
+use crate::line::{Line, Parts, is_within};
 use crate::operand::Operand;
 use crate::table::{Row, row_named};
 use itoa::Buffer;
 use plain_data::Memory;
 use rtx_tree::reg_number;
 use std::alloc::Global;
+use text_words::is_symbol;
 
 fn is_blank(byte: u8) -> bool
     ensures { result ≡ spec.is_blank byte }
@@ -76,7 +78,7 @@ fn split_at_byte(bytes: &[u8], mark: u8) -> Option<(&[u8], &[u8])>
 
 /// The number that a text is of, if it is one's.
 fn number_of(text: &[u8]) -> Option<i64>
-    ensures { (z : ℤ) → lines.is_i64 z ≡ true → signed_decimal z ≡ text.now → result ≡ Some z }
+    ensures { (z : ℤ) → fits_i64 z ≡ true → signed_decimal z ≡ text.now → result ≡ Some z }
 {
     let Ok(text) = str::from_utf8(text) else {
         return None;
@@ -325,6 +327,7 @@ fn read_parts(bytes: &[u8]) -> Option<Parts<'_>>
 pub fn parse_line(alloc: Global, bytes: &[u8]) -> Result<Option<Line>, Memory>
     ensures line { IfOk result (Finds (IsTextOf bytes.now)) }
     ensures action { IfOk result (λ found. IfSome found (λ line. IsSome (lines.action_of line))) }
+    ensures one { (text : List ℕ) (a b : Line) → IsTextOf text a → IsTextOf text b → a ≡ b }
 {
     match read_parts(bytes) {
         None => Ok(None),

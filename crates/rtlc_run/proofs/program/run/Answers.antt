@@ -2,6 +2,7 @@ use Rattle.std.proofs.Common.{◌≡◌, ap, Err}
 use Rattle.rtlc_run.specs.declared.refusal.Refusal.{Refusal}
 use Rattle.rtlc_run.specs.declared.refusal.Refusal.TheVariants as refusal
 use Rattle.rtlc_run.specs.Answer.{words_of}
+use Rattle.rv_text.proofs.SpelledOnce.{spells_one}
 use Rattle.rtlc_run.proofs.Answered.{one_answer, answered_err, err_of}
 use Rattle.rtlc_run.proofs.Completes.{completes}
 use Rattle.rtlc_run.proofs.LinesLaws.{writes_lines}
@@ -17,6 +18,12 @@ returns-in-Ok-clause-one g c = λ bytes a b p q. one_answer (words_of c.args.wor
 
 pub returns-in-Err-clause-one : goal.returns-in-Err-clause-one
 returns-in-Err-clause-one g c = λ bytes a b p q. one_answer (words_of c.args.words.now) bytes a b p q
+
+pub returns-in-Ok-clause-spelled : goal.returns-in-Ok-clause-spelled
+returns-in-Ok-clause-spelled g c = λ text a b p q. spells_one text a b p q
+
+pub returns-in-Err-clause-spelled : goal.returns-in-Err-clause-spelled
+returns-in-Err-clause-spelled g c = λ text a b p q. spells_one text a b p q
 
 pub returns-in-Ok-clause-lines : goal.returns-in-Ok-clause-lines
 returns-in-Ok-clause-lines g c = λ _. writes_lines (words_of c.args.words.now) (g.S.Source.left c.args.input.now) (g.K.Sink.taken c.args.output.now) (g.K.Sink.taken c.attempt.new.output) c.in-Ok.ensures.done

@@ -6,7 +6,7 @@ ghost use Rattle.lisp_read.specs.declared.tree.Tree.{Tree};
 ghost use Rattle.rtx_tree.specs.Patterns.{nothing_rtx};
 ghost use Rattle.rtx_tree.specs.declared.function.Kind.{Kind};
 ghost use Rattle.rtl_read.specs.Syntax as spec;
-ghost use Rattle.rtl_read.specs.Expression.{sole_atom, pattern_of};
+ghost use Rattle.rtl_read.specs.Expression.{pattern_of};
 ghost use Rattle.rtl_read.specs.Jump.{jump_pattern_of};
 ghost use Rattle.rtl_read.specs.Parsed.{Gives, stands, parsed_map};
 ghost use Rattle.rtl_read.specs.Shape as shape;

@@ -7,7 +7,7 @@ use Rattle.rtx_tree.specs.declared.function.Insn.{Insn}
 use Rattle.rtx_tree.specs.declared.function.Function.{Function}
 use Rattle.rtx_tree.specs.declared.stage.Stage.TheVariants.{Lower}
 use Rattle.rtl_func.specs.Paths.{ReachesExit}
-use Rattle.rv_line.specs.Run.{label_text}
+use Rattle.rv_text.specs.Body.{label_text}
 use Rattle.rtlc_run.specs.declared.forms.Match.{Match}
 use Rattle.rtlc_run.specs.declared.refusal.Refusal.{Refusal}
 use Rattle.rtlc_run.specs.declared.refusal.Refusal.TheVariants as refusal

@@ -7,7 +7,7 @@ use Rattle.rtx_tree.specs.declared.tree.Rtx.{Rtx, out-Rtx}
 use Rattle.rtx_tree.specs.Code.{code_name}
 use Rattle.rtx_tree.specs.Operands.{operand_at}
 use Rattle.rtl_read.specs.Print.{printed_reg}
-use Rattle.rv_line.specs.Run.{label_text}
+use Rattle.rv_text.specs.Body.{label_text}
 use Rattle.rtlc_run.specs.declared.forms.Form.{Form}
 use Rattle.rtlc_run.specs.declared.forms.Form.TheVariants as form
 use Rattle.rtlc_run.specs.Forms.{Ops, is_comparison, is_zero}

@@ -1,7 +1,7 @@
 //! The templates of the forms, with their operands put in.
 ghost use Rattle.std.specs.Prelude.{◌≡◌, ◌≤◌, ◌++◌, OnOk, IfOk, length};
 ghost use Rattle.std.specs.Option.{option_copied};
-ghost use Rattle.rv_line.specs.Run.{label_text};
+ghost use Rattle.rv_text.specs.Body.{label_text};
 ghost use Rattle.rtlc_run.specs.Template as spec;
 
 use crate::forms::{Form, is_comparison, is_zero};

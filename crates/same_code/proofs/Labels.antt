@@ -13,7 +13,8 @@ use Rattle.rtx_tree.specs.declared.function.Kind.TheVariants as kind
 use Rattle.rv_text.specs.declared.line.CodeItem.{CodeItem}
 use Rattle.rv_text.specs.declared.line.CodeItem.TheVariants.{Label, Code}
 use Rattle.rv_text.specs.declared.line.Line.{Line}
-use Rattle.rv_line.specs.Run.{label_text, behind_label, next_line}
+use Rattle.rv_text.specs.Body.{label_text}
+use Rattle.rv_line.specs.Run.{behind_label, next_line}
 use Rattle.same_code.specs.Direct.{IsUid, IsLineOf, AreItemsOf, sets, jumps, branches, returns}
 use Rattle.same_code.specs.Direct as direct
 use Rattle.same_code.proofs.Entry.{same_or_not}

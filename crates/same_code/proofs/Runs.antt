@@ -38,7 +38,8 @@ use Rattle.rv_text.specs.declared.line.Line.{Line}
 use Rattle.rv_text.specs.declared.line.CodeItem.{CodeItem}
 use Rattle.rv_line.specs.Step.{register, step, step_as, return_end, branch_end, of_both, compares, source_value}
 use Rattle.rv_line.specs.Run as lines
-use Rattle.rv_line.specs.Run.{next_line, behind_label, label_text}
+use Rattle.rv_text.specs.Body.{label_text}
+use Rattle.rv_line.specs.Run.{next_line, behind_label}
 use Rattle.rv_line.specs.declared.state.RvState.{RvState}
 use Rattle.rv_line.specs.declared.state.LineEnd.{LineEnd}
 use Rattle.rv_line.specs.declared.state.LineEnd.TheVariants as ends

@@ -23,7 +23,7 @@ use Rattle.rv_text.specs.declared.line.Line.{Line}
 use Rattle.rv_text.specs.declared.line.CodeItem.{CodeItem}
 use Rattle.rv_text.specs.declared.line.CodeItem.TheVariants.{Label, Code}
 use Rattle.rtl_func.specs.Paths.{ReachesExit}
-use Rattle.rv_line.specs.Run.{label_text}
+use Rattle.rv_text.specs.Body.{label_text}
 
 -- one of a0 to a7
 pub record IsArgument (reg : ℕ) : Type 0 where

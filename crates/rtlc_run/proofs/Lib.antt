@@ -1,1 +1,13 @@
 pub mod Texts
+pub mod Comes
+pub mod Ends
+pub mod Statuses
+pub mod Answered
+pub mod LinesLaws
+pub mod FormLines
+pub mod JumpLines
+pub mod InsnLines
+pub mod ReadExpressions
+pub mod ReadDirect
+pub mod SameLaws
+pub mod Completes

@@ -50,7 +50,7 @@ pub data ReadingComes : Reading → Outcome → Type 0 where
   syntax : (place : Place) → ReadingComes (Syntax place) (Err (refusal.Syntax (codes "-") place))
   depth : (place : Place) → ReadingComes (Depth place) (Err (refusal.Limit limit.Depth 201))
   outside : (trees : List Tree) (place : Place) (name : List ℕ) → functions_in trees ≡ construct place name → ReadingComes (Trees trees) (Err (refusal.Construct place name))
-  functions : (trees : List Tree) (functions : List Function) (outcome : Outcome) → functions_in trees ≡ stands functions → FunctionsCome functions outcome → ReadingComes (Trees trees) outcome
+  compiled : (trees : List Tree) (functions : List Function) (outcome : Outcome) → functions_in trees ≡ stands functions → FunctionsCome functions outcome → ReadingComes (Trees trees) outcome
 
 -- The answer to these words and these bytes. The words are looked at first, then how many bytes there are, then their
 -- reading.

@@ -1,4 +1,3 @@
-use Rattle.std.proofs.Common.{refl}
 use Rattle.rtlc_run.proofs.Comes.{syntax_refused, depth_refused}
 use Rattle.rtlc_run.proofs.answer.read.Goals as goal
 
@@ -8,4 +7,4 @@ returns-in-Err-Syntax-clause-refused c =
 
 pub returns-in-Err-Depth-clause-refused : goal.returns-in-Err-Depth-clause-refused
 returns-in-Err-Depth-clause-refused c =
-    depth_refused c.args.bytes.now c.in-Err-Depth.field-0-0 _ (rw c.in-Err-Depth.field-0-is at c.in-Err-Depth.ensures.reads) refl
+    depth_refused c.args.bytes.now c.in-Err-Depth.field-0-0 (rw c.in-Err-Depth.field-0-is at c.in-Err-Depth.ensures.reads)

@@ -1,0 +1,74 @@
+-- What an input comes to, from what its parts gave.
+use Rattle.std.proofs.Common.{◌≡◌, ◌+◌, ℕ, List, [], ◌∷◌, drop, Result, Ok, Err, Option, Some, None, Vec, codes, refl, sym, ap, subst, ◌∙◌}
+use Rattle.std.specs.declared.alloc.Global.{Global}
+use Rattle.rtx_tree.specs.declared.place.Place.{Place}
+use Rattle.rtx_tree.specs.declared.function.Function.{Function}
+use Rattle.lisp_read.specs.declared.tree.Tree.{Tree}
+use Rattle.lisp_read.specs.Reading.{ReadsAs, Trees, Syntax, Depth}
+use Rattle.rtx_tree.specs.declared.limit.Limit.TheVariants as limit
+use Rattle.rtl_func.specs.declared.fault.Fault.{Fault}
+use Rattle.rtl_func.specs.Faults as rules
+use Rattle.rtl_func.specs.Rules.{faults}
+use Rattle.rtl_read.specs.Parsed.{stands}
+use Rattle.rtl_read.specs.Syntax.{functions_in}
+use Rattle.rtlc_run.specs.declared.refusal.Refusal.{Refusal}
+use Rattle.rtlc_run.specs.declared.refusal.Refusal.TheVariants as refusal
+use Rattle.rtlc_run.specs.Assembly.{Outcome, AreTexts, RefusesWith}
+use Rattle.rtlc_run.specs.Answer as answer
+use Rattle.rtlc_run.specs.Answer.{ComesFrom, ReadingComes, FunctionsCome, fault_or, fault_from, first_fault, IsOrMemory, ReadRefused, ComesTo, Tells}
+use Rattle.rtlc_run.proofs.Texts.{refuses_map}
+
+-- a refusal that was made, or want of memory, where the refusal has a property
+pub made_refuses : (e made : Refusal) (P : Outcome → Type 0) → RefusesWith made P → IsOrMemory e made → RefusesWith e P
+made_refuses refusal.Memory made P holds is = tt
+made_refuses refusal.Usage made P holds is = subst (λ e. RefusesWith e P) (sym is) holds
+made_refuses (refusal.Syntax file place) made P holds is = subst (λ e. RefusesWith e P) (sym is) holds
+made_refuses (refusal.Construct place name) made P holds is = subst (λ e. RefusesWith e P) (sym is) holds
+made_refuses (refusal.IllFormed function uid rule) made P holds is = subst (λ e. RefusesWith e P) (sym is) holds
+made_refuses (refusal.Limit which count) made P holds is = subst (λ e. RefusesWith e P) (sym is) holds
+made_refuses (refusal.Unmatched function uid stage insn) made P holds is = subst (λ e. RefusesWith e P) (sym is) holds
+made_refuses refusal.ReadFault made P holds is = subst (λ e. RefusesWith e P) (sym is) holds
+made_refuses refusal.WriteFault made P holds is = subst (λ e. RefusesWith e P) (sym is) holds
+
+-- what a call told has any property that follows from its own
+pub tells_map : (result : Result (Vec ℕ Global) Refusal) (P Q : Outcome → Type 0) → ((o : Outcome) → P o → Q o) → Tells result P → Tells result Q
+tells_map (Ok text) P Q follows h = follows (Ok text.items) h
+tells_map (Err e) P Q follows h = refuses_map e P Q (λ e. follows (Err e)) h
+
+-- ---- readings
+
+-- the refusal that was made for a place where the bytes stop being a text
+pub syntax_refused : (bytes : List ℕ) (place : Place) (e : Refusal) → IsOrMemory e (refusal.Syntax (codes "-") place) → ReadsAs bytes (Syntax place) → ReadRefused bytes e
+syntax_refused bytes place e is r =
+    made_refuses e (refusal.Syntax (codes "-") place) (ComesFrom bytes) (record { reading = Syntax place; reads = r; comes = answer.ReadingComes.syntax place }) is
+
+-- a place where the bytes go too deep
+pub depth_refused : (bytes : List ℕ) (place : Place) → ReadsAs bytes (Depth place) → ComesFrom bytes (Err (refusal.Limit limit.Depth 201))
+depth_refused bytes place r = record { reading = Depth place; reads = r; comes = answer.ReadingComes.depth place }
+
+-- what the trees came to, the bytes come to
+pub comes_to : (bytes : List ℕ) (trees : List Tree) (result : Result (Vec ℕ Global) Refusal) → ReadsAs bytes (Trees trees) → Tells result (ReadingComes (Trees trees)) → ComesTo bytes result
+comes_to bytes trees result r h = tells_map result (ReadingComes (Trees trees)) (ComesFrom bytes) (λ o comes. record { reading = Trees trees; reads = r; comes = comes }) h
+
+-- what the functions came to, their trees come to
+pub trees_come : (trees : List Tree) (functions : List Function) (result : Result (Vec ℕ Global) Refusal) → functions_in trees ≡ stands functions → Tells result (FunctionsCome functions) → Tells result (ReadingComes (Trees trees))
+trees_come trees functions result is h = tells_map result (FunctionsCome functions) (ReadingComes (Trees trees)) (λ o comes. answer.ReadingComes.compiled trees functions o is comes) h
+
+-- what the texts came to, the functions come to where none has a fault
+pub functions_come : (functions : List Function) (result : Result (Vec ℕ Global) Refusal) → first_fault functions ≡ None → Tells result (AreTexts 0 functions) → Tells result (FunctionsCome functions)
+functions_come functions result none h = tells_map result (AreTexts 0 functions) (FunctionsCome functions) (λ o texts. answer.FunctionsCome.assembled o none texts) h
+
+-- ---- faults
+
+-- a function without a fault leads on
+pub fault_on : (functions : List Function) (index : ℕ) (f : Function) (rest : List Function) → rules.first_fault (faults functions index) ≡ None → fault_from functions index (f ∷ rest) ≡ first_fault functions →
+    fault_from functions (index + 1) rest ≡ first_fault functions
+fault_on functions index f rest none so_far = sym (ap (λ o. fault_or f o (fault_from functions (index + 1) rest)) none) ∙ so_far
+
+-- one with a fault is the first
+pub fault_here : (functions : List Function) (index : ℕ) (f : Function) (rest : List Function) (e : Refusal) →
+    RefusesWith e (λ refused. (fault : Fault) × (rules.first_fault (faults functions index) ≡ Some fault) × (refused ≡ Err (refusal.IllFormed f.name fault.uid fault.rule))) →
+    fault_from functions index (f ∷ rest) ≡ first_fault functions → RefusesWith e (FunctionsCome functions)
+fault_here functions index f rest e h so_far =
+    refuses_map e (λ refused. (fault : Fault) × (rules.first_fault (faults functions index) ≡ Some fault) × (refused ≡ Err (refusal.IllFormed f.name fault.uid fault.rule))) (FunctionsCome functions)
+    (λ e is. subst (FunctionsCome functions) (sym is.2) (answer.FunctionsCome.ill_formed (refusal.IllFormed f.name is.0.uid is.0.rule) (sym so_far ∙ ap (λ o. fault_or f o (fault_from functions (index + 1) rest)) is.1))) h

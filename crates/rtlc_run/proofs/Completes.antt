@@ -1,0 +1,110 @@
+-- An input of which each instruction is matched has a text, and a run that no fault stopped writes it.
+use Rattle.std.proofs.Common.{◌≡◌, ◌⊎◌, ℕ, ◌+◌, List, [], ◌∷◌, ◌++◌, Ok, Err, Option, Some, None, IsSome, eqb, Bool, true, false, refl, sym, ap, subst, ◌∙◌, inl, inr, arith}
+use Rattle.std.proofs.lemmas.Bool.{eqb-true}
+use Rattle.lisp_read.specs.Reading.{Reading, Trees}
+use Rattle.lisp_read.proofs.Unique.{one_reading}
+use Rattle.rtx_tree.specs.declared.function.Kind.{Kind}
+use Rattle.rtx_tree.specs.declared.function.Kind.TheVariants as kind
+use Rattle.rtx_tree.specs.declared.function.Insn.{Insn}
+use Rattle.rtx_tree.specs.declared.function.Function.{Function}
+use Rattle.rtl_read.specs.Parsed.{Parsed, stands, construct}
+use Rattle.rtl_read.specs.Syntax.{functions_in}
+use Rattle.rtl_step.specs.Step.{is_mark}
+use Rattle.rtlc_run.specs.declared.refusal.Refusal.{Refusal}
+use Rattle.rtlc_run.specs.declared.forms.Match.{Match}
+use Rattle.rtlc_run.specs.Forms.{first_match, table}
+use Rattle.rtlc_run.specs.Assembly.{Outcome, outcome_map, outcome_then, line_by, item_by, item_text, body_text, return_insn, framed, IsFinished, IsBodyText, IsFunctionText, AreTexts}
+use Rattle.rtlc_run.specs.Answer as answer
+use Rattle.rtlc_run.specs.Answer.{IsCommand, FunctionsCome, ReadingComes, Answers, EndsWith, IsAnswered, status_of_answer}
+use Rattle.rtlc_run.specs.Lines.{IsInput, IsMatched, AreMatched, AllMatched, Completes}
+use Rattle.rtlc_run.proofs.FormLines.{first_return}
+
+-- an outcome that is a text
+abbrev pub HasText : Outcome → Type 0
+HasText o = (text : List ℕ) × (o ≡ Ok text)
+
+then_text : (a b : Outcome) → HasText a → HasText b → HasText (outcome_then a b)
+then_text a b p q = (p.0 ++ q.0, rw (p.1, q.1) refl)
+
+map_text : (f : List ℕ → List ℕ) (o : Outcome) → HasText o → HasText (outcome_map f o)
+map_text f o p = (f p.0, rw p.1 refl)
+
+found_line : (number : ℕ) (name : List ℕ) (i : Insn) (found : Option Match) → IsSome found → HasText (line_by number name i found)
+found_line number name i (Some m) h = (_, refl)
+found_line number name i None h = cc
+
+-- each item of a chain that is matched has a text
+kind_text : (number : ℕ) (name : List ℕ) (i : Insn) (k : Kind) → i.kind ≡ k → IsMatched i → HasText (item_by k number name i)
+kind_text number name i kind.Plain is matched = found_line number name i (first_match table i.pattern) (matched (ap is_mark is))
+kind_text number name i kind.Jump is matched = found_line number name i (first_match table i.pattern) (matched (ap is_mark is))
+kind_text number name i kind.Call is matched = found_line number name i (first_match table i.pattern) (matched (ap is_mark is))
+kind_text number name i kind.Label is matched = (_, refl)
+kind_text number name i kind.Barrier is matched = (_, refl)
+
+items_text : (number : ℕ) (name : List ℕ) (insns : List Insn) → AreMatched insns → HasText (body_text number name insns)
+items_text number name [] h = ([], refl)
+items_text number name (i ∷ insns) h = then_text (item_text number name i) (body_text number name insns) (kind_text number name i i.kind refl h.0) (items_text number name insns h.1)
+
+return_matches : (insns : List Insn) → IsMatched (return_insn insns)
+return_matches insns = λ plain. subst IsSome (sym first_return) refl
+
+matched_and : (insns : List Insn) (i : Insn) → AreMatched insns → IsMatched i → AreMatched (insns ++ i ∷ [])
+matched_and [] i h last = (last, tt)
+matched_and (x ∷ insns) i h last = (h.0, matched_and insns i h.1 last)
+
+finished_matches : (insns finished : List Insn) → IsFinished insns finished → AreMatched insns → AreMatched finished
+finished_matches insns _ (IsFinished.returning reached) h = matched_and insns (return_insn insns) h (return_matches insns)
+finished_matches insns _ (IsFinished.staying never) h = h
+
+body_has : (number : ℕ) (f : Function) (o : Outcome) → IsBodyText number f o → AreMatched f.insns → HasText o
+body_has number f _ (IsBodyText.body finished finish) h = items_text number f.name finished (finished_matches f.insns finished finish h)
+
+function_has : (number : ℕ) (f : Function) (o : Outcome) → IsFunctionText number f o → AreMatched f.insns → HasText o
+function_has number f _ (IsFunctionText.text body texts) h = map_text (framed f.name) body (body_has number f body texts h)
+
+no_text : (e : Refusal) → HasText (Err e) → ⊥
+no_text e h = let no : ◌≡◌ {A = Outcome} (Err e) (Ok h.0) = h.1 in let none : ⊥ = cc in none
+
+texts_have : (number : ℕ) (functions : List Function) (o : Outcome) → AreTexts number functions o → AllMatched functions → HasText o
+texts_have number _ _ (AreTexts.none _) h = ([], refl)
+texts_have number _ _ (AreTexts.refused _ f functions e text) h = absurd (no_text e (function_has number f (Err e) text h.0))
+texts_have number _ _ (AreTexts.goes_on _ f functions t rest small text more) h = map_text (λ more. t ++ more) rest (texts_have (number + 1) functions rest more h.1)
+
+come_have : (functions : List Function) (o : Outcome) → FunctionsCome functions o → answer.first_fault functions ≡ None → AllMatched functions → HasText o
+come_have functions _ (FunctionsCome.ill_formed e is) none h = absurd (let no : ◌≡◌ {A = Option Refusal} (Some e) None = sym is ∙ none in let nothing : ⊥ = cc in nothing)
+come_have functions _ (FunctionsCome.assembled o none texts) none' h = texts_have 0 functions o texts h
+
+same_functions : (a b : List Function) → ◌≡◌ {A = Parsed (List Function)} (stands a) (stands b) → a ≡ b
+same_functions a b is = cc
+
+trees_have : (bytes : List ℕ) (functions : List Function) (reading : Reading) (o : Outcome) → ReadingComes reading o → (input : IsInput bytes functions) → reading ≡ Trees input.trees → AllMatched functions → HasText o
+trees_have bytes functions _ _ (ReadingComes.syntax place) input is h = cc
+trees_have bytes functions _ _ (ReadingComes.depth place) input is h = cc
+trees_have bytes functions _ _ (ReadingComes.outside trees place name out) input is h =
+    let same : trees ≡ input.trees = cc in
+    absurd (let no : ◌≡◌ {A = Parsed (List Function)} (construct place name) (stands functions) = sym out ∙ ap functions_in same ∙ input.stand in let none : ⊥ = cc in none)
+trees_have bytes functions _ _ (ReadingComes.compiled trees functions' o at come) input is h =
+    let same : trees ≡ input.trees = cc in
+    let same' : functions' ≡ functions = same_functions functions' functions (sym at ∙ ap functions_in same ∙ input.stand) in
+    come_have functions o (subst (λ fs. FunctionsCome fs o) same' come) input.well_formed h
+
+-- a run whose answer is a text has the status 0
+text_status : (words : List (List ℕ)) (bytes : List ℕ) (functions : List Function) (a : Outcome) → IsCommand words → IsInput bytes functions → AllMatched functions → Answers words bytes a → HasText a
+text_status words bytes functions _ command input all (answer.Answers.usage unknown) = absurd (unknown command)
+text_status words bytes functions _ command input all (answer.Answers.too_long c long) = absurd (let within = input.within in omega (arith, long, within))
+text_status words bytes functions _ command input all (answer.Answers.read reading o c within reads comes) = trees_have bytes functions reading o comes input (one_reading bytes reading (Trees input.trees) reads input.reads) all
+
+decided : (status : ℕ) (b : Bool) → eqb status 8 ≡ b → ((status ≡ 8 → ⊥) → status ≡ 0) → (status ≡ 0) ⊎ (status ≡ 8)
+decided status true e h = inr (eqb-true status 8 e)
+decided status false e h = inl (h (λ same. not_both status same e))
+  where
+    not_both : (n : ℕ) → n ≡ 8 → eqb n 8 ≡ false → ⊥
+    not_both n same e = grind arith
+
+pub completes : (words : List (List ℕ)) (input : Option (List ℕ)) (status : ℕ) (output output' errors errors' : Option (List ℕ)) (faults faults' : ℕ) → IsCommand words →
+    ((status ≡ 8 → ⊥) → IsAnswered words input status output output' errors errors' faults faults') → Completes input status
+completes words None status output output' errors errors' faults faults' command h = tt
+completes words (Some bytes) status output output' errors errors' faults faults' command h = λ functions input all. decided status (eqb status 8) refl (λ other.
+    let a = h other in
+    let t = text_status words bytes functions a.0 command input all a.1 in
+    a.2.status_is ∙ ap status_of_answer t.1)

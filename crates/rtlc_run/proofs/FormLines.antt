@@ -1,0 +1,201 @@
+-- Lines that compute: the first form that matches a pattern, and the line that its filled template spells.
+use Rattle.std.proofs.Common.{◌≡◌, ℕ, ◌<◌, arith, Bool, true, false, [], ◌∷◌, ◌++◌, Option, Some, None, refl, sym, ap, subst, ◌∙◌}
+use Rattle.std.specs.Prelude.{◌-◌, IsSome, if◌then◌else◌, option_and_then, ℤ, pos, negsuc, codes, is_some, nat_lt, nat_le, nat_eq, unwrap_or}
+use Rattle.std.specs.Fmt.{signed_decimal, decimal}
+use Rattle.std.specs.Ordering.{int_eq}
+use Rattle.std.proofs.lemmas.Bool.Decides.{nat_tests}
+use Rattle.std.specs.Cmp.{signed_Decides}
+use Rattle.bits64.specs.declared.Width.TheVariants.{W64}
+use Rattle.rtx_tree.specs.Tree.{reg_of, const_of, node_of}
+use Rattle.rtx_tree.specs.declared.code.Code.TheVariants.{Return}
+use Rattle.rtx_tree.specs.Registers.{reg_text}
+use Rattle.rtx_tree.specs.declared.code.Mode.TheVariants.{Void, DI}
+use Rattle.rtx_tree.specs.declared.tree.Rtx.{Rtx, out-roll-Rtx}
+use Rattle.rtx_tree.specs.declared.tree.Rtx.TheOpen.{Rtx-F}
+use Rattle.rv_text.specs.Lines.{action_of, line_text, register_text, is_of_row, is_within, row_text, shown_all}
+use Rattle.rv_text.specs.Table.{Row, row_named, table}
+use Rattle.rv_text.specs.declared.action.Action.{Action}
+use Rattle.rv_text.specs.declared.action.Action.TheVariants as action
+use Rattle.rv_text.specs.declared.action.Operation.TheVariants.{Add}
+use Rattle.rv_text.specs.declared.action.Source.TheVariants.{First, Second, ReturnAddress, Immediate, Constant}
+use Rattle.rv_text.specs.declared.line.Line.{Line}
+use Rattle.rv_text.specs.declared.operand.Operand.TheVariants.{Rd, Rs, Rt, Number}
+use Rattle.rv_text.proofs.Registers.{is_some_register, name_shown}
+use Rattle.same_code.specs.Direct.{IsArgument}
+use Rattle.rtx_tree.specs.Patterns.{is_pc, is_pc_code, sum_rtx, set_rtx, pc_rtx, return_rtx}
+use Rattle.rtlc_run.specs.declared.forms.Match.{Match}
+use Rattle.rtlc_run.specs.declared.forms.Form.{Form}
+use Rattle.rtlc_run.specs.declared.forms.Form.TheVariants as form
+use Rattle.rtlc_run.specs.Forms as forms
+use Rattle.rtlc_run.specs.Template as template
+use Rattle.rtlc_run.specs.Assembly.{filled_line}
+
+-- the lines
+abbrev pub add_line : ℕ → ℕ → ℕ → Line
+add_line t a b = record { name = codes "add"; rd = t; rs = a; rt = b; imm = pos 0; target = [] }
+
+abbrev pub addi_line : ℕ → ℕ → ℤ → Line
+addi_line t a n = record { name = codes "addi"; rd = t; rs = a; rt = 0; imm = n; target = [] }
+
+abbrev pub mv_line : ℕ → ℕ → Line
+mv_line t a = record { name = codes "mv"; rd = t; rs = a; rt = 0; imm = pos 0; target = [] }
+
+abbrev pub ret_line : Line
+ret_line = record { name = codes "ret"; rd = 0; rs = 0; rt = 0; imm = pos 0; target = [] }
+
+pub add_row : row_named (codes "add") ≡ Some (record { name = codes "add"; operands = Rd ∷ Rs ∷ Rt ∷ []; action = action.Compute Add W64 First Second })
+unfolding table
+add_row = refl
+
+pub addi_row : row_named (codes "addi") ≡ Some (record { name = codes "addi"; operands = Rd ∷ Rs ∷ Number (negsuc 2047) (pos 2047) ∷ []; action = action.Compute Add W64 First Immediate })
+unfolding table
+addi_row = refl
+
+pub mv_row : row_named (codes "mv") ≡ Some (record { name = codes "mv"; operands = Rd ∷ Rs ∷ []; action = action.Compute Add W64 First (Constant (pos 0)) })
+unfolding table
+mv_row = refl
+
+pub ret_row : row_named (codes "ret") ≡ Some (record { name = codes "ret"; operands = []; action = action.Return ReturnAddress })
+unfolding table
+ret_row = refl
+
+pub is_register : (r : ℕ) → IsArgument r → is_some (register_text r) ≡ true
+is_register r is = sym (is_some_register r) ∙ grind (arith, nat_tests, is.most)
+
+pub same_nat : (n : ℕ) → nat_eq n n ≡ true
+same_nat n = grind (arith, nat_tests)
+
+-- ---- each line is one of its row
+
+abbrev pub add_form : Row
+add_form = record { name = codes "add"; operands = Rd ∷ Rs ∷ Rt ∷ []; action = action.Compute Add W64 First Second }
+
+abbrev pub addi_form : Row
+addi_form = record { name = codes "addi"; operands = Rd ∷ Rs ∷ Number (negsuc 2047) (pos 2047) ∷ []; action = action.Compute Add W64 First Immediate }
+
+abbrev pub mv_form : Row
+mv_form = record { name = codes "mv"; operands = Rd ∷ Rs ∷ []; action = action.Compute Add W64 First (Constant (pos 0)) }
+
+same_int : (n : ℤ) → int_eq n n ≡ true
+same_int n = (signed_Decides n n).1 refl
+
+pub add_is_row : (t a b : ℕ) → IsArgument t → IsArgument a → IsArgument b → is_of_row add_form (add_line t a b) ≡ true
+add_is_row t a b is_t is_a is_b = rw (is_register t is_t) (rw (is_register a is_a) (rw (is_register b is_b) (rw (same_nat t) (rw (same_nat a) (rw (same_nat b) refl)))))
+
+pub addi_is_row : (t a : ℕ) (n : ℤ) → IsArgument t → IsArgument a → is_within (negsuc 2047) (pos 2047) n ≡ true → is_of_row addi_form (addi_line t a n) ≡ true
+addi_is_row t a n is_t is_a small = rw (is_register t is_t) (rw (is_register a is_a) (rw small (rw (same_nat t) (rw (same_nat a) (rw (same_int n) refl)))))
+
+pub mv_is_row : (t a : ℕ) → IsArgument t → IsArgument a → is_of_row mv_form (mv_line t a) ≡ true
+mv_is_row t a is_t is_a = rw (is_register t is_t) (rw (is_register a is_a) (rw (same_nat t) (rw (same_nat a) refl)))
+
+-- ---- what a line of a row does, and its text
+
+pub does : (line : Line) (row : Row) → row_named line.name ≡ Some row → is_of_row row line ≡ true → action_of line ≡ Some row.action
+does line row named is = ap (λ o. option_and_then (λ (r : Row). if is_of_row r line then Some r.action else None) o) named ∙ ap (λ b. if b then Some row.action else None) is
+
+pub text_is : (line : Line) (row : Row) → row_named line.name ≡ Some row → is_of_row row line ≡ true → line_text line ≡ 9 ∷ (line.name ++ shown_all 9 row.operands line)
+text_is line row named is = ap (λ o. row_text o line) named ∙ ap (λ b. if b then 9 ∷ (line.name ++ shown_all 9 row.operands line) else []) is
+
+-- ---- the operands of a pattern
+
+pub set_is : (f : Form) (target source : Rtx) → forms.operands_of f (set_rtx target source) ≡ forms.set_operands f target source
+set_is f target source = ap (λ (o : Rtx-F Rtx). forms.operands_at f o.code o.kids) (out-roll-Rtx _)
+
+pub parts_of_sum : (a b : Rtx) → forms.sum_parts (sum_rtx a b) ≡ Some (a, b)
+parts_of_sum a b = ap (λ (o : Rtx-F Rtx). forms.sum_at o.code o.kids) (out-roll-Rtx _)
+
+parts_of_reg : (a : ℕ) → forms.sum_parts (reg_of DI a) ≡ None
+parts_of_reg a = ap (λ (o : Rtx-F Rtx). forms.sum_at o.code o.kids) (out-roll-Rtx _)
+
+parts_of_const : (n : ℤ) → forms.sum_parts (const_of n) ≡ None
+parts_of_const n = ap (λ (o : Rtx-F Rtx). forms.sum_at o.code o.kids) (out-roll-Rtx _)
+
+pub reg_is : (a : ℕ) → forms.is_reg (reg_of DI a) ≡ true
+reg_is a = ap (λ (o : Rtx-F Rtx). forms.is_reg_code o.code) (out-roll-Rtx _)
+
+reg_is_no_pc : (a : ℕ) → is_pc (reg_of DI a) ≡ false
+reg_is_no_pc a = ap (λ (o : Rtx-F Rtx). is_pc_code o.code) (out-roll-Rtx _)
+
+const_is_not : (n : ℤ) → forms.is_reg (const_of n) ≡ false
+const_is_not n = ap (λ (o : Rtx-F Rtx). forms.is_reg_code o.code) (out-roll-Rtx _)
+
+pub sum_is_not : (a b : Rtx) → forms.is_reg (sum_rtx a b) ≡ false
+sum_is_not a b = ap (λ (o : Rtx-F Rtx). forms.is_reg_code o.code) (out-roll-Rtx _)
+
+const_small : (n : ℤ) → forms.is_small (const_of n) ≡ forms.is_small_number n
+const_small n = ap (λ (o : Rtx-F Rtx). forms.is_small_at o.code o.number) (out-roll-Rtx _)
+
+pub reg_text_is : (t : ℕ) → IsArgument t → template.operand_text (Some (reg_of DI t)) ≡ unwrap_or (register_text t) []
+reg_text_is t is =
+    let below : nat_lt t 32 ≡ true = grind (arith, nat_tests, is.most) in
+    ap (λ (o : Rtx-F Rtx). template.plain_at o.code o.number) (out-roll-Rtx _) ∙
+    ap (λ b. if b then reg_text t else (if nat_lt t 64 then codes "virtual-stack-vars" else codes "<" ++ (decimal (t - 64) ++ codes ">"))) below ∙ name_shown t
+
+const_text_is : (n : ℤ) → template.operand_text (Some (const_of n)) ≡ signed_decimal n
+const_text_is n = ap (λ (o : Rtx-F Rtx). template.plain_at o.code o.number) (out-roll-Rtx _)
+
+-- ---- the first match of each pattern
+
+pub match_add : (t a b : ℕ) → forms.first_match forms.table (set_rtx (reg_of DI t) (sum_rtx (reg_of DI a) (reg_of DI b))) ≡ Some (record { form = form.Add; operands = Some (reg_of DI t) ∷ Some (reg_of DI a) ∷ Some (reg_of DI b) ∷ [] })
+match_add t a b = rw (set_is form.Add (reg_of DI t) (sum_rtx (reg_of DI a) (reg_of DI b))) (rw (parts_of_sum (reg_of DI a) (reg_of DI b)) (rw (reg_is t) (rw (reg_is a) (rw (reg_is b) refl))))
+
+abbrev pub add_match : ℕ → ℕ → ℕ → Match
+add_match t a b = record { form = form.Add; operands = Some (reg_of DI t) ∷ Some (reg_of DI a) ∷ Some (reg_of DI b) ∷ [] }
+
+abbrev pub addi_match : ℕ → ℕ → ℤ → Match
+addi_match t a n = record { form = form.Addi; operands = Some (reg_of DI t) ∷ Some (reg_of DI a) ∷ Some (const_of n) ∷ [] }
+
+abbrev pub mv_match : ℕ → ℕ → Match
+mv_match t a = record { form = form.Mv; operands = Some (reg_of DI t) ∷ Some (reg_of DI a) ∷ [] }
+
+abbrev pub first_of : Rtx → Option Match
+first_of x = forms.first_match forms.table x
+
+pub match_addi : (t a : ℕ) (n : ℤ) → forms.is_small_number n ≡ true → first_of (set_rtx (reg_of DI t) (sum_rtx (reg_of DI a) (const_of n))) ≡ Some (addi_match t a n)
+match_addi t a n small =
+    rw (set_is form.Add (reg_of DI t) (sum_rtx (reg_of DI a) (const_of n))) (rw (set_is form.Addi (reg_of DI t) (sum_rtx (reg_of DI a) (const_of n))) (rw (parts_of_sum (reg_of DI a) (const_of n))
+    (rw (reg_is t) (rw (reg_is a) (rw (const_is_not n) (rw (const_small n) (rw small refl)))))))
+
+pub no_match_large : (t a : ℕ) (n : ℤ) → forms.is_small_number n ≡ false → first_of (set_rtx (reg_of DI t) (sum_rtx (reg_of DI a) (const_of n))) ≡ None
+no_match_large t a n large =
+    rw (set_is form.Add (reg_of DI t) (sum_rtx (reg_of DI a) (const_of n))) (rw (set_is form.Addi (reg_of DI t) (sum_rtx (reg_of DI a) (const_of n))) (rw (set_is form.Mv (reg_of DI t) (sum_rtx (reg_of DI a) (const_of n)))
+    (rw (set_is form.Jump (reg_of DI t) (sum_rtx (reg_of DI a) (const_of n))) (rw (set_is form.Branch (reg_of DI t) (sum_rtx (reg_of DI a) (const_of n))) (rw (set_is form.Return (reg_of DI t) (sum_rtx (reg_of DI a) (const_of n)))
+    (rw (parts_of_sum (reg_of DI a) (const_of n)) (rw (reg_is t) (rw (reg_is a) (rw (const_is_not n) (rw (const_small n) (rw large (rw (sum_is_not (reg_of DI a) (const_of n)) (rw (reg_is_no_pc t) refl)))))))))))))
+
+pub match_mv : (t a : ℕ) → first_of (set_rtx (reg_of DI t) (reg_of DI a)) ≡ Some (mv_match t a)
+match_mv t a =
+    rw (set_is form.Add (reg_of DI t) (reg_of DI a)) (rw (set_is form.Addi (reg_of DI t) (reg_of DI a)) (rw (set_is form.Mv (reg_of DI t) (reg_of DI a)) (rw (parts_of_reg a) (rw (reg_is t) (rw (reg_is a) refl)))))
+
+pub no_match_const : (t : ℕ) (n : ℤ) → first_of (set_rtx (reg_of DI t) (const_of n)) ≡ None
+no_match_const t n =
+    rw (set_is form.Add (reg_of DI t) (const_of n)) (rw (set_is form.Addi (reg_of DI t) (const_of n)) (rw (set_is form.Mv (reg_of DI t) (const_of n)) (rw (set_is form.Jump (reg_of DI t) (const_of n)) (rw (set_is form.Branch (reg_of DI t) (const_of n)) (rw (set_is form.Return (reg_of DI t) (const_of n))
+    (rw (parts_of_const n) (rw (reg_is t) (rw (const_is_not n) (rw (reg_is_no_pc t) refl)))))))))
+
+match_return : (f : Form) → forms.operands_of f (return_rtx) ≡ (if forms.is_return f then Some [] else None)
+match_return f = ap (λ (o : Rtx-F Rtx). forms.operands_at f o.code o.kids) (out-roll-Rtx _)
+
+pub first_return : first_of (return_rtx) ≡ Some (record { form = form.Return; operands = [] })
+first_return = rw (match_return form.Add) (rw (match_return form.Addi) (rw (match_return form.Mv) (rw (match_return form.Jump) (rw (match_return form.Branch) (rw (match_return form.Return) refl)))))
+
+-- ---- the text of each match
+
+pub add_text : (number t a b : ℕ) → IsArgument t → IsArgument a → IsArgument b → filled_line number (add_match t a b) ≡ line_text (add_line t a b) ++ 10 ∷ []
+add_text number t a b is_t is_a is_b = rw (text_is (add_line t a b) add_form add_row (add_is_row t a b is_t is_a is_b)) (rw (reg_text_is t is_t) (rw (reg_text_is a is_a) (rw (reg_text_is b is_b) refl)))
+
+pub addi_text : (number t a : ℕ) (n : ℤ) → IsArgument t → IsArgument a → is_within (negsuc 2047) (pos 2047) n ≡ true → filled_line number (addi_match t a n) ≡ line_text (addi_line t a n) ++ 10 ∷ []
+addi_text number t a n is_t is_a small = rw (text_is (addi_line t a n) addi_form addi_row (addi_is_row t a n is_t is_a small)) (rw (reg_text_is t is_t) (rw (reg_text_is a is_a) (rw (const_text_is n) refl)))
+
+pub mv_text : (number t a : ℕ) → IsArgument t → IsArgument a → filled_line number (mv_match t a) ≡ line_text (mv_line t a) ++ 10 ∷ []
+mv_text number t a is_t is_a = rw (text_is (mv_line t a) mv_form mv_row (mv_is_row t a is_t is_a)) (rw (reg_text_is t is_t) (rw (reg_text_is a is_a) refl))
+
+pub small_within : (n : ℤ) → forms.is_small_number n ≡ true → is_within (negsuc 2047) (pos 2047) n ≡ true
+small_within (pos n) small =
+    let below : n < 2048 = grind (arith, nat_tests, small) in
+    let first : nat_lt n 9223372036854775808 ≡ true = grind (arith, nat_tests, below) in
+    let second : nat_le n 2047 ≡ true = grind (arith, nat_tests, below) in
+    rw first (rw second refl)
+small_within (negsuc n) small =
+    let below : n < 2048 = grind (arith, nat_tests, small) in
+    let first : nat_lt n 9223372036854775808 ≡ true = grind (arith, nat_tests, below) in
+    let second : nat_le n 2047 ≡ true = grind (arith, nat_tests, below) in
+    rw first (rw second refl)

@@ -1,0 +1,140 @@
+-- The text by its lines has the behaviour of the functions.
+use Rattle.std.proofs.Common.{◌≡◌, ◌<◌, ◌^◌, ℕ, ◌+◌, true, false, List, [], ◌∷◌, ◌++◌, Option, Some, None, refl, sym, ap, subst, ◌∙◌, append_assoc}
+use Rattle.rtx_tree.specs.declared.function.Kind.{Kind}
+use Rattle.rtx_tree.specs.declared.function.Kind.TheVariants as kind
+use Rattle.rtx_tree.specs.declared.function.Insn.{Insn}
+use Rattle.rtx_tree.specs.declared.function.Function.{Function}
+use Rattle.rtl_func.specs.Paths.{ReachesExit}
+use Rattle.rtl_step.specs.Step.{is_mark}
+use Rattle.rv_text.specs.Body.{Spells, label_text}
+use Rattle.rv_text.specs.Lines.{line_text}
+use Rattle.rv_text.specs.declared.line.CodeItem.{CodeItem}
+use Rattle.rv_text.specs.declared.line.CodeItem.TheVariants.{Label, Code}
+use Rattle.rv_text.proofs.Printing.{reads_back}
+use Rattle.same_code.specs.Direct.{AreItemsOf, IsEnding, IsCodeOf}
+use Rattle.same_code.specs.Direct as direct
+use Rattle.same_code.proofs.Reached.{direct_code_is_same}
+use Rattle.rtlc_run.specs.declared.forms.Match.{Match}
+use Rattle.rtlc_run.specs.Forms.{first_match, table}
+use Rattle.rtlc_run.specs.Assembly.{filled_line, label_item, return_insn, IsFinished}
+use Rattle.rtlc_run.specs.Lines.{AreLines, IsAssembly, WritesLines}
+use Rattle.rtlc_run.specs.Same.{AreSame, WritesSame}
+use Rattle.rtlc_run.proofs.InsnLines.{IsReadItem, HasLine, plain_has_line, jump_has_line, return_line}
+use Rattle.rtlc_run.proofs.ReadDirect.{AreReadItems, AreRead, functions_are_read}
+
+-- the lines of a chain, as items and how they end
+record Coded (number : ℕ) (Reached : Type 0) (insns : List Insn) (text : List ℕ) : Type 0 where
+  pub ending : List CodeItem
+  pub ends : IsEnding Reached ending
+  pub items : List CodeItem
+  pub spelled : Spells text items
+  pub are : AreItemsOf number ending insns items
+
+-- the text of a line with its end, before a rest
+ended : (m : List ℕ) (text rest : List ℕ) → m ≡ text ++ 10 ∷ [] → m ++ rest ≡ text ++ 10 ∷ rest
+ended m text rest is = ap (λ t. t ++ rest) is ∙ append_assoc text (10 ∷ []) rest
+
+coded_line : (number : ℕ) (Reached : Type 0) (i : Insn) (insns : List Insn) (m : Match) (rest : List ℕ) → HasLine number i m → Coded number Reached insns rest → Coded number Reached (i ∷ insns) (filled_line number m ++ rest)
+coded_line number Reached i insns m rest has more = record {
+  ending = more.ending;
+  ends = more.ends;
+  items = Code has.line ∷ more.items;
+  spelled = subst (λ t. Spells t (Code has.line ∷ more.items)) (sym (ended (filled_line number m) (line_text has.line) rest has.text))
+      (Spells.line (line_text has.line) has.line rest more.items (reads_back has.line has.is_line) more.spelled);
+  are = direct.line i insns has.line more.items has.line_of more.are;
+}
+
+coded_label : (number : ℕ) (Reached : Type 0) (i : Insn) (insns : List Insn) (rest : List ℕ) → number < 2 ^ 32 → i.kind ≡ kind.Label → direct.IsUid i.uid → Coded number Reached insns rest → Coded number Reached (i ∷ insns) (label_item number i.uid ++ rest)
+coded_label number Reached i insns rest small label small' more = record {
+  ending = more.ending;
+  ends = more.ends;
+  items = Label number i.uid ∷ more.items;
+  spelled = subst (λ t. Spells t (Label number i.uid ∷ more.items)) (sym (append_assoc (label_text number i.uid) (58 ∷ 10 ∷ []) rest)) (Spells.label number i.uid rest more.items small small' more.spelled);
+  are = direct.label i insns more.items label small' more.are;
+}
+
+coded_barrier : (number : ℕ) (Reached : Type 0) (i : Insn) (insns : List Insn) (rest : List ℕ) → i.kind ≡ kind.Barrier → Coded number Reached insns rest → Coded number Reached (i ∷ insns) rest
+coded_barrier number Reached i insns rest barrier more = record {
+  ending = more.ending;
+  ends = more.ends;
+  items = more.items;
+  spelled = more.spelled;
+  are = direct.barrier i insns more.items barrier more.are;
+}
+
+-- ---- items by their kinds
+
+no_mark : (k : Kind) (i : Insn) → i.kind ≡ k → is_mark k ≡ true → is_mark i.kind ≡ false → ⊥
+no_mark k i is mark other = let same : is_mark i.kind ≡ true = ap is_mark is ∙ mark in let none : ⊥ = cc in none
+
+item_has_line : (number : ℕ) (i : Insn) (m : Match) → number < 2 ^ 32 → IsReadItem i → is_mark i.kind ≡ false → first_match table i.pattern ≡ Some m → HasLine number i m
+item_has_line number i m small (IsReadItem.reads_plain plain pattern) other found = plain_has_line number i m pattern plain found
+item_has_line number i m small (IsReadItem.reads_jump jump pattern) other found = jump_has_line number i m small pattern jump found
+item_has_line number i m small (IsReadItem.reads_label label small') other found = absurd (no_mark kind.Label i label refl other)
+item_has_line number i m small (IsReadItem.reads_barrier barrier) other found = absurd (no_mark kind.Barrier i barrier refl other)
+
+label_has_uid : (i : Insn) → IsReadItem i → i.kind ≡ kind.Label → direct.IsUid i.uid
+label_has_uid i (IsReadItem.reads_plain plain pattern) label = absurd (let same : kind.Plain ≡ kind.Label = sym plain ∙ label in let none : ⊥ = cc in none)
+label_has_uid i (IsReadItem.reads_jump jump pattern) label = absurd (let same : kind.Jump ≡ kind.Label = sym jump ∙ label in let none : ⊥ = cc in none)
+label_has_uid i (IsReadItem.reads_label is small) label = small
+label_has_uid i (IsReadItem.reads_barrier barrier) label = absurd (let same : kind.Barrier ≡ kind.Label = sym barrier ∙ label in let none : ⊥ = cc in none)
+
+-- ---- chains
+
+-- a chain with something behind it, of which the items are known
+coded : (number : ℕ) (Reached : Type 0) (tail insns : List Insn) (text : List ℕ) → number < 2 ^ 32 → ((text : List ℕ) → AreLines number tail text → Coded number Reached [] text) → AreReadItems insns → AreLines number (insns ++ tail) text →
+    Coded number Reached insns text
+coded number Reached tail [] text small last read lines = last text lines
+coded number Reached tail (i ∷ insns) _ small last read (AreLines.line _ _ m rest other found more) =
+    coded_line number Reached i insns m rest (item_has_line number i m small read.0 other found) (coded number Reached tail insns rest small last read.1 more)
+coded number Reached tail (i ∷ insns) _ small last read (AreLines.label _ _ rest label more) =
+    coded_label number Reached i insns rest small label (label_has_uid i read.0 label) (coded number Reached tail insns rest small last read.1 more)
+coded number Reached tail (i ∷ insns) text small last read (AreLines.barrier _ _ _ barrier more) =
+    coded_barrier number Reached i insns text barrier (coded number Reached tail insns text small last read.1 more)
+
+none_left : (number : ℕ) (text : List ℕ) → AreLines number [] text → text ≡ []
+none_left number _ AreLines.none = refl
+
+nothing_behind : (number : ℕ) (Reached : Type 0) → ¬ Reached → (text : List ℕ) → AreLines number [] text → Coded number Reached [] text
+nothing_behind number Reached never text lines = record {
+  ending = [];
+  ends = direct.unreached never;
+  items = [];
+  spelled = subst (λ t. Spells t []) (sym (none_left number text lines)) Spells.end;
+  are = direct.end;
+}
+
+return_behind : (number : ℕ) (Reached : Type 0) (i : Insn) → i.kind ≡ kind.Jump → i.pattern ≡ (return_insn []).pattern → (text : List ℕ) → AreLines number (i ∷ []) text → Coded number Reached [] text
+return_behind number Reached i jump pattern _ (AreLines.line _ _ m rest other found more) =
+    let has = return_line number m (sym (ap (first_match table) pattern) ∙ found) in
+    record {
+      ending = Code has.line ∷ [];
+      ends = direct.returning has.line has.acts;
+      items = Code has.line ∷ [];
+      spelled = subst (λ t. Spells t (Code has.line ∷ [])) (sym (ended (filled_line number m) (line_text has.line) rest has.text))
+          (Spells.line (line_text has.line) has.line rest [] (reads_back has.line has.is_line) (subst (λ r. Spells r []) (sym (none_left number rest more)) Spells.end));
+      are = direct.end;
+    }
+return_behind number Reached i jump pattern _ (AreLines.label _ _ rest label more) = absurd (let same : kind.Jump ≡ kind.Label = sym jump ∙ label in let none : ⊥ = cc in none)
+return_behind number Reached i jump pattern text (AreLines.barrier _ _ _ barrier more) = absurd (let same : kind.Jump ≡ kind.Barrier = sym jump ∙ barrier in let none : ⊥ = cc in none)
+
+with_nothing : (insns : List Insn) → insns ≡ insns ++ []
+with_nothing [] = refl
+with_nothing (i ∷ insns) = ap (λ l. i ∷ l) (with_nothing insns)
+
+finished_code : (number : ℕ) (insns finished : List Insn) (text : List ℕ) → number < 2 ^ 32 → AreReadItems insns → IsFinished insns finished → AreLines number finished text → Coded number (ReachesExit insns) insns text
+finished_code number insns _ text small read (IsFinished.returning reached) lines =
+    coded number (ReachesExit insns) (return_insn insns ∷ []) insns text small (return_behind number (ReachesExit insns) (return_insn insns) refl refl) read lines
+finished_code number insns _ text small read (IsFinished.staying never) lines =
+    coded number (ReachesExit insns) [] insns text small (nothing_behind number (ReachesExit insns) never) read (subst (λ l. AreLines number l text) (with_nothing insns) lines)
+
+are_same : (number : ℕ) (functions : List Function) (text : List ℕ) → AreRead functions → IsAssembly number functions text → AreSame functions text
+are_same number _ _ read (IsAssembly.none _) = AreSame.none
+are_same number _ _ read (IsAssembly.function _ f functions finished body rest small finish lines others) =
+    let code = finished_code number f.insns finished body small read.0.items finish lines in
+    AreSame.function f functions body rest code.items code.spelled
+    (direct_code_is_same number f code.items read.0.is_direct (record { ending = code.ending; ends = code.ends; are = code.are })) (are_same (number + 1) functions rest read.1 others)
+
+pub writes_same : (input old new : Option (List ℕ)) → WritesLines input old new → WritesSame input old new
+writes_same None old new h = tt
+writes_same (Some bytes) old new h = (h.0, h.1, h.2, are_same 0 h.0 h.2 (functions_are_read h.1.trees h.0 h.1.stand) h.3, h.4)

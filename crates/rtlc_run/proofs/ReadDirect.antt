@@ -70,9 +70,25 @@ tested : (code : Code) (comparison : Comparison) (left right : Source) → IsTes
 tested code comparison left right test = record { comparison = comparison; left = left; right = right; test = test }
 
 all_tested : Each Tested jump.comparisons
-all_tested =
-    (tested _ _ _ _ direct.equal, (tested _ _ _ _ direct.not_equal, (tested _ _ _ _ direct.less, (tested _ _ _ _ direct.not_greater, (tested _ _ _ _ direct.greater, (tested _ _ _ _ direct.not_less,
-    (tested _ _ _ _ direct.less_unsigned, (tested _ _ _ _ direct.not_greater_unsigned, (tested _ _ _ _ direct.greater_unsigned, (tested _ _ _ _ direct.not_less_unsigned, tt))))))))))
+all_tested = (
+  tested _ _ _ _ direct.equal,
+  (
+    tested _ _ _ _ direct.not_equal,
+    (
+      tested _ _ _ _ direct.less,
+      (
+        tested _ _ _ _ direct.not_greater,
+        (
+          tested _ _ _ _ direct.greater,
+          (
+            tested _ _ _ _ direct.not_less,
+            (tested _ _ _ _ direct.less_unsigned, (tested _ _ _ _ direct.not_greater_unsigned, (tested _ _ _ _ direct.greater_unsigned, (tested _ _ _ _ direct.not_less_unsigned, tt)))),
+          ),
+        ),
+      ),
+    ),
+  ),
+)
 
 comparison_in : (text : List ℕ) (code : Code) → jump.comparison_in text ≡ Some code → Tested code
 comparison_in text code is = found_has Tested (λ code. bytes_eq (head_text code Void) text) jump.comparisons code all_tested is

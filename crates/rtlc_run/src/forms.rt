@@ -183,9 +183,8 @@ fn test_operands(alloc: Global, test: &Rtx, label: &Rtx) -> Result<Option<Operan
     ensures { IfOk result (λ ops. ops ≡ spec.test_operands test.now label.now) }
 {
     match (test.kids.as_slice(), label_part(label)) {
-        ([a, b], Some(uid)) if is_comparison(test.code) && is_reg(a) && (is_reg(b) || is_zero(b)) => {
-            Ok(Some(four(alloc, test, a, b, uid)?))
-        }
+        ([a, b], Some(uid)) if is_comparison(test.code) && is_reg(a) && (is_reg(b) || is_zero(b)) =>
+            { Ok(Some(four(alloc, test, a, b, uid)?)) }
         _ => Ok(None),
     }
 }

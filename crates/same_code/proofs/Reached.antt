@@ -1,10 +1,10 @@
 -- The places that a run of direct code reaches are those to which paths lead.
-use Rattle.std.proofs.Common.{◌≡◌, ◌≢◌, ℕ, ◌+◌, Bool, true, false, ◌||◌, ◌==◌, List, [], ◌∷◌, Option, Some, None, refl, sym, ap, ◌∙◌, arith}
+use Rattle.std.proofs.Common.{◌≡◌, ◌≢◌, ℕ, ◌+◌, Bool, true, false, ◌||◌, ◌==◌, List, [], ◌∷◌, Some, refl, ap, ◌∙◌, arith}
 use Rattle.std.proofs.lemmas.Bool.Decides.{nat_tests}
 use Rattle.std.specs.Prelude.{slice_get, if◌then◌else◌}
 use Rattle.std.specs.Option.{option_to_list}
 use Rattle.rtx_tree.specs.Tree.{node_of}
-use Rattle.rtx_tree.specs.Patterns.{set_rtx, pc_rtx, label_rtx, label_of, place_of, jump_rtx, branch_rtx}
+use Rattle.rtx_tree.specs.Patterns.{set_rtx, pc_rtx, label_rtx, label_of, jump_rtx, branch_rtx}
 use Rattle.rtx_tree.specs.declared.code.Code.TheVariants.{IfThenElse}
 use Rattle.rtx_tree.specs.declared.code.Mode.TheVariants.{Void}
 use Rattle.rtx_tree.specs.declared.tree.Rtx.{Rtx, out-roll-Rtx}

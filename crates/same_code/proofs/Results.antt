@@ -42,4 +42,3 @@ same_result mode regs m which has agree = ⊎_elim
 
 pub same_none : (events : List CallEvent) → events ≡ [] → SameCalls events []
 same_none events none = subst (λ x. SameCalls x []) (sym none) (refl, λ i event call is there. absurd (let no : ⊥ = cc in no))
-

@@ -55,7 +55,6 @@ use Rattle.same_code.proofs.Insns.{value_reg, value_const}
 use Rattle.same_code.proofs.Jumps.{picked, return_leaves, jump_goes, branch_goes, test_is, compares_same, chosen_is}
 use Rattle.same_code.proofs.Direct.{AreReached, At, Stands, at_end, at_line, passes, at_next}
 
-
 both_there : {X : Type 0} (g : ℕ → ℕ → X) (o o' : Option ℕ) (x y : ℕ) → o ≡ Some x → o' ≡ Some y → of_both g o o' ≡ Some (g x y)
 both_there g o o' x y is is' = ap (λ o. of_both g o o') is ∙ ap (of_both g (Some x)) is'
 

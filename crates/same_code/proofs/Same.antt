@@ -50,6 +50,9 @@ follows_at_entry start locals none words = record {
 -- ---- the law
 
 pub same_where_reached : (number : ℕ) (f : Function) (Reached : ℕ → Type 0) (graph : AreReached f Reached) (ending items : List CodeItem) → Reached 0 → AreItemsOf number ending f.insns items → IsEnding (Reached (length f.insns)) ending → IsDirect f → Same 0 f items
-same_where_reached number f Reached graph ending items first all ended is_direct = λ start world n lawful lawful_world defined.
-    (n, taken_few world f n (func.entry_of (seen_by_rtl 0 f.locals start)), agrees number f Reached graph ending items all ended is_direct start world n (func.entry_of (seen_by_rtl 0 f.locals start)) items (lines.entry start)
-    (record { within = omega arith; reached = first; there = items; are = all; same = refl }) (follows_at_entry start f.locals is_direct.no_locals lawful.words) defined)
+same_where_reached number f Reached graph ending items first all ended is_direct = λ start world n lawful lawful_world defined. (
+  n,
+  taken_few world f n (func.entry_of (seen_by_rtl 0 f.locals start)),
+  agrees number f Reached graph ending items all ended is_direct start world n (func.entry_of (seen_by_rtl 0 f.locals start)) items (lines.entry start)
+      (record { within = omega arith; reached = first; there = items; are = all; same = refl }) (follows_at_entry start f.locals is_direct.no_locals lawful.words) defined,
+)

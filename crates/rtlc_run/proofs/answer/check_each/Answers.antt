@@ -22,11 +22,12 @@ pub loop-f-preserved : goal.loop-f-preserved
 loop-f-preserved c =
     let functions = c.args.functions.now in
     let place = c.loop-f.invariant.0 in
-    let next = c.in_ok-index.ensures.next in
-    (omega (arith, place, next),
-    subst (λ (n : ℕ). fault_from functions n (drop (c.loop-f.f-index + 1) functions) ≡ first_fault functions) (sym next)
-    (fault_on functions c.loop-f.index c.f-item.result (drop (c.loop-f.f-index + 1) functions) c.in_ok-check_function.ensures
-    (subst (λ fs. fault_from functions c.loop-f.index fs ≡ first_fault functions) (drop_at functions c.loop-f.f-index c.f-item.result (omega arith) c.f-item.is) c.loop-f.invariant.1)))
+    let next = c.in_ok-index.ensures.next in (
+      omega (arith, place, next),
+      subst (λ (n : ℕ). fault_from functions n (drop (c.loop-f.f-index + 1) functions) ≡ first_fault functions) (sym next)
+          (fault_on functions c.loop-f.index c.f-item.result (drop (c.loop-f.f-index + 1) functions) c.in_ok-check_function.ensures
+          (subst (λ fs. fault_from functions c.loop-f.index fs ≡ first_fault functions) (drop_at functions c.loop-f.f-index c.f-item.result (omega arith) c.f-item.is) c.loop-f.invariant.1)),
+    )
 
 pub returns : goal.returns
 returns c =

@@ -383,7 +383,7 @@ enum Part {
     Nothing,
 }
 
-fn part(alloc: Global, of: Part) -> Rtx {
+fn of_part(alloc: Global, of: Part) -> Rtx {
     match of {
         Part::Reg(mode, number_of) => reg(alloc, mode, number_of),
         Part::Number(value) => number(alloc, value),
@@ -392,12 +392,12 @@ fn part(alloc: Global, of: Part) -> Rtx {
 }
 
 fn told_two(alloc: Global, code: Code, a: Part, b: Part) -> Result<Option<(u32, u8)>, Memory> {
-    let x = Rtx::of_two(alloc, code, Mode::DI, part(alloc, a), part(alloc, b))?;
+    let x = Rtx::of_two(alloc, code, Mode::DI, of_part(alloc, a), of_part(alloc, b))?;
     told_source(alloc, x)
 }
 
 fn told_one(alloc: Global, code: Code, a: Part) -> Result<Option<(u32, u8)>, Memory> {
-    let x = Rtx::of_one(alloc, code, Mode::DI, part(alloc, a))?;
+    let x = Rtx::of_one(alloc, code, Mode::DI, of_part(alloc, a))?;
     told_source(alloc, x)
 }
 
@@ -463,7 +463,7 @@ fn modes_of_a_set(rt: HostRuntime) -> Result<(), Fail> {
         (Part::Reg(Mode::SI, 64), Some((7, 4))),
     ] {
         assert_eq!(rt;
-            told_source(rt.alloc(), part(rt.alloc(), source))?,
+            told_source(rt.alloc(), of_part(rt.alloc(), source))?,
             expected
         );
     }
@@ -525,7 +525,7 @@ fn stack_variables(rt: HostRuntime) -> Result<(), Fail> {
         assert_eq!(rt; told_two(alloc, Code::Plus, vars, offset)?, expected);
         assert_eq!(rt; told_two(alloc, Code::Plus, offset, vars)?, expected);
     }
-    let change = set(alloc, part(alloc, vars), number(alloc, 0))?;
+    let change = set(alloc, of_part(alloc, vars), number(alloc, 0))?;
     assert_eq!(rt; told(alloc, Kind::Plain, change)?, Some((7, 9)));
     Ok(())
 }
@@ -585,14 +585,14 @@ fn results_of_a_call(rt: HostRuntime) -> Result<(), Fail> {
 #[test]
 fn targets_of_a_call(rt: HostRuntime) -> Result<(), Fail> {
     let alloc = rt.alloc();
-    let by_register = call(alloc, part(alloc, DI))?;
+    let by_register = call(alloc, of_part(alloc, DI))?;
     assert_eq!(rt; told_call(alloc, by_register, &[])?, None);
     let sum = Rtx::of_two(
         alloc,
         Code::Plus,
         Mode::DI,
-        part(alloc, DI),
-        part(alloc, ONE),
+        of_part(alloc, DI),
+        of_part(alloc, ONE),
     )?;
     assert_eq!(rt; told_call(alloc, call(alloc, sum)?, &[])?, Some((7, 7)));
     Ok(())

@@ -1,5 +1,5 @@
 -- The modes of pseudos, by the parts of a tree.
-use Rattle.std.proofs.Common.{◌≡◌, ℕ, Bool, true, false, ◌==◌, ◌&&◌, not, cond, filter, List, [], ◌∷◌, ◌++◌, append_assoc, Option, Some, None, option_map, refl, sym, ap, ◌∙◌}
+use Rattle.std.proofs.Common.{◌≡◌, ℕ, Bool, true, false, ◌==◌, ◌&&◌, not, cond, filter, List, [], ◌∷◌, ◌++◌, Option, Some, None, option_map, refl, sym, ap, ◌∙◌}
 use Rattle.std.specs.List.{filter_map, flat_map, cons_option, find}
 use Rattle.std.specs.Option.{option_or}
 use Rattle.rtx_tree.specs.declared.code.Mode.{Mode}

@@ -1,12 +1,11 @@
 -- Hard registers and calls: GCC Internals, "Registers and Memory", "Side Effect Expressions" (`call`) and "Calls"; RISC-V ELF
 -- psABI, "Integer Calling Convention".
-use Rattle.std.specs.Prelude.{ℕ, ◌||◌, ◌&&◌, ◌==◌, nat_le, nat_lt, not, Bool, true, false, List, [], ◌∷◌, map, Option, Some, None}
+use Rattle.std.specs.Prelude.{ℕ, ◌||◌, ◌&&◌, ◌==◌, nat_le, not, Bool, true, false, List, [], ◌∷◌, map, Option, Some, None}
 use Rattle.std.specs.List.{list_all}
 use Rattle.rtx_tree.specs.declared.code.Mode.TheVariants.{DI}
 use Rattle.rtx_tree.specs.declared.function.ArgUse.{ArgUse}
 use Rattle.rtx_tree.specs.declared.function.Kind.{Kind}
 use Rattle.rtx_tree.specs.declared.function.Kind.TheVariants.{Call}
-use Rattle.rtx_tree.specs.declared.function.Insn.{Insn}
 use Rattle.rtx_tree.specs.declared.tree.Rtx.{Rtx, out-Rtx}
 use Rattle.rtl_func.specs.declared.form.Form.{Form}
 use Rattle.rtl_func.specs.declared.form.Form.TheVariants as form

@@ -8,7 +8,7 @@ use Rattle.rtx_tree.specs.declared.tree.Rtx.{Rtx, out-Rtx}
 use Rattle.rtl_func.specs.declared.form.Form.{Form}
 use Rattle.rtl_func.specs.declared.form.Form.TheVariants as form
 use Rattle.rtl_func.specs.Nodes.{nodes_of}
-use Rattle.rtl_func.specs.Table.{form_at, number_at, is_constant}
+use Rattle.rtl_func.specs.Table.{form_at, is_constant}
 use Rattle.rtl_func.specs.Calls.{are_distinct}
 use Rattle.rtl_func.specs.Modes.{register_at}
 use Rattle.rtl_func.specs.Paths.{has_place}

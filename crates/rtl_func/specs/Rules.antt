@@ -1,10 +1,10 @@
 -- The rules of a well-formed function, by number, and the first place at which one fails: GCC Internals, "Insns" and "RTL Objects".
-use Rattle.std.specs.Prelude.{◌≡◌, ℕ, ◌||◌, ◌&&◌, ◌==◌, not, Bool, true, if◌then◌else◌, List, [], ◌∷◌, ◌++◌, map, filter, take, slice_get, Option, Some, None, Result, Ok, Err}
+use Rattle.std.specs.Prelude.{◌≡◌, ℕ, ◌&&◌, ◌==◌, not, Bool, if◌then◌else◌, List, [], ◌∷◌, ◌++◌, map, filter, take, slice_get, Option, Some, None, Result, Ok, Err}
 use Rattle.std.specs.List.{list_any, flat_map}
 use Rattle.std.specs.Str.{bytes_eq}
 use Rattle.rtx_tree.specs.declared.function.Insn.{Insn}
 use Rattle.rtx_tree.specs.declared.function.Function.{Function}
-use Rattle.rtl_func.specs.Faults.{fault, first_fault}
+use Rattle.rtl_func.specs.Faults.{fault}
 use Rattle.rtl_func.specs.Uids.{is_ruled, uids_of, bad_uids}
 use Rattle.rtl_func.specs.Kinds.{labels_stand, kinds_agree}
 use Rattle.rtl_func.specs.Modes.{modes_agree, one_mode_a_pseudo}

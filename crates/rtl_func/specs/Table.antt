@@ -1,6 +1,6 @@
 -- The table of codes, each with its mode and parts: GCC Internals, "RTL Objects", "RTL Expressions", "Registers and Memory",
 -- "RTL Expressions for Arithmetic", "Comparison Operations", "Conversions" and "Side Effect Expressions".
-use Rattle.std.specs.Prelude.{ℕ, ◌||◌, ◌&&◌, ◌==◌, nat_le, nat_lt, not, ℤ, Bool, true, false, List, [], ◌∷◌}
+use Rattle.std.specs.Prelude.{ℕ, ◌||◌, ◌&&◌, ◌==◌, nat_le, nat_lt, not, Bool, true, false, List, [], ◌∷◌}
 use Rattle.std.specs.Int.{cast_unsigned, w64}
 use Rattle.std.specs.List.{list_all}
 use Rattle.rtx_tree.specs.declared.code.Code.{Code}

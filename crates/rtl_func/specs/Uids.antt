@@ -1,5 +1,5 @@
 -- Uids: GCC Internals, "Insns" (`INSN_UID`). They differ, and are from 1 to 2,147,483,647.
-use Rattle.std.specs.Prelude.{ℕ, ◌||◌, ◌&&◌, nat_le, not, Bool, true, false, if◌then◌else◌, List, [], ◌∷◌, map, filter}
+use Rattle.std.specs.Prelude.{ℕ, ◌&&◌, nat_le, not, Bool, true, false, if◌then◌else◌, List, [], ◌∷◌, map, filter}
 use Rattle.rtx_tree.specs.declared.function.Kind.{Kind}
 use Rattle.rtx_tree.specs.declared.function.Kind.TheVariants.{Barrier}
 use Rattle.rtx_tree.specs.declared.function.Insn.{Insn}

@@ -195,49 +195,61 @@ fn no_jump_pattern(rt: HostRuntime) -> Result<(), Fail> {
     Ok(())
 }
 
+fn reaches_by(alloc: Global, shapes: &[Shape]) -> Result<Option<bool>, Memory> {
+    let f = chain(alloc, shapes)?;
+    reaches(alloc, &f)
+}
+
+// Nested loops; branches over each other, forwards and backwards, to a label at the very end; code behind a jump; a function that
+// spins; the first of two labels with one uid; a barrier in mid-chain; an empty function.
+const CHAINS: [(&[Shape], bool); 7] = [
+    (
+        &[
+            Shape::Label(1),
+            Shape::Label(2),
+            Shape::Plain,
+            Shape::Branch(2),
+            Shape::Branch(1),
+        ],
+        true,
+    ),
+    (
+        &[
+            Shape::Goto(3),
+            Shape::Label(1),
+            Shape::Branch(4),
+            Shape::Label(2),
+            Shape::Goto(2),
+            Shape::Label(3),
+            Shape::Branch(1),
+            Shape::Goto(2),
+            Shape::Label(4),
+        ],
+        true,
+    ),
+    (&[Shape::Leave, Shape::Barrier, Shape::Plain], false),
+    (
+        &[Shape::Label(1), Shape::Plain, Shape::Goto(1), Shape::Plain],
+        false,
+    ),
+    (
+        &[
+            Shape::Goto(1),
+            Shape::Label(1),
+            Shape::Leave,
+            Shape::Label(1),
+        ],
+        false,
+    ),
+    (&[Shape::Plain, Shape::Barrier, Shape::Plain], true),
+    (&[], true),
+];
+
 #[test]
 fn exits_that_are_reached(rt: HostRuntime) -> Result<(), Fail> {
-    let alloc = rt.alloc();
-    // Nested loops.
-    let nested = [
-        Shape::Label(1),
-        Shape::Label(2),
-        Shape::Plain,
-        Shape::Branch(2),
-        Shape::Branch(1),
-    ];
-    assert_eq!(rt; reaches(alloc, &chain(alloc, &nested)?)?, Some(true));
-    // Branches over each other, forwards and backwards, to a label at the very end.
-    let crossing = [
-        Shape::Goto(3),
-        Shape::Label(1),
-        Shape::Branch(4),
-        Shape::Label(2),
-        Shape::Goto(2),
-        Shape::Label(3),
-        Shape::Branch(1),
-        Shape::Goto(2),
-        Shape::Label(4),
-    ];
-    assert_eq!(rt; reaches(alloc, &chain(alloc, &crossing)?)?, Some(true));
-    // Code behind a jump, which alone runs to the end.
-    let behind = [Shape::Leave, Shape::Barrier, Shape::Plain];
-    assert_eq!(rt; reaches(alloc, &chain(alloc, &behind)?)?, Some(false));
-    // A function that spins.
-    let spins = [Shape::Label(1), Shape::Plain, Shape::Goto(1), Shape::Plain];
-    assert_eq!(rt; reaches(alloc, &chain(alloc, &spins)?)?, Some(false));
-    // The first of two labels with one uid.
-    let twice = [
-        Shape::Goto(1),
-        Shape::Label(1),
-        Shape::Leave,
-        Shape::Label(1),
-    ];
-    assert_eq!(rt; reaches(alloc, &chain(alloc, &twice)?)?, Some(false));
-    // A barrier in mid-chain is passed over.
-    let passed = [Shape::Plain, Shape::Barrier, Shape::Plain];
-    assert_eq!(rt; reaches(alloc, &chain(alloc, &passed)?)?, Some(true));
-    assert_eq!(rt; reaches(alloc, &chain(alloc, &[])?)?, Some(true));
+    for (shapes, expected) in CHAINS {
+        assert_eq!(rt; reaches_by(rt.alloc(), shapes)?, Some(expected));
+    }
     Ok(())
 }
 
@@ -322,26 +334,39 @@ fn uids_differ(rt: HostRuntime) -> Result<(), Fail> {
 }
 
 #[test]
-fn labels_and_kinds(rt: HostRuntime) -> Result<(), Fail> {
-    let alloc = rt.alloc();
+fn labels_stand(rt: HostRuntime) -> Result<(), Fail> {
     for (shapes, expected) in [
         ([Shape::Goto(8), Shape::Label(8)], None),
         ([Shape::Goto(9), Shape::Label(8)], Some((101, 2))),
         ([Shape::Leave, Shape::Branch(101)], Some((102, 2))),
     ] {
-        assert_eq!(rt; refused(alloc, chain(alloc, &shapes)?)?, expected);
+        let f = chain(rt.alloc(), &shapes)?;
+        assert_eq!(rt; refused(rt.alloc(), f)?, expected);
     }
-    assert_eq!(rt; told(alloc, Kind::Jump, leave(alloc))?, None);
-    assert_eq!(rt; told(alloc, Kind::Plain, leave(alloc))?, Some((7, 3)));
-    assert_eq!(rt; told(alloc, Kind::Jump, move_pseudo(alloc)?)?, Some((7, 3)));
-    assert_eq!(rt; told(alloc, Kind::Call, move_pseudo(alloc)?)?, Some((7, 3)));
-    assert_eq!(rt;
-        told(alloc, Kind::Label, move_pseudo(alloc)?)?,
-        Some((7, 3))
-    );
-    // A return within a parallel is none of an instruction's.
+    Ok(())
+}
+
+#[test]
+fn kinds_agree(rt: HostRuntime) -> Result<(), Fail> {
+    let alloc = rt.alloc();
+    for (kind, of_return, of_move) in [
+        (Kind::Plain, Some((7, 3)), None),
+        (Kind::Jump, None, Some((7, 3))),
+        (Kind::Call, Some((7, 3)), Some((7, 3))),
+        (Kind::Label, Some((7, 3)), Some((7, 3))),
+        (Kind::Barrier, None, None),
+    ] {
+        assert_eq!(rt; told(alloc, kind, leave(alloc))?, of_return);
+        assert_eq!(rt; told(alloc, kind, move_pseudo(alloc)?)?, of_move);
+    }
+    Ok(())
+}
+
+// A return within a parallel is none of an instruction's.
+#[test]
+fn kinds_agree_at_any_depth(rt: HostRuntime) -> Result<(), Fail> {
+    let alloc = rt.alloc();
     let mut kids = Items::new(alloc);
-    kids.push(move_pseudo(alloc)?)?;
     kids.push(leave(alloc))?;
     assert_eq!(rt;
         told(alloc, Kind::Plain, parallel(alloc, kids))?,
@@ -350,69 +375,98 @@ fn labels_and_kinds(rt: HostRuntime) -> Result<(), Fail> {
     Ok(())
 }
 
+// A part of a tree.
+#[derive(Clone, Copy)]
+enum Part {
+    Reg(Mode, u32),
+    Number(i64),
+    Nothing,
+}
+
+fn of_part(alloc: Global, of: Part) -> Rtx {
+    match of {
+        Part::Reg(mode, number_of) => reg(alloc, mode, number_of),
+        Part::Number(value) => number(alloc, value),
+        Part::Nothing => nothing(alloc),
+    }
+}
+
+fn told_two(alloc: Global, code: Code, a: Part, b: Part) -> Result<Option<(u32, u8)>, Memory> {
+    let x = Rtx::of_two(alloc, code, Mode::DI, of_part(alloc, a), of_part(alloc, b))?;
+    told_source(alloc, x)
+}
+
+fn told_one(alloc: Global, code: Code, a: Part) -> Result<Option<(u32, u8)>, Memory> {
+    let x = Rtx::of_one(alloc, code, Mode::DI, of_part(alloc, a))?;
+    told_source(alloc, x)
+}
+
+const DI: Part = Part::Reg(Mode::DI, 65);
+
+const SI: Part = Part::Reg(Mode::SI, 66);
+
+const ONE: Part = Part::Number(1);
+
 #[test]
-fn modes_and_parts(rt: HostRuntime) -> Result<(), Fail> {
-    let alloc = rt.alloc();
-    let di = reg(alloc, Mode::DI, 65);
-    let si = reg(alloc, Mode::SI, 66);
-    assert_eq!(rt; told_source(alloc, number(alloc, -1))?, None);
-    assert_eq!(rt; told_source(alloc, si.copy(alloc)?)?, Some((7, 4)));
-    let sum = Rtx::of_two(
-        alloc,
-        Code::Plus,
-        Mode::DI,
-        di.copy(alloc)?,
-        number(alloc, 1),
-    )?;
-    assert_eq!(rt; told_source(alloc, sum)?, None);
-    let sum = Rtx::of_two(
-        alloc,
-        Code::Plus,
-        Mode::DI,
-        di.copy(alloc)?,
-        si.copy(alloc)?,
-    )?;
-    assert_eq!(rt; told_source(alloc, sum)?, Some((7, 4)));
-    let shift = Rtx::of_two(
-        alloc,
-        Code::Ashift,
-        Mode::DI,
-        di.copy(alloc)?,
-        si.copy(alloc)?,
-    )?;
-    assert_eq!(rt; told_source(alloc, shift)?, None);
-    let wide = Rtx::of_one(alloc, Code::SignExtend, Mode::DI, si.copy(alloc)?)?;
-    assert_eq!(rt; told_source(alloc, wide)?, None);
-    let wide = Rtx::of_one(alloc, Code::SignExtend, Mode::DI, di.copy(alloc)?)?;
-    assert_eq!(rt; told_source(alloc, wide)?, Some((7, 4)));
-    let wide = Rtx::of_one(alloc, Code::SignExtend, Mode::DI, number(alloc, 1))?;
-    assert_eq!(rt; told_source(alloc, wide)?, Some((7, 4)));
-    let less = Rtx::of_two(alloc, Code::Lt, Mode::DI, si.copy(alloc)?, number(alloc, 1))?;
-    assert_eq!(rt; told_source(alloc, less)?, None);
-    let less = Rtx::of_two(alloc, Code::Lt, Mode::DI, si.copy(alloc)?, di.copy(alloc)?)?;
-    assert_eq!(rt; told_source(alloc, less)?, Some((7, 4)));
-    let less = Rtx::of_two(
-        alloc,
-        Code::Lt,
-        Mode::DI,
-        number(alloc, 2),
-        number(alloc, 1),
-    )?;
-    assert_eq!(rt; told_source(alloc, less)?, Some((7, 4)));
-    let memory = Rtx::of_one(alloc, Code::Mem, Mode::DI, di.copy(alloc)?)?;
-    assert_eq!(rt; told_source(alloc, memory)?, None);
-    let memory = Rtx::of_one(alloc, Code::Mem, Mode::DI, si.copy(alloc)?)?;
-    assert_eq!(rt; told_source(alloc, memory)?, Some((7, 4)));
-    let low = Rtx::of_one(alloc, Code::Subreg, Mode::SI, di.copy(alloc)?)?;
-    let wide = Rtx::of_one(alloc, Code::ZeroExtend, Mode::DI, low)?;
-    assert_eq!(rt; told_source(alloc, wide)?, None);
-    let low = Rtx::of_one(alloc, Code::Subreg, Mode::DI, si)?;
-    assert_eq!(rt; told_source(alloc, low)?, Some((7, 4)));
-    // No pattern is a value, and no value is an effect.
-    assert_eq!(rt; told(alloc, Kind::Plain, di)?, Some((7, 4)));
-    let template = Rtx::leaf(alloc, Code::MatchOperand, Mode::DI, 0);
-    assert_eq!(rt; told_source(alloc, template)?, Some((7, 4)));
-    assert_eq!(rt; told_source(alloc, move_pseudo(alloc)?)?, Some((7, 4)));
+fn modes_of_two_parts(rt: HostRuntime) -> Result<(), Fail> {
+    for (code, a, b, expected) in [
+        (Code::Plus, DI, ONE, None),
+        (Code::Plus, DI, SI, Some((7, 4))),
+        (Code::Plus, DI, Part::Nothing, Some((7, 4))),
+        (Code::Ashift, DI, SI, None),
+        (Code::Ashift, SI, DI, Some((7, 4))),
+        (Code::Lt, SI, ONE, None),
+        (Code::Lt, ONE, SI, None),
+        (Code::Lt, SI, DI, Some((7, 4))),
+        (Code::Lt, ONE, ONE, Some((7, 4))),
+        (Code::Neg, DI, ONE, Some((7, 4))),
+        (Code::Set, DI, DI, Some((7, 4))),
+    ] {
+        assert_eq!(rt; told_two(rt.alloc(), code, a, b)?, expected);
+    }
+    Ok(())
+}
+
+#[test]
+fn modes_of_one_part(rt: HostRuntime) -> Result<(), Fail> {
+    for (code, a, expected) in [
+        (Code::SignExtend, SI, None),
+        (Code::SignExtend, DI, Some((7, 4))),
+        (Code::SignExtend, ONE, Some((7, 4))),
+        (Code::Truncate, SI, Some((7, 4))),
+        (Code::Mem, DI, None),
+        (Code::Mem, SI, Some((7, 4))),
+        (Code::Mem, ONE, Some((7, 4))),
+        (Code::Subreg, SI, Some((7, 4))),
+        (Code::Not, DI, None),
+        (Code::Not, SI, Some((7, 4))),
+        (Code::MatchOperand, DI, Some((7, 4))),
+    ] {
+        assert_eq!(rt; told_one(rt.alloc(), code, a)?, expected);
+    }
+    Ok(())
+}
+
+#[test]
+fn modes_of_a_set(rt: HostRuntime) -> Result<(), Fail> {
+    for (source, expected) in [
+        (DI, None),
+        (ONE, None),
+        (SI, Some((7, 4))),
+        (Part::Reg(Mode::DI, 33), Some((7, 4))),
+        (Part::Nothing, Some((7, 4))),
+        (Part::Reg(Mode::DI, 9), Some((7, 6))),
+        (Part::Reg(Mode::DI, 10), None),
+        (Part::Reg(Mode::DI, 17), None),
+        (Part::Reg(Mode::DI, 18), Some((7, 6))),
+        (Part::Reg(Mode::DI, 32), None),
+        (Part::Reg(Mode::SI, 64), Some((7, 4))),
+    ] {
+        assert_eq!(rt;
+            told_source(rt.alloc(), of_part(rt.alloc(), source))?,
+            expected
+        );
+    }
     Ok(())
 }
 
@@ -433,29 +487,18 @@ fn one_mode_a_pseudo(rt: HostRuntime) -> Result<(), Fail> {
     Ok(())
 }
 
+fn told_together(alloc: Global, second: u32) -> Result<Option<(u32, u8)>, Memory> {
+    let mut kids = Items::new(alloc);
+    kids.push(move_pseudo(alloc)?)?;
+    kids.push(set(alloc, reg(alloc, Mode::DI, second), number(alloc, 1))?)?;
+    told(alloc, Kind::Plain, parallel(alloc, kids))
+}
+
 #[test]
-fn registers_parallels_and_locals(rt: HostRuntime) -> Result<(), Fail> {
+fn parallels(rt: HostRuntime) -> Result<(), Fail> {
     let alloc = rt.alloc();
-    for (number_of, expected) in [
-        (9, Some((7, 6))),
-        (10, None),
-        (17, None),
-        (18, Some((7, 6))),
-        (32, None),
-        (33, Some((7, 4))),
-        (63, Some((7, 4))),
-        (65, None),
-    ] {
-        assert_eq!(rt;
-            told_source(alloc, reg(alloc, Mode::DI, number_of))?,
-            expected
-        );
-    }
     for (second, expected) in [(65, None), (64, Some((7, 8)))] {
-        let mut kids = Items::new(alloc);
-        kids.push(move_pseudo(alloc)?)?;
-        kids.push(set(alloc, reg(alloc, Mode::DI, second), number(alloc, 1))?)?;
-        assert_eq!(rt; told(alloc, Kind::Plain, parallel(alloc, kids))?, expected);
+        assert_eq!(rt; told_together(alloc, second)?, expected);
     }
     let mut kids = Items::new(alloc);
     kids.push(nothing(alloc))?;
@@ -464,6 +507,13 @@ fn registers_parallels_and_locals(rt: HostRuntime) -> Result<(), Fail> {
         Some((7, 8))
     );
     assert_eq!(rt; told(alloc, Kind::Plain, nothing(alloc))?, None);
+    Ok(())
+}
+
+#[test]
+fn stack_variables(rt: HostRuntime) -> Result<(), Fail> {
+    let alloc = rt.alloc();
+    let vars = Part::Reg(Mode::DI, 32);
     for (offset, expected) in [
         (0, None),
         (-16, None),
@@ -471,14 +521,11 @@ fn registers_parallels_and_locals(rt: HostRuntime) -> Result<(), Fail> {
         (1, Some((7, 9))),
         (i64::MIN, Some((7, 9))),
     ] {
-        let vars = reg(alloc, Mode::DI, 32);
-        let at = Rtx::of_two(alloc, Code::Plus, Mode::DI, vars, number(alloc, offset))?;
-        assert_eq!(rt; told_source(alloc, at)?, expected);
-        let vars = reg(alloc, Mode::DI, 32);
-        let at = Rtx::of_two(alloc, Code::Plus, Mode::DI, number(alloc, offset), vars)?;
-        assert_eq!(rt; told_source(alloc, at)?, expected);
+        let offset = Part::Number(offset);
+        assert_eq!(rt; told_two(alloc, Code::Plus, vars, offset)?, expected);
+        assert_eq!(rt; told_two(alloc, Code::Plus, offset, vars)?, expected);
     }
-    let change = set(alloc, reg(alloc, Mode::DI, 32), number(alloc, 0))?;
+    let change = set(alloc, of_part(alloc, vars), number(alloc, 0))?;
     assert_eq!(rt; told(alloc, Kind::Plain, change)?, Some((7, 9)));
     Ok(())
 }
@@ -506,34 +553,48 @@ fn told_call(alloc: Global, pattern: Rtx, regs: &[u8]) -> Result<Option<(u32, u8
     refused(alloc, function(alloc, b"f", insns)?)
 }
 
-#[test]
-fn calls(rt: HostRuntime) -> Result<(), Fail> {
-    let alloc = rt.alloc();
+fn symbol(alloc: Global) -> Result<Rtx, Memory> {
     let name = Name::of(alloc, b"g")?;
-    let symbol = Rtx::of_name(alloc, Code::SymbolRef, Mode::DI, name);
+    Ok(Rtx::of_name(alloc, Code::SymbolRef, Mode::DI, name))
+}
+
+#[test]
+fn uses_of_a_call(rt: HostRuntime) -> Result<(), Fail> {
     for (regs, expected) in [
-        ([10, 17].as_slice(), None),
-        ([10, 10].as_slice(), Some((7, 7))),
-        ([10, 18].as_slice(), Some((7, 6))),
+        ([10, 17], None),
+        ([10, 10], Some((7, 7))),
+        ([10, 18], Some((7, 6))),
     ] {
-        let pattern = call(alloc, symbol.copy(alloc)?)?;
-        assert_eq!(rt; told_call(alloc, pattern, regs)?, expected);
+        let pattern = call(rt.alloc(), symbol(rt.alloc())?)?;
+        assert_eq!(rt; told_call(rt.alloc(), pattern, &regs)?, expected);
     }
-    let by_register = call(alloc, reg(alloc, Mode::DI, 64))?;
+    Ok(())
+}
+
+#[test]
+fn results_of_a_call(rt: HostRuntime) -> Result<(), Fail> {
+    let alloc = rt.alloc();
+    for (result_reg, expected) in [(10, None), (11, Some((7, 7))), (64, Some((7, 7)))] {
+        let source = call(alloc, symbol(alloc)?)?;
+        let pattern = set(alloc, reg(alloc, Mode::SI, result_reg), source)?;
+        assert_eq!(rt; told_call(alloc, pattern, &[])?, expected);
+    }
+    Ok(())
+}
+
+#[test]
+fn targets_of_a_call(rt: HostRuntime) -> Result<(), Fail> {
+    let alloc = rt.alloc();
+    let by_register = call(alloc, of_part(alloc, DI))?;
     assert_eq!(rt; told_call(alloc, by_register, &[])?, None);
     let sum = Rtx::of_two(
         alloc,
         Code::Plus,
         Mode::DI,
-        reg(alloc, Mode::DI, 64),
-        number(alloc, 4),
+        of_part(alloc, DI),
+        of_part(alloc, ONE),
     )?;
     assert_eq!(rt; told_call(alloc, call(alloc, sum)?, &[])?, Some((7, 7)));
-    for (result, expected) in [(10, None), (11, Some((7, 7))), (64, Some((7, 7)))] {
-        let source = call(alloc, symbol.copy(alloc)?)?;
-        let pattern = set(alloc, reg(alloc, Mode::SI, result), source)?;
-        assert_eq!(rt; told_call(alloc, pattern, &[])?, expected);
-    }
     Ok(())
 }
 

@@ -1,6 +1,6 @@
-use Rattle.std.proofs.Common.{List, sym, ap, ◌∙◌}
+use Rattle.std.proofs.Common.{List, ap, ◌∙◌}
 use Rattle.rtx_tree.specs.declared.function.Insn.{Insn}
-use Rattle.rtl_func.specs.Faults.{earlier, first_fault}
+use Rattle.rtl_func.specs.Faults.{first_fault}
 use Rattle.rtl_func.specs.Rules.{uid_faults, all_rule_faults, insn_rules, name_faults}
 use Rattle.rtl_func.proofs.FaultLaws.{noted_three}
 use Rattle.rtl_func.proofs.check_rules.first_of_function.Goals as goal

@@ -1,4 +1,4 @@
-use Rattle.std.proofs.Common.{◌≡◌, ◌+◌, ◌==◌, ◌||◌, ◌&&◌, not, ℕ, List, ◌∷◌, Option, true, false, drop, sym, ap, ◌∙◌}
+use Rattle.std.proofs.Common.{◌≡◌, ◌+◌, ◌==◌, ◌||◌, ◌&&◌, not, ℕ, ◌∷◌, true, false, drop, sym, ap, ◌∙◌}
 use Rattle.std.specs.Ordering.{nat_cmp}
 use Rattle.std.specs.BTreeSet as set
 use Rattle.std.specs.BTreeSet.{BTreeSet}
@@ -8,7 +8,6 @@ use Rattle.rtl_func.specs.Faults.{earlier, first_fault}
 use Rattle.rtl_func.specs.Paths.{has_place}
 use Rattle.rtl_func.specs.Rules.{uid_fault}
 use Rattle.rtl_func.specs.Uids.{is_ruled, is_uid}
-use Rattle.rtl_func.specs.declared.fault.Fault.{Fault}
 use Rattle.rtl_func.proofs.FaultLaws.{all_noted, uid_faults_in, uid_ruled, uid_other}
 use Rattle.rtl_func.proofs.uids.note_uids.Goals as goal
 use Rattle.rtl_func.proofs.uids.note_uids.Goals.{then-is_ruled+in_ok-note_uid, else-is_ruled}

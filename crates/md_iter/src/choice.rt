@@ -87,8 +87,8 @@ fn add_of_atom<'a>(
     }
 }
 
-#[tactic(auto, using(crate::proofs::Uses::uses_next))]
 /// Adds the iterators that some trees use, of which the first may be the head of a list.
+#[tactic(auto, using(crate::proofs::Uses::uses_next))]
 #[cycle(uses)]
 fn add_of_trees<'a>(
     iterators: &'a [FormIterator],
@@ -136,8 +136,8 @@ pub fn iterators_of<'a>(
     Ok(used)
 }
 
-#[tactic(auto, using(crate::proofs::Counts::count_next, crate::proofs::Counts::count_ends))]
 /// How many choices of values there are, or the greatest `usize` where there are more.
+#[tactic(auto, using(crate::proofs::Counts::count_next, crate::proofs::Counts::count_ends))]
 pub fn choice_count(used: &[&FormIterator]) -> usize
     ensures { result ≡ min (spec.choice_count (lent used.now)) (2 ^ 64 - 1) }
 {
@@ -148,8 +148,8 @@ pub fn choice_count(used: &[&FormIterator]) -> usize
     count
 }
 
-#[tactic(auto, using(crate::proofs::Places::has_values, crate::proofs::Places::has_rest, crate::proofs::Places::within_values))]
 /// Choice `at` of all `count`.
+#[tactic(auto, using(crate::proofs::Places::has_values, crate::proofs::Places::has_rest, crate::proofs::Places::within_values))]
 pub fn choice_at<'a>(
     alloc: Global,
     used: &[&'a FormIterator],

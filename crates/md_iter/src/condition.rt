@@ -129,7 +129,7 @@ fn join_split_at(
 }
 
 /// Where a form has its conditions.
-#[derive(Clone, Copy, Debug, PartialEq, Eq)]
+#[derive(Clone, Copy)]
 enum Conditions {
     /// It has none.
     Nowhere,

@@ -10,7 +10,7 @@ use rtx_tree::{Constant, Constants, Name};
 use std::alloc::Global;
 
 /// What an iterator stands for.
-#[derive(Clone, Copy, Debug, PartialEq, Eq)]
+#[derive(Clone, Copy)]
 pub enum Kind {
     Mode,
     Code,

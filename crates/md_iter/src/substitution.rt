@@ -152,8 +152,8 @@ fn filled_name(
     Ok(Name::from_vec(filled(alloc, definitions, choices, text)?))
 }
 
-#[tactic(auto, using(crate::proofs::Uses::substituted_next))]
 /// Some trees, of which the first may be the head of a list.
+#[tactic(auto, using(crate::proofs::Uses::substituted_next))]
 #[cycle(substitution)]
 fn substituted_trees(
     alloc: Global,

@@ -1,0 +1,6 @@
+pub mod Each
+pub mod Lists
+pub mod Counts
+pub mod Places
+pub mod Uses
+pub mod Making

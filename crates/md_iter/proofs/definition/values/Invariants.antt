@@ -1,0 +1,7 @@
+use Rattle.std.proofs.Common.{◌≡◌, drop}
+use Rattle.md_iter.specs.Definition as spec
+use Rattle.md_iter.proofs.Each.{with_front}
+use Rattle.md_iter.proofs.definition.values.Given as goal
+
+abbrev pub invariant-loop-tree : goal.invariant-loop-tree
+invariant-loop-tree l = with_front l.values (spec.each_of spec.value_of (drop l.tree-index l.trees)) ≡ spec.each_of spec.value_of l.trees

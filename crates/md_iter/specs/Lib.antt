@@ -1,0 +1,9 @@
+pub mod Shape
+pub mod Number
+pub mod Definition
+pub mod Choice
+pub mod Attribute
+pub mod Angles
+pub mod Condition
+pub mod Substitution
+pub mod Expansion

@@ -21,4 +21,6 @@ pub use program::{out_of_memory, run};
 pub use refusal::Refusal;
 
 #[cfg(test)]
+mod jump_tests;
+#[cfg(test)]
 mod tests;

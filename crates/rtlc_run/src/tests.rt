@@ -55,7 +55,7 @@ fn ran(alloc: Global, text: &[u8]) -> Result<Ending, Memory> {
 }
 
 /// The text gives this status, and the line on the sink of errors.
-fn refuses(
+pub fn refuses(
     rt: &impl Abort,
     alloc: Global,
     text: &[u8],
@@ -69,8 +69,8 @@ fn refuses(
     Ok(())
 }
 
-/// The function of this name and this text has this text between its label and its `.size` line.
-fn gives(rt: &impl Abort, alloc: Global, text: &[u8], output: &[u8]) -> Result<(), Memory> {
+/// The text gives status 0 and this output.
+pub fn gives(rt: &impl Abort, alloc: Global, text: &[u8], output: &[u8]) -> Result<(), Memory> {
     let ran = ran(alloc, text)?;
     assert_eq!(rt; ran.output.taken(), output);
     assert_eq!(rt; ran.status, 0);
@@ -98,8 +98,8 @@ fn functions_are_written(rt: HostRuntime) -> Result<(), Fail> {
     gives(
         &rt,
         alloc,
-        b"(function \"f\" (insn-chain (cinsn 5 (set (reg:DI a0) (plus:DI (reg:DI a7) (const_int 2047)))) (cinsn 5 (set (reg:DI a1) (reg:DI a0)))))(function \"f\" (insn-chain))",
-        b"\t.text\n\t.align\t2\n\t.globl\tf\n\t.type\tf, @function\nf:\n\taddi\ta0,a7,2047\n\tmv\ta1,a0\n\tret\n\t.size\tf, .-f\n\t.text\n\t.align\t2\n\t.globl\tf\n\t.type\tf, @function\nf:\n\tret\n\t.size\tf, .-f\n",
+        b"(function \"f\" (insn-chain (cinsn 5 (set (reg:DI a0) (plus:DI (reg:DI a7) (const_int 2047)))) (cinsn 6 (set (reg:DI a1) (reg:DI a0)))))(function \"g\" (insn-chain))",
+        b"\t.text\n\t.align\t2\n\t.globl\tf\n\t.type\tf, @function\nf:\n\taddi\ta0,a7,2047\n\tmv\ta1,a0\n\tret\n\t.size\tf, .-f\n\t.text\n\t.align\t2\n\t.globl\tg\n\t.type\tg, @function\ng:\n\tret\n\t.size\tg, .-g\n",
     )?;
     Ok(())
 }

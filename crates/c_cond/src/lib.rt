@@ -1,0 +1,14 @@
+//! Reads the C conditions and the preparation statements of machine descriptions.
+#![tactic(auto)]
+
+mod head;
+mod lexer;
+mod number;
+mod token;
+mod keyword;
+mod word;
+
+pub use head::{Binary, Call, Head, Unary};
+
+#[cfg(test)]
+mod tests;

@@ -1,1 +1,2 @@
 pub mod Lexes
+pub mod Codes

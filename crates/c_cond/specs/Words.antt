@@ -73,19 +73,23 @@ mode_named word =
     (if bytes_eq word (codes "SImode") then Some mode.SI else
     (if bytes_eq word (codes "DImode") then Some mode.DI else None))))
 
-abbrev is_capital : ℕ → Bool
+abbrev pub is_capital : ℕ → Bool
 is_capital b = nat_le 65 b && nat_le b 90
 
-abbrev is_small : ℕ → Bool
+abbrev pub is_small : ℕ → Bool
 is_small b = nat_le 97 b && nat_le b 122
 
 -- a letter in its small form, any other byte as it is
 abbrev pub small : ℕ → ℕ
 small b = if is_capital b then b + 32 else b
 
+-- the code with a name
+abbrev pub code_with_name : List ℕ → Option Code
+code_with_name name = first_that (λ c. bytes_eq (code_name c) name) all_codes
+
 -- the code that a word is in C: its name in capitals
 abbrev pub code_named : List ℕ → Option Code
-code_named word = if list_all (λ b. not (is_small b)) word then first_that (λ c. bytes_eq (code_name c) (map small word)) all_codes else None
+code_named word = if list_all (λ b. not (is_small b)) word then code_with_name (map small word) else None
 
 -- a name of a fact of the target
 abbrev pub is_target : List ℕ → Bool

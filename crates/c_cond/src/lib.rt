@@ -1,6 +1,7 @@
 //! Reads the C conditions and the preparation statements of machine descriptions.
 #![tactic(auto)]
 
+mod atom;
 mod head;
 mod lexer;
 mod number;

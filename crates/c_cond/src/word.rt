@@ -1,5 +1,6 @@
 //! What words name: modes, codes, facts of the target, constants.
-ghost use Rattle.std.specs.Prelude.{◌≡◌};
+ghost use Rattle.std.specs.Prelude.{◌≡◌, map, not, IfOk};
+ghost use Rattle.std.specs.List.{list_all};
 ghost use Rattle.c_cond.specs.Words as spec;
 
 use plain_data::Memory;
@@ -50,4 +51,58 @@ pub fn constant_named(constants: &[Constant], word: &[u8]) -> Option<i64>
         }
     }
     None
+}
+
+fn is_small(byte: u8) -> bool
+    ensures { result ≡ spec.is_small byte }
+{
+    b'a' <= byte && byte <= b'z'
+}
+
+fn small(byte: u8) -> u8
+    ensures { result ≡ spec.small byte }
+{
+    if b'A' <= byte && byte <= b'Z' {
+        byte + 32
+    } else {
+        byte
+    }
+}
+
+fn has_no_small(word: &[u8]) -> bool
+    ensures { result ≡ list_all (λ b. not (spec.is_small b)) word.now }
+{
+    for byte in word {
+        if is_small(*byte) {
+            return false;
+        }
+    }
+    true
+}
+
+fn in_small(alloc: Global, word: &[u8]) -> Result<Vec<u8>, Memory>
+    ensures { IfOk result (λ letters. letters.items ≡ map spec.small word.now) }
+{
+    let mut letters = Vec::new(alloc);
+    for byte in word {
+        letters.push(small(*byte))?;
+    }
+    Ok(letters)
+}
+
+fn code_with_name(name: &[u8]) -> Option<Code>
+    ensures { result ≡ spec.code_with_name name.now }
+{
+    Code::named(name)
+}
+
+/// The code that a word is in C, or `None` where it is none.
+pub fn code_named(alloc: Global, word: &[u8]) -> Result<Option<Code>, Memory>
+    ensures { IfOk result (λ code. code ≡ spec.code_named word.now) }
+{
+    if !has_no_small(word) {
+        return Ok(None);
+    }
+    let name = in_small(alloc, word)?;
+    Ok(code_with_name(name.as_slice()))
 }

@@ -2,4 +2,5 @@ pub mod Words
 pub mod Numbers
 pub mod Tokens
 pub mod Atoms
+pub mod Grammar
 pub mod machine

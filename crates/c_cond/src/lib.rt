@@ -4,7 +4,11 @@
 mod atom;
 mod head;
 mod lexer;
+mod goal;
 mod number;
+mod parser;
+mod takes;
+mod part;
 mod token;
 mod keyword;
 mod word;

@@ -1,3 +1,5 @@
 pub mod Lexes
 pub mod Codes
 pub mod Meets
+pub mod Levels
+pub mod SoundExpressions

@@ -77,7 +77,7 @@ pub record IsElse (d : Dialect) (cs : List Constant) (closed : Bool) (c : List H
 
 -- no else, and none follows
 pub record IsNoElse (closed : Bool) (c : List Head) (ts : List Token) : Type 0 where
-  pub open : closed ≡ false
+  pub unclosed : closed ≡ false
   pub tree : c ≡ head.If ∷ []
   pub tokens : ts ≡ []
 
@@ -136,17 +136,17 @@ use_parts d cs (signature.Two x y) gs P k c ts m =
     use_first d cs (goal.Part x) (goal.Mark comma ∷ goal.Part y ∷ gs) P (λ a e ts us i m.
     use_mark d cs comma (goal.Part y ∷ gs) (λ e us. P (a ++ e) (ts ++ us)) (λ e us m.
     use_first d cs (goal.Part y) gs (λ e us. P (a ++ e) (ts ++ token.Mark comma ∷ us)) (λ b e vs us j m.
-    moved P ((a ++ b) ++ e) (a ++ b ++ e) ((ts ++ token.Mark comma ∷ vs) ++ us) (ts ++ token.Mark comma ∷ vs ++ us) (append_assoc a b e) (append_assoc ts (token.Mark comma ∷ vs) us)
+    moved P ((a ++ b) ++ e) (a ++ (b ++ e)) ((ts ++ token.Mark comma ∷ vs) ++ us) (ts ++ (token.Mark comma ∷ vs ++ us)) (append_assoc a b e) (append_assoc ts (token.Mark comma ∷ vs) us)
       (k (a ++ b) e (ts ++ token.Mark comma ∷ vs) us (Is.two x y a b ts vs i j) m)) e us m) e us m) c ts m
 use_parts d cs (signature.Three x y z) gs P k c ts m =
     use_first d cs (goal.Part x) (goal.Mark comma ∷ goal.Part y ∷ goal.Mark comma ∷ goal.Part z ∷ gs) P (λ a e ts us i m.
     use_mark d cs comma (goal.Part y ∷ goal.Mark comma ∷ goal.Part z ∷ gs) (λ e us. P (a ++ e) (ts ++ us)) (λ e us m.
     use_first d cs (goal.Part y) (goal.Mark comma ∷ goal.Part z ∷ gs) (λ e us. P (a ++ e) (ts ++ token.Mark comma ∷ us)) (λ b e vs us j m.
-    use_mark d cs comma (goal.Part z ∷ gs) (λ e us. P (a ++ b ++ e) (ts ++ token.Mark comma ∷ vs ++ us)) (λ e us m.
-    use_first d cs (goal.Part z) gs (λ e us. P (a ++ b ++ e) (ts ++ token.Mark comma ∷ vs ++ token.Mark comma ∷ us)) (λ f e ws us l m.
-    moved P ((a ++ b ++ f) ++ e) (a ++ b ++ f ++ e) ((ts ++ token.Mark comma ∷ vs ++ token.Mark comma ∷ ws) ++ us) (ts ++ token.Mark comma ∷ vs ++ token.Mark comma ∷ ws ++ us)
+    use_mark d cs comma (goal.Part z ∷ gs) (λ e us. P (a ++ (b ++ e)) (ts ++ (token.Mark comma ∷ vs ++ us))) (λ e us m.
+    use_first d cs (goal.Part z) gs (λ e us. P (a ++ (b ++ e)) (ts ++ (token.Mark comma ∷ vs ++ token.Mark comma ∷ us))) (λ f e ws us l m.
+    moved P ((a ++ (b ++ f)) ++ e) (a ++ (b ++ (f ++ e))) ((ts ++ (token.Mark comma ∷ vs ++ token.Mark comma ∷ ws)) ++ us) (ts ++ (token.Mark comma ∷ vs ++ (token.Mark comma ∷ ws ++ us)))
       (simp append_assoc refl) (simp append_assoc refl)
-      (k (a ++ b ++ f) e (ts ++ token.Mark comma ∷ vs ++ token.Mark comma ∷ ws) us (Is.three x y z a b f ts vs ws i j l) m)) e us m) e us m) e us m) e us m) c ts m
+      (k (a ++ (b ++ f)) e (ts ++ (token.Mark comma ∷ vs ++ token.Mark comma ∷ ws)) us (Is.three x y z a b f ts vs ws i j l) m)) e us m) e us m) e us m) e us m) c ts m
 
 -- the parts of a call in parentheses
 pub use_call : (d : Dialect) (cs : List Constant) (parts : Signature) (h : Head) (gs : List Goal) (P : Told) →

@@ -209,10 +209,10 @@ pub data Is (d : Dialect) (constants : List Constant) : Sort → List Head → L
       Is d constants (One (part.Expression p)) (a ++ head.Unary u ∷ []) (sign ∷ ts)
   between : (p : ℕ) (op : Binary) (a b : List Head) (ts us : List Token) → p ≤ level op →
       Is d constants (One (part.Expression (level op))) a ts → Is d constants (One (part.Expression (level op + 1))) b us →
-      Is d constants (One (part.Expression p)) (a ++ b ++ head.Binary op ∷ []) (ts ++ token.Operator op ∷ us)
+      Is d constants (One (part.Expression p)) (a ++ (b ++ head.Binary op ∷ [])) (ts ++ token.Operator op ∷ us)
   choice : (a b c : List Head) (ts us vs : List Token) →
       Is d constants (One (part.Expression 1)) a ts → Is d constants (One expression) b us → Is d constants (One expression) c vs →
-      Is d constants (One expression) (a ++ b ++ c ++ head.Choose ∷ []) (ts ++ token.Mark question ∷ us ++ token.Mark colon ∷ vs)
+      Is d constants (One expression) (a ++ (b ++ (c ++ head.Choose ∷ []))) (ts ++ (token.Mark question ∷ us ++ token.Mark colon ∷ vs))
   operand : (word : List ℕ) (k : ℕ) → keyword_named word ≡ Some keyword.Operands → d ≡ dialect.Condition → k < 2 ^ 32 →
       Is d constants (One part.Operand) (head.Operand k ∷ []) (token.Word word ∷ token.Mark open_square ∷ token.Number k ∷ token.Mark close_square ∷ [])
   tested : (word : List ℕ) → keyword_named word ≡ Some keyword.Op → d ≡ dialect.Test → Is d constants (One part.Operand) (head.Operand 0 ∷ []) (token.Word word ∷ [])
@@ -227,7 +227,7 @@ pub data Is (d : Dialect) (constants : List Constant) : Sort → List Head → L
   two : (x y : Part) (a b : List Head) (ts us : List Token) → Is d constants (One x) a ts → Is d constants (One y) b us →
       Is d constants (Parts (signature.Two x y)) (a ++ b) (ts ++ token.Mark comma ∷ us)
   three : (x y z : Part) (a b c : List Head) (ts us vs : List Token) → Is d constants (One x) a ts → Is d constants (One y) b us → Is d constants (One z) c vs →
-      Is d constants (Parts (signature.Three x y z)) (a ++ b ++ c) (ts ++ token.Mark comma ∷ us ++ token.Mark comma ∷ vs)
+      Is d constants (Parts (signature.Three x y z)) (a ++ (b ++ c)) (ts ++ (token.Mark comma ∷ us ++ token.Mark comma ∷ vs))
   assign : (closed : Bool) (word : List ℕ) (k : ℕ) (a : List Head) (ts : List Token) → keyword_named word ≡ Some keyword.Operands → k < 2 ^ 32 → Is d constants (One part.Value) a ts →
       Is d constants (Statement closed) (a ++ head.Assign k ∷ []) (token.Word word ∷ token.Mark open_square ∷ token.Number k ∷ token.Mark close_square ∷ token.Mark becomes ∷ (ts ++ token.Mark semicolon ∷ []))
   move : (closed : Bool) (word : List ℕ) (parts : List Head) (ts : List Token) → keyword_named word ≡ Some (keyword.Call call.EmitMove) → Is d constants (Parts (signature_of call.EmitMove)) parts ts →
@@ -238,13 +238,13 @@ pub data Is (d : Dialect) (constants : List Constant) : Sort → List Head → L
       Is d constants (Statement closed) a (token.Mark open_brace ∷ (ts ++ token.Mark close_brace ∷ []))
   when : (word : List ℕ) (a b : List Head) (ts us : List Token) → keyword_named word ≡ Some keyword.If →
       Is d constants (One expression) a ts → Is d constants (Statement false) b us →
-      Is d constants (Statement false) (a ++ b ++ head.If ∷ []) (token.Word word ∷ token.Mark open_round ∷ (ts ++ token.Mark close_round ∷ us))
+      Is d constants (Statement false) (a ++ (b ++ head.If ∷ [])) (token.Word word ∷ token.Mark open_round ∷ (ts ++ token.Mark close_round ∷ us))
   when_else : (closed : Bool) (word other : List ℕ) (a b c : List Head) (ts us vs : List Token) → keyword_named word ≡ Some keyword.If → keyword_named other ≡ Some keyword.Else →
       Is d constants (One expression) a ts → Is d constants (Statement true) b us → Is d constants (Statement closed) c vs →
-      Is d constants (Statement closed) (a ++ b ++ c ++ head.IfElse ∷ []) (token.Word word ∷ token.Mark open_round ∷ (ts ++ token.Mark close_round ∷ us ++ token.Word other ∷ vs))
+      Is d constants (Statement closed) (a ++ (b ++ (c ++ head.IfElse ∷ []))) (token.Word word ∷ token.Mark open_round ∷ (ts ++ (token.Mark close_round ∷ us ++ token.Word other ∷ vs)))
   nothing : Is d constants Statements (head.Nothing ∷ []) []
   then : (a b : List Head) (ts us : List Token) → Is d constants (Statement false) a ts → Is d constants Statements b us →
-      Is d constants Statements (a ++ b ++ head.Then ∷ []) (ts ++ us)
+      Is d constants Statements (a ++ (b ++ head.Then ∷ [])) (ts ++ us)
   empty : Is d constants Condition (head.Number (pos 1) ∷ []) []
   whole : (a : List Head) (ts : List Token) → Is d constants (One expression) a ts → Is d constants Condition a ts
 

@@ -3,3 +3,5 @@ pub mod Codes
 pub mod Meets
 pub mod Levels
 pub mod SoundExpressions
+pub mod SoundParts
+pub mod SoundStatements

@@ -5,3 +5,4 @@ pub mod Levels
 pub mod SoundExpressions
 pub mod SoundParts
 pub mod SoundStatements
+pub mod Sound

@@ -6,3 +6,5 @@ pub mod SoundExpressions
 pub mod SoundParts
 pub mod SoundStatements
 pub mod Sound
+pub mod Making
+pub mod Complete

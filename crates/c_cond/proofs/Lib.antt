@@ -8,3 +8,4 @@ pub mod SoundStatements
 pub mod Sound
 pub mod Making
 pub mod Complete
+pub mod CompleteStatements

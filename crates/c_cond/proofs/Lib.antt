@@ -9,3 +9,4 @@ pub mod Sound
 pub mod Making
 pub mod Complete
 pub mod CompleteStatements
+pub mod Answered

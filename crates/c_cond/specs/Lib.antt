@@ -3,4 +3,5 @@ pub mod Numbers
 pub mod Tokens
 pub mod Atoms
 pub mod Grammar
+pub mod Answers
 pub mod machine

@@ -6,6 +6,7 @@ mod head;
 mod lexer;
 mod goal;
 mod number;
+mod parse;
 mod parser;
 mod takes;
 mod part;
@@ -14,6 +15,7 @@ mod keyword;
 mod word;
 
 pub use head::{Binary, Call, Head, Unary};
+pub use parse::{Cond, CondRefusal, Prep, parse_cond, parse_prep, parse_test};
 
 #[cfg(test)]
 mod tests;

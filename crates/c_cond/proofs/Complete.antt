@@ -29,7 +29,8 @@ use Rattle.c_cond.specs.declared.part.Signature.{Signature}
 use Rattle.c_cond.specs.declared.part.Signature.TheVariants as signature
 use Rattle.c_cond.specs.declared.atom.Atom.TheVariants as atom
 use Rattle.c_cond.specs.Atoms.{atom_of}
-use Rattle.c_cond.specs.Grammar.{open_round, close_round, open_square, close_square, open_brace, close_brace, comma, colon, semicolon, becomes, question, level, equality, unary_level, unary_of, expression, signature_of, predicate_parts, is_maker, comparison_of, comparison_with, value_mode_named, Is, One, Parts, Statement, Statements, Condition, Sort}
+use Rattle.c_cond.specs.Grammar.{open_round, close_round, open_square, close_square, open_brace, close_brace, comma, colon, semicolon, becomes, question, level, equality, unary_level, unary_of, expression, signature_of, predicate_parts, is_maker, comparison_of, comparison_with, value_mode_named, One, Parts, Statement, Statements, Condition, Sort}
+use Rattle.c_cond.specs.machine.Flat.{Is}
 use Rattle.c_cond.specs.machine.Steps.{takes, takes_expression, takes_more, takes_statement, takes_else, else_by, by_atom, by_unary, compare_then, statement_by, parts_then, call_then, more, operand_by, value_by, mode_then, result_of}
 use Rattle.c_cond.proofs.Meets.{is_else, is_else_token}
 use Rattle.c_cond.proofs.Making.{R, First, first_map, first_all, take, pass_over, same_more, recode, retoken, yield, more_over, Allowed, level_small, allowed_same, allowed_none, allowed_up, allowed_all, allowed_zero, place, NotElse, EndsStatements, Like, PartReads, Reads}

@@ -5,7 +5,8 @@ use Rattle.c_cond.specs.declared.head.Head.{Head}
 use Rattle.c_cond.specs.declared.atom.Dialect.{Dialect}
 use Rattle.c_cond.specs.declared.token.Token.{Token}
 use Rattle.c_cond.specs.declared.part.Part.TheVariants as part
-use Rattle.c_cond.specs.Grammar.{Is, One, Statement}
+use Rattle.c_cond.specs.Grammar.{One, Statement}
+use Rattle.c_cond.specs.machine.Flat.{Is}
 
 at_zero : (d : Dialect) (cs : List Constant) (p : ℕ) (c : List Head) (ts : List Token) → p ≤ 0 → Is d cs (One (part.Expression 0)) c ts → Is d cs (One (part.Expression p)) c ts
 at_zero d cs p c ts le i =

@@ -9,4 +9,6 @@ pub mod Sound
 pub mod Making
 pub mod Complete
 pub mod CompleteStatements
+pub mod Growth
+pub mod Grown
 pub mod Answered

@@ -21,7 +21,8 @@ use Rattle.c_cond.specs.declared.part.Part.TheVariants as part
 use Rattle.c_cond.specs.declared.goal.Goal.{Goal}
 use Rattle.c_cond.specs.declared.goal.Goal.TheVariants as goal
 use Rattle.c_cond.specs.Words.{keyword_named, mode_named}
-use Rattle.c_cond.specs.Grammar.{open_round, close_round, comma, question, level, unary_level, Is, One, Parts, Statement, Statements, Condition, Sort}
+use Rattle.c_cond.specs.Grammar.{open_round, close_round, comma, question, level, unary_level, One, Parts, Statement, Statements, Condition, Sort}
+use Rattle.c_cond.specs.machine.Flat.{Is}
 use Rattle.c_cond.specs.machine.Steps.{takes, passed, at, taken_or, next, finish, run, result_of, takes_expression, takes_more, takes_operator, takes_question, takes_statement, parts_then, call_then, more}
 use Rattle.c_cond.proofs.Meets.{is_else_token}
 

@@ -17,7 +17,8 @@ use Rattle.c_cond.specs.declared.goal.Goal.{Goal}
 use Rattle.c_cond.specs.declared.goal.Goal.TheVariants as goal
 use Rattle.c_cond.specs.Words.{keyword_named}
 use Rattle.c_cond.specs.Grammar as grammar
-use Rattle.c_cond.specs.Grammar.{open_round, close_round, comma, semicolon, becomes, close_square, comparison_of, comparison_with, Is, One, Parts, Statement, Statements, Condition}
+use Rattle.c_cond.specs.Grammar.{open_round, close_round, comma, semicolon, becomes, close_square, comparison_of, comparison_with, One, Parts, Statement, Statements, Condition}
+use Rattle.c_cond.specs.machine.Flat.{Is}
 use Rattle.c_cond.specs.machine.Steps.{parts_then, call_then}
 
 abbrev pub is_else : Option Keyword → Bool

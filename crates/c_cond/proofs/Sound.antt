@@ -22,7 +22,8 @@ use Rattle.c_cond.specs.declared.goal.Goal.{Goal}
 use Rattle.c_cond.specs.declared.goal.Goal.TheVariants as goal
 use Rattle.c_cond.specs.Words.{keyword_named, mode_named}
 use Rattle.c_cond.specs.declared.parser.Parser.{Parser}
-use Rattle.c_cond.specs.Grammar.{Is, One, Statement, Statements, Condition}
+use Rattle.c_cond.specs.Grammar.{One, Statement, Statements, Condition}
+use Rattle.c_cond.specs.machine.Flat.{Is}
 use Rattle.c_cond.specs.machine.Steps.{takes, passed, at, taken_or, next, finish, run, result_of, takes_expression, takes_else, else_by}
 use Rattle.c_cond.proofs.Meets.{Continues, is_else, is_else_token, begins_else, Fits, Meets, moved, use_first}
 use Rattle.c_cond.proofs.Levels.{looser}

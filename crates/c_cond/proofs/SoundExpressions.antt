@@ -19,7 +19,8 @@ use Rattle.c_cond.specs.declared.part.Part.TheVariants as part
 use Rattle.c_cond.specs.declared.goal.Goal.{Goal}
 use Rattle.c_cond.specs.declared.goal.Goal.TheVariants as goal
 use Rattle.c_cond.specs.Atoms.{atom_of}
-use Rattle.c_cond.specs.Grammar.{open_round, close_round, colon, question, level, equality, unary_level, unary_of, expression, signature_of, predicate_parts, Is, One, Parts}
+use Rattle.c_cond.specs.Grammar.{open_round, close_round, colon, question, level, equality, unary_level, unary_of, expression, signature_of, predicate_parts, One, Parts}
+use Rattle.c_cond.specs.machine.Flat.{Is}
 use Rattle.c_cond.specs.machine.Steps.{more, by_atom, compare_then, primary, by_unary, takes_expression, takes_operator, takes_question, takes_more}
 use Rattle.c_cond.proofs.Meets.{Continues, IsComparison, IsCompared, Meets, Told, moved, use_first, use_yield, use_mark, use_call}
 use Rattle.c_cond.proofs.Levels.{looser}

@@ -21,7 +21,8 @@ use Rattle.c_cond.specs.declared.part.Part.TheVariants as part
 use Rattle.c_cond.specs.declared.goal.Goal.{Goal}
 use Rattle.c_cond.specs.declared.goal.Goal.TheVariants as goal
 use Rattle.c_cond.specs.Words.{keyword_named, mode_named}
-use Rattle.c_cond.specs.Grammar.{open_round, close_round, open_square, close_square, semicolon, becomes, colon, question, level, expression, signature_of, is_maker, comparison_of, comparison_with, value_mode_named, Is, One, Parts}
+use Rattle.c_cond.specs.Grammar.{open_round, close_round, open_square, close_square, semicolon, becomes, colon, question, level, expression, signature_of, is_maker, comparison_of, comparison_with, value_mode_named, One, Parts}
+use Rattle.c_cond.specs.machine.Flat.{Is}
 use Rattle.c_cond.specs.machine.Steps.{takes_operator, takes_question, takes_more, is_mark, takes_mark, operand_by, takes_operand, takes_maker, value_by, takes_value, mode_then, takes_any_mode, takes_value_mode, takes_window, takes_part, takes_comparison, takes_compared, takes_index, takes_target, call_then}
 use Rattle.c_cond.proofs.Meets.{Continues, IsComparison, IsCompared, IsIndex, IsTarget, Meets, Told, moved, use_first, use_yield, use_mark, use_call}
 use Rattle.c_cond.proofs.Levels.{looser}

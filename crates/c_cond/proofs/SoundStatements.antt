@@ -21,7 +21,8 @@ use Rattle.c_cond.specs.declared.part.Part.TheVariants as part
 use Rattle.c_cond.specs.declared.goal.Goal.{Goal}
 use Rattle.c_cond.specs.declared.goal.Goal.TheVariants as goal
 use Rattle.c_cond.specs.Words.{keyword_named, mode_named}
-use Rattle.c_cond.specs.Grammar.{open_round, close_round, open_square, close_square, open_brace, close_brace, semicolon, becomes, expression, signature_of, comparison_of, comparison_with, Is, One, Parts, Statement, Statements}
+use Rattle.c_cond.specs.Grammar.{open_round, close_round, open_square, close_square, open_brace, close_brace, semicolon, becomes, expression, signature_of, comparison_of, comparison_with, One, Parts, Statement, Statements}
+use Rattle.c_cond.specs.machine.Flat.{Is}
 use Rattle.c_cond.specs.machine.Steps.{takes_comparison, takes_compared, takes_index, takes_target, call_then, if_then, ended, statement_by, takes_statement, takes_statements, else_by, takes_else}
 use Rattle.c_cond.proofs.Meets.{is_else, begins_else, IsComparison, IsCompared, IsIndex, IsTarget, IsElse, IsNoElse, Meets, Told, moved, use_first, use_yield, use_mark, use_call}
 use Rattle.c_cond.proofs.Levels.{any_statement}

@@ -52,7 +52,7 @@ abbrev pub atom_of_name : Dialect → List ℕ → Option ℤ → Atom
 atom_of_name d word (Some number) = atom.Leaf (head.Number number)
 atom_of_name d word None = predicate_or_nothing d (code_named word) (mode_named word)
 
-abbrev atom_by : Dialect → List Constant → List ℕ → Option Keyword → Atom
+abbrev pub atom_by : Dialect → List Constant → List ℕ → Option Keyword → Atom
 atom_by d constants word (Some k) = atom_of_keyword d k
 atom_by d constants word None =
     if is_target word then atom.Leaf (head.Number (target_number word)) else atom_of_name d word (constant_named constants word)

@@ -11,10 +11,12 @@ mod parser;
 mod takes;
 mod part;
 mod token;
+mod tree;
 mod keyword;
 mod word;
 
 pub use head::{Binary, Call, Head, Unary};
+pub use tree::Tree;
 pub use parse::{Cond, CondRefusal, Prep, parse_cond, parse_prep, parse_test};
 
 #[cfg(test)]

@@ -1,6 +1,7 @@
 //! Conditions and statements, read from their texts.
 ghost use Rattle.std.specs.Prelude.{◌≡◌, List, [], ◌∷◌, IfOk};
-ghost use Rattle.c_cond.specs.declared.head.Head.{Head};
+ghost use Rattle.c_cond.specs.declared.tree.Tree.{Tree};
+ghost use Rattle.c_cond.specs.Tree.{heads_of};
 ghost use Rattle.c_cond.specs.declared.atom.Dialect.TheVariants as Dialect;
 ghost use Rattle.c_cond.specs.Tokens.{tokens_in};
 ghost use Rattle.c_cond.specs.Grammar.{IsText, Condition, Statements};
@@ -20,57 +21,63 @@ use std::alloc::Global;
 use std::marker::Model;
 use thiserror::Error;
 
-/// A condition. Contracts see its tree, each part before the whole that it belongs to.
+/// A condition. Contracts see its tree. It is kept as the heads of the tree, each behind its parts, so
+/// that no depth of nesting takes more than memory.
 #[derive(Debug, Drop)]
 pub struct Cond {
     heads: Items<Head>,
 }
 
 impl Model for Cond {
-    ghost use Rattle.std.specs.Prelude.{List};
-    ghost use Rattle.std.specs.Coded.{coded_list};
-    ghost use Rattle.c_cond.specs.declared.head.Head.{Head};
-    ghost use Rattle.c_cond.specs.contracts.head.Head as head;
+    ghost use Rattle.std.specs.Prelude.{◌≡◌};
+    ghost use Rattle.c_cond.specs.declared.tree.Tree.{Tree};
+    ghost use Rattle.c_cond.specs.contracts.tree.Tree as tree;
+    ghost use Rattle.c_cond.specs.Tree.{heads_of, tree_of};
 
-    ghost Value = { List Head };
+    ghost Value = { Tree };
 
-    ghost coded = { coded_list head.the_row.coded };
+    ghost coded = { tree.the_row.coded };
 
-    ghost view = { λ cond. cond.heads };
+    ghost view = { λ cond. tree_of cond.heads };
+
+    ghost invariant = { λ cond. heads_of (tree_of cond.heads) ≡ cond.heads };
 }
 
 impl Cond {
-    /// The tree, each part before the whole that it belongs to.
+    /// The heads of the tree, each behind its parts.
     pub fn heads(&self) -> &[Head]
-        ensures { result.now ≡ self.now }
+        ensures { result.now ≡ heads_of self.now }
     {
         self.heads.as_slice()
     }
 }
 
-/// Preparation statements. Contracts see their tree, each part before the whole that it belongs to.
+/// Preparation statements. Contracts see their tree. They are kept as the heads of the tree, each behind
+/// its parts.
 #[derive(Debug, Drop)]
 pub struct Prep {
     heads: Items<Head>,
 }
 
 impl Model for Prep {
-    ghost use Rattle.std.specs.Prelude.{List};
-    ghost use Rattle.std.specs.Coded.{coded_list};
-    ghost use Rattle.c_cond.specs.declared.head.Head.{Head};
-    ghost use Rattle.c_cond.specs.contracts.head.Head as head;
+    ghost use Rattle.std.specs.Prelude.{◌≡◌};
+    ghost use Rattle.c_cond.specs.declared.tree.Tree.{Tree};
+    ghost use Rattle.c_cond.specs.contracts.tree.Tree as tree;
+    ghost use Rattle.c_cond.specs.Tree.{heads_of, tree_of};
 
-    ghost Value = { List Head };
+    ghost Value = { Tree };
 
-    ghost coded = { coded_list head.the_row.coded };
+    ghost coded = { tree.the_row.coded };
 
-    ghost view = { λ prep. prep.heads };
+    ghost view = { λ prep. tree_of prep.heads };
+
+    ghost invariant = { λ prep. heads_of (tree_of prep.heads) ≡ prep.heads };
 }
 
 impl Prep {
-    /// The tree, each part before the whole that it belongs to.
+    /// The heads of the tree, each behind its parts.
     pub fn heads(&self) -> &[Head]
-        ensures { result.now ≡ self.now }
+        ensures { result.now ≡ heads_of self.now }
     {
         self.heads.as_slice()
     }
@@ -130,11 +137,11 @@ fn condition_of(
     dialect: Dialect,
     constants: &Constants,
     text: &[u8],
-) -> Result<Items<Head>, CondRefusal>
+) -> Result<Cond, CondRefusal>
     ensures { Answers (IsText dialect constants.now Condition text.now) result }
 {
     match parse(alloc, dialect, constants, Goal::Condition, text) {
-        Ok(heads) => Ok(heads),
+        Ok(heads) => Ok(Cond { heads }),
         Err(StepError::Outside) => Err(CondRefusal::Outside),
         Err(StepError::Memory) => Err(CondRefusal::Memory),
     }
@@ -145,11 +152,11 @@ fn statements_of(
     alloc: Global,
     constants: &Constants,
     text: &[u8],
-) -> Result<Items<Head>, CondRefusal>
+) -> Result<Prep, CondRefusal>
     ensures { Answers (IsText Dialect.Condition constants.now Statements text.now) result }
 {
     match parse(alloc, Dialect::Condition, constants, Goal::Statements, text) {
-        Ok(heads) => Ok(heads),
+        Ok(heads) => Ok(Prep { heads }),
         Err(StepError::Outside) => Err(CondRefusal::Outside),
         Err(StepError::Memory) => Err(CondRefusal::Memory),
     }
@@ -164,10 +171,9 @@ pub fn parse_cond(alloc: Global, text: &[u8], constants: &Constants) -> Result<C
     // The answer is what the grammar says of the text, unless memory ran out.
     ensures answers { Answers (IsText Dialect.Condition constants.now Condition text.now) result }
     // A text has one tree at most.
-    ensures one { (a b : List Head) → IsText Dialect.Condition constants.now Condition text.now a → IsText Dialect.Condition constants.now Condition text.now b → a ≡ b }
+    ensures one { (a b : Tree) → IsText Dialect.Condition constants.now Condition text.now a → IsText Dialect.Condition constants.now Condition text.now b → a ≡ b }
 {
-    let heads = condition_of(alloc, Dialect::Condition, constants, text)?;
-    Ok(Cond { heads })
+    condition_of(alloc, Dialect::Condition, constants, text)
 }
 
 /// The test of a predicate that a text is: the operand is `op`, its number `ival`, and no predicate may
@@ -178,10 +184,9 @@ pub fn parse_cond(alloc: Global, text: &[u8], constants: &Constants) -> Result<C
 /// `Outside` exactly where the text is not in the grammar. `Memory` where memory ran out.
 pub fn parse_test(alloc: Global, text: &[u8], constants: &Constants) -> Result<Cond, CondRefusal>
     ensures answers { Answers (IsText Dialect.Test constants.now Condition text.now) result }
-    ensures one { (a b : List Head) → IsText Dialect.Test constants.now Condition text.now a → IsText Dialect.Test constants.now Condition text.now b → a ≡ b }
+    ensures one { (a b : Tree) → IsText Dialect.Test constants.now Condition text.now a → IsText Dialect.Test constants.now Condition text.now b → a ≡ b }
 {
-    let heads = condition_of(alloc, Dialect::Test, constants, text)?;
-    Ok(Cond { heads })
+    condition_of(alloc, Dialect::Test, constants, text)
 }
 
 /// The preparation statements that a text is: none, one or more.
@@ -191,8 +196,7 @@ pub fn parse_test(alloc: Global, text: &[u8], constants: &Constants) -> Result<C
 /// `Outside` exactly where the text is not in the grammar. `Memory` where memory ran out.
 pub fn parse_prep(alloc: Global, text: &[u8], constants: &Constants) -> Result<Prep, CondRefusal>
     ensures answers { Answers (IsText Dialect.Condition constants.now Statements text.now) result }
-    ensures one { (a b : List Head) → IsText Dialect.Condition constants.now Statements text.now a → IsText Dialect.Condition constants.now Statements text.now b → a ≡ b }
+    ensures one { (a b : Tree) → IsText Dialect.Condition constants.now Statements text.now a → IsText Dialect.Condition constants.now Statements text.now b → a ≡ b }
 {
-    let heads = statements_of(alloc, constants, text)?;
-    Ok(Prep { heads })
+    statements_of(alloc, constants, text)
 }

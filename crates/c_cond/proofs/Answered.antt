@@ -1,15 +1,13 @@
 -- What parsing answers is what the grammar says of the text.
-use Rattle.std.proofs.Common.{◌≡◌, List, [], ◌∷◌, Option, Some, None, sym, ap, subst, ◌∙◌}
+use Rattle.std.proofs.Common.{◌≡◌, List, [], ◌∷◌, Some, None, sym, ap, subst, ◌∙◌}
 use Rattle.rtx_tree.specs.declared.constants.Constant.{Constant}
 use Rattle.c_cond.specs.declared.head.Head.{Head}
 use Rattle.c_cond.specs.declared.atom.Dialect.{Dialect}
 use Rattle.c_cond.specs.declared.token.Token.{Token}
-use Rattle.c_cond.specs.declared.goal.Goal.{Goal}
 use Rattle.c_cond.specs.declared.goal.Goal.TheVariants as goal
 use Rattle.c_cond.specs.declared.tree.Tree.{Tree}
 use Rattle.c_cond.specs.Tree.{heads_of, heads_of_all, tree_of}
 use Rattle.c_cond.specs.Grammar.{Sort, Statements, Condition, Is}
-use Rattle.c_cond.specs.machine.Flat as flat
 use Rattle.c_cond.proofs.Growth.{all_1, Grows, good, regrown}
 use Rattle.c_cond.proofs.Grown.{flattened, grow}
 use Rattle.c_cond.specs.machine.Steps.{result_of, at}

@@ -1,18 +1,11 @@
 -- What is in the grammar is read, as the tree that the grammar gives it.
-use Rattle.std.proofs.Common.{◌≡◌, ℕ, ◌+◌, ◌<◌, ◌≤◌, ◌^◌, nat_le, nat_lt, Bool, true, false, cond, List, [], ◌∷◌, ◌++◌, Option, Some, None, refl, sym, ap, subst, ◌∙◌, append_assoc, arith, ◌&&◌, ◌==◌}
-use Rattle.std.specs.Prelude.{pos, option_map, option_and_then}
+use Rattle.std.proofs.Common.{◌≡◌, ℕ, ◌+◌, ◌<◌, ◌≤◌, ◌^◌, nat_le, nat_lt, Bool, true, false, List, [], ◌∷◌, ◌++◌, Some, None, refl, sym, ap, ◌∙◌, append_assoc, arith, ◌==◌}
 use Rattle.std.proofs.lemmas.List.{append-nil}
 use Rattle.std.proofs.lemmas.Bool.{le-leb, lt-ltb}
-use Rattle.bits64.specs.Words.{signed}
-use Rattle.bits64.specs.declared.Width.TheVariants.{W64}
 use Rattle.rtx_tree.specs.declared.constants.Constant.{Constant}
-use Rattle.rtx_tree.specs.declared.code.Mode.{Mode}
 use Rattle.c_cond.specs.declared.head.Binary.{Binary}
-use Rattle.c_cond.specs.declared.head.Call.{Call}
-use Rattle.c_cond.specs.declared.head.Call.TheVariants as call
 use Rattle.c_cond.specs.declared.head.Head.{Head}
 use Rattle.c_cond.specs.declared.head.Head.TheVariants as head
-use Rattle.c_cond.specs.declared.keyword.Keyword.{Keyword}
 use Rattle.c_cond.specs.declared.keyword.Keyword.TheVariants as keyword
 use Rattle.c_cond.specs.declared.atom.Dialect.{Dialect}
 use Rattle.c_cond.specs.declared.atom.Dialect.TheVariants as dialect
@@ -23,17 +16,15 @@ use Rattle.c_cond.specs.declared.part.Part.{Part}
 use Rattle.c_cond.specs.declared.part.Part.TheVariants as part
 use Rattle.c_cond.specs.declared.goal.Goal.{Goal}
 use Rattle.c_cond.specs.declared.goal.Goal.TheVariants as goal
-use Rattle.c_cond.specs.Words.{keyword_named, mode_named}
+use Rattle.c_cond.specs.Words.{keyword_named}
 use Rattle.c_cond.specs.declared.head.Unary.{Unary}
 use Rattle.c_cond.specs.declared.part.Signature.{Signature}
 use Rattle.c_cond.specs.declared.part.Signature.TheVariants as signature
 use Rattle.c_cond.specs.declared.atom.Atom.TheVariants as atom
 use Rattle.c_cond.specs.Atoms.{atom_of}
-use Rattle.c_cond.specs.Grammar.{open_round, close_round, open_square, close_square, open_brace, close_brace, comma, colon, semicolon, becomes, question, level, equality, unary_level, unary_of, expression, signature_of, predicate_parts, is_maker, comparison_of, comparison_with, value_mode_named, One, Parts, Statement, Statements, Condition, Sort}
-use Rattle.c_cond.specs.machine.Flat.{Is}
-use Rattle.c_cond.specs.machine.Steps.{takes, takes_expression, takes_more, takes_statement, takes_else, else_by, by_atom, by_unary, compare_then, statement_by, parts_then, call_then, more, operand_by, value_by, mode_then, result_of}
-use Rattle.c_cond.proofs.Meets.{is_else, is_else_token}
-use Rattle.c_cond.proofs.Making.{R, First, first_map, first_all, take, pass_over, same_more, recode, retoken, yield, more_over, Allowed, level_small, allowed_same, allowed_none, allowed_up, allowed_all, allowed_zero, place, NotElse, EndsStatements, Like, PartReads, Reads}
+use Rattle.c_cond.specs.Grammar.{open_round, close_round, open_square, close_square, comma, colon, semicolon, becomes, question, level, equality, unary_level, unary_of, expression, comparison_of, comparison_with, Parts}
+use Rattle.c_cond.specs.machine.Steps.{takes, takes_more, compare_then, parts_then, call_then, more}
+use Rattle.c_cond.proofs.Making.{R, First, first_map, first_all, take, same_more, recode, retoken, yield, more_over, Allowed, level_small, allowed_same, allowed_none, allowed_up, allowed_all, allowed_zero, place, PartReads, Reads}
 
 pub false_true : {A : Type 0} → false ≡ true → A
 false_true e = absurd (apart e)
@@ -195,6 +186,7 @@ before_reads d cs l sign u a ts e k p le g from gs like code us ok =
     ten (token.Number n) = tt
     ten (token.Word word) = tt
     ten token.Bad = tt
+
     unary_none : (gs : List Goal) (t : Token) → takes_more unary_level unary_level t gs ≡ None
     unary_none gs t = allowed_none unary_level unary_level 10 t gs (omega arith) (ten t)
 
@@ -233,5 +225,5 @@ choice_reads d cs a b c ts us vs h k m p le g from gs like code ws ok =
     ∙ more_over d cs (((code ++ a) ++ b) ++ c) 0 0 last ws (first_map (Allowed 0) (λ t. takes_more 0 0 t last ≡ None) (λ t x. allowed_zero 0 t last x) ws ok)
     ∙ yield d cs (((code ++ a) ++ b) ++ c) head.Choose gs ws
     ∙ recode d cs ((((code ++ a) ++ b) ++ c) ++ head.Choose ∷ []) (code ++ (a ++ (b ++ (c ++ head.Choose ∷ [])))) gs ws
-        (append_assoc ((code ++ a) ++ b) c (head.Choose ∷ []) ∙ append_assoc (code ++ a) b (c ++ head.Choose ∷ []) ∙ append_assoc code a (b ++ (c ++ head.Choose ∷ [])))
+    (append_assoc ((code ++ a) ++ b) c (head.Choose ∷ []) ∙ append_assoc (code ++ a) b (c ++ head.Choose ∷ []) ∙ append_assoc code a (b ++ (c ++ head.Choose ∷ [])))
     ∙ sym (more_over d cs (code ++ (a ++ (b ++ (c ++ head.Choose ∷ [])))) p 0 gs ws (first_map (Allowed 0) (λ t. takes_more p 0 t gs ≡ None) (λ t x. allowed_zero p t gs x) ws ok))

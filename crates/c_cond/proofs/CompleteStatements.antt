@@ -1,13 +1,10 @@
 -- Statements of the grammar are read, and so is whatever the grammar has.
-use Rattle.std.proofs.Common.{◌≡◌, ℕ, ◌+◌, ◌<◌, ◌≤◌, ◌^◌, nat_le, nat_lt, Bool, true, false, cond, List, [], ◌∷◌, ◌++◌, Option, Some, None, refl, sym, ap, subst, ◌∙◌, append_assoc, arith, ◌&&◌, ◌==◌}
-use Rattle.std.specs.Prelude.{pos, option_map, option_and_then}
+use Rattle.std.proofs.Common.{◌≡◌, ℕ, ◌+◌, ◌<◌, ◌^◌, Bool, true, false, List, [], ◌∷◌, ◌++◌, Option, Some, None, refl, sym, ap, subst, ◌∙◌, append_assoc, arith}
+use Rattle.std.specs.Prelude.{pos}
 use Rattle.std.proofs.lemmas.List.{append-nil}
-use Rattle.std.proofs.lemmas.Bool.{le-leb, lt-ltb}
 use Rattle.bits64.specs.Words.{signed}
 use Rattle.bits64.specs.declared.Width.TheVariants.{W64}
 use Rattle.rtx_tree.specs.declared.constants.Constant.{Constant}
-use Rattle.rtx_tree.specs.declared.code.Mode.{Mode}
-use Rattle.c_cond.specs.declared.head.Binary.{Binary}
 use Rattle.c_cond.specs.declared.head.Call.{Call}
 use Rattle.c_cond.specs.declared.head.Call.TheVariants as call
 use Rattle.c_cond.specs.declared.head.Head.{Head}
@@ -15,26 +12,18 @@ use Rattle.c_cond.specs.declared.head.Head.TheVariants as head
 use Rattle.c_cond.specs.declared.keyword.Keyword.{Keyword}
 use Rattle.c_cond.specs.declared.keyword.Keyword.TheVariants as keyword
 use Rattle.c_cond.specs.declared.atom.Dialect.{Dialect}
-use Rattle.c_cond.specs.declared.atom.Dialect.TheVariants as dialect
-use Rattle.c_cond.specs.declared.atom.Property.{Property}
 use Rattle.c_cond.specs.declared.token.Token.{Token}
 use Rattle.c_cond.specs.declared.token.Token.TheVariants as token
-use Rattle.c_cond.specs.declared.part.Part.{Part}
 use Rattle.c_cond.specs.declared.part.Part.TheVariants as part
 use Rattle.c_cond.specs.declared.goal.Goal.{Goal}
 use Rattle.c_cond.specs.declared.goal.Goal.TheVariants as goal
-use Rattle.c_cond.specs.Words.{keyword_named, mode_named}
-use Rattle.c_cond.specs.declared.head.Unary.{Unary}
-use Rattle.c_cond.specs.declared.part.Signature.{Signature}
-use Rattle.c_cond.specs.declared.part.Signature.TheVariants as signature
-use Rattle.c_cond.specs.declared.atom.Atom.TheVariants as atom
-use Rattle.c_cond.specs.Atoms.{atom_of}
-use Rattle.c_cond.specs.Grammar.{open_round, close_round, open_square, close_square, open_brace, close_brace, comma, colon, semicolon, becomes, question, level, equality, unary_level, unary_of, expression, signature_of, predicate_parts, is_maker, comparison_of, comparison_with, value_mode_named, One, Parts, Statement, Statements, Condition, Sort}
+use Rattle.c_cond.specs.Words.{keyword_named}
+use Rattle.c_cond.specs.Grammar.{open_round, close_round, open_square, close_square, open_brace, close_brace, semicolon, becomes, level, unary_level, expression, signature_of, predicate_parts, is_maker, One, Parts, Statement, Statements, Condition, Sort}
 use Rattle.c_cond.specs.machine.Flat.{Is}
-use Rattle.c_cond.specs.machine.Steps.{takes, takes_expression, takes_more, takes_statement, takes_else, else_by, by_atom, by_unary, compare_then, statement_by, parts_then, call_then, more, operand_by, value_by, mode_then, result_of, run}
+use Rattle.c_cond.specs.machine.Steps.{takes, takes_statement, takes_else, else_by, by_atom, call_then, mode_then, run}
 use Rattle.c_cond.proofs.Meets.{is_else, is_else_token}
-use Rattle.c_cond.proofs.Making.{R, First, first_map, first_all, take, pass_over, same_more, recode, retoken, yield, more_over, Allowed, level_small, allowed_same, allowed_none, allowed_up, allowed_all, allowed_zero, place, NotElse, EndsStatements, Like, PartReads, Reads}
-use Rattle.c_cond.proofs.Complete.{false_true, part_then, no_parts, one_part, two_parts, three_parts, call_reads, token_reads, takes_target_is, takes_operands, takes_tested, operand_reads, leaf_reads, asked_reads, compare_reads, parens_reads, before_reads, between_reads, choice_reads}
+use Rattle.c_cond.proofs.Making.{R, First, first_map, take, pass_over, recode, retoken, yield, more_over, place, NotElse, EndsStatements, Like, PartReads, Reads}
+use Rattle.c_cond.proofs.Complete.{false_true, part_then, no_parts, one_part, two_parts, three_parts, call_reads, token_reads, takes_target_is, takes_tested, operand_reads, leaf_reads, asked_reads, compare_reads, parens_reads, before_reads, between_reads, choice_reads}
 
 made_reads : (d : Dialect) (cs : List Constant) (word : List ℕ) (c : Call) (a : List Head) (ts : List Token) → keyword_named word ≡ Some (keyword.Call c) → is_maker c ≡ true → Reads d cs (Parts (signature_of c)) a ts →
     PartReads d cs part.Value (a ++ head.Call c ∷ []) (token.Word word ∷ token.Mark open_round ∷ (ts ++ token.Mark close_round ∷ []))
@@ -125,7 +114,7 @@ when_else_reads d cs closed word other a b c ts us vs e f h k m g from gs like c
     ∙ m goal.Statement last last (λ t. refl) ((code ++ a) ++ b) ws ok
     ∙ yield d cs (((code ++ a) ++ b) ++ c) head.IfElse gs ws
     ∙ recode d cs ((((code ++ a) ++ b) ++ c) ++ head.IfElse ∷ []) (code ++ (a ++ (b ++ (c ++ head.IfElse ∷ [])))) gs ws
-        (append_assoc ((code ++ a) ++ b) c (head.IfElse ∷ []) ∙ append_assoc (code ++ a) b (c ++ head.IfElse ∷ []) ∙ append_assoc code a (b ++ (c ++ head.IfElse ∷ [])))
+    (append_assoc ((code ++ a) ++ b) c (head.IfElse ∷ []) ∙ append_assoc (code ++ a) b (c ++ head.IfElse ∷ []) ∙ append_assoc code a (b ++ (c ++ head.IfElse ∷ [])))
 
 -- ---- statements one behind the other
 

@@ -1,14 +1,12 @@
 -- The grammar of trees and the grammar of their heads are one.
-use Rattle.std.proofs.Common.{◌≡◌, ℕ, ◌+◌, Bool, true, false, List, [], ◌∷◌, ◌++◌, length, take, drop, Option, Some, None, refl, sym, ap, subst, ◌∙◌, append_assoc, arith, cond}
+use Rattle.std.proofs.Common.{◌≡◌, ℕ, ◌+◌, Bool, true, false, List, [], ◌∷◌, ◌++◌, take, drop, Option, Some, None, refl, sym, ap, ◌∙◌, append_assoc, cond}
 use Rattle.std.specs.Prelude.{pos, reverse}
-use Rattle.std.specs.List.{flat_map}
 use Rattle.std.proofs.lemmas.List.{append-nil}
 use Rattle.std.proofs.lemmas.List.Folds.{flat_map-map}
 use Rattle.bits64.specs.Words.{signed}
 use Rattle.bits64.specs.declared.Width.TheVariants.{W64}
 use Rattle.rtx_tree.specs.declared.constants.Constant.{Constant}
 use Rattle.rtx_tree.specs.declared.code.Mode.{Mode}
-use Rattle.c_cond.specs.declared.head.Binary.{Binary}
 use Rattle.c_cond.specs.declared.head.Call.{Call}
 use Rattle.c_cond.specs.declared.head.Call.TheVariants as call
 use Rattle.c_cond.specs.declared.head.Head.{Head}
@@ -19,17 +17,12 @@ use Rattle.c_cond.specs.declared.atom.Dialect.{Dialect}
 use Rattle.c_cond.specs.declared.atom.Dialect.TheVariants as dialect
 use Rattle.c_cond.specs.declared.atom.Property.{Property}
 use Rattle.c_cond.specs.declared.token.Token.{Token}
-use Rattle.c_cond.specs.declared.token.Token.TheVariants as token
-use Rattle.c_cond.specs.declared.part.Part.{Part}
 use Rattle.c_cond.specs.declared.part.Part.TheVariants as part
-use Rattle.c_cond.specs.declared.goal.Goal.{Goal}
-use Rattle.c_cond.specs.declared.goal.Goal.TheVariants as goal
 use Rattle.c_cond.specs.Words.{keyword_named, mode_named}
 use Rattle.c_cond.specs.declared.part.Signature.{Signature}
 use Rattle.c_cond.specs.declared.part.Signature.TheVariants as signature
 use Rattle.c_cond.specs.declared.tree.Tree.{Tree}
 use Rattle.c_cond.specs.declared.tree.Tree.TheFolds.{fold-roll-Tree}
-use Rattle.c_cond.specs.declared.tree.Tree.TheOpen.{Tree-F}
 use Rattle.c_cond.specs.Tree.{node, leaf, heads_step, heads_of, heads_of_all, size_of, grown, first_or_nothing, tree_of}
 use Rattle.rtx_tree.specs.declared.code.Code.{Code}
 use Rattle.std.specs.Prelude.{ℤ, option_map}
@@ -136,6 +129,7 @@ compared_size kind equal name h e = ap size_by (sym e) ∙ one_anyway kind
     size_by : Option Head → ℕ
     size_by (Some x) = size_of x
     size_by None = 1
+
     one_anyway : (kind : Property) → size_by (comparison_with kind equal name) ≡ 1
     one_anyway property.Code = by_code (code_named name)
       where

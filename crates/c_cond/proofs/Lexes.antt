@@ -1,14 +1,12 @@
 -- What the lexer's steps make of a text are its tokens.
-use Rattle.std.proofs.Common.{◌≡◌, ℕ, Bool, true, false, cond, List, [], ◌∷◌, ◌++◌, Option, Some, None, refl, sym, ap, ◌∙◌, append_assoc, if◌then◌else◌, ◌==◌, eqb-true}
-use Rattle.std.proofs.lemmas.List.{append-nil}
+use Rattle.std.proofs.Common.{◌≡◌, ℕ, Bool, true, false, cond, List, [], ◌∷◌, ◌++◌, Option, Some, None, refl, sym, ap, ◌∙◌, append_assoc, ◌==◌, eqb-true}
 use Rattle.c_cond.specs.declared.head.Binary.{Binary}
 use Rattle.c_cond.specs.declared.token.Token.{Token}
 use Rattle.c_cond.specs.declared.token.Token.TheVariants as token
 use Rattle.c_cond.specs.declared.lexer.Pending.{Pending}
 use Rattle.c_cond.specs.declared.lexer.Pending.TheVariants as pending
-use Rattle.c_cond.specs.Tokens as spec
-use Rattle.c_cond.specs.Tokens.{Piece, Blank, Run, Byte, run_before, pieces, tokens_of, tokens_in, in_word, is_blank, token_of_run, token_of_byte, operator_of_two, side_by_side}
-use Rattle.c_cond.specs.machine.Lexing.{at, begun, behind_run, behind_two, read_in, last_token, read_all}
+use Rattle.c_cond.specs.Tokens.{Piece, Blank, Run, Byte, run_before, pieces, tokens_of, tokens_in, in_word, is_blank, token_of_run, token_of_byte, operator_of_two}
+use Rattle.c_cond.specs.machine.Lexing.{at, behind_two, read_all}
 
 true≢false : true ≡ false → ⊥
 true≢false e = cc

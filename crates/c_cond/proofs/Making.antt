@@ -1,29 +1,19 @@
 -- What is made of tokens, goal by goal.
-use Rattle.std.proofs.Common.{◌≡◌, ℕ, ◌+◌, ◌<◌, ◌≤◌, nat_le, Bool, true, false, cond, List, [], ◌∷◌, ◌++◌, Option, Some, None, refl, sym, ap, subst, ◌∙◌, append_assoc, arith, ◌&&◌, ◌==◌}
+use Rattle.std.proofs.Common.{◌≡◌, ℕ, ◌<◌, ◌≤◌, nat_le, Bool, true, false, cond, List, [], ◌∷◌, ◌++◌, Option, Some, None, refl, ap, ◌∙◌, arith, ◌==◌}
 use Rattle.std.proofs.lemmas.List.{append-nil}
 use Rattle.std.proofs.lemmas.Bool.{le-leb, leb-true}
 use Rattle.rtx_tree.specs.declared.constants.Constant.{Constant}
-use Rattle.rtx_tree.specs.declared.code.Mode.{Mode}
 use Rattle.c_cond.specs.declared.head.Binary.{Binary}
-use Rattle.c_cond.specs.declared.head.Call.{Call}
-use Rattle.c_cond.specs.declared.head.Call.TheVariants as call
 use Rattle.c_cond.specs.declared.head.Head.{Head}
-use Rattle.c_cond.specs.declared.head.Head.TheVariants as head
-use Rattle.c_cond.specs.declared.keyword.Keyword.{Keyword}
-use Rattle.c_cond.specs.declared.keyword.Keyword.TheVariants as keyword
 use Rattle.c_cond.specs.declared.atom.Dialect.{Dialect}
-use Rattle.c_cond.specs.declared.atom.Dialect.TheVariants as dialect
-use Rattle.c_cond.specs.declared.atom.Property.{Property}
 use Rattle.c_cond.specs.declared.token.Token.{Token}
 use Rattle.c_cond.specs.declared.token.Token.TheVariants as token
 use Rattle.c_cond.specs.declared.part.Part.{Part}
 use Rattle.c_cond.specs.declared.part.Part.TheVariants as part
 use Rattle.c_cond.specs.declared.goal.Goal.{Goal}
 use Rattle.c_cond.specs.declared.goal.Goal.TheVariants as goal
-use Rattle.c_cond.specs.Words.{keyword_named, mode_named}
-use Rattle.c_cond.specs.Grammar.{open_round, close_round, comma, question, level, unary_level, One, Parts, Statement, Statements, Condition, Sort}
-use Rattle.c_cond.specs.machine.Flat.{Is}
-use Rattle.c_cond.specs.machine.Steps.{takes, passed, at, taken_or, next, finish, run, result_of, takes_expression, takes_more, takes_operator, takes_question, takes_statement, parts_then, call_then, more}
+use Rattle.c_cond.specs.Grammar.{close_round, question, level, unary_level, One, Parts, Statement, Statements, Condition, Sort}
+use Rattle.c_cond.specs.machine.Steps.{takes, passed, at, run, result_of, takes_expression, takes_more, takes_question, takes_statement, parts_then}
 use Rattle.c_cond.proofs.Meets.{is_else_token}
 
 -- what is made of tokens, where so much was made before and these goals are left

@@ -1,5 +1,5 @@
 -- What some tokens and a tree are to what a text must still have.
-use Rattle.std.proofs.Common.{◌≡◌, ℕ, ◌+◌, ◌<◌, ◌≤◌, ◌^◌, Bool, true, false, List, [], ◌∷◌, ◌++◌, Option, Some, None, refl, sym, ap, subst, ◌∙◌, append_assoc, ◌⊎◌, inl, inr}
+use Rattle.std.proofs.Common.{◌≡◌, ℕ, ◌<◌, ◌≤◌, ◌^◌, Bool, true, false, List, [], ◌∷◌, ◌++◌, Option, Some, refl, sym, ap, subst, append_assoc, ◌⊎◌}
 use Rattle.rtx_tree.specs.declared.constants.Constant.{Constant}
 use Rattle.c_cond.specs.declared.head.Head.{Head}
 use Rattle.c_cond.specs.declared.head.Head.TheVariants as head
@@ -9,14 +9,12 @@ use Rattle.c_cond.specs.declared.atom.Dialect.{Dialect}
 use Rattle.c_cond.specs.declared.atom.Property.{Property}
 use Rattle.c_cond.specs.declared.token.Token.{Token}
 use Rattle.c_cond.specs.declared.token.Token.TheVariants as token
-use Rattle.c_cond.specs.declared.part.Part.{Part}
 use Rattle.c_cond.specs.declared.part.Part.TheVariants as part
 use Rattle.c_cond.specs.declared.part.Signature.{Signature}
 use Rattle.c_cond.specs.declared.part.Signature.TheVariants as signature
 use Rattle.c_cond.specs.declared.goal.Goal.{Goal}
 use Rattle.c_cond.specs.declared.goal.Goal.TheVariants as goal
 use Rattle.c_cond.specs.Words.{keyword_named}
-use Rattle.c_cond.specs.Grammar as grammar
 use Rattle.c_cond.specs.Grammar.{open_round, close_round, comma, semicolon, becomes, close_square, comparison_of, comparison_with, One, Parts, Statement, Statements, Condition}
 use Rattle.c_cond.specs.machine.Flat.{Is}
 use Rattle.c_cond.specs.machine.Steps.{parts_then, call_then}
@@ -138,7 +136,7 @@ use_parts d cs (signature.Two x y) gs P k c ts m =
     use_mark d cs comma (goal.Part y ∷ gs) (λ e us. P (a ++ e) (ts ++ us)) (λ e us m.
     use_first d cs (goal.Part y) gs (λ e us. P (a ++ e) (ts ++ token.Mark comma ∷ us)) (λ b e vs us j m.
     moved P ((a ++ b) ++ e) (a ++ (b ++ e)) ((ts ++ token.Mark comma ∷ vs) ++ us) (ts ++ (token.Mark comma ∷ vs ++ us)) (append_assoc a b e) (append_assoc ts (token.Mark comma ∷ vs) us)
-      (k (a ++ b) e (ts ++ token.Mark comma ∷ vs) us (Is.two x y a b ts vs i j) m)) e us m) e us m) c ts m
+    (k (a ++ b) e (ts ++ token.Mark comma ∷ vs) us (Is.two x y a b ts vs i j) m)) e us m) e us m) c ts m
 use_parts d cs (signature.Three x y z) gs P k c ts m =
     use_first d cs (goal.Part x) (goal.Mark comma ∷ goal.Part y ∷ goal.Mark comma ∷ goal.Part z ∷ gs) P (λ a e ts us i m.
     use_mark d cs comma (goal.Part y ∷ goal.Mark comma ∷ goal.Part z ∷ gs) (λ e us. P (a ++ e) (ts ++ us)) (λ e us m.
@@ -146,8 +144,8 @@ use_parts d cs (signature.Three x y z) gs P k c ts m =
     use_mark d cs comma (goal.Part z ∷ gs) (λ e us. P (a ++ (b ++ e)) (ts ++ (token.Mark comma ∷ vs ++ us))) (λ e us m.
     use_first d cs (goal.Part z) gs (λ e us. P (a ++ (b ++ e)) (ts ++ (token.Mark comma ∷ vs ++ token.Mark comma ∷ us))) (λ f e ws us l m.
     moved P ((a ++ (b ++ f)) ++ e) (a ++ (b ++ (f ++ e))) ((ts ++ (token.Mark comma ∷ vs ++ token.Mark comma ∷ ws)) ++ us) (ts ++ (token.Mark comma ∷ vs ++ (token.Mark comma ∷ ws ++ us)))
-      (simp append_assoc refl) (simp append_assoc refl)
-      (k (a ++ (b ++ f)) e (ts ++ (token.Mark comma ∷ vs ++ token.Mark comma ∷ ws)) us (Is.three x y z a b f ts vs ws i j l) m)) e us m) e us m) e us m) e us m) c ts m
+    (simp append_assoc refl) (simp append_assoc refl)
+    (k (a ++ (b ++ f)) e (ts ++ (token.Mark comma ∷ vs ++ token.Mark comma ∷ ws)) us (Is.three x y z a b f ts vs ws i j l) m)) e us m) e us m) e us m) e us m) c ts m
 
 -- the parts of a call in parentheses
 pub use_call : (d : Dialect) (cs : List Constant) (parts : Signature) (h : Head) (gs : List Goal) (P : Told) →

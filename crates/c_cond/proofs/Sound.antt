@@ -1,28 +1,21 @@
 -- What is read is in the grammar: whatever a parser makes of some tokens is what its goals want.
-use Rattle.std.proofs.Common.{◌≡◌, ℕ, ◌+◌, ◌<◌, ◌≤◌, Bool, true, false, List, [], ◌∷◌, ◌++◌, Option, Some, None, refl, sym, ap, subst, ◌∙◌, append_assoc, arith, inl, inr}
+use Rattle.std.proofs.Common.{◌≡◌, ℕ, false, List, [], ◌∷◌, ◌++◌, Option, Some, None, refl, sym, ap, subst, ◌∙◌, append_assoc, inl}
 use Rattle.std.specs.Prelude.{option_and_then, pos}
 use Rattle.std.proofs.lemmas.List.{append-nil}
 use Rattle.rtx_tree.specs.declared.constants.Constant.{Constant}
-use Rattle.rtx_tree.specs.declared.code.Mode.{Mode}
-use Rattle.c_cond.specs.declared.head.Binary.{Binary}
-use Rattle.c_cond.specs.declared.head.Call.{Call}
-use Rattle.c_cond.specs.declared.head.Call.TheVariants as call
 use Rattle.c_cond.specs.declared.head.Head.{Head}
 use Rattle.c_cond.specs.declared.head.Head.TheVariants as head
 use Rattle.c_cond.specs.declared.keyword.Keyword.{Keyword}
 use Rattle.c_cond.specs.declared.keyword.Keyword.TheVariants as keyword
 use Rattle.c_cond.specs.declared.atom.Dialect.{Dialect}
-use Rattle.c_cond.specs.declared.atom.Dialect.TheVariants as dialect
-use Rattle.c_cond.specs.declared.atom.Property.{Property}
 use Rattle.c_cond.specs.declared.token.Token.{Token}
 use Rattle.c_cond.specs.declared.token.Token.TheVariants as token
-use Rattle.c_cond.specs.declared.part.Part.{Part}
 use Rattle.c_cond.specs.declared.part.Part.TheVariants as part
 use Rattle.c_cond.specs.declared.goal.Goal.{Goal}
 use Rattle.c_cond.specs.declared.goal.Goal.TheVariants as goal
-use Rattle.c_cond.specs.Words.{keyword_named, mode_named}
+use Rattle.c_cond.specs.Words.{keyword_named}
 use Rattle.c_cond.specs.declared.parser.Parser.{Parser}
-use Rattle.c_cond.specs.Grammar.{One, Statement, Statements, Condition}
+use Rattle.c_cond.specs.Grammar.{One}
 use Rattle.c_cond.specs.machine.Flat.{Is}
 use Rattle.c_cond.specs.machine.Steps.{takes, passed, at, taken_or, next, finish, run, result_of, takes_expression, takes_else, else_by}
 use Rattle.c_cond.proofs.Meets.{Continues, is_else, is_else_token, begins_else, Fits, Meets, moved, use_first}
@@ -157,8 +150,9 @@ sound_goal d cs g ts out e =
   where
     ended : (c : List Head) (ts : List Token) → Meets d cs [] c ts → (c ≡ []) × (ts ≡ [])
     ended _ _ Meets.end = (refl, refl)
+
     alone : (c : List Head) (ts : List Token) → Meets d cs (g ∷ []) c ts → Fits d cs g c ts []
     alone c ts m = use_first d cs g [] (λ c ts. Fits d cs g c ts []) (λ a c xs us f n.
         let x = ended c us n in
         moved (λ c ts. Fits d cs g c ts []) a (a ++ c) xs (xs ++ us) (sym (append-nil a) ∙ ap (λ (y : List Head). a ++ y) (sym x.0)) (sym (append-nil xs) ∙ ap (λ (y : List Token). xs ++ y) (sym x.1))
-          (subst (λ (y : List Token). Fits d cs g a xs y) x.1 f)) c ts m
+        (subst (λ (y : List Token). Fits d cs g a xs y) x.1 f)) c ts m

@@ -1,19 +1,16 @@
 -- What operators and the parts of calls take of a text is in the grammar.
-use Rattle.std.proofs.Common.{◌≡◌, ℕ, ◌+◌, ◌<◌, ◌≤◌, ◌^◌, nat_le, nat_lt, Bool, true, false, cond, List, [], ◌∷◌, ◌++◌, Option, Some, None, refl, sym, ap, subst, ◌∙◌, append_assoc, arith, ◌&&◌, ◌==◌}
-use Rattle.std.specs.Prelude.{option_map}
-use Rattle.std.proofs.lemmas.Bool.{leb-true, ltb-true, eqb-true}
+use Rattle.std.proofs.Common.{◌≡◌, ℕ, ◌+◌, ◌≤◌, nat_le, Bool, true, false, cond, List, [], ◌∷◌, ◌++◌, Option, Some, None, refl, sym, ap, subst, ◌∙◌, append_assoc, arith, ◌&&◌, ◌==◌}
+use Rattle.std.proofs.lemmas.Bool.{leb-true, eqb-true}
 use Rattle.rtx_tree.specs.declared.constants.Constant.{Constant}
 use Rattle.rtx_tree.specs.declared.code.Mode.{Mode}
 use Rattle.c_cond.specs.declared.head.Binary.{Binary}
 use Rattle.c_cond.specs.declared.head.Call.{Call}
-use Rattle.c_cond.specs.declared.head.Call.TheVariants as call
 use Rattle.c_cond.specs.declared.head.Head.{Head}
 use Rattle.c_cond.specs.declared.head.Head.TheVariants as head
 use Rattle.c_cond.specs.declared.keyword.Keyword.{Keyword}
 use Rattle.c_cond.specs.declared.keyword.Keyword.TheVariants as keyword
 use Rattle.c_cond.specs.declared.atom.Dialect.{Dialect}
 use Rattle.c_cond.specs.declared.atom.Dialect.TheVariants as dialect
-use Rattle.c_cond.specs.declared.atom.Property.{Property}
 use Rattle.c_cond.specs.declared.token.Token.{Token}
 use Rattle.c_cond.specs.declared.token.Token.TheVariants as token
 use Rattle.c_cond.specs.declared.part.Part.{Part}
@@ -21,10 +18,10 @@ use Rattle.c_cond.specs.declared.part.Part.TheVariants as part
 use Rattle.c_cond.specs.declared.goal.Goal.{Goal}
 use Rattle.c_cond.specs.declared.goal.Goal.TheVariants as goal
 use Rattle.c_cond.specs.Words.{keyword_named, mode_named}
-use Rattle.c_cond.specs.Grammar.{open_round, close_round, open_square, close_square, semicolon, becomes, colon, question, level, expression, signature_of, is_maker, comparison_of, comparison_with, value_mode_named, One, Parts}
+use Rattle.c_cond.specs.Grammar.{open_round, close_round, open_square, colon, question, level, expression, signature_of, is_maker, value_mode_named, One}
 use Rattle.c_cond.specs.machine.Flat.{Is}
-use Rattle.c_cond.specs.machine.Steps.{takes_operator, takes_question, takes_more, is_mark, takes_mark, operand_by, takes_operand, takes_maker, value_by, takes_value, mode_then, takes_any_mode, takes_value_mode, takes_window, takes_part, takes_comparison, takes_compared, takes_index, takes_target, call_then}
-use Rattle.c_cond.proofs.Meets.{Continues, IsComparison, IsCompared, IsIndex, IsTarget, Meets, Told, moved, use_first, use_yield, use_mark, use_call}
+use Rattle.c_cond.specs.machine.Steps.{takes_question, takes_more, takes_mark, operand_by, takes_operand, value_by, takes_value, mode_then, takes_any_mode, takes_value_mode, takes_window, takes_part, call_then}
+use Rattle.c_cond.proofs.Meets.{Continues, Meets, moved, use_first, use_yield, use_mark, use_call}
 use Rattle.c_cond.proofs.Levels.{looser}
 use Rattle.c_cond.proofs.SoundExpressions.{Sound, sound_expression}
 
@@ -34,8 +31,8 @@ goes_on : (d : Dialect) (cs : List Constant) (p q : ℕ) (op : Binary) (b c : Li
     Is d cs (One (part.Expression (level op + 1))) b xs → Continues d cs p (level op) c ts → Continues d cs p q (b ++ head.Binary op ∷ c) (token.Operator op ∷ (xs ++ ts))
 goes_on d cs p q op b c xs ts le lq i f a ys m lm qm j =
     moved (Is d cs (One (part.Expression p))) ((a ++ (b ++ head.Binary op ∷ [])) ++ c) (a ++ (b ++ head.Binary op ∷ c)) ((ys ++ token.Operator op ∷ xs) ++ ts) (ys ++ token.Operator op ∷ (xs ++ ts))
-      (append_assoc a (b ++ head.Binary op ∷ []) c ∙ ap (λ (x : List Head). a ++ x) (append_assoc b (head.Binary op ∷ []) c)) (append_assoc ys (token.Operator op ∷ xs) ts)
-      (f (a ++ (b ++ head.Binary op ∷ [])) (ys ++ token.Operator op ∷ xs) (level op) le (omega arith) (Is.between (level op) op a b ys xs (omega arith) (looser d cs (level op) m a ys (omega arith) j) i))
+    (append_assoc a (b ++ head.Binary op ∷ []) c ∙ ap (λ (x : List Head). a ++ x) (append_assoc b (head.Binary op ∷ []) c)) (append_assoc ys (token.Operator op ∷ xs) ts)
+    (f (a ++ (b ++ head.Binary op ∷ [])) (ys ++ token.Operator op ∷ xs) (level op) le (omega arith) (Is.between (level op) op a b ys xs (omega arith) (looser d cs (level op) m a ys (omega arith) j) i))
 
 sound_operator : (d : Dialect) (cs : List Constant) (p q : ℕ) (op : Binary) (gs : List Goal) (s t : Bool) → nat_le p (level op) ≡ s → nat_le (level op) q ≡ t →
     Sound d cs (goal.More p q) (token.Operator op) gs (cond (s && t) (Some (goal.Part (part.Expression (level op + 1)) ∷ goal.Yield (head.Binary op) ∷ goal.More p (level op) ∷ gs)) None)
@@ -46,8 +43,8 @@ sound_operator d cs p q op gs true true lp lq =
     use_yield d cs (head.Binary op) (goal.More p (level op) ∷ gs) (λ c ts. Meets d cs (goal.More p q ∷ gs) (b ++ c) (token.Operator op ∷ (xs ++ ts))) (λ c ts m.
     use_first d cs (goal.More p (level op)) gs (λ c ts. Meets d cs (goal.More p q ∷ gs) (b ++ head.Binary op ∷ c) (token.Operator op ∷ (xs ++ ts))) (λ c e ts us k m.
     moved (Meets d cs (goal.More p q ∷ gs)) ((b ++ head.Binary op ∷ c) ++ e) (b ++ head.Binary op ∷ (c ++ e)) (token.Operator op ∷ ((xs ++ ts) ++ us)) (token.Operator op ∷ (xs ++ (ts ++ us)))
-      (append_assoc b (head.Binary op ∷ c) e) (ap (λ (x : List Token). token.Operator op ∷ x) (append_assoc xs ts us))
-      (Meets.first (goal.More p q) gs (b ++ head.Binary op ∷ c) e (token.Operator op ∷ (xs ++ ts)) us (goes_on d cs p q op b c xs ts (leb-true p (level op) lp) (leb-true (level op) q lq) i k) m)) c ts m) c ts m)
+    (append_assoc b (head.Binary op ∷ c) e) (ap (λ (x : List Token). token.Operator op ∷ x) (append_assoc xs ts us))
+    (Meets.first (goal.More p q) gs (b ++ head.Binary op ∷ c) e (token.Operator op ∷ (xs ++ ts)) us (goes_on d cs p q op b c xs ts (leb-true p (level op) lp) (leb-true (level op) q lq) i k) m)) c ts m) c ts m)
 
 chooses : (d : Dialect) (cs : List Constant) (p q : ℕ) (b c : List Head) (xs ts : List Token) → p ≤ 0 → 1 ≤ q → Is d cs (One expression) b xs → Is d cs (One expression) c ts →
     Continues d cs p q (b ++ (c ++ head.Choose ∷ [])) (token.Mark question ∷ (xs ++ token.Mark colon ∷ ts))
@@ -63,8 +60,9 @@ sound_question d cs p q gs true true lp lq =
     use_first d cs (goal.Part expression) (goal.Yield head.Choose ∷ gs) (λ c ts. Meets d cs (goal.More p q ∷ gs) (b ++ c) (token.Mark question ∷ (xs ++ token.Mark colon ∷ ts))) (λ c e ts us j m.
     use_yield d cs head.Choose gs (λ e us. Meets d cs (goal.More p q ∷ gs) (b ++ (c ++ e)) (token.Mark question ∷ (xs ++ token.Mark colon ∷ (ts ++ us)))) (λ e us m.
     moved (Meets d cs (goal.More p q ∷ gs)) ((b ++ (c ++ head.Choose ∷ [])) ++ e) (b ++ (c ++ head.Choose ∷ e)) (token.Mark question ∷ ((xs ++ token.Mark colon ∷ ts) ++ us)) (token.Mark question ∷ (xs ++ token.Mark colon ∷ (ts ++ us)))
-      (append_assoc b (c ++ head.Choose ∷ []) e ∙ ap (λ (x : List Head). b ++ x) (append_assoc c (head.Choose ∷ []) e)) (ap (λ (x : List Token). token.Mark question ∷ x) (append_assoc xs (token.Mark colon ∷ ts) us))
-      (Meets.first (goal.More p q) gs (b ++ (c ++ head.Choose ∷ [])) e (token.Mark question ∷ (xs ++ token.Mark colon ∷ ts)) us (chooses d cs p q b c xs ts (leb-true p 0 lp) (leb-true 1 q lq) i j) m)) e us m) c ts m) c ts m)
+    (append_assoc b (c ++ head.Choose ∷ []) e ∙ ap (λ (x : List Head). b ++ x) (append_assoc c (head.Choose ∷ []) e)) (ap (λ (x : List Token). token.Mark question ∷ x) (append_assoc xs (token.Mark colon ∷ ts) us))
+    (Meets.first (goal.More p q) gs (b ++ (c ++ head.Choose ∷ [])) e (token.Mark question ∷ (xs ++ token.Mark colon ∷ ts)) us (chooses d cs p q b c xs ts (leb-true p 0 lp) (leb-true 1 q lq) i j) m)) e us m) c ts m) c ts m)
+
 sound_mark_more : (d : Dialect) (cs : List Constant) (p q b : ℕ) (gs : List Goal) (t : Bool) → (b == question) ≡ t → Sound d cs (goal.More p q) (token.Mark b) gs (cond t (takes_question p q gs) None)
 sound_mark_more d cs p q b gs false e = tt
 sound_mark_more d cs p q b gs true e = subst (λ (k : ℕ). Sound d cs (goal.More p q) (token.Mark k) gs (takes_question p q gs)) (sym (eqb-true b question e)) (sound_question d cs p q gs (nat_le p 0) (nat_le 1 q) refl refl)
@@ -133,7 +131,7 @@ indexed cs x word gs may e =
     use_mark dialect.Condition cs open_square (goal.Index ∷ gs) (λ c ts. Meets dialect.Condition cs (goal.Part x ∷ gs) c (token.Word word ∷ ts)) (λ c ts m.
     use_first dialect.Condition cs goal.Index gs (λ c ts. Meets dialect.Condition cs (goal.Part x ∷ gs) c (token.Word word ∷ token.Mark open_square ∷ ts)) (λ a c xs ts f m.
     Meets.first (goal.Part x) gs a c (token.Word word ∷ token.Mark open_square ∷ xs) ts
-      (moved (λ c ts. Is dialect.Condition cs (One x) c (token.Word word ∷ token.Mark open_square ∷ ts)) _ _ _ _ (sym f.tree) (sym f.tokens) (may _ _ (Is.operand word f.k e refl f.small))) m) c ts m)
+    (moved (λ c ts. Is dialect.Condition cs (One x) c (token.Word word ∷ token.Mark open_square ∷ ts)) _ _ _ _ (sym f.tree) (sym f.tokens) (may _ _ (Is.operand word f.k e refl f.small))) m) c ts m)
 
 sound_operand_by : (d : Dialect) (cs : List Constant) (x : Part) (word : List ℕ) (gs : List Goal) → MayBe d cs x → (k : Option Keyword) → keyword_named word ≡ k →
     Sound d cs (goal.Part x) (token.Word word) gs (operand_by d k gs)
@@ -154,8 +152,8 @@ sound_maker d cs word c gs false e f = tt
 sound_maker d cs word c gs true e f =
     use_call d cs (signature_of c) (head.Call c) gs (λ b ts. Meets d cs (goal.Part part.Value ∷ gs) b (token.Word word ∷ ts)) (λ a b xs ts i n.
     moved (Meets d cs (goal.Part part.Value ∷ gs)) ((a ++ head.Call c ∷ []) ++ b) (a ++ head.Call c ∷ b) ((token.Word word ∷ token.Mark open_round ∷ (xs ++ token.Mark close_round ∷ [])) ++ ts) (token.Word word ∷ token.Mark open_round ∷ (xs ++ token.Mark close_round ∷ ts))
-      (append_assoc a (head.Call c ∷ []) b) (ap (λ (x : List Token). token.Word word ∷ token.Mark open_round ∷ x) (append_assoc xs (token.Mark close_round ∷ []) ts))
-      (Meets.first (goal.Part part.Value) gs (a ++ head.Call c ∷ []) b _ ts (Is.made word c a xs e f i) n))
+    (append_assoc a (head.Call c ∷ []) b) (ap (λ (x : List Token). token.Word word ∷ token.Mark open_round ∷ x) (append_assoc xs (token.Mark close_round ∷ []) ts))
+    (Meets.first (goal.Part part.Value) gs (a ++ head.Call c ∷ []) b _ ts (Is.made word c a xs e f i) n))
 
 sound_value_by : (d : Dialect) (cs : List Constant) (word : List ℕ) (gs : List Goal) (k : Option Keyword) → keyword_named word ≡ k → Sound d cs (goal.Part part.Value) (token.Word word) gs (value_by d k gs)
 sound_value_by d cs word gs (Some (keyword.Call c)) e = sound_maker d cs word c gs (is_maker c) e refl

@@ -1,30 +1,25 @@
 -- What statements and the inner parts of a text take of it is in the grammar.
-use Rattle.std.proofs.Common.{◌≡◌, ℕ, ◌+◌, ◌<◌, ◌≤◌, ◌^◌, nat_le, nat_lt, Bool, true, false, cond, List, [], ◌∷◌, ◌++◌, Option, Some, None, refl, sym, ap, subst, ◌∙◌, append_assoc, arith, ◌&&◌, ◌==◌, ◌⊎◌, inl, inr}
+use Rattle.std.proofs.Common.{◌≡◌, ℕ, ◌^◌, nat_lt, Bool, true, false, cond, List, [], ◌∷◌, ◌++◌, Option, Some, None, refl, sym, ap, subst, ◌∙◌, append_assoc, ◌==◌, ◌⊎◌, inl, inr}
 use Rattle.std.specs.Prelude.{option_map}
 use Rattle.std.proofs.lemmas.Bool.{ltb-true, eqb-true}
 use Rattle.rtx_tree.specs.declared.constants.Constant.{Constant}
-use Rattle.rtx_tree.specs.declared.code.Mode.{Mode}
-use Rattle.c_cond.specs.declared.head.Binary.{Binary}
-use Rattle.c_cond.specs.declared.head.Call.{Call}
 use Rattle.c_cond.specs.declared.head.Call.TheVariants as call
 use Rattle.c_cond.specs.declared.head.Head.{Head}
 use Rattle.c_cond.specs.declared.head.Head.TheVariants as head
 use Rattle.c_cond.specs.declared.keyword.Keyword.{Keyword}
 use Rattle.c_cond.specs.declared.keyword.Keyword.TheVariants as keyword
 use Rattle.c_cond.specs.declared.atom.Dialect.{Dialect}
-use Rattle.c_cond.specs.declared.atom.Dialect.TheVariants as dialect
 use Rattle.c_cond.specs.declared.atom.Property.{Property}
 use Rattle.c_cond.specs.declared.token.Token.{Token}
 use Rattle.c_cond.specs.declared.token.Token.TheVariants as token
-use Rattle.c_cond.specs.declared.part.Part.{Part}
 use Rattle.c_cond.specs.declared.part.Part.TheVariants as part
 use Rattle.c_cond.specs.declared.goal.Goal.{Goal}
 use Rattle.c_cond.specs.declared.goal.Goal.TheVariants as goal
-use Rattle.c_cond.specs.Words.{keyword_named, mode_named}
-use Rattle.c_cond.specs.Grammar.{open_round, close_round, open_square, close_square, open_brace, close_brace, semicolon, becomes, expression, signature_of, comparison_of, comparison_with, One, Parts, Statement, Statements}
+use Rattle.c_cond.specs.Words.{keyword_named}
+use Rattle.c_cond.specs.Grammar.{open_round, close_round, open_square, close_square, open_brace, close_brace, semicolon, becomes, expression, signature_of, comparison_of, comparison_with, One, Statement}
 use Rattle.c_cond.specs.machine.Flat.{Is}
 use Rattle.c_cond.specs.machine.Steps.{takes_comparison, takes_compared, takes_index, takes_target, call_then, if_then, ended, statement_by, takes_statement, takes_statements, else_by, takes_else}
-use Rattle.c_cond.proofs.Meets.{is_else, begins_else, IsComparison, IsCompared, IsIndex, IsTarget, IsElse, IsNoElse, Meets, Told, moved, use_first, use_yield, use_mark, use_call}
+use Rattle.c_cond.proofs.Meets.{is_else, begins_else, IsElse, IsNoElse, Meets, moved, use_first, use_yield, use_mark, use_call}
 use Rattle.c_cond.proofs.Levels.{any_statement}
 use Rattle.c_cond.proofs.SoundExpressions.{Sound}
 
@@ -80,9 +75,9 @@ sound_target_at d cs k gs true e =
     use_mark d cs semicolon (goal.Yield (head.Assign k) ∷ gs) (λ c ts. Meets d cs (goal.Target ∷ gs) (a ++ c) (token.Number k ∷ token.Mark close_square ∷ token.Mark becomes ∷ (xs ++ ts))) (λ c us m.
     use_yield d cs (head.Assign k) gs (λ c ts. Meets d cs (goal.Target ∷ gs) (a ++ c) (token.Number k ∷ token.Mark close_square ∷ token.Mark becomes ∷ (xs ++ token.Mark semicolon ∷ ts))) (λ c us m.
     moved (Meets d cs (goal.Target ∷ gs)) ((a ++ head.Assign k ∷ []) ++ c) (a ++ head.Assign k ∷ c)
-      ((token.Number k ∷ token.Mark close_square ∷ token.Mark becomes ∷ (xs ++ token.Mark semicolon ∷ [])) ++ us) (token.Number k ∷ token.Mark close_square ∷ token.Mark becomes ∷ (xs ++ token.Mark semicolon ∷ us))
-      (append_assoc a (head.Assign k ∷ []) c) (ap (λ (x : List Token). token.Number k ∷ token.Mark close_square ∷ token.Mark becomes ∷ x) (append_assoc xs (token.Mark semicolon ∷ []) us))
-      (Meets.first goal.Target gs (a ++ head.Assign k ∷ []) c _ us (record { k = k; small = ltb-true k (2 ^ 32) e; value = a; text = xs; is = i; tree = refl; tokens = refl }) m)) c us m) c us m) c us m) c us m)
+    ((token.Number k ∷ token.Mark close_square ∷ token.Mark becomes ∷ (xs ++ token.Mark semicolon ∷ [])) ++ us) (token.Number k ∷ token.Mark close_square ∷ token.Mark becomes ∷ (xs ++ token.Mark semicolon ∷ us))
+    (append_assoc a (head.Assign k ∷ []) c) (ap (λ (x : List Token). token.Number k ∷ token.Mark close_square ∷ token.Mark becomes ∷ x) (append_assoc xs (token.Mark semicolon ∷ []) us))
+    (Meets.first goal.Target gs (a ++ head.Assign k ∷ []) c _ us (record { k = k; small = ltb-true k (2 ^ 32) e; value = a; text = xs; is = i; tree = refl; tokens = refl }) m)) c us m) c us m) c us m) c us m)
 
 pub sound_target : (d : Dialect) (cs : List Constant) (t : Token) (gs : List Goal) → Sound d cs goal.Target t gs (takes_target t gs)
 sound_target d cs (token.Number k) gs = sound_target_at d cs k gs (nat_lt k (2 ^ 32)) refl
@@ -107,7 +102,7 @@ sound_assign d cs word gs e =
     use_mark d cs open_square (goal.Target ∷ gs) (λ c ts. Meets d cs (goal.Statement ∷ gs) c (token.Word word ∷ ts)) (λ c us m.
     use_first d cs goal.Target gs (λ c ts. Meets d cs (goal.Statement ∷ gs) c (token.Word word ∷ token.Mark open_square ∷ ts)) (λ a c xs us f m.
     stands d cs gs a c (token.Word word ∷ token.Mark open_square ∷ xs) us
-      (λ z. moved (λ c ts. Is d cs (Statement z) c (token.Word word ∷ token.Mark open_square ∷ ts)) _ _ _ _ (sym f.tree) (sym f.tokens) (Is.assign z word f.k f.value f.text e f.small f.is)) m) c us m)
+    (λ z. moved (λ c ts. Is d cs (Statement z) c (token.Word word ∷ token.Mark open_square ∷ ts)) _ _ _ _ (sym f.tree) (sym f.tokens) (Is.assign z word f.k f.value f.text e f.small f.is)) m) c us m)
 
 sound_move : (d : Dialect) (cs : List Constant) (word : List ℕ) (gs : List Goal) → keyword_named word ≡ Some (keyword.Call call.EmitMove) →
     Sound d cs goal.Statement (token.Word word) gs (Some (call_then (signature_of call.EmitMove) (head.Call call.EmitMove) (goal.Mark semicolon ∷ gs)))
@@ -115,17 +110,17 @@ sound_move d cs word gs e =
     use_call d cs (signature_of call.EmitMove) (head.Call call.EmitMove) (goal.Mark semicolon ∷ gs) (λ c ts. Meets d cs (goal.Statement ∷ gs) c (token.Word word ∷ ts)) (λ a c xs us i m.
     use_mark d cs semicolon gs (λ c us. Meets d cs (goal.Statement ∷ gs) (a ++ head.Call call.EmitMove ∷ c) (token.Word word ∷ token.Mark open_round ∷ (xs ++ token.Mark close_round ∷ us))) (λ c us m.
     moved (Meets d cs (goal.Statement ∷ gs)) ((a ++ head.Call call.EmitMove ∷ []) ++ c) (a ++ head.Call call.EmitMove ∷ c)
-      ((token.Word word ∷ token.Mark open_round ∷ (xs ++ token.Mark close_round ∷ token.Mark semicolon ∷ [])) ++ us) (token.Word word ∷ token.Mark open_round ∷ (xs ++ token.Mark close_round ∷ token.Mark semicolon ∷ us))
-      (append_assoc a (head.Call call.EmitMove ∷ []) c) (ap (λ (x : List Token). token.Word word ∷ token.Mark open_round ∷ x) (append_assoc xs (token.Mark close_round ∷ token.Mark semicolon ∷ []) us))
-      (stands d cs gs (a ++ head.Call call.EmitMove ∷ []) c _ us (λ z. Is.move z word a xs e i) m)) c us m)
+    ((token.Word word ∷ token.Mark open_round ∷ (xs ++ token.Mark close_round ∷ token.Mark semicolon ∷ [])) ++ us) (token.Word word ∷ token.Mark open_round ∷ (xs ++ token.Mark close_round ∷ token.Mark semicolon ∷ us))
+    (append_assoc a (head.Call call.EmitMove ∷ []) c) (ap (λ (x : List Token). token.Word word ∷ token.Mark open_round ∷ x) (append_assoc xs (token.Mark close_round ∷ token.Mark semicolon ∷ []) us))
+    (stands d cs gs (a ++ head.Call call.EmitMove ∷ []) c _ us (λ z. Is.move z word a xs e i) m)) c us m)
 
 sound_block : (d : Dialect) (cs : List Constant) (gs : List Goal) → Sound d cs goal.Statement (token.Mark open_brace) gs (Some (goal.Statements ∷ goal.Mark close_brace ∷ gs))
 sound_block d cs gs =
     use_first d cs goal.Statements (goal.Mark close_brace ∷ gs) (λ c ts. Meets d cs (goal.Statement ∷ gs) c (token.Mark open_brace ∷ ts)) (λ a c xs us i m.
     use_mark d cs close_brace gs (λ c us. Meets d cs (goal.Statement ∷ gs) (a ++ c) (token.Mark open_brace ∷ (xs ++ us))) (λ c us m.
     moved (Meets d cs (goal.Statement ∷ gs)) (a ++ c) (a ++ c) ((token.Mark open_brace ∷ (xs ++ token.Mark close_brace ∷ [])) ++ us) (token.Mark open_brace ∷ (xs ++ token.Mark close_brace ∷ us))
-      refl (ap (λ (x : List Token). token.Mark open_brace ∷ x) (append_assoc xs (token.Mark close_brace ∷ []) us))
-      (stands d cs gs a c _ us (λ z. Is.block z a xs i) m)) c us m)
+    refl (ap (λ (x : List Token). token.Mark open_brace ∷ x) (append_assoc xs (token.Mark close_brace ∷ []) us))
+    (stands d cs gs a c _ us (λ z. Is.block z a xs i) m)) c us m)
 
 -- a condition and a statement, and what stands then
 abbrev Within : Dialect → List Constant → List Goal → List ℕ → List Head → List Head → List Token → List Token → List Head → List Token → Type 0
@@ -137,10 +132,10 @@ without_else d cs word gs a b f c xs ys zs us e i n m j =
     let k = subst (λ (x : List Token). Is d cs (Statement (begins_else (x ++ us))) b ys) n.tokens j in
     let s = Is.when word a b xs ys e i (subst (λ (z : Bool). Is d cs (Statement z) b ys) n.unclosed k) in
     moved (Meets d cs (goal.Statement ∷ gs)) ((a ++ (b ++ head.If ∷ [])) ++ c) (a ++ (b ++ (f ++ c)))
-      ((token.Word word ∷ token.Mark open_round ∷ (xs ++ token.Mark close_round ∷ ys)) ++ us) (token.Word word ∷ token.Mark open_round ∷ (xs ++ token.Mark close_round ∷ (ys ++ (zs ++ us))))
-      (append_assoc a (b ++ head.If ∷ []) c ∙ ap (λ (x : List Head). a ++ x) (append_assoc b (head.If ∷ []) c) ∙ ap (λ (x : List Head). a ++ (b ++ (x ++ c))) (sym n.tree))
-      (ap (λ (x : List Token). token.Word word ∷ token.Mark open_round ∷ x) (append_assoc xs (token.Mark close_round ∷ ys) us) ∙ ap (λ (x : List Token). token.Word word ∷ token.Mark open_round ∷ (xs ++ token.Mark close_round ∷ (ys ++ (x ++ us)))) (sym n.tokens))
-      (Meets.first goal.Statement gs (a ++ (b ++ head.If ∷ [])) c _ us (subst (λ (z : Bool). Is d cs (Statement z) (a ++ (b ++ head.If ∷ [])) (token.Word word ∷ token.Mark open_round ∷ (xs ++ token.Mark close_round ∷ ys))) (sym n.unclosed) s) m)
+    ((token.Word word ∷ token.Mark open_round ∷ (xs ++ token.Mark close_round ∷ ys)) ++ us) (token.Word word ∷ token.Mark open_round ∷ (xs ++ token.Mark close_round ∷ (ys ++ (zs ++ us))))
+    (append_assoc a (b ++ head.If ∷ []) c ∙ ap (λ (x : List Head). a ++ x) (append_assoc b (head.If ∷ []) c) ∙ ap (λ (x : List Head). a ++ (b ++ (x ++ c))) (sym n.tree))
+    (ap (λ (x : List Token). token.Word word ∷ token.Mark open_round ∷ x) (append_assoc xs (token.Mark close_round ∷ ys) us) ∙ ap (λ (x : List Token). token.Word word ∷ token.Mark open_round ∷ (xs ++ token.Mark close_round ∷ (ys ++ (x ++ us)))) (sym n.tokens))
+    (Meets.first goal.Statement gs (a ++ (b ++ head.If ∷ [])) c _ us (subst (λ (z : Bool). Is d cs (Statement z) (a ++ (b ++ head.If ∷ [])) (token.Word word ∷ token.Mark open_round ∷ (xs ++ token.Mark close_round ∷ ys))) (sym n.unclosed) s) m)
 
 with_else : (d : Dialect) (cs : List Constant) (word : List ℕ) (gs : List Goal) (a b f c : List Head) (xs ys zs us : List Token) → keyword_named word ≡ Some keyword.If →
     Is d cs (One expression) a xs → IsElse d cs (begins_else us) f zs → Meets d cs gs c us → Within d cs gs word a b xs ys (f ++ c) (zs ++ us)
@@ -149,11 +144,11 @@ with_else d cs word gs a b f c xs ys zs us e i n m j =
     let l = subst (λ (o : Option Keyword). Is d cs (Statement (is_else o)) b ys) n.named k in
     let s = Is.when_else (begins_else us) word n.word a b n.statement xs ys n.text e n.named i l n.is in
     moved (Meets d cs (goal.Statement ∷ gs)) ((a ++ (b ++ (n.statement ++ head.IfElse ∷ []))) ++ c) (a ++ (b ++ (f ++ c)))
-      ((token.Word word ∷ token.Mark open_round ∷ (xs ++ token.Mark close_round ∷ (ys ++ token.Word n.word ∷ n.text))) ++ us) (token.Word word ∷ token.Mark open_round ∷ (xs ++ token.Mark close_round ∷ (ys ++ (zs ++ us))))
-      (append_assoc a (b ++ (n.statement ++ head.IfElse ∷ [])) c ∙ ap (λ (x : List Head). a ++ x) (append_assoc b (n.statement ++ head.IfElse ∷ []) c) ∙ ap (λ (x : List Head). a ++ (b ++ (x ++ c))) (sym n.tree))
-      (ap (λ (x : List Token). token.Word word ∷ token.Mark open_round ∷ x) (append_assoc xs (token.Mark close_round ∷ (ys ++ token.Word n.word ∷ n.text)) us ∙ ap (λ (x : List Token). xs ++ token.Mark close_round ∷ x) (append_assoc ys (token.Word n.word ∷ n.text) us))
-        ∙ ap (λ (x : List Token). token.Word word ∷ token.Mark open_round ∷ (xs ++ token.Mark close_round ∷ (ys ++ (x ++ us)))) (sym n.tokens))
-      (Meets.first goal.Statement gs (a ++ (b ++ (n.statement ++ head.IfElse ∷ []))) c _ us s m)
+    ((token.Word word ∷ token.Mark open_round ∷ (xs ++ token.Mark close_round ∷ (ys ++ token.Word n.word ∷ n.text))) ++ us) (token.Word word ∷ token.Mark open_round ∷ (xs ++ token.Mark close_round ∷ (ys ++ (zs ++ us))))
+    (append_assoc a (b ++ (n.statement ++ head.IfElse ∷ [])) c ∙ ap (λ (x : List Head). a ++ x) (append_assoc b (n.statement ++ head.IfElse ∷ []) c) ∙ ap (λ (x : List Head). a ++ (b ++ (x ++ c))) (sym n.tree))
+    (ap (λ (x : List Token). token.Word word ∷ token.Mark open_round ∷ x) (append_assoc xs (token.Mark close_round ∷ (ys ++ token.Word n.word ∷ n.text)) us ∙ ap (λ (x : List Token). xs ++ token.Mark close_round ∷ x) (append_assoc ys (token.Word n.word ∷ n.text) us))
+    ∙ ap (λ (x : List Token). token.Word word ∷ token.Mark open_round ∷ (xs ++ token.Mark close_round ∷ (ys ++ (x ++ us)))) (sym n.tokens))
+    (Meets.first goal.Statement gs (a ++ (b ++ (n.statement ++ head.IfElse ∷ []))) c _ us s m)
 
 either_way : (d : Dialect) (cs : List Constant) (word : List ℕ) (gs : List Goal) (a b f c : List Head) (xs ys zs us : List Token) → keyword_named word ≡ Some keyword.If →
     Is d cs (One expression) a xs → IsNoElse (begins_else us) f zs ⊎ IsElse d cs (begins_else us) f zs → Meets d cs gs c us → Within d cs gs word a b xs ys (f ++ c) (zs ++ us)
@@ -194,8 +189,8 @@ more_statements d cs gs =
     use_first d cs goal.Statements (goal.Yield head.Then ∷ gs) (λ c us. Meets d cs (goal.Statements ∷ gs) (a ++ c) (xs ++ us)) (λ b c ys vs j m.
     use_yield d cs head.Then gs (λ c vs. Meets d cs (goal.Statements ∷ gs) (a ++ (b ++ c)) (xs ++ (ys ++ vs))) (λ c vs m.
     moved (Meets d cs (goal.Statements ∷ gs)) ((a ++ (b ++ head.Then ∷ [])) ++ c) (a ++ (b ++ head.Then ∷ c)) ((xs ++ ys) ++ vs) (xs ++ (ys ++ vs))
-      (append_assoc a (b ++ head.Then ∷ []) c ∙ ap (λ (x : List Head). a ++ x) (append_assoc b (head.Then ∷ []) c)) (append_assoc xs ys vs)
-      (Meets.first goal.Statements gs (a ++ (b ++ head.Then ∷ [])) c (xs ++ ys) vs (Is.then a b xs ys (any_statement d cs (begins_else us) a xs i) j) m)) c vs m) c us m)
+    (append_assoc a (b ++ head.Then ∷ []) c ∙ ap (λ (x : List Head). a ++ x) (append_assoc b (head.Then ∷ []) c)) (append_assoc xs ys vs)
+    (Meets.first goal.Statements gs (a ++ (b ++ head.Then ∷ [])) c (xs ++ ys) vs (Is.then a b xs ys (any_statement d cs (begins_else us) a xs i) j) m)) c vs m) c us m)
 
 sound_more_statements : (d : Dialect) (cs : List Constant) (t : Token) (gs : List Goal) (o : Option (List Goal)) → Sound d cs goal.Statement t (goal.Statements ∷ goal.Yield head.Then ∷ gs) o → Sound d cs goal.Statements t gs o
 sound_more_statements d cs t gs None h = tt
@@ -211,7 +206,7 @@ sound_else_by d cs word gs (Some keyword.Else) e =
     use_first d cs goal.Statement (goal.Yield head.IfElse ∷ gs) (λ c ts. Meets d cs (goal.Else ∷ gs) c (token.Word word ∷ ts)) (λ a c xs us i m.
     use_yield d cs head.IfElse gs (λ c us. Is d cs (Statement (begins_else us)) a xs → Meets d cs (goal.Else ∷ gs) (a ++ c) (token.Word word ∷ (xs ++ us))) (λ c us m i.
     moved (Meets d cs (goal.Else ∷ gs)) ((a ++ head.IfElse ∷ []) ++ c) (a ++ head.IfElse ∷ c) ((token.Word word ∷ xs) ++ us) (token.Word word ∷ (xs ++ us)) (append_assoc a (head.IfElse ∷ []) c) refl
-      (Meets.first goal.Else gs (a ++ head.IfElse ∷ []) c (token.Word word ∷ xs) us (inr (record { word = word; named = e; statement = a; text = xs; is = i; tree = refl; tokens = refl })) m)) c us m i)
+    (Meets.first goal.Else gs (a ++ head.IfElse ∷ []) c (token.Word word ∷ xs) us (inr (record { word = word; named = e; statement = a; text = xs; is = i; tree = refl; tokens = refl })) m)) c us m i)
 sound_else_by d cs word gs _ e = tt
 
 pub sound_else : (d : Dialect) (cs : List Constant) (t : Token) (gs : List Goal) → Sound d cs goal.Else t gs (takes_else t gs)

@@ -6,7 +6,6 @@ use Rattle.rtx_tree.specs.declared.code.Mode.{Mode}
 use Rattle.rtx_tree.specs.declared.constants.Constant.{Constant}
 use Rattle.c_cond.specs.declared.head.Call.{Call}
 use Rattle.c_cond.specs.declared.head.Call.TheVariants as call
-use Rattle.c_cond.specs.declared.head.Head.{Head}
 use Rattle.c_cond.specs.declared.head.Head.TheVariants as head
 use Rattle.c_cond.specs.declared.keyword.Keyword.{Keyword}
 use Rattle.c_cond.specs.declared.keyword.Keyword.TheVariants as keyword

@@ -33,7 +33,7 @@ use Rattle.c_cond.specs.declared.part.Part.TheVariants as part
 use Rattle.c_cond.specs.declared.part.Signature.{Signature}
 use Rattle.c_cond.specs.declared.part.Signature.TheVariants as signature
 use Rattle.c_cond.specs.Words.{keyword_named, mode_named, code_named}
-use Rattle.c_cond.specs.Atoms.{atom_of, is_question}
+use Rattle.c_cond.specs.Atoms.{atom_of}
 use Rattle.c_cond.specs.Tokens.{tokens_in}
 
 -- ---- marks, by their ASCII codes

@@ -1,6 +1,6 @@
 -- The tokens of a text of C: "Lexical elements" of the C standard, as far as conditions and statements have them.
 -- A run of letters, digits and underscores is one word or number; two bytes may be one operator; blanks only part.
-use Rattle.std.specs.Prelude.{ℕ, ◌==◌, nat_le, nat_lt, ◌&&◌, ◌||◌, Bool, true, false, List, [], ◌∷◌, ◌++◌, Option, Some, None, if◌then◌else◌}
+use Rattle.std.specs.Prelude.{ℕ, ◌==◌, nat_le, ◌&&◌, ◌||◌, Bool, true, List, [], ◌∷◌, ◌++◌, Option, Some, None, if◌then◌else◌}
 use Rattle.c_cond.specs.declared.head.Binary.{Binary}
 use Rattle.c_cond.specs.declared.head.Binary.TheVariants as binary
 use Rattle.c_cond.specs.declared.token.Token.{Token}

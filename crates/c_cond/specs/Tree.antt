@@ -1,5 +1,5 @@
 -- Conditions and statements as trees, and their heads in a row.
-use Rattle.std.specs.Prelude.{ℕ, suc, ◌+◌, List, [], ◌∷◌, ◌++◌, take, drop, reverse, pos}
+use Rattle.std.specs.Prelude.{ℕ, List, [], ◌∷◌, ◌++◌, take, drop, reverse}
 use Rattle.std.specs.List.{flat_map}
 use Rattle.c_cond.specs.declared.head.Head.{Head}
 use Rattle.c_cond.specs.declared.head.Head.TheVariants as head

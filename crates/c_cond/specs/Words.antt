@@ -1,7 +1,7 @@
 -- What a word means in a condition or in statements: GCC Internals, "Defining RTL Patterns" (the condition of
 -- define_insn), "Defining Machine-Specific Predicates" and "Defining RTL Sequences". Which words there are is the
 -- profile of this project.
-use Rattle.std.specs.Prelude.{◌≡◌, ℕ, ℤ, pos, List, [], ◌∷◌, Bool, true, false, Option, Some, None, if◌then◌else◌, codes, take, map, nat_le, ◌+◌, ◌&&◌, ◌||◌, not}
+use Rattle.std.specs.Prelude.{ℕ, ℤ, List, [], ◌∷◌, Bool, Option, Some, None, if◌then◌else◌, codes, take, map, nat_le, ◌+◌, ◌&&◌, ◌||◌, not}
 use Rattle.std.specs.Str.{bytes_eq}
 use Rattle.std.specs.List.{list_all}
 use Rattle.rtx_tree.specs.declared.code.Code.{Code}

@@ -18,17 +18,11 @@ pub enum Goal {
     /// Such a part must come.
     Part(Part),
     /// An expression may go on by an operator of these levels.
-    More {
-        from: u8,
-        to: u8,
-    },
+    More { from: u8, to: u8 },
     /// `==` or `!=` must come.
     Comparison(Property),
     /// A name must come that is compared with a property.
-    Compared {
-        property: Property,
-        equal: bool,
-    },
+    Compared { property: Property, equal: bool },
     /// The number of an operand must come, and the bracket behind it.
     Index,
     /// The number of an operand must come, and what it becomes.

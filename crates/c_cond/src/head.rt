@@ -104,15 +104,9 @@ pub enum Head {
     /// An instruction of the window, counted from 0.
     Window(u64),
     /// `GET_CODE (x) == CODE`, or `!=`. It has one part, x.
-    CodeIs {
-        code: Code,
-        equal: bool,
-    },
+    CodeIs { code: Code, equal: bool },
     /// `GET_MODE (x) == M`, or `!=`. It has one part, x.
-    ModeIs {
-        mode: Mode,
-        equal: bool,
-    },
+    ModeIs { mode: Mode, equal: bool },
     /// An operator of one part.
     Unary(Unary),
     /// An operator of two parts.

@@ -128,7 +128,13 @@ fn parse(
     ensures { Gives result (spec.result_of dialect constants.now (spec.at [] (goal ∷ [])) (tokens_in text.now)) }
 {
     let tokens = tokens_in(alloc, text)?;
-    parse_tokens(alloc, dialect, constants.as_slice(), goal, tokens.as_slice())
+    parse_tokens(
+        alloc,
+        dialect,
+        constants.as_slice(),
+        goal,
+        tokens.as_slice(),
+    )
 }
 
 /// The condition that a text is in a dialect.
@@ -148,11 +154,7 @@ fn condition_of(
 }
 
 /// The statements that a text is.
-fn statements_of(
-    alloc: Global,
-    constants: &Constants,
-    text: &[u8],
-) -> Result<Prep, CondRefusal>
+fn statements_of(alloc: Global, constants: &Constants, text: &[u8]) -> Result<Prep, CondRefusal>
     ensures { Answers (IsText Dialect.Condition constants.now Statements text.now) result }
 {
     match parse(alloc, Dialect::Condition, constants, Goal::Statements, text) {

@@ -9,9 +9,7 @@ use crate::token::Token;
 #[derive(Clone, Copy, Debug, PartialEq, Eq)]
 pub enum Part {
     /// An expression none of whose outer operators binds less tightly than the level.
-    Expression {
-        level: u8,
-    },
+    Expression { level: u8 },
     /// `operands[k]`, or `op`.
     Operand,
     /// The number of an instruction.
@@ -42,12 +40,8 @@ pub fn signature_of(call: Call) -> Signature
 {
     match call {
         Call::CanCreatePseudo => Signature::None,
-        Call::Intval
-        | Call::Regno
-        | Call::RegP
-        | Call::MemP
-        | Call::ConstIntP
-        | Call::SymbolRefP => Signature::One(Part::Operand),
+        Call::Intval | Call::Regno | Call::RegP | Call::MemP | Call::ConstIntP | Call::SymbolRefP =>
+            Signature::One(Part::Operand),
         Call::RtxEqual => Signature::Two(Part::Operand, Part::Operand),
         Call::InRange => Signature::Three(EXPRESSION, EXPRESSION, EXPRESSION),
         Call::SmallOperand | Call::GenInt => Signature::One(EXPRESSION),

@@ -68,10 +68,7 @@ impl Goals {
     fn push_compare(&mut self, from: u8, property: Property) -> Result<(), Memory>
         ensures { OnOk result (self.new ≡ spec.compare_then from property self.old) }
     {
-        self.push(Goal::More {
-            from,
-            to: EQUALITY,
-        })?;
+        self.push(Goal::More { from, to: EQUALITY })?;
         self.push(Goal::Comparison(property))?;
         self.push(Goal::Mark(b')'))?;
         self.push(Goal::Part(Part::Operand))?;
@@ -345,10 +342,7 @@ impl Goals {
             Keyword::Fail => self.ended(Head::Fail),
             Keyword::Call(Call::EmitMove) => {
                 self.push(Goal::Mark(b';'))?;
-                self.push_call(
-                    signature_of(Call::EmitMove),
-                    Head::Call(Call::EmitMove),
-                )?;
+                self.push_call(signature_of(Call::EmitMove), Head::Call(Call::EmitMove))?;
                 Ok(true)
             }
             _ => Ok(false),

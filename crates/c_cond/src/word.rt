@@ -38,7 +38,8 @@ pub fn is_target(word: &[u8]) -> bool
 pub fn target_holds(word: &[u8]) -> bool
     ensures { result ≡ spec.target_holds word.now }
 {
-    word == "TARGET_64BIT".as_bytes() || (word == "TARGET_MUL".as_bytes() || word == "TARGET_DIV".as_bytes())
+    word == "TARGET_64BIT".as_bytes()
+        || (word == "TARGET_MUL".as_bytes() || word == "TARGET_DIV".as_bytes())
 }
 
 /// The number of the first constant with this name.

@@ -1,14 +1,11 @@
 -- The grammar once more, with each tree as the list of its heads, which is what the parser makes. Only proofs speak of it.
-use Rattle.std.specs.Prelude.{◌≡◌, ℕ, ◌+◌, ◌<◌, ◌≤◌, ◌^◌, Bool, true, false, List, [], ◌∷◌, ◌++◌, Option, Some, None, if◌then◌else◌, ◌==◌, pos, option_map}
+use Rattle.std.specs.Prelude.{◌≡◌, ℕ, ◌+◌, ◌<◌, ◌≤◌, ◌^◌, Bool, true, false, List, [], ◌∷◌, ◌++◌, Some, pos}
 use Rattle.rtx_tree.specs.declared.constants.Constant.{Constant}
 use Rattle.rtx_tree.specs.declared.code.Mode.{Mode}
-use Rattle.rtx_tree.specs.declared.code.Mode.TheVariants as mode
 use Rattle.bits64.specs.Words.{signed}
 use Rattle.bits64.specs.declared.Width.TheVariants.{W64}
 use Rattle.c_cond.specs.declared.head.Binary.{Binary}
-use Rattle.c_cond.specs.declared.head.Binary.TheVariants as binary
 use Rattle.c_cond.specs.declared.head.Unary.{Unary}
-use Rattle.c_cond.specs.declared.head.Unary.TheVariants as unary
 use Rattle.c_cond.specs.declared.head.Call.{Call}
 use Rattle.c_cond.specs.declared.head.Call.TheVariants as call
 use Rattle.c_cond.specs.declared.head.Head.{Head}
@@ -18,16 +15,14 @@ use Rattle.c_cond.specs.declared.atom.Atom.TheVariants as atom
 use Rattle.c_cond.specs.declared.atom.Dialect.{Dialect}
 use Rattle.c_cond.specs.declared.atom.Dialect.TheVariants as dialect
 use Rattle.c_cond.specs.declared.atom.Property.{Property}
-use Rattle.c_cond.specs.declared.atom.Property.TheVariants as property
 use Rattle.c_cond.specs.declared.token.Token.{Token}
 use Rattle.c_cond.specs.declared.token.Token.TheVariants as token
 use Rattle.c_cond.specs.declared.part.Part.{Part}
 use Rattle.c_cond.specs.declared.part.Part.TheVariants as part
-use Rattle.c_cond.specs.declared.part.Signature.{Signature}
 use Rattle.c_cond.specs.declared.part.Signature.TheVariants as signature
-use Rattle.c_cond.specs.Words.{keyword_named, mode_named, code_named}
-use Rattle.c_cond.specs.Atoms.{atom_of, is_question}
-use Rattle.c_cond.specs.Grammar.{exclamation, open_round, close_round, comma, colon, semicolon, becomes, question, open_square, close_square, open_brace, close_brace, tilde, level, equality, unary_level, unary_of, expression, signature_of, predicate_parts, is_maker, comparison_of, comparison_with, value_mode_named, Sort, One, Parts, Statement, Statements, Condition}
+use Rattle.c_cond.specs.Words.{keyword_named, mode_named}
+use Rattle.c_cond.specs.Atoms.{atom_of}
+use Rattle.c_cond.specs.Grammar.{open_round, close_round, comma, colon, semicolon, becomes, question, open_square, close_square, open_brace, close_brace, level, equality, unary_level, unary_of, expression, signature_of, predicate_parts, is_maker, comparison_of, comparison_with, value_mode_named, Sort, One, Parts, Statement, Statements, Condition}
 
 -- The tokens are a text of this sort, and the list has the heads of its trees, each behind its parts. An expression of level p has no operator outside of
 -- parentheses that binds less tightly than p.

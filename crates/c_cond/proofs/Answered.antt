@@ -1,0 +1,64 @@
+-- What parsing answers is what the grammar says of the text.
+use Rattle.std.proofs.Common.{◌≡◌, List, [], ◌∷◌, Some, None, sym, ap, subst, ◌∙◌}
+use Rattle.rtx_tree.specs.declared.constants.Constant.{Constant}
+use Rattle.c_cond.specs.declared.head.Head.{Head}
+use Rattle.c_cond.specs.declared.atom.Dialect.{Dialect}
+use Rattle.c_cond.specs.declared.token.Token.{Token}
+use Rattle.c_cond.specs.declared.goal.Goal.TheVariants as goal
+use Rattle.c_cond.specs.declared.tree.Tree.{Tree}
+use Rattle.c_cond.specs.Tree.{heads_of, heads_of_all, tree_of}
+use Rattle.c_cond.specs.Grammar.{Sort, Statements, Condition, Is}
+use Rattle.c_cond.proofs.Growth.{all_1, Grows, good, regrown}
+use Rattle.c_cond.proofs.Grown.{flattened, grow}
+use Rattle.c_cond.specs.machine.Steps.{result_of, at}
+use Rattle.c_cond.proofs.Sound.{sound_goal}
+use Rattle.c_cond.proofs.CompleteStatements.{complete_condition, complete_statements}
+
+some_is : {A : Type 0} (x y : A) → Some x ≡ Some y → x ≡ y
+some_is x y e = cc
+
+none_some : {A : Type 0} (x : A) → None ≡ Some x → ⊥
+none_some x e = cc
+
+-- The heads that are made of tokens are those of one tree, which the grammar has.
+pub record Made (d : Dialect) (cs : List Constant) (sort : Sort) (heads : List Head) (ts : List Token) : Type 0 where
+  pub heads_are : heads_of (tree_of heads) ≡ heads
+  pub is : Is d cs sort (tree_of heads ∷ []) ts
+
+made : (d : Dialect) (cs : List Constant) (sort : Sort) (heads : List Head) (ts : List Token) (t : Tree) → heads_of t ≡ heads → Grows (t ∷ []) → Is d cs sort (t ∷ []) ts → Made d cs sort heads ts
+made d cs sort heads ts t e g i =
+    let same : tree_of heads ≡ t = ap tree_of (sym e) ∙ regrown t g in
+    record { heads_are = ap heads_of same ∙ e; is = subst (λ (x : Tree). Is d cs sort (x ∷ []) ts) (sym same) i }
+
+pub is_condition : (d : Dialect) (cs : List Constant) (heads : List Head) (ts : List Token) → result_of d cs (at [] (goal.Condition ∷ [])) ts ≡ Some heads → Made d cs Condition heads ts
+is_condition d cs heads ts e =
+    let g : (t : Tree) × (heads_of t ≡ heads) × Is d cs Condition (t ∷ []) ts = grow d cs Condition heads ts (sound_goal d cs goal.Condition ts heads e) in
+    made d cs Condition heads ts g.0 g.1 (good d cs Condition (g.0 ∷ []) ts g.2) g.2
+
+pub is_statements : (d : Dialect) (cs : List Constant) (heads : List Head) (ts : List Token) → result_of d cs (at [] (goal.Statements ∷ [])) ts ≡ Some heads → Made d cs Statements heads ts
+is_statements d cs heads ts e =
+    let g : (t : Tree) × (heads_of t ≡ heads) × Is d cs Statements (t ∷ []) ts = grow d cs Statements heads ts (sound_goal d cs goal.Statements ts heads e) in
+    made d cs Statements heads ts g.0 g.1 (good d cs Statements (g.0 ∷ []) ts g.2) g.2
+
+-- what is read of the text of a tree are the tree's heads
+read_condition : (d : Dialect) (cs : List Constant) (t : Tree) (ts : List Token) → Is d cs Condition (t ∷ []) ts → result_of d cs (at [] (goal.Condition ∷ [])) ts ≡ Some (heads_of_all (t ∷ []))
+read_condition d cs t ts i = complete_condition d cs (heads_of_all (t ∷ [])) ts (flattened d cs Condition (t ∷ []) ts i)
+
+read_statements : (d : Dialect) (cs : List Constant) (t : Tree) (ts : List Token) → Is d cs Statements (t ∷ []) ts → result_of d cs (at [] (goal.Statements ∷ [])) ts ≡ Some (heads_of_all (t ∷ []))
+read_statements d cs t ts i = complete_statements d cs (heads_of_all (t ∷ [])) ts (flattened d cs Statements (t ∷ []) ts i)
+
+pub no_condition : (d : Dialect) (cs : List Constant) (ts : List Token) → result_of d cs (at [] (goal.Condition ∷ [])) ts ≡ None → (t : Tree) → Is d cs Condition (t ∷ []) ts → ⊥
+no_condition d cs ts e t i = none_some (heads_of_all (t ∷ [])) (sym e ∙ read_condition d cs t ts i)
+
+pub no_statements : (d : Dialect) (cs : List Constant) (ts : List Token) → result_of d cs (at [] (goal.Statements ∷ [])) ts ≡ None → (t : Tree) → Is d cs Statements (t ∷ []) ts → ⊥
+no_statements d cs ts e t i = none_some (heads_of_all (t ∷ [])) (sym e ∙ read_statements d cs t ts i)
+
+-- trees with the same heads are one
+same_tree : (a b : Tree) → Grows (a ∷ []) → Grows (b ∷ []) → heads_of_all (a ∷ []) ≡ heads_of_all (b ∷ []) → a ≡ b
+same_tree a b f g e = sym (regrown a f) ∙ ap tree_of (sym (all_1 a) ∙ e ∙ all_1 b) ∙ regrown b g
+
+pub one_condition : (d : Dialect) (cs : List Constant) (ts : List Token) (a b : Tree) → Is d cs Condition (a ∷ []) ts → Is d cs Condition (b ∷ []) ts → a ≡ b
+one_condition d cs ts a b i j = same_tree a b (good d cs Condition (a ∷ []) ts i) (good d cs Condition (b ∷ []) ts j) (some_is _ _ (sym (read_condition d cs a ts i) ∙ read_condition d cs b ts j))
+
+pub one_statements : (d : Dialect) (cs : List Constant) (ts : List Token) (a b : Tree) → Is d cs Statements (a ∷ []) ts → Is d cs Statements (b ∷ []) ts → a ≡ b
+one_statements d cs ts a b i j = same_tree a b (good d cs Statements (a ∷ []) ts i) (good d cs Statements (b ∷ []) ts j) (some_is _ _ (sym (read_statements d cs a ts i) ∙ read_statements d cs b ts j))

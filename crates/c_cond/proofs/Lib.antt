@@ -1,0 +1,14 @@
+pub mod Lexes
+pub mod Codes
+pub mod Meets
+pub mod Levels
+pub mod SoundExpressions
+pub mod SoundParts
+pub mod SoundStatements
+pub mod Sound
+pub mod Making
+pub mod Complete
+pub mod CompleteStatements
+pub mod Growth
+pub mod Grown
+pub mod Answered

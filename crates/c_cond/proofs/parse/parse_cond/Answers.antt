@@ -1,0 +1,5 @@
+use Rattle.c_cond.proofs.Answered.{one_condition}
+use Rattle.c_cond.proofs.parse.parse_cond.Goals as goal
+
+pub returns-clause-one : goal.returns-clause-one
+returns-clause-one c = one_condition _ _ _

@@ -1,0 +1,5 @@
+use Rattle.c_cond.proofs.Answered.{one_statements}
+use Rattle.c_cond.proofs.parse.parse_prep.Goals as goal
+
+pub returns-clause-one : goal.returns-clause-one
+returns-clause-one c = one_statements _ _ _

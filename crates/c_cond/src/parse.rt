@@ -1,0 +1,204 @@
+//! Conditions and statements, read from their texts.
+ghost use Rattle.std.specs.Prelude.{◌≡◌, List, [], ◌∷◌, IfOk};
+ghost use Rattle.c_cond.specs.declared.tree.Tree.{Tree};
+ghost use Rattle.c_cond.specs.Tree.{heads_of};
+ghost use Rattle.c_cond.specs.declared.atom.Dialect.TheVariants as Dialect;
+ghost use Rattle.c_cond.specs.Tokens.{tokens_in};
+ghost use Rattle.c_cond.specs.Grammar.{IsText, Condition, Statements};
+ghost use Rattle.c_cond.specs.Answers.{Answers};
+ghost use Rattle.c_cond.specs.machine.Steps as spec;
+ghost use Rattle.c_cond.specs.machine.Steps.{Gives};
+
+use crate::atom::Dialect;
+use crate::goal::{Goal, Goals};
+use crate::head::Head;
+use crate::lexer::tokens_in;
+use crate::parser::{Parser, StepError};
+use crate::token::Token;
+use plain_data::{Items, Memory};
+use rtx_tree::{Constant, Constants};
+use std::alloc::Global;
+use std::marker::Model;
+use thiserror::Error;
+
+/// A condition. Contracts see its tree. It is kept as the heads of the tree, each behind its parts, so
+/// that no depth of nesting takes more than memory.
+#[derive(Debug, Drop)]
+pub struct Cond {
+    heads: Items<Head>,
+}
+
+impl Model for Cond {
+    ghost use Rattle.std.specs.Prelude.{◌≡◌};
+    ghost use Rattle.c_cond.specs.declared.tree.Tree.{Tree};
+    ghost use Rattle.c_cond.specs.contracts.tree.Tree as tree;
+    ghost use Rattle.c_cond.specs.Tree.{heads_of, tree_of};
+
+    ghost Value = { Tree };
+
+    ghost coded = { tree.the_row.coded };
+
+    ghost view = { λ cond. tree_of cond.heads };
+
+    ghost invariant = { λ cond. heads_of (tree_of cond.heads) ≡ cond.heads };
+}
+
+impl Cond {
+    /// The heads of the tree, each behind its parts.
+    pub fn heads(&self) -> &[Head]
+        ensures { result.now ≡ heads_of self.now }
+    {
+        self.heads.as_slice()
+    }
+}
+
+/// Preparation statements. Contracts see their tree. They are kept as the heads of the tree, each behind
+/// its parts.
+#[derive(Debug, Drop)]
+pub struct Prep {
+    heads: Items<Head>,
+}
+
+impl Model for Prep {
+    ghost use Rattle.std.specs.Prelude.{◌≡◌};
+    ghost use Rattle.c_cond.specs.declared.tree.Tree.{Tree};
+    ghost use Rattle.c_cond.specs.contracts.tree.Tree as tree;
+    ghost use Rattle.c_cond.specs.Tree.{heads_of, tree_of};
+
+    ghost Value = { Tree };
+
+    ghost coded = { tree.the_row.coded };
+
+    ghost view = { λ prep. tree_of prep.heads };
+
+    ghost invariant = { λ prep. heads_of (tree_of prep.heads) ≡ prep.heads };
+}
+
+impl Prep {
+    /// The heads of the tree, each behind its parts.
+    pub fn heads(&self) -> &[Head]
+        ensures { result.now ≡ heads_of self.now }
+    {
+        self.heads.as_slice()
+    }
+}
+
+/// Why a text was not read.
+#[derive(Clone, Copy, Debug, PartialEq, Eq, Error)]
+pub enum CondRefusal {
+    /// The text is not in the grammar.
+    #[error("outside the grammar")]
+    Outside,
+    /// Memory ran out.
+    #[error("out of memory")]
+    Memory,
+}
+
+/// The tree of tokens, where this must come.
+#[tactic(auto, unfolding(crate::specs::machine::Steps::run))]
+fn parse_tokens(
+    alloc: Global,
+    dialect: Dialect,
+    constants: &[Constant],
+    goal: Goal,
+    tokens: &[Token],
+) -> Result<Items<Head>, StepError>
+    ensures { Gives result (spec.result_of dialect constants.now (spec.at [] (goal ∷ [])) tokens.now) }
+{
+    let mut goals = Goals::new(alloc);
+    goals.push(goal)?;
+    let mut parser = Parser {
+        code: Items::new(alloc),
+        goals,
+    };
+    for token in tokens {
+        parser.step(alloc, dialect, constants, token)?;
+    }
+    parser.finish()
+}
+
+/// The tree of a text, where this must come.
+fn parse(
+    alloc: Global,
+    dialect: Dialect,
+    constants: &Constants,
+    goal: Goal,
+    text: &[u8],
+) -> Result<Items<Head>, StepError>
+    ensures { Gives result (spec.result_of dialect constants.now (spec.at [] (goal ∷ [])) (tokens_in text.now)) }
+{
+    let tokens = tokens_in(alloc, text)?;
+    parse_tokens(
+        alloc,
+        dialect,
+        constants.as_slice(),
+        goal,
+        tokens.as_slice(),
+    )
+}
+
+/// The condition that a text is in a dialect.
+fn condition_of(
+    alloc: Global,
+    dialect: Dialect,
+    constants: &Constants,
+    text: &[u8],
+) -> Result<Cond, CondRefusal>
+    ensures { Answers (IsText dialect constants.now Condition text.now) result }
+{
+    match parse(alloc, dialect, constants, Goal::Condition, text) {
+        Ok(heads) => Ok(Cond { heads }),
+        Err(StepError::Outside) => Err(CondRefusal::Outside),
+        Err(StepError::Memory) => Err(CondRefusal::Memory),
+    }
+}
+
+/// The statements that a text is.
+fn statements_of(alloc: Global, constants: &Constants, text: &[u8]) -> Result<Prep, CondRefusal>
+    ensures { Answers (IsText Dialect.Condition constants.now Statements text.now) result }
+{
+    match parse(alloc, Dialect::Condition, constants, Goal::Statements, text) {
+        Ok(heads) => Ok(Prep { heads }),
+        Err(StepError::Outside) => Err(CondRefusal::Outside),
+        Err(StepError::Memory) => Err(CondRefusal::Memory),
+    }
+}
+
+/// The condition of a form that a text is.
+///
+/// # Errors
+///
+/// `Outside` exactly where the text is not in the grammar. `Memory` where memory ran out.
+pub fn parse_cond(alloc: Global, text: &[u8], constants: &Constants) -> Result<Cond, CondRefusal>
+    // The answer is what the grammar says of the text, unless memory ran out.
+    ensures answers { Answers (IsText Dialect.Condition constants.now Condition text.now) result }
+    // A text has one tree at most.
+    ensures one { (a b : Tree) → IsText Dialect.Condition constants.now Condition text.now a → IsText Dialect.Condition constants.now Condition text.now b → a ≡ b }
+{
+    condition_of(alloc, Dialect::Condition, constants, text)
+}
+
+/// The test of a predicate that a text is: the operand is `op`, its number `ival`, and no predicate may
+/// be called. `op` is read as operand 0.
+///
+/// # Errors
+///
+/// `Outside` exactly where the text is not in the grammar. `Memory` where memory ran out.
+pub fn parse_test(alloc: Global, text: &[u8], constants: &Constants) -> Result<Cond, CondRefusal>
+    ensures answers { Answers (IsText Dialect.Test constants.now Condition text.now) result }
+    ensures one { (a b : Tree) → IsText Dialect.Test constants.now Condition text.now a → IsText Dialect.Test constants.now Condition text.now b → a ≡ b }
+{
+    condition_of(alloc, Dialect::Test, constants, text)
+}
+
+/// The preparation statements that a text is: none, one or more.
+///
+/// # Errors
+///
+/// `Outside` exactly where the text is not in the grammar. `Memory` where memory ran out.
+pub fn parse_prep(alloc: Global, text: &[u8], constants: &Constants) -> Result<Prep, CondRefusal>
+    ensures answers { Answers (IsText Dialect.Condition constants.now Statements text.now) result }
+    ensures one { (a b : Tree) → IsText Dialect.Condition constants.now Statements text.now a → IsText Dialect.Condition constants.now Statements text.now b → a ≡ b }
+{
+    statements_of(alloc, constants, text)
+}

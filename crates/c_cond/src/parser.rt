@@ -1,0 +1,95 @@
+//! Parses tokens with a stack of its own.
+ghost use Rattle.std.specs.Prelude.{◌≡◌, List, [], IfOk, OnOk};
+ghost use Rattle.c_cond.specs.machine.Steps as spec;
+ghost use Rattle.c_cond.specs.machine.Steps.{Steps, Gives};
+
+use crate::atom::Dialect;
+use crate::goal::{Goal, Goals};
+use crate::head::Head;
+use crate::token::Token;
+use plain_data::{Items, Memory};
+use rtx_tree::Constant;
+use std::alloc::Global;
+
+/// Why a token was not read.
+#[derive(Clone, Copy, Debug, PartialEq, Eq)]
+pub enum StepError {
+    /// No text goes on so.
+    Outside,
+    /// Memory ran out.
+    Memory,
+}
+
+impl From<Memory> for StepError {
+    ghost use Rattle.std.specs.Prelude.{◌≡◌};
+    ghost use Rattle.c_cond.specs.declared.parser.StepError.TheVariants as error;
+
+    ghost from_gives = { λ _ e. e ≡ error.Memory };
+
+    fn from(_e: Memory) -> StepError {
+        StepError::Memory
+    }
+}
+
+/// What has been read of a text, and what it must still have.
+#[derive(Drop)]
+pub struct Parser {
+    /// The tree so far: each part before the whole that it belongs to.
+    pub code: Items<Head>,
+    pub goals: Goals,
+}
+
+impl Parser {
+    /// What a goal gives that may be passed over; `false` where it may not.
+    fn pass(&mut self, goal: Goal) -> Result<bool, Memory>
+        ensures code { IfOk result (λ passed. spec.Passes passed self.old.code self.new.code (spec.passed goal)) }
+        ensures goals { self.new.goals ≡ self.old.goals }
+    {
+        match goal {
+            Goal::Yield(head) => self.code.push(head)?,
+            Goal::More { from: _, to: _ } => {}
+            Goal::Else => self.code.push(Head::If)?,
+            Goal::Statements => self.code.push(Head::Nothing)?,
+            Goal::Condition => self.code.push(Head::Number(1))?,
+            _ => return Ok(false),
+        }
+        Ok(true)
+    }
+
+    /// The next token.
+    pub fn step(
+        &mut self,
+        alloc: Global,
+        dialect: Dialect,
+        constants: &[Constant],
+        token: &Token,
+    ) -> Result<(), StepError>
+        ensures { Steps result self.new (spec.next dialect constants.now token.now self.old.code self.old.goals) }
+    {
+        loop {
+            let Some(goal) = self.goals.pop() else {
+                return Err(StepError::Outside);
+            };
+            if self.goals.take(alloc, dialect, constants, &goal, token)? {
+                return Ok(());
+            }
+            if !self.pass(goal)? {
+                return Err(StepError::Outside);
+            }
+        }
+    }
+
+    /// The tree, where the text ends here.
+    pub fn finish(mut self) -> Result<Items<Head>, StepError>
+        ensures { Gives result (spec.finish self.code self.goals) }
+    {
+        loop {
+            let Some(goal) = self.goals.pop() else {
+                return Ok(self.code);
+            };
+            if !self.pass(goal)? {
+                return Err(StepError::Outside);
+            }
+        }
+    }
+}

@@ -1,0 +1,13 @@
+//! Conditions and statements as trees.
+use crate::head::Head;
+use plain_data::Items;
+
+/// A condition or statements as contracts see them: a head with its parts. The code keeps no such tree,
+/// whose depth has no limit, but its heads, each behind the parts that belong to it.
+#[derive(Drop)]
+pub struct Tree {
+    /// What it is.
+    pub head: Head,
+    /// What it is made of.
+    pub parts: Items<Tree>,
+}

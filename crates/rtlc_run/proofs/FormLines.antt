@@ -1,20 +1,18 @@
 -- Lines that compute: the first form that matches a pattern, and the line that its filled template spells.
-use Rattle.std.proofs.Common.{◌≡◌, ℕ, ◌<◌, arith, Bool, true, false, [], ◌∷◌, ◌++◌, Option, Some, None, refl, sym, ap, subst, ◌∙◌}
-use Rattle.std.specs.Prelude.{◌-◌, IsSome, if◌then◌else◌, option_and_then, ℤ, pos, negsuc, codes, is_some, nat_lt, nat_le, nat_eq, unwrap_or}
+use Rattle.std.proofs.Common.{◌≡◌, ℕ, ◌<◌, arith, true, false, [], ◌∷◌, ◌++◌, Option, Some, None, refl, sym, ap, ◌∙◌}
+use Rattle.std.specs.Prelude.{◌-◌, if◌then◌else◌, option_and_then, ℤ, pos, negsuc, codes, is_some, nat_lt, nat_le, nat_eq, unwrap_or}
 use Rattle.std.specs.Fmt.{signed_decimal, decimal}
 use Rattle.std.specs.Ordering.{int_eq}
 use Rattle.std.proofs.lemmas.Bool.Decides.{nat_tests}
 use Rattle.std.specs.Cmp.{signed_Decides}
 use Rattle.bits64.specs.declared.Width.TheVariants.{W64}
-use Rattle.rtx_tree.specs.Tree.{reg_of, const_of, node_of}
-use Rattle.rtx_tree.specs.declared.code.Code.TheVariants.{Return}
+use Rattle.rtx_tree.specs.Tree.{reg_of, const_of}
 use Rattle.rtx_tree.specs.Registers.{reg_text}
-use Rattle.rtx_tree.specs.declared.code.Mode.TheVariants.{Void, DI}
+use Rattle.rtx_tree.specs.declared.code.Mode.TheVariants.{DI}
 use Rattle.rtx_tree.specs.declared.tree.Rtx.{Rtx, out-roll-Rtx}
 use Rattle.rtx_tree.specs.declared.tree.Rtx.TheOpen.{Rtx-F}
 use Rattle.rv_text.specs.Lines.{action_of, line_text, register_text, is_of_row, is_within, row_text, shown_all}
 use Rattle.rv_text.specs.Table.{Row, row_named, table}
-use Rattle.rv_text.specs.declared.action.Action.{Action}
 use Rattle.rv_text.specs.declared.action.Action.TheVariants as action
 use Rattle.rv_text.specs.declared.action.Operation.TheVariants.{Add}
 use Rattle.rv_text.specs.declared.action.Source.TheVariants.{First, Second, ReturnAddress, Immediate, Constant}
@@ -22,7 +20,7 @@ use Rattle.rv_text.specs.declared.line.Line.{Line}
 use Rattle.rv_text.specs.declared.operand.Operand.TheVariants.{Rd, Rs, Rt, Number}
 use Rattle.rv_text.proofs.Registers.{is_some_register, name_shown}
 use Rattle.same_code.specs.Direct.{IsArgument}
-use Rattle.rtx_tree.specs.Patterns.{is_pc, is_pc_code, sum_rtx, set_rtx, pc_rtx, return_rtx}
+use Rattle.rtx_tree.specs.Patterns.{is_pc, is_pc_code, sum_rtx, set_rtx, return_rtx}
 use Rattle.rtlc_run.specs.declared.forms.Match.{Match}
 use Rattle.rtlc_run.specs.declared.forms.Form.{Form}
 use Rattle.rtlc_run.specs.declared.forms.Form.TheVariants as form

@@ -11,3 +11,4 @@ pub mod ReadExpressions
 pub mod ReadDirect
 pub mod SameLaws
 pub mod Completes
+pub mod Parts

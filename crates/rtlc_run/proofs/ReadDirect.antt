@@ -1,5 +1,5 @@
 -- The functions that are read are direct code.
-use Rattle.std.proofs.Common.{◌≡◌, ◌<◌, ◌^◌, ℕ, ◌⊎◌, inl, inr, arith, Bool, true, false, ◌&&◌, cond, bytes_eq, List, [], ◌∷◌, Option, Some, None, refl, sym, ap, subst, ◌∙◌}
+use Rattle.std.proofs.Common.{◌≡◌, ℕ, ◌⊎◌, inl, inr, arith, Bool, true, false, ◌&&◌, cond, bytes_eq, List, [], ◌∷◌, Option, Some, None, refl, sym, ap, subst, ◌∙◌}
 use Rattle.std.specs.Prelude.{codes, ℤ, pos, negsuc, find, option_map, option_and_then, nat_le, nat_lt, if◌then◌else◌}
 use Rattle.std.proofs.lemmas.Bool.Decides.{nat_tests}
 use Rattle.rtx_tree.specs.Tree.{reg_of, const_of}
@@ -14,7 +14,7 @@ use Rattle.rtx_tree.specs.declared.function.Insn.{Insn}
 use Rattle.rtx_tree.specs.declared.function.Function.{Function}
 use Rattle.lisp_read.specs.declared.tree.Tree.{Tree}
 use Rattle.text_words.specs.Words.{number_in}
-use Rattle.rtl_read.specs.Parsed.{Parsed, stands, outside, or_outside, each_parsed}
+use Rattle.rtl_read.specs.Parsed.{Parsed, stands, outside, each_parsed}
 use Rattle.rtl_read.specs.Shape.{atom_of, items_of, is_nested, is_text, is_word}
 use Rattle.rtl_read.specs.Word.{uid_from, uid_in, head_text}
 use Rattle.rtl_read.specs.Expression as expression

@@ -1,20 +1,16 @@
 -- The expressions that are read.
-use Rattle.std.proofs.Common.{◌≡◌, ℕ, ◌⊎◌, inl, inr, arith, Bool, true, false, ◌&&◌, List, [], ◌∷◌, Option, Some, None, refl, sym, ap, subst, ◌∙◌}
-use Rattle.std.specs.Prelude.{codes, ℤ, option_map, option_and_then, nat_le, nat_lt, if◌then◌else◌}
+use Rattle.std.proofs.Common.{◌≡◌, ℕ, arith, Bool, true, false, ◌&&◌, List, Option, Some, None, refl, ap, subst, ◌∙◌}
+use Rattle.std.specs.Prelude.{ℤ, option_map, option_and_then, nat_le, nat_lt, if◌then◌else◌}
 use Rattle.std.proofs.lemmas.Bool.Decides.{nat_tests}
 use Rattle.rtx_tree.specs.Tree.{reg_of, const_of}
 use Rattle.rtx_tree.specs.Registers.{number_of_reg}
-use Rattle.rtx_tree.specs.declared.code.Mode.{Mode}
-use Rattle.rtx_tree.specs.declared.code.Code.TheVariants.{Reg, ConstInt, Plus, Set}
+use Rattle.rtx_tree.specs.declared.code.Code.TheVariants.{Reg, ConstInt, Plus}
 use Rattle.rtx_tree.specs.declared.code.Mode.TheVariants.{Void, DI}
 use Rattle.rtx_tree.specs.declared.place.Place.{Place}
 use Rattle.rtx_tree.specs.declared.tree.Rtx.{Rtx}
-use Rattle.rtx_tree.specs.declared.function.Insn.{Insn}
-use Rattle.rtx_tree.specs.declared.function.Function.{Function}
-use Rattle.rtx_tree.specs.declared.function.Kind.TheVariants.{Plain}
 use Rattle.lisp_read.specs.declared.tree.Tree.{Tree}
-use Rattle.rtl_read.specs.Parsed.{Parsed, stands, construct, or_outside, parsed_map, parsed_then, each_parsed}
-use Rattle.rtl_read.specs.Shape.{items_of, is_text}
+use Rattle.rtl_read.specs.Parsed.{Parsed, stands, construct, or_outside, parsed_map, parsed_then}
+use Rattle.rtl_read.specs.Shape.{items_of}
 use Rattle.text_words.specs.Words.{number_in}
 use Rattle.rtl_read.specs.Word.{argument_from, argument_in, head_text}
 use Rattle.rtl_read.specs.Expression as syntax

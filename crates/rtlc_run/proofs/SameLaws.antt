@@ -18,7 +18,7 @@ use Rattle.rtlc_run.specs.declared.forms.Match.{Match}
 use Rattle.rtlc_run.specs.Forms.{first_match, table}
 use Rattle.rtlc_run.specs.Assembly.{filled_line, label_item, return_insn, IsFinished}
 use Rattle.rtlc_run.specs.Lines.{AreLines, IsAssembly, WritesLines}
-use Rattle.rtlc_run.specs.Same.{AreSame, WritesSame}
+use Rattle.rtlc_run.specs.Same.{AreParts, AreSame, DoesSame, WritesSame}
 use Rattle.rtlc_run.proofs.InsnLines.{IsReadItem, HasLine, plain_has_line, jump_has_line, return_line}
 use Rattle.rtlc_run.proofs.ReadDirect.{AreReadItems, AreRead, functions_are_read}
 
@@ -128,13 +128,17 @@ finished_code number insns _ text small read (IsFinished.returning reached) line
 finished_code number insns _ text small read (IsFinished.staying never) lines =
     coded number (ReachesExit insns) [] insns text small (nothing_behind number (ReachesExit insns) never) read (subst (λ l. AreLines number l text) (with_nothing insns) lines)
 
-are_same : (number : ℕ) (functions : List Function) (text : List ℕ) → AreRead functions → IsAssembly number functions text → AreSame functions text
-are_same number _ _ read (IsAssembly.none _) = AreSame.none
-are_same number _ _ read (IsAssembly.function _ f functions finished body rest small finish lines others) =
+does_same : (number : ℕ) (functions : List Function) (text : List ℕ) → AreRead functions → IsAssembly number functions text → DoesSame functions text
+does_same number _ _ read (IsAssembly.none _) = record { items = []; parts = AreParts.none; same = AreSame.none }
+does_same number _ _ read (IsAssembly.function _ f functions finished body rest small finish lines others) =
     let code = finished_code number f.insns finished body small read.0.items finish lines in
-    AreSame.function f functions body rest code.items code.spelled
-    (direct_code_is_same number f code.items read.0.is_direct (record { ending = code.ending; ends = code.ends; are = code.are })) (are_same (number + 1) functions rest read.1 others)
+    let more = does_same (number + 1) functions rest read.1 others in
+    record {
+      items = code.items ∷ more.items;
+      parts = AreParts.part f functions body rest code.items more.items code.spelled more.parts;
+      same = AreSame.function f functions code.items more.items (direct_code_is_same number f code.items read.0.is_direct (record { ending = code.ending; ends = code.ends; are = code.are })) more.same;
+    }
 
 pub writes_same : (input old new : Option (List ℕ)) → WritesLines input old new → WritesSame input old new
 writes_same None old new h = tt
-writes_same (Some bytes) old new h = (h.0, h.1, h.2, are_same 0 h.0 h.2 (functions_are_read h.1.trees h.0 h.1.stand) h.3, h.4)
+writes_same (Some bytes) old new h = (h.0, h.1, h.2, does_same 0 h.0 h.2 (functions_are_read h.1.trees h.0 h.1.stand) h.3, h.4)

@@ -1,6 +1,6 @@
 -- The embedded table of instruction forms. A form matches a pattern by its shape (GCC Internals, "RTL Template"), the first
 -- form that matches is used ("Pattern Ordering"), and its template gives the line ("Output Template").
-use Rattle.std.specs.Prelude.{ℕ, zero, ℤ, pos, negsuc, nat_lt, Bool, true, false, ◌&&◌, ◌||◌, List, [], ◌∷◌, Option, Some, None, if◌then◌else◌}
+use Rattle.std.specs.Prelude.{zero, ℤ, pos, negsuc, nat_lt, Bool, true, false, ◌&&◌, ◌||◌, List, [], ◌∷◌, Option, Some, None, if◌then◌else◌}
 use Rattle.rtx_tree.specs.declared.code.Code.{Code}
 use Rattle.rtx_tree.specs.declared.code.Code.TheVariants.{Reg, ConstInt, Plus, Eq, Ne, Lt, Le, Gt, Ge, Ltu, Leu, Gtu, Geu, Set, LabelRef, IfThenElse, Return}
 use Rattle.rtx_tree.specs.declared.tree.Rtx.{Rtx, out-Rtx}

@@ -7,16 +7,25 @@ use Rattle.rtx_tree.specs.declared.function.Function.{Function}
 use Rattle.rv_text.specs.Body.{Spells}
 use Rattle.rv_text.specs.declared.line.CodeItem.{CodeItem}
 use Rattle.same_code.specs.Same.{Same}
-use Rattle.rtlc_run.specs.Assembly.{opening_lines, closing_line}
+use Rattle.rtlc_run.specs.Assembly.{framed}
 use Rattle.rtlc_run.specs.Lines.{IsInput}
 
--- For each function, in order, what stands between its `NAME:` line and its `.size` line spells items of the same behaviour. No function has
--- a frame yet.
-pub data AreSame : List Function → List ℕ → Type 0 where
+-- The parts of a text that are its functions', in order: between the `NAME:` line and the `.size` line of each stands what spells its items.
+pub data AreParts : List Function → List ℕ → List (List CodeItem) → Type 0 where
+  none : AreParts [] [] []
+  part : (f : Function) (functions : List Function) (body rest : List ℕ) (items : List CodeItem) (others : List (List CodeItem)) → Spells body items → AreParts functions rest others →
+      AreParts (f ∷ functions) (framed f.name body ++ rest) (items ∷ others)
+
+-- The items of each function have its behaviour. No function has a frame yet.
+pub data AreSame : List Function → List (List CodeItem) → Type 0 where
   none : AreSame [] []
-  function : (f : Function) (functions : List Function) (body rest : List ℕ) (items : List CodeItem) → Spells body items → Same 0 f items → AreSame functions rest →
-      AreSame (f ∷ functions) ((opening_lines f.name ++ (body ++ closing_line f.name)) ++ rest)
+  function : (f : Function) (functions : List Function) (items : List CodeItem) (others : List (List CodeItem)) → Same 0 f items → AreSame functions others → AreSame (f ∷ functions) (items ∷ others)
 
 -- the text that was written has the behaviour of the input's functions
+pub record DoesSame (functions : List Function) (text : List ℕ) : Type 0 where
+  pub items : List (List CodeItem)
+  pub parts : AreParts functions text items
+  pub same : AreSame functions items
+
 abbrev pub WritesSame : Option (List ℕ) → Option (List ℕ) → Option (List ℕ) → Type 0
-WritesSame input old new = IfSome input (λ bytes. (functions : List Function) × IsInput bytes functions × (text : List ℕ) × AreSame functions text × Appends old new text)
+WritesSame input old new = IfSome input (λ bytes. (functions : List Function) × IsInput bytes functions × (text : List ℕ) × DoesSame functions text × Appends old new text)

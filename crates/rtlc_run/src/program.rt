@@ -6,13 +6,13 @@ ghost use Rattle.rv_text.specs.Body.{Spells};
 ghost use Rattle.rtlc_run.specs.Refusals.{status_of, has_values, line_of};
 ghost use Rattle.rtlc_run.specs.Assembly.{Outcome};
 ghost use Rattle.rtlc_run.specs.Lines.{WritesLines, Completes};
-ghost use Rattle.rtlc_run.specs.Same.{WritesSame};
+ghost use Rattle.rtlc_run.specs.Same.{AreParts, WritesSame};
 ghost use Rattle.rtlc_run.specs.Answer.{most_bytes, InputRefused, IsCommand, Answers, EndsWith, Writes, WritesFront, IsRefused, Reports, HasCause, TellsCause, IsAnswered, words_of};
 
 use crate::answer::answer;
 use crate::refusal::{MEMORY_LINE, Refusal, fixed_line, line, status};
 use byte_edge::{Files, ReadAll, Sink, Source, read_all, write_all_of};
-use rtx_tree::Limit;
+use rtx_tree::{Function, Limit};
 use rv_text::CodeItem;
 use std::alloc::Global;
 
@@ -155,8 +155,10 @@ pub fn run<F: Files, S: Source, K: Sink, E: Sink>(
     // What the text of status 0 does: the lines that it spells for each function do what the function does.
     ensures behaves { result ≡ 0 → WritesSame (S.left input.old) (K.taken output.old) (K.taken output.new) }
 
-    // And they are the only ones: of each text there is one list of lines and labels that it spells.
+    // And they are the only ones: of each text there is one list of lines and labels that it spells, and the text of some functions is cut
+    // into their parts in one way.
     ensures spelled { (text : List ℕ) (a b : List CodeItem) → Spells text a → Spells text b → a ≡ b }
+    ensures parts { (functions : List Function) (text : List ℕ) (a b : List (List CodeItem)) → AreParts functions text a → AreParts functions text b → a ≡ b }
 
     // Each status has its cause.
     ensures statuses { Contains (0 ∷ 1 ∷ 2 ∷ 3 ∷ 6 ∷ 7 ∷ 8 ∷ []) result }

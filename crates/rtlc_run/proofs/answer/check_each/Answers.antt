@@ -1,7 +1,6 @@
-use Rattle.std.proofs.Common.{◌≡◌, ℕ, ◌+◌, drop, List, ◌∷◌, sym, ap, subst, ◌∙◌, arith}
+use Rattle.std.proofs.Common.{◌≡◌, ℕ, ◌+◌, drop, sym, ap, subst, ◌∙◌, arith}
 use Rattle.std.proofs.lemmas.List.{drop_all}
 use Rattle.std.proofs.lemmas.Result.{err_from_is_err_and}
-use Rattle.rtx_tree.specs.declared.function.Function.{Function}
 use Rattle.rtlc_run.specs.Answer.{fault_from, first_fault}
 use Rattle.rtlc_run.proofs.Texts.{drop_at}
 use Rattle.rtlc_run.proofs.Comes.{fault_on, fault_here}

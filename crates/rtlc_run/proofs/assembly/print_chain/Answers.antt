@@ -1,5 +1,5 @@
-use Rattle.std.proofs.Common.{[], ◌∷◌, ◌++◌, sym, subst, ◌∙◌}
-use Rattle.rtlc_run.specs.Assembly.{Outcome, outcome_then, item_text, body_text, return_insn, IsBodyText}
+use Rattle.std.proofs.Common.{[], ◌∷◌, ◌++◌, subst}
+use Rattle.rtlc_run.specs.Assembly.{outcome_then, item_text, body_text, return_insn, IsBodyText}
 use Rattle.rtlc_run.proofs.Texts.{appended_some, text_and_last, finished_then, finished_else}
 use Rattle.rtlc_run.proofs.assembly.print_chain.Goals as goal
 

@@ -1,8 +1,6 @@
-use Rattle.std.proofs.Common.{ℕ, ◌+◌, drop, List, sym, subst, arith}
+use Rattle.std.proofs.Common.{ℕ, ◌+◌, drop, sym, subst, arith}
 use Rattle.std.proofs.lemmas.List.{drop_all}
 use Rattle.std.proofs.lemmas.Result.{err_from_is_err_and}
-use Rattle.rtx_tree.specs.declared.function.Function.{Function}
-use Rattle.rtlc_run.specs.Assembly.{AreTexts}
 use Rattle.rtlc_run.proofs.Texts.{MakesTexts, drop_at, makes_on, makes_wrong, makes_all}
 use Rattle.rtlc_run.proofs.assembly.print_program.Goals as goal
 

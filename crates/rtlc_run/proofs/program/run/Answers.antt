@@ -6,6 +6,7 @@ use Rattle.rv_text.proofs.SpelledOnce.{spells_one}
 use Rattle.rtlc_run.proofs.Answered.{one_answer, answered_err, err_of}
 use Rattle.rtlc_run.proofs.Completes.{completes}
 use Rattle.rtlc_run.proofs.LinesLaws.{writes_lines}
+use Rattle.rtlc_run.proofs.Parts.{one_cut}
 use Rattle.rtlc_run.proofs.SameLaws.{writes_same}
 use Rattle.rtlc_run.proofs.Statuses.{status_is}
 use Rattle.rtlc_run.proofs.program.run.Goals as goal
@@ -24,6 +25,12 @@ returns-in-Ok-clause-spelled g c = λ text a b p q. spells_one text a b p q
 
 pub returns-in-Err-clause-spelled : goal.returns-in-Err-clause-spelled
 returns-in-Err-clause-spelled g c = λ text a b p q. spells_one text a b p q
+
+pub returns-in-Ok-clause-parts : goal.returns-in-Ok-clause-parts
+returns-in-Ok-clause-parts g c = λ functions text a b p q. one_cut functions text a b p q
+
+pub returns-in-Err-clause-parts : goal.returns-in-Err-clause-parts
+returns-in-Err-clause-parts g c = λ functions text a b p q. one_cut functions text a b p q
 
 pub returns-in-Ok-clause-lines : goal.returns-in-Ok-clause-lines
 returns-in-Ok-clause-lines g c = λ _. writes_lines (words_of c.args.words.now) (g.S.Source.left c.args.input.now) (g.K.Sink.taken c.args.output.now) (g.K.Sink.taken c.attempt.new.output) c.in-Ok.ensures.done

@@ -299,6 +299,7 @@ fn jumps_are_printed_as_read(rt: HostRuntime) -> Result<(), Fail> {
         let text = joined(alloc, before, pattern, b")))")?;
         assert!(rt; text.len() < 1000);
         let read = functions(alloc, text.as_slice())?;
+        assert_eq!(rt; read.len(), 1);
         let insns = &read.item(0).insns;
         assert_eq!(rt; insns.len(), 1);
         let insn = insns.item(0);
@@ -316,6 +317,7 @@ fn kinds_of_items(rt: HostRuntime) -> Result<(), Fail> {
         (cbarrier 9 (clabel 0) \"s\" [x] {z} y) (cjump_insn 5 (set (pc) (label_ref 8))) (cinsn 6 (set (reg:DI a0) (reg:DI a1)))
         (cjump_insn 7 ( return )) (clabel 8)))";
     let read = functions(rt.alloc(), text)?;
+    assert_eq!(rt; read.len(), 1);
     let insns = &read.item(0).insns;
     assert_eq!(rt; insns.len(), 8);
     for (at, uid, kind, pattern) in [

@@ -21,3 +21,7 @@ pub mod Openings
 pub mod Depths
 pub mod Answered
 pub mod Unique
+pub mod Each
+pub mod Names
+pub mod Meanings
+pub mod Parts

@@ -6,4 +6,11 @@ pub mod Nesting
 pub mod Text
 pub mod Reading
 pub mod Answers
+pub mod Shape
+pub mod Parsed
+pub mod CodeClass
+pub mod Positions
+pub mod Head
+pub mod Leaf
+pub mod Expression
 pub mod machine

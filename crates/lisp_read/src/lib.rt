@@ -1,4 +1,4 @@
-//! Reads the text of machine descriptions and of textual RTL as trees.
+//! Reads the text of machine descriptions and of textual RTL as trees, and a tree as an expression of RTL.
 //!
 //! [`read_trees`] answers exactly as the text format says (`specs/Text.antt` is its grammar,
 //! `specs/Reading.antt` says what reading is): the trees that the bytes are a text of, each with its
@@ -6,17 +6,34 @@
 //! that opens a list or a vector within 200 that are still open. Bytes have one such reading at most,
 //! and only want of memory can keep an answer back. The code does not recurse over the text: what is
 //! open stands on a stack, and open braces are counted.
+//!
+//! [`rtx_of_tree`] gives the expression that a tree stands for, or the first tree in it that is outside the
+//! language: `specs/Positions.antt` is the table of what may stand where, `specs/Expression.antt` the table
+//! of the parts of each code, `specs/Head.antt` and `specs/Leaf.antt` say what the words are. It goes as deep
+//! as the tree, which is bounded where `read_trees` gave it.
 #![tactic(auto)]
 
 mod class;
+mod code_class;
+mod expression;
+mod head;
+mod leaf;
 mod mode;
+mod position;
 mod read;
 mod reader;
+mod refusal;
+mod shape;
 mod stack;
 mod tree;
 
+pub use expression::rtx_of_tree;
 pub use read::{ReadRefusal, read_trees};
+pub use refusal::RtlRefusal;
+pub use shape::{atom, is_nested, is_word, items, outside, string};
 pub use tree::{Tree, Trees};
 
+#[cfg(test)]
+mod rtx_tests;
 #[cfg(test)]
 mod tests;

@@ -8,9 +8,9 @@ use Rattle.rtx_tree.specs.Tree.{reg_of, const_of}
 use Rattle.rtx_tree.specs.Patterns.{sum_rtx, set_rtx}
 use Rattle.lisp_read.specs.declared.tree.Tree.{Tree}
 use Rattle.text_words.specs.Words.{number_in}
-use Rattle.rtl_read.specs.Shape.{atom_of, items_of, is_nested, is_word}
+use Rattle.lisp_read.specs.Shape.{atom_of, items_of, is_nested, is_word}
 use Rattle.rtl_read.specs.Word.{argument_in, head_text}
-use Rattle.rtl_read.specs.Parsed.{Parsed, stands, outside, or_outside, parsed_map, parsed_then}
+use Rattle.lisp_read.specs.Parsed.{Parsed, stands, outside, or_outside, parsed_map, parsed_then}
 
 -- the one atom behind a head
 abbrev pub sole_atom : List ℕ → List Tree → Option (List ℕ)

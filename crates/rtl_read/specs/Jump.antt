@@ -9,9 +9,9 @@ use Rattle.rtx_tree.specs.declared.tree.Rtx.{Rtx}
 use Rattle.rtx_tree.specs.Tree.{const_of}
 use Rattle.rtx_tree.specs.Patterns.{jump_rtx, test_rtx, branch_rtx, return_rtx}
 use Rattle.lisp_read.specs.declared.tree.Tree.{Tree}
-use Rattle.rtl_read.specs.Shape.{atom_of, items_of, is_nested, is_text, is_word}
+use Rattle.lisp_read.specs.Shape.{atom_of, items_of, is_nested, is_text, is_word}
 use Rattle.rtl_read.specs.Word.{uid_in, head_text}
-use Rattle.rtl_read.specs.Parsed.{Parsed, stands, outside, or_outside, parsed_map, parsed_then}
+use Rattle.lisp_read.specs.Parsed.{Parsed, stands, outside, or_outside, parsed_map, parsed_then}
 use Rattle.rtl_read.specs.Expression.{sole_atom, two_parts, either, register_in, register_of}
 
 -- ---- what a branch tests

@@ -1,6 +1,4 @@
-pub mod Shape
 pub mod Word
-pub mod Parsed
 pub mod Expression
 pub mod Jump
 pub mod Syntax

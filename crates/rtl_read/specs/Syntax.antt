@@ -12,10 +12,10 @@ use Rattle.rtx_tree.specs.declared.function.Function.{Function}
 use Rattle.rtx_tree.specs.declared.tree.Rtx.{Rtx}
 use Rattle.rtx_tree.specs.Patterns.{nothing_rtx}
 use Rattle.lisp_read.specs.declared.tree.Tree.{Tree}
-use Rattle.rtl_read.specs.Shape.{atom_of, string_of, items_of, is_nested, is_text, is_word}
+use Rattle.lisp_read.specs.Shape.{atom_of, string_of, items_of, is_nested, is_text, is_word}
 use Rattle.text_words.specs.Words.{is_symbol}
 use Rattle.rtl_read.specs.Word.{uid_in, head_text}
-use Rattle.rtl_read.specs.Parsed.{Parsed, stands, outside, or_outside, parsed_map, parsed_then, each_parsed}
+use Rattle.lisp_read.specs.Parsed.{Parsed, stands, outside, or_outside, parsed_map, parsed_then, each_parsed}
 use Rattle.rtl_read.specs.Expression.{sole_atom, pattern_of}
 use Rattle.rtl_read.specs.Jump.{jump_pattern_of}
 

@@ -2,14 +2,12 @@
 ghost use Rattle.std.specs.Prelude.{◌≡◌};
 ghost use Rattle.std.specs.Option.{option_copied};
 ghost use Rattle.rtl_read.specs.Expression as spec;
-ghost use Rattle.rtl_read.specs.Parsed.{Gives};
-ghost use Rattle.rtl_read.specs.Shape as shape;
+ghost use Rattle.lisp_read.specs.Parsed.{Gives};
+ghost use Rattle.lisp_read.specs.Shape as shape;
 ghost use Rattle.rtl_read.specs.Word.{head_text};
 
-use crate::refusal::RtlRefusal;
-use crate::shape::{atom, is_nested, items, outside};
 use crate::word::{argument_in, is_head};
-use lisp_read::Tree;
+use lisp_read::{RtlRefusal, Tree, atom, is_nested, items, outside};
 use rtx_tree::{Code, Mode, Name, Rtx};
 use std::alloc::Global;
 use text_words::number_in;

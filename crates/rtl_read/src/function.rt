@@ -8,15 +8,13 @@ ghost use Rattle.rtx_tree.specs.declared.function.Kind.{Kind};
 ghost use Rattle.rtl_read.specs.Syntax as spec;
 ghost use Rattle.rtl_read.specs.Expression.{pattern_of};
 ghost use Rattle.rtl_read.specs.Jump.{jump_pattern_of};
-ghost use Rattle.rtl_read.specs.Parsed.{Gives, stands, parsed_map};
-ghost use Rattle.rtl_read.specs.Shape as shape;
+ghost use Rattle.lisp_read.specs.Parsed.{Gives, stands, parsed_map};
+ghost use Rattle.lisp_read.specs.Shape as shape;
 
 use crate::expression::{pattern, sole_atom};
 use crate::jump::jump_pattern;
-use crate::refusal::RtlRefusal;
-use crate::shape::{atom, is_nested, is_word, items, outside, string};
 use crate::word::uid_in;
-use lisp_read::Tree;
+use lisp_read::{RtlRefusal, Tree, atom, is_nested, is_word, items, outside, string};
 use plain_data::Items;
 use rtx_tree::{Code, Function, Functions, Insn, Insns, Kind, Mode, Name, Rtx};
 use std::alloc::Global;

@@ -8,13 +8,11 @@ mod expression;
 mod function;
 mod jump;
 mod print;
-mod refusal;
-mod shape;
 mod word;
 
 pub use function::functions_of;
+pub use lisp_read::RtlRefusal;
 pub use print::{print_number, print_reg, print_rtx};
-pub use refusal::RtlRefusal;
 
 #[cfg(test)]
 mod jump_tests;

@@ -12,7 +12,7 @@ use Rattle.rtx_tree.specs.declared.place.Place.{Place}
 use Rattle.rtx_tree.specs.declared.function.Insn.{Insn}
 use Rattle.rtx_tree.specs.declared.function.Function.{Function}
 use Rattle.lisp_read.specs.Reading.{Reading}
-use Rattle.rtl_read.specs.Parsed.{Parsed, stands, construct}
+use Rattle.lisp_read.specs.Parsed.{Parsed, stands, construct}
 use Rattle.rtlc_run.specs.Assembly.{Outcome, outcome_map, body_text, framed, IsFinished, IsBodyText, IsFunctionText, AreTexts}
 use Rattle.rtlc_run.specs.Answer as answer
 use Rattle.rtlc_run.specs.Answer.{IsCommand, most_bytes, FunctionsCome, ReadingComes, Answers, EndsWith, Writes, IsRefused, Reports, HasCause, TellsCause, IsAnswered}

@@ -9,7 +9,7 @@ use Rattle.rtx_tree.specs.declared.limit.Limit.TheVariants as limit
 use Rattle.rtl_func.specs.declared.fault.Fault.{Fault}
 use Rattle.rtl_func.specs.Faults as rules
 use Rattle.rtl_func.specs.Rules.{faults}
-use Rattle.rtl_read.specs.Parsed.{stands}
+use Rattle.lisp_read.specs.Parsed.{stands}
 use Rattle.rtl_read.specs.Syntax.{functions_in}
 use Rattle.rtlc_run.specs.declared.refusal.Refusal.{Refusal}
 use Rattle.rtlc_run.specs.declared.refusal.Refusal.TheVariants as refusal

@@ -14,8 +14,8 @@ use Rattle.rtx_tree.specs.declared.function.Insn.{Insn}
 use Rattle.rtx_tree.specs.declared.function.Function.{Function}
 use Rattle.lisp_read.specs.declared.tree.Tree.{Tree}
 use Rattle.text_words.specs.Words.{number_in}
-use Rattle.rtl_read.specs.Parsed.{Parsed, stands, outside, each_parsed}
-use Rattle.rtl_read.specs.Shape.{atom_of, items_of, is_nested, is_text, is_word}
+use Rattle.lisp_read.specs.Parsed.{Parsed, stands, outside, each_parsed}
+use Rattle.lisp_read.specs.Shape.{atom_of, items_of, is_nested, is_text, is_word}
 use Rattle.rtl_read.specs.Word.{uid_from, uid_in, head_text}
 use Rattle.rtl_read.specs.Expression as expression
 use Rattle.rtl_read.specs.Jump as jump

@@ -9,8 +9,8 @@ use Rattle.rtx_tree.specs.declared.code.Mode.TheVariants.{Void, DI}
 use Rattle.rtx_tree.specs.declared.place.Place.{Place}
 use Rattle.rtx_tree.specs.declared.tree.Rtx.{Rtx}
 use Rattle.lisp_read.specs.declared.tree.Tree.{Tree}
-use Rattle.rtl_read.specs.Parsed.{Parsed, stands, construct, or_outside, parsed_map, parsed_then}
-use Rattle.rtl_read.specs.Shape.{items_of}
+use Rattle.lisp_read.specs.Parsed.{Parsed, stands, construct, or_outside, parsed_map, parsed_then}
+use Rattle.lisp_read.specs.Shape.{items_of}
 use Rattle.text_words.specs.Words.{number_in}
 use Rattle.rtl_read.specs.Word.{argument_from, argument_in, head_text}
 use Rattle.rtl_read.specs.Expression as syntax

@@ -10,7 +10,7 @@ use Rattle.lisp_read.specs.declared.tree.Tree.{Tree}
 use Rattle.lisp_read.specs.Reading.{Reading, ReadsAs, Trees, Syntax, Depth}
 use Rattle.rtx_tree.specs.declared.function.Function.{Function}
 use Rattle.rtx_tree.specs.declared.limit.Limit.TheVariants as limit
-use Rattle.rtl_read.specs.Parsed.{stands, construct}
+use Rattle.lisp_read.specs.Parsed.{stands, construct}
 use Rattle.rtl_read.specs.Syntax.{functions_in}
 use Rattle.rtl_func.specs.declared.fault.Fault.{Fault}
 use Rattle.rtl_func.specs.Faults as rules

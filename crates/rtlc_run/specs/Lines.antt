@@ -8,7 +8,7 @@ use Rattle.lisp_read.specs.Reading.{ReadsAs, Trees}
 use Rattle.rtx_tree.specs.declared.function.Kind.TheVariants.{Label, Barrier}
 use Rattle.rtx_tree.specs.declared.function.Insn.{Insn}
 use Rattle.rtx_tree.specs.declared.function.Function.{Function}
-use Rattle.rtl_read.specs.Parsed.{stands}
+use Rattle.lisp_read.specs.Parsed.{stands}
 use Rattle.rtl_read.specs.Syntax.{functions_in}
 use Rattle.rtl_step.specs.Step.{is_mark}
 use Rattle.rtlc_run.specs.declared.forms.Match.{Match}

@@ -1,6 +1,6 @@
 use Rattle.std.proofs.Common.{◌≡◌, drop}
 use Rattle.std.specs.List.{list_all}
-use Rattle.rtl_read.specs.Shape.{is_nested}
+use Rattle.lisp_read.specs.Shape.{is_nested}
 use Rattle.rtl_read.proofs.function.all_nested.Given as goal
 
 abbrev pub invariant-loop-tree : goal.invariant-loop-tree

@@ -1,11 +1,11 @@
 //! What a tree of the text is, looked at from outside.
 ghost use Rattle.std.specs.Prelude.{◌≡◌};
 ghost use Rattle.std.specs.Option.{option_copied};
-ghost use Rattle.rtl_read.specs.Shape.{place_of, atom_of, string_of, items_of, is_nested, is_word, first_atom, first_there};
-ghost use Rattle.rtl_read.specs.Parsed.{IsOutside};
+ghost use Rattle.lisp_read.specs.Shape.{place_of, atom_of, string_of, items_of, vector_of, is_vector, is_nested, is_word, first_atom, first_there};
+ghost use Rattle.lisp_read.specs.Parsed.{IsOutside};
 
 use crate::refusal::RtlRefusal;
-use lisp_read::Tree;
+use crate::tree::Tree;
 use rtx_tree::{Name, Place};
 use std::alloc::Global;
 
@@ -50,6 +50,23 @@ pub fn items(tree: &Tree) -> &[Tree]
         Tree::List { items, .. } => items.as_slice(),
         _ => &[],
     }
+}
+
+/// The trees of a vector; none where the tree is no vector.
+pub fn vector(tree: &Tree) -> &[Tree]
+    ensures { result.now ≡ vector_of tree.now }
+{
+    match tree {
+        Tree::Vector { items, .. } => items.as_slice(),
+        _ => &[],
+    }
+}
+
+/// Whether the tree is a vector.
+pub fn is_vector(tree: &Tree) -> bool
+    ensures { result ≡ is_vector tree.now }
+{
+    matches!(tree, Tree::Vector { .. })
 }
 
 /// Whether the tree is a list or a vector.

@@ -41,6 +41,21 @@ items_at _ = []
 abbrev pub items_of : Tree → List Tree
 items_of t = items_at (out-Tree t)
 
+-- the trees of a vector; none where the tree is no vector
+abbrev pub vector_at : Tree-F Tree → List Tree
+vector_at (Tree-F.Vector place items) = items
+vector_at _ = []
+
+abbrev pub vector_of : Tree → List Tree
+vector_of t = vector_at (out-Tree t)
+
+abbrev pub is_vector_at : Tree-F Tree → Bool
+is_vector_at (Tree-F.Vector place items) = true
+is_vector_at _ = false
+
+abbrev pub is_vector : Tree → Bool
+is_vector t = is_vector_at (out-Tree t)
+
 -- a list or a vector: what can be outside the language by itself
 abbrev pub is_nested_at : Tree-F Tree → Bool
 is_nested_at (Tree-F.List place items) = true

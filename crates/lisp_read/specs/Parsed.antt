@@ -2,9 +2,9 @@
 use Rattle.std.specs.Prelude.{◌≡◌, ℕ, List, [], ◌∷◌, Option, Some, None, Result, Ok, Err}
 use Rattle.rtx_tree.specs.declared.place.Place.{Place}
 use Rattle.lisp_read.specs.declared.tree.Tree.{Tree}
-use Rattle.rtl_read.specs.declared.refusal.RtlRefusal.{RtlRefusal}
-use Rattle.rtl_read.specs.declared.refusal.RtlRefusal.TheVariants as refusal
-use Rattle.rtl_read.specs.Shape.{place_of, tree_name}
+use Rattle.lisp_read.specs.declared.refusal.RtlRefusal.{RtlRefusal}
+use Rattle.lisp_read.specs.declared.refusal.RtlRefusal.TheVariants as refusal
+use Rattle.lisp_read.specs.Shape.{place_of, tree_name}
 
 -- a meaning, or the place and the name of a construct outside the language
 pub data Parsed (A : Type 0) : Type 0 where

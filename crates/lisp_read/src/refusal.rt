@@ -15,7 +15,7 @@ pub enum RtlRefusal {
 
 impl From<Memory> for RtlRefusal {
     ghost use Rattle.std.specs.Prelude.{◌≡◌};
-    ghost use Rattle.rtl_read.specs.declared.refusal.RtlRefusal.TheVariants as refusal;
+    ghost use Rattle.lisp_read.specs.declared.refusal.RtlRefusal.TheVariants as refusal;
 
     ghost from_gives = { λ _ e. e ≡ refusal.Memory };
 

@@ -1,0 +1,94 @@
+-- What may stand where in an expression: GCC Internals, "RTL Expressions", with "Side Effect Expressions" and "Jump Patterns",
+-- as far as this program takes it.
+use Rattle.std.specs.Prelude.{ℕ, Bool, true, false, not, ◌==◌, Option, Some, None, option_map}
+use Rattle.rtx_tree.specs.declared.code.Mode.{Mode}
+use Rattle.rtx_tree.specs.declared.code.Mode.TheVariants.{Void, SI}
+use Rattle.rtx_tree.specs.Registers.{virtual_stack_vars}
+use Rattle.lisp_read.specs.declared.code_class.CodeClass.{CodeClass}
+use Rattle.lisp_read.specs.declared.code_class.CodeClass.TheVariants.{Register, Number, Symbol, Memory, Lowpart, Unary, Binary, Comparison, Setting, Use, Clobber, Parallel, Call, Return, Counter, Label, Branch, Scratch, Matching}
+use Rattle.lisp_read.specs.declared.position.Position.{Position}
+use Rattle.lisp_read.specs.declared.position.Position.TheVariants as position
+
+-- what has a value, also as an address or a shift count
+abbrev pub is_value : CodeClass → Bool
+is_value Register = true
+is_value Number = true
+is_value Symbol = true
+is_value Memory = true
+is_value Lowpart = true
+is_value Unary = true
+is_value Binary = true
+is_value Comparison = true
+is_value _ = false
+
+-- what may be set
+abbrev pub is_place : CodeClass → Bool
+is_place Register = true
+is_place Lowpart = true
+is_place Memory = true
+is_place _ = false
+
+-- what an instruction or an element of a `parallel` may be
+abbrev pub is_pattern : CodeClass → Bool
+is_pattern Setting = true
+is_pattern Use = true
+is_pattern Clobber = true
+is_pattern Parallel = true
+is_pattern Call = true
+is_pattern Return = true
+is_pattern _ = false
+
+-- which classes may stand at a position
+abbrev pub admits : Position → CodeClass → Bool
+admits position.Top Matching = false
+admits position.Top _ = true
+admits position.Value c = is_value c
+admits position.Place c = is_place c
+admits position.Clobbered Scratch = true
+admits position.Clobbered c = is_place c
+admits position.Source Call = true
+admits position.Source c = is_value c
+admits position.Pattern c = is_pattern c
+admits position.Pc Counter = true
+admits position.Jump Label = true
+admits position.Jump Branch = true
+admits position.Test Comparison = true
+admits position.Target Label = true
+admits position.Callee Memory = true
+admits position.Words Number = true
+admits position.Inner Register = true
+admits _ _ = false
+
+-- a mode has to be written
+abbrev pub needed : Mode → Option Mode
+needed Void = None
+needed m = Some m
+
+-- no mode may be written
+abbrev pub unwanted : Mode → Option Mode
+unwanted Void = Some Void
+unwanted m = None
+
+-- The mode of an expression by the mode that is written, Void standing for none. A comparison may do without, and that of a
+-- label is passed over.
+abbrev pub mode_of_class : CodeClass → Mode → Option Mode
+mode_of_class Register m = needed m
+mode_of_class Symbol m = needed m
+mode_of_class Memory m = needed m
+mode_of_class Lowpart m = needed m
+mode_of_class Unary m = needed m
+mode_of_class Binary m = needed m
+mode_of_class Scratch m = needed m
+mode_of_class Comparison m = Some m
+mode_of_class Label m = Some Void
+mode_of_class _ m = unwanted m
+
+-- the memory that a call names is read in SImode, whatever its mode
+abbrev pub mode_at : Position → CodeClass → Mode → Option Mode
+mode_at position.Callee c m = option_map (λ written. SI) (mode_of_class c m)
+mode_at _ c m = mode_of_class c m
+
+-- a lowpart is of any register but virtual-stack-vars
+abbrev pub admits_register : Position → ℕ → Bool
+admits_register position.Inner r = not (r == virtual_stack_vars)
+admits_register _ r = true

@@ -11,7 +11,7 @@ use Rattle.rv_text.specs.Body.{label_text}
 use Rattle.rtlc_run.specs.declared.forms.Match.{Match}
 use Rattle.rtlc_run.specs.declared.refusal.Refusal.{Refusal}
 use Rattle.rtlc_run.specs.declared.refusal.Refusal.TheVariants as refusal
-use Rattle.rtlc_run.specs.Forms.{first_match, table}
+use Rattle.rtlc_run.specs.Forms.{first_match}
 use Rattle.rtlc_run.specs.Template.{filled, template_of}
 
 -- a text, or the first refusal on the way to it
@@ -53,7 +53,7 @@ label_item number uid = label_text number uid ++ codes ":\n"
 abbrev pub item_by : Kind → ℕ → List ℕ → Insn → Outcome
 item_by Label number function i = Ok (label_item number i.uid)
 item_by Barrier number function i = Ok []
-item_by _ number function i = line_by number function i (first_match table i.pattern)
+item_by _ number function i = line_by number function i (first_match i)
 
 abbrev pub item_text : ℕ → List ℕ → Insn → Outcome
 item_text number function i = item_by i.kind number function i

@@ -12,7 +12,7 @@ use Rattle.lisp_read.specs.Parsed.{stands}
 use Rattle.rtl_read.specs.Syntax.{functions_in}
 use Rattle.rtl_step.specs.Step.{is_mark}
 use Rattle.rtlc_run.specs.declared.forms.Match.{Match}
-use Rattle.rtlc_run.specs.Forms.{first_match, table}
+use Rattle.rtlc_run.specs.Forms.{first_match}
 use Rattle.rtlc_run.specs.Assembly.{filled_line, label_item, IsFinished, framed}
 use Rattle.rtlc_run.specs.Answer.{most_bytes, first_fault}
 
@@ -27,7 +27,7 @@ pub record IsInput (bytes : List ℕ) (functions : List Function) : Type 0 where
 -- the lines of a chain of a function with a number: of each instruction that of the first form that matches it, of each label its own
 pub data AreLines (number : ℕ) : List Insn → List ℕ → Type 0 where
   none : AreLines number [] []
-  line : (i : Insn) (insns : List Insn) (m : Match) (rest : List ℕ) → is_mark i.kind ≡ false → first_match table i.pattern ≡ Some m → AreLines number insns rest → AreLines number (i ∷ insns) (filled_line number m ++ rest)
+  line : (i : Insn) (insns : List Insn) (m : Match) (rest : List ℕ) → is_mark i.kind ≡ false → first_match i ≡ Some m → AreLines number insns rest → AreLines number (i ∷ insns) (filled_line number m ++ rest)
   label : (i : Insn) (insns : List Insn) (rest : List ℕ) → i.kind ≡ Label → AreLines number insns rest → AreLines number (i ∷ insns) (label_item number i.uid ++ rest)
   barrier : (i : Insn) (insns : List Insn) (rest : List ℕ) → i.kind ≡ Barrier → AreLines number insns rest → AreLines number (i ∷ insns) rest
 
@@ -39,7 +39,7 @@ pub data IsAssembly : ℕ → List Function → List ℕ → Type 0 where
 
 -- a form matches the instruction, or it is a label or a barrier
 abbrev pub IsMatched : Insn → Type 0
-IsMatched i = is_mark i.kind ≡ false → IsSome (first_match table i.pattern)
+IsMatched i = is_mark i.kind ≡ false → IsSome (first_match i)
 
 abbrev pub AreMatched : List Insn → Type 0
 AreMatched [] = Unit {0}

@@ -48,9 +48,9 @@ fn print_insn(
     insn: &Insn,
     out: &mut Vec<u8>,
 ) -> Result<(), Refusal>
-    ensures { Appended out.old.items out.new.items result (spec.line_by number function.now insn.now (forms.first_match forms.table insn.now.pattern)) }
+    ensures { Appended out.old.items out.new.items result (spec.line_by number function.now insn.now (forms.first_match insn.now)) }
 {
-    match first_match(alloc, &insn.pattern)? {
+    match first_match(alloc, insn)? {
         Some(found) => {
             print_line(number, &found, out)?;
             Ok(())

@@ -1,10 +1,10 @@
 //! The embedded table of instruction forms: what each matches, and its template.
-ghost use Rattle.std.specs.Prelude.{◌≡◌, IfOk, IsTrue, ◌∷◌, []};
+ghost use Rattle.std.specs.Prelude.{◌≡◌, ◌&&◌, IfOk, IsTrue, ◌∷◌, []};
 ghost use Rattle.std.specs.Option.{option_copied};
 ghost use Rattle.rtlc_run.specs.Forms as spec;
 
 use plain_data::Memory;
-use rtx_tree::{Code, Operands, Rtx};
+use rtx_tree::{Code, Insn, Kind, Mode, Operands, Rtx};
 use std::alloc::Global;
 
 /// A form of the table.
@@ -24,59 +24,61 @@ pub enum Form {
     Return,
 }
 
-/// The forms, in the order in which they are tried.
-const TABLE: [Form; 6] = [
-    Form::Add,
-    Form::Addi,
-    Form::Mv,
-    Form::Jump,
-    Form::Branch,
-    Form::Return,
-];
-
-impl Form {
-    fn is_return(self) -> bool
-        ensures { result ≡ spec.is_return self }
-    {
-        match self {
-            Form::Return => true,
-            _ => false,
-        }
-    }
+/// Whether a number and nothing else stands behind the code and the mode.
+fn is_leaf(x: &Rtx) -> bool
+    ensures { result ≡ spec.is_leaf x.now }
+{
+    x.name.bytes().is_empty() && x.kids.is_empty()
 }
 
-fn is_reg(x: &Rtx) -> bool
-    ensures { result ≡ spec.is_reg x.now }
+/// Whether expressions and nothing else stand behind them.
+fn is_node(x: &Rtx) -> bool
+    ensures { result ≡ spec.is_node x.now }
 {
-    match x.code {
-        Code::Reg => true,
-        _ => false,
-    }
+    x.number == 0 && x.name.bytes().is_empty()
 }
 
-fn is_small_number(number: i64) -> bool
-    ensures { result ≡ spec.is_small_number number }
+/// Whether it is an argument register, in `DImode`.
+fn is_argument(x: &Rtx) -> bool
+    ensures { result ≡ spec.is_argument x.now }
 {
-    -2048 <= number && number < 2048
+    matches!((x.code, x.mode), (Code::Reg, Mode::DI))
+        && is_leaf(x)
+        && 10 <= x.number
+        && x.number < 18
+}
+
+fn is_constant(x: &Rtx) -> bool
+    ensures { result ≡ spec.is_constant x.now }
+{
+    matches!((x.code, x.mode), (Code::ConstInt, Mode::Void)) && is_leaf(x)
 }
 
 /// Whether it is a constant that fits the immediate operand of `addi`.
 fn is_small(x: &Rtx) -> bool
     ensures { result ≡ spec.is_small x.now }
 {
-    match x.code {
-        Code::ConstInt => is_small_number(x.number),
-        _ => false,
-    }
+    is_constant(x) && -2048 <= x.number && x.number < 2048
 }
 
 pub fn is_zero(x: &Rtx) -> bool
     ensures { result ≡ spec.is_zero x.now }
 {
-    match x.code {
-        Code::ConstInt => x.number == 0,
-        _ => false,
-    }
+    is_constant(x) && x.number == 0
+}
+
+/// Whether it is the program counter.
+fn is_counter(x: &Rtx) -> bool
+    ensures { result ≡ spec.is_counter x.now }
+{
+    matches!((x.code, x.mode), (Code::Pc, Mode::Void)) && is_leaf(x) && x.number == 0
+}
+
+/// Whether it may number a label.
+fn is_uid(x: &Rtx) -> bool
+    ensures { result ≡ spec.is_uid x.now }
+{
+    is_constant(x) && 0 <= x.number && x.number < 4294967296
 }
 
 /// Whether the code is one of the ten comparisons.
@@ -90,12 +92,49 @@ pub fn is_comparison(code: Code) -> bool
     }
 }
 
+/// Whether it is a comparison without a mode.
+fn is_test(x: &Rtx) -> bool
+    ensures { result ≡ spec.is_test x.now }
+{
+    is_comparison(x.code) && matches!(x.mode, Mode::Void) && is_node(x)
+}
+
+fn is_label(x: &Rtx) -> bool
+    ensures { result ≡ spec.has_head spec.is_label_head x.now && spec.is_node x.now }
+{
+    matches!((x.code, x.mode), (Code::LabelRef, Mode::Void)) && is_node(x)
+}
+
+fn is_sum(x: &Rtx) -> bool
+    ensures { result ≡ spec.has_head spec.is_sum_head x.now && spec.is_node x.now }
+{
+    matches!((x.code, x.mode), (Code::Plus, Mode::DI)) && is_node(x)
+}
+
+fn is_choice(x: &Rtx) -> bool
+    ensures { result ≡ spec.has_head spec.is_choice_head x.now && spec.is_node x.now }
+{
+    matches!((x.code, x.mode), (Code::IfThenElse, Mode::Void)) && is_node(x)
+}
+
+fn is_set(x: &Rtx) -> bool
+    ensures { result ≡ spec.has_head spec.is_set_head x.now && spec.is_node x.now }
+{
+    matches!((x.code, x.mode), (Code::Set, Mode::Void)) && is_node(x)
+}
+
+fn is_return(x: &Rtx) -> bool
+    ensures { result ≡ spec.is_return x.now }
+{
+    matches!((x.code, x.mode), (Code::Return, Mode::Void)) && is_leaf(x) && x.number == 0
+}
+
 /// The number of a label, as an expression, if the tree is one.
 fn label_part(x: &Rtx) -> Option<&Rtx>
     ensures { option_copied result ≡ spec.label_part x.now }
 {
-    match (x.code, x.kids.as_slice()) {
-        (Code::LabelRef, [uid]) => Some(uid),
+    match x.kids.as_slice() {
+        [uid] if is_label(x) && is_uid(uid) => Some(uid),
         _ => None,
     }
 }
@@ -137,7 +176,7 @@ fn passes(form: Form, x: &Rtx) -> bool
     ensures { result ≡ spec.second_passes form x.now }
 {
     match form {
-        Form::Add => is_reg(x),
+        Form::Add => is_argument(x),
         Form::Addi => is_small(x),
         _ => false,
     }
@@ -151,8 +190,8 @@ fn sum_operands(
 ) -> Result<Option<Operands>, Memory>
     ensures { IfOk result (λ ops. ops ≡ spec.sum_operands (spec.second_passes form) target.now (spec.sum_parts source.now)) }
 {
-    match (source.code, source.kids.as_slice()) {
-        (Code::Plus, [a, b]) if is_reg(target) && is_reg(a) && passes(form, b) => {
+    match source.kids.as_slice() {
+        [a, b] if is_sum(source) && is_argument(target) && is_argument(a) && passes(form, b) => {
             Ok(Some(three(alloc, target, a, b)?))
         }
         _ => Ok(None),
@@ -162,7 +201,7 @@ fn sum_operands(
 fn reg_operands(alloc: Global, target: &Rtx, source: &Rtx) -> Result<Option<Operands>, Memory>
     ensures { IfOk result (λ ops. ops ≡ spec.reg_operands target.now source.now) }
 {
-    if is_reg(target) && is_reg(source) {
+    if is_argument(target) && is_argument(source) {
         Ok(Some(two(alloc, target, source)?))
     } else {
         Ok(None)
@@ -173,7 +212,7 @@ fn jump_operands(alloc: Global, target: &Rtx, source: &Rtx) -> Result<Option<Ope
     ensures { IfOk result (λ ops. ops ≡ spec.jump_operands target.now source.now) }
 {
     match label_part(source) {
-        Some(uid) if target.is_pc() => Ok(Some(one(alloc, uid)?)),
+        Some(uid) if is_counter(target) => Ok(Some(one(alloc, uid)?)),
         _ => Ok(None),
     }
 }
@@ -183,8 +222,19 @@ fn test_operands(alloc: Global, test: &Rtx, label: &Rtx) -> Result<Option<Operan
     ensures { IfOk result (λ ops. ops ≡ spec.test_operands test.now label.now) }
 {
     match (test.kids.as_slice(), label_part(label)) {
-        ([a, b], Some(uid)) if is_comparison(test.code) && is_reg(a) && (is_reg(b) || is_zero(b)) =>
+        ([a, b], Some(uid)) if is_test(test) && is_argument(a) && (is_argument(b) || is_zero(b)) =>
             { Ok(Some(four(alloc, test, a, b, uid)?)) }
+        _ => Ok(None),
+    }
+}
+
+fn choice_operands(alloc: Global, source: &Rtx) -> Result<Option<Operands>, Memory>
+    ensures { IfOk result (λ ops. ops ≡ spec.choice_operands source.now) }
+{
+    match source.kids.as_slice() {
+        [test, label, other] if is_choice(source) && is_counter(other) => {
+            test_operands(alloc, test, label)
+        }
         _ => Ok(None),
     }
 }
@@ -192,11 +242,10 @@ fn test_operands(alloc: Global, test: &Rtx, label: &Rtx) -> Result<Option<Operan
 fn branch_operands(alloc: Global, target: &Rtx, source: &Rtx) -> Result<Option<Operands>, Memory>
     ensures { IfOk result (λ ops. ops ≡ spec.branch_operands target.now source.now) }
 {
-    match (source.code, source.kids.as_slice()) {
-        (Code::IfThenElse, [test, label, other]) if target.is_pc() && other.is_pc() => {
-            test_operands(alloc, test, label)
-        }
-        _ => Ok(None),
+    if is_counter(target) {
+        choice_operands(alloc, source)
+    } else {
+        Ok(None)
     }
 }
 
@@ -217,14 +266,23 @@ fn set_operands(
     }
 }
 
+fn set_of(alloc: Global, form: Form, pattern: &Rtx) -> Result<Option<Operands>, Memory>
+    ensures { IfOk result (λ ops. ops ≡ spec.set_by form (spec.has_head spec.is_set_head pattern.now && spec.is_node pattern.now) pattern.now.kids) }
+{
+    match pattern.kids.as_slice() {
+        [target, source] if is_set(pattern) => set_operands(alloc, form, target, source),
+        _ => Ok(None),
+    }
+}
+
 /// The operands of a form in a pattern, or `None` where it doesn't match.
 fn operands(alloc: Global, form: Form, pattern: &Rtx) -> Result<Option<Operands>, Memory>
     ensures { IfOk result (λ ops. ops ≡ spec.operands_of form pattern.now) }
 {
-    match (pattern.code, pattern.kids.as_slice()) {
-        (Code::Set, [target, source]) => set_operands(alloc, form, target, source),
-        (Code::Return, _) if form.is_return() => Ok(Some(Operands::new(alloc))),
-        _ => Ok(None),
+    match form {
+        Form::Return if is_return(pattern) => Ok(Some(Operands::new(alloc))),
+        Form::Return => Ok(None),
+        _ => set_of(alloc, form, pattern),
     }
 }
 
@@ -236,7 +294,7 @@ pub struct Match {
 }
 
 fn first_of(alloc: Global, forms: &[Form], pattern: &Rtx) -> Result<Option<Match>, Memory>
-    ensures { IfOk result (λ found. found ≡ spec.first_match forms.now pattern.now) }
+    ensures { IfOk result (λ found. found ≡ spec.first_of forms.now pattern.now) }
 {
     for form in forms {
         if let Some(operands) = operands(alloc, *form, pattern)? {
@@ -249,9 +307,20 @@ fn first_of(alloc: Global, forms: &[Form], pattern: &Rtx) -> Result<Option<Match
     Ok(None)
 }
 
-/// The first form of the table that matches a pattern.
-pub fn first_match(alloc: Global, pattern: &Rtx) -> Result<Option<Match>, Memory>
-    ensures { IfOk result (λ found. found ≡ spec.first_match spec.table pattern.now) }
+/// The forms for an instruction of a kind, in the order in which they are tried.
+fn table(kind: Kind) -> &'static [Form]
+    ensures { result.now ≡ spec.table kind }
 {
-    first_of(alloc, &TABLE, pattern)
+    match kind {
+        Kind::Plain => &[Form::Add, Form::Addi, Form::Mv],
+        Kind::Jump => &[Form::Jump, Form::Branch, Form::Return],
+        _ => &[],
+    }
+}
+
+/// The first form that matches an instruction.
+pub fn first_match(alloc: Global, insn: &Insn) -> Result<Option<Match>, Memory>
+    ensures { IfOk result (λ found. found ≡ spec.first_match insn.now) }
+{
+    first_of(alloc, table(insn.kind), &insn.pattern)
 }

@@ -12,7 +12,7 @@ use Rattle.rv_text.specs.declared.line.Line.{Line}
 use Rattle.rv_text.specs.declared.line.CodeItem.{CodeItem}
 use Rattle.rv_text.specs.declared.line.CodeItem.TheVariants.{Label}
 use Rattle.rv_line.specs.Run.{next_line}
-use Rattle.same_code.specs.Direct.{IsUid, IsLineOf, AreItemsOf, IsEnding, IsDirect}
+use Rattle.same_code.specs.Direct.{IsUid, IsLineOf, AreItemsOf, IsEnding}
 use Rattle.same_code.specs.Direct as direct
 use Rattle.same_code.proofs.Places.{get_dropped, drop_next, within_dropped}
 

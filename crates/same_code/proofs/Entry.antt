@@ -1,8 +1,11 @@
 -- What the registers hold at entry, in the function and in its code.
-use Rattle.std.proofs.Common.{◌≡◌, ℕ, zero, suc, ◌^◌, ◌≢◌, ◌<◌, ◌⊎◌, inl, inr, ⊎_elim, arith, Bool, true, false, cond, ◌==◌, nat_lt, not, ◌||◌, List, [], ◌∷◌, Option, Some, refl, sym, ap, subst, ◌∙◌}
+use Rattle.std.proofs.Common.{◌≡◌, ℕ, zero, suc, ◌^◌, ◌≢◌, ◌<◌, ◌≤◌, ◌++◌, ◌⊎◌, inl, inr, ⊎_elim, arith, Bool, true, false, cond, ◌==◌, nat_lt, not, ◌||◌, List, [], ◌∷◌, Option, Some, refl, sym, ap, subst, ◌∙◌}
 use Rattle.std.proofs.lemmas.Bool.Decides.{nat_tests}
+use Rattle.std.proofs.lemmas.List.Folds.{list_any-append}
 use Rattle.std.specs.Prelude.{if◌then◌else◌}
-use Rattle.std.specs.List.{filter}
+use Rattle.std.specs.List.{filter, list_any}
+use Rattle.rtx_tree.specs.declared.memories.MemByte.{MemByte}
+use Rattle.run_memory.specs.RunMemory.{is_in, is_visible, visible}
 use Rattle.std.specs.FinMap.{empty}
 use Rattle.bits64.specs.Words.{low}
 use Rattle.bits64.specs.declared.Width.TheVariants.{W64}
@@ -12,8 +15,8 @@ use Rattle.func_mean.specs.Run as rtl
 use Rattle.rv_line.specs.Run as lines
 use Rattle.rv_line.specs.Step.{register}
 use Rattle.same_code.specs.Direct.{IsArgument}
-use Rattle.same_code.specs.Same.{AreWords}
-use Rattle.same_code.proofs.Registers.{value_set, value_kept, low_same}
+use Rattle.same_code.specs.Same.{AreWords, IsLawful, is_below_sp, locals_range, seen_by_rtl}
+use Rattle.same_code.proofs.Registers.{AreWide, wide_empty, wide_after, value_set, value_kept, low_same}
 use Rattle.same_code.proofs.Insns.{Agree}
 
 pub same_or_not : (a b : ℕ) → (a ≡ b) ⊎ (a ≢ b)
@@ -69,10 +72,45 @@ agree_at_entry start words = λ r value is known.
     (same_arg _ value (words.args 4 (omega arith))) (same_arg _ value (words.args 5 (omega arith))) (same_arg _ value (words.args 6 (omega arith))) (same_arg _ value (words.args 7 (omega arith)))
     r is (sym (set_all (rtl.entry_values start) empty r refl) ∙ known)
 
-kept_if : {X : Type 0} (b : Bool) (x : X) (xs rest : List X) → rest ≡ xs → cond (not b || b) (x ∷ rest) rest ≡ x ∷ xs
-kept_if true x xs rest same = ap (λ r. x ∷ r) same
-kept_if false x xs rest same = ap (λ r. x ∷ r) same
+-- ---- what is known at entry is known in 64 bits
 
-pub filter_all : {X : Type 0} (p : X → Bool) (xs : List X) → filter (λ x. not (p x) || p x) xs ≡ xs
-filter_all p [] = refl
-filter_all p (x ∷ xs) = kept_if (p x) x xs (filter (λ x. not (p x) || p x) xs) (filter_all p xs)
+all_wide : (entries : List (ℕ × ℕ)) (regs : Regs) → AreWide regs → AreWide (rtl.with_all entries regs)
+all_wide [] regs wide = wide
+all_wide (entry ∷ rest) regs wide = all_wide rest (with_reg regs entry.0 (known_of W64 entry.1)) (wide_after regs entry.0 entry.1 wide)
+
+pub wide_at_entry : (start : Start) → AreWide (rtl.entry_regs start)
+wide_at_entry start = all_wide (rtl.entry_values start) empty wide_empty
+
+-- ---- what the function sees of memory
+
+kept_step : {X : Type 0} (p q : X → Bool) (x : X) (xs : List X) (b : Bool) → q x ≡ b → (p x ≡ true → q x ≡ true) → filter p (filter q xs) ≡ filter p xs →
+    filter p (cond b (x ∷ filter q xs) (filter q xs)) ≡ cond (p x) (x ∷ filter p xs) (filter p xs)
+kept_step p q x xs true at implies same = ap (λ l. cond (p x) (x ∷ l) l) same
+kept_step p q x xs false at implies same = dropped (p x) refl
+  where
+    dropped : (c : Bool) → p x ≡ c → filter p (filter q xs) ≡ cond c (x ∷ filter p xs) (filter p xs)
+    dropped true passes = absurd (let both : true ≡ false = sym (implies passes) ∙ at in let none : ⊥ = cc in none)
+    dropped false other = same
+
+-- what passes a test is there also behind a filter that lets it through
+kept : {X : Type 0} (p q : X → Bool) (xs : List X) → ((x : X) → p x ≡ true → q x ≡ true) → filter p (filter q xs) ≡ filter p xs
+kept p q [] implies = refl
+kept p q (x ∷ xs) implies = kept_step p q x xs (q x) refl (implies x) (kept p q xs implies)
+
+any_of_both : {X : Type 0} (p : X → Bool) (xs ys : List X) → list_any p (xs ++ ys) ≡ true → list_any p xs ≡ false → list_any p ys ≡ true
+any_of_both p xs ys any none = ap (λ b. b || list_any p ys) (sym none) ∙ sym (list_any-append p xs ys) ∙ any
+
+in_locals : (start : Start) (locals address : ℕ) → locals ≤ start.sp → is_visible (locals_range start locals) address ≡ true → is_below_sp start locals address ≡ true
+in_locals start zero address fits is = absurd (let none : ⊥ = cc in none)
+in_locals start (suc n) address fits is = grind (arith, nat_tests, is, fits)
+
+stays : (frame locals : ℕ) (start : Start) (lawful : IsLawful frame locals start) (address : ℕ) (b : Bool) → locals ≤ frame → is_below_sp start frame address ≡ b → is_visible (lawful.ranges ++ locals_range start locals) address ≡ true →
+    (not b || is_below_sp start locals address) ≡ true
+stays frame locals start lawful address false fits room is = refl
+stays frame locals start lawful address true fits room is =
+    in_locals start locals address (omega (arith, fits, lawful.above_zero)) (any_of_both (is_in address) lawful.ranges (locals_range start locals) is (lawful.apart address room))
+
+-- of what is visible it sees all
+pub visible_at_entry : (frame locals : ℕ) (start : Start) → locals ≤ frame → IsLawful frame locals start → visible start.visible start.memory ≡ visible start.visible (seen_by_rtl frame locals start).memory
+visible_at_entry frame locals start fits lawful = sym (kept (λ (b : MemByte). is_visible start.visible b.address) (λ b. not (is_below_sp start frame b.address) || is_below_sp start locals b.address) start.memory
+    (λ b is. stays frame locals start lawful b.address (is_below_sp start frame b.address) fits refl (sym (ap (λ ranges. is_visible ranges b.address) lawful.visible_is) ∙ is)))

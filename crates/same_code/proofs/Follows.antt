@@ -8,6 +8,7 @@ use Rattle.rtx_tree.specs.declared.machine.World.{World}
 use Rattle.rtx_tree.specs.declared.function.Insn.{Insn}
 use Rattle.rtl_step.specs.Regs.{Regs, known_of, reg_value, with_reg}
 use Rattle.rtl_step.specs.Value.{value_of}
+use Rattle.run_memory.specs.RunMemory.{visible}
 use Rattle.rtl_step.specs.Effect.{effects_of, regs_after, memory_after}
 use Rattle.rtl_step.specs.declared.effect.Effect.{Effect}
 use Rattle.rtl_step.specs.declared.effect.Effect.TheVariants.{Sets}
@@ -23,7 +24,7 @@ use Rattle.rtx_tree.specs.Tree.{reg_of}
 use Rattle.rtx_tree.specs.declared.code.Mode.TheVariants.{DI}
 use Rattle.rtx_tree.specs.declared.tree.Rtx.{Rtx}
 use Rattle.same_code.specs.Same.{at_entry}
-use Rattle.same_code.proofs.Registers.{value_set, value_kept, register_set, register_kept, length_written}
+use Rattle.same_code.proofs.Registers.{AreWide, wide_after, value_set, value_kept, register_set, register_kept, length_written}
 use Rattle.same_code.proofs.Insns.{Agree, effects_set, same_value}
 use Rattle.same_code.proofs.Entry.{same_or_not}
 
@@ -31,7 +32,8 @@ use Rattle.same_code.proofs.Entry.{same_or_not}
 pub record Follows (start : Start) (s : State) (m : RvState) : Type 0 where
   pub agree : Agree s.regs m.regs
   pub long : length m.regs ≡ 32
-  pub memory_is : m.memory ≡ s.memory
+  pub wide : AreWide s.regs
+  pub memory_is : visible start.visible m.memory ≡ visible start.visible s.memory
   pub ra_is : register m.regs 1 ≡ Some m.entry_ra
   pub saved_is : lines.saved_of m.regs ≡ at_entry start
   pub visible_is : s.visible ≡ start.visible
@@ -77,6 +79,7 @@ follows_after : (start : Start) (s : State) (m : RvState) (t value : ℕ) → Is
 follows_after start s m t value is_t follows = record {
   agree = agree_after s.regs m.regs t value is_t follows.long follows.agree;
   long = length_written m.regs t (low W64 value) (omega (arith, is_t.least)) ∙ follows.long;
+  wide = wide_after s.regs t value follows.wide;
   memory_is = follows.memory_is;
   ra_is = register_kept m.regs t 1 (low W64 value) (omega (arith, is_t.least)) (omega arith) (λ same. omega (arith, is_t.least, same)) ∙ follows.ra_is;
   saved_is = saved_after m.regs t (low W64 value) is_t ∙ follows.saved_is;
@@ -112,6 +115,7 @@ pub follows_from : (start : Start) (s : State) (m : RvState) (place : ℕ) → F
 follows_from start s m place follows = record {
   agree = follows.agree;
   long = follows.long;
+  wide = follows.wide;
   memory_is = follows.memory_is;
   ra_is = follows.ra_is;
   saved_is = follows.saved_is;

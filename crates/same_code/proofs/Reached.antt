@@ -1,5 +1,5 @@
 -- The places that a run of direct code reaches are those to which paths lead.
-use Rattle.std.proofs.Common.{◌≡◌, ◌≢◌, ℕ, ◌+◌, Bool, true, false, ◌||◌, ◌==◌, List, [], ◌∷◌, Some, refl, ap, ◌∙◌, arith}
+use Rattle.std.proofs.Common.{◌≡◌, ◌≢◌, ◌≤◌, ℕ, ◌+◌, Bool, true, false, ◌||◌, ◌==◌, List, [], ◌∷◌, Some, refl, ap, ◌∙◌, arith}
 use Rattle.std.proofs.lemmas.Bool.Decides.{nat_tests}
 use Rattle.std.specs.Prelude.{slice_get, if◌then◌else◌}
 use Rattle.std.specs.Option.{option_to_list}
@@ -18,7 +18,7 @@ use Rattle.rtl_func.specs.Successors.{successors_of, successors_by, flow_of, flo
 use Rattle.rtl_func.specs.declared.flow.Flow.{Flow}
 use Rattle.rtl_func.specs.declared.flow.Flow.TheVariants.{Falls, Goes, Branches, Stops}
 use Rattle.rv_text.specs.declared.line.CodeItem.{CodeItem}
-use Rattle.same_code.specs.Direct.{IsUid, IsDirect, IsCodeOf}
+use Rattle.same_code.specs.Direct.{IsUid, IsCodeOf}
 use Rattle.same_code.specs.Same.{Same}
 use Rattle.same_code.proofs.Jumps.{pc_is, label_is}
 use Rattle.same_code.proofs.Direct.{AreReached}
@@ -86,6 +86,6 @@ reached_by_paths f = record {
       ap (λ b. (p + 1 == q) || (b || false)) (is_here q) ∙ or_true (p + 1 == q));
 }
 
--- the items of direct code, whose frame has size 0, have the same behaviour as the function
-pub direct_code_is_same : (number : ℕ) (f : Function) (items : List CodeItem) → IsDirect f → IsCodeOf number f items → Same 0 f items
-direct_code_is_same number f items is_direct code = same_where_reached number f (Path f.insns 0) (reached_by_paths f) code.ending items (Here 0) code.are code.ends is_direct
+-- the items of direct code, which uses no stack, have the same behaviour as the function, whatever frame holds its locals
+pub direct_code_is_same : (number frame : ℕ) (f : Function) (items : List CodeItem) → f.locals ≤ frame → IsCodeOf number f items → Same frame f items
+direct_code_is_same number frame f items fits code = same_where_reached number frame f (Path f.insns 0) (reached_by_paths f) code.ending items fits (Here 0) code.are code.ends

@@ -1,10 +1,12 @@
 -- Registers of a function and of its code, after one of them is set in 64 bits.
-use Rattle.std.proofs.Common.{◌≡◌, ℕ, zero, suc, ◌^◌, ◌≢◌, ◌<◌, arith, rules, true, false, ◌==◌, length, List, [], ◌∷◌, Option, Some, refl, sym, ap, ◌∙◌}
+use Rattle.std.proofs.Common.{◌≡◌, ℕ, zero, suc, ◌^◌, ◌≢◌, ◌<◌, arith, rules, Bool, true, false, ◌==◌, length, List, [], ◌∷◌, Option, Some, refl, sym, ap, ◌∙◌}
 use Rattle.std.proofs.lemmas.Cmp.{nat_cmp_total}
 use Rattle.std.proofs.lemmas.Bool.Decides.{nat_tests}
-use Rattle.std.specs.FinMap.{get-insert, gets}
+use Rattle.std.specs.FinMap.{get-insert, get-empty, gets}
 use Rattle.std.specs.Ordering.{nat_cmp, eq_by_cmp}
-use Rattle.std.specs.Prelude.{slice_get, slice_set, option_and_then, if◌then◌else◌}
+use Rattle.std.specs.Prelude.{slice_get, slice_set, option_and_then, if◌then◌else◌, None}
+use Rattle.std.specs.FinMap.{get, empty}
+use Rattle.rtl_step.specs.declared.regs.Known.{Known}
 use Rattle.bits64.specs.Words.{low, wrapped, sign_extended}
 use Rattle.bits64.specs.declared.Width.TheVariants.{W64}
 use Rattle.bits64.proofs.Readings.{by_half}
@@ -76,3 +78,19 @@ length_kept (x ∷ regs) (suc t) value = ap suc (length_kept regs t value)
 
 pub length_written : (regs : List (Option ℕ)) (t value : ℕ) → 0 < t → length (with_register regs t value) ≡ length regs
 length_written regs t value some = ap (length {A = Option ℕ}) (written_at regs t value some) ∙ length_kept regs t (Some value)
+
+-- ---- whatever is known of a register is known in 64 bits
+
+abbrev pub AreWide : Regs → Type 0
+AreWide regs = (r : ℕ) (k : Known) → get regs r ≡ Some k → k.width ≡ W64
+
+pub wide_empty : AreWide empty
+wide_empty r k is = absurd (let same : ◌≡◌ {A = Option Known} None (Some k) = sym (get-empty nat_cmp r) ∙ is in let none : ⊥ = cc in none)
+
+got_wide : (b : Bool) (regs : Regs) (r value : ℕ) (k : Known) → ((k : Known) → get regs r ≡ Some k → k.width ≡ W64) → (if b then Some (known_of W64 value) else get regs r) ≡ Some k → k.width ≡ W64
+got_wide true regs r value k wide is = let same : known_of W64 value ≡ k = cc in ap (λ (k : Known). k.width) (sym same)
+got_wide false regs r value k wide is = wide k is
+
+pub wide_after : (regs : Regs) (t value : ℕ) → AreWide regs → AreWide (with_reg regs t (known_of W64 value))
+wide_after regs zero value wide = wide
+wide_after regs (suc t) value wide = λ r k is. got_wide (eq_by_cmp nat_cmp r (suc t)) regs r value k (wide r) (sym (get-insert nat_cmp_total regs (suc t) (known_of W64 value) r) ∙ is)

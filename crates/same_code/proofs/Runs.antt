@@ -44,7 +44,7 @@ use Rattle.rv_line.specs.declared.state.RvState.{RvState}
 use Rattle.rv_line.specs.declared.state.LineEnd.{LineEnd}
 use Rattle.rv_line.specs.declared.state.LineEnd.TheVariants as ends
 use Rattle.rv_line.specs.declared.outcome.CodeOutcome.{CodeOutcome}
-use Rattle.same_code.specs.Direct.{IsUid, IsLineOf, AreItemsOf, IsEnding, IsDirect, IsTest, IsOperandIn}
+use Rattle.same_code.specs.Direct.{IsUid, IsLineOf, AreItemsOf, IsEnding, IsTest, IsOperandIn}
 use Rattle.same_code.specs.Direct as direct
 use Rattle.same_code.specs.Same.{SameOutcome}
 use Rattle.same_code.proofs.Places.{get_dropped, get_past, end_dropped}
@@ -59,7 +59,7 @@ both_there : {X : Type 0} (g : ℕ → ℕ → X) (o o' : Option ℕ) (x y : ℕ
 both_there g o o' x y is is' = ap (λ o. of_both g o o') is ∙ ap (of_both g (Some x)) is'
 
 module _ (number : ℕ) (f : Function) (Reached : ℕ → Type 0) (graph : AreReached f Reached) (ending items : List CodeItem) (all : AreItemsOf number ending f.insns items) (ended : IsEnding (Reached (length f.insns)) ending)
-    (is_direct : IsDirect f) (start : Start) (world : World) where
+    (start : Start) (world : World) where
   abbrev at : List CodeItem → RvState → lines.Running
   at rest m = record { rest = rest; machine = m; replies = world.replies; calls = [] }
 
@@ -117,8 +117,8 @@ module _ (number : ℕ) (f : Function) (Reached : ℕ → Type 0) (graph : AreRe
   both_return n s rest more m line true has is next returns follows defined =
       let stepped = is ∙ ap (λ b. if b then (rtl_ends.Returned, s) else (rtl_ends.Undefined, s)) has in
       as_outcomes _ _ _ _ (ap (λ e. func.go_on f e.0 e.1 (func.run world f n)) stepped) (code_turn n rest more m m line ends.Returned next (line_returns line m returns follows.ra_is)) (
-        same_result f.result s.regs m is_direct.result_is has (λ value known. follows.agree 10 value (record { least = omega arith; most = omega arith }) known),
-        (ap (visible start.visible) follows.memory_is ∙ ap (λ v. visible v s.memory) (sym follows.visible_is)),
+        same_result f.result s.regs m follows.wide has (λ value known. follows.agree 10 value (record { least = omega arith; most = omega arith }) known),
+        (follows.memory_is ∙ ap (λ v. visible v s.memory) (sym follows.visible_is)),
         same_none s.calls follows.no_calls,
         follows.saved_is,
       )

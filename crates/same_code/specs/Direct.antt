@@ -1,7 +1,7 @@
 -- Direct code: an instruction for which one line does the same, by its pattern and by what the line does. An instruction sets an argument
 -- register to another, or to the sum of one and another or a constant (GCC Internals, "RTL Expressions for Arithmetic" and "Side Effect
 -- Expressions"), or it jumps, branches on a comparison of two numbers of 64 bits, or returns ("Jump Patterns").
-use Rattle.std.specs.Prelude.{◌≡◌, ◌⊎◌, ℕ, ◌≤◌, ◌<◌, ◌^◌, ℤ, pos, List, [], ◌∷◌, Some, None}
+use Rattle.std.specs.Prelude.{◌≡◌, ℕ, ◌≤◌, ◌<◌, ◌^◌, ℤ, pos, List, [], ◌∷◌, Some}
 use Rattle.bits64.specs.declared.Width.TheVariants.{W64}
 use Rattle.rtx_tree.specs.Tree.{reg_of, const_of}
 use Rattle.rtx_tree.specs.Patterns.{sum_rtx, set_rtx, jump_rtx, test_rtx, branch_rtx, return_rtx}
@@ -83,11 +83,6 @@ pub data AreItemsOf (number : ℕ) (ending : List CodeItem) : List Insn → List
   label : (i : Insn) (insns : List Insn) (items : List CodeItem) → i.kind ≡ kind.Label → IsUid i.uid → AreItemsOf number ending insns items →
       AreItemsOf number ending (i ∷ insns) (Label number i.uid ∷ items)
   barrier : (i : Insn) (insns : List Insn) (items : List CodeItem) → i.kind ≡ kind.Barrier → AreItemsOf number ending insns items → AreItemsOf number ending (i ∷ insns) items
-
--- A function of direct code: no locals, and a result in DImode or none.
-pub record IsDirect (f : Function) : Type 0 where
-  pub no_locals : f.locals ≡ 0
-  pub result_is : (f.result ≡ None) ⊎ (f.result ≡ Some DI)
 
 -- How the items of a function end, by whether the end of its chain is reached: with a line that returns, or with nothing.
 pub data IsEnding (Reached : Type 0) : List CodeItem → Type 0 where

@@ -51,9 +51,9 @@ same_some : (a b : Refusal) → ◌≡◌ {A = Option Refusal} (Some a) (Some b)
 same_some a b is = cc
 
 one_coming : (functions : List Function) (a b : Outcome) → FunctionsCome functions a → FunctionsCome functions b → a ≡ b
-one_coming functions _ _ (FunctionsCome.ill_formed e is) (FunctionsCome.ill_formed e' is') = ap (λ (e : Refusal). Err e) (same_some e e' (sym is ∙ is'))
-one_coming functions _ _ (FunctionsCome.ill_formed e is) (FunctionsCome.assembled o none texts) = absurd (let no : ◌≡◌ {A = Option Refusal} (Some e) None = sym is ∙ none in let nothing : ⊥ = cc in nothing)
-one_coming functions _ _ (FunctionsCome.assembled o none texts) (FunctionsCome.ill_formed e is) = absurd (let no : ◌≡◌ {A = Option Refusal} (Some e) None = sym is ∙ none in let nothing : ⊥ = cc in nothing)
+one_coming functions _ _ (FunctionsCome.refused e is) (FunctionsCome.refused e' is') = ap (λ (e : Refusal). Err e) (same_some e e' (sym is ∙ is'))
+one_coming functions _ _ (FunctionsCome.refused e is) (FunctionsCome.assembled o none texts) = absurd (let no : ◌≡◌ {A = Option Refusal} (Some e) None = sym is ∙ none in let nothing : ⊥ = cc in nothing)
+one_coming functions _ _ (FunctionsCome.assembled o none texts) (FunctionsCome.refused e is) = absurd (let no : ◌≡◌ {A = Option Refusal} (Some e) None = sym is ∙ none in let nothing : ⊥ = cc in nothing)
 one_coming functions _ _ (FunctionsCome.assembled o none texts) (FunctionsCome.assembled o' none' texts') = one_text 0 functions o o' texts texts'
 
 same_functions : (a b : List Function) → ◌≡◌ {A = Parsed (List Function)} (stands a) (stands b) → a ≡ b

@@ -15,7 +15,7 @@ use Rattle.rtlc_run.specs.declared.refusal.Refusal.{Refusal}
 use Rattle.rtlc_run.specs.declared.refusal.Refusal.TheVariants as refusal
 use Rattle.rtlc_run.specs.Assembly.{Outcome, AreTexts, RefusesWith}
 use Rattle.rtlc_run.specs.Answer as answer
-use Rattle.rtlc_run.specs.Answer.{ComesFrom, ReadingComes, FunctionsCome, fault_or, fault_from, first_fault, IsOrMemory, ReadRefused, ComesTo, Tells}
+use Rattle.rtlc_run.specs.Answer.{ComesFrom, ReadingComes, FunctionsCome, or_later, refused_at, refused_from, first_refused, IsOrMemory, ReadRefused, ComesTo, Tells}
 use Rattle.rtlc_run.proofs.Texts.{refuses_map}
 
 -- a refusal that was made, or want of memory, where the refusal has a property
@@ -55,20 +55,19 @@ pub trees_come : (trees : List Tree) (functions : List Function) (result : Resul
 trees_come trees functions result is h = tells_map result (FunctionsCome functions) (ReadingComes (Trees trees)) (λ o comes. answer.ReadingComes.compiled trees functions o is comes) h
 
 -- what the texts came to, the functions come to where none has a fault
-pub functions_come : (functions : List Function) (result : Result (Vec ℕ Global) Refusal) → first_fault functions ≡ None → Tells result (AreTexts 0 functions) → Tells result (FunctionsCome functions)
+pub functions_come : (functions : List Function) (result : Result (Vec ℕ Global) Refusal) → first_refused functions ≡ None → Tells result (AreTexts 0 functions) → Tells result (FunctionsCome functions)
 functions_come functions result none h = tells_map result (AreTexts 0 functions) (FunctionsCome functions) (λ o texts. answer.FunctionsCome.assembled o none texts) h
 
--- ---- faults
+-- ---- functions that are refused
 
--- a function without a fault leads on
-pub fault_on : (functions : List Function) (index : ℕ) (f : Function) (rest : List Function) → rules.first_fault (faults functions index) ≡ None → fault_from functions index (f ∷ rest) ≡ first_fault functions →
-    fault_from functions (index + 1) rest ≡ first_fault functions
-fault_on functions index f rest none so_far = sym (ap (λ o. fault_or f o (fault_from functions (index + 1) rest)) none) ∙ so_far
+-- one that is not leads on
+pub checked_on : (functions : List Function) (index : ℕ) (f : Function) (rest : List Function) → refused_at functions index f ≡ None → refused_from functions index (f ∷ rest) ≡ first_refused functions →
+    refused_from functions (index + 1) rest ≡ first_refused functions
+checked_on functions index f rest none so_far = sym (ap (λ o. or_later o (refused_from functions (index + 1) rest)) none) ∙ so_far
 
--- one with a fault is the first
-pub fault_here : (functions : List Function) (index : ℕ) (f : Function) (rest : List Function) (e : Refusal) →
-    RefusesWith e (λ refused. (fault : Fault) × (rules.first_fault (faults functions index) ≡ Some fault) × (refused ≡ Err (refusal.IllFormed f.name fault.uid fault.rule))) →
-    fault_from functions index (f ∷ rest) ≡ first_fault functions → RefusesWith e (FunctionsCome functions)
-fault_here functions index f rest e h so_far =
-    refuses_map e (λ refused. (fault : Fault) × (rules.first_fault (faults functions index) ≡ Some fault) × (refused ≡ Err (refusal.IllFormed f.name fault.uid fault.rule))) (FunctionsCome functions)
-    (λ e is. subst (FunctionsCome functions) (sym is.2) (answer.FunctionsCome.ill_formed (refusal.IllFormed f.name is.0.uid is.0.rule) (sym so_far ∙ ap (λ o. fault_or f o (fault_from functions (index + 1) rest)) is.1))) h
+-- one that is is the first
+pub checked_here : (functions : List Function) (index : ℕ) (f : Function) (rest : List Function) (e : Refusal) → RefusesWith e (λ told. (r : Refusal) × (refused_at functions index f ≡ Some r) × (told ≡ Err r)) →
+    refused_from functions index (f ∷ rest) ≡ first_refused functions → RefusesWith e (FunctionsCome functions)
+checked_here functions index f rest e h so_far =
+    refuses_map e (λ told. (r : Refusal) × (refused_at functions index f ≡ Some r) × (told ≡ Err r)) (FunctionsCome functions)
+    (λ e is. subst (FunctionsCome functions) (sym is.2) (answer.FunctionsCome.refused is.0 (sym so_far ∙ ap (λ o. or_later o (refused_from functions (index + 1) rest)) is.1))) h

@@ -12,12 +12,12 @@ use Rattle.rtl_read.specs.Syntax.{functions_in}
 use Rattle.rtl_step.specs.Step.{is_mark}
 use Rattle.rtlc_run.specs.declared.refusal.Refusal.{Refusal}
 use Rattle.rtlc_run.specs.declared.forms.Match.{Match}
-use Rattle.rtlc_run.specs.Forms.{first_match, table}
+use Rattle.rtlc_run.specs.Forms.{first_match}
 use Rattle.rtlc_run.specs.Assembly.{Outcome, outcome_map, outcome_then, line_by, item_by, item_text, body_text, return_insn, framed, IsFinished, IsBodyText, IsFunctionText, AreTexts}
 use Rattle.rtlc_run.specs.Answer as answer
 use Rattle.rtlc_run.specs.Answer.{IsCommand, FunctionsCome, ReadingComes, Answers, EndsWith, IsAnswered, status_of_answer}
 use Rattle.rtlc_run.specs.Lines.{IsInput, IsMatched, AreMatched, AllMatched, Completes}
-use Rattle.rtlc_run.proofs.FormLines.{first_return}
+use Rattle.rtlc_run.proofs.Matches.{return_found_first}
 
 -- an outcome that is a text
 abbrev pub HasText : Outcome → Type 0
@@ -35,9 +35,9 @@ found_line number name i None h = cc
 
 -- each item of a chain that is matched has a text
 kind_text : (number : ℕ) (name : List ℕ) (i : Insn) (k : Kind) → i.kind ≡ k → IsMatched i → HasText (item_by k number name i)
-kind_text number name i kind.Plain is matched = found_line number name i (first_match table i.pattern) (matched (ap is_mark is))
-kind_text number name i kind.Jump is matched = found_line number name i (first_match table i.pattern) (matched (ap is_mark is))
-kind_text number name i kind.Call is matched = found_line number name i (first_match table i.pattern) (matched (ap is_mark is))
+kind_text number name i kind.Plain is matched = found_line number name i (first_match i) (matched (ap is_mark is))
+kind_text number name i kind.Jump is matched = found_line number name i (first_match i) (matched (ap is_mark is))
+kind_text number name i kind.Call is matched = found_line number name i (first_match i) (matched (ap is_mark is))
 kind_text number name i kind.Label is matched = (_, refl)
 kind_text number name i kind.Barrier is matched = (_, refl)
 
@@ -46,7 +46,7 @@ items_text number name [] h = ([], refl)
 items_text number name (i ∷ insns) h = then_text (item_text number name i) (body_text number name insns) (kind_text number name i i.kind refl h.0) (items_text number name insns h.1)
 
 return_matches : (insns : List Insn) → IsMatched (return_insn insns)
-return_matches insns = λ plain. subst IsSome (sym first_return) refl
+return_matches insns = λ plain. subst IsSome (sym return_found_first) refl
 
 matched_and : (insns : List Insn) (i : Insn) → AreMatched insns → IsMatched i → AreMatched (insns ++ i ∷ [])
 matched_and [] i h last = (last, tt)
@@ -70,8 +70,8 @@ texts_have number _ _ (AreTexts.none _) h = ([], refl)
 texts_have number _ _ (AreTexts.refused _ f functions e text) h = absurd (no_text e (function_has number f (Err e) text h.0))
 texts_have number _ _ (AreTexts.goes_on _ f functions t rest small text more) h = map_text (λ more. t ++ more) rest (texts_have (number + 1) functions rest more h.1)
 
-come_have : (functions : List Function) (o : Outcome) → FunctionsCome functions o → answer.first_fault functions ≡ None → AllMatched functions → HasText o
-come_have functions _ (FunctionsCome.ill_formed e is) none h = absurd (let no : ◌≡◌ {A = Option Refusal} (Some e) None = sym is ∙ none in let nothing : ⊥ = cc in nothing)
+come_have : (functions : List Function) (o : Outcome) → FunctionsCome functions o → answer.first_refused functions ≡ None → AllMatched functions → HasText o
+come_have functions _ (FunctionsCome.refused e is) none h = absurd (let no : ◌≡◌ {A = Option Refusal} (Some e) None = sym is ∙ none in let nothing : ⊥ = cc in nothing)
 come_have functions _ (FunctionsCome.assembled o none texts) none' h = texts_have 0 functions o texts h
 
 same_functions : (a b : List Function) → ◌≡◌ {A = Parsed (List Function)} (stands a) (stands b) → a ≡ b
@@ -86,7 +86,7 @@ trees_have bytes functions _ _ (ReadingComes.outside trees place name out) input
 trees_have bytes functions _ _ (ReadingComes.compiled trees functions' o at come) input is h =
     let same : trees ≡ input.trees = cc in
     let same' : functions' ≡ functions = same_functions functions' functions (sym at ∙ ap functions_in same ∙ input.stand) in
-    come_have functions o (subst (λ fs. FunctionsCome fs o) same' come) input.well_formed h
+    come_have functions o (subst (λ fs. FunctionsCome fs o) same' come) input.admitted h
 
 -- a run whose answer is a text has the status 0
 text_status : (words : List (List ℕ)) (bytes : List ℕ) (functions : List Function) (a : Outcome) → IsCommand words → IsInput bytes functions → AllMatched functions → Answers words bytes a → HasText a

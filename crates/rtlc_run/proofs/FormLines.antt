@@ -1,4 +1,4 @@
--- Lines that compute: the first form that matches a pattern, and the line that its filled template spells.
+-- Lines that compute, and their text: that of a match with its template filled.
 use Rattle.std.proofs.Common.{◌≡◌, ℕ, ◌<◌, arith, true, false, [], ◌∷◌, ◌++◌, Option, Some, None, refl, sym, ap, ◌∙◌}
 use Rattle.std.specs.Prelude.{◌-◌, if◌then◌else◌, option_and_then, ℤ, pos, negsuc, codes, is_some, nat_lt, nat_le, nat_eq, unwrap_or}
 use Rattle.std.specs.Fmt.{signed_decimal, decimal}
@@ -20,13 +20,10 @@ use Rattle.rv_text.specs.declared.line.Line.{Line}
 use Rattle.rv_text.specs.declared.operand.Operand.TheVariants.{Rd, Rs, Rt, Number}
 use Rattle.rv_text.proofs.Registers.{is_some_register, name_shown}
 use Rattle.same_code.specs.Direct.{IsArgument}
-use Rattle.rtx_tree.specs.Patterns.{is_pc, is_pc_code, sum_rtx, set_rtx, return_rtx}
-use Rattle.rtlc_run.specs.declared.forms.Match.{Match}
-use Rattle.rtlc_run.specs.declared.forms.Form.{Form}
-use Rattle.rtlc_run.specs.declared.forms.Form.TheVariants as form
 use Rattle.rtlc_run.specs.Forms as forms
 use Rattle.rtlc_run.specs.Template as template
 use Rattle.rtlc_run.specs.Assembly.{filled_line}
+use Rattle.rtlc_run.proofs.Matches.{add_match, addi_match, mv_match}
 
 -- the lines
 abbrev pub add_line : ℕ → ℕ → ℕ → Line
@@ -94,34 +91,7 @@ does line row named is = ap (λ o. option_and_then (λ (r : Row). if is_of_row r
 pub text_is : (line : Line) (row : Row) → row_named line.name ≡ Some row → is_of_row row line ≡ true → line_text line ≡ 9 ∷ (line.name ++ shown_all 9 row.operands line)
 text_is line row named is = ap (λ o. row_text o line) named ∙ ap (λ b. if b then 9 ∷ (line.name ++ shown_all 9 row.operands line) else []) is
 
--- ---- the operands of a pattern
-
-pub set_is : (f : Form) (target source : Rtx) → forms.operands_of f (set_rtx target source) ≡ forms.set_operands f target source
-set_is f target source = ap (λ (o : Rtx-F Rtx). forms.operands_at f o.code o.kids) (out-roll-Rtx _)
-
-pub parts_of_sum : (a b : Rtx) → forms.sum_parts (sum_rtx a b) ≡ Some (a, b)
-parts_of_sum a b = ap (λ (o : Rtx-F Rtx). forms.sum_at o.code o.kids) (out-roll-Rtx _)
-
-parts_of_reg : (a : ℕ) → forms.sum_parts (reg_of DI a) ≡ None
-parts_of_reg a = ap (λ (o : Rtx-F Rtx). forms.sum_at o.code o.kids) (out-roll-Rtx _)
-
-parts_of_const : (n : ℤ) → forms.sum_parts (const_of n) ≡ None
-parts_of_const n = ap (λ (o : Rtx-F Rtx). forms.sum_at o.code o.kids) (out-roll-Rtx _)
-
-pub reg_is : (a : ℕ) → forms.is_reg (reg_of DI a) ≡ true
-reg_is a = ap (λ (o : Rtx-F Rtx). forms.is_reg_code o.code) (out-roll-Rtx _)
-
-reg_is_no_pc : (a : ℕ) → is_pc (reg_of DI a) ≡ false
-reg_is_no_pc a = ap (λ (o : Rtx-F Rtx). is_pc_code o.code) (out-roll-Rtx _)
-
-const_is_not : (n : ℤ) → forms.is_reg (const_of n) ≡ false
-const_is_not n = ap (λ (o : Rtx-F Rtx). forms.is_reg_code o.code) (out-roll-Rtx _)
-
-pub sum_is_not : (a b : Rtx) → forms.is_reg (sum_rtx a b) ≡ false
-sum_is_not a b = ap (λ (o : Rtx-F Rtx). forms.is_reg_code o.code) (out-roll-Rtx _)
-
-const_small : (n : ℤ) → forms.is_small (const_of n) ≡ forms.is_small_number n
-const_small n = ap (λ (o : Rtx-F Rtx). forms.is_small_at o.code o.number) (out-roll-Rtx _)
+-- ---- the text of an operand
 
 pub reg_text_is : (t : ℕ) → IsArgument t → template.operand_text (Some (reg_of DI t)) ≡ unwrap_or (register_text t) []
 reg_text_is t is =
@@ -131,49 +101,6 @@ reg_text_is t is =
 
 const_text_is : (n : ℤ) → template.operand_text (Some (const_of n)) ≡ signed_decimal n
 const_text_is n = ap (λ (o : Rtx-F Rtx). template.plain_at o.code o.number) (out-roll-Rtx _)
-
--- ---- the first match of each pattern
-
-pub match_add : (t a b : ℕ) → forms.first_match forms.table (set_rtx (reg_of DI t) (sum_rtx (reg_of DI a) (reg_of DI b))) ≡ Some (record { form = form.Add; operands = Some (reg_of DI t) ∷ Some (reg_of DI a) ∷ Some (reg_of DI b) ∷ [] })
-match_add t a b = rw (set_is form.Add (reg_of DI t) (sum_rtx (reg_of DI a) (reg_of DI b))) (rw (parts_of_sum (reg_of DI a) (reg_of DI b)) (rw (reg_is t) (rw (reg_is a) (rw (reg_is b) refl))))
-
-abbrev pub add_match : ℕ → ℕ → ℕ → Match
-add_match t a b = record { form = form.Add; operands = Some (reg_of DI t) ∷ Some (reg_of DI a) ∷ Some (reg_of DI b) ∷ [] }
-
-abbrev pub addi_match : ℕ → ℕ → ℤ → Match
-addi_match t a n = record { form = form.Addi; operands = Some (reg_of DI t) ∷ Some (reg_of DI a) ∷ Some (const_of n) ∷ [] }
-
-abbrev pub mv_match : ℕ → ℕ → Match
-mv_match t a = record { form = form.Mv; operands = Some (reg_of DI t) ∷ Some (reg_of DI a) ∷ [] }
-
-abbrev pub first_of : Rtx → Option Match
-first_of x = forms.first_match forms.table x
-
-pub match_addi : (t a : ℕ) (n : ℤ) → forms.is_small_number n ≡ true → first_of (set_rtx (reg_of DI t) (sum_rtx (reg_of DI a) (const_of n))) ≡ Some (addi_match t a n)
-match_addi t a n small =
-    rw (set_is form.Add (reg_of DI t) (sum_rtx (reg_of DI a) (const_of n))) (rw (set_is form.Addi (reg_of DI t) (sum_rtx (reg_of DI a) (const_of n))) (rw (parts_of_sum (reg_of DI a) (const_of n))
-    (rw (reg_is t) (rw (reg_is a) (rw (const_is_not n) (rw (const_small n) (rw small refl)))))))
-
-pub no_match_large : (t a : ℕ) (n : ℤ) → forms.is_small_number n ≡ false → first_of (set_rtx (reg_of DI t) (sum_rtx (reg_of DI a) (const_of n))) ≡ None
-no_match_large t a n large =
-    rw (set_is form.Add (reg_of DI t) (sum_rtx (reg_of DI a) (const_of n))) (rw (set_is form.Addi (reg_of DI t) (sum_rtx (reg_of DI a) (const_of n))) (rw (set_is form.Mv (reg_of DI t) (sum_rtx (reg_of DI a) (const_of n)))
-    (rw (set_is form.Jump (reg_of DI t) (sum_rtx (reg_of DI a) (const_of n))) (rw (set_is form.Branch (reg_of DI t) (sum_rtx (reg_of DI a) (const_of n))) (rw (set_is form.Return (reg_of DI t) (sum_rtx (reg_of DI a) (const_of n)))
-    (rw (parts_of_sum (reg_of DI a) (const_of n)) (rw (reg_is t) (rw (reg_is a) (rw (const_is_not n) (rw (const_small n) (rw large (rw (sum_is_not (reg_of DI a) (const_of n)) (rw (reg_is_no_pc t) refl)))))))))))))
-
-pub match_mv : (t a : ℕ) → first_of (set_rtx (reg_of DI t) (reg_of DI a)) ≡ Some (mv_match t a)
-match_mv t a =
-    rw (set_is form.Add (reg_of DI t) (reg_of DI a)) (rw (set_is form.Addi (reg_of DI t) (reg_of DI a)) (rw (set_is form.Mv (reg_of DI t) (reg_of DI a)) (rw (parts_of_reg a) (rw (reg_is t) (rw (reg_is a) refl)))))
-
-pub no_match_const : (t : ℕ) (n : ℤ) → first_of (set_rtx (reg_of DI t) (const_of n)) ≡ None
-no_match_const t n =
-    rw (set_is form.Add (reg_of DI t) (const_of n)) (rw (set_is form.Addi (reg_of DI t) (const_of n)) (rw (set_is form.Mv (reg_of DI t) (const_of n)) (rw (set_is form.Jump (reg_of DI t) (const_of n)) (rw (set_is form.Branch (reg_of DI t) (const_of n)) (rw (set_is form.Return (reg_of DI t) (const_of n))
-    (rw (parts_of_const n) (rw (reg_is t) (rw (const_is_not n) (rw (reg_is_no_pc t) refl)))))))))
-
-match_return : (f : Form) → forms.operands_of f (return_rtx) ≡ (if forms.is_return f then Some [] else None)
-match_return f = ap (λ (o : Rtx-F Rtx). forms.operands_at f o.code o.kids) (out-roll-Rtx _)
-
-pub first_return : first_of (return_rtx) ≡ Some (record { form = form.Return; operands = [] })
-first_return = rw (match_return form.Add) (rw (match_return form.Addi) (rw (match_return form.Mv) (rw (match_return form.Jump) (rw (match_return form.Branch) (rw (match_return form.Return) refl)))))
 
 -- ---- the text of each match
 

@@ -1,4 +1,4 @@
--- Lines that jump: the first form that matches a pattern, and the line that its filled template spells.
+-- Lines that jump, and their text: that of a match with its template filled.
 use Rattle.std.proofs.Common.{◌≡◌, ◌<◌, ◌^◌, ℕ, ◌+◌, true, false, ◌&&◌, ◌||◌, bytes_eq, length, List, [], ◌∷◌, ◌++◌, Some, None, refl, ap, ◌∙◌, arith}
 use Rattle.std.specs.Prelude.{pos, codes, is_some, unwrap_or, nat_lt, if◌then◌else◌}
 use Rattle.std.specs.List.{list_all}
@@ -25,12 +25,11 @@ use Rattle.rv_text.specs.declared.operand.Operand.TheVariants.{Rs, Rt, Target}
 use Rattle.rv_text.proofs.Plain.{decimal_has, all_of_both}
 use Rattle.same_code.specs.Direct.{IsArgument, IsUid, IsTest, IsOperandIn}
 use Rattle.same_code.specs.Direct as direct
-use Rattle.rtlc_run.specs.declared.forms.Match.{Match}
-use Rattle.rtlc_run.specs.declared.forms.Form.TheVariants as form
 use Rattle.rtlc_run.specs.Forms as forms
 use Rattle.rtlc_run.specs.Template as template
 use Rattle.rtlc_run.specs.Assembly.{filled_line}
-use Rattle.rtlc_run.proofs.FormLines.{set_is, reg_is, reg_text_is, is_register, same_nat, text_is, first_of}
+use Rattle.rtlc_run.proofs.FormLines.{reg_text_is, is_register, same_nat, text_is}
+use Rattle.rtlc_run.proofs.Matches.{jump_match, branch_match}
 
 -- ---- labels are symbols
 
@@ -89,18 +88,11 @@ operand_there : (x : Rtx) (b : ℕ) → IsOperandIn x b → is_some (register_te
 operand_there _ _ (direct.register a is_a) = is_register a is_a
 operand_there _ _ direct.nothing = refl
 
-const_is_no_reg : forms.is_reg (const_of (pos 0)) ≡ false
-const_is_no_reg = ap (λ (o : Rtx-F Rtx). forms.is_reg_code o.code) (out-roll-Rtx _)
-
 const_is_zero : forms.is_zero (const_of (pos 0)) ≡ true
-const_is_zero = ap (λ (o : Rtx-F Rtx). forms.is_zero_at o.code o.number) (out-roll-Rtx _)
+const_is_zero = ap (λ (o : Rtx-F Rtx). (forms.is_const_head o.code o.mode && (forms.is_nameless o.name && forms.is_childless o.kids)) && forms.is_zero_number o.number) (out-roll-Rtx _)
 
 reg_is_no_zero : (a : ℕ) → forms.is_zero (reg_of DI a) ≡ false
-reg_is_no_zero a = ap (λ (o : Rtx-F Rtx). forms.is_zero_at o.code o.number) (out-roll-Rtx _)
-
-operand_passes : (x : Rtx) (b : ℕ) → IsOperandIn x b → (forms.is_reg x || forms.is_zero x) ≡ true
-operand_passes _ _ (direct.register a is_a) = rw (reg_is a) refl
-operand_passes _ _ direct.nothing = rw const_is_no_reg const_is_zero
+reg_is_no_zero a = ap (λ (o : Rtx-F Rtx). (forms.is_const_head o.code o.mode && (forms.is_nameless o.name && forms.is_childless o.kids)) && forms.is_zero_number o.number) (out-roll-Rtx _)
 
 operand_text_is : (x : Rtx) (b : ℕ) → IsOperandIn x b → template.or_zero x ≡ unwrap_or (register_text b) []
 operand_text_is _ _ (direct.register a is_a) = rw (reg_is_no_zero a) (reg_text_is a is_a)
@@ -111,31 +103,7 @@ pub branch_is_row : (code : Code) (comparison : Comparison) (left right : Source
 branch_is_row code comparison left right a b x label is_a is_b symbol =
     rw (is_register a is_a) (rw (operand_there x b is_b) (rw symbol (rw (same_bytes (code_name code)) (rw (same_nat a) (rw (same_nat b) (rw (same_bytes label) refl))))))
 
--- ---- the trees
-
-pc_is : is_pc pc_rtx ≡ true
-pc_is = ap (λ (o : Rtx-F Rtx). is_pc_code o.code) (out-roll-Rtx _)
-
-pc_is_no_reg : forms.is_reg pc_rtx ≡ false
-pc_is_no_reg = ap (λ (o : Rtx-F Rtx). forms.is_reg_code o.code) (out-roll-Rtx _)
-
-label_is : (uid : ℕ) → forms.label_part (label_rtx uid) ≡ Some (const_of (pos uid))
-label_is uid = ap (λ (o : Rtx-F Rtx). forms.label_at o.code o.kids) (out-roll-Rtx _)
-
-label_is_no_sum : (uid : ℕ) → forms.sum_parts (label_rtx uid) ≡ None
-label_is_no_sum uid = ap (λ (o : Rtx-F Rtx). forms.sum_at o.code o.kids) (out-roll-Rtx _)
-
-abbrev choice : Rtx → ℕ → Rtx
-choice test uid = node_of IfThenElse Void (test ∷ label_rtx uid ∷ pc_rtx ∷ [])
-
-choice_is_no_sum : (test : Rtx) (uid : ℕ) → forms.sum_parts (choice test uid) ≡ None
-choice_is_no_sum test uid = ap (λ (o : Rtx-F Rtx). forms.sum_at o.code o.kids) (out-roll-Rtx _)
-
-choice_is_no_label : (test : Rtx) (uid : ℕ) → forms.label_part (choice test uid) ≡ None
-choice_is_no_label test uid = ap (λ (o : Rtx-F Rtx). forms.label_at o.code o.kids) (out-roll-Rtx _)
-
-branch_at_is : (test : Rtx) (uid : ℕ) → forms.branch_at (out-Rtx (choice test uid)).code (out-Rtx (choice test uid)).kids ≡ forms.test_operands test (label_rtx uid)
-branch_at_is test uid = ap (λ (o : Rtx-F Rtx). forms.branch_at o.code o.kids) (out-roll-Rtx _) ∙ ap (λ b. if b then forms.test_operands test (label_rtx uid) else None) pc_is
+-- ---- comparisons
 
 is_comparison : (code : Code) (comparison : Comparison) (left right : Source) → IsTest code comparison left right → forms.is_comparison code ≡ true
 is_comparison _ _ _ _ direct.equal = refl
@@ -149,43 +117,8 @@ is_comparison _ _ _ _ direct.not_less_unsigned = refl
 is_comparison _ _ _ _ direct.greater_unsigned = refl
 is_comparison _ _ _ _ direct.not_greater_unsigned = refl
 
-test_kids : (code : Code) (x y : Rtx) → (out-Rtx (test_rtx code x y)).kids ≡ x ∷ y ∷ []
-test_kids code x y = ap (λ (o : Rtx-F Rtx). o.kids) (out-roll-Rtx _)
-
 test_code : (code : Code) (x y : Rtx) → (out-Rtx (test_rtx code x y)).code ≡ code
 test_code code x y = ap (λ (o : Rtx-F Rtx). o.code) (out-roll-Rtx _)
-
-test_is : (code : Code) (comparison : Comparison) (left right : Source) (a b uid : ℕ) (x : Rtx) → IsTest code comparison left right → IsOperandIn x b →
-    forms.test_operands (test_rtx code (reg_of DI a) x) (label_rtx uid) ≡ Some (forms.four (test_rtx code (reg_of DI a) x) (reg_of DI a) x (const_of (pos uid)))
-test_is code comparison left right a b uid x test is_b =
-    let t : Rtx = test_rtx code (reg_of DI a) x in
-    ap (λ kids. forms.test_by t kids (forms.label_part (label_rtx uid))) (test_kids code (reg_of DI a) x) ∙
-    ap (forms.test_by t (reg_of DI a ∷ x ∷ [])) (label_is uid) ∙
-    ap (λ c. if forms.is_comparison c && forms.is_reg (reg_of DI a) && (forms.is_reg x || forms.is_zero x) then Some (forms.four t (reg_of DI a) x (const_of (pos uid))) else None) (test_code code (reg_of DI a) x) ∙
-    ap (λ b. if b && forms.is_reg (reg_of DI a) && (forms.is_reg x || forms.is_zero x) then Some (forms.four t (reg_of DI a) x (const_of (pos uid))) else None) (is_comparison code comparison left right test) ∙
-    ap (λ b. if b && (forms.is_reg x || forms.is_zero x) then Some (forms.four t (reg_of DI a) x (const_of (pos uid))) else None) (reg_is a) ∙
-    ap (λ b. if b then Some (forms.four t (reg_of DI a) x (const_of (pos uid))) else None) (operand_passes x b is_b)
-
--- ---- the first match
-
-abbrev pub jump_match : ℕ → Match
-jump_match uid = record { form = form.Jump; operands = forms.one (const_of (pos uid)) }
-
-abbrev pub branch_match : Code → ℕ → Rtx → ℕ → Match
-branch_match code a x uid = record { form = form.Branch; operands = forms.four (test_rtx code (reg_of DI a) x) (reg_of DI a) x (const_of (pos uid)) }
-
-pub match_jump : (uid : ℕ) → first_of (jump_rtx uid) ≡ Some (jump_match uid)
-match_jump uid =
-    rw (set_is form.Add pc_rtx (label_rtx uid)) (rw (set_is form.Addi pc_rtx (label_rtx uid)) (rw (set_is form.Mv pc_rtx (label_rtx uid)) (rw (set_is form.Jump pc_rtx (label_rtx uid))
-    (rw (label_is_no_sum uid) (rw pc_is_no_reg (rw pc_is (rw (label_is uid) refl)))))))
-
-pub match_branch : (code : Code) (comparison : Comparison) (left right : Source) (a b uid : ℕ) (x : Rtx) → IsTest code comparison left right → IsOperandIn x b →
-    first_of (branch_rtx (test_rtx code (reg_of DI a) x) uid) ≡ Some (branch_match code a x uid)
-match_branch code comparison left right a b uid x test is_b =
-    let source : Rtx = choice (test_rtx code (reg_of DI a) x) uid in
-    rw (set_is form.Add pc_rtx source) (rw (set_is form.Addi pc_rtx source) (rw (set_is form.Mv pc_rtx source) (rw (set_is form.Jump pc_rtx source) (rw (set_is form.Branch pc_rtx source)
-    (rw (choice_is_no_sum (test_rtx code (reg_of DI a) x) uid) (rw pc_is_no_reg (rw pc_is (rw (choice_is_no_label (test_rtx code (reg_of DI a) x) uid) (rw (branch_at_is (test_rtx code (reg_of DI a) x) uid)
-    (rw (test_is code comparison left right a b uid x test is_b) refl))))))))))
 
 -- ---- the text of each match
 

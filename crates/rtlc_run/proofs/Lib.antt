@@ -7,8 +7,8 @@ pub mod LinesLaws
 pub mod FormLines
 pub mod JumpLines
 pub mod InsnLines
-pub mod ReadExpressions
-pub mod ReadDirect
+pub mod Matches
+pub mod Uids
 pub mod SameLaws
 pub mod Completes
 pub mod Parts

@@ -10,7 +10,7 @@ use Rattle.lisp_read.specs.Parsed.{stands}
 use Rattle.rtl_read.specs.Syntax.{functions_in}
 use Rattle.rtl_step.specs.Step.{is_mark}
 use Rattle.rtlc_run.specs.declared.forms.Match.{Match}
-use Rattle.rtlc_run.specs.Forms.{first_match, table}
+use Rattle.rtlc_run.specs.Forms.{first_match}
 use Rattle.rtlc_run.specs.Assembly.{Outcome, outcome_map, outcome_then, filled_line, line_by, label_item, item_by, item_text, body_text, framed, IsFinished, IsBodyText, IsFunctionText, AreTexts}
 use Rattle.rtlc_run.specs.Answer as answer
 use Rattle.rtlc_run.specs.Answer.{most_bytes, Answers, FunctionsCome, ReadingComes, Writes}
@@ -30,7 +30,7 @@ Texted a b = let x : Outcome = Ok a in let y : Outcome = Ok b in x ≡ y
 ok_of : (a b : List ℕ) → Texted a b → a ≡ b
 ok_of a b e = cc
 
-insn_lines : (number : ℕ) (name : List ℕ) (i : Insn) (insns : List Insn) (found : Option Match) (front back : List ℕ) → first_match table i.pattern ≡ found → is_mark i.kind ≡ false → line_by number name i found ≡ Ok front →
+insn_lines : (number : ℕ) (name : List ℕ) (i : Insn) (insns : List Insn) (found : Option Match) (front back : List ℕ) → first_match i ≡ found → is_mark i.kind ≡ false → line_by number name i found ≡ Ok front →
     AreLines number insns back → AreLines number (i ∷ insns) (front ++ back)
 insn_lines number name i insns (Some m) front back is plain e more = subst (λ (t : List ℕ). AreLines number (i ∷ insns) (t ++ back)) (ok_of (filled_line number m) front e) (AreLines.line i insns m back plain is more)
 insn_lines number name i insns None front back is plain e more = cc
@@ -42,9 +42,9 @@ both (Err d) rest text e = cc
 
 -- what stands for each item has its lines
 item_lines : (number : ℕ) (name : List ℕ) (i : Insn) (insns : List Insn) (k : Kind) (front back : List ℕ) → i.kind ≡ k → item_by k number name i ≡ Ok front → AreLines number insns back → AreLines number (i ∷ insns) (front ++ back)
-item_lines number name i insns kind.Plain front back is e more = insn_lines number name i insns (first_match table i.pattern) front back refl (ap is_mark is) e more
-item_lines number name i insns kind.Jump front back is e more = insn_lines number name i insns (first_match table i.pattern) front back refl (ap is_mark is) e more
-item_lines number name i insns kind.Call front back is e more = insn_lines number name i insns (first_match table i.pattern) front back refl (ap is_mark is) e more
+item_lines number name i insns kind.Plain front back is e more = insn_lines number name i insns (first_match i) front back refl (ap is_mark is) e more
+item_lines number name i insns kind.Jump front back is e more = insn_lines number name i insns (first_match i) front back refl (ap is_mark is) e more
+item_lines number name i insns kind.Call front back is e more = insn_lines number name i insns (first_match i) front back refl (ap is_mark is) e more
 item_lines number name i insns kind.Label front back is e more = subst (λ (t : List ℕ). AreLines number (i ∷ insns) (t ++ back)) (ok_of (label_item number i.uid) front e) (AreLines.label i insns back is more)
 item_lines number name i insns kind.Barrier front back is e more = subst (λ (t : List ℕ). AreLines number (i ∷ insns) (t ++ back)) (ok_of [] front e) (AreLines.barrier i insns back is more)
 
@@ -86,9 +86,9 @@ abbrev Input : List ℕ → List ℕ → Type 0
 Input bytes text = (functions : List Function) × IsInput bytes functions × IsAssembly 0 functions text
 
 come_of : (bytes text : List ℕ) (trees : List Tree) (functions : List Function) (o : Outcome) → length bytes ≤ most_bytes → ReadsAs bytes (Trees trees) → functions_in trees ≡ stands functions → FunctionsCome functions o → o ≡ Ok text → Input bytes text
-come_of bytes text trees functions _ within reads is (FunctionsCome.ill_formed d fault) e = cc
+come_of bytes text trees functions _ within reads is (FunctionsCome.refused d fault) e = cc
 come_of bytes text trees functions _ within reads is (FunctionsCome.assembled o none texts) e =
-    (functions, record { within = within; trees = trees; reads = reads; stand = is; well_formed = none }, is_assembly 0 functions o text texts e)
+    (functions, record { within = within; trees = trees; reads = reads; stand = is; admitted = none }, is_assembly 0 functions o text texts e)
 
 reading_of : (bytes text : List ℕ) (reading : Reading) (o : Outcome) → length bytes ≤ most_bytes → ReadsAs bytes reading → ReadingComes reading o → o ≡ Ok text → Input bytes text
 reading_of bytes text _ _ within reads (ReadingComes.syntax place) e = cc

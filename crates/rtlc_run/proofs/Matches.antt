@@ -8,7 +8,7 @@ use Rattle.rtx_tree.specs.declared.code.Code.{Code}
 use Rattle.rtx_tree.specs.declared.code.Code.TheVariants.{Reg, ConstInt, Plus, Eq, Ne, Lt, Le, Gt, Ge, Ltu, Leu, Gtu, Geu, Set, Pc, LabelRef, IfThenElse, Return}
 use Rattle.rtx_tree.specs.declared.code.Mode.{Mode}
 use Rattle.rtx_tree.specs.declared.code.Mode.TheVariants.{Void, DI}
-use Rattle.rtx_tree.specs.declared.tree.Rtx.{Rtx, out-Rtx, roll-Rtx, roll-out-Rtx}
+use Rattle.rtx_tree.specs.declared.tree.Rtx.{Rtx, out-Rtx, roll-Rtx, roll-out-Rtx, out-roll-Rtx}
 use Rattle.rtx_tree.specs.declared.tree.Rtx.TheOpen.{Rtx-F}
 use Rattle.rv_text.specs.declared.action.Comparison.{Comparison}
 use Rattle.rv_text.specs.declared.action.Source.{Source}
@@ -34,7 +34,14 @@ tested false o x is = absurd (let none : ⊥ = cc in none)
 
 made : (x : Rtx) (c : Code) (m : Mode) (n : ℤ) (name : List ℕ) (kids : List Rtx) → (out-Rtx x).code ≡ c → (out-Rtx x).mode ≡ m → (out-Rtx x).number ≡ n → (out-Rtx x).name ≡ name → (out-Rtx x).kids ≡ kids →
     x ≡ roll-Rtx (record { code = c; mode = m; number = n; name = name; kids = kids })
-made x c m n name kids is_c is_m is_n is_name is_kids = sym (roll-out-Rtx x) ∙ ap roll-Rtx (let o : out-Rtx x ≡ record { code = c; mode = m; number = n; name = name; kids = kids } = cc in o)
+made x c m n name kids is_c is_m is_n is_name is_kids =
+    let o : Rtx-F Rtx = out-Rtx x in
+    sym (roll-out-Rtx x) ∙
+    ap (λ (c : Code). roll-Rtx (record { code = c; mode = o.mode; number = o.number; name = o.name; kids = o.kids })) is_c ∙
+    ap (λ (m : Mode). roll-Rtx (record { code = c; mode = m; number = o.number; name = o.name; kids = o.kids })) is_m ∙
+    ap (λ (n : ℤ). roll-Rtx (record { code = c; mode = m; number = n; name = o.name; kids = o.kids })) is_n ∙
+    ap (λ (name : List ℕ). roll-Rtx (record { code = c; mode = m; number = n; name = name; kids = o.kids })) is_name ∙
+    ap (λ (kids : List Rtx). roll-Rtx (record { code = c; mode = m; number = n; name = name; kids = kids })) is_kids
 
 nameless : (name : List ℕ) → forms.is_nameless name ≡ true → name ≡ []
 nameless [] is = refl
@@ -101,7 +108,7 @@ pub record IsRegister (x : Rtx) : Type 0 where
   pub tree_is : x ≡ reg_of DI number
 
 argument_number : (x : Rtx) (n : ℤ) → forms.is_argument_number n ≡ true → x ≡ leaf_of Reg DI n → IsRegister x
-argument_number x (pos r) is tree = let parts = both _ _ is in record {
+argument_number x (pos r) is tree = let parts = both (nat_le 10 r) (nat_lt r 18) is in record {
   number = r;
   is_argument = record { least = grind (arith, nat_tests, parts.0); most = grind (arith, nat_tests, parts.1) };
   tree_is = tree;
@@ -139,8 +146,8 @@ pub record IsOperand (x : Rtx) : Type 0 where
   pub stands : IsOperandIn x register
 
 operand : (x : Rtx) (a : Bool) → forms.is_argument x ≡ a → (a || forms.is_zero x) ≡ true → IsOperand x
-operand x true yes is = let r = argument x yes in record { register = r.number; stands = subst (λ x. IsOperandIn x r.number) (sym r.tree_is) (direct.register r.number r.is_argument) }
-operand x false no is = record { register = 0; stands = subst (λ x. IsOperandIn x 0) (sym (zero_constant x is)) direct.nothing }
+operand x true first is = let r = argument x first in record { register = r.number; stands = subst (λ x. IsOperandIn x r.number) (sym r.tree_is) (direct.register r.number r.is_argument) }
+operand x false other is = record { register = 0; stands = subst (λ x. IsOperandIn x 0) (sym (zero_constant x is)) direct.nothing }
 
 -- ---- labels
 
@@ -168,12 +175,12 @@ labelled x number head bare kids is = let n = uid_of number is in record {
 }
 
 label_kids : (x number : Rtx) (b : Bool) (kids : List Rtx) → (forms.has_head forms.is_label_head x && forms.is_node x) ≡ b → (out-Rtx x).kids ≡ kids → forms.label_by b kids ≡ Some number → IsLabel x number
-label_kids x number true (uid ∷ []) yes kids is =
-    let parts = both _ _ yes in
+label_kids x number true (uid ∷ []) holds kids is =
+    let parts = both _ _ holds in
     let there = tested (forms.is_uid uid) (Some uid) number is in
     let same : uid ≡ number = cc in
     subst (IsLabel x) same (labelled x uid parts.0 parts.1 kids there.0)
-label_kids x number _ _ yes kids is = absurd (let none : ⊥ = cc in none)
+label_kids x number _ _ holds kids is = absurd (let none : ⊥ = cc in none)
 
 label : (x number : Rtx) → forms.label_part x ≡ Some number → IsLabel x number
 label x number is = label_kids x number _ _ refl refl is
@@ -181,11 +188,11 @@ label x number is = label_kids x number _ _ refl refl is
 -- ---- sums
 
 sum_kids : (x a b : Rtx) (t : Bool) (kids : List Rtx) → (forms.has_head forms.is_sum_head x && forms.is_node x) ≡ t → (out-Rtx x).kids ≡ kids → forms.sum_by t kids ≡ Some (a, b) → x ≡ sum_rtx a b
-sum_kids x a b true (a' ∷ b' ∷ []) yes kids is =
-    let parts = both _ _ yes in
+sum_kids x a b true (a' ∷ b' ∷ []) holds kids is =
+    let parts = both _ _ holds in
     let pair : ◌≡◌ {A = Rtx × Rtx} (a', b') (a, b) = cc in
     node x Plus DI (a' ∷ b' ∷ []) (sum_head _ _ parts.0) parts.1 kids ∙ ap (λ (p : Rtx × Rtx). sum_rtx p.0 p.1) pair
-sum_kids x a b _ _ yes kids is = absurd (let none : ⊥ = cc in none)
+sum_kids x a b _ _ holds kids is = absurd (let none : ⊥ = cc in none)
 
 -- ---- matches
 
@@ -226,8 +233,8 @@ pub record IsSet (x target source : Rtx) : Type 0 where
 
 set_kids : (f : Form) (x : Rtx) (ops : Ops) (P : Type 0) (b : Bool) (kids : List Rtx) → (forms.has_head forms.is_set_head x && forms.is_node x) ≡ b → (out-Rtx x).kids ≡ kids → forms.set_by f b kids ≡ Some ops →
     ((target source : Rtx) → x ≡ set_rtx target source → forms.set_operands f target source ≡ Some ops → P) → P
-set_kids f x ops P true (target ∷ source ∷ []) yes kids is then = let parts = both _ _ yes in then target source (node x Set Void (target ∷ source ∷ []) (set_head _ _ parts.0) parts.1 kids) is
-set_kids f x ops P _ _ yes kids is then = absurd (let none : ⊥ = cc in none)
+set_kids f x ops P true (target ∷ source ∷ []) holds kids is gives = let parts = both _ _ holds in gives target source (node x Set Void (target ∷ source ∷ []) (set_head _ _ parts.0) parts.1 kids) is
+set_kids f x ops P _ _ holds kids is gives = absurd (let none : ⊥ = cc in none)
 
 same_ops : (f : Form) (ops ops' : Ops) → ◌≡◌ {A = Option Ops} (Some ops) (Some ops') → ◌≡◌ {A = Match} (record { form = f; operands = ops }) (record { form = f; operands = ops' })
 same_ops f ops ops' is = cc
@@ -251,7 +258,7 @@ add_found x target source ops (Some (p, q)) at tree is =
     let b = argument q tests.2 in
     let sum_is : source ≡ sum_rtx (reg_of DI a.number) (reg_of DI b.number) = sum_kids source p q _ _ refl refl at ∙ ap (λ k. sum_rtx k q) a.tree_is ∙ ap (sum_rtx (reg_of DI a.number)) b.tree_is in
     let ops_are : forms.three target p q ≡ forms.three (reg_of DI t.number) (reg_of DI a.number) (reg_of DI b.number) =
-        ap (λ k. forms.three k p q) t.tree_is ∙ ap (λ k. forms.three (reg_of DI t.number) k q) a.tree_is ∙ ap (λ k. forms.three (reg_of DI t.number) (reg_of DI a.number) k) b.tree_is in
+    ap (λ k. forms.three k p q) t.tree_is ∙ ap (λ k. forms.three (reg_of DI t.number) k q) a.tree_is ∙ ap (λ k. forms.three (reg_of DI t.number) (reg_of DI a.number) k) b.tree_is in
     subst (IsSetting x) (same_ops form.Add _ ops (ap Some (sym ops_are) ∙ found.1))
     (IsSetting.add t.number a.number b.number t.is_argument a.is_argument b.is_argument (tree ∙ two_equal _ _ _ _ t.tree_is sum_is))
 
@@ -265,7 +272,7 @@ addi_found x target source ops (Some (p, q)) at tree is =
     let n = small q tests.2 in
     let sum_is : source ≡ sum_rtx (reg_of DI a.number) (const_of n.number) = sum_kids source p q _ _ refl refl at ∙ ap (λ k. sum_rtx k q) a.tree_is ∙ ap (sum_rtx (reg_of DI a.number)) n.tree_is in
     let ops_are : forms.three target p q ≡ forms.three (reg_of DI t.number) (reg_of DI a.number) (const_of n.number) =
-        ap (λ k. forms.three k p q) t.tree_is ∙ ap (λ k. forms.three (reg_of DI t.number) k q) a.tree_is ∙ ap (λ k. forms.three (reg_of DI t.number) (reg_of DI a.number) k) n.tree_is in
+    ap (λ k. forms.three k p q) t.tree_is ∙ ap (λ k. forms.three (reg_of DI t.number) k q) a.tree_is ∙ ap (λ k. forms.three (reg_of DI t.number) (reg_of DI a.number) k) n.tree_is in
     subst (IsSetting x) (same_ops form.Addi _ ops (ap Some (sym ops_are) ∙ found.1))
     (IsSetting.addi t.number a.number n.number t.is_argument a.is_argument n.small (tree ∙ two_equal _ _ _ _ t.tree_is sum_is))
 
@@ -356,8 +363,8 @@ pub record IsChoice (x : Rtx) (ops : Ops) : Type 0 where
   pub tree_is : x ≡ node_of IfThenElse Void (test ∷ there ∷ pc_rtx ∷ [])
 
 choice : (x : Rtx) (ops : Ops) (t : Bool) (kids : List Rtx) → (forms.has_head forms.is_choice_head x && forms.is_node x) ≡ t → (out-Rtx x).kids ≡ kids → forms.choice_by t kids ≡ Some ops → IsChoice x ops
-choice x ops true (test ∷ there ∷ other ∷ []) yes kids is =
-    let parts = both _ _ yes in
+choice x ops true (test ∷ there ∷ other ∷ []) holds kids is =
+    let parts = both _ _ holds in
     let found = tested _ _ ops is in
     record {
       test = test;
@@ -365,7 +372,7 @@ choice x ops true (test ∷ there ∷ other ∷ []) yes kids is =
       branches = branching test there ops _ _ refl refl found.1;
       tree_is = node x IfThenElse Void (test ∷ there ∷ other ∷ []) (choice_head _ _ parts.0) parts.1 kids ∙ ap (λ k. node_of IfThenElse Void (test ∷ there ∷ k ∷ [])) (counter other found.0);
     }
-choice x ops _ _ yes kids is = absurd (let none : ⊥ = cc in none)
+choice x ops _ _ holds kids is = absurd (let none : ⊥ = cc in none)
 
 branch_found : (x target source : Rtx) (ops : Ops) → x ≡ set_rtx target source → (if forms.is_counter target then forms.choice_operands source else None) ≡ Some ops → IsGoing x (record { form = form.Branch; operands = ops })
 branch_found x target source ops tree is =
@@ -376,9 +383,9 @@ branch_found x target source ops tree is =
     let n = br.to.is_number in
     let test : Rtx = test_rtx t.code (reg_of DI t.first.number) br.b in
     let source_is : source ≡ node_of IfThenElse Void (test ∷ label_rtx n.uid ∷ pc_rtx ∷ []) =
-        c.tree_is ∙ ap (λ k. node_of IfThenElse Void (k ∷ c.there ∷ pc_rtx ∷ [])) t.tree_is ∙ ap (λ k. node_of IfThenElse Void (test ∷ k ∷ pc_rtx ∷ [])) br.to.tree_is in
+    c.tree_is ∙ ap (λ k. node_of IfThenElse Void (k ∷ c.there ∷ pc_rtx ∷ [])) t.tree_is ∙ ap (λ k. node_of IfThenElse Void (test ∷ k ∷ pc_rtx ∷ [])) br.to.tree_is in
     let ops_are : forms.four c.test br.a br.b br.number ≡ forms.four test (reg_of DI t.first.number) br.b (const_of (pos n.uid)) =
-        ap (λ k. forms.four k br.a br.b br.number) t.tree_is ∙ ap (λ k. forms.four test k br.b br.number) t.first.tree_is ∙ ap (λ k. forms.four test (reg_of DI t.first.number) br.b k) n.tree_is in
+    ap (λ k. forms.four k br.a br.b br.number) t.tree_is ∙ ap (λ k. forms.four test k br.b br.number) t.first.tree_is ∙ ap (λ k. forms.four test (reg_of DI t.first.number) br.b k) n.tree_is in
     subst (IsGoing x) (same_ops form.Branch _ ops (ap Some (sym ops_are ∙ br.ops_are)))
     (IsGoing.branch t.code t.compares.comparison t.compares.left t.compares.right t.first.number t.second.register br.b n.uid n.fits t.first.is_argument t.second.stands t.compares.test
     (tree ∙ two_equal _ _ _ _ (counter target found.0) source_is))
@@ -396,16 +403,27 @@ or_found : (P : Match → Type 0) (f : Form) (o : Option Ops) (later : Option Ma
 or_found P f (Some ops) later m here rest is = let same : ◌≡◌ {A = Match} (record { form = f; operands = ops }) m = cc in subst P same (here ops refl)
 or_found P f None later m here rest is = rest is
 
-setting : (x : Rtx) (m : Match) → forms.first_of (form.Add ∷ form.Addi ∷ form.Mv ∷ []) x ≡ Some m → IsSetting x m
+pub setting : (x : Rtx) (m : Match) → forms.first_of (form.Add ∷ form.Addi ∷ form.Mv ∷ []) x ≡ Some m → IsSetting x m
 setting x m is =
     or_found (IsSetting x) form.Add _ _ m (λ ops at. set_kids form.Add x ops _ _ _ refl refl at (λ target source tree got. add_found x target source ops _ refl tree got))
     (or_found (IsSetting x) form.Addi _ _ m (λ ops at. set_kids form.Addi x ops _ _ _ refl refl at (λ target source tree got. addi_found x target source ops _ refl tree got))
     (or_found (IsSetting x) form.Mv _ _ m (λ ops at. set_kids form.Mv x ops _ _ _ refl refl at (λ target source tree got. mv_found x target source ops tree got)) (λ never. absurd (let none : ⊥ = cc in none))))
     is
 
-going : (x : Rtx) (m : Match) → forms.first_of (form.Jump ∷ form.Branch ∷ form.Return ∷ []) x ≡ Some m → IsGoing x m
+pub going : (x : Rtx) (m : Match) → forms.first_of (form.Jump ∷ form.Branch ∷ form.Return ∷ []) x ≡ Some m → IsGoing x m
 going x m is =
     or_found (IsGoing x) form.Jump _ _ m (λ ops at. set_kids form.Jump x ops _ _ _ refl refl at (λ target source tree got. jump_found x target source ops _ refl tree got))
     (or_found (IsGoing x) form.Branch _ _ m (λ ops at. set_kids form.Branch x ops _ _ _ refl refl at (λ target source tree got. branch_found x target source ops tree got))
     (or_found (IsGoing x) form.Return _ _ m (λ ops at. return_found x ops at) (λ never. absurd (let none : ⊥ = cc in none))))
     is
+
+-- ---- a return is matched
+
+no_set : (f : Form) → forms.set_in f return_rtx ≡ None
+no_set f = ap (λ (o : Rtx-F Rtx). forms.set_by f (forms.is_set_head o.code o.mode && (forms.is_zero_number o.number && forms.is_nameless o.name)) o.kids) (out-roll-Rtx _)
+
+is_return : forms.is_return return_rtx ≡ true
+is_return = ap (λ (o : Rtx-F Rtx). (forms.is_return_head o.code o.mode && (forms.is_nameless o.name && forms.is_childless o.kids)) && forms.is_zero_number o.number) (out-roll-Rtx _)
+
+pub return_found_first : forms.first_of (form.Jump ∷ form.Branch ∷ form.Return ∷ []) return_rtx ≡ Some return_match
+return_found_first = rw (no_set form.Jump) (rw (no_set form.Branch) (rw is_return refl))

@@ -1,5 +1,5 @@
 -- The text by its lines has the behaviour of the functions.
-use Rattle.std.proofs.Common.{◌≡◌, ◌<◌, ◌^◌, ℕ, ◌+◌, true, false, List, [], ◌∷◌, ◌++◌, Option, Some, None, refl, sym, ap, subst, ◌∙◌, append_assoc}
+use Rattle.std.proofs.Common.{◌≡◌, ◌≤◌, ◌<◌, ◌^◌, ℕ, ◌+◌, true, false, List, [], ◌∷◌, ◌++◌, Option, Some, None, refl, sym, ap, subst, ◌∙◌, append_assoc, arith}
 use Rattle.rtx_tree.specs.declared.function.Kind.{Kind}
 use Rattle.rtx_tree.specs.declared.function.Kind.TheVariants as kind
 use Rattle.rtx_tree.specs.declared.function.Insn.{Insn}
@@ -15,12 +15,12 @@ use Rattle.same_code.specs.Direct.{AreItemsOf, IsEnding, IsCodeOf}
 use Rattle.same_code.specs.Direct as direct
 use Rattle.same_code.proofs.Reached.{direct_code_is_same}
 use Rattle.rtlc_run.specs.declared.forms.Match.{Match}
-use Rattle.rtlc_run.specs.Forms.{first_match, table}
+use Rattle.rtlc_run.specs.Forms.{first_match}
 use Rattle.rtlc_run.specs.Assembly.{filled_line, label_item, return_insn, IsFinished}
 use Rattle.rtlc_run.specs.Lines.{AreLines, IsAssembly, WritesLines}
-use Rattle.rtlc_run.specs.Same.{AreParts, AreSame, DoesSame, WritesSame}
-use Rattle.rtlc_run.proofs.InsnLines.{IsReadItem, HasLine, plain_has_line, jump_has_line, return_line}
-use Rattle.rtlc_run.proofs.ReadDirect.{AreReadItems, AreRead, functions_are_read}
+use Rattle.rtlc_run.specs.Same.{frame_size, AreParts, AreSame, DoesSame, WritesSame}
+use Rattle.rtlc_run.proofs.InsnLines.{HasLine, matched_has_line, return_line}
+use Rattle.rtlc_run.proofs.Uids.{AreUids, AllUids, all_uids}
 
 -- the lines of a chain, as items and how they end
 record Coded (number : ℕ) (Reached : Type 0) (insns : List Insn) (text : List ℕ) : Type 0 where
@@ -62,35 +62,18 @@ coded_barrier number Reached i insns rest barrier more = record {
   are = direct.barrier i insns more.items barrier more.are;
 }
 
--- ---- items by their kinds
-
-no_mark : (k : Kind) (i : Insn) → i.kind ≡ k → is_mark k ≡ true → is_mark i.kind ≡ false → ⊥
-no_mark k i is mark other = let same : is_mark i.kind ≡ true = ap is_mark is ∙ mark in let none : ⊥ = cc in none
-
-item_has_line : (number : ℕ) (i : Insn) (m : Match) → number < 2 ^ 32 → IsReadItem i → is_mark i.kind ≡ false → first_match table i.pattern ≡ Some m → HasLine number i m
-item_has_line number i m small (IsReadItem.reads_plain plain pattern) other found = plain_has_line number i m pattern plain found
-item_has_line number i m small (IsReadItem.reads_jump jump pattern) other found = jump_has_line number i m small pattern jump found
-item_has_line number i m small (IsReadItem.reads_label label small') other found = absurd (no_mark kind.Label i label refl other)
-item_has_line number i m small (IsReadItem.reads_barrier barrier) other found = absurd (no_mark kind.Barrier i barrier refl other)
-
-label_has_uid : (i : Insn) → IsReadItem i → i.kind ≡ kind.Label → direct.IsUid i.uid
-label_has_uid i (IsReadItem.reads_plain plain pattern) label = absurd (let same : kind.Plain ≡ kind.Label = sym plain ∙ label in let none : ⊥ = cc in none)
-label_has_uid i (IsReadItem.reads_jump jump pattern) label = absurd (let same : kind.Jump ≡ kind.Label = sym jump ∙ label in let none : ⊥ = cc in none)
-label_has_uid i (IsReadItem.reads_label is small) label = small
-label_has_uid i (IsReadItem.reads_barrier barrier) label = absurd (let same : kind.Barrier ≡ kind.Label = sym barrier ∙ label in let none : ⊥ = cc in none)
-
 -- ---- chains
 
 -- a chain with something behind it, of which the items are known
-coded : (number : ℕ) (Reached : Type 0) (tail insns : List Insn) (text : List ℕ) → number < 2 ^ 32 → ((text : List ℕ) → AreLines number tail text → Coded number Reached [] text) → AreReadItems insns → AreLines number (insns ++ tail) text →
+coded : (number : ℕ) (Reached : Type 0) (tail insns : List Insn) (text : List ℕ) → number < 2 ^ 32 → ((text : List ℕ) → AreLines number tail text → Coded number Reached [] text) → AreUids insns → AreLines number (insns ++ tail) text →
     Coded number Reached insns text
-coded number Reached tail [] text small last read lines = last text lines
-coded number Reached tail (i ∷ insns) _ small last read (AreLines.line _ _ m rest other found more) =
-    coded_line number Reached i insns m rest (item_has_line number i m small read.0 other found) (coded number Reached tail insns rest small last read.1 more)
-coded number Reached tail (i ∷ insns) _ small last read (AreLines.label _ _ rest label more) =
-    coded_label number Reached i insns rest small label (label_has_uid i read.0 label) (coded number Reached tail insns rest small last read.1 more)
-coded number Reached tail (i ∷ insns) text small last read (AreLines.barrier _ _ _ barrier more) =
-    coded_barrier number Reached i insns text barrier (coded number Reached tail insns text small last read.1 more)
+coded number Reached tail [] text small last uids lines = last text lines
+coded number Reached tail (i ∷ insns) _ small last uids (AreLines.line _ _ m rest other found more) =
+    coded_line number Reached i insns m rest (matched_has_line number i m small found) (coded number Reached tail insns rest small last uids.1 more)
+coded number Reached tail (i ∷ insns) _ small last uids (AreLines.label _ _ rest label more) =
+    coded_label number Reached i insns rest small label (uids.0 label) (coded number Reached tail insns rest small last uids.1 more)
+coded number Reached tail (i ∷ insns) text small last uids (AreLines.barrier _ _ _ barrier more) =
+    coded_barrier number Reached i insns text barrier (coded number Reached tail insns text small last uids.1 more)
 
 none_left : (number : ℕ) (text : List ℕ) → AreLines number [] text → text ≡ []
 none_left number _ AreLines.none = refl
@@ -104,9 +87,9 @@ nothing_behind number Reached never text lines = record {
   are = direct.end;
 }
 
-return_behind : (number : ℕ) (Reached : Type 0) (i : Insn) → i.kind ≡ kind.Jump → i.pattern ≡ (return_insn []).pattern → (text : List ℕ) → AreLines number (i ∷ []) text → Coded number Reached [] text
-return_behind number Reached i jump pattern _ (AreLines.line _ _ m rest other found more) =
-    let has = return_line number m (sym (ap (first_match table) pattern) ∙ found) in
+return_behind : (number : ℕ) (Reached : Type 0) (i : Insn) → number < 2 ^ 32 → i.kind ≡ kind.Jump → i.pattern ≡ (return_insn []).pattern → (text : List ℕ) → AreLines number (i ∷ []) text → Coded number Reached [] text
+return_behind number Reached i small jump pattern _ (AreLines.line _ _ m rest other found more) =
+    let has = return_line number i m jump pattern found in
     record {
       ending = Code has.line ∷ [];
       ends = direct.returning has.line has.acts;
@@ -115,30 +98,34 @@ return_behind number Reached i jump pattern _ (AreLines.line _ _ m rest other fo
           (Spells.line (line_text has.line) has.line rest [] (reads_back has.line has.is_line) (subst (λ r. Spells r []) (sym (none_left number rest more)) Spells.end));
       are = direct.end;
     }
-return_behind number Reached i jump pattern _ (AreLines.label _ _ rest label more) = absurd (let same : kind.Jump ≡ kind.Label = sym jump ∙ label in let none : ⊥ = cc in none)
-return_behind number Reached i jump pattern text (AreLines.barrier _ _ _ barrier more) = absurd (let same : kind.Jump ≡ kind.Barrier = sym jump ∙ barrier in let none : ⊥ = cc in none)
+return_behind number Reached i small jump pattern _ (AreLines.label _ _ rest label more) = absurd (let same : kind.Jump ≡ kind.Label = sym jump ∙ label in let none : ⊥ = cc in none)
+return_behind number Reached i small jump pattern text (AreLines.barrier _ _ _ barrier more) = absurd (let same : kind.Jump ≡ kind.Barrier = sym jump ∙ barrier in let none : ⊥ = cc in none)
 
 with_nothing : (insns : List Insn) → insns ≡ insns ++ []
 with_nothing [] = refl
 with_nothing (i ∷ insns) = ap (λ l. i ∷ l) (with_nothing insns)
 
-finished_code : (number : ℕ) (insns finished : List Insn) (text : List ℕ) → number < 2 ^ 32 → AreReadItems insns → IsFinished insns finished → AreLines number finished text → Coded number (ReachesExit insns) insns text
-finished_code number insns _ text small read (IsFinished.returning reached) lines =
-    coded number (ReachesExit insns) (return_insn insns ∷ []) insns text small (return_behind number (ReachesExit insns) (return_insn insns) refl refl) read lines
-finished_code number insns _ text small read (IsFinished.staying never) lines =
-    coded number (ReachesExit insns) [] insns text small (nothing_behind number (ReachesExit insns) never) read (subst (λ l. AreLines number l text) (with_nothing insns) lines)
+finished_code : (number : ℕ) (insns finished : List Insn) (text : List ℕ) → number < 2 ^ 32 → AreUids insns → IsFinished insns finished → AreLines number finished text → Coded number (ReachesExit insns) insns text
+finished_code number insns _ text small uids (IsFinished.returning reached) lines =
+    coded number (ReachesExit insns) (return_insn insns ∷ []) insns text small (return_behind number (ReachesExit insns) (return_insn insns) small refl refl) uids lines
+finished_code number insns _ text small uids (IsFinished.staying never) lines =
+    coded number (ReachesExit insns) [] insns text small (nothing_behind number (ReachesExit insns) never) uids (subst (λ l. AreLines number l text) (with_nothing insns) lines)
 
-does_same : (number : ℕ) (functions : List Function) (text : List ℕ) → AreRead functions → IsAssembly number functions text → DoesSame functions text
-does_same number _ _ read (IsAssembly.none _) = record { items = []; parts = AreParts.none; same = AreSame.none }
-does_same number _ _ read (IsAssembly.function _ f functions finished body rest small finish lines others) =
-    let code = finished_code number f.insns finished body small read.0.items finish lines in
-    let more = does_same (number + 1) functions rest read.1 others in
+-- a frame holds the locals
+fits_frame : (locals : ℕ) → locals ≤ frame_size locals
+fits_frame locals = omega arith
+
+does_same : (number : ℕ) (functions : List Function) (text : List ℕ) → AllUids functions → IsAssembly number functions text → DoesSame functions text
+does_same number _ _ uids (IsAssembly.none _) = record { items = []; parts = AreParts.none; same = AreSame.none }
+does_same number _ _ uids (IsAssembly.function _ f functions finished body rest small finish lines others) =
+    let code = finished_code number f.insns finished body small uids.0 finish lines in
+    let more = does_same (number + 1) functions rest uids.1 others in
     record {
       items = code.items ∷ more.items;
       parts = AreParts.part f functions body rest code.items more.items code.spelled more.parts;
-      same = AreSame.function f functions code.items more.items (direct_code_is_same number f code.items read.0.is_direct (record { ending = code.ending; ends = code.ends; are = code.are })) more.same;
+      same = AreSame.function f functions code.items more.items (direct_code_is_same number (frame_size f.locals) f code.items (fits_frame f.locals) (record { ending = code.ending; ends = code.ends; are = code.are })) more.same;
     }
 
 pub writes_same : (input old new : Option (List ℕ)) → WritesLines input old new → WritesSame input old new
 writes_same None old new h = tt
-writes_same (Some bytes) old new h = (h.0, h.1, h.2, does_same 0 h.0 h.2 (functions_are_read h.1.trees h.0 h.1.stand) h.3, h.4)
+writes_same (Some bytes) old new h = (h.0, h.1, h.2, does_same 0 h.0 h.2 (all_uids h.0 0 h.0 refl h.1.admitted) h.3, h.4)

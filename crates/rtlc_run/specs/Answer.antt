@@ -1,5 +1,5 @@
 -- What the program answers. It is one answer for the words and the bytes of the input: a text, or a refusal with its values.
-use Rattle.std.specs.Prelude.{◌≡◌, ◌<◌, ◌≤◌, ◌⊎◌, true, ℕ, ◌+◌, List, [], ◌∷◌, length, map, codes, Some, None, Result, Ok, Err, IfSome, Vec}
+use Rattle.std.specs.Prelude.{◌≡◌, ◌<◌, ◌≤◌, ◌⊎◌, true, ℕ, ◌+◌, List, [], ◌∷◌, length, map, codes, nat_le, if◌then◌else◌, Some, None, Result, Ok, Err, IfSome, Vec}
 use Rattle.std.specs.declared.alloc.Global.{Global}
 use Rattle.rtx_tree.specs.declared.place.Place.{Place}
 use Rattle.std.specs.Borrow.{Bor}
@@ -9,12 +9,14 @@ use Rattle.byte_edge.specs.Causes.{Rose, TakesFront}
 use Rattle.lisp_read.specs.declared.tree.Tree.{Tree}
 use Rattle.lisp_read.specs.Reading.{Reading, ReadsAs, Trees, Syntax, Depth}
 use Rattle.rtx_tree.specs.declared.function.Function.{Function}
+use Rattle.rtx_tree.specs.declared.limit.Limit.{Limit}
 use Rattle.rtx_tree.specs.declared.limit.Limit.TheVariants as limit
 use Rattle.lisp_read.specs.Parsed.{stands, construct}
 use Rattle.rtl_read.specs.Syntax.{functions_in}
 use Rattle.rtl_func.specs.declared.fault.Fault.{Fault}
 use Rattle.rtl_func.specs.Faults as rules
 use Rattle.rtl_func.specs.Rules.{faults}
+use Rattle.rtl_count.specs.Counts.{instruction_count, next_pseudo}
 use Rattle.rtlc_run.specs.declared.refusal.Refusal.{Refusal}
 use Rattle.rtlc_run.specs.declared.refusal.Refusal.TheVariants as refusal
 use Rattle.rtlc_run.specs.Refusals.{status_of, has_values, line_of}
@@ -28,22 +30,40 @@ IsCommand words = words ≡ codes "asm" ∷ []
 abbrev pub most_bytes : ℕ
 most_bytes = 16777216
 
--- the first fault of the functions, in order, each with its number among them
-abbrev pub fault_or : Function → Option Fault → Option Refusal → Option Refusal
-fault_or f None later = later
-fault_or f (Some fault) later = Some (refusal.IllFormed f.name fault.uid fault.rule)
+-- ---- why a function is refused before its text is made
 
-abbrev pub fault_from : List Function → ℕ → List Function → Option Refusal
-fault_from functions index [] = None
-fault_from functions index (f ∷ rest) = fault_or f (rules.first_fault (faults functions index)) (fault_from functions (index + 1) rest)
+abbrev pub or_later : Option Refusal → Option Refusal → Option Refusal
+or_later (Some e) later = Some e
+or_later None later = later
 
-abbrev pub first_fault : List Function → Option Refusal
-first_fault functions = fault_from functions 0 functions
+-- a count above the most that there may be
+abbrev pub over : Limit → ℕ → ℕ → Option Refusal
+over which most count = if nat_le count most then None else Some (refusal.Limit which count)
+
+-- 10,000 instructions, and pseudo registers numbered below 10,000
+abbrev pub limit_passed : Function → Option Refusal
+limit_passed f = or_later (over limit.Instructions 10000 (instruction_count f.insns)) (over limit.Pseudos 10000 (next_pseudo f.insns))
+
+abbrev pub rule_broken : Function → Option Fault → Option Refusal
+rule_broken f None = None
+rule_broken f (Some fault) = Some (refusal.IllFormed f.name fault.uid fault.rule)
+
+-- the function at an index among others: the first rule that it breaks, or the first limit that it passes
+abbrev pub refused_at : List Function → ℕ → Function → Option Refusal
+refused_at functions index f = or_later (rule_broken f (rules.first_fault (faults functions index))) (limit_passed f)
+
+abbrev pub refused_from : List Function → ℕ → List Function → Option Refusal
+refused_from functions index [] = None
+refused_from functions index (f ∷ rest) = or_later (refused_at functions index f) (refused_from functions (index + 1) rest)
+
+-- the first of some functions that is refused
+abbrev pub first_refused : List Function → Option Refusal
+first_refused functions = refused_from functions 0 functions
 
 -- What some functions come to. Each is looked at before the text of any is made.
 pub data FunctionsCome (functions : List Function) : Outcome → Type 0 where
-  ill_formed : (e : Refusal) → first_fault functions ≡ Some e → FunctionsCome functions (Err e)
-  assembled : (outcome : Outcome) → first_fault functions ≡ None → AreTexts 0 functions outcome → FunctionsCome functions outcome
+  refused : (e : Refusal) → first_refused functions ≡ Some e → FunctionsCome functions (Err e)
+  assembled : (outcome : Outcome) → first_refused functions ≡ None → AreTexts 0 functions outcome → FunctionsCome functions outcome
 
 -- what a text comes to, by its reading
 pub data ReadingComes : Reading → Outcome → Type 0 where
@@ -98,14 +118,14 @@ abbrev pub IsOrMemory : Refusal → Refusal → Type 0
 IsOrMemory refusal.Memory e = Unit {0}
 IsOrMemory made e = made ≡ e
 
--- a call found the function at an index, which has a name, well-formed, or told its first fault
-abbrev pub ChecksOne : Result (Unit {0}) Refusal → List Function → ℕ → List ℕ → Type 0
-ChecksOne (Ok done) functions index name = rules.first_fault (faults functions index) ≡ None
-ChecksOne (Err e) functions index name = RefusesWith e (λ refused. (fault : Fault) × (rules.first_fault (faults functions index) ≡ Some fault) × (refused ≡ Err (refusal.IllFormed name fault.uid fault.rule)))
+-- a call found nothing to refuse, or told it
+abbrev pub Checked : Result (Unit {0}) Refusal → Option Refusal → Type 0
+Checked (Ok done) o = o ≡ None
+Checked (Err e) o = RefusesWith e (λ told. (r : Refusal) × (o ≡ Some r) × (told ≡ Err r))
 
--- a call found each function well-formed, or told the first fault
+-- a call found that none of the functions is refused, or told the first that is
 abbrev pub Checks : Result (Unit {0}) Refusal → List Function → Type 0
-Checks (Ok done) functions = first_fault functions ≡ None
+Checks (Ok done) functions = first_refused functions ≡ None
 Checks (Err e) functions = RefusesWith e (FunctionsCome functions)
 
 -- the bytes have a reading that comes to this

@@ -216,6 +216,10 @@ abbrev pub set_by : Form → Bool → List Rtx → Option Ops
 set_by f true (target ∷ source ∷ []) = set_operands f target source
 set_by f _ _ = None
 
+-- (set TARGET SOURCE), by its two parts
+abbrev pub set_in : Form → Rtx → Option Ops
+set_in f x = set_by f (has_head is_set_head x && is_node x) (out-Rtx x).kids
+
 -- (return)
 abbrev pub is_return : Rtx → Bool
 is_return x = has_head is_return_head x && is_leaf x && is_zero_number (out-Rtx x).number
@@ -226,7 +230,7 @@ is_return x = has_head is_return_head x && is_leaf x && is_zero_number (out-Rtx 
 -- counter; `return` takes the return.
 abbrev pub operands_of : Form → Rtx → Option Ops
 operands_of form.Return x = if is_return x then Some [] else None
-operands_of f x = set_by f (has_head is_set_head x && is_node x) (out-Rtx x).kids
+operands_of f x = set_in f x
 
 -- the forms for an instruction of a kind, in the order in which they are tried
 abbrev pub table : Kind → List Form

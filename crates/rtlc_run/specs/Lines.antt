@@ -14,15 +14,15 @@ use Rattle.rtl_step.specs.Step.{is_mark}
 use Rattle.rtlc_run.specs.declared.forms.Match.{Match}
 use Rattle.rtlc_run.specs.Forms.{first_match}
 use Rattle.rtlc_run.specs.Assembly.{filled_line, label_item, IsFinished, framed}
-use Rattle.rtlc_run.specs.Answer.{most_bytes, first_fault}
+use Rattle.rtlc_run.specs.Answer.{most_bytes, first_refused}
 
--- the bytes are the text of an input with these functions, which are well-formed
+-- the bytes are the text of an input with these functions, which are well-formed and within the limits
 pub record IsInput (bytes : List ℕ) (functions : List Function) : Type 0 where
   pub within : length bytes ≤ most_bytes
   pub trees : List Tree
   pub reads : ReadsAs bytes (Trees trees)
   pub stand : functions_in trees ≡ stands functions
-  pub well_formed : first_fault functions ≡ None
+  pub admitted : first_refused functions ≡ None
 
 -- the lines of a chain of a function with a number: of each instruction that of the first form that matches it, of each label its own
 pub data AreLines (number : ℕ) : List Insn → List ℕ → Type 0 where

@@ -1,13 +1,16 @@
 //! What an input comes to: the assembly of its functions, or a refusal.
 ghost use Rattle.std.specs.Prelude.{◌≡◌, ◌<◌, ◌≤◌, ◌↔◌, ◌^◌, All, IfOk, IfErr, IsTrue, codes, length};
 ghost use Rattle.lisp_read.specs.Reading.{ReadsAs, Trees};
+ghost use Rattle.rtl_func.specs.Faults.{first_fault};
+ghost use Rattle.rtl_func.specs.Rules.{faults};
 ghost use Rattle.rtlc_run.specs.Assembly.{AreTexts};
-ghost use Rattle.rtlc_run.specs.Answer.{most_bytes, Tells, Parses, ChecksOne, Checks, IsOrMemory, FunctionsCome, ReadingComes, ReadRefused, ComesTo};
+ghost use Rattle.rtlc_run.specs.Answer.{most_bytes, Tells, Parses, Checked, rule_broken, over, limit_passed, refused_at, Checks, IsOrMemory, FunctionsCome, ReadingComes, ReadRefused, ComesTo};
 ghost use Rattle.rtlc_run.specs.declared.refusal.Refusal.TheVariants as refused;
 
 use crate::assembly::{next_number, print_program};
 use crate::refusal::Refusal;
 use lisp_read::{ReadRefusal, Trees, read_trees};
+use rtl_count::{instruction_count, next_pseudo};
 use rtl_func::{CheckRefusal, check};
 use rtl_read::{RtlRefusal, functions_of};
 use rtx_tree::{Function, Functions, Limit, Name, Place};
@@ -64,22 +67,56 @@ fn ill_formed(alloc: Global, function: &Name, uid: u32, rule: u8) -> Refusal
     }
 }
 
-/// Checks the function at an index, which has a name.
+/// Checks that the function at an index keeps the rules.
+fn check_rules(
+    alloc: Global,
+    functions: &[Function],
+    index: u32,
+    f: &Function,
+) -> Result<(), Refusal>
+    requires within { index < length functions.now }
+    requires short { All (λ f. length f.insns < 2 ^ 32) functions.now }
+    ensures { Checked result (rule_broken f.now (first_fault (faults functions.now index))) }
+{
+    match check(alloc, functions, index) {
+        Ok(()) => Ok(()),
+        Err(CheckRefusal::IllFormed { uid, rule }) => Err(ill_formed(alloc, &f.name, uid, rule)),
+        Err(CheckRefusal::Memory) => Err(Refusal::Memory),
+    }
+}
+
+/// Checks that a count is not above the most that there may be.
+fn within(which: Limit, most: u64, count: u64) -> Result<(), Refusal>
+    ensures { Checked result (over which most count) }
+{
+    if count <= most {
+        Ok(())
+    } else {
+        Err(Refusal::Limit { which, count })
+    }
+}
+
+/// Checks that a function is within the limits.
+fn check_limits(f: &Function) -> Result<(), Refusal>
+    ensures { Checked result (limit_passed f.now) }
+{
+    within(Limit::Instructions, 10_000, instruction_count(f) as u64)?;
+    within(Limit::Pseudos, 10_000, next_pseudo(f))
+}
+
+/// Checks the function at an index: the rules, and then the limits.
 fn check_function(
     alloc: Global,
     functions: &[Function],
     index: u32,
-    name: &Name,
+    f: &Function,
 ) -> Result<(), Refusal>
     requires within { index < length functions.now }
     requires short { All (λ f. length f.insns < 2 ^ 32) functions.now }
-    ensures { ChecksOne result functions.now index name.now }
+    ensures { Checked result (refused_at functions.now index f.now) }
 {
-    match check(alloc, functions, index) {
-        Ok(()) => Ok(()),
-        Err(CheckRefusal::IllFormed { uid, rule }) => Err(ill_formed(alloc, name, uid, rule)),
-        Err(CheckRefusal::Memory) => Err(Refusal::Memory),
-    }
+    check_rules(alloc, functions, index, f)?;
+    check_limits(f)
 }
 
 /// Checks functions whose places have numbers of 32 bits, in order.
@@ -89,7 +126,7 @@ fn check_each(alloc: Global, functions: &[Function]) -> Result<(), Refusal>
 {
     let mut index: u32 = 0;
     for f in functions {
-        check_function(alloc, functions, index, &f.name)?;
+        check_function(alloc, functions, index, f)?;
         index = next_number(index)?;
     }
     Ok(())
@@ -101,7 +138,7 @@ fn are_short(functions: &[Function]) -> bool
     functions.iter().all(|f| f.insns.len() <= 0xffff_ffff)
 }
 
-/// Checks that functions are well-formed. A chain with more places than have a number is wanted as memory is.
+/// Checks that functions are well-formed and within the limits. A chain with more places than have a number is wanted as memory is.
 fn check_all(alloc: Global, functions: &[Function]) -> Result<(), Refusal>
     ensures { Checks result functions.now }
 {
@@ -121,7 +158,7 @@ fn assemble(alloc: Global, functions: &[Function]) -> Result<Vec<u8>, Refusal>
     Ok(text)
 }
 
-/// The assembly of functions that are well-formed.
+/// The assembly of functions, or what refuses one of them.
 fn compile(alloc: Global, functions: &[Function]) -> Result<Vec<u8>, Refusal>
     ensures { Tells result (FunctionsCome functions.now) }
 {

@@ -267,7 +267,7 @@ fn set_operands(
 }
 
 fn set_of(alloc: Global, form: Form, pattern: &Rtx) -> Result<Option<Operands>, Memory>
-    ensures { IfOk result (λ ops. ops ≡ spec.set_by form (spec.has_head spec.is_set_head pattern.now && spec.is_node pattern.now) pattern.now.kids) }
+    ensures { IfOk result (λ ops. ops ≡ spec.set_in form pattern.now) }
 {
     match pattern.kids.as_slice() {
         [target, source] if is_set(pattern) => set_operands(alloc, form, target, source),

@@ -1,9 +1,9 @@
-//! The counts of a function.
+//! The counts of a chain.
 ghost use Rattle.std.specs.Prelude.{◌≡◌, ◌≤◌, ◌<◌, ◌+◌, ◌^◌, List, length, vec_len};
 ghost use Rattle.rtl_count.specs.Counts as spec;
 ghost use Rattle.rtx_tree.specs.Tree.{head_of, kids_of};
 
-use rtx_tree::{Code, Function, Insn, Kind, Rtx};
+use rtx_tree::{Code, Insn, Kind, Rtx};
 
 fn is_instruction(insn: &Insn) -> bool
     ensures { result ≡ spec.is_instruction insn.now }
@@ -11,23 +11,19 @@ fn is_instruction(insn: &Insn) -> bool
     matches!(insn.kind, Kind::Plain | Kind::Jump | Kind::Call)
 }
 
-/// How many instructions a function has: plain ones, jumps and calls.
-pub fn instruction_count(f: &Function) -> usize
-    ensures { result ≡ spec.instruction_count f.now.insns }
+/// How many instructions a chain has: plain ones, jumps and calls.
+pub fn instruction_count(insns: &[Insn]) -> usize
+    ensures { result ≡ spec.instruction_count insns.now }
 {
-    f.insns
-        .as_slice()
-        .iter()
-        .filter(|insn| is_instruction(insn))
-        .count()
+    insns.iter().filter(|insn| is_instruction(insn)).count()
 }
 
-/// The greatest uid of a function, or 0 where there is none.
-pub fn greatest_uid(f: &Function) -> u32
-    ensures { result ≡ spec.greatest_uid f.now.insns }
+/// The greatest uid of a chain, or 0 where there is none.
+pub fn greatest_uid(insns: &[Insn]) -> u32
+    ensures { result ≡ spec.greatest_uid insns.now }
 {
     let mut greatest: u32 = 0;
-    for insn in f.insns.as_slice() {
+    for insn in insns {
         greatest = greatest.max(insn.uid);
     }
     greatest
@@ -56,12 +52,12 @@ fn next_pseudo_in(x: &Rtx) -> u64
     greatest
 }
 
-/// One above the greatest number of a pseudo register of a function, or 0 where it names none.
-pub fn next_pseudo(f: &Function) -> u64
-    ensures { result ≡ spec.next_pseudo f.now.insns }
+/// One above the greatest number of a pseudo register of a chain, or 0 where it names none.
+pub fn next_pseudo(insns: &[Insn]) -> u64
+    ensures { result ≡ spec.next_pseudo insns.now }
 {
     let mut greatest: u64 = 0;
-    for insn in f.insns.as_slice() {
+    for insn in insns {
         greatest = greatest.max(next_pseudo_in(&insn.pattern));
     }
     greatest

@@ -1,4 +1,4 @@
-//! What a function has: how many instructions, and which numbers its instructions and pseudo registers leave free.
+//! What a chain of instructions has: how many, and which numbers its uids and pseudo registers leave free.
 //!
 //! Each call gives the number that `specs/Counts.antt` defines, and takes no memory. Trees are walked as deep as they are.
 #![tactic(auto)]

@@ -1,7 +1,7 @@
-//! What a small function has.
+//! What a small chain has.
 use crate::{greatest_uid, instruction_count, next_pseudo};
 use plain_data::{Items, Memory};
-use rtx_tree::{Code, Function, Insn, Kind, Mode, Name, Rtx};
+use rtx_tree::{Code, Insn, Insns, Kind, Mode, Rtx};
 use std::alloc::Global;
 use std::test::Fail;
 
@@ -26,37 +26,27 @@ fn moves(alloc: Global, uid: u32, to: u32, from: u32) -> Result<Insn, Memory> {
     Ok(insn(alloc, uid, Kind::Plain, pattern))
 }
 
-fn empty(alloc: Global) -> Function {
-    Function {
-        name: Name::empty(alloc),
-        insns: Items::new(alloc),
-        locals: 0,
-        result: None,
-        result_reg: 10,
-    }
-}
-
 // A label, two moves between a0, virtual-stack-vars and pseudos 5 and 0, a return and a barrier.
-fn small(alloc: Global) -> Result<Function, Memory> {
-    let mut f = empty(alloc);
-    f.insns.push(insn(alloc, 12, Kind::Label, nothing(alloc)))?;
-    f.insns.push(moves(alloc, 7, 69, 32)?)?;
-    f.insns.push(moves(alloc, 9, 10, 64)?)?;
+fn small(alloc: Global) -> Result<Insns, Memory> {
+    let mut insns = Items::new(alloc);
+    insns.push(insn(alloc, 12, Kind::Label, nothing(alloc)))?;
+    insns.push(moves(alloc, 7, 69, 32)?)?;
+    insns.push(moves(alloc, 9, 10, 64)?)?;
     let leave = Rtx::leaf(alloc, Code::Return, Mode::Void, 0);
-    f.insns.push(insn(alloc, 10, Kind::Jump, leave))?;
-    f.insns.push(insn(alloc, 0, Kind::Barrier, nothing(alloc)))?;
-    Ok(f)
+    insns.push(insn(alloc, 10, Kind::Jump, leave))?;
+    insns.push(insn(alloc, 0, Kind::Barrier, nothing(alloc)))?;
+    Ok(insns)
 }
 
 #[test]
-fn counts_of_functions(rt: HostRuntime) -> Result<(), Fail> {
-    let none = empty(rt.alloc());
-    assert_eq!(rt; instruction_count(&none), 0);
-    assert_eq!(rt; greatest_uid(&none), 0);
-    assert_eq!(rt; next_pseudo(&none), 0);
+fn counts_of_chains(rt: HostRuntime) -> Result<(), Fail> {
+    let none: Insns = Items::new(rt.alloc());
+    assert_eq!(rt; instruction_count(none.as_slice()), 0);
+    assert_eq!(rt; greatest_uid(none.as_slice()), 0);
+    assert_eq!(rt; next_pseudo(none.as_slice()), 0);
     let some = small(rt.alloc())?;
-    assert_eq!(rt; instruction_count(&some), 3);
-    assert_eq!(rt; greatest_uid(&some), 12);
-    assert_eq!(rt; next_pseudo(&some), 6);
+    assert_eq!(rt; instruction_count(some.as_slice()), 3);
+    assert_eq!(rt; greatest_uid(some.as_slice()), 12);
+    assert_eq!(rt; next_pseudo(some.as_slice()), 6);
     Ok(())
 }

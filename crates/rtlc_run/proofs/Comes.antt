@@ -6,9 +6,6 @@ use Rattle.rtx_tree.specs.declared.function.Function.{Function}
 use Rattle.lisp_read.specs.declared.tree.Tree.{Tree}
 use Rattle.lisp_read.specs.Reading.{ReadsAs, Trees, Syntax, Depth}
 use Rattle.rtx_tree.specs.declared.limit.Limit.TheVariants as limit
-use Rattle.rtl_func.specs.declared.fault.Fault.{Fault}
-use Rattle.rtl_func.specs.Faults as rules
-use Rattle.rtl_func.specs.Rules.{faults}
 use Rattle.lisp_read.specs.Parsed.{stands}
 use Rattle.rtl_read.specs.Syntax.{functions_in}
 use Rattle.rtlc_run.specs.declared.refusal.Refusal.{Refusal}

@@ -1,5 +1,5 @@
 -- Lines that compute, and their text: that of a match with its template filled.
-use Rattle.std.proofs.Common.{◌≡◌, ℕ, ◌<◌, arith, true, false, [], ◌∷◌, ◌++◌, Option, Some, None, refl, sym, ap, ◌∙◌}
+use Rattle.std.proofs.Common.{◌≡◌, ℕ, ◌<◌, arith, true, [], ◌∷◌, ◌++◌, Some, None, refl, sym, ap, ◌∙◌}
 use Rattle.std.specs.Prelude.{◌-◌, if◌then◌else◌, option_and_then, ℤ, pos, negsuc, codes, is_some, nat_lt, nat_le, nat_eq, unwrap_or}
 use Rattle.std.specs.Fmt.{signed_decimal, decimal}
 use Rattle.std.specs.Ordering.{int_eq}

@@ -1,9 +1,8 @@
 -- An instruction that a form matches has a line that does the same.
-use Rattle.std.proofs.Common.{◌≡◌, ◌<◌, ◌^◌, ℕ, Bool, true, false, [], ◌∷◌, ◌++◌, Option, Some, None, refl, sym, ap, subst, ◌∙◌}
-use Rattle.std.specs.Prelude.{ℤ, pos, negsuc, IsSome, codes}
+use Rattle.std.proofs.Common.{◌≡◌, ◌<◌, ◌^◌, ℕ, [], ◌∷◌, ◌++◌, Some, refl, sym, ap, subst, ◌∙◌}
+use Rattle.std.specs.Prelude.{IsSome, codes}
 use Rattle.rtx_tree.specs.Tree.{reg_of, const_of}
-use Rattle.rtx_tree.specs.Patterns.{sum_rtx, set_rtx, jump_rtx, test_rtx, branch_rtx, return_rtx}
-use Rattle.rtx_tree.specs.declared.code.Code.{Code}
+use Rattle.rtx_tree.specs.Patterns.{sum_rtx, set_rtx, return_rtx}
 use Rattle.rtx_tree.specs.declared.code.Mode.TheVariants.{DI}
 use Rattle.rtx_tree.specs.declared.code.Code.TheVariants.{Set, Return}
 use Rattle.rtx_tree.specs.declared.tree.Rtx.{Rtx, out-Rtx, out-roll-Rtx}
@@ -12,11 +11,9 @@ use Rattle.rtx_tree.specs.declared.function.Kind.{Kind}
 use Rattle.rtx_tree.specs.declared.function.Insn.{Insn}
 use Rattle.rtx_tree.specs.declared.function.Kind.TheVariants as kind
 use Rattle.rv_text.specs.Body.{label_text}
-use Rattle.rv_text.specs.Lines.{action_of, line_text, is_within}
+use Rattle.rv_text.specs.Lines.{action_of, line_text}
 use Rattle.rv_text.specs.declared.action.Action.{Action}
 use Rattle.rv_text.specs.declared.action.Action.TheVariants as action
-use Rattle.rv_text.specs.declared.action.Comparison.{Comparison}
-use Rattle.rv_text.specs.declared.action.Source.{Source}
 use Rattle.rv_text.specs.declared.action.Source.TheVariants.{ReturnAddress}
 use Rattle.rv_text.specs.declared.line.Line.{Line}
 use Rattle.same_code.specs.Direct.{IsArgument, IsUid, IsTest, IsOperandIn, IsLineOf}

@@ -1,16 +1,15 @@
 -- Lines that jump, and their text: that of a match with its template filled.
-use Rattle.std.proofs.Common.{◌≡◌, ◌<◌, ◌^◌, ℕ, ◌+◌, true, false, ◌&&◌, ◌||◌, bytes_eq, length, List, [], ◌∷◌, ◌++◌, Some, None, refl, ap, ◌∙◌, arith}
+use Rattle.std.proofs.Common.{◌≡◌, ◌<◌, ◌^◌, ℕ, ◌+◌, true, false, ◌&&◌, bytes_eq, length, List, [], ◌∷◌, ◌++◌, Some, refl, ap, ◌∙◌, arith}
 use Rattle.std.specs.Prelude.{pos, codes, is_some, unwrap_or, nat_lt, if◌then◌else◌}
 use Rattle.std.specs.List.{list_all}
 use Rattle.std.specs.Fmt.{decimal}
 use Rattle.std.proofs.lemmas.Bool.Decides.{nat_tests}
 use Rattle.std.proofs.lemmas.Slice.Eq.{bytes_eq-Decides}
 use Rattle.rtx_tree.specs.Code.{code_name}
-use Rattle.rtx_tree.specs.Tree.{reg_of, const_of, node_of}
-use Rattle.rtx_tree.specs.Patterns.{is_pc, is_pc_code, pc_rtx, label_rtx, jump_rtx, test_rtx, branch_rtx}
+use Rattle.rtx_tree.specs.Tree.{reg_of, const_of}
+use Rattle.rtx_tree.specs.Patterns.{test_rtx}
 use Rattle.rtx_tree.specs.declared.code.Code.{Code}
-use Rattle.rtx_tree.specs.declared.code.Code.TheVariants.{IfThenElse}
-use Rattle.rtx_tree.specs.declared.code.Mode.TheVariants.{Void, DI}
+use Rattle.rtx_tree.specs.declared.code.Mode.TheVariants.{DI}
 use Rattle.rtx_tree.specs.declared.tree.Rtx.{Rtx, out-Rtx, out-roll-Rtx}
 use Rattle.rtx_tree.specs.declared.tree.Rtx.TheOpen.{Rtx-F}
 use Rattle.text_words.specs.Words.{is_symbol, is_symbol_byte}

@@ -1,11 +1,9 @@
 -- The text by its lines has the behaviour of the functions.
-use Rattle.std.proofs.Common.{◌≡◌, ◌≤◌, ◌<◌, ◌^◌, ℕ, ◌+◌, true, false, List, [], ◌∷◌, ◌++◌, Option, Some, None, refl, sym, ap, subst, ◌∙◌, append_assoc, arith}
-use Rattle.rtx_tree.specs.declared.function.Kind.{Kind}
+use Rattle.std.proofs.Common.{◌≡◌, ◌≤◌, ◌<◌, ◌^◌, ℕ, ◌+◌, List, [], ◌∷◌, ◌++◌, Option, Some, None, refl, sym, ap, subst, ◌∙◌, append_assoc, arith}
 use Rattle.rtx_tree.specs.declared.function.Kind.TheVariants as kind
 use Rattle.rtx_tree.specs.declared.function.Insn.{Insn}
 use Rattle.rtx_tree.specs.declared.function.Function.{Function}
 use Rattle.rtl_func.specs.Paths.{ReachesExit}
-use Rattle.rtl_step.specs.Step.{is_mark}
 use Rattle.rv_text.specs.Body.{Spells, label_text}
 use Rattle.rv_text.specs.Lines.{line_text}
 use Rattle.rv_text.specs.declared.line.CodeItem.{CodeItem}
@@ -15,7 +13,6 @@ use Rattle.same_code.specs.Direct.{AreItemsOf, IsEnding, IsCodeOf}
 use Rattle.same_code.specs.Direct as direct
 use Rattle.same_code.proofs.Reached.{direct_code_is_same}
 use Rattle.rtlc_run.specs.declared.forms.Match.{Match}
-use Rattle.rtlc_run.specs.Forms.{first_match}
 use Rattle.rtlc_run.specs.Assembly.{filled_line, label_item, return_insn, IsFinished}
 use Rattle.rtlc_run.specs.Lines.{AreLines, IsAssembly, WritesLines}
 use Rattle.rtlc_run.specs.Same.{frame_size, AreParts, AreSame, DoesSame, WritesSame}

@@ -1,11 +1,12 @@
 -- The assembly of functions: for each function a frame of lines, and in it what stands for each item of its chain.
-use Rattle.std.specs.Prelude.{◌≡◌, ◌<◌, ◌^◌, ℕ, ◌+◌, max, List, [], ◌∷◌, ◌++◌, codes, Option, Some, None, Result, Ok, Err, IsOkAnd}
+use Rattle.std.specs.Prelude.{◌≡◌, ◌<◌, ◌^◌, ℕ, ◌+◌, List, [], ◌∷◌, ◌++◌, codes, Option, Some, None, Result, Ok, Err, IsOkAnd}
 use Rattle.rtx_tree.specs.Patterns.{return_rtx}
 use Rattle.rtx_tree.specs.declared.function.Kind.{Kind}
 use Rattle.rtx_tree.specs.declared.function.Kind.TheVariants.{Jump, Label, Barrier}
 use Rattle.rtx_tree.specs.declared.function.Insn.{Insn}
 use Rattle.rtx_tree.specs.declared.function.Function.{Function}
 use Rattle.rtx_tree.specs.declared.stage.Stage.TheVariants.{Lower}
+use Rattle.rtl_count.specs.Counts.{greatest_uid}
 use Rattle.rtl_func.specs.Paths.{ReachesExit}
 use Rattle.rv_text.specs.Body.{label_text}
 use Rattle.rtlc_run.specs.declared.forms.Match.{Match}
@@ -62,11 +63,6 @@ abbrev pub body_text : ℕ → List ℕ → List Insn → Outcome
 body_text number function insns = each_text (item_text number function) insns
 
 -- ---- the return
-
--- the greatest number of an instruction, or 0
-abbrev pub greatest_uid : List Insn → ℕ
-greatest_uid [] = 0
-greatest_uid (i ∷ insns) = max i.uid (greatest_uid insns)
 
 -- the return that is added at the end of a chain, with the number after the greatest
 abbrev pub return_insn : List Insn → Insn

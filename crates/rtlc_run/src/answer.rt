@@ -100,8 +100,12 @@ fn within(which: Limit, most: u64, count: u64) -> Result<(), Refusal>
 fn check_limits(f: &Function) -> Result<(), Refusal>
     ensures { Checked result (limit_passed f.now) }
 {
-    within(Limit::Instructions, 10_000, instruction_count(f) as u64)?;
-    within(Limit::Pseudos, 10_000, next_pseudo(f))
+    within(
+        Limit::Instructions,
+        10_000,
+        instruction_count(f.insns.as_slice()) as u64,
+    )?;
+    within(Limit::Pseudos, 10_000, next_pseudo(f.insns.as_slice()))
 }
 
 /// Checks the function at an index: the rules, and then the limits.

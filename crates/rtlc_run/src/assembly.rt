@@ -10,6 +10,7 @@ use crate::print::print_text;
 use crate::refusal::Refusal;
 use crate::template::{print_filled, print_label, template};
 use plain_data::{Items, Memory};
+use rtl_count::greatest_uid;
 use rtl_func::reaches_exit;
 use rtx_tree::{Code, Function, Insn, Kind, Mode, Name, Rtx, Stage};
 use std::alloc::Global;
@@ -93,17 +94,6 @@ fn print_items(
         print_item(alloc, number, function, insn, out)?;
     }
     Ok(())
-}
-
-/// The greatest number of an instruction, or 0.
-fn greatest_uid(insns: &[Insn]) -> u32
-    ensures { result ≡ spec.greatest_uid insns.now }
-{
-    let mut greatest: u32 = 0;
-    for insn in insns {
-        greatest = greatest.max(insn.uid);
-    }
-    greatest
 }
 
 /// The return that is added at the end of a chain. It wants a number for it, as it wants memory.

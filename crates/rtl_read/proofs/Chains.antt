@@ -1,13 +1,17 @@
--- The text of a chain of uses: its links, its end, and what closes them.
-use Rattle.std.proofs.Common.{◌≡◌, ℕ, suc, List, [], ◌∷◌, ◌++◌, flat_map, length, codes, refl, sym, ap, ◌∙◌, append_assoc}
-use Rattle.std.proofs.lemmas.List.{append-nil}
+-- Texts in three pieces, and the text of a chain of uses: its links, its end, and what closes them.
+use Rattle.std.proofs.Common.{◌≡◌, ℕ, zero, suc, List, [], ◌∷◌, ◌++◌, flat_map, length, codes, refl, sym, ap, ◌∙◌, append_assoc}
 use Rattle.std.proofs.lemmas.List.Concat.{flat_map-cons}
 use Rattle.rtx_tree.specs.declared.function.ArgUse.{ArgUse}
 use Rattle.rtl_read.specs.Canonical.{printed_link, printed_uses, closed}
 
+-- three pieces behind a text
+pub three_pieces : (start one two three front text back : List ℕ) → one ≡ start ++ front → two ≡ one ++ text → three ≡ two ++ back → three ≡ start ++ (front ++ (text ++ back))
+three_pieces start one two three front text back a b c =
+    c ∙ (ap (λ (t : List ℕ). t ++ back) (b ∙ ap (λ (t : List ℕ). t ++ text) a) ∙ (append_assoc (start ++ front) text back ∙ append_assoc start front (text ++ back)))
+
 -- one closing parenthesis more, in front or behind
 closed_end : (n : ℕ) → closed n ++ codes ")" ≡ closed (suc n)
-closed_end 0 = refl
+closed_end zero = refl
 closed_end (suc n) = ap (λ (text : List ℕ). 41 ∷ text) (closed_end n)
 
 pub uses_printed : (uses : List ArgUse) → printed_uses uses ≡ flat_map printed_link uses ++ (codes "(nil)" ++ closed (length uses))

@@ -1,9 +1,8 @@
 -- How far the deepest sum in a tree goes, by its kids.
-use Rattle.std.proofs.Common.{◌≡◌, ℕ, max, fold, List, [], ◌∷◌, map, refl, sym, ap, subst, ◌∙◌}
+use Rattle.std.proofs.Common.{◌≡◌, max, fold, List, [], ◌∷◌, map, refl, sym, ap, subst, ◌∙◌}
 use Rattle.rtx_tree.specs.declared.tree.Rtx.{Rtx, out-Rtx, roll-Rtx}
 use Rattle.rtx_tree.specs.declared.tree.Rtx.TheOpen.{Rtx-F}
 use Rattle.rtx_tree.specs.declared.tree.Rtx.TheFolds.{fold-Rtx, fold_out-Rtx, fold-roll-Rtx, ind-Rtx}
-use Rattle.rtx_tree.specs.Tree.{kids_of}
 use Rattle.rtl_read.specs.Locals.{Depths, depths_step, depth_at, deepest_in}
 
 abbrev depths_of : Rtx → Depths

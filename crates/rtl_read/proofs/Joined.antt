@@ -51,7 +51,7 @@ pub joined_stops : {A : Type 0} (read : Tree → Parsed (List A)) (before initia
     i < length trees → t ≡ get_or trees i t → read t ≡ construct place name → behind before (each_joined read (drop i trees)) ≡ behind initial whole → whole ≡ construct place name
 joined_stops read before initial trees i t place name whole within is e h =
     construct_behind initial whole place name
-        (sym h ∙ subst (λ (ts : List Tree). behind before (each_joined read ts) ≡ construct place name) (sym (first_left trees i t within is)) (stop read before t (drop (i + 1) trees) place name e))
+    (sym h ∙ subst (λ (ts : List Tree). behind before (each_joined read ts) ≡ construct place name) (sym (first_left trees i t within is)) (stop read before t (drop (i + 1) trees) place name e))
 
 -- all were read
 pub joined_ends : {A : Type 0} (read : Tree → Parsed (List A)) (after : List A) (whole : Parsed (List A)) → behind after (each_joined read []) ≡ whole → whole ≡ stands after

@@ -1,11 +1,11 @@
 -- Reading the trees that are kept one after the other.
-use Rattle.std.proofs.Common.{◌≡◌, ℕ, ◌+◌, ◌<◌, true, false, Bool, not, List, [], ◌∷◌, ◌++◌, length, drop, get_or, refl, sym, ap, subst, ◌∙◌}
+use Rattle.std.proofs.Common.{◌≡◌, ℕ, ◌+◌, ◌<◌, true, false, List, [], ◌∷◌, ◌++◌, length, drop, get_or, refl, sym, ap, subst, ◌∙◌}
 use Rattle.std.specs.Prelude.{filter}
 use Rattle.rtx_tree.specs.declared.place.Place.{Place}
 use Rattle.rtx_tree.specs.declared.tree.Rtx.{Rtx}
 use Rattle.lisp_read.specs.declared.tree.Tree.{Tree}
 use Rattle.lisp_read.specs.declared.position.Position.TheVariants.{Pattern}
-use Rattle.lisp_read.specs.Parsed.{Parsed, stands, construct, each_parsed, parsed_map}
+use Rattle.lisp_read.specs.Parsed.{Parsed, stands, construct, each_parsed}
 use Rattle.lisp_read.specs.Expression.{read_at}
 use Rattle.lisp_read.proofs.Each.{with_front, with_front-map}
 use Rattle.rtl_read.specs.Call.{is_dropped, is_kept}

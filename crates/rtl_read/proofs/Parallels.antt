@@ -1,12 +1,12 @@
 -- A tree begins as a `parallel` does where the atom at its head is that of one.
-use Rattle.std.proofs.Common.{◌≡◌, ℕ, true, false, Bool, ◌&&◌, is_none, is_some, List, [], ◌∷◌, Option, Some, None, refl, sym, ap, ◌∙◌, arith}
+use Rattle.std.proofs.Common.{◌≡◌, ℕ, true, false, Bool, ◌&&◌, is_none, List, [], ◌∷◌, Option, Some, None, refl, ap, ◌∙◌, arith}
 use Rattle.std.specs.Prelude.{if◌then◌else◌, option_map, option_and_then, cond}
 use Rattle.std.specs.Str.{bytes_eq}
 use Rattle.rtx_tree.specs.Code.{mode_name}
 use Rattle.rtx_tree.specs.declared.code.Code.{Code}
 use Rattle.rtx_tree.specs.declared.code.Code.TheVariants.{Parallel}
 use Rattle.rtx_tree.specs.declared.code.Mode.{Mode}
-use Rattle.rtx_tree.specs.declared.code.Mode.TheVariants.{Void, QI, HI, SI, DI}
+use Rattle.rtx_tree.specs.declared.code.Mode.TheVariants.{QI, HI, SI, DI}
 use Rattle.lisp_read.specs.declared.tree.Tree.{Tree}
 use Rattle.lisp_read.specs.declared.head.Head.{Head}
 use Rattle.lisp_read.specs.declared.position.Position.TheVariants.{Pattern}
@@ -17,7 +17,7 @@ use Rattle.lisp_read.specs.Head as head
 use Rattle.lisp_read.specs.Expression.{head_is, placed, head_of_items}
 use Rattle.rtl_read.specs.Word.{head_of_list}
 use Rattle.rtl_read.specs.Call.{is_class_parallel, is_parallel}
-use Rattle.rtl_read.specs.Head.{flags_pass, is_parallel_code, is_parallel_head, is_parallel_text}
+use Rattle.rtl_read.specs.Head.{flags_pass, is_parallel_code, is_parallel_text}
 
 abbrev with_mode : Code → Mode → Head
 with_mode c m = record { code = c; mode = m }

@@ -11,12 +11,12 @@ use Rattle.lisp_read.specs.declared.code_class.CodeClass.TheVariants as class
 use Rattle.lisp_read.specs.declared.position.Position.TheVariants.{Top, Pattern}
 use Rattle.lisp_read.specs.Shape.{atom_of, items_of}
 use Rattle.lisp_read.specs.CodeClass.{class_of_code}
-use Rattle.lisp_read.specs.Positions.{is_pattern, admits, mode_at, mode_of_class}
-use Rattle.lisp_read.specs.Head.{cut, code_in, head_in, head_with, mode_in, flagged, flagged_code_in, flags_pass}
+use Rattle.lisp_read.specs.Positions.{is_pattern, admits, mode_of_class}
+use Rattle.lisp_read.specs.Head.{cut, code_in, head_in, head_with, mode_in, flagged, flags_pass}
 use Rattle.lisp_read.specs.Parsed.{Parsed, outside}
-use Rattle.lisp_read.specs.Expression.{Meaning, meaning_of, expression_by, list_by, read_at, rtx_in, head_at, head_of_items, placed}
+use Rattle.lisp_read.specs.Expression.{Meaning, meaning_of, expression_by, list_by, read_at, rtx_in, head_of_items, placed}
 use Rattle.lisp_read.proofs.Meanings.{read_at_out}
-use Rattle.rtl_read.specs.Word.{head_word, head_of_list, named_code}
+use Rattle.rtl_read.specs.Word.{head_word, head_of_list}
 use Rattle.rtl_read.specs.Head.{is_pattern_code, names_pattern}
 
 -- what a pattern is does not hang on the position
@@ -84,9 +84,11 @@ by_head c flags mode t inside = flags_by (flags_pass c flags) mode
   where
     none : Parsed Rtx
     none = outside t
+
     nothing : (b : Bool) → none ≡ (if b then none else none)
     nothing true = refl
     nothing false = refl
+
     flags_by : (b : Bool) (mode : Option Mode) → expression_by Pattern (option_and_then (placed Pattern) (option_and_then (head_with mode) (if b then Some c else None))) t inside
         ≡ (if is_pattern (class_of_code c) then expression_by Top (option_and_then (placed Top) (option_and_then (head_with mode) (if b then Some c else None))) t inside else outside t)
     flags_by false mode = nothing (is_pattern (class_of_code c))

@@ -1,7 +1,7 @@
 -- For the contracts of private functions alone: what a call puts behind what was there.
-use Rattle.std.specs.Prelude.{◌≡◌, ◌++◌, ℕ, List, Result, Ok, Err}
+use Rattle.std.specs.Prelude.{◌≡◌, ◌++◌, List, Result, Ok, Err}
 use Rattle.lisp_read.specs.declared.refusal.RtlRefusal.{RtlRefusal}
-use Rattle.lisp_read.specs.Parsed.{Parsed, stands, construct, parsed_map, Refuses}
+use Rattle.lisp_read.specs.Parsed.{Parsed, stands, construct, Refuses}
 use Rattle.rtl_read.specs.declared.parts.Said.{Said}
 use Rattle.rtl_read.specs.Function.{said_too}
 

@@ -19,7 +19,7 @@ use Rattle.lisp_read.specs.declared.position.Position.TheVariants.{Pattern}
 use Rattle.lisp_read.specs.Leaf.{below}
 use Rattle.lisp_read.specs.Parsed.{Parsed, stands, outside, or_outside, parsed_map, parsed_then, each_parsed}
 use Rattle.lisp_read.specs.Expression.{head_is, head_at, read_at}
-use Rattle.lisp_read.specs.Shape.{items_of, vector_of, is_vector, is_nested, is_word, atom_of}
+use Rattle.lisp_read.specs.Shape.{items_of, vector_of, is_vector, is_nested, atom_of}
 use Rattle.rtl_read.specs.Word.{head_word, head_of_list, named_code, is_alone, expression_of}
 
 -- ---- what a call does

@@ -13,11 +13,11 @@ use Rattle.rtl_read.specs.Word.{head_text}
 use Rattle.rtl_read.specs.Print.{printed, printed_reg_at, spaced}
 
 -- (reg:MODE R)
-abbrev pub printed_register : Mode → ℕ → List ℕ
+unfoldable pub printed_register : Mode → ℕ → List ℕ
 printed_register mode reg = codes "(" ++ (head_text Reg mode ++ (spaced (printed_reg_at reg) ++ codes ")"))
 
 -- what stands in front of the rest of a chain of uses
-abbrev pub printed_link : ArgUse → List ℕ
+unfoldable pub printed_link : ArgUse → List ℕ
 printed_link u = codes "(expr_list (use " ++ (printed_register u.mode u.reg ++ codes ") ")
 
 -- (nil), or (expr_list (use (reg:MODE R)) CHAIN)
@@ -48,7 +48,7 @@ insn_body Call i = calling i
 insn_body Label i = numbered (codes "clabel") i
 insn_body Barrier i = codes "cbarrier"
 
-abbrev pub printed_insn : Insn → List ℕ
+unfoldable pub printed_insn : Insn → List ℕ
 printed_insn i = codes "    (" ++ (insn_body i.kind i ++ codes ")\n")
 
 -- the lines of the result, if there is one
@@ -59,9 +59,12 @@ printed_result (Some mode) reg = codes "  (crtl\n    (return_rtx " ++ (printed_r
 abbrev pub printed_locals : ℕ → List ℕ
 printed_locals locals = codes "  (locals " ++ (decimal locals ++ codes ")\n")
 
--- the name and the chain
+-- the name of a function, and the beginning of its chain
+unfoldable pub printed_name : List ℕ → List ℕ
+printed_name name = codes "(function \"" ++ (name ++ codes "\"\n  (insn-chain\n")
+
 abbrev pub printed_front : Function → List ℕ
-printed_front f = codes "(function \"" ++ (f.name ++ (codes "\"\n  (insn-chain\n" ++ (flat_map printed_insn f.insns ++ codes "  )\n")))
+printed_front f = printed_name f.name ++ (flat_map printed_insn f.insns ++ codes "  )\n")
 
 abbrev pub printed_function : Function → List ℕ
 printed_function f = printed_front f ++ (printed_locals f.locals ++ (printed_result f.result f.result_reg ++ codes ")\n"))

@@ -17,7 +17,18 @@ fn print_small(number: u32, out: &mut Vec<u8>) -> Result<(), Memory>
     Ok(())
 }
 
+/// Prints a text between two others.
+fn print_between(front: &[u8], text: &[u8], back: &[u8], out: &mut Vec<u8>) -> Result<(), Memory>
+    ensures { OnOk result (out.new.items ≡ out.old.items ++ (front.now ++ (text.now ++ back.now))) }
+{
+    out.extend_from_slice(front)?;
+    out.extend_from_slice(text)?;
+    out.extend_from_slice(back)?;
+    Ok(())
+}
+
 /// Prints `(reg:MODE R)`.
+#[tactic(auto, unfolding(crate::specs::Canonical::printed_register))]
 fn print_register(mode: Mode, reg: u32, out: &mut Vec<u8>) -> Result<(), Memory>
     ensures { OnOk result (out.new.items ≡ out.old.items ++ spec.printed_register mode reg) }
 {
@@ -59,13 +70,13 @@ fn print_closed(count: usize, out: &mut Vec<u8>) -> Result<(), Memory>
 }
 
 /// Prints a chain of uses, `(nil)` or `(expr_list USE CHAIN)`.
-#[tactic(auto, using(crate::proofs::Chains::uses_printed))]
 fn print_uses(uses: &[ArgUse], out: &mut Vec<u8>) -> Result<(), Memory>
     ensures { OnOk result (out.new.items ≡ out.old.items ++ spec.printed_uses uses.now) }
 {
     print_links(uses, out)?;
     out.extend_from_slice(b"(nil)")?;
-    print_closed(uses.len(), out)
+    print_closed(uses.len(), out)?;
+    Ok(())
 }
 
 /// Prints a word and the number of an instruction.
@@ -110,6 +121,7 @@ fn print_body(insn: &Insn, out: &mut Vec<u8>) -> Result<(), Memory>
     }
 }
 
+#[tactic(auto, unfolding(crate::specs::Canonical::printed_insn))]
 fn print_insn(insn: &Insn, out: &mut Vec<u8>) -> Result<(), Memory>
     ensures { OnOk result (out.new.items ≡ out.old.items ++ spec.printed_insn insn.now) }
 {
@@ -150,13 +162,19 @@ fn print_result(mode: Option<Mode>, reg: u32, out: &mut Vec<u8>) -> Result<(), M
     Ok(())
 }
 
+/// Prints the name of a function, and the beginning of its chain.
+#[tactic(auto, unfolding(crate::specs::Canonical::printed_name))]
+fn print_name(name: &[u8], out: &mut Vec<u8>) -> Result<(), Memory>
+    ensures { OnOk result (out.new.items ≡ out.old.items ++ spec.printed_name name.now) }
+{
+    print_between(b"(function \"", name, b"\"\n  (insn-chain\n", out)
+}
+
 /// Prints the name of a function, and its chain.
 fn print_front(f: &Function, out: &mut Vec<u8>) -> Result<(), Memory>
     ensures { OnOk result (out.new.items ≡ out.old.items ++ spec.printed_front f.now) }
 {
-    out.extend_from_slice(b"(function \"")?;
-    out.extend_from_slice(f.name.bytes())?;
-    out.extend_from_slice(b"\"\n  (insn-chain\n")?;
+    print_name(f.name.bytes(), out)?;
     print_insns(f.insns.as_slice(), out)?;
     out.extend_from_slice(b"  )\n")?;
     Ok(())

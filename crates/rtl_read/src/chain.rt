@@ -81,12 +81,7 @@ fn add_call_of(
 }
 
 /// A call, by the trees behind its head.
-fn add_call(
-    alloc: Global,
-    tree: &Tree,
-    parts: &[Tree],
-    insns: &mut Insns,
-) -> Result<(), RtlRefusal>
+fn add_call(alloc: Global, tree: &Tree, parts: &[Tree], insns: &mut Insns) -> Result<(), RtlRefusal>
     ensures { Adds result insns.old insns.new (spec.call_by tree.now (spec.insn_parts parts.now)) }
 {
     match parts {

@@ -171,7 +171,7 @@ fn function_name(tree: &Tree) -> Option<&Name>
     }
 }
 
-/// The mode of a result and the number of its register, `a0` where there is none.
+/// The function of a name and of what its items say.
 fn function_from(alloc: Global, name: &Name, said: Said) -> Result<Function, RtlRefusal>
     ensures { Gives result (stands (spec.function_from name.now said)) }
 {

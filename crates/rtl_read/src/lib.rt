@@ -19,3 +19,6 @@ pub use canonical::print_function;
 pub use function::functions_of;
 pub use lisp_read::RtlRefusal;
 pub use print::{print_number, print_reg, print_rtx};
+
+#[cfg(test)]
+mod tests;

@@ -1,5 +1,10 @@
 pub mod Word
-pub mod Expression
-pub mod Jump
+pub mod Call
+pub mod Head
+pub mod Chain
+pub mod Locals
+pub mod Function
 pub mod Syntax
+pub mod Adding
 pub mod Print
+pub mod Canonical

@@ -1,28 +1,56 @@
--- The words of RTL's text: numbers, registers, symbols, and the atom at the head of an expression.
-use Rattle.std.specs.Prelude.{ℕ, ℤ, pos, negsuc, nat_lt, nat_le, ◌&&◌, List, [], ◌∷◌, ◌++◌, Option, Some, None, if◌then◌else◌, option_and_then}
-use Rattle.text_words.specs.Words.{number_in}
+-- The words of RTL's text: numbers, and the atom at the head of a list. GCC Internals, "Reading RTL" and "Machine Modes".
+use Rattle.std.specs.Prelude.{ℕ, Bool, false, List, [], ◌∷◌, ◌++◌, Option, Some, None, option_and_then}
 use Rattle.rtx_tree.specs.declared.code.Code.{Code}
 use Rattle.rtx_tree.specs.declared.code.Mode.{Mode}
 use Rattle.rtx_tree.specs.declared.code.Mode.TheVariants.{Void}
+use Rattle.rtx_tree.specs.declared.tree.Rtx.{Rtx}
 use Rattle.rtx_tree.specs.Code.{code_name, mode_name}
-use Rattle.rtx_tree.specs.Registers.{number_of_reg}
+use Rattle.lisp_read.specs.declared.tree.Tree.{Tree}
+use Rattle.lisp_read.specs.Head.{cut, code_in}
+use Rattle.lisp_read.specs.Leaf.{uid_in}
+use Rattle.lisp_read.specs.Parsed.{Parsed, stands, construct}
+use Rattle.lisp_read.specs.Expression.{rtx_in}
+use Rattle.lisp_read.specs.Shape.{atom_of, items_of, is_word}
 
--- an instruction's number, from 1 to 2,147,483,647
-abbrev pub uid_from : ℤ → Option ℕ
-uid_from (pos n) = if nat_le 1 n && nat_lt n 2147483648 then Some n else None
-uid_from (negsuc n) = None
+-- the number of 32 bits that an atom writes
+abbrev pub number_of : Tree → Option ℕ
+number_of t = option_and_then uid_in (atom_of t)
 
-abbrev pub uid_in : List ℕ → Option ℕ
-uid_in text = option_and_then uid_from (number_in text)
+-- a list that begins with this word
+abbrev pub begins : List ℕ → List Tree → Bool
+begins word (h ∷ parts) = is_word word h
+begins word [] = false
 
--- a register that takes an argument: a0 to a7, which are the registers 10 to 17
-abbrev pub argument_from : ℕ → Option ℕ
-argument_from r = if nat_le 10 r && nat_lt r 18 then Some r else None
+abbrev pub is_headed : List ℕ → Tree → Bool
+is_headed word t = begins word (items_of t)
 
-abbrev pub argument_in : List ℕ → Option ℕ
-argument_in text = option_and_then argument_from (number_of_reg text)
+-- the list of this word alone
+abbrev pub is_alone : List ℕ → List Tree → Bool
+is_alone word (h ∷ []) = is_word word h
+is_alone word _ = false
 
--- the atom at the head of an expression: the code's name, and behind a colon that of the mode, if there is one
+-- the word of a head: what stands before its flags and its mode
+abbrev pub head_word : List ℕ → List ℕ
+head_word text = (cut 47 (cut 58 text).0).0
+
+-- the head that a list begins with
+abbrev pub head_of_list : List Tree → Option (List ℕ)
+head_of_list (h ∷ parts) = atom_of h
+head_of_list [] = None
+
+-- the code that the head of a tree names, whatever its flags and its mode
+abbrev pub named_code : Tree → Option Code
+named_code t = option_and_then (λ text. code_in (head_word text)) (head_of_list (items_of t))
+
+-- the expression of a tree, if it is one
+abbrev pub if_stands : {A : Type 0} → Parsed A → Option A
+if_stands (stands x) = Some x
+if_stands (construct place name) = None
+
+abbrev pub expression_of : Tree → Option Rtx
+expression_of t = if_stands (rtx_in t)
+
+-- the atom at the head of an expression as it is printed: the code's name, and behind a colon that of the mode, if there is one
 abbrev pub mode_suffix : Mode → List ℕ
 mode_suffix Void = []
 mode_suffix m = 58 ∷ mode_name m

@@ -1,161 +1,69 @@
-//! Functions: their chains of instructions and what they return.
-ghost use Rattle.std.specs.Prelude.{◌≡◌, List, Some, None};
-ghost use Rattle.std.specs.List.{list_all};
+//! Functions by their trees.
+ghost use Rattle.std.specs.Prelude.{◌≡◌, count_by};
 ghost use Rattle.std.specs.Option.{option_copied};
-ghost use Rattle.lisp_read.specs.declared.tree.Tree.{Tree};
-ghost use Rattle.rtx_tree.specs.Patterns.{nothing_rtx};
-ghost use Rattle.rtx_tree.specs.declared.function.Kind.{Kind};
-ghost use Rattle.rtl_read.specs.Syntax as spec;
-ghost use Rattle.rtl_read.specs.Expression.{pattern_of};
-ghost use Rattle.rtl_read.specs.Jump.{jump_pattern_of};
-ghost use Rattle.lisp_read.specs.Parsed.{Gives, stands, parsed_map};
+ghost use Rattle.lisp_read.specs.Parsed.{Gives, stands};
 ghost use Rattle.lisp_read.specs.Shape as shape;
+ghost use Rattle.rtl_read.specs.Adding.{AddsSaid};
+ghost use Rattle.rtl_read.specs.Function as spec;
+ghost use Rattle.rtl_read.specs.Syntax as syntax;
+ghost use Rattle.rtl_read.specs.Word.{is_headed};
 
-use crate::expression::{pattern, sole_atom};
-use crate::jump::jump_pattern;
-use crate::word::uid_in;
-use lisp_read::{RtlRefusal, Tree, atom, is_nested, is_word, items, outside, string};
+use crate::chain::add_chain;
+use crate::locals::locals_in;
+use crate::parts::{Returned, Said};
+use crate::pattern::expression;
+use crate::word::{all_nested, is_alone, is_headed, number_of};
+use lisp_read::{RtlRefusal, Tree, is_nested, is_word, items, outside, string};
 use plain_data::Items;
-use rtx_tree::{Code, Function, Functions, Insn, Insns, Kind, Mode, Name, Rtx};
+use rtx_tree::{Code, Function, Functions, Name, Rtx};
 use std::alloc::Global;
 use text_words::is_symbol;
 
 /// The number of the register that holds a result, `a0`.
 const RESULT_REG: u32 = 10;
 
-fn all_nested(trees: &[Tree]) -> bool
-    ensures { result ≡ list_all shape.is_nested trees.now }
+// ---- the size of the locals, and the result
+
+/// `(locals N)`.
+fn locals(alloc: Global, tree: &Tree) -> Result<u32, RtlRefusal>
+    ensures { Gives result (spec.locals_of tree.now) }
 {
-    for tree in trees {
-        if !is_nested(tree) {
-            return false;
+    if let [head, number] = items(tree) {
+        if is_word(head, b"locals") {
+            if let Some(locals) = number_of(number) {
+                return Ok(locals);
+            }
         }
     }
-    true
+    Err(outside(alloc, tree))
 }
 
-fn insn_with(alloc: Global, kind: Kind, uid: u32, pattern: Rtx) -> Insn
-    ensures { result ≡ spec.insn_with kind uid pattern }
+fn returned(x: &Rtx) -> Option<Returned>
+    ensures { result ≡ spec.returned_of x.now }
 {
-    Insn {
-        uid,
-        kind,
-        pattern,
-        uses: Items::new(alloc),
+    if matches!(x.code, Code::Reg) && 0 <= x.number && x.number < 4_294_967_296 {
+        Some(Returned {
+            mode: x.mode,
+            reg: x.number as u32,
+        })
+    } else {
+        None
     }
 }
 
-/// The pattern of what does nothing, `(parallel [])`.
-fn nothing(alloc: Global) -> Rtx
-    ensures { result ≡ nothing_rtx }
+/// `(nil)`, or the register of a result.
+fn result(alloc: Global, tree: &Tree) -> Result<Option<Returned>, RtlRefusal>
+    ensures { Gives result (spec.result_of tree.now) }
 {
-    Rtx::of_kids(alloc, Code::Parallel, Mode::Void, Items::new(alloc))
-}
-
-/// The instruction's number that an atom writes.
-fn uid(tree: &Tree) -> Option<u32>
-    ensures { result ≡ spec.uid_of tree.now }
-{
-    uid_in(atom(tree)?.bytes())
-}
-
-fn plain_of_parts(alloc: Global, uid: u32, tree: &Tree) -> Result<Insn, RtlRefusal>
-    ensures { Gives result (parsed_map (spec.insn_with Kind.Plain uid) (pattern_of tree.now)) }
-{
-    let pattern = pattern(alloc, tree)?;
-    Ok(insn_with(alloc, Kind::Plain, uid, pattern))
-}
-
-/// `(cinsn UID PATTERN)`, by the trees behind its head.
-fn plain(alloc: Global, tree: &Tree, parts: &[Tree]) -> Result<Insn, RtlRefusal>
-    ensures { Gives result (spec.plain_by tree.now (spec.numbered parts.now)) }
-{
-    match parts {
-        [number, part] if is_nested(part) => match uid(number) {
-            Some(uid) => plain_of_parts(alloc, uid, part),
-            None => Err(outside(alloc, tree)),
-        },
-        _ => Err(outside(alloc, tree)),
+    if is_alone(tree, b"nil") {
+        return Ok(None);
     }
-}
-
-fn jump_of_parts(alloc: Global, uid: u32, tree: &Tree) -> Result<Insn, RtlRefusal>
-    ensures { Gives result (parsed_map (spec.insn_with Kind.Jump uid) (jump_pattern_of tree.now)) }
-{
-    let pattern = jump_pattern(alloc, tree)?;
-    Ok(insn_with(alloc, Kind::Jump, uid, pattern))
-}
-
-/// `(cjump_insn UID PATTERN)`, by the trees behind its head.
-fn jump(alloc: Global, tree: &Tree, parts: &[Tree]) -> Result<Insn, RtlRefusal>
-    ensures { Gives result (spec.jump_by tree.now (spec.numbered parts.now)) }
-{
-    match parts {
-        [number, part] if is_nested(part) => match uid(number) {
-            Some(uid) => jump_of_parts(alloc, uid, part),
-            None => Err(outside(alloc, tree)),
-        },
-        _ => Err(outside(alloc, tree)),
+    if let Some(x) = expression(alloc, tree)? {
+        if let Some(register) = returned(&x) {
+            return Ok(Some(register));
+        }
     }
-}
-
-fn leading_uid(parts: &[Tree]) -> Option<u32>
-    ensures { result ≡ spec.leading_uid parts.now }
-{
-    match parts {
-        [number, ..] => uid(number),
-        [] => None,
-    }
-}
-
-/// `(clabel UID ..)`, by the trees behind its head.
-fn label(alloc: Global, tree: &Tree, parts: &[Tree]) -> Result<Insn, RtlRefusal>
-    ensures { Gives result (spec.label_by tree.now (spec.leading_uid parts.now)) }
-{
-    match leading_uid(parts) {
-        Some(uid) => Ok(insn_with(alloc, Kind::Label, uid, nothing(alloc))),
-        None => Err(outside(alloc, tree)),
-    }
-}
-
-fn barrier(alloc: Global) -> Insn
-    ensures { result ≡ spec.barrier }
-{
-    insn_with(alloc, Kind::Barrier, 0, nothing(alloc))
-}
-
-/// `(cinsn UID PATTERN)`, `(cjump_insn UID PATTERN)`, `(clabel UID ..)` or `(cbarrier ..)`.
-fn insn(alloc: Global, tree: &Tree) -> Result<Insn, RtlRefusal>
-    ensures { Gives result (spec.insn_of tree.now) }
-{
-    match items(tree) {
-        [head, parts @ ..] if is_word(head, b"cinsn") => plain(alloc, tree, parts),
-        [head, parts @ ..] if is_word(head, b"cjump_insn") => jump(alloc, tree, parts),
-        [head, parts @ ..] if is_word(head, b"clabel") => label(alloc, tree, parts),
-        [head, ..] if is_word(head, b"cbarrier") => Ok(barrier(alloc)),
-        _ => Err(outside(alloc, tree)),
-    }
-}
-
-#[tactic(auto, using(crate::proofs::Each::with_nothing, crate::proofs::Each::each_next, crate::proofs::Each::each_stops, crate::proofs::Each::each_ends))]
-fn insns(alloc: Global, trees: &[Tree]) -> Result<Insns, RtlRefusal>
-    ensures { Gives result (spec.insns_of trees.now) }
-{
-    let mut read = Items::new(alloc);
-    for tree in trees {
-        read.push(insn(alloc, tree)?)?;
-    }
-    Ok(read)
-}
-
-/// `(insn-chain ITEMS)`.
-fn chain(alloc: Global, tree: &Tree) -> Result<Insns, RtlRefusal>
-    ensures { Gives result (spec.chain_of tree.now) }
-{
-    match items(tree) {
-        [head, rest @ ..] if is_word(head, b"insn-chain") && all_nested(rest) => insns(alloc, rest),
-        _ => Err(outside(alloc, tree)),
-    }
+    Err(outside(alloc, tree))
 }
 
 /// The one list or vector behind a word.
@@ -168,34 +76,87 @@ fn sole_part<'a>(tree: &'a Tree, word: &[u8]) -> Option<&'a Tree>
     }
 }
 
-/// The register of the result, which is `a0` in DImode.
-fn result_register(alloc: Global, tree: &Tree) -> Result<Mode, RtlRefusal>
-    ensures { Gives result (spec.result_register tree.now) }
-{
-    match sole_atom(tree, Code::Reg, Mode::DI) {
-        Some(name) if name.bytes() == b"a0".as_slice() => Ok(Mode::DI),
-        _ => Err(outside(alloc, tree)),
-    }
-}
-
-/// `(return_rtx (reg:DI a0))`.
-fn returned(alloc: Global, tree: &Tree) -> Result<Mode, RtlRefusal>
-    ensures { Gives result (spec.returned_of tree.now) }
+/// `(return_rtx RESULT)`.
+fn return_rtx(alloc: Global, tree: &Tree) -> Result<Option<Returned>, RtlRefusal>
+    ensures { Gives result (spec.return_of tree.now) }
 {
     match sole_part(tree, b"return_rtx") {
-        Some(part) => result_register(alloc, part),
+        Some(part) => result(alloc, part),
         None => Err(outside(alloc, tree)),
     }
 }
 
-/// `(crtl (return_rtx (reg:DI a0)))`.
-fn crtl(alloc: Global, tree: &Tree) -> Result<Mode, RtlRefusal>
+/// `(crtl)`, or `(crtl (return_rtx RESULT))`.
+fn crtl(alloc: Global, tree: &Tree) -> Result<Option<Returned>, RtlRefusal>
     ensures { Gives result (spec.crtl_of tree.now) }
 {
+    if is_alone(tree, b"crtl") {
+        return Ok(None);
+    }
     match sole_part(tree, b"crtl") {
-        Some(part) => returned(alloc, part),
+        Some(part) => return_rtx(alloc, part),
         None => Err(outside(alloc, tree)),
     }
+}
+
+// ---- the items
+
+/// Puts what an item says of its function behind what others said.
+fn add_item(alloc: Global, tree: &Tree, said: &mut Said) -> Result<(), RtlRefusal>
+    ensures { AddsSaid result said.old said.new (spec.said_by tree.now) }
+{
+    if matches!(tree, Tree::Vector { .. }) {
+        return Err(outside(alloc, tree));
+    }
+    if is_headed(tree, b"insn-chain") {
+        add_chain(alloc, tree, &mut said.insns)?;
+    } else if is_headed(tree, b"locals") {
+        said.locals = Some(locals(alloc, tree)?);
+    } else if is_headed(tree, b"crtl") {
+        if let Some(register) = crtl(alloc, tree)? {
+            said.result = Some(register);
+        }
+    }
+    Ok(())
+}
+
+#[tactic(auto, using(crate::proofs::SaidLaws::said_ends, crate::proofs::SaidLaws::said_next, crate::proofs::SaidLaws::said_stops, crate::proofs::SaidLaws::said_nothing))]
+fn all_said(alloc: Global, trees: &[Tree]) -> Result<Said, RtlRefusal>
+    ensures { Gives result (spec.all_said trees.now) }
+{
+    let mut said = Said {
+        insns: Items::new(alloc),
+        locals: None,
+        result: None,
+    };
+    for tree in trees {
+        add_item(alloc, tree, &mut said)?;
+    }
+    Ok(said)
+}
+
+// ---- the function
+
+/// How many lists begin with a word.
+fn count_headed(trees: &[Tree], word: &[u8]) -> usize
+    ensures { result ≡ count_by (is_headed word.now) trees.now }
+{
+    let mut count = 0;
+    for tree in trees {
+        if is_headed(tree, word) {
+            count += 1;
+        }
+    }
+    count
+}
+
+/// Whether there is one chain, and no more than one size of the locals and one result.
+fn are_items(trees: &[Tree]) -> bool
+    ensures { result ≡ spec.are_items trees.now }
+{
+    count_headed(trees, b"insn-chain") == 1
+        && count_headed(trees, b"locals") <= 1
+        && count_headed(trees, b"crtl") <= 1
 }
 
 /// The name that a string gives a function.
@@ -210,55 +171,43 @@ fn function_name(tree: &Tree) -> Option<&Name>
     }
 }
 
-fn function_from(
-    alloc: Global,
-    name: &Name,
-    insns: Insns,
-    mode: Option<Mode>,
-) -> Result<Function, RtlRefusal>
-    ensures { Gives result (stands (spec.function_from name.now insns mode)) }
+/// The function of a name and of what its items say.
+fn function_from(alloc: Global, name: &Name, said: Said) -> Result<Function, RtlRefusal>
+    ensures { Gives result (stands (spec.function_from name.now said)) }
 {
+    let locals = match said.locals {
+        Some(locals) => locals,
+        None => locals_in(said.insns.as_slice()),
+    };
+    let (mode, reg) = match said.result {
+        Some(register) => (Some(register.mode), register.reg),
+        None => (None, RESULT_REG),
+    };
     Ok(Function {
         name: name.copy(alloc)?,
-        insns,
-        locals: 0,
+        insns: said.insns,
+        locals,
         result: mode,
-        result_reg: RESULT_REG,
+        result_reg: reg,
     })
 }
 
-/// A function that says nothing of its result.
-fn silent(alloc: Global, name: &Name, body: &Tree) -> Result<Function, RtlRefusal>
-    ensures { Gives result (spec.function_of_parts name.now body.now None) }
+fn function_of_items(alloc: Global, name: &Name, trees: &[Tree]) -> Result<Function, RtlRefusal>
+    ensures { Gives result (spec.function_of_items name.now trees.now) }
 {
-    let insns = chain(alloc, body)?;
-    function_from(alloc, name, insns, None)
+    let said = all_said(alloc, trees)?;
+    function_from(alloc, name, said)
 }
 
-/// A function with its result.
-fn returning(alloc: Global, name: &Name, body: &Tree, end: &Tree) -> Result<Function, RtlRefusal>
-    ensures { Gives result (spec.function_of_parts name.now body.now (Some end.now)) }
-{
-    let insns = chain(alloc, body)?;
-    let mode = crtl(alloc, end)?;
-    function_from(alloc, name, insns, Some(mode))
-}
-
-/// `(function "NAME" (insn-chain ITEMS))`, maybe with `(crtl (return_rtx (reg:DI a0)))` behind the chain.
+/// `(function "NAME" ITEMS)`.
 fn function(alloc: Global, tree: &Tree) -> Result<Function, RtlRefusal>
     ensures { Gives result (spec.function_of tree.now) }
 {
     match items(tree) {
-        [head, name, body] if is_word(head, b"function") && is_nested(body) => {
+        [head, name, rest @ ..]
+            if is_word(head, b"function") && all_nested(rest) && are_items(rest) => {
             match function_name(name) {
-                Some(name) => silent(alloc, name, body),
-                None => Err(outside(alloc, tree)),
-            }
-        }
-        [head, name, body, end]
-            if is_word(head, b"function") && is_nested(body) && is_nested(end) => {
-            match function_name(name) {
-                Some(name) => returning(alloc, name, body, end),
+                Some(name) => function_of_items(alloc, name, rest),
                 None => Err(outside(alloc, tree)),
             }
         }
@@ -266,10 +215,18 @@ fn function(alloc: Global, tree: &Tree) -> Result<Function, RtlRefusal>
     }
 }
 
-/// The functions that the trees of a text stand for, in order, or the first construct outside the language.
+/// Reads the functions that the trees of a text stand for, in order.
+///
+/// A function is `(function "NAME" ITEMS)`, with one `(insn-chain ..)`, at most one `(locals N)` and at most one `(crtl ..)`
+/// among its items; lists with other heads are passed over. Where the size of the locals is not told, it is the greatest d
+/// such that -d is added to `virtual-stack-vars`. A function without a result has the register a0 for it.
+///
+/// # Errors
+///
+/// `Construct` where a tree is outside the language, with the first such tree. `Memory` where memory ran out.
 #[tactic(auto, using(crate::proofs::Each::with_nothing, crate::proofs::Each::each_next, crate::proofs::Each::each_stops, crate::proofs::Each::each_ends))]
 pub fn functions_of(alloc: Global, trees: &[Tree]) -> Result<Functions, RtlRefusal>
-    ensures { Gives result (spec.functions_in trees.now) }
+    ensures { Gives result (syntax.functions_in trees.now) }
 {
     let mut read = Items::new(alloc);
     for tree in trees {

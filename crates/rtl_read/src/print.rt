@@ -29,7 +29,7 @@ fn print_mode(mode: Mode, out: &mut Vec<u8>) -> Result<(), Memory>
 }
 
 /// Prints the atom at the head of an expression.
-fn print_head(code: Code, mode: Mode, out: &mut Vec<u8>) -> Result<(), Memory>
+pub(crate) fn print_head(code: Code, mode: Mode, out: &mut Vec<u8>) -> Result<(), Memory>
     ensures { OnOk result (out.new.items ≡ out.old.items ++ head_text code mode) }
 {
     out.extend_from_slice(code.name().as_bytes())?;
@@ -47,7 +47,7 @@ fn print_pseudo(pseudo: u64, out: &mut Vec<u8>) -> Result<(), Memory>
     Ok(())
 }
 
-fn print_reg_at(reg: u64, out: &mut Vec<u8>) -> Result<(), Memory>
+pub(crate) fn print_reg_at(reg: u64, out: &mut Vec<u8>) -> Result<(), Memory>
     ensures { OnOk result (out.new.items ≡ out.old.items ++ spec.printed_reg_at reg) }
 {
     if reg < 32 {

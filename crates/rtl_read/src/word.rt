@@ -1,50 +1,58 @@
-//! The words of RTL's text: numbers, registers, symbols, and the atom at the head of an expression.
+//! The words of RTL's text, and lists by the word that they begin with.
 ghost use Rattle.std.specs.Prelude.{◌≡◌};
-ghost use Rattle.std.specs.Str.{bytes_eq};
+ghost use Rattle.std.specs.List.{list_all};
+ghost use Rattle.lisp_read.specs.Leaf.{uid_in};
+ghost use Rattle.lisp_read.specs.Shape as shape;
 ghost use Rattle.rtl_read.specs.Word as spec;
 
-use rtx_tree::{Code, Mode, reg_number};
+use lisp_read::{Tree, atom, is_nested, is_word, items};
 use text_words::number_in;
 
-/// An instruction's number, from 1 to 2,147,483,647.
-pub fn uid_in(text: &[u8]) -> Option<u32>
-    ensures { result ≡ spec.uid_in text.now }
+/// A number of 32 bits.
+fn number_of_text(text: &[u8]) -> Option<u32>
+    ensures { result ≡ uid_in text.now }
 {
     match number_in(text) {
-        Some(number) if 1 <= number && number < 2_147_483_648 => Some(number as u32),
+        Some(number) if 0 <= number && number < 4_294_967_296 => Some(number as u32),
         _ => None,
     }
 }
 
-/// The number of an argument register, `a0` to `a7`.
-pub fn argument_in(text: &[u8]) -> Option<u8>
-    ensures { result ≡ spec.argument_in text.now }
+/// The number of 32 bits that an atom writes.
+pub fn number_of(tree: &Tree) -> Option<u32>
+    ensures { result ≡ spec.number_of tree.now }
 {
-    match reg_number(text) {
-        Some(reg) if 10 <= reg && reg < 18 => Some(reg),
-        _ => None,
+    number_of_text(atom(tree)?.bytes())
+}
+
+/// Whether the tree is a list that begins with this word.
+pub fn is_headed(tree: &Tree, word: &[u8]) -> bool
+    ensures { result ≡ spec.is_headed word.now tree.now }
+{
+    match items(tree) {
+        [head, ..] => is_word(head, word),
+        [] => false,
     }
 }
 
-fn is_mode_suffix(rest: &[u8], mode: Mode) -> bool
-    ensures { result ≡ bytes_eq rest.now (spec.mode_suffix mode) }
+/// Whether the tree is the list of this word alone.
+pub fn is_alone(tree: &Tree, word: &[u8]) -> bool
+    ensures { result ≡ spec.is_alone word.now (shape.items_of tree.now) }
 {
-    match (mode, rest) {
-        (Mode::Void, _) => rest.is_empty(),
-        (_, [b':', name @ ..]) => name == mode.name().as_bytes(),
+    match items(tree) {
+        [head] => is_word(head, word),
         _ => false,
     }
 }
 
-/// Whether an atom is the head of an expression of this code and mode, as `plus:DI`.
-#[tactic(auto, using(crate::proofs::Heads::joined_eq, crate::proofs::Heads::too_short))]
-pub fn is_head(text: &[u8], code: Code, mode: Mode) -> bool
-    ensures { result ≡ bytes_eq text.now (spec.head_text code mode) }
+/// Whether all are lists and vectors.
+pub fn all_nested(trees: &[Tree]) -> bool
+    ensures { result ≡ list_all shape.is_nested trees.now }
 {
-    let name = code.name().as_bytes();
-    if text.len() < name.len() {
-        return false;
+    for tree in trees {
+        if !is_nested(tree) {
+            return false;
+        }
     }
-    let (front, rest) = text.split_at(name.len());
-    front == name && is_mode_suffix(rest, mode)
+    true
 }

@@ -1,0 +1,46 @@
+//! The patterns of instructions.
+ghost use Rattle.std.specs.Prelude.{◌≡◌, IfOk};
+ghost use Rattle.lisp_read.specs.declared.position.Position.TheVariants.{Pattern};
+ghost use Rattle.lisp_read.specs.Expression.{read_at};
+ghost use Rattle.lisp_read.specs.Parsed.{Gives};
+ghost use Rattle.rtl_read.specs.Word as spec;
+ghost use Rattle.rtl_read.specs.Head as head;
+
+use crate::head::named_code;
+use lisp_read::{RtlRefusal, Tree, outside, rtx_of_tree};
+use plain_data::Memory;
+use rtx_tree::{Code, Rtx};
+use std::alloc::Global;
+
+/// Whether the head of the tree names the code of a pattern.
+fn names_pattern(tree: &Tree) -> bool
+    ensures { result ≡ head.names_pattern tree.now }
+{
+    matches!(
+        named_code(tree),
+        Some(Code::Set | Code::Used | Code::Clobber | Code::Parallel | Code::Call | Code::Return)
+    )
+}
+
+/// What an instruction does.
+#[tactic(auto, using(crate::proofs::Patterns::pattern_out))]
+pub fn pattern(alloc: Global, tree: &Tree) -> Result<Rtx, RtlRefusal>
+    ensures { Gives result (read_at Pattern tree.now) }
+{
+    if names_pattern(tree) {
+        rtx_of_tree(alloc, tree)
+    } else {
+        Err(outside(alloc, tree))
+    }
+}
+
+/// The expression of a tree, if it is one.
+pub fn expression(alloc: Global, tree: &Tree) -> Result<Option<Rtx>, Memory>
+    ensures { IfOk result (λ x. x ≡ spec.expression_of tree.now) }
+{
+    match rtx_of_tree(alloc, tree) {
+        Ok(x) => Ok(Some(x)),
+        Err(RtlRefusal::Construct { .. }) => Ok(None),
+        Err(RtlRefusal::Memory) => Err(Memory),
+    }
+}

@@ -1,6 +1,6 @@
 -- Output templates: GCC Internals, "Output Templates and Operand Substitution" and "C Statements for Assembler Output". Their
 -- texts stand between quotes and have their backslashes still.
-use Rattle.std.specs.Prelude.{ℕ, ◌+◌, ◌==◌, nat_lt, nat_le, ℤ, pos, negsuc, Bool, false, ◌&&◌, ◌||◌, List, [], ◌∷◌, Option, Some, None, if◌then◌else◌, length, map, option_map, option_and_then}
+use Rattle.std.specs.Prelude.{ℕ, ◌+◌, ◌==◌, nat_lt, nat_le, ℤ, pos, negsuc, Bool, false, ◌&&◌, ◌||◌, List, [], ◌∷◌, Option, Some, None, if◌then◌else◌, length, option_map, option_and_then}
 use Rattle.std.specs.List.{find, list_all, list_any}
 use Rattle.text_words.specs.Words.{number_in}
 use Rattle.md_text.specs.declared.template.Print.{Print}
@@ -88,14 +88,21 @@ abbrev pub behind_at : List (List ℕ) → List (List ℕ)
 behind_at [] = []
 behind_at (first ∷ more) = if list_all is_space first then more else first ∷ more
 
--- the lines behind @, one for each alternative, without the blanks before them
+-- the lines behind @, one for each alternative
 abbrev pub lines : List ℕ → List (List ℕ)
-lines text = map behind_spaces (behind_at (parts 10 text))
+lines text = behind_at (parts 10 text)
 
 -- a star begins C code
 abbrev pub is_code : List ℕ → Bool
 is_code [] = false
 is_code (b ∷ rest) = b == 42
+
+-- blanks before a line are dropped
+abbrev pub is_code_line : List ℕ → Bool
+is_code_line text = is_code (behind_spaces text)
+
+abbrev pub spaced_line_of : List ℕ → Option (List Piece)
+spaced_line_of text = line_of (behind_spaces text)
 
 abbrev pub one : Option (List Piece) → Reading
 one None = reading.Outside
@@ -106,7 +113,7 @@ several None = reading.Outside
 several (Some lines) = reading.Template (template.Each lines)
 
 abbrev pub each_line : List (List ℕ) → Reading
-each_line texts = if list_any is_code texts then reading.Code else several (each line_of texts)
+each_line texts = if list_any is_code_line texts then reading.Code else several (each spaced_line_of texts)
 
 -- # alone: the form is always split
 abbrev pub is_split : List ℕ → Bool

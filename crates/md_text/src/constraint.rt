@@ -4,7 +4,7 @@ ghost use Rattle.std.specs.List.{list_all};
 ghost use Rattle.md_text.specs.Constraint as spec;
 ghost use Rattle.md_text.specs.Lists.{is_blank as blank};
 
-use crate::lists::{is_blank, parts_of};
+use crate::lists::{behind, is_blank, parts_of};
 use crate::sign::{sign_at, signed};
 use plain_data::{Items, Memory};
 use rtx_tree::Name;
@@ -85,11 +85,7 @@ fn all_blank(text: &[u8]) -> bool
 }
 
 /// The alternative that a text without commas is.
-fn alternative_of(
-    alloc: Global,
-    names: &[Name],
-    text: &[u8],
-) -> Result<Option<Alternative>, Memory>
+fn alternative_of(alloc: Global, names: &[Name], text: &[u8]) -> Result<Option<Alternative>, Memory>
     ensures { IfOk result (λ alternative. alternative ≡ spec.alternative_of names.now text.now) }
 {
     let mut alternative = Alternative {
@@ -105,7 +101,7 @@ fn alternative_of(
             taken -= 1;
             continue;
         }
-        let Some((sign, more)) = sign_at(alloc, names, &text[at..])? else {
+        let Some((sign, more)) = sign_at(alloc, names, behind(text, at))? else {
             return Ok(None);
         };
         alternative = signed(alternative, sign)?;
@@ -116,6 +112,7 @@ fn alternative_of(
 
 /// The constraint that a text is, where `names` are those of the constraints that the description defines;
 /// `None` where something in it is unknown.
+#[tactic(auto, using(crate::proofs::Each::with_nothing, crate::proofs::Each::each_next, crate::proofs::Each::each_stops, crate::proofs::Each::each_ends))]
 pub fn constraint_of(
     alloc: Global,
     text: &[u8],

@@ -1,14 +1,16 @@
 //! One text of a template.
 ghost use Rattle.std.specs.Prelude.{◌≡◌, IfOk, ◌<◌, length};
+ghost use Rattle.md_text.specs.Constraint as letters;
 ghost use Rattle.md_text.specs.Template as spec;
 
+use crate::lists::behind;
 use crate::template::{Line, Piece, Print};
 use plain_data::{Items, Memory};
 use std::alloc::Global;
 use text_words::number_in;
 
 fn is_digit(byte: u8) -> bool
-    ensures { result ≡ spec.is_digit byte }
+    ensures { result ≡ letters.is_digit byte }
 {
     b'0' <= byte && byte <= b'9'
 }
@@ -106,7 +108,7 @@ pub fn line_of(alloc: Global, text: &[u8]) -> Result<Option<Line>, Memory>
             taken -= 1;
             continue;
         }
-        let Some((piece, more)) = piece_at(&text[at..]) else {
+        let Some((piece, more)) = piece_at(behind(text, at)) else {
             return Ok(None);
         };
         pieces.push(piece)?;

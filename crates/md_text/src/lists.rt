@@ -1,5 +1,5 @@
 //! Lists with commas.
-ghost use Rattle.std.specs.Prelude.{◌≡◌, IfOk};
+ghost use Rattle.std.specs.Prelude.{◌≡◌, ◌≤◌, drop, length, IfOk};
 ghost use Rattle.md_text.specs.Lists as spec;
 
 use plain_data::{Items, Memory};
@@ -13,20 +13,28 @@ pub fn is_blank(byte: u8) -> bool
     matches!(byte, b' ' | b'\t' | b'\n' | 12 | b'\r')
 }
 
+/// What stands from a place on.
+pub fn behind(text: &[u8], at: usize) -> &[u8]
+    requires { at ≤ length text.now }
+    ensures { result.now ≡ drop at text.entry.now }
+{
+    &text[at..]
+}
+
 /// What stands between the marks of a text, in order: one part more than there are marks.
-#[tactic(auto, using(crate::proofs::Parts::parts_begin, crate::proofs::Parts::parts_next, crate::proofs::Parts::parts_end))]
+#[tactic(auto, using(crate::proofs::Parts::parts_begin, crate::proofs::Parts::parts_cut, crate::proofs::Parts::parts_grow, crate::proofs::Parts::parts_end))]
 pub fn parts_of(alloc: Global, text: &[u8], mark: u8) -> Result<Items<Name>, Memory>
     ensures { IfOk result (λ parts. parts ≡ spec.parts mark text.now) }
 {
     let mut parts = Items::new(alloc);
     let mut part = Vec::new(alloc);
     for byte in text {
-        if *byte == mark {
-            parts.push(Name::from_vec(part))?;
-            part = Vec::new(alloc);
-        } else {
+        if *byte != mark {
             part.push(*byte)?;
+            continue;
         }
+        parts.push(Name::from_vec(part))?;
+        part = Vec::new(alloc);
     }
     parts.push(Name::from_vec(part))?;
     Ok(parts)
@@ -43,6 +51,7 @@ fn behind_blanks(text: &[u8]) -> &[u8]
     &[]
 }
 
+#[tactic(auto, using(crate::proofs::Blanks::last_blank, crate::proofs::Blanks::last_other))]
 fn before_blanks(text: &[u8]) -> &[u8]
     ensures { result.now ≡ spec.before_blanks text.entry.now }
 {

@@ -112,11 +112,7 @@ fn by_name(
 }
 
 /// What stands at the front of an alternative, and how many bytes it has behind its first.
-pub fn sign_at(
-    alloc: Global,
-    names: &[Name],
-    text: &[u8],
-) -> Result<Option<(Sign, usize)>, Memory>
+pub fn sign_at(alloc: Global, names: &[Name], text: &[u8]) -> Result<Option<(Sign, usize)>, Memory>
     ensures { IfOk result (λ sign. sign ≡ spec.sign_at names.now text.now) }
 {
     match text {

@@ -1,5 +1,5 @@
 //! Output templates.
-ghost use Rattle.std.specs.Prelude.{◌≡◌, IfOk, map};
+ghost use Rattle.std.specs.Prelude.{◌≡◌, IfOk};
 ghost use Rattle.std.specs.List.{list_all, list_any};
 ghost use Rattle.md_text.specs.Template as spec;
 
@@ -109,32 +109,74 @@ fn is_code(text: &[u8]) -> bool
     matches!(text, [b'*', ..])
 }
 
+fn is_code_line(text: &[u8]) -> bool
+    ensures { result ≡ spec.is_code_line text.now }
+{
+    is_code(behind_spaces(text))
+}
+
 fn any_code(texts: &[Name]) -> bool
-    ensures { result ≡ list_any (λ t. spec.is_code (spec.behind_spaces t)) texts.now }
+    ensures { result ≡ list_any spec.is_code_line texts.now }
 {
     for text in texts {
-        if is_code(behind_spaces(text.bytes())) {
+        if is_code_line(text.bytes()) {
             return true;
         }
     }
     false
 }
 
+fn spaced_line_of(alloc: Global, text: &[u8]) -> Result<Option<Line>, Memory>
+    ensures { IfOk result (λ line. line ≡ spec.spaced_line_of text.now) }
+{
+    line_of(alloc, behind_spaces(text))
+}
+
 /// The template with a text for each alternative.
+#[tactic(auto, using(crate::proofs::Each::with_nothing, crate::proofs::Each::each_next, crate::proofs::Each::each_stops, crate::proofs::Each::each_ends))]
 fn each_line(alloc: Global, texts: &[Name]) -> Result<Reading, Memory>
-    ensures { IfOk result (λ reading. reading ≡ spec.each_line (map spec.behind_spaces texts.now)) }
+    ensures { IfOk result (λ reading. reading ≡ spec.each_line texts.now) }
 {
     if any_code(texts) {
         return Ok(Reading::Code);
     }
     let mut lines = Items::new(alloc);
     for text in texts {
-        match line_of(alloc, behind_spaces(text.bytes()))? {
+        match spaced_line_of(alloc, text.bytes())? {
             Some(line) => lines.push(line)?,
             None => return Ok(Reading::Outside),
         }
     }
     Ok(Reading::Template(Template::Each(lines)))
+}
+
+fn is_split(text: &[u8]) -> bool
+    ensures { result ≡ spec.is_split text.now }
+{
+    matches!(text, [b'#'])
+}
+
+fn is_several(text: &[u8]) -> bool
+    ensures { result ≡ spec.is_several text.now }
+{
+    matches!(text, [b'@', ..])
+}
+
+fn behind_first(text: &[u8]) -> &[u8]
+    ensures { result.now ≡ spec.behind_first text.entry.now }
+{
+    match text {
+        [] => &[],
+        [_, rest @ ..] => rest,
+    }
+}
+
+/// The template of these lines behind `@`.
+fn several(alloc: Global, text: &[u8]) -> Result<Reading, Memory>
+    ensures { IfOk result (λ reading. reading ≡ spec.each_line (spec.lines text.now)) }
+{
+    let parts = parts_of(alloc, text, b'\n')?;
+    each_line(alloc, behind_at(parts.as_slice()))
 }
 
 fn one(alloc: Global, text: &[u8]) -> Result<Reading, Memory>
@@ -150,13 +192,13 @@ fn one(alloc: Global, text: &[u8]) -> Result<Reading, Memory>
 pub fn template_of(alloc: Global, text: &[u8]) -> Result<Reading, Memory>
     ensures { IfOk result (λ reading. reading ≡ spec.template_of text.now) }
 {
-    match text {
-        [b'*', ..] => Ok(Reading::Code),
-        [b'#'] => Ok(Reading::Template(Template::Split)),
-        [b'@', rest @ ..] => {
-            let parts = parts_of(alloc, rest, b'\n')?;
-            each_line(alloc, behind_at(parts.as_slice()))
-        }
-        _ => one(alloc, text),
+    if is_code(text) {
+        Ok(Reading::Code)
+    } else if is_split(text) {
+        Ok(Reading::Template(Template::Split))
+    } else if is_several(text) {
+        several(alloc, behind_first(text))
+    } else {
+        one(alloc, text)
     }
 }

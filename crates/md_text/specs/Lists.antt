@@ -1,6 +1,6 @@
 -- The members of a text with commas between them, as a define_attr, a set_attr or a match_code has them: GCC Internals,
 -- "Defining Attributes and their Values" and "Defining Machine-Specific Predicates".
-use Rattle.std.specs.Prelude.{ℕ, ◌==◌, Bool, ◌||◌, List, [], ◌∷◌, ◌++◌, Option, Some, None, if◌then◌else◌, map, option_map, option_and_then}
+use Rattle.std.specs.Prelude.{ℕ, ◌==◌, Bool, ◌||◌, List, [], ◌∷◌, ◌++◌, Option, Some, if◌then◌else◌, map, option_map, option_and_then}
 
 -- a space, a tab, a newline, a form feed or a carriage return
 abbrev pub is_blank : ℕ → Bool

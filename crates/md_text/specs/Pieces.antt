@@ -1,5 +1,5 @@
 -- A text cut into pieces of several bytes each.
-use Rattle.std.specs.Prelude.{ℕ, zero, suc, List, [], ◌∷◌, Option, Some, None, option_map, option_and_then}
+use Rattle.std.specs.Prelude.{ℕ, zero, suc, List, [], ◌∷◌, Option, Some, option_map, option_and_then}
 
 -- The pieces of a text whose first k bytes belong to a piece before it. cut gives the piece at the front of some bytes, and how
 -- many bytes it has behind its first; a text has no pieces where cut gives none at a place where one should begin.

@@ -1,13 +1,12 @@
 -- Output templates: GCC Internals, "Output Templates and Operand Substitution" and "C Statements for Assembler Output". Their
 -- texts stand between quotes and have their backslashes still.
-use Rattle.std.specs.Prelude.{ℕ, ◌+◌, ◌==◌, nat_lt, nat_le, ℤ, pos, negsuc, Bool, false, ◌&&◌, ◌||◌, List, [], ◌∷◌, Option, Some, None, if◌then◌else◌, length, option_map, option_and_then}
+use Rattle.std.specs.Prelude.{ℕ, ◌+◌, ◌==◌, nat_lt, ℤ, pos, negsuc, Bool, false, ◌||◌, List, [], ◌∷◌, Option, Some, None, if◌then◌else◌, length, option_map, option_and_then}
 use Rattle.std.specs.List.{find, list_all, list_any}
 use Rattle.text_words.specs.Words.{number_in}
 use Rattle.md_text.specs.declared.template.Print.{Print}
 use Rattle.md_text.specs.declared.template.Print.TheVariants as print
 use Rattle.md_text.specs.declared.template.Piece.{Piece}
 use Rattle.md_text.specs.declared.template.Piece.TheVariants as piece
-use Rattle.md_text.specs.declared.template.Template.{Template}
 use Rattle.md_text.specs.declared.template.Template.TheVariants as template
 use Rattle.md_text.specs.declared.template.Reading.{Reading}
 use Rattle.md_text.specs.declared.template.Reading.TheVariants as reading

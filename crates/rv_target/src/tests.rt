@@ -9,7 +9,8 @@ const NAMES: [&str; 32] = [
 
 #[test]
 fn registers_and_their_names(rt: HostRuntime) {
-    for (reg, name) in (0..32_u8).zip(NAMES) {
+    for reg in 0..32 {
+        let name = NAMES[reg as usize];
         assert_eq!(rt; name_of(reg), name);
         assert_eq!(rt; reg_named(name.as_bytes()), Some(reg));
     }

@@ -1,4 +1,4 @@
-use Rattle.std.proofs.Common.{◌≡◌, ◌++◌, drop}
+use Rattle.std.proofs.Common.{◌≡◌, drop}
 use Rattle.md_text.specs.Pieces.{pieces}
 use Rattle.md_text.specs.Template.{piece_at, line_of}
 use Rattle.md_text.proofs.Each.{with_front}

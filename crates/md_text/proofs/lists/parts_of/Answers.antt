@@ -1,4 +1,3 @@
-use Rattle.std.proofs.Common.{arith}
 use Rattle.md_text.proofs.Parts.{parts_cut}
 use Rattle.md_text.proofs.lists.parts_of.Goals as goal
 

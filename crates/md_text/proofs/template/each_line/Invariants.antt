@@ -1,4 +1,4 @@
-use Rattle.std.proofs.Common.{◌≡◌, ◌++◌, drop}
+use Rattle.std.proofs.Common.{◌≡◌, drop}
 use Rattle.md_text.specs.Lists.{each}
 use Rattle.md_text.specs.Template.{spaced_line_of}
 use Rattle.md_text.proofs.Each.{with_front}

@@ -79,6 +79,21 @@ fn judged_added(
     }
 }
 
+/// One expression alone.
+#[tactic(auto, using(crate::proofs::Each::each_alone))]
+fn only(alloc: Global, pattern: Judged<Pattern>) -> Result<Judged<Patterns>, Memory>
+    ensures { IfOk result (λ patterns. patterns ≡ judged_with spec.in_front pattern (Ok spec.no_patterns)) }
+{
+    match pattern {
+        Ok(Pattern { tree, texts }) => {
+            let mut trees = Items::new(alloc);
+            trees.push(tree)?;
+            Ok(Ok(Patterns { trees, texts }))
+        }
+        Err(reason) => Ok(Err(reason)),
+    }
+}
+
 /// A tree that has no operands in it.
 fn bare(alloc: Global, tree: Rtx) -> Pattern
     ensures { result ≡ spec.bare tree }
@@ -251,6 +266,7 @@ fn plain_operand(
 
 /// Each of some trees as an expression.
 #[cycle(read)]
+#[tactic(auto, using(crate::proofs::Each::joined_first, crate::proofs::Each::each_next, crate::proofs::Each::each_ends))]
 fn each(
     alloc: Global,
     constants: &[Constant],
@@ -268,6 +284,7 @@ fn each(
 
 /// A vector of expressions.
 #[cycle(read)]
+#[tactic(auto, using(crate::proofs::Meanings::vector_out))]
 fn elements(
     alloc: Global,
     constants: &[Constant],
@@ -355,16 +372,7 @@ fn operator_dup(
     }
 }
 
-/// A register and the offset 0.
-fn is_lowpart(parts: &[Tree]) -> bool
-    ensures { result ≡ spec.is_lowpart parts.now }
-{
-    match parts {
-        [_, offset] => is_word(offset, b"0"),
-        _ => false,
-    }
-}
-
+/// One expression and the offset 0.
 #[cycle(read)]
 fn lowpart(
     alloc: Global,
@@ -376,7 +384,10 @@ fn lowpart(
     ensures { IfOk result (λ pattern. pattern ≡ spec.node_by (spec.is_lowpart parts.now) code mode (take 1 (map (spec.meaning_of constants.now) parts.now))) }
 {
     match parts {
-        [_, offset] if is_word(offset, b"0") => node(alloc, constants, code, mode, &parts[..1]),
+        [inner, offset] if is_word(offset, b"0") => {
+            let kids = only(alloc, expression(alloc, constants, inner)?)?;
+            Ok(node_of(alloc, code, mode, kids))
+        }
         _ => Ok(Err(Reason::Parts)),
     }
 }
@@ -443,6 +454,7 @@ fn list(
 }
 
 #[cycle(read)]
+#[tactic(auto, using(crate::proofs::Meanings::pattern_out))]
 fn expression(
     alloc: Global,
     constants: &[Constant],

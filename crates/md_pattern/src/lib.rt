@@ -12,8 +12,8 @@ mod pattern;
 mod reason;
 mod word;
 
-pub use operand::{OperandText, OperandTexts};
-pub use pattern::{Pattern, pattern_of};
+pub use operand::{OperandText, OperandTexts, number_in};
+pub use pattern::{Pattern, Patterns, pattern_of, patterns_of};
 pub use reason::{Judged, Reason, both};
 
 #[cfg(test)]

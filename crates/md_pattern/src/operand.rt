@@ -31,7 +31,8 @@ pub struct Operand {
     pub texts: OperandTexts,
 }
 
-fn number_in(tree: &Tree) -> Option<u32>
+/// The number of an operand, which has 32 bits.
+pub fn number_in(tree: &Tree) -> Option<u32>
     ensures { result ≡ spec.number_in tree.now }
 {
     operand_number(atom(tree)?.bytes())

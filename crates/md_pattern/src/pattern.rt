@@ -492,3 +492,15 @@ pub fn pattern_of(
 {
     expression(alloc, constants.as_slice(), tree)
 }
+
+/// The patterns that a vector of a description writes, or the smallest reason that applies anywhere in them. `Parts` where the
+/// tree is no vector.
+pub fn patterns_of(
+    alloc: Global,
+    tree: &Tree,
+    constants: &Constants,
+) -> Result<Judged<Patterns>, Memory>
+    ensures { IfOk result (λ patterns. patterns ≡ spec.patterns_of constants.now tree.now) }
+{
+    elements(alloc, constants.as_slice(), tree)
+}

@@ -36,16 +36,21 @@ joined_last (Err r) = refl
 concat_assoc : (ps : Patterns) (p : Pattern) (qs : Patterns) → concat ps (in_front p qs) ≡ concat (added ps p) qs
 concat_assoc ps p qs = rw (append_assoc ps.trees (p.tree ∷ []) qs.trees) (rw (append_assoc ps.texts p.texts qs.texts) refl)
 
+-- what is read one by one from the front is what is read one by one from the back
+pub judged_assoc : {F P R : Type 0} (more : F → P → F) (before : P → R → R) (join : F → R → R) → ((x : F) (p : P) (r : R) → join x (before p r) ≡ join (more x p) r) →
+    (front : Result F Reason) (p : Result P Reason) (rest : Result R Reason) → judged_with join front (judged_with before p rest) ≡ judged_with join (judged_with more front p) rest
+judged_assoc {R = R} more before join e (Ok x) (Ok p) (Ok r) = ap (λ (all : R). Ok all) (e x p r)
+judged_assoc more before join e (Ok x) (Ok p) (Err r) = refl
+judged_assoc more before join e (Ok x) (Err r) (Ok q) = refl
+judged_assoc more before join e (Ok x) (Err r) (Err s) = refl
+judged_assoc more before join e (Err r) (Ok p) (Ok q) = refl
+judged_assoc more before join e (Err r) (Ok p) (Err s) = refl
+judged_assoc more before join e (Err r) (Err s) (Ok q) = refl
+judged_assoc {R = R} more before join e (Err r) (Err s) (Err t) = ap (λ (u : Reason). Err u) (smaller_assoc r s t)
+
 shift : (front : Result Patterns Reason) (p : Result Pattern Reason) (rest : Result Patterns Reason) →
     joined front (judged_with in_front p rest) ≡ joined (judged_with added front p) rest
-shift (Ok ps) (Ok p) (Ok qs) = ap (λ (all : Patterns). Ok all) (concat_assoc ps p qs)
-shift (Ok ps) (Ok p) (Err r) = refl
-shift (Ok ps) (Err r) (Ok qs) = refl
-shift (Ok ps) (Err r) (Err s) = refl
-shift (Err r) (Ok p) (Ok qs) = refl
-shift (Err r) (Ok p) (Err s) = refl
-shift (Err r) (Err s) (Ok qs) = refl
-shift (Err r) (Err s) (Err t) = ap (λ (u : Reason). Err u) (smaller_assoc r s t)
+shift front p rest = judged_assoc added in_front concat concat_assoc front p rest
 
 -- one pattern more was read
 pub each_next : (constants : List Constant) (trees : List Tree) (i : ℕ) (t : Tree) (front : Result Patterns Reason) (p : Result Pattern Reason) (all whole : Result Patterns Reason) →

@@ -1,7 +1,11 @@
 //! Tests of predicates and constraints, as trees.
+ghost use Rattle.std.specs.Prelude.{◌≡◌, ◌++◌, OnOk};
+ghost use Rattle.md_test.specs.Test.{predicate_of, predicates_of};
+
 use c_cond::Cond;
-use plain_data::Items;
+use plain_data::{Items, Memory};
 use rtx_tree::{Code, Mode, Name};
+use std::alloc::Global;
 
 /// Codes of expressions.
 pub type Codes = Items<Code>;
@@ -36,3 +40,30 @@ pub struct Test {
 
 /// Some tests, in order.
 pub type Tests = Items<Test>;
+
+fn push_predicate(
+    alloc: Global,
+    question: &Question,
+    names: &mut Items<Name>,
+) -> Result<(), Memory>
+    ensures { OnOk result (names.new ≡ names.old ++ predicate_of question.now) }
+{
+    match question {
+        Question::Predicate { name, .. } => names.push(name.copy(alloc)?),
+        _ => Ok(()),
+    }
+}
+
+impl Test {
+    /// Appends the names of the predicates that a test names, in the order of the text.
+    #[tactic(auto, using(crate::proofs::Tests::pushed_first, crate::proofs::Each::pushed_next, crate::proofs::Each::pushed_ends))]
+    pub fn push_predicates(&self, alloc: Global, names: &mut Items<Name>) -> Result<(), Memory>
+        ensures { OnOk result (names.new ≡ names.old ++ predicates_of self.now) }
+    {
+        push_predicate(alloc, &self.question, names)?;
+        for part in self.parts.as_slice() {
+            part.push_predicates(alloc, names)?;
+        }
+        Ok(())
+    }
+}

@@ -32,7 +32,7 @@ pub(crate) fn test_condition(
     text: &[u8],
     constants: &Constants,
 ) -> Result<Judged<Cond>, Memory>
-    ensures value { IfOk result (λ cond. cond ≡ spec.test_condition_of constants.now text.now) }
+    ensures { IfOk result (λ cond. cond ≡ spec.test_condition_of constants.now text.now) }
 {
     match parse_test(alloc, text, constants) {
         Ok(cond) => Ok(Ok(cond)),

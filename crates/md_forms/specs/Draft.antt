@@ -194,29 +194,53 @@ default_by _ = None
 
 -- ---- a draft, part by part
 
+abbrev pub put_patterns : Draft → Patterns → Draft
+put_patterns d part = record d { patterns = part }
+
 abbrev pub with_patterns : Judged Draft → Judged Patterns → Judged Draft
-with_patterns d part = judged_with (λ x y. record x { patterns = y }) d part
+with_patterns d part = judged_with put_patterns d part
+
+abbrev pub put_condition : Draft → cond.Tree → Draft
+put_condition d part = record d { condition = part }
 
 abbrev pub with_condition : Judged Draft → Judged cond.Tree → Judged Draft
-with_condition d part = judged_with (λ x y. record x { condition = y }) d part
+with_condition d part = judged_with put_condition d part
+
+abbrev pub put_split_condition : Draft → cond.Tree → Draft
+put_split_condition d part = record d { split_condition = part }
 
 abbrev pub with_split_condition : Judged Draft → Judged cond.Tree → Judged Draft
-with_split_condition d part = judged_with (λ x y. record x { split_condition = y }) d part
+with_split_condition d part = judged_with put_split_condition d part
+
+abbrev pub put_statements : Draft → cond.Tree → Draft
+put_statements d part = record d { statements = part }
 
 abbrev pub with_statements : Judged Draft → Judged cond.Tree → Judged Draft
-with_statements d part = judged_with (λ x y. record x { statements = y }) d part
+with_statements d part = judged_with put_statements d part
+
+abbrev pub put_sequence : Draft → Patterns → Draft
+put_sequence d part = record d { sequence = part }
 
 abbrev pub with_sequence : Judged Draft → Judged Patterns → Judged Draft
-with_sequence d part = judged_with (λ x y. record x { sequence = y }) d part
+with_sequence d part = judged_with put_sequence d part
+
+abbrev pub put_template : Draft → Option Template → Draft
+put_template d part = record d { template = part }
 
 abbrev pub with_template : Judged Draft → Judged (Option Template) → Judged Draft
-with_template d part = judged_with (λ x y. record x { template = y }) d part
+with_template d part = judged_with put_template d part
+
+abbrev pub put_attributes : Draft → List Attribute → Draft
+put_attributes d part = record d { attributes = part }
 
 abbrev pub with_attributes : Judged Draft → Judged (List Attribute) → Judged Draft
-with_attributes d part = judged_with (λ x y. record x { attributes = y }) d part
+with_attributes d part = judged_with put_attributes d part
+
+abbrev pub put_test : Draft → test.Test → Draft
+put_test d part = record d { test = Some part }
 
 abbrev pub with_test : Judged Draft → Judged test.Test → Judged Draft
-with_test d part = judged_with (λ x y. record x { test = Some y }) d part
+with_test d part = judged_with put_test d part
 
 -- the name is a string
 abbrev pub if_string : {A : Type 0} → Tree → Judged A → Judged A

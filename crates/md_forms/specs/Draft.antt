@@ -2,7 +2,7 @@
 -- (define_expand), "Defining How to Split Instructions", "RTL to RTL Peephole Optimizers", "Predicates", "Defining
 -- Machine-Specific Constraints" and "Defining Attributes and their Values". A draft is what a form's own text tells; the
 -- smallest reason that its text gives is one of those up to preparation statements outside.
-use Rattle.std.specs.Prelude.{ℕ, pos, nat_lt, ◌==◌, Bool, true, false, not, ◌&&◌, List, [], ◌∷◌, ◌++◌, Option, Some, None, Result, Ok, Err, if◌then◌else◌, length, codes, option_map, option_and_then}
+use Rattle.std.specs.Prelude.{ℕ, nat_lt, ◌==◌, Bool, true, false, not, ◌&&◌, List, [], ◌∷◌, ◌++◌, Option, Some, None, Result, Ok, Err, if◌then◌else◌, length, codes, option_map, option_and_then}
 use Rattle.std.specs.List.{list_all, list_any, filter}
 use Rattle.std.specs.Str.{bytes_eq}
 use Rattle.rtx_tree.specs.declared.code.Code.{Code}
@@ -14,9 +14,9 @@ use Rattle.rtx_tree.specs.Tree.{node_of}
 use Rattle.lisp_read.specs.declared.tree.Tree.{Tree, out-Tree}
 use Rattle.lisp_read.specs.declared.tree.Tree.TheOpen.{Tree-F}
 use Rattle.lisp_read.specs.Shape.{atom_of, string_of, items_of, vector_of, is_vector, is_word}
-use Rattle.c_cond.specs.declared.head.Head.TheVariants as c
+
 use Rattle.c_cond.specs.declared.tree.Tree as cond
-use Rattle.c_cond.specs.Tree.{leaf}
+
 use Rattle.md_text.specs.declared.template.Template.{Template}
 use Rattle.md_text.specs.declared.template.Template.TheVariants as template
 use Rattle.md_text.specs.declared.template.Reading.{Reading}
@@ -30,7 +30,7 @@ use Rattle.md_pattern.specs.declared.pattern.Patterns.{Patterns}
 use Rattle.md_pattern.specs.Reason.{both, judged_with, judged_map}
 use Rattle.md_pattern.specs.Pattern.{or_aside, no_patterns, patterns_of}
 use Rattle.md_test.specs.declared.question.Test as test
-use Rattle.md_test.specs.Texts.{condition_of, statements_of}
+use Rattle.md_test.specs.Texts.{condition_of, statements_of, always, nothing}
 use Rattle.md_test.specs.Test.{test_of}
 use Rattle.md_forms.specs.declared.head.Head.{Head}
 use Rattle.md_forms.specs.declared.head.Head.TheVariants as head
@@ -46,8 +46,8 @@ Judged A = Result A Reason
 -- a draft that has nothing
 abbrev pub blank : Head → Draft
 blank h = record {
-  head = h; patterns = no_patterns; condition = leaf (c.Number (pos 1)); split_condition = leaf (c.Number (pos 1));
-  statements = leaf c.Nothing; sequence = no_patterns; attributes = []; template = Some (template.One []);
+  head = h; patterns = no_patterns; condition = always; split_condition = always;
+  statements = nothing; sequence = no_patterns; attributes = []; template = Some (template.One []);
   test = None; class = None; values = []; default = [];
 }
 
@@ -135,7 +135,7 @@ statements_in_text constants (Some text) = statements_of constants text
 
 -- they may lack
 abbrev pub statements_by : List Constant → Option Tree → Judged cond.Tree
-statements_by constants None = Ok (leaf c.Nothing)
+statements_by constants None = Ok nothing
 statements_by constants (Some t) = statements_in_text constants (written t)
 
 -- ---- templates
@@ -308,27 +308,65 @@ attr_with values default = record (blank head.Attr) { values = members values; d
 abbrev pub attr : Tree → Tree → Tree → Judged Draft
 attr n v d = if_string n (judged_with attr_with (or_aside reason.Parts (string_of v)) (or_aside reason.Parts (default_by (items_of d))))
 
--- what stands behind a head
+-- ---- the trees of a form, the head among them
+
+abbrev pub insn_in : List Constant → List Tree → Judged Draft
+insn_in constants (h ∷ n ∷ p ∷ q ∷ t ∷ []) = insn constants n p q t None
+insn_in constants (h ∷ n ∷ p ∷ q ∷ t ∷ a ∷ []) = insn constants n p q t (Some a)
+insn_in constants _ = Err reason.Parts
+
+abbrev pub expand_in : List Constant → List Tree → Judged Draft
+expand_in constants (h ∷ n ∷ p ∷ q ∷ []) = expand constants n p q None None
+expand_in constants (h ∷ n ∷ p ∷ q ∷ s ∷ []) = expand constants n p q (Some s) None
+expand_in constants (h ∷ n ∷ p ∷ q ∷ s ∷ a ∷ []) = expand constants n p q (Some s) (Some a)
+expand_in constants _ = Err reason.Parts
+
+abbrev pub split_in : List Constant → List Tree → Judged Draft
+split_in constants (h ∷ p ∷ q ∷ new ∷ []) = split constants p q new None
+split_in constants (h ∷ p ∷ q ∷ new ∷ s ∷ []) = split constants p q new (Some s)
+split_in constants _ = Err reason.Parts
+
+abbrev pub insn_and_split_in : List Constant → List Tree → Judged Draft
+insn_and_split_in constants (h ∷ n ∷ p ∷ q ∷ t ∷ c ∷ new ∷ []) = insn_and_split constants n p q t c new None None
+insn_and_split_in constants (h ∷ n ∷ p ∷ q ∷ t ∷ c ∷ new ∷ s ∷ []) = insn_and_split constants n p q t c new (Some s) None
+insn_and_split_in constants (h ∷ n ∷ p ∷ q ∷ t ∷ c ∷ new ∷ s ∷ a ∷ []) = insn_and_split constants n p q t c new (Some s) (Some a)
+insn_and_split_in constants _ = Err reason.Parts
+
+abbrev pub peephole_in : List Constant → List Tree → Judged Draft
+peephole_in constants (h ∷ p ∷ q ∷ new ∷ []) = peephole constants p q new None
+peephole_in constants (h ∷ p ∷ q ∷ new ∷ s ∷ []) = peephole constants p q new (Some s)
+peephole_in constants _ = Err reason.Parts
+
+abbrev pub predicate_in : List Constant → Head → List Tree → Judged Draft
+predicate_in constants defines (h ∷ n ∷ t ∷ []) = predicate constants defines n t
+predicate_in constants defines _ = Err reason.Parts
+
+abbrev pub constraint_in : List Constant → Head → List Tree → Judged Draft
+constraint_in constants defines (h ∷ n ∷ doc ∷ t ∷ []) = constraint constants defines n doc t
+constraint_in constants defines _ = Err reason.Parts
+
+abbrev pub registers_in : List Tree → Judged Draft
+registers_in (h ∷ n ∷ k ∷ doc ∷ []) = registers n k doc
+registers_in _ = Err reason.Parts
+
+abbrev pub attr_in : List Tree → Judged Draft
+attr_in (h ∷ n ∷ v ∷ d ∷ []) = attr n v d
+attr_in _ = Err reason.Parts
+
+-- the draft of a form with a head
 abbrev pub draft_of : List Constant → Head → List Tree → Judged Draft
-draft_of constants head.Insn (n ∷ p ∷ q ∷ t ∷ []) = insn constants n p q t None
-draft_of constants head.Insn (n ∷ p ∷ q ∷ t ∷ a ∷ []) = insn constants n p q t (Some a)
-draft_of constants head.Expand (n ∷ p ∷ q ∷ []) = expand constants n p q None None
-draft_of constants head.Expand (n ∷ p ∷ q ∷ s ∷ []) = expand constants n p q (Some s) None
-draft_of constants head.Expand (n ∷ p ∷ q ∷ s ∷ a ∷ []) = expand constants n p q (Some s) (Some a)
-draft_of constants head.Split (p ∷ q ∷ new ∷ []) = split constants p q new None
-draft_of constants head.Split (p ∷ q ∷ new ∷ s ∷ []) = split constants p q new (Some s)
-draft_of constants head.InsnAndSplit (n ∷ p ∷ q ∷ t ∷ c ∷ new ∷ []) = insn_and_split constants n p q t c new None None
-draft_of constants head.InsnAndSplit (n ∷ p ∷ q ∷ t ∷ c ∷ new ∷ s ∷ []) = insn_and_split constants n p q t c new (Some s) None
-draft_of constants head.InsnAndSplit (n ∷ p ∷ q ∷ t ∷ c ∷ new ∷ s ∷ a ∷ []) = insn_and_split constants n p q t c new (Some s) (Some a)
-draft_of constants head.Peephole2 (p ∷ q ∷ new ∷ []) = peephole constants p q new None
-draft_of constants head.Peephole2 (p ∷ q ∷ new ∷ s ∷ []) = peephole constants p q new (Some s)
-draft_of constants head.Predicate (n ∷ t ∷ []) = predicate constants head.Predicate n t
-draft_of constants head.SpecialPredicate (n ∷ t ∷ []) = predicate constants head.SpecialPredicate n t
-draft_of constants head.Constraint (n ∷ doc ∷ t ∷ []) = constraint constants head.Constraint n doc t
-draft_of constants head.RegisterConstraint (n ∷ k ∷ doc ∷ []) = registers n k doc
-draft_of constants head.MemoryConstraint (n ∷ doc ∷ t ∷ []) = constraint constants head.MemoryConstraint n doc t
-draft_of constants head.Attr (n ∷ v ∷ d ∷ []) = attr n v d
-draft_of constants _ _ = Err reason.Parts
+draft_of constants head.Insn ts = insn_in constants ts
+draft_of constants head.Expand ts = expand_in constants ts
+draft_of constants head.Split ts = split_in constants ts
+draft_of constants head.InsnAndSplit ts = insn_and_split_in constants ts
+draft_of constants head.Peephole2 ts = peephole_in constants ts
+draft_of constants head.Predicate ts = predicate_in constants head.Predicate ts
+draft_of constants head.SpecialPredicate ts = predicate_in constants head.SpecialPredicate ts
+draft_of constants head.Constraint ts = constraint_in constants head.Constraint ts
+draft_of constants head.RegisterConstraint ts = registers_in ts
+draft_of constants head.MemoryConstraint ts = constraint_in constants head.MemoryConstraint ts
+draft_of constants head.Attr ts = attr_in ts
+draft_of constants _ ts = Err reason.Parts
 
 -- ---- entries
 
@@ -342,17 +380,18 @@ some_text _ = None
 
 -- a form's name is its second part where that is a string of one byte or more
 abbrev pub name_in : List Tree → Option (List ℕ)
-name_in [] = None
-name_in (n ∷ ts) = some_text (string_of n)
+name_in (h ∷ n ∷ ts) = some_text (string_of n)
+name_in _ = None
+
+-- the atom at the head
+abbrev pub head_in : List Tree → Option (List ℕ)
+head_in (h ∷ ts) = atom_of h
+head_in [] = None
 
 abbrev pub entry_by : List Constant → Option (List ℕ) → List Tree → DraftEntry
 entry_by constants None ts = record { head = codes "-"; name = None; draft = Err reason.Head }
 entry_by constants (Some text) ts = record { head = text; name = name_in ts; draft = draft_by constants (head_named text) ts }
 
 -- the draft of a tree; one that is no list with an atom at its head has none
-abbrev pub entry_of_items : List Constant → List Tree → DraftEntry
-entry_of_items constants [] = record { head = codes "-"; name = None; draft = Err reason.Head }
-entry_of_items constants (h ∷ ts) = entry_by constants (atom_of h) ts
-
 abbrev pub entry_of : List Constant → Tree → DraftEntry
-entry_of constants t = entry_of_items constants (items_of t)
+entry_of constants t = entry_by constants (head_in (items_of t)) (items_of t)

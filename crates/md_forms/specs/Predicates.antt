@@ -1,6 +1,6 @@
 -- Which predicates of a description hold: GCC Internals, "Machine-Independent Predicates" and "Defining Machine-Specific
 -- Predicates". A predicate that reaches itself is accepted within no number of rounds.
-use Rattle.std.specs.Prelude.{ℕ, zero, suc, Bool, true, false, ◌&&◌, ◌||◌, List, [], ◌∷◌, map, codes, if◌then◌else◌}
+use Rattle.std.specs.Prelude.{ℕ, zero, suc, Bool, true, false, ◌&&◌, ◌||◌, List, [], ◌∷◌, map, codes, option_and_then, position, slice_get, unwrap_or}
 use Rattle.std.specs.List.{list_all, list_any}
 use Rattle.std.specs.Str.{bytes_eq}
 use Rattle.md_forms.specs.declared.draft.PredicateDraft.{PredicateDraft}
@@ -13,12 +13,11 @@ own_predicates =
     codes "comparison_operator" ∷ codes "ordered_comparison_operator" ∷ codes "frame_operand" ∷ []
 
 abbrev pub is_own : List ℕ → Bool
-is_own name = list_any (λ own. bytes_eq own name) own_predicates
+is_own name = list_any (bytes_eq name) own_predicates
 
 -- the first definition of a name is one of the accepted
 abbrev pub is_accepted : List PredicateDraft → List Bool → List ℕ → Bool
-is_accepted (d ∷ ds) (accepted ∷ more) name = if bytes_eq d.name name then accepted else is_accepted ds more name
-is_accepted _ _ name = false
+is_accepted ds accepted name = unwrap_or (option_and_then (slice_get accepted) (position (λ d. bytes_eq d.name name) ds)) false
 
 -- a predicate that has no definition, or an accepted one
 abbrev pub is_known : List PredicateDraft → List Bool → List ℕ → Bool

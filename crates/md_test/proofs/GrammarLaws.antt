@@ -1,17 +1,18 @@
 -- The tree of a text as a value is the one that the grammar gives it.
-use Rattle.std.proofs.Common.{◌≡◌, List, [], ◌∷◌, ℕ, Option, Some, None, option_map, refl, ap}
+use Rattle.std.proofs.Common.{◌≡◌, List, [], ◌∷◌, ℕ, Option, Some, None, option_map, refl, sym, ap, ◌∙◌}
 use Rattle.rtx_tree.specs.declared.constants.Constant.{Constant}
 use Rattle.c_cond.specs.declared.atom.Dialect.{Dialect}
+use Rattle.c_cond.specs.declared.atom.Dialect.TheVariants as dialect
 use Rattle.c_cond.specs.declared.goal.Goal.TheVariants as goal
 use Rattle.c_cond.specs.declared.head.Head.{Head}
 use Rattle.c_cond.specs.declared.tree.Tree.{Tree}
 use Rattle.c_cond.specs.Tokens.{tokens_in}
 use Rattle.c_cond.specs.Tree.{tree_of}
 use Rattle.c_cond.specs.Grammar.{IsText, Condition, Statements}
-use Rattle.c_cond.specs.machine.Steps.{result_of, at}
+use Rattle.c_cond.specs.machine.Steps.{run, result_of, at}
 use Rattle.c_cond.proofs.Answered.{is_condition, is_statements, no_condition, no_statements, one_condition, one_statements}
 
-use Rattle.md_test.specs.Texts.{Reads, tree_in}
+use Rattle.md_test.specs.Texts.{Reads, tree_in, always, nothing}
 
 -- where a tree is the only one, the value is that tree
 pub is_the : (o : Option Tree) (P : Tree → Type 0) → Reads o P → ((a b : Tree) → P a → P b → a ≡ b) → (t : Tree) → P t → o ≡ Some t
@@ -49,3 +50,21 @@ statements_is d cs text t is = is_the (tree_in d goal.Statements cs text) (IsTex
 
 pub statements_none : (d : Dialect) (cs : List Constant) (text : List ℕ) → ((t : Tree) → IsText d cs Statements text t → ⊥) → tree_in d goal.Statements cs text ≡ None
 statements_none d cs text none = is_none (tree_in d goal.Statements cs text) (IsText d cs Statements text) (statements_reads d cs text) none
+
+some_is : (a b : Tree) → Some a ≡ Some b → a ≡ b
+some_is a b e = cc
+
+-- the trees of no text
+nothing_condition : tree_in dialect.Condition goal.Condition [] [] ≡ Some always
+unfolding tree_in run
+nothing_condition = refl
+
+nothing_statements : tree_in dialect.Condition goal.Statements [] [] ≡ Some nothing
+unfolding tree_in run
+nothing_statements = refl
+
+pub no_condition_is : (t : Tree) → IsText dialect.Condition [] Condition [] t → t ≡ always
+no_condition_is t is = some_is t always (sym (condition_is dialect.Condition [] [] t is) ∙ nothing_condition)
+
+pub no_statements_is : (t : Tree) → IsText dialect.Condition [] Statements [] t → t ≡ nothing
+no_statements_is t is = some_is t nothing (sym (statements_is dialect.Condition [] [] t is) ∙ nothing_statements)

@@ -1,15 +1,16 @@
 -- The conditions and the statements of forms by their texts: GCC Internals, "Defining RTL Patterns", "Defining RTL Sequences for
 -- Code Generation" and "Defining Machine-Specific Predicates". What a text is, is said by the grammar of conditions and
 -- statements; here is its tree as a value.
-use Rattle.std.specs.Prelude.{ℕ, List, [], ◌∷◌, Option, Some, None, Result, option_map}
+use Rattle.std.specs.Prelude.{ℕ, pos, List, [], ◌∷◌, Option, Some, None, Result, option_map}
 use Rattle.rtx_tree.specs.declared.constants.Constant.{Constant}
 use Rattle.c_cond.specs.declared.atom.Dialect.{Dialect}
 use Rattle.c_cond.specs.declared.atom.Dialect.TheVariants as dialect
 use Rattle.c_cond.specs.declared.goal.Goal.{Goal}
 use Rattle.c_cond.specs.declared.goal.Goal.TheVariants as goal
+use Rattle.c_cond.specs.declared.head.Head.TheVariants as head
 use Rattle.c_cond.specs.declared.tree.Tree.{Tree}
 use Rattle.c_cond.specs.Tokens.{tokens_in}
-use Rattle.c_cond.specs.Tree.{tree_of}
+use Rattle.c_cond.specs.Tree.{leaf, tree_of}
 use Rattle.c_cond.specs.machine.Steps.{result_of, at}
 use Rattle.md_pattern.specs.declared.reason.Reason.{Reason}
 use Rattle.md_pattern.specs.declared.reason.Reason.TheVariants as reason
@@ -45,3 +46,10 @@ test_condition_of constants text = or_aside reason.Condition (test_condition_in 
 
 abbrev pub statements_of : List Constant → List ℕ → Result Tree Reason
 statements_of constants text = or_aside reason.Statements (statements_in constants text)
+
+-- what no text is: a condition that is always true, and no statement
+abbrev pub always : Tree
+always = leaf (head.Number (pos 1))
+
+abbrev pub nothing : Tree
+nothing = leaf head.Nothing

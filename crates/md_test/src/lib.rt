@@ -11,7 +11,7 @@ mod texts;
 
 pub use question::{Codes, Question, Test, Tests};
 pub use test::test_of;
-pub use texts::{condition, statements};
+pub use texts::{condition, no_condition, no_statements, statements};
 
 #[cfg(test)]
 mod tests;

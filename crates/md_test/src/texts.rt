@@ -6,7 +6,7 @@ ghost use Rattle.md_test.specs.Texts as spec;
 
 use c_cond::{Cond, CondRefusal, Prep, parse_cond, parse_prep, parse_test};
 use md_pattern::{Judged, Reason};
-use plain_data::Memory;
+use plain_data::{Items, Memory};
 use rtx_tree::Constants;
 use std::alloc::Global;
 
@@ -54,5 +54,25 @@ pub fn statements(
         Ok(prep) => Ok(Ok(prep)),
         Err(CondRefusal::Outside) => Ok(Err(Reason::Statements)),
         Err(CondRefusal::Memory) => Err(Memory),
+    }
+}
+
+/// The condition that no text is: it is always true.
+pub fn no_condition(alloc: Global) -> Result<Cond, Memory>
+    ensures { IfOk result (λ cond. cond ≡ spec.always) }
+{
+    match parse_cond(alloc, b"", &Items::new(alloc)) {
+        Ok(cond) => Ok(cond),
+        Err(_) => Err(Memory),
+    }
+}
+
+/// The statements that no text is: they do nothing.
+pub fn no_statements(alloc: Global) -> Result<Prep, Memory>
+    ensures { IfOk result (λ prep. prep ≡ spec.nothing) }
+{
+    match parse_prep(alloc, b"", &Items::new(alloc)) {
+        Ok(prep) => Ok(prep),
+        Err(_) => Err(Memory),
     }
 }

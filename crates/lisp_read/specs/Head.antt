@@ -66,6 +66,13 @@ flagged flags c = if flags_pass c flags then Some c else None
 abbrev pub flagged_code_in : List ℕ → Option Code
 flagged_code_in text = let parts = cut 47 text in option_and_then (flagged parts.1) (code_in parts.0)
 
+-- the code, and the mode, that the text of a head writes
+abbrev pub code_of_head : List ℕ → Option Code
+code_of_head text = flagged_code_in (cut 58 text).0
+
+abbrev pub mode_of_head : List ℕ → Option Mode
+mode_of_head text = mode_in (cut 58 text).1
+
 abbrev pub head_with : Option Mode → Code → Option Head
 head_with m c = option_map (λ mode. record { code = c; mode = mode }) m
 

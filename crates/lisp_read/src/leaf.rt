@@ -191,8 +191,8 @@ fn symbol_of(text: &[u8]) -> Option<&[u8]>
     if is_symbol(name) { Some(name) } else { None }
 }
 
-/// `("NAME")`.
-fn quoted_name(tree: &Tree) -> Option<&[u8]>
+/// The symbol that `("NAME")` writes, without a star in front of it.
+pub fn quoted_name(tree: &Tree) -> Option<&[u8]>
     ensures { option_copied result ≡ spec.quoted_name (items_of tree.now) }
 {
     match items(tree) {

@@ -28,9 +28,11 @@ mod stack;
 mod tree;
 
 pub use expression::rtx_of_tree;
+pub use head::head_words;
+pub use leaf::quoted_name;
 pub use read::{ReadRefusal, read_trees};
 pub use refusal::RtlRefusal;
-pub use shape::{atom, is_nested, is_word, items, outside, string};
+pub use shape::{atom, is_nested, is_vector, is_word, items, outside, string, vector};
 pub use tree::{Tree, Trees};
 
 #[cfg(test)]

@@ -1,0 +1,73 @@
+-- What a tree stands for, by what the trees in it stand for.
+use Rattle.std.proofs.Common.{◌≡◌, ℕ, ◌≤◌, List, [], ◌∷◌, Some, Result, Err, map, take, drop, length, length-drop, ◌-◌, get_or, refl, sym, ap, ◌∙◌, if◌then◌else◌, arith}
+use Rattle.std.proofs.lemmas.List.{take_all}
+use Rattle.rtx_tree.specs.declared.constants.Constant.{Constant}
+use Rattle.lisp_read.specs.declared.tree.Tree.{Tree, out-Tree}
+use Rattle.lisp_read.specs.declared.tree.Tree.TheOpen.{Tree-F}
+use Rattle.lisp_read.specs.declared.tree.Tree.TheFolds.{fold-Tree, fold_out-Tree, map-Tree}
+use Rattle.lisp_read.specs.Head.{code_of_head, mode_of_head}
+use Rattle.lisp_read.specs.Shape.{atom_of, items_at, items_of, vector_at, vector_of, is_vector_at, is_vector}
+use Rattle.lisp_read.specs.Expression.{inside_at, inside_of}
+use Rattle.md_pattern.specs.declared.reason.Reason.TheVariants as reason
+use Rattle.md_pattern.specs.Pattern.{Meaning, meaning_of, meaning_by, meaning_step, each_read, each, list_by, of_code, pattern_of, patterns_of}
+
+reading : List Constant → Tree → Tree → Meaning
+reading constants = fold-Tree (Tree → Meaning) (meaning_step constants)
+
+each_read_map : (constants : List Constant) (ts : List Tree) → each_read (map (reading constants) ts) ts ≡ map (meaning_of constants) ts
+unfolding meaning_of reading
+each_read_map constants [] = refl
+each_read_map constants (t ∷ ts) = ap (λ (xs : List Meaning). meaning_of constants t ∷ xs) (each_read_map constants ts)
+
+inside_map : (constants : List Constant) (o : Tree-F Tree) → each_read (inside_at (map-Tree Tree (Tree → Meaning) (reading constants) o)) (inside_at o) ≡ map (meaning_of constants) (inside_at o)
+inside_map constants (Tree-F.Atom place text) = refl
+inside_map constants (Tree-F.Str place text) = refl
+inside_map constants (Tree-F.Block place text) = refl
+inside_map constants (Tree-F.List place items) = each_read_map constants items
+inside_map constants (Tree-F.Vector place items) = each_read_map constants items
+
+meaning_out : (constants : List Constant) (t : Tree) → meaning_of constants t ≡ meaning_by constants t (map (meaning_of constants) (inside_of t))
+unfolding meaning_of reading
+meaning_out constants t =
+    ap (λ (read : Tree → Meaning). read t) (fold_out-Tree (Tree → Meaning) (meaning_step constants) t)
+    ∙ ap (meaning_by constants t) (inside_map constants (out-Tree t))
+
+list_inside : (constants : List Constant) (o : Tree-F Tree) → list_by constants (items_at o) (map (meaning_of constants) (inside_at o)) ≡ list_by constants (items_at o) (map (meaning_of constants) (items_at o))
+list_inside constants (Tree-F.Atom place text) = refl
+list_inside constants (Tree-F.Str place text) = refl
+list_inside constants (Tree-F.Block place text) = refl
+list_inside constants (Tree-F.List place items) = refl
+list_inside constants (Tree-F.Vector place items) = refl
+
+-- a list, by its items
+pub pattern_out : (constants : List Constant) (t : Tree) → pattern_of constants t ≡ list_by constants (items_of t) (map (meaning_of constants) (items_of t))
+pattern_out constants t = ap (λ (m : Meaning). m.pattern) (meaning_out constants t) ∙ list_inside constants (out-Tree t)
+
+vector_inside : (constants : List Constant) (o : Tree-F Tree) → (if is_vector_at o then each (map (meaning_of constants) (inside_at o)) else Err reason.Parts)
+    ≡ (if is_vector_at o then each (map (meaning_of constants) (vector_at o)) else Err reason.Parts)
+vector_inside constants (Tree-F.Atom place text) = refl
+vector_inside constants (Tree-F.Str place text) = refl
+vector_inside constants (Tree-F.Block place text) = refl
+vector_inside constants (Tree-F.List place items) = refl
+vector_inside constants (Tree-F.Vector place items) = refl
+
+-- a vector, by its trees
+pub vector_out : (constants : List Constant) (t : Tree) → patterns_of constants t ≡ (if is_vector t then each (map (meaning_of constants) (vector_of t)) else Err reason.Parts)
+vector_out constants t = ap (λ (m : Meaning). m.vector) (meaning_out constants t) ∙ vector_inside constants (out-Tree t)
+
+-- what stands behind the first of some trees, as the code cuts it
+behind : (items : List Tree) → take (length items - 1) (drop 1 items) ≡ drop 1 items
+behind items = take_all (length items - 1) (drop 1 items) (rw (length-drop 1 items) (omega arith))
+
+at_head : (constants : List Constant) (items : List Tree) (h : Tree) (text : List ℕ) → 1 ≤ length items → h ≡ get_or items 0 h → Some text ≡ atom_of h →
+    list_by constants items (map (meaning_of constants) items) ≡ of_code constants (code_of_head text) (mode_of_head text) (drop 1 items) (map (meaning_of constants) (drop 1 items))
+at_head constants [] h text within is a = absurd (grind (arith, within))
+at_head constants (x ∷ xs) h text within is a =
+    let atom : atom_of x ≡ Some text = ap atom_of (sym is) ∙ sym a in
+    rw atom refl
+
+-- a list with an atom at its head
+pub pattern_at : (constants : List Constant) (t : Tree) (items : List Tree) (h : Tree) (text name : List ℕ) → items ≡ items_of t → 1 ≤ length items → h ≡ get_or items 0 h → Some name ≡ atom_of h → text ≡ name →
+    pattern_of constants t ≡ of_code constants (code_of_head text) (mode_of_head text) (take (length items - 1) (drop 1 items)) (map (meaning_of constants) (take (length items - 1) (drop 1 items)))
+pattern_at constants t items h text name e within is a same =
+    pattern_out constants t ∙ rw (behind items) (rw (sym e) (at_head constants items h text within is (rw same a)))

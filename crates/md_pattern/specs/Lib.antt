@@ -1,0 +1,5 @@
+pub mod Reason
+pub mod Parts
+pub mod Word
+pub mod Operand
+pub mod Pattern

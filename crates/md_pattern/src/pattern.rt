@@ -1,0 +1,506 @@
+//! Reads a pattern from its tree.
+ghost use Rattle.std.specs.Prelude.{◌≡◌, ◌==◌, ◌++◌, IfOk, Ok, map, take, length, option_and_then};
+ghost use Rattle.std.specs.Option.{option_copied};
+ghost use Rattle.lisp_read.specs.Head.{code_of_head, mode_of_head};
+ghost use Rattle.md_pattern.specs.declared.reason.Reason.TheVariants as reason;
+ghost use Rattle.md_pattern.specs.Parts.{parts_of_code};
+ghost use Rattle.md_pattern.specs.Pattern as spec;
+ghost use Rattle.md_pattern.specs.Reason.{judged_with};
+ghost use Rattle.md_pattern.specs.Word as word;
+
+use crate::operand::{
+    Operand, OperandTexts, dup_in, numbered, operand_in, predicated, scratch_in,
+};
+use crate::parts::{Parts, has_mode, parts_of_code};
+use crate::reason::{Judged, Reason, both};
+use crate::word::{number_of, register_of};
+use lisp_read::{Tree, atom, head_words, is_vector, is_word, items, quoted_name, vector};
+use plain_data::{Items, Memory};
+use rtx_tree::{Code, Constant, Constants, Kids, Mode, Name, Rtx};
+use std::alloc::Global;
+
+/// An expression of a description.
+#[derive(Drop)]
+pub struct Pattern {
+    /// The expression. The number of a `match` code is that of its operand, and its name the predicate.
+    pub tree: Rtx,
+    /// The constraints of its operands, in the order of the text.
+    pub texts: OperandTexts,
+}
+
+/// Several expressions of a description.
+#[derive(Drop)]
+pub struct Patterns {
+    /// The expressions, in order.
+    pub trees: Kids,
+    /// The constraints of their operands, in the order of the text.
+    pub texts: OperandTexts,
+}
+
+fn no_patterns(alloc: Global) -> Patterns
+    ensures { result ≡ spec.no_patterns }
+{
+    Patterns {
+        trees: Items::new(alloc),
+        texts: Items::new(alloc),
+    }
+}
+
+fn appended(texts: OperandTexts, more: OperandTexts) -> Result<OperandTexts, Memory>
+    ensures { IfOk result (λ all. all ≡ texts ++ more) }
+{
+    let mut all = texts.into_vec();
+    all.append(&mut more.into_vec())?;
+    Ok(Items::from_vec(all))
+}
+
+/// The expressions with one more behind them.
+fn added(patterns: Patterns, pattern: Pattern) -> Result<Patterns, Memory>
+    ensures { IfOk result (λ all. all ≡ spec.added patterns pattern) }
+{
+    let Patterns { mut trees, texts } = patterns;
+    let Pattern { tree, texts: more } = pattern;
+    trees.push(tree)?;
+    Ok(Patterns {
+        trees,
+        texts: appended(texts, more)?,
+    })
+}
+
+fn judged_added(
+    patterns: Judged<Patterns>,
+    pattern: Judged<Pattern>,
+) -> Result<Judged<Patterns>, Memory>
+    ensures { IfOk result (λ all. all ≡ judged_with spec.added patterns pattern) }
+{
+    match both(patterns, pattern) {
+        Ok((patterns, pattern)) => Ok(Ok(added(patterns, pattern)?)),
+        Err(reason) => Ok(Err(reason)),
+    }
+}
+
+/// One expression alone.
+#[tactic(auto, using(crate::proofs::Each::each_alone))]
+fn only(alloc: Global, pattern: Judged<Pattern>) -> Result<Judged<Patterns>, Memory>
+    ensures { IfOk result (λ patterns. patterns ≡ judged_with spec.in_front pattern (Ok spec.no_patterns)) }
+{
+    match pattern {
+        Ok(Pattern { tree, texts }) => {
+            let mut trees = Items::new(alloc);
+            trees.push(tree)?;
+            Ok(Ok(Patterns { trees, texts }))
+        }
+        Err(reason) => Ok(Err(reason)),
+    }
+}
+
+/// A tree that has no operands in it.
+fn bare(alloc: Global, tree: Rtx) -> Pattern
+    ensures { result ≡ spec.bare tree }
+{
+    Pattern {
+        tree,
+        texts: Items::new(alloc),
+    }
+}
+
+/// The mode of an expression, where one is written that is a mode.
+fn mode_for(code: Code, mode: Option<Mode>) -> Judged<Mode>
+    ensures { result ≡ spec.mode_for code mode }
+{
+    match mode {
+        None => Err(Reason::Mode),
+        Some(mode) if has_mode(code) => Ok(mode),
+        Some(_) => Ok(Mode::Void),
+    }
+}
+
+/// The one word behind a head.
+fn word_in(parts: &[Tree]) -> Option<&Name>
+    ensures { option_copied result ≡ spec.word_in parts.now }
+{
+    match parts {
+        [word] => atom(word),
+        _ => None,
+    }
+}
+
+fn register(
+    alloc: Global,
+    constants: &[Constant],
+    mode: Judged<Mode>,
+    parts: &[Tree],
+) -> Judged<Pattern>
+    ensures { result ≡ spec.register_by constants.now mode (spec.word_in parts.now) }
+{
+    let Some(word) = word_in(parts) else {
+        return Err(Reason::Parts);
+    };
+    let register = match register_of(constants, word.bytes()) {
+        Some(register) => Ok(register),
+        None => Err(Reason::Code),
+    };
+    match both(mode, register) {
+        Ok((mode, register)) => Ok(bare(alloc, Rtx::reg(alloc, mode, register))),
+        Err(reason) => Err(reason),
+    }
+}
+
+fn number_in(constants: &[Constant], parts: &[Tree]) -> Judged<i64>
+    ensures { result ≡ spec.or_aside reason.Parts (option_and_then (word.number_of constants.now) (spec.word_in parts.now)) }
+{
+    let Some(word) = word_in(parts) else {
+        return Err(Reason::Parts);
+    };
+    match number_of(constants, word.bytes()) {
+        Some(number) => Ok(number),
+        None => Err(Reason::Parts),
+    }
+}
+
+fn number(
+    alloc: Global,
+    constants: &[Constant],
+    mode: Judged<Mode>,
+    parts: &[Tree],
+) -> Judged<Pattern>
+    ensures { result ≡ spec.number_by mode constants.now parts.now }
+{
+    match both(mode, number_in(constants, parts)) {
+        Ok((_, number)) => Ok(bare(alloc, Rtx::const_int(alloc, number))),
+        Err(reason) => Err(reason),
+    }
+}
+
+fn symbol_in(alloc: Global, parts: &[Tree]) -> Result<Judged<Name>, Memory>
+    ensures { IfOk result (λ name. name ≡ spec.or_aside reason.Parts (spec.symbol_in parts.now)) }
+{
+    match parts {
+        [list] => match quoted_name(list) {
+            Some(name) => Ok(Ok(Name::of(alloc, name)?)),
+            None => Ok(Err(Reason::Parts)),
+        },
+        _ => Ok(Err(Reason::Parts)),
+    }
+}
+
+fn symbol(
+    alloc: Global,
+    mode: Judged<Mode>,
+    parts: &[Tree],
+) -> Result<Judged<Pattern>, Memory>
+    ensures { IfOk result (λ pattern. pattern ≡ spec.symbol_by mode parts.now) }
+{
+    match both(mode, symbol_in(alloc, parts)?) {
+        Ok((mode, name)) => Ok(Ok(bare(
+            alloc,
+            Rtx::of_name(alloc, Code::SymbolRef, mode, name),
+        ))),
+        Err(reason) => Ok(Err(reason)),
+    }
+}
+
+/// An expression that is made of others.
+fn node_of(alloc: Global, code: Code, mode: Judged<Mode>, kids: Judged<Patterns>) -> Judged<Pattern>
+    ensures { result ≡ judged_with (spec.node_with code) mode kids }
+{
+    match both(mode, kids) {
+        Ok((mode, kids)) => Ok(Pattern {
+            tree: Rtx::of_kids(alloc, code, mode, kids.trees),
+            texts: kids.texts,
+        }),
+        Err(reason) => Err(reason),
+    }
+}
+
+fn matching_with(
+    code: Code,
+    operand: Operand,
+    mode: Mode,
+    kids: Patterns,
+) -> Result<Pattern, Memory>
+    ensures { IfOk result (λ pattern. pattern ≡ spec.matching_with code operand mode kids) }
+{
+    let tree = Rtx {
+        code,
+        mode,
+        number: i64::from(operand.number),
+        name: operand.predicate,
+        kids: kids.trees,
+    };
+    Ok(Pattern {
+        tree,
+        texts: appended(operand.texts, kids.texts)?,
+    })
+}
+
+/// An operand, with the expressions in it.
+fn matching(
+    code: Code,
+    mode: Judged<Mode>,
+    operand: Option<Operand>,
+    kids: Judged<Patterns>,
+) -> Result<Judged<Pattern>, Memory>
+    ensures { IfOk result (λ pattern. pattern ≡ spec.operand_by code mode operand kids) }
+{
+    let Some(operand) = operand else {
+        return Ok(Err(Reason::Parts));
+    };
+    match both(mode, kids) {
+        Ok((mode, kids)) => Ok(Ok(matching_with(code, operand, mode, kids)?)),
+        Err(reason) => Ok(Err(reason)),
+    }
+}
+
+/// An operand with no expressions in it.
+fn plain_operand(
+    alloc: Global,
+    code: Code,
+    mode: Judged<Mode>,
+    operand: Option<Operand>,
+) -> Result<Judged<Pattern>, Memory>
+    ensures { IfOk result (λ pattern. pattern ≡ spec.operand_by code mode operand (Ok spec.no_patterns)) }
+{
+    matching(code, mode, operand, Ok(no_patterns(alloc)))
+}
+
+/// Each of some trees as an expression.
+#[cycle(read)]
+#[tactic(auto, using(crate::proofs::Each::joined_first, crate::proofs::Each::each_next, crate::proofs::Each::each_ends))]
+fn each(
+    alloc: Global,
+    constants: &[Constant],
+    trees: &[Tree],
+) -> Result<Judged<Patterns>, Memory>
+    ensures { IfOk result (λ patterns. patterns ≡ spec.each (map (spec.meaning_of constants.now) trees.now)) }
+{
+    let mut patterns = Ok(no_patterns(alloc));
+    for tree in trees {
+        let pattern = expression(alloc, constants, tree)?;
+        patterns = judged_added(patterns, pattern)?;
+    }
+    Ok(patterns)
+}
+
+/// A vector of expressions.
+#[cycle(read)]
+#[tactic(auto, using(crate::proofs::Meanings::vector_out))]
+fn elements(
+    alloc: Global,
+    constants: &[Constant],
+    tree: &Tree,
+) -> Result<Judged<Patterns>, Memory>
+    ensures { IfOk result (λ patterns. patterns ≡ spec.patterns_of constants.now tree.now) }
+{
+    if is_vector(tree) {
+        each(alloc, constants, vector(tree))
+    } else {
+        Ok(Err(Reason::Parts))
+    }
+}
+
+#[cycle(read)]
+fn node(
+    alloc: Global,
+    constants: &[Constant],
+    code: Code,
+    mode: Judged<Mode>,
+    parts: &[Tree],
+) -> Result<Judged<Pattern>, Memory>
+    ensures { IfOk result (λ pattern. pattern ≡ judged_with (spec.node_with code) mode (spec.each (map (spec.meaning_of constants.now) parts.now))) }
+{
+    let kids = each(alloc, constants, parts)?;
+    Ok(node_of(alloc, code, mode, kids))
+}
+
+#[cycle(read)]
+fn parallel(
+    alloc: Global,
+    constants: &[Constant],
+    code: Code,
+    mode: Judged<Mode>,
+    parts: &[Tree],
+) -> Result<Judged<Pattern>, Memory>
+    ensures { IfOk result (λ pattern. pattern ≡ spec.parallel_by code mode (map (spec.meaning_of constants.now) parts.now)) }
+{
+    match parts {
+        [vector] => {
+            let kids = elements(alloc, constants, vector)?;
+            Ok(node_of(alloc, code, mode, kids))
+        }
+        _ => Ok(Err(Reason::Parts)),
+    }
+}
+
+#[cycle(read)]
+fn operator(
+    alloc: Global,
+    constants: &[Constant],
+    code: Code,
+    mode: Judged<Mode>,
+    parts: &[Tree],
+) -> Result<Judged<Pattern>, Memory>
+    ensures { IfOk result (λ pattern. pattern ≡ spec.operator_by code mode parts.now (map (spec.meaning_of constants.now) parts.now)) }
+{
+    match parts {
+        [number, predicate, vector] => {
+            let operand = predicated(alloc, number, predicate)?;
+            let kids = elements(alloc, constants, vector)?;
+            matching(code, mode, operand, kids)
+        }
+        _ => Ok(Err(Reason::Parts)),
+    }
+}
+
+#[cycle(read)]
+fn operator_dup(
+    alloc: Global,
+    constants: &[Constant],
+    code: Code,
+    mode: Judged<Mode>,
+    parts: &[Tree],
+) -> Result<Judged<Pattern>, Memory>
+    ensures { IfOk result (λ pattern. pattern ≡ spec.operator_dup_by code mode parts.now (map (spec.meaning_of constants.now) parts.now)) }
+{
+    match parts {
+        [number, vector] => {
+            let operand = numbered(alloc, number);
+            let kids = elements(alloc, constants, vector)?;
+            matching(code, mode, operand, kids)
+        }
+        _ => Ok(Err(Reason::Parts)),
+    }
+}
+
+/// One expression and the offset 0.
+#[cycle(read)]
+fn lowpart(
+    alloc: Global,
+    constants: &[Constant],
+    code: Code,
+    mode: Judged<Mode>,
+    parts: &[Tree],
+) -> Result<Judged<Pattern>, Memory>
+    ensures { IfOk result (λ pattern. pattern ≡ spec.node_by (spec.is_lowpart parts.now) code mode (take 1 (map (spec.meaning_of constants.now) parts.now))) }
+{
+    match parts {
+        [inner, offset] if is_word(offset, b"0") => {
+            let kids = only(alloc, expression(alloc, constants, inner)?)?;
+            Ok(node_of(alloc, code, mode, kids))
+        }
+        _ => Ok(Err(Reason::Parts)),
+    }
+}
+
+#[cycle(read)]
+fn expressions(
+    alloc: Global,
+    constants: &[Constant],
+    code: Code,
+    mode: Judged<Mode>,
+    count: usize,
+    parts: &[Tree],
+) -> Result<Judged<Pattern>, Memory>
+    ensures { IfOk result (λ pattern. pattern ≡ spec.node_by (length parts.now == count) code mode (map (spec.meaning_of constants.now) parts.now)) }
+{
+    if parts.len() == count {
+        node(alloc, constants, code, mode, parts)
+    } else {
+        Ok(Err(Reason::Parts))
+    }
+}
+
+/// What stands behind a code.
+#[cycle(read)]
+fn behind(
+    alloc: Global,
+    constants: &[Constant],
+    code: Code,
+    mode: Judged<Mode>,
+    parts: &[Tree],
+) -> Result<Judged<Pattern>, Memory>
+    ensures { IfOk result (λ pattern. pattern ≡ spec.behind constants.now code mode (parts_of_code code) parts.now (map (spec.meaning_of constants.now) parts.now)) }
+{
+    match parts_of_code(code) {
+        Parts::Register => Ok(register(alloc, constants, mode, parts)),
+        Parts::Number => Ok(number(alloc, constants, mode, parts)),
+        Parts::Symbol => symbol(alloc, mode, parts),
+        Parts::Lowpart => lowpart(alloc, constants, code, mode, parts),
+        Parts::Expressions { count } => expressions(alloc, constants, code, mode, count, parts),
+        Parts::Vector => parallel(alloc, constants, code, mode, parts),
+        Parts::Operand => plain_operand(alloc, code, mode, operand_in(alloc, parts)?),
+        Parts::Scratch => plain_operand(alloc, code, mode, scratch_in(alloc, parts)?),
+        Parts::Dup => plain_operand(alloc, code, mode, dup_in(alloc, parts)),
+        Parts::Operator => operator(alloc, constants, code, mode, parts),
+        Parts::OperatorDup => operator_dup(alloc, constants, code, mode, parts),
+    }
+}
+
+/// A list with this atom at its head.
+#[cycle(read)]
+fn list(
+    alloc: Global,
+    constants: &[Constant],
+    head: &[u8],
+    parts: &[Tree],
+) -> Result<Judged<Pattern>, Memory>
+    ensures { IfOk result (λ pattern. pattern ≡ spec.of_code constants.now (code_of_head head.now) (mode_of_head head.now) parts.now (map (spec.meaning_of constants.now) parts.now)) }
+{
+    let (code, mode) = head_words(head);
+    match code {
+        None => Ok(Err(Reason::Code)),
+        Some(code) => behind(alloc, constants, code, mode_for(code, mode), parts),
+    }
+}
+
+#[cycle(read)]
+#[tactic(auto, using(crate::proofs::Meanings::pattern_out))]
+fn expression(
+    alloc: Global,
+    constants: &[Constant],
+    tree: &Tree,
+) -> Result<Judged<Pattern>, Memory>
+    ensures { IfOk result (λ pattern. pattern ≡ spec.pattern_of constants.now tree.now) }
+{
+    match items(tree) {
+        [head, parts @ ..] => match atom(head) {
+            Some(head) => list(alloc, constants, head.bytes(), parts),
+            None => Ok(Err(Reason::Parts)),
+        },
+        [] => Ok(Err(Reason::Parts)),
+    }
+}
+
+/// The pattern that a tree of a description writes, or the smallest reason that applies anywhere in it.
+///
+/// Each code has the parts that the table gives it, and no more; a tree that is no list with an atom at its head is no expression,
+/// and the list in which it stands has wrong parts. The five `match` codes may stand wherever an expression may. A constraint may
+/// lack. What stands behind an unknown code isn't looked at. Registers are numbers from 0 to 31 or constants of these; a mode on a
+/// code that has none is dropped, and a missing mode is `Void`. Flags are passed over.
+///
+/// # Errors
+///
+/// The judgement is `Parts` where a known code has wrong parts, the number of an operand has more than 32 bits, or a `const_int`
+/// is no number; `Code` where a code is unknown, or a register is none; `Mode` where a mode is none of the four. `Memory` where
+/// memory ran out.
+pub fn pattern_of(
+    alloc: Global,
+    tree: &Tree,
+    constants: &Constants,
+) -> Result<Judged<Pattern>, Memory>
+    ensures { IfOk result (λ pattern. pattern ≡ spec.pattern_of constants.now tree.now) }
+{
+    expression(alloc, constants.as_slice(), tree)
+}
+
+/// The patterns that a vector of a description writes, or the smallest reason that applies anywhere in them. `Parts` where the
+/// tree is no vector.
+pub fn patterns_of(
+    alloc: Global,
+    tree: &Tree,
+    constants: &Constants,
+) -> Result<Judged<Patterns>, Memory>
+    ensures { IfOk result (λ patterns. patterns ≡ spec.patterns_of constants.now tree.now) }
+{
+    elements(alloc, constants.as_slice(), tree)
+}

@@ -24,3 +24,5 @@ pub use refusal::Refusal;
 mod jump_tests;
 #[cfg(test)]
 mod tests;
+#[cfg(test)]
+mod whole_tests;

@@ -24,22 +24,7 @@ list_same : (k : CodeClass) (h : Head) (t : Tree) (inside : List Meaning) → is
 list_same class.Register h t inside e = absurd (grind arith)
 list_same class.Number h t inside e = absurd (grind arith)
 list_same class.Label h t inside e = absurd (grind arith)
-list_same class.Symbol h t inside e = refl
-list_same class.Memory h t inside e = refl
-list_same class.Lowpart h t inside e = refl
-list_same class.Unary h t inside e = refl
-list_same class.Binary h t inside e = refl
-list_same class.Comparison h t inside e = refl
-list_same class.Setting h t inside e = refl
-list_same class.Use h t inside e = refl
-list_same class.Clobber h t inside e = refl
-list_same class.Parallel h t inside e = refl
-list_same class.Call h t inside e = refl
-list_same class.Return h t inside e = refl
-list_same class.Counter h t inside e = refl
-list_same class.Branch h t inside e = refl
-list_same class.Scratch h t inside e = refl
-list_same class.Matching h t inside e = refl
+list_same _ h t inside e = refl
 
 abbrev head_with_mode : Code → Mode → Head
 head_with_mode c m = record { code = c; mode = m }
@@ -51,24 +36,7 @@ moded_same c (Some m) t inside e = list_same (class_of_code c) (record { code = 
 
 top_admits : (k : CodeClass) → is_pattern k ≡ true → admits Top k ≡ true
 top_admits class.Matching e = absurd (grind arith)
-top_admits class.Register e = refl
-top_admits class.Number e = refl
-top_admits class.Label e = refl
-top_admits class.Symbol e = refl
-top_admits class.Memory e = refl
-top_admits class.Lowpart e = refl
-top_admits class.Unary e = refl
-top_admits class.Binary e = refl
-top_admits class.Comparison e = refl
-top_admits class.Setting e = refl
-top_admits class.Use e = refl
-top_admits class.Clobber e = refl
-top_admits class.Parallel e = refl
-top_admits class.Call e = refl
-top_admits class.Return e = refl
-top_admits class.Counter e = refl
-top_admits class.Branch e = refl
-top_admits class.Scratch e = refl
+top_admits _ e = refl
 
 by_pattern : (b : Bool) (c : Code) (m : Mode) (t : Tree) (inside : List Meaning) → is_pattern (class_of_code c) ≡ b →
     expression_by Pattern (placed Pattern (head_with_mode c m)) t inside

@@ -8,7 +8,7 @@ use Rattle.rtx_tree.specs.declared.code.Code.TheVariants as code
 use Rattle.rtx_tree.specs.Code.{code_name, all_codes}
 use Rattle.c_cond.specs.Words.{first_that, code_with_name}
 
-none_that : {A : Type 0} (test : A → Bool) (xs : List A) → ((x : A) → test x ≡ false) → first_that test xs ≡ None
+pub none_that : {A : Type 0} (test : A → Bool) (xs : List A) → ((x : A) → test x ≡ false) → first_that test xs ≡ None
 none_that test [] h = refl
 none_that test (x ∷ xs) h = rw (h x) (none_that test xs h)
 

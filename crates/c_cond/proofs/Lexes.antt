@@ -15,7 +15,7 @@ none≢some : {A : Type 0} {x : A} → None ≡ Some x → ⊥
 none≢some e = cc
 
 -- the pieces, where this is pending before them
-abbrev ahead : Pending → List Piece → List Piece
+abbrev pub ahead : Pending → List Piece → List Piece
 ahead pending.Nothing ps = ps
 ahead (pending.Run run) ps = run_before run ps
 ahead (pending.Byte a) ps = Byte a ∷ ps
@@ -30,7 +30,7 @@ run_twice r s (Blank ∷ ps) = refl
 run_twice r s (Byte a ∷ ps) = refl
 run_twice r s (Run t ∷ ps) = ap (λ (x : List ℕ). Run x ∷ ps) (sym (append_assoc r s t))
 
-abbrev AllRead : List ℕ → Type 0
+abbrev pub AllRead : List ℕ → Type 0
 AllRead bs = (tokens : List Token) (p : Pending) → read_all (at tokens p) bs ≡ tokens ++ tokens_of (ahead p (pieces bs))
 
 -- a byte begins a piece
@@ -56,7 +56,7 @@ byte_run a run (Blank ∷ ps) = refl
 byte_run a run (Byte b ∷ ps) = refl
 byte_run a run (Run t ∷ ps) = refl
 
-apart : (test : ℕ → Bool) (b k : ℕ) → test b ≡ true → test k ≡ false → (b == k) ≡ false
+pub apart : (test : ℕ → Bool) (b k : ℕ) → test b ≡ true → test k ≡ false → (b == k) ≡ false
 apart test b k h n = by_cases (b == k) refl
   where
     by_cases : (e : Bool) → (b == k) ≡ e → (b == k) ≡ false
@@ -86,7 +86,7 @@ after_byte a b bs ih false true w k None e tokens =
 after_byte a b bs ih false false w k None e tokens =
     rw (w, k, e) (begins b bs ih false false (tokens ++ token_of_byte a ∷ []) ∙ append_assoc tokens (token_of_byte a ∷ []) (tokens_of (Byte b ∷ pieces bs)))
 
-all_read : (bs : List ℕ) → AllRead bs
+pub all_read : (bs : List ℕ) → AllRead bs
 all_read [] tokens pending.Nothing = refl
 all_read [] tokens (pending.Run run) = refl
 all_read [] tokens (pending.Byte a) = refl

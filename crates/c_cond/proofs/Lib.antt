@@ -12,3 +12,11 @@ pub mod CompleteStatements
 pub mod Growth
 pub mod Grown
 pub mod Answered
+pub mod Taken
+pub mod Fit
+pub mod Endings
+pub mod Shorter
+pub mod Known
+pub mod GoesOn
+pub mod Pendings
+pub mod Outside

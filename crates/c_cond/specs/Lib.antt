@@ -4,5 +4,6 @@ pub mod Tokens
 pub mod Atoms
 pub mod Tree
 pub mod Grammar
+pub mod Beginning
 pub mod Answers
 pub mod machine

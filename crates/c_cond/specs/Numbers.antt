@@ -22,7 +22,7 @@ read_digits base value [] = Some value
 read_digits base value (b ∷ bs) = option_and_then (λ digit. option_and_then (λ longer. read_digits base longer bs) (with_digit value base digit)) (digit_in base b)
 
 -- the digits behind a zero: none, or an x and digits in base 16
-abbrev behind_zero : List ℕ → Option ℕ
+abbrev pub behind_zero : List ℕ → Option ℕ
 behind_zero [] = Some 0
 behind_zero (x ∷ []) = None
 behind_zero (x ∷ d ∷ ds) = if x == 120 || x == 88 then read_digits 16 0 (d ∷ ds) else None

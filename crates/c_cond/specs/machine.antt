@@ -1,3 +1,5 @@
 pub mod Lexing
 pub mod Flat
 pub mod Steps
+pub mod Front
+pub mod Refuses

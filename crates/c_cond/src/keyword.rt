@@ -51,7 +51,8 @@ const KEYWORDS: [Keyword; 27] = [
     Keyword::Fail,
 ];
 
-fn all_keywords() -> &'static [Keyword]
+/// Every keyword, once.
+pub fn all_keywords() -> &'static [Keyword]
     ensures { result.now ≡ spec.all_keywords }
 {
     &KEYWORDS
@@ -84,7 +85,8 @@ fn call_name(call: Call) -> &'static str
 impl Keyword {
     ghost use Rattle.std.specs.Str.{bytes_eq};
 
-    fn name(self) -> &'static str
+    /// The word that a keyword is.
+    pub fn name(self) -> &'static str
         ensures { result.now ≡ spec.keyword_name self }
     {
         match self {

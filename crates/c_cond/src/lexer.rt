@@ -34,7 +34,8 @@ fn is_digit(byte: u8) -> bool
     b'0' <= byte && byte <= b'9'
 }
 
-fn in_word(byte: u8) -> bool
+/// Whether a byte is a letter, a digit or an underscore.
+pub fn in_word(byte: u8) -> bool
     ensures { result ≡ spec.in_word byte }
 {
     is_digit(byte)
@@ -59,7 +60,8 @@ fn is_no_word(run: &[u8]) -> bool
     }
 }
 
-fn token_of_run(run: Items<u8>) -> Token
+/// The token that a run is.
+pub fn token_of_run(run: Items<u8>) -> Token
     ensures { result ≡ spec.token_of_run run }
 {
     if is_no_word(run.as_slice()) {
@@ -77,6 +79,16 @@ pub struct Lexer {
 }
 
 impl Lexer {
+    /// Nothing has been read. It takes no memory.
+    pub fn new(alloc: Global) -> Lexer
+        ensures { result ≡ at [] Pending.Nothing }
+    {
+        Lexer {
+            tokens: Items::new(alloc),
+            pending: Pending::Nothing,
+        }
+    }
+
     /// Begins a piece with this byte.
     fn begin(&mut self, alloc: Global, byte: u8) -> Result<(), Memory>
         ensures { OnOk result (self.new ≡ begun self.old.tokens byte) }
@@ -124,7 +136,7 @@ impl Lexer {
     }
 
     /// The next byte.
-    fn read(&mut self, alloc: Global, byte: u8) -> Result<(), Memory>
+    pub fn read(&mut self, alloc: Global, byte: u8) -> Result<(), Memory>
         ensures { OnOk result (self.new ≡ read_byte self.old byte) }
     {
         match mem::replace(&mut self.pending, Pending::Nothing) {
@@ -154,10 +166,7 @@ impl Lexer {
 fn read_text(alloc: Global, text: &[u8]) -> Result<Items<Token>, Memory>
     ensures { IfOk result (λ tokens. tokens ≡ read_all (at [] Pending.Nothing) text.now) }
 {
-    let mut lexer = Lexer {
-        tokens: Items::new(alloc),
-        pending: Pending::Nothing,
-    };
+    let mut lexer = Lexer::new(alloc);
     for byte in text {
         lexer.read(alloc, *byte)?;
     }

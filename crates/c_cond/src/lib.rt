@@ -10,6 +10,7 @@
 #![tactic(auto)]
 
 mod atom;
+mod front;
 mod goal;
 mod head;
 mod keyword;

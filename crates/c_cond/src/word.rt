@@ -54,7 +54,8 @@ pub fn constant_named(constants: &[Constant], word: &[u8]) -> Option<i64>
     None
 }
 
-fn is_small(byte: u8) -> bool
+/// Whether a byte is a small letter.
+pub fn is_small(byte: u8) -> bool
     ensures { result ≡ spec.is_small byte }
 {
     b'a' <= byte && byte <= b'z'

@@ -5,32 +5,33 @@ use Rattle.std.specs.List.{list_any, list_all, All}
 use Rattle.std.proofs.lemmas.Bool.{ltb-true}
 use Rattle.bits64.specs.Words.{signed}
 use Rattle.bits64.specs.declared.Width.TheVariants.{W64}
-use Rattle.c_cond.proofs.Lexes.{apart as different}
+use Rattle.c_words.proofs.Lexes.{apart as different}
 use Rattle.std.proofs.lemmas.List.Elements.{All-nil, All-cons, All-append}
 use Rattle.rtx_tree.specs.declared.constants.Constant.{Constant}
 use Rattle.rtx_tree.specs.declared.code.Code.TheVariants as code
 use Rattle.rtx_tree.specs.declared.code.Mode.TheVariants as mode
-use Rattle.c_cond.specs.declared.head.Binary.TheVariants as binary
-use Rattle.c_cond.specs.declared.head.Head.{Head}
-use Rattle.c_cond.specs.declared.head.Head.TheVariants as head
-use Rattle.c_cond.specs.declared.head.Call.TheVariants as call
-use Rattle.c_cond.specs.declared.atom.Dialect.{Dialect}
-use Rattle.c_cond.specs.declared.atom.Dialect.TheVariants as dialect
-use Rattle.c_cond.specs.declared.atom.Property.{Property}
-use Rattle.c_cond.specs.declared.atom.Property.TheVariants as property
-use Rattle.c_cond.specs.declared.token.Token.{Token}
-use Rattle.c_cond.specs.declared.token.Token.TheVariants as token
+use Rattle.c_words.specs.declared.head.Binary.TheVariants as binary
+use Rattle.c_words.specs.declared.head.Head.{Head}
+use Rattle.c_words.specs.declared.head.Head.TheVariants as head
+use Rattle.c_words.specs.declared.head.Call.TheVariants as call
+use Rattle.c_words.specs.declared.atom.Dialect.{Dialect}
+use Rattle.c_words.specs.declared.atom.Dialect.TheVariants as dialect
+use Rattle.c_words.specs.declared.atom.Property.{Property}
+use Rattle.c_words.specs.declared.atom.Property.TheVariants as property
+use Rattle.c_words.specs.declared.token.Token.{Token}
+use Rattle.c_words.specs.declared.token.Token.TheVariants as token
 use Rattle.c_cond.specs.declared.part.Part.{Part}
 use Rattle.c_cond.specs.declared.part.Part.TheVariants as part
 use Rattle.c_cond.specs.declared.goal.Goal.{Goal}
 use Rattle.c_cond.specs.declared.goal.Goal.TheVariants as goal
-use Rattle.c_cond.specs.declared.lexer.Pending.TheVariants as pending
+use Rattle.c_words.specs.declared.lexer.Pending.TheVariants as pending
 use Rattle.c_cond.specs.Grammar.{question, open_round, open_brace, close_square}
-use Rattle.c_cond.specs.machine.Lexing.{read_all}
-use Rattle.c_cond.specs.machine.Lexing as lexing
+use Rattle.c_words.specs.machine.Lexing.{read_all}
+use Rattle.c_words.specs.machine.Lexing as lexing
 use Rattle.c_cond.specs.machine.Steps.{takes, passed, run}
 use Rattle.c_cond.proofs.Making.{R, First, first_map, take, pass_over}
-use Rattle.c_cond.proofs.Fit.{marks, is_closing, is_wanted, calm, fit, both}
+use Rattle.c_cond.proofs.Fit.{marks, is_closing, is_wanted, calm, fit}
+use Rattle.c_words.proofs.Listed.{both}
 
 abbrev pub AreBytes : List ℕ → Type 0
 AreBytes = All (λ b. b < 256)

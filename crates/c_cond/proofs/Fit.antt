@@ -3,19 +3,19 @@ use Rattle.std.proofs.Common.{◌≡◌, ℕ, Bool, true, false, cond, List, [],
 use Rattle.std.specs.Prelude.{option_map, option_and_then}
 use Rattle.std.specs.List.{list_any}
 use Rattle.rtx_tree.specs.declared.constants.Constant.{Constant}
-use Rattle.c_cond.specs.declared.head.Unary.{Unary}
-use Rattle.c_cond.specs.declared.head.Head.{Head}
-use Rattle.c_cond.specs.declared.head.Head.TheVariants as head
-use Rattle.c_cond.specs.declared.head.Call.TheVariants as call
-use Rattle.c_cond.specs.declared.keyword.Keyword.{Keyword}
-use Rattle.c_cond.specs.declared.keyword.Keyword.TheVariants as keyword
-use Rattle.c_cond.specs.declared.atom.Atom.{Atom}
-use Rattle.c_cond.specs.declared.atom.Atom.TheVariants as atom
-use Rattle.c_cond.specs.declared.atom.Dialect.{Dialect}
-use Rattle.c_cond.specs.declared.atom.Dialect.TheVariants as dialect
-use Rattle.c_cond.specs.declared.atom.Property.{Property}
-use Rattle.c_cond.specs.declared.token.Token.{Token}
-use Rattle.c_cond.specs.declared.token.Token.TheVariants as token
+use Rattle.c_words.specs.declared.head.Unary.{Unary}
+use Rattle.c_words.specs.declared.head.Head.{Head}
+use Rattle.c_words.specs.declared.head.Head.TheVariants as head
+use Rattle.c_words.specs.declared.head.Call.TheVariants as call
+use Rattle.c_words.specs.declared.keyword.Keyword.{Keyword}
+use Rattle.c_words.specs.declared.keyword.Keyword.TheVariants as keyword
+use Rattle.c_words.specs.declared.atom.Atom.{Atom}
+use Rattle.c_words.specs.declared.atom.Atom.TheVariants as atom
+use Rattle.c_words.specs.declared.atom.Dialect.{Dialect}
+use Rattle.c_words.specs.declared.atom.Dialect.TheVariants as dialect
+use Rattle.c_words.specs.declared.atom.Property.{Property}
+use Rattle.c_words.specs.declared.token.Token.{Token}
+use Rattle.c_words.specs.declared.token.Token.TheVariants as token
 use Rattle.c_cond.specs.declared.part.Part.{Part}
 use Rattle.c_cond.specs.declared.part.Part.TheVariants as part
 use Rattle.c_cond.specs.declared.part.Signature.{Signature}
@@ -23,8 +23,9 @@ use Rattle.c_cond.specs.declared.part.Signature.TheVariants as signature
 use Rattle.c_cond.specs.declared.goal.Goal.{Goal}
 use Rattle.c_cond.specs.declared.goal.Goal.TheVariants as goal
 use Rattle.c_cond.specs.declared.parser.Parser.{Parser}
-use Rattle.c_cond.specs.Words.{keyword_named, mode_named}
-use Rattle.c_cond.specs.Atoms.{atom_of}
+use Rattle.c_words.proofs.Listed.{both}
+use Rattle.c_words.specs.Words.{keyword_named, mode_named}
+use Rattle.c_words.specs.Atoms.{atom_of}
 use Rattle.c_cond.specs.Grammar.{open_round, open_brace, question, level, equality, unary_of, signature_of, is_maker, comparison_of, comparison_with, value_mode_named}
 use Rattle.c_cond.specs.machine.Steps.{call_then, by_atom, primary, by_unary, takes_question, takes_more, operand_by, takes_operand, value_by, takes_value, takes_any_mode, takes_value_mode, takes_window, takes_part, statement_by, takes_statement, else_by, takes_else, is_mark, takes_compared, takes_index, takes_target, takes, passed, taken_or, next, run}
 
@@ -58,17 +59,6 @@ abbrev pub fit : List Goal → Bool
 fit [] = true
 fit (goal.Mark b ∷ gs) = is_wanted b && fit gs
 fit (_ ∷ gs) = calm gs && fit gs
-
-pub both : {a b : Bool} → (a && b) ≡ true → (a ≡ true) × (b ≡ true)
-both {a = true} {b = true} e = (refl, refl)
-both {a = true} {b = false} e = absurd (apart e)
-  where
-    apart : false ≡ true → ⊥
-    apart e = cc
-both {a = false} {b} e = absurd (apart e)
-  where
-    apart : false ≡ true → ⊥
-    apart e = cc
 
 -- the goals, where there are any, fit
 abbrev Stays : Option (List Goal) → Type 0

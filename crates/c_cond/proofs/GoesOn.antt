@@ -13,32 +13,32 @@ use Rattle.rtx_tree.specs.declared.code.Code.TheVariants as code
 use Rattle.rtx_tree.specs.declared.code.Mode.{Mode}
 use Rattle.rtx_tree.specs.declared.constants.Constant.{Constant}
 use Rattle.rtx_tree.specs.Code.{code_name, all_codes}
-use Rattle.c_cond.specs.declared.head.Head.{Head}
-use Rattle.c_cond.specs.declared.keyword.Keyword.{Keyword}
-use Rattle.c_cond.specs.declared.atom.Atom.TheVariants as atom
-use Rattle.c_cond.specs.declared.atom.Dialect.{Dialect}
-use Rattle.c_cond.specs.declared.atom.Dialect.TheVariants as dialect
-use Rattle.c_cond.specs.declared.atom.Property.TheVariants as property
-use Rattle.c_cond.specs.declared.token.Token.{Token}
-use Rattle.c_cond.specs.declared.token.Token.TheVariants as token
+use Rattle.c_words.specs.declared.head.Head.{Head}
+use Rattle.c_words.specs.declared.keyword.Keyword.{Keyword}
+use Rattle.c_words.specs.declared.atom.Atom.TheVariants as atom
+use Rattle.c_words.specs.declared.atom.Dialect.{Dialect}
+use Rattle.c_words.specs.declared.atom.Dialect.TheVariants as dialect
+use Rattle.c_words.specs.declared.atom.Property.TheVariants as property
+use Rattle.c_words.specs.declared.token.Token.{Token}
+use Rattle.c_words.specs.declared.token.Token.TheVariants as token
 use Rattle.c_cond.specs.declared.part.Part.TheVariants as part
 use Rattle.c_cond.specs.declared.goal.Goal.{Goal}
 use Rattle.c_cond.specs.declared.goal.Goal.TheVariants as goal
-use Rattle.c_cond.specs.declared.head.Call.{Call}
-use Rattle.c_cond.specs.declared.head.Call.TheVariants as call
-use Rattle.c_cond.specs.declared.head.Head.TheVariants as head
-use Rattle.c_cond.specs.declared.keyword.Keyword.TheVariants as keyword
-use Rattle.c_cond.proofs.Codes.{none_that}
-use Rattle.c_cond.proofs.Fit.{both}
-use Rattle.c_cond.specs.Words.{call_name, keyword_name, all_keywords, keyword_named, mode_named, small, is_small, code_with_name, code_named, is_target, constant_named}
-use Rattle.c_cond.specs.Atoms.{atom_of, atom_of_name, predicate_or_nothing, target_number}
-use Rattle.c_cond.specs.Numbers.{number_in}
-use Rattle.c_cond.specs.Tokens.{in_word, is_no_word, operator_with_equals, operator_of_two, token_of_byte, number_or_bad, token_of_run}
+use Rattle.c_words.specs.declared.head.Call.{Call}
+use Rattle.c_words.specs.declared.head.Call.TheVariants as call
+use Rattle.c_words.specs.declared.head.Head.TheVariants as head
+use Rattle.c_words.specs.declared.keyword.Keyword.TheVariants as keyword
+use Rattle.c_words.proofs.Codes.{none_that}
+use Rattle.c_words.proofs.Listed.{Known, both, known_code, known_constant, known_keyword, known_mode, known_target, or_first, or_second, same_bytes}
+use Rattle.c_words.specs.Words.{call_name, keyword_name, all_keywords, keyword_named, mode_named, small, is_small, code_with_name, code_named, is_target, constant_named}
+use Rattle.c_words.specs.Atoms.{atom_of, atom_of_name, predicate_or_nothing, target_number}
+use Rattle.c_words.specs.Numbers.{number_in}
+use Rattle.c_words.specs.Tokens.{in_word, is_no_word, operator_with_equals, operator_of_two, token_of_byte, number_or_bad, token_of_run}
 use Rattle.c_cond.specs.machine.Steps.{by_atom, operand_by, takes_expression, takes, passed}
-use Rattle.c_cond.specs.machine.Front.{is_taken, run_taken, word_taken, run_goes_on, known_words, second_bytes, operator_taken, byte_goes_on}
-use Rattle.c_cond.specs.declared.head.Binary.{Binary}
-use Rattle.c_cond.specs.declared.head.Binary.TheVariants as binary
-use Rattle.c_cond.proofs.Known.{Known, known_keyword, known_code, known_mode, known_target, known_constant, same_bytes, or_first, or_second}
+use Rattle.c_cond.specs.machine.Front.{is_taken, run_taken, word_taken, run_goes_on, second_bytes, operator_taken, byte_goes_on}
+use Rattle.c_words.specs.machine.Known.{known_words}
+use Rattle.c_words.specs.declared.head.Binary.{Binary}
+use Rattle.c_words.specs.declared.head.Binary.TheVariants as binary
 use Rattle.c_cond.proofs.Shorter.{Shorter, shorter}
 
 false_true : {A : Type 0} → false ≡ true → A

@@ -1,5 +1,3 @@
-pub mod Lexes
-pub mod Codes
 pub mod Meets
 pub mod Levels
 pub mod SoundExpressions
@@ -16,7 +14,6 @@ pub mod Taken
 pub mod Fit
 pub mod Endings
 pub mod Shorter
-pub mod Known
 pub mod GoesOn
 pub mod Pendings
 pub mod Outside

@@ -4,29 +4,30 @@ use Rattle.std.specs.Prelude.{option_and_then}
 use Rattle.std.proofs.lemmas.List.Elements.{All-append}
 use Rattle.std.proofs.lemmas.Bool.{cases_order}
 use Rattle.rtx_tree.specs.declared.constants.Constant.{Constant}
-use Rattle.c_cond.specs.declared.head.Head.{Head}
-use Rattle.c_cond.specs.declared.atom.Dialect.{Dialect}
-use Rattle.c_cond.specs.declared.token.Token.{Token}
+use Rattle.c_words.specs.declared.head.Head.{Head}
+use Rattle.c_words.specs.declared.atom.Dialect.{Dialect}
+use Rattle.c_words.specs.declared.token.Token.{Token}
 use Rattle.c_cond.specs.declared.goal.Goal.{Goal}
 use Rattle.c_cond.specs.declared.goal.Goal.TheVariants as goal
 use Rattle.c_cond.specs.declared.parser.Parser.{Parser}
-use Rattle.c_cond.specs.declared.lexer.Lexer.{Lexer}
-use Rattle.c_cond.specs.declared.lexer.Pending.{Pending}
-use Rattle.c_cond.specs.declared.lexer.Pending.TheVariants as pending
+use Rattle.c_words.specs.declared.lexer.Lexer.{Lexer}
+use Rattle.c_words.specs.declared.lexer.Pending.{Pending}
+use Rattle.c_words.specs.declared.lexer.Pending.TheVariants as pending
 use Rattle.c_cond.specs.declared.tree.Tree.{Tree}
 use Rattle.c_cond.specs.Tree.{heads_of_all, tree_of}
-use Rattle.c_cond.specs.Tokens.{tokens_in}
+use Rattle.c_words.specs.Tokens.{tokens_in}
 use Rattle.c_cond.specs.Grammar.{Sort, Statements, Condition, Is, IsText}
 use Rattle.c_cond.specs.declared.parse.CondRefusal.{CondRefusal}
 use Rattle.c_cond.specs.declared.parse.CondRefusal.TheVariants as refusal
 use Rattle.c_cond.specs.Answers.{Answers}
 use Rattle.c_cond.specs.machine.Refuses.{Refuses}
 use Rattle.c_cond.specs.Beginning.{Begins, IsOutside}
-use Rattle.c_cond.specs.machine.Lexing.{read_in, read_all}
-use Rattle.c_cond.specs.machine.Lexing as lexing
+use Rattle.c_words.specs.machine.Lexing.{read_in, read_all}
+use Rattle.c_words.specs.machine.Lexing as lexing
 use Rattle.c_cond.specs.machine.Steps.{at, next, finish, run, result_of}
-use Rattle.c_cond.specs.machine.Front.{known_words, goes_on, if_goes_on, kept, one_more, reach}
-use Rattle.c_cond.proofs.Lexes.{lexes}
+use Rattle.c_cond.specs.machine.Front.{goes_on, if_goes_on, kept, one_more, reach}
+use Rattle.c_words.specs.machine.Known.{known_words}
+use Rattle.c_words.proofs.Lexes.{lexes}
 use Rattle.c_cond.proofs.Fit.{fit, run_fits}
 use Rattle.c_cond.proofs.Endings.{AreBytes, Ending, ending}
 use Rattle.c_cond.proofs.Pendings.{split_off, Settled, settles, never}

@@ -6,25 +6,25 @@ use Rattle.std.proofs.lemmas.List.{append-nil, take-append-drop}
 use Rattle.std.proofs.lemmas.List.Elements.{All-append}
 use Rattle.std.proofs.lemmas.Bool.{leb-true}
 use Rattle.rtx_tree.specs.declared.constants.Constant.{Constant}
-use Rattle.c_cond.specs.declared.head.Binary.{Binary}
-use Rattle.c_cond.specs.declared.head.Head.{Head}
-use Rattle.c_cond.specs.declared.atom.Dialect.{Dialect}
-use Rattle.c_cond.specs.declared.token.Token.{Token}
-use Rattle.c_cond.specs.declared.token.Token.TheVariants as token
+use Rattle.c_words.specs.declared.head.Binary.{Binary}
+use Rattle.c_words.specs.declared.head.Head.{Head}
+use Rattle.c_words.specs.declared.atom.Dialect.{Dialect}
+use Rattle.c_words.specs.declared.token.Token.{Token}
+use Rattle.c_words.specs.declared.token.Token.TheVariants as token
 use Rattle.c_cond.specs.declared.goal.Goal.{Goal}
 use Rattle.c_cond.specs.declared.parser.Parser.{Parser}
-use Rattle.c_cond.specs.declared.lexer.Pending.{Pending}
-use Rattle.c_cond.specs.declared.lexer.Pending.TheVariants as pending
-use Rattle.c_cond.specs.Tokens.{in_word, is_blank, token_of_run, token_of_byte, operator_of_two}
-use Rattle.c_cond.specs.machine.Lexing.{begun, behind_run, behind_two, read_all}
-use Rattle.c_cond.specs.declared.lexer.Lexer.{Lexer}
-use Rattle.c_cond.specs.machine.Lexing as lexing
+use Rattle.c_words.specs.declared.lexer.Pending.{Pending}
+use Rattle.c_words.specs.declared.lexer.Pending.TheVariants as pending
+use Rattle.c_words.specs.Tokens.{in_word, is_blank, token_of_run, token_of_byte, operator_of_two}
+use Rattle.c_words.specs.machine.Lexing.{begun, behind_run, behind_two, read_all}
+use Rattle.c_words.specs.declared.lexer.Lexer.{Lexer}
+use Rattle.c_words.specs.machine.Lexing as lexing
 use Rattle.c_cond.specs.machine.Steps.{at, next, run, result_of}
-use Rattle.c_cond.specs.machine.Front.{is_taken, run_taken, word_taken, run_goes_on, known_words, second_bytes, operator_taken, byte_goes_on, goes_on}
-use Rattle.c_cond.proofs.Lexes.{all_read}
+use Rattle.c_cond.specs.machine.Front.{is_taken, run_taken, word_taken, run_goes_on, second_bytes, operator_taken, byte_goes_on, goes_on}
+use Rattle.c_words.specs.machine.Known.{known_words}
+use Rattle.c_words.proofs.Lexes.{all_read}
 use Rattle.c_cond.proofs.Taken.{goes, stops}
-use Rattle.c_cond.proofs.Fit.{both}
-use Rattle.c_cond.proofs.Known.{same_bytes}
+use Rattle.c_words.proofs.Listed.{both, same_bytes}
 use Rattle.c_cond.proofs.Endings.{AreBytes, no_bytes, byte_more, bytes_by}
 use Rattle.c_cond.proofs.GoesOn.{run_goes, byte_goes}
 

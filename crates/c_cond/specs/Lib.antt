@@ -1,7 +1,3 @@
-pub mod Words
-pub mod Numbers
-pub mod Tokens
-pub mod Atoms
 pub mod Tree
 pub mod Grammar
 pub mod Beginning

@@ -1,4 +1,3 @@
-pub mod Lexing
 pub mod Flat
 pub mod Steps
 pub mod Front

@@ -1,164 +1,32 @@
 //! How far a text goes on as some text of the grammar does.
-ghost use Rattle.std.specs.Prelude.{◌≡◌, ◌++◌, ◌∷◌, [], map, IfOk, OnOk};
+ghost use Rattle.std.specs.Prelude.{◌≡◌, ◌++◌, ◌∷◌, [], IfOk, OnOk};
 ghost use Rattle.std.specs.List.{list_all, list_any};
-ghost use Rattle.rtx_tree.specs.Code.{all_codes};
-ghost use Rattle.c_cond.specs.Words.{all_keywords, keyword_name};
-ghost use Rattle.c_cond.specs.Tokens as tokens;
-ghost use Rattle.c_cond.specs.declared.lexer.Pending.TheVariants as Pending;
+ghost use Rattle.c_words.specs.Tokens as tokens;
+ghost use Rattle.c_words.specs.declared.lexer.Pending.TheVariants as Pending;
+ghost use Rattle.c_words.specs.machine.Known.{known_words};
 ghost use Rattle.c_cond.specs.machine.Front as spec;
-ghost use Rattle.c_cond.specs.machine.Lexing.{at, read_byte};
+ghost use Rattle.c_words.specs.machine.Lexing.{at, read_byte};
 ghost use Rattle.c_cond.specs.machine.Steps as steps;
 ghost use Rattle.c_cond.specs.machine.Steps.{Steps};
 
-use crate::atom::Dialect;
 use crate::goal::{Goal, Goals};
-use crate::keyword::{Keyword, all_keywords};
-use crate::lexer::{Lexer, Pending, in_word, token_of_run};
 use crate::parser::{Parser, StepError};
-use crate::token::{Token, operator_of_two, token_of_byte};
-use crate::word::is_small;
+use c_words::{
+    Dialect, Lexer, Pending, Token, in_word, known_words, operator_of_two, token_of_byte,
+    token_of_run,
+};
 use plain_data::{Items, Memory};
-use rtx_tree::{Code, Constant, Name};
+use rtx_tree::{Constant, Name};
 use std::alloc::Global;
 use std::mem;
 
-/// Every code, once.
-const CODES: [Code; 48] = [
-    Code::Reg,
-    Code::ConstInt,
-    Code::SymbolRef,
-    Code::Mem,
-    Code::Subreg,
-    Code::Plus,
-    Code::Minus,
-    Code::Mult,
-    Code::Div,
-    Code::Udiv,
-    Code::Mod,
-    Code::Umod,
-    Code::And,
-    Code::Ior,
-    Code::Xor,
-    Code::Neg,
-    Code::Not,
-    Code::Ashift,
-    Code::Ashiftrt,
-    Code::Lshiftrt,
-    Code::SignExtend,
-    Code::ZeroExtend,
-    Code::Truncate,
-    Code::Eq,
-    Code::Ne,
-    Code::Lt,
-    Code::Le,
-    Code::Gt,
-    Code::Ge,
-    Code::Ltu,
-    Code::Leu,
-    Code::Gtu,
-    Code::Geu,
-    Code::Set,
-    Code::Used,
-    Code::Clobber,
-    Code::Parallel,
-    Code::Call,
-    Code::Return,
-    Code::Pc,
-    Code::LabelRef,
-    Code::IfThenElse,
-    Code::Scratch,
-    Code::MatchOperand,
-    Code::MatchDup,
-    Code::MatchScratch,
-    Code::MatchOperator,
-    Code::MatchOpDup,
-];
-
 /// The bytes that may be the second of an operator.
 const SECOND_BYTES: [u8; 5] = *b"|&=<>";
-
-fn all_codes() -> &'static [Code]
-    ensures { result.now ≡ all_codes }
-{
-    &CODES
-}
 
 fn second_bytes() -> &'static [u8]
     ensures { result.now ≡ spec.second_bytes }
 {
     &SECOND_BYTES
-}
-
-fn capital(byte: u8) -> u8
-    ensures { result ≡ spec.capital byte }
-{
-    if is_small(byte) { byte - 32 } else { byte }
-}
-
-/// The word that a code is in C.
-fn code_word(alloc: Global, code: Code) -> Result<Name, Memory>
-    ensures { IfOk result (λ word. word ≡ spec.code_word code) }
-{
-    let mut letters = Vec::new(alloc);
-    for byte in code.name().as_bytes() {
-        letters.push(capital(*byte))?;
-    }
-    Ok(Name::from_vec(letters))
-}
-
-fn mode_words(alloc: Global) -> Result<Items<Name>, Memory>
-    ensures { IfOk result (λ words. words ≡ spec.mode_words) }
-{
-    let mut words = Items::new(alloc);
-    words.push(Name::of(alloc, b"TARGET_")?)?;
-    words.push(Name::of(alloc, b"VOIDmode")?)?;
-    words.push(Name::of(alloc, b"QImode")?)?;
-    words.push(Name::of(alloc, b"HImode")?)?;
-    words.push(Name::of(alloc, b"SImode")?)?;
-    words.push(Name::of(alloc, b"DImode")?)?;
-    Ok(words)
-}
-
-fn push_keywords(alloc: Global, words: &mut Items<Name>) -> Result<(), Memory>
-    ensures { OnOk result (words.new ≡ words.old ++ map keyword_name all_keywords) }
-{
-    for keyword in all_keywords() {
-        words.push(Name::of(alloc, keyword.name().as_bytes())?)?;
-    }
-    Ok(())
-}
-
-fn push_codes(alloc: Global, words: &mut Items<Name>) -> Result<(), Memory>
-    ensures { OnOk result (words.new ≡ words.old ++ map spec.code_word all_codes) }
-{
-    for code in all_codes() {
-        words.push(code_word(alloc, *code)?)?;
-    }
-    Ok(())
-}
-
-fn push_constants(
-    alloc: Global,
-    constants: &[Constant],
-    words: &mut Items<Name>,
-) -> Result<(), Memory>
-    ensures { OnOk result (words.new ≡ words.old ++ map (λ c. c.name) constants.now) }
-{
-    for constant in constants {
-        words.push(constant.name.copy(alloc)?)?;
-    }
-    Ok(())
-}
-
-/// The words that are known before a text is read.
-fn known_words(alloc: Global, constants: &[Constant]) -> Result<Items<Name>, Memory>
-    ensures { IfOk result (λ words. words ≡ spec.known_words constants.now) }
-{
-    let mut words = mode_words(alloc)?;
-    push_keywords(alloc, &mut words)?;
-    push_codes(alloc, &mut words)?;
-    push_constants(alloc, constants, &mut words)?;
-    Ok(words)
 }
 
 fn are_in_word(bytes: &[u8]) -> bool
@@ -382,7 +250,7 @@ pub fn reach(
     goal: Goal,
     text: &[u8],
 ) -> Result<usize, Memory>
-    ensures { IfOk result (λ count. count ≡ spec.reach dialect constants.now (spec.known_words constants.now) (steps.at [] (goal ∷ [])) Pending.Nothing text.now) }
+    ensures { IfOk result (λ count. count ≡ spec.reach dialect constants.now (known_words constants.now) (steps.at [] (goal ∷ [])) Pending.Nothing text.now) }
 {
     let words = known_words(alloc, constants)?;
     let parser = Parser::new(alloc, goal)?;

@@ -3,9 +3,8 @@ ghost use Rattle.std.specs.Prelude.{◌≡◌, List, [], ◌∷◌, OnOk, OnErr,
 ghost use Rattle.std.specs.Option.{is_some};
 ghost use Rattle.c_cond.specs.machine.Steps.{passed};
 
-use crate::atom::Property;
-use crate::head::Head;
 use crate::part::Part;
+use c_words::{Head, Property};
 use plain_data::Memory;
 use std::alloc::Global;
 use std::marker::Model;

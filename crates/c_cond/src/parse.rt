@@ -2,24 +2,22 @@
 ghost use Rattle.std.specs.Prelude.{◌≡◌, ℕ, List, [], ◌∷◌, IfOk};
 ghost use Rattle.c_cond.specs.declared.tree.Tree.{Tree};
 ghost use Rattle.c_cond.specs.Tree.{heads_of};
-ghost use Rattle.c_cond.specs.declared.atom.Dialect.TheVariants as Dialect;
-ghost use Rattle.c_cond.specs.Tokens.{tokens_in};
+ghost use Rattle.c_words.specs.declared.atom.Dialect.TheVariants as Dialect;
+ghost use Rattle.c_words.specs.Tokens.{tokens_in};
 ghost use Rattle.c_cond.specs.Grammar.{IsText, Condition, Statements};
 ghost use Rattle.c_cond.specs.Answers.{Answers};
 ghost use Rattle.c_cond.specs.Beginning.{IsOutside};
-ghost use Rattle.c_cond.specs.declared.lexer.Pending.TheVariants as Pending;
+ghost use Rattle.c_words.specs.declared.lexer.Pending.TheVariants as Pending;
+ghost use Rattle.c_words.specs.machine.Known.{known_words};
 ghost use Rattle.c_cond.specs.machine.Front as front;
 ghost use Rattle.c_cond.specs.machine.Refuses.{Refuses};
 ghost use Rattle.c_cond.specs.machine.Steps as spec;
 ghost use Rattle.c_cond.specs.machine.Steps.{Gives};
 
-use crate::atom::Dialect;
 use crate::front::reach;
 use crate::goal::Goal;
-use crate::head::Head;
-use crate::lexer::tokens_in;
 use crate::parser::{Parser, StepError};
-use crate::token::Token;
+use c_words::{Dialect, Head, Token, tokens_in};
 use plain_data::{Items, Memory};
 use rtx_tree::{Constant, Constants};
 use std::alloc::Global;
@@ -146,7 +144,7 @@ fn outside(
     goal: Goal,
     text: &[u8],
 ) -> CondRefusal
-    ensures { Refuses result (front.reach dialect constants.now (front.known_words constants.now) (spec.at [] (goal ∷ [])) Pending.Nothing text.now) }
+    ensures { Refuses result (front.reach dialect constants.now (known_words constants.now) (spec.at [] (goal ∷ [])) Pending.Nothing text.now) }
 {
     match reach(alloc, dialect, constants.as_slice(), goal, text) {
         Ok(count) => CondRefusal::Outside {

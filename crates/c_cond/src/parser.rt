@@ -3,10 +3,8 @@ ghost use Rattle.std.specs.Prelude.{◌≡◌, List, [], ◌∷◌, IfOk, OnOk};
 ghost use Rattle.c_cond.specs.machine.Steps as spec;
 ghost use Rattle.c_cond.specs.machine.Steps.{Steps, Gives};
 
-use crate::atom::Dialect;
 use crate::goal::{Goal, Goals};
-use crate::head::Head;
-use crate::token::Token;
+use c_words::{Dialect, Head, Token};
 use plain_data::{Items, Memory};
 use rtx_tree::Constant;
 use std::alloc::Global;

@@ -2,20 +2,19 @@
 ghost use Rattle.std.specs.Prelude.{◌≡◌, List, [], ◌∷◌, OnOk, IfOk, Option};
 ghost use Rattle.bits64.specs.Words.{signed};
 ghost use Rattle.bits64.specs.declared.Width.TheVariants as Width;
-ghost use Rattle.c_cond.specs.Words as words;
+ghost use Rattle.c_words.specs.Words as words;
 ghost use Rattle.c_cond.specs.Grammar.{comparison_with, comparison_of, value_mode_named};
 ghost use Rattle.c_cond.specs.machine.Steps as spec;
 ghost use Rattle.c_cond.specs.machine.Steps.{Takes};
 ghost use Rattle.c_cond.specs.machine.Front.{is_taken};
 ghost use Rattle.std.specs.Option.{is_some};
 
-use crate::atom::{Atom, Dialect, Property, atom_of};
 use crate::goal::{Goal, Goals};
-use crate::head::{Binary, Call, Head, Unary};
-use crate::keyword::Keyword;
 use crate::part::{Part, Signature, is_maker, level, signature_of, unary_of};
-use crate::token::Token;
-use crate::word::{code_named, mode_named};
+use c_words::{
+    Atom, Binary, Call, Dialect, Head, Keyword, Property, Token, Unary, atom_of, code_named,
+    mode_named,
+};
 use plain_data::Memory;
 use rtx_tree::{Constant, Mode, Name};
 use std::alloc::Global;

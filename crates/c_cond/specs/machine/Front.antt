@@ -1,23 +1,20 @@
 -- How far a text goes on as some text of the grammar does, one byte after the other. Only private clauses and proofs
 -- speak of it: where a text stops being one, is said in Beginning.
-use Rattle.std.specs.Prelude.{ℕ, suc, ◌-◌, Bool, true, false, ◌&&◌, ◌||◌, List, [], ◌∷◌, ◌++◌, Option, Some, None, if◌then◌else◌, option_and_then, codes, map, take, drop, length, is_some}
+use Rattle.std.specs.Prelude.{ℕ, suc, Bool, true, false, ◌&&◌, ◌||◌, List, [], ◌∷◌, ◌++◌, Option, Some, None, if◌then◌else◌, option_and_then, take, drop, length, is_some}
 use Rattle.std.specs.Str.{bytes_eq}
 use Rattle.std.specs.List.{list_all, list_any}
-use Rattle.rtx_tree.specs.declared.code.Code.{Code}
 use Rattle.rtx_tree.specs.declared.constants.Constant.{Constant}
-use Rattle.rtx_tree.specs.Code.{code_name, all_codes}
-use Rattle.c_cond.specs.declared.head.Binary.{Binary}
-use Rattle.c_cond.specs.declared.atom.Dialect.{Dialect}
-use Rattle.c_cond.specs.declared.token.Token.{Token}
-use Rattle.c_cond.specs.declared.token.Token.TheVariants as token
+use Rattle.c_words.specs.declared.head.Binary.{Binary}
+use Rattle.c_words.specs.declared.atom.Dialect.{Dialect}
+use Rattle.c_words.specs.declared.token.Token.{Token}
+use Rattle.c_words.specs.declared.token.Token.TheVariants as token
 use Rattle.c_cond.specs.declared.goal.Goal.{Goal}
 use Rattle.c_cond.specs.declared.parser.Parser.{Parser}
-use Rattle.c_cond.specs.declared.lexer.Pending.{Pending}
-use Rattle.c_cond.specs.declared.lexer.Pending.TheVariants as pending
-use Rattle.c_cond.specs.declared.lexer.Lexer.{Lexer}
-use Rattle.c_cond.specs.Words.{is_small, keyword_name, all_keywords}
-use Rattle.c_cond.specs.Tokens.{in_word, token_of_run, token_of_byte, operator_of_two}
-use Rattle.c_cond.specs.machine.Lexing.{read_in}
+use Rattle.c_words.specs.declared.lexer.Pending.{Pending}
+use Rattle.c_words.specs.declared.lexer.Pending.TheVariants as pending
+use Rattle.c_words.specs.declared.lexer.Lexer.{Lexer}
+use Rattle.c_words.specs.Tokens.{in_word, token_of_run, token_of_byte, operator_of_two}
+use Rattle.c_words.specs.machine.Lexing.{read_in}
 use Rattle.c_cond.specs.machine.Steps.{takes, passed, run}
 
 -- whether some goal takes the token, where those before it may be passed over
@@ -26,22 +23,6 @@ is_taken d cs t [] = false
 is_taken d cs t (g ∷ gs) = is_some (takes d cs g t []) || (is_some (passed g) && is_taken d cs t gs)
 
 -- ---- words that a run may become
-
--- what begins the names of facts of the target, and the modes
-abbrev pub mode_words : List (List ℕ)
-mode_words = codes "TARGET_" ∷ codes "VOIDmode" ∷ codes "QImode" ∷ codes "HImode" ∷ codes "SImode" ∷ codes "DImode" ∷ []
-
--- a letter in its capital form, any other byte as it is
-abbrev pub capital : ℕ → ℕ
-capital b = if is_small b then b - 32 else b
-
--- the word that a code is in C
-abbrev pub code_word : Code → List ℕ
-code_word c = map capital (code_name c)
-
--- the words that are known before a text is read
-abbrev pub known_words : List Constant → List (List ℕ)
-known_words cs = ((mode_words ++ map keyword_name all_keywords) ++ map code_word all_codes) ++ map (λ c. c.name) cs
 
 -- whether a run that begins a word may go on as the word
 abbrev pub goes_on_as : List ℕ → List ℕ → Bool

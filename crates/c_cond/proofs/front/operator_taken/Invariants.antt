@@ -1,6 +1,6 @@
 use Rattle.std.proofs.Common.{◌≡◌, drop}
 use Rattle.std.specs.List.{list_any}
-use Rattle.c_cond.specs.Tokens.{operator_of_two}
+use Rattle.c_words.specs.Tokens.{operator_of_two}
 use Rattle.c_cond.specs.machine.Front.{operator_taken}
 use Rattle.c_cond.proofs.front.operator_taken.Given as goal
 

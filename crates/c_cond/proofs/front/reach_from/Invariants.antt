@@ -1,5 +1,5 @@
 use Rattle.std.proofs.Common.{◌≡◌, ◌+◌, [], drop}
-use Rattle.c_cond.specs.declared.lexer.Pending.TheVariants as pending
+use Rattle.c_words.specs.declared.lexer.Pending.TheVariants as pending
 use Rattle.c_cond.specs.machine.Front.{reach}
 use Rattle.c_cond.proofs.front.reach_from.Given as goal
 

@@ -1,6 +1,0 @@
-use Rattle.std.proofs.Common.{◌≡◌, take, map}
-use Rattle.c_cond.specs.machine.Front.{capital}
-use Rattle.c_cond.proofs.front.code_word.Given as goal
-
-abbrev pub invariant-loop-byte : goal.invariant-loop-byte
-invariant-loop-byte l = l.letters.items ≡ map capital (take l.byte-index l.byte-items)

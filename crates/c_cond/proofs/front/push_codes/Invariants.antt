@@ -1,6 +1,0 @@
-use Rattle.std.proofs.Common.{◌≡◌, ◌++◌, take, map}
-use Rattle.c_cond.specs.machine.Front.{code_word}
-use Rattle.c_cond.proofs.front.push_codes.Given as goal
-
-abbrev pub invariant-loop-code : goal.invariant-loop-code
-invariant-loop-code l = l.words ≡ l.initial.words ++ map code_word (take l.code-index l.code-items)

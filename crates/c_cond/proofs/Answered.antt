@@ -1,9 +1,9 @@
 -- What parsing answers is what the grammar says of the text.
 use Rattle.std.proofs.Common.{◌≡◌, List, [], ◌∷◌, Some, None, sym, ap, subst, ◌∙◌}
 use Rattle.rtx_tree.specs.declared.constants.Constant.{Constant}
-use Rattle.c_cond.specs.declared.head.Head.{Head}
-use Rattle.c_cond.specs.declared.atom.Dialect.{Dialect}
-use Rattle.c_cond.specs.declared.token.Token.{Token}
+use Rattle.c_words.specs.declared.head.Head.{Head}
+use Rattle.c_words.specs.declared.atom.Dialect.{Dialect}
+use Rattle.c_words.specs.declared.token.Token.{Token}
 use Rattle.c_cond.specs.declared.goal.Goal.TheVariants as goal
 use Rattle.c_cond.specs.declared.tree.Tree.{Tree}
 use Rattle.c_cond.specs.Tree.{heads_of, heads_of_all, tree_of}
@@ -41,10 +41,10 @@ is_statements d cs heads ts e =
     made d cs Statements heads ts g.0 g.1 (good d cs Statements (g.0 ∷ []) ts g.2) g.2
 
 -- what is read of the text of a tree are the tree's heads
-read_condition : (d : Dialect) (cs : List Constant) (t : Tree) (ts : List Token) → Is d cs Condition (t ∷ []) ts → result_of d cs (at [] (goal.Condition ∷ [])) ts ≡ Some (heads_of_all (t ∷ []))
+pub read_condition : (d : Dialect) (cs : List Constant) (t : Tree) (ts : List Token) → Is d cs Condition (t ∷ []) ts → result_of d cs (at [] (goal.Condition ∷ [])) ts ≡ Some (heads_of_all (t ∷ []))
 read_condition d cs t ts i = complete_condition d cs (heads_of_all (t ∷ [])) ts (flattened d cs Condition (t ∷ []) ts i)
 
-read_statements : (d : Dialect) (cs : List Constant) (t : Tree) (ts : List Token) → Is d cs Statements (t ∷ []) ts → result_of d cs (at [] (goal.Statements ∷ [])) ts ≡ Some (heads_of_all (t ∷ []))
+pub read_statements : (d : Dialect) (cs : List Constant) (t : Tree) (ts : List Token) → Is d cs Statements (t ∷ []) ts → result_of d cs (at [] (goal.Statements ∷ [])) ts ≡ Some (heads_of_all (t ∷ []))
 read_statements d cs t ts i = complete_statements d cs (heads_of_all (t ∷ [])) ts (flattened d cs Statements (t ∷ []) ts i)
 
 pub no_condition : (d : Dialect) (cs : List Constant) (ts : List Token) → result_of d cs (at [] (goal.Condition ∷ [])) ts ≡ None → (t : Tree) → Is d cs Condition (t ∷ []) ts → ⊥

@@ -3,25 +3,25 @@ use Rattle.std.proofs.Common.{◌≡◌, ℕ, ◌+◌, ◌<◌, ◌≤◌, ◌^�
 use Rattle.std.proofs.lemmas.List.{append-nil}
 use Rattle.std.proofs.lemmas.Bool.{le-leb, lt-ltb}
 use Rattle.rtx_tree.specs.declared.constants.Constant.{Constant}
-use Rattle.c_cond.specs.declared.head.Binary.{Binary}
-use Rattle.c_cond.specs.declared.head.Head.{Head}
-use Rattle.c_cond.specs.declared.head.Head.TheVariants as head
-use Rattle.c_cond.specs.declared.keyword.Keyword.TheVariants as keyword
-use Rattle.c_cond.specs.declared.atom.Dialect.{Dialect}
-use Rattle.c_cond.specs.declared.atom.Dialect.TheVariants as dialect
-use Rattle.c_cond.specs.declared.atom.Property.{Property}
-use Rattle.c_cond.specs.declared.token.Token.{Token}
-use Rattle.c_cond.specs.declared.token.Token.TheVariants as token
+use Rattle.c_words.specs.declared.head.Binary.{Binary}
+use Rattle.c_words.specs.declared.head.Head.{Head}
+use Rattle.c_words.specs.declared.head.Head.TheVariants as head
+use Rattle.c_words.specs.declared.keyword.Keyword.TheVariants as keyword
+use Rattle.c_words.specs.declared.atom.Dialect.{Dialect}
+use Rattle.c_words.specs.declared.atom.Dialect.TheVariants as dialect
+use Rattle.c_words.specs.declared.atom.Property.{Property}
+use Rattle.c_words.specs.declared.token.Token.{Token}
+use Rattle.c_words.specs.declared.token.Token.TheVariants as token
 use Rattle.c_cond.specs.declared.part.Part.{Part}
 use Rattle.c_cond.specs.declared.part.Part.TheVariants as part
 use Rattle.c_cond.specs.declared.goal.Goal.{Goal}
 use Rattle.c_cond.specs.declared.goal.Goal.TheVariants as goal
-use Rattle.c_cond.specs.Words.{keyword_named}
-use Rattle.c_cond.specs.declared.head.Unary.{Unary}
+use Rattle.c_words.specs.Words.{keyword_named}
+use Rattle.c_words.specs.declared.head.Unary.{Unary}
 use Rattle.c_cond.specs.declared.part.Signature.{Signature}
 use Rattle.c_cond.specs.declared.part.Signature.TheVariants as signature
-use Rattle.c_cond.specs.declared.atom.Atom.TheVariants as atom
-use Rattle.c_cond.specs.Atoms.{atom_of}
+use Rattle.c_words.specs.declared.atom.Atom.TheVariants as atom
+use Rattle.c_words.specs.Atoms.{atom_of}
 use Rattle.c_cond.specs.Grammar.{open_round, close_round, open_square, close_square, comma, colon, semicolon, becomes, question, level, equality, unary_level, unary_of, expression, comparison_of, comparison_with, Parts}
 use Rattle.c_cond.specs.machine.Steps.{takes, takes_more, compare_then, parts_then, call_then, more}
 use Rattle.c_cond.proofs.Making.{R, First, first_map, first_all, take, same_more, recode, retoken, yield, more_over, Allowed, level_small, allowed_same, allowed_none, allowed_up, allowed_all, allowed_zero, place, PartReads, Reads}

@@ -7,18 +7,18 @@ use Rattle.bits64.specs.Words.{signed}
 use Rattle.bits64.specs.declared.Width.TheVariants.{W64}
 use Rattle.rtx_tree.specs.declared.constants.Constant.{Constant}
 use Rattle.rtx_tree.specs.declared.code.Mode.{Mode}
-use Rattle.c_cond.specs.declared.head.Call.{Call}
-use Rattle.c_cond.specs.declared.head.Call.TheVariants as call
-use Rattle.c_cond.specs.declared.head.Head.{Head}
-use Rattle.c_cond.specs.declared.head.Head.TheVariants as head
-use Rattle.c_cond.specs.declared.keyword.Keyword.{Keyword}
-use Rattle.c_cond.specs.declared.keyword.Keyword.TheVariants as keyword
-use Rattle.c_cond.specs.declared.atom.Dialect.{Dialect}
-use Rattle.c_cond.specs.declared.atom.Dialect.TheVariants as dialect
-use Rattle.c_cond.specs.declared.atom.Property.{Property}
-use Rattle.c_cond.specs.declared.token.Token.{Token}
+use Rattle.c_words.specs.declared.head.Call.{Call}
+use Rattle.c_words.specs.declared.head.Call.TheVariants as call
+use Rattle.c_words.specs.declared.head.Head.{Head}
+use Rattle.c_words.specs.declared.head.Head.TheVariants as head
+use Rattle.c_words.specs.declared.keyword.Keyword.{Keyword}
+use Rattle.c_words.specs.declared.keyword.Keyword.TheVariants as keyword
+use Rattle.c_words.specs.declared.atom.Dialect.{Dialect}
+use Rattle.c_words.specs.declared.atom.Dialect.TheVariants as dialect
+use Rattle.c_words.specs.declared.atom.Property.{Property}
+use Rattle.c_words.specs.declared.token.Token.{Token}
 use Rattle.c_cond.specs.declared.part.Part.TheVariants as part
-use Rattle.c_cond.specs.Words.{keyword_named, mode_named}
+use Rattle.c_words.specs.Words.{keyword_named, mode_named}
 use Rattle.c_cond.specs.declared.part.Signature.{Signature}
 use Rattle.c_cond.specs.declared.part.Signature.TheVariants as signature
 use Rattle.c_cond.specs.declared.tree.Tree.{Tree}
@@ -26,11 +26,11 @@ use Rattle.c_cond.specs.declared.tree.Tree.TheFolds.{fold-roll-Tree}
 use Rattle.c_cond.specs.Tree.{node, leaf, heads_step, heads_of, heads_of_all, size_of, grown, first_or_nothing, tree_of}
 use Rattle.rtx_tree.specs.declared.code.Code.{Code}
 use Rattle.std.specs.Prelude.{ℤ, option_map}
-use Rattle.c_cond.specs.declared.atom.Atom.{Atom}
-use Rattle.c_cond.specs.declared.atom.Atom.TheVariants as atom
-use Rattle.c_cond.specs.declared.atom.Property.TheVariants as property
-use Rattle.c_cond.specs.Words.{code_named, constant_named, is_target}
-use Rattle.c_cond.specs.Atoms.{is_question, atom_of, atom_by, atom_of_keyword, atom_of_name, predicate_or_nothing, target_number}
+use Rattle.c_words.specs.declared.atom.Atom.{Atom}
+use Rattle.c_words.specs.declared.atom.Atom.TheVariants as atom
+use Rattle.c_words.specs.declared.atom.Property.TheVariants as property
+use Rattle.c_words.specs.Words.{code_named, constant_named, is_target}
+use Rattle.c_words.specs.Atoms.{is_question, atom_of, atom_by, atom_of_keyword, atom_of_name, predicate_or_nothing, target_number}
 use Rattle.c_cond.specs.Grammar as grammar
 use Rattle.c_cond.specs.Grammar.{Sort, One, Parts, Statement, Statements, Condition, signature_of, predicate_parts, comparison_with}
 

@@ -1,5 +1,3 @@
-pub mod Lexes
-pub mod Codes
 pub mod Meets
 pub mod Levels
 pub mod SoundExpressions
@@ -12,3 +10,10 @@ pub mod CompleteStatements
 pub mod Growth
 pub mod Grown
 pub mod Answered
+pub mod Taken
+pub mod Fit
+pub mod Endings
+pub mod Shorter
+pub mod GoesOn
+pub mod Pendings
+pub mod Outside

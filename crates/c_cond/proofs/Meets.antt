@@ -1,20 +1,20 @@
 -- What some tokens and a tree are to what a text must still have.
 use Rattle.std.proofs.Common.{◌≡◌, ℕ, ◌<◌, ◌≤◌, ◌^◌, Bool, true, false, List, [], ◌∷◌, ◌++◌, Option, Some, refl, sym, ap, subst, append_assoc, ◌⊎◌}
 use Rattle.rtx_tree.specs.declared.constants.Constant.{Constant}
-use Rattle.c_cond.specs.declared.head.Head.{Head}
-use Rattle.c_cond.specs.declared.head.Head.TheVariants as head
-use Rattle.c_cond.specs.declared.keyword.Keyword.{Keyword}
-use Rattle.c_cond.specs.declared.keyword.Keyword.TheVariants as keyword
-use Rattle.c_cond.specs.declared.atom.Dialect.{Dialect}
-use Rattle.c_cond.specs.declared.atom.Property.{Property}
-use Rattle.c_cond.specs.declared.token.Token.{Token}
-use Rattle.c_cond.specs.declared.token.Token.TheVariants as token
+use Rattle.c_words.specs.declared.head.Head.{Head}
+use Rattle.c_words.specs.declared.head.Head.TheVariants as head
+use Rattle.c_words.specs.declared.keyword.Keyword.{Keyword}
+use Rattle.c_words.specs.declared.keyword.Keyword.TheVariants as keyword
+use Rattle.c_words.specs.declared.atom.Dialect.{Dialect}
+use Rattle.c_words.specs.declared.atom.Property.{Property}
+use Rattle.c_words.specs.declared.token.Token.{Token}
+use Rattle.c_words.specs.declared.token.Token.TheVariants as token
 use Rattle.c_cond.specs.declared.part.Part.TheVariants as part
 use Rattle.c_cond.specs.declared.part.Signature.{Signature}
 use Rattle.c_cond.specs.declared.part.Signature.TheVariants as signature
 use Rattle.c_cond.specs.declared.goal.Goal.{Goal}
 use Rattle.c_cond.specs.declared.goal.Goal.TheVariants as goal
-use Rattle.c_cond.specs.Words.{keyword_named}
+use Rattle.c_words.specs.Words.{keyword_named}
 use Rattle.c_cond.specs.Grammar.{open_round, close_round, comma, semicolon, becomes, close_square, comparison_of, comparison_with, One, Parts, Statement, Statements, Condition}
 use Rattle.c_cond.specs.machine.Flat.{Is}
 use Rattle.c_cond.specs.machine.Steps.{parts_then, call_then}

@@ -3,17 +3,17 @@ use Rattle.std.proofs.Common.{◌≡◌, ℕ, false, List, [], ◌∷◌, ◌++�
 use Rattle.std.specs.Prelude.{option_and_then, pos}
 use Rattle.std.proofs.lemmas.List.{append-nil}
 use Rattle.rtx_tree.specs.declared.constants.Constant.{Constant}
-use Rattle.c_cond.specs.declared.head.Head.{Head}
-use Rattle.c_cond.specs.declared.head.Head.TheVariants as head
-use Rattle.c_cond.specs.declared.keyword.Keyword.{Keyword}
-use Rattle.c_cond.specs.declared.keyword.Keyword.TheVariants as keyword
-use Rattle.c_cond.specs.declared.atom.Dialect.{Dialect}
-use Rattle.c_cond.specs.declared.token.Token.{Token}
-use Rattle.c_cond.specs.declared.token.Token.TheVariants as token
+use Rattle.c_words.specs.declared.head.Head.{Head}
+use Rattle.c_words.specs.declared.head.Head.TheVariants as head
+use Rattle.c_words.specs.declared.keyword.Keyword.{Keyword}
+use Rattle.c_words.specs.declared.keyword.Keyword.TheVariants as keyword
+use Rattle.c_words.specs.declared.atom.Dialect.{Dialect}
+use Rattle.c_words.specs.declared.token.Token.{Token}
+use Rattle.c_words.specs.declared.token.Token.TheVariants as token
 use Rattle.c_cond.specs.declared.part.Part.TheVariants as part
 use Rattle.c_cond.specs.declared.goal.Goal.{Goal}
 use Rattle.c_cond.specs.declared.goal.Goal.TheVariants as goal
-use Rattle.c_cond.specs.Words.{keyword_named}
+use Rattle.c_words.specs.Words.{keyword_named}
 use Rattle.c_cond.specs.declared.parser.Parser.{Parser}
 use Rattle.c_cond.specs.Grammar.{One}
 use Rattle.c_cond.specs.machine.Flat.{Is}

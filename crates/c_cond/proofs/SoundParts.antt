@@ -3,21 +3,21 @@ use Rattle.std.proofs.Common.{◌≡◌, ℕ, ◌+◌, ◌≤◌, nat_le, Bool, 
 use Rattle.std.proofs.lemmas.Bool.{leb-true, eqb-true}
 use Rattle.rtx_tree.specs.declared.constants.Constant.{Constant}
 use Rattle.rtx_tree.specs.declared.code.Mode.{Mode}
-use Rattle.c_cond.specs.declared.head.Binary.{Binary}
-use Rattle.c_cond.specs.declared.head.Call.{Call}
-use Rattle.c_cond.specs.declared.head.Head.{Head}
-use Rattle.c_cond.specs.declared.head.Head.TheVariants as head
-use Rattle.c_cond.specs.declared.keyword.Keyword.{Keyword}
-use Rattle.c_cond.specs.declared.keyword.Keyword.TheVariants as keyword
-use Rattle.c_cond.specs.declared.atom.Dialect.{Dialect}
-use Rattle.c_cond.specs.declared.atom.Dialect.TheVariants as dialect
-use Rattle.c_cond.specs.declared.token.Token.{Token}
-use Rattle.c_cond.specs.declared.token.Token.TheVariants as token
+use Rattle.c_words.specs.declared.head.Binary.{Binary}
+use Rattle.c_words.specs.declared.head.Call.{Call}
+use Rattle.c_words.specs.declared.head.Head.{Head}
+use Rattle.c_words.specs.declared.head.Head.TheVariants as head
+use Rattle.c_words.specs.declared.keyword.Keyword.{Keyword}
+use Rattle.c_words.specs.declared.keyword.Keyword.TheVariants as keyword
+use Rattle.c_words.specs.declared.atom.Dialect.{Dialect}
+use Rattle.c_words.specs.declared.atom.Dialect.TheVariants as dialect
+use Rattle.c_words.specs.declared.token.Token.{Token}
+use Rattle.c_words.specs.declared.token.Token.TheVariants as token
 use Rattle.c_cond.specs.declared.part.Part.{Part}
 use Rattle.c_cond.specs.declared.part.Part.TheVariants as part
 use Rattle.c_cond.specs.declared.goal.Goal.{Goal}
 use Rattle.c_cond.specs.declared.goal.Goal.TheVariants as goal
-use Rattle.c_cond.specs.Words.{keyword_named, mode_named}
+use Rattle.c_words.specs.Words.{keyword_named, mode_named}
 use Rattle.c_cond.specs.Grammar.{open_round, close_round, open_square, colon, question, level, expression, signature_of, is_maker, value_mode_named, One}
 use Rattle.c_cond.specs.machine.Flat.{Is}
 use Rattle.c_cond.specs.machine.Steps.{takes_question, takes_more, takes_mark, operand_by, takes_operand, value_by, takes_value, mode_then, takes_any_mode, takes_value_mode, takes_window, takes_part, call_then}

@@ -1,11 +1,13 @@
 -- What an answer of parsing says of the text.
-use Rattle.std.specs.Prelude.{Result, Ok, Err}
+use Rattle.std.specs.Prelude.{ℕ, List, Result, Ok, Err}
 use Rattle.c_cond.specs.declared.tree.Tree.{Tree}
 use Rattle.c_cond.specs.declared.parse.CondRefusal.{CondRefusal}
 use Rattle.c_cond.specs.declared.parse.CondRefusal.TheVariants as refusal
+use Rattle.c_cond.specs.Beginning.{IsOutside}
 
--- The answer is the tree, where the text has one; Outside, where it has none; that memory ran out says nothing of it.
-abbrev pub Answers : (Tree → Type 0) → Result (Tree) CondRefusal → Type 0
-Answers IsTree (Ok tree) = IsTree tree
-Answers IsTree (Err refusal.Outside) = (tree : Tree) → IsTree tree → ⊥
-Answers IsTree (Err refusal.Memory) = Unit {0}
+-- The answer is the tree, where the text has one; Outside, where it has none, with the offset that ends the longest prefix
+-- of it that begins a text; that memory ran out says nothing of it.
+abbrev pub Answers : (List ℕ → Tree → Type 0) → List ℕ → Result (Tree) CondRefusal → Type 0
+Answers IsText bytes (Ok tree) = IsText bytes tree
+Answers IsText bytes (Err (refusal.Outside offset)) = IsOutside IsText bytes offset
+Answers IsText bytes (Err refusal.Memory) = Unit {0}

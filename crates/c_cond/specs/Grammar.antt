@@ -10,31 +10,31 @@ use Rattle.rtx_tree.specs.declared.code.Mode.{Mode}
 use Rattle.rtx_tree.specs.declared.code.Mode.TheVariants as mode
 use Rattle.bits64.specs.Words.{signed}
 use Rattle.bits64.specs.declared.Width.TheVariants.{W64}
-use Rattle.c_cond.specs.declared.head.Binary.{Binary}
-use Rattle.c_cond.specs.declared.head.Binary.TheVariants as binary
-use Rattle.c_cond.specs.declared.head.Unary.{Unary}
-use Rattle.c_cond.specs.declared.head.Unary.TheVariants as unary
-use Rattle.c_cond.specs.declared.head.Call.{Call}
-use Rattle.c_cond.specs.declared.head.Call.TheVariants as call
-use Rattle.c_cond.specs.declared.head.Head.{Head}
+use Rattle.c_words.specs.declared.head.Binary.{Binary}
+use Rattle.c_words.specs.declared.head.Binary.TheVariants as binary
+use Rattle.c_words.specs.declared.head.Unary.{Unary}
+use Rattle.c_words.specs.declared.head.Unary.TheVariants as unary
+use Rattle.c_words.specs.declared.head.Call.{Call}
+use Rattle.c_words.specs.declared.head.Call.TheVariants as call
+use Rattle.c_words.specs.declared.head.Head.{Head}
 use Rattle.c_cond.specs.declared.tree.Tree.{Tree}
 use Rattle.c_cond.specs.Tree.{node, leaf}
-use Rattle.c_cond.specs.declared.head.Head.TheVariants as head
-use Rattle.c_cond.specs.declared.keyword.Keyword.TheVariants as keyword
-use Rattle.c_cond.specs.declared.atom.Atom.TheVariants as atom
-use Rattle.c_cond.specs.declared.atom.Dialect.{Dialect}
-use Rattle.c_cond.specs.declared.atom.Dialect.TheVariants as dialect
-use Rattle.c_cond.specs.declared.atom.Property.{Property}
-use Rattle.c_cond.specs.declared.atom.Property.TheVariants as property
-use Rattle.c_cond.specs.declared.token.Token.{Token}
-use Rattle.c_cond.specs.declared.token.Token.TheVariants as token
+use Rattle.c_words.specs.declared.head.Head.TheVariants as head
+use Rattle.c_words.specs.declared.keyword.Keyword.TheVariants as keyword
+use Rattle.c_words.specs.declared.atom.Atom.TheVariants as atom
+use Rattle.c_words.specs.declared.atom.Dialect.{Dialect}
+use Rattle.c_words.specs.declared.atom.Dialect.TheVariants as dialect
+use Rattle.c_words.specs.declared.atom.Property.{Property}
+use Rattle.c_words.specs.declared.atom.Property.TheVariants as property
+use Rattle.c_words.specs.declared.token.Token.{Token}
+use Rattle.c_words.specs.declared.token.Token.TheVariants as token
 use Rattle.c_cond.specs.declared.part.Part.{Part}
 use Rattle.c_cond.specs.declared.part.Part.TheVariants as part
 use Rattle.c_cond.specs.declared.part.Signature.{Signature}
 use Rattle.c_cond.specs.declared.part.Signature.TheVariants as signature
-use Rattle.c_cond.specs.Words.{keyword_named, mode_named, code_named}
-use Rattle.c_cond.specs.Atoms.{atom_of}
-use Rattle.c_cond.specs.Tokens.{tokens_in}
+use Rattle.c_words.specs.Words.{keyword_named, mode_named, code_named}
+use Rattle.c_words.specs.Atoms.{atom_of}
+use Rattle.c_words.specs.Tokens.{tokens_in}
 
 -- ---- marks, by their ASCII codes
 

@@ -1,8 +1,5 @@
-pub mod Words
-pub mod Numbers
-pub mod Tokens
-pub mod Atoms
 pub mod Tree
 pub mod Grammar
+pub mod Beginning
 pub mod Answers
 pub mod machine

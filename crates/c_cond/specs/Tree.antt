@@ -1,10 +1,10 @@
 -- Conditions and statements as trees, and their heads in a row.
 use Rattle.std.specs.Prelude.{ℕ, List, [], ◌∷◌, ◌++◌, take, drop, reverse}
 use Rattle.std.specs.List.{flat_map}
-use Rattle.c_cond.specs.declared.head.Head.{Head}
-use Rattle.c_cond.specs.declared.head.Head.TheVariants as head
-use Rattle.c_cond.specs.declared.head.Call.{Call}
-use Rattle.c_cond.specs.declared.head.Call.TheVariants as call
+use Rattle.c_words.specs.declared.head.Head.{Head}
+use Rattle.c_words.specs.declared.head.Head.TheVariants as head
+use Rattle.c_words.specs.declared.head.Call.{Call}
+use Rattle.c_words.specs.declared.head.Call.TheVariants as call
 use Rattle.c_cond.specs.declared.tree.Tree.{Tree, roll-Tree}
 use Rattle.c_cond.specs.declared.tree.Tree.TheOpen.{Tree-F}
 use Rattle.c_cond.specs.declared.tree.Tree.TheFolds.{fold-Tree}

@@ -1,3 +1,4 @@
-pub mod Lexing
 pub mod Flat
 pub mod Steps
+pub mod Front
+pub mod Refuses

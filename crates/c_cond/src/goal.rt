@@ -1,9 +1,10 @@
 //! What a text must still have, innermost first.
-ghost use Rattle.std.specs.Prelude.{◌≡◌, List, [], ◌∷◌, OnOk, OnErr, MatchOption, length};
+ghost use Rattle.std.specs.Prelude.{◌≡◌, List, [], ◌∷◌, OnOk, OnErr, MatchOption, length, reverse};
+ghost use Rattle.std.specs.Option.{is_some};
+ghost use Rattle.c_cond.specs.machine.Steps.{passed};
 
-use crate::atom::Property;
-use crate::head::Head;
 use crate::part::Part;
+use c_words::{Head, Property};
 use plain_data::Memory;
 use std::alloc::Global;
 use std::marker::Model;
@@ -35,6 +36,22 @@ pub enum Goal {
     Statements,
     /// A condition may come.
     Condition,
+}
+
+impl Goal {
+    /// Whether it may be passed over.
+    pub fn may_pass(&self) -> bool
+        ensures { result ≡ is_some (passed self.now) }
+    {
+        matches!(
+            self,
+            Goal::Yield(_)
+                | Goal::More { from: _, to: _ }
+                | Goal::Else
+                | Goal::Statements
+                | Goal::Condition
+        )
+    }
 }
 
 /// What a text must still have. Contracts see it with what must come first at the head.
@@ -79,5 +96,12 @@ impl Goals {
         ensures { MatchOption result ((self.old ≡ []) × (self.new ≡ [])) (λ goal. self.old ≡ goal ∷ self.new) }
     {
         self.goals.pop()
+    }
+
+    /// What must come, last first.
+    pub fn as_slice(&self) -> &[Goal]
+        ensures { reverse result.now ≡ self.now }
+    {
+        self.goals.as_slice()
     }
 }

@@ -1,20 +1,23 @@
 //! Conditions and statements, read from their texts.
-ghost use Rattle.std.specs.Prelude.{◌≡◌, List, [], ◌∷◌, IfOk};
+ghost use Rattle.std.specs.Prelude.{◌≡◌, ℕ, List, [], ◌∷◌, IfOk};
 ghost use Rattle.c_cond.specs.declared.tree.Tree.{Tree};
 ghost use Rattle.c_cond.specs.Tree.{heads_of};
-ghost use Rattle.c_cond.specs.declared.atom.Dialect.TheVariants as Dialect;
-ghost use Rattle.c_cond.specs.Tokens.{tokens_in};
+ghost use Rattle.c_words.specs.declared.atom.Dialect.TheVariants as Dialect;
+ghost use Rattle.c_words.specs.Tokens.{tokens_in};
 ghost use Rattle.c_cond.specs.Grammar.{IsText, Condition, Statements};
 ghost use Rattle.c_cond.specs.Answers.{Answers};
+ghost use Rattle.c_cond.specs.Beginning.{IsOutside};
+ghost use Rattle.c_words.specs.declared.lexer.Pending.TheVariants as Pending;
+ghost use Rattle.c_words.specs.machine.Known.{known_words};
+ghost use Rattle.c_cond.specs.machine.Front as front;
+ghost use Rattle.c_cond.specs.machine.Refuses.{Refuses};
 ghost use Rattle.c_cond.specs.machine.Steps as spec;
 ghost use Rattle.c_cond.specs.machine.Steps.{Gives};
 
-use crate::atom::Dialect;
-use crate::goal::{Goal, Goals};
-use crate::head::Head;
-use crate::lexer::tokens_in;
+use crate::front::reach;
+use crate::goal::Goal;
 use crate::parser::{Parser, StepError};
-use crate::token::Token;
+use c_words::{Dialect, Head, Token, tokens_in};
 use plain_data::{Items, Memory};
 use rtx_tree::{Constant, Constants};
 use std::alloc::Global;
@@ -86,9 +89,10 @@ impl Prep {
 /// Why a text was not read.
 #[derive(Clone, Copy, Debug, PartialEq, Eq, Error)]
 pub enum CondRefusal {
-    /// The text is not in the grammar.
+    /// The text is not in the grammar. The offset ends the longest prefix of it that begins a text of the
+    /// grammar: it is the number of that prefix's bytes.
     #[error("outside the grammar")]
-    Outside,
+    Outside { offset: u64 },
     /// Memory ran out.
     #[error("out of memory")]
     Memory,
@@ -105,12 +109,7 @@ fn parse_tokens(
 ) -> Result<Items<Head>, StepError>
     ensures { Gives result (spec.result_of dialect constants.now (spec.at [] (goal ∷ [])) tokens.now) }
 {
-    let mut goals = Goals::new(alloc);
-    goals.push(goal)?;
-    let mut parser = Parser {
-        code: Items::new(alloc),
-        goals,
-    };
+    let mut parser = Parser::new(alloc, goal)?;
     for token in tokens {
         parser.step(alloc, dialect, constants, token)?;
     }
@@ -137,6 +136,24 @@ fn parse(
     )
 }
 
+/// Why a text is refused that has no tree.
+fn outside(
+    alloc: Global,
+    dialect: Dialect,
+    constants: &Constants,
+    goal: Goal,
+    text: &[u8],
+) -> CondRefusal
+    ensures { Refuses result (front.reach dialect constants.now (known_words constants.now) (spec.at [] (goal ∷ [])) Pending.Nothing text.now) }
+{
+    match reach(alloc, dialect, constants.as_slice(), goal, text) {
+        Ok(count) => CondRefusal::Outside {
+            offset: count as u64,
+        },
+        Err(Memory) => CondRefusal::Memory,
+    }
+}
+
 /// The condition that a text is in a dialect.
 fn condition_of(
     alloc: Global,
@@ -144,22 +161,28 @@ fn condition_of(
     constants: &Constants,
     text: &[u8],
 ) -> Result<Cond, CondRefusal>
-    ensures { Answers (IsText dialect constants.now Condition text.now) result }
+    ensures { Answers (IsText dialect constants.now Condition) text.now result }
 {
     match parse(alloc, dialect, constants, Goal::Condition, text) {
         Ok(heads) => Ok(Cond { heads }),
-        Err(StepError::Outside) => Err(CondRefusal::Outside),
+        Err(StepError::Outside) => Err(outside(alloc, dialect, constants, Goal::Condition, text)),
         Err(StepError::Memory) => Err(CondRefusal::Memory),
     }
 }
 
 /// The statements that a text is.
 fn statements_of(alloc: Global, constants: &Constants, text: &[u8]) -> Result<Prep, CondRefusal>
-    ensures { Answers (IsText Dialect.Condition constants.now Statements text.now) result }
+    ensures { Answers (IsText Dialect.Condition constants.now Statements) text.now result }
 {
     match parse(alloc, Dialect::Condition, constants, Goal::Statements, text) {
         Ok(heads) => Ok(Prep { heads }),
-        Err(StepError::Outside) => Err(CondRefusal::Outside),
+        Err(StepError::Outside) => Err(outside(
+            alloc,
+            Dialect::Condition,
+            constants,
+            Goal::Statements,
+            text,
+        )),
         Err(StepError::Memory) => Err(CondRefusal::Memory),
     }
 }
@@ -168,12 +191,14 @@ fn statements_of(alloc: Global, constants: &Constants, text: &[u8]) -> Result<Pr
 ///
 /// # Errors
 ///
-/// `Outside` exactly where the text is not in the grammar. `Memory` where memory ran out.
+/// `Outside` exactly where the text is not in the grammar, with the offset that ends the longest prefix of
+/// it that begins a text of the grammar. `Memory` where memory ran out.
 pub fn parse_cond(alloc: Global, text: &[u8], constants: &Constants) -> Result<Cond, CondRefusal>
     // The answer is what the grammar says of the text, unless memory ran out.
-    ensures answers { Answers (IsText Dialect.Condition constants.now Condition text.now) result }
-    // A text has one tree at most.
+    ensures answers { Answers (IsText Dialect.Condition constants.now Condition) text.now result }
+    // A text has one tree at most, and is outside at one place at most.
     ensures one { (a b : Tree) → IsText Dialect.Condition constants.now Condition text.now a → IsText Dialect.Condition constants.now Condition text.now b → a ≡ b }
+    ensures one_place { (a b : ℕ) → IsOutside (IsText Dialect.Condition constants.now Condition) text.now a → IsOutside (IsText Dialect.Condition constants.now Condition) text.now b → a ≡ b }
 {
     condition_of(alloc, Dialect::Condition, constants, text)
 }
@@ -183,10 +208,12 @@ pub fn parse_cond(alloc: Global, text: &[u8], constants: &Constants) -> Result<C
 ///
 /// # Errors
 ///
-/// `Outside` exactly where the text is not in the grammar. `Memory` where memory ran out.
+/// `Outside` exactly where the text is not in the grammar, with the offset that ends the longest prefix of
+/// it that begins a text of the grammar. `Memory` where memory ran out.
 pub fn parse_test(alloc: Global, text: &[u8], constants: &Constants) -> Result<Cond, CondRefusal>
-    ensures answers { Answers (IsText Dialect.Test constants.now Condition text.now) result }
+    ensures answers { Answers (IsText Dialect.Test constants.now Condition) text.now result }
     ensures one { (a b : Tree) → IsText Dialect.Test constants.now Condition text.now a → IsText Dialect.Test constants.now Condition text.now b → a ≡ b }
+    ensures one_place { (a b : ℕ) → IsOutside (IsText Dialect.Test constants.now Condition) text.now a → IsOutside (IsText Dialect.Test constants.now Condition) text.now b → a ≡ b }
 {
     condition_of(alloc, Dialect::Test, constants, text)
 }
@@ -195,10 +222,12 @@ pub fn parse_test(alloc: Global, text: &[u8], constants: &Constants) -> Result<C
 ///
 /// # Errors
 ///
-/// `Outside` exactly where the text is not in the grammar. `Memory` where memory ran out.
+/// `Outside` exactly where the text is not in the grammar, with the offset that ends the longest prefix of
+/// it that begins a text of the grammar. `Memory` where memory ran out.
 pub fn parse_prep(alloc: Global, text: &[u8], constants: &Constants) -> Result<Prep, CondRefusal>
-    ensures answers { Answers (IsText Dialect.Condition constants.now Statements text.now) result }
+    ensures answers { Answers (IsText Dialect.Condition constants.now Statements) text.now result }
     ensures one { (a b : Tree) → IsText Dialect.Condition constants.now Statements text.now a → IsText Dialect.Condition constants.now Statements text.now b → a ≡ b }
+    ensures one_place { (a b : ℕ) → IsOutside (IsText Dialect.Condition constants.now Statements) text.now a → IsOutside (IsText Dialect.Condition constants.now Statements) text.now b → a ≡ b }
 {
     statements_of(alloc, constants, text)
 }

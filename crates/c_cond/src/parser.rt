@@ -1,12 +1,10 @@
 //! Parses tokens with a stack of its own.
-ghost use Rattle.std.specs.Prelude.{◌≡◌, List, [], IfOk, OnOk};
+ghost use Rattle.std.specs.Prelude.{◌≡◌, List, [], ◌∷◌, IfOk, OnOk};
 ghost use Rattle.c_cond.specs.machine.Steps as spec;
 ghost use Rattle.c_cond.specs.machine.Steps.{Steps, Gives};
 
-use crate::atom::Dialect;
 use crate::goal::{Goal, Goals};
-use crate::head::Head;
-use crate::token::Token;
+use c_words::{Dialect, Head, Token};
 use plain_data::{Items, Memory};
 use rtx_tree::Constant;
 use std::alloc::Global;
@@ -40,6 +38,18 @@ pub struct Parser {
 }
 
 impl Parser {
+    /// Nothing has been read, and this must come.
+    pub fn new(alloc: Global, goal: Goal) -> Result<Parser, Memory>
+        ensures { IfOk result (λ parser. parser ≡ spec.at [] (goal ∷ [])) }
+    {
+        let mut goals = Goals::new(alloc);
+        goals.push(goal)?;
+        Ok(Parser {
+            code: Items::new(alloc),
+            goals,
+        })
+    }
+
     /// What a goal gives that may be passed over; `false` where it may not.
     fn pass(&mut self, goal: Goal) -> Result<bool, Memory>
         ensures code { IfOk result (λ passed. spec.Passes passed self.old.code self.new.code (spec.passed goal)) }

@@ -2,8 +2,7 @@
 ghost use Rattle.std.specs.Prelude.{◌≡◌, ◌≤◌};
 ghost use Rattle.c_cond.specs.Grammar as spec;
 
-use crate::head::{Binary, Call, Unary};
-use crate::token::Token;
+use c_words::{Binary, Call, Token, Unary};
 
 /// A part of a call.
 #[derive(Clone, Copy, Debug, PartialEq, Eq)]

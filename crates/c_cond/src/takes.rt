@@ -2,18 +2,19 @@
 ghost use Rattle.std.specs.Prelude.{◌≡◌, List, [], ◌∷◌, OnOk, IfOk, Option};
 ghost use Rattle.bits64.specs.Words.{signed};
 ghost use Rattle.bits64.specs.declared.Width.TheVariants as Width;
-ghost use Rattle.c_cond.specs.Words as words;
+ghost use Rattle.c_words.specs.Words as words;
 ghost use Rattle.c_cond.specs.Grammar.{comparison_with, comparison_of, value_mode_named};
 ghost use Rattle.c_cond.specs.machine.Steps as spec;
 ghost use Rattle.c_cond.specs.machine.Steps.{Takes};
+ghost use Rattle.c_cond.specs.machine.Front.{is_taken};
+ghost use Rattle.std.specs.Option.{is_some};
 
-use crate::atom::{Atom, Dialect, Property, atom_of};
 use crate::goal::{Goal, Goals};
-use crate::head::{Binary, Call, Head, Unary};
-use crate::keyword::Keyword;
 use crate::part::{Part, Signature, is_maker, level, signature_of, unary_of};
-use crate::token::Token;
-use crate::word::{code_named, mode_named};
+use c_words::{
+    Atom, Binary, Call, Dialect, Head, Keyword, Property, Token, Unary, atom_of, code_named,
+    mode_named,
+};
 use plain_data::Memory;
 use rtx_tree::{Constant, Mode, Name};
 use std::alloc::Global;
@@ -532,6 +533,43 @@ impl Goals {
             Goal::Statements => self.statements(token),
             Goal::Condition => self.expression(alloc, dialect, constants, 0, token),
         }
+    }
+}
+
+/// Whether a goal takes the token.
+fn takes(
+    alloc: Global,
+    dialect: Dialect,
+    constants: &[Constant],
+    goal: &Goal,
+    token: &Token,
+) -> Result<bool, Memory>
+    ensures { IfOk result (λ taken. taken ≡ is_some (spec.takes dialect constants.now goal.now token.now [])) }
+{
+    Goals::new(alloc).take(alloc, dialect, constants, goal, token)
+}
+
+impl Goals {
+    /// Whether some goal takes the token, where those before it may be passed over.
+    pub fn is_taken(
+        &self,
+        alloc: Global,
+        dialect: Dialect,
+        constants: &[Constant],
+        token: &Token,
+    ) -> Result<bool, Memory>
+        ensures { IfOk result (λ taken. taken ≡ is_taken dialect constants.now token.now self.now) }
+    {
+        let goals = self.as_slice();
+        for place in (0..goals.len()).rev() {
+            if takes(alloc, dialect, constants, &goals[place], token)? {
+                return Ok(true);
+            }
+            if !goals[place].may_pass() {
+                return Ok(false);
+            }
+        }
+        Ok(false)
     }
 }
 

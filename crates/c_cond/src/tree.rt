@@ -1,5 +1,5 @@
 //! Conditions and statements as trees.
-use crate::head::Head;
+use c_words::Head;
 use plain_data::Items;
 
 /// A condition or statements as contracts see them: a head with its parts. The code keeps no such tree,

@@ -21,7 +21,7 @@ pub fn condition(
 {
     match parse_cond(alloc, text, constants) {
         Ok(cond) => Ok(Ok(cond)),
-        Err(CondRefusal::Outside) => Ok(Err(Reason::Condition)),
+        Err(CondRefusal::Outside { .. }) => Ok(Err(Reason::Condition)),
         Err(CondRefusal::Memory) => Err(Memory),
     }
 }
@@ -36,7 +36,7 @@ pub(crate) fn test_condition(
 {
     match parse_test(alloc, text, constants) {
         Ok(cond) => Ok(Ok(cond)),
-        Err(CondRefusal::Outside) => Ok(Err(Reason::Condition)),
+        Err(CondRefusal::Outside { .. }) => Ok(Err(Reason::Condition)),
         Err(CondRefusal::Memory) => Err(Memory),
     }
 }
@@ -52,7 +52,7 @@ pub fn statements(
 {
     match parse_prep(alloc, text, constants) {
         Ok(prep) => Ok(Ok(prep)),
-        Err(CondRefusal::Outside) => Ok(Err(Reason::Statements)),
+        Err(CondRefusal::Outside { .. }) => Ok(Err(Reason::Statements)),
         Err(CondRefusal::Memory) => Err(Memory),
     }
 }

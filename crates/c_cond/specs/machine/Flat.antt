@@ -4,24 +4,24 @@ use Rattle.rtx_tree.specs.declared.constants.Constant.{Constant}
 use Rattle.rtx_tree.specs.declared.code.Mode.{Mode}
 use Rattle.bits64.specs.Words.{signed}
 use Rattle.bits64.specs.declared.Width.TheVariants.{W64}
-use Rattle.c_cond.specs.declared.head.Binary.{Binary}
-use Rattle.c_cond.specs.declared.head.Unary.{Unary}
-use Rattle.c_cond.specs.declared.head.Call.{Call}
-use Rattle.c_cond.specs.declared.head.Call.TheVariants as call
-use Rattle.c_cond.specs.declared.head.Head.{Head}
-use Rattle.c_cond.specs.declared.head.Head.TheVariants as head
-use Rattle.c_cond.specs.declared.keyword.Keyword.TheVariants as keyword
-use Rattle.c_cond.specs.declared.atom.Atom.TheVariants as atom
-use Rattle.c_cond.specs.declared.atom.Dialect.{Dialect}
-use Rattle.c_cond.specs.declared.atom.Dialect.TheVariants as dialect
-use Rattle.c_cond.specs.declared.atom.Property.{Property}
-use Rattle.c_cond.specs.declared.token.Token.{Token}
-use Rattle.c_cond.specs.declared.token.Token.TheVariants as token
+use Rattle.c_words.specs.declared.head.Binary.{Binary}
+use Rattle.c_words.specs.declared.head.Unary.{Unary}
+use Rattle.c_words.specs.declared.head.Call.{Call}
+use Rattle.c_words.specs.declared.head.Call.TheVariants as call
+use Rattle.c_words.specs.declared.head.Head.{Head}
+use Rattle.c_words.specs.declared.head.Head.TheVariants as head
+use Rattle.c_words.specs.declared.keyword.Keyword.TheVariants as keyword
+use Rattle.c_words.specs.declared.atom.Atom.TheVariants as atom
+use Rattle.c_words.specs.declared.atom.Dialect.{Dialect}
+use Rattle.c_words.specs.declared.atom.Dialect.TheVariants as dialect
+use Rattle.c_words.specs.declared.atom.Property.{Property}
+use Rattle.c_words.specs.declared.token.Token.{Token}
+use Rattle.c_words.specs.declared.token.Token.TheVariants as token
 use Rattle.c_cond.specs.declared.part.Part.{Part}
 use Rattle.c_cond.specs.declared.part.Part.TheVariants as part
 use Rattle.c_cond.specs.declared.part.Signature.TheVariants as signature
-use Rattle.c_cond.specs.Words.{keyword_named, mode_named}
-use Rattle.c_cond.specs.Atoms.{atom_of}
+use Rattle.c_words.specs.Words.{keyword_named, mode_named}
+use Rattle.c_words.specs.Atoms.{atom_of}
 use Rattle.c_cond.specs.Grammar.{open_round, close_round, comma, colon, semicolon, becomes, question, open_square, close_square, open_brace, close_brace, level, equality, unary_level, unary_of, expression, signature_of, predicate_parts, is_maker, comparison_of, comparison_with, value_mode_named, Sort, One, Parts, Statement, Statements, Condition}
 
 -- The tokens are a text of this sort, and the list has the heads of its trees, each behind its parts. An expression of level p has no operator outside of

@@ -1,7 +1,0 @@
-use Rattle.std.proofs.Common.{◌≡◌, drop, []}
-use Rattle.c_cond.specs.declared.lexer.Pending.TheVariants as pending
-use Rattle.c_cond.specs.machine.Lexing.{read_all, at}
-use Rattle.c_cond.proofs.lexer.read_text.Given as goal
-
-abbrev pub invariant-loop-byte : goal.invariant-loop-byte
-invariant-loop-byte l = read_all l.lexer (drop l.byte-index l.text) ≡ read_all (at [] pending.Nothing) l.text

@@ -1,5 +1,0 @@
-use Rattle.c_cond.proofs.Codes.{named_is}
-use Rattle.c_cond.proofs.word.code_with_name.Goals as goal
-
-pub returns : goal.returns
-returns c = named_is _ _ c.named.ensures

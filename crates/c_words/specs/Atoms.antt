@@ -1,0 +1,61 @@
+-- What a word means where an expression of C may begin: a fact, a number, a call, or the name of a predicate (GCC
+-- Internals, "Machine-Independent Predicates" and "Defining Machine-Specific Predicates").
+use Rattle.std.specs.Prelude.{ℕ, ℤ, pos, List, Bool, true, false, Option, Some, None, if◌then◌else◌}
+use Rattle.rtx_tree.specs.declared.code.Code.{Code}
+use Rattle.rtx_tree.specs.declared.code.Mode.{Mode}
+use Rattle.rtx_tree.specs.declared.constants.Constant.{Constant}
+use Rattle.c_words.specs.declared.head.Call.{Call}
+use Rattle.c_words.specs.declared.head.Call.TheVariants as call
+use Rattle.c_words.specs.declared.head.Head.TheVariants as head
+use Rattle.c_words.specs.declared.keyword.Keyword.{Keyword}
+use Rattle.c_words.specs.declared.keyword.Keyword.TheVariants as keyword
+use Rattle.c_words.specs.declared.atom.Atom.{Atom}
+use Rattle.c_words.specs.declared.atom.Atom.TheVariants as atom
+use Rattle.c_words.specs.declared.atom.Dialect.{Dialect}
+use Rattle.c_words.specs.declared.atom.Dialect.TheVariants as dialect
+use Rattle.c_words.specs.declared.atom.Property.TheVariants as property
+use Rattle.c_words.specs.Words.{keyword_named, mode_named, code_named, is_target, target_holds, constant_named}
+
+-- the calls that have a number as their value; the others make operands or instructions
+abbrev pub is_question : Call → Bool
+is_question call.GenInt = false
+is_question call.GenIntMode = false
+is_question call.GenReg = false
+is_question call.ForceReg = false
+is_question call.GenLowpart = false
+is_question call.EmitMove = false
+is_question _ = true
+
+-- the number of the operand under test is there in a test alone
+abbrev ival_in : Dialect → Atom
+ival_in dialect.Condition = atom.Nothing
+ival_in dialect.Test = atom.Leaf head.Ival
+
+abbrev pub atom_of_keyword : Dialect → Keyword → Atom
+atom_of_keyword d (keyword.Call c) = if is_question c then atom.Call c else atom.Nothing
+atom_of_keyword d keyword.GetCode = atom.Compare property.Code
+atom_of_keyword d keyword.GetMode = atom.Compare property.Mode
+atom_of_keyword d keyword.ReloadCompleted = atom.Leaf head.ReloadCompleted
+atom_of_keyword d keyword.Ival = ival_in d
+atom_of_keyword d _ = atom.Nothing
+
+abbrev pub target_number : List ℕ → ℤ
+target_number word = if target_holds word then pos 1 else pos 0
+
+-- a name that means nothing else is a predicate, but in a test, where no predicate may be called
+abbrev pub predicate_or_nothing : Dialect → Option Code → Option Mode → Atom
+predicate_or_nothing dialect.Condition None None = atom.Predicate
+predicate_or_nothing _ _ _ = atom.Nothing
+
+abbrev pub atom_of_name : Dialect → List ℕ → Option ℤ → Atom
+atom_of_name d word (Some number) = atom.Leaf (head.Number number)
+atom_of_name d word None = predicate_or_nothing d (code_named word) (mode_named word)
+
+abbrev pub atom_by : Dialect → List Constant → List ℕ → Option Keyword → Atom
+atom_by d constants word (Some k) = atom_of_keyword d k
+atom_by d constants word None =
+    if is_target word then atom.Leaf (head.Number (target_number word)) else atom_of_name d word (constant_named constants word)
+
+-- A word that has a meaning of its own has no other; then come facts of the target, constants, and predicates.
+abbrev pub atom_of : Dialect → List Constant → List ℕ → Atom
+atom_of d constants word = atom_by d constants word (keyword_named word)

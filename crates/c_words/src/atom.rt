@@ -1,0 +1,122 @@
+//! What a word means where an expression may begin.
+ghost use Rattle.std.specs.Prelude.{◌≡◌, IfOk, ℕ, List, OnOk};
+ghost use Rattle.c_words.specs.Words as words;
+ghost use Rattle.c_words.specs.Atoms as spec;
+
+use crate::head::{Call, Head};
+use crate::keyword::Keyword;
+use crate::word::{code_named, constant_named, is_target, mode_named, target_holds};
+use plain_data::Memory;
+use rtx_tree::{Code, Constant, Mode};
+use std::alloc::Global;
+
+/// What the text belongs to.
+#[derive(Clone, Copy, Debug, PartialEq, Eq)]
+pub enum Dialect {
+    /// A form's condition, or statements: operands are `operands[k]`, and predicates may be called.
+    Condition,
+    /// The test of a predicate: the operand is `op`, its number `ival`, and no predicate may be called.
+    Test,
+}
+
+/// What of an operand is compared with a name.
+#[derive(Clone, Copy, Debug, PartialEq, Eq)]
+pub enum Property {
+    /// `GET_CODE (x)`
+    Code,
+    /// `GET_MODE (x)`
+    Mode,
+}
+
+/// What a word means where an expression may begin.
+#[derive(Debug, Drop)]
+pub enum Atom {
+    /// It is an expression by itself.
+    Leaf(Head),
+    /// Its parts follow in parentheses.
+    Call(Call),
+    /// An operand follows in parentheses, and a comparison.
+    Compare(Property),
+    /// A predicate: an operand and a mode follow in parentheses.
+    Predicate,
+    /// No expression begins so.
+    Nothing,
+}
+
+fn is_question(call: Call) -> bool
+    ensures { result ≡ spec.is_question call }
+{
+    match call {
+        Call::GenInt
+        | Call::GenIntMode
+        | Call::GenReg
+        | Call::ForceReg
+        | Call::GenLowpart
+        | Call::EmitMove => false,
+        _ => true,
+    }
+}
+
+fn atom_of_keyword(dialect: Dialect, keyword: Keyword) -> Atom
+    ensures { result ≡ spec.atom_of_keyword dialect keyword }
+{
+    match keyword {
+        Keyword::Call(call) if is_question(call) => Atom::Call(call),
+        Keyword::GetCode => Atom::Compare(Property::Code),
+        Keyword::GetMode => Atom::Compare(Property::Mode),
+        Keyword::ReloadCompleted => Atom::Leaf(Head::ReloadCompleted),
+        Keyword::Ival => match dialect {
+            Dialect::Condition => Atom::Nothing,
+            Dialect::Test => Atom::Leaf(Head::Ival),
+        },
+        _ => Atom::Nothing,
+    }
+}
+
+fn target_number(word: &[u8]) -> i64
+    ensures { result ≡ spec.target_number word.now }
+{
+    if target_holds(word) { 1 } else { 0 }
+}
+
+fn predicate_or_nothing(dialect: Dialect, code: Option<Code>, mode: Option<Mode>) -> Atom
+    ensures { result ≡ spec.predicate_or_nothing dialect code mode }
+{
+    match (dialect, code, mode) {
+        (Dialect::Condition, None, None) => Atom::Predicate,
+        _ => Atom::Nothing,
+    }
+}
+
+fn atom_of_name(
+    alloc: Global,
+    dialect: Dialect,
+    constants: &[Constant],
+    word: &[u8],
+) -> Result<Atom, Memory>
+    ensures { IfOk result (λ atom. atom ≡ spec.atom_of_name dialect word.now (words.constant_named constants.now word.now)) }
+{
+    match constant_named(constants, word) {
+        Some(number) => Ok(Atom::Leaf(Head::Number(number))),
+        None => {
+            let code = code_named(alloc, word)?;
+            Ok(predicate_or_nothing(dialect, code, mode_named(word)))
+        }
+    }
+}
+
+/// What a word means where an expression may begin.
+pub fn atom_of(
+    alloc: Global,
+    dialect: Dialect,
+    constants: &[Constant],
+    word: &[u8],
+) -> Result<Atom, Memory>
+    ensures { IfOk result (λ atom. atom ≡ spec.atom_of dialect constants.now word.now) }
+{
+    match Keyword::named(word) {
+        Some(keyword) => Ok(atom_of_keyword(dialect, keyword)),
+        None if is_target(word) => Ok(Atom::Leaf(Head::Number(target_number(word)))),
+        None => atom_of_name(alloc, dialect, constants, word),
+    }
+}

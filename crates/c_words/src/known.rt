@@ -1,0 +1,142 @@
+//! The words that are known before a text is read.
+ghost use Rattle.std.specs.Prelude.{◌≡◌, ◌++◌, map, IfOk, OnOk};
+ghost use Rattle.rtx_tree.specs.Code.{all_codes};
+ghost use Rattle.c_words.specs.Words.{all_keywords, keyword_name};
+ghost use Rattle.c_words.specs.machine.Known as spec;
+
+use crate::keyword::{Keyword, all_keywords};
+use crate::word::is_small;
+use plain_data::{Items, Memory};
+use rtx_tree::{Code, Constant, Name};
+use std::alloc::Global;
+
+/// Every code, once.
+const CODES: [Code; 48] = [
+    Code::Reg,
+    Code::ConstInt,
+    Code::SymbolRef,
+    Code::Mem,
+    Code::Subreg,
+    Code::Plus,
+    Code::Minus,
+    Code::Mult,
+    Code::Div,
+    Code::Udiv,
+    Code::Mod,
+    Code::Umod,
+    Code::And,
+    Code::Ior,
+    Code::Xor,
+    Code::Neg,
+    Code::Not,
+    Code::Ashift,
+    Code::Ashiftrt,
+    Code::Lshiftrt,
+    Code::SignExtend,
+    Code::ZeroExtend,
+    Code::Truncate,
+    Code::Eq,
+    Code::Ne,
+    Code::Lt,
+    Code::Le,
+    Code::Gt,
+    Code::Ge,
+    Code::Ltu,
+    Code::Leu,
+    Code::Gtu,
+    Code::Geu,
+    Code::Set,
+    Code::Used,
+    Code::Clobber,
+    Code::Parallel,
+    Code::Call,
+    Code::Return,
+    Code::Pc,
+    Code::LabelRef,
+    Code::IfThenElse,
+    Code::Scratch,
+    Code::MatchOperand,
+    Code::MatchDup,
+    Code::MatchScratch,
+    Code::MatchOperator,
+    Code::MatchOpDup,
+];
+
+fn all_codes() -> &'static [Code]
+    ensures { result.now ≡ all_codes }
+{
+    &CODES
+}
+
+fn capital(byte: u8) -> u8
+    ensures { result ≡ spec.capital byte }
+{
+    if is_small(byte) { byte - 32 } else { byte }
+}
+
+/// The word that a code is in C.
+fn code_word(alloc: Global, code: Code) -> Result<Name, Memory>
+    ensures { IfOk result (λ word. word ≡ spec.code_word code) }
+{
+    let mut letters = Vec::new(alloc);
+    for byte in code.name().as_bytes() {
+        letters.push(capital(*byte))?;
+    }
+    Ok(Name::from_vec(letters))
+}
+
+fn mode_words(alloc: Global) -> Result<Items<Name>, Memory>
+    ensures { IfOk result (λ words. words ≡ spec.mode_words) }
+{
+    let mut words = Items::new(alloc);
+    words.push(Name::of(alloc, b"TARGET_")?)?;
+    words.push(Name::of(alloc, b"VOIDmode")?)?;
+    words.push(Name::of(alloc, b"QImode")?)?;
+    words.push(Name::of(alloc, b"HImode")?)?;
+    words.push(Name::of(alloc, b"SImode")?)?;
+    words.push(Name::of(alloc, b"DImode")?)?;
+    Ok(words)
+}
+
+fn push_keywords(alloc: Global, words: &mut Items<Name>) -> Result<(), Memory>
+    ensures { OnOk result (words.new ≡ words.old ++ map keyword_name all_keywords) }
+{
+    for keyword in all_keywords() {
+        words.push(Name::of(alloc, keyword.name().as_bytes())?)?;
+    }
+    Ok(())
+}
+
+fn push_codes(alloc: Global, words: &mut Items<Name>) -> Result<(), Memory>
+    ensures { OnOk result (words.new ≡ words.old ++ map spec.code_word all_codes) }
+{
+    for code in all_codes() {
+        words.push(code_word(alloc, *code)?)?;
+    }
+    Ok(())
+}
+
+fn push_constants(
+    alloc: Global,
+    constants: &[Constant],
+    words: &mut Items<Name>,
+) -> Result<(), Memory>
+    ensures { OnOk result (words.new ≡ words.old ++ map (λ c. c.name) constants.now) }
+{
+    for constant in constants {
+        words.push(constant.name.copy(alloc)?)?;
+    }
+    Ok(())
+}
+
+/// The words that are known before a text is read: those that begin the names of facts of the target, the
+/// modes, the keywords, the codes, and the names of constants.
+pub fn known_words(alloc: Global, constants: &[Constant]) -> Result<Items<Name>, Memory>
+    ensures { IfOk result (λ words. words ≡ spec.known_words constants.now) }
+{
+    let mut words = mode_words(alloc)?;
+    push_keywords(alloc, &mut words)?;
+    push_codes(alloc, &mut words)?;
+    push_constants(alloc, constants, &mut words)?;
+    Ok(words)
+}

@@ -3,13 +3,13 @@
 -- statements; here is its tree as a value.
 use Rattle.std.specs.Prelude.{ℕ, pos, List, [], ◌∷◌, Option, Some, None, Result, option_map}
 use Rattle.rtx_tree.specs.declared.constants.Constant.{Constant}
-use Rattle.c_cond.specs.declared.atom.Dialect.{Dialect}
-use Rattle.c_cond.specs.declared.atom.Dialect.TheVariants as dialect
+use Rattle.c_words.specs.declared.atom.Dialect.{Dialect}
+use Rattle.c_words.specs.declared.atom.Dialect.TheVariants as dialect
 use Rattle.c_cond.specs.declared.goal.Goal.{Goal}
 use Rattle.c_cond.specs.declared.goal.Goal.TheVariants as goal
-use Rattle.c_cond.specs.declared.head.Head.TheVariants as head
+use Rattle.c_words.specs.declared.head.Head.TheVariants as head
 use Rattle.c_cond.specs.declared.tree.Tree.{Tree}
-use Rattle.c_cond.specs.Tokens.{tokens_in}
+use Rattle.c_words.specs.Tokens.{tokens_in}
 use Rattle.c_cond.specs.Tree.{leaf, tree_of}
 use Rattle.c_cond.specs.machine.Steps.{result_of, at}
 use Rattle.md_pattern.specs.declared.reason.Reason.{Reason}

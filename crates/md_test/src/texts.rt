@@ -1,7 +1,7 @@
 //! Conditions and statements by their texts.
 ghost use Rattle.std.specs.Prelude.{◌≡◌, IfOk, List, ℕ};
 ghost use Rattle.c_cond.specs.Grammar.{IsText, Condition, Statements};
-ghost use Rattle.c_cond.specs.declared.atom.Dialect.TheVariants as Dialect;
+ghost use Rattle.c_words.specs.declared.atom.Dialect.TheVariants as Dialect;
 ghost use Rattle.md_test.specs.Texts as spec;
 
 use c_cond::{Cond, CondRefusal, Prep, parse_cond, parse_prep, parse_test};

@@ -1,5 +1,5 @@
 use Rattle.std.proofs.Common.{refl}
-use Rattle.c_cond.specs.declared.atom.Dialect.TheVariants as Dialect
+use Rattle.c_words.specs.declared.atom.Dialect.TheVariants as Dialect
 use Rattle.md_test.proofs.GrammarLaws.{condition_is, condition_none, condition_reads}
 use Rattle.md_test.proofs.texts.condition.Goals as goal
 

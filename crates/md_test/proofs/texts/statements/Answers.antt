@@ -1,5 +1,5 @@
 use Rattle.std.proofs.Common.{refl}
-use Rattle.c_cond.specs.declared.atom.Dialect.TheVariants as Dialect
+use Rattle.c_words.specs.declared.atom.Dialect.TheVariants as Dialect
 use Rattle.md_test.proofs.GrammarLaws.{statements_is, statements_none, statements_reads}
 use Rattle.md_test.proofs.texts.statements.Goals as goal
 

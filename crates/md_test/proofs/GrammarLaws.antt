@@ -1,5 +1,5 @@
 -- The tree of a text as a value is the one that the grammar gives it.
-use Rattle.std.proofs.Common.{◌≡◌, List, [], ◌∷◌, ℕ, Option, Some, None, option_map, refl, sym, ap, ◌∙◌}
+use Rattle.std.proofs.Common.{◌≡◌, List, [], ◌∷◌, ℕ, Option, Some, None, Err, option_map, refl, sym, ap, subst, ◌∙◌}
 use Rattle.rtx_tree.specs.declared.constants.Constant.{Constant}
 use Rattle.c_words.specs.declared.atom.Dialect.{Dialect}
 use Rattle.c_words.specs.declared.atom.Dialect.TheVariants as dialect
@@ -9,10 +9,18 @@ use Rattle.c_cond.specs.declared.tree.Tree.{Tree}
 use Rattle.c_words.specs.Tokens.{tokens_in}
 use Rattle.c_cond.specs.Tree.{tree_of}
 use Rattle.c_cond.specs.Grammar.{IsText, Condition, Statements}
+use Rattle.c_cond.specs.Answers.{Answers}
+use Rattle.c_cond.specs.Beginning.{IsOutside}
+use Rattle.c_cond.specs.declared.parse.CondRefusal.{CondRefusal}
+use Rattle.c_cond.specs.declared.parse.CondRefusal.TheVariants as refusal
 use Rattle.c_cond.specs.machine.Steps.{run, result_of, at}
 use Rattle.c_cond.proofs.Answered.{is_condition, is_statements, no_condition, no_statements, one_condition, one_statements}
 
 use Rattle.md_test.specs.Texts.{Reads, tree_in, always, nothing}
+
+-- a text outside has no tree
+pub none_in : (P : List ℕ → Tree → Type 0) (bytes : List ℕ) (e : CondRefusal) (offset : ℕ) → e ≡ refusal.Outside offset → Answers P bytes (Err e) → (t : Tree) → P bytes t → ⊥
+none_in P bytes e offset is h = let o : IsOutside P bytes offset = subst (λ e. Answers P bytes (Err e)) is h in o.no_text
 
 -- where a tree is the only one, the value is that tree
 pub is_the : (o : Option Tree) (P : Tree → Type 0) → Reads o P → ((a b : Tree) → P a → P b → a ≡ b) → (t : Tree) → P t → o ≡ Some t

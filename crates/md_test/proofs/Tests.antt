@@ -9,11 +9,10 @@ use Rattle.lisp_read.specs.declared.tree.Tree.TheOpen.{Tree-F}
 use Rattle.lisp_read.specs.declared.tree.Tree.TheFolds.{fold-Tree, fold_out-Tree, map-Tree}
 use Rattle.lisp_read.specs.Head.{mode_of_head}
 use Rattle.lisp_read.specs.Shape.{atom_of, items_at, items_of}
-use Rattle.lisp_read.specs.Expression.{inside_at, inside_of}
+use Rattle.lisp_read.specs.Expression.{inside_at}
 use Rattle.md_pattern.specs.declared.reason.Reason.{Reason}
-use Rattle.md_test.specs.declared.question.Question.{Question}
 use Rattle.md_test.specs.declared.question.Test.{Test, out-Test}
-use Rattle.md_test.specs.declared.question.Test.TheFolds.{fold-Test, fold_out-Test}
+use Rattle.md_test.specs.declared.question.Test.TheFolds.{fold_out-Test}
 use Rattle.md_test.specs.Test.{predicate_of, predicates_step, predicates_of, kind_of, list_by, of_kind, each_read, test_step, test_of}
 
 abbrev Judgement : Type 0

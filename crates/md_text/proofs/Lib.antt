@@ -1,0 +1,4 @@
+pub mod Parts
+pub mod Blanks
+pub mod Each
+pub mod Cuts

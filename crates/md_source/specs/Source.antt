@@ -6,7 +6,7 @@ use Rattle.rtx_tree.specs.declared.place.Place.{Place}
 use Rattle.lisp_read.specs.declared.tree.Tree.{Tree}
 use Rattle.lisp_read.specs.Reading.{ReadsAs, Trees, Syntax, Depth}
 use Rattle.rv_target.specs.Shipped.{shipped_text}
-use Rattle.md_source.specs.declared.gather.Gathered.{Gathered}
+use Rattle.md_source.specs.declared.trees.Gathered.{Gathered}
 use Rattle.md_source.specs.declared.refusal.SourceRefusal.{SourceRefusal}
 use Rattle.md_source.specs.declared.refusal.SourceRefusal.TheVariants as refusal
 use Rattle.md_source.specs.Include.{included_name}

@@ -10,8 +10,6 @@ use Rattle.md_source.specs.declared.refusal.SourceRefusal.{SourceRefusal}
 use Rattle.md_source.specs.declared.refusal.SourceRefusal.TheVariants as refusal
 use Rattle.md_source.specs.Include.{included_name}
 use Rattle.md_source.specs.Source.{Source, Outcome, FileComes, TreesCome, DescriptionComes, in_front, text_of, most_bytes, most_within}
-use Rattle.md_source.specs.Source.FileComes as file
-use Rattle.md_source.specs.Source.TreesCome as tree
 use Rattle.md_source.specs.Asked.{Includes, IsNamed, IsKnown}
 
 same_some : (a b : List ℕ) → ◌≡◌ {A = Option (List ℕ)} (Some a) (Some b) → a ≡ b
@@ -21,7 +19,7 @@ same_name : (o : Option (List ℕ)) (a b : List ℕ) → o ≡ Some a → o ≡ 
 same_name o a b p q = same_some a b (sym p ∙ q)
 
 not_known : (o : Option (List ℕ)) → IsSome o → o ≡ None → ⊥
-not_known None some is = some
+not_known None some is = cc
 not_known (Some x) some is = cc
 
 some_or_none : (o : Option (List ℕ)) (a : List ℕ) → o ≡ Some a → o ≡ None → ⊥
@@ -50,34 +48,34 @@ parts source root name text trees named known reads t n stands is =
 
 mutual
   one_file : (source : Source) (root : List ℕ) (within used : ℕ) (name : List ℕ) (a b : Outcome) → IsKnown source root → IsNamed source root name → FileComes source within used name a → FileComes source within used name b → a ≡ b
-  one_file source root _ _ _ _ b known named (file.unknown within used name o none) q = absurd (not_known (text_of source name) (known name named) none)
-  one_file source root _ _ _ _ _ known named (file.too_long within used name t is long) (file.unknown _ _ _ o none) = absurd (some_or_none (text_of source name) t is none)
-  one_file source root _ _ _ _ _ known named (file.too_long within used name t is long) (file.too_long _ _ _ u is' long') = refl
-  one_file source root _ _ _ _ _ known named (file.too_long within used name t is long) (file.syntax _ _ _ u p is' short reads) = absurd (long_or_not used t u (same_name (text_of source name) t u is is') long short)
-  one_file source root _ _ _ _ _ known named (file.too_long within used name t is long) (file.depth _ _ _ u p is' short reads) = absurd (long_or_not used t u (same_name (text_of source name) t u is is') long short)
-  one_file source root _ _ _ _ _ known named (file.too_long within used name t is long) (file.read _ _ _ u ts o is' short reads come) = absurd (long_or_not used t u (same_name (text_of source name) t u is is') long short)
-  one_file source root _ _ _ _ _ known named (file.syntax within used name t p is short reads) (file.unknown _ _ _ o none) = absurd (some_or_none (text_of source name) t is none)
-  one_file source root _ _ _ _ _ known named (file.syntax within used name t p is short reads) (file.too_long _ _ _ u is' long) = absurd (long_or_not used u t (same_name (text_of source name) u t is' is) long short)
-  one_file source root _ _ _ _ _ known named (file.syntax within used name t p is short reads) (file.syntax _ _ _ u p' is' short' reads') =
+  one_file source root _ _ _ _ b known named (FileComes.unknown within used name o none) q = absurd (not_known (text_of source name) (known name named) none)
+  one_file source root _ _ _ _ _ known named (FileComes.too_long within used name t is long) (FileComes.unknown _ _ _ o none) = absurd (some_or_none (text_of source name) t is none)
+  one_file source root _ _ _ _ _ known named (FileComes.too_long within used name t is long) (FileComes.too_long _ _ _ u is' long') = refl
+  one_file source root _ _ _ _ _ known named (FileComes.too_long within used name t is long) (FileComes.syntax _ _ _ u p is' short reads) = absurd (long_or_not used t u (same_name (text_of source name) t u is is') long short)
+  one_file source root _ _ _ _ _ known named (FileComes.too_long within used name t is long) (FileComes.depth _ _ _ u p is' short reads) = absurd (long_or_not used t u (same_name (text_of source name) t u is is') long short)
+  one_file source root _ _ _ _ _ known named (FileComes.too_long within used name t is long) (FileComes.read _ _ _ u ts o is' short reads come) = absurd (long_or_not used t u (same_name (text_of source name) t u is is') long short)
+  one_file source root _ _ _ _ _ known named (FileComes.syntax within used name t p is short reads) (FileComes.unknown _ _ _ o none) = absurd (some_or_none (text_of source name) t is none)
+  one_file source root _ _ _ _ _ known named (FileComes.syntax within used name t p is short reads) (FileComes.too_long _ _ _ u is' long) = absurd (long_or_not used u t (same_name (text_of source name) u t is' is) long short)
+  one_file source root _ _ _ _ _ known named (FileComes.syntax within used name t p is short reads) (FileComes.syntax _ _ _ u p' is' short' reads') =
       ap (λ (place : Place). Err (refusal.Syntax name place)) (same_place p p' (same_reading t u (Syntax p) (Syntax p') (same_name (text_of source name) t u is is') reads reads'))
-  one_file source root _ _ _ _ _ known named (file.syntax within used name t p is short reads) (file.depth _ _ _ u p' is' short' reads') =
+  one_file source root _ _ _ _ _ known named (FileComes.syntax within used name t p is short reads) (FileComes.depth _ _ _ u p' is' short' reads') =
       let no = same_reading t u (Syntax p) (Depth p') (same_name (text_of source name) t u is is') reads reads' in cc
-  one_file source root _ _ _ _ _ known named (file.syntax within used name t p is short reads) (file.read _ _ _ u ts o is' short' reads' come) =
+  one_file source root _ _ _ _ _ known named (FileComes.syntax within used name t p is short reads) (FileComes.read _ _ _ u ts o is' short' reads' come) =
       let no = same_reading t u (Syntax p) (Trees ts) (same_name (text_of source name) t u is is') reads reads' in cc
-  one_file source root _ _ _ _ _ known named (file.depth within used name t p is short reads) (file.unknown _ _ _ o none) = absurd (some_or_none (text_of source name) t is none)
-  one_file source root _ _ _ _ _ known named (file.depth within used name t p is short reads) (file.too_long _ _ _ u is' long) = absurd (long_or_not used u t (same_name (text_of source name) u t is' is) long short)
-  one_file source root _ _ _ _ _ known named (file.depth within used name t p is short reads) (file.syntax _ _ _ u p' is' short' reads') =
+  one_file source root _ _ _ _ _ known named (FileComes.depth within used name t p is short reads) (FileComes.unknown _ _ _ o none) = absurd (some_or_none (text_of source name) t is none)
+  one_file source root _ _ _ _ _ known named (FileComes.depth within used name t p is short reads) (FileComes.too_long _ _ _ u is' long) = absurd (long_or_not used u t (same_name (text_of source name) u t is' is) long short)
+  one_file source root _ _ _ _ _ known named (FileComes.depth within used name t p is short reads) (FileComes.syntax _ _ _ u p' is' short' reads') =
       let no = same_reading t u (Depth p) (Syntax p') (same_name (text_of source name) t u is is') reads reads' in cc
-  one_file source root _ _ _ _ _ known named (file.depth within used name t p is short reads) (file.depth _ _ _ u p' is' short' reads') = refl
-  one_file source root _ _ _ _ _ known named (file.depth within used name t p is short reads) (file.read _ _ _ u ts o is' short' reads' come) =
+  one_file source root _ _ _ _ _ known named (FileComes.depth within used name t p is short reads) (FileComes.depth _ _ _ u p' is' short' reads') = refl
+  one_file source root _ _ _ _ _ known named (FileComes.depth within used name t p is short reads) (FileComes.read _ _ _ u ts o is' short' reads' come) =
       let no = same_reading t u (Depth p) (Trees ts) (same_name (text_of source name) t u is is') reads reads' in cc
-  one_file source root _ _ _ _ _ known named (file.read within used name t ts o is short reads come) (file.unknown _ _ _ o' none) = absurd (some_or_none (text_of source name) t is none)
-  one_file source root _ _ _ _ _ known named (file.read within used name t ts o is short reads come) (file.too_long _ _ _ u is' long) = absurd (long_or_not used u t (same_name (text_of source name) u t is' is) long short)
-  one_file source root _ _ _ _ _ known named (file.read within used name t ts o is short reads come) (file.syntax _ _ _ u p' is' short' reads') =
+  one_file source root _ _ _ _ _ known named (FileComes.read within used name t ts o is short reads come) (FileComes.unknown _ _ _ o' none) = absurd (some_or_none (text_of source name) t is none)
+  one_file source root _ _ _ _ _ known named (FileComes.read within used name t ts o is short reads come) (FileComes.too_long _ _ _ u is' long) = absurd (long_or_not used u t (same_name (text_of source name) u t is' is) long short)
+  one_file source root _ _ _ _ _ known named (FileComes.read within used name t ts o is short reads come) (FileComes.syntax _ _ _ u p' is' short' reads') =
       let no = same_reading t u (Trees ts) (Syntax p') (same_name (text_of source name) t u is is') reads reads' in cc
-  one_file source root _ _ _ _ _ known named (file.read within used name t ts o is short reads come) (file.depth _ _ _ u p' is' short' reads') =
+  one_file source root _ _ _ _ _ known named (FileComes.read within used name t ts o is short reads come) (FileComes.depth _ _ _ u p' is' short' reads') =
       let no = same_reading t u (Trees ts) (Depth p') (same_name (text_of source name) t u is is') reads reads' in cc
-  one_file source root _ _ _ _ _ known named (file.read within used name t ts o is short reads come) (file.read _ _ _ u us o' is' short' reads' come') =
+  one_file source root _ _ _ _ _ known named (FileComes.read within used name t ts o is short reads come) (FileComes.read _ _ _ u us o' is' short' reads' come') =
       let same = same_name (text_of source name) t u is is' in
       let trees = same_trees ts us (same_reading t u (Trees ts) (Trees us) same reads reads') in
       let here : TreesCome source within (used + length t) us o' = subst (λ (text : List ℕ). TreesCome source within (used + length text) us o') (sym same) come' in
@@ -85,35 +83,35 @@ mutual
 
   one_trees : (source : Source) (root : List ℕ) (within used : ℕ) (trees : List Tree) (a b : Outcome) → IsKnown source root → ((t : Tree) (n : List ℕ) → Contains trees t → included_name t ≡ Some n → IsNamed source root n) →
       TreesCome source within used trees a → TreesCome source within used trees b → a ≡ b
-  one_trees source root _ _ _ _ _ known named (tree.none within used) (tree.none _ _) = refl
-  one_trees source root _ _ _ _ _ known named (tree.kept within used t rest o none come) (tree.kept _ _ _ _ o' none' come') =
+  one_trees source root _ _ _ _ _ known named (TreesCome.none within used) (TreesCome.none _ _) = refl
+  one_trees source root _ _ _ _ _ known named (TreesCome.kept within used t rest o none come) (TreesCome.kept _ _ _ _ o' none' come') =
       ap (λ (more : Outcome). in_front (t ∷ []) more) (one_trees source root within used rest o o' known (λ u n stands is. named u n (Contains-append_right (t ∷ []) rest u stands) is) come come')
-  one_trees source root _ _ _ _ _ known named (tree.kept within used t rest o none come) (tree.included _ _ _ _ n g o' is room inner come') = absurd (some_or_none (included_name t) n is none)
-  one_trees source root _ _ _ _ _ known named (tree.kept within used t rest o none come) (tree.refused _ _ _ _ n e is room inner) = absurd (some_or_none (included_name t) n is none)
-  one_trees source root _ _ _ _ _ known named (tree.kept within used t rest o none come) (tree.too_deep _ _ _ _ n is deep) = absurd (some_or_none (included_name t) n is none)
-  one_trees source root _ _ _ _ _ known named (tree.included within used t rest n g o is room inner come) (tree.kept _ _ _ _ o' none come') = absurd (some_or_none (included_name t) n is none)
-  one_trees source root _ _ _ _ _ known named (tree.included within used t rest n g o is room inner come) (tree.included _ _ _ _ n' g' o' is' room' inner' come') =
+  one_trees source root _ _ _ _ _ known named (TreesCome.kept within used t rest o none come) (TreesCome.included _ _ _ _ n g o' is room inner come') = absurd (some_or_none (included_name t) n is none)
+  one_trees source root _ _ _ _ _ known named (TreesCome.kept within used t rest o none come) (TreesCome.refused _ _ _ _ n e is room inner) = absurd (some_or_none (included_name t) n is none)
+  one_trees source root _ _ _ _ _ known named (TreesCome.kept within used t rest o none come) (TreesCome.too_deep _ _ _ _ n is deep) = absurd (some_or_none (included_name t) n is none)
+  one_trees source root _ _ _ _ _ known named (TreesCome.included within used t rest n g o is room inner come) (TreesCome.kept _ _ _ _ o' none come') = absurd (some_or_none (included_name t) n is none)
+  one_trees source root _ _ _ _ _ known named (TreesCome.included within used t rest n g o is room inner come) (TreesCome.included _ _ _ _ n' g' o' is' room' inner' come') =
       let same : n' ≡ n = same_name (included_name t) n' n is' is in
       let files : g ≡ g' = same_ok g g' (one_file source root (within + 1) used n (Ok g) (Ok g') known (named t n (0, omega arith, refl) is) inner (subst (λ (m : List ℕ). FileComes source (within + 1) used m (Ok g')) same inner')) in
       let here : TreesCome source within g.used rest o' = subst (λ (h : Gathered). TreesCome source within h.used rest o') (sym files) come' in
       ap (λ (more : Outcome). in_front g.trees more) (one_trees source root within g.used rest o o' known (λ u m stands has. named u m (Contains-append_right (t ∷ []) rest u stands) has) come here) ∙
       ap (λ (h : Gathered). in_front h.trees o') files
-  one_trees source root _ _ _ _ _ known named (tree.included within used t rest n g o is room inner come) (tree.refused _ _ _ _ n' e is' room' inner') =
+  one_trees source root _ _ _ _ _ known named (TreesCome.included within used t rest n g o is room inner come) (TreesCome.refused _ _ _ _ n' e is' room' inner') =
       let same : n' ≡ n = same_name (included_name t) n' n is' is in
       let no : ◌≡◌ {A = Outcome} (Ok g) (Err e) = one_file source root (within + 1) used n (Ok g) (Err e) known (named t n (0, omega arith, refl) is) inner (subst (λ (m : List ℕ). FileComes source (within + 1) used m (Err e)) same inner') in cc
-  one_trees source root _ _ _ _ _ known named (tree.included within used t rest n g o is room inner come) (tree.too_deep _ _ _ _ n' is' deep) = absurd (omega arith)
-  one_trees source root _ _ _ _ _ known named (tree.refused within used t rest n e is room inner) (tree.kept _ _ _ _ o' none come') = absurd (some_or_none (included_name t) n is none)
-  one_trees source root _ _ _ _ _ known named (tree.refused within used t rest n e is room inner) (tree.included _ _ _ _ n' g' o' is' room' inner' come') =
+  one_trees source root _ _ _ _ _ known named (TreesCome.included within used t rest n g o is room inner come) (TreesCome.too_deep _ _ _ _ n' is' deep) = absurd (omega arith)
+  one_trees source root _ _ _ _ _ known named (TreesCome.refused within used t rest n e is room inner) (TreesCome.kept _ _ _ _ o' none come') = absurd (some_or_none (included_name t) n is none)
+  one_trees source root _ _ _ _ _ known named (TreesCome.refused within used t rest n e is room inner) (TreesCome.included _ _ _ _ n' g' o' is' room' inner' come') =
       let same : n' ≡ n = same_name (included_name t) n' n is' is in
       let no : ◌≡◌ {A = Outcome} (Err e) (Ok g') = one_file source root (within + 1) used n (Err e) (Ok g') known (named t n (0, omega arith, refl) is) inner (subst (λ (m : List ℕ). FileComes source (within + 1) used m (Ok g')) same inner') in cc
-  one_trees source root _ _ _ _ _ known named (tree.refused within used t rest n e is room inner) (tree.refused _ _ _ _ n' e' is' room' inner') =
+  one_trees source root _ _ _ _ _ known named (TreesCome.refused within used t rest n e is room inner) (TreesCome.refused _ _ _ _ n' e' is' room' inner') =
       let same : n' ≡ n = same_name (included_name t) n' n is' is in
       one_file source root (within + 1) used n (Err e) (Err e') known (named t n (0, omega arith, refl) is) inner (subst (λ (m : List ℕ). FileComes source (within + 1) used m (Err e')) same inner')
-  one_trees source root _ _ _ _ _ known named (tree.refused within used t rest n e is room inner) (tree.too_deep _ _ _ _ n' is' deep) = absurd (omega arith)
-  one_trees source root _ _ _ _ _ known named (tree.too_deep within used t rest n is deep) (tree.kept _ _ _ _ o' none come') = absurd (some_or_none (included_name t) n is none)
-  one_trees source root _ _ _ _ _ known named (tree.too_deep within used t rest n is deep) (tree.included _ _ _ _ n' g' o' is' room inner' come') = absurd (omega arith)
-  one_trees source root _ _ _ _ _ known named (tree.too_deep within used t rest n is deep) (tree.refused _ _ _ _ n' e is' room inner') = absurd (omega arith)
-  one_trees source root _ _ _ _ _ known named (tree.too_deep within used t rest n is deep) (tree.too_deep _ _ _ _ n' is' deep') = refl
+  one_trees source root _ _ _ _ _ known named (TreesCome.refused within used t rest n e is room inner) (TreesCome.too_deep _ _ _ _ n' is' deep) = absurd (omega arith)
+  one_trees source root _ _ _ _ _ known named (TreesCome.too_deep within used t rest n is deep) (TreesCome.kept _ _ _ _ o' none come') = absurd (some_or_none (included_name t) n is none)
+  one_trees source root _ _ _ _ _ known named (TreesCome.too_deep within used t rest n is deep) (TreesCome.included _ _ _ _ n' g' o' is' room inner' come') = absurd (omega arith)
+  one_trees source root _ _ _ _ _ known named (TreesCome.too_deep within used t rest n is deep) (TreesCome.refused _ _ _ _ n' e is' room inner') = absurd (omega arith)
+  one_trees source root _ _ _ _ _ known named (TreesCome.too_deep within used t rest n is deep) (TreesCome.too_deep _ _ _ _ n' is' deep') = refl
 
 pub one_description : (source : Source) (name : List ℕ) (a b : Result (List Tree) SourceRefusal) → IsKnown source name → DescriptionComes source name a → DescriptionComes source name b → a ≡ b
 one_description source name (Ok a) (Ok b) known p q =

@@ -37,6 +37,7 @@ fn read_text(
 ) -> Result<Gathered, SourceRefusal>
     requires { used ≤ most_bytes }
     ensures reads { Gives result (TextReads name.now used text.now) }
+    ensures bound { IfOk result (λ read. read.used ≤ most_bytes) }
     ensures no_fault { result ≢ Err SourceRefusal.ReadFault }
 {
     if text.len() > MOST_BYTES - used {
@@ -84,6 +85,7 @@ pub fn read_file<F: Files>(
 ) -> Result<Gathered, SourceRefusal>
     requires { used ≤ most_bytes }
     ensures reads { (source : Source) → Agrees source (F.holds files.old) → Gives result (FileReads source used name.now) }
+    ensures bound { IfOk result (λ read. read.used ≤ most_bytes) }
     ensures asks { AsksFor (F.asked files.old) (F.asked files.new) name.now result }
     ensures same { (n bytes : List ℕ) → F.holds files.new n bytes ↔ F.holds files.old n bytes }
     ensures fault { result ≡ Err SourceRefusal.ReadFault → Rose (F.fault_count files.old) (F.fault_count files.new) }

@@ -56,7 +56,9 @@ fn gather_from<F: Files>(
     let mut used = text.used;
     for tree in text.trees.into_vec() {
         match included_name(&tree) {
-            None => trees.push(tree)?,
+            None => {
+                trees.push(tree)?;
+            }
             Some(file) => {
                 if within >= MOST_WITHIN {
                     return Err(SourceRefusal::Include);

@@ -1,7 +1,0 @@
-pub mod Head
-pub mod Draft
-pub mod Names
-pub mod Predicates
-pub mod Tables
-pub mod Checks
-pub mod Forms

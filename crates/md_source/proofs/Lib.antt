@@ -1,0 +1,4 @@
+pub mod KnownTexts
+pub mod Comes
+pub mod Named
+pub mod One

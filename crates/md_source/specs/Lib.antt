@@ -1,0 +1,4 @@
+pub mod Include
+pub mod Source
+pub mod Asked
+pub mod Answers

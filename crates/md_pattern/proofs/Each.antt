@@ -59,7 +59,7 @@ pub each_next : (constants : List Constant) (trees : List Tree) (i : ℕ) (t : T
 each_next constants trees i t front p all whole within is read made h =
     let rest : Result Patterns Reason = each (map (meaning_of constants) (drop (i + 1) trees)) in
     let here : joined front (each (map (meaning_of constants) (drop i trees))) ≡ joined front (judged_with in_front (pattern_of constants t) rest) =
-        at_drop_more (λ ts. joined front (each (map (meaning_of constants) ts))) trees i t within ∙ ap (λ (u : Tree). joined front (each (map (meaning_of constants) (u ∷ drop (i + 1) trees)))) (sym is) in
+    at_drop_more (λ ts. joined front (each (map (meaning_of constants) ts))) trees i t within ∙ ap (λ (u : Tree). joined front (each (map (meaning_of constants) (u ∷ drop (i + 1) trees)))) (sym is) in
     rw made (rw read (sym (shift front (pattern_of constants t) rest) ∙ sym here ∙ h))
 
 -- all were read

@@ -61,11 +61,7 @@ fn predicated_with(alloc: Global, number: u32, predicate: &Name) -> Result<Opera
 }
 
 /// `NUMBER "PREDICATE"`
-pub fn predicated(
-    alloc: Global,
-    number: &Tree,
-    predicate: &Tree,
-) -> Result<Option<Operand>, Memory>
+pub fn predicated(alloc: Global, number: &Tree, predicate: &Tree) -> Result<Option<Operand>, Memory>
     ensures { IfOk result (λ operand. operand ≡ spec.predicated number.now predicate.now) }
 {
     match (number_in(number), string(predicate)) {
@@ -78,7 +74,9 @@ fn constrained(alloc: Global, operand: Operand, text: &Name) -> Result<Operand, 
     ensures { IfOk result (λ whole. whole ≡ spec.constrained operand text.now) }
 {
     let Operand {
-        number, predicate, ..
+        number,
+        predicate,
+        ..
     } = operand;
     let mut texts = Items::new(alloc);
     texts.push(OperandText {

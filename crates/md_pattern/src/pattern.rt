@@ -8,9 +8,7 @@ ghost use Rattle.md_pattern.specs.Pattern as spec;
 ghost use Rattle.md_pattern.specs.Reason.{judged_with};
 ghost use Rattle.md_pattern.specs.Word as word;
 
-use crate::operand::{
-    Operand, OperandTexts, dup_in, numbered, operand_in, predicated, scratch_in,
-};
+use crate::operand::{Operand, OperandTexts, dup_in, numbered, operand_in, predicated, scratch_in};
 use crate::parts::{Parts, has_mode, parts_of_code};
 use crate::reason::{Judged, Reason, both};
 use crate::word::{number_of, register_of};
@@ -184,18 +182,11 @@ fn symbol_in(alloc: Global, parts: &[Tree]) -> Result<Judged<Name>, Memory>
     }
 }
 
-fn symbol(
-    alloc: Global,
-    mode: Judged<Mode>,
-    parts: &[Tree],
-) -> Result<Judged<Pattern>, Memory>
+fn symbol(alloc: Global, mode: Judged<Mode>, parts: &[Tree]) -> Result<Judged<Pattern>, Memory>
     ensures { IfOk result (λ pattern. pattern ≡ spec.symbol_by mode parts.now) }
 {
     match both(mode, symbol_in(alloc, parts)?) {
-        Ok((mode, name)) => Ok(Ok(bare(
-            alloc,
-            Rtx::of_name(alloc, Code::SymbolRef, mode, name),
-        ))),
+        Ok((mode, name)) => Ok(Ok(bare(alloc, Rtx::of_name(alloc, Code::SymbolRef, mode, name)))),
         Err(reason) => Ok(Err(reason)),
     }
 }
@@ -267,11 +258,7 @@ fn plain_operand(
 /// Each of some trees as an expression.
 #[cycle(read)]
 #[tactic(auto, using(crate::proofs::Each::joined_first, crate::proofs::Each::each_next, crate::proofs::Each::each_ends))]
-fn each(
-    alloc: Global,
-    constants: &[Constant],
-    trees: &[Tree],
-) -> Result<Judged<Patterns>, Memory>
+fn each(alloc: Global, constants: &[Constant], trees: &[Tree]) -> Result<Judged<Patterns>, Memory>
     ensures { IfOk result (λ patterns. patterns ≡ spec.each (map (spec.meaning_of constants.now) trees.now)) }
 {
     let mut patterns = Ok(no_patterns(alloc));
@@ -285,11 +272,7 @@ fn each(
 /// A vector of expressions.
 #[cycle(read)]
 #[tactic(auto, using(crate::proofs::Meanings::vector_out))]
-fn elements(
-    alloc: Global,
-    constants: &[Constant],
-    tree: &Tree,
-) -> Result<Judged<Patterns>, Memory>
+fn elements(alloc: Global, constants: &[Constant], tree: &Tree) -> Result<Judged<Patterns>, Memory>
     ensures { IfOk result (λ patterns. patterns ≡ spec.patterns_of constants.now tree.now) }
 {
     if is_vector(tree) {
@@ -455,11 +438,7 @@ fn list(
 
 #[cycle(read)]
 #[tactic(auto, using(crate::proofs::Meanings::pattern_out))]
-fn expression(
-    alloc: Global,
-    constants: &[Constant],
-    tree: &Tree,
-) -> Result<Judged<Pattern>, Memory>
+fn expression(alloc: Global, constants: &[Constant], tree: &Tree) -> Result<Judged<Pattern>, Memory>
     ensures { IfOk result (λ pattern. pattern ≡ spec.pattern_of constants.now tree.now) }
 {
     match items(tree) {

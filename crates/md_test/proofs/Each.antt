@@ -41,7 +41,7 @@ pub each_next : (constants : List Constant) (trees : List Tree) (i : ℕ) (tree 
 each_next constants trees i tree front t all whole within is read made h =
     let rest : Read = each (map (test_of constants) (drop (i + 1) trees)) in
     let here : together front (each (map (test_of constants) (drop i trees))) ≡ together front (judged_with (λ x xs. x ∷ xs) (test_of constants tree) rest) =
-        at_drop_more (λ ts. together front (each (map (test_of constants) ts))) trees i tree within ∙ ap (λ (u : Tree). together front (each (map (test_of constants) (u ∷ drop (i + 1) trees)))) (sym is) in
+    at_drop_more (λ ts. together front (each (map (test_of constants) ts))) trees i tree within ∙ ap (λ (u : Tree). together front (each (map (test_of constants) (u ∷ drop (i + 1) trees)))) (sym is) in
     rw made (rw read (sym (shift front (test_of constants tree) rest) ∙ sym here ∙ h))
 
 -- all were read
@@ -55,7 +55,7 @@ pub pushed_next : {X A : Type 0} (f : X → List A) (xs : List X) (i : ℕ) (x :
     i < length xs → x ≡ get_or xs i x → more ≡ out ++ f x → out ++ flat_map f (drop i xs) ≡ whole → more ++ flat_map f (drop (i + 1) xs) ≡ whole
 pushed_next {X = X} f xs i x out more whole within is made h =
     let here : out ++ flat_map f (drop i xs) ≡ out ++ (f x ++ flat_map f (drop (i + 1) xs)) =
-        at_drop_more (λ ys. out ++ flat_map f ys) xs i x within ∙ ap (λ (u : X). out ++ flat_map f (u ∷ drop (i + 1) xs)) (sym is) in
+    at_drop_more (λ ys. out ++ flat_map f ys) xs i x within ∙ ap (λ (u : X). out ++ flat_map f (u ∷ drop (i + 1) xs)) (sym is) in
     rw made (append_assoc out (f x) (flat_map f (drop (i + 1) xs)) ∙ sym here ∙ h)
 
 pub pushed_ends : {A : Type 0} (out whole : List A) → out ++ [] ≡ whole → out ≡ whole

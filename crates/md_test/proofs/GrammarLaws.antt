@@ -15,7 +15,6 @@ use Rattle.c_cond.specs.declared.parse.CondRefusal.{CondRefusal}
 use Rattle.c_cond.specs.declared.parse.CondRefusal.TheVariants as refusal
 use Rattle.c_cond.specs.machine.Steps.{run, result_of, at}
 use Rattle.c_cond.proofs.Answered.{is_condition, is_statements, no_condition, no_statements, one_condition, one_statements}
-
 use Rattle.md_test.specs.Texts.{Reads, tree_in, always, nothing}
 
 -- a text outside has no tree

@@ -41,11 +41,7 @@ pub struct Test {
 /// Some tests, in order.
 pub type Tests = Items<Test>;
 
-fn push_predicate(
-    alloc: Global,
-    question: &Question,
-    names: &mut Items<Name>,
-) -> Result<(), Memory>
+fn push_predicate(alloc: Global, question: &Question, names: &mut Items<Name>) -> Result<(), Memory>
     ensures { OnOk result (names.new ≡ names.old ++ predicate_of question.now) }
 {
     match question {

@@ -113,11 +113,7 @@ fn codes(alloc: Global, parts: &[Tree]) -> Result<Judged<Test>, Memory>
     }
 }
 
-fn condition(
-    alloc: Global,
-    constants: &Constants,
-    parts: &[Tree],
-) -> Result<Judged<Test>, Memory>
+fn condition(alloc: Global, constants: &Constants, parts: &[Tree]) -> Result<Judged<Test>, Memory>
     ensures { IfOk result (λ test. test ≡ spec.condition_by constants.now (spec.text_in parts.now)) }
 {
     let Some(text) = text_in(parts) else {
@@ -263,11 +259,7 @@ fn test_in(alloc: Global, constants: &Constants, tree: &Tree) -> Result<Judged<T
 /// tests: `and` and `ior` of two, `not` of one, `if_then_else` of three. `Parts` where it has other parts or another head, `Code`
 /// where a code is unknown, `Mode` where a mode is none of the four, `Condition` where a condition is outside the grammar. It goes
 /// as deep as the tree.
-pub fn test_of(
-    alloc: Global,
-    tree: &Tree,
-    constants: &Constants,
-) -> Result<Judged<Test>, Memory>
+pub fn test_of(alloc: Global, tree: &Tree, constants: &Constants) -> Result<Judged<Test>, Memory>
     ensures { IfOk result (λ test. test ≡ spec.test_of constants.now tree.now) }
 {
     test_in(alloc, constants, tree)

@@ -11,11 +11,7 @@ use rtx_tree::Constants;
 use std::alloc::Global;
 
 /// The condition of a form that a text is, or `Condition` where the text is outside the grammar.
-pub fn condition(
-    alloc: Global,
-    text: &[u8],
-    constants: &Constants,
-) -> Result<Judged<Cond>, Memory>
+pub fn condition(alloc: Global, text: &[u8], constants: &Constants) -> Result<Judged<Cond>, Memory>
     ensures value { IfOk result (λ cond. cond ≡ spec.condition_of constants.now text.now) }
     ensures grammar { (bytes : List ℕ) → spec.Reads (spec.condition_in constants.now bytes) (IsText Dialect.Condition constants.now Condition bytes) }
 {
@@ -42,11 +38,7 @@ pub(crate) fn test_condition(
 }
 
 /// The preparation statements that a text is, or `Statements` where the text is outside the grammar.
-pub fn statements(
-    alloc: Global,
-    text: &[u8],
-    constants: &Constants,
-) -> Result<Judged<Prep>, Memory>
+pub fn statements(alloc: Global, text: &[u8], constants: &Constants) -> Result<Judged<Prep>, Memory>
     ensures value { IfOk result (λ prep. prep ≡ spec.statements_of constants.now text.now) }
     ensures grammar { (bytes : List ℕ) → spec.Reads (spec.statements_in constants.now bytes) (IsText Dialect.Condition constants.now Statements bytes) }
 {

@@ -1,3 +1,3 @@
 pub mod GrammarLaws
 pub mod Each
-pub mod Tests
+pub mod TestLaws

@@ -52,7 +52,7 @@ fn push_predicate(alloc: Global, question: &Question, names: &mut Items<Name>) -
 
 impl Test {
     /// Appends the names of the predicates that a test names, in the order of the text.
-    #[tactic(auto, using(crate::proofs::Tests::pushed_first, crate::proofs::Each::pushed_next, crate::proofs::Each::pushed_ends))]
+    #[tactic(auto, using(crate::proofs::TestLaws::pushed_first, crate::proofs::Each::pushed_next, crate::proofs::Each::pushed_ends))]
     pub fn push_predicates(&self, alloc: Global, names: &mut Items<Name>) -> Result<(), Memory>
         ensures { OnOk result (names.new ≡ names.old ++ predicates_of self.now) }
     {

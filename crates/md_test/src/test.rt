@@ -240,7 +240,7 @@ fn list(
 }
 
 #[cycle(read)]
-#[tactic(auto, using(crate::proofs::Tests::test_out))]
+#[tactic(auto, using(crate::proofs::TestLaws::test_out))]
 fn test_in(alloc: Global, constants: &Constants, tree: &Tree) -> Result<Judged<Test>, Memory>
     ensures { IfOk result (λ test. test ≡ spec.test_of constants.now tree.now) }
 {

@@ -1,5 +1,5 @@
 use Rattle.md_test.proofs.Each.{each_next}
-use Rattle.md_test.proofs.Tests.{test_at}
+use Rattle.md_test.proofs.TestLaws.{test_at}
 use Rattle.md_test.proofs.test.+read.Goals as goal
 
 pub each-loop-tree-preserved : goal.each-loop-tree-preserved

@@ -8,3 +8,6 @@ mod trees;
 
 pub use refusal::SourceRefusal;
 pub use trees::gather;
+
+#[cfg(test)]
+mod tests;

@@ -1,12 +1,12 @@
 -- What a file comes to, while its trees are gone through.
-use Rattle.std.proofs.Common.{◌≡◌, ℕ, ◌+◌, ◌<◌, ◌≤◌, List, [], ◌∷◌, ◌++◌, length, Option, Some, None, Result, Ok, Err, refl, sym, ap, subst, ◌∙◌, append_assoc, append-nil, arith}
+use Rattle.std.proofs.Common.{◌≡◌, ℕ, ◌+◌, ◌<◌, ◌≤◌, List, [], ◌∷◌, ◌++◌, length, Option, Some, None, Ok, Err, refl, sym, ap, subst, ◌∙◌, append_assoc, append-nil, arith}
 use Rattle.lisp_read.specs.declared.tree.Tree.{Tree}
 use Rattle.md_source.specs.declared.trees.Gathered.{Gathered}
 use Rattle.md_source.specs.declared.refusal.SourceRefusal.{SourceRefusal}
 use Rattle.md_source.specs.declared.refusal.SourceRefusal.TheVariants as refusal
 use Rattle.md_source.specs.Include.{included_name}
 use Rattle.md_source.specs.Source.{Source, Outcome, FileComes, TreesCome, DescriptionComes, in_front, text_of, most_within}
-use Rattle.md_source.specs.Answers.{Gives, Refuses, FileReads}
+use Rattle.md_source.specs.Answers.{Refuses, FileReads}
 
 -- whatever the rest of the trees comes to, the file comes to it with some trees in front
 abbrev pub ComesOn : Source → (within used : ℕ) → List ℕ → List Tree → ℕ → List Tree → Type 0
@@ -36,10 +36,14 @@ fronts : (source : Source) (within used : ℕ) (name : List ℕ) (trees more all
 fronts source within used name trees more all outcome made come =
     subst (λ (o : Outcome). FileComes source within used name o) (sym (ap (λ (ts : List Tree). in_front ts outcome) made ∙ front_append trees more outcome)) come
 
-pub keeps : (source : Source) (within used : ℕ) (name : List ℕ) (trees all : List Tree) (now : ℕ) (t : Tree) (left rest : List Tree) → left ≡ t ∷ rest → included_name t ≡ None → all ≡ trees ++ t ∷ [] →
+-- the name that the code found
+pub named_by : (t : Tree) (file n : List ℕ) → Some file ≡ included_name t → n ≡ file → included_name t ≡ Some n
+named_by t file n found same = sym found ∙ ap (λ (name : List ℕ). Some name) (sym same)
+
+pub keeps : (source : Source) (within used : ℕ) (name : List ℕ) (trees all : List Tree) (now : ℕ) (t : Tree) (left rest : List Tree) → left ≡ t ∷ rest → None ≡ included_name t → all ≡ trees ++ t ∷ [] →
     ComesOn source within used name trees now left → ComesOn source within used name all now rest
 keeps source within used name trees all now t left rest front is made on outcome come =
-    fronts source within used name trees (t ∷ []) all outcome made (subst (λ (l : List Tree). ComesOn source within used name trees now l) front on (in_front (t ∷ []) outcome) (TreesCome.kept within now t rest outcome is come))
+    fronts source within used name trees (t ∷ []) all outcome made (subst (λ (l : List Tree). ComesOn source within used name trees now l) front on (in_front (t ∷ []) outcome) (TreesCome.kept within now t rest outcome (sym is) come))
 
 pub includes : (source : Source) (within used : ℕ) (name : List ℕ) (trees all : List Tree) (now : ℕ) (t : Tree) (left rest : List Tree) (n : List ℕ) (g : Gathered) → left ≡ t ∷ rest → included_name t ≡ Some n → within < most_within →
     all ≡ trees ++ g.trees → FileComes source (within + 1) now n (Ok g) → ComesOn source within used name trees now left → ComesOn source within used name all g.used rest
@@ -64,9 +68,9 @@ refuses source within used name trees now t left rest n refusal.Depth front is r
 refuses source within used name trees now t left rest n refusal.Text front is room on inner = refused source within used name trees now t left rest n refusal.Text front is room on inner
 refuses source within used name trees now t left rest n refusal.Include front is room on inner = refused source within used name trees now t left rest n refusal.Include front is room on inner
 
-pub finishes : (source : Source) (within used : ℕ) (name : List ℕ) (trees : List Tree) (now : ℕ) (left : List Tree) → length left ≡ 0 → ComesOn source within used name trees now left → FileComes source within used name (Ok (record { trees = trees; used = now }))
-finishes source within used name trees now (t ∷ rest) none on = absurd (omega arith)
-finishes source within used name trees now [] none on =
+pub finishes : (source : Source) (within used : ℕ) (name : List ℕ) (trees : List Tree) (now : ℕ) (left : List Tree) (count : ℕ) → count ≡ length left → count ≡ 0 → ComesOn source within used name trees now left → FileComes source within used name (Ok (record { trees = trees; used = now }))
+finishes source within used name trees now (t ∷ rest) count is none on = absurd (omega arith)
+finishes source within used name trees now [] count is none on =
     subst (λ (ts : List Tree). FileComes source within used name (Ok (record { trees = ts; used = now }))) (append-nil trees) (on (Ok (record { trees = []; used = now })) (TreesCome.none within now))
 
 -- a file that is refused by itself
@@ -94,6 +98,10 @@ unread source within used name refusal.Include reads = by_known (text_of source 
     by_known : (known : Option (List ℕ)) → text_of source name ≡ known → FileComes source within used name (Err refusal.Include)
     by_known None is = FileComes.unknown within used name (Err refusal.Include) is
     by_known (Some text) is = absurd (reads text is)
+
+-- one tree less is left
+pub one_less : (t : Tree) (left rest : List Tree) (count more : ℕ) → count ≡ length left → left ≡ t ∷ rest → more + 1 ≡ count → more ≡ length rest
+one_less t left rest count more is front gone = let long = ap length front in omega arith
 
 -- what the file of a description's name comes to, the description does
 pub described : (source : Source) (name : List ℕ) (e : SourceRefusal) → Refuses e (FileComes source 1 0 name) → Refuses e (DescriptionComes source name)

@@ -1,9 +1,7 @@
 -- What is read of the file of a name, where its text is known.
-use Rattle.std.proofs.Common.{◌≡◌, ℕ, List, Option, Some, None, Result, Ok, Err, Bool, true, false, sym, ap, subst, ◌∙◌, cond}
+use Rattle.std.proofs.Common.{◌≡◌, ℕ, List, Option, Some, Ok, Err, Bool, true, false, sym, ap, subst, ◌∙◌, cond}
 use Rattle.std.specs.Str.{bytes_eq}
 use Rattle.rv_target.specs.Shipped.{shipped_text}
-use Rattle.md_source.specs.declared.trees.Gathered.{Gathered}
-use Rattle.md_source.specs.declared.refusal.SourceRefusal.{SourceRefusal}
 use Rattle.md_source.specs.declared.refusal.SourceRefusal.TheVariants as refusal
 use Rattle.md_source.specs.Source.{Source, Outcome, shipped_name, text_of}
 use Rattle.md_source.specs.Answers.{Agrees, Gives, TextReads, FileReads}

@@ -1,14 +1,13 @@
 -- Which names were asked for, while the trees of a file are gone through.
-use Rattle.std.proofs.Common.{◌≡◌, ◌≢◌, ℕ, ◌⊎◌, List, [], ◌∷◌, ◌++◌, length, Option, Some, None, Result, Ok, Err, refl, sym, ap, subst, ◌∙◌, append_assoc, append-nil, inl, inr, ⊎_elim, arith, Contains}
+use Rattle.std.proofs.Common.{◌≡◌, ◌≢◌, ℕ, ◌⊎◌, ◌↔◌, List, [], ◌∷◌, ◌++◌, Option, Some, None, Ok, refl, sym, ap, subst, ◌∙◌, append_assoc, append-nil, inl, inr, ⊎_elim, arith, Contains}
 use Rattle.std.proofs.lemmas.List.Elements.{Contains-append_left, Contains-append_right, Contains-append_cases}
 use Rattle.byte_edge.specs.Fetched.{Grows}
 use Rattle.lisp_read.specs.declared.tree.Tree.{Tree}
 use Rattle.md_source.specs.declared.trees.Gathered.{Gathered}
-use Rattle.md_source.specs.declared.refusal.SourceRefusal.{SourceRefusal}
 use Rattle.md_source.specs.Include.{included_name}
 use Rattle.md_source.specs.Source.{Source, shipped_name, text_of}
-use Rattle.md_source.specs.Asked.{Includes, MayInclude, MayAsk, AreNamed, GrewBy}
-use Rattle.md_source.specs.Answers.{FileReads, AsksFile}
+use Rattle.md_source.specs.Asked.{MayInclude, MayAsk, AreNamed, GrewBy}
+use Rattle.md_source.specs.Answers.{Agrees, FileReads, AsksFile}
 
 -- names that may be asked for, and the file's own is read already
 abbrev pub IsRead : Source → List ℕ → List (List ℕ) → Type 0
@@ -89,3 +88,11 @@ grew_within source name n (Some xs) None now inc grew more = absurd grew
 grew_within source name n (Some xs) (Some ys) None inc grew more = absurd more
 grew_within source name n (Some xs) (Some ys) (Some zs) inc grew more =
     (grew.0 ++ more.0, more.1 ∙ ap (λ (l : List (List ℕ)). l ++ more.0) grew.1 ∙ append_assoc xs grew.0 more.0, (named_within source name n grew.0 more.0 grew.2 inc more.2, still_read grew.0 more.0 name grew.2.1))
+
+-- ---- files that stay as they are
+
+pub agrees_still : (source : Source) (old now : List ℕ → List ℕ → Type 0) → ((n bytes : List ℕ) → now n bytes ↔ old n bytes) → Agrees source old → Agrees source now
+agrees_still source old now same agrees n bytes known = (same n bytes).1 (agrees n bytes known)
+
+pub same_still : (old mid now : List ℕ → List ℕ → Type 0) → ((n bytes : List ℕ) → mid n bytes ↔ old n bytes) → ((n bytes : List ℕ) → now n bytes ↔ mid n bytes) → (n bytes : List ℕ) → now n bytes ↔ old n bytes
+same_still old mid now first later n bytes = (λ h. (first n bytes).0 ((later n bytes).0 h), λ h. (later n bytes).1 ((first n bytes).1 h))

@@ -3,9 +3,7 @@ use Rattle.std.specs.Prelude.{◌≡◌, ◌≢◌, ℕ, ◌+◌, ◌<◌, ◌�
 use Rattle.std.specs.declared.alloc.Global.{Global}
 use Rattle.rtx_tree.specs.declared.place.Place.{Place}
 use Rattle.byte_edge.specs.Fetched.{Grows}
-use Rattle.lisp_read.specs.declared.tree.Tree.{Tree}
 use Rattle.lisp_read.specs.Reading.{ReadsAs, Trees, Syntax, Depth}
-use Rattle.md_source.specs.declared.trees.Gathered.{Gathered}
 use Rattle.md_source.specs.declared.refusal.SourceRefusal.{SourceRefusal}
 use Rattle.md_source.specs.declared.refusal.SourceRefusal.TheVariants as refusal
 use Rattle.md_source.specs.Source.{Source, Outcome, most_bytes, shipped_name, text_of}

@@ -1,5 +1,5 @@
 -- The directive that includes a file: GCC Internals, "Including Patterns in Machine Descriptions".
-use Rattle.std.specs.Prelude.{ℕ, List, [], ◌∷◌, Option, Some, None, codes, if◌then◌else◌}
+use Rattle.std.specs.Prelude.{ℕ, List, [], ◌∷◌, Option, None, codes, if◌then◌else◌}
 use Rattle.lisp_read.specs.declared.tree.Tree.{Tree}
 use Rattle.lisp_read.specs.Shape.{is_word, string_of, items_of}
 

@@ -1,17 +1,17 @@
 -- Which names were asked for, while the trees of a file are gone through.
 use Rattle.std.proofs.Common.{◌≡◌, ◌≢◌, ℕ, ◌⊎◌, ◌↔◌, List, [], ◌∷◌, ◌++◌, Option, Some, None, Ok, refl, sym, ap, subst, ◌∙◌, append_assoc, append-nil, inl, inr, ⊎_elim, arith, Contains}
-use Rattle.std.proofs.lemmas.List.Elements.{Contains-append_left, Contains-append_right, Contains-append_cases}
+use Rattle.std.proofs.lemmas.List.Elements.{Contains-append_left, Contains-append_right}
 use Rattle.byte_edge.specs.Fetched.{Grows}
 use Rattle.lisp_read.specs.declared.tree.Tree.{Tree}
 use Rattle.md_source.specs.declared.trees.Gathered.{Gathered}
 use Rattle.md_source.specs.Include.{included_name}
 use Rattle.md_source.specs.Source.{Source, shipped_name, text_of}
-use Rattle.md_source.specs.Asked.{MayInclude, MayAsk, AreNamed, GrewBy}
+use Rattle.md_source.specs.Asked.{MayInclude, WasRead, MayAsk, AreNamed, GrewBy}
 use Rattle.md_source.specs.Answers.{Agrees, FileReads, AsksFile}
 
 -- names that may be asked for, and the file's own is read already
 abbrev pub IsRead : Source → List ℕ → List (List ℕ) → Type 0
-IsRead source name names = AreNamed source name names × Contains (shipped_name ∷ names) name
+IsRead source name names = AreNamed source name names × WasRead names name
 
 -- each include among some trees is one of the file
 abbrev pub AreOf : Source → List ℕ → List Tree → Type 0
@@ -31,19 +31,18 @@ pub rest_of : (source : Source) (name : List ℕ) (t : Tree) (left rest : List T
 rest_of source name t left rest front of u n stands is = subst (λ (l : List Tree). AreOf source name l) front of u n (Contains-append_right (t ∷ []) rest u stands) is
 
 -- what was read before is read after
-still_read : (names more : List (List ℕ)) (n : List ℕ) → Contains (shipped_name ∷ names) n → Contains (shipped_name ∷ names ++ more) n
-still_read names more n stands = Contains-append_left (shipped_name ∷ names) more n stands
+still_read : (names more : List (List ℕ)) (n : List ℕ) → WasRead names n → WasRead (names ++ more) n
+still_read names more n (inl shipped) = inl shipped
+still_read names more n (inr stands) = inr (Contains-append_left names more n stands)
 
-read_behind : (names more : List (List ℕ)) (n : List ℕ) → Contains (shipped_name ∷ more) n → Contains (shipped_name ∷ names ++ more) n
-read_behind names more n stands =
-    ⊎_elim (λ (front : Contains (shipped_name ∷ []) n). Contains-append_left (shipped_name ∷ []) (names ++ more) n front)
-    (λ (back : Contains more n). Contains-append_right (shipped_name ∷ []) (names ++ more) n (Contains-append_right names more n back))
-    (Contains-append_cases (shipped_name ∷ []) more n stands)
+read_behind : (names more : List (List ℕ)) (n : List ℕ) → WasRead more n → WasRead (names ++ more) n
+read_behind names more n (inl shipped) = inl shipped
+read_behind names more n (inr stands) = inr (Contains-append_right names more n stands)
 
 -- what an included file may ask for, the file that includes it may
-may_within : (source : Source) (name n : List ℕ) (names more : List (List ℕ)) (m : List ℕ) → Contains (shipped_name ∷ names) name → MayInclude source name n → MayAsk source n more m → MayAsk source name (names ++ more) m
-may_within source name n names more _ read inc MayAsk.itself = MayAsk.included name n (still_read names more name read) inc
-may_within source name n names more _ read inc (MayAsk.included k m stands other) = MayAsk.included k m (read_behind names more k stands) other
+may_within : (source : Source) (name n : List ℕ) (names more : List (List ℕ)) (m : List ℕ) → WasRead names name → MayInclude source name n → MayAsk source n more m → MayAsk source name (names ++ more) m
+may_within source name n names more _ read inc MayAsk.itself = MayAsk.included name n MayAsk.itself (still_read names more name read) inc
+may_within source name n names more _ read inc (MayAsk.included k m ask was other) = MayAsk.included k m (may_within source name n names more k read inc ask) (read_behind names more k was) other
 
 named_within : (source : Source) (name n : List ℕ) (names more : List (List ℕ)) → IsRead source name names → MayInclude source name n → AreNamed source n more → AreNamed source name (names ++ more)
 named_within source name n names _ read inc AreNamed.none = subst (λ (ns : List (List ℕ)). AreNamed source name ns) (sym (append-nil names)) read.0
@@ -62,12 +61,12 @@ grew_own : (source : Source) (name : List ℕ) (before now : Option (List (List 
 grew_own source name None now other grows = tt
 grew_own source name (Some xs) None other grows = absurd grows
 grew_own source name (Some xs) (Some ys) other grows =
-    (name ∷ [], grows, (AreNamed.more [] name AreNamed.none MayAsk.itself other, Contains-append_right (shipped_name ∷ []) (name ∷ []) name (0, omega arith, refl)))
+    (name ∷ [], grows, (AreNamed.more [] name AreNamed.none MayAsk.itself other, inr (0, omega arith, refl)))
 
 grew_shipped : (source : Source) (name : List ℕ) (before now : Option (List (List ℕ))) → name ≡ shipped_name → now ≡ before → GrewBy (IsRead source name) before now
 grew_shipped source name None now same is = tt
 grew_shipped source name (Some xs) None same is = cc
-grew_shipped source name (Some xs) (Some ys) same is = let kept : ys ≡ xs = cc in ([], kept ∙ sym (append-nil xs), (AreNamed.none, (0, omega arith, sym same)))
+grew_shipped source name (Some xs) (Some ys) same is = let kept : ys ≡ xs = cc in ([], kept ∙ sym (append-nil xs), (AreNamed.none, inl same))
 
 pub grew_read : (source : Source) (name : List ℕ) (before now : Option (List (List ℕ))) → AsksFile before now name → GrewBy (IsRead source name) before now
 grew_read source name before now (AsksFile.shipped same is) = grew_shipped source name before now same is

@@ -20,11 +20,15 @@ pub record Includes (source : Source) (name other : List ℕ) : Type 0 where
 abbrev pub MayInclude : Source → List ℕ → List ℕ → Type 0
 MayInclude source name other = Includes source name other ⊎ (text_of source name ≡ None)
 
--- A name that may be asked for, where those were asked for before: that of the description, or one in the text of
--- a name that was asked for or of the shipped description.
+-- the text of a name was read, where these names were asked for: it is the shipped description, or one of them
+abbrev pub WasRead : List (List ℕ) → List ℕ → Type 0
+WasRead before n = (n ≡ shipped_name) ⊎ Contains before n
+
+-- A name that may be asked for, where those were asked for before: the description's own, or one that is included in
+-- the text of such a name which was read.
 pub data MayAsk (source : Source) (name : List ℕ) (before : List (List ℕ)) : List ℕ → Type 0 where
   itself : MayAsk source name before name
-  included : (n other : List ℕ) → Contains (shipped_name ∷ before) n → MayInclude source n other → MayAsk source name before other
+  included : (n other : List ℕ) → MayAsk source name before n → WasRead before n → MayInclude source n other → MayAsk source name before other
 
 -- Names as they may be asked for, in their order. The shipped description is never among them.
 pub data AreNamed (source : Source) (name : List ℕ) : List (List ℕ) → Type 0 where

@@ -1,14 +1,4 @@
-pub mod Texts
-pub mod Comes
-pub mod Ends
-pub mod Statuses
+pub mod Commands
 pub mod Answered
-pub mod LinesLaws
-pub mod FormLines
-pub mod JumpLines
-pub mod InsnLines
-pub mod Matches
-pub mod Uids
-pub mod SameLaws
-pub mod Completes
-pub mod Parts
+pub mod Runs
+pub mod Statuses

@@ -1,9 +1,9 @@
 -- The statuses that there are.
 use Rattle.std.proofs.Common.{◌≡◌, ℕ, [], ◌∷◌, refl, sym, subst, arith}
 use Rattle.std.specs.Prelude.{Contains}
-use Rattle.rtlc_run.specs.declared.refusal.Refusal.{Refusal}
-use Rattle.rtlc_run.specs.declared.refusal.Refusal.TheVariants as refusal
-use Rattle.rtlc_run.specs.Refusals.{status_of}
+use Rattle.run_refusal.specs.declared.refusal.Refusal.{Refusal}
+use Rattle.run_refusal.specs.declared.refusal.Refusal.TheVariants as refusal
+use Rattle.run_refusal.specs.Refusals.{status_of}
 
 abbrev IsStatus : ℕ → Type 0
 IsStatus n = Contains (0 ∷ 1 ∷ 2 ∷ 3 ∷ 6 ∷ 7 ∷ 8 ∷ []) n

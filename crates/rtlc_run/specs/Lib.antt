@@ -1,7 +1,3 @@
-pub mod Forms
-pub mod Template
-pub mod Assembly
-pub mod Refusals
+pub mod Words
 pub mod Answer
-pub mod Lines
-pub mod Same
+pub mod Written

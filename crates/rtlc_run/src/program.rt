@@ -1,39 +1,36 @@
 //! The whole program as one call.
-ghost use Rattle.std.specs.Prelude.{◌≡◌, ◌≢◌, ◌⊎◌, ℕ, true, List, IsTrue, ◌↔◌, codes, IfOk, IfErr, IfSome, OnOk, OnErr, length, ◌≤◌, Ok, Err, Contains, ◌∷◌, [], map};
+ghost use Rattle.std.specs.Prelude.{◌≡◌, ◌≢◌, ◌⊎◌, ℕ, Ok, List, ◌≤◌, true, IfOk, IfErr, OnOk, OnErr, length, Some, None, Option, Err, Contains, ◌∷◌, []};
 ghost use Rattle.std.specs.Io.KnownBytes.{Appends, Consumes, IsAtEnd};
 ghost use Rattle.byte_edge.specs.Causes.{Rose};
+ghost use Rattle.rtx_tree.specs.declared.function.Function.{Function};
 ghost use Rattle.rv_text.specs.Body.{Spells};
-ghost use Rattle.rtlc_run.specs.Refusals.{status_of, has_values, line_of};
-ghost use Rattle.rtlc_run.specs.Assembly.{Outcome};
-ghost use Rattle.rtlc_run.specs.Lines.{WritesLines, Completes};
-ghost use Rattle.rtlc_run.specs.Same.{AreParts, WritesSame};
-ghost use Rattle.rtlc_run.specs.Answer.{most_bytes, InputRefused, IsCommand, Answers, EndsWith, Writes, WritesFront, IsRefused, Reports, HasCause, TellsCause, IsAnswered, words_of};
+ghost use Rattle.rv_text.specs.declared.line.CodeItem.{CodeItem};
+ghost use Rattle.run_refusal.specs.Refusals.{has_values, line_of};
+ghost use Rattle.run_refusal.specs.declared.refusal.Refusal.TheVariants as refusal;
+ghost use Rattle.asm_text.specs.Assembly.{Outcome};
+ghost use Rattle.asm_text.specs.Compile.{most_bytes};
+ghost use Rattle.asm_text.specs.Same.{AreParts};
+ghost use Rattle.md_source.specs.Source.{Source as Known};
+ghost use Rattle.md_source.specs.Asked.{AreNamed, GrewBy, IsKnown};
+ghost use Rattle.md_source.specs.Answers.{Agrees};
+ghost use Rattle.md_list.specs.Listing.{ListComes};
+ghost use Rattle.rtlc_run.specs.declared.words.Command.TheVariants as commands;
+ghost use Rattle.rtlc_run.specs.Words as spoken;
+ghost use Rattle.rtlc_run.specs.Answer as spec;
+ghost use Rattle.rtlc_run.specs.Written.{WritesLines, WritesSame, WritesList, Completes, IsDone};
+ghost use Rattle.rtlc_run.specs.Answer.{CommandComes, Answers, InputRefused, IsOwn, Produces, IsKnownFor, MayBeAsked, Writes, WritesFront, IsRefused, Reports, HasCause, TellsCause, IsAnswered, words_of};
 
-use crate::answer::answer;
-use crate::refusal::{MEMORY_LINE, Refusal, fixed_line, line, status};
+use crate::words::{Command, command_of};
+use asm_text::assembly_of;
 use byte_edge::{Files, ReadAll, Sink, Source, read_all, write_all_of};
-use rtx_tree::{Function, Limit};
-use rv_text::CodeItem;
+use md_list::{ListRefusal, list};
+use md_source::SourceRefusal;
+use rtx_tree::Limit;
+use run_refusal::{MEMORY_LINE, Refusal, fixed_line, line, status};
 use std::alloc::Global;
 
 /// How many bytes an input may have.
 const MOST_BYTES: usize = 16_777_216;
-
-fn is_asm(word: &str) -> bool
-    ensures { IsTrue result ↔ (word.now ≡ codes "asm") }
-{
-    word == "asm"
-}
-
-/// Whether the words are a command.
-fn is_command(words: &[&str]) -> bool
-    ensures { IsTrue result ↔ IsCommand (words_of words.now) }
-{
-    match words {
-        [word] => is_asm(word),
-        _ => false,
-    }
-}
 
 /// The bytes of the input, to its end.
 fn input_bytes<S: Source>(alloc: Global, input: &mut S) -> Result<Vec<u8>, Refusal>
@@ -54,29 +51,134 @@ fn input_bytes<S: Source>(alloc: Global, input: &mut S) -> Result<Vec<u8>, Refus
     }
 }
 
-/// Reads the input and writes what it comes to.
-fn attempt<S: Source, K: Sink>(
+/// The assembly of the input.
+fn assembled<S: Source>(alloc: Global, input: &mut S) -> Result<Vec<u8>, Refusal>
+    ensures gives { (known : Known) → Produces result (CommandComes known (S.left input.old) commands.Asm) }
+    ensures own { IsOwn result }
+    ensures fault { result ≡ Err Refusal.ReadFault → Rose (S.fault_count input.old) (S.fault_count input.new) }
+    ensures quiet { result ≢ Err Refusal.ReadFault → S.fault_count input.new ≡ S.fault_count input.old }
+{
+    let bytes = input_bytes(alloc, input)?;
+    assembly_of(alloc, &bytes)
+}
+
+fn source_refused(refusal: SourceRefusal) -> Refusal
+    ensures { result ≡ spec.source_refused refusal }
+{
+    match refusal {
+        SourceRefusal::Syntax { file, place } => Refusal::Syntax { file, place },
+        SourceRefusal::Depth => Refusal::Limit {
+            which: Limit::Depth,
+            count: 201,
+        },
+        SourceRefusal::Include => Refusal::Limit {
+            which: Limit::Include,
+            count: 17,
+        },
+        SourceRefusal::Text => Refusal::Limit {
+            which: Limit::Text,
+            count: 16_777_217,
+        },
+        SourceRefusal::ReadFault => Refusal::ReadFault,
+        SourceRefusal::Memory => Refusal::Memory,
+    }
+}
+
+fn list_refused(refusal: ListRefusal) -> Refusal
+    ensures { result ≡ spec.list_refused refusal }
+{
+    match refusal {
+        ListRefusal::Source(refusal) => source_refused(refusal),
+        ListRefusal::Forms => Refusal::Limit {
+            which: Limit::Forms,
+            count: 20_001,
+        },
+        ListRefusal::Memory => Refusal::Memory,
+    }
+}
+
+/// The list of a description.
+fn listed<F: Files>(alloc: Global, files: &mut F, name: &[u8]) -> Result<Vec<u8>, Refusal>
+    ensures gives { (known : Known) → Agrees known (F.holds files.old) → (input : Option (List ℕ)) → Produces result (CommandComes known input (commands.List name.now)) }
+    ensures asked { (known : Known) → Agrees known (F.holds files.old) → GrewBy (AreNamed known name.now) (F.asked files.old) (F.asked files.new) }
+    ensures own { IsOwn result }
+    ensures fault { result ≡ Err Refusal.ReadFault → Rose (F.fault_count files.old) (F.fault_count files.new) }
+    ensures quiet { result ≢ Err Refusal.ReadFault → F.fault_count files.new ≡ F.fault_count files.old }
+{
+    match list(alloc, files, name) {
+        Ok(text) => Ok(text),
+        Err(e) => Err(list_refused(e)),
+    }
+}
+
+/// The text that a command comes to. The description is looked at where the command has one, the input where it reads it.
+fn produced<F: Files, S: Source>(
+    alloc: Global,
+    command: Command,
+    files: &mut F,
+    input: &mut S,
+) -> Result<Vec<u8>, Refusal>
+    ensures gives { (known : Known) → Agrees known (F.holds files.old) → Produces result (CommandComes known (S.left input.old) command) }
+    ensures asked { (known : Known) → Agrees known (F.holds files.old) → GrewBy (MayBeAsked known (Some command)) (F.asked files.old) (F.asked files.new) }
+    ensures own { IsOwn result }
+    ensures fault { result ≡ Err Refusal.ReadFault → Rose (S.fault_count input.old) (S.fault_count input.new) ⊎ Rose (F.fault_count files.old) (F.fault_count files.new) }
+    ensures quiet { result ≢ Err Refusal.ReadFault → S.fault_count input.new ≡ S.fault_count input.old }
+    ensures calm { result ≢ Err Refusal.ReadFault → F.fault_count files.new ≡ F.fault_count files.old }
+    ensures files { ((name : List ℕ) → command ≢ commands.List name) → files.new ≡ files.old }
+    ensures input { command ≢ commands.Asm → input.new ≡ input.old }
+{
+    match command {
+        Command::Asm => assembled(alloc, input),
+        Command::List { description } => listed(alloc, files, description.bytes()),
+    }
+}
+/// The text that the words come to. Nothing is read before they are a command.
+fn answered<F: Files, S: Source>(
     alloc: Global,
     words: &[&str],
+    files: &mut F,
+    input: &mut S,
+) -> Result<Vec<u8>, Refusal>
+    ensures gives { (known : Known) → Agrees known (F.holds files.old) → Produces result (Answers (words_of words.now) known (S.left input.old)) }
+    ensures usage { result ≡ Err Refusal.Usage → spoken.command_of (words_of words.now) ≡ None }
+    ensures unwritten { result ≢ Err Refusal.WriteFault }
+    ensures asked { (known : Known) → Agrees known (F.holds files.old) → GrewBy (MayBeAsked known (spoken.command_of (words_of words.now))) (F.asked files.old) (F.asked files.new) }
+    ensures fault { result ≡ Err Refusal.ReadFault → Rose (S.fault_count input.old) (S.fault_count input.new) ⊎ Rose (F.fault_count files.old) (F.fault_count files.new) }
+    ensures quiet { result ≢ Err Refusal.ReadFault → S.fault_count input.new ≡ S.fault_count input.old }
+    ensures calm { result ≢ Err Refusal.ReadFault → F.fault_count files.new ≡ F.fault_count files.old }
+    ensures files { ((name : List ℕ) → spoken.command_of (words_of words.now) ≢ Some (commands.List name)) → files.new ≡ files.old }
+    ensures input { spoken.command_of (words_of words.now) ≢ Some commands.Asm → input.new ≡ input.old }
+{
+    match command_of(alloc, words)? {
+        Some(command) => produced(alloc, command, files, input),
+        None => Err(Refusal::Usage),
+    }
+}
+
+/// Writes what the words come to.
+fn attempt<F: Files, S: Source, K: Sink>(
+    alloc: Global,
+    words: &[&str],
+    files: &mut F,
     input: &mut S,
     output: &mut K,
 ) -> Result<(), Refusal>
-    ensures done { OnOk result (Writes (words_of words.now) (S.left input.old) (K.taken output.old) (K.taken output.new)) }
-    ensures cause { IfErr result (IsRefused (words_of words.now) (S.left input.old)) }
-    ensures usage { result ≡ Err Refusal.Usage → ¬ IsCommand (words_of words.now) }
-    ensures front { result ≡ Err Refusal.WriteFault → WritesFront (words_of words.now) (S.left input.old) (K.taken output.old) (K.taken output.new) }
+    ensures done { (known : Known) → Agrees known (F.holds files.old) → OnOk result (Writes (words_of words.now) known (S.left input.old) (K.taken output.old) (K.taken output.new)) }
+    ensures cause { (known : Known) → Agrees known (F.holds files.old) → IfErr result (IsRefused (words_of words.now) known (S.left input.old)) }
+    ensures front { result ≡ Err Refusal.WriteFault → (known : Known) → Agrees known (F.holds files.old) → WritesFront (words_of words.now) known (S.left input.old) (K.taken output.old) (K.taken output.new) }
+    ensures usage { result ≡ Err Refusal.Usage → spoken.command_of (words_of words.now) ≡ None }
     ensures nothing { OnErr result (result ≢ Err Refusal.WriteFault → K.taken output.new ≡ K.taken output.old) }
+    ensures asked { (known : Known) → Agrees known (F.holds files.old) → GrewBy (MayBeAsked known (spoken.command_of (words_of words.now))) (F.asked files.old) (F.asked files.new) }
+    ensures files { ((name : List ℕ) → spoken.command_of (words_of words.now) ≢ Some (commands.List name)) → files.new ≡ files.old }
+    ensures input { spoken.command_of (words_of words.now) ≢ Some commands.Asm → input.new ≡ input.old }
 
-    ensures read { result ≡ Err Refusal.ReadFault → Rose (S.fault_count input.old) (S.fault_count input.new) }
+    ensures fault { result ≡ Err Refusal.ReadFault → Rose (S.fault_count input.old) (S.fault_count input.new) ⊎ Rose (F.fault_count files.old) (F.fault_count files.new) }
     ensures quiet { result ≢ Err Refusal.ReadFault → S.fault_count input.new ≡ S.fault_count input.old }
+    ensures calm { result ≢ Err Refusal.ReadFault → F.fault_count files.new ≡ F.fault_count files.old }
     ensures write { result ≡ Err Refusal.WriteFault → Rose (K.fault_count output.old) (K.fault_count output.new) }
-    ensures calm { result ≢ Err Refusal.WriteFault → K.fault_count output.new ≡ K.fault_count output.old }
+    ensures still { result ≢ Err Refusal.WriteFault → K.fault_count output.new ≡ K.fault_count output.old }
 {
-    if !is_command(words) {
-        return Err(Refusal::Usage);
-    }
-    let bytes = input_bytes(alloc, input)?;
-    let text = answer(alloc, &bytes)?;
+    let text = answered(alloc, words, files, input)?;
     match write_all_of(output, &text) {
         Ok(()) => Ok(()),
         Err(_) => Err(Refusal::WriteFault),
@@ -93,7 +195,7 @@ fn tell<E: Sink>(errors: &mut E, text: &[u8])
 /// Tells of want of memory, and gives its status.
 pub fn out_of_memory<E: Sink>(errors: &mut E) -> u8
     ensures status { result ≡ 8 }
-    ensures told { ¬ Rose (E.fault_count errors.old) (E.fault_count errors.new) → Appends (E.taken errors.old) (E.taken errors.new) (line_of Refusal.Memory) }
+    ensures told { ¬ Rose (E.fault_count errors.old) (E.fault_count errors.new) → Appends (E.taken errors.old) (E.taken errors.new) (line_of refusal.Memory) }
 {
     tell(errors, MEMORY_LINE);
     8
@@ -126,11 +228,12 @@ fn report<E: Sink>(alloc: Global, errors: &mut E, refusal: &Refusal) -> u8
     }
 }
 
-/// The whole program. `words` are those after the program's name; `files` are asked for nothing yet. The
-/// text is written to `output`, the line of a refusal to `errors`, and the exit status is given: 0, or that of
-/// the [`Refusal`].
+/// The whole program. `words` are those after the program's name: `asm`, or `list` with `--md NAME` at most once. `files` are asked
+/// for a description that is named and for what it includes, `input` is read by `asm` alone. The text is written to
+/// `output`, the line of a refusal to `errors`, and the exit status is given: 0, or that of the [`Refusal`].
 ///
-/// A count rose in a call where it is greater after it than before, or stands after it at its last value.
+/// A count rose in a call where it is greater after it than before, or stands after it at its last value. `Known` is what is known of the
+/// bytes of files by their names, and agrees with what the files hold.
 pub fn run<F: Files, S: Source, K: Sink, E: Sink>(
     alloc: Global,
     words: &[&str],
@@ -139,49 +242,76 @@ pub fn run<F: Files, S: Source, K: Sink, E: Sink>(
     output: &mut K,
     errors: &mut E,
 ) -> u8
-    // The answer: where no count rose and memory was there, the run ends with the answer to the words and the input.
-    ensures answer { ¬ Rose (S.fault_count input.old) (S.fault_count input.new) →
+    // The answer: where no count rose and memory was there, the run ends with the answer to the words, the files and the input.
+    ensures answer { (known : Known) → Agrees known (F.holds files.old) →
+        ¬ Rose (F.fault_count files.old) (F.fault_count files.new) →
+        ¬ Rose (S.fault_count input.old) (S.fault_count input.new) →
         ¬ Rose (K.fault_count output.old) (K.fault_count output.new) → result ≢ 8 →
-        IsAnswered (words_of words.now) (S.left input.old) result (K.taken output.old) (K.taken output.new)
+        IsAnswered (words_of words.now) known (S.left input.old) result (K.taken output.old) (K.taken output.new)
         (E.taken errors.old) (E.taken errors.new) (E.fault_count errors.old) (E.fault_count errors.new) }
 
-    ensures one { (bytes : List ℕ) (a b : Outcome) → Answers (words_of words.now) bytes a → Answers (words_of words.now) bytes b → a ≡ b }
+    // Where enough is known there is one.
+    ensures one { (known : Known) (left : Option (List ℕ)) (a b : Outcome) → IsKnownFor known left (spoken.command_of (words_of words.now)) →
+        Answers (words_of words.now) known left a → Answers (words_of words.now) known left b → a ≡ b }
 
-    // The text of status 0 by its lines, and that an input of which a form matches each instruction has one.
-    ensures lines { result ≡ 0 → WritesLines (S.left input.old) (K.taken output.old) (K.taken output.new) }
-    ensures complete { IsCommand (words_of words.now) → ¬ Rose (S.fault_count input.old) (S.fault_count input.new) →
+    // `asm`: the text of status 0 by its lines, and that an input of which a form matches each instruction has one.
+    ensures lines { spoken.command_of (words_of words.now) ≡ Some commands.Asm → result ≡ 0 →
+        WritesLines (S.left input.old) (K.taken output.old) (K.taken output.new) }
+
+    ensures complete { spoken.command_of (words_of words.now) ≡ Some commands.Asm →
+        ¬ Rose (F.fault_count files.old) (F.fault_count files.new) →
+        ¬ Rose (S.fault_count input.old) (S.fault_count input.new) →
         ¬ Rose (K.fault_count output.old) (K.fault_count output.new) → Completes (S.left input.old) result }
 
     // What the text of status 0 does: the lines that it spells for each function do what the function does.
-    ensures behaves { result ≡ 0 → WritesSame (S.left input.old) (K.taken output.old) (K.taken output.new) }
+    ensures behaves { spoken.command_of (words_of words.now) ≡ Some commands.Asm → result ≡ 0 →
+        WritesSame (S.left input.old) (K.taken output.old) (K.taken output.new) }
 
     // And they are the only ones: of each text there is one list of lines and labels that it spells, and the text of some functions is cut
     // into their parts in one way.
     ensures spelled { (text : List ℕ) (a b : List CodeItem) → Spells text a → Spells text b → a ≡ b }
     ensures parts { (functions : List Function) (text : List ℕ) (a b : List (List CodeItem)) → AreParts functions text a → AreParts functions text b → a ≡ b }
 
+    // `list`: the text of status 0 is the list of the description's forms, and a description that has a list is listed.
+    ensures lists { (known : Known) → Agrees known (F.holds files.old) → (name : List ℕ) →
+        spoken.command_of (words_of words.now) ≡ Some (commands.List name) → result ≡ 0 →
+        WritesList known name (K.taken output.old) (K.taken output.new) }
+
+    ensures listed { (known : Known) → Agrees known (F.holds files.old) → (name text : List ℕ) →
+        spoken.command_of (words_of words.now) ≡ Some (commands.List name) → IsKnown known name →
+        ListComes known name (Ok text) → ¬ Rose (F.fault_count files.old) (F.fault_count files.new) →
+        ¬ Rose (S.fault_count input.old) (S.fault_count input.new) →
+        ¬ Rose (K.fault_count output.old) (K.fault_count output.new) → IsDone result }
+
     // Each status has its cause.
     ensures statuses { Contains (0 ∷ 1 ∷ 2 ∷ 3 ∷ 6 ∷ 7 ∷ 8 ∷ []) result }
-    ensures ok { result ≡ 0 → Writes (words_of words.now) (S.left input.old) (K.taken output.old) (K.taken output.new) }
-    ensures usage { result ≡ 1 → ¬ IsCommand (words_of words.now) }
-    ensures cause { result ≢ 0 → HasCause (words_of words.now) (S.left input.old) result }
-    ensures read { result ≡ 6 → Rose (S.fault_count input.old) (S.fault_count input.new) }
+    ensures ok { result ≡ 0 → (known : Known) → Agrees known (F.holds files.old) → Writes (words_of words.now) known (S.left input.old) (K.taken output.old) (K.taken output.new) }
+    ensures usage { result ≡ 1 → spoken.command_of (words_of words.now) ≡ None }
+    ensures cause { result ≢ 0 → (known : Known) → Agrees known (F.holds files.old) → HasCause (words_of words.now) known (S.left input.old) result }
+    ensures read { result ≡ 6 → Rose (S.fault_count input.old) (S.fault_count input.new) ⊎ Rose (F.fault_count files.old) (F.fault_count files.new) }
     ensures write { result ≡ 7 → Rose (K.fault_count output.old) (K.fault_count output.new) }
 
     // What is written: the text, a front of it after a write fault, and else nothing.
-    ensures front { result ≡ 7 → WritesFront (words_of words.now) (S.left input.old) (K.taken output.old) (K.taken output.new) }
+    ensures front { result ≡ 7 → (known : Known) → Agrees known (F.holds files.old) → WritesFront (words_of words.now) known (S.left input.old) (K.taken output.old) (K.taken output.new) }
     ensures nothing { result ≢ 0 → result ≢ 7 → K.taken output.new ≡ K.taken output.old }
 
     // What is told: the line of a refusal of that status with its cause, and with 0 nothing.
-    ensures told { result ≢ 0 → ¬ Rose (E.fault_count errors.old) (E.fault_count errors.new) →
-        TellsCause (words_of words.now) (S.left input.old) result (E.taken errors.old) (E.taken errors.new) }
+    ensures told { result ≢ 0 → ¬ Rose (E.fault_count errors.old) (E.fault_count errors.new) → (known : Known) → Agrees known (F.holds files.old) →
+        TellsCause (words_of words.now) known (S.left input.old) result (E.taken errors.old) (E.taken errors.new) }
+
     ensures silent { result ≡ 0 → E.taken errors.new ≡ E.taken errors.old }
 
-    // Faults that did not end the run did not happen, and no file is asked for.
+    // Faults that did not end the run did not happen.
     ensures quiet { result ≢ 6 → S.fault_count input.new ≡ S.fault_count input.old }
-    ensures files { files.new ≡ files.old }
+    ensures calm { result ≢ 6 → F.fault_count files.new ≡ F.fault_count files.old }
+
+    // Files are asked for the description that is named, if any, and for what is included, never for the shipped one; the input is read by `asm`
+    // alone.
+    ensures asked { (known : Known) → Agrees known (F.holds files.old) → GrewBy (MayBeAsked known (spoken.command_of (words_of words.now))) (F.asked files.old) (F.asked files.new) }
+    ensures files { ((name : List ℕ) → spoken.command_of (words_of words.now) ≢ Some (commands.List name)) → files.new ≡ files.old }
+    ensures input { spoken.command_of (words_of words.now) ≢ Some commands.Asm → input.new ≡ input.old }
 {
-    match attempt(alloc, words, input, output) {
+    match attempt(alloc, words, files, input, output) {
         Ok(()) => 0,
         Err(refusal) => report(alloc, errors, &refusal),
     }

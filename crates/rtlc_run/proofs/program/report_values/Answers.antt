@@ -1,5 +1,5 @@
 use Rattle.std.proofs.Common.{refl, inr}
-use Rattle.rtlc_run.specs.declared.refusal.Refusal.TheVariants as refusal
+use Rattle.run_refusal.specs.declared.refusal.Refusal.TheVariants as refusal
 use Rattle.rtlc_run.proofs.program.report_values.Goals as goal
 
 pub returns-in-Err : goal.returns-in-Err

@@ -1,0 +1,4 @@
+pub mod Matches
+pub mod FormLines
+pub mod JumpLines
+pub mod InsnLines

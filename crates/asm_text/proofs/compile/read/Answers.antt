@@ -1,0 +1,10 @@
+use Rattle.asm_text.proofs.Comes.{syntax_refused, depth_refused}
+use Rattle.asm_text.proofs.compile.read.Goals as goal
+
+pub returns-in-Err-Syntax-clause-refused : goal.returns-in-Err-Syntax-clause-refused
+returns-in-Err-Syntax-clause-refused c =
+    syntax_refused c.args.bytes.now c.in-Err-Syntax.place c.syntax.result c.requires c.syntax.ensures (rw c.in-Err-Syntax.field-0-is at c.in-Err-Syntax.ensures.reads)
+
+pub returns-in-Err-Depth-clause-refused : goal.returns-in-Err-Depth-clause-refused
+returns-in-Err-Depth-clause-refused c =
+    depth_refused c.args.bytes.now c.in-Err-Depth.field-0-0 c.requires (rw c.in-Err-Depth.field-0-is at c.in-Err-Depth.ensures.reads)

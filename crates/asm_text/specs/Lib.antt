@@ -1,0 +1,4 @@
+pub mod Assembly
+pub mod Compile
+pub mod Lines
+pub mod Same

@@ -1,0 +1,184 @@
+//! The heads of forms, and the classes of registers, by their names.
+ghost use Rattle.std.specs.Prelude.{◌≡◌};
+ghost use Rattle.std.specs.Str.{bytes_eq};
+ghost use Rattle.md_draft.specs.Head as spec;
+
+/// What a form defines.
+#[derive(Clone, Copy, Debug, PartialEq, Eq)]
+pub enum Head {
+    /// An instruction: what it matches and how it is printed.
+    Insn,
+    /// The instructions for a standard name.
+    Expand,
+    /// Instructions in place of one that is matched.
+    Split,
+    /// An instruction and its split.
+    InsnAndSplit,
+    /// Instructions in place of several.
+    Peephole2,
+    /// A predicate of operands.
+    Predicate,
+    /// A predicate that doesn't look at the mode by itself.
+    SpecialPredicate,
+    /// A constraint of operands.
+    Constraint,
+    /// A constraint that admits the registers of a class.
+    RegisterConstraint,
+    /// A constraint that admits memory.
+    MemoryConstraint,
+    /// An attribute of instructions.
+    Attr,
+    /// Another file, in the place of the form; as a form it is one whose parts are wrong. So are those that follow.
+    Include,
+    /// Constants.
+    Constants,
+    /// An iterator of modes.
+    ModeIterator,
+    /// An attribute of modes.
+    ModeAttr,
+    /// An iterator of codes.
+    CodeIterator,
+    /// An attribute of codes.
+    CodeAttr,
+    /// An iterator of integers.
+    IntIterator,
+    /// An attribute of integers.
+    IntAttr,
+}
+
+/// A class of registers.
+#[derive(Clone, Copy, Debug, PartialEq, Eq)]
+pub enum RegisterClass {
+    /// All of them.
+    General,
+    /// Those in which arguments stand.
+    Args,
+    /// Those that a call leaves.
+    Saved,
+    /// None.
+    Nothing,
+}
+
+/// Every head, once.
+const HEADS: [Head; 19] = [
+    Head::Insn,
+    Head::Expand,
+    Head::Split,
+    Head::InsnAndSplit,
+    Head::Peephole2,
+    Head::Predicate,
+    Head::SpecialPredicate,
+    Head::Constraint,
+    Head::RegisterConstraint,
+    Head::MemoryConstraint,
+    Head::Attr,
+    Head::Include,
+    Head::Constants,
+    Head::ModeIterator,
+    Head::ModeAttr,
+    Head::CodeIterator,
+    Head::CodeAttr,
+    Head::IntIterator,
+    Head::IntAttr,
+];
+
+/// Every class, once.
+const CLASSES: [RegisterClass; 4] = [
+    RegisterClass::General,
+    RegisterClass::Args,
+    RegisterClass::Saved,
+    RegisterClass::Nothing,
+];
+
+fn all_heads() -> &'static [Head]
+    ensures { result.now ≡ spec.all_heads }
+{
+    &HEADS
+}
+
+fn all_classes() -> &'static [RegisterClass]
+    ensures { result.now ≡ spec.all_classes }
+{
+    &CLASSES
+}
+
+impl Head {
+    /// The head's text, as `define_insn`.
+    pub fn name(self) -> &'static str
+        ensures { result.now ≡ spec.head_name self }
+    {
+        match self {
+            Head::Insn => "define_insn",
+            Head::Expand => "define_expand",
+            Head::Split => "define_split",
+            Head::InsnAndSplit => "define_insn_and_split",
+            Head::Peephole2 => "define_peephole2",
+            Head::Predicate => "define_predicate",
+            Head::SpecialPredicate => "define_special_predicate",
+            Head::Constraint => "define_constraint",
+            Head::RegisterConstraint => "define_register_constraint",
+            Head::MemoryConstraint => "define_memory_constraint",
+            Head::Attr => "define_attr",
+            Head::Include => "include",
+            Head::Constants => "define_constants",
+            Head::ModeIterator => "define_mode_iterator",
+            Head::ModeAttr => "define_mode_attr",
+            Head::CodeIterator => "define_code_iterator",
+            Head::CodeAttr => "define_code_attr",
+            Head::IntIterator => "define_int_iterator",
+            Head::IntAttr => "define_int_attr",
+        }
+    }
+
+    fn is_named(self, text: &[u8]) -> bool
+        ensures { result ≡ bytes_eq (spec.head_name self) text.now }
+    {
+        self.name().as_bytes() == text
+    }
+
+    /// The head with this text, or `None` where it isn't taken.
+    #[tactic(auto, unfolding(crate::specs::Head::head_named))]
+    pub fn named(text: &[u8]) -> Option<Head>
+        ensures { result ≡ spec.head_named text.now }
+    {
+        for head in all_heads() {
+            if head.is_named(text) {
+                return Some(*head);
+            }
+        }
+        None
+    }
+}
+
+impl RegisterClass {
+    /// The class's name, as `GR_REGS`.
+    pub fn name(self) -> &'static str
+        ensures { result.now ≡ spec.class_name self }
+    {
+        match self {
+            RegisterClass::General => "GR_REGS",
+            RegisterClass::Args => "ARG_REGS",
+            RegisterClass::Saved => "SAVED_REGS",
+            RegisterClass::Nothing => "NO_REGS",
+        }
+    }
+
+    fn is_named(self, text: &[u8]) -> bool
+        ensures { result ≡ bytes_eq (spec.class_name self) text.now }
+    {
+        self.name().as_bytes() == text
+    }
+
+    /// The class with this name, or `None` where no class has it.
+    #[tactic(auto, unfolding(crate::specs::Head::class_named))]
+    pub fn named(text: &[u8]) -> Option<RegisterClass>
+        ensures { result ≡ spec.class_named text.now }
+    {
+        for class in all_classes() {
+            if class.is_named(text) {
+                return Some(*class);
+            }
+        }
+        None
+    }
+}

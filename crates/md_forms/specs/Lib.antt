@@ -1,0 +1,6 @@
+pub mod Names
+pub mod Predicates
+pub mod Tables
+pub mod Checks
+pub mod Forms
+pub mod Counts

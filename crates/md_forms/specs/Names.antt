@@ -1,0 +1,80 @@
+-- What a form names: predicates and operands. GCC Internals, "RTL Template".
+use Rattle.std.specs.Prelude.{ℕ, ℤ, ◌==◌, Bool, false, List, [], ◌∷◌, ◌++◌, Option, Some, None}
+use Rattle.std.specs.Int.{cast_unsigned, w64}
+use Rattle.std.specs.List.{flat_map}
+use Rattle.rtx_tree.specs.declared.code.Code.{Code}
+use Rattle.rtx_tree.specs.declared.code.Code.TheVariants.{MatchOperand, MatchDup, MatchScratch, MatchOperator, MatchOpDup}
+use Rattle.rtx_tree.specs.declared.tree.Rtx.{Rtx}
+use Rattle.rtx_tree.specs.declared.tree.Rtx.TheOpen.{Rtx-F}
+use Rattle.rtx_tree.specs.declared.tree.Rtx.TheFolds.{fold-Rtx}
+use Rattle.c_words.specs.declared.head.Head.{Head}
+use Rattle.c_words.specs.declared.head.Head.TheVariants.{Predicate, Assign}
+use Rattle.c_cond.specs.declared.tree.Tree.{Tree}
+use Rattle.c_cond.specs.Tree.{heads_of}
+use Rattle.md_test.specs.declared.question.Test.{Test}
+use Rattle.md_test.specs.Test.{predicates_of}
+use Rattle.md_draft.specs.declared.draft.Draft.{Draft}
+
+-- ---- predicates
+
+abbrev pub predicate_here : Code → List ℕ → List (List ℕ)
+predicate_here MatchOperand name = name ∷ []
+predicate_here MatchOperator name = name ∷ []
+predicate_here _ name = []
+
+abbrev pub predicates_step : Rtx-F (List (List ℕ)) → List (List ℕ)
+predicates_step x = predicate_here x.code x.name ++ flat_map (λ names. names) x.kids
+
+-- the predicates of an expression's operands
+abbrev pub predicates_in : Rtx → List (List ℕ)
+predicates_in = fold-Rtx (List (List ℕ)) predicates_step
+
+abbrev pub predicate_of_head : Head → List (List ℕ)
+predicate_of_head (Predicate name) = name ∷ []
+predicate_of_head _ = []
+
+-- the predicates that a condition or statements call
+abbrev pub predicates_called : Tree → List (List ℕ)
+predicates_called t = flat_map predicate_of_head (heads_of t)
+
+abbrev pub predicates_tested : Option Test → List (List ℕ)
+predicates_tested None = []
+predicates_tested (Some t) = predicates_of t
+
+-- all predicates that a form names
+unfoldable pub predicates_named : Draft → List (List ℕ)
+predicates_named d =
+    flat_map predicates_in d.patterns.trees ++ (flat_map predicates_in d.sequence.trees ++ (predicates_called d.condition
+    ++ (predicates_called d.split_condition ++ (predicates_called d.statements ++ predicates_tested d.test))))
+
+-- ---- operands
+
+abbrev pub operand_here : Code → ℤ → List ℕ
+operand_here MatchOperand number = cast_unsigned w64 number ∷ []
+operand_here MatchScratch number = cast_unsigned w64 number ∷ []
+operand_here MatchOperator number = cast_unsigned w64 number ∷ []
+operand_here _ number = []
+
+abbrev pub operands_step : Rtx-F (List ℕ) → List ℕ
+operands_step x = operand_here x.code x.number ++ flat_map (λ numbers. numbers) x.kids
+
+-- the numbers of an expression's operands
+abbrev pub operands_in : Rtx → List ℕ
+operands_in = fold-Rtx (List ℕ) operands_step
+
+abbrev pub dup_here : Code → ℤ → List ℕ
+dup_here MatchDup number = cast_unsigned w64 number ∷ []
+dup_here MatchOpDup number = cast_unsigned w64 number ∷ []
+dup_here _ number = []
+
+abbrev pub dups_step : Rtx-F (List ℕ) → List ℕ
+dups_step x = dup_here x.code x.number ++ flat_map (λ numbers. numbers) x.kids
+
+-- the numbers of the operands that stand in an expression once more
+abbrev pub dups_in : Rtx → List ℕ
+dups_in = fold-Rtx (List ℕ) dups_step
+
+-- the statement sets the operand
+abbrev pub is_assigned : ℕ → Head → Bool
+is_assigned k (Assign n) = n == k
+is_assigned k _ = false

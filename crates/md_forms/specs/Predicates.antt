@@ -1,0 +1,34 @@
+-- Which predicates of a description hold: GCC Internals, "Machine-Independent Predicates" and "Defining Machine-Specific
+-- Predicates". A predicate that reaches itself is accepted within no number of rounds.
+use Rattle.std.specs.Prelude.{ℕ, zero, suc, Bool, true, false, ◌&&◌, ◌||◌, List, [], ◌∷◌, map, codes, option_and_then, position, slice_get, unwrap_or}
+use Rattle.std.specs.List.{list_all, list_any}
+use Rattle.std.specs.Str.{bytes_eq}
+use Rattle.md_forms.specs.declared.tables.PredicateDraft.{PredicateDraft}
+
+-- the predicates that are there without a definition; that without a name accepts anything
+abbrev pub own_predicates : List (List ℕ)
+own_predicates =
+    [] ∷ codes "register_operand" ∷ codes "const_int_operand" ∷ codes "immediate_operand" ∷ codes "memory_operand" ∷
+    codes "nonimmediate_operand" ∷ codes "nonmemory_operand" ∷ codes "general_operand" ∷ codes "address_operand" ∷
+    codes "comparison_operator" ∷ codes "ordered_comparison_operator" ∷ codes "frame_operand" ∷ []
+
+abbrev pub is_own : List ℕ → Bool
+is_own name = list_any (bytes_eq name) own_predicates
+
+-- the first definition of a name is one of the accepted
+abbrev pub is_accepted : List PredicateDraft → List Bool → List ℕ → Bool
+is_accepted ds accepted name = unwrap_or (option_and_then (slice_get accepted) (position (λ d. bytes_eq d.name name) ds)) false
+
+-- a predicate that has no definition, or an accepted one
+abbrev pub is_known : List PredicateDraft → List Bool → List ℕ → Bool
+is_known ds accepted name = is_own name || is_accepted ds accepted name
+
+-- its own parts are in order, and it names known predicates alone
+abbrev pub is_sound : List PredicateDraft → List Bool → PredicateDraft → Bool
+is_sound ds accepted d = d.whole && list_all (is_known ds accepted) d.uses
+
+-- which definitions are accepted within so many rounds: within none, none of them; within one more, those that name predicates
+-- alone which are accepted within as many
+abbrev pub accepted_within : ℕ → List PredicateDraft → List Bool
+accepted_within zero ds = map (λ d. false) ds
+accepted_within (suc rounds) ds = map (is_sound ds (accepted_within rounds ds)) ds

@@ -1,0 +1,459 @@
+//! What is asked of a form whose own text is in order.
+ghost use Rattle.std.specs.Prelude.{◌≡◌, ◌==◌, ◌||◌, ◌++◌, nat_le, IfOk, Some};
+ghost use Rattle.std.specs.List.{flat_map, list_all};
+ghost use Rattle.md_text.specs.Lists as lists;
+ghost use Rattle.md_forms.specs.Checks as spec;
+ghost use Rattle.md_forms.specs.Names as names;
+
+use crate::form::{Form, OperandConstraint};
+use crate::names::{assigns, predicates_named, push_all_dups, push_all_operands};
+use crate::predicates::{all_known, same};
+use crate::tables::{
+    AttributeDraft, ConstraintDraft, Tables, attribute_named, is_among, is_constraint,
+};
+use md_draft::{Attribute, Draft, Head};
+use c_cond::Head as CondHead;
+use md_pattern::{Judged, OperandText, Reason};
+use md_text::{Alternative, Member, Template, constraint_of};
+use plain_data::{Items, Memory};
+use rtx_tree::{Name, Rtx};
+use std::alloc::Global;
+
+/// The greatest number of operands, and of alternatives.
+const MOST: usize = 30;
+
+/// The operands of a form by their numbers.
+#[derive(Drop)]
+pub struct Numbers {
+    /// Those of the patterns.
+    pub matched: Items<u64>,
+    /// These, and those of the new sequence.
+    pub all: Items<u64>,
+}
+
+// ---- predicates
+
+#[tactic(auto, unfolding(crate::specs::Checks::predicates_known))]
+fn predicates_known(alloc: Global, tables: &Tables, draft: &Draft) -> Result<bool, Memory>
+    ensures { IfOk result (λ known. known ≡ spec.predicates_known tables.now draft.now) }
+{
+    let names = predicates_named(alloc, draft)?;
+    Ok(all_known(
+        tables.predicates.as_slice(),
+        tables.accepted.as_slice(),
+        names.as_slice(),
+    ))
+}
+
+// ---- operands
+
+fn operands_of(alloc: Global, trees: &[Rtx]) -> Result<Items<u64>, Memory>
+    ensures { IfOk result (λ numbers. numbers ≡ flat_map names.operands_in trees.now) }
+{
+    let mut numbers = Items::new(alloc);
+    push_all_operands(trees, &mut numbers)?;
+    Ok(numbers)
+}
+
+fn dups_of(alloc: Global, trees: &[Rtx]) -> Result<Items<u64>, Memory>
+    ensures { IfOk result (λ numbers. numbers ≡ flat_map names.dups_in trees.now) }
+{
+    let mut numbers = Items::new(alloc);
+    push_all_dups(trees, &mut numbers)?;
+    Ok(numbers)
+}
+
+#[tactic(auto, unfolding(crate::specs::Checks::matched, crate::specs::Checks::all_operands))]
+fn numbers_of(alloc: Global, draft: &Draft) -> Result<Numbers, Memory>
+    ensures { IfOk result (λ numbers. spec.AreNumbers numbers draft.now) }
+{
+    let matched = operands_of(alloc, draft.patterns.trees.as_slice())?;
+    let mut all = operands_of(alloc, draft.patterns.trees.as_slice())?;
+    push_all_operands(draft.sequence.trees.as_slice(), &mut all)?;
+    Ok(Numbers { matched, all })
+}
+
+fn has(numbers: &[u64], number: u64) -> bool
+    ensures { result ≡ spec.has numbers.now number }
+{
+    numbers.iter().any(|other| *other == number)
+}
+
+fn are_distinct(numbers: &[u64]) -> bool
+    ensures { result ≡ spec.are_distinct numbers.now }
+{
+    for at in 0..numbers.len() {
+        if has(&numbers[at + 1..], numbers[at]) {
+            return false;
+        }
+    }
+    true
+}
+
+fn is_expander(head: Head) -> bool
+    ensures { result ≡ spec.is_expander head }
+{
+    matches!(head, Head::Expand)
+}
+
+/// Whether an operand may stand once more in a pattern.
+fn dup_stands(expander: bool, matched: &[u64], statements: &[CondHead], number: u64) -> bool
+    ensures { result ≡ spec.dup_by expander matched.now statements.now number }
+{
+    has(matched, number) || (expander && assigns(statements, number))
+}
+
+fn all_dups_stand(expander: bool, matched: &[u64], statements: &[CondHead], dups: &[u64]) -> bool
+    ensures { result ≡ list_all (spec.dup_by expander matched.now statements.now) dups.now }
+{
+    dups.iter().all(|number| dup_stands(expander, matched, statements, *number))
+}
+
+#[tactic(auto, unfolding(crate::specs::Checks::dups_by))]
+fn dups_stand(alloc: Global, draft: &Draft, matched: &[u64]) -> Result<bool, Memory>
+    ensures { IfOk result (λ stand. stand ≡ spec.dups_by matched.now draft.now) }
+{
+    let statements = draft.statements.heads();
+    let dups = dups_of(alloc, draft.patterns.trees.as_slice())?;
+    let new_dups = dups_of(alloc, draft.sequence.trees.as_slice())?;
+    Ok(
+        all_dups_stand(
+            is_expander(draft.head),
+            matched,
+            statements,
+            dups.as_slice(),
+        ) && all_dups_stand(true, matched, statements, new_dups.as_slice()),
+    )
+}
+
+// ---- constraints
+
+fn constraint_in(
+    alloc: Global,
+    names: &[Name],
+    text: &OperandText,
+) -> Result<Option<OperandConstraint>, Memory>
+    ensures { IfOk result (λ constraint. constraint ≡ spec.constraint_in names.now text.now) }
+{
+    match constraint_of(alloc, text.text.bytes(), names)? {
+        Some(constraint) => Ok(Some(OperandConstraint {
+            operand: text.operand,
+            constraint,
+        })),
+        None => Ok(None),
+    }
+}
+
+#[tactic(auto, using(md_text::proofs::Each::with_nothing, md_text::proofs::Each::each_next, md_text::proofs::Each::each_stops, md_text::proofs::Each::each_ends))]
+fn constraints_of(
+    alloc: Global,
+    names: &[Name],
+    texts: &[OperandText],
+) -> Result<Option<Items<OperandConstraint>>, Memory>
+    ensures { IfOk result (λ constraints. constraints ≡ lists.each (spec.constraint_in names.now) texts.now) }
+{
+    let mut constraints = Items::new(alloc);
+    for text in texts {
+        match constraint_in(alloc, names, text)? {
+            Some(constraint) => constraints.push(constraint)?,
+            None => return Ok(None),
+        }
+    }
+    Ok(Some(constraints))
+}
+
+fn together(
+    constraints: Items<OperandConstraint>,
+    more: Items<OperandConstraint>,
+) -> Result<Items<OperandConstraint>, Memory>
+    ensures { IfOk result (λ all. all ≡ constraints ++ more) }
+{
+    let mut all = constraints.into_vec();
+    all.append(&mut more.into_vec())?;
+    Ok(Items::from_vec(all))
+}
+
+/// The constraints of a form, or none where one of them has something unknown in it.
+#[tactic(auto, unfolding(crate::specs::Checks::constraints_in))]
+fn constraints_in(
+    alloc: Global,
+    names: &[Name],
+    draft: &Draft,
+) -> Result<Option<Items<OperandConstraint>>, Memory>
+    ensures { IfOk result (λ constraints. constraints ≡ spec.constraints_in names.now draft.now) }
+{
+    let constraints = constraints_of(alloc, names, draft.patterns.texts.as_slice())?;
+    let more = constraints_of(alloc, names, draft.sequence.texts.as_slice())?;
+    match (constraints, more) {
+        (Some(constraints), Some(more)) => Ok(Some(together(constraints, more)?)),
+        _ => Ok(None),
+    }
+}
+
+fn member_stands(numbers: &[u64], known: &[ConstraintDraft], member: &Member) -> bool
+    ensures { result ≡ spec.member_stands numbers.now known.now member.now }
+{
+    match member {
+        Member::Letter(_) => true,
+        Member::Same(number) => has(numbers, u64::from(*number)),
+        Member::Defined(name) => is_constraint(known, name.bytes()),
+    }
+}
+
+fn alternative_stands(numbers: &[u64], known: &[ConstraintDraft], alternative: &Alternative) -> bool
+    ensures { result ≡ spec.alternative_stands numbers.now known.now alternative.now }
+{
+    alternative
+        .members
+        .as_slice()
+        .iter()
+        .all(|member| member_stands(numbers, known, member))
+}
+
+fn constraint_stands(
+    numbers: &[u64],
+    known: &[ConstraintDraft],
+    constraint: &OperandConstraint,
+) -> bool
+    ensures { result ≡ spec.constraint_stands numbers.now known.now constraint.now }
+{
+    constraint.constraint.as_slice().iter().all(|alternative| alternative_stands(
+        numbers,
+        known,
+        alternative,
+    ))
+}
+
+/// How many alternatives a form has.
+fn alternatives(constraints: &[OperandConstraint]) -> usize
+    ensures { result ≡ spec.alternatives constraints.now }
+{
+    for constraint in constraints {
+        if constraint.constraint.len() > 0 {
+            return constraint.constraint.len();
+        }
+    }
+    1
+}
+
+fn has_length(count: usize, constraint: &OperandConstraint) -> bool
+    ensures { result ≡ spec.has_length count constraint.now }
+{
+    constraint.constraint.len() == 0 || constraint.constraint.len() == count
+}
+
+fn all_have_length(count: usize, constraints: &[OperandConstraint]) -> bool
+    ensures { result ≡ list_all (spec.has_length count) constraints.now }
+{
+    constraints
+        .iter()
+        .all(|constraint| has_length(count, constraint))
+}
+
+fn all_stand(numbers: &[u64], known: &[ConstraintDraft], constraints: &[OperandConstraint]) -> bool
+    ensures { result ≡ list_all (spec.constraint_stands numbers.now known.now) constraints.now }
+{
+    constraints
+        .iter()
+        .all(|constraint| constraint_stands(numbers, known, constraint))
+}
+
+#[tactic(auto, unfolding(crate::specs::Checks::constraints_stand))]
+fn constraints_stand(
+    numbers: &[u64],
+    known: &[ConstraintDraft],
+    constraints: &[OperandConstraint],
+) -> bool
+    ensures { result ≡ spec.constraints_stand numbers.now known.now constraints.now }
+{
+    all_stand(numbers, known, constraints)
+        && all_have_length(alternatives(constraints), constraints)
+}
+
+// ---- attributes
+
+fn is_value(attribute: &AttributeDraft, value: &[u8]) -> bool
+    ensures { result ≡ spec.is_value attribute.now value.now }
+{
+    same(b"*", value) || is_among(attribute.values.as_slice(), value)
+}
+
+fn all_values(attribute: &AttributeDraft, values: &[Name]) -> bool
+    ensures { result ≡ list_all (spec.is_value attribute.now) values.now }
+{
+    values
+        .iter()
+        .all(|value| is_value(attribute, value.bytes()))
+}
+
+fn counts(count: usize, alternatives: usize) -> bool
+    ensures { result ≡ ((count == 1) || (count == alternatives)) }
+{
+    count == 1 || count == alternatives
+}
+
+fn attribute_stands(known: &[AttributeDraft], alternatives: usize, given: &Attribute) -> bool
+    ensures { result ≡ spec.attribute_stands known.now alternatives given.now }
+{
+    match attribute_named(known, given.name.bytes()) {
+        Some(attribute) => {
+            attribute.accepted
+                && all_values(attribute, given.values.as_slice())
+                && counts(given.values.len(), alternatives)
+        }
+        None => false,
+    }
+}
+
+fn all_attributes_stand(
+    known: &[AttributeDraft],
+    alternatives: usize,
+    attributes: &[Attribute],
+) -> bool
+    ensures { result ≡ list_all (spec.attribute_stands known.now alternatives) attributes.now }
+{
+    attributes
+        .iter()
+        .all(|given| attribute_stands(known, alternatives, given))
+}
+
+fn is_attr(head: Head) -> bool
+    ensures { result ≡ spec.is_attr head }
+{
+    matches!(head, Head::Attr)
+}
+
+fn default_stands(draft: &Draft) -> bool
+    ensures { result ≡ spec.default_stands draft.now }
+{
+    !is_attr(draft.head) || is_among(draft.values.as_slice(), draft.default.bytes())
+}
+
+#[tactic(auto, unfolding(crate::specs::Checks::attributes_stand))]
+fn attributes_stand(known: &[AttributeDraft], draft: &Draft, alternatives: usize) -> bool
+    ensures { result ≡ spec.attributes_stand known.now draft.now alternatives }
+{
+    default_stands(draft) && all_attributes_stand(known, alternatives, draft.attributes.as_slice())
+}
+
+// ---- numbers and templates
+
+fn within(count: usize) -> bool
+    ensures { result ≡ nat_le count 30 }
+{
+    count <= MOST
+}
+
+fn numbers_stand(numbers: &[u64], alternatives: usize) -> bool
+    ensures { result ≡ spec.numbers_stand numbers.now alternatives }
+{
+    within(numbers.len()) && within(alternatives) && are_distinct(numbers)
+}
+
+#[tactic(auto, unfolding(crate::specs::Checks::operands_stand))]
+fn operands_stand(
+    alloc: Global,
+    draft: &Draft,
+    numbers: &Numbers,
+    alternatives: usize,
+) -> Result<bool, Memory>
+    requires { spec.AreNumbers numbers.now draft.now }
+    ensures { IfOk result (λ stand. stand ≡ spec.operands_stand draft.now alternatives) }
+{
+    let dups = dups_stand(alloc, draft, numbers.matched.as_slice())?;
+    Ok(numbers_stand(numbers.all.as_slice(), alternatives) && dups)
+}
+
+/// Whether a template has a text for each alternative.
+fn template_stands(alternatives: usize, template: &Template) -> bool
+    ensures { result ≡ spec.template_stands alternatives template.now }
+{
+    match template {
+        Template::Split | Template::One(_) => true,
+        Template::Each(lines) => lines.len() == alternatives,
+    }
+}
+
+// ---- all in the order of the reasons
+
+fn form_with(
+    draft: Draft,
+    constraints: Items<OperandConstraint>,
+    alternatives: usize,
+) -> Judged<Form>
+    requires { alternatives ≡ spec.alternatives constraints }
+    ensures { result ≡ spec.with_template draft constraints draft.template }
+{
+    let Draft {
+        head,
+        patterns,
+        condition,
+        split_condition,
+        statements,
+        sequence,
+        attributes,
+        template,
+        test,
+        class,
+        values,
+        default,
+    } = draft;
+    match template {
+        Some(template) if template_stands(alternatives, &template) => Ok(Form {
+            head,
+            patterns: patterns.trees,
+            condition,
+            split_condition,
+            statements,
+            sequence: sequence.trees,
+            constraints,
+            attributes,
+            template,
+            test,
+            class,
+            values,
+            default,
+        }),
+        _ => Err(Reason::Template),
+    }
+}
+
+fn with_constraints(
+    alloc: Global,
+    tables: &Tables,
+    draft: Draft,
+    constraints: Items<OperandConstraint>,
+) -> Result<Judged<Form>, Memory>
+    ensures { IfOk result (λ form. form ≡ spec.with_constraints tables.now draft (Some constraints)) }
+{
+    let numbers = numbers_of(alloc, &draft)?;
+    if !constraints_stand(
+        numbers.matched.as_slice(),
+        tables.constraints.as_slice(),
+        constraints.as_slice(),
+    ) {
+        return Ok(Err(Reason::Constraint));
+    }
+    let count = alternatives(constraints.as_slice());
+    if !attributes_stand(tables.attributes.as_slice(), &draft, count) {
+        return Ok(Err(Reason::Attribute));
+    }
+    if !operands_stand(alloc, &draft, &numbers, count)? {
+        return Ok(Err(Reason::Operands));
+    }
+    Ok(form_with(draft, constraints, count))
+}
+
+/// A form, or the smallest reason that applies to a draft.
+#[tactic(auto, unfolding(crate::specs::Checks::form_of))]
+pub fn form_of(alloc: Global, tables: &Tables, draft: Draft) -> Result<Judged<Form>, Memory>
+    ensures { IfOk result (λ form. form ≡ spec.form_of tables.now draft) }
+{
+    if !predicates_known(alloc, tables, &draft)? {
+        return Ok(Err(Reason::Predicate));
+    }
+    match constraints_in(alloc, tables.constraint_names.as_slice(), &draft)? {
+        Some(constraints) => with_constraints(alloc, tables, draft, constraints),
+        None => Ok(Err(Reason::Constraint)),
+    }
+}

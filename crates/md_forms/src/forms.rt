@@ -1,0 +1,63 @@
+//! The forms of a description.
+ghost use Rattle.std.specs.Prelude.{◌≡◌, IfOk, map};
+ghost use Rattle.md_draft.specs.Draft.{entry_of};
+ghost use Rattle.md_forms.specs.Forms as spec;
+
+use crate::checks::form_of;
+use crate::form::{Entry, Forms};
+use crate::tables::{Tables, tables_of};
+use md_draft::{DraftEntry, entry_of};
+use lisp_read::Tree;
+use plain_data::{Items, Memory};
+use rtx_tree::Constants;
+use std::alloc::Global;
+
+fn entries_of(
+    alloc: Global,
+    constants: &Constants,
+    trees: &[Tree],
+) -> Result<Items<DraftEntry>, Memory>
+    ensures { IfOk result (λ entries. entries ≡ map (entry_of constants.now) trees.now) }
+{
+    let mut entries = Items::new(alloc);
+    for tree in trees {
+        entries.push(entry_of(alloc, constants, tree)?)?;
+    }
+    Ok(entries)
+}
+
+fn finished(alloc: Global, tables: &Tables, entry: DraftEntry) -> Result<Entry, Memory>
+    ensures { IfOk result (λ form. form ≡ spec.finished tables.now entry) }
+{
+    let DraftEntry { head, name, draft } = entry;
+    let form = match draft {
+        Ok(draft) => form_of(alloc, tables, draft)?,
+        Err(reason) => Err(reason),
+    };
+    Ok(Entry { head, name, form })
+}
+
+fn all_finished(alloc: Global, tables: &Tables, entries: Items<DraftEntry>) -> Result<Forms, Memory>
+    ensures { IfOk result (λ forms. forms ≡ map (spec.finished tables.now) entries) }
+{
+    let mut forms = Items::new(alloc);
+    for entry in entries.into_vec() {
+        forms.push(finished(alloc, tables, entry)?)?;
+    }
+    Ok(forms)
+}
+
+/// The forms of a description, in the order of its expanded trees, each with its head, its name, and what it says or the smallest
+/// reason that applies to it.
+///
+/// A predicate is accepted where its own parts are in order and each predicate that it names is a built-in one or accepted in its
+/// turn, so none that reaches itself is; a constraint where its predicates are, an attribute where its default is one of its
+/// values. Of a name the first definition counts, also where it is set aside. The names in conditions and statements that are
+/// constants are read with `constants`.
+pub fn forms_of(alloc: Global, trees: &[Tree], constants: &Constants) -> Result<Forms, Memory>
+    ensures { IfOk result (λ forms. forms ≡ spec.forms_of constants.now trees.now) }
+{
+    let entries = entries_of(alloc, constants, trees)?;
+    let tables = tables_of(alloc, entries.as_slice())?;
+    all_finished(alloc, &tables, entries)
+}

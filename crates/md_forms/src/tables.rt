@@ -1,0 +1,322 @@
+//! What the forms of a description define for one another.
+ghost use Rattle.std.specs.Prelude.{◌≡◌, IfOk, map};
+ghost use Rattle.std.specs.Option.{option_copied};
+ghost use Rattle.md_forms.specs.Predicates.{is_known};
+ghost use Rattle.md_forms.specs.Tables as spec;
+
+use crate::names::predicates_named;
+use crate::predicates::{accepted_within, all_known, same};
+use md_draft::{Draft, DraftEntry, Head};
+use md_pattern::Judged;
+use plain_data::{Items, Memory};
+use rtx_tree::Name;
+use std::alloc::Global;
+
+/// A definition of a predicate.
+#[derive(Drop)]
+pub struct PredicateDraft {
+    pub name: Name,
+    /// Whether its own parts are in order.
+    pub whole: bool,
+    /// The predicates that it names.
+    pub uses: Items<Name>,
+}
+
+/// A definition of a constraint.
+#[derive(Drop)]
+pub struct ConstraintDraft {
+    pub name: Name,
+    pub accepted: bool,
+}
+
+/// A definition of an attribute.
+#[derive(Drop)]
+pub struct AttributeDraft {
+    pub name: Name,
+    pub accepted: bool,
+    pub values: Items<Name>,
+}
+
+/// What the forms of a description define for one another.
+#[derive(Drop)]
+pub struct Tables {
+    pub predicates: Items<PredicateDraft>,
+    /// Which of the predicates are accepted.
+    pub accepted: Items<bool>,
+    /// The names of the constraints, the accepted and the others.
+    pub constraint_names: Items<Name>,
+    pub constraints: Items<ConstraintDraft>,
+    pub attributes: Items<AttributeDraft>,
+}
+
+// ---- what a head defines
+
+fn defines_predicate(head: Option<Head>) -> bool
+    ensures { result ≡ spec.defines_predicate head }
+{
+    matches!(head, Some(Head::Predicate | Head::SpecialPredicate))
+}
+
+fn defines_constraint(head: Option<Head>) -> bool
+    ensures { result ≡ spec.defines_constraint head }
+{
+    matches!(
+        head,
+        Some(Head::Constraint | Head::RegisterConstraint | Head::MemoryConstraint)
+    )
+}
+
+fn defines_attribute(head: Option<Head>) -> bool
+    ensures { result ≡ spec.defines_attribute head }
+{
+    matches!(head, Some(Head::Attr))
+}
+
+/// The name of the predicate that an entry defines.
+fn predicate_name(entry: &DraftEntry) -> Option<&Name>
+    ensures { option_copied result ≡ spec.defined spec.defines_predicate entry.now }
+{
+    if defines_predicate(Head::named(entry.head.bytes())) {
+        entry.name.as_ref()
+    } else {
+        None
+    }
+}
+
+fn constraint_name(entry: &DraftEntry) -> Option<&Name>
+    ensures { option_copied result ≡ spec.defined spec.defines_constraint entry.now }
+{
+    if defines_constraint(Head::named(entry.head.bytes())) {
+        entry.name.as_ref()
+    } else {
+        None
+    }
+}
+
+fn attribute_name(entry: &DraftEntry) -> Option<&Name>
+    ensures { option_copied result ≡ spec.defined spec.defines_attribute entry.now }
+{
+    if defines_attribute(Head::named(entry.head.bytes())) {
+        entry.name.as_ref()
+    } else {
+        None
+    }
+}
+
+// ---- predicates
+
+fn predicate_draft(
+    alloc: Global,
+    name: &Name,
+    draft: &Judged<Draft>,
+) -> Result<PredicateDraft, Memory>
+    ensures { IfOk result (λ d. d ≡ spec.predicate_draft name.now draft.now) }
+{
+    let name = name.copy(alloc)?;
+    match draft {
+        Ok(draft) => Ok(PredicateDraft {
+            name,
+            whole: true,
+            uses: predicates_named(alloc, draft)?,
+        }),
+        Err(_) => Ok(PredicateDraft {
+            name,
+            whole: false,
+            uses: Items::new(alloc),
+        }),
+    }
+}
+
+fn predicate_of(alloc: Global, entry: &DraftEntry) -> Result<Option<PredicateDraft>, Memory>
+    ensures { IfOk result (λ d. d ≡ spec.predicate_of entry.now) }
+{
+    match predicate_name(entry) {
+        Some(name) => Ok(Some(predicate_draft(alloc, name, &entry.draft)?)),
+        None => Ok(None),
+    }
+}
+
+#[tactic(auto, using(crate::proofs::Lists::filter_map_found, crate::proofs::Lists::filter_map_passed), unfolding(crate::specs::Tables::predicates_of))]
+fn predicates_of(alloc: Global, entries: &[DraftEntry]) -> Result<Items<PredicateDraft>, Memory>
+    ensures { IfOk result (λ ds. ds ≡ spec.predicates_of entries.now) }
+{
+    let mut found = Items::new(alloc);
+    for entry in entries {
+        if let Some(d) = predicate_of(alloc, entry)? {
+            found.push(d)?;
+        }
+    }
+    Ok(found)
+}
+
+// ---- constraints
+
+/// Whether a constraint's own parts are in order, and its predicates known.
+fn is_sound(
+    alloc: Global,
+    predicates: &[PredicateDraft],
+    accepted: &[bool],
+    draft: &Judged<Draft>,
+) -> Result<bool, Memory>
+    ensures { IfOk result (λ sound. sound ≡ spec.is_sound (is_known predicates.now accepted.now) draft.now) }
+{
+    match draft {
+        Ok(draft) => {
+            let names = predicates_named(alloc, draft)?;
+            Ok(all_known(predicates, accepted, names.as_slice()))
+        }
+        Err(_) => Ok(false),
+    }
+}
+
+fn constraint_of(
+    alloc: Global,
+    predicates: &[PredicateDraft],
+    accepted: &[bool],
+    entry: &DraftEntry,
+) -> Result<Option<ConstraintDraft>, Memory>
+    ensures { IfOk result (λ d. d ≡ spec.constraint_of (is_known predicates.now accepted.now) entry.now) }
+{
+    match constraint_name(entry) {
+        Some(name) => Ok(Some(ConstraintDraft {
+            name: name.copy(alloc)?,
+            accepted: is_sound(alloc, predicates, accepted, &entry.draft)?,
+        })),
+        None => Ok(None),
+    }
+}
+
+#[tactic(auto, using(crate::proofs::Lists::filter_map_found, crate::proofs::Lists::filter_map_passed), unfolding(crate::specs::Tables::constraints_of))]
+fn constraints_of(
+    alloc: Global,
+    predicates: &[PredicateDraft],
+    accepted: &[bool],
+    entries: &[DraftEntry],
+) -> Result<Items<ConstraintDraft>, Memory>
+    ensures { IfOk result (λ ds. ds ≡ spec.constraints_of (is_known predicates.now accepted.now) entries.now) }
+{
+    let mut found = Items::new(alloc);
+    for entry in entries {
+        if let Some(d) = constraint_of(alloc, predicates, accepted, entry)? {
+            found.push(d)?;
+        }
+    }
+    Ok(found)
+}
+
+fn names_of(alloc: Global, constraints: &[ConstraintDraft]) -> Result<Items<Name>, Memory>
+    ensures { IfOk result (λ names. names ≡ map (λ k. k.name) constraints.now) }
+{
+    let mut names = Items::new(alloc);
+    for constraint in constraints {
+        names.push(constraint.name.copy(alloc)?)?;
+    }
+    Ok(names)
+}
+
+/// Whether the first constraint of a name is accepted.
+pub fn is_constraint(constraints: &[ConstraintDraft], name: &[u8]) -> bool
+    ensures { result ≡ spec.is_constraint constraints.now name.now }
+{
+    for constraint in constraints {
+        if same(constraint.name.bytes(), name) {
+            return constraint.accepted;
+        }
+    }
+    false
+}
+
+// ---- attributes
+
+/// Whether a name is one of some.
+pub fn is_among(names: &[Name], name: &[u8]) -> bool
+    ensures { result ≡ spec.is_among names.now name.now }
+{
+    names.iter().any(|other| same(other.bytes(), name))
+}
+
+fn copied(alloc: Global, names: &[Name]) -> Result<Items<Name>, Memory>
+    ensures { IfOk result (λ all. all ≡ names.now) }
+{
+    let mut all = Items::new(alloc);
+    for name in names {
+        all.push(name.copy(alloc)?)?;
+    }
+    Ok(all)
+}
+
+fn attribute_draft(
+    alloc: Global,
+    name: &Name,
+    draft: &Judged<Draft>,
+) -> Result<AttributeDraft, Memory>
+    ensures { IfOk result (λ d. d ≡ spec.attribute_draft name.now draft.now) }
+{
+    let name = name.copy(alloc)?;
+    match draft {
+        Ok(draft) => Ok(AttributeDraft {
+            name,
+            accepted: is_among(draft.values.as_slice(), draft.default.bytes()),
+            values: copied(alloc, draft.values.as_slice())?,
+        }),
+        Err(_) => Ok(AttributeDraft {
+            name,
+            accepted: false,
+            values: Items::new(alloc),
+        }),
+    }
+}
+
+fn attribute_of(alloc: Global, entry: &DraftEntry) -> Result<Option<AttributeDraft>, Memory>
+    ensures { IfOk result (λ d. d ≡ spec.attribute_of entry.now) }
+{
+    match attribute_name(entry) {
+        Some(name) => Ok(Some(attribute_draft(alloc, name, &entry.draft)?)),
+        None => Ok(None),
+    }
+}
+
+#[tactic(auto, using(crate::proofs::Lists::filter_map_found, crate::proofs::Lists::filter_map_passed), unfolding(crate::specs::Tables::attributes_of))]
+fn attributes_of(alloc: Global, entries: &[DraftEntry]) -> Result<Items<AttributeDraft>, Memory>
+    ensures { IfOk result (λ ds. ds ≡ spec.attributes_of entries.now) }
+{
+    let mut found = Items::new(alloc);
+    for entry in entries {
+        if let Some(d) = attribute_of(alloc, entry)? {
+            found.push(d)?;
+        }
+    }
+    Ok(found)
+}
+
+/// The first attribute of a name.
+pub fn attribute_named<'a>(
+    attributes: &'a [AttributeDraft],
+    name: &[u8],
+) -> Option<&'a AttributeDraft>
+    ensures { option_copied result ≡ spec.attribute_named attributes.now name.now }
+{
+    for attribute in attributes {
+        if same(attribute.name.bytes(), name) {
+            return Some(attribute);
+        }
+    }
+    None
+}
+
+/// What the forms of a description define for one another.
+#[tactic(auto, unfolding(crate::specs::Tables::tables_of))]
+pub fn tables_of(alloc: Global, entries: &[DraftEntry]) -> Result<Tables, Memory>
+    ensures { IfOk result (λ tables. tables ≡ spec.tables_of entries.now) }
+{
+    let predicates = predicates_of(alloc, entries)?;
+    let accepted = accepted_within(alloc, predicates.as_slice(), entries.len())?;
+    let constraints = constraints_of(alloc, predicates.as_slice(), accepted.as_slice(), entries)?;
+    Ok(Tables {
+        constraint_names: names_of(alloc, constraints.as_slice())?,
+        attributes: attributes_of(alloc, entries)?,
+        predicates,
+        accepted,
+        constraints,
+    })
+}

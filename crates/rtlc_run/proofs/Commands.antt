@@ -1,0 +1,162 @@
+-- What a command comes to, from what reading, assembling and listing gave.
+use Rattle.std.proofs.Common.{◌≡◌, ℕ, ◌≤◌, ◌++◌, List, [], length, Result, Ok, Err, Option, Some, None, Vec, refl, sym, ap, subst, ◌∙◌}
+use Rattle.std.specs.Prelude.{IfSome}
+use Rattle.std.specs.declared.alloc.Global.{Global}
+use Rattle.std.proofs.lemmas.List.{append-nil}
+use Rattle.std.specs.Io.KnownBytes.{Consumes, IsAtEnd}
+use Rattle.rtx_tree.specs.declared.limit.Limit.{Limit}
+use Rattle.rtx_tree.specs.declared.limit.Limit.TheVariants as limit
+use Rattle.run_refusal.specs.declared.refusal.Refusal.{Refusal}
+use Rattle.run_refusal.specs.declared.refusal.Refusal.TheVariants as refusal
+use Rattle.md_source.specs.declared.refusal.SourceRefusal.TheVariants as source
+use Rattle.md_source.specs.Source.{Source}
+use Rattle.md_source.specs.Asked.{AreNamed, GrewBy}
+use Rattle.md_list.specs.declared.refusal.ListRefusal.{ListRefusal}
+use Rattle.md_list.specs.declared.refusal.ListRefusal.TheVariants as listing
+use Rattle.md_list.specs.Listing.{ListComes}
+use Rattle.md_list.specs.Answers.{GivesList}
+use Rattle.asm_text.specs.Assembly.{Outcome}
+use Rattle.asm_text.specs.Compile.{InputComes, Tells}
+use Rattle.rtlc_run.specs.declared.words.Command.{Command}
+use Rattle.rtlc_run.specs.declared.words.Command.TheVariants as commands
+use Rattle.rtlc_run.specs.Words.{command_of}
+use Rattle.rtlc_run.specs.Answer.{list_refused, CommandComes, Answers, Produces, InputRefused, IsOwn, MayBeAsked, IsRefused}
+
+-- ---- the input
+
+-- what was read to the end is what was there
+all_read : (all rest bytes : List ℕ) → all ≡ bytes ++ rest → rest ≡ [] → all ≡ bytes
+all_read all rest bytes e none = e ∙ ap (λ (z : List ℕ). bytes ++ z) none ∙ append-nil bytes
+
+-- of what was read to the end, what holds of the bytes read holds of those that were left
+of_input : (P : List ℕ → Type 0) (old new : Option (List ℕ)) (bytes : List ℕ) → Consumes old new bytes × IsAtEnd new → P bytes → IfSome old P
+of_input P None new bytes h p = tt
+of_input P (Some all) None bytes h p = absurd h.0
+of_input P (Some all) (Some rest) bytes h p = subst P (sym (all_read all rest bytes h.0 h.1)) p
+
+asm_comes : (known : Source) (left left' : Option (List ℕ)) (bytes : List ℕ) (o : Outcome) → Consumes left left' bytes × IsAtEnd left' → InputComes bytes o → CommandComes known left commands.Asm o
+asm_comes known left left' bytes o read comes = CommandComes.assembled o (of_input (λ (bs : List ℕ). InputComes bs o) left left' bytes read comes)
+
+asm_refused : (known : Source) (left left' : Option (List ℕ)) (bytes : List ℕ) (e : Refusal) → Consumes left left' bytes × IsAtEnd left' → Tells (Err e) (InputComes bytes) → Produces (Err e) (CommandComes known left commands.Asm)
+asm_refused known left left' bytes refusal.Memory read h = tt
+asm_refused known left left' bytes refusal.Usage read h = absurd h
+asm_refused known left left' bytes refusal.ReadFault read h = tt
+asm_refused known left left' bytes refusal.WriteFault read h = absurd h
+asm_refused known left left' bytes (refusal.Syntax file place) read h = asm_comes known left left' bytes (Err (refusal.Syntax file place)) read h
+asm_refused known left left' bytes (refusal.Construct place name) read h = asm_comes known left left' bytes (Err (refusal.Construct place name)) read h
+asm_refused known left left' bytes (refusal.IllFormed function uid rule) read h = asm_comes known left left' bytes (Err (refusal.IllFormed function uid rule)) read h
+asm_refused known left left' bytes (refusal.Limit which count) read h = asm_comes known left left' bytes (Err (refusal.Limit which count)) read h
+asm_refused known left left' bytes (refusal.Unmatched function uid stage insn) read h = asm_comes known left left' bytes (Err (refusal.Unmatched function uid stage insn)) read h
+
+-- what the bytes that were read came to, `asm` comes to
+pub asm_produced : (known : Source) (left left' : Option (List ℕ)) (bytes : List ℕ) (r : Result (Vec ℕ Global) Refusal) → Consumes left left' bytes × IsAtEnd left' → Tells r (InputComes bytes) → Produces r (CommandComes known left commands.Asm)
+asm_produced known left left' bytes (Ok text) read h = asm_comes known left left' bytes (Ok text.items) read h
+asm_produced known left left' bytes (Err e) read h = asm_refused known left left' bytes e read h
+
+too_long : (left : Option (List ℕ)) (count : ℕ) → InputRefused left (refusal.Limit limit.Text count) → IfSome left (λ bytes. InputComes bytes (Err (refusal.Limit limit.Text count)))
+too_long None count h = tt
+too_long (Some bytes) count h = subst (λ (n : ℕ). InputComes bytes (Err (refusal.Limit limit.Text n))) (sym h.0) (InputComes.too_long h.1)
+
+unread_limit : (known : Source) (left : Option (List ℕ)) (which : Limit) (count : ℕ) → InputRefused left (refusal.Limit which count) → Produces (Err (refusal.Limit which count)) (CommandComes known left commands.Asm)
+unread_limit known left limit.Text count h = CommandComes.assembled (Err (refusal.Limit limit.Text count)) (too_long left count h)
+unread_limit known left _ count h = absurd h
+
+-- an input that was not read refuses `asm`
+pub asm_unread : (known : Source) (left : Option (List ℕ)) (e : Refusal) → InputRefused left e → Produces (Err e) (CommandComes known left commands.Asm)
+asm_unread known left refusal.Memory h = tt
+asm_unread known left refusal.ReadFault h = tt
+asm_unread known left (refusal.Limit which count) h = unread_limit known left which count h
+asm_unread known left _ h = absurd h
+
+-- ---- refusals that a command does not give
+
+pub unread_is_own : (left : Option (List ℕ)) (e : Refusal) → InputRefused left e → IsOwn (Err e)
+unread_is_own left refusal.Usage h = absurd h
+unread_is_own left refusal.WriteFault h = absurd h
+unread_is_own left refusal.Memory h = (λ is. cc, λ is. cc)
+unread_is_own left refusal.ReadFault h = (λ is. cc, λ is. cc)
+unread_is_own left (refusal.Limit which count) h = (λ is. cc, λ is. cc)
+unread_is_own left _ h = absurd h
+
+pub told_is_own : (P : Outcome → Type 0) (r : Result (Vec ℕ Global) Refusal) → Tells r P → IsOwn r
+told_is_own P (Ok text) h = (λ is. cc, λ is. cc)
+told_is_own P (Err refusal.Usage) h = absurd h
+told_is_own P (Err refusal.WriteFault) h = absurd h
+told_is_own P (Err refusal.ReadFault) h = absurd h
+told_is_own P (Err refusal.Memory) h = (λ is. cc, λ is. cc)
+told_is_own P (Err (refusal.Syntax file place)) h = (λ is. cc, λ is. cc)
+told_is_own P (Err (refusal.Construct place name)) h = (λ is. cc, λ is. cc)
+told_is_own P (Err (refusal.IllFormed function uid rule)) h = (λ is. cc, λ is. cc)
+told_is_own P (Err (refusal.Limit which count)) h = (λ is. cc, λ is. cc)
+told_is_own P (Err (refusal.Unmatched function uid stage insn)) h = (λ is. cc, λ is. cc)
+
+own_listing : (e : ListRefusal) → IsOwn (Err (list_refused e))
+own_listing (listing.Source (source.Syntax file place)) = (λ is. cc, λ is. cc)
+own_listing (listing.Source source.Depth) = (λ is. cc, λ is. cc)
+own_listing (listing.Source source.Include) = (λ is. cc, λ is. cc)
+own_listing (listing.Source source.Text) = (λ is. cc, λ is. cc)
+own_listing (listing.Source source.ReadFault) = (λ is. cc, λ is. cc)
+own_listing (listing.Source source.Memory) = (λ is. cc, λ is. cc)
+own_listing listing.Forms = (λ is. cc, λ is. cc)
+own_listing listing.Memory = (λ is. cc, λ is. cc)
+
+pub listing_is_own : (e : ListRefusal) (told : Refusal) → told ≡ list_refused e → IsOwn (Err told)
+listing_is_own e told is = subst (λ (r : Refusal). IsOwn (Err r)) (sym is) (own_listing e)
+
+-- ---- descriptions
+
+list_refuses : (known : Source) (input : Option (List ℕ)) (name : List ℕ) (e : ListRefusal) → GivesList (ListComes known name) (Err e) → Produces (Err (list_refused e)) (CommandComes known input (commands.List name))
+list_refuses known input name (listing.Source (source.Syntax file place)) h = CommandComes.listed name (Err (listing.Source (source.Syntax file place))) h
+list_refuses known input name (listing.Source source.Depth) h = CommandComes.listed name (Err (listing.Source source.Depth)) h
+list_refuses known input name (listing.Source source.Include) h = CommandComes.listed name (Err (listing.Source source.Include)) h
+list_refuses known input name (listing.Source source.Text) h = CommandComes.listed name (Err (listing.Source source.Text)) h
+list_refuses known input name (listing.Source source.ReadFault) h = tt
+list_refuses known input name (listing.Source source.Memory) h = tt
+list_refuses known input name listing.Forms h = CommandComes.listed name (Err listing.Forms) h
+list_refuses known input name listing.Memory h = tt
+
+-- what refused the list refuses the command
+pub list_unproduced : (known : Source) (input : Option (List ℕ)) (name : List ℕ) (e : ListRefusal) (told : Refusal) → told ≡ list_refused e → GivesList (ListComes known name) (Err e) → Produces (Err told) (CommandComes known input (commands.List name))
+list_unproduced known input name e told is h = subst (λ (r : Refusal). Produces (Err r) (CommandComes known input (commands.List name))) (sym is) (list_refuses known input name e h)
+
+-- ---- words
+
+-- what was produced has any property that follows
+pub produces_map : (r : Result (Vec ℕ Global) Refusal) (P Q : Outcome → Type 0) → ((o : Outcome) → P o → Q o) → Produces r P → Produces r Q
+produces_map (Ok text) P Q follows h = follows (Ok text.items) h
+produces_map (Err refusal.Memory) P Q follows h = tt
+produces_map (Err refusal.ReadFault) P Q follows h = tt
+produces_map (Err refusal.WriteFault) P Q follows h = absurd h
+produces_map (Err refusal.Usage) P Q follows h = follows (Err refusal.Usage) h
+produces_map (Err (refusal.Syntax file place)) P Q follows h = follows (Err (refusal.Syntax file place)) h
+produces_map (Err (refusal.Construct place name)) P Q follows h = follows (Err (refusal.Construct place name)) h
+produces_map (Err (refusal.IllFormed function uid rule)) P Q follows h = follows (Err (refusal.IllFormed function uid rule)) h
+produces_map (Err (refusal.Limit which count)) P Q follows h = follows (Err (refusal.Limit which count)) h
+produces_map (Err (refusal.Unmatched function uid stage insn)) P Q follows h = follows (Err (refusal.Unmatched function uid stage insn)) h
+
+-- what their command comes to, words come to
+pub words_produced : (words : List (List ℕ)) (known : Source) (input : Option (List ℕ)) (c : Command) (r : Result (Vec ℕ Global) Refusal) → command_of words ≡ Some c → Produces r (CommandComes known input c) → Produces r (Answers words known input)
+words_produced words known input c r is h = produces_map r (CommandComes known input c) (Answers words known input) (λ o comes. Answers.spoken c o is comes) h
+
+-- what was produced as a refusal has its cause
+pub refused_has_cause : (words : List (List ℕ)) (known : Source) (input : Option (List ℕ)) (e : Refusal) → Produces (Err e) (Answers words known input) → IsRefused words known input e
+refused_has_cause words known input refusal.Memory h = tt
+refused_has_cause words known input refusal.ReadFault h = tt
+refused_has_cause words known input refusal.WriteFault h = tt
+refused_has_cause words known input refusal.Usage h = h
+refused_has_cause words known input (refusal.Syntax file place) h = h
+refused_has_cause words known input (refusal.Construct place name) h = h
+refused_has_cause words known input (refusal.IllFormed function uid rule) h = h
+refused_has_cause words known input (refusal.Limit which count) h = h
+refused_has_cause words known input (refusal.Unmatched function uid stage insn) h = h
+
+-- ---- what was asked
+
+may_ask_nothing : (known : Source) (c : Option Command) → MayBeAsked known c []
+may_ask_nothing known None = refl
+may_ask_nothing known (Some commands.Asm) = refl
+may_ask_nothing known (Some (commands.List name)) = AreNamed.none
+
+pub nothing_asked : (known : Source) (c : Option Command) (asked : Option (List (List ℕ))) → GrewBy (MayBeAsked known c) asked asked
+nothing_asked known c None = tt
+nothing_asked known c (Some names) = ([], sym (append-nil names), may_ask_nothing known c)

@@ -1,0 +1,121 @@
+-- There is one answer, and what it says of a text that was written.
+use Rattle.std.proofs.Common.{◌≡◌, ◌⊎◌, ℕ, List, [], ◌++◌, eqb, Bool, true, false, Result, Ok, Err, Option, Some, None, refl, sym, ap, subst, ◌∙◌, inl, inr, arith}
+use Rattle.std.specs.Prelude.{IfSome, IsSome}
+use Rattle.std.proofs.lemmas.Bool.{eqb-true}
+use Rattle.std.specs.Io.KnownBytes.{Appends}
+use Rattle.rtx_tree.specs.declared.function.Function.{Function}
+use Rattle.run_refusal.specs.declared.refusal.Refusal.{Refusal}
+use Rattle.md_source.specs.Source.{Source}
+use Rattle.md_source.specs.Asked.{IsKnown}
+use Rattle.md_source.specs.Answers.{Agrees}
+use Rattle.md_list.specs.declared.refusal.ListRefusal.{ListRefusal}
+use Rattle.md_list.specs.Listing.{ListComes}
+use Rattle.md_list.proofs.Lists.{one_list}
+use Rattle.asm_text.specs.Assembly.{Outcome}
+use Rattle.asm_text.specs.Compile.{InputComes}
+use Rattle.asm_text.specs.Lines.{IsInput, AllMatched}
+use Rattle.asm_text.proofs.OneText.{one_coming_of}
+use Rattle.asm_text.proofs.LinesLaws.{input_of}
+use Rattle.asm_text.proofs.SameLaws.{input_does_same}
+use Rattle.asm_text.proofs.Completes.{HasText, input_has}
+use Rattle.rtlc_run.specs.declared.words.Command.{Command}
+use Rattle.rtlc_run.specs.declared.words.Command.TheVariants as commands
+use Rattle.rtlc_run.specs.Words.{command_of}
+use Rattle.rtlc_run.specs.Answer.{list_told, CommandComes, Answers, IsKnownFor, Writes, IsAnswered, status_of_answer}
+use Rattle.rtlc_run.specs.Written.{WritesLines, WritesSame, WritesList, IsDone, Completes}
+
+-- ---- the commands
+
+asm_comes : (known : Source) (input : Option (List ℕ)) (c : Command) (o : Outcome) → c ≡ commands.Asm → CommandComes known input c o → IfSome input (λ bytes. InputComes bytes o)
+asm_comes known input _ _ is (CommandComes.assembled o h) = h
+asm_comes known input _ _ is (CommandComes.listed name r h) = absurd (let none : ⊥ = cc in none)
+
+list_comes : (known : Source) (input : Option (List ℕ)) (name : List ℕ) (c : Command) (o : Outcome) → c ≡ commands.List name → CommandComes known input c o → (r : Result (List ℕ) ListRefusal) × ListComes known name r × (o ≡ list_told r)
+list_comes known input name _ _ is (CommandComes.assembled o h) = absurd (let none : ⊥ = cc in none)
+list_comes known input name _ _ is (CommandComes.listed other r h) = (r, subst (λ (n : List ℕ). ListComes known n r) (let same : other ≡ name = cc in same) h, refl)
+
+some_same : (o : Option Command) (c d : Command) → o ≡ Some c → o ≡ Some d → c ≡ d
+some_same o c d p q = cc
+
+none_some : (o : Option Command) (c : Command) → o ≡ None → o ≡ Some c → ⊥
+none_some o c p q = cc
+
+asm_answer : (words : List (List ℕ)) (known : Source) (input : Option (List ℕ)) (o : Outcome) → command_of words ≡ Some commands.Asm → Answers words known input o → IfSome input (λ bytes. InputComes bytes o)
+asm_answer words known input _ is (Answers.usage none) = absurd (none_some (command_of words) commands.Asm none is)
+asm_answer words known input _ is (Answers.spoken c o is' comes) = asm_comes known input c o (some_same (command_of words) c commands.Asm is' is) comes
+
+list_answer : (words : List (List ℕ)) (known : Source) (input : Option (List ℕ)) (name : List ℕ) (o : Outcome) → command_of words ≡ Some (commands.List name) → Answers words known input o →
+    (r : Result (List ℕ) ListRefusal) × ListComes known name r × (o ≡ list_told r)
+list_answer words known input name _ is (Answers.usage none) = absurd (none_some (command_of words) (commands.List name) none is)
+list_answer words known input name _ is (Answers.spoken c o is' comes) = list_comes known input name c o (some_same (command_of words) c (commands.List name) is' is) comes
+
+-- ---- there is one answer
+
+one_assembly : (input : Option (List ℕ)) (a b : Outcome) → IsSome input → IfSome input (λ bytes. InputComes bytes a) → IfSome input (λ bytes. InputComes bytes b) → a ≡ b
+one_assembly None a b some p q = cc
+one_assembly (Some bytes) a b some p q = one_coming_of bytes a b p q
+
+one_command : (known : Source) (input : Option (List ℕ)) (c d : Command) (a b : Outcome) → IsKnownFor known input (Some d) → c ≡ d → CommandComes known input c a → CommandComes known input d b → a ≡ b
+one_command known input c commands.Asm a b enough is p q = one_assembly input a b enough (asm_comes known input c a is p) (asm_comes known input commands.Asm b refl q)
+one_command known input c (commands.List name) a b enough is p q =
+    let x = list_comes known input name c a is p in
+    let y = list_comes known input name (commands.List name) b refl q in
+    x.2 ∙ ap list_told (one_list known name x.0 y.0 enough x.1 y.1) ∙ sym y.2
+
+pub one_answer : (words : List (List ℕ)) (known : Source) (input : Option (List ℕ)) (a b : Outcome) → IsKnownFor known input (command_of words) → Answers words known input a → Answers words known input b → a ≡ b
+one_answer words known input _ _ enough (Answers.usage none) (Answers.usage none') = refl
+one_answer words known input _ _ enough (Answers.usage none) (Answers.spoken c o is comes) = absurd (none_some (command_of words) c none is)
+one_answer words known input _ _ enough (Answers.spoken c o is comes) (Answers.usage none) = absurd (none_some (command_of words) c none is)
+one_answer words known input _ _ enough (Answers.spoken c o is comes) (Answers.spoken d o' is' comes') =
+    one_command known input c d o o' (subst (λ (k : Option Command). IsKnownFor known input k) is' enough) (some_same (command_of words) c d is is') comes comes'
+
+-- ---- what was written
+
+-- where nothing is known of files
+abbrev pub nothing_known : Source
+nothing_known name = None
+
+pub nothing_agrees : (holds : List ℕ → List ℕ → Type 0) → Agrees nothing_known holds
+nothing_agrees holds name text is = absurd (let none : ⊥ = cc in none)
+
+pub writes_lines : (words : List (List ℕ)) (input old new : Option (List ℕ)) → command_of words ≡ Some commands.Asm → Writes words nothing_known input old new → WritesLines input old new
+writes_lines words None old new is h = tt
+writes_lines words (Some bytes) old new is h =
+    let i = input_of bytes h.0 (Ok h.0) (asm_answer words nothing_known (Some bytes) (Ok h.0) is h.1) refl in (i.0, i.1, h.0, i.2, h.2)
+
+pub writes_same : (input old new : Option (List ℕ)) → WritesLines input old new → WritesSame input old new
+writes_same None old new h = tt
+writes_same (Some bytes) old new h = (h.0, h.1, h.2, input_does_same bytes h.2 h.0 h.1 h.3, h.4)
+
+told_text : (r : Result (List ℕ) ListRefusal) (text : List ℕ) → Ok text ≡ list_told r → r ≡ Ok text
+told_text (Ok other) text is = let same : other ≡ text = cc in ap (λ (t : List ℕ). Ok t) same
+told_text (Err e) text is = cc
+
+pub writes_list : (words : List (List ℕ)) (known : Source) (input old new : Option (List ℕ)) (name : List ℕ) → command_of words ≡ Some (commands.List name) → Writes words known input old new → WritesList known name old new
+writes_list words known input old new name is h =
+    let x = list_answer words known input name (Ok h.0) is h.1 in
+    (h.0, subst (ListComes known name) (told_text x.0 h.0 x.2) x.1, h.2)
+
+-- ---- what ends with a text
+
+decided : (status : ℕ) (b : Bool) → eqb status 8 ≡ b → ((status ≡ 8 → ⊥) → status ≡ 0) → IsDone status
+decided status true e h = inr (eqb-true status 8 e)
+decided status false e h = inl (h (λ same. not_both status same e))
+  where
+    not_both : (n : ℕ) → n ≡ 8 → eqb n 8 ≡ false → ⊥
+    not_both n same e = grind arith
+
+pub completes : (words : List (List ℕ)) (input : Option (List ℕ)) (status : ℕ) (output output' errors errors' : Option (List ℕ)) (faults faults' : ℕ) → command_of words ≡ Some commands.Asm →
+    ((status ≡ 8 → ⊥) → IsAnswered words nothing_known input status output output' errors errors' faults faults') → Completes input status
+completes words None status output output' errors errors' faults faults' is h = tt
+completes words (Some bytes) status output output' errors errors' faults faults' is h = λ functions input all. decided status (eqb status 8) refl (λ other.
+    let a = h other in
+    let t = input_has bytes functions a.0 input all (asm_answer words nothing_known (Some bytes) a.0 is a.1) in
+    a.2.status_is ∙ ap status_of_answer t.1)
+
+pub listed : (words : List (List ℕ)) (known : Source) (name text : List ℕ) (input : Option (List ℕ)) (status : ℕ) (output output' errors errors' : Option (List ℕ)) (faults faults' : ℕ) → command_of words ≡ Some (commands.List name) →
+    IsKnown known name → ListComes known name (Ok text) → ((status ≡ 8 → ⊥) → IsAnswered words known input status output output' errors errors' faults faults') → IsDone status
+listed words known name text input status output output' errors errors' faults faults' is enough has h = decided status (eqb status 8) refl (λ other.
+    let a = h other in
+    let x = list_answer words known input name a.0 is a.1 in
+    a.2.status_is ∙ ap status_of_answer (x.2 ∙ ap list_told (one_list known name x.0 (Ok text) enough x.1 has)))

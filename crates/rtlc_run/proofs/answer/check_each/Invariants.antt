@@ -1,6 +1,0 @@
-use Rattle.std.proofs.Common.{◌≡◌, drop}
-use Rattle.rtlc_run.specs.Answer.{refused_from, first_refused}
-use Rattle.rtlc_run.proofs.answer.check_each.Given as goal
-
-abbrev pub invariant-loop-f : goal.invariant-loop-f
-invariant-loop-f l = (l.index ≡ l.f-index) × (refused_from l.functions l.index (drop l.f-index l.functions) ≡ first_refused l.functions)

@@ -1,5 +1,0 @@
-use Rattle.rtlc_run.proofs.Comes.{trees_come}
-use Rattle.rtlc_run.proofs.answer.compile_trees.Goals as goal
-
-pub returns : goal.returns
-returns c = trees_come c.args.trees.now c.in_ok-functions.functions c.compile.result c.in_ok-functions.ensures (rw c.as_slice.ensures.value at c.compile.ensures)

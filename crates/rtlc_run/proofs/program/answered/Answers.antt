@@ -1,0 +1,15 @@
+use Rattle.std.proofs.Common.{sym, ◌∙◌}
+use Rattle.rtlc_run.specs.Words.{command_of}
+use Rattle.rtlc_run.specs.Answer.{Answers, words_of}
+use Rattle.rtlc_run.proofs.Commands.{nothing_asked, words_produced}
+use Rattle.rtlc_run.proofs.program.answered.Goals as goal
+
+pub returns-in_err-command-clause-asked : goal.returns-in_err-command-clause-asked
+returns-in_err-command-clause-asked g c = λ known agrees. nothing_asked known (command_of (words_of c.args.words.now)) (g.F.Files.asked c.args.files.now)
+
+pub returns-in-Some-clause-gives : goal.returns-in-Some-clause-gives
+returns-in-Some-clause-gives g c = λ known agrees.
+    words_produced (words_of c.args.words.now) known (g.S.Source.left c.args.input.now) c.in-Some.command c.produced.result (sym c.in_ok-command.ensures ∙ c.in-Some.is) (c.produced.ensures.gives known agrees)
+
+pub returns-in-None-clause-gives : goal.returns-in-None-clause-gives
+returns-in-None-clause-gives g c = λ known agrees. Answers.usage (sym c.in_ok-command.ensures ∙ c.in-None.is)

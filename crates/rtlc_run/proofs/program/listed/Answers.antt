@@ -1,0 +1,13 @@
+use Rattle.std.proofs.Common.{Ok}
+use Rattle.rtlc_run.specs.Answer.{CommandComes}
+use Rattle.rtlc_run.proofs.Commands.{list_unproduced, listing_is_own}
+use Rattle.rtlc_run.proofs.program.listed.Goals as goal
+
+pub returns-in-Ok-clause-gives : goal.returns-in-Ok-clause-gives
+returns-in-Ok-clause-gives g c = λ known agrees input. CommandComes.listed c.args.name.now (Ok c.in-Ok.text.items) (c.in-Ok.ensures.gives known agrees)
+
+pub returns-in-Err-clause-gives : goal.returns-in-Err-clause-gives
+returns-in-Err-clause-gives g c = λ known agrees input. list_unproduced known input c.args.name.now c.in-Err.e c.list_refused.result c.list_refused.ensures (c.in-Err.ensures.gives known agrees)
+
+pub returns-in-Err-clause-own : goal.returns-in-Err-clause-own
+returns-in-Err-clause-own g c = listing_is_own c.in-Err.e c.list_refused.result c.list_refused.ensures

@@ -1,0 +1,29 @@
+-- What a run has written, said of the input and of the description.
+use Rattle.std.specs.Prelude.{◌≡◌, ◌⊎◌, ℕ, List, Ok, IfSome}
+use Rattle.std.specs.declared.option.Option.{Option}
+use Rattle.std.specs.Io.KnownBytes.{Appends}
+use Rattle.rtx_tree.specs.declared.function.Function.{Function}
+use Rattle.md_source.specs.Source.{Source}
+use Rattle.md_list.specs.Listing.{ListComes}
+use Rattle.asm_text.specs.Lines.{IsInput, IsAssembly, AllMatched}
+use Rattle.asm_text.specs.Same.{DoesSame}
+
+-- the assembly of the input was written, and nothing else
+abbrev pub WritesLines : Option (List ℕ) → Option (List ℕ) → Option (List ℕ) → Type 0
+WritesLines input old new = IfSome input (λ bytes. (functions : List Function) × IsInput bytes functions × (text : List ℕ) × IsAssembly 0 functions text × Appends old new text)
+
+-- and it does what the functions of the input do
+abbrev pub WritesSame : Option (List ℕ) → Option (List ℕ) → Option (List ℕ) → Type 0
+WritesSame input old new = IfSome input (λ bytes. (functions : List Function) × IsInput bytes functions × (text : List ℕ) × DoesSame functions text × Appends old new text)
+
+-- the list of a description was written, and nothing else
+abbrev pub WritesList : Source → List ℕ → Option (List ℕ) → Option (List ℕ) → Type 0
+WritesList files name old new = (text : List ℕ) × ListComes files name (Ok text) × Appends old new text
+
+-- status 0, or want of memory
+abbrev pub IsDone : ℕ → Type 0
+IsDone status = (status ≡ 0) ⊎ (status ≡ 8)
+
+-- an input of which each instruction is matched ends so
+abbrev pub Completes : Option (List ℕ) → ℕ → Type 0
+Completes input status = IfSome input (λ bytes. (functions : List Function) → IsInput bytes functions → AllMatched functions → IsDone status)

@@ -24,26 +24,40 @@ pub struct Attribute {
 /// What a form says, before its predicates, constraints, attributes and operands were looked at.
 #[derive(Drop)]
 pub struct Draft {
+    /// What it defines.
     pub head: Head,
+    /// The instructions that it matches, or, for an expander, those that it makes, with the constraints in their text.
     pub patterns: Patterns,
+    /// When it holds. The empty condition is true.
     pub condition: Cond,
+    /// When the split half of an instruction and its split holds.
     pub split_condition: Cond,
+    /// The preparation statements. The empty ones do nothing.
     pub statements: Prep,
+    /// The instructions that it makes in place of the patterns.
     pub sequence: Patterns,
+    /// What it gives attributes, in the order of the text.
     pub attributes: Items<Attribute>,
     /// The template, or none where it has a sequence outside.
     pub template: Option<Template>,
+    /// The test of a predicate, or of a constraint.
     pub test: Option<Test>,
+    /// The class of a register constraint.
     pub class: Option<RegisterClass>,
+    /// The values of an attribute.
     pub values: Items<Name>,
+    /// The default of an attribute.
     pub default: Name,
 }
 
 /// A draft of one tree.
 #[derive(Drop)]
 pub struct DraftEntry {
+    /// The text of its head, or `-` where it has none.
     pub head: Name,
+    /// Its name: its second part, where that is a string of one byte or more.
     pub name: Option<Name>,
+    /// Its draft, or the smallest reason that its own text gives.
     pub draft: Judged<Draft>,
 }
 

@@ -526,7 +526,9 @@ fn head_in(items: &[Tree]) -> Option<&Name>
     }
 }
 
-/// The draft of a tree.
+/// What a tree says as a form, by itself: its head, its name, and its parts or the smallest reason that its own text gives. A tree that is
+/// no list with an atom at its head has the head `-` and no parts. The names in conditions and statements that are
+/// constants are read with `constants`.
 pub fn entry_of(alloc: Global, constants: &Constants, tree: &Tree) -> Result<DraftEntry, Memory>
     ensures { IfOk result (λ entry. entry ≡ spec.entry_of constants.now tree.now) }
 {

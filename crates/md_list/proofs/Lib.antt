@@ -1,0 +1,3 @@
+pub mod TooMany
+pub mod Lines
+pub mod Lists

@@ -1,0 +1,64 @@
+-- What the list of a description comes to, by what its files come to.
+use Rattle.std.proofs.Common.{◌≡◌, ◌≤◌, ◌<◌, ℕ, List, Result, Ok, Err, Vec, length, sym, ap, subst, ◌∙◌, arith}
+use Rattle.std.specs.declared.alloc.Global.{Global}
+use Rattle.lisp_read.specs.declared.tree.Tree.{Tree}
+use Rattle.md_source.specs.declared.refusal.SourceRefusal.{SourceRefusal}
+use Rattle.md_source.specs.declared.refusal.SourceRefusal.TheVariants as source_refusal
+use Rattle.md_source.specs.Source.{Source, DescriptionComes}
+use Rattle.md_source.specs.Asked.{IsKnown}
+use Rattle.md_source.specs.Answers.{Refuses}
+use Rattle.md_source.proofs.One.{one_description}
+use Rattle.md_iter.specs.Expansion as expansion
+use Rattle.md_list.specs.declared.refusal.ListRefusal.{ListRefusal}
+use Rattle.md_list.specs.declared.refusal.ListRefusal.TheVariants as refusal
+use Rattle.md_list.specs.Listing.{ListComes, list_of_trees, most_forms}
+use Rattle.md_list.specs.Answers.{GivesList, ListsTrees}
+
+-- the trees of a description were listed
+pub of_trees : (source : Source) (name : List ℕ) (trees : List Tree) (r : Result (Vec ℕ Global) ListRefusal) → DescriptionComes source name (Ok trees) → ListsTrees trees r → GivesList (ListComes source name) r
+of_trees source name trees (Ok text) come listed = subst (λ (t : List ℕ). ListComes source name (Ok t)) (sym listed.0) (ListComes.listed trees come listed.1)
+of_trees source name trees (Err refusal.Forms) come many = ListComes.too_many trees come many
+of_trees source name trees (Err refusal.Memory) come free = tt
+of_trees source name trees (Err (refusal.Source e)) come none = absurd none
+
+-- its files were refused
+pub of_refusal : (source : Source) (name : List ℕ) (e : SourceRefusal) → Refuses e (DescriptionComes source name) → GivesList (ListComes source name) (Err (refusal.Source e))
+of_refusal source name source_refusal.ReadFault come = tt
+of_refusal source name source_refusal.Memory come = tt
+of_refusal source name source_refusal.Depth come = ListComes.refused source_refusal.Depth come
+of_refusal source name source_refusal.Text come = ListComes.refused source_refusal.Text come
+of_refusal source name source_refusal.Include come = ListComes.refused source_refusal.Include come
+of_refusal source name (source_refusal.Syntax file place) come = ListComes.refused (source_refusal.Syntax file place) come
+
+-- trees that were listed are no refusal of files
+pub no_fault : (trees : List Tree) (r : Result (Vec ℕ Global) ListRefusal) (e : SourceRefusal) → ListsTrees trees r → r ≡ Err (refusal.Source e) → ⊥
+no_fault trees r e listed is = subst (λ (x : Result (Vec ℕ Global) ListRefusal). ListsTrees trees x) is listed
+
+-- ---- one answer
+
+abbrev Described : Type 0
+Described = Result (List Tree) SourceRefusal
+
+same_ok : (a b : List Tree) → ◌≡◌ {A = Described} (Ok a) (Ok b) → a ≡ b
+same_ok a b e = cc
+
+same_err : (a b : SourceRefusal) → ◌≡◌ {A = Described} (Err a) (Err b) → a ≡ b
+same_err a b e = cc
+
+not_both : (a : List Tree) (b : SourceRefusal) → ◌≡◌ {A = Described} (Ok a) (Err b) → ⊥
+not_both a b e = cc
+
+many_or_few : (ts us : List Tree) → ts ≡ us → most_forms < length (expansion.forms_of ts) → length (expansion.forms_of us) ≤ most_forms → ⊥
+many_or_few ts us same many few = let e = ap (λ (l : List Tree). length (expansion.forms_of l)) same in omega arith
+
+pub one_list : (source : Source) (name : List ℕ) (a b : Result (List ℕ) ListRefusal) → IsKnown source name → ListComes source name a → ListComes source name b → a ≡ b
+one_list source name _ _ known (ListComes.refused e p) (ListComes.refused f q) =
+    ap (λ (r : SourceRefusal). Err (refusal.Source r)) (same_err e f (one_description source name (Err e) (Err f) known p q))
+one_list source name _ _ known (ListComes.refused e p) (ListComes.too_many us q many) = absurd (not_both us e (one_description source name (Ok us) (Err e) known q p))
+one_list source name _ _ known (ListComes.refused e p) (ListComes.listed us q few) = absurd (not_both us e (one_description source name (Ok us) (Err e) known q p))
+one_list source name _ _ known (ListComes.too_many ts p many) (ListComes.refused f q) = absurd (not_both ts f (one_description source name (Ok ts) (Err f) known p q))
+one_list source name _ _ known (ListComes.too_many ts p many) (ListComes.too_many us q more) = refl
+one_list source name _ _ known (ListComes.too_many ts p many) (ListComes.listed us q few) = absurd (many_or_few ts us (same_ok ts us (one_description source name (Ok ts) (Ok us) known p q)) many few)
+one_list source name _ _ known (ListComes.listed ts p few) (ListComes.refused f q) = absurd (not_both ts f (one_description source name (Ok ts) (Err f) known p q))
+one_list source name _ _ known (ListComes.listed ts p few) (ListComes.too_many us q many) = absurd (many_or_few us ts (same_ok us ts (one_description source name (Ok us) (Ok ts) known q p)) many few)
+one_list source name _ _ known (ListComes.listed ts p few) (ListComes.listed us q less) = ap (λ (l : List Tree). Ok (list_of_trees l)) (same_ok ts us (one_description source name (Ok ts) (Ok us) known p q))

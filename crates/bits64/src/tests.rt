@@ -13,8 +13,7 @@ const WIDTHS: [(Width, u32, u64, u64); 4] = [
 #[test]
 fn widths_have_bits_and_bytes(rt: HostRuntime) {
     for (w, bits, _, _) in WIDTHS {
-        assert_eq!(rt; w.bits(), bits, "bits of {w:?}");
-        assert_eq!(rt; w.bytes() * 8, bits, "bytes of {w:?}");
+        assert!(rt; w.bits() == bits && w.bytes() * 8 == bits, "{bits}");
     }
 }
 
@@ -28,9 +27,7 @@ fn words_are_cut_and_extended(rt: HostRuntime) {
             (least, least, least | !ones),
             (ones ^ 19, ones ^ 19, !19),
         ] {
-            assert_eq!(rt; trunc(x, w), low, "trunc {x:#x} {w:?}");
-            assert_eq!(rt; zext(x, w), low, "zext {x:#x} {w:?}");
-            assert_eq!(rt; sext(x, w), signed, "sext {x:#x} {w:?}");
+            assert_eq!(rt; (trunc(x, w), zext(x, w), sext(x, w)), (low, low, signed));
         }
     }
 }
@@ -45,8 +42,7 @@ fn sums_wrap(rt: HostRuntime) {
             (least, ones, least ^ ones, least | 1),
             (least ^ ones, ones, least ^ ones ^ 1, least),
         ] {
-            assert_eq!(rt; add(a, b, w), sum, "add {a:#x} {b:#x} {w:?}");
-            assert_eq!(rt; sub(a, b, w), difference, "sub {a:#x} {b:#x} {w:?}");
+            assert_eq!(rt; (add(a, b, w), sub(a, b, w)), (sum, difference));
         }
     }
 }
@@ -63,10 +59,8 @@ fn products_have_two_halves(rt: HostRuntime) {
             (least, ones, least, 0, least ^ ones, least),
             (ones, least, least, 0, least ^ ones, ones),
         ] {
-            assert_eq!(rt; mul(a, b, w), low, "mul {a:#x} {b:#x} {w:?}");
-            assert_eq!(rt; mulh(a, b, w), signed, "mulh {a:#x} {b:#x} {w:?}");
-            assert_eq!(rt; mulhu(a, b, w), unsigned, "mulhu {a:#x} {b:#x} {w:?}");
-            assert_eq!(rt; mulhsu(a, b, w), mixed, "mulhsu {a:#x} {b:#x} {w:?}");
+            let high = (mulh(a, b, w), mulhu(a, b, w), mulhsu(a, b, w));
+            assert_eq!(rt; (mul(a, b, w), high), (low, (signed, unsigned, mixed)));
         }
     }
 }
@@ -84,8 +78,7 @@ fn signed_division_is_total(rt: HostRuntime) {
             (least, ones, least, 0),
             (least, 1, least, 0),
         ] {
-            assert_eq!(rt; div(a, b, w), quotient, "div {a:#x} {b:#x} {w:?}");
-            assert_eq!(rt; rem(a, b, w), remainder, "rem {a:#x} {b:#x} {w:?}");
+            assert_eq!(rt; (div(a, b, w), rem(a, b, w)), (quotient, remainder));
         }
     }
 }
@@ -101,8 +94,7 @@ fn unsigned_division_is_total(rt: HostRuntime) {
             (ones, least, 1, least ^ ones),
             (ones, ones, 1, 0),
         ] {
-            assert_eq!(rt; udiv(a, b, w), quotient, "udiv {a:#x} {b:#x} {w:?}");
-            assert_eq!(rt; urem(a, b, w), remainder, "urem {a:#x} {b:#x} {w:?}");
+            assert_eq!(rt; (udiv(a, b, w), urem(a, b, w)), (quotient, remainder));
         }
     }
 }
@@ -119,10 +111,8 @@ fn counts_are_modulo_the_width(rt: HostRuntime) {
             (bits, a, a, a),
             (u64::MAX, least, 1, ones),
         ] {
-            assert_eq!(rt; shl(a, b, w), left, "shl {a:#x} {b} {w:?}");
-            assert_eq!(rt; shr(a, b, w), right, "shr {a:#x} {b} {w:?}");
-            assert_eq!(rt; sar(a, b, w), arithmetic, "sar {a:#x} {b} {w:?}");
-            assert_eq!(rt; sar(a ^ least, 1, w), 0, "sar of a positive {w:?}");
+            let rights = (shr(a, b, w), sar(a, b, w), sar(a ^ least, 1, w));
+            assert_eq!(rt; (shl(a, b, w), rights), (left, (right, arithmetic, 0)));
         }
     }
 }
@@ -138,8 +128,7 @@ fn comparisons_read_the_low_bits(rt: HostRuntime) {
             (ones, 0, true, false),
             (least, least ^ ones, true, false),
         ] {
-            assert_eq!(rt; lt(a, b, w), signed, "lt {a:#x} {b:#x} {w:?}");
-            assert_eq!(rt; ltu(a, b, w), unsigned, "ltu {a:#x} {b:#x} {w:?}");
+            assert_eq!(rt; (lt(a, b, w), ltu(a, b, w)), (signed, unsigned));
         }
     }
 }

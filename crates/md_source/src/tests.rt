@@ -5,7 +5,6 @@ use super::*;
 use byte_edge::{ByteFiles, FetchFault, Files};
 use lisp_read::{Tree, Trees};
 use plain_data::Memory;
-use rtx_tree::Place;
 use std::alloc::Global;
 use std::test::Fail;
 
@@ -53,42 +52,27 @@ fn print_tree(tree: &Tree, out: &mut Vec<u8>) -> Result<(), Memory> {
     }
 }
 
-const TEXTS: [(&[u8], &[u8]); 19] = [
-    (b"empty", b""),
-    (b"plain", b"(a) b \"c\" {d} [e]"),
-    (b"middle", b"(x) (include \"plain\") (z)"),
-    (
-        b"more",
-        b"(include \"plain\") (include \"middle\") (include \"empty\")",
-    ),
-    (b"inner", b"[(include \"plain\")] ((include \"plain\"))"),
-    (
-        b"shapes",
-        b"(include) (include \"plain\" x) (include plain) (include {plain}) [include \"plain\"] (\"include\" \"plain\") include (Include \"plain\") (include [\"plain\"])",
-    ),
-    (b"marks", b"(include \"a\\\"b\") (include \"\")"),
-    (b"a\\\"b", b"(q)"),
-    (b"", b"(nameless)"),
-    (b"self", b"(a) (include \"self\")"),
-    (b"bad", b"(a\n (b"),
-    (b"to_bad", b"(x)\n(include \"bad\")\n(include \"gone\")"),
-    (b"to_gone", b"(x) (include \"gone\") (include \"bad\")"),
-    (
-        b"to_deep",
-        b"(include \"plain\") (include \"deep\") (include \"gone\")",
-    ),
-    (b"faulty", b"(include \"gone\") (include \"bad\")\n)"),
-    (b"to_faulty", b"(include \"plain\") (include \"faulty\")"),
-    (b"base", b"(include \"rv64im\") (last)"),
-    (
-        b"after",
-        b"(include \"rv64im\")(include \"middle\")(include \"empty\")",
-    ),
-    (
-        b"to_long",
-        b"(include \"plain\") (include \"long\") (include \"bad\")",
-    ),
-];
+/// Files, each with its name and its text.
+const TEXTS: &str = "\
+empty => ~\n\
+plain => (a) b \"c\" {d} [e]~\n\
+middle => (x) (include \"plain\") (z)~\n\
+more => (include \"plain\") (include \"middle\") (include \"empty\")~\n\
+inner => [(include \"plain\")] ((include \"plain\"))~\n\
+shapes => (include) (include \"plain\" x) (include plain) (include {plain}) [include \"plain\"] (\"include\" \"plain\") include (Include \"plain\") (include [\"plain\"])~\n\
+marks => (include \"a\\\"b\") (include \"\")~\n\
+a\\\"b => (q)~\n\
+\x20=> (nameless)~\n\
+self => (a) (include \"self\")~\n\
+bad => (a\n (b~\n\
+to_bad => (x)\n(include \"bad\")\n(include \"gone\")~\n\
+to_gone => (x) (include \"gone\") (include \"bad\")~\n\
+to_deep => (include \"plain\") (include \"deep\") (include \"gone\")~\n\
+faulty => (include \"gone\") (include \"bad\")\n)~\n\
+to_faulty => (include \"plain\") (include \"faulty\")~\n\
+base => (include \"rv64im\") (last)~\n\
+after => (include \"rv64im\")(include \"middle\")(include \"empty\")~\n\
+to_long => (include \"plain\") (include \"long\") (include \"bad\")";
 
 /// Files that are made when they are asked for: those of the table; `deep`, 201 lists within each other; `long`, which
 /// has more bytes than there is room for; `A` to `P`, each of which includes the one with the next letter, and `a` to
@@ -149,9 +133,10 @@ fn push_text(name: &[u8], out: &mut Vec<u8>) -> Result<bool, Memory> {
         push_chain(*letter, out)?;
         return Ok(true);
     }
-    for (known, text) in TEXTS {
-        if known == name {
-            out.extend_from_slice(text)?;
+    for entry in TEXTS.split("~\n") {
+        let (known, text) = entry.split_once(" => ").unwrap_or((entry, ""));
+        if known.as_bytes() == name {
+            out.extend_from_slice(text.as_bytes())?;
             return Ok(true);
         }
     }
@@ -200,16 +185,19 @@ impl Files for Shelf {
     }
 }
 
-/// What an answer is, as text: the trees, or the refusal. Of more than 20 trees only the last.
+/// What an answer is, as text: the trees, or the refusal. Of more than 20 trees only how many there are.
 fn answer_text(alloc: Global, answer: &Result<Trees, SourceRefusal>) -> Result<Vec<u8>, Memory> {
     let mut out = Vec::new(alloc);
     match answer {
-        Ok(trees) if trees.len() > 20 => print_tree(trees.item(trees.len() - 1), &mut out)?,
+        Ok(trees) if trees.len() > 20 => {
+            let shown = format!(in alloc; "{} trees", trees.len())?;
+            out.extend_from_slice(shown.as_bytes())?;
+        }
         Ok(trees) => print_trees(trees.as_slice(), &mut out)?,
         Err(SourceRefusal::Syntax { file, place }) => {
-            out.extend_from_slice(b"syntax ")?;
+            let shown = format!(in alloc; "syntax {}:{} ", place.line, place.column)?;
+            out.extend_from_slice(shown.as_bytes())?;
             out.extend_from_slice(file.bytes())?;
-            print_place(*place, &mut out)?;
         }
         Err(SourceRefusal::Depth) => out.extend_from_slice(b"depth")?,
         Err(SourceRefusal::Text) => out.extend_from_slice(b"text")?,
@@ -220,131 +208,77 @@ fn answer_text(alloc: Global, answer: &Result<Trees, SourceRefusal>) -> Result<V
     Ok(out)
 }
 
-/// Appends a line and a column below 10.
-fn print_place(place: Place, out: &mut Vec<u8>) -> Result<(), Memory> {
-    out.push(b' ')?;
-    out.push(b"0123456789"[(place.line % 10) as usize])?;
-    out.push(b':')?;
-    out.push(b"0123456789"[(place.column % 10) as usize])?;
-    Ok(())
+/// A name, the names that are asked for, how many bytes were read before the last of them, and what the description comes to.
+const CASES: &str = "\
+empty => empty => 0 => ~\n\
+plain => plain => 0 => (a) b \"c\" {d} [e]~\n\
+middle => middle plain => 25 => (x) (a) b \"c\" {d} [e] (z)~\n\
+more => more plain middle plain empty => 113 => (a) b \"c\" {d} [e] (x) (a) b \"c\" {d} [e] (z)~\n\
+inner => inner => 0 => [(include \"plain\")] ((include \"plain\"))~\n\
+shapes => shapes => 0 => (include) (include \"plain\" x) (include plain) (include {plain}) [include \"plain\"] (\"include\" \"plain\") include (Include \"plain\") (include [\"plain\"])~\n\
+marks => marks a\\\"b  => 32 => (q) (nameless)~\n\
+gone => gone => 0 => fault~\n\
+bad => bad => 0 => syntax 2:4 bad~\n\
+deep => deep => 0 => depth~\n\
+self => self self self self self self self self self self self self self self self self => 300 => within~\n\
+to_bad => to_bad bad => 36 => syntax 2:4 bad~\n\
+to_gone => to_gone gone => 36 => fault~\n\
+to_deep => to_deep plain deep => 68 => depth~\n\
+faulty => faulty => 0 => syntax 2:1 faulty~\n\
+to_faulty => to_faulty plain faulty => 53 => syntax 2:1 faulty~\n\
+base => base => 0 => 68 trees~\n\
+B => B C D E F G H I J K L M N O P Q => 195 => (end)~\n\
+A => A B C D E F G H I J K L M N O P => 195 => within~\n\
+b => b c d e f g h i j k l m n o p q => 195 => within~\n\
+long => long => 0 => text~\n\
+to_long => to_long plain long => 67 => text~\n\
+p => p q => 13 => 67 trees~\n\
+c => c d e f g h i j k l m n o p q => 182 => 67 trees~\n\
+after => after middle plain empty => 12335 => 74 trees";
+
+/// What a description comes to, behind the names that were asked for and the bytes that were read before the last of them.
+fn told(alloc: Global, name: &str) -> Result<Vec<u8>, Memory> {
+    let mut shelf = Shelf::new(alloc);
+    let answer = gather(alloc, &mut shelf, name.as_bytes());
+    let text = answer_text(alloc, &answer)?;
+    let is_fault = text.as_slice() == b"fault".as_slice();
+    let used = 16_777_216u64.wrapping_sub(shelf.room as u64);
+    let mut out = shelf.names;
+    if shelf.faults == u64::from(is_fault) {
+        let used = format!(in alloc; "=> {used} => ")?;
+        out.extend_from_slice(used.as_bytes())?;
+        out.extend_from_slice(text.as_slice())?;
+    }
+    Ok(out)
 }
 
 #[test]
 fn descriptions_and_their_trees(rt: HostRuntime) -> Result<(), Fail> {
-    let alloc = rt.alloc();
-    // A name, what its description comes to, and the names that are asked for.
-    let cases: [(&[u8], &[u8], &[u8]); 22] = [
-        (b"empty", b"", b"empty "),
-        (b"plain", b"(a) b \"c\" {d} [e]", b"plain "),
-        (b"middle", b"(x) (a) b \"c\" {d} [e] (z)", b"middle plain "),
-        (
-            b"more",
-            b"(a) b \"c\" {d} [e] (x) (a) b \"c\" {d} [e] (z)",
-            b"more plain middle plain empty ",
-        ),
-        (
-            b"inner",
-            b"[(include \"plain\")] ((include \"plain\"))",
-            b"inner ",
-        ),
-        (
-            b"shapes",
-            b"(include) (include \"plain\" x) (include plain) (include {plain}) [include \"plain\"] (\"include\" \"plain\") include (Include \"plain\") (include [\"plain\"])",
-            b"shapes ",
-        ),
-        (b"marks", b"(q) (nameless)", b"marks a\\\"b  "),
-        (b"gone", b"fault", b"gone "),
-        (b"bad", b"syntax bad 2:4", b"bad "),
-        (b"deep", b"depth", b"deep "),
-        (
-            b"self",
-            b"within",
-            b"self self self self self self self self self self self self self self self self ",
-        ),
-        (b"to_bad", b"syntax bad 2:4", b"to_bad bad "),
-        (b"to_gone", b"fault", b"to_gone gone "),
-        (b"to_deep", b"depth", b"to_deep plain deep "),
-        (b"faulty", b"syntax faulty 2:1", b"faulty "),
-        (
-            b"to_faulty",
-            b"syntax faulty 2:1",
-            b"to_faulty plain faulty ",
-        ),
-        (b"base", b"(last)", b"base "),
-        (b"B", b"(end)", b"B C D E F G H I J K L M N O P Q "),
-        (b"A", b"within", b"A B C D E F G H I J K L M N O P "),
-        (b"b", b"within", b"b c d e f g h i j k l m n o p q "),
-        (b"long", b"text", b"long "),
-        (b"to_long", b"text", b"to_long plain long "),
-    ];
-    for (name, want, asked) in cases {
-        let mut shelf = Shelf::new(alloc);
-        let answer = gather(alloc, &mut shelf, name);
-        let text = answer_text(alloc, &answer)?;
-        assert_eq!(rt; text.as_slice(), want);
-        assert_eq!(rt; shelf.names.as_slice(), asked);
-        assert_eq!(rt; shelf.faults, u64::from(want == b"fault".as_slice()));
+    for case in CASES.split("~\n") {
+        let (name, want) = case.split_once(" => ").unwrap_or((case, ""));
+        let told = told(rt.alloc(), name)?;
+        assert_eq!(rt; told.as_slice(), want.as_bytes(), "{name}");
     }
-    Ok(())
-}
-
-#[test]
-fn the_shipped_description(rt: HostRuntime) -> Result<(), Fail> {
-    let alloc = rt.alloc();
-    // A name, how many trees its description has beside the shipped one, and the names that are asked for.
-    let cases: [(&[u8], usize, &[u8]); 4] = [
-        (b"rv64im", 0, b""),
-        (b"p", 0, b"p q "),
-        (b"c", 0, b"c d e f g h i j k l m n o p q "),
-        (b"base", 1, b"base "),
-    ];
-    for (name, more, asked) in cases {
-        let mut shelf = Shelf::new(alloc);
-        let trees = gather(alloc, &mut shelf, name)?;
-        assert_eq!(rt; trees.len(), 67 + more);
-        assert_eq!(rt; shelf.names.as_slice(), asked);
-    }
-    Ok(())
-}
-
-#[test]
-fn all_bytes_count(rt: HostRuntime) -> Result<(), Fail> {
-    let alloc = rt.alloc();
-    // A name, and how many bytes were read before the last file was asked for.
-    let cases: [(&[u8], usize); 6] = [
-        (b"plain", 0),
-        (b"middle", 25),
-        (b"more", 113),
-        (b"after", 12335),
-        (b"p", 13),
-        (b"to_gone", 36),
-    ];
-    for (name, used) in cases {
-        let mut shelf = Shelf::new(alloc);
-        let _ = gather(alloc, &mut shelf, name);
-        assert_eq!(rt; shelf.room, 16_777_216 - used);
-    }
+    // The shipped description is no file.
+    let mut shelf = Shelf::new(rt.alloc());
+    let trees = gather(rt.alloc(), &mut shelf, b"rv64im")?;
+    assert_eq!(rt; trees.len(), 67);
+    assert!(rt; shelf.names.is_empty());
     Ok(())
 }
 
 #[test]
 fn files_that_fail(rt: HostRuntime) -> Result<(), Fail> {
     let alloc = rt.alloc();
-    // The calls that are to fail, and what the description comes to.
-    let cases: [(&[u64], &[u8]); 4] = [
-        (&[], b"(x) (y) (z)"),
-        (&[3], b"(x) (y) (z)"),
-        (&[1], b"fault"),
-        (&[2], b"fault"),
-    ];
-    for (failing, want) in cases {
-        let mut files = ByteFiles::new(alloc, failing)?;
+    // The call that is to fail, and what the description comes to.
+    for (failing, want, faults) in [(3, "(x) (y) (z)", 0), (1, "fault", 1), (2, "fault", 1)] {
+        let mut files = ByteFiles::new(alloc, &[failing])?;
         files.put_file(b"a", b"(x) (include \"b\") (z)")?;
         files.put_file(b"b", b"(y)")?;
         let answer = gather(alloc, &mut files, b"a");
         let text = answer_text(alloc, &answer)?;
-        assert_eq!(rt; text.as_slice(), want);
-        assert_eq!(rt; files.faults(), u64::from(want == b"fault".as_slice()));
+        assert_eq!(rt; text.as_slice(), want.as_bytes());
+        assert_eq!(rt; files.faults(), faults);
     }
     Ok(())
 }

@@ -5,283 +5,222 @@ use rtx_tree::Name;
 use std::alloc::Global;
 use std::test::Fail;
 
-fn print_text(text: &[u8], out: &mut Vec<u8>) -> Result<(), Memory> {
-    out.extend_from_slice(text)?;
-    Ok(())
-}
-
+/// Appends the names between `<` and `>`.
 fn print_names(names: &[Name], out: &mut Vec<u8>) -> Result<(), Memory> {
     for name in names {
-        print_text(b"<", out)?;
-        print_text(name.bytes(), out)?;
-        print_text(b">", out)?;
+        out.push(b'<')?;
+        out.extend_from_slice(name.bytes())?;
+        out.push(b'>')?;
     }
     Ok(())
 }
 
-#[test]
-fn members_between_commas(rt: HostRuntime) -> Result<(), Fail> {
-    let alloc = rt.alloc();
-    let cases: [(&[u8], &[u8]); 8] = [
-        (b"", b"<>"),
-        (b"yes", b"<yes>"),
-        (b"no,yes", b"<no><yes>"),
-        (b" no , yes\n", b"<no><yes>"),
-        (
-            b"unknown,arith,\n\t   load , *",
-            b"<unknown><arith><load><*>",
-        ),
-        (b"a b\t,", b"<a b><>"),
-        (b",,", b"<><><>"),
-        (b" \r\n\x0c,\t", b"<><>"),
-    ];
-    for (text, expected) in cases {
-        let mut out = Vec::new(alloc);
-        print_names(members_of(alloc, text)?.as_slice(), &mut out)?;
-        assert_eq!(rt; out.as_slice(), expected);
-    }
-    Ok(())
-}
-
-fn letter(letter: Letter) -> &'static [u8] {
-    match letter {
-        Letter::Register => b"register",
-        Letter::Memory => b"memory",
-        Letter::Immediate => b"immediate",
-        Letter::Constant => b"constant",
-        Letter::Symbol => b"symbol",
-        Letter::General => b"general",
-        Letter::Anything => b"anything",
-        Letter::Address => b"address",
-    }
-}
-
-fn print_member(member: &Member, out: &mut Vec<u8>) -> Result<(), Memory> {
-    match member {
-        Member::Letter(kind) => print_text(letter(*kind), out),
-        Member::Same(number) => {
-            out.push(b'0')?;
-            out.push(*number)?;
-            Ok(())
-        }
-        Member::Defined(name) => {
-            print_text(b"<", out)?;
-            print_text(name.bytes(), out)?;
-            print_text(b">", out)
-        }
-    }
-}
-
-fn print_times(mark: u8, times: u64, out: &mut Vec<u8>) -> Result<(), Memory> {
-    for _ in 0..times {
-        out.push(mark)?;
-    }
-    Ok(())
-}
-
-fn print_alternative(alternative: &Alternative, out: &mut Vec<u8>) -> Result<(), Memory> {
-    match alternative.direction {
-        Direction::Input => {}
-        Direction::Output => out.push(b'=')?,
-        Direction::Both => out.push(b'+')?,
-    }
-    if alternative.early {
-        out.push(b'&')?;
-    }
-    print_times(b'?', alternative.slight, out)?;
-    print_times(b'!', alternative.severe, out)?;
-    for member in alternative.members.as_slice() {
-        out.push(b' ')?;
-        print_member(member, out)?;
-    }
-    print_text(b";", out)
-}
-
-fn print_constraint(constraint: &Option<Constraint>, out: &mut Vec<u8>) -> Result<(), Memory> {
-    match constraint {
-        None => print_text(b"unknown", out),
-        Some(constraint) => {
-            for alternative in constraint.as_slice() {
-                print_alternative(alternative, out)?;
+fn print_members(alloc: Global, members: &[Member], out: &mut Vec<u8>) -> Result<(), Memory> {
+    for member in members {
+        match member {
+            Member::Letter(letter) => out.extend_from_slice(format!(in alloc;
+                " {letter:?}"
+            )?.as_bytes())?,
+            Member::Same(number) => out.extend_from_slice(format!(in alloc;
+                " same {number}"
+            )?.as_bytes())?,
+            Member::Defined(name) => {
+                out.extend_from_slice(b" <")?;
+                out.extend_from_slice(name.bytes())?;
+                out.push(b'>')?;
             }
-            Ok(())
         }
     }
+    Ok(())
+}
+
+/// Appends the alternatives, each with a mark for its direction and a mark for each time that it is less wanted.
+fn print_constraint(
+    alloc: Global,
+    constraint: &Constraint,
+    out: &mut Vec<u8>,
+) -> Result<(), Memory> {
+    for alternative in constraint.as_slice() {
+        match alternative.direction {
+            Direction::Input => {}
+            Direction::Output => out.push(b'=')?,
+            Direction::Both => out.push(b'+')?,
+        }
+        if alternative.early {
+            out.push(b'&')?;
+        }
+        for _ in 0..alternative.slight {
+            out.push(b'?')?;
+        }
+        for _ in 0..alternative.severe {
+            out.push(b'!')?;
+        }
+        print_members(alloc, alternative.members.as_slice(), out)?;
+        out.push(b';')?;
+    }
+    Ok(())
+}
+
+fn print_line(alloc: Global, line: &[Piece], out: &mut Vec<u8>) -> Result<(), Memory> {
+    out.push(b'[')?;
+    for piece in line {
+        match piece {
+            Piece::Byte(byte) => out.push(*byte)?,
+            Piece::Operand { print, number } => {
+                out.extend_from_slice(format!(in alloc; "<{print:?} {number}>")?.as_bytes())?;
+            }
+            Piece::Uid => out.extend_from_slice(b"<uid>")?,
+        }
+    }
+    out.push(b']')?;
+    Ok(())
+}
+
+fn print_reading(alloc: Global, reading: &Reading, out: &mut Vec<u8>) -> Result<(), Memory> {
+    match reading {
+        Reading::Template(Template::Split) => out.extend_from_slice(b"split")?,
+        Reading::Template(Template::One(line)) => print_line(alloc, line.as_slice(), out)?,
+        Reading::Template(Template::Each(lines)) => {
+            out.extend_from_slice(b"each")?;
+            for line in lines.as_slice() {
+                print_line(alloc, line.as_slice(), out)?;
+            }
+        }
+        Reading::Code => out.extend_from_slice(b"code")?,
+        Reading::Outside => out.extend_from_slice(b"outside")?,
+    }
+    Ok(())
 }
 
 /// The names of some defined constraints.
 fn defined(alloc: Global) -> Result<Vec<Name>, Memory> {
-    let texts: [&[u8]; 9] = [b"I", b"J", b"rJ", b"Us", b"Us16", b"U", b"r", b"#", b""];
     let mut names = Vec::new(alloc);
-    for text in texts {
-        names.push(Name::of(alloc, text)?)?;
+    for text in "I J rJ Us Us16 U r #".split(' ') {
+        names.push(Name::of(alloc, text.as_bytes())?)?;
     }
+    names.push(Name::empty(alloc))?;
     Ok(names)
 }
 
-#[test]
-fn constraints_and_their_alternatives(rt: HostRuntime) -> Result<(), Fail> {
-    let alloc = rt.alloc();
-    let cases: [(&[u8], &[u8]); 24] = [
-        (b"", b""),
-        (b" \t\n", b""),
-        (b"r", b" register;"),
-        (b"=r,m", b"= register; memory;"),
-        (
-            b"minsgXp",
-            b" memory immediate constant symbol general anything address;",
-        ),
-        (b"+&r", b"+& register;"),
-        (b"=+r,+=r", b"+ register;+ register;"),
-        (b"?r!m??", b"???! register memory;"),
-        (b"0,10", b" 0\0; 0\x01 0\0;"),
-        (b"%r,*r,r*m", b" register; register; register memory;"),
-        (b"#r,m#=r?Q", b"; memory;"),
-        (b"r,", b" register;;"),
-        (b",r", b"; register;"),
-        (b",", b";;"),
-        (b" r, m\n ,\tI", b" register; memory; <I>;"),
-        (b"rI", b" register <I>;"),
-        (b"rJ", b" <rJ>;"),
-        (b"IrJr", b" <I> <rJ> register;"),
-        (b"UUsUs16Us1", b" <U> <Us> <Us16> <Us> 0\x01;"),
-        (b"U s", b" <U> symbol;"),
-        (b"Q", b"unknown"),
-        (b"r,Q", b"unknown"),
-        (b"rQ", b"unknown"),
-        (b"=r{", b"unknown"),
-    ];
-    let names = defined(alloc)?;
-    for (text, expected) in cases {
-        let mut out = Vec::new(alloc);
-        print_constraint(&constraint_of(alloc, text, names.as_slice())?, &mut out)?;
-        assert_eq!(rt; out.as_slice(), expected);
-    }
-    Ok(())
+/// Texts with members between commas, and the members.
+const MEMBERS: &str = "\
+\x20=> <>~\n\
+yes => <yes>~\n\
+no,yes => <no><yes>~\n\
+\x20no , yes\n => <no><yes>~\n\
+unknown,arith,\n\t   load , * => <unknown><arith><load><*>~\n\
+a b\t, => <a b><>~\n\
+,, => <><><>~\n\
+\x20\r\n\x0c,\t => <><>";
+
+/// Constraints, and their alternatives.
+const CONSTRAINTS: &str = "\
+\x20=> ~\n\
+\x20\t\n => ~\n\
+r =>  Register;~\n\
+=r,m => = Register; Memory;~\n\
+minsgXp =>  Memory Immediate Constant Symbol General Anything Address;~\n\
++&r => +& Register;~\n\
+=+r,+=r => + Register;+ Register;~\n\
+?r!m?? => ???! Register Memory;~\n\
+0,10 =>  same 0; same 1 same 0;~\n\
+%r,*r,r*m =>  Register; Register; Register Memory;~\n\
+#r,m#=r?Q => ; Memory;~\n\
+r, =>  Register;;~\n\
+,r => ; Register;~\n\
+, => ;;~\n\
+\x20r, m\n ,\tI =>  Register; Memory; <I>;~\n\
+rI =>  Register <I>;~\n\
+rJ =>  <rJ>;~\n\
+IrJr =>  <I> <rJ> Register;~\n\
+UUsUs16Us1 =>  <U> <Us> <Us16> <Us> same 1;~\n\
+U s =>  <U> Symbol;~\n\
+Q => unknown~\n\
+r,Q => unknown~\n\
+rQ => unknown~\n\
+=r{ => unknown";
+
+/// Templates, and their pieces.
+const TEMPLATES: &str = "\
+\x20=> []~\n\
+# => split~\n\
+#  => [# ]~\n\
+\x20# => [ #]~\n\
+*return x; => code~\n\
+\x20*x => [ *x]~\n\
+ret => [ret]~\n\
+add\\t%0,%1,%2 => [add\t<Plain 0>,<Plain 1>,<Plain 2>]~\n\
+a\\n\\tb => [a\n\tb]~\n\
+a\n\tb => [a\n\tb]~\n\
+\\\\\\\"|%% => [\\\"|%]~\n\
+%l0%c1%n2%z3%i4w%C5%N6 => [<Label 0><Constant 1><Negative 2><OrZero 3><Immediate 4>w<Comparison 5><Reversed 6>]~\n\
+.L%=: => [.L<uid>:]~\n\
+%10x%255 => [<Plain 10>x<Plain 255>]~\n\
+%4294967295 => [<Plain 4294967295>]~\n\
+%4294967296 => outside~\n\
+%01 => outside~\n\
+%00 => outside~\n\
+%z01 => outside~\n\
+% => outside~\n\
+%l => outside~\n\
+%lx => outside~\n\
+%-1 => outside~\n\
+%a0 => outside~\n\
+%{ => outside~\n\
+\\ => outside~\n\
+\\r => outside~\n\
+\\\n => outside~\n\
+a{b|c} => outside~\n\
+a} => outside~\n\
+@ => each~\n\
+@a => each[a]~\n\
+@ \t => each~\n\
+@\n => each[]~\n\
+@\na\nb => each[a][b]~\n\
+@\n  mv\\t%0,%1\n\t# \n li\\n => each[mv\t<Plain 0>,<Plain 1>][# ][li\n]~\n\
+@ a\n b => each[a][b]~\n\
+@\na\n\nb => each[a][][b]~\n\
+@\na\n \n => each[a][][]~\n\
+@\n#\n@ => each[#][@]~\n\
+@\na\n%q => outside~\n\
+@\n%q\n *x => code~\n\
+@\n a*\nb\\\n => outside~\n\
+@\r\na => each[\r][a]";
+
+/// Which text is read.
+#[derive(Clone, Copy)]
+enum Text {
+    Members,
+    Constraint,
+    Template,
 }
 
-fn print_word(print: Print) -> &'static [u8] {
-    match print {
-        Print::Plain => b"plain",
-        Print::Label => b"label",
-        Print::Constant => b"constant",
-        Print::Negative => b"negative",
-        Print::OrZero => b"zero",
-        Print::Immediate => b"immediate",
-        Print::Comparison => b"comparison",
-        Print::Reversed => b"reversed",
+fn told(alloc: Global, kind: Text, text: &[u8], names: &[Name]) -> Result<Vec<u8>, Memory> {
+    let mut out = Vec::new(alloc);
+    match kind {
+        Text::Members => print_names(members_of(alloc, text)?.as_slice(), &mut out)?,
+        Text::Constraint => match constraint_of(alloc, text, names)? {
+            Some(constraint) => print_constraint(alloc, &constraint, &mut out)?,
+            None => out.extend_from_slice(b"unknown")?,
+        },
+        Text::Template => print_reading(alloc, &template_of(alloc, text)?, &mut out)?,
     }
+    Ok(out)
 }
-
-fn print_piece(piece: Piece, out: &mut Vec<u8>) -> Result<(), Memory> {
-    match piece {
-        Piece::Byte(byte) => out.push(byte)?,
-        Piece::Operand { print, number } => {
-            print_text(b"<", out)?;
-            print_text(print_word(print), out)?;
-            for byte in number.to_be_bytes() {
-                if byte > 0 {
-                    out.push(byte)?;
-                }
-            }
-            print_text(b">", out)?;
-        }
-        Piece::Uid => print_text(b"<uid>", out)?,
-    }
-    Ok(())
-}
-
-fn print_line(line: &[Piece], out: &mut Vec<u8>) -> Result<(), Memory> {
-    print_text(b"[", out)?;
-    for piece in line {
-        print_piece(*piece, out)?;
-    }
-    print_text(b"]", out)
-}
-
-fn print_template(template: &Template, out: &mut Vec<u8>) -> Result<(), Memory> {
-    match template {
-        Template::Split => print_text(b"split", out),
-        Template::One(line) => print_line(line.as_slice(), out),
-        Template::Each(lines) => {
-            print_text(b"each", out)?;
-            for line in lines.as_slice() {
-                print_line(line.as_slice(), out)?;
-            }
-            Ok(())
-        }
-    }
-}
-
-fn print_reading(reading: &Reading, out: &mut Vec<u8>) -> Result<(), Memory> {
-    match reading {
-        Reading::Template(template) => print_template(template, out),
-        Reading::Code => print_text(b"code", out),
-        Reading::Outside => print_text(b"outside", out),
-    }
-}
-
-/// Templates, and what they are. An operand's number is printed as the bytes of it that aren't 0.
-const TEMPLATES: [(&[u8], &[u8]); 44] = [
-    (b"", b"[]"),
-    (b"#", b"split"),
-    (b"# ", b"[# ]"),
-    (b" #", b"[ #]"),
-    (b"*return x;", b"code"),
-    (b" *x", b"[ *x]"),
-    (b"ret", b"[ret]"),
-    (b"add\\t%0,%1,%2", b"[add\t<plain>,<plain\x01>,<plain\x02>]"),
-    (b"a\\n\\tb", b"[a\n\tb]"),
-    (b"a\n\tb", b"[a\n\tb]"),
-    (b"\\\\\\\"|%%", b"[\\\"|%]"),
-    (
-        b"%l0%c1%n2%z3%i4w%C5%N6",
-        b"[<label><constant\x01><negative\x02><zero\x03><immediate\x04>w<comparison\x05><reversed\x06>]",
-    ),
-    (b".L%=:", b"[.L<uid>:]"),
-    (b"%10x%255", b"[<plain\x0a>x<plain\xff>]"),
-    (b"%4294967295", b"[<plain\xff\xff\xff\xff>]"),
-    (b"%4294967296", b"outside"),
-    (b"%01", b"outside"),
-    (b"%00", b"outside"),
-    (b"%z01", b"outside"),
-    (b"%", b"outside"),
-    (b"%l", b"outside"),
-    (b"%lx", b"outside"),
-    (b"%-1", b"outside"),
-    (b"%a0", b"outside"),
-    (b"%{", b"outside"),
-    (b"\\", b"outside"),
-    (b"\\r", b"outside"),
-    (b"\\\n", b"outside"),
-    (b"a{b|c}", b"outside"),
-    (b"a}", b"outside"),
-    (b"@", b"each"),
-    (b"@a", b"each[a]"),
-    (b"@ \t", b"each"),
-    (b"@\n", b"each[]"),
-    (b"@\na\nb", b"each[a][b]"),
-    (
-        b"@\n  mv\\t%0,%1\n\t# \n li\\n",
-        b"each[mv\t<plain>,<plain\x01>][# ][li\n]",
-    ),
-    (b"@ a\n b", b"each[a][b]"),
-    (b"@\na\n\nb", b"each[a][][b]"),
-    (b"@\na\n \n", b"each[a][][]"),
-    (b"@\n#\n@", b"each[#][@]"),
-    (b"@\na\n%q", b"outside"),
-    (b"@\n%q\n *x", b"code"),
-    (b"@\n a*\nb\\\n", b"outside"),
-    (b"@\r\na", b"each[\r][a]"),
-];
 
 #[test]
-fn templates_and_their_pieces(rt: HostRuntime) -> Result<(), Fail> {
-    let alloc = rt.alloc();
-    for (text, expected) in TEMPLATES {
-        let mut out = Vec::new(alloc);
-        print_reading(&template_of(alloc, text)?, &mut out)?;
-        assert_eq!(rt; out.as_slice(), expected);
+fn texts_and_what_they_are(rt: HostRuntime) -> Result<(), Fail> {
+    let names = defined(rt.alloc())?;
+    for (kind, cases) in [
+        (Text::Members, MEMBERS),
+        (Text::Constraint, CONSTRAINTS),
+        (Text::Template, TEMPLATES),
+    ] {
+        for case in cases.split("~\n") {
+            let (text, want) = case.split_once(" => ").unwrap_or((case, ""));
+            let told = told(rt.alloc(), kind, text.as_bytes(), names.as_slice())?;
+            assert_eq!(rt; told.as_slice(), want.as_bytes(), "{case}");
+        }
     }
     Ok(())
 }

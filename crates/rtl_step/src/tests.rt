@@ -1,7 +1,7 @@
 //! Values at the edges of the widths, by the RISC-V manual, and steps of every kind.
 ghost use Rattle.std.specs.Prelude.{◌≡◌, IfOk, length};
 
-use crate::{Known, Regs, State, StepEnd, step_insn, value};
+use crate::{Known, Regs, State, step_insn, value, width_of};
 use bits64::Width;
 use plain_data::{Items, Memory};
 use rtx_tree::{
@@ -10,111 +10,125 @@ use rtx_tree::{
 use std::alloc::Global;
 use std::test::Fail;
 
-// a1 and a2, with their 64 bits.
-fn two_regs(alloc: Global, a: u64, b: u64) -> Result<Regs, Memory> {
-    let mut regs = Regs::new(alloc);
-    for (reg, value) in [(11, a), (12, b)] {
-        let known = Known {
-            width: Width::W64,
-            value,
+/// Puts a tree before others: `-1` is a number, `10:DI` a register, and `plus:DI/2` takes its parts from the others.
+fn put(alloc: Global, word: &str, trees: &mut Kids) -> Result<(), Memory> {
+    let (head, count) = word.split_once("/").unwrap_or((word, "0"));
+    let (name, mode) = head.split_once(":").unwrap_or((head, ""));
+    let number = name.parse().unwrap_or(0);
+    let mode = Mode::named(mode.as_bytes()).unwrap_or(Mode::Void);
+    let Some(code) = Code::named(name.as_bytes()) else {
+        let code = if mode.same(Mode::Void) {
+            Code::ConstInt
+        } else {
+            Code::Reg
         };
-        regs.set(reg, known)?;
+        return trees.push(Rtx::leaf(alloc, code, mode, number));
+    };
+    let mut kids = Items::new(alloc);
+    for _ in 0..count.parse::<u8>().unwrap_or(0) {
+        if let Some(kid) = trees.pop() {
+            kids.push(kid)?;
+        }
+    }
+    trees.push(Rtx::of_kids(alloc, code, mode, kids))
+}
+
+/// The tree of a text, each word before its parts.
+fn tree(alloc: Global, text: &str) -> Result<Rtx, Memory> {
+    let mut trees = Items::new(alloc);
+    for word in text.split_whitespace().rev() {
+        put(alloc, word, &mut trees)?;
+    }
+    match trees.pop() {
+        Some(tree) => Ok(tree),
+        None => Err(Memory),
+    }
+}
+
+/// The width of a mode, or 64 bits.
+fn width(mode: &str) -> Width {
+    let mode = Mode::named(mode.as_bytes()).unwrap_or(Mode::DI);
+    width_of(mode).unwrap_or(Width::W64)
+}
+
+/// Registers with values, from a1 on: `5` in 64 bits, `5:QI` in 8.
+fn registers(alloc: Global, values: &str) -> Result<Regs, Memory> {
+    let mut regs = Regs::new(alloc);
+    let mut reg = 11;
+    for word in values.split_whitespace() {
+        let (value, mode) = word.split_once(":").unwrap_or((word, ""));
+        let value = value.parse().unwrap_or(0);
+        let width = width(mode);
+        regs.set(reg, Known { width, value })?;
+        reg = 12;
     }
     Ok(regs)
 }
 
-fn reg(alloc: Global, reg: u32) -> Rtx {
-    Rtx::reg(alloc, Mode::DI, reg)
-}
+/// Modes, expressions, and the values of a1 and a2; and what is read in the mode's width.
+const VALUES: &str = "\
+SI; plus:SI/2 11:SI 12:SI; 4294967295 1 => Some(0)\n\
+SI; minus:SI/2 11:SI 12:SI; 0 1 => Some(4294967295)\n\
+SI; div:SI/2 11:SI 12:SI; 2147483648 4294967295 => Some(2147483648)\n\
+SI; mod:SI/2 11:SI 12:SI; 2147483648 4294967295 => Some(0)\n\
+SI; mod:SI/2 11:SI 12:SI; 4294967289 2 => Some(4294967295)\n\
+SI; umod:SI/2 11:SI 12:SI; 4294967289 2 => Some(1)\n\
+SI; div:SI/2 11:SI 12:SI; 7 0 => None\n\
+SI; umod:SI/2 11:SI 12:SI; 7 4294967296 => None\n\
+SI; ashift:SI/2 11:SI 12:SI; 1 33 => Some(2)\n\
+SI; lshiftrt:SI/2 11:SI 12:SI; 2147483648 31 => Some(1)\n\
+SI; ashiftrt:SI/2 11:SI 12:SI; 2147483648 63 => Some(4294967295)\n\
+SI; lt:SI/2 11:SI 12:SI; 4294967295 0 => Some(1)\n\
+SI; ltu:SI/2 11:SI 12:SI; 4294967295 0 => Some(0)\n\
+SI; ge:SI/2 11:SI 12:SI; 5 4294967301 => Some(1)\n\
+DI; sign_extend:DI/1 11:QI; 128:QI => Some(18446744073709551488)\n\
+QI; subreg:QI/1 11:DI; 128:QI => Some(128)\n\
+DI; 11:DI; 128:QI => None\n\
+DI; 0:DI; 5 => Some(0)\n\
+HI; -1; 5 => Some(65535)\n";
 
-// An operation on a1 and a2 in SI, read in 32 bits.
-fn in_32(alloc: Global, code: Code, a: u64, b: u64) -> Result<Option<u64>, Memory> {
-    let first = Rtx::reg(alloc, Mode::SI, 11);
-    let second = Rtx::reg(alloc, Mode::SI, 12);
-    let x = Rtx::of_two(alloc, code, Mode::SI, first, second)?;
-    let regs = two_regs(alloc, a, b)?;
+fn told(alloc: Global, mode: &str, x: &str, values: &str) -> Result<String, Memory> {
+    let regs = registers(alloc, values)?;
     let memory = Memories::new(alloc);
-    Ok(value(&Items::new(alloc), &regs, &memory, &x, Width::W32))
+    let value = value(
+        &Items::new(alloc),
+        &regs,
+        &memory,
+        &tree(alloc, x)?,
+        width(mode),
+    );
+    let told = format!(in alloc; "{value:?}")?;
+    Ok(told)
 }
 
 #[test]
-fn operations(rt: HostRuntime) -> Result<(), Fail> {
-    for (code, a, b, expected) in [
-        (Code::Plus, 0xffff_ffff, 1, Some(0)),
-        (Code::Minus, 0, 1, Some(0xffff_ffff)),
-        (Code::Div, 0x8000_0000, 0xffff_ffff, Some(0x8000_0000)),
-        (Code::Mod, 0x8000_0000, 0xffff_ffff, Some(0)),
-        (Code::Mod, 0xffff_fff9, 2, Some(0xffff_ffff)),
-        (Code::Umod, 0xffff_fff9, 2, Some(1)),
-        (Code::Div, 7, 0, None),
-        (Code::Umod, 7, 0x1_0000_0000, None),
-        (Code::Ashift, 1, 33, Some(2)),
-        (Code::Lshiftrt, 0x8000_0000, 31, Some(1)),
-        (Code::Ashiftrt, 0x8000_0000, 63, Some(0xffff_ffff)),
-        (Code::Lt, 0xffff_ffff, 0, Some(1)),
-        (Code::Ltu, 0xffff_ffff, 0, Some(0)),
-        (Code::Ge, 5, 0x1_0000_0005, Some(1)),
-    ] {
-        assert_eq!(rt; in_32(rt.alloc(), code, a, b)?, expected);
+fn values_of_expressions(rt: HostRuntime) -> Result<(), Fail> {
+    for case in VALUES.lines() {
+        let (case, want) = case.split_once(" => ").unwrap_or((case, ""));
+        let (mode, case) = case.split_once("; ").unwrap_or((case, ""));
+        let (x, values) = case.split_once("; ").unwrap_or((case, ""));
+        assert_eq!(rt; told(rt.alloc(), mode, x, values)?.as_str(), want, "{x}");
     }
     Ok(())
 }
 
-#[test]
-fn modes(rt: HostRuntime) -> Result<(), Fail> {
-    let alloc = rt.alloc();
-    let symbols = Items::new(alloc);
-    let memory = Memories::new(alloc);
-    let mut regs = Regs::new(alloc);
-    let known = Known {
-        width: Width::W8,
-        value: 0x80,
-    };
-    regs.set(11, known)?;
-    let byte = Rtx::reg(alloc, Mode::QI, 11);
-    let wide = Rtx::of_one(alloc, Code::SignExtend, Mode::DI, byte)?;
-    assert_eq!(rt;
-        value(&symbols, &regs, &memory, &wide, Width::W64),
-        Some(0xffff_ffff_ffff_ff80)
-    );
-    let low = Rtx::of_one(alloc, Code::Subreg, Mode::QI, reg(alloc, 11))?;
-    assert_eq!(rt;
-        value(&symbols, &regs, &memory, &low, Width::W8),
-        Some(0x80)
-    );
-    assert_eq!(rt;
-        value(&symbols, &regs, &memory, &reg(alloc, 11), Width::W64),
-        None
-    );
-    assert_eq!(rt;
-        value(&symbols, &regs, &memory, &reg(alloc, 0), Width::W64),
-        Some(0)
-    );
-    let constant = Rtx::const_int(alloc, -1);
-    assert_eq!(rt;
-        value(&symbols, &regs, &memory, &constant, Width::W16),
-        Some(0xffff)
-    );
-    Ok(())
-}
-
-fn set(alloc: Global, target: Rtx, source: Rtx) -> Result<Rtx, Memory> {
-    Rtx::of_two(alloc, Code::Set, Mode::Void, target, source)
-}
-
-// A function of one instruction, which follows a label and a barrier.
-fn function(alloc: Global, kind: Kind, pattern: Rtx) -> Result<Function, Memory>
-    ensures { IfOk result (λ f. length f.insns ≡ 3) }
-{
-    let mut insns = Items::new(alloc);
-    insns.push(mark(alloc, 9, Kind::Label))?;
-    insns.push(mark(alloc, 0, Kind::Barrier))?;
-    insns.push(Insn {
-        uid: 5,
+fn insn(alloc: Global, uid: u32, kind: Kind, pattern: Rtx) -> Insn {
+    Insn {
+        uid,
         kind,
         pattern,
         uses: Items::new(alloc),
-    })?;
+    }
+}
+
+/// A function of one instruction, which follows a label and a barrier.
+fn function(alloc: Global, kind: Kind, pattern: &str) -> Result<Function, Memory>
+    ensures { IfOk result (λ f. length f.insns ≡ 3) }
+{
+    let mut insns = Items::new(alloc);
+    insns.push(insn(alloc, 9, Kind::Label, Rtx::const_int(alloc, 0)))?;
+    insns.push(insn(alloc, 0, Kind::Barrier, Rtx::const_int(alloc, 0)))?;
+    insns.push(insn(alloc, 5, kind, tree(alloc, pattern)?))?;
     Ok(Function {
         name: Name::of(alloc, b"f")?,
         insns,
@@ -124,16 +138,7 @@ fn function(alloc: Global, kind: Kind, pattern: Rtx) -> Result<Function, Memory>
     })
 }
 
-fn mark(alloc: Global, uid: u32, kind: Kind) -> Insn {
-    Insn {
-        uid,
-        kind,
-        pattern: Rtx::of_kids(alloc, Code::Pc, Mode::Void, Items::new(alloc)),
-        uses: Items::new(alloc),
-    }
-}
-
-// At entry of the function, with a1 = 3, a2 = 4 and four bytes of memory from 8 on.
+/// At entry of the function, with a1 = 3, a2 = 4 and four bytes of memory from 8 on.
 fn state(alloc: Global) -> Result<State, Memory> {
     let mut memory = Memories::new(alloc);
     for address in 8..12 {
@@ -143,14 +148,14 @@ fn state(alloc: Global) -> Result<State, Memory> {
     }
     Ok(State {
         next: 0,
-        regs: two_regs(alloc, 3, 4)?,
+        regs: registers(alloc, "3 4")?,
         memory,
         visible: Items::new(alloc),
         calls: Items::new(alloc),
     })
 }
 
-// Where h is at 4096 and answers once, with 7.
+/// Where `h` is at 4096 and answers once, with 7.
 fn world(alloc: Global) -> Result<World, Memory> {
     let mut symbols = Items::new(alloc);
     symbols.push(SymbolAt {
@@ -165,104 +170,54 @@ fn world(alloc: Global) -> Result<World, Memory> {
     Ok(World { symbols, replies })
 }
 
-// How one step of an instruction ends, and what a0, a1 and a2 are then.
-fn stepped(
-    alloc: Global,
-    kind: Kind,
-    pattern: Rtx,
-) -> Result<(StepEnd, u32, [Option<u64>; 3]), Memory> {
+/// How one step of an instruction ends, what is next, and what a0, a1 and a2 are then.
+fn stepped(alloc: Global, kind: Kind, pattern: &str) -> Result<String, Memory> {
     let f = function(alloc, kind, pattern)?;
     let mut state = state(alloc)?;
     let end = step_insn(alloc, &f, &mut state, &world(alloc)?)?;
-    let regs = [
-        state.regs.value(10, Width::W64),
-        state.regs.value(11, Width::W64),
-        state.regs.value(12, Width::W64),
-    ];
-    Ok((end, state.next, regs))
-}
-
-#[test]
-fn values_before_effects(rt: HostRuntime) -> Result<(), Fail> {
-    let alloc = rt.alloc();
-    let mut parts: Kids = Items::new(alloc);
-    parts.push(set(alloc, reg(alloc, 11), reg(alloc, 12))?)?;
-    parts.push(set(alloc, reg(alloc, 12), reg(alloc, 11))?)?;
-    let both = Rtx::of_kids(alloc, Code::Parallel, Mode::Void, parts);
-    let (end, next, regs) = stepped(alloc, Kind::Plain, both)?;
-    assert_eq!(rt; end, StepEnd::Next);
-    assert_eq!(rt; next, 3);
-    assert_eq!(rt; regs, [None, Some(4), Some(3)]);
-    let gone = Rtx::of_one(alloc, Code::Clobber, Mode::Void, reg(alloc, 11))?;
-    let (_, _, regs) = stepped(alloc, Kind::Plain, gone)?;
-    assert_eq!(rt; regs, [None, None, Some(4)]);
-    Ok(())
-}
-
-#[test]
-fn accesses(rt: HostRuntime) -> Result<(), Fail> {
-    let alloc = rt.alloc();
-    for (address, expected) in [
-        (8, StepEnd::Next),
-        (10, StepEnd::Undefined),
-        (12, StepEnd::Undefined),
-    ] {
-        let at = Rtx::const_int(alloc, address);
-        let place = Rtx::of_one(alloc, Code::Mem, Mode::SI, at)?;
-        let pattern = set(alloc, place, Rtx::reg(alloc, Mode::SI, 11))?;
-        let (end, _, _) = stepped(alloc, Kind::Plain, pattern)?;
-        assert_eq!(rt; end, expected);
+    let next = state.next;
+    let mut out = format!(in alloc; "{end:?} {next}")?;
+    for reg in 10..13 {
+        let shown = match state.regs.value(reg, Width::W64) {
+            Some(value) => format!(in alloc; " {value}")?,
+            None => format!(in alloc; " -")?,
+        };
+        out.push_str(shown.as_str())?;
     }
-    Ok(())
+    Ok(out)
 }
 
-// (if_then_else (CODE (reg:DI a1) (const_int 3)) (label_ref 9) (pc))
-fn branch(alloc: Global, code: Code) -> Result<Rtx, Memory> {
-    let pc = Rtx::of_kids(alloc, Code::Pc, Mode::Void, Items::new(alloc));
-    let other = Rtx::of_kids(alloc, Code::Pc, Mode::Void, Items::new(alloc));
-    let three = Rtx::const_int(alloc, 3);
-    let test = Rtx::of_two(alloc, code, Mode::Void, reg(alloc, 11), three)?;
-    let nine = Rtx::const_int(alloc, 9);
-    let label = Rtx::of_one(alloc, Code::LabelRef, Mode::Void, nine)?;
-    let way = Rtx::of_three(alloc, Code::IfThenElse, Mode::Void, test, label, other)?;
-    set(alloc, pc, way)
-}
+/// Steps: all values are read before any effect; accesses; jumps; calls.
+const PLAIN: &str = "\
+parallel/2 set/2 11:DI 12:DI set/2 12:DI 11:DI => Next 3 - 4 3\n\
+clobber/1 11:DI => Next 3 - - 4\n\
+set/2 mem:SI/1 8 11:SI => Next 3 - 3 4\n\
+set/2 mem:SI/1 10 11:SI => Undefined\n\
+set/2 mem:SI/1 12 11:SI => Undefined\n";
 
-#[test]
-fn jumps(rt: HostRuntime) -> Result<(), Fail> {
-    let alloc = rt.alloc();
-    for (code, expected, place) in [
-        (Code::Eq, StepEnd::Jumped, 0),
-        (Code::Ne, StepEnd::Next, 3),
-        (Code::Gt, StepEnd::Next, 3),
-        (Code::Le, StepEnd::Jumped, 0),
-    ] {
-        let (end, next, _) = stepped(alloc, Kind::Jump, branch(alloc, code)?)?;
-        assert_eq!(rt; end, expected);
-        assert_eq!(rt; next, place);
-    }
-    let leaves = Rtx::of_kids(alloc, Code::Return, Mode::Void, Items::new(alloc));
-    let (end, _, _) = stepped(alloc, Kind::Jump, leaves)?;
-    assert_eq!(rt; end, StepEnd::Undefined);
-    Ok(())
-}
+const JUMPS: &str = "\
+set/2 pc if_then_else/3 eq/2 11:DI 3 label_ref/1 9 pc => Jumped 0 - 3 4\n\
+set/2 pc if_then_else/3 ne/2 11:DI 3 label_ref/1 9 pc => Next 3 - 3 4\n\
+set/2 pc if_then_else/3 gt/2 11:DI 3 label_ref/1 9 pc => Next 3 - 3 4\n\
+set/2 pc if_then_else/3 le/2 11:DI 3 label_ref/1 9 pc => Jumped 0 - 3 4\n\
+return => Undefined\n";
+
+const CALLS: &str = "\
+call/2 mem:SI/1 4096 0 => Called 3 7 - -\n\
+call/2 mem:SI/1 4098 0 => Undefined\n\
+call/2 mem:SI/1 0 0 => Called 3 7 - -\n";
 
 #[test]
-fn calls(rt: HostRuntime) -> Result<(), Fail> {
-    let alloc = rt.alloc();
-    for (address, expected) in [
-        (4096, StepEnd::Called),
-        (4098, StepEnd::Undefined),
-        (0, StepEnd::Called),
+fn steps_of_each_kind(rt: HostRuntime) -> Result<(), Fail> {
+    for (kind, cases) in [
+        (Kind::Plain, PLAIN),
+        (Kind::Jump, JUMPS),
+        (Kind::Call, CALLS),
     ] {
-        let at = Rtx::const_int(alloc, address);
-        let place = Rtx::of_one(alloc, Code::Mem, Mode::SI, at)?;
-        let size = Rtx::const_int(alloc, 0);
-        let call = Rtx::of_two(alloc, Code::Call, Mode::Void, place, size)?;
-        let (end, _, regs) = stepped(alloc, Kind::Call, call)?;
-        assert_eq!(rt; end, expected);
-        if end == StepEnd::Called {
-            assert_eq!(rt; regs, [Some(7), None, None]);
+        for case in cases.lines() {
+            let (pattern, want) = case.split_once(" => ").unwrap_or((case, ""));
+            let told = stepped(rt.alloc(), kind, pattern)?;
+            assert!(rt; told.starts_with(want), "{pattern}: {told}");
         }
     }
     Ok(())

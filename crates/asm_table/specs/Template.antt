@@ -6,7 +6,7 @@ use Rattle.rtx_tree.specs.declared.code.Code.TheVariants.{Reg, ConstInt}
 use Rattle.rtx_tree.specs.declared.tree.Rtx.{Rtx, out-Rtx}
 use Rattle.rtx_tree.specs.Code.{code_name}
 use Rattle.rtx_tree.specs.Operands.{operand_at}
-use Rattle.rtl_read.specs.Print.{printed_reg}
+use Rattle.rtl_print.specs.Print.{printed_reg}
 use Rattle.rv_text.specs.Body.{label_text}
 use Rattle.asm_table.specs.declared.forms.Form.{Form}
 use Rattle.asm_table.specs.declared.forms.Form.TheVariants as form

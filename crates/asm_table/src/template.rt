@@ -6,7 +6,7 @@ ghost use Rattle.asm_table.specs.Template as spec;
 
 use crate::forms::{Form, is_comparison, is_zero};
 use plain_data::Memory;
-use rtl_read::{print_number, print_reg};
+use rtl_print::{print_number, print_reg};
 use rtx_tree::{Code, Operands, Rtx};
 use run_refusal::{print_count, print_text};
 

@@ -6,5 +6,3 @@ pub mod Depths
 pub mod SaidLaws
 pub mod Patterns
 pub mod Parallels
-pub mod Texts
-pub mod Chains

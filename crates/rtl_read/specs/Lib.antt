@@ -6,5 +6,3 @@ pub mod Locals
 pub mod Function
 pub mod Syntax
 pub mod Adding
-pub mod Print
-pub mod Canonical

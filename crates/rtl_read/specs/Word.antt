@@ -1,10 +1,7 @@
 -- The words of RTL's text: numbers, and the atom at the head of a list. GCC Internals, "Reading RTL" and "Machine Modes".
-use Rattle.std.specs.Prelude.{ℕ, Bool, false, List, [], ◌∷◌, ◌++◌, Option, Some, None, option_and_then}
+use Rattle.std.specs.Prelude.{ℕ, Bool, false, List, [], ◌∷◌, Option, Some, None, option_and_then}
 use Rattle.rtx_tree.specs.declared.code.Code.{Code}
-use Rattle.rtx_tree.specs.declared.code.Mode.{Mode}
-use Rattle.rtx_tree.specs.declared.code.Mode.TheVariants.{Void}
 use Rattle.rtx_tree.specs.declared.tree.Rtx.{Rtx}
-use Rattle.rtx_tree.specs.Code.{code_name, mode_name}
 use Rattle.lisp_read.specs.declared.tree.Tree.{Tree}
 use Rattle.lisp_read.specs.Head.{cut, code_in}
 use Rattle.lisp_read.specs.Leaf.{uid_in}
@@ -49,11 +46,3 @@ if_stands (construct place name) = None
 
 abbrev pub expression_of : Tree → Option Rtx
 expression_of t = if_stands (rtx_in t)
-
--- the atom at the head of an expression as it is printed: the code's name, and behind a colon that of the mode, if there is one
-abbrev pub mode_suffix : Mode → List ℕ
-mode_suffix Void = []
-mode_suffix m = 58 ∷ mode_name m
-
-abbrev pub head_text : Code → Mode → List ℕ
-head_text c m = code_name c ++ mode_suffix m

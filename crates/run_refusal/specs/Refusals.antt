@@ -7,7 +7,7 @@ use Rattle.rtx_tree.specs.declared.stage.Stage.{Stage}
 use Rattle.rtx_tree.specs.declared.tree.Rtx.{Rtx}
 use Rattle.rtx_tree.specs.Limit.{limit_name}
 use Rattle.rtx_tree.specs.Stage.{stage_name}
-use Rattle.rtl_read.specs.Print.{printed}
+use Rattle.rtl_print.specs.Print.{printed}
 use Rattle.run_refusal.specs.declared.refusal.Refusal.{Refusal}
 use Rattle.run_refusal.specs.declared.refusal.Refusal.TheVariants as refusal
 

@@ -3,12 +3,12 @@ ghost use Rattle.std.specs.Prelude.{◌≡◌, ◌++◌, OnOk, IfOk, codes, Matc
 ghost use Rattle.std.specs.Fmt.{decimal};
 ghost use Rattle.rtx_tree.specs.Limit.{limit_name};
 ghost use Rattle.rtx_tree.specs.Stage.{stage_name};
-ghost use Rattle.rtl_read.specs.Print.{printed};
+ghost use Rattle.rtl_print.specs.Print.{printed};
 ghost use Rattle.run_refusal.specs.Refusals as spec;
 
 use crate::print::{print_count, print_text};
 use plain_data::Memory;
-use rtl_read::print_rtx;
+use rtl_print::print_rtx;
 use rtx_tree::{Limit, Name, Place, Rtx, Stage};
 use std::alloc::Global;
 use thiserror::Error;

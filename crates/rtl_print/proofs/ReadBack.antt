@@ -1,0 +1,111 @@
+-- A text that spells the parts of trees is read as these, places aside.
+use Rattle.std.proofs.Common.{◌≡◌, ◌≤◌, ℕ, List, [], ◌∷◌, ◌++◌, length, map, take, drop, Option, Some, None, refl, sym, ap, subst, ◌∙◌}
+use Rattle.std.proofs.lemmas.List.{append-nil, take-append-drop}
+use Rattle.rtx_tree.specs.declared.place.Place.{Place}
+use Rattle.lisp_read.specs.declared.class.Kind.{Kind}
+use Rattle.lisp_read.specs.declared.tree.Tree.{Tree}
+use Rattle.lisp_read.specs.Places.{start, place_after}
+use Rattle.lisp_read.specs.Part.{Part, Atom, Str, Block, Open, Close, parts_of, parts_of_all}
+use Rattle.lisp_read.specs.Nesting.{still_open, IsNested}
+use Rattle.lisp_read.specs.Text as text
+use Rattle.lisp_read.specs.Text.{Spells, IsText}
+use Rattle.lisp_read.specs.Reading.{most_open, NeverTooDeep, ReadsAs, Trees}
+use Rattle.lisp_read.specs.machine.Steps.{State}
+use Rattle.lisp_read.specs.machine.Runs.{empty, run, finish, parts_in, ◌>>=◌, IsShallow, Reaches}
+use Rattle.lisp_read.proofs.Runs.{run-append}
+use Rattle.lisp_read.proofs.Settles.{fr, settled, run_finished}
+use Rattle.lisp_read.proofs.Rests.{Sounds, Rest}
+use Rattle.lisp_read.proofs.Sound.{sound}
+use Rattle.lisp_read.proofs.Accepts.{accepts_text}
+use Rattle.lisp_read.proofs.Builds.{trees_of}
+use Rattle.lisp_read.proofs.Depths.{never_where_read}
+use Rattle.tree_print.specs.Print.{AreAdmitted, unplaced}
+use Rattle.tree_print.proofs.Unplaced.{bare, same_unplaced}
+use Rattle.tree_print.proofs.Peaks.{closings, open_is_closed, Below, below_suffix}
+use Rattle.tree_print.proofs.SpellsPrinted.{SpelledAs, SpellsAs}
+use Rattle.rtl_print.proofs.Peaks.{all_balanced, all_below}
+use Rattle.rtl_print.proofs.Same.{AllSame, same_all}
+use Rattle.rtl_print.proofs.Shallow.{deepest}
+
+-- ---- what is open does not depend on places
+
+still_open_bare : (w : List Kind) (ps : List Part) → still_open w (map bare ps) ≡ still_open w ps
+still_open_bare w [] = refl
+still_open_bare w (Open k p ∷ ps) = still_open_bare (k ∷ w) ps
+still_open_bare [] (Close k ∷ ps) = refl
+still_open_bare (j ∷ w) (Close k ∷ ps) = rw (still_open_bare w ps) refl
+still_open_bare [] (Atom p t ∷ ps) = still_open_bare [] ps
+still_open_bare (k ∷ w) (Atom p t ∷ ps) = still_open_bare (k ∷ w) ps
+still_open_bare [] (Str p t ∷ ps) = still_open_bare [] ps
+still_open_bare (k ∷ w) (Str p t ∷ ps) = still_open_bare (k ∷ w) ps
+still_open_bare [] (Block p t ∷ ps) = still_open_bare [] ps
+still_open_bare (k ∷ w) (Block p t ∷ ps) = still_open_bare (k ∷ w) ps
+
+closings_bare : (ps : List Part) → closings (map bare ps) ≡ closings ps
+closings_bare [] = refl
+closings_bare (Open k p ∷ ps) = rw (closings_bare ps) refl
+closings_bare (Close k ∷ ps) = rw (closings_bare ps) refl
+closings_bare (Atom p t ∷ ps) = closings_bare ps
+closings_bare (Str p t ∷ ps) = closings_bare ps
+closings_bare (Block p t ∷ ps) = closings_bare ps
+
+to_bare : (most : ℕ) (ps : List Part) → Below most ps → Below most (map bare ps)
+to_bare most [] h = tt
+to_bare most (x ∷ ps) h = (subst (λ (n : ℕ). n ≤ most) (sym (closings_bare (x ∷ ps))) h.0, to_bare most ps h.1)
+
+of_bare : (most : ℕ) (ps : List Part) → Below most (map bare ps) → Below most ps
+of_bare most [] h = tt
+of_bare most (x ∷ ps) h = (subst (λ (n : ℕ). n ≤ most) (closings_bare (x ∷ ps)) h.0, of_bare most ps h.1)
+
+-- ---- a text whose parts are never too deep is read
+
+behind : (bytes : List ℕ) (all : List Part) (j : ℕ) (s : State) → parts_in bytes ≡ Some all → Reaches bytes j s →
+    (run (place_after start (take j bytes)) s (drop j bytes) >>= settled) ≡ Some (fr [] all)
+behind bytes all j s h reached =
+    run_finished (run (place_after start (take j bytes)) s (drop j bytes)) all
+    (sym (ap (λ (o : Option State). o >>= finish) (ap (run start empty) (sym (take-append-drop j bytes)) ∙ (run-append start empty (take j bytes) (drop j bytes) ∙ rw reached refl))) ∙ h)
+
+shallow : (bytes : List ℕ) (all : List Part) → parts_in bytes ≡ Some all → Below most_open all → IsShallow bytes (length bytes)
+shallow bytes all h below j s le reached =
+    let rest : Sounds (Rest s.mode) (place_after start (take j bytes)) s.front (fr [] all) (drop j bytes) =
+    sound (drop j bytes) s.mode (place_after start (take j bytes)) s.front (fr [] all) (behind bytes all j s h reached) in
+    subst (λ (n : ℕ). n ≤ most_open) (sym (open_is_closed s.front.within rest.ps rest.nested))
+    (below_suffix most_open s.front.parts rest.ps (subst (Below most_open) rest.whole below))
+
+-- ---- trees
+
+-- a text is read as trees that are these, places aside
+pub record IsRead (bytes : List ℕ) (ts : List Tree) : Type 0 where
+  pub trees : List Tree
+  pub reads : ReadsAs bytes (Trees trees)
+  pub same : AllSame trees ts
+
+pub is_read : (ts : List Tree) (bytes : List ℕ) → AreAdmitted (parts_of_all ts) → deepest ts ≤ most_open → SpellsAs (parts_of_all ts) bytes → IsRead bytes ts
+is_read ts bytes admitted low spells = record {
+  trees = built.0;
+  reads = (is_text, never_where_read bytes (shallow bytes (parts_of_all built.0) (accepts_text built.0 bytes is_text) below));
+  same = same_all built.0 ts (same_unplaced built.0 ts (ap (map bare) built.1 ∙ s.same));
+}
+  where
+    s : SpelledAs start (parts_of_all ts) [] (bytes ++ [])
+    s = spells start [] [] admitted tt (text.Spells.end (place_after start bytes))
+
+    open_again : still_open [] s.parts ≡ Some []
+    open_again =
+        sym (still_open_bare [] s.parts)
+        ∙ (ap (still_open []) s.same
+        ∙ (still_open_bare [] (parts_of_all ts)
+        ∙ (ap (still_open []) (sym (append-nil (parts_of_all ts)))
+        ∙ all_balanced ts [])))
+
+    built : (us : List Tree) × (parts_of_all us ≡ s.parts)
+    built = trees_of s.parts open_again
+
+    is_text : IsText built.0 bytes
+    is_text = record {
+      nested = subst (λ (ps : List Part). still_open [] ps ≡ Some []) (sym built.1) open_again;
+      spelled = subst (λ (ps : List Part). Spells start ps bytes) (append-nil s.parts ∙ sym built.1) (subst (Spells start (s.parts ++ [])) (append-nil bytes) s.spelled);
+    }
+
+    below : Below most_open (parts_of_all built.0)
+    below = subst (Below most_open) (sym built.1) (of_bare most_open s.parts (subst (Below most_open) (sym s.same) (to_bare most_open (parts_of_all ts) (all_below ts most_open low))))

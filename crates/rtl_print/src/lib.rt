@@ -1,0 +1,15 @@
+//! Prints expressions and functions of RTL as text.
+//!
+//! [`print_rtx`] appends an expression on one line (`specs/Print.antt`), [`print_function`] a function as
+//! canonical text (`specs/Canonical.antt`). What can be read of some text is read back from what is printed
+//! of it (`specs/Back.antt`).
+#![tactic(auto)]
+
+mod canonical;
+mod print;
+
+pub use canonical::print_function;
+pub use print::{print_number, print_reg, print_rtx};
+
+#[cfg(test)]
+mod tests;

@@ -12,7 +12,7 @@ named_next es i e names more whole within is made h =
     let rest : List Entry = drop (i + 1) es in
     let longer : take (i + 1) es ≡ front ++ e ∷ [] = take_more es i e within ∙ ap (λ (x : Entry). front ++ x ∷ []) (sym is) in
     let here : names ++ names_behind front (drop i es) ≡ names ++ (name_behind front e ∷ names_behind (front ++ e ∷ []) rest) =
-        at_drop_more (λ (l : List Entry). names ++ names_behind front l) es i e within ∙ ap (λ (x : Entry). names ++ names_behind front (x ∷ rest)) (sym is) in
+    at_drop_more (λ (l : List Entry). names ++ names_behind front l) es i e within ∙ ap (λ (x : Entry). names ++ names_behind front (x ∷ rest)) (sym is) in
     rw made (ap (λ (l : List Entry). (names ++ name_behind front e ∷ []) ++ names_behind l rest) longer
     ∙ append_assoc names (name_behind front e ∷ []) (names_behind (front ++ e ∷ []) rest) ∙ sym here ∙ h)
 

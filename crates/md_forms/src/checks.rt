@@ -11,8 +11,8 @@ use crate::predicates::{all_known, same};
 use crate::tables::{
     AttributeDraft, ConstraintDraft, Tables, attribute_named, is_among, is_constraint,
 };
-use md_draft::{Attribute, Draft, Head};
 use c_cond::Head as CondHead;
+use md_draft::{Attribute, Draft, Head};
 use md_pattern::{Judged, OperandText, Reason};
 use md_text::{Alternative, Member, Template, constraint_of};
 use plain_data::{Items, Memory};

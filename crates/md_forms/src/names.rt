@@ -4,8 +4,8 @@ ghost use Rattle.std.specs.List.{flat_map, list_any};
 ghost use Rattle.rtx_tree.specs.Tree.{head_of};
 ghost use Rattle.md_forms.specs.Names as spec;
 
-use md_draft::Draft;
 use c_cond::Head;
+use md_draft::Draft;
 use md_test::Test;
 use plain_data::{Items, Memory};
 use rtx_tree::{Code, Name, Rtx};

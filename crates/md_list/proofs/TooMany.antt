@@ -10,13 +10,13 @@ use Rattle.md_iter.specs.Expansion.{forms_of, forms_of_tree, forms_with, PassesA
 front_has_fewer : (d : Definitions) (front back : List Tree) → length (forms_with d front) ≤ length (forms_with d (front ++ back))
 front_has_fewer d front back =
     let all : length (forms_with d (front ++ back)) ≡ length (forms_with d front) + length (forms_with d back) =
-        ap (λ (l : List Tree). length l) (flat_map-append (forms_of_tree d) front back) ∙ length-append (forms_with d front) (forms_with d back) in
+    ap (λ (l : List Tree). length l) (flat_map-append (forms_of_tree d) front back) ∙ length-append (forms_with d front) (forms_with d back) in
     omega (arith, all)
 
 pub passes : (trees : List Tree) (at : ℕ) → PassesAt (definitions_in trees) trees at → 20000 < length (forms_of trees)
 passes trees at p =
     let d = definitions_in trees in
     let fewer : length (forms_with d (take (at + 1) trees)) ≤ length (forms_with d trees) =
-        subst (λ (l : List Tree). length (forms_with d (take (at + 1) trees)) ≤ length (forms_with d l)) (take-append-drop (at + 1) trees) (front_has_fewer d (take (at + 1) trees) (drop (at + 1) trees)) in
+    subst (λ (l : List Tree). length (forms_with d (take (at + 1) trees)) ≤ length (forms_with d l)) (take-append-drop (at + 1) trees) (front_has_fewer d (take (at + 1) trees) (drop (at + 1) trees)) in
     let after = p.after in
     omega (arith, fewer, after)

@@ -1,7 +1,8 @@
 //! A description in the style of GCC's, with each head that is taken and each reason for setting a form aside.
 
 /// The text, as in `examples/gcc_style.md`.
-pub const TEXT: &str = r##";; Machine description of a small 64-bit RISC-V core, written as GCC's are.
+pub const TEXT: &str =
+    r##";; Machine description of a small 64-bit RISC-V core, written as GCC's are.
 ;;
 ;; Much of it is outside what this program takes: such forms are set aside, each with the number
 ;; of its reason, and examples/gcc_style.list says what becomes of each.

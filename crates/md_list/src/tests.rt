@@ -1,7 +1,5 @@
 //! Lists of descriptions.
-use crate::gcc_style;
-use crate::lists;
-use crate::{ListRefusal, list};
+use crate::{ListRefusal, gcc_style, list, lists};
 use byte_edge::ByteFiles;
 use md_source::SourceRefusal;
 use plain_data::Memory;
@@ -69,6 +67,9 @@ fn whole_descriptions(rt: HostRuntime) -> Result<(), Fail> {
     let shipped = list(alloc, &mut files, b"rv64im");
     assert_eq!(rt; told(alloc, shipped)?.as_slice(), lists::SHIPPED.as_bytes());
     let gcc_style = list(alloc, &mut files, b"gcc_style");
-    assert_eq!(rt; told(alloc, gcc_style)?.as_slice(), lists::GCC_STYLE.as_bytes());
+    assert_eq!(rt;
+        told(alloc, gcc_style)?.as_slice(),
+        lists::GCC_STYLE.as_bytes()
+    );
     Ok(())
 }

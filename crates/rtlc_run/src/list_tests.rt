@@ -56,7 +56,10 @@ const LISTS: [(&[u8], &[u8]); 5] = [
         b"(define_insn \"a\" [(set (match_operand:DI 0 \"register_operand\" \"=r\") (neg:DI (match_operand:DI 1 \"register_operand\" \"r\")))] \"\" \"* return neg_of (operands);\") (define_insn \"b\" [(set (match_operand:DI 0 \"register_operand\" \"=r\") (neg:DI (match_operand:DI 1 \"register_operand\" \"r\")))] \"\" \"neg\\t%0,%1\") (define_insn \"ret\" [(return)] \"\" \"ret\")",
         b"0 define_insn a aside 5\n1 define_insn b ok\n2 define_insn ret ok\n",
     ),
-    (b"(x) (include \"e\") (x)", b"0 x x@0 aside 1\n1 define_insn i ok\n2 x x@1 aside 1\n"),
+    (
+        b"(x) (include \"e\") (x)",
+        b"0 x x@0 aside 1\n1 define_insn i ok\n2 x x@1 aside 1\n",
+    ),
     (b"", b""),
 ];
 
@@ -81,11 +84,19 @@ fn descriptions_are_listed(rt: HostRuntime) -> Result<(), Fail> {
 /// Descriptions, their includes, and the line of what refuses them.
 const REFUSED: [(&[u8], &[u8], &[u8]); 7] = [
     (b")", b"", b"rtlc: d:1:1: syntax\n"),
-    (b"(include \"e\")\n(include \"f\")", b"\n (a", b"rtlc: e:2:4: syntax\n"),
+    (
+        b"(include \"e\")\n(include \"f\")",
+        b"\n (a",
+        b"rtlc: e:2:4: syntax\n",
+    ),
     (b"(include \"e\") (", b"(", b"rtlc: d:1:16: syntax\n"),
     (b"(include \"f\")", b"", b"rtlc: read fault\n"),
     (b"(include \"d\")", b"", b"rtlc: limit Include: 17\n"),
-    (b"(include \"e\")", b"(include \"d\")", b"rtlc: limit Include: 17\n"),
+    (
+        b"(include \"e\")",
+        b"(include \"d\")",
+        b"rtlc: limit Include: 17\n",
+    ),
     (
         b"((((((((((((((((((((((((((((((((((((((((((((((((((((((((((((((((((((((((((((((((((((((((((((((((((((((((((((((((((((((((((((((((((((((((((((((((((((((((((((((((((((((((((((((((((((((((((((((((((((((((((((((((((",
         b"",
@@ -98,7 +109,14 @@ fn descriptions_are_refused(rt: HostRuntime) -> Result<(), Fail> {
     for (text, included, line) in REFUSED {
         let ran = ran(rt.alloc(), &["list", "--md", "d"], text, included, &[])?;
         assert_eq!(rt; ran.errors.taken(), line);
-        assert_eq!(rt; ran.status, if line == b"rtlc: read fault\n".as_slice() { 6 } else { 2 });
+        assert_eq!(rt;
+            ran.status,
+            if line == b"rtlc: read fault\n".as_slice() {
+                6
+            } else {
+                2
+            }
+        );
         assert!(rt; ran.output.taken().is_empty());
     }
     Ok(())
@@ -123,7 +141,10 @@ const UNKNOWN: [&[&str]; 11] = [
 fn words_are_no_command(rt: HostRuntime) -> Result<(), Fail> {
     for words in UNKNOWN {
         let ran = ran(rt.alloc(), words, b"", b"", &[1])?;
-        assert_eq!(rt; ran.errors.taken(), b"rtlc: the words are not a command\n".as_slice());
+        assert_eq!(rt;
+            ran.errors.taken(),
+            b"rtlc: the words are not a command\n".as_slice()
+        );
         assert_eq!(rt; ran.status, 1);
     }
     Ok(())
@@ -157,7 +178,10 @@ fn a_description_has_so_many_forms(rt: HostRuntime) -> Result<(), Fail> {
     assert_eq!(rt; listed.status, 0);
     let more = forms(rt.alloc(), 20_001)?;
     let refused = ran(rt.alloc(), &["list", "--md", "d"], &more, b"", &[])?;
-    assert_eq!(rt; refused.errors.taken(), b"rtlc: limit Forms: 20001\n".as_slice());
+    assert_eq!(rt;
+        refused.errors.taken(),
+        b"rtlc: limit Forms: 20001\n".as_slice()
+    );
     assert_eq!(rt; refused.status, 2);
     Ok(())
 }

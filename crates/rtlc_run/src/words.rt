@@ -26,9 +26,7 @@ pub enum Command {
     /// The assembly of the functions of the input.
     Asm,
     /// The list of the forms of a description.
-    List {
-        description: Name,
-    },
+    List { description: Name },
 }
 
 /// Whether a word has two or more bytes, of which the first is a minus.
@@ -57,10 +55,12 @@ fn described(
     ensures { IfOk result (λ all. all ≡ spec.described name.now arguments) }
 {
     match arguments {
-        Some(Arguments {
-            description: None,
-            positional,
-        }) => Ok(Some(Arguments {
+        Some(
+            Arguments {
+                description: None,
+                positional,
+            },
+        ) => Ok(Some(Arguments {
             description: Some(Name::of(alloc, name)?),
             positional,
         })),
@@ -77,10 +77,12 @@ fn positioned(
     ensures { IfOk result (λ all. all ≡ spec.positioned word.now arguments) }
 {
     match arguments {
-        Some(Arguments {
-            description,
-            positional,
-        }) => {
+        Some(
+            Arguments {
+                description,
+                positional,
+            },
+        ) => {
             let mut words = positional.into_vec();
             words.insert(0, Name::of(alloc, word)?)?;
             Ok(Some(Arguments {

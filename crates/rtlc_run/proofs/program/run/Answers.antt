@@ -44,11 +44,11 @@ returns-in-Ok-clause-lists g c = λ known agrees name is zero.
 
 pub returns-in-Err-clause-told : goal.returns-in-Err-clause-told
 returns-in-Err-clause-told g c = λ failed calm known agrees. (
-      c.report.ensures.told,
-      sym c.report.ensures.status_is,
-      told_cause (words_of c.args.words.now) known (g.S.Source.left c.args.input.now) c.in-Err.refusal c.report.ensures.told c.report.ensures.which (c.in-Err.ensures.cause known agrees),
-      c.report.ensures.line calm,
-    )
+  c.report.ensures.told,
+  sym c.report.ensures.status_is,
+  told_cause (words_of c.args.words.now) known (g.S.Source.left c.args.input.now) c.in-Err.refusal c.report.ensures.told c.report.ensures.which (c.in-Err.ensures.cause known agrees),
+  c.report.ensures.line calm,
+)
 
 pub returns-in-Err-clause-complete : goal.returns-in-Err-clause-complete
 returns-in-Err-clause-complete g c = λ is calm_files calm_in calm_out.

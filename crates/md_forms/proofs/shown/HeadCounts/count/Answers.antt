@@ -8,7 +8,7 @@ pub overflow_add-number : goal.overflow_add-number
 overflow_add-number c =
     let is : c.place_of-at.result ≡ place c.args.head.now c.args.self.now.heads = c.place_of-at.ensures ∙ ap (place c.args.head.now) c.as_slice.ensures.value in
     let e : c.item-number.result.now ≡ count_in c.args.self.now c.args.head.now =
-        beside c.args.self.now c.args.head.now c.place_of-at.result c.item-number.result.now c.requires.even is (omega arith) c.item-number.ensures in
+    beside c.args.self.now c.args.head.now c.place_of-at.result c.item-number.result.now c.requires.even is (omega arith) c.item-number.ensures in
     omega (arith, e, c.requires.few)
 
 pub returns-then-at-len-clause-number : goal.returns-then-at-len-clause-number

@@ -1,7 +1,7 @@
 //! Values at the edges of the widths, by the RISC-V manual, and steps of every kind.
 ghost use Rattle.std.specs.Prelude.{◌≡◌, IfOk, length};
 
-use crate::{Known, Regs, State, step_insn, value, width_of};
+use crate::{Known, Regs, State, StepEnd, step_insn, value, width_of};
 use bits64::Width;
 use plain_data::{Items, Memory};
 use rtx_tree::{
@@ -170,42 +170,43 @@ fn world(alloc: Global) -> Result<World, Memory> {
     Ok(World { symbols, replies })
 }
 
+fn shown(alloc: Global, end: StepEnd, state: &State) -> Result<String, Memory> {
+    let next = state.next;
+    let a0 = state.regs.value(10, Width::W64);
+    let a1 = state.regs.value(11, Width::W64);
+    let a2 = state.regs.value(12, Width::W64);
+    let shown = format!(in alloc; "{end:?} {next} {a0:?} {a1:?} {a2:?}")?;
+    Ok(shown)
+}
+
 /// How one step of an instruction ends, what is next, and what a0, a1 and a2 are then.
 fn stepped(alloc: Global, kind: Kind, pattern: &str) -> Result<String, Memory> {
     let f = function(alloc, kind, pattern)?;
+    let world = world(alloc)?;
     let mut state = state(alloc)?;
-    let end = step_insn(alloc, &f, &mut state, &world(alloc)?)?;
-    let next = state.next;
-    let mut out = format!(in alloc; "{end:?} {next}")?;
-    for reg in 10..13 {
-        let shown = match state.regs.value(reg, Width::W64) {
-            Some(value) => format!(in alloc; " {value}")?,
-            None => format!(in alloc; " -")?,
-        };
-        out.push_str(shown.as_str())?;
-    }
-    Ok(out)
+    let end = step_insn(alloc, &f, &mut state, &world)?;
+    shown(alloc, end, &state)
 }
 
 /// Steps: all values are read before any effect; accesses; jumps; calls.
 const PLAIN: &str = "\
-parallel/2 set/2 11:DI 12:DI set/2 12:DI 11:DI => Next 3 - 4 3\n\
-clobber/1 11:DI => Next 3 - - 4\n\
-set/2 mem:SI/1 8 11:SI => Next 3 - 3 4\n\
+parallel/2 set/2 11:DI 12:DI set/2 12:DI 11:DI => Next 3 None Some(4) Some(3)\n\
+clobber/1 11:DI => Next 3 None None Some(4)\n\
+set/2 mem:SI/1 8 11:SI => Next 3 None Some(3) Some(4)\n\
 set/2 mem:SI/1 10 11:SI => Undefined\n\
 set/2 mem:SI/1 12 11:SI => Undefined\n";
 
 const JUMPS: &str = "\
-set/2 pc if_then_else/3 eq/2 11:DI 3 label_ref/1 9 pc => Jumped 0 - 3 4\n\
-set/2 pc if_then_else/3 ne/2 11:DI 3 label_ref/1 9 pc => Next 3 - 3 4\n\
-set/2 pc if_then_else/3 gt/2 11:DI 3 label_ref/1 9 pc => Next 3 - 3 4\n\
-set/2 pc if_then_else/3 le/2 11:DI 3 label_ref/1 9 pc => Jumped 0 - 3 4\n\
+set/2 pc if_then_else/3 eq/2 11:DI 3 label_ref/1 9 pc => Jumped 0 None Some(3) Some(4)\n\
+set/2 pc if_then_else/3 ne/2 11:DI 3 label_ref/1 9 pc => Next 3 None Some(3) Some(4)\n\
+set/2 pc if_then_else/3 gt/2 11:DI 3 label_ref/1 9 pc => Next 3 None Some(3) Some(4)\n\
+set/2 pc if_then_else/3 le/2 11:DI 3 label_ref/1 9 pc => Jumped 0 None Some(3) Some(4)\n\
 return => Undefined\n";
 
 const CALLS: &str = "\
-call/2 mem:SI/1 4096 0 => Called 3 7 - -\n\
+call/2 mem:SI/1 4096 0 => Called 3 Some(7) None None\n\
 call/2 mem:SI/1 4098 0 => Undefined\n\
-call/2 mem:SI/1 0 0 => Called 3 7 - -\n";
+call/2 mem:SI/1 0 0 => Called 3 Some(7) None None\n";
 
 #[test]
 fn steps_of_each_kind(rt: HostRuntime) -> Result<(), Fail> {

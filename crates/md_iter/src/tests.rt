@@ -1,7 +1,7 @@
 // What descriptions are expanded to, as text.
 use super::*;
-use lisp_read::{Tree, read_trees};
-use plain_data::Memory;
+use lisp_read::{Tree, Trees, read_trees};
+use plain_data::{Items, Memory};
 use std::alloc::Global;
 use std::test::Fail;
 
@@ -49,36 +49,45 @@ fn print_tree(tree: &Tree, out: &mut Vec<u8>) -> Result<(), Memory> {
     }
 }
 
-/// What a description in two parts comes to: its forms, and its constants behind them.
-fn told(alloc: Global, front: &str, text: &str) -> Result<Vec<u8>, Fail> {
-    let mut whole = Vec::from_slice(alloc, front.as_bytes())?;
-    whole.extend_from_slice(text.as_bytes())?;
+/// The forms, and the constants behind them; of more than 20 forms only how many there are.
+fn shown(alloc: Global, expanded: &Expanded) -> Result<Vec<u8>, Memory> {
     let mut out = Vec::new(alloc);
-    if whole.len() > 100_000 {
+    if expanded.forms.len() > 20 {
+        let shown = format!(in alloc; "{} forms", expanded.forms.len())?;
+        out.extend_from_slice(shown.as_bytes())?;
         return Ok(out);
     }
-    let trees = read_trees(alloc, whole.as_slice())?;
-    match expand_forms(alloc, trees.as_slice()) {
-        Ok(expanded) if expanded.forms.len() > 20 => {
-            let shown = format!(in alloc; "{} forms", expanded.forms.len())?;
-            out.extend_from_slice(shown.as_bytes())?;
-        }
-        Ok(expanded) => {
-            print_trees(expanded.forms.as_slice(), &mut out)?;
-            for constant in expanded.constants.as_slice() {
-                out.extend_from_slice(b" ")?;
-                out.extend_from_slice(constant.name.bytes())?;
-                let shown = format!(in alloc; "={}", constant.number)?;
-                out.extend_from_slice(shown.as_bytes())?;
-            }
-        }
-        Err(IterRefusal::Limit { form }) => {
-            let shown = format!(in alloc; "limit at {form}")?;
-            out.extend_from_slice(shown.as_bytes())?;
-        }
-        Err(IterRefusal::Memory) => out.extend_from_slice(b"out of memory")?,
+    print_trees(expanded.forms.as_slice(), &mut out)?;
+    for constant in expanded.constants.as_slice() {
+        let number = format!(in alloc; "={}", constant.number)?;
+        out.extend_from_slice(b" ")?;
+        out.extend_from_slice(constant.name.bytes())?;
+        out.extend_from_slice(number.as_bytes())?;
     }
     Ok(out)
+}
+
+/// The trees of a text in two parts.
+fn trees_of(alloc: Global, front: &str, text: &str) -> Result<Trees, Fail> {
+    let mut whole = Vec::from_slice(alloc, front.as_bytes())?;
+    whole.extend_from_slice(text.as_bytes())?;
+    if whole.len() > 100_000 {
+        return Ok(Items::new(alloc));
+    }
+    Ok(read_trees(alloc, whole.as_slice())?)
+}
+
+/// What a description in two parts comes to.
+fn told(alloc: Global, front: &str, text: &str) -> Result<Vec<u8>, Fail> {
+    let trees = trees_of(alloc, front, text)?;
+    match expand_forms(alloc, trees.as_slice()) {
+        Ok(expanded) => Ok(shown(alloc, &expanded)?),
+        Err(IterRefusal::Limit { form }) => {
+            let told = format!(in alloc; "limit at {form}")?;
+            Ok(Vec::from_slice(alloc, told.as_bytes())?)
+        }
+        Err(IterRefusal::Memory) => Ok(Vec::new(alloc)),
+    }
 }
 
 /// Descriptions, and what they come to; alone where it is the same.

@@ -309,6 +309,3 @@ pub fn ltu(a: u64, b: u64, w: Width) -> bool
 {
     trunc(a, w) < trunc(b, w)
 }
-
-#[cfg(test)]
-mod tests;

@@ -36,6 +36,3 @@ pub use quiet_files::QuietFiles;
 pub use sink::{Sink, write_all_of};
 pub use source::{Failed, ReadAll, Source, read_all};
 pub use streams::{StdSink, StdSource};
-
-#[cfg(test)]
-mod tests;

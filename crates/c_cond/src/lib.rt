@@ -20,6 +20,3 @@ mod tree;
 pub use c_words::{Binary, Call, Head, Unary};
 pub use parse::{Cond, CondRefusal, Prep, parse_cond, parse_prep, parse_test};
 pub use tree::Tree;
-
-#[cfg(test)]
-mod tests;

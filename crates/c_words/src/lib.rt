@@ -21,6 +21,3 @@ pub use known::known_words;
 pub use lexer::{Lexer, Pending, in_word, token_of_run, tokens_in};
 pub use token::{Token, operator_of_two, token_of_byte};
 pub use word::{code_named, mode_named};
-
-#[cfg(test)]
-mod tests;

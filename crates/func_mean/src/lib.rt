@@ -9,6 +9,3 @@ mod run;
 
 pub use outcome::{Kept, Outcome};
 pub use run::run_function;
-
-#[cfg(test)]
-mod tests;

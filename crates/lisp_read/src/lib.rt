@@ -34,8 +34,3 @@ pub use read::{ReadRefusal, read_trees};
 pub use refusal::RtlRefusal;
 pub use shape::{atom, is_nested, is_vector, is_word, items, outside, string, vector};
 pub use tree::{Tree, Trees};
-
-#[cfg(test)]
-mod rtx_tests;
-#[cfg(test)]
-mod tests;

@@ -19,6 +19,3 @@ pub use forms::forms_of;
 pub use md_draft::{Attribute, Head, RegisterClass};
 pub use md_pattern::{Judged, Reason};
 pub use shown::names_of;
-
-#[cfg(test)]
-mod tests;

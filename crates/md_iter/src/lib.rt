@@ -21,6 +21,3 @@ mod substitution;
 
 pub use expand::{Expanded, expand_forms};
 pub use refusal::IterRefusal;
-
-#[cfg(test)]
-mod tests;

@@ -11,10 +11,3 @@ mod refusal;
 
 pub use listing::list;
 pub use refusal::ListRefusal;
-
-#[cfg(test)]
-mod gcc_style;
-#[cfg(test)]
-mod lists;
-#[cfg(test)]
-mod tests;

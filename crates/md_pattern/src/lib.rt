@@ -15,6 +15,3 @@ mod word;
 pub use operand::{OperandText, OperandTexts, number_in};
 pub use pattern::{Pattern, Patterns, pattern_of, patterns_of};
 pub use reason::{Judged, Reason, both};
-
-#[cfg(test)]
-mod tests;

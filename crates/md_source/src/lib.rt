@@ -16,6 +16,3 @@ mod trees;
 
 pub use refusal::SourceRefusal;
 pub use trees::gather;
-
-#[cfg(test)]
-mod tests;

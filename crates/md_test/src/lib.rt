@@ -12,6 +12,3 @@ mod texts;
 pub use question::{Codes, Question, Test, Tests};
 pub use test::test_of;
 pub use texts::{condition, no_condition, no_statements, statements};
-
-#[cfg(test)]
-mod tests;

@@ -17,6 +17,3 @@ mod template;
 pub use constraint::{Alternative, Constraint, Direction, Letter, Member, constraint_of};
 pub use lists::{members_of, parts_of, trimmed};
 pub use template::{Line, Piece, Print, Reading, Template, template_of};
-
-#[cfg(test)]
-mod tests;

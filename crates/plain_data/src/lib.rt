@@ -8,6 +8,3 @@ mod memory;
 
 pub use items::Items;
 pub use memory::Memory;
-
-#[cfg(test)]
-mod tests;

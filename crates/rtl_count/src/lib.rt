@@ -6,6 +6,3 @@
 mod counts;
 
 pub use counts::{greatest_uid, instruction_count, next_pseudo};
-
-#[cfg(test)]
-mod tests;

@@ -28,6 +28,3 @@ pub use check_rules::{CheckRefusal, check};
 pub use edges::successors;
 pub use flow::Successors;
 pub use paths::reaches_exit;
-
-#[cfg(test)]
-mod tests;

@@ -10,6 +10,3 @@ mod print;
 
 pub use canonical::print_function;
 pub use print::{print_number, print_reg, print_rtx};
-
-#[cfg(test)]
-mod tests;

@@ -15,6 +15,3 @@ mod word;
 
 pub use function::functions_of;
 pub use lisp_read::RtlRefusal;
-
-#[cfg(test)]
-mod tests;

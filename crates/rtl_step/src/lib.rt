@@ -16,6 +16,3 @@ pub use call::{ArgValue, ArgValues, CallEvent, Calls};
 pub use expression::{value, width_of};
 pub use regs::{Known, Regs};
 pub use step::{State, StepEnd, result_of, step_insn};
-
-#[cfg(test)]
-mod tests;

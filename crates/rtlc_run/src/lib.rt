@@ -12,12 +12,3 @@ mod words;
 
 pub use program::{out_of_memory, run};
 pub use run_refusal::Refusal;
-
-#[cfg(test)]
-mod jump_tests;
-#[cfg(test)]
-mod list_tests;
-#[cfg(test)]
-mod tests;
-#[cfg(test)]
-mod whole_tests;

@@ -40,6 +40,3 @@ pub use registers::{
 };
 pub use stage::Stage;
 pub use tree::{Kids, Path, Rtx, same};
-
-#[cfg(test)]
-mod tests;

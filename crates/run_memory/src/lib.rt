@@ -107,6 +107,3 @@ pub fn visible_part(alloc: Global, memory: &Memories, ranges: &Ranges) -> Result
     }
     Ok(Memories::from_items(part))
 }
-
-#[cfg(test)]
-mod tests;

@@ -16,6 +16,3 @@ pub use outcome::{CodeCall, CodeCalls, CodeOutcome, Saved};
 pub use run::run_lines;
 pub use state::{LineEnd, RvState};
 pub use step::step_line;
-
-#[cfg(test)]
-mod tests;

@@ -9,6 +9,3 @@ mod registers;
 
 pub use description::{RV64IM, shipped};
 pub use registers::{name_of, reg_named};
-
-#[cfg(test)]
-mod tests;

@@ -21,6 +21,3 @@ pub use operand::Operand;
 pub use parse::parse_line;
 pub use print::print_line;
 pub use table::{Row, row_named};
-
-#[cfg(test)]
-mod tests;

@@ -7,6 +7,3 @@
 mod words;
 
 pub use words::{is_symbol, is_symbol_byte, number_in};
-
-#[cfg(test)]
-mod tests;

@@ -7,6 +7,3 @@
 mod print;
 
 pub use print::print_tree;
-
-#[cfg(test)]
-mod tests;

@@ -1,0 +1,19 @@
+//! Tests of descriptions: their files, the parts of forms, the forms, and their list.
+//!
+//! They stand in a crate of their own, since a crate with tests is proved twice.
+#![tactic(auto)]
+
+#[cfg(test)]
+mod gcc_style;
+#[cfg(test)]
+mod lists;
+#[cfg(test)]
+mod md_forms_tests;
+#[cfg(test)]
+mod md_list_tests;
+#[cfg(test)]
+mod md_pattern_tests;
+#[cfg(test)]
+mod md_source_tests;
+#[cfg(test)]
+mod md_test_tests;

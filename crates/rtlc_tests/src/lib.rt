@@ -1,0 +1,13 @@
+//! Tests of the whole program as one call, over objects in memory.
+//!
+//! They stand in a crate of their own, since a crate with tests is proved twice.
+#![tactic(auto)]
+
+#[cfg(test)]
+mod asm_tests;
+#[cfg(test)]
+mod jump_tests;
+#[cfg(test)]
+mod list_tests;
+#[cfg(test)]
+mod whole_tests;

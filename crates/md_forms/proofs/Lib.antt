@@ -1,6 +1,7 @@
 pub mod Lists
 pub mod NameLaws
 pub mod Rounds
-pub mod CountTable
+pub mod TextKeys
+pub mod FirstNames
 pub mod CountLaws
 pub mod ShownNames

@@ -3,4 +3,5 @@ pub mod Predicates
 pub mod Tables
 pub mod Checks
 pub mod Forms
+pub mod Places
 pub mod Counts

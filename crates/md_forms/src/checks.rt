@@ -5,12 +5,11 @@ ghost use Rattle.md_text.specs.Lists as lists;
 ghost use Rattle.md_forms.specs.Checks as spec;
 ghost use Rattle.md_forms.specs.Names as names;
 
+use crate::definitions::Definitions;
 use crate::form::{Form, OperandConstraint};
 use crate::names::{assigns, predicates_named, push_all_dups, push_all_operands};
 use crate::predicates::{all_known, same};
-use crate::tables::{
-    AttributeDraft, ConstraintDraft, Tables, attribute_named, is_among, is_constraint,
-};
+use crate::tables::{AttributeDraft, ConstraintDraft, Tables, is_among, is_constraint};
 use c_cond::Head as CondHead;
 use md_draft::{Attribute, Draft, Head};
 use md_pattern::{Judged, OperandText, Reason};
@@ -39,7 +38,7 @@ fn predicates_known(alloc: Global, tables: &Tables, draft: &Draft) -> Result<boo
 {
     let names = predicates_named(alloc, draft)?;
     Ok(all_known(
-        tables.predicates.as_slice(),
+        &tables.predicates,
         tables.accepted.as_slice(),
         names.as_slice(),
     ))
@@ -190,7 +189,7 @@ fn constraints_in(
     }
 }
 
-fn member_stands(numbers: &[u64], known: &[ConstraintDraft], member: &Member) -> bool
+fn member_stands(numbers: &[u64], known: &Definitions<ConstraintDraft>, member: &Member) -> bool
     ensures { result ≡ spec.member_stands numbers.now known.now member.now }
 {
     match member {
@@ -200,7 +199,11 @@ fn member_stands(numbers: &[u64], known: &[ConstraintDraft], member: &Member) ->
     }
 }
 
-fn alternative_stands(numbers: &[u64], known: &[ConstraintDraft], alternative: &Alternative) -> bool
+fn alternative_stands(
+    numbers: &[u64],
+    known: &Definitions<ConstraintDraft>,
+    alternative: &Alternative,
+) -> bool
     ensures { result ≡ spec.alternative_stands numbers.now known.now alternative.now }
 {
     alternative
@@ -212,7 +215,7 @@ fn alternative_stands(numbers: &[u64], known: &[ConstraintDraft], alternative: &
 
 fn constraint_stands(
     numbers: &[u64],
-    known: &[ConstraintDraft],
+    known: &Definitions<ConstraintDraft>,
     constraint: &OperandConstraint,
 ) -> bool
     ensures { result ≡ spec.constraint_stands numbers.now known.now constraint.now }
@@ -250,7 +253,11 @@ fn all_have_length(count: usize, constraints: &[OperandConstraint]) -> bool
         .all(|constraint| has_length(count, constraint))
 }
 
-fn all_stand(numbers: &[u64], known: &[ConstraintDraft], constraints: &[OperandConstraint]) -> bool
+fn all_stand(
+    numbers: &[u64],
+    known: &Definitions<ConstraintDraft>,
+    constraints: &[OperandConstraint],
+) -> bool
     ensures { result ≡ list_all (spec.constraint_stands numbers.now known.now) constraints.now }
 {
     constraints
@@ -261,7 +268,7 @@ fn all_stand(numbers: &[u64], known: &[ConstraintDraft], constraints: &[OperandC
 #[tactic(auto, unfolding(crate::specs::Checks::constraints_stand))]
 fn constraints_stand(
     numbers: &[u64],
-    known: &[ConstraintDraft],
+    known: &Definitions<ConstraintDraft>,
     constraints: &[OperandConstraint],
 ) -> bool
     ensures { result ≡ spec.constraints_stand numbers.now known.now constraints.now }
@@ -292,10 +299,14 @@ fn counts(count: usize, alternatives: usize) -> bool
     count == 1 || count == alternatives
 }
 
-fn attribute_stands(known: &[AttributeDraft], alternatives: usize, given: &Attribute) -> bool
+fn attribute_stands(
+    known: &Definitions<AttributeDraft>,
+    alternatives: usize,
+    given: &Attribute,
+) -> bool
     ensures { result ≡ spec.attribute_stands known.now alternatives given.now }
 {
-    match attribute_named(known, given.name.bytes()) {
+    match known.first(given.name.bytes()) {
         Some(attribute) => {
             attribute.accepted
                 && all_values(attribute, given.values.as_slice())
@@ -306,7 +317,7 @@ fn attribute_stands(known: &[AttributeDraft], alternatives: usize, given: &Attri
 }
 
 fn all_attributes_stand(
-    known: &[AttributeDraft],
+    known: &Definitions<AttributeDraft>,
     alternatives: usize,
     attributes: &[Attribute],
 ) -> bool
@@ -330,7 +341,7 @@ fn default_stands(draft: &Draft) -> bool
 }
 
 #[tactic(auto, unfolding(crate::specs::Checks::attributes_stand))]
-fn attributes_stand(known: &[AttributeDraft], draft: &Draft, alternatives: usize) -> bool
+fn attributes_stand(known: &Definitions<AttributeDraft>, draft: &Draft, alternatives: usize) -> bool
     ensures { result ≡ spec.attributes_stand known.now draft.now alternatives }
 {
     default_stands(draft) && all_attributes_stand(known, alternatives, draft.attributes.as_slice())
@@ -429,13 +440,13 @@ fn with_constraints(
     let numbers = numbers_of(alloc, &draft)?;
     if !constraints_stand(
         numbers.matched.as_slice(),
-        tables.constraints.as_slice(),
+        &tables.constraints,
         constraints.as_slice(),
     ) {
         return Ok(Err(Reason::Constraint));
     }
     let count = alternatives(constraints.as_slice());
-    if !attributes_stand(tables.attributes.as_slice(), &draft, count) {
+    if !attributes_stand(&tables.attributes, &draft, count) {
         return Ok(Err(Reason::Attribute));
     }
     if !operands_stand(alloc, &draft, &numbers, count)? {

@@ -7,9 +7,11 @@
 #![tactic(auto)]
 
 mod checks;
+mod definitions;
 mod form;
 mod forms;
 mod names;
+mod places;
 mod predicates;
 mod shown;
 mod tables;

@@ -1,9 +1,10 @@
 //! Which predicates of a description hold.
-ghost use Rattle.std.specs.Prelude.{◌≡◌, ◌↔◌, IfOk, IsTrue, map, position};
+ghost use Rattle.std.specs.Prelude.{◌≡◌, ◌↔◌, IfOk, IsTrue, map};
 ghost use Rattle.std.specs.List.{list_all};
 ghost use Rattle.std.specs.Str.{bytes_eq};
 ghost use Rattle.md_forms.specs.Predicates as spec;
 
+use crate::definitions::Definitions;
 use crate::tables::PredicateDraft;
 use plain_data::{Items, Memory};
 use rtx_tree::Name;
@@ -34,17 +35,10 @@ fn is_own(name: &[u8]) -> bool
         || same(name, b"frame_operand")
 }
 
-/// Where the first definition of a name stands.
-fn place_of(predicates: &[PredicateDraft], name: &[u8]) -> Option<usize>
-    ensures { result ≡ position (λ d. bytes_eq d.name name.now) predicates.now }
-{
-    predicates.iter().position(|d| same(d.name.bytes(), name))
-}
-
-fn is_accepted(predicates: &[PredicateDraft], accepted: &[bool], name: &[u8]) -> bool
+fn is_accepted(predicates: &Definitions<PredicateDraft>, accepted: &[bool], name: &[u8]) -> bool
     ensures { result ≡ spec.is_accepted predicates.now accepted.now name.now }
 {
-    match place_of(predicates, name) {
+    match predicates.place_of(name) {
         Some(at) => match accepted.get(at) {
             Some(accepted) => *accepted,
             None => false,
@@ -54,14 +48,18 @@ fn is_accepted(predicates: &[PredicateDraft], accepted: &[bool], name: &[u8]) ->
 }
 
 /// Whether a predicate has no definition, or an accepted one.
-pub fn is_known(predicates: &[PredicateDraft], accepted: &[bool], name: &[u8]) -> bool
+pub fn is_known(predicates: &Definitions<PredicateDraft>, accepted: &[bool], name: &[u8]) -> bool
     ensures { result ≡ spec.is_known predicates.now accepted.now name.now }
 {
     is_own(name) || is_accepted(predicates, accepted, name)
 }
 
 /// Whether all of some predicates are known.
-pub fn all_known(predicates: &[PredicateDraft], accepted: &[bool], names: &[Name]) -> bool
+pub fn all_known(
+    predicates: &Definitions<PredicateDraft>,
+    accepted: &[bool],
+    names: &[Name],
+) -> bool
     ensures { result ≡ list_all (spec.is_known predicates.now accepted.now) names.now }
 {
     names
@@ -70,7 +68,7 @@ pub fn all_known(predicates: &[PredicateDraft], accepted: &[bool], names: &[Name
 }
 
 /// Whether a definition's own parts are in order, and it names known predicates alone.
-fn is_sound(predicates: &[PredicateDraft], accepted: &[bool], d: &PredicateDraft) -> bool
+fn is_sound(predicates: &Definitions<PredicateDraft>, accepted: &[bool], d: &PredicateDraft) -> bool
     ensures { result ≡ spec.is_sound predicates.now accepted.now d.now }
 {
     d.whole && all_known(predicates, accepted, d.uses.as_slice())
@@ -89,13 +87,13 @@ fn none_accepted(alloc: Global, predicates: &[PredicateDraft]) -> Result<Items<b
 /// One round more.
 fn round(
     alloc: Global,
-    predicates: &[PredicateDraft],
+    predicates: &Definitions<PredicateDraft>,
     accepted: &[bool],
 ) -> Result<Items<bool>, Memory>
     ensures { IfOk result (λ next. next ≡ map (spec.is_sound predicates.now accepted.now) predicates.now) }
 {
     let mut next = Items::new(alloc);
-    for d in predicates {
+    for d in predicates.as_slice() {
         next.push(is_sound(predicates, accepted, d))?;
     }
     Ok(next)
@@ -111,12 +109,12 @@ fn is_last(next: &[bool], accepted: &[bool]) -> bool
 /// Which definitions are accepted within so many rounds. A round that changes nothing is the last that is made.
 pub fn accepted_within(
     alloc: Global,
-    predicates: &[PredicateDraft],
+    predicates: &Definitions<PredicateDraft>,
     rounds: usize,
 ) -> Result<Items<bool>, Memory>
     ensures { IfOk result (λ accepted. accepted ≡ spec.accepted_within rounds predicates.now) }
 {
-    let mut accepted = none_accepted(alloc, predicates)?;
+    let mut accepted = none_accepted(alloc, predicates.as_slice())?;
     for _done in 0..rounds {
         let next = round(alloc, predicates, accepted.as_slice())?;
         if is_last(next.as_slice(), accepted.as_slice()) {

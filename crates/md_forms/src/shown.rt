@@ -1,12 +1,10 @@
 //! The names under which the forms of a description are shown.
-ghost use Rattle.std.specs.Prelude.{◌≡◌, ◌<◌, [], IfOk, OnOk, length};
-ghost use Rattle.std.specs.List.{position_or_len};
-ghost use Rattle.std.specs.Str.{bytes_eq};
+ghost use Rattle.std.specs.Prelude.{◌≡◌, ◌<◌, List, ℕ, IfOk, OnOk, length};
 ghost use Rattle.md_forms.specs.Counts.{count_in, CountsOneMore};
 ghost use Rattle.md_forms.specs.Forms as spec;
 
 use crate::form::Entry;
-use crate::predicates::same;
+use indexmap::IndexMap;
 use itoa::Buffer;
 use plain_data::{Items, Memory};
 use rtx_tree::Name;
@@ -15,50 +13,28 @@ use std::alloc::Global;
 /// How many forms of each head were met.
 #[derive(Drop)]
 pub struct HeadCounts {
-    pub heads: Items<Name>,
-    /// The number of forms of the head at the same place.
-    pub counts: Items<usize>,
-}
-
-/// Where a head stands, or how many there are.
-fn place_of(heads: &[Name], head: &[u8]) -> usize
-    ensures { result ≡ position_or_len (λ h. bytes_eq h head.now) heads.now }
-{
-    for at in 0..heads.len() {
-        if same(heads[at].bytes(), head) {
-            return at;
-        }
-    }
-    heads.len()
+    by_head: IndexMap<Vec<u8>, usize>,
 }
 
 impl HeadCounts {
     fn new(alloc: Global) -> HeadCounts
-        ensures heads { result.heads ≡ [] }
-        ensures counts { result.counts ≡ [] }
+        ensures { (head : List ℕ) → count_in result head ≡ 0 }
     {
         HeadCounts {
-            heads: Items::new(alloc),
-            counts: Items::new(alloc),
+            by_head: IndexMap::new(alloc),
         }
     }
 
     /// Counts a form, and gives the number of those of its head that were counted before.
     fn count(&mut self, alloc: Global, head: &[u8]) -> Result<usize, Memory>
-        requires even { length self.old.heads ≡ length self.old.counts }
-        requires few { count_in self.old head.now < 18446744073709551615 }
+        requires { count_in self.old head.now < 18446744073709551615 }
         ensures number { IfOk result (λ number. number ≡ count_in self.old head.now) }
         ensures more { OnOk result (CountsOneMore self.old self.new head.now) }
     {
-        let at = place_of(self.heads.as_slice(), head);
-        if at < self.heads.len() {
-            let number = *self.counts.item(at);
-            self.counts.replace(at, number + 1);
-            return Ok(number);
-        }
-        self.heads.push(Name::of(alloc, head)?)?;
-        self.counts.push(1)?;
-        Ok(0)
+        let number = self.by_head.get(head).copied().unwrap_or(0);
+        self.by_head
+            .insert(Vec::from_slice(alloc, head)?, number + 1)?;
+        Ok(number)
     }
 }
 

@@ -4,6 +4,7 @@ ghost use Rattle.std.specs.Option.{option_copied};
 ghost use Rattle.md_forms.specs.Predicates.{is_known};
 ghost use Rattle.md_forms.specs.Tables as spec;
 
+use crate::definitions::{Definitions, Named};
 use crate::names::predicates_named;
 use crate::predicates::{accepted_within, all_known, same};
 use md_draft::{Draft, DraftEntry, Head};
@@ -22,11 +23,27 @@ pub struct PredicateDraft {
     pub uses: Items<Name>,
 }
 
+impl Named for PredicateDraft {
+    ghost name = { λ d. d.name };
+
+    fn name(&self) -> &[u8] {
+        self.name.bytes()
+    }
+}
+
 /// A definition of a constraint.
 #[derive(Drop)]
 pub struct ConstraintDraft {
     pub name: Name,
     pub accepted: bool,
+}
+
+impl Named for ConstraintDraft {
+    ghost name = { λ d. d.name };
+
+    fn name(&self) -> &[u8] {
+        self.name.bytes()
+    }
 }
 
 /// A definition of an attribute.
@@ -37,16 +54,24 @@ pub struct AttributeDraft {
     pub values: Items<Name>,
 }
 
+impl Named for AttributeDraft {
+    ghost name = { λ d. d.name };
+
+    fn name(&self) -> &[u8] {
+        self.name.bytes()
+    }
+}
+
 /// What the forms of a description define for one another.
 #[derive(Drop)]
 pub struct Tables {
-    pub predicates: Items<PredicateDraft>,
+    pub predicates: Definitions<PredicateDraft>,
     /// Which of the predicates are accepted.
     pub accepted: Items<bool>,
     /// The names of the constraints, the accepted and the others.
     pub constraint_names: Items<Name>,
-    pub constraints: Items<ConstraintDraft>,
-    pub attributes: Items<AttributeDraft>,
+    pub constraints: Definitions<ConstraintDraft>,
+    pub attributes: Definitions<AttributeDraft>,
 }
 
 // ---- what a head defines
@@ -154,7 +179,7 @@ fn predicates_of(alloc: Global, entries: &[DraftEntry]) -> Result<Items<Predicat
 /// Whether a constraint's own parts are in order, and its predicates known.
 fn is_sound(
     alloc: Global,
-    predicates: &[PredicateDraft],
+    predicates: &Definitions<PredicateDraft>,
     accepted: &[bool],
     draft: &Judged<Draft>,
 ) -> Result<bool, Memory>
@@ -171,7 +196,7 @@ fn is_sound(
 
 fn constraint_of(
     alloc: Global,
-    predicates: &[PredicateDraft],
+    predicates: &Definitions<PredicateDraft>,
     accepted: &[bool],
     entry: &DraftEntry,
 ) -> Result<Option<ConstraintDraft>, Memory>
@@ -189,7 +214,7 @@ fn constraint_of(
 #[tactic(auto, using(crate::proofs::Lists::filter_map_found, crate::proofs::Lists::filter_map_passed), unfolding(crate::specs::Tables::constraints_of))]
 fn constraints_of(
     alloc: Global,
-    predicates: &[PredicateDraft],
+    predicates: &Definitions<PredicateDraft>,
     accepted: &[bool],
     entries: &[DraftEntry],
 ) -> Result<Items<ConstraintDraft>, Memory>
@@ -215,15 +240,13 @@ fn names_of(alloc: Global, constraints: &[ConstraintDraft]) -> Result<Items<Name
 }
 
 /// Whether the first constraint of a name is accepted.
-pub fn is_constraint(constraints: &[ConstraintDraft], name: &[u8]) -> bool
+pub fn is_constraint(constraints: &Definitions<ConstraintDraft>, name: &[u8]) -> bool
     ensures { result ≡ spec.is_constraint constraints.now name.now }
 {
-    for constraint in constraints {
-        if same(constraint.name.bytes(), name) {
-            return constraint.accepted;
-        }
+    match constraints.first(name) {
+        Some(constraint) => constraint.accepted,
+        None => false,
     }
-    false
 }
 
 // ---- attributes
@@ -289,34 +312,19 @@ fn attributes_of(alloc: Global, entries: &[DraftEntry]) -> Result<Items<Attribut
     Ok(found)
 }
 
-/// The first attribute of a name.
-pub fn attribute_named<'a>(
-    attributes: &'a [AttributeDraft],
-    name: &[u8],
-) -> Option<&'a AttributeDraft>
-    ensures { option_copied result ≡ spec.attribute_named attributes.now name.now }
-{
-    for attribute in attributes {
-        if same(attribute.name.bytes(), name) {
-            return Some(attribute);
-        }
-    }
-    None
-}
-
 /// What the forms of a description define for one another.
 #[tactic(auto, unfolding(crate::specs::Tables::tables_of))]
 pub fn tables_of(alloc: Global, entries: &[DraftEntry]) -> Result<Tables, Memory>
     ensures { IfOk result (λ tables. tables ≡ spec.tables_of entries.now) }
 {
-    let predicates = predicates_of(alloc, entries)?;
-    let accepted = accepted_within(alloc, predicates.as_slice(), entries.len())?;
-    let constraints = constraints_of(alloc, predicates.as_slice(), accepted.as_slice(), entries)?;
+    let predicates = Definitions::of(alloc, predicates_of(alloc, entries)?)?;
+    let accepted = accepted_within(alloc, &predicates, entries.len())?;
+    let constraints = constraints_of(alloc, &predicates, accepted.as_slice(), entries)?;
     Ok(Tables {
         constraint_names: names_of(alloc, constraints.as_slice())?,
-        attributes: attributes_of(alloc, entries)?,
+        constraints: Definitions::of(alloc, constraints)?,
+        attributes: Definitions::of(alloc, attributes_of(alloc, entries)?)?,
         predicates,
         accepted,
-        constraints,
     })
 }

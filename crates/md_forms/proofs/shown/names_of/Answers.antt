@@ -8,13 +8,13 @@ use Rattle.md_forms.proofs.shown.names_of.Goals as goal
 pub loop-form-init : goal.loop-form-init
 loop-form-init c = record {
   named = rw c.new-names.ensures refl;
-  counts = counts_none c.new-counts.result c.args.forms.now c.new-counts.ensures.heads c.new-counts.ensures.counts;
+  counts = counts_none c.new-counts.result c.args.forms.now c.new-counts.ensures;
 }
 
 pub loop-form-preserved : goal.loop-form-preserved
 loop-form-preserved c =
     let front = take c.loop-form.form-index c.args.forms.now in
-    let number : c.in_ok-number.number ≡ spec.count_of c.form-item.result.head front = c.in_ok-number.ensures.number ∙ ap (count_in c.loop-form.counts) c.bytes.ensures ∙ c.loop-form.invariant.counts.all c.form-item.result.head in
+    let number : c.in_ok-number.number ≡ spec.count_of c.form-item.result.head front = c.in_ok-number.ensures.number ∙ ap (count_in c.loop-form.counts) c.bytes.ensures ∙ c.loop-form.invariant.counts c.form-item.result.head in
     let name : c.in_ok-shown.field-0 ≡ spec.name_behind front c.form-item.result = c.in_ok-shown.ensures ∙ ap (λ k. spec.shown c.form-item.result.name c.form-item.result.head k) number in
     record {
       named = named_next c.args.forms.now c.loop-form.form-index c.form-item.result c.loop-form.names c.push.new.self (spec.names_of c.args.forms.now) c.loop-form-test.true c.form-item.is

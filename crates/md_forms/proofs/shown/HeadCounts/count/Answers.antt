@@ -1,33 +1,17 @@
-use Rattle.std.proofs.Common.{◌≡◌, ◌<◌, ◌≤◌, length, refl, ◌++◌, ◌∷◌, [], arith, ap, ◌∙◌}
+use Rattle.std.proofs.Common.{◌≡◌, ◌+◌, ap, ◌∙◌, rules, unwrap_or}
+use Rattle.std.specs.Map.{lookup}
+use Rattle.std.specs.Str.{bytes_eq}
 use Rattle.md_forms.specs.Counts.{count_in}
-use Rattle.md_forms.proofs.CountTable.{place}
-use Rattle.md_forms.proofs.CountLaws.{beside, raised, none_beside, began}
+use Rattle.md_forms.proofs.TextKeys.{found_apart, found_itself}
 use Rattle.md_forms.proofs.shown.HeadCounts.count.Goals as goal
-
-pub overflow_add-number : goal.overflow_add-number
-overflow_add-number c =
-    let is : c.place_of-at.result ≡ place c.args.head.now c.args.self.now.heads = c.place_of-at.ensures ∙ ap (place c.args.head.now) c.as_slice.ensures.value in
-    let e : c.item-number.result.now ≡ count_in c.args.self.now c.args.head.now =
-    beside c.args.self.now c.args.head.now c.place_of-at.result c.item-number.result.now c.requires.even is (omega arith) c.item-number.ensures in
-    omega (arith, e, c.requires.few)
-
-pub returns-then-at-len-clause-number : goal.returns-then-at-len-clause-number
-returns-then-at-len-clause-number c =
-    let is : c.place_of-at.result ≡ place c.args.head.now c.args.self.now.heads = c.place_of-at.ensures ∙ ap (place c.args.head.now) c.as_slice.ensures.value in
-    beside c.args.self.now c.args.head.now c.place_of-at.result c.item-number.result.now c.requires.even is (omega arith) c.item-number.ensures
-
-pub returns-then-at-len-clause-more : goal.returns-then-at-len-clause-more
-returns-then-at-len-clause-more c =
-    let is : c.place_of-at.result ≡ place c.args.head.now c.args.self.now.heads = c.place_of-at.ensures ∙ ap (place c.args.head.now) c.as_slice.ensures.value in
-    raised c.args.self.now (record { heads = c.args.self.now.heads; counts = c.replace.new.self }) c.args.head.now c.place_of-at.result c.item-number.result.now c.requires.even is (omega arith) c.item-number.ensures refl c.replace.ensures.items
-
-pub returns-clause-number : goal.returns-clause-number
-returns-clause-number c =
-    let is : c.place_of-at.result ≡ place c.args.head.now c.args.self.now.heads = c.place_of-at.ensures ∙ ap (place c.args.head.now) c.as_slice.ensures.value in
-    none_beside c.args.self.now c.args.head.now c.place_of-at.result is (omega arith)
 
 pub returns-clause-more : goal.returns-clause-more
 returns-clause-more c =
-    let is : c.place_of-at.result ≡ place c.args.head.now c.args.self.now.heads = c.place_of-at.ensures ∙ ap (place c.args.head.now) c.as_slice.ensures.value in
-    began c.args.self.now (record { heads = c.push.new.self; counts = c.push-2.new.self }) c.args.head.now c.place_of-at.result c.requires.even is (omega arith)
-    (c.in_ok-push.ensures.ok ∙ ap (λ name. c.args.self.now.heads ++ name ∷ []) c.in_ok-of.ensures) c.in_ok-push-2.ensures.ok
+    let number : c.unwrap_or-number.result ≡ count_in c.args.self.now c.args.head.now = search rules in
+    record {
+      same = λ h differ. ap (λ es. unwrap_or (lookup (λ text. bytes_eq h text.items) es) 0) c.in_ok-insert.ensures.entries
+          ∙ ap (λ o. unwrap_or o 0) (found_apart (λ text. text.items) c.in_ok-from_slice.field-0 (c.unwrap_or-number.result + 1) h c.args.self.now.by_head.entries (ap (λ t. bytes_eq t h) c.in_ok-from_slice.ensures.items ∙ differ));
+      more = ap (λ es. unwrap_or (lookup (λ text. bytes_eq c.args.head.now text.items) es) 0) c.in_ok-insert.ensures.entries
+          ∙ ap (λ o. unwrap_or o 0) (found_itself (λ text. text.items) c.in_ok-from_slice.field-0 (c.unwrap_or-number.result + 1) c.args.head.now c.args.self.now.by_head.entries c.in_ok-from_slice.ensures.items)
+          ∙ ap (λ n. n + 1) number;
+    }

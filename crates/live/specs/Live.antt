@@ -1,0 +1,36 @@
+-- Where registers are live: GCC Internals, "Liveness information".
+use Rattle.std.specs.Prelude.{◌≡◌, ℕ, ◌+◌, Bool, true, false, ◌||◌, ◌&&◌, List, Option, Some, None, slice_get, length}
+use Rattle.rtx_tree.specs.declared.function.Insn.{Insn}
+use Rattle.rtx_tree.specs.declared.function.Function.{Function}
+use Rattle.rtx_tree.specs.RegSet.{has_reg}
+use Rattle.rtl_func.specs.Paths.{leads}
+use Rattle.reg_uses.specs.Uses.{insn_uses, insn_defines, is_return, return_uses}
+
+-- an instruction of the function uses the register
+abbrev pub uses_in : Function → Insn → ℕ → Bool
+uses_in f i reg = insn_uses i reg || (is_return i && return_uses f reg)
+
+-- the register is live before a place: a path of successors leads from there to a use of it, and no instruction on the path before
+-- the use defines it. Past the last instruction is the end, where the function returns
+pub data IsLive (f : Function) (reg : ℕ) : ℕ → Type 0 where
+  AtEnd : return_uses f reg ≡ true → IsLive f reg (length f.insns)
+  AtUse : (p : ℕ) (i : Insn) → slice_get f.insns p ≡ Some i → uses_in f i reg ≡ true → IsLive f reg p
+  Passing : (p q : ℕ) (i : Insn) → slice_get f.insns p ≡ Some i → insn_defines i reg ≡ false → leads f.insns p q ≡ true → IsLive f reg q → IsLive f reg p
+
+-- the register is live after a place: it is live before one to which the place leads
+abbrev pub IsLiveAfter : Function → ℕ → ℕ → Type 0
+IsLiveAfter f reg p = (q : ℕ) × (leads f.insns p q ≡ true) × IsLive f reg q
+
+abbrev pub set_has : Option (List ℕ) → ℕ → Bool
+set_has None reg = false
+set_has (Some set) reg = has_reg set reg
+
+-- the set of a place has the register
+abbrev pub live_has : List (List ℕ) → ℕ → ℕ → Bool
+live_has live p reg = set_has (slice_get live p) reg
+
+-- for each place of the chain, and at last for its end, there is the set of the registers that are live before it
+pub record IsLiveness (f : Function) (live : List (List ℕ)) : Type 0 where
+  pub long : length live ≡ length f.insns + 1
+  pub sound : (p reg : ℕ) → live_has live p reg ≡ true → IsLive f reg p
+  pub complete : (p reg : ℕ) → IsLive f reg p → live_has live p reg ≡ true

@@ -1,0 +1,68 @@
+//! Rows as sets of registers.
+ghost use Rattle.std.specs.Prelude.{◌≡◌, ℕ, ◌*◌, ◌/◌, ◌%◌, ◌<◌, ◌==◌, ◌||◌, ◌&&◌, IfOk, OnOk, length, slice_index};
+ghost use Rattle.rtx_tree.specs.RegSet.{has_reg};
+ghost use Rattle.reg_rows.specs.Row.{has};
+ghost use Rattle.reg_rows.specs.Table.{has_at};
+ghost use Rattle.live.specs.Live.{live_has};
+
+use plain_data::{Items, Memory};
+use reg_rows::RegRow;
+use rtx_tree::RegSet;
+use std::alloc::Global;
+
+const WORD: usize = u64::BITS as usize;
+// so many words have a bit for each `u32`
+const MOST_WORDS: usize = 1 << 26;
+
+/// Adds register `reg` if the row has it.
+fn add_register(row: &RegRow, reg: u32, set: &mut RegSet) -> Result<(), Memory>
+    ensures { OnOk result ((other : ℕ) → has_reg set.new other ≡ (has_reg set.old other || (other == reg && has row.now other))) }
+{
+    if row.contains(reg) {
+        set.insert(reg)
+    } else {
+        Ok(())
+    }
+}
+
+/// Whether a word begins with register `reg` and is 0.
+fn is_passed(row: &RegRow, reg: usize) -> bool
+    requires { reg < 64 * length row.now }
+    ensures { result ≡ (reg % 64 == 0 && slice_index row.now (reg / 64) == 0) }
+{
+    reg % WORD == 0 && row.is_zero(reg / WORD)
+}
+
+/// The registers of a row. A row past `u32` finds no memory.
+fn set_of(alloc: Global, row: &RegRow) -> Result<RegSet, Memory>
+    ensures { IfOk result (λ set. (reg : ℕ) → has_reg set reg ≡ has row.now reg) }
+{
+    if row.width() > MOST_WORDS {
+        return Err(Memory);
+    }
+    let mut set = RegSet::new(alloc);
+    let end = row.width() * WORD;
+    let mut reg = 0;
+    while reg < end {
+        if is_passed(row, reg) {
+            reg += WORD;
+            continue;
+        }
+        add_register(row, reg as u32, &mut set)?;
+        reg += 1;
+    }
+    Ok(set)
+}
+
+/// The registers of each row.
+pub fn sets_of(alloc: Global, rows: &[RegRow]) -> Result<Items<RegSet>, Memory>
+    ensures long { IfOk result (λ sets. length sets ≡ length rows.now) }
+    ensures each { IfOk result (λ sets. (at reg : ℕ) → live_has sets at reg ≡ has_at rows.now at reg) }
+{
+    let mut sets = Items::new(alloc);
+    for row in rows {
+        let set = set_of(alloc, row)?;
+        sets.push(set)?;
+    }
+    Ok(sets)
+}

@@ -1,0 +1,5 @@
+pub mod FlagLaws
+pub mod PathLaws
+pub mod SetLaws
+pub mod TableLaws
+pub mod WidthLaws

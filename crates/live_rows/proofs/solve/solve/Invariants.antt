@@ -1,0 +1,17 @@
+use Rattle.std.proofs.Common.{◌≡◌, ◌-◌, ◌*◌, ◌^◌, length}
+use Rattle.reg_rows.specs.Table.{IsTable, total}
+use Rattle.live_rows.specs.Rows.{HasUses, IsSound}
+use Rattle.live_rows.specs.Flags.{IsPending}
+use Rattle.live_rows.proofs.solve.solve.Given as goal
+
+abbrev pub invariant-rounds : goal.invariant-rounds
+invariant-rounds l = record {
+  width : length l.set ≡ length l.fn.set;
+  table : IsTable (length l.fn.set) l.rows;
+  uses : HasUses l.nodes l.rows;
+  sound : IsSound l.nodes l.rows;
+  pending : IsPending l.nodes l.rows l.before;
+}
+
+abbrev pub decreases-rounds : goal.decreases-rounds
+decreases-rounds l = length l.nodes * (length l.fn.set * (2 ^ 64 - 1)) - total l.rows

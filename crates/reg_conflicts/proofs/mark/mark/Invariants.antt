@@ -1,0 +1,11 @@
+use Rattle.std.proofs.Common.{◌≡◌, ℕ, ◌||◌, ◌&&◌, ltb, length, drop}
+use Rattle.rtx_tree.specs.RegSet.{has_reg}
+use Rattle.reg_rows.specs.Row.{has}
+use Rattle.reg_rows.specs.Table.{has_at, IsTable}
+use Rattle.reg_conflicts.proofs.mark.mark.Given as goal
+
+abbrev pub invariant-loop-reg : goal.invariant-loop-reg
+invariant-loop-reg l = record {
+  table : IsTable (length l.set) l.rows;
+  each : (x y : ℕ) → (has_at l.rows x y || ((ltb x (length l.fn.rows) && has_reg (drop l.reg-index l.regs) x) && has l.set y)) ≡ (has_at l.fn.rows x y || ((ltb x (length l.fn.rows) && has_reg l.regs x) && has l.set y));
+}

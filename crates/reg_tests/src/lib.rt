@@ -1,0 +1,17 @@
+//! Tests of registers: their sets, their uses, and where they are live.
+//!
+//! They stand in a crate of their own, since a crate with tests is proved twice.
+#![tactic(auto)]
+
+#[cfg(test)]
+mod live_rows_tests;
+#[cfg(test)]
+mod live_tests;
+#[cfg(test)]
+mod reg_conflicts_tests;
+#[cfg(test)]
+mod reg_rows_tests;
+#[cfg(test)]
+mod reg_uses_tests;
+#[cfg(test)]
+mod rv_regs_tests;

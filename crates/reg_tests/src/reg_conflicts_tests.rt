@@ -1,7 +1,7 @@
 //! A register that is kept across a definition.
-use reg_conflicts::{conflict, conflict_rows};
 use live::liveness;
 use plain_data::{Items, Memory};
+use reg_conflicts::{conflict, conflict_rows};
 use rtx_tree::{Code, Function, Insn, Insns, Kind, Mode, Name, Rtx};
 use std::alloc::Global;
 use std::test::Fail;

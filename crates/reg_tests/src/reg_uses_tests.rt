@@ -1,6 +1,6 @@
 //! A store, a narrow set, a call and a return.
-use reg_uses::{Regs, insn_defines, insn_uses, is_return, return_uses};
 use plain_data::{Items, Memory};
+use reg_uses::{Regs, insn_defines, insn_uses, is_return, return_uses};
 use rtx_tree::{ArgUse, Code, Function, Insn, Kind, Mode, Name, Rtx};
 use std::alloc::Global;
 use std::test::Fail;

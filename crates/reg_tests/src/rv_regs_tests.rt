@@ -9,5 +9,8 @@ fn ends_of_tables(rt: HostRuntime) {
     let saved = saved_registers();
     assert_eq!(rt; (saved[0], saved[1], saved[2], saved[11]), (8, 9, 18, 27));
     let kept = kept_registers();
-    assert_eq!(rt; (kept[0], kept[1], kept[13]), (RETURN_ADDRESS, STACK_POINTER, 27));
+    assert_eq!(rt;
+        (kept[0], kept[1], kept[13]),
+        (RETURN_ADDRESS, STACK_POINTER, 27)
+    );
 }

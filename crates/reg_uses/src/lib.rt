@@ -12,8 +12,8 @@ mod returns;
 mod uses;
 
 pub use defines::insn_defines;
-pub use reads::add_reads;
 use plain_data::Items;
+pub use reads::add_reads;
 pub use returns::{is_return, return_uses};
 pub use uses::insn_uses;
 

@@ -23,7 +23,7 @@ loop-at-preserved c =
     record {
       width = c.in_ok-add_insn.ensures.width ∙ inv.width;
       table = subst (λ (w : ℕ). IsTable w new) inv.width c.in_ok-add_insn.ensures.table;
-      found = AreFound-insn f live (length c.args.set.now) at (length old) insn old new c.requires.live here (omega arith) each inv.found
+      found = AreFound-insn f live (length c.args.set.now) at (length old) insn old new c.requires.live here (omega arith) each inv.found;
     }
 
 pub returns : goal.returns

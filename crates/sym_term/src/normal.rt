@@ -1,0 +1,339 @@
+//! The normal form.
+ghost use Rattle.std.specs.Prelude.{ℕ, ◌≡◌, ◌+◌, ◌≤◌, ◌<◌, [], ◌∷◌, map, vec_len, IfOk};
+ghost use Rattle.term_tree.specs.Tree.{tree_size, trees_of, atoms_of, Node, tree, no_trees};
+ghost use Rattle.term_tree.specs.View.{tree_of, atom_of};
+ghost use Rattle.term_mean.specs.Meaning.{Valuation, mean};
+ghost use Rattle.term_mean.specs.Stores.{Stored};
+ghost use Rattle.term_mean.specs.Sums.{summed, constant as constant_spec};
+ghost use Rattle.term_mean.specs.Shifts.{plain_two as plain_two_spec};
+ghost use Rattle.term_mean.specs.Normal as spec;
+ghost use Rattle.sym_term.specs.Views.{store_of};
+
+use crate::loads::loaded;
+use crate::shifts::shifted;
+use crate::stores::SymStores;
+use bits64::Width;
+use plain_data::{Items, Memory};
+use rtx_tree::Name;
+use std::alloc::Global;
+use term_cuts::{AtWidth, cut_to, extended, made_at};
+use term_sums::{constant_of, constant_term, plus_times};
+use term_tree::{Atom, Extension, Head, Joint, LIMIT, Term, size};
+use term_zero::{equals_zero, less_than, on_constants, two_parts};
+use thiserror::Error;
+
+/// Why a term has no normal form that could be given.
+#[derive(Debug, Drop, Error)]
+pub enum TermRefusal {
+    /// The normal form has more nodes than the limit; `size` is one more than that.
+    #[error("a normal form has {size} nodes or more")]
+    Size { size: u64 },
+    /// Memory ran out.
+    #[error("out of memory")]
+    Memory,
+}
+
+impl From<Memory> for TermRefusal {
+    ghost use Rattle.std.specs.Prelude.{◌≡◌};
+    ghost use Rattle.sym_term.specs.declared.normal.TermRefusal.TheVariants.{Memory as OutOfMemory};
+
+    ghost from_gives = { λ e r. r ≡ OutOfMemory };
+
+    fn from(_e: Memory) -> TermRefusal {
+        TermRefusal::Memory
+    }
+}
+
+/// A node as it stands.
+fn node(head: Head, width: Width, number: u64, name: Name, parts: Vec<Term>) -> Term
+    ensures { tree_of result ≡ Node head width number name (trees_of (map tree_of parts.items)) }
+{
+    Term::Node {
+        head,
+        width,
+        number,
+        name,
+        parts: Items::from_vec(parts),
+    }
+}
+
+/// A node of one part as it stands.
+fn one_node(
+    alloc: Global,
+    head: Head,
+    w: Width,
+    number: u64,
+    name: Name,
+    a: Term,
+) -> Result<Term, Memory>
+    ensures { IfOk result (λ r. tree_of r ≡ Node head w number name (tree (tree_of a) no_trees)) }
+{
+    let mut parts = Vec::new(alloc);
+    parts.push(a)?;
+    Ok(node(head, w, number, name, parts))
+}
+
+/// A node of two parts as it stands.
+fn two_node(
+    alloc: Global,
+    head: Head,
+    w: Width,
+    number: u64,
+    name: Name,
+    a: Term,
+    b: Term,
+) -> Result<Term, Memory>
+    ensures { IfOk result (λ r. tree_of r ≡ Node head w number name (tree (tree_of a) (tree (tree_of b) no_trees))) }
+{
+    let mut parts = Vec::new(alloc);
+    parts.push(a)?;
+    parts.push(b)?;
+    Ok(node(head, w, number, name, parts))
+}
+
+/// What the rules of a head make of one part.
+fn build_one(
+    alloc: Global,
+    stores: &SymStores,
+    head: Head,
+    w: Width,
+    number: u64,
+    name: Name,
+    a: Term,
+) -> Result<Term, Memory>
+    ensures { IfOk result (λ r. tree_of r ≡ spec.built_one (map store_of stores.now) head w number name (tree_of a)) }
+{
+    match head {
+        Head::Trunc => cut_to(alloc, w, &a),
+        Head::Zext => extended(alloc, &AtWidth { width: w }, Extension::Zero, w, &a),
+        Head::Sext => extended(alloc, &AtWidth { width: w }, Extension::Sign, w, &a),
+        Head::Eq => equals_zero(alloc, w, &a),
+        Head::Load => loaded(alloc, stores, w, number, a),
+        Head::Reg
+        | Head::Sym
+        | Head::Sum
+        | Head::Mul
+        | Head::Mulh
+        | Head::Mulhu
+        | Head::Mulhsu
+        | Head::Div
+        | Head::Udiv
+        | Head::Rem
+        | Head::Urem
+        | Head::And
+        | Head::Ior
+        | Head::Xor
+        | Head::Shl
+        | Head::Shr
+        | Head::Sar
+        | Head::Lt
+        | Head::Ltu => one_node(alloc, head, w, number, name, a),
+    }
+}
+
+/// An operation of which nothing else is known than that of constants.
+fn plain_two(alloc: Global, head: Head, w: Width, a: Term, b: Term) -> Result<Term, Memory>
+    ensures { IfOk result (λ r. tree_of r ≡ plain_two_spec head w (tree_of a) (tree_of b)) }
+{
+    let left = constant_of(&a);
+    let right = constant_of(&b);
+    let other = two_parts(alloc, head, w, a, b)?;
+    Ok(on_constants(alloc, left, right, head, w, other))
+}
+
+/// What the rules of a head make of two parts.
+fn build_two(
+    alloc: Global,
+    head: Head,
+    w: Width,
+    number: u64,
+    name: Name,
+    a: Term,
+    b: Term,
+) -> Result<Term, Memory>
+    ensures { IfOk result (λ r. tree_of r ≡ spec.built_two head w number name (tree_of a) (tree_of b)) }
+{
+    match head {
+        Head::Mulh => plain_two(alloc, head, w, a, b),
+        Head::Mulhu => plain_two(alloc, head, w, a, b),
+        Head::Mulhsu => plain_two(alloc, head, w, a, b),
+        Head::Div => plain_two(alloc, head, w, a, b),
+        Head::Udiv => plain_two(alloc, head, w, a, b),
+        Head::Rem => plain_two(alloc, head, w, a, b),
+        Head::Urem => plain_two(alloc, head, w, a, b),
+        Head::Shl => shifted(alloc, head, w, a, &b),
+        Head::Shr => shifted(alloc, head, w, a, &b),
+        Head::Sar => shifted(alloc, head, w, a, &b),
+        Head::Lt => less_than(alloc, Extension::Sign, w, &a, &b),
+        Head::Ltu => less_than(alloc, Extension::Zero, w, &a, &b),
+        Head::Reg
+        | Head::Sym
+        | Head::Sum
+        | Head::Mul
+        | Head::And
+        | Head::Ior
+        | Head::Xor
+        | Head::Trunc
+        | Head::Zext
+        | Head::Sext
+        | Head::Eq
+        | Head::Load => two_node(alloc, head, w, number, name, a, b),
+    }
+}
+
+/// The one part.
+fn only_part(mut parts: Vec<Term>) -> Term
+    requires { vec_len parts ≡ 1 }
+    ensures { map tree_of parts.items ≡ tree_of result ∷ [] }
+{
+    parts.remove(0)
+}
+
+/// The two parts.
+fn both_parts(mut parts: Vec<Term>) -> (Term, Term)
+    requires { vec_len parts ≡ 2 }
+    ensures { map tree_of parts.items ≡ tree_of result.0 ∷ tree_of result.1 ∷ [] }
+{
+    let first = parts.remove(0);
+    let second = parts.remove(0);
+    (first, second)
+}
+
+/// What the rules of a head make of parts that have no order of their own.
+fn build_parts(
+    alloc: Global,
+    stores: &SymStores,
+    head: Head,
+    w: Width,
+    number: u64,
+    name: Name,
+    parts: Vec<Term>,
+) -> Result<Term, Memory>
+    ensures { IfOk result (λ r. tree_of r ≡ spec.built_parts (map store_of stores.now) head w number name (map tree_of parts.items)) }
+{
+    match parts.as_slice() {
+        [] => Ok(node(head, w, number, name, parts)),
+        [_a] => build_one(alloc, stores, head, w, number, name, only_part(parts)),
+        [_a, _b] => {
+            let (a, b) = both_parts(parts);
+            build_two(alloc, head, w, number, name, a, b)
+        }
+        [_a, _b, _c, ..] => Ok(node(head, w, number, name, parts)),
+    }
+}
+
+/// What the rules of a head make of normal parts.
+fn build(
+    alloc: Global,
+    stores: &SymStores,
+    head: Head,
+    w: Width,
+    number: u64,
+    name: Name,
+    parts: Vec<Term>,
+) -> Result<Term, Memory>
+    ensures { IfOk result (λ r. tree_of r ≡ spec.built (map store_of stores.now) head w number name (map tree_of parts.items)) }
+{
+    match head {
+        Head::Mul => made_at(alloc, w, Joint::Mul, parts.as_slice()),
+        Head::And => made_at(alloc, w, Joint::And, parts.as_slice()),
+        Head::Ior => made_at(alloc, w, Joint::Ior, parts.as_slice()),
+        Head::Xor => made_at(alloc, w, Joint::Xor, parts.as_slice()),
+        Head::Reg
+        | Head::Sym
+        | Head::Sum
+        | Head::Mulh
+        | Head::Mulhu
+        | Head::Mulhsu
+        | Head::Div
+        | Head::Udiv
+        | Head::Rem
+        | Head::Urem
+        | Head::Shl
+        | Head::Shr
+        | Head::Sar
+        | Head::Trunc
+        | Head::Zext
+        | Head::Sext
+        | Head::Lt
+        | Head::Ltu
+        | Head::Eq
+        | Head::Load => build_parts(alloc, stores, head, w, number, name, parts),
+    }
+}
+
+/// The normal form, of any size.
+#[cycle(normal)]
+fn normal(alloc: Global, t: &Term, stores: &SymStores) -> Result<Term, Memory>
+    ensures { IfOk result (λ r. tree_of r ≡ spec.normal (map store_of stores.now) (tree_of t.now)) }
+{
+    match t {
+        Term::Sum {
+            width,
+            constant,
+            atoms,
+        } => normal_sum(alloc, stores, *width, *constant, atoms.as_slice()),
+        Term::Node {
+            head,
+            width,
+            number,
+            name,
+            parts,
+        } => {
+            let parts = normal_parts(alloc, stores, parts.as_slice())?;
+            let name = name.copy(alloc)?;
+            build(alloc, stores, *head, *width, *number, name, parts)
+        }
+    }
+}
+
+#[cycle(normal)]
+fn normal_sum(
+    alloc: Global,
+    stores: &SymStores,
+    w: Width,
+    constant: u64,
+    atoms: &[Atom],
+) -> Result<Term, Memory>
+    ensures { IfOk result (λ r. tree_of r ≡ summed w (constant_spec w constant) (spec.normal_atoms (map store_of stores.now) (atoms_of (map atom_of atoms.now)))) }
+{
+    let mut sum = constant_term(alloc, w, constant);
+    for atom in atoms {
+        let term = normal(alloc, &atom.term, stores)?;
+        sum = plus_times(alloc, w, sum, atom.coefficient, &term)?;
+    }
+    Ok(sum)
+}
+
+#[cycle(normal)]
+fn normal_parts(alloc: Global, stores: &SymStores, parts: &[Term]) -> Result<Vec<Term>, Memory>
+    ensures { IfOk result (λ r. map tree_of r.items ≡ spec.normal_all (map store_of stores.now) (trees_of (map tree_of parts.now))) }
+{
+    let mut normals = Vec::new(alloc);
+    for part in parts {
+        normals.push(normal(alloc, part, stores)?)?;
+    }
+    Ok(normals)
+}
+
+/// The normal form of a term under the stores so far, unless it has more nodes than the limit.
+///
+/// `Size` tells that it has: `size` is one more than the limit, where counting stops. The normal form means what the
+/// term means, wherever the memory behind each store is the one before it with the store's value written.
+///
+/// The whole normal form is made before its nodes are counted. No rule puts a part twice into what it makes; what grows
+/// is a truncation or an extension that goes into parts, and is then put around each of them.
+#[tactic(auto, using(crate::proofs::Means::normal_means))]
+pub fn norm(alloc: Global, t: &Term, stores: &SymStores) -> Result<Term, TermRefusal>
+    ensures normal { IfOk result (λ r. tree_of r ≡ spec.normal (map store_of stores.now) (tree_of t.now)) }
+    ensures meaning { (v : Valuation) → Stored v (map store_of stores.now) → IfOk result (λ r. mean v (tree_of r) ≡ mean v (tree_of t.now)) }
+    ensures fits { IfOk result (λ r. tree_size (spec.normal (map store_of stores.now) (tree_of t.now)) ≤ LIMIT) }
+    ensures size { (n : ℕ) → result ≡ Err (TermRefusal.Size n) → (n ≡ LIMIT + 1) × (LIMIT < tree_size (spec.normal (map store_of stores.now) (tree_of t.now))) }
+{
+    let normal = normal(alloc, t, stores)?;
+    let nodes = size(&normal);
+    if nodes > LIMIT {
+        return Err(TermRefusal::Size { size: nodes });
+    }
+    Ok(normal)
+}

@@ -1,0 +1,176 @@
+//! Truncation, which goes into the parts of sums, products and operators on bits.
+ghost use Rattle.std.specs.Prelude.{◌≡◌, List, map, IfOk};
+ghost use Rattle.term_tree.specs.declared.head.Joint.{Joint};
+ghost use Rattle.term_tree.specs.Tree.{Tree, trees_of, atoms_of};
+ghost use Rattle.term_tree.specs.View.{tree_of, atom_of};
+ghost use Rattle.term_mean.specs.Sums.{constant as constant_spec, summed};
+ghost use Rattle.term_mean.specs.Cuts as spec;
+
+use bits64::{Width, trunc};
+use plain_data::{Items, Memory};
+use rtx_tree::Name;
+use std::alloc::Global;
+use term_sums::{constant_term, plus_times};
+use term_tree::{Atom, Head, Joint, Term, is_narrower, is_same_width};
+
+/// How products and operators on bits are made at one width.
+pub trait Makes {
+    ghost made: { Self → Joint → List Tree → Tree };
+
+    fn make(&self, alloc: Global, o: Joint, parts: Vec<Term>) -> Result<Term, Memory>
+        ensures { IfOk result (λ r. tree_of r ≡ made self.now o (map tree_of parts.items)) };
+}
+
+/// An operator over one part.
+pub fn one_part(alloc: Global, head: Head, w: Width, part: Term) -> Result<Term, Memory>
+    ensures { IfOk result (λ r. tree_of r ≡ spec.one_part head w (tree_of part)) }
+{
+    let mut parts = Items::new(alloc);
+    parts.push(part)?;
+    Ok(Term::Node {
+        head,
+        width: w,
+        number: 0,
+        name: Name::empty(alloc),
+        parts,
+    })
+}
+
+/// An operator over one part that is copied.
+pub fn one_copy(alloc: Global, head: Head, w: Width, part: &Term) -> Result<Term, Memory>
+    ensures { IfOk result (λ r. tree_of r ≡ spec.one_part head w (tree_of part.now)) }
+{
+    let copy = part.copy(alloc)?;
+    one_part(alloc, head, w, copy)
+}
+
+/// A wider term, cut to `m` bits.
+#[cycle(cut)]
+pub fn cut<M: Makes>(alloc: Global, makes: &M, m: Width, t: &Term) -> Result<Term, Memory>
+    ensures { IfOk result (λ r. tree_of r ≡ spec.cut (M.made makes.now) m (tree_of t.now)) }
+{
+    if !is_narrower(m, t.width()) {
+        return one_copy(alloc, Head::Trunc, m, t);
+    }
+    match t {
+        Term::Sum {
+            width: _,
+            constant,
+            atoms,
+        } => cut_atoms(alloc, makes, m, *constant, atoms.as_slice()),
+        Term::Node {
+            head,
+            width: _,
+            number: _,
+            name: _,
+            parts,
+        } => match head {
+            Head::Mul => makes.make(
+                alloc,
+                Joint::Mul,
+                cut_all(alloc, makes, m, parts.as_slice())?,
+            ),
+            Head::And => makes.make(
+                alloc,
+                Joint::And,
+                cut_all(alloc, makes, m, parts.as_slice())?,
+            ),
+            Head::Ior => makes.make(
+                alloc,
+                Joint::Ior,
+                cut_all(alloc, makes, m, parts.as_slice())?,
+            ),
+            Head::Xor => makes.make(
+                alloc,
+                Joint::Xor,
+                cut_all(alloc, makes, m, parts.as_slice())?,
+            ),
+            Head::Trunc => match parts.as_slice() {
+                [p] => cut(alloc, makes, m, p),
+                [] => one_copy(alloc, Head::Trunc, m, t),
+                [_p, _q, ..] => one_copy(alloc, Head::Trunc, m, t),
+            },
+            Head::Zext => match parts.as_slice() {
+                [p] => cut_extension(alloc, makes, Head::Zext, m, p),
+                [] => one_copy(alloc, Head::Trunc, m, t),
+                [_p, _q, ..] => one_copy(alloc, Head::Trunc, m, t),
+            },
+            Head::Sext => match parts.as_slice() {
+                [p] => cut_extension(alloc, makes, Head::Sext, m, p),
+                [] => one_copy(alloc, Head::Trunc, m, t),
+                [_p, _q, ..] => one_copy(alloc, Head::Trunc, m, t),
+            },
+            Head::Reg
+            | Head::Sym
+            | Head::Sum
+            | Head::Mulh
+            | Head::Mulhu
+            | Head::Mulhsu
+            | Head::Div
+            | Head::Udiv
+            | Head::Rem
+            | Head::Urem
+            | Head::Shl
+            | Head::Shr
+            | Head::Sar
+            | Head::Lt
+            | Head::Ltu
+            | Head::Eq
+            | Head::Load => one_copy(alloc, Head::Trunc, m, t),
+        },
+    }
+}
+
+/// An extension of `p`, cut.
+#[cycle(cut)]
+fn cut_extension<M: Makes>(
+    alloc: Global,
+    makes: &M,
+    head: Head,
+    m: Width,
+    p: &Term,
+) -> Result<Term, Memory>
+    ensures { IfOk result (λ r. tree_of r ≡ spec.extension_cut head m (tree_of p.now) (spec.cut (M.made makes.now) m (tree_of p.now))) }
+{
+    if is_narrower(m, p.width()) {
+        cut(alloc, makes, m, p)
+    } else if is_same_width(m, p.width()) {
+        p.copy(alloc)
+    } else {
+        one_copy(alloc, head, m, p)
+    }
+}
+
+#[cycle(cut)]
+fn cut_atoms<M: Makes>(
+    alloc: Global,
+    makes: &M,
+    m: Width,
+    constant: u64,
+    atoms: &[Atom],
+) -> Result<Term, Memory>
+    ensures { IfOk result (λ r. tree_of r ≡ summed m (constant_spec m constant) (spec.cut_atoms (M.made makes.now) m (atoms_of (map atom_of atoms.now)))) }
+{
+    let mut sum = constant_term(alloc, m, constant);
+    for atom in atoms {
+        let term = cut(alloc, makes, m, &atom.term)?;
+        sum = plus_times(alloc, m, sum, trunc(atom.coefficient, m), &term)?;
+    }
+    Ok(sum)
+}
+
+#[cycle(cut)]
+fn cut_all<M: Makes>(
+    alloc: Global,
+    makes: &M,
+    m: Width,
+    parts: &[Term],
+) -> Result<Vec<Term>, Memory>
+    ensures { IfOk result (λ r. map tree_of r.items ≡ spec.cut_all (M.made makes.now) m (trees_of (map tree_of parts.now))) }
+{
+    let mut cuts = Vec::new(alloc);
+    for part in parts {
+        cuts.push(cut(alloc, makes, m, part)?)?;
+    }
+    Ok(cuts)
+}

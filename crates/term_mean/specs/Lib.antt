@@ -1,0 +1,14 @@
+pub mod Meaning
+pub mod Stores
+pub mod Sums
+pub mod Joints
+pub mod Cuts
+pub mod Extensions
+pub mod Masks
+pub mod Shifts
+pub mod Truths
+pub mod Zero
+pub mod Less
+pub mod Relations
+pub mod Loads
+pub mod Normal

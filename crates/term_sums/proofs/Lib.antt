@@ -1,0 +1,9 @@
+pub mod InsertLaws
+pub mod EditLaws
+pub mod PartLaws
+pub mod FlatLaws
+pub mod TotalLaws
+pub mod OrderedLaws
+pub mod CountLaws
+pub mod GatherLaws
+pub mod SortLaws

@@ -1,0 +1,4 @@
+pub mod Means
+pub mod OperatorLaws
+pub mod RoundLaws
+pub mod DepthLaws

@@ -1,8 +1,10 @@
-//! Tests of registers: their sets, their uses, and where they are live.
+//! Tests of registers: their sets, their uses, where they are live, and the homes of pseudos.
 //!
 //! They stand in a crate of their own, since a crate with tests is proved twice.
 #![tactic(auto)]
 
+#[cfg(test)]
+mod assign_tests;
 #[cfg(test)]
 mod live_rows_tests;
 #[cfg(test)]

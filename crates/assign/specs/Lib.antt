@@ -1,0 +1,4 @@
+pub mod Frame
+pub mod Homes
+pub mod Named
+pub mod Picked

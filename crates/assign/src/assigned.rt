@@ -1,0 +1,65 @@
+//! The homes of a function's pseudos.
+ghost use Rattle.std.specs.Prelude.{◌≡◌, ℕ, ◌*◌, ◌<◌, ◌≤◌, ◌^◌, List, length, map, All, IfOk};
+ghost use Rattle.rtx_tree.specs.Registers as registers;
+ghost use Rattle.rv_regs.specs.Registers as tables;
+ghost use Rattle.reg_rows.specs.Row.{has};
+ghost use Rattle.reg_conflicts.specs.Conflicts.{has_conflict};
+ghost use Rattle.live.specs.Live.{IsLiveness};
+ghost use Rattle.assign.specs.declared.home.HomeOf.{HomeOf};
+ghost use Rattle.assign.specs.Homes.{AreHomes};
+ghost use Rattle.assign.specs.Named.{stands_in};
+ghost use Rattle.assign.specs.Picked.{IsPicked};
+
+use crate::home::Homes;
+use crate::named::{pseudos_of, registers_of};
+use crate::pick::pick;
+use live::Live;
+use plain_data::Memory;
+use reg_conflicts::conflict_rows;
+use reg_rows::{RegRow, width_of};
+use rtx_tree::{Function, Insn};
+use rv_regs::allocation_order;
+use std::alloc::Global;
+
+// so many words have bits for `u32`s alone, and not for all of them
+const MOST_WORDS: usize = (1 << 26) - 1;
+
+/// The registers that stand in the instructions, as a row with a bit for each hard register.
+fn named_row(alloc: Global, insns: &[Insn]) -> Result<RegRow, Memory>
+    ensures wide { IfOk result (λ row. 1 ≤ length row) }
+    ensures small { IfOk result (λ row. 64 * length row < 2 ^ 32) }
+    ensures each { IfOk result (λ row. (reg : ℕ) → has row reg ≡ stands_in insns.now reg) }
+{
+    let regs = registers_of(alloc, insns)?;
+    let width = width_of(regs.as_slice(), 1);
+    if width > MOST_WORDS {
+        return Err(Memory);
+    }
+    let row = RegRow::listed(alloc, regs.as_slice(), width)?;
+    Ok(row)
+}
+
+/// Picks in the allocation order.
+fn pick_in_order(alloc: Global, rows: &[RegRow], pseudos: &[u32]) -> Result<Homes, Memory>
+    requires { All (λ k. registers.pseudo k < 2 ^ 32) pseudos.now }
+    ensures pseudos { IfOk result (λ homes. map (λ x. x.pseudo) homes ≡ pseudos.now) }
+    ensures picked { IfOk result (λ homes. IsPicked (has_conflict rows.now) tables.allocation_order homes) }
+{
+    let order = allocation_order();
+    let homes = pick(alloc, rows, &order, pseudos)?;
+    Ok(homes)
+}
+
+/// A home for each pseudo register that the function names: a hard register, or a slot. The sets are those of the registers that are
+/// live in this function. A register from 2^32 - 64 on and a chain of 2^32 places or more find no memory.
+pub fn assign(alloc: Global, f: &Function, live: &Live) -> Result<Homes, Memory>
+    requires { IsLiveness f.now live.now }
+    ensures homes { IfOk result (λ homes. AreHomes f.now homes) }
+    ensures one { IfOk result (λ homes. (other : List HomeOf) → AreHomes f.now other → other ≡ homes) }
+{
+    let named = named_row(alloc, f.insns.as_slice())?;
+    let pseudos = pseudos_of(alloc, &named)?;
+    let rows = conflict_rows(alloc, f, live, named.width())?;
+    let homes = pick_in_order(alloc, rows.as_slice(), pseudos.as_slice())?;
+    Ok(homes)
+}

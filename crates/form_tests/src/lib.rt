@@ -12,6 +12,8 @@ mod md_forms_tests;
 #[cfg(test)]
 mod md_list_tests;
 #[cfg(test)]
+mod md_match_tests;
+#[cfg(test)]
 mod md_pattern_tests;
 #[cfg(test)]
 mod md_source_tests;

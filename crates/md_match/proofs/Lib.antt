@@ -1,0 +1,13 @@
+mod Anys
+pub mod Collecting
+pub mod Decided
+pub mod Instantiated
+pub mod Lacking
+pub mod Nodes
+pub mod Parts
+pub mod Placeholders
+pub mod Placing
+pub mod Reaching
+mod RtxInduction
+mod Short
+pub mod Unique

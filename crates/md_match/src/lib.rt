@@ -1,0 +1,22 @@
+//! Matches patterns of a machine description with expressions, and makes expressions of patterns: GCC Internals, "RTL Template".
+//!
+//! [`match_shape`] gives the operands with which a pattern is an expression, predicates aside, or `None` exactly where there are
+//! none such; a match has one list of operands. [`instantiate`] puts operands into a pattern, and gives `None` exactly where one
+//! that the pattern names is missing. Each is the inverse of the other: what is matched is instantiated back, and what is
+//! instantiated, with operands that are only those that the pattern gives and as its placeholders ask, is matched with the same
+//! operands. `specs/Pattern.antt` says what a pattern makes of operands, `specs/Match.antt` when it matches.
+//!
+//! A pattern's dups may stand in front of the operand that they repeat. A call goes as deep as the pattern. [`Steps`] counts the calls of
+//! [`match_shape`] for whoever wants to bound them.
+#![tactic(auto)]
+
+mod collect;
+mod instance;
+mod makes;
+mod matching;
+mod role;
+mod steps;
+
+pub use instance::instantiate;
+pub use matching::match_shape;
+pub use steps::Steps;

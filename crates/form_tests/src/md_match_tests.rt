@@ -1,4 +1,6 @@
 //! What patterns match, and what is made of them.
+ghost use Rattle.std.specs.Prelude.{◌≡◌, ◌<◌};
+
 use lisp_read::{Tree, is_vector, is_word, read_trees, vector};
 use md_match::{Steps, instantiate, match_shape};
 use md_pattern::pattern_of;

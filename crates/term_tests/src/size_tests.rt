@@ -41,22 +41,6 @@ fn normal_size(alloc: Global, t: &Term, stores: &SymStores) -> Result<u64, TermR
     Ok(size(&norm(alloc, t, stores)?))
 }
 
-// A product is flattened: 19 times doubled it has 524,288 factors, and then twice as many, which are too many.
-#[test]
-fn doubled_products(rt: HostRuntime) -> Result<(), Fail> {
-    let none = Items::new(rt.alloc());
-    let half = doubled_often(rt.alloc(), Head::Mul, 19)?;
-    assert!(rt; matches!(normal_size(rt.alloc(), &half, &none), Ok(524_289)));
-    let whole = doubled(rt.alloc(), Head::Mul, half)?;
-    assert!(rt;
-        matches!(
-            normal_size(rt.alloc(), &whole, &none),
-            Err(TermRefusal::Size { size: 1_048_577 })
-        )
-    );
-    Ok(())
-}
-
 // The upper half of a product is not flattened.
 #[test]
 fn doubled_upper_halves(rt: HostRuntime) -> Result<(), Fail> {

@@ -1,7 +1,7 @@
 //! Conditions and statements, read from their texts.
 ghost use Rattle.std.specs.Prelude.{◌≡◌, ℕ, List, [], ◌∷◌, IfOk};
 ghost use Rattle.c_cond.specs.declared.tree.Tree.{Tree};
-ghost use Rattle.c_cond.specs.Tree.{heads_of};
+ghost use Rattle.c_cond.specs.Tree.{heads_of, tree_of};
 ghost use Rattle.c_words.specs.declared.atom.Dialect.TheVariants as Dialect;
 ghost use Rattle.c_words.specs.Tokens.{tokens_in};
 ghost use Rattle.c_cond.specs.Grammar.{IsText, Condition, Statements};
@@ -49,7 +49,8 @@ impl Model for Cond {
 impl Cond {
     /// The heads of the tree, each behind its parts.
     pub fn heads(&self) -> &[Head]
-        ensures { result.now ≡ heads_of self.now }
+        ensures heads { result.now ≡ heads_of self.now }
+        ensures tree { tree_of result.now ≡ self.now }
     {
         self.heads.as_slice()
     }
@@ -80,7 +81,8 @@ impl Model for Prep {
 impl Prep {
     /// The heads of the tree, each behind its parts.
     pub fn heads(&self) -> &[Head]
-        ensures { result.now ≡ heads_of self.now }
+        ensures heads { result.now ≡ heads_of self.now }
+        ensures tree { tree_of result.now ≡ self.now }
     {
         self.heads.as_slice()
     }

@@ -19,4 +19,5 @@ mod steps;
 
 pub use instance::instantiate;
 pub use matching::match_shape;
+pub use role::{Role, operand_of, role_of};
 pub use steps::Steps;

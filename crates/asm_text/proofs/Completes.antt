@@ -61,7 +61,7 @@ body_has number f _ (IsBodyText.body finished finish) h = items_text number f.na
 function_has : (number : ℕ) (f : Function) (o : Outcome) → IsFunctionText number f o → AreMatched f.insns → HasText o
 function_has number f _ (IsFunctionText.text body texts) h = map_text (framed f.name) body (body_has number f body texts h)
 
-no_text : (e : Refusal) → HasText (Err e) → ⊥
+pub no_text : (e : Refusal) → HasText (Err e) → ⊥
 no_text e h = let no : ◌≡◌ {A = Outcome} (Err e) (Ok h.0) = h.1 in let none : ⊥ = cc in none
 
 texts_have : (number : ℕ) (functions : List Function) (o : Outcome) → AreTexts number functions o → AllMatched functions → HasText o
@@ -69,7 +69,7 @@ texts_have number _ _ (AreTexts.none _) h = ([], refl)
 texts_have number _ _ (AreTexts.refused _ f functions e text) h = absurd (no_text e (function_has number f (Err e) text h.0))
 texts_have number _ _ (AreTexts.goes_on _ f functions t rest small text more) h = map_text (λ more. t ++ more) rest (texts_have (number + 1) functions rest more h.1)
 
-come_have : (functions : List Function) (o : Outcome) → FunctionsCome functions o → compile.first_refused functions ≡ None → AllMatched functions → HasText o
+pub come_have : (functions : List Function) (o : Outcome) → FunctionsCome functions o → compile.first_refused functions ≡ None → AllMatched functions → HasText o
 come_have functions _ (FunctionsCome.refused e is) none h = absurd (let no : ◌≡◌ {A = Option Refusal} (Some e) None = sym is ∙ none in let nothing : ⊥ = cc in nothing)
 come_have functions _ (FunctionsCome.assembled o none texts) none' h = texts_have 0 functions o texts h
 

@@ -6,3 +6,10 @@ pub mod SameLaws
 pub mod Uids
 pub mod Parts
 pub mod Completes
+pub mod Unread
+pub mod ItemLaws
+pub mod CodedParts
+pub mod CodeLaws
+pub mod CodeSteps
+pub mod LineTexts
+pub mod NamedLaws

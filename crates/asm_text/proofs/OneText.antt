@@ -12,7 +12,7 @@ use Rattle.asm_text.specs.Assembly.{Outcome, outcome_map, body_text, framed, IsF
 use Rattle.asm_text.specs.Compile.{most_bytes, FunctionsCome, ReadingComes, InputComes}
 
 -- a chain is finished in one way
-one_finish : (insns a b : List Insn) → IsFinished insns a → IsFinished insns b → a ≡ b
+pub one_finish : (insns a b : List Insn) → IsFinished insns a → IsFinished insns b → a ≡ b
 one_finish insns _ _ (IsFinished.returning _) (IsFinished.returning _) = refl
 one_finish insns _ _ (IsFinished.returning reached) (IsFinished.staying never) = absurd (never reached)
 one_finish insns _ _ (IsFinished.staying never) (IsFinished.returning reached) = absurd (never reached)
@@ -42,13 +42,13 @@ one_text number _ _ _ (AreTexts.goes_on _ f functions t rest small text more) (A
 same_some : (a b : Refusal) → ◌≡◌ {A = Option Refusal} (Some a) (Some b) → a ≡ b
 same_some a b is = cc
 
-one_coming : (functions : List Function) (a b : Outcome) → FunctionsCome functions a → FunctionsCome functions b → a ≡ b
+pub one_coming : (functions : List Function) (a b : Outcome) → FunctionsCome functions a → FunctionsCome functions b → a ≡ b
 one_coming functions _ _ (FunctionsCome.refused e is) (FunctionsCome.refused e' is') = ap (λ (e : Refusal). Err e) (same_some e e' (sym is ∙ is'))
 one_coming functions _ _ (FunctionsCome.refused e is) (FunctionsCome.assembled o none texts) = absurd (let no : ◌≡◌ {A = Option Refusal} (Some e) None = sym is ∙ none in let nothing : ⊥ = cc in nothing)
 one_coming functions _ _ (FunctionsCome.assembled o none texts) (FunctionsCome.refused e is) = absurd (let no : ◌≡◌ {A = Option Refusal} (Some e) None = sym is ∙ none in let nothing : ⊥ = cc in nothing)
 one_coming functions _ _ (FunctionsCome.assembled o none texts) (FunctionsCome.assembled o' none' texts') = one_text 0 functions o o' texts texts'
 
-same_functions : (a b : List Function) → ◌≡◌ {A = Parsed (List Function)} (stands a) (stands b) → a ≡ b
+pub same_functions : (a b : List Function) → ◌≡◌ {A = Parsed (List Function)} (stands a) (stands b) → a ≡ b
 same_functions a b is = cc
 
 same_construct : (place place' : Place) (name name' : List ℕ) → ◌≡◌ {A = Parsed (List Function)} (construct place name) (construct place' name') → (place ≡ place') × (name ≡ name')

@@ -21,7 +21,7 @@ use Rattle.asm_table.proofs.InsnLines.{HasLine, matched_has_line, return_line}
 use Rattle.asm_text.proofs.Uids.{AreUids, AllUids, all_uids}
 
 -- the lines of a chain, as items and how they end
-record Coded (number : ℕ) (Reached : Type 0) (insns : List Insn) (text : List ℕ) : Type 0 where
+pub record Coded (number : ℕ) (Reached : Type 0) (insns : List Insn) (text : List ℕ) : Type 0 where
   pub ending : List CodeItem
   pub ends : IsEnding Reached ending
   pub items : List CodeItem
@@ -29,7 +29,7 @@ record Coded (number : ℕ) (Reached : Type 0) (insns : List Insn) (text : List 
   pub are : AreItemsOf number ending insns items
 
 -- the text of a line with its end, before a rest
-ended : (m : List ℕ) (text rest : List ℕ) → m ≡ text ++ 10 ∷ [] → m ++ rest ≡ text ++ 10 ∷ rest
+pub ended : (m : List ℕ) (text rest : List ℕ) → m ≡ text ++ 10 ∷ [] → m ++ rest ≡ text ++ 10 ∷ rest
 ended m text rest is = ap (λ t. t ++ rest) is ∙ append_assoc text (10 ∷ []) rest
 
 coded_line : (number : ℕ) (Reached : Type 0) (i : Insn) (insns : List Insn) (m : Match) (rest : List ℕ) → HasLine number i m → Coded number Reached insns rest → Coded number Reached (i ∷ insns) (filled_line number m ++ rest)
@@ -103,7 +103,7 @@ with_nothing : (insns : List Insn) → insns ≡ insns ++ []
 with_nothing [] = refl
 with_nothing (i ∷ insns) = ap (λ l. i ∷ l) (with_nothing insns)
 
-finished_code : (number : ℕ) (insns finished : List Insn) (text : List ℕ) → number < 2 ^ 32 → AreUids insns → IsFinished insns finished → AreLines number finished text → Coded number (ReachesExit insns) insns text
+pub finished_code : (number : ℕ) (insns finished : List Insn) (text : List ℕ) → number < 2 ^ 32 → AreUids insns → IsFinished insns finished → AreLines number finished text → Coded number (ReachesExit insns) insns text
 finished_code number insns _ text small uids (IsFinished.returning reached) lines =
     coded number (ReachesExit insns) (return_insn insns ∷ []) insns text small (return_behind number (ReachesExit insns) (return_insn insns) small refl refl) uids lines
 finished_code number insns _ text small uids (IsFinished.staying never) lines =
@@ -113,7 +113,7 @@ finished_code number insns _ text small uids (IsFinished.staying never) lines =
 fits_frame : (locals : ℕ) → locals ≤ frame_size locals
 fits_frame locals = omega arith
 
-does_same : (number : ℕ) (functions : List Function) (text : List ℕ) → AllUids functions → IsAssembly number functions text → DoesSame functions text
+pub does_same : (number : ℕ) (functions : List Function) (text : List ℕ) → AllUids functions → IsAssembly number functions text → DoesSame functions text
 does_same number _ _ uids (IsAssembly.none _) = record { items = []; parts = AreParts.none; same = AreSame.none }
 does_same number _ _ uids (IsAssembly.function _ f functions finished body rest small finish lines others) =
     let code = finished_code number f.insns finished body small uids.0 finish lines in

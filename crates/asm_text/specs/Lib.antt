@@ -2,3 +2,4 @@ pub mod Assembly
 pub mod Compile
 pub mod Lines
 pub mod Same
+pub mod Code

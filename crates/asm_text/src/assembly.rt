@@ -80,7 +80,7 @@ fn print_items(
 }
 
 /// The return that is added at the end of a chain. It wants a number for it, as it wants memory.
-fn return_insn(alloc: Global, insns: &[Insn]) -> Result<Insn, Memory>
+pub(crate) fn return_insn(alloc: Global, insns: &[Insn]) -> Result<Insn, Memory>
     ensures { IfOk result (λ end. end ≡ spec.return_insn insns.now) }
 {
     let Some(uid) = greatest_uid(insns).checked_add(1) else {
@@ -110,7 +110,7 @@ fn print_returning(
 }
 
 /// Whether the end of a function's chain is reached. A chain with more places than have a number is wanted as memory is.
-fn is_ended(alloc: Global, f: &Function) -> Result<bool, Memory>
+pub(crate) fn is_ended(alloc: Global, f: &Function) -> Result<bool, Memory>
     ensures { IfOk result (λ reached. IsTrue reached ↔ ReachesExit f.now.insns) }
 {
     if f.insns.len() < 0xffff_ffff {

@@ -1,6 +1,10 @@
 //! What the bytes of an input come to: the assembly of its functions, or the first refusal.
-ghost use Rattle.std.specs.Prelude.{◌≡◌, ℕ, List, ◌<◌, ◌≤◌, ◌↔◌, ◌^◌, All, IfOk, IfErr, IsTrue, codes, length};
+ghost use Rattle.std.specs.Prelude.{◌≡◌, ◌≢◌, ℕ, List, ◌<◌, ◌≤◌, ◌↔◌, ◌^◌, All, IfOk, IfErr, IsTrue, codes, length};
+ghost use Rattle.rtx_tree.specs.declared.function.Function.{Function};
+ghost use Rattle.lisp_read.specs.declared.tree.Tree.{Tree};
 ghost use Rattle.lisp_read.specs.Reading.{ReadsAs, Trees};
+ghost use Rattle.lisp_read.specs.Parsed.{stands};
+ghost use Rattle.rtl_read.specs.Syntax.{functions_in};
 ghost use Rattle.rtl_func.specs.Faults.{first_fault};
 ghost use Rattle.rtl_func.specs.Rules.{faults};
 ghost use Rattle.asm_text.specs.Assembly.{Outcome, AreTexts};
@@ -27,10 +31,11 @@ fn syntax(alloc: Global, place: Place) -> Refusal
 }
 
 /// The trees of an input.
-fn read(alloc: Global, bytes: &[u8]) -> Result<Trees, Refusal>
+pub(crate) fn read(alloc: Global, bytes: &[u8]) -> Result<Trees, Refusal>
     requires { length bytes.now ≤ most_bytes }
     ensures trees { IfOk result (λ trees. ReadsAs bytes.now (Trees trees)) }
     ensures refused { IfErr result (ReadRefused bytes.now) }
+    ensures unread { IfErr result (λ e. e ≢ refused.Memory → (trees : List Tree) → ReadsAs bytes.now (Trees trees) → ⊥) }
 {
     match read_trees(alloc, bytes) {
         Ok(trees) => Ok(trees),
@@ -44,8 +49,9 @@ fn read(alloc: Global, bytes: &[u8]) -> Result<Trees, Refusal>
 }
 
 /// The functions of an input's trees.
-fn parse(alloc: Global, trees: &Trees) -> Result<Functions, Refusal>
-    ensures { Parses trees.now result }
+pub(crate) fn parse(alloc: Global, trees: &Trees) -> Result<Functions, Refusal>
+    ensures parses { Parses trees.now result }
+    ensures outside { IfErr result (λ e. e ≢ refused.Memory → (functions : List Function) → functions_in trees.now ≢ stands functions) }
 {
     match functions_of(alloc, trees.as_slice()) {
         Ok(functions) => Ok(functions),
@@ -163,7 +169,7 @@ fn assemble(alloc: Global, functions: &[Function]) -> Result<Vec<u8>, Refusal>
 }
 
 /// The assembly of functions, or what refuses one of them.
-fn compile(alloc: Global, functions: &[Function]) -> Result<Vec<u8>, Refusal>
+pub(crate) fn compile(alloc: Global, functions: &[Function]) -> Result<Vec<u8>, Refusal>
     ensures { Tells result (FunctionsCome functions.now) }
 {
     check_all(alloc, functions)?;

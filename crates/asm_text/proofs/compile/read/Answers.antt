@@ -1,4 +1,6 @@
+use Rattle.lisp_read.specs.Reading.{Trees, Syntax, Depth}
 use Rattle.asm_text.proofs.Comes.{syntax_refused, depth_refused}
+use Rattle.asm_text.proofs.Unread.{no_reading}
 use Rattle.asm_text.proofs.compile.read.Goals as goal
 
 pub returns-in-Err-Syntax-clause-refused : goal.returns-in-Err-Syntax-clause-refused
@@ -8,3 +10,9 @@ returns-in-Err-Syntax-clause-refused c =
 pub returns-in-Err-Depth-clause-refused : goal.returns-in-Err-Depth-clause-refused
 returns-in-Err-Depth-clause-refused c =
     depth_refused c.args.bytes.now c.in-Err-Depth.field-0-0 c.requires (rw c.in-Err-Depth.field-0-is at c.in-Err-Depth.ensures.reads)
+
+pub returns-in-Err-Syntax-clause-unread : goal.returns-in-Err-Syntax-clause-unread
+returns-in-Err-Syntax-clause-unread c = λ other trees reads. no_reading c.args.bytes.now (Syntax c.in-Err-Syntax.place) trees (λ is. cc) (rw c.in-Err-Syntax.field-0-is at c.in-Err-Syntax.ensures.reads) reads
+
+pub returns-in-Err-Depth-clause-unread : goal.returns-in-Err-Depth-clause-unread
+returns-in-Err-Depth-clause-unread c = λ other trees reads. no_reading c.args.bytes.now (Depth c.in-Err-Depth.field-0-0) trees (λ is. cc) (rw c.in-Err-Depth.field-0-is at c.in-Err-Depth.ensures.reads) reads

@@ -1,0 +1,119 @@
+-- A function of an input with its code: the lines and labels that its part of the input's assembly spells.
+use Rattle.std.specs.Prelude.{◌≡◌, ◌≤◌, ◌<◌, ◌^◌, ℕ, ◌+◌, Bool, true, false, List, [], ◌∷◌, ◌++◌, length, Option, Some, None, Result, Ok, Err, if◌then◌else◌}
+use Rattle.std.specs.List.{list_any}
+use Rattle.std.specs.Str.{bytes_eq}
+use Rattle.lisp_read.specs.declared.tree.Tree.{Tree}
+use Rattle.lisp_read.specs.Reading.{ReadsAs, Trees}
+use Rattle.lisp_read.specs.Parsed.{stands}
+use Rattle.rtx_tree.specs.declared.function.Kind.TheVariants.{Label, Barrier}
+use Rattle.rtx_tree.specs.declared.function.Insn.{Insn}
+use Rattle.rtx_tree.specs.declared.function.Function.{Function}
+use Rattle.rtl_read.specs.Syntax.{functions_in}
+use Rattle.rtl_step.specs.Step.{is_mark}
+use Rattle.rv_text.specs.Text.{IsTextOf}
+use Rattle.rv_text.specs.declared.line.Line.{Line}
+use Rattle.rv_text.specs.declared.line.CodeItem.{CodeItem}
+use Rattle.rv_text.specs.declared.line.CodeItem.TheVariants as item
+use Rattle.asm_table.specs.declared.forms.Match.{Match}
+use Rattle.asm_table.specs.Forms.{first_match}
+use Rattle.asm_table.specs.Template.{filled_line}
+use Rattle.run_refusal.specs.declared.refusal.Refusal.{Refusal}
+use Rattle.run_refusal.specs.declared.refusal.Refusal.TheVariants as refusal
+use Rattle.asm_text.specs.Assembly.{IsFinished}
+use Rattle.asm_text.specs.Compile.{most_bytes, FunctionsCome, InputComes}
+use Rattle.asm_text.specs.Lines.{IsInput, IsAssembly}
+use Rattle.asm_text.specs.Same.{AreParts}
+use Rattle.asm_text.specs.declared.code.Coded.{Coded}
+
+-- the bytes are read as functions
+pub record IsRead (bytes : List ℕ) (functions : List Function) : Type 0 where
+  pub within : length bytes ≤ most_bytes
+  pub trees : List Tree
+  pub reads : ReadsAs bytes (Trees trees)
+  pub stand : functions_in trees ≡ stands functions
+
+abbrev pub is_named : List ℕ → Function → Bool
+is_named name f = bytes_eq f.name name
+
+-- one of some functions has a name
+abbrev pub has_named : List Function → List ℕ → Bool
+has_named functions name = list_any (is_named name) functions
+
+-- the first function with a name, with what stands in its place among other things
+abbrev pub coded_named : List Function → List (List CodeItem) → List ℕ → Option Coded
+coded_named (f ∷ functions) (items ∷ parts) name = if is_named name f then Some (record { function = f; items = items }) else coded_named functions parts name
+coded_named _ _ name = None
+
+-- a function with its code, or a refusal
+abbrev pub Answer : Type 0
+Answer = Result Coded Refusal
+
+-- What a name among functions comes to. What refuses the functions refuses it, but whether one of them has the name is looked at first.
+pub data NameComes (functions : List Function) (name : List ℕ) : Answer → Type 0 where
+  unnamed : has_named functions name ≡ false → NameComes functions name (Err refusal.Usage)
+  refused : (e : Refusal) → has_named functions name ≡ true → FunctionsCome functions (Err e) → NameComes functions name (Err e)
+  coded : (text : List ℕ) (parts : List (List CodeItem)) (c : Coded) → FunctionsCome functions (Ok text) → AreParts functions text parts → coded_named functions parts name ≡ Some c → NameComes functions name (Ok c)
+
+-- What a name comes to in the bytes of an input. Bytes that are not read as functions are refused as their assembly is.
+pub data CodeComes (bytes name : List ℕ) : Answer → Type 0 where
+  unread : (e : Refusal) → ((functions : List Function) → ¬ IsRead bytes functions) → InputComes bytes (Err e) → CodeComes bytes name (Err e)
+  read : (functions : List Function) (answer : Answer) → IsRead bytes functions → NameComes functions name answer → CodeComes bytes name answer
+
+-- no function of the input has the name
+abbrev pub IsUnnamed : List ℕ → List ℕ → Type 0
+IsUnnamed bytes name = (functions : List Function) × IsRead bytes functions × (has_named functions name ≡ false)
+
+-- A function of the input with a name, with its code: the input has an assembly, and the function is the first with the name, with what its part
+-- of that text spells.
+pub record IsCoded (bytes name : List ℕ) (c : Coded) : Type 0 where
+  pub functions : List Function
+  pub input : IsInput bytes functions
+  pub text : List ℕ
+  pub assembly : IsAssembly 0 functions text
+  pub parts : List (List CodeItem)
+  pub are : AreParts functions text parts
+  pub coded : coded_named functions parts name ≡ Some c
+
+-- ---- the steps of the code
+
+-- a call gave an answer with a property; want of memory is free, and it tells no fault
+abbrev pub Answers : Answer → (Answer → Type 0) → Type 0
+Answers (Err refusal.Memory) P = Unit {0}
+Answers (Err refusal.ReadFault) P = ⊥
+Answers (Err refusal.WriteFault) P = ⊥
+Answers answer P = P answer
+
+-- bytes are a text of a line with its end
+abbrev pub IsLineText : List ℕ → Line → Type 0
+IsLineText bytes line = (text : List ℕ) × (bytes ≡ text ++ 10 ∷ []) × IsTextOf text line
+
+-- the lines and labels of a chain of a function with a number, by the forms that match
+pub data AreItems (number : ℕ) : List Insn → List CodeItem → Type 0 where
+  none : AreItems number [] []
+  line : (i : Insn) (insns : List Insn) (m : Match) (line : Line) (items : List CodeItem) → is_mark i.kind ≡ false → first_match i ≡ Some m → IsLineText (filled_line number m) line → AreItems number insns items →
+      AreItems number (i ∷ insns) (item.Code line ∷ items)
+  label : (i : Insn) (insns : List Insn) (items : List CodeItem) → i.kind ≡ Label → i.uid < 2 ^ 32 → AreItems number insns items → AreItems number (i ∷ insns) (item.Label number i.uid ∷ items)
+  barrier : (i : Insn) (insns : List Insn) (items : List CodeItem) → i.kind ≡ Barrier → AreItems number insns items → AreItems number (i ∷ insns) items
+
+-- what stands for an item of a chain, if anything does
+abbrev pub listed : Option CodeItem → List CodeItem
+listed None = []
+listed (Some item) = item ∷ []
+
+abbrev pub IsItemOf : ℕ → Insn → Option CodeItem → Type 0
+IsItemOf number i item = AreItems number (i ∷ []) (listed item)
+
+-- bytes are a text of some line with its end
+abbrev pub IsLineIn : List ℕ → Type 0
+IsLineIn bytes = (line : Line) × IsLineText bytes line
+
+-- those of a function
+pub record AreItemsOf (number : ℕ) (f : Function) (items : List CodeItem) : Type 0 where
+  pub finished : List Insn
+  pub finish : IsFinished f.insns finished
+  pub are : AreItems number finished items
+
+-- a function with its code is the first with a name, where the first of the functions has a number
+pub data IsCodedFrom (name : List ℕ) : ℕ → List Function → Coded → Type 0 where
+  here : (number : ℕ) (f : Function) (functions : List Function) (items : List CodeItem) → is_named name f ≡ true → AreItemsOf number f items → IsCodedFrom name number (f ∷ functions) (record { function = f; items = items })
+  behind : (number : ℕ) (f : Function) (functions : List Function) (c : Coded) → is_named name f ≡ false → IsCodedFrom name (number + 1) functions c → IsCodedFrom name number (f ∷ functions) c

@@ -1,0 +1,3 @@
+pub mod Zeros
+pub mod Symbols
+pub mod Lawful

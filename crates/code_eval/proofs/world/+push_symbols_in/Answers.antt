@@ -1,0 +1,8 @@
+use Rattle.std.proofs.Common.{arith}
+use Rattle.code_eval.specs.World.{symbols_in}
+use Rattle.code_eval.proofs.Symbols.{symbols_next}
+use Rattle.code_eval.proofs.world.+push_symbols_in.Goals as goal
+
+pub loop-kid-preserved : goal.loop-kid-preserved
+loop-kid-preserved t c =
+    symbols_next symbols_in c.as_slice-kid-items.result.now c.loop-kid.kid-index c.kid-item.result c.loop-kid.symbols c.push_symbols_in.new.symbols _ (omega arith) c.kid-item.is c.in_ok-push_symbols_in.ensures c.loop-kid.invariant

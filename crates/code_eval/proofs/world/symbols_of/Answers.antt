@@ -1,0 +1,9 @@
+use Rattle.std.proofs.Common.{arith}
+use Rattle.rtx_tree.specs.declared.function.Insn.{Insn}
+use Rattle.code_eval.specs.World.{symbols_in}
+use Rattle.code_eval.proofs.Symbols.{symbols_next}
+use Rattle.code_eval.proofs.world.symbols_of.Goals as goal
+
+pub loop-insn-preserved : goal.loop-insn-preserved
+loop-insn-preserved c =
+    symbols_next (λ (i : Insn). symbols_in i.pattern) c.args.insns.now c.loop-insn.insn-index c.insn-item.result c.loop-insn.symbols c.push_symbols_in.new.symbols _ (omega arith) c.insn-item.is c.in_ok-push_symbols_in.ensures c.loop-insn.invariant

@@ -1,0 +1,4 @@
+pub mod Start
+pub mod World
+pub mod Ending
+pub mod Eval

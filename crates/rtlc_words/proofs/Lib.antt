@@ -1,0 +1,17 @@
+pub mod Shapes
+pub mod Texts
+pub mod Dashed
+pub mod WordKinds
+pub mod Rows
+pub mod Turns
+pub mod Steps
+pub mod ValueSteps
+pub mod Stands
+pub mod Both
+pub mod Reading
+pub mod Level
+pub mod Program
+pub mod NoCommand
+pub mod Whole
+pub mod Found
+pub mod Numerals

@@ -56,3 +56,11 @@ err_on r d e f p q is = let same : e ≡ f = cc in p ∙ ap (λ (x : Refusal). E
 pub told_cause : (words : List (List ℕ)) (known : Source) (input : Option (List ℕ)) (e told : Refusal) → (told ≡ e) ⊎ ((told ≡ refusal.Memory) × (has_values e ≡ true)) → IsRefused words known input e → IsRefused words known input told
 told_cause words known input e told which h =
     ⊎_elim (λ same. subst (IsRefused words known input) (sym same) h) (λ memory. subst (IsRefused words known input) (sym memory.0) tt) which
+
+no_values : has_values refusal.ReadFault ≡ true → ⊥
+no_values h = cc
+
+-- a fault of a read that was told has its own status
+pub read_status : (e told : Refusal) (status : ℕ) → status ≡ status_of told → (told ≡ e) ⊎ ((told ≡ refusal.Memory) × (has_values e ≡ true)) → e ≡ refusal.ReadFault → status ≡ 6
+read_status e told status is which read =
+    ⊎_elim (λ same. is ∙ ap status_of (same ∙ read)) (λ memory. absurd (no_values (sym (ap has_values read) ∙ memory.1))) which

@@ -1,5 +1,5 @@
 -- What a command comes to, from what reading, assembling and listing gave.
-use Rattle.std.proofs.Common.{◌≡◌, ℕ, ◌≤◌, ◌++◌, List, [], length, Result, Ok, Err, Option, Some, None, Vec, refl, sym, ap, subst, ◌∙◌}
+use Rattle.std.proofs.Common.{◌≡◌, ℕ, ◌≤◌, ◌<◌, ◌++◌, List, [], length, Result, Ok, Err, Option, Some, None, Vec, refl, sym, ap, subst, ◌∙◌, arith}
 use Rattle.std.specs.Prelude.{IfSome}
 use Rattle.std.specs.declared.alloc.Global.{Global}
 use Rattle.std.proofs.lemmas.List.{append-nil}
@@ -16,11 +16,26 @@ use Rattle.md_list.specs.declared.refusal.ListRefusal.TheVariants as listing
 use Rattle.md_list.specs.Listing.{ListComes}
 use Rattle.md_list.specs.Answers.{GivesList}
 use Rattle.asm_text.specs.Assembly.{Outcome}
-use Rattle.asm_text.specs.Compile.{InputComes, Tells}
-use Rattle.rtlc_run.specs.declared.words.Command.{Command}
-use Rattle.rtlc_run.specs.declared.words.Command.TheVariants as commands
-use Rattle.rtlc_run.specs.Words.{command_of}
-use Rattle.rtlc_run.specs.Answer.{list_refused, CommandComes, Answers, Produces, InputRefused, IsOwn, MayBeAsked, IsRefused}
+use Rattle.asm_text.specs.Compile.{most_bytes, InputComes, Tells}
+use Rattle.asm_text.specs.Code.{IsUnnamed, CodeComes}
+use Rattle.asm_text.specs.Code.{Answers as Told}
+use Rattle.rtlc_words.specs.declared.command.Command.{Command}
+use Rattle.rtlc_words.specs.declared.command.Command.TheVariants as commands
+use Rattle.rtlc_words.specs.Words.{command_of}
+use Rattle.rtlc_run.specs.Answer.{described, list_refused, EvalComes, CommandComes, Answers, Produces, InputRefused, IsOwn, IsMisused, MayBeAsked, IsRefused}
+
+-- what was produced has any property that follows
+pub produces_map : (r : Result (Vec ℕ Global) Refusal) (P Q : Outcome → Type 0) → ((o : Outcome) → P o → Q o) → Produces r P → Produces r Q
+produces_map (Ok text) P Q follows h = follows (Ok text.items) h
+produces_map (Err refusal.Memory) P Q follows h = tt
+produces_map (Err refusal.ReadFault) P Q follows h = tt
+produces_map (Err refusal.WriteFault) P Q follows h = absurd h
+produces_map (Err refusal.Usage) P Q follows h = follows (Err refusal.Usage) h
+produces_map (Err (refusal.Syntax file place)) P Q follows h = follows (Err (refusal.Syntax file place)) h
+produces_map (Err (refusal.Construct place name)) P Q follows h = follows (Err (refusal.Construct place name)) h
+produces_map (Err (refusal.IllFormed function uid rule)) P Q follows h = follows (Err (refusal.IllFormed function uid rule)) h
+produces_map (Err (refusal.Limit which count)) P Q follows h = follows (Err (refusal.Limit which count)) h
+produces_map (Err (refusal.Unmatched function uid stage insn)) P Q follows h = follows (Err (refusal.Unmatched function uid stage insn)) h
 
 -- ---- the input
 
@@ -68,6 +83,60 @@ asm_unread known left refusal.ReadFault h = tt
 asm_unread known left (refusal.Limit which count) h = unread_limit known left which count h
 asm_unread known left _ h = absurd h
 
+-- ---- eval
+
+eval_comes : (known : Source) (left left' : Option (List ℕ)) (bytes function : List ℕ) (steps : ℕ) (args : List ℕ) (o : Outcome) → Consumes left left' bytes × IsAtEnd left' → EvalComes bytes function steps args o →
+    CommandComes known left (commands.Eval function steps args) o
+eval_comes known left left' bytes function steps args o read comes = CommandComes.tries function steps args o (of_input (λ (bs : List ℕ). EvalComes bs function steps args o) left left' bytes read comes)
+
+-- what the bytes that were read came to, `eval` comes to
+pub eval_produced : (known : Source) (left left' : Option (List ℕ)) (bytes function : List ℕ) (steps : ℕ) (args : List ℕ) (r : Result (Vec ℕ Global) Refusal) → Consumes left left' bytes × IsAtEnd left' →
+    Produces r (EvalComes bytes function steps args) → Produces r (CommandComes known left (commands.Eval function steps args))
+eval_produced known left left' bytes function steps args r read h =
+    produces_map r (EvalComes bytes function steps args) (CommandComes known left (commands.Eval function steps args)) (λ o comes. eval_comes known left left' bytes function steps args o read comes) h
+
+-- bytes that are too many are no functions
+too_many : (bytes function : List ℕ) (steps : ℕ) (args : List ℕ) (count : ℕ) → count ≡ 16777217 → most_bytes < length bytes → EvalComes bytes function steps args (Err (refusal.Limit limit.Text count))
+too_many bytes function steps args count is long = (
+  Err (refusal.Limit limit.Text count),
+  CodeComes.unread (refusal.Limit limit.Text count) (λ functions read. let within = read.within in omega (arith, long, within))
+      (subst (λ (n : ℕ). InputComes bytes (Err (refusal.Limit limit.Text n))) (sym is) (InputComes.too_long long)),
+  refl,
+)
+
+too_many_left : (left : Option (List ℕ)) (function : List ℕ) (steps : ℕ) (args : List ℕ) (count : ℕ) → InputRefused left (refusal.Limit limit.Text count) →
+    IfSome left (λ bytes. EvalComes bytes function steps args (Err (refusal.Limit limit.Text count)))
+too_many_left None function steps args count h = tt
+too_many_left (Some bytes) function steps args count h = too_many bytes function steps args count h.0 h.1
+
+eval_limit : (known : Source) (left : Option (List ℕ)) (function : List ℕ) (steps : ℕ) (args : List ℕ) (which : Limit) (count : ℕ) → InputRefused left (refusal.Limit which count) →
+    Produces (Err (refusal.Limit which count)) (CommandComes known left (commands.Eval function steps args))
+eval_limit known left function steps args limit.Text count h = CommandComes.tries function steps args (Err (refusal.Limit limit.Text count)) (too_many_left left function steps args count h)
+eval_limit known left function steps args _ count h = absurd h
+
+-- an input that was not read refuses `eval`
+pub eval_unread : (known : Source) (left : Option (List ℕ)) (function : List ℕ) (steps : ℕ) (args : List ℕ) (e : Refusal) → InputRefused left e → Produces (Err e) (CommandComes known left (commands.Eval function steps args))
+eval_unread known left function steps args refusal.Memory h = tt
+eval_unread known left function steps args refusal.ReadFault h = tt
+eval_unread known left function steps args (refusal.Limit which count) h = eval_limit known left function steps args which count h
+eval_unread known left function steps args _ h = absurd h
+
+-- what refused the code refuses the outcomes
+pub code_refused : (bytes function : List ℕ) (steps : ℕ) (args : List ℕ) (e : Refusal) → Told (Err e) (CodeComes bytes function) → Produces (Err e) (EvalComes bytes function steps args)
+code_refused bytes function steps args refusal.Memory h = tt
+code_refused bytes function steps args refusal.ReadFault h = absurd h
+code_refused bytes function steps args refusal.WriteFault h = absurd h
+code_refused bytes function steps args refusal.Usage h = (Err refusal.Usage, h, refl)
+code_refused bytes function steps args (refusal.Syntax file place) h = (Err (refusal.Syntax file place), h, refl)
+code_refused bytes function steps args (refusal.Construct place name) h = (Err (refusal.Construct place name), h, refl)
+code_refused bytes function steps args (refusal.IllFormed name uid rule) h = (Err (refusal.IllFormed name uid rule), h, refl)
+code_refused bytes function steps args (refusal.Limit which count) h = (Err (refusal.Limit which count), h, refl)
+code_refused bytes function steps args (refusal.Unmatched name uid stage insn) h = (Err (refusal.Unmatched name uid stage insn), h, refl)
+
+-- the function that has no name is missing from the input
+pub misused : (left left' : Option (List ℕ)) (bytes function : List ℕ) (steps : ℕ) (args : List ℕ) → Consumes left left' bytes × IsAtEnd left' → IsUnnamed bytes function → IsMisused (Some (commands.Eval function steps args)) left
+misused left left' bytes function steps args read unnamed = of_input (λ (bs : List ℕ). IsUnnamed bs function) left left' bytes read unnamed
+
 -- ---- refusals that a command does not give
 
 pub unread_is_own : (left : Option (List ℕ)) (e : Refusal) → InputRefused left e → IsOwn (Err e)
@@ -105,7 +174,7 @@ listing_is_own e told is = subst (λ (r : Refusal). IsOwn (Err r)) (sym is) (own
 
 -- ---- descriptions
 
-list_refuses : (known : Source) (input : Option (List ℕ)) (name : List ℕ) (e : ListRefusal) → GivesList (ListComes known name) (Err e) → Produces (Err (list_refused e)) (CommandComes known input (commands.List name))
+list_refuses : (known : Source) (input : Option (List ℕ)) (name : Option (List ℕ)) (e : ListRefusal) → GivesList (ListComes known (described name)) (Err e) → Produces (Err (list_refused e)) (CommandComes known input (commands.List name))
 list_refuses known input name (listing.Source (source.Syntax file place)) h = CommandComes.listed name (Err (listing.Source (source.Syntax file place))) h
 list_refuses known input name (listing.Source source.Depth) h = CommandComes.listed name (Err (listing.Source source.Depth)) h
 list_refuses known input name (listing.Source source.Include) h = CommandComes.listed name (Err (listing.Source source.Include)) h
@@ -116,23 +185,10 @@ list_refuses known input name listing.Forms h = CommandComes.listed name (Err li
 list_refuses known input name listing.Memory h = tt
 
 -- what refused the list refuses the command
-pub list_unproduced : (known : Source) (input : Option (List ℕ)) (name : List ℕ) (e : ListRefusal) (told : Refusal) → told ≡ list_refused e → GivesList (ListComes known name) (Err e) → Produces (Err told) (CommandComes known input (commands.List name))
+pub list_unproduced : (known : Source) (input : Option (List ℕ)) (name : Option (List ℕ)) (e : ListRefusal) (told : Refusal) → told ≡ list_refused e → GivesList (ListComes known (described name)) (Err e) → Produces (Err told) (CommandComes known input (commands.List name))
 list_unproduced known input name e told is h = subst (λ (r : Refusal). Produces (Err r) (CommandComes known input (commands.List name))) (sym is) (list_refuses known input name e h)
 
 -- ---- words
-
--- what was produced has any property that follows
-pub produces_map : (r : Result (Vec ℕ Global) Refusal) (P Q : Outcome → Type 0) → ((o : Outcome) → P o → Q o) → Produces r P → Produces r Q
-produces_map (Ok text) P Q follows h = follows (Ok text.items) h
-produces_map (Err refusal.Memory) P Q follows h = tt
-produces_map (Err refusal.ReadFault) P Q follows h = tt
-produces_map (Err refusal.WriteFault) P Q follows h = absurd h
-produces_map (Err refusal.Usage) P Q follows h = follows (Err refusal.Usage) h
-produces_map (Err (refusal.Syntax file place)) P Q follows h = follows (Err (refusal.Syntax file place)) h
-produces_map (Err (refusal.Construct place name)) P Q follows h = follows (Err (refusal.Construct place name)) h
-produces_map (Err (refusal.IllFormed function uid rule)) P Q follows h = follows (Err (refusal.IllFormed function uid rule)) h
-produces_map (Err (refusal.Limit which count)) P Q follows h = follows (Err (refusal.Limit which count)) h
-produces_map (Err (refusal.Unmatched function uid stage insn)) P Q follows h = follows (Err (refusal.Unmatched function uid stage insn)) h
 
 -- what their command comes to, words come to
 pub words_produced : (words : List (List ℕ)) (known : Source) (input : Option (List ℕ)) (c : Command) (r : Result (Vec ℕ Global) Refusal) → command_of words ≡ Some c → Produces r (CommandComes known input c) → Produces r (Answers words known input)
@@ -156,6 +212,7 @@ may_ask_nothing : (known : Source) (c : Option Command) → MayBeAsked known c [
 may_ask_nothing known None = refl
 may_ask_nothing known (Some commands.Asm) = refl
 may_ask_nothing known (Some (commands.List name)) = AreNamed.none
+may_ask_nothing known (Some (commands.Eval function steps args)) = refl
 
 pub nothing_asked : (known : Source) (c : Option Command) (asked : Option (List (List ℕ))) → GrewBy (MayBeAsked known c) asked asked
 nothing_asked known c None = tt

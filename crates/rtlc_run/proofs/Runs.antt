@@ -14,25 +14,43 @@ use Rattle.md_list.proofs.Lists.{one_list}
 use Rattle.asm_text.specs.Assembly.{Outcome}
 use Rattle.asm_text.specs.Compile.{InputComes}
 use Rattle.asm_text.specs.Lines.{IsInput, AllMatched}
+use Rattle.asm_text.specs.declared.code.Coded.{Coded}
+use Rattle.asm_text.specs.Code.{CodeComes}
+use Rattle.asm_text.proofs.CodeLaws.{one_code, code_coded, code_has}
+use Rattle.code_eval.specs.Eval.{eval_text}
 use Rattle.asm_text.proofs.OneText.{one_coming_of}
 use Rattle.asm_text.proofs.LinesLaws.{input_of}
 use Rattle.asm_text.proofs.SameLaws.{input_does_same}
 use Rattle.asm_text.proofs.Completes.{HasText, input_has}
-use Rattle.rtlc_run.specs.declared.words.Command.{Command}
-use Rattle.rtlc_run.specs.declared.words.Command.TheVariants as commands
-use Rattle.rtlc_run.specs.Words.{command_of}
-use Rattle.rtlc_run.specs.Answer.{list_told, CommandComes, Answers, IsKnownFor, Writes, IsAnswered, status_of_answer}
-use Rattle.rtlc_run.specs.Written.{WritesLines, WritesSame, WritesList, IsDone, Completes}
+use Rattle.rtlc_words.specs.declared.command.Command.{Command}
+use Rattle.rtlc_words.specs.declared.command.Command.TheVariants as commands
+use Rattle.rtlc_words.specs.Words.{command_of}
+use Rattle.rtlc_run.specs.Answer.{described, list_told, evaluated, EvalComes, CommandComes, Answers, IsKnownFor, Writes, IsAnswered, status_of_answer}
+use Rattle.rtlc_run.specs.Written.{WritesLines, WritesSame, WritesOutcomes, WritesList, IsDone, Completes, CompletesFor}
 
 -- ---- the commands
 
 asm_comes : (known : Source) (input : Option (List ℕ)) (c : Command) (o : Outcome) → c ≡ commands.Asm → CommandComes known input c o → IfSome input (λ bytes. InputComes bytes o)
 asm_comes known input _ _ is (CommandComes.assembled o h) = h
 asm_comes known input _ _ is (CommandComes.listed name r h) = absurd (let none : ⊥ = cc in none)
+asm_comes known input _ _ is (CommandComes.tries f s a o h) = absurd (let none : ⊥ = cc in none)
 
-list_comes : (known : Source) (input : Option (List ℕ)) (name : List ℕ) (c : Command) (o : Outcome) → c ≡ commands.List name → CommandComes known input c o → (r : Result (List ℕ) ListRefusal) × ListComes known name r × (o ≡ list_told r)
+list_comes : (known : Source) (input : Option (List ℕ)) (name : Option (List ℕ)) (c : Command) (o : Outcome) → c ≡ commands.List name → CommandComes known input c o → (r : Result (List ℕ) ListRefusal) × ListComes known (described name) r × (o ≡ list_told r)
 list_comes known input name _ _ is (CommandComes.assembled o h) = absurd (let none : ⊥ = cc in none)
-list_comes known input name _ _ is (CommandComes.listed other r h) = (r, subst (λ (n : List ℕ). ListComes known n r) (let same : other ≡ name = cc in same) h, refl)
+list_comes known input name _ _ is (CommandComes.tries f s a o h) = absurd (let none : ⊥ = cc in none)
+list_comes known input name _ _ is (CommandComes.listed other r h) = (r, subst (λ (n : Option (List ℕ)). ListComes known (described n) r) (let same : other ≡ name = cc in same) h, refl)
+
+same_function : (f f' : List ℕ) (steps steps' : ℕ) (args args' : List ℕ) → commands.Eval f steps args ≡ commands.Eval f' steps' args' → (f ≡ f') × (steps ≡ steps') × (args ≡ args')
+same_function f f' steps steps' args args' is = (cc, cc, cc)
+
+eval_comes : (known : Source) (input : Option (List ℕ)) (function : List ℕ) (steps : ℕ) (args : List ℕ) (c : Command) (o : Outcome) → c ≡ commands.Eval function steps args → CommandComes known input c o →
+    IfSome input (λ bytes. EvalComes bytes function steps args o)
+eval_comes known input function steps args _ _ is (CommandComes.assembled o h) = absurd (let none : ⊥ = cc in none)
+eval_comes known input function steps args _ _ is (CommandComes.listed name r h) = absurd (let none : ⊥ = cc in none)
+eval_comes known input function steps args _ _ is (CommandComes.tries f s a o h) =
+    let same = same_function f function s steps a args is in
+    subst (λ (x : List ℕ). IfSome input (λ bytes. EvalComes bytes x steps args o)) same.0
+    (subst (λ (n : ℕ). IfSome input (λ bytes. EvalComes bytes f n args o)) same.1 (subst (λ (x : List ℕ). IfSome input (λ bytes. EvalComes bytes f s x o)) same.2 h))
 
 some_same : (o : Option Command) (c d : Command) → o ≡ Some c → o ≡ Some d → c ≡ d
 some_same o c d p q = cc
@@ -44,10 +62,15 @@ asm_answer : (words : List (List ℕ)) (known : Source) (input : Option (List �
 asm_answer words known input _ is (Answers.usage none) = absurd (none_some (command_of words) commands.Asm none is)
 asm_answer words known input _ is (Answers.spoken c o is' comes) = asm_comes known input c o (some_same (command_of words) c commands.Asm is' is) comes
 
-list_answer : (words : List (List ℕ)) (known : Source) (input : Option (List ℕ)) (name : List ℕ) (o : Outcome) → command_of words ≡ Some (commands.List name) → Answers words known input o →
-    (r : Result (List ℕ) ListRefusal) × ListComes known name r × (o ≡ list_told r)
+list_answer : (words : List (List ℕ)) (known : Source) (input : Option (List ℕ)) (name : Option (List ℕ)) (o : Outcome) → command_of words ≡ Some (commands.List name) → Answers words known input o →
+    (r : Result (List ℕ) ListRefusal) × ListComes known (described name) r × (o ≡ list_told r)
 list_answer words known input name _ is (Answers.usage none) = absurd (none_some (command_of words) (commands.List name) none is)
 list_answer words known input name _ is (Answers.spoken c o is' comes) = list_comes known input name c o (some_same (command_of words) c (commands.List name) is' is) comes
+
+eval_answer : (words : List (List ℕ)) (known : Source) (input : Option (List ℕ)) (function : List ℕ) (steps : ℕ) (args : List ℕ) (o : Outcome) → command_of words ≡ Some (commands.Eval function steps args) → Answers words known input o →
+    IfSome input (λ bytes. EvalComes bytes function steps args o)
+eval_answer words known input function steps args _ is (Answers.usage none) = absurd (none_some (command_of words) (commands.Eval function steps args) none is)
+eval_answer words known input function steps args _ is (Answers.spoken c o is' comes) = eval_comes known input function steps args c o (some_same (command_of words) c (commands.Eval function steps args) is' is) comes
 
 -- ---- there is one answer
 
@@ -55,12 +78,18 @@ one_assembly : (input : Option (List ℕ)) (a b : Outcome) → IsSome input → 
 one_assembly None a b some p q = cc
 one_assembly (Some bytes) a b some p q = one_coming_of bytes a b p q
 
+one_trial : (input : Option (List ℕ)) (function : List ℕ) (steps : ℕ) (args : List ℕ) (a b : Outcome) → IsSome input → IfSome input (λ bytes. EvalComes bytes function steps args a) → IfSome input (λ bytes. EvalComes bytes function steps args b) → a ≡ b
+one_trial None function steps args a b some p q = cc
+one_trial (Some bytes) function steps args a b some p q = p.2 ∙ ap (evaluated steps args) (one_code bytes function p.0 q.0 p.1 q.1) ∙ sym q.2
+
 one_command : (known : Source) (input : Option (List ℕ)) (c d : Command) (a b : Outcome) → IsKnownFor known input (Some d) → c ≡ d → CommandComes known input c a → CommandComes known input d b → a ≡ b
 one_command known input c commands.Asm a b enough is p q = one_assembly input a b enough (asm_comes known input c a is p) (asm_comes known input commands.Asm b refl q)
 one_command known input c (commands.List name) a b enough is p q =
     let x = list_comes known input name c a is p in
     let y = list_comes known input name (commands.List name) b refl q in
-    x.2 ∙ ap list_told (one_list known name x.0 y.0 enough x.1 y.1) ∙ sym y.2
+    x.2 ∙ ap list_told (one_list known (described name) x.0 y.0 enough x.1 y.1) ∙ sym y.2
+one_command known input c (commands.Eval function steps args) a b enough is p q =
+    one_trial input function steps args a b enough (eval_comes known input function steps args c a is p) (eval_comes known input function steps args (commands.Eval function steps args) b refl q)
 
 pub one_answer : (words : List (List ℕ)) (known : Source) (input : Option (List ℕ)) (a b : Outcome) → IsKnownFor known input (command_of words) → Answers words known input a → Answers words known input b → a ≡ b
 one_answer words known input _ _ enough (Answers.usage none) (Answers.usage none') = refl
@@ -87,14 +116,25 @@ pub writes_same : (input old new : Option (List ℕ)) → WritesLines input old 
 writes_same None old new h = tt
 writes_same (Some bytes) old new h = (h.0, h.1, h.2, input_does_same bytes h.2 h.0 h.1 h.3, h.4)
 
+told_outcomes : (bytes function : List ℕ) (steps : ℕ) (args text : List ℕ) (old new : Option (List ℕ)) (r : Result Coded Refusal) → CodeComes bytes function r → Ok text ≡ evaluated steps args r → Appends old new text →
+    WritesOutcomes (Some bytes) function steps args old new
+told_outcomes bytes function steps args text old new (Ok c) comes is appends = (c, code_coded bytes function c (Ok c) refl comes, subst (Appends old new) (let same : text ≡ eval_text c.function c.items steps args = cc in same) appends)
+told_outcomes bytes function steps args text old new (Err e) comes is appends = cc
+
+pub writes_outcomes : (words : List (List ℕ)) (input old new : Option (List ℕ)) (function : List ℕ) (steps : ℕ) (args : List ℕ) → command_of words ≡ Some (commands.Eval function steps args) → Writes words nothing_known input old new →
+    WritesOutcomes input function steps args old new
+writes_outcomes words None old new function steps args is h = tt
+writes_outcomes words (Some bytes) old new function steps args is h =
+    let x = eval_answer words nothing_known (Some bytes) function steps args (Ok h.0) is h.1 in told_outcomes bytes function steps args h.0 old new x.0 x.1 x.2 h.2
+
 told_text : (r : Result (List ℕ) ListRefusal) (text : List ℕ) → Ok text ≡ list_told r → r ≡ Ok text
 told_text (Ok other) text is = let same : other ≡ text = cc in ap (λ (t : List ℕ). Ok t) same
 told_text (Err e) text is = cc
 
-pub writes_list : (words : List (List ℕ)) (known : Source) (input old new : Option (List ℕ)) (name : List ℕ) → command_of words ≡ Some (commands.List name) → Writes words known input old new → WritesList known name old new
+pub writes_list : (words : List (List ℕ)) (known : Source) (input old new : Option (List ℕ)) (name : Option (List ℕ)) → command_of words ≡ Some (commands.List name) → Writes words known input old new → WritesList known (described name) old new
 writes_list words known input old new name is h =
     let x = list_answer words known input name (Ok h.0) is h.1 in
-    (h.0, subst (ListComes known name) (told_text x.0 h.0 x.2) x.1, h.2)
+    (h.0, subst (ListComes known (described name)) (told_text x.0 h.0 x.2) x.1, h.2)
 
 -- ---- what ends with a text
 
@@ -113,9 +153,18 @@ completes words (Some bytes) status output output' errors errors' faults faults'
     let t = input_has bytes functions a.0 input all (asm_answer words nothing_known (Some bytes) a.0 is a.1) in
     a.2.status_is ∙ ap status_of_answer t.1)
 
-pub listed : (words : List (List ℕ)) (known : Source) (name text : List ℕ) (input : Option (List ℕ)) (status : ℕ) (output output' errors errors' : Option (List ℕ)) (faults faults' : ℕ) → command_of words ≡ Some (commands.List name) →
-    IsKnown known name → ListComes known name (Ok text) → ((status ≡ 8 → ⊥) → IsAnswered words known input status output output' errors errors' faults faults') → IsDone status
+pub tried : (words : List (List ℕ)) (input : Option (List ℕ)) (function : List ℕ) (steps : ℕ) (args : List ℕ) (status : ℕ) (output output' errors errors' : Option (List ℕ)) (faults faults' : ℕ) →
+    command_of words ≡ Some (commands.Eval function steps args) → ((status ≡ 8 → ⊥) → IsAnswered words nothing_known input status output output' errors errors' faults faults') → CompletesFor input function status
+tried words None function steps args status output output' errors errors' faults faults' is h = tt
+tried words (Some bytes) function steps args status output output' errors errors' faults faults' is h = λ functions input all named. decided status (eqb status 8) refl (λ other.
+    let a = h other in
+    let x = eval_answer words nothing_known (Some bytes) function steps args a.0 is a.1 in
+    let t = code_has bytes function functions x.0 input all named x.1 in
+    a.2.status_is ∙ ap status_of_answer (x.2 ∙ ap (evaluated steps args) t.1))
+
+pub listed : (words : List (List ℕ)) (known : Source) (name : Option (List ℕ)) (text : List ℕ) (input : Option (List ℕ)) (status : ℕ) (output output' errors errors' : Option (List ℕ)) (faults faults' : ℕ) → command_of words ≡ Some (commands.List name) →
+    IsKnown known (described name) → ListComes known (described name) (Ok text) → ((status ≡ 8 → ⊥) → IsAnswered words known input status output output' errors errors' faults faults') → IsDone status
 listed words known name text input status output output' errors errors' faults faults' is enough has h = decided status (eqb status 8) refl (λ other.
     let a = h other in
     let x = list_answer words known input name a.0 is a.1 in
-    a.2.status_is ∙ ap status_of_answer (x.2 ∙ ap list_told (one_list known name x.0 (Ok text) enough x.1 has)))
+    a.2.status_is ∙ ap status_of_answer (x.2 ∙ ap list_told (one_list known (described name) x.0 (Ok text) enough x.1 has)))

@@ -1,8 +1,7 @@
 -- What the program answers. It is one answer for the words, the files and the bytes of the input: a text, or a refusal with its values.
-use Rattle.std.specs.Prelude.{◌≡◌, ◌≢◌, ◌<◌, ◌⊎◌, ℕ, length, List, [], ◌∷◌, map, codes, Some, None, IsSome, Result, Ok, Err, IfSome, true, Vec}
+use Rattle.std.specs.Prelude.{◌≡◌, ◌≢◌, ◌<◌, ◌⊎◌, ℕ, length, List, [], ◌∷◌, codes, unwrap_or, Some, None, IsSome, Result, Ok, Err, IfSome, Bool, true, false, Vec}
 use Rattle.std.specs.declared.option.Option.{Option}
 use Rattle.std.specs.declared.alloc.Global.{Global}
-use Rattle.std.specs.Borrow.{Bor}
 use Rattle.std.specs.Io.KnownBytes.{Appends}
 use Rattle.byte_edge.specs.Causes.{Rose, TakesFront}
 use Rattle.rtx_tree.specs.declared.limit.Limit.TheVariants as limit
@@ -11,20 +10,23 @@ use Rattle.run_refusal.specs.declared.refusal.Refusal.TheVariants as refusal
 use Rattle.run_refusal.specs.Refusals.{status_of, has_values, line_of}
 use Rattle.md_source.specs.declared.refusal.SourceRefusal.{SourceRefusal}
 use Rattle.md_source.specs.declared.refusal.SourceRefusal.TheVariants as source
-use Rattle.md_source.specs.Source.{Source}
+use Rattle.md_source.specs.Source.{Source, shipped_name}
 use Rattle.md_source.specs.Asked.{AreNamed, IsKnown}
 use Rattle.md_list.specs.declared.refusal.ListRefusal.{ListRefusal}
 use Rattle.md_list.specs.declared.refusal.ListRefusal.TheVariants as listing
 use Rattle.md_list.specs.Listing.{ListComes}
 use Rattle.asm_text.specs.Assembly.{Outcome}
 use Rattle.asm_text.specs.Compile.{most_bytes, InputComes}
-use Rattle.rtlc_run.specs.declared.words.Command.{Command}
-use Rattle.rtlc_run.specs.declared.words.Command.TheVariants as commands
-use Rattle.rtlc_run.specs.Words.{command_of}
+use Rattle.asm_text.specs.Code.{IsUnnamed, CodeComes}
+use Rattle.asm_text.specs.declared.code.Coded.{Coded}
+use Rattle.code_eval.specs.Eval.{eval_text}
+use Rattle.rtlc_words.specs.declared.command.Command.{Command}
+use Rattle.rtlc_words.specs.declared.command.Command.TheVariants as commands
+use Rattle.rtlc_words.specs.Words.{command_of}
 
--- the bytes of the words
-abbrev pub words_of : List (Bor (List ℕ)) → List (List ℕ)
-words_of words = map (λ w. w.now) words
+-- the description that the words name, or else the shipped one
+abbrev pub described : Option (List ℕ) → List ℕ
+described name = unwrap_or name shipped_name
 
 -- ---- the refusals of a description
 
@@ -45,13 +47,24 @@ abbrev pub list_told : Result (List ℕ) ListRefusal → Outcome
 list_told (Ok text) = Ok text
 list_told (Err e) = Err (list_refused e)
 
--- ---- answers
+-- ---- what a command comes to
+
+abbrev pub evaluated : ℕ → List ℕ → Result Coded Refusal → Outcome
+evaluated steps args (Ok c) = Ok (eval_text c.function c.items steps args)
+evaluated steps args (Err e) = Err e
+
+-- `eval` over the bytes of an input: the outcomes of the function with a name, and of its code
+abbrev pub EvalComes : List ℕ → List ℕ → ℕ → List ℕ → Outcome → Type 0
+EvalComes bytes function steps args outcome = (answer : Result Coded Refusal) × CodeComes bytes function answer × (outcome ≡ evaluated steps args answer)
 
 -- What a command comes to, by what is known of the bytes of the files and of the input. An input of which nothing is known may come
 -- to anything; `list` does not look at it.
 pub data CommandComes (files : Source) (input : Option (List ℕ)) : Command → Outcome → Type 0 where
   assembled : (outcome : Outcome) → IfSome input (λ bytes. InputComes bytes outcome) → CommandComes files input commands.Asm outcome
-  listed : (name : List ℕ) (r : Result (List ℕ) ListRefusal) → ListComes files name r → CommandComes files input (commands.List name) (list_told r)
+  listed : (name : Option (List ℕ)) (r : Result (List ℕ) ListRefusal) → ListComes files (described name) r → CommandComes files input (commands.List name) (list_told r)
+  tries : (function : List ℕ) (steps : ℕ) (args : List ℕ) (outcome : Outcome) → IfSome input (λ bytes. EvalComes bytes function steps args outcome) → CommandComes files input (commands.Eval function steps args) outcome
+
+-- ---- answers
 
 -- The answer to these words. They are looked at first.
 pub data Answers (words : List (List ℕ)) (files : Source) (input : Option (List ℕ)) : Outcome → Type 0 where
@@ -62,11 +75,24 @@ pub data Answers (words : List (List ℕ)) (files : Source) (input : Option (Lis
 abbrev pub IsKnownFor : Source → Option (List ℕ) → Option Command → Type 0
 IsKnownFor files input None = Unit {0}
 IsKnownFor files input (Some commands.Asm) = IsSome input
-IsKnownFor files input (Some (commands.List name)) = IsKnown files name
+IsKnownFor files input (Some (commands.List name)) = IsKnown files (described name)
+IsKnownFor files input (Some (commands.Eval function steps args)) = IsSome input
+
+-- whether the input is read
+abbrev pub reads_input : Option Command → Bool
+reads_input (Some commands.Asm) = true
+reads_input (Some (commands.Eval function steps args)) = true
+reads_input _ = false
+
+-- the words are no command, or they name no function of the input
+abbrev pub IsMisused : Option Command → Option (List ℕ) → Type 0
+IsMisused None input = Unit {0}
+IsMisused (Some (commands.Eval function steps args)) input = IfSome input (λ bytes. IsUnnamed bytes function)
+IsMisused (Some _) input = ⊥
 
 -- the names that files may be asked for
 abbrev pub MayBeAsked : Source → Option Command → List (List ℕ) → Type 0
-MayBeAsked files (Some (commands.List name)) names = AreNamed files name names
+MayBeAsked files (Some (commands.List name)) names = AreNamed files (described name) names
 MayBeAsked files _ names = names ≡ []
 
 -- ---- what an answer is outside

@@ -1,5 +1,5 @@
 -- What a run has written, said of the input and of the description.
-use Rattle.std.specs.Prelude.{◌≡◌, ◌⊎◌, ℕ, List, Ok, IfSome}
+use Rattle.std.specs.Prelude.{◌≡◌, ◌⊎◌, ℕ, true, List, Ok, IfSome}
 use Rattle.std.specs.declared.option.Option.{Option}
 use Rattle.std.specs.Io.KnownBytes.{Appends}
 use Rattle.rtx_tree.specs.declared.function.Function.{Function}
@@ -7,6 +7,9 @@ use Rattle.md_source.specs.Source.{Source}
 use Rattle.md_list.specs.Listing.{ListComes}
 use Rattle.asm_text.specs.Lines.{IsInput, IsAssembly, AllMatched}
 use Rattle.asm_text.specs.Same.{DoesSame}
+use Rattle.asm_text.specs.Code.{IsCoded, has_named}
+use Rattle.asm_text.specs.declared.code.Coded.{Coded}
+use Rattle.code_eval.specs.Eval.{eval_text}
 
 -- the assembly of the input was written, and nothing else
 abbrev pub WritesLines : Option (List ℕ) → Option (List ℕ) → Option (List ℕ) → Type 0
@@ -15,6 +18,11 @@ WritesLines input old new = IfSome input (λ bytes. (functions : List Function) 
 -- and it does what the functions of the input do
 abbrev pub WritesSame : Option (List ℕ) → Option (List ℕ) → Option (List ℕ) → Type 0
 WritesSame input old new = IfSome input (λ bytes. (functions : List Function) × IsInput bytes functions × (text : List ℕ) × DoesSame functions text × Appends old new text)
+
+-- the outcomes of the function of the input with a name, and of the lines and labels that its part of the assembly spells, were written, and
+-- nothing else
+abbrev pub WritesOutcomes : Option (List ℕ) → List ℕ → ℕ → List ℕ → Option (List ℕ) → Option (List ℕ) → Type 0
+WritesOutcomes input function steps args old new = IfSome input (λ bytes. (c : Coded) × IsCoded bytes function c × Appends old new (eval_text c.function c.items steps args))
 
 -- the list of a description was written, and nothing else
 abbrev pub WritesList : Source → List ℕ → Option (List ℕ) → Option (List ℕ) → Type 0
@@ -27,3 +35,7 @@ IsDone status = (status ≡ 0) ⊎ (status ≡ 8)
 -- an input of which each instruction is matched ends so
 abbrev pub Completes : Option (List ℕ) → ℕ → Type 0
 Completes input status = IfSome input (λ bytes. (functions : List Function) → IsInput bytes functions → AllMatched functions → IsDone status)
+
+-- and so does one of which a function is tried that it has
+abbrev pub CompletesFor : Option (List ℕ) → List ℕ → ℕ → Type 0
+CompletesFor input function status = IfSome input (λ bytes. (functions : List Function) → IsInput bytes functions → AllMatched functions → has_named functions function ≡ true → IsDone status)

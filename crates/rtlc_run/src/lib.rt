@@ -3,12 +3,11 @@
 //! description is made of, and the bytes of the input: a text, or a refusal with its values. With status 0 that text was
 //! written and nothing else; each other status has its cause, and its line was told.
 //!
-//! The words are read by `words` (`specs/Words.antt`); what the commands come to is `specs/Answer.antt`, over `asm_text` for
-//! `asm` and over `md_list` for `list`; what was written then is said in `specs/Written.antt`.
+//! The words are read by `rtlc_words`; what the commands come to is `specs/Answer.antt`, over `asm_text` for `asm`, over `asm_text` and
+//! `code_eval` for `eval`, and over `md_list` for `list`; what was written then is said in `specs/Written.antt`.
 #![tactic(auto)]
 
 mod program;
-mod words;
 
 pub use program::{out_of_memory, run};
 pub use run_refusal::Refusal;

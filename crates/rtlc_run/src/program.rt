@@ -1,5 +1,5 @@
 //! The whole program as one call.
-ghost use Rattle.std.specs.Prelude.{◌≡◌, ◌≢◌, ◌⊎◌, ℕ, Ok, List, ◌≤◌, true, IfOk, IfErr, OnOk, OnErr, length, Some, None, Option, Err, Contains, ◌∷◌, []};
+ghost use Rattle.std.specs.Prelude.{◌≡◌, ◌≢◌, ◌⊎◌, ℕ, Ok, List, ◌≤◌, true, IfOk, IfErr, OnOk, OnErr, length, Some, None, Option, Err, Contains, ◌∷◌, [], false};
 ghost use Rattle.std.specs.Io.KnownBytes.{Appends, Consumes, IsAtEnd};
 ghost use Rattle.byte_edge.specs.Causes.{Rose};
 ghost use Rattle.rtx_tree.specs.declared.function.Function.{Function};
@@ -10,24 +10,30 @@ ghost use Rattle.run_refusal.specs.declared.refusal.Refusal.TheVariants as refus
 ghost use Rattle.asm_text.specs.Assembly.{Outcome};
 ghost use Rattle.asm_text.specs.Compile.{most_bytes};
 ghost use Rattle.asm_text.specs.Same.{AreParts};
+ghost use Rattle.asm_text.specs.Code.{IsUnnamed};
 ghost use Rattle.md_source.specs.Source.{Source as Known};
 ghost use Rattle.md_source.specs.Asked.{AreNamed, GrewBy, IsKnown};
 ghost use Rattle.md_source.specs.Answers.{Agrees};
 ghost use Rattle.md_list.specs.Listing.{ListComes};
-ghost use Rattle.rtlc_run.specs.declared.words.Command.TheVariants as commands;
-ghost use Rattle.rtlc_run.specs.Words as spoken;
+ghost use Rattle.rtlc_words.specs.declared.command.Command.TheVariants as commands;
+ghost use Rattle.rtlc_words.specs.Words as spoken;
+ghost use Rattle.rtlc_words.specs.Words.{words_of};
 ghost use Rattle.rtlc_run.specs.Answer as spec;
-ghost use Rattle.rtlc_run.specs.Written.{WritesLines, WritesSame, WritesList, Completes, IsDone};
-ghost use Rattle.rtlc_run.specs.Answer.{CommandComes, Answers, InputRefused, IsOwn, Produces, IsKnownFor, MayBeAsked, Writes, WritesFront, IsRefused, Reports, HasCause, TellsCause, IsAnswered, words_of};
+ghost use Rattle.rtlc_run.specs.Written.{WritesLines, WritesSame, WritesList, WritesOutcomes, Completes, CompletesFor, IsDone};
+ghost use Rattle.rtlc_run.specs.Answer.{EvalComes, CommandComes, Answers, InputRefused, IsOwn, IsMisused, reads_input, Produces, IsKnownFor, MayBeAsked, Writes, WritesFront, IsRefused, Reports, HasCause, TellsCause, IsAnswered};
 
-use crate::words::{Command, command_of};
-use asm_text::assembly_of;
+use asm_text::{assembly_of, code_of};
 use byte_edge::{Files, ReadAll, Sink, Source, read_all, write_all_of};
+use code_eval::eval_text;
 use md_list::{ListRefusal, list};
 use md_source::SourceRefusal;
-use rtx_tree::Limit;
+use rtlc_words::{Command, command_of};
+use rtx_tree::{Limit, Name};
 use run_refusal::{MEMORY_LINE, Refusal, fixed_line, line, status};
 use std::alloc::Global;
+
+/// The name of the shipped description.
+const SHIPPED: &[u8] = b"rv64im";
 
 /// How many bytes an input may have.
 const MOST_BYTES: usize = 16_777_216;
@@ -60,6 +66,41 @@ fn assembled<S: Source>(alloc: Global, input: &mut S) -> Result<Vec<u8>, Refusal
 {
     let bytes = input_bytes(alloc, input)?;
     assembly_of(alloc, &bytes)
+}
+
+/// The outcomes of a function among bytes and of its code.
+fn outcomes_of(
+    alloc: Global,
+    bytes: &[u8],
+    function: &Name,
+    steps: u16,
+    args: [u64; 8],
+) -> Result<Vec<u8>, Refusal>
+    requires { length bytes.now ≤ most_bytes }
+    ensures gives { Produces result (EvalComes bytes.now function.now steps args) }
+    ensures usage { result ≡ Err Refusal.Usage → IsUnnamed bytes.now function.now }
+    ensures read { result ≢ Err Refusal.ReadFault }
+{
+    let coded = code_of(alloc, bytes, function.bytes())?;
+    Ok(eval_text(alloc, &coded.function, coded.items.as_slice(), steps, args)?)
+}
+
+/// The outcomes of a function of the input and of its code.
+fn evaluated<S: Source>(
+    alloc: Global,
+    input: &mut S,
+    function: &Name,
+    steps: u16,
+    args: [u64; 8],
+) -> Result<Vec<u8>, Refusal>
+    ensures gives { (known : Known) → Produces result (CommandComes known (S.left input.old) (commands.Eval function.now steps args)) }
+    ensures unwritten { result ≢ Err Refusal.WriteFault }
+    ensures usage { result ≡ Err Refusal.Usage → IsMisused (Some (commands.Eval function.now steps args)) (S.left input.old) }
+    ensures fault { result ≡ Err Refusal.ReadFault → Rose (S.fault_count input.old) (S.fault_count input.new) }
+    ensures quiet { result ≢ Err Refusal.ReadFault → S.fault_count input.new ≡ S.fault_count input.old }
+{
+    let bytes = input_bytes(alloc, input)?;
+    outcomes_of(alloc, &bytes, function, steps, args)
 }
 
 fn source_refused(refusal: SourceRefusal) -> Refusal
@@ -97,15 +138,25 @@ fn list_refused(refusal: ListRefusal) -> Refusal
     }
 }
 
+/// The name of a description: that of the shipped one where none is given.
+fn described(name: &Option<Name>) -> &[u8]
+    ensures { result.now ≡ spec.described name.entry.now }
+{
+    match name {
+        Some(name) => name.bytes(),
+        None => SHIPPED,
+    }
+}
+
 /// The list of a description.
-fn listed<F: Files>(alloc: Global, files: &mut F, name: &[u8]) -> Result<Vec<u8>, Refusal>
+fn listed<F: Files>(alloc: Global, files: &mut F, name: &Option<Name>) -> Result<Vec<u8>, Refusal>
     ensures gives { (known : Known) → Agrees known (F.holds files.old) → (input : Option (List ℕ)) → Produces result (CommandComes known input (commands.List name.now)) }
-    ensures asked { (known : Known) → Agrees known (F.holds files.old) → GrewBy (AreNamed known name.now) (F.asked files.old) (F.asked files.new) }
+    ensures asked { (known : Known) → Agrees known (F.holds files.old) → GrewBy (AreNamed known (spec.described name.now)) (F.asked files.old) (F.asked files.new) }
     ensures own { IsOwn result }
     ensures fault { result ≡ Err Refusal.ReadFault → Rose (F.fault_count files.old) (F.fault_count files.new) }
     ensures quiet { result ≢ Err Refusal.ReadFault → F.fault_count files.new ≡ F.fault_count files.old }
 {
-    match list(alloc, files, name) {
+    match list(alloc, files, described(name)) {
         Ok(text) => Ok(text),
         Err(e) => Err(list_refused(e)),
     }
@@ -120,18 +171,25 @@ fn produced<F: Files, S: Source>(
 ) -> Result<Vec<u8>, Refusal>
     ensures gives { (known : Known) → Agrees known (F.holds files.old) → Produces result (CommandComes known (S.left input.old) command) }
     ensures asked { (known : Known) → Agrees known (F.holds files.old) → GrewBy (MayBeAsked known (Some command)) (F.asked files.old) (F.asked files.new) }
-    ensures own { IsOwn result }
+    ensures unwritten { result ≢ Err Refusal.WriteFault }
+    ensures usage { result ≡ Err Refusal.Usage → IsMisused (Some command) (S.left input.old) }
     ensures fault { result ≡ Err Refusal.ReadFault → Rose (S.fault_count input.old) (S.fault_count input.new) ⊎ Rose (F.fault_count files.old) (F.fault_count files.new) }
     ensures quiet { result ≢ Err Refusal.ReadFault → S.fault_count input.new ≡ S.fault_count input.old }
     ensures calm { result ≢ Err Refusal.ReadFault → F.fault_count files.new ≡ F.fault_count files.old }
-    ensures files { ((name : List ℕ) → command ≢ commands.List name) → files.new ≡ files.old }
-    ensures input { command ≢ commands.Asm → input.new ≡ input.old }
+    ensures files { ((name : Option (List ℕ)) → command ≢ commands.List name) → files.new ≡ files.old }
+    ensures input { reads_input (Some command) ≡ false → input.new ≡ input.old }
 {
     match command {
         Command::Asm => assembled(alloc, input),
-        Command::List { description } => listed(alloc, files, description.bytes()),
+        Command::List { description } => listed(alloc, files, &description),
+        Command::Eval {
+            function,
+            steps,
+            args,
+        } => evaluated(alloc, input, &function, steps, args),
     }
 }
+
 /// The text that the words come to. Nothing is read before they are a command.
 fn answered<F: Files, S: Source>(
     alloc: Global,
@@ -140,14 +198,14 @@ fn answered<F: Files, S: Source>(
     input: &mut S,
 ) -> Result<Vec<u8>, Refusal>
     ensures gives { (known : Known) → Agrees known (F.holds files.old) → Produces result (Answers (words_of words.now) known (S.left input.old)) }
-    ensures usage { result ≡ Err Refusal.Usage → spoken.command_of (words_of words.now) ≡ None }
+    ensures usage { result ≡ Err Refusal.Usage → IsMisused (spoken.command_of (words_of words.now)) (S.left input.old) }
     ensures unwritten { result ≢ Err Refusal.WriteFault }
     ensures asked { (known : Known) → Agrees known (F.holds files.old) → GrewBy (MayBeAsked known (spoken.command_of (words_of words.now))) (F.asked files.old) (F.asked files.new) }
     ensures fault { result ≡ Err Refusal.ReadFault → Rose (S.fault_count input.old) (S.fault_count input.new) ⊎ Rose (F.fault_count files.old) (F.fault_count files.new) }
     ensures quiet { result ≢ Err Refusal.ReadFault → S.fault_count input.new ≡ S.fault_count input.old }
     ensures calm { result ≢ Err Refusal.ReadFault → F.fault_count files.new ≡ F.fault_count files.old }
-    ensures files { ((name : List ℕ) → spoken.command_of (words_of words.now) ≢ Some (commands.List name)) → files.new ≡ files.old }
-    ensures input { spoken.command_of (words_of words.now) ≢ Some commands.Asm → input.new ≡ input.old }
+    ensures files { ((name : Option (List ℕ)) → spoken.command_of (words_of words.now) ≢ Some (commands.List name)) → files.new ≡ files.old }
+    ensures input { reads_input (spoken.command_of (words_of words.now)) ≡ false → input.new ≡ input.old }
 {
     match command_of(alloc, words)? {
         Some(command) => produced(alloc, command, files, input),
@@ -166,11 +224,11 @@ fn attempt<F: Files, S: Source, K: Sink>(
     ensures done { (known : Known) → Agrees known (F.holds files.old) → OnOk result (Writes (words_of words.now) known (S.left input.old) (K.taken output.old) (K.taken output.new)) }
     ensures cause { (known : Known) → Agrees known (F.holds files.old) → IfErr result (IsRefused (words_of words.now) known (S.left input.old)) }
     ensures front { result ≡ Err Refusal.WriteFault → (known : Known) → Agrees known (F.holds files.old) → WritesFront (words_of words.now) known (S.left input.old) (K.taken output.old) (K.taken output.new) }
-    ensures usage { result ≡ Err Refusal.Usage → spoken.command_of (words_of words.now) ≡ None }
+    ensures usage { result ≡ Err Refusal.Usage → IsMisused (spoken.command_of (words_of words.now)) (S.left input.old) }
     ensures nothing { OnErr result (result ≢ Err Refusal.WriteFault → K.taken output.new ≡ K.taken output.old) }
     ensures asked { (known : Known) → Agrees known (F.holds files.old) → GrewBy (MayBeAsked known (spoken.command_of (words_of words.now))) (F.asked files.old) (F.asked files.new) }
-    ensures files { ((name : List ℕ) → spoken.command_of (words_of words.now) ≢ Some (commands.List name)) → files.new ≡ files.old }
-    ensures input { spoken.command_of (words_of words.now) ≢ Some commands.Asm → input.new ≡ input.old }
+    ensures files { ((name : Option (List ℕ)) → spoken.command_of (words_of words.now) ≢ Some (commands.List name)) → files.new ≡ files.old }
+    ensures input { reads_input (spoken.command_of (words_of words.now)) ≡ false → input.new ≡ input.old }
 
     ensures fault { result ≡ Err Refusal.ReadFault → Rose (S.fault_count input.old) (S.fault_count input.new) ⊎ Rose (F.fault_count files.old) (F.fault_count files.new) }
     ensures quiet { result ≢ Err Refusal.ReadFault → S.fault_count input.new ≡ S.fault_count input.old }
@@ -228,9 +286,10 @@ fn report<E: Sink>(alloc: Global, errors: &mut E, refusal: &Refusal) -> u8
     }
 }
 
-/// The whole program. `words` are those after the program's name: `asm`, or `list` with `--md NAME` at most once. `files` are asked
-/// for a description that is named and for what it includes, `input` is read by `asm` alone. The text is written to
-/// `output`, the line of a refusal to `errors`, and the exit status is given: 0, or that of the [`Refusal`].
+/// The whole program. `words` are those after the program's name: `asm`, `eval NAME STEPS` with up to eight numbers, or `list` with
+/// `--md NAME` at most once. `files` are asked for a description that is named and for what it includes, `input` is read by `asm` and
+/// `eval` alone. The text is written to `output`, the line of a refusal to `errors`, and the exit status is given: 0, or that of the
+/// [`Refusal`].
 ///
 /// A count rose in a call where it is greater after it than before, or stands after it at its last value. `Known` is what is known of the
 /// bytes of files by their names, and agrees with what the files hold.
@@ -272,21 +331,33 @@ pub fn run<F: Files, S: Source, K: Sink, E: Sink>(
     ensures spelled { (text : List ℕ) (a b : List CodeItem) → Spells text a → Spells text b → a ≡ b }
     ensures parts { (functions : List Function) (text : List ℕ) (a b : List (List CodeItem)) → AreParts functions text a → AreParts functions text b → a ≡ b }
 
-    // `list`: the text of status 0 is the list of the description's forms, and a description that has a list is listed.
-    ensures lists { (known : Known) → Agrees known (F.holds files.old) → (name : List ℕ) →
-        spoken.command_of (words_of words.now) ≡ Some (commands.List name) → result ≡ 0 →
-        WritesList known name (K.taken output.old) (K.taken output.new) }
+    // `eval`: the text of status 0 has the outcomes that are defined for a function, over the lines and labels that its part of the assembly of
+    // the input spells; and a function of an input of which a form matches each instruction has them.
+    ensures evaluates { (function : List ℕ) (steps : ℕ) (args : List ℕ) →
+        spoken.command_of (words_of words.now) ≡ Some (commands.Eval function steps args) → result ≡ 0 →
+        WritesOutcomes (S.left input.old) function steps args (K.taken output.old) (K.taken output.new) }
 
-    ensures listed { (known : Known) → Agrees known (F.holds files.old) → (name text : List ℕ) →
-        spoken.command_of (words_of words.now) ≡ Some (commands.List name) → IsKnown known name →
-        ListComes known name (Ok text) → ¬ Rose (F.fault_count files.old) (F.fault_count files.new) →
+    ensures tried { (function : List ℕ) (steps : ℕ) (args : List ℕ) →
+        spoken.command_of (words_of words.now) ≡ Some (commands.Eval function steps args) →
+        ¬ Rose (F.fault_count files.old) (F.fault_count files.new) →
+        ¬ Rose (S.fault_count input.old) (S.fault_count input.new) →
+        ¬ Rose (K.fault_count output.old) (K.fault_count output.new) → CompletesFor (S.left input.old) function result }
+
+    // `list`: the text of status 0 is the list of the description's forms, and a description that has a list is listed.
+    ensures lists { (known : Known) → Agrees known (F.holds files.old) → (name : Option (List ℕ)) →
+        spoken.command_of (words_of words.now) ≡ Some (commands.List name) → result ≡ 0 →
+        WritesList known (spec.described name) (K.taken output.old) (K.taken output.new) }
+
+    ensures listed { (known : Known) → Agrees known (F.holds files.old) → (name : Option (List ℕ)) (text : List ℕ) →
+        spoken.command_of (words_of words.now) ≡ Some (commands.List name) → IsKnown known (spec.described name) →
+        ListComes known (spec.described name) (Ok text) → ¬ Rose (F.fault_count files.old) (F.fault_count files.new) →
         ¬ Rose (S.fault_count input.old) (S.fault_count input.new) →
         ¬ Rose (K.fault_count output.old) (K.fault_count output.new) → IsDone result }
 
     // Each status has its cause.
     ensures statuses { Contains (0 ∷ 1 ∷ 2 ∷ 3 ∷ 6 ∷ 7 ∷ 8 ∷ []) result }
     ensures ok { result ≡ 0 → (known : Known) → Agrees known (F.holds files.old) → Writes (words_of words.now) known (S.left input.old) (K.taken output.old) (K.taken output.new) }
-    ensures usage { result ≡ 1 → spoken.command_of (words_of words.now) ≡ None }
+    ensures usage { result ≡ 1 → IsMisused (spoken.command_of (words_of words.now)) (S.left input.old) }
     ensures cause { result ≢ 0 → (known : Known) → Agrees known (F.holds files.old) → HasCause (words_of words.now) known (S.left input.old) result }
     ensures read { result ≡ 6 → Rose (S.fault_count input.old) (S.fault_count input.new) ⊎ Rose (F.fault_count files.old) (F.fault_count files.new) }
     ensures write { result ≡ 7 → Rose (K.fault_count output.old) (K.fault_count output.new) }
@@ -306,10 +377,10 @@ pub fn run<F: Files, S: Source, K: Sink, E: Sink>(
     ensures calm { result ≢ 6 → F.fault_count files.new ≡ F.fault_count files.old }
 
     // Files are asked for the description that is named, if any, and for what is included, never for the shipped one; the input is read by `asm`
-    // alone.
+    // and `eval` alone.
     ensures asked { (known : Known) → Agrees known (F.holds files.old) → GrewBy (MayBeAsked known (spoken.command_of (words_of words.now))) (F.asked files.old) (F.asked files.new) }
-    ensures files { ((name : List ℕ) → spoken.command_of (words_of words.now) ≢ Some (commands.List name)) → files.new ≡ files.old }
-    ensures input { spoken.command_of (words_of words.now) ≢ Some commands.Asm → input.new ≡ input.old }
+    ensures files { ((name : Option (List ℕ)) → spoken.command_of (words_of words.now) ≢ Some (commands.List name)) → files.new ≡ files.old }
+    ensures input { reads_input (spoken.command_of (words_of words.now)) ≡ false → input.new ≡ input.old }
 {
     match attempt(alloc, words, files, input, output) {
         Ok(()) => 0,

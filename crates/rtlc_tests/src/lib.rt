@@ -6,8 +6,12 @@
 #[cfg(test)]
 mod asm_tests;
 #[cfg(test)]
+mod eval_tests;
+#[cfg(test)]
 mod jump_tests;
 #[cfg(test)]
 mod list_tests;
 #[cfg(test)]
 mod whole_tests;
+#[cfg(test)]
+mod words_tests;

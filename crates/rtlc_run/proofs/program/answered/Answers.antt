@@ -1,6 +1,9 @@
-use Rattle.std.proofs.Common.{sym, ◌∙◌}
-use Rattle.rtlc_run.specs.Words.{command_of}
-use Rattle.rtlc_run.specs.Answer.{Answers, words_of}
+use Rattle.std.proofs.Common.{Option, sym, subst, ◌∙◌}
+use Rattle.md_source.specs.Asked.{GrewBy}
+use Rattle.rtlc_words.specs.declared.command.Command.{Command}
+use Rattle.rtlc_words.specs.Words.{command_of}
+use Rattle.rtlc_run.specs.Answer.{Answers, MayBeAsked}
+use Rattle.rtlc_words.specs.Words.{words_of}
 use Rattle.rtlc_run.proofs.Commands.{nothing_asked, words_produced}
 use Rattle.rtlc_run.proofs.program.answered.Goals as goal
 
@@ -13,3 +16,7 @@ returns-in-Some-clause-gives g c = λ known agrees.
 
 pub returns-in-None-clause-gives : goal.returns-in-None-clause-gives
 returns-in-None-clause-gives g c = λ known agrees. Answers.usage (sym c.in_ok-command.ensures ∙ c.in-None.is)
+
+pub returns-in-Some-clause-asked : goal.returns-in-Some-clause-asked
+returns-in-Some-clause-asked g c = λ known agrees.
+    subst (λ (o : Option Command). GrewBy (MayBeAsked known o) (g.F.Files.asked c.args.files.now) (g.F.Files.asked c.produced.new.files)) (sym (sym c.in_ok-command.ensures ∙ c.in-Some.is)) (c.produced.ensures.asked known agrees)

@@ -1,5 +1,5 @@
 use Rattle.std.proofs.lemmas.Result.{err_from_is_err_and}
-use Rattle.rtlc_run.specs.Answer.{words_of}
+use Rattle.rtlc_words.specs.Words.{words_of}
 use Rattle.run_refusal.specs.declared.refusal.Refusal.TheVariants as refusal
 use Rattle.rtlc_run.proofs.Answered.{err_on}
 use Rattle.rtlc_run.proofs.Commands.{refused_has_cause}
@@ -20,3 +20,8 @@ pub returns-in_err-text-clause-calm : goal.returns-in_err-text-clause-calm
 returns-in_err-text-clause-calm g c =
     let p = err_from_is_err_and c.from_residual.result c.from_residual.ensures.1 in
     λ other. c.in_err-text.ensures.calm (λ is. other (err_on c.from_residual.result p.0 c.in_err-text.field-0.0 refusal.ReadFault p.1 p.2 is))
+
+pub returns-in_err-text-clause-quiet : goal.returns-in_err-text-clause-quiet
+returns-in_err-text-clause-quiet g c =
+    let p = err_from_is_err_and c.from_residual.result c.from_residual.ensures.1 in
+    λ other. c.in_err-text.ensures.quiet (λ is. other (err_on c.from_residual.result p.0 c.in_err-text.field-0.0 refusal.ReadFault p.1 p.2 is))

@@ -1,4 +1,4 @@
 use Rattle.rtlc_run.proofs.program.produced.Goals as goal
 
 pub returns-in-List-clause-asked : goal.returns-in-List-clause-asked
-returns-in-List-clause-asked g c = λ known agrees. rw c.in-List.is (rw c.bytes.ensures at (c.listed.ensures.asked known agrees))
+returns-in-List-clause-asked g c = λ known agrees. rw c.in-List.is (c.listed.ensures.asked known agrees)

@@ -3,9 +3,9 @@ use Rattle.run_refusal.specs.declared.refusal.Refusal.{Refusal}
 use Rattle.run_refusal.specs.declared.refusal.Refusal.TheVariants as refusal
 use Rattle.rv_text.proofs.SpelledOnce.{spells_one}
 use Rattle.asm_text.proofs.Parts.{one_cut}
-use Rattle.rtlc_run.specs.Answer.{words_of}
-use Rattle.rtlc_run.proofs.Answered.{answered_err, err_of, told_cause}
-use Rattle.rtlc_run.proofs.Runs.{one_answer, nothing_known, nothing_agrees, writes_lines, writes_same, writes_list, completes, listed}
+use Rattle.rtlc_words.specs.Words.{words_of}
+use Rattle.rtlc_run.proofs.Answered.{answered_err, err_of, told_cause, read_status}
+use Rattle.rtlc_run.proofs.Runs.{one_answer, nothing_known, nothing_agrees, writes_lines, writes_same, writes_outcomes, writes_list, completes, tried, listed}
 use Rattle.rtlc_run.proofs.Statuses.{status_is}
 use Rattle.rtlc_run.proofs.program.run.Goals as goal
 
@@ -38,6 +38,11 @@ pub returns-in-Ok-clause-behaves : goal.returns-in-Ok-clause-behaves
 returns-in-Ok-clause-behaves g c = λ is zero. writes_same (g.S.Source.left c.args.input.now) (g.K.Sink.taken c.args.output.now) (g.K.Sink.taken c.attempt.new.output)
     (writes_lines (words_of c.args.words.now) (g.S.Source.left c.args.input.now) (g.K.Sink.taken c.args.output.now) (g.K.Sink.taken c.attempt.new.output) is (c.in-Ok.ensures.done nothing_known (nothing_agrees (g.F.Files.holds c.args.files.now))))
 
+pub returns-in-Ok-clause-evaluates : goal.returns-in-Ok-clause-evaluates
+returns-in-Ok-clause-evaluates g c = λ function steps args is zero.
+    writes_outcomes (words_of c.args.words.now) (g.S.Source.left c.args.input.now) (g.K.Sink.taken c.args.output.now) (g.K.Sink.taken c.attempt.new.output) function steps args is
+    (c.in-Ok.ensures.done nothing_known (nothing_agrees (g.F.Files.holds c.args.files.now)))
+
 pub returns-in-Ok-clause-lists : goal.returns-in-Ok-clause-lists
 returns-in-Ok-clause-lists g c = λ known agrees name is zero.
     writes_list (words_of c.args.words.now) known (g.S.Source.left c.args.input.now) (g.K.Sink.taken c.args.output.now) (g.K.Sink.taken c.attempt.new.output) name is (c.in-Ok.ensures.done known agrees)
@@ -61,6 +66,17 @@ returns-in-Err-clause-complete g c = λ is calm_files calm_in calm_out.
     not_read not_write other c.report.ensures
     (c.in-Err.ensures.nothing (λ same. not_write (err_of c.in-Err.refusal refusal.WriteFault same))))
 
+pub returns-in-Err-clause-tried : goal.returns-in-Err-clause-tried
+returns-in-Err-clause-tried g c = λ function steps args is calm_files calm_in calm_out.
+    let not_read : c.in-Err.refusal ≡ refusal.ReadFault → ⊥ = λ same. ⊎_elim calm_in calm_files (c.in-Err.ensures.fault (ap (λ (e : Refusal). Err e) same)) in
+    let not_write : c.in-Err.refusal ≡ refusal.WriteFault → ⊥ = λ same. calm_out (c.in-Err.ensures.write (ap (λ (e : Refusal). Err e) same)) in
+    tried (words_of c.args.words.now) (g.S.Source.left c.args.input.now) function steps args c.report.result (g.K.Sink.taken c.args.output.now) (g.K.Sink.taken c.attempt.new.output) (g.E.Sink.taken c.args.errors.now) (g.E.Sink.taken c.report.new.errors)
+    (g.E.Sink.fault_count c.args.errors.now) (g.E.Sink.fault_count c.report.new.errors) is
+    (λ other. answered_err (words_of c.args.words.now) nothing_known (g.S.Source.left c.args.input.now) c.in-Err.refusal c.report.result (g.K.Sink.taken c.args.output.now) (g.K.Sink.taken c.attempt.new.output) (g.E.Sink.taken c.args.errors.now) (g.E.Sink.taken c.report.new.errors)
+    (g.E.Sink.fault_count c.args.errors.now) (g.E.Sink.fault_count c.report.new.errors) (c.in-Err.ensures.cause nothing_known (nothing_agrees (g.F.Files.holds c.args.files.now)))
+    not_read not_write other c.report.ensures
+    (c.in-Err.ensures.nothing (λ same. not_write (err_of c.in-Err.refusal refusal.WriteFault same))))
+
 pub returns-in-Err-clause-listed : goal.returns-in-Err-clause-listed
 returns-in-Err-clause-listed g c = λ known agrees name text is enough has calm_files calm_in calm_out.
     let not_read : c.in-Err.refusal ≡ refusal.ReadFault → ⊥ = λ same. ⊎_elim calm_in calm_files (c.in-Err.ensures.fault (ap (λ (e : Refusal). Err e) same)) in
@@ -71,3 +87,16 @@ returns-in-Err-clause-listed g c = λ known agrees name text is enough has calm_
     (g.E.Sink.fault_count c.args.errors.now) (g.E.Sink.fault_count c.report.new.errors) (c.in-Err.ensures.cause known agrees)
     not_read not_write other c.report.ensures
     (c.in-Err.ensures.nothing (λ same. not_write (err_of c.in-Err.refusal refusal.WriteFault same))))
+
+pub returns-in-Err-clause-answer : goal.returns-in-Err-clause-answer
+returns-in-Err-clause-answer g c = λ known agrees calm_files calm_in calm_out other.
+    let not_read : c.in-Err.refusal ≡ refusal.ReadFault → ⊥ = λ same. ⊎_elim calm_in calm_files (c.in-Err.ensures.fault (ap (λ (e : Refusal). Err e) same)) in
+    let not_write : c.in-Err.refusal ≡ refusal.WriteFault → ⊥ = λ same. calm_out (c.in-Err.ensures.write (ap (λ (e : Refusal). Err e) same)) in
+    answered_err (words_of c.args.words.now) known (g.S.Source.left c.args.input.now) c.in-Err.refusal c.report.result (g.K.Sink.taken c.args.output.now) (g.K.Sink.taken c.attempt.new.output) (g.E.Sink.taken c.args.errors.now) (g.E.Sink.taken c.report.new.errors)
+    (g.E.Sink.fault_count c.args.errors.now) (g.E.Sink.fault_count c.report.new.errors) (c.in-Err.ensures.cause known agrees)
+    not_read not_write other c.report.ensures
+    (c.in-Err.ensures.nothing (λ same. not_write (err_of c.in-Err.refusal refusal.WriteFault same)))
+
+pub returns-in-Err-clause-quiet : goal.returns-in-Err-clause-quiet
+returns-in-Err-clause-quiet g c = λ other. c.in-Err.ensures.quiet (λ is. other (
+    read_status c.in-Err.refusal c.report.ensures.told c.report.result c.report.ensures.status_is c.report.ensures.which (err_of c.in-Err.refusal refusal.ReadFault is)))

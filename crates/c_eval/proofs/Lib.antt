@@ -1,0 +1,9 @@
+pub mod Stacks
+pub mod Scans
+pub mod Lists
+pub mod Gathered
+pub mod Rows
+pub mod Bounds
+pub mod Halves
+pub mod Paths
+pub mod Same

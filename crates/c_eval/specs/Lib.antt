@@ -1,0 +1,5 @@
+pub mod Numbers
+pub mod Fold
+pub mod Value
+pub mod Given
+pub mod Places

@@ -1,0 +1,83 @@
+//! Kinds of operands, whatever their mode.
+ghost use Rattle.std.specs.Prelude.{◌≡◌};
+ghost use Rattle.md_operand.specs.Operand as spec;
+
+use rtx_tree::{Code, Mode, Rtx};
+use rv_operand::{is_base, legitimate_address};
+
+/// Whether a mode accepts another: a mode that is none accepts every mode.
+pub fn accepts_mode(wanted: Mode, mode: Mode) -> bool
+    ensures { result ≡ spec.accepts_mode wanted mode }
+{
+    match wanted {
+        Mode::Void => true,
+        Mode::QI | Mode::HI | Mode::SI | Mode::DI => wanted.name() == mode.name(),
+    }
+}
+
+/// Whether a tree has the mode, where one is wanted.
+pub fn has_mode(wanted: Mode, x: &Rtx) -> bool
+    ensures { result ≡ spec.has_mode wanted x.now }
+{
+    accepts_mode(wanted, x.mode)
+}
+
+/// Whether it is a register other than `virtual-stack-vars`, or the low part of one.
+pub fn is_register(x: &Rtx) -> bool
+    ensures { result ≡ spec.is_register x.now }
+{
+    match x.code {
+        Code::Reg => is_base(x),
+        Code::Subreg => match x.kids.as_slice() {
+            [inner] => is_base(inner),
+            _ => false,
+        },
+        _ => false,
+    }
+}
+
+/// Whether it is a constant.
+pub fn is_constant(x: &Rtx) -> bool
+    ensures { result ≡ spec.is_constant x.now }
+{
+    matches!(x.code, Code::ConstInt)
+}
+
+/// Whether it is a symbol's address.
+pub fn is_symbol(x: &Rtx) -> bool
+    ensures { result ≡ spec.is_symbol x.now }
+{
+    matches!(x.code, Code::SymbolRef)
+}
+
+/// Whether it is memory at a legitimate address.
+pub fn is_memory(x: &Rtx) -> bool
+    ensures { result ≡ spec.is_memory x.now }
+{
+    match x.code {
+        Code::Mem => match x.kids.as_slice() {
+            [address] => legitimate_address(address),
+            _ => false,
+        },
+        _ => false,
+    }
+}
+
+/// Whether it is one of the ten comparisons.
+pub fn is_comparison(x: &Rtx) -> bool
+    ensures { result ≡ spec.is_comparison x.now }
+{
+    matches!(
+        x.code,
+        Code::Eq
+            | Code::Ne
+            | Code::Lt
+            | Code::Le
+            | Code::Gt
+            | Code::Ge
+            | Code::Ltu
+            | Code::Leu
+            | Code::Gtu
+            | Code::Geu
+    )
+}

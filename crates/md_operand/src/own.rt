@@ -1,0 +1,154 @@
+//! The predicates that every description has.
+ghost use Rattle.std.specs.Prelude.{◌≡◌};
+ghost use Rattle.std.specs.Str.{bytes_eq};
+ghost use Rattle.md_operand.specs.declared.own.Own.TheVariants as owns;
+ghost use Rattle.md_operand.specs.Operand as spec;
+
+use crate::kinds::{
+    accepts_mode, has_mode, is_comparison, is_constant, is_memory, is_register, is_symbol,
+};
+use rtx_tree::{Mode, Rtx};
+use rv_operand::{frame_reference, legitimate_address};
+
+/// A predicate that is there without a definition.
+#[derive(Clone, Copy, Debug, PartialEq, Eq)]
+pub enum Own {
+    /// The one without a name, which accepts anything.
+    Anything,
+    /// `register_operand`
+    Register,
+    /// `const_int_operand`
+    ConstInt,
+    /// `immediate_operand`
+    Immediate,
+    /// `memory_operand`
+    Memory,
+    /// `nonimmediate_operand`
+    Nonimmediate,
+    /// `nonmemory_operand`
+    Nonmemory,
+    /// `general_operand`
+    General,
+    /// `address_operand`
+    Address,
+    /// `comparison_operator`
+    Comparison,
+    /// `ordered_comparison_operator`
+    OrderedComparison,
+    /// `frame_operand`
+    Frame,
+}
+
+fn is_within(least: i64, greatest: i64, n: i64) -> bool
+    ensures { result ≡ spec.is_within least greatest n }
+{
+    least <= n && n <= greatest
+}
+
+/// Whether a number is the sign extension of its low bits in a mode.
+fn is_extended(mode: Mode, n: i64) -> bool
+    ensures { result ≡ spec.is_extended mode n }
+{
+    match mode {
+        Mode::QI => is_within(-128, 127, n),
+        Mode::HI => is_within(-32_768, 32_767, n),
+        Mode::SI => is_within(-2_147_483_648, 2_147_483_647, n),
+        Mode::Void | Mode::DI => true,
+    }
+}
+
+fn register_operand(mode: Mode, x: &Rtx) -> bool
+    ensures { result ≡ spec.register_operand mode x.now }
+{
+    is_register(x) && has_mode(mode, x)
+}
+
+fn const_int_operand(mode: Mode, x: &Rtx) -> bool
+    ensures { result ≡ spec.const_int_operand mode x.now }
+{
+    is_constant(x) && is_extended(mode, x.number)
+}
+
+fn symbol_operand(mode: Mode, x: &Rtx) -> bool
+    ensures { result ≡ spec.symbol_operand mode x.now }
+{
+    is_symbol(x) && accepts_mode(mode, Mode::DI)
+}
+
+fn immediate_operand(mode: Mode, x: &Rtx) -> bool
+    ensures { result ≡ spec.immediate_operand mode x.now }
+{
+    const_int_operand(mode, x) || symbol_operand(mode, x)
+}
+
+fn memory_operand(mode: Mode, x: &Rtx) -> bool
+    ensures { result ≡ spec.memory_operand mode x.now }
+{
+    is_memory(x) && has_mode(mode, x)
+}
+
+fn general_operand(mode: Mode, x: &Rtx) -> bool
+    ensures { result ≡ spec.accepts owns.General mode x.now }
+{
+    register_operand(mode, x) || (immediate_operand(mode, x) || memory_operand(mode, x))
+}
+
+fn is(name: &[u8], word: &[u8]) -> bool
+    ensures { result ≡ bytes_eq name.now word.now }
+{
+    name == word
+}
+
+impl Own {
+    /// The predicate with a name.
+    pub fn named(name: &[u8]) -> Option<Own>
+        ensures { result ≡ spec.own_named name.now }
+    {
+        if is(name, b"") {
+            Some(Own::Anything)
+        } else if is(name, b"register_operand") {
+            Some(Own::Register)
+        } else if is(name, b"const_int_operand") {
+            Some(Own::ConstInt)
+        } else if is(name, b"immediate_operand") {
+            Some(Own::Immediate)
+        } else if is(name, b"memory_operand") {
+            Some(Own::Memory)
+        } else if is(name, b"nonimmediate_operand") {
+            Some(Own::Nonimmediate)
+        } else if is(name, b"nonmemory_operand") {
+            Some(Own::Nonmemory)
+        } else if is(name, b"general_operand") {
+            Some(Own::General)
+        } else if is(name, b"address_operand") {
+            Some(Own::Address)
+        } else if is(name, b"comparison_operator") {
+            Some(Own::Comparison)
+        } else if is(name, b"ordered_comparison_operator") {
+            Some(Own::OrderedComparison)
+        } else if is(name, b"frame_operand") {
+            Some(Own::Frame)
+        } else {
+            None
+        }
+    }
+
+    /// Whether the predicate accepts a tree in a mode; a mode that is none accepts every mode.
+    pub fn accepts(self, mode: Mode, x: &Rtx) -> bool
+        ensures { result ≡ spec.accepts self mode x.now }
+    {
+        match self {
+            Own::Anything => true,
+            Own::Register => register_operand(mode, x),
+            Own::ConstInt => const_int_operand(mode, x),
+            Own::Immediate => immediate_operand(mode, x),
+            Own::Memory => memory_operand(mode, x),
+            Own::Nonimmediate => register_operand(mode, x) || memory_operand(mode, x),
+            Own::Nonmemory => register_operand(mode, x) || immediate_operand(mode, x),
+            Own::General => general_operand(mode, x),
+            Own::Address => legitimate_address(x),
+            Own::Comparison | Own::OrderedComparison => is_comparison(x) && has_mode(mode, x),
+            Own::Frame => frame_reference(x) && has_mode(mode, x),
+        }
+    }
+}

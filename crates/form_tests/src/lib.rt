@@ -1,4 +1,4 @@
-//! Tests of descriptions: their files, the parts of forms, the forms, and their list.
+//! Tests of descriptions: their files, the parts of forms, the forms, their list, and what they say of instructions.
 //!
 //! They stand in a crate of their own, since a crate with tests is proved twice.
 #![tactic(auto)]
@@ -7,6 +7,8 @@
 mod gcc_style;
 #[cfg(test)]
 mod lists;
+#[cfg(test)]
+mod md_attr_tests;
 #[cfg(test)]
 mod md_forms_tests;
 #[cfg(test)]

@@ -1,0 +1,4 @@
+pub mod InputLaws
+pub mod ClassLaws
+pub mod NameLaws
+pub mod TableLaws

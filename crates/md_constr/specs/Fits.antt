@@ -1,0 +1,85 @@
+-- Whether operands fit an alternative of a form: GCC Internals, "Multiple Alternative Constraints", "Simple Constraints" and "Constraint
+-- Modifier Characters".
+use Rattle.std.specs.Prelude.{ℕ, ◌==◌, Bool, true, false, not, ◌&&◌, List, [], ◌∷◌, Option, slice_get}
+use Rattle.std.specs.List.{list_all, list_any}
+use Rattle.std.specs.Option.{option_map_or}
+use Rattle.rtx_tree.specs.declared.tree.Rtx.{Rtx}
+use Rattle.rtx_tree.specs.Operands.{operand_at}
+use Rattle.rtx_tree.specs.Tree.{mentions_reg}
+use Rattle.c_eval.specs.Value.{same_tree}
+use Rattle.test_rows.specs.Tests.{Accepts}
+use Rattle.md_text.specs.declared.constraint.Member.{Member}
+use Rattle.md_text.specs.declared.constraint.Member.TheVariants as member
+use Rattle.md_text.specs.declared.constraint.Alternative.{Alternative}
+use Rattle.md_forms.specs.declared.form.OperandConstraint.{OperandConstraint}
+use Rattle.md_forms.specs.declared.form.Entry.{Entry}
+use Rattle.md_attr.specs.Alternatives.{form_at}
+use Rattle.md_constr.specs.Inputs.{direction_of, is_written, inputs_of}
+use Rattle.md_constr.specs.Admits.{letter_admits, register_of, name_admits}
+
+-- the operands that defined constraints admit, by the constraints' names
+abbrev pub Named : Type 0
+Named = List ℕ → Rtx → Bool
+
+-- ---- members
+
+-- an operand is the same tree as the one with a number
+abbrev pub is_same : List (Option Rtx) → ℕ → Rtx → Bool
+is_same operands n x = option_map_or (same_tree x) (operand_at operands n) false
+
+abbrev pub member_admits : Named → List (Option Rtx) → Rtx → Member → Bool
+member_admits named operands x (member.Letter l) = letter_admits l x
+member_admits named operands x (member.Same n) = is_same operands n x
+member_admits named operands x (member.Defined name) = named name x
+
+-- an operand meets one of the members; an alternative without members accepts anything
+abbrev pub meets : Named → List (Option Rtx) → Rtx → List Member → Bool
+meets named operands x [] = true
+meets named operands x (m ∷ ms) = list_any (member_admits named operands x) (m ∷ ms)
+
+-- ---- earlyclobber outputs
+
+abbrev pub mentions_at : List (Option Rtx) → ℕ → ℕ → Bool
+mentions_at operands reg n = option_map_or (mentions_reg reg) (operand_at operands n) false
+
+-- an input other than operand n mentions the register
+abbrev pub is_shared : List ℕ → List (Option Rtx) → ℕ → ℕ → Bool
+is_shared inputs operands n reg = list_any (λ input. not (input == n) && mentions_at operands reg input) inputs
+
+-- a register shares itself with an input; what is in memory shares none
+abbrev pub shares_register : List ℕ → List (Option Rtx) → ℕ → Rtx → Bool
+shares_register inputs operands n x = option_map_or (is_shared inputs operands n) (register_of x) false
+
+-- written before all inputs are read
+abbrev pub is_early : OperandConstraint → Alternative → Bool
+is_early k a = a.early && is_written (direction_of k)
+
+-- ---- operands
+
+-- an operand fits an alternative of its constraint: it meets a member, and shares no register with an input if it is an earlyclobber
+-- output
+abbrev pub fits_in : Named → List ℕ → List (Option Rtx) → OperandConstraint → Rtx → Alternative → Bool
+fits_in named inputs operands k x a = meets named operands x a.members && not (is_early k a && shares_register inputs operands k.operand x)
+
+-- a constraint without alternatives is none, and accepts anything
+abbrev pub fits_among : Named → List ℕ → List (Option Rtx) → OperandConstraint → Rtx → ℕ → List Alternative → Bool
+fits_among named inputs operands k x alternative [] = true
+fits_among named inputs operands k x alternative (a ∷ more) = option_map_or (fits_in named inputs operands k x) (slice_get (a ∷ more) alternative) false
+
+abbrev pub fits_at : Named → List ℕ → List (Option Rtx) → ℕ → OperandConstraint → Rtx → Bool
+fits_at named inputs operands alternative k x = fits_among named inputs operands k x alternative k.constraint
+
+-- the operand of a constraint, where there is one, fits an alternative of it
+abbrev pub operand_fits : Named → List ℕ → List (Option Rtx) → ℕ → OperandConstraint → Bool
+operand_fits named inputs operands alternative k = option_map_or (fits_at named inputs operands alternative k) (operand_at operands k.operand) true
+
+-- each operand that has a constraint fits
+abbrev pub all_fit : Named → List ℕ → List (Option Rtx) → ℕ → List OperandConstraint → Bool
+all_fit named inputs operands alternative ks = list_all (operand_fits named inputs operands alternative) ks
+
+-- ---- forms
+
+-- whether operands fit an alternative of the accepted form with an index
+abbrev pub fits : List Entry → Accepts → ℕ → ℕ → List (Option Rtx) → Bool
+fits forms accepts form alternative operands =
+    option_map_or (λ f. all_fit (name_admits forms accepts) (inputs_of f) operands alternative f.constraints) (form_at forms form) false

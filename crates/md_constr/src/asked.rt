@@ -1,0 +1,135 @@
+//! Whether operands fit.
+ghost use Rattle.std.specs.Prelude.{◌≡◌};
+ghost use Rattle.std.specs.List.{list_any};
+ghost use Rattle.c_eval.specs.Value.{same_tree};
+ghost use Rattle.md_constr.specs.Fits as spec;
+ghost use Rattle.md_constr.specs.Tables as tables;
+
+use crate::admits::{letter_admits, register_of};
+use crate::inputs::is_written;
+use crate::meanings::Meanings;
+use c_eval::Preds;
+use md_forms::OperandConstraint;
+use md_text::{Alternative, Member};
+use rtx_tree::{Operands, Rtx, same};
+
+/// What is known where an operand is asked for.
+#[derive(Drop)]
+pub struct Asked<'a, P: Preds> {
+    /// The constraints that the description defines.
+    pub meanings: &'a Meanings,
+    /// Its predicates.
+    pub preds: &'a P,
+    /// The operands of the form.
+    pub operands: &'a Operands,
+    /// The numbers of the form's inputs.
+    pub inputs: &'a [u64],
+    /// The alternative.
+    pub alternative: usize,
+}
+
+fn same_tree(x: &Rtx, y: &Rtx) -> bool
+    ensures { result ≡ same_tree x.now y.now }
+{
+    same(x, y)
+}
+
+fn is_same(operands: &Operands, number: u8, x: &Rtx) -> bool
+    ensures { result ≡ spec.is_same operands.now number x.now }
+{
+    match operands.get(number as usize) {
+        Some(other) => same_tree(x, other),
+        None => false,
+    }
+}
+
+fn mentions_at(operands: &Operands, reg: u32, number: u64) -> bool
+    ensures { result ≡ spec.mentions_at operands.now reg number }
+{
+    match operands.get(number as usize) {
+        Some(x) => x.mentions(reg),
+        None => false,
+    }
+}
+
+/// Whether an input other than an operand mentions a register.
+fn is_shared(inputs: &[u64], operands: &Operands, own: u64, reg: u32) -> bool
+    ensures { result ≡ spec.is_shared inputs.now operands.now own reg }
+{
+    inputs.iter().any(|input| *input != own && mentions_at(operands, reg, *input))
+}
+
+impl<P: Preds> Asked<'_, P> {
+    fn member_admits(&self, x: &Rtx, member: &Member) -> bool
+        ensures { result ≡ spec.member_admits (tables.name_admits_in self.now.meanings.now (P.accepts self.now.preds.now)) self.now.operands.now x.now member.now }
+    {
+        match member {
+            Member::Letter(letter) => letter_admits(*letter, x),
+            Member::Same(number) => is_same(self.operands, *number, x),
+            Member::Defined(name) => self.meanings.admits(self.preds, name.bytes(), x),
+        }
+    }
+
+    fn one_admits(&self, x: &Rtx, members: &[Member]) -> bool
+        ensures { result ≡ list_any (spec.member_admits (tables.name_admits_in self.now.meanings.now (P.accepts self.now.preds.now)) self.now.operands.now x.now) members.now }
+    {
+        members.iter().any(|member| self.member_admits(x, member))
+    }
+
+    /// Whether an operand meets one of some members; no members accept anything.
+    fn meets(&self, x: &Rtx, members: &[Member]) -> bool
+        ensures { result ≡ spec.meets (tables.name_admits_in self.now.meanings.now (P.accepts self.now.preds.now)) self.now.operands.now x.now members.now }
+    {
+        members.is_empty() || self.one_admits(x, members)
+    }
+
+    fn shares_register(&self, number: u64, x: &Rtx) -> bool
+        ensures { result ≡ spec.shares_register self.now.inputs.now self.now.operands.now number x.now }
+    {
+        match register_of(x) {
+            Some(reg) => is_shared(self.inputs, self.operands, number, reg),
+            None => false,
+        }
+    }
+
+    /// Whether an operand fits an alternative of its constraint.
+    fn fits_in(&self, constraint: &OperandConstraint, x: &Rtx, alternative: &Alternative) -> bool
+        ensures { result ≡ spec.fits_in (tables.name_admits_in self.now.meanings.now (P.accepts self.now.preds.now)) self.now.inputs.now self.now.operands.now constraint.now x.now alternative.now }
+    {
+        self.meets(x, alternative.members.as_slice())
+            && !(alternative.early
+                && is_written(constraint)
+                && self.shares_register(u64::from(constraint.operand), x))
+    }
+
+    fn fits_at(&self, constraint: &OperandConstraint, x: &Rtx) -> bool
+        ensures { result ≡ spec.fits_at (tables.name_admits_in self.now.meanings.now (P.accepts self.now.preds.now)) self.now.inputs.now self.now.operands.now self.now.alternative constraint.now x.now }
+    {
+        if constraint.constraint.is_empty() {
+            return true;
+        }
+        match constraint.constraint.as_slice().get(self.alternative) {
+            Some(alternative) => self.fits_in(constraint, x, alternative),
+            None => false,
+        }
+    }
+
+    /// Whether the operand of a constraint fits, where there is one.
+    fn operand_fits(&self, constraint: &OperandConstraint) -> bool
+        ensures { result ≡ spec.operand_fits (tables.name_admits_in self.now.meanings.now (P.accepts self.now.preds.now)) self.now.inputs.now self.now.operands.now self.now.alternative constraint.now }
+    {
+        match self.operands.get(constraint.operand as usize) {
+            Some(x) => self.fits_at(constraint, x),
+            None => true,
+        }
+    }
+
+    /// Whether the operands of some constraints fit.
+    pub fn all_fit(&self, constraints: &[OperandConstraint]) -> bool
+        ensures { result ≡ spec.all_fit (tables.name_admits_in self.now.meanings.now (P.accepts self.now.preds.now)) self.now.inputs.now self.now.operands.now self.now.alternative constraints.now }
+    {
+        constraints
+            .iter()
+            .all(|constraint| self.operand_fits(constraint))
+    }
+}

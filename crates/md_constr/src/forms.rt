@@ -1,0 +1,71 @@
+//! What forms ask of their operands.
+ghost use Rattle.std.specs.Prelude.{◌≡◌, IfOk, map};
+ghost use Rattle.md_forms.specs.Checks as checks;
+ghost use Rattle.md_constr.specs.Tables as tables;
+
+use crate::copies::constraints_copy;
+use crate::inputs::inputs_of;
+use md_forms::{Entry, Form, OperandConstraint};
+use plain_data::{Items, Memory};
+use std::alloc::Global;
+
+/// What a form asks of its operands.
+#[derive(Drop)]
+pub struct FormConstraints {
+    /// Whether it is an accepted form. What follows is empty where it is none.
+    pub accepted: bool,
+    /// The constraints of its operands, in the order of the text.
+    pub constraints: Items<OperandConstraint>,
+    /// The numbers of its inputs.
+    pub inputs: Items<u64>,
+    /// How many alternatives it has.
+    pub alternatives: usize,
+}
+
+/// How many alternatives a form has.
+fn alternatives(constraints: &[OperandConstraint]) -> usize
+    ensures { result ≡ checks.alternatives constraints.now }
+{
+    for constraint in constraints {
+        if constraint.constraint.len() > 0 {
+            return constraint.constraint.len();
+        }
+    }
+    1
+}
+
+fn constraints_in(alloc: Global, form: &Form) -> Result<FormConstraints, Memory>
+    ensures { IfOk result (λ one. one ≡ tables.constraints_in form.now) }
+{
+    Ok(FormConstraints {
+        accepted: true,
+        constraints: constraints_copy(alloc, form.constraints.as_slice())?,
+        inputs: inputs_of(alloc, form)?,
+        alternatives: alternatives(form.constraints.as_slice()),
+    })
+}
+
+fn constraints_of(alloc: Global, entry: &Entry) -> Result<FormConstraints, Memory>
+    ensures { IfOk result (λ one. one ≡ tables.constraints_of entry.now) }
+{
+    match &entry.form {
+        Ok(form) => constraints_in(alloc, form),
+        Err(_) => Ok(FormConstraints {
+            accepted: false,
+            constraints: Items::new(alloc),
+            inputs: Items::new(alloc),
+            alternatives: 0,
+        }),
+    }
+}
+
+/// What each of some forms asks of its operands.
+pub fn all_constraints(alloc: Global, forms: &[Entry]) -> Result<Items<FormConstraints>, Memory>
+    ensures { IfOk result (λ all. all ≡ map tables.constraints_of forms.now) }
+{
+    let mut all = Items::new(alloc);
+    for entry in forms {
+        all.push(constraints_of(alloc, entry)?)?;
+    }
+    Ok(all)
+}

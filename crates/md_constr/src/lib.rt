@@ -1,0 +1,18 @@
+//! Whether operands fit an alternative of a form of a machine description.
+//!
+//! [`Constraints::of`] makes a table of what forms ask of their operands. Promised: of a table that is that of some forms, [`fits`]
+//! tells whether operands fit an alternative of a form, as `specs/Fits.antt` has it: each meets a member of its constraint there, by
+//! `specs/Admits.antt`, and an earlyclobber output shares no register with an input. [`alternatives_of`] gives the number of a form's
+//! alternatives. Neither takes memory.
+#![tactic(auto)]
+
+mod admits;
+mod asked;
+mod copies;
+mod forms;
+mod inputs;
+mod meaning;
+mod meanings;
+mod table;
+
+pub use table::{Constraints, alternatives_of, fits};

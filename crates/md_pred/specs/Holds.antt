@@ -1,0 +1,76 @@
+-- Which trees the predicates of a description accept: GCC Internals, "Machine-Independent Predicates" and "Defining
+-- Machine-Specific Predicates".
+use Rattle.std.specs.Prelude.{ℕ, zero, suc, Bool, true, false, ◌&&◌, ◌||◌, List, Option, Some, None, Result, Ok, Err, length}
+use Rattle.std.specs.List.{find}
+use Rattle.std.specs.Str.{bytes_eq}
+use Rattle.rtx_tree.specs.declared.code.Mode.{Mode}
+use Rattle.rtx_tree.specs.declared.tree.Rtx.{Rtx}
+use Rattle.md_test.specs.declared.question.Test.{Test}
+use Rattle.md_pattern.specs.declared.reason.Reason.{Reason}
+use Rattle.md_draft.specs.declared.head.Head.{Head}
+use Rattle.md_draft.specs.declared.head.Head.TheVariants as head
+use Rattle.md_draft.specs.Head.{head_named}
+use Rattle.md_forms.specs.declared.form.Form.{Form}
+use Rattle.md_forms.specs.declared.form.Entry.{Entry}
+use Rattle.md_forms.specs.Tables.{defines_predicate}
+use Rattle.md_operand.specs.declared.own.Own.{Own}
+use Rattle.md_operand.specs.Operand.{accepts, has_mode, is_constant, own_named}
+use Rattle.test_rows.specs.Tests.{Accepts, test_holds}
+
+-- ---- a definition
+
+-- a constant has no mode, and is accepted in each
+abbrev pub is_of_mode : Mode → Rtx → Bool
+is_of_mode m x = has_mode m x || is_constant x
+
+-- a predicate looks at the mode besides its test; a special one in its test alone
+abbrev pub mode_fits : Head → Mode → Rtx → Bool
+mode_fits head.Predicate m x = is_of_mode m x
+mode_fits _ m x = true
+
+abbrev pub tested : Accepts → Rtx → Mode → Option Test → Bool
+tested other x m None = false
+tested other x m (Some t) = test_holds other x m t
+
+-- one that is set aside accepts nothing
+abbrev pub form_holds : Accepts → Rtx → Mode → Result Form Reason → Bool
+form_holds other x m (Err r) = false
+form_holds other x m (Ok f) = mode_fits f.head m x && tested other x m f.test
+
+abbrev pub definition_holds : Accepts → Rtx → Mode → Option Entry → Bool
+definition_holds other x m None = false
+definition_holds other x m (Some e) = form_holds other x m e.form
+
+-- ---- the definitions of a description
+
+abbrev pub is_named : Option (List ℕ) → List ℕ → Bool
+is_named None name = false
+is_named (Some own) name = bytes_eq own name
+
+abbrev pub defines : List ℕ → Entry → Bool
+defines name e = defines_predicate (head_named e.head) && is_named e.name name
+
+-- what a name's definition accepts, by what other predicates accept; the first definition of a name counts
+abbrev pub defined : List Entry → Accepts → Accepts
+defined es other name x m = definition_holds other x m (find (defines name) es)
+
+-- ---- predicates
+
+-- a predicate that the manual has answers itself, any other by its definition
+abbrev pub own_or : Option Own → Mode → Rtx → Bool → Bool
+own_or None m x other = other
+own_or (Some own) m x other = accepts own m x
+
+-- what definitions accept, where they ask for one another so often at most
+abbrev pub defined_within : (Accepts → Accepts) → ℕ → Accepts
+defined_within define zero name x m = false
+defined_within define (suc rounds) name x m = define (λ other y n. own_or (own_named other) n y (defined_within define rounds other y n)) name x m
+
+-- Which trees predicates accept in a mode, where definitions ask for one another so often at most. The predicates that the
+-- manual has count before all definitions.
+abbrev pub within : (Accepts → Accepts) → ℕ → Accepts
+within define rounds name x m = own_or (own_named name) m x (defined_within define rounds name x m)
+
+-- An accepted predicate does not reach itself, so that definitions ask for one another less often than there are forms.
+abbrev pub holds : List Entry → Accepts
+holds es = within (defined es) (length es)

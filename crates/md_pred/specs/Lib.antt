@@ -1,0 +1,3 @@
+pub mod Holds
+pub mod Table
+pub mod Steps

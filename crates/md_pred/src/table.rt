@@ -1,0 +1,50 @@
+//! The table of the predicates of a description.
+ghost use Rattle.std.specs.Prelude.{◌≡◌, IfOk};
+
+use crate::definitions::Definitions;
+use crate::weight::weights_of;
+use c_eval::Preds;
+use md_forms::Forms;
+use plain_data::{Items, Memory};
+use rtx_tree::{Mode, Name, Rtx};
+use std::alloc::Global;
+
+/// The predicates of a description: those that its forms define, and those that every description has.
+#[derive(Drop)]
+pub struct PredTable {
+    /// The definitions.
+    pub(crate) definitions: Definitions,
+    /// How deep calls are nested where the question at a place is answered.
+    pub(crate) weights: Items<u32>,
+    /// How often definitions may ask for one another, one behind the other.
+    pub(crate) rounds: usize,
+}
+
+impl PredTable {
+    ghost use Rattle.md_pred.specs.Holds.{holds};
+    ghost use Rattle.md_pred.specs.Table.{accepted_by};
+
+    /// The table of the predicates that some forms define. Of a name the first definition counts, and one that is set aside accepts
+    /// nothing.
+    pub fn of(alloc: Global, forms: &Forms) -> Result<PredTable, Memory>
+        ensures { IfOk result (λ table. accepted_by table ≡ holds forms.now) }
+    {
+        let definitions = Definitions::of(alloc, forms.as_slice())?;
+        let weights = weights_of(alloc, &definitions, forms.len())?;
+        Ok(PredTable {
+            definitions,
+            weights,
+            rounds: forms.len(),
+        })
+    }
+}
+
+impl Preds for PredTable {
+    ghost use Rattle.md_pred.specs.Table.{accepted_by};
+
+    ghost accepts = { λ table. accepted_by table };
+
+    fn holds(&self, name: &Name, x: &Rtx, mode: Mode) -> bool {
+        self.answer(self.asked(name, x, mode, self.rounds), x)
+    }
+}

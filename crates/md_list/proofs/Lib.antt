@@ -1,3 +1,2 @@
-pub mod TooMany
 pub mod Lines
 pub mod Lists

@@ -8,10 +8,10 @@ use Rattle.md_source.specs.Source.{Source, DescriptionComes}
 use Rattle.md_source.specs.Asked.{IsKnown}
 use Rattle.md_source.specs.Answers.{Refuses}
 use Rattle.md_source.proofs.One.{one_description}
-use Rattle.md_iter.specs.Expansion as expansion
+use Rattle.tree_forms.specs.Trees.{expanded, most_forms}
 use Rattle.md_list.specs.declared.refusal.ListRefusal.{ListRefusal}
 use Rattle.md_list.specs.declared.refusal.ListRefusal.TheVariants as refusal
-use Rattle.md_list.specs.Listing.{ListComes, list_of_trees, most_forms}
+use Rattle.md_list.specs.Listing.{ListComes, list_of_trees}
 use Rattle.md_list.specs.Answers.{GivesList, ListsTrees}
 
 -- the trees of a description were listed
@@ -48,8 +48,8 @@ same_err a b e = cc
 not_both : (a : List Tree) (b : SourceRefusal) → ◌≡◌ {A = Described} (Ok a) (Err b) → ⊥
 not_both a b e = cc
 
-many_or_few : (ts us : List Tree) → ts ≡ us → most_forms < length (expansion.forms_of ts) → length (expansion.forms_of us) ≤ most_forms → ⊥
-many_or_few ts us same many few = let e = ap (λ (l : List Tree). length (expansion.forms_of l)) same in omega arith
+many_or_few : (ts us : List Tree) → ts ≡ us → most_forms < length (expanded ts) → length (expanded us) ≤ most_forms → ⊥
+many_or_few ts us same many few = let e = ap (λ (l : List Tree). length (expanded l)) same in omega arith
 
 pub one_list : (source : Source) (name : List ℕ) (a b : Result (List ℕ) ListRefusal) → IsKnown source name → ListComes source name a → ListComes source name b → a ≡ b
 one_list source name _ _ known (ListComes.refused e p) (ListComes.refused f q) =

@@ -5,8 +5,7 @@ ghost use Rattle.md_source.specs.Source.{Source};
 ghost use Rattle.md_source.specs.Asked.{AreNamed, GrewBy, IsKnown};
 ghost use Rattle.md_source.specs.Answers.{Agrees};
 ghost use Rattle.md_source.specs.declared.refusal.SourceRefusal.TheVariants as source_refusal;
-ghost use Rattle.md_forms.specs.Forms.{forms_of};
-ghost use Rattle.md_list.specs.Answers.{GivesList, ListsTrees, Expands};
+ghost use Rattle.md_list.specs.Answers.{GivesList, ListsTrees};
 ghost use Rattle.md_list.specs.Listing as spec;
 ghost use Rattle.md_list.specs.declared.refusal.ListRefusal.{ListRefusal};
 ghost use Rattle.md_list.specs.declared.refusal.ListRefusal.TheVariants as refused;
@@ -15,30 +14,16 @@ use crate::line::print_list;
 use crate::refusal::ListRefusal;
 use byte_edge::Files;
 use lisp_read::Tree;
-use md_forms::{forms_of, names_of};
-use md_iter::{Expanded, IterRefusal, expand_forms};
+use md_forms::{Forms, names_of};
 use md_source::gather;
 use plain_data::Memory;
-use rtx_tree::Constants;
 use std::alloc::Global;
-
-/// A description without its iterators.
-#[tactic(auto, using(crate::proofs::TooMany::passes))]
-fn expanded(alloc: Global, trees: &[Tree]) -> Result<Expanded, ListRefusal>
-    ensures { Expands trees.now result }
-{
-    match expand_forms(alloc, trees) {
-        Ok(expanded) => Ok(expanded),
-        Err(IterRefusal::Limit { .. }) => Err(ListRefusal::Forms),
-        Err(IterRefusal::Memory) => Err(ListRefusal::Memory),
-    }
-}
+use tree_forms::{DescRefusal, forms_of_trees};
 
 /// The list of some forms.
-fn list_forms(alloc: Global, forms: &[Tree], constants: &Constants) -> Result<Vec<u8>, Memory>
-    ensures { IfOk result (λ text. text.items ≡ spec.list_of (forms_of constants.now forms.now)) }
+fn list_forms(alloc: Global, forms: &Forms) -> Result<Vec<u8>, Memory>
+    ensures { IfOk result (λ text. text.items ≡ spec.list_of forms.now) }
 {
-    let forms = forms_of(alloc, forms, constants)?;
     let names = names_of(alloc, forms.as_slice())?;
     let mut text = Vec::new(alloc);
     print_list(forms.as_slice(), names.as_slice(), &mut text)?;
@@ -49,12 +34,10 @@ fn list_forms(alloc: Global, forms: &[Tree], constants: &Constants) -> Result<Ve
 fn list_trees(alloc: Global, trees: &[Tree]) -> Result<Vec<u8>, ListRefusal>
     ensures { ListsTrees trees.now result }
 {
-    match expanded(alloc, trees) {
-        Ok(expanded) => match list_forms(alloc, expanded.forms.as_slice(), &expanded.constants) {
-            Ok(text) => Ok(text),
-            Err(Memory) => Err(ListRefusal::Memory),
-        },
-        Err(e) => Err(e),
+    match forms_of_trees(alloc, trees) {
+        Ok(forms) => Ok(list_forms(alloc, &forms)?),
+        Err(DescRefusal::Limit { .. }) => Err(ListRefusal::Forms),
+        Err(DescRefusal::Memory) => Err(ListRefusal::Memory),
     }
 }
 

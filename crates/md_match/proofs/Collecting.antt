@@ -35,7 +35,7 @@ some_kept a b k grows s = go (operand_at a k) refl s
     go None e s = absurd (let none : ⊥ = cc in none)
     go (Some x) e s = ap is_some (grows.keeps k x e)
 
-or_split : (a b : Bool) → (a || b) ≡ true → (a ≡ true) ⊎ (b ≡ true)
+pub or_split : (a b : Bool) → (a || b) ≡ true → (a ≡ true) ⊎ (b ≡ true)
 or_split true b e = inl refl
 or_split false b e = inr e
 
@@ -63,7 +63,7 @@ collects_both P Q R f g h old more (Some new) split joined c d = record {
 
 -- ---- patterns
 
-given_as : (p : Rtx) (r : Role) (k : ℕ) → role_of (head_of p).code ≡ r → is_given k p ≡ list_any (gives_number k) (placeholders_as r p (flat_map placeholders (kids_of p)))
+pub given_as : (p : Rtx) (r : Role) (k : ℕ) → role_of (head_of p).code ≡ r → is_given k p ≡ list_any (gives_number k) (placeholders_as r p (flat_map placeholders (kids_of p)))
 given_as p r k e = ap (list_any (gives_number k)) (placeholders_out p ∙ ap (λ (r : Role). placeholders_as r p (flat_map placeholders (kids_of p))) e)
 
 parts_given : (p : Rtx) (ps : List Rtx) (i : ℕ) → ps ≡ kids_of p → is_given_by (kids_of p) i ≡ is_given_by ps i
@@ -82,7 +82,7 @@ operator_gives MatchOperand p x o e n given = absurd (let none : ⊥ = cc in non
 operator_gives MatchScratch p x o e n given = absurd (let none : ⊥ = cc in none)
 operator_gives _ p x o e n given = absurd (let none : ⊥ = cc in none)
 
-made_gives : (p x : Rtx) (o : Ops) → role_of (head_of p).code ≡ Operator → Makes p x o → Gives p x o
+pub made_gives : (p x : Rtx) (o : Ops) → role_of (head_of p).code ≡ Operator → Makes p x o → Gives p x o
 made_gives p x o e m = operator_gives (head_of p).code p x o e (operator_named p x o e m)
 
 pub operator_nowhere : (p x : Rtx) → role_of (head_of p).code ≡ Operator → ((o : Ops) → Gives p x o → ⊥) → (o : Ops) → Makes p x o → ⊥

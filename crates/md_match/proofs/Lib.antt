@@ -11,3 +11,4 @@ pub mod Reaching
 mod RtxInduction
 mod Short
 pub mod Unique
+pub mod OneList

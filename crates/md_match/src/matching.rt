@@ -1,5 +1,6 @@
 //! Matches patterns with expressions.
 ghost use Rattle.std.specs.Prelude.{◌≡◌, ◌↔◌, ◌+◌, Some, IfOk, IfSome};
+ghost use Rattle.rtx_tree.specs.declared.tree.Rtx.{Rtx};
 ghost use Rattle.md_match.specs.Pattern.{Ops, instantiated};
 ghost use Rattle.md_match.specs.Match.{Matches};
 
@@ -23,6 +24,7 @@ pub fn match_shape<L: Ledger>(
     ensures operands { IfOk result (λ r. (operands : Ops) → (r ≡ Some operands) ↔ Matches pattern.now insn.now operands) }
     ensures inverse { IfOk result (λ r. IfSome r (λ operands. instantiated pattern.now operands ≡ Some insn.now)) }
     ensures step { steps.new ≡ steps.old + 1 }
+    ensures one { (pattern insn : Rtx) (a b : Ops) → Matches pattern insn a → Matches pattern insn b → a ≡ b }
 {
     steps.tick();
     let Some(operands) = collect(alloc, pattern, insn, Operands::new(alloc))? else {

@@ -1,0 +1,168 @@
+//! A description with its tables.
+ghost use Rattle.std.specs.Prelude.{◌≡◌, ◌↔◌, ◌≤◌, ◌<◌, Some, None, IfOk, IfSome, IsTrue, length};
+ghost use Rattle.md_attr.specs.Alternatives.{IsAlternative};
+ghost use Rattle.md_attr.specs.Tables.{AreAttributesOf};
+ghost use Rattle.md_attr.specs.Values.{is_enabled};
+ghost use Rattle.md_constr.specs.Tables.{AreConstraintsOf};
+ghost use Rattle.md_constr.specs.Fits as constraints;
+ghost use Rattle.md_pred.specs.Holds.{holds};
+ghost use Rattle.md_pred.specs.Table.{accepted_by};
+ghost use Rattle.tree_forms.specs.Trees.{most_forms};
+ghost use Rattle.md_desc.specs.Recog as spec;
+ghost use Rattle.md_recog.specs.declared.recog.Match.{Match};
+
+use c_eval::Facts;
+use md_attr::{Attributes, enabled, has_alternative};
+use md_constr::{Constraints, fits};
+use md_forms::Forms;
+use md_pred::PredTable;
+use md_recog::{Match, Steps, first_match};
+use plain_data::Memory;
+use rtx_tree::{Operands, Rtx};
+use std::alloc::Global;
+use std::marker::{Brand, Model};
+use std::sync::ledger::{Blank, Ledger};
+
+/// A machine description. Contracts see its forms.
+#[derive(Drop)]
+pub struct Description {
+    forms: Forms,
+    preds: PredTable,
+    constraints: Constraints,
+    attributes: Attributes,
+}
+
+impl Model for Description {
+    ghost use Rattle.std.specs.Prelude.{List};
+    ghost use Rattle.std.specs.Coded.{coded_list};
+    ghost use Rattle.md_forms.specs.declared.form.Entry.{Entry};
+    ghost use Rattle.md_forms.specs.contracts.form.Entry as entry;
+    ghost use Rattle.md_desc.specs.Tables.{AreTablesOf};
+
+    ghost Value = { List Entry };
+
+    ghost coded = { coded_list entry.the_row.coded };
+
+    ghost view = { λ description. description.forms };
+
+    ghost invariant = { λ description. AreTablesOf description.forms description.preds description.constraints description.attributes };
+}
+
+impl Description {
+    /// The description of some forms.
+    pub(crate) fn of(alloc: Global, forms: Forms) -> Result<Description, Memory>
+        requires { length forms ≤ most_forms }
+        ensures { IfOk result (λ description. description ≡ forms) }
+    {
+        let preds = PredTable::of(alloc, &forms)?;
+        let constraints = Constraints::of(alloc, &forms)?;
+        let attributes = Attributes::of(alloc, &forms)?;
+        Ok(Description {
+            forms,
+            preds,
+            constraints,
+            attributes,
+        })
+    }
+
+    /// Its forms, in order.
+    pub fn forms(&self) -> &Forms
+        ensures forms { result.now ≡ self.now }
+        ensures short { length result.now ≤ most_forms }
+    {
+        &self.forms
+    }
+
+    /// Its predicates.
+    pub fn preds(&self) -> &PredTable
+        ensures { accepted_by result.now ≡ holds self.now }
+    {
+        &self.preds
+    }
+
+    /// What its forms ask of their operands.
+    pub fn constraints(&self) -> &Constraints
+        ensures { AreConstraintsOf result.now self.now }
+    {
+        &self.constraints
+    }
+
+    /// The attributes of its forms.
+    pub fn attributes(&self) -> &Attributes
+        ensures { AreAttributesOf result.now self.now }
+    {
+        &self.attributes
+    }
+
+    /// Whether a form is accepted and has an alternative.
+    pub fn has_alternative(&self, form: u32, alternative: u32) -> bool
+        ensures { IsTrue result ↔ IsAlternative self.now form alternative }
+    {
+        has_alternative(&self.attributes, form, alternative)
+    }
+
+    /// Whether an alternative of an accepted form can be used: it can, unless the attribute `enabled` has the value `no` there.
+    pub fn enabled(&self, form: u32, alternative: u32) -> bool
+        ensures { result ≡ is_enabled self.now form alternative }
+    {
+        enabled(&self.attributes, form, alternative)
+    }
+
+    /// Whether operands fit an alternative of an accepted form.
+    pub fn fits(&self, form: u32, alternative: u32, operands: &Operands) -> bool
+        ensures { result ≡ constraints.fits self.now (holds self.now) form alternative operands.now }
+    {
+        fits(&self.constraints, &self.preds, form, alternative, operands)
+    }
+
+    /// The first form from an index on that matches an instruction, by steps that are counted in a ledger.
+    fn first_counted<L: Ledger>(
+        &self,
+        alloc: Global,
+        insn: &Rtx,
+        facts: &Facts,
+        from: u32,
+        blank: Blank,
+    ) -> Result<Option<Match>, Memory>
+        requires name { blank.name ≡ L.name }
+        requires parts { blank.parts ≡ L.parts }
+        requires some { 0 < blank.parts }
+        ensures first { IfOk result (λ r. (m : Match) → (r ≡ Some m) ↔ spec.IsFirst self.now facts.now insn.now from m) }
+        ensures none { IfOk result (λ r. r ≡ None → spec.NoneBehind self.now facts.now insn.now from) }
+        ensures small { IfOk result (λ r. IfSome r (λ m. m.form < most_forms)) }
+    {
+        let mut steps = Steps::<L>::new(blank);
+        first_match(
+            alloc,
+            self.forms.as_slice(),
+            insn,
+            facts,
+            &self.preds,
+            from,
+            &mut steps,
+        )
+    }
+
+    /// The first form from an index on that matches an instruction.
+    pub(crate) fn first_from(
+        &self,
+        alloc: Global,
+        insn: &Rtx,
+        facts: &Facts,
+        from: u32,
+    ) -> Result<Option<Match>, Memory>
+        ensures first { IfOk result (λ r. (m : Match) → (r ≡ Some m) ↔ spec.IsFirst self.now facts.now insn.now from m) }
+        ensures none { IfOk result (λ r. r ≡ None → spec.NoneBehind self.now facts.now insn.now from) }
+        ensures small { IfOk result (λ r. IfSome r (λ m. m.form < most_forms)) }
+    {
+        self.first_counted::<Brand>(alloc, insn, facts, from, Blank::new(1))
+    }
+
+    /// The first form that matches an instruction, or `None` exactly where there is none such.
+    pub fn recog(&self, alloc: Global, insn: &Rtx, facts: &Facts) -> Result<Option<Match>, Memory>
+        ensures first { IfOk result (λ r. (m : Match) → (r ≡ Some m) ↔ spec.IsFirst self.now facts.now insn.now 0 m) }
+        ensures none { IfOk result (λ r. r ≡ None → spec.NoneMatches self.now facts.now insn.now) }
+    {
+        self.first_from(alloc, insn, facts, 0)
+    }
+}

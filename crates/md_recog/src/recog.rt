@@ -1,0 +1,68 @@
+//! The first form that matches.
+ghost use Rattle.std.specs.Prelude.{◌≡◌, ◌↔◌, ◌+◌, ◌≤◌, ◌<◌, ◌^◌, Some, None, IfOk, length};
+ghost use Rattle.md_recog.specs.Recog.{IsFirst, NoneBetween, MatchesHere};
+ghost use Rattle.md_recog.specs.declared.recog.Match.{Match};
+
+use crate::form::match_entry;
+use c_eval::{Facts, Preds};
+use insn_match::Steps;
+use md_forms::Entry;
+use plain_data::Memory;
+use rtx_tree::{Operands, Rtx};
+use std::alloc::Global;
+use std::sync::ledger::Ledger;
+
+/// A form that matches an instruction.
+#[derive(Drop)]
+pub struct Match {
+    /// The index of the form.
+    pub form: u32,
+    /// The operands with which it matches.
+    pub operands: Operands,
+}
+
+/// The match of the form at a place.
+
+fn match_at<P: Preds, L: Ledger>(
+    alloc: Global,
+    forms: &[Entry],
+    insn: &Rtx,
+    facts: &Facts,
+    preds: &P,
+    form: u32,
+    steps: &mut Steps<L>,
+) -> Result<Option<Match>, Memory>
+    requires { form < length forms.now }
+    ensures here { IfOk result (λ r. (m : Match) → (r ≡ Some m) ↔ MatchesHere (P.accepts preds.now) facts.now insn.now forms.now form m) }
+    ensures step { steps.new ≤ steps.old + 1 }
+{
+    match match_entry(alloc, &forms[form as usize], insn, facts, preds, steps)? {
+        Some(operands) => Ok(Some(Match { form, operands })),
+        None => Ok(None),
+    }
+}
+
+/// The first form from an index on that matches an instruction, or `None` exactly where there is none such. There are at most as many steps as
+/// forms.
+
+pub fn first_match<P: Preds, L: Ledger>(
+    alloc: Global,
+    forms: &[Entry],
+    insn: &Rtx,
+    facts: &Facts,
+    preds: &P,
+    from: u32,
+    steps: &mut Steps<L>,
+) -> Result<Option<Match>, Memory>
+    requires { length forms.now < 2 ^ 32 }
+    ensures first { IfOk result (λ r. (m : Match) → (r ≡ Some m) ↔ IsFirst (P.accepts preds.now) facts.now insn.now forms.now from m) }
+    ensures none { IfOk result (λ r. r ≡ None → NoneBetween (P.accepts preds.now) facts.now insn.now forms.now from (length forms.now)) }
+    ensures tries { steps.new ≤ steps.old + length forms.now }
+{
+    for form in from..forms.len() as u32 {
+        if let Some(found) = match_at(alloc, forms, insn, facts, preds, form, steps)? {
+            return Ok(Some(found));
+        }
+    }
+    Ok(None)
+}

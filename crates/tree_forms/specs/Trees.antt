@@ -1,0 +1,42 @@
+-- The forms of a machine description's trees, expanded over its iterators (GCC Internals, "Iterators"), of which there are at most 20,000.
+use Rattle.std.specs.Prelude.{◌≡◌, ◌≤◌, ◌<◌, ℕ, List, length, Result, Ok, Err}
+use Rattle.rtx_tree.specs.declared.limit.Limit.TheVariants as limit
+use Rattle.lisp_read.specs.declared.tree.Tree.{Tree}
+use Rattle.md_iter.specs.declared.expand.Expanded.{Expanded}
+use Rattle.md_iter.specs.Definition.{all_constants_in}
+use Rattle.md_iter.specs.Expansion as expansion
+use Rattle.md_forms.specs.declared.form.Entry.{Entry}
+use Rattle.md_forms.specs.Forms as forms
+use Rattle.tree_forms.specs.declared.refusal.DescRefusal.{DescRefusal}
+use Rattle.tree_forms.specs.declared.refusal.DescRefusal.TheVariants as refusal
+
+-- the most forms of a description
+abbrev pub most_forms : ℕ
+most_forms = 20000
+
+-- the trees after expansion, one for each form
+abbrev pub expanded : List Tree → List Tree
+expanded trees = expansion.forms_of trees
+
+-- the forms of a description's trees
+abbrev pub forms_of : List Tree → List Entry
+forms_of trees = forms.forms_of (all_constants_in trees) (expanded trees)
+
+-- ---- what a call gave
+
+-- there are too many forms, or memory ran out
+abbrev pub IsTooMany : List Tree → DescRefusal → Type 0
+IsTooMany trees (refusal.Limit which count) = (which ≡ limit.Forms) × (count ≡ 20001) × (most_forms < length (expanded trees))
+IsTooMany trees refusal.Memory = Unit {0}
+
+-- the forms were made
+abbrev pub Describes : List Tree → Result (List Entry) DescRefusal → Type 0
+Describes trees (Ok d) = (d ≡ forms_of trees) × (length (expanded trees) ≤ most_forms)
+Describes trees (Err e) = IsTooMany trees e
+
+-- ---- a step of the code
+
+-- the trees were expanded
+abbrev pub Expands : List Tree → Result Expanded DescRefusal → Type 0
+Expands trees (Ok e) = (e.forms ≡ expanded trees) × (e.constants ≡ all_constants_in trees) × (length (expanded trees) ≤ most_forms)
+Expands trees (Err e) = IsTooMany trees e

@@ -1,19 +1,17 @@
 -- What a name comes to, it comes to alone, and a function with its code is one of the assembly's.
 use Rattle.std.proofs.Common.{◌≡◌, ℕ, Bool, true, false, cond, List, [], ◌∷◌, Ok, Err, Option, Some, None, refl, sym, ap, subst, ◌∙◌}
 use Rattle.rtx_tree.specs.declared.function.Function.{Function}
-use Rattle.lisp_read.specs.Reading.{Reading, Trees}
-use Rattle.lisp_read.specs.declared.tree.Tree.{Tree}
-use Rattle.lisp_read.proofs.Unique.{one_reading}
-use Rattle.rtl_read.specs.Syntax.{functions_in}
 use Rattle.rv_text.specs.declared.line.CodeItem.{CodeItem}
 use Rattle.run_refusal.specs.declared.refusal.Refusal.{Refusal}
+use Rattle.func_input.specs.Refused.{first_refused}
+use Rattle.func_input.specs.Input.{IsRead, IsInput}
+use Rattle.func_input.proofs.One.{one_read}
 use Rattle.asm_text.specs.declared.code.Coded.{Coded}
-use Rattle.asm_text.specs.Assembly.{Outcome}
-use Rattle.asm_text.specs.Compile.{first_refused}
-use Rattle.asm_text.specs.Lines.{IsInput, AllMatched}
+use Rattle.func_input.specs.Outcome.{Outcome}
+use Rattle.asm_text.specs.Lines.{AllMatched}
 use Rattle.asm_text.specs.Same.{AreParts}
-use Rattle.asm_text.specs.Code.{Answer, IsRead, is_named, has_named, coded_named, NameComes, CodeComes, IsCoded}
-use Rattle.asm_text.proofs.OneText.{one_coming, one_coming_of, same_functions}
+use Rattle.asm_text.specs.Code.{Answer, is_named, has_named, coded_named, NameComes, CodeComes, IsCoded}
+use Rattle.asm_text.proofs.OneText.{one_coming, one_coming_of}
 use Rattle.asm_text.proofs.Completes.{no_text, come_have}
 use Rattle.asm_text.proofs.Parts.{one_cut}
 use Rattle.asm_text.proofs.CodedParts.{has_assembly}
@@ -60,20 +58,12 @@ one_name functions name _ _ (NameComes.coded text parts c comes are is) (NameCom
     let cut : parts ≡ parts' = one_cut functions text' parts parts' (subst (λ t. AreParts functions t parts) texts are) are' in
     ap (λ (c : Coded). Ok c) (same_some c c' (sym is ∙ ap (λ p. coded_named functions p name) cut ∙ is'))
 
-one_reading_of : (bytes : List ℕ) (functions functions' : List Function) → IsRead bytes functions → IsRead bytes functions' → functions ≡ functions'
-one_reading_of bytes functions functions' r r' =
-    let same : r.trees ≡ r'.trees = same_trees r.trees r'.trees (one_reading bytes (Trees r.trees) (Trees r'.trees) r.reads r'.reads) in
-    same_functions functions functions' (sym r.stand ∙ ap functions_in same ∙ r'.stand)
-  where
-    same_trees : (a b : List Tree) → ◌≡◌ {A = Reading} (Trees a) (Trees b) → a ≡ b
-    same_trees a b is = cc
-
 pub one_code : (bytes name : List ℕ) (a b : Answer) → CodeComes bytes name a → CodeComes bytes name b → a ≡ b
 one_code bytes name _ _ (CodeComes.unread e never comes) (CodeComes.unread d never' comes') = same_err e d (one_coming_of bytes (Err e) (Err d) comes comes')
 one_code bytes name _ _ (CodeComes.unread e never comes) (CodeComes.read functions b reads comes') = absurd (never functions reads)
 one_code bytes name _ _ (CodeComes.read functions a reads comes) (CodeComes.unread e never comes') = absurd (never functions reads)
 one_code bytes name _ _ (CodeComes.read functions a reads comes) (CodeComes.read functions' b reads' comes') =
-    one_name functions' name a b (subst (λ fs. NameComes fs name a) (one_reading_of bytes functions functions' reads reads') comes) comes'
+    one_name functions' name a b (subst (λ fs. NameComes fs name a) (one_read bytes functions functions' reads reads') comes) comes'
 
 -- ---- what was coded
 
@@ -108,5 +98,5 @@ name_has functions name _ none all named (NameComes.coded text parts c comes are
 pub code_has : (bytes name : List ℕ) (functions : List Function) (a : Answer) → IsInput bytes functions → AllMatched functions → has_named functions name ≡ true → CodeComes bytes name a → (c : Coded) × (a ≡ Ok c)
 code_has bytes name functions _ input all named (CodeComes.unread e never comes) = absurd (never functions (record { within = input.within; trees = input.trees; reads = input.reads; stand = input.stand }))
 code_has bytes name functions _ input all named (CodeComes.read functions' a reads comes) =
-    let same : functions' ≡ functions = one_reading_of bytes functions' functions reads (record { within = input.within; trees = input.trees; reads = input.reads; stand = input.stand }) in
+    let same : functions' ≡ functions = one_read bytes functions' functions reads (record { within = input.within; trees = input.trees; reads = input.reads; stand = input.stand }) in
     name_has functions name a input.admitted all named (subst (λ fs. NameComes fs name a) same comes)

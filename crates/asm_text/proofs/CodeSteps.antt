@@ -1,11 +1,11 @@
 -- What a call refused, the name is refused with, and what it came to among the functions, it comes to in the bytes.
-use Rattle.std.proofs.Common.{◌≡◌, ℕ, true, List, Result, Ok, Err}
+use Rattle.std.proofs.Common.{◌≡◌, ℕ, true, List, Ok, Err}
 use Rattle.rtx_tree.specs.declared.function.Function.{Function}
 use Rattle.run_refusal.specs.declared.refusal.Refusal.{Refusal}
 use Rattle.run_refusal.specs.declared.refusal.Refusal.TheVariants as refusal
-use Rattle.asm_text.specs.Assembly.{RefusesWith}
+use Rattle.func_input.specs.Input.{IsRead, RefusesWith}
 use Rattle.asm_text.specs.Compile.{FunctionsCome, InputComes}
-use Rattle.asm_text.specs.Code.{Answer, Answers, IsRead, has_named, NameComes, CodeComes}
+use Rattle.asm_text.specs.Code.{Answer, Answers, has_named, NameComes, CodeComes}
 
 -- what refuses the functions refuses the name
 pub name_refused : (functions : List Function) (name : List ℕ) (e : Refusal) → has_named functions name ≡ true → RefusesWith e (FunctionsCome functions) → Answers (Err e) (NameComes functions name)

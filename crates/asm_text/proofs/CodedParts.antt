@@ -1,15 +1,17 @@
 -- The parts of a text, where one is that of the function with a name.
-use Rattle.std.proofs.Common.{◌≡◌, ℕ, ◌+◌, Bool, true, false, cond, List, ◌∷◌, Ok, Option, Some, None, refl, sym, subst, ◌∙◌}
+use Rattle.std.proofs.Common.{◌≡◌, ℕ, ◌+◌, Bool, true, false, cond, List, ◌∷◌, Ok, Some, None, refl, sym, subst, ◌∙◌}
 use Rattle.rtx_tree.specs.declared.function.Function.{Function}
 use Rattle.rv_text.specs.declared.line.CodeItem.{CodeItem}
+use Rattle.func_end.proofs.Ends.{finish_one}
 use Rattle.asm_text.specs.declared.code.Coded.{Coded}
-use Rattle.asm_text.specs.Assembly.{Outcome}
-use Rattle.asm_text.specs.Compile.{FunctionsCome, first_refused}
+use Rattle.func_input.specs.Refused.{first_refused}
+use Rattle.func_input.specs.Input.{FunctionsComeTo}
+use Rattle.func_input.specs.Outcome.{Outcome}
+use Rattle.asm_text.specs.Compile.{FunctionsCome}
 use Rattle.asm_text.specs.Lines.{IsAssembly, AreLines, AllMatched}
 use Rattle.asm_text.specs.Same.{AreParts}
 use Rattle.asm_text.specs.Code.{is_named, coded_named, NameComes, IsCodedFrom}
 use Rattle.asm_text.proofs.Uids.{AllUids, all_uids}
-use Rattle.asm_text.proofs.OneText.{one_finish}
 use Rattle.asm_text.proofs.LinesLaws.{is_assembly}
 use Rattle.asm_text.proofs.SameLaws.{does_same, finished_code}
 use Rattle.asm_text.proofs.ItemLaws.{lines_spell, assembly_matches}
@@ -21,8 +23,8 @@ pub record HasAssembly (functions : List Function) (text : List ℕ) : Type 0 wh
   pub assembly : IsAssembly 0 functions text
 
 pub has_assembly : (functions : List Function) (o : Outcome) (text : List ℕ) → FunctionsCome functions o → o ≡ Ok text → HasAssembly functions text
-has_assembly functions _ text (FunctionsCome.refused e is) same = absurd (let none : ⊥ = cc in none)
-has_assembly functions _ text (FunctionsCome.assembled o none texts) same = record { admitted = none; assembly = is_assembly 0 functions o text texts same }
+has_assembly functions _ text (FunctionsComeTo.refused e is) same = absurd (let none : ⊥ = cc in none)
+has_assembly functions _ text (FunctionsComeTo.admitted o none texts) same = record { admitted = none; assembly = is_assembly 0 functions o text texts same }
 
 pub come_matched : (functions : List Function) (text : List ℕ) → FunctionsCome functions (Ok text) → AllMatched functions
 come_matched functions text comes = let has = has_assembly functions (Ok text) text comes refl in assembly_matches 0 functions text has.assembly
@@ -44,7 +46,7 @@ other b x y is = rw is refl
 has_parts : (name : List ℕ) (number : ℕ) (functions : List Function) (text : List ℕ) (c : Coded) → AllUids functions → IsCodedFrom name number functions c → IsAssembly number functions text → HasParts name functions text c
 has_parts name number _ _ _ uids (IsCodedFrom.here _ f functions items named own) (IsAssembly.function _ _ _ finished body rest small finish lines others) =
     let more = does_same (number + 1) functions rest uids.1 others in
-    let same : own.finished ≡ finished = one_finish f.insns own.finished finished own.finish finish in
+    let same : own.finished ≡ finished = finish_one f.insns own.finished finished own.finish finish in
     record {
       parts = items ∷ more.items;
       are = AreParts.part f functions body rest items more.items (lines_spell number own.finished items body small own.are (subst (λ insns. AreLines number insns body) (sym same) lines)) more.parts;

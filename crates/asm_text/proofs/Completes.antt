@@ -1,21 +1,21 @@
 -- An input of which each instruction is matched has a text.
-use Rattle.std.proofs.Common.{◌≡◌, ℕ, ◌+◌, List, [], ◌∷◌, ◌++◌, Ok, Err, Option, Some, None, IsSome, refl, sym, ap, subst, ◌∙◌, arith}
-use Rattle.lisp_read.specs.Reading.{Reading, Trees}
-use Rattle.lisp_read.proofs.Unique.{one_reading}
+use Rattle.std.proofs.Common.{◌≡◌, ℕ, ◌+◌, List, [], ◌∷◌, ◌++◌, Ok, Err, Option, Some, None, IsSome, refl, sym, ap, subst}
 use Rattle.rtx_tree.specs.declared.function.Kind.{Kind}
 use Rattle.rtx_tree.specs.declared.function.Kind.TheVariants as kind
 use Rattle.rtx_tree.specs.declared.function.Insn.{Insn}
 use Rattle.rtx_tree.specs.declared.function.Function.{Function}
-use Rattle.lisp_read.specs.Parsed.{Parsed, stands, construct}
-use Rattle.rtl_read.specs.Syntax.{functions_in}
 use Rattle.rtl_step.specs.Step.{is_mark}
 use Rattle.run_refusal.specs.declared.refusal.Refusal.{Refusal}
 use Rattle.asm_table.specs.declared.forms.Match.{Match}
 use Rattle.asm_table.specs.Forms.{first_match}
-use Rattle.asm_text.specs.Assembly.{Outcome, outcome_map, outcome_then, line_by, item_by, item_text, body_text, return_insn, framed, IsFinished, IsBodyText, IsFunctionText, AreTexts}
-use Rattle.asm_text.specs.Compile as compile
-use Rattle.asm_text.specs.Compile.{FunctionsCome, ReadingComes, InputComes}
-use Rattle.asm_text.specs.Lines.{IsInput, IsMatched, AreMatched, AllMatched}
+use Rattle.func_input.specs.Refused.{first_refused}
+use Rattle.func_input.specs.Input.{IsInput}
+use Rattle.func_input.proofs.Inputs.{admitted_last, input_last}
+use Rattle.func_input.specs.Outcome.{Outcome, outcome_map, outcome_then}
+use Rattle.func_end.specs.End.{return_insn, IsFinished}
+use Rattle.asm_text.specs.Assembly.{line_by, item_by, item_text, body_text, framed, IsBodyText, IsFunctionText, AreTexts}
+use Rattle.asm_text.specs.Compile.{FunctionsCome, InputComes}
+use Rattle.asm_text.specs.Lines.{IsMatched, AreMatched, AllMatched}
 use Rattle.asm_table.proofs.Matches.{return_found_first}
 
 -- an outcome that is a text
@@ -69,25 +69,9 @@ texts_have number _ _ (AreTexts.none _) h = ([], refl)
 texts_have number _ _ (AreTexts.refused _ f functions e text) h = absurd (no_text e (function_has number f (Err e) text h.0))
 texts_have number _ _ (AreTexts.goes_on _ f functions t rest small text more) h = map_text (λ more. t ++ more) rest (texts_have (number + 1) functions rest more h.1)
 
-pub come_have : (functions : List Function) (o : Outcome) → FunctionsCome functions o → compile.first_refused functions ≡ None → AllMatched functions → HasText o
-come_have functions _ (FunctionsCome.refused e is) none h = absurd (let no : ◌≡◌ {A = Option Refusal} (Some e) None = sym is ∙ none in let nothing : ⊥ = cc in nothing)
-come_have functions _ (FunctionsCome.assembled o none texts) none' h = texts_have 0 functions o texts h
-
-same_functions : (a b : List Function) → ◌≡◌ {A = Parsed (List Function)} (stands a) (stands b) → a ≡ b
-same_functions a b is = cc
-
-trees_have : (bytes : List ℕ) (functions : List Function) (reading : Reading) (o : Outcome) → ReadingComes reading o → (input : IsInput bytes functions) → reading ≡ Trees input.trees → AllMatched functions → HasText o
-trees_have bytes functions _ _ (ReadingComes.syntax place) input is h = cc
-trees_have bytes functions _ _ (ReadingComes.depth place) input is h = cc
-trees_have bytes functions _ _ (ReadingComes.outside trees place name out) input is h =
-    let same : trees ≡ input.trees = cc in
-    absurd (let no : ◌≡◌ {A = Parsed (List Function)} (construct place name) (stands functions) = sym out ∙ ap functions_in same ∙ input.stand in let none : ⊥ = cc in none)
-trees_have bytes functions _ _ (ReadingComes.compiled trees functions' o at come) input is h =
-    let same : trees ≡ input.trees = cc in
-    let same' : functions' ≡ functions = same_functions functions' functions (sym at ∙ ap functions_in same ∙ input.stand) in
-    come_have functions o (subst (λ fs. FunctionsCome fs o) same' come) input.admitted h
+pub come_have : (functions : List Function) (o : Outcome) → FunctionsCome functions o → first_refused functions ≡ None → AllMatched functions → HasText o
+come_have functions o comes none h = texts_have 0 functions o (admitted_last (AreTexts 0) functions o none comes) h
 
 -- an input of which each instruction is matched comes to a text
 pub input_has : (bytes : List ℕ) (functions : List Function) (o : Outcome) → IsInput bytes functions → AllMatched functions → InputComes bytes o → HasText o
-input_has bytes functions _ input all (InputComes.too_long long) = absurd (let within = input.within in omega (arith, long, within))
-input_has bytes functions _ input all (InputComes.read reading o within reads comes) = trees_have bytes functions reading o comes input (one_reading bytes reading (Trees input.trees) reads input.reads) all
+input_has bytes functions o input all comes = texts_have 0 functions o (input_last (AreTexts 0) bytes functions o input comes) all

@@ -1,5 +1,5 @@
 -- The items of a chain are those that its lines spell.
-use Rattle.std.proofs.Common.{◌≡◌, ◌<◌, ◌^◌, ℕ, ◌+◌, Bool, true, false, List, [], ◌∷◌, ◌++◌, Option, Some, None, refl, sym, ap, subst, ◌∙◌, append_assoc}
+use Rattle.std.proofs.Common.{◌≡◌, ◌<◌, ◌^◌, ℕ, ◌+◌, true, false, List, [], ◌∷◌, ◌++◌, Some, refl, sym, ap, subst, ◌∙◌, append_assoc}
 use Rattle.std.specs.Prelude.{IsSome}
 use Rattle.rtx_tree.specs.declared.function.Kind.{Kind}
 use Rattle.rtx_tree.specs.declared.function.Kind.TheVariants as kind
@@ -12,8 +12,8 @@ use Rattle.rv_text.specs.declared.line.CodeItem.TheVariants as item
 use Rattle.asm_table.specs.declared.forms.Match.{Match}
 use Rattle.asm_table.specs.Forms.{first_match}
 use Rattle.asm_table.specs.Template.{filled_line}
-use Rattle.asm_text.specs.Assembly.{IsFinished}
-use Rattle.asm_text.specs.Lines.{AreLines, IsAssembly, IsMatched, AreMatched, AllMatched}
+use Rattle.func_end.specs.End.{IsFinished}
+use Rattle.asm_text.specs.Lines.{AreLines, IsAssembly, AreMatched, AllMatched}
 use Rattle.asm_text.specs.Code.{AreItems}
 use Rattle.asm_text.proofs.SameLaws.{ended}
 

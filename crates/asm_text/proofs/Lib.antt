@@ -1,12 +1,10 @@
 pub mod Texts
-pub mod Comes
 pub mod OneText
 pub mod LinesLaws
 pub mod SameLaws
 pub mod Uids
 pub mod Parts
 pub mod Completes
-pub mod Unread
 pub mod ItemLaws
 pub mod CodedParts
 pub mod CodeLaws

@@ -1,6 +1,6 @@
 -- The text of a line with its end, and the items of a chain that are made one after the other.
-use Rattle.std.proofs.Common.{◌≡◌, ◌⊎◌, inl, inr, ◌<◌, ◌≤◌, ◌^◌, ◌+◌, ◌-◌, ℕ, zero, suc, List, [], ◌∷◌, ◌++◌, length, take, drop, get_or, true, false, Result, Ok, Err, Option, Some, None, refl, sym, ap, subst, ◌∙◌, arith}
-use Rattle.std.specs.Prelude.{IsSome, IfOk}
+use Rattle.std.proofs.Common.{◌≡◌, ◌⊎◌, inl, inr, ◌<◌, ◌^◌, ◌+◌, ◌-◌, ℕ, zero, suc, List, [], ◌∷◌, ◌++◌, length, take, drop, get_or, false, Result, Ok, Err, Some, None, refl, sym, ap, subst, ◌∙◌, arith}
+use Rattle.std.specs.Prelude.{IfOk}
 use Rattle.std.proofs.Math.Seq.{take-append_seam, take-suc}
 use Rattle.std.proofs.lemmas.List.{append-nil, length-append}
 use Rattle.rtx_tree.specs.declared.function.Kind.TheVariants as kind
@@ -8,7 +8,7 @@ use Rattle.rtx_tree.specs.declared.function.Insn.{Insn}
 use Rattle.rtx_tree.specs.declared.function.Function.{Function}
 use Rattle.rtl_step.specs.Step.{is_mark}
 use Rattle.rv_text.specs.Lines.{line_text}
-use Rattle.rv_text.specs.Text.{IsTextOf, Finds}
+use Rattle.rv_text.specs.Text.{IsTextOf}
 use Rattle.rv_text.specs.declared.line.Line.{Line}
 use Rattle.rv_text.specs.declared.line.CodeItem.{CodeItem}
 use Rattle.rv_text.specs.declared.line.CodeItem.TheVariants as item
@@ -17,11 +17,11 @@ use Rattle.asm_table.specs.declared.forms.Match.{Match}
 use Rattle.asm_table.specs.Forms.{first_match}
 use Rattle.asm_table.specs.Template.{filled_line}
 use Rattle.asm_table.proofs.InsnLines.{matched_has_line}
-use Rattle.asm_text.specs.Assembly.{IsFinished}
+use Rattle.func_end.specs.End.{IsFinished}
 use Rattle.asm_text.specs.Lines.{IsMatched, AreMatched}
 use Rattle.asm_text.specs.Code.{IsLineText, IsLineIn, AreItems, AreItemsOf, IsItemOf}
 use Rattle.asm_text.proofs.ItemLaws.{items_append}
-use Rattle.asm_text.proofs.Texts.{drop_at}
+use Rattle.func_input.proofs.Firsts.{drop_at}
 
 -- ---- the text of a line
 

@@ -1,20 +1,20 @@
 -- The assembly that is defined by what is appended is the one that is defined by its lines.
-use Rattle.std.proofs.Common.{◌≡◌, ◌≤◌, ℕ, ◌+◌, false, length, List, [], ◌∷◌, ◌++◌, Ok, Err, Option, Some, None, refl, sym, ap, subst, ◌∙◌}
+use Rattle.std.proofs.Common.{◌≡◌, ℕ, ◌+◌, false, List, [], ◌∷◌, ◌++◌, Ok, Err, Option, Some, None, refl, sym, ap, subst, ◌∙◌}
 use Rattle.rtx_tree.specs.declared.function.Kind.{Kind}
 use Rattle.rtx_tree.specs.declared.function.Kind.TheVariants as kind
 use Rattle.rtx_tree.specs.declared.function.Insn.{Insn}
 use Rattle.rtx_tree.specs.declared.function.Function.{Function}
-use Rattle.lisp_read.specs.declared.tree.Tree.{Tree}
-use Rattle.lisp_read.specs.Reading.{Reading, ReadsAs, Trees}
-use Rattle.lisp_read.specs.Parsed.{stands}
-use Rattle.rtl_read.specs.Syntax.{functions_in}
 use Rattle.rtl_step.specs.Step.{is_mark}
 use Rattle.asm_table.specs.declared.forms.Match.{Match}
 use Rattle.asm_table.specs.Forms.{first_match}
 use Rattle.asm_table.specs.Template.{filled_line, label_item}
-use Rattle.asm_text.specs.Assembly.{Outcome, outcome_map, outcome_then, line_by, item_by, item_text, body_text, framed, IsFinished, IsBodyText, IsFunctionText, AreTexts}
-use Rattle.asm_text.specs.Compile.{most_bytes, FunctionsCome, ReadingComes, InputComes}
-use Rattle.asm_text.specs.Lines.{AreLines, IsAssembly, IsInput}
+use Rattle.func_input.specs.Input.{IsInput}
+use Rattle.func_input.proofs.Inputs.{input_reached}
+use Rattle.func_input.specs.Outcome.{Outcome, outcome_map, outcome_then}
+use Rattle.func_end.specs.End.{IsFinished}
+use Rattle.asm_text.specs.Assembly.{line_by, item_by, item_text, body_text, framed, IsBodyText, IsFunctionText, AreTexts}
+use Rattle.asm_text.specs.Compile.{InputComes}
+use Rattle.asm_text.specs.Lines.{AreLines, IsAssembly}
 
 -- both parts of a text that is made of two
 pub record Both (first rest : Outcome) (text : List ℕ) : Type 0 where
@@ -85,17 +85,7 @@ is_assembly number _ _ text (AreTexts.goes_on _ f functions t rest small own mor
 abbrev pub Input : List ℕ → List ℕ → Type 0
 Input bytes text = (functions : List Function) × IsInput bytes functions × IsAssembly 0 functions text
 
-come_of : (bytes text : List ℕ) (trees : List Tree) (functions : List Function) (o : Outcome) → length bytes ≤ most_bytes → ReadsAs bytes (Trees trees) → functions_in trees ≡ stands functions → FunctionsCome functions o → o ≡ Ok text → Input bytes text
-come_of bytes text trees functions _ within reads is (FunctionsCome.refused d fault) e = cc
-come_of bytes text trees functions _ within reads is (FunctionsCome.assembled o none texts) e =
-    (functions, record { within = within; trees = trees; reads = reads; stand = is; admitted = none }, is_assembly 0 functions o text texts e)
-
-reading_of : (bytes text : List ℕ) (reading : Reading) (o : Outcome) → length bytes ≤ most_bytes → ReadsAs bytes reading → ReadingComes reading o → o ≡ Ok text → Input bytes text
-reading_of bytes text _ _ within reads (ReadingComes.syntax place) e = cc
-reading_of bytes text _ _ within reads (ReadingComes.depth place) e = cc
-reading_of bytes text _ _ within reads (ReadingComes.outside trees place name is) e = cc
-reading_of bytes text _ _ within reads (ReadingComes.compiled trees functions o is come) e = come_of bytes text trees functions o within reads is come e
-
 pub input_of : (bytes text : List ℕ) (a : Outcome) → InputComes bytes a → a ≡ Ok text → Input bytes text
-input_of bytes text _ (InputComes.too_long long) e = cc
-input_of bytes text _ (InputComes.read reading o within reads comes) e = reading_of bytes text reading o within reads comes e
+input_of bytes text a comes e =
+    let reached = input_reached (AreTexts 0) bytes text a e comes in
+    (reached.functions, reached.input, is_assembly 0 reached.functions a text reached.own e)

@@ -1,5 +1,5 @@
 -- The text by its lines has the behaviour of the functions.
-use Rattle.std.proofs.Common.{◌≡◌, ◌≤◌, ◌<◌, ◌^◌, ℕ, ◌+◌, List, [], ◌∷◌, ◌++◌, Option, Some, None, refl, sym, ap, subst, ◌∙◌, append_assoc, arith}
+use Rattle.std.proofs.Common.{◌≡◌, ◌≤◌, ◌<◌, ◌^◌, ℕ, ◌+◌, List, [], ◌∷◌, ◌++◌, refl, sym, ap, subst, ◌∙◌, append_assoc, arith}
 use Rattle.rtx_tree.specs.declared.function.Kind.TheVariants as kind
 use Rattle.rtx_tree.specs.declared.function.Insn.{Insn}
 use Rattle.rtx_tree.specs.declared.function.Function.{Function}
@@ -14,8 +14,9 @@ use Rattle.same_code.specs.Direct as direct
 use Rattle.same_code.proofs.Reached.{direct_code_is_same}
 use Rattle.asm_table.specs.declared.forms.Match.{Match}
 use Rattle.asm_table.specs.Template.{filled_line, label_item}
-use Rattle.asm_text.specs.Assembly.{return_insn, IsFinished}
-use Rattle.asm_text.specs.Lines.{AreLines, IsAssembly, IsInput}
+use Rattle.func_input.specs.Input.{IsInput}
+use Rattle.func_end.specs.End.{return_insn, IsFinished}
+use Rattle.asm_text.specs.Lines.{AreLines, IsAssembly}
 use Rattle.asm_text.specs.Same.{frame_size, AreParts, AreSame, DoesSame}
 use Rattle.asm_table.proofs.InsnLines.{HasLine, matched_has_line, return_line}
 use Rattle.asm_text.proofs.Uids.{AreUids, AllUids, all_uids}

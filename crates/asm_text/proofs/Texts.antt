@@ -1,13 +1,16 @@
 -- Texts that are appended one behind the other: what stands there so far, and what the rest gives.
-use Rattle.std.proofs.Common.{◌≡◌, ℕ, suc, ◌+◌, ◌<◌, List, [], ◌∷◌, ◌++◌, length, drop, get_or, ◌^◌, Bool, true, false, ◌↔◌, IsTrue, Result, Ok, Err, IsOkAnd, refl, sym, ap, subst, ◌∙◌, append_assoc, add-one}
+use Rattle.std.proofs.Common.{◌≡◌, ℕ, ◌+◌, ◌<◌, List, [], ◌∷◌, ◌++◌, length, drop, get_or, ◌^◌, Bool, true, false, ◌↔◌, IsTrue, Result, Ok, Err, IsOkAnd, refl, sym, ap, subst, ◌∙◌, append_assoc}
 use Rattle.std.proofs.lemmas.List.{append-nil}
-use Rattle.std.proofs.Math.Seq.{drop-cons}
 use Rattle.run_refusal.specs.declared.refusal.Refusal.{Refusal}
-use Rattle.run_refusal.specs.declared.refusal.Refusal.TheVariants as refusal
 use Rattle.rtx_tree.specs.declared.function.Insn.{Insn}
 use Rattle.rtx_tree.specs.declared.function.Function.{Function}
 use Rattle.rtl_func.specs.Paths.{ReachesExit}
-use Rattle.asm_text.specs.Assembly.{Outcome, outcome_map, outcome_then, each_text, return_insn, IsFinished, RefusesWith, Refuses, Appended, AppendedSome, opening_lines, closing_line, framed, IsBodyText, IsFunctionText, AreTexts}
+use Rattle.func_input.specs.Input.{RefusesWith}
+use Rattle.func_input.proofs.Refusing.{refuses_map}
+use Rattle.func_input.proofs.Firsts.{drop_at}
+use Rattle.func_input.specs.Outcome.{Outcome, outcome_map, outcome_then, AppendedSome}
+use Rattle.func_end.specs.End.{return_insn, IsFinished}
+use Rattle.asm_text.specs.Assembly.{each_text, Refuses, Appended, opening_lines, closing_line, framed, IsBodyText, IsFunctionText, AreTexts}
 
 -- what is there, and behind it what the rest gives, is what was there and behind it the whole
 pub record Goes {A : Type 0} (text : A → Outcome) (old now : List ℕ) (rest : List A) (whole : Outcome) : Type 0 where
@@ -23,12 +26,6 @@ map_then now piece (Err e) = refl
 appended : (now new : List ℕ) (piece rest : Outcome) → IsOkAnd piece (λ text. new ≡ now ++ text) → outcome_map (λ more. now ++ more) (outcome_then piece rest) ≡ outcome_map (λ more. new ++ more) rest
 appended now new (Ok piece) rest h = map_then now piece rest ∙ ap (λ (front : List ℕ). outcome_map (λ more. front ++ more) rest) (sym h)
 appended now new (Err e) rest h = absurd h
-
-pub drop_at : {A : Type 0} (xs : List A) (i : ℕ) (x : A) → i < length xs → x ≡ get_or xs i x → drop i xs ≡ x ∷ drop (i + 1) xs
-drop_at {A = A} xs i x within is =
-    let lt : i < length xs = within in
-    let cons : drop i xs ≡ get_or xs i x ∷ drop (suc i) xs = drop-cons xs i x lt in
-    rw add-one (cons ∙ ap (λ (u : A). u ∷ drop (suc i) xs) (sym is))
 
 -- one more was appended
 pub goes_on : {A : Type 0} (text : A → Outcome) (old now new : List ℕ) (xs : List A) (i : ℕ) (x : A) (whole : Outcome) →
@@ -47,21 +44,8 @@ stops : (old now : List ℕ) (piece rest whole : Outcome) (e : Refusal) → piec
 stops old now piece rest whole e is h = refused_map (λ more. old ++ more) whole e (sym h ∙ ap (λ (p : Outcome). outcome_map (λ more. now ++ more) (outcome_then p rest)) is)
 
 -- one was refused
--- a refusal with a property has any property that follows from it
-pub refuses_map : (e : Refusal) (P Q : Outcome → Type 0) → ((e : Refusal) → P (Err e) → Q (Err e)) → RefusesWith e P → RefusesWith e Q
-refuses_map refusal.Memory P Q follows r = tt
-refuses_map refusal.Usage P Q follows r = absurd r
-refuses_map (refusal.Syntax file place) P Q follows r = follows (refusal.Syntax file place) r
-refuses_map (refusal.Construct place name) P Q follows r = follows (refusal.Construct place name) r
-refuses_map (refusal.IllFormed function uid rule) P Q follows r = follows (refusal.IllFormed function uid rule) r
-refuses_map (refusal.Limit which count) P Q follows r = follows (refusal.Limit which count) r
-refuses_map (refusal.Unmatched function uid stage insn) P Q follows r = follows (refusal.Unmatched function uid stage insn) r
-refuses_map refusal.ReadFault P Q follows r = absurd r
-refuses_map refusal.WriteFault P Q follows r = absurd r
-
--- one was refused
 refuses_whole : (old now : List ℕ) (piece rest whole : Outcome) (e : Refusal) → Refuses e piece → outcome_map (λ more. now ++ more) (outcome_then piece rest) ≡ outcome_map (λ more. old ++ more) whole → Refuses e whole
-refuses_whole old now piece rest whole e r h = refuses_map e (λ refused. piece ≡ refused) (λ refused. whole ≡ refused) (λ e is. stops old now piece rest whole e is h) r
+refuses_whole old now piece rest whole e r h = refuses_map e (λ (refused : Outcome). piece ≡ refused) (λ (refused : Outcome). whole ≡ refused) (λ e is. stops old now piece rest whole e is h) r
 
 pub goes_wrong : {A : Type 0} (text : A → Outcome) (old now : List ℕ) (xs : List A) (i : ℕ) (x : A) (whole : Outcome) (e : Refusal) →
     i < length xs → x ≡ get_or xs i x → Refuses e (text x) → Goes text old now (drop i xs) whole → Refuses e whole
@@ -83,7 +67,7 @@ goes_through text old now whole h = ends old now whole h.same
 pub appended_some : {A : Type 0} (old new : List ℕ) (result : Result A Refusal) (outcome : Outcome) (P : Outcome → Type 0) → P outcome → Appended old new result outcome → AppendedSome old new result P
 appended_some old new (Ok x) (Ok text) P holds is = (text, holds, is)
 appended_some old new (Ok x) (Err e) P holds is = absurd is
-appended_some old new (Err e) outcome P holds is = refuses_map e (λ refused. outcome ≡ refused) P (λ e same. subst P same holds) is
+appended_some old new (Err e) outcome P holds is = refuses_map e (λ (refused : Outcome). outcome ≡ refused) P (λ e same. subst P same holds) is
 
 then_nothing : (o : Outcome) → outcome_then o (Ok []) ≡ o
 then_nothing (Ok text) = ap (λ (t : List ℕ). Ok t) (append-nil text)

@@ -14,7 +14,7 @@ use Rattle.rtl_func.specs.Rules.{faults, faults_by, faults_of, uid_faults}
 use Rattle.same_code.specs.Direct.{IsUid}
 use Rattle.same_code.proofs.Places.{get_dropped, drop_next}
 use Rattle.run_refusal.specs.declared.refusal.Refusal.{Refusal}
-use Rattle.asm_text.specs.Compile.{or_later, rule_broken, limit_passed, refused_at, refused_from}
+use Rattle.func_input.specs.Refused.{or_later, rule_broken, limit_passed, refused_at, refused_from}
 
 -- the uid of each label has 32 bits
 abbrev pub AreUids : List Insn → Type 0

@@ -1,31 +1,18 @@
 -- The assembly of functions: for each function a frame of lines, and in it what stands for each item of its chain.
 use Rattle.std.specs.Prelude.{◌≡◌, ◌<◌, ◌^◌, ℕ, ◌+◌, List, [], ◌∷◌, ◌++◌, codes, Option, Some, None, Result, Ok, Err, IsOkAnd}
-use Rattle.rtx_tree.specs.Patterns.{return_rtx}
 use Rattle.rtx_tree.specs.declared.function.Kind.{Kind}
-use Rattle.rtx_tree.specs.declared.function.Kind.TheVariants.{Jump, Label, Barrier}
+use Rattle.rtx_tree.specs.declared.function.Kind.TheVariants.{Label, Barrier}
 use Rattle.rtx_tree.specs.declared.function.Insn.{Insn}
 use Rattle.rtx_tree.specs.declared.function.Function.{Function}
 use Rattle.rtx_tree.specs.declared.stage.Stage.TheVariants.{Lower}
-use Rattle.rtl_count.specs.Counts.{greatest_uid}
-use Rattle.rtl_func.specs.Paths.{ReachesExit}
 use Rattle.asm_table.specs.declared.forms.Match.{Match}
 use Rattle.run_refusal.specs.declared.refusal.Refusal.{Refusal}
 use Rattle.run_refusal.specs.declared.refusal.Refusal.TheVariants as refusal
+use Rattle.func_input.specs.Input.{RefusesWith}
+use Rattle.func_input.specs.Outcome.{Outcome, outcome_map, outcome_then}
+use Rattle.func_end.specs.End.{IsFinished}
 use Rattle.asm_table.specs.Forms.{first_match}
 use Rattle.asm_table.specs.Template.{filled_line, label_item}
-
--- a text, or the first refusal on the way to it
-abbrev pub Outcome : Type 0
-Outcome = Result (List ℕ) Refusal
-
--- a text and another behind it
-abbrev pub outcome_map : (List ℕ → List ℕ) → Outcome → Outcome
-outcome_map f (Ok text) = Ok (f text)
-outcome_map f (Err e) = Err e
-
-abbrev pub outcome_then : Outcome → Outcome → Outcome
-outcome_then (Ok text) rest = outcome_map (λ more. text ++ more) rest
-outcome_then (Err e) rest = Err e
 
 -- the texts of some things, one behind the other, in their order
 abbrev pub each_text : {A : Type 0} → (A → Outcome) → List A → Outcome
@@ -52,17 +39,6 @@ item_text number function i = item_by i.kind number function i
 
 abbrev pub body_text : ℕ → List ℕ → List Insn → Outcome
 body_text number function insns = each_text (item_text number function) insns
-
--- ---- the return
-
--- the return that is added at the end of a chain, with the number after the greatest
-abbrev pub return_insn : List Insn → Insn
-return_insn insns = record { uid = greatest_uid insns + 1; kind = Jump; pattern = return_rtx; uses = [] }
-
--- A chain as it is written: with a return at its end where a path of its instructions leads there, and else as it is.
-pub data IsFinished (insns : List Insn) : List Insn → Type 0 where
-  returning : ReachesExit insns → IsFinished insns (insns ++ return_insn insns ∷ [])
-  staying : ¬ ReachesExit insns → IsFinished insns insns
 
 -- ---- functions
 
@@ -109,23 +85,11 @@ pub data AreTexts : ℕ → List Function → Outcome → Type 0 where
 
 -- ---- what a call that appends has done
 
--- it refused as it should, or memory ran out; it tells no fault and nothing of the words
-abbrev pub RefusesWith : Refusal → (Outcome → Type 0) → Type 0
-RefusesWith refusal.Memory P = Unit {0}
-RefusesWith refusal.Usage P = ⊥
-RefusesWith refusal.ReadFault P = ⊥
-RefusesWith refusal.WriteFault P = ⊥
-RefusesWith e P = P (Err e)
-
+-- it refused as it should, or memory ran out
 abbrev pub Refuses : Refusal → Outcome → Type 0
-Refuses e outcome = RefusesWith e (λ refused. outcome ≡ refused)
+Refuses e outcome = RefusesWith e (λ (refused : Outcome). outcome ≡ refused)
 
 -- it appended the text, or it refused
 abbrev pub Appended : {A : Type 0} → List ℕ → List ℕ → Result A Refusal → Outcome → Type 0
 Appended old new (Ok x) outcome = IsOkAnd outcome (λ text. new ≡ old ++ text)
 Appended old new (Err e) outcome = Refuses e outcome
-
--- it appended a text that has a property, or it refused
-abbrev pub AppendedSome : {A : Type 0} → List ℕ → List ℕ → Result A Refusal → (Outcome → Type 0) → Type 0
-AppendedSome old new (Ok x) P = (text : List ℕ) × P (Ok text) × (new ≡ old ++ text)
-AppendedSome old new (Err e) P = RefusesWith e P

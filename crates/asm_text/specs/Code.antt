@@ -1,14 +1,10 @@
 -- A function of an input with its code: the lines and labels that its part of the input's assembly spells.
-use Rattle.std.specs.Prelude.{◌≡◌, ◌≤◌, ◌<◌, ◌^◌, ℕ, ◌+◌, Bool, true, false, List, [], ◌∷◌, ◌++◌, length, Option, Some, None, Result, Ok, Err, if◌then◌else◌}
+use Rattle.std.specs.Prelude.{◌≡◌, ◌<◌, ◌^◌, ℕ, ◌+◌, Bool, true, false, List, [], ◌∷◌, ◌++◌, Option, Some, None, Result, Ok, Err, if◌then◌else◌}
 use Rattle.std.specs.List.{list_any}
 use Rattle.std.specs.Str.{bytes_eq}
-use Rattle.lisp_read.specs.declared.tree.Tree.{Tree}
-use Rattle.lisp_read.specs.Reading.{ReadsAs, Trees}
-use Rattle.lisp_read.specs.Parsed.{stands}
 use Rattle.rtx_tree.specs.declared.function.Kind.TheVariants.{Label, Barrier}
 use Rattle.rtx_tree.specs.declared.function.Insn.{Insn}
 use Rattle.rtx_tree.specs.declared.function.Function.{Function}
-use Rattle.rtl_read.specs.Syntax.{functions_in}
 use Rattle.rtl_step.specs.Step.{is_mark}
 use Rattle.rv_text.specs.Text.{IsTextOf}
 use Rattle.rv_text.specs.declared.line.Line.{Line}
@@ -19,18 +15,12 @@ use Rattle.asm_table.specs.Forms.{first_match}
 use Rattle.asm_table.specs.Template.{filled_line}
 use Rattle.run_refusal.specs.declared.refusal.Refusal.{Refusal}
 use Rattle.run_refusal.specs.declared.refusal.Refusal.TheVariants as refusal
-use Rattle.asm_text.specs.Assembly.{IsFinished}
-use Rattle.asm_text.specs.Compile.{most_bytes, FunctionsCome, InputComes}
-use Rattle.asm_text.specs.Lines.{IsInput, IsAssembly}
+use Rattle.func_input.specs.Input.{IsRead, IsInput}
+use Rattle.func_end.specs.End.{IsFinished}
+use Rattle.asm_text.specs.Compile.{FunctionsCome, InputComes}
+use Rattle.asm_text.specs.Lines.{IsAssembly}
 use Rattle.asm_text.specs.Same.{AreParts}
 use Rattle.asm_text.specs.declared.code.Coded.{Coded}
-
--- the bytes are read as functions
-pub record IsRead (bytes : List ℕ) (functions : List Function) : Type 0 where
-  pub within : length bytes ≤ most_bytes
-  pub trees : List Tree
-  pub reads : ReadsAs bytes (Trees trees)
-  pub stand : functions_in trees ≡ stands functions
 
 abbrev pub is_named : List ℕ → Function → Bool
 is_named name f = bytes_eq f.name name

@@ -1,29 +1,15 @@
 -- The assembly of an input, said of its lines: for each function, in order, its frame of lines, and in it for each instruction
 -- the filled template of the first form that matches, and for each label its line.
-use Rattle.std.specs.Prelude.{◌≡◌, ◌≤◌, ◌<◌, ◌^◌, ◌⊎◌, ℕ, ◌+◌, false, List, [], ◌∷◌, ◌++◌, length, IsSome, Some, None, IfSome}
-use Rattle.std.specs.declared.option.Option.{Option}
-use Rattle.std.specs.Io.KnownBytes.{Appends}
-use Rattle.lisp_read.specs.declared.tree.Tree.{Tree}
-use Rattle.lisp_read.specs.Reading.{ReadsAs, Trees}
+use Rattle.std.specs.Prelude.{◌≡◌, ◌<◌, ◌^◌, ℕ, ◌+◌, false, List, [], ◌∷◌, ◌++◌, IsSome, Some}
 use Rattle.rtx_tree.specs.declared.function.Kind.TheVariants.{Label, Barrier}
 use Rattle.rtx_tree.specs.declared.function.Insn.{Insn}
 use Rattle.rtx_tree.specs.declared.function.Function.{Function}
-use Rattle.lisp_read.specs.Parsed.{stands}
-use Rattle.rtl_read.specs.Syntax.{functions_in}
 use Rattle.rtl_step.specs.Step.{is_mark}
 use Rattle.asm_table.specs.declared.forms.Match.{Match}
 use Rattle.asm_table.specs.Forms.{first_match}
 use Rattle.asm_table.specs.Template.{filled_line, label_item}
-use Rattle.asm_text.specs.Assembly.{IsFinished, framed}
-use Rattle.asm_text.specs.Compile.{most_bytes, first_refused}
-
--- the bytes are the text of an input with these functions, which are well-formed and within the limits
-pub record IsInput (bytes : List ℕ) (functions : List Function) : Type 0 where
-  pub within : length bytes ≤ most_bytes
-  pub trees : List Tree
-  pub reads : ReadsAs bytes (Trees trees)
-  pub stand : functions_in trees ≡ stands functions
-  pub admitted : first_refused functions ≡ None
+use Rattle.func_end.specs.End.{IsFinished}
+use Rattle.asm_text.specs.Assembly.{framed}
 
 -- the lines of a chain of a function with a number: of each instruction that of the first form that matches it, of each label its own
 pub data AreLines (number : ℕ) : List Insn → List ℕ → Type 0 where

@@ -1,14 +1,11 @@
 -- What the written text does: for each function of the input, in order, the lines and labels that its part of the text spells have the same
 -- behaviour as the function.
-use Rattle.std.specs.Prelude.{ℕ, ◌+◌, ◌*◌, ◌/◌, List, [], ◌∷◌, ◌++◌, IfSome}
-use Rattle.std.specs.declared.option.Option.{Option}
-use Rattle.std.specs.Io.KnownBytes.{Appends}
+use Rattle.std.specs.Prelude.{ℕ, ◌+◌, ◌*◌, ◌/◌, List, [], ◌∷◌, ◌++◌}
 use Rattle.rtx_tree.specs.declared.function.Function.{Function}
 use Rattle.rv_text.specs.Body.{Spells}
 use Rattle.rv_text.specs.declared.line.CodeItem.{CodeItem}
 use Rattle.same_code.specs.Same.{Same}
 use Rattle.asm_text.specs.Assembly.{framed}
-use Rattle.asm_text.specs.Lines.{IsInput}
 
 -- The parts of a text that are its functions', in order: between the `NAME:` line and the `.size` line of each stands what spells its items.
 pub data AreParts : List Function → List ℕ → List (List CodeItem) → Type 0 where

@@ -1,15 +1,17 @@
 //! The assembly of functions.
-ghost use Rattle.std.specs.Prelude.{◌≡◌, ◌↔◌, ◌<◌, ◌+◌, ◌^◌, [], ◌∷◌, ◌++◌, OnOk, IfOk, IsTrue};
+ghost use Rattle.std.specs.Prelude.{◌≡◌, ◌↔◌, [], ◌∷◌, ◌++◌, OnOk, IfOk, IsTrue};
 ghost use Rattle.asm_text.specs.Assembly as spec;
 ghost use Rattle.rtl_func.specs.Paths.{ReachesExit};
 ghost use Rattle.asm_table.specs.Forms as forms;
-ghost use Rattle.asm_text.specs.Assembly.{Appended, AppendedSome, IsBodyText, IsFunctionText, AreTexts};
+ghost use Rattle.func_end.specs.End.{return_insn};
+ghost use Rattle.func_input.specs.Outcome.{AppendedSome, outcome_then};
+ghost use Rattle.asm_text.specs.Assembly.{Appended, IsBodyText, IsFunctionText, AreTexts};
 
 use asm_table::{first_match, print_label_line, print_line};
-use plain_data::{Items, Memory};
-use rtl_count::greatest_uid;
-use rtl_func::reaches_exit;
-use rtx_tree::{Code, Function, Insn, Kind, Mode, Name, Rtx, Stage};
+use func_end::{is_ended, return_insn};
+use func_input::next_number;
+use plain_data::Memory;
+use rtx_tree::{Function, Insn, Kind, Name, Stage};
 use run_refusal::{Refusal, print_text};
 use std::alloc::Global;
 
@@ -79,21 +81,6 @@ fn print_items(
     Ok(())
 }
 
-/// The return that is added at the end of a chain. It wants a number for it, as it wants memory.
-pub(crate) fn return_insn(alloc: Global, insns: &[Insn]) -> Result<Insn, Memory>
-    ensures { IfOk result (λ end. end ≡ spec.return_insn insns.now) }
-{
-    let Some(uid) = greatest_uid(insns).checked_add(1) else {
-        return Err(Memory);
-    };
-    Ok(Insn {
-        uid,
-        kind: Kind::Jump,
-        pattern: Rtx::leaf(alloc, Code::Return, Mode::Void, 0),
-        uses: Items::new(alloc),
-    })
-}
-
 /// Appends the lines of a chain, and that of the return behind them.
 fn print_returning(
     alloc: Global,
@@ -102,22 +89,11 @@ fn print_returning(
     insns: &[Insn],
     out: &mut Vec<u8>,
 ) -> Result<(), Refusal>
-    ensures { Appended out.old.items out.new.items result (spec.outcome_then (spec.body_text number function.now insns.now) (spec.item_text number function.now (spec.return_insn insns.now))) }
+    ensures { Appended out.old.items out.new.items result (outcome_then (spec.body_text number function.now insns.now) (spec.item_text number function.now (return_insn insns.now))) }
 {
     print_items(alloc, number, function, insns, out)?;
     let end = return_insn(alloc, insns)?;
     print_item(alloc, number, function, &end, out)
-}
-
-/// Whether the end of a function's chain is reached. A chain with more places than have a number is wanted as memory is.
-pub(crate) fn is_ended(alloc: Global, f: &Function) -> Result<bool, Memory>
-    ensures { IfOk result (λ reached. IsTrue reached ↔ ReachesExit f.now.insns) }
-{
-    if f.insns.len() < 0xffff_ffff {
-        reaches_exit(alloc, f)
-    } else {
-        Err(Memory)
-    }
 }
 
 /// Appends the lines of a function's chain, with a return at its end where that is reached.
@@ -206,17 +182,6 @@ fn print_function(
     print_body(alloc, number, f, out)?;
     print_closing(&f.name, out)?;
     Ok(())
-}
-
-/// The number behind a number of 32 bits. It wants the number, as it wants memory.
-pub fn next_number(number: u32) -> Result<u32, Memory>
-    ensures next { IfOk result (λ next. next ≡ number + 1) }
-    ensures small { number < 2 ^ 32 }
-{
-    match number.checked_add(1) {
-        Some(next) => Ok(next),
-        None => Err(Memory),
-    }
 }
 
 /// Appends the assembly of some functions, in order, each with its number from 0 on.

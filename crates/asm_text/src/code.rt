@@ -5,15 +5,16 @@ ghost use Rattle.rv_text.specs.declared.line.CodeItem.TheVariants as code_item;
 ghost use Rattle.asm_table.specs.declared.forms.Match.{Match};
 ghost use Rattle.asm_table.specs.Forms as forms;
 ghost use Rattle.asm_table.specs.Template.{filled_line};
-ghost use Rattle.asm_text.specs.Assembly as spec;
-ghost use Rattle.asm_text.specs.Compile.{most_bytes};
+ghost use Rattle.func_end.specs.End.{return_insn};
+ghost use Rattle.func_input.specs.Input.{most_bytes};
 ghost use Rattle.asm_text.specs.Lines.{IsMatched, AreMatched, AllMatched};
 ghost use Rattle.asm_text.specs.Code as codes;
 ghost use Rattle.asm_text.specs.Code.{Answer, Answers, IsLineText, IsItemOf, IsLineIn, AreItems, AreItemsOf, IsCodedFrom, NameComes, CodeComes, IsUnnamed};
 
-use crate::assembly::{is_ended, next_number, return_insn};
-use crate::compile::{compile, parse, read};
+use crate::compile::compile;
 use asm_table::{Match, first_match, print_line};
+use func_end::{is_ended, return_insn};
+use func_input::{next_number, read_functions};
 use plain_data::{Items, Memory};
 use rtx_tree::{Function, Functions, Insn, Kind};
 use run_refusal::Refusal;
@@ -104,7 +105,7 @@ fn items_in(alloc: Global, number: u32, insns: &[Insn]) -> Result<CodeItems, Mem
 /// Those of a chain, and the line of the return behind them.
 fn items_returning(alloc: Global, number: u32, insns: &[Insn]) -> Result<CodeItems, Memory>
     requires { AreMatched insns.now }
-    ensures { IfOk result (AreItems number (insns.now ++ spec.return_insn insns.now ∷ [])) }
+    ensures { IfOk result (AreItems number (insns.now ++ return_insn insns.now ∷ [])) }
 {
     let mut items = items_in(alloc, number, insns)?;
     let end = return_insn(alloc, insns)?;
@@ -183,7 +184,6 @@ pub fn code_of(alloc: Global, bytes: &[u8], name: &[u8]) -> Result<Coded, Refusa
     ensures unnamed { result ≡ Err Refusal.Usage → IsUnnamed bytes.now name.now }
     ensures one { (bytes name : List ℕ) (a b : Answer) → CodeComes bytes name a → CodeComes bytes name b → a ≡ b }
 {
-    let trees = read(alloc, bytes)?;
-    let functions = parse(alloc, &trees)?;
+    let functions = read_functions(alloc, bytes)?;
     name_comes(alloc, functions, name)
 }

@@ -1,7 +1,8 @@
 use Rattle.std.proofs.Common.{ℕ, ◌+◌, drop, sym, subst, arith}
 use Rattle.std.proofs.lemmas.List.{drop_all}
 use Rattle.std.proofs.lemmas.Result.{err_from_is_err_and}
-use Rattle.asm_text.proofs.Texts.{MakesTexts, drop_at, makes_on, makes_wrong, makes_all}
+use Rattle.func_input.proofs.Firsts.{drop_at}
+use Rattle.asm_text.proofs.Texts.{MakesTexts, makes_on, makes_wrong, makes_all}
 use Rattle.asm_text.proofs.assembly.print_program.Goals as goal
 
 pub returns-in_err-print_function : goal.returns-in_err-print_function

@@ -1,6 +1,5 @@
 use Rattle.std.proofs.Common.{◌∷◌, [], ◌++◌}
-use Rattle.asm_text.specs.Assembly.{return_insn}
-use Rattle.asm_text.specs.Code.{AreItems}
+use Rattle.func_end.specs.End.{return_insn}
 use Rattle.asm_text.proofs.Texts.{finished_then, finished_else}
 use Rattle.asm_text.proofs.LineTexts.{items_finished}
 use Rattle.asm_text.proofs.code.items_by.Goals as goal

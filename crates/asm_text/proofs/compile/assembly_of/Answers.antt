@@ -1,12 +1,20 @@
-use Rattle.asm_text.proofs.Comes.{comes_to}
+use Rattle.std.proofs.lemmas.Result.{err_from_is_err_and}
+use Rattle.func_input.proofs.Any.{input_refused}
+use Rattle.func_input.proofs.Comes.{comes_to}
+use Rattle.asm_text.specs.Assembly.{AreTexts}
 use Rattle.asm_text.proofs.OneText.{one_coming_of}
 use Rattle.asm_text.proofs.compile.assembly_of.Goals as goal
 
+pub returns-in_err-functions-clause-gives : goal.returns-in_err-functions-clause-gives
+returns-in_err-functions-clause-gives c =
+    let p = err_from_is_err_and c.from_residual.result c.from_residual.ensures.1 in
+    rw (p.1, p.2) (input_refused (AreTexts 0) c.args.bytes.now c.in_err-functions.field-0.0 c.in_err-functions.ensures.reads)
+
+pub returns-in_err-functions-clause-one : goal.returns-in_err-functions-clause-one
+returns-in_err-functions-clause-one c = λ bytes a b p q. one_coming_of bytes a b p q
+
 pub returns-clause-gives : goal.returns-clause-gives
-returns-clause-gives c = comes_to c.args.bytes.now c.in_ok-trees.trees c.compile_trees.result c.requires c.in_ok-trees.ensures.trees c.compile_trees.ensures
+returns-clause-gives c = comes_to (AreTexts 0) c.args.bytes.now c.in_ok-functions.functions c.compile.result c.in_ok-functions.ensures.reads (rw c.as_slice.ensures.value at c.compile.ensures)
 
 pub returns-clause-one : goal.returns-clause-one
 returns-clause-one c = λ bytes a b p q. one_coming_of bytes a b p q
-
-pub returns-in_err-trees-clause-one : goal.returns-in_err-trees-clause-one
-returns-in_err-trees-clause-one c = λ bytes a b p q. one_coming_of bytes a b p q

@@ -7,7 +7,7 @@ use Rattle.lisp_read.specs.Reading.{Reading, ReadsAs, Trees}
 use Rattle.lisp_read.specs.Parsed.{Parsed, stands, construct}
 use Rattle.lisp_read.proofs.Unique.{one_reading}
 use Rattle.rtl_read.specs.Syntax.{functions_in}
-use Rattle.asm_text.specs.Code.{IsRead}
+use Rattle.func_input.specs.Input.{IsRead}
 
 -- what reads otherwise does not read as trees
 pub no_reading : (bytes : List ℕ) (reading : Reading) (trees : List Tree) → (reading ≡ Trees trees → ⊥) → ReadsAs bytes reading → ReadsAs bytes (Trees trees) → ⊥

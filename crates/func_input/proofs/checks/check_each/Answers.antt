@@ -1,10 +1,9 @@
 use Rattle.std.proofs.Common.{◌≡◌, ℕ, ◌+◌, drop, sym, ap, subst, ◌∙◌, arith}
 use Rattle.std.proofs.lemmas.List.{drop_all}
 use Rattle.std.proofs.lemmas.Result.{err_from_is_err_and}
-use Rattle.asm_text.specs.Compile.{refused_from, first_refused}
-use Rattle.asm_text.proofs.Texts.{drop_at}
-use Rattle.asm_text.proofs.Comes.{checked_on, checked_here}
-use Rattle.asm_text.proofs.compile.check_each.Goals as goal
+use Rattle.func_input.specs.Refused.{refused_from, first_refused}
+use Rattle.func_input.proofs.Firsts.{drop_at, checked_on, checked_here}
+use Rattle.func_input.proofs.checks.check_each.Goals as goal
 
 pub check_function-requires-clause-within : goal.check_function-requires-clause-within
 check_function-requires-clause-within c = let place = c.loop-f.invariant.0 in omega (arith, place)

@@ -1,7 +1,7 @@
-use Rattle.lisp_read.specs.Reading.{Trees, Syntax, Depth}
-use Rattle.asm_text.proofs.Comes.{syntax_refused, depth_refused}
-use Rattle.asm_text.proofs.Unread.{no_reading}
-use Rattle.asm_text.proofs.compile.read.Goals as goal
+use Rattle.lisp_read.specs.Reading.{Syntax, Depth}
+use Rattle.func_input.proofs.Readings.{syntax_refused, depth_refused}
+use Rattle.func_input.proofs.Unread.{no_reading}
+use Rattle.func_input.proofs.reading.trees_of.Goals as goal
 
 pub returns-in-Err-Syntax-clause-refused : goal.returns-in-Err-Syntax-clause-refused
 returns-in-Err-Syntax-clause-refused c =

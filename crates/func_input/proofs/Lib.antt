@@ -1,0 +1,8 @@
+pub mod Refusing
+pub mod Any
+pub mod One
+pub mod Unread
+pub mod Readings
+pub mod Firsts
+pub mod Comes
+pub mod Inputs

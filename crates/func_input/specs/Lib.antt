@@ -1,0 +1,4 @@
+pub mod Refused
+pub mod Input
+pub mod Steps
+pub mod Outcome

@@ -1,0 +1,129 @@
+//! The rules of well-formed functions, and the limits.
+ghost use Rattle.std.specs.Prelude.{◌≡◌, ◌+◌, ◌<◌, ◌↔◌, ◌^◌, All, IfOk, IsTrue, length};
+ghost use Rattle.rtl_func.specs.Faults.{first_fault};
+ghost use Rattle.rtl_func.specs.Rules.{faults};
+ghost use Rattle.func_input.specs.Refused.{rule_broken, over, limit_passed, refused_at};
+ghost use Rattle.func_input.specs.Input.{Checks};
+ghost use Rattle.func_input.specs.Steps.{IsOrMemory, Checked};
+ghost use Rattle.run_refusal.specs.declared.refusal.Refusal.TheVariants as refused;
+
+use plain_data::Memory;
+use rtl_count::{instruction_count, next_pseudo};
+use rtl_func::{CheckRefusal, check};
+use rtx_tree::{Function, Limit, Name};
+use run_refusal::Refusal;
+use std::alloc::Global;
+
+fn ill_formed(alloc: Global, function: &Name, uid: u32, rule: u8) -> Refusal
+    ensures { IsOrMemory result (refused.IllFormed function.now uid rule) }
+{
+    match function.copy(alloc) {
+        Ok(function) => Refusal::IllFormed {
+            function,
+            uid,
+            rule,
+        },
+        Err(_) => Refusal::Memory,
+    }
+}
+
+/// Checks that the function at an index keeps the rules.
+fn check_rules(
+    alloc: Global,
+    functions: &[Function],
+    index: u32,
+    f: &Function,
+) -> Result<(), Refusal>
+    requires within { index < length functions.now }
+    requires short { All (λ f. length f.insns < 2 ^ 32) functions.now }
+    ensures { Checked result (rule_broken f.now (first_fault (faults functions.now index))) }
+{
+    match check(alloc, functions, index) {
+        Ok(()) => Ok(()),
+        Err(CheckRefusal::IllFormed { uid, rule }) => Err(ill_formed(alloc, &f.name, uid, rule)),
+        Err(CheckRefusal::Memory) => Err(Refusal::Memory),
+    }
+}
+
+/// Checks that a count is not above the most that there may be.
+fn within(which: Limit, most: u64, count: u64) -> Result<(), Refusal>
+    ensures { Checked result (over which most count) }
+{
+    if count <= most {
+        Ok(())
+    } else {
+        Err(Refusal::Limit { which, count })
+    }
+}
+
+/// Checks that a function is within the limits.
+fn check_limits(f: &Function) -> Result<(), Refusal>
+    ensures { Checked result (limit_passed f.now) }
+{
+    within(
+        Limit::Instructions,
+        10_000,
+        instruction_count(f.insns.as_slice()) as u64,
+    )?;
+    within(Limit::Pseudos, 10_000, next_pseudo(f.insns.as_slice()))
+}
+
+/// Checks the function at an index: the rules, and then the limits.
+fn check_function(
+    alloc: Global,
+    functions: &[Function],
+    index: u32,
+    f: &Function,
+) -> Result<(), Refusal>
+    requires within { index < length functions.now }
+    requires short { All (λ f. length f.insns < 2 ^ 32) functions.now }
+    ensures { Checked result (refused_at functions.now index f.now) }
+{
+    check_rules(alloc, functions, index, f)?;
+    check_limits(f)
+}
+
+/// The number behind a number of 32 bits. It wants the number, as it wants memory.
+pub fn next_number(number: u32) -> Result<u32, Memory>
+    ensures next { IfOk result (λ next. next ≡ number + 1) }
+    ensures small { number < 2 ^ 32 }
+{
+    match number.checked_add(1) {
+        Some(next) => Ok(next),
+        None => Err(Memory),
+    }
+}
+
+/// Checks functions whose places have numbers of 32 bits, in order.
+fn check_each(alloc: Global, functions: &[Function]) -> Result<(), Refusal>
+    requires { All (λ f. length f.insns < 2 ^ 32) functions.now }
+    ensures { Checks result functions.now }
+{
+    let mut index: u32 = 0;
+    for f in functions {
+        check_function(alloc, functions, index, f)?;
+        index = next_number(index)?;
+    }
+    Ok(())
+}
+
+fn are_short(functions: &[Function]) -> bool
+    ensures { IsTrue result ↔ All (λ f. length f.insns < 2 ^ 32) functions.now }
+{
+    functions.iter().all(|f| f.insns.len() <= 0xffff_ffff)
+}
+
+/// Checks that functions are well-formed and within the limits. A chain with more places than have a number is wanted as memory is.
+///
+/// # Errors
+///
+/// `IllFormed` or `Limit` for the first function that is refused, or `Memory` where memory ran out.
+pub fn check_functions(alloc: Global, functions: &[Function]) -> Result<(), Refusal>
+    ensures { Checks result functions.now }
+{
+    if are_short(functions) {
+        check_each(alloc, functions)
+    } else {
+        Err(Refusal::Memory)
+    }
+}

@@ -11,12 +11,15 @@ use Rattle.run_refusal.specs.declared.refusal.Refusal.TheVariants as refusal
 use Rattle.md_source.specs.declared.refusal.SourceRefusal.TheVariants as source
 use Rattle.md_source.specs.Source.{Source}
 use Rattle.md_source.specs.Asked.{AreNamed, GrewBy}
+use Rattle.md_source.specs.Answers.{Agrees}
 use Rattle.md_list.specs.declared.refusal.ListRefusal.{ListRefusal}
 use Rattle.md_list.specs.declared.refusal.ListRefusal.TheVariants as listing
 use Rattle.md_list.specs.Listing.{ListComes}
 use Rattle.md_list.specs.Answers.{GivesList}
-use Rattle.asm_text.specs.Assembly.{Outcome}
-use Rattle.asm_text.specs.Compile.{most_bytes, InputComes, Tells}
+use Rattle.func_input.specs.Input.{most_bytes, InputComesTo}
+use Rattle.func_input.specs.Outcome.{Outcome}
+use Rattle.func_input.specs.Outcome.{Tells}
+use Rattle.asm_text.specs.Compile.{InputComes}
 use Rattle.asm_text.specs.Code.{IsUnnamed, CodeComes}
 use Rattle.asm_text.specs.Code.{Answers as Told}
 use Rattle.rtlc_words.specs.declared.command.Command.{Command}
@@ -37,6 +40,19 @@ produces_map (Err (refusal.IllFormed function uid rule)) P Q follows h = follows
 produces_map (Err (refusal.Limit which count)) P Q follows h = follows (Err (refusal.Limit which count)) h
 produces_map (Err (refusal.Unmatched function uid stage insn)) P Q follows h = follows (Err (refusal.Unmatched function uid stage insn)) h
 
+-- so has what was told
+pub produces_tells : (r : Result (Vec ℕ Global) Refusal) (P Q : Outcome → Type 0) → ((o : Outcome) → P o → Q o) → Tells r P → Produces r Q
+produces_tells (Ok text) P Q follows h = follows (Ok text.items) h
+produces_tells (Err refusal.Memory) P Q follows h = tt
+produces_tells (Err refusal.Usage) P Q follows h = absurd h
+produces_tells (Err refusal.ReadFault) P Q follows h = tt
+produces_tells (Err refusal.WriteFault) P Q follows h = absurd h
+produces_tells (Err (refusal.Syntax file place)) P Q follows h = follows (Err (refusal.Syntax file place)) h
+produces_tells (Err (refusal.Construct place name)) P Q follows h = follows (Err (refusal.Construct place name)) h
+produces_tells (Err (refusal.IllFormed function uid rule)) P Q follows h = follows (Err (refusal.IllFormed function uid rule)) h
+produces_tells (Err (refusal.Limit which count)) P Q follows h = follows (Err (refusal.Limit which count)) h
+produces_tells (Err (refusal.Unmatched function uid stage insn)) P Q follows h = follows (Err (refusal.Unmatched function uid stage insn)) h
+
 -- ---- the input
 
 -- what was read to the end is what was there
@@ -44,7 +60,7 @@ all_read : (all rest bytes : List ℕ) → all ≡ bytes ++ rest → rest ≡ []
 all_read all rest bytes e none = e ∙ ap (λ (z : List ℕ). bytes ++ z) none ∙ append-nil bytes
 
 -- of what was read to the end, what holds of the bytes read holds of those that were left
-of_input : (P : List ℕ → Type 0) (old new : Option (List ℕ)) (bytes : List ℕ) → Consumes old new bytes × IsAtEnd new → P bytes → IfSome old P
+pub of_input : (P : List ℕ → Type 0) (old new : Option (List ℕ)) (bytes : List ℕ) → Consumes old new bytes × IsAtEnd new → P bytes → IfSome old P
 of_input P None new bytes h p = tt
 of_input P (Some all) None bytes h p = absurd h.0
 of_input P (Some all) (Some rest) bytes h p = subst P (sym (all_read all rest bytes h.0 h.1)) p
@@ -52,25 +68,13 @@ of_input P (Some all) (Some rest) bytes h p = subst P (sym (all_read all rest by
 asm_comes : (known : Source) (left left' : Option (List ℕ)) (bytes : List ℕ) (o : Outcome) → Consumes left left' bytes × IsAtEnd left' → InputComes bytes o → CommandComes known left commands.Asm o
 asm_comes known left left' bytes o read comes = CommandComes.assembled o (of_input (λ (bs : List ℕ). InputComes bs o) left left' bytes read comes)
 
-asm_refused : (known : Source) (left left' : Option (List ℕ)) (bytes : List ℕ) (e : Refusal) → Consumes left left' bytes × IsAtEnd left' → Tells (Err e) (InputComes bytes) → Produces (Err e) (CommandComes known left commands.Asm)
-asm_refused known left left' bytes refusal.Memory read h = tt
-asm_refused known left left' bytes refusal.Usage read h = absurd h
-asm_refused known left left' bytes refusal.ReadFault read h = tt
-asm_refused known left left' bytes refusal.WriteFault read h = absurd h
-asm_refused known left left' bytes (refusal.Syntax file place) read h = asm_comes known left left' bytes (Err (refusal.Syntax file place)) read h
-asm_refused known left left' bytes (refusal.Construct place name) read h = asm_comes known left left' bytes (Err (refusal.Construct place name)) read h
-asm_refused known left left' bytes (refusal.IllFormed function uid rule) read h = asm_comes known left left' bytes (Err (refusal.IllFormed function uid rule)) read h
-asm_refused known left left' bytes (refusal.Limit which count) read h = asm_comes known left left' bytes (Err (refusal.Limit which count)) read h
-asm_refused known left left' bytes (refusal.Unmatched function uid stage insn) read h = asm_comes known left left' bytes (Err (refusal.Unmatched function uid stage insn)) read h
-
 -- what the bytes that were read came to, `asm` comes to
 pub asm_produced : (known : Source) (left left' : Option (List ℕ)) (bytes : List ℕ) (r : Result (Vec ℕ Global) Refusal) → Consumes left left' bytes × IsAtEnd left' → Tells r (InputComes bytes) → Produces r (CommandComes known left commands.Asm)
-asm_produced known left left' bytes (Ok text) read h = asm_comes known left left' bytes (Ok text.items) read h
-asm_produced known left left' bytes (Err e) read h = asm_refused known left left' bytes e read h
+asm_produced known left left' bytes r read h = produces_tells r (InputComes bytes) (CommandComes known left commands.Asm) (λ o comes. asm_comes known left left' bytes o read comes) h
 
 too_long : (left : Option (List ℕ)) (count : ℕ) → InputRefused left (refusal.Limit limit.Text count) → IfSome left (λ bytes. InputComes bytes (Err (refusal.Limit limit.Text count)))
 too_long None count h = tt
-too_long (Some bytes) count h = subst (λ (n : ℕ). InputComes bytes (Err (refusal.Limit limit.Text n))) (sym h.0) (InputComes.too_long h.1)
+too_long (Some bytes) count h = subst (λ (n : ℕ). InputComes bytes (Err (refusal.Limit limit.Text n))) (sym h.0) (InputComesTo.too_long h.1)
 
 unread_limit : (known : Source) (left : Option (List ℕ)) (which : Limit) (count : ℕ) → InputRefused left (refusal.Limit which count) → Produces (Err (refusal.Limit which count)) (CommandComes known left commands.Asm)
 unread_limit known left limit.Text count h = CommandComes.assembled (Err (refusal.Limit limit.Text count)) (too_long left count h)
@@ -100,7 +104,7 @@ too_many : (bytes function : List ℕ) (steps : ℕ) (args : List ℕ) (count : 
 too_many bytes function steps args count is long = (
   Err (refusal.Limit limit.Text count),
   CodeComes.unread (refusal.Limit limit.Text count) (λ functions read. let within = read.within in omega (arith, long, within))
-      (subst (λ (n : ℕ). InputComes bytes (Err (refusal.Limit limit.Text n))) (sym is) (InputComes.too_long long)),
+      (subst (λ (n : ℕ). InputComes bytes (Err (refusal.Limit limit.Text n))) (sym is) (InputComesTo.too_long long)),
   refl,
 )
 
@@ -212,8 +216,18 @@ may_ask_nothing : (known : Source) (c : Option Command) → MayBeAsked known c [
 may_ask_nothing known None = refl
 may_ask_nothing known (Some commands.Asm) = refl
 may_ask_nothing known (Some (commands.List name)) = AreNamed.none
+may_ask_nothing known (Some (commands.Recog name)) = AreNamed.none
 may_ask_nothing known (Some (commands.Eval function steps args)) = refl
 
 pub nothing_asked : (known : Source) (c : Option Command) (asked : Option (List (List ℕ))) → GrewBy (MayBeAsked known c) asked asked
 nothing_asked known c None = tt
 nothing_asked known c (Some names) = ([], sym (append-nil names), may_ask_nothing known c)
+
+-- ---- what is known of files
+
+-- where nothing is known of files
+abbrev pub nothing_known : Source
+nothing_known name = None
+
+pub nothing_agrees : (holds : List ℕ → List ℕ → Type 0) → Agrees nothing_known holds
+nothing_agrees holds name text is = absurd (let none : ⊥ = cc in none)

@@ -1,4 +1,5 @@
 pub mod Commands
+pub mod Recognised
 pub mod Answered
 pub mod Runs
 pub mod Statuses

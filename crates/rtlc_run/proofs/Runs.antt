@@ -11,9 +11,10 @@ use Rattle.md_source.specs.Answers.{Agrees}
 use Rattle.md_list.specs.declared.refusal.ListRefusal.{ListRefusal}
 use Rattle.md_list.specs.Listing.{ListComes}
 use Rattle.md_list.proofs.Lists.{one_list}
-use Rattle.asm_text.specs.Assembly.{Outcome}
+use Rattle.func_input.specs.Input.{IsInput}
+use Rattle.func_input.specs.Outcome.{Outcome}
 use Rattle.asm_text.specs.Compile.{InputComes}
-use Rattle.asm_text.specs.Lines.{IsInput, AllMatched}
+use Rattle.asm_text.specs.Lines.{AllMatched}
 use Rattle.asm_text.specs.declared.code.Coded.{Coded}
 use Rattle.asm_text.specs.Code.{CodeComes}
 use Rattle.asm_text.proofs.CodeLaws.{one_code, code_coded, code_has}
@@ -25,20 +26,31 @@ use Rattle.asm_text.proofs.Completes.{HasText, input_has}
 use Rattle.rtlc_words.specs.declared.command.Command.{Command}
 use Rattle.rtlc_words.specs.declared.command.Command.TheVariants as commands
 use Rattle.rtlc_words.specs.Words.{command_of}
-use Rattle.rtlc_run.specs.Answer.{described, list_told, evaluated, EvalComes, CommandComes, Answers, IsKnownFor, Writes, IsAnswered, status_of_answer}
-use Rattle.rtlc_run.specs.Written.{WritesLines, WritesSame, WritesOutcomes, WritesList, IsDone, Completes, CompletesFor}
+use Rattle.md_named.specs.Named.{FormsCome}
+use Rattle.rtlc_run.specs.Answer.{described, list_told, evaluated, EvalComes, RecogComes, CommandComes, Answers, IsKnownFor, Writes, IsAnswered, status_of_answer}
+use Rattle.rtlc_run.specs.Written.{WritesLines, WritesSame, WritesOutcomes, WritesList, WritesForms, IsDone, Completes, CompletesFor, CompletesBy}
+use Rattle.rtlc_run.proofs.Commands.{nothing_known}
+use Rattle.rtlc_run.proofs.Recognised.{one_recog, writes_forms, input_comes}
 
 -- ---- the commands
 
 asm_comes : (known : Source) (input : Option (List ℕ)) (c : Command) (o : Outcome) → c ≡ commands.Asm → CommandComes known input c o → IfSome input (λ bytes. InputComes bytes o)
 asm_comes known input _ _ is (CommandComes.assembled o h) = h
 asm_comes known input _ _ is (CommandComes.listed name r h) = absurd (let none : ⊥ = cc in none)
+asm_comes known input _ _ is (CommandComes.recognised name o h) = absurd (let none : ⊥ = cc in none)
 asm_comes known input _ _ is (CommandComes.tries f s a o h) = absurd (let none : ⊥ = cc in none)
 
 list_comes : (known : Source) (input : Option (List ℕ)) (name : Option (List ℕ)) (c : Command) (o : Outcome) → c ≡ commands.List name → CommandComes known input c o → (r : Result (List ℕ) ListRefusal) × ListComes known (described name) r × (o ≡ list_told r)
 list_comes known input name _ _ is (CommandComes.assembled o h) = absurd (let none : ⊥ = cc in none)
+list_comes known input name _ _ is (CommandComes.recognised other o h) = absurd (let none : ⊥ = cc in none)
 list_comes known input name _ _ is (CommandComes.tries f s a o h) = absurd (let none : ⊥ = cc in none)
 list_comes known input name _ _ is (CommandComes.listed other r h) = (r, subst (λ (n : Option (List ℕ)). ListComes known (described n) r) (let same : other ≡ name = cc in same) h, refl)
+
+recog_comes : (known : Source) (input : Option (List ℕ)) (name : Option (List ℕ)) (c : Command) (o : Outcome) → c ≡ commands.Recog name → CommandComes known input c o → RecogComes known input (described name) o
+recog_comes known input name _ _ is (CommandComes.assembled o h) = absurd (let none : ⊥ = cc in none)
+recog_comes known input name _ _ is (CommandComes.listed other r h) = absurd (let none : ⊥ = cc in none)
+recog_comes known input name _ _ is (CommandComes.tries f s a o h) = absurd (let none : ⊥ = cc in none)
+recog_comes known input name _ _ is (CommandComes.recognised other o h) = subst (λ (n : Option (List ℕ)). RecogComes known input (described n) o) (let same : other ≡ name = cc in same) h
 
 same_function : (f f' : List ℕ) (steps steps' : ℕ) (args args' : List ℕ) → commands.Eval f steps args ≡ commands.Eval f' steps' args' → (f ≡ f') × (steps ≡ steps') × (args ≡ args')
 same_function f f' steps steps' args args' is = (cc, cc, cc)
@@ -47,6 +59,7 @@ eval_comes : (known : Source) (input : Option (List ℕ)) (function : List ℕ) 
     IfSome input (λ bytes. EvalComes bytes function steps args o)
 eval_comes known input function steps args _ _ is (CommandComes.assembled o h) = absurd (let none : ⊥ = cc in none)
 eval_comes known input function steps args _ _ is (CommandComes.listed name r h) = absurd (let none : ⊥ = cc in none)
+eval_comes known input function steps args _ _ is (CommandComes.recognised name o h) = absurd (let none : ⊥ = cc in none)
 eval_comes known input function steps args _ _ is (CommandComes.tries f s a o h) =
     let same = same_function f function s steps a args is in
     subst (λ (x : List ℕ). IfSome input (λ bytes. EvalComes bytes x steps args o)) same.0
@@ -66,6 +79,10 @@ list_answer : (words : List (List ℕ)) (known : Source) (input : Option (List �
     (r : Result (List ℕ) ListRefusal) × ListComes known (described name) r × (o ≡ list_told r)
 list_answer words known input name _ is (Answers.usage none) = absurd (none_some (command_of words) (commands.List name) none is)
 list_answer words known input name _ is (Answers.spoken c o is' comes) = list_comes known input name c o (some_same (command_of words) c (commands.List name) is' is) comes
+
+recog_answer : (words : List (List ℕ)) (known : Source) (input : Option (List ℕ)) (name : Option (List ℕ)) (o : Outcome) → command_of words ≡ Some (commands.Recog name) → Answers words known input o → RecogComes known input (described name) o
+recog_answer words known input name _ is (Answers.usage none) = absurd (none_some (command_of words) (commands.Recog name) none is)
+recog_answer words known input name _ is (Answers.spoken c o is' comes) = recog_comes known input name c o (some_same (command_of words) c (commands.Recog name) is' is) comes
 
 eval_answer : (words : List (List ℕ)) (known : Source) (input : Option (List ℕ)) (function : List ℕ) (steps : ℕ) (args : List ℕ) (o : Outcome) → command_of words ≡ Some (commands.Eval function steps args) → Answers words known input o →
     IfSome input (λ bytes. EvalComes bytes function steps args o)
@@ -88,6 +105,7 @@ one_command known input c (commands.List name) a b enough is p q =
     let x = list_comes known input name c a is p in
     let y = list_comes known input name (commands.List name) b refl q in
     x.2 ∙ ap list_told (one_list known (described name) x.0 y.0 enough x.1 y.1) ∙ sym y.2
+one_command known input c (commands.Recog name) a b enough is p q = one_recog known input (described name) a b enough (recog_comes known input name c a is p) (recog_comes known input name (commands.Recog name) b refl q)
 one_command known input c (commands.Eval function steps args) a b enough is p q =
     one_trial input function steps args a b enough (eval_comes known input function steps args c a is p) (eval_comes known input function steps args (commands.Eval function steps args) b refl q)
 
@@ -99,13 +117,6 @@ one_answer words known input _ _ enough (Answers.spoken c o is comes) (Answers.s
     one_command known input c d o o' (subst (λ (k : Option Command). IsKnownFor known input k) is' enough) (some_same (command_of words) c d is is') comes comes'
 
 -- ---- what was written
-
--- where nothing is known of files
-abbrev pub nothing_known : Source
-nothing_known name = None
-
-pub nothing_agrees : (holds : List ℕ → List ℕ → Type 0) → Agrees nothing_known holds
-nothing_agrees holds name text is = absurd (let none : ⊥ = cc in none)
 
 pub writes_lines : (words : List (List ℕ)) (input old new : Option (List ℕ)) → command_of words ≡ Some commands.Asm → Writes words nothing_known input old new → WritesLines input old new
 writes_lines words None old new is h = tt
@@ -135,6 +146,9 @@ pub writes_list : (words : List (List ℕ)) (known : Source) (input old new : Op
 writes_list words known input old new name is h =
     let x = list_answer words known input name (Ok h.0) is h.1 in
     (h.0, subst (ListComes known (described name)) (told_text x.0 h.0 x.2) x.1, h.2)
+
+pub writes_forms_of : (words : List (List ℕ)) (known : Source) (input old new : Option (List ℕ)) (name : Option (List ℕ)) → command_of words ≡ Some (commands.Recog name) → Writes words known input old new → WritesForms known (described name) input old new
+writes_forms_of words known input old new name is h = writes_forms known input old new (described name) h.0 (Ok h.0) refl (recog_answer words known input name (Ok h.0) is h.1) h.2
 
 -- ---- what ends with a text
 
@@ -168,3 +182,11 @@ listed words known name text input status output output' errors errors' faults f
     let a = h other in
     let x = list_answer words known input name a.0 is a.1 in
     a.2.status_is ∙ ap status_of_answer (x.2 ∙ ap list_told (one_list known (described name) x.0 (Ok text) enough x.1 has)))
+
+pub recognised : (words : List (List ℕ)) (known : Source) (name : Option (List ℕ)) (input : Option (List ℕ)) (status : ℕ) (output output' errors errors' : Option (List ℕ)) (faults faults' : ℕ) → command_of words ≡ Some (commands.Recog name) →
+    IsKnown known (described name) → ((status ≡ 8 → ⊥) → IsAnswered words known input status output output' errors errors' faults faults') → CompletesBy known (described name) input status
+recognised words known name None status output output' errors errors' faults faults' is enough h = λ forms come. tt
+recognised words known name (Some bytes) status output output' errors errors' faults faults' is enough h = λ forms come functions text input own. decided status (eqb status 8) refl (λ other.
+    let a = h other in
+    let here : RecogComes known (Some bytes) (described name) (Ok text) = input_comes known bytes (described name) forms functions text come input own in
+    a.2.status_is ∙ ap status_of_answer (one_recog known (Some bytes) (described name) a.0 (Ok text) (enough, refl) (recog_answer words known (Some bytes) name a.0 is a.1) here))

@@ -8,18 +8,20 @@ use Rattle.rtx_tree.specs.declared.limit.Limit.TheVariants as limit
 use Rattle.run_refusal.specs.declared.refusal.Refusal.{Refusal}
 use Rattle.run_refusal.specs.declared.refusal.Refusal.TheVariants as refusal
 use Rattle.run_refusal.specs.Refusals.{status_of, has_values, line_of}
-use Rattle.md_source.specs.declared.refusal.SourceRefusal.{SourceRefusal}
-use Rattle.md_source.specs.declared.refusal.SourceRefusal.TheVariants as source
 use Rattle.md_source.specs.Source.{Source, shipped_name}
 use Rattle.md_source.specs.Asked.{AreNamed, IsKnown}
 use Rattle.md_list.specs.declared.refusal.ListRefusal.{ListRefusal}
 use Rattle.md_list.specs.declared.refusal.ListRefusal.TheVariants as listing
 use Rattle.md_list.specs.Listing.{ListComes}
-use Rattle.asm_text.specs.Assembly.{Outcome}
-use Rattle.asm_text.specs.Compile.{most_bytes, InputComes}
+use Rattle.md_forms.specs.declared.form.Entry.{Entry}
+use Rattle.md_named.specs.Named.{source_refused, FormsCome}
+use Rattle.func_input.specs.Input.{most_bytes, InputComesTo}
+use Rattle.func_input.specs.Outcome.{Outcome}
+use Rattle.asm_text.specs.Compile.{InputComes}
 use Rattle.asm_text.specs.Code.{IsUnnamed, CodeComes}
 use Rattle.asm_text.specs.declared.code.Coded.{Coded}
 use Rattle.code_eval.specs.Eval.{eval_text}
+use Rattle.recog_text.specs.Recog.{FunctionsCome}
 use Rattle.rtlc_words.specs.declared.command.Command.{Command}
 use Rattle.rtlc_words.specs.declared.command.Command.TheVariants as commands
 use Rattle.rtlc_words.specs.Words.{command_of}
@@ -29,14 +31,6 @@ abbrev pub described : Option (List ℕ) → List ℕ
 described name = unwrap_or name shipped_name
 
 -- ---- the refusals of a description
-
-abbrev pub source_refused : SourceRefusal → Refusal
-source_refused (source.Syntax file place) = refusal.Syntax file place
-source_refused source.Depth = refusal.Limit limit.Depth 201
-source_refused source.Include = refusal.Limit limit.Include 17
-source_refused source.Text = refusal.Limit limit.Text 16777217
-source_refused source.ReadFault = refusal.ReadFault
-source_refused source.Memory = refusal.Memory
 
 abbrev pub list_refused : ListRefusal → Refusal
 list_refused (listing.Source e) = source_refused e
@@ -57,11 +51,17 @@ evaluated steps args (Err e) = Err e
 abbrev pub EvalComes : List ℕ → List ℕ → ℕ → List ℕ → Outcome → Type 0
 EvalComes bytes function steps args outcome = (answer : Result Coded Refusal) × CodeComes bytes function answer × (outcome ≡ evaluated steps args answer)
 
+-- `recog` over what is known of the files and of the input: the description first, and then what the functions of the input come to by its forms
+pub data RecogComes (files : Source) (input : Option (List ℕ)) (name : List ℕ) : Outcome → Type 0 where
+  refused : (e : Refusal) → FormsCome files name (Err e) → RecogComes files input name (Err e)
+  by_forms : (forms : List Entry) (outcome : Outcome) → FormsCome files name (Ok forms) → IfSome input (λ bytes. InputComesTo (FunctionsCome forms) bytes outcome) → RecogComes files input name outcome
+
 -- What a command comes to, by what is known of the bytes of the files and of the input. An input of which nothing is known may come
 -- to anything; `list` does not look at it.
 pub data CommandComes (files : Source) (input : Option (List ℕ)) : Command → Outcome → Type 0 where
   assembled : (outcome : Outcome) → IfSome input (λ bytes. InputComes bytes outcome) → CommandComes files input commands.Asm outcome
   listed : (name : Option (List ℕ)) (r : Result (List ℕ) ListRefusal) → ListComes files (described name) r → CommandComes files input (commands.List name) (list_told r)
+  recognised : (name : Option (List ℕ)) (outcome : Outcome) → RecogComes files input (described name) outcome → CommandComes files input (commands.Recog name) outcome
   tries : (function : List ℕ) (steps : ℕ) (args : List ℕ) (outcome : Outcome) → IfSome input (λ bytes. EvalComes bytes function steps args outcome) → CommandComes files input (commands.Eval function steps args) outcome
 
 -- ---- answers
@@ -76,13 +76,21 @@ abbrev pub IsKnownFor : Source → Option (List ℕ) → Option Command → Type
 IsKnownFor files input None = Unit {0}
 IsKnownFor files input (Some commands.Asm) = IsSome input
 IsKnownFor files input (Some (commands.List name)) = IsKnown files (described name)
+IsKnownFor files input (Some (commands.Recog name)) = IsKnown files (described name) × IsSome input
 IsKnownFor files input (Some (commands.Eval function steps args)) = IsSome input
 
 -- whether the input is read
 abbrev pub reads_input : Option Command → Bool
 reads_input (Some commands.Asm) = true
+reads_input (Some (commands.Recog name)) = true
 reads_input (Some (commands.Eval function steps args)) = true
 reads_input _ = false
+
+-- whether files may be asked
+abbrev pub reads_files : Option Command → Bool
+reads_files (Some (commands.List name)) = true
+reads_files (Some (commands.Recog name)) = true
+reads_files _ = false
 
 -- the words are no command, or they name no function of the input
 abbrev pub IsMisused : Option Command → Option (List ℕ) → Type 0
@@ -93,6 +101,7 @@ IsMisused (Some _) input = ⊥
 -- the names that files may be asked for
 abbrev pub MayBeAsked : Source → Option Command → List (List ℕ) → Type 0
 MayBeAsked files (Some (commands.List name)) names = AreNamed files (described name) names
+MayBeAsked files (Some (commands.Recog name)) names = AreNamed files (described name) names
 MayBeAsked files _ names = names ≡ []
 
 -- ---- what an answer is outside

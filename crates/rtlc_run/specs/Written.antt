@@ -4,8 +4,12 @@ use Rattle.std.specs.declared.option.Option.{Option}
 use Rattle.std.specs.Io.KnownBytes.{Appends}
 use Rattle.rtx_tree.specs.declared.function.Function.{Function}
 use Rattle.md_source.specs.Source.{Source}
+use Rattle.md_forms.specs.declared.form.Entry.{Entry}
 use Rattle.md_list.specs.Listing.{ListComes}
-use Rattle.asm_text.specs.Lines.{IsInput, IsAssembly, AllMatched}
+use Rattle.md_named.specs.Named.{FormsCome}
+use Rattle.recog_text.specs.Recog.{FunctionsCome}
+use Rattle.func_input.specs.Input.{IsInput}
+use Rattle.asm_text.specs.Lines.{IsAssembly, AllMatched}
 use Rattle.asm_text.specs.Same.{DoesSame}
 use Rattle.asm_text.specs.Code.{IsCoded, has_named}
 use Rattle.asm_text.specs.declared.code.Coded.{Coded}
@@ -28,6 +32,11 @@ WritesOutcomes input function steps args old new = IfSome input (λ bytes. (c : 
 abbrev pub WritesList : Source → List ℕ → Option (List ℕ) → Option (List ℕ) → Type 0
 WritesList files name old new = (text : List ℕ) × ListComes files name (Ok text) × Appends old new text
 
+-- the forms of the instructions of the input were written, by those of a description, and nothing else
+abbrev pub WritesForms : Source → List ℕ → Option (List ℕ) → Option (List ℕ) → Option (List ℕ) → Type 0
+WritesForms files name input old new =
+    IfSome input (λ bytes. (forms : List Entry) × FormsCome files name (Ok forms) × (functions : List Function) × IsInput bytes functions × (text : List ℕ) × FunctionsCome forms functions (Ok text) × Appends old new text)
+
 -- status 0, or want of memory
 abbrev pub IsDone : ℕ → Type 0
 IsDone status = (status ≡ 0) ⊎ (status ≡ 8)
@@ -39,3 +48,8 @@ Completes input status = IfSome input (λ bytes. (functions : List Function) →
 -- and so does one of which a function is tried that it has
 abbrev pub CompletesFor : Option (List ℕ) → List ℕ → ℕ → Type 0
 CompletesFor input function status = IfSome input (λ bytes. (functions : List Function) → IsInput bytes functions → AllMatched functions → has_named functions function ≡ true → IsDone status)
+
+-- and so does one of which each instruction has a form of a description
+abbrev pub CompletesBy : Source → List ℕ → Option (List ℕ) → ℕ → Type 0
+CompletesBy files name input status = (forms : List Entry) → FormsCome files name (Ok forms) →
+    IfSome input (λ bytes. (functions : List Function) (text : List ℕ) → IsInput bytes functions → FunctionsCome forms functions (Ok text) → IsDone status)

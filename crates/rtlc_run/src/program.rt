@@ -7,26 +7,29 @@ ghost use Rattle.rv_text.specs.Body.{Spells};
 ghost use Rattle.rv_text.specs.declared.line.CodeItem.{CodeItem};
 ghost use Rattle.run_refusal.specs.Refusals.{has_values, line_of};
 ghost use Rattle.run_refusal.specs.declared.refusal.Refusal.TheVariants as refusal;
-ghost use Rattle.asm_text.specs.Assembly.{Outcome};
-ghost use Rattle.asm_text.specs.Compile.{most_bytes};
+ghost use Rattle.func_input.specs.Input.{most_bytes};
+ghost use Rattle.func_input.specs.Outcome.{Outcome};
 ghost use Rattle.asm_text.specs.Same.{AreParts};
 ghost use Rattle.asm_text.specs.Code.{IsUnnamed};
 ghost use Rattle.md_source.specs.Source.{Source as Known};
 ghost use Rattle.md_source.specs.Asked.{AreNamed, GrewBy, IsKnown};
 ghost use Rattle.md_source.specs.Answers.{Agrees};
 ghost use Rattle.md_list.specs.Listing.{ListComes};
+ghost use Rattle.md_named.specs.Named.{FormsCome};
 ghost use Rattle.rtlc_words.specs.declared.command.Command.TheVariants as commands;
 ghost use Rattle.rtlc_words.specs.Words as spoken;
 ghost use Rattle.rtlc_words.specs.Words.{words_of};
 ghost use Rattle.rtlc_run.specs.Answer as spec;
-ghost use Rattle.rtlc_run.specs.Written.{WritesLines, WritesSame, WritesList, WritesOutcomes, Completes, CompletesFor, IsDone};
-ghost use Rattle.rtlc_run.specs.Answer.{EvalComes, CommandComes, Answers, InputRefused, IsOwn, IsMisused, reads_input, Produces, IsKnownFor, MayBeAsked, Writes, WritesFront, IsRefused, Reports, HasCause, TellsCause, IsAnswered};
+ghost use Rattle.rtlc_run.specs.Written.{WritesLines, WritesSame, WritesList, WritesForms, WritesOutcomes, Completes, CompletesFor, CompletesBy, IsDone};
+ghost use Rattle.rtlc_run.specs.Answer.{EvalComes, CommandComes, Answers, InputRefused, IsOwn, IsMisused, reads_input, reads_files, Produces, IsKnownFor, MayBeAsked, Writes, WritesFront, IsRefused, Reports, HasCause, TellsCause, IsAnswered};
 
 use asm_text::{assembly_of, code_of};
 use byte_edge::{Files, ReadAll, Sink, Source, read_all, write_all_of};
 use code_eval::eval_text;
+use md_desc::Description;
 use md_list::{ListRefusal, list};
-use md_source::SourceRefusal;
+use md_named::{description_of, source_refused};
+use recog_text::recog_of;
 use rtlc_words::{Command, command_of};
 use rtx_tree::{Limit, Name};
 use run_refusal::{MEMORY_LINE, Refusal, fixed_line, line, status};
@@ -103,28 +106,6 @@ fn evaluated<S: Source>(
     outcomes_of(alloc, &bytes, function, steps, args)
 }
 
-fn source_refused(refusal: SourceRefusal) -> Refusal
-    ensures { result ≡ spec.source_refused refusal }
-{
-    match refusal {
-        SourceRefusal::Syntax { file, place } => Refusal::Syntax { file, place },
-        SourceRefusal::Depth => Refusal::Limit {
-            which: Limit::Depth,
-            count: 201,
-        },
-        SourceRefusal::Include => Refusal::Limit {
-            which: Limit::Include,
-            count: 17,
-        },
-        SourceRefusal::Text => Refusal::Limit {
-            which: Limit::Text,
-            count: 16_777_217,
-        },
-        SourceRefusal::ReadFault => Refusal::ReadFault,
-        SourceRefusal::Memory => Refusal::Memory,
-    }
-}
-
 fn list_refused(refusal: ListRefusal) -> Refusal
     ensures { result ≡ spec.list_refused refusal }
 {
@@ -162,6 +143,39 @@ fn listed<F: Files>(alloc: Global, files: &mut F, name: &Option<Name>) -> Result
     }
 }
 
+/// What is told of the instructions of the input by a description.
+fn recognised_by<S: Source>(
+    alloc: Global,
+    input: &mut S,
+    description: &Description,
+) -> Result<Vec<u8>, Refusal>
+    ensures gives { (known : Known) (name : Option (List ℕ)) → FormsCome known (spec.described name) (Ok description.now) → Produces result (CommandComes known (S.left input.old) (commands.Recog name)) }
+    ensures own { IsOwn result }
+    ensures fault { result ≡ Err Refusal.ReadFault → Rose (S.fault_count input.old) (S.fault_count input.new) }
+    ensures quiet { result ≢ Err Refusal.ReadFault → S.fault_count input.new ≡ S.fault_count input.old }
+{
+    let bytes = input_bytes(alloc, input)?;
+    recog_of(alloc, description, &bytes)
+}
+
+/// What is told of the instructions of the input by the description of a name, which is looked at first.
+fn recognised<F: Files, S: Source>(
+    alloc: Global,
+    files: &mut F,
+    input: &mut S,
+    name: &Option<Name>,
+) -> Result<Vec<u8>, Refusal>
+    ensures gives { (known : Known) → Agrees known (F.holds files.old) → Produces result (CommandComes known (S.left input.old) (commands.Recog name.now)) }
+    ensures asked { (known : Known) → Agrees known (F.holds files.old) → GrewBy (AreNamed known (spec.described name.now)) (F.asked files.old) (F.asked files.new) }
+    ensures own { IsOwn result }
+    ensures fault { result ≡ Err Refusal.ReadFault → Rose (S.fault_count input.old) (S.fault_count input.new) ⊎ Rose (F.fault_count files.old) (F.fault_count files.new) }
+    ensures quiet { result ≢ Err Refusal.ReadFault → S.fault_count input.new ≡ S.fault_count input.old }
+    ensures calm { result ≢ Err Refusal.ReadFault → F.fault_count files.new ≡ F.fault_count files.old }
+{
+    let description = description_of(alloc, files, described(name))?;
+    recognised_by(alloc, input, &description)
+}
+
 /// The text that a command comes to. The description is looked at where the command has one, the input where it reads it.
 fn produced<F: Files, S: Source>(
     alloc: Global,
@@ -176,12 +190,13 @@ fn produced<F: Files, S: Source>(
     ensures fault { result ≡ Err Refusal.ReadFault → Rose (S.fault_count input.old) (S.fault_count input.new) ⊎ Rose (F.fault_count files.old) (F.fault_count files.new) }
     ensures quiet { result ≢ Err Refusal.ReadFault → S.fault_count input.new ≡ S.fault_count input.old }
     ensures calm { result ≢ Err Refusal.ReadFault → F.fault_count files.new ≡ F.fault_count files.old }
-    ensures files { ((name : Option (List ℕ)) → command ≢ commands.List name) → files.new ≡ files.old }
+    ensures files { reads_files (Some command) ≡ false → files.new ≡ files.old }
     ensures input { reads_input (Some command) ≡ false → input.new ≡ input.old }
 {
     match command {
         Command::Asm => assembled(alloc, input),
         Command::List { description } => listed(alloc, files, &description),
+        Command::Recog { description } => recognised(alloc, files, input, &description),
         Command::Eval {
             function,
             steps,
@@ -204,7 +219,7 @@ fn answered<F: Files, S: Source>(
     ensures fault { result ≡ Err Refusal.ReadFault → Rose (S.fault_count input.old) (S.fault_count input.new) ⊎ Rose (F.fault_count files.old) (F.fault_count files.new) }
     ensures quiet { result ≢ Err Refusal.ReadFault → S.fault_count input.new ≡ S.fault_count input.old }
     ensures calm { result ≢ Err Refusal.ReadFault → F.fault_count files.new ≡ F.fault_count files.old }
-    ensures files { ((name : Option (List ℕ)) → spoken.command_of (words_of words.now) ≢ Some (commands.List name)) → files.new ≡ files.old }
+    ensures files { reads_files (spoken.command_of (words_of words.now)) ≡ false → files.new ≡ files.old }
     ensures input { reads_input (spoken.command_of (words_of words.now)) ≡ false → input.new ≡ input.old }
 {
     match command_of(alloc, words)? {
@@ -227,7 +242,7 @@ fn attempt<F: Files, S: Source, K: Sink>(
     ensures usage { result ≡ Err Refusal.Usage → IsMisused (spoken.command_of (words_of words.now)) (S.left input.old) }
     ensures nothing { OnErr result (result ≢ Err Refusal.WriteFault → K.taken output.new ≡ K.taken output.old) }
     ensures asked { (known : Known) → Agrees known (F.holds files.old) → GrewBy (MayBeAsked known (spoken.command_of (words_of words.now))) (F.asked files.old) (F.asked files.new) }
-    ensures files { ((name : Option (List ℕ)) → spoken.command_of (words_of words.now) ≢ Some (commands.List name)) → files.new ≡ files.old }
+    ensures files { reads_files (spoken.command_of (words_of words.now)) ≡ false → files.new ≡ files.old }
     ensures input { reads_input (spoken.command_of (words_of words.now)) ≡ false → input.new ≡ input.old }
 
     ensures fault { result ≡ Err Refusal.ReadFault → Rose (S.fault_count input.old) (S.fault_count input.new) ⊎ Rose (F.fault_count files.old) (F.fault_count files.new) }
@@ -286,9 +301,9 @@ fn report<E: Sink>(alloc: Global, errors: &mut E, refusal: &Refusal) -> u8
     }
 }
 
-/// The whole program. `words` are those after the program's name: `asm`, `eval NAME STEPS` with up to eight numbers, or `list` with
-/// `--md NAME` at most once. `files` are asked for a description that is named and for what it includes, `input` is read by `asm` and
-/// `eval` alone. The text is written to `output`, the line of a refusal to `errors`, and the exit status is given: 0, or that of the
+/// The whole program. `words` are those after the program's name: `asm`, `eval NAME STEPS` with up to eight numbers, or `list` or
+/// `recog` with `--md NAME` at most once. `files` are asked for a description that is named and for what it includes, `input` is read by all
+/// but `list`. The text is written to `output`, the line of a refusal to `errors`, and the exit status is given: 0, or that of the
 /// [`Refusal`].
 ///
 /// A count rose in a call where it is greater after it than before, or stands after it at its last value. `Known` is what is known of the
@@ -354,6 +369,18 @@ pub fn run<F: Files, S: Source, K: Sink, E: Sink>(
         ¬ Rose (S.fault_count input.old) (S.fault_count input.new) →
         ¬ Rose (K.fault_count output.old) (K.fault_count output.new) → IsDone result }
 
+    // `recog`: the text of status 0 tells the form and the alternative of each instruction of the input, by the description's forms; and an input
+    // of which each instruction has them is told.
+    ensures recognises { (known : Known) → Agrees known (F.holds files.old) → (name : Option (List ℕ)) →
+        spoken.command_of (words_of words.now) ≡ Some (commands.Recog name) → result ≡ 0 →
+        WritesForms known (spec.described name) (S.left input.old) (K.taken output.old) (K.taken output.new) }
+
+    ensures recognised { (known : Known) → Agrees known (F.holds files.old) → (name : Option (List ℕ)) →
+        spoken.command_of (words_of words.now) ≡ Some (commands.Recog name) → IsKnown known (spec.described name) →
+        ¬ Rose (F.fault_count files.old) (F.fault_count files.new) →
+        ¬ Rose (S.fault_count input.old) (S.fault_count input.new) →
+        ¬ Rose (K.fault_count output.old) (K.fault_count output.new) → CompletesBy known (spec.described name) (S.left input.old) result }
+
     // Each status has its cause.
     ensures statuses { Contains (0 ∷ 1 ∷ 2 ∷ 3 ∷ 6 ∷ 7 ∷ 8 ∷ []) result }
     ensures ok { result ≡ 0 → (known : Known) → Agrees known (F.holds files.old) → Writes (words_of words.now) known (S.left input.old) (K.taken output.old) (K.taken output.new) }
@@ -376,10 +403,10 @@ pub fn run<F: Files, S: Source, K: Sink, E: Sink>(
     ensures quiet { result ≢ 6 → S.fault_count input.new ≡ S.fault_count input.old }
     ensures calm { result ≢ 6 → F.fault_count files.new ≡ F.fault_count files.old }
 
-    // Files are asked for the description that is named, if any, and for what is included, never for the shipped one; the input is read by `asm`
-    // and `eval` alone.
+    // Files are asked for the description that is named, if any, and for what is included, never for the shipped one; the input is read by all but
+    // `list`.
     ensures asked { (known : Known) → Agrees known (F.holds files.old) → GrewBy (MayBeAsked known (spoken.command_of (words_of words.now))) (F.asked files.old) (F.asked files.new) }
-    ensures files { ((name : Option (List ℕ)) → spoken.command_of (words_of words.now) ≢ Some (commands.List name)) → files.new ≡ files.old }
+    ensures files { reads_files (spoken.command_of (words_of words.now)) ≡ false → files.new ≡ files.old }
     ensures input { reads_input (spoken.command_of (words_of words.now)) ≡ false → input.new ≡ input.old }
 {
     match attempt(alloc, words, files, input, output) {

@@ -115,6 +115,7 @@ abbrev pub table : List (List ℕ × (Option (List ℕ) → List (List ℕ) → 
 table =
     (codes "asm", alone commands.Asm)
     ∷ (codes "list", with_description (λ d. commands.List d))
+    ∷ (codes "recog", with_description (λ d. commands.Recog d))
     ∷ (codes "eval", eval_by)
     ∷ []
 

@@ -22,6 +22,11 @@ pub enum Command {
         /// The name that stands behind `--md`, if there is one.
         description: Option<Name>,
     },
+    /// The form of a description that matches each instruction of the input, and its alternative.
+    Recog {
+        /// The name that stands behind `--md`, if there is one.
+        description: Option<Name>,
+    },
     /// The outcomes of a function and of its code.
     Eval {
         /// The function's name.
@@ -109,6 +114,9 @@ fn command_by(
     match name {
         "asm" => Ok(alone(Command::Asm, description, words)),
         "list" => Ok(described(alloc, description, words)?.map(|description| Command::List {
+            description,
+        })),
+        "recog" => Ok(described(alloc, description, words)?.map(|description| Command::Recog {
             description,
         })),
         "eval" => eval_of(alloc, description, words),

@@ -51,6 +51,7 @@ fn program<'a>(alloc: Global) -> Result<Command<'a>, AllocError>
     let program = bare(alloc);
     let program = with_command(program, alloc, "asm")?;
     let program = with_command(program, alloc, "list")?;
+    let program = with_command(program, alloc, "recog")?;
     with_command(program, alloc, "eval")
 }
 

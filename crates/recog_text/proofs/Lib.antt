@@ -1,0 +1,5 @@
+pub mod Homeless
+pub mod Each
+pub mod One
+pub mod Told
+pub mod Line

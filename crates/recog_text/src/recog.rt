@@ -1,0 +1,126 @@
+//! The text of `recog`.
+ghost use Rattle.std.specs.Prelude.{◌≡◌, ◌≤◌, ◌++◌, [], ℕ, List, length};
+ghost use Rattle.rtx_tree.specs.declared.function.Function.{Function};
+ghost use Rattle.md_forms.specs.declared.form.Entry.{Entry};
+ghost use Rattle.md_forms.specs.Forms.{names_of};
+ghost use Rattle.func_input.specs.Input.{most_bytes, FunctionsComeTo, InputComesTo};
+ghost use Rattle.func_input.specs.Outcome.{Outcome, AppendedSome, Tells};
+ghost use Rattle.recog_text.specs.Each.{EachComes};
+ghost use Rattle.recog_text.specs.Steps.{added};
+ghost use Rattle.recog_text.specs.Recog.{LowerComes, OutputComes, FunctionComes, FunctionsCome};
+
+use crate::stages::{lower_insn, lower_insns, print_insn, print_insns};
+use func_end::end_of;
+use func_input::{check_functions, read_functions};
+use md_desc::Description;
+use md_forms::names_of;
+use rtx_tree::{Function, Insn, Name};
+use run_refusal::Refusal;
+use std::alloc::Global;
+
+/// Checks at `lower` a chain and what is added at its end.
+#[tactic(auto, using(crate::proofs::Told::with_last, crate::proofs::Told::without_last))]
+fn lower_chain(
+    alloc: Global,
+    desc: &Description,
+    f: &Function,
+    end: &Option<Insn>,
+) -> Result<(), Refusal>
+    ensures { AppendedSome [] [] result (EachComes (LowerComes desc.now f.now.name) (f.now.insns ++ added end.now)) }
+{
+    lower_insns(alloc, desc, &f.name, f.insns.as_slice())?;
+    match end {
+        Some(end) => lower_insn(alloc, desc, &f.name, end),
+        None => Ok(()),
+    }
+}
+
+/// Appends the lines of a chain and of what is added at its end.
+#[tactic(auto, using(crate::proofs::Told::with_last, crate::proofs::Told::without_last))]
+fn print_chain(
+    alloc: Global,
+    desc: &Description,
+    names: &[Name],
+    f: &Function,
+    end: &Option<Insn>,
+    out: &mut Vec<u8>,
+) -> Result<(), Refusal>
+    requires { names.now ≡ names_of desc.now }
+    ensures { AppendedSome out.old.items out.new.items result (EachComes (OutputComes desc.now f.now.name) (f.now.insns ++ added end.now)) }
+{
+    print_insns(alloc, desc, names, &f.name, f.insns.as_slice(), out)?;
+    match end {
+        Some(end) => print_insn(alloc, desc, names, &f.name, end, out),
+        None => Ok(()),
+    }
+}
+
+/// Appends the lines of a function.
+#[tactic(auto, using(crate::proofs::Told::lower_refuses, crate::proofs::Told::function_comes))]
+fn print_function(
+    alloc: Global,
+    desc: &Description,
+    names: &[Name],
+    f: &Function,
+    out: &mut Vec<u8>,
+) -> Result<(), Refusal>
+    requires { names.now ≡ names_of desc.now }
+    ensures { AppendedSome out.old.items out.new.items result (FunctionComes desc.now f.now) }
+{
+    let end = end_of(alloc, f)?;
+    lower_chain(alloc, desc, f, &end)?;
+    print_chain(alloc, desc, names, f, &end, out)
+}
+
+/// Appends the lines of some functions.
+#[tactic(auto, using(crate::proofs::Each::makes_start, crate::proofs::Each::makes_on, crate::proofs::Each::makes_wrong, crate::proofs::Each::makes_all))]
+fn print_functions(
+    alloc: Global,
+    desc: &Description,
+    names: &[Name],
+    functions: &[Function],
+    out: &mut Vec<u8>,
+) -> Result<(), Refusal>
+    requires { names.now ≡ names_of desc.now }
+    ensures { AppendedSome out.old.items out.new.items result (FunctionsCome desc.now functions.now) }
+{
+    for f in functions {
+        print_function(alloc, desc, names, f, out)?;
+    }
+    Ok(())
+}
+
+/// The lines of the instructions of some functions.
+fn recog_text(alloc: Global, desc: &Description, functions: &[Function]) -> Result<Vec<u8>, Refusal>
+    ensures { Tells result (FunctionsCome desc.now functions.now) }
+{
+    let names = names_of(alloc, desc.forms().as_slice())?;
+    let mut text = Vec::new(alloc);
+    print_functions(alloc, desc, names.as_slice(), functions, &mut text)?;
+    Ok(text)
+}
+
+/// The lines of the functions that were read, where none is refused.
+fn recog_read(alloc: Global, desc: &Description, functions: &[Function]) -> Result<Vec<u8>, Refusal>
+    ensures { Tells result (FunctionsComeTo (FunctionsCome desc.now) functions.now) }
+{
+    check_functions(alloc, functions)?;
+    recog_text(alloc, desc, functions)
+}
+
+/// The lines of the instructions of an input, by a description, or what refuses it: bytes that are no text, a tree outside the language, a
+/// function that breaks a rule or passes a limit, or an instruction without a match, in this order. An input has at most 16,777,216
+/// bytes.
+///
+/// # Errors
+///
+/// `Syntax`, `Limit`, `Construct`, `IllFormed`; `Unmatched` at `lower` where no form matches an instruction, and at `output` where none of those
+/// that match counts; `Memory` where memory ran out.
+pub fn recog_of(alloc: Global, desc: &Description, bytes: &[u8]) -> Result<Vec<u8>, Refusal>
+    requires { length bytes.now ≤ most_bytes }
+    ensures gives { Tells result (InputComesTo (FunctionsCome desc.now) bytes.now) }
+    ensures one { (forms : List Entry) (bytes : List ℕ) (a b : Outcome) → InputComesTo (FunctionsCome forms) bytes a → InputComesTo (FunctionsCome forms) bytes b → a ≡ b }
+{
+    let functions = read_functions(alloc, bytes)?;
+    recog_read(alloc, desc, functions.as_slice())
+}

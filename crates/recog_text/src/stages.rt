@@ -1,0 +1,168 @@
+//! What instructions come to at each stage.
+ghost use Rattle.std.specs.Prelude.{◌≡◌, ◌++◌, ◌∷◌, [], IfOk, OnOk};
+ghost use Rattle.std.specs.Fmt.{decimal};
+ghost use Rattle.md_forms.specs.Forms.{names_of};
+ghost use Rattle.func_input.specs.Outcome.{AppendedSome};
+ghost use Rattle.recog_text.specs.Each.{EachComes};
+ghost use Rattle.recog_text.specs.Recog as spec;
+ghost use Rattle.recog_text.specs.Recog.{LowerComes, OutputComes};
+
+use crate::needs::{is_held, needs_form};
+use c_eval::Facts;
+use md_desc::{Chosen, Description};
+use plain_data::{Items, Memory};
+use rtx_tree::{Insn, Name, Stage};
+use run_refusal::{Refusal, print_count, print_text};
+use std::alloc::Global;
+
+fn lower_facts(alloc: Global) -> Facts
+    ensures { result ≡ spec.lower_facts }
+{
+    Facts {
+        reloaded: false,
+        new_pseudos: true,
+        dead: Items::new(alloc),
+    }
+}
+
+fn output_facts(alloc: Global) -> Facts
+    ensures { result ≡ spec.output_facts }
+{
+    Facts {
+        reloaded: true,
+        new_pseudos: false,
+        dead: Items::new(alloc),
+    }
+}
+
+fn unmatched(alloc: Global, stage: Stage, function: &Name, insn: &Insn) -> Result<Refusal, Memory>
+    ensures { IfOk result (λ e. e ≡ spec.unmatched_at stage function.now insn.now) }
+{
+    Ok(Refusal::Unmatched {
+        function: function.copy(alloc)?,
+        uid: insn.uid,
+        stage,
+        insn: insn.pattern.copy(alloc)?,
+    })
+}
+
+/// Checks that a form matches an instruction, where it needs one.
+pub fn lower_insn(
+    alloc: Global,
+    desc: &Description,
+    function: &Name,
+    insn: &Insn,
+) -> Result<(), Refusal>
+    ensures { AppendedSome [] [] result (LowerComes desc.now function.now insn.now) }
+{
+    if !needs_form(insn) {
+        return Ok(());
+    }
+    match desc.recog(alloc, &insn.pattern, &lower_facts(alloc))? {
+        Some(_) => Ok(()),
+        None => Err(unmatched(alloc, Stage::Lower, function, insn)?),
+    }
+}
+
+/// Checks it of each instruction of a chain.
+#[tactic(auto, using(crate::proofs::Each::makes_start, crate::proofs::Each::makes_on, crate::proofs::Each::makes_wrong, crate::proofs::Each::makes_all))]
+pub fn lower_insns(
+    alloc: Global,
+    desc: &Description,
+    function: &Name,
+    insns: &[Insn],
+) -> Result<(), Refusal>
+    ensures { AppendedSome [] [] result (EachComes (LowerComes desc.now function.now) insns.now) }
+{
+    for insn in insns {
+        lower_insn(alloc, desc, function, insn)?;
+    }
+    Ok(())
+}
+
+fn name_at(names: &[Name], form: u32) -> &[u8]
+    ensures { result.now ≡ spec.name_at names.now form }
+{
+    match names.get(form as usize) {
+        Some(name) => name.bytes(),
+        None => b"",
+    }
+}
+
+/// Appends a text and what ends it.
+fn print_part(text: &[u8], end: u8, out: &mut Vec<u8>) -> Result<(), Memory>
+    ensures { OnOk result (out.new.items ≡ out.old.items ++ (text.now ++ end ∷ [])) }
+{
+    print_text(text, out)?;
+    out.push(end)?;
+    Ok(())
+}
+
+/// Appends a number and what ends it.
+fn print_number(number: u64, end: u8, out: &mut Vec<u8>) -> Result<(), Memory>
+    ensures { OnOk result (out.new.items ≡ out.old.items ++ (decimal number ++ end ∷ [])) }
+{
+    print_count(number, out)?;
+    out.push(end)?;
+    Ok(())
+}
+
+/// Appends the line of an instruction.
+#[tactic(auto, using(crate::proofs::Line::line_made))]
+fn print_chosen(
+    names: &[Name],
+    function: &Name,
+    uid: u32,
+    chosen: &Chosen,
+    out: &mut Vec<u8>,
+) -> Result<(), Memory>
+    ensures { OnOk result (out.new.items ≡ out.old.items ++ spec.line_of names.now function.now uid chosen.now.form chosen.now.alternative) }
+{
+    print_part(function.bytes(), b' ', out)?;
+    print_number(u64::from(uid), b' ', out)?;
+    print_part(name_at(names, chosen.form), b' ', out)?;
+    print_number(u64::from(chosen.alternative), b'\n', out)
+}
+
+/// Appends the line of an instruction, where it needs a form.
+pub fn print_insn(
+    alloc: Global,
+    desc: &Description,
+    names: &[Name],
+    function: &Name,
+    insn: &Insn,
+    out: &mut Vec<u8>,
+) -> Result<(), Refusal>
+    requires { names.now ≡ names_of desc.now }
+    ensures { AppendedSome out.old.items out.new.items result (OutputComes desc.now function.now insn.now) }
+{
+    if !needs_form(insn) {
+        return Ok(());
+    }
+    if is_held(insn) {
+        return Err(unmatched(alloc, Stage::Output, function, insn)?);
+    }
+    match desc.recog_out(alloc, &insn.pattern, &output_facts(alloc))? {
+        Some(chosen) => Ok(print_chosen(names, function, insn.uid, &chosen, out)?),
+        None => Err(unmatched(alloc, Stage::Output, function, insn)?),
+    }
+}
+
+/// Appends the lines of a chain.
+#[tactic(auto, using(crate::proofs::Each::makes_start, crate::proofs::Each::makes_on, crate::proofs::Each::makes_wrong, crate::proofs::Each::makes_all))]
+pub fn print_insns(
+    alloc: Global,
+    desc: &Description,
+    names: &[Name],
+    function: &Name,
+    insns: &[Insn],
+    out: &mut Vec<u8>,
+) -> Result<(), Refusal>
+    requires { names.now ≡ names_of desc.now }
+    ensures { AppendedSome out.old.items out.new.items result (EachComes (OutputComes desc.now function.now) insns.now) }
+{
+    for insn in insns {
+        print_insn(alloc, desc, names, function, insn, out)?;
+    }
+    Ok(())
+}

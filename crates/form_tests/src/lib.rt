@@ -10,6 +10,8 @@ mod lists;
 #[cfg(test)]
 mod md_attr_tests;
 #[cfg(test)]
+mod md_constr_tests;
+#[cfg(test)]
 mod md_forms_tests;
 #[cfg(test)]
 mod md_list_tests;
@@ -18,6 +20,10 @@ mod md_match_tests;
 #[cfg(test)]
 mod md_pattern_tests;
 #[cfg(test)]
+mod md_pred_tests;
+#[cfg(test)]
 mod md_source_tests;
 #[cfg(test)]
 mod md_test_tests;
+#[cfg(test)]
+mod test_rows_tests;

@@ -12,6 +12,8 @@ mod jump_tests;
 #[cfg(test)]
 mod list_tests;
 #[cfg(test)]
+mod recog_tests;
+#[cfg(test)]
 mod whole_tests;
 #[cfg(test)]
 mod words_tests;

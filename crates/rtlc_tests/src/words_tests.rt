@@ -28,6 +28,7 @@ fn line(alloc: Global, command: Result<Option<Command>, Memory>) -> Result<Strin
         None => format!(in alloc; "{NONE}")?,
         Some(Command::Asm) => format!(in alloc; "asm")?,
         Some(Command::List { description }) => described(alloc, "list", &description)?,
+        Some(Command::Recog { description }) => described(alloc, "recog", &description)?,
         Some(
             Command::Eval {
                 function,
@@ -54,7 +55,7 @@ fn expect(rt: &impl Abort, alloc: Global, rows: &[(&[&str], &str)]) -> Result<()
 
 #[test]
 fn words_are_a_command(rt: HostRuntime) -> Result<(), Fail> {
-    let rows: [(&[&str], &str); 26] = [
+    let rows: [(&[&str], &str); 29] = [
         (&["asm"], "asm"),
         (&["asm", "--"], "asm"),
         (&["list"], "list"),
@@ -68,6 +69,9 @@ fn words_are_a_command(rt: HostRuntime) -> Result<(), Fail> {
         (&["list", "--md", ""], "list of "),
         (&["list", "--md", "-"], "list of -"),
         (&["list", "--md", "n", "--"], "list of n"),
+        (&["recog"], "recog"),
+        (&["recog", "--md", "n"], "recog of n"),
+        (&["recog", "--md=", "--"], "recog of "),
         (&["eval", "f", "1"], "eval f for 1 at 0 0 0 0 0 0 0 0"),
         (&["eval", "f", "1000"], "eval f for 1000 at 0 0 0 0 0 0 0 0"),
         (&["eval", "é", "10"], "eval é for 10 at 0 0 0 0 0 0 0 0"),
@@ -112,7 +116,7 @@ fn words_are_a_command(rt: HostRuntime) -> Result<(), Fail> {
 #[test]
 fn other_words_are_none(rt: HostRuntime) -> Result<(), Fail> {
     let alloc = rt.alloc();
-    let rows: [&[&str]; 50] = [
+    let rows: [&[&str]; 53] = [
         &[],
         &[""],
         &["frob"],
@@ -154,6 +158,9 @@ fn other_words_are_none(rt: HostRuntime) -> Result<(), Fail> {
         &["list", "--md", "a", "b"],
         &["list", "--", "--md"],
         &["list", "--", "--md=n"],
+        &["recog", "x"],
+        &["recog", "--md"],
+        &["recog", "--md", "a", "--md=b"],
         &["eval"],
         &["eval", "f"],
         &["eval", "f", "0"],

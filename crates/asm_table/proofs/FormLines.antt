@@ -19,7 +19,7 @@ use Rattle.rv_text.specs.declared.action.Source.TheVariants.{First, Second, Retu
 use Rattle.rv_text.specs.declared.line.Line.{Line}
 use Rattle.rv_text.specs.declared.operand.Operand.TheVariants.{Rd, Rs, Rt, Number}
 use Rattle.rv_text.proofs.Registers.{is_some_register, name_shown}
-use Rattle.same_code.specs.Direct.{IsArgument}
+use Rattle.same_behaviour.specs.Direct.{IsArgument}
 use Rattle.asm_table.specs.Forms as forms
 use Rattle.asm_table.specs.Template as template
 use Rattle.asm_table.specs.Template.{filled_line}

@@ -16,8 +16,8 @@ use Rattle.rv_text.specs.declared.action.Action.{Action}
 use Rattle.rv_text.specs.declared.action.Action.TheVariants as action
 use Rattle.rv_text.specs.declared.action.Source.TheVariants.{ReturnAddress}
 use Rattle.rv_text.specs.declared.line.Line.{Line}
-use Rattle.same_code.specs.Direct.{IsArgument, IsUid, IsTest, IsOperandIn, IsLineOf}
-use Rattle.same_code.specs.Direct as direct
+use Rattle.same_behaviour.specs.Direct.{IsArgument, IsUid, IsTest, IsOperandIn, IsLineOf}
+use Rattle.same_behaviour.specs.Direct as direct
 use Rattle.asm_table.specs.declared.forms.Match.{Match}
 use Rattle.asm_table.specs.Forms.{table, first_of, first_match}
 use Rattle.asm_table.specs.Template.{filled_line}

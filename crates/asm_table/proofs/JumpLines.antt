@@ -22,8 +22,8 @@ use Rattle.rv_text.specs.declared.action.Source.{Source}
 use Rattle.rv_text.specs.declared.line.Line.{Line}
 use Rattle.rv_text.specs.declared.operand.Operand.TheVariants.{Rs, Rt, Target}
 use Rattle.rv_text.proofs.Plain.{decimal_has, all_of_both}
-use Rattle.same_code.specs.Direct.{IsArgument, IsUid, IsTest, IsOperandIn}
-use Rattle.same_code.specs.Direct as direct
+use Rattle.same_behaviour.specs.Direct.{IsArgument, IsUid, IsTest, IsOperandIn}
+use Rattle.same_behaviour.specs.Direct as direct
 use Rattle.asm_table.specs.Forms as forms
 use Rattle.asm_table.specs.Template as template
 use Rattle.asm_table.specs.Template.{filled_line}

@@ -12,8 +12,8 @@ use Rattle.rtx_tree.specs.declared.tree.Rtx.{Rtx, out-Rtx, roll-Rtx, roll-out-Rt
 use Rattle.rtx_tree.specs.declared.tree.Rtx.TheOpen.{Rtx-F}
 use Rattle.rv_text.specs.declared.action.Comparison.{Comparison}
 use Rattle.rv_text.specs.declared.action.Source.{Source}
-use Rattle.same_code.specs.Direct.{IsArgument, IsUid, IsTest, IsOperandIn}
-use Rattle.same_code.specs.Direct as direct
+use Rattle.same_behaviour.specs.Direct.{IsArgument, IsUid, IsTest, IsOperandIn}
+use Rattle.same_behaviour.specs.Direct as direct
 use Rattle.asm_table.specs.declared.forms.Match.{Match}
 use Rattle.asm_table.specs.declared.forms.Form.{Form}
 use Rattle.asm_table.specs.declared.forms.Form.TheVariants as form

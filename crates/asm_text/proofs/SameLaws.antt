@@ -9,9 +9,9 @@ use Rattle.rv_text.specs.Lines.{line_text}
 use Rattle.rv_text.specs.declared.line.CodeItem.{CodeItem}
 use Rattle.rv_text.specs.declared.line.CodeItem.TheVariants.{Label, Code}
 use Rattle.rv_text.proofs.Printing.{reads_back}
-use Rattle.same_code.specs.Direct.{AreItemsOf, IsEnding, IsCodeOf}
-use Rattle.same_code.specs.Direct as direct
-use Rattle.same_code.proofs.Reached.{direct_code_is_same}
+use Rattle.same_behaviour.specs.Direct.{AreItemsOf, IsEnding, IsCodeOf}
+use Rattle.same_behaviour.specs.Direct as direct
+use Rattle.same_behaviour.proofs.Reached.{direct_code_is_same}
 use Rattle.asm_table.specs.declared.forms.Match.{Match}
 use Rattle.asm_table.specs.Template.{filled_line, label_item}
 use Rattle.func_input.specs.Input.{IsInput}

@@ -11,8 +11,8 @@ use Rattle.rtl_func.specs.Faults.{fault}
 use Rattle.rtl_func.specs.Paths.{has_place}
 use Rattle.rtl_func.specs.Uids.{is_ruled, is_ruled_kind, uids_of, is_uid, bad_uids}
 use Rattle.rtl_func.specs.Rules.{faults, faults_by, faults_of, uid_faults}
-use Rattle.same_code.specs.Direct.{IsUid}
-use Rattle.same_code.proofs.Places.{get_dropped, drop_next}
+use Rattle.same_behaviour.specs.Direct.{IsUid}
+use Rattle.same_behaviour.proofs.Places.{get_dropped, drop_next}
 use Rattle.run_refusal.specs.declared.refusal.Refusal.{Refusal}
 use Rattle.func_input.specs.Refused.{or_later, rule_broken, limit_passed, refused_at, refused_from}
 

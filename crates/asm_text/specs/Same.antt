@@ -4,7 +4,7 @@ use Rattle.std.specs.Prelude.{ℕ, ◌+◌, ◌*◌, ◌/◌, List, [], ◌∷�
 use Rattle.rtx_tree.specs.declared.function.Function.{Function}
 use Rattle.rv_text.specs.Body.{Spells}
 use Rattle.rv_text.specs.declared.line.CodeItem.{CodeItem}
-use Rattle.same_code.specs.Same.{Same}
+use Rattle.same_behaviour.specs.Same.{Same}
 use Rattle.asm_text.specs.Assembly.{framed}
 
 -- The parts of a text that are its functions', in order: between the `NAME:` line and the `.size` line of each stands what spells its items.

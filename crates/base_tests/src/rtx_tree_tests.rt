@@ -28,7 +28,7 @@ fn codes(rt: HostRuntime) {
     for (code, name) in [
         (Code::Reg, "reg"),
         (Code::ConstInt, "const_int"),
-        (Code::Used, "use"),
+        (Code::Use, "use"),
         (Code::Lshiftrt, "lshiftrt"),
         (Code::IfThenElse, "if_then_else"),
         (Code::MatchOpDup, "match_op_dup"),

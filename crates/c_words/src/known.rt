@@ -46,7 +46,7 @@ const CODES: [Code; 48] = [
     Code::Gtu,
     Code::Geu,
     Code::Set,
-    Code::Used,
+    Code::Use,
     Code::Clobber,
     Code::Parallel,
     Code::Call,

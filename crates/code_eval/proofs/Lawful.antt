@@ -8,7 +8,7 @@ use Rattle.rtx_tree.specs.Memories.{byte_at}
 use Rattle.rtx_tree.specs.declared.memories.MemByte.{MemByte}
 use Rattle.rtx_tree.specs.declared.machine.Reply.{Reply}
 use Rattle.rtx_tree.specs.declared.function.Function.{Function}
-use Rattle.same_code.specs.Same.{locals_range, IsLawful, IsLawfulWorld, seen_by_rtl}
+use Rattle.same_behaviour.specs.Same.{locals_range, IsLawful, IsLawfulWorld, seen_by_rtl}
 use Rattle.code_eval.specs.Start.{stack_room, caller_range, zeros, start_with, code_start, rtl_start}
 use Rattle.code_eval.specs.World.{zero_reply, world_of}
 use Rattle.code_eval.specs.Eval.{lines_for, AreWords, IsFair}

@@ -6,7 +6,7 @@ use Rattle.func_mean.specs.Run as rtl
 use Rattle.func_mean.specs.declared.outcome.Outcome.{Outcome}
 use Rattle.rv_line.specs.Run as code
 use Rattle.rv_line.specs.declared.outcome.CodeOutcome.{CodeOutcome}
-use Rattle.same_code.specs.Same.{IsLawful, IsLawfulWorld, seen_by_rtl}
+use Rattle.same_behaviour.specs.Same.{IsLawful, IsLawfulWorld, seen_by_rtl}
 use Rattle.code_eval.specs.Start.{stack_room, rtl_start, code_start}
 use Rattle.code_eval.specs.World.{world_of}
 use Rattle.code_eval.specs.Ending.{rtl_ending, code_ending, ending_line}

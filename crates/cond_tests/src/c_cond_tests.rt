@@ -105,7 +105,7 @@ INTVAL (operands[2]) == 3 => %2 Intval 3 Equal\n\
 REGNO(operands[0])<32 => %0 Regno 32 Less\n\
 REG_P (operands [ 0x1f ]) || MEM_P (operands[1]) => %31 RegP %1 MemP Or\n\
 CONST_INT_P (operands[4294967295]) + SYMBOL_REF_P (operands[1]) => %4294967295 ConstIntP %1 SymbolRefP Plus\n\
-GET_CODE (operands[1]) == CONST_INT && GET_CODE (operands[0]) != USE => %1 ConstInt:true %0 Used:false And\n\
+GET_CODE (operands[1]) == CONST_INT && GET_CODE (operands[0]) != USE => %1 ConstInt:true %0 Use:false And\n\
 GET_MODE (operands[1]) != VOIDmode == 1 => %1 Void:false 1 Equal\n\
 GET_MODE (operands[1]) == DImode ? 1 : 2 => %1 DI:true 1 2 Choose\n\
 rtx_equal_p (operands[0], operands[1]) => %0 %1 RtxEqual\n\

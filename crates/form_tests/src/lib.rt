@@ -24,6 +24,6 @@ mod md_pred_tests;
 #[cfg(test)]
 mod md_source_tests;
 #[cfg(test)]
-mod md_test_tests;
+mod pred_expr_tests;
 #[cfg(test)]
-mod test_rows_tests;
+mod pred_rows_tests;

@@ -84,7 +84,7 @@ pub fn class_of_code(code: Code) -> CodeClass
         | Code::Gtu
         | Code::Geu => CodeClass::Comparison,
         Code::Set => CodeClass::Setting,
-        Code::Used => CodeClass::Use,
+        Code::Use => CodeClass::Use,
         Code::Clobber => CodeClass::Clobber,
         Code::Parallel => CodeClass::Parallel,
         Code::Call => CodeClass::Call,

@@ -3,7 +3,7 @@ use Rattle.std.proofs.Common.{◌≡◌, Bool, true, false, if◌then◌else◌,
 use Rattle.std.proofs.Math.Path.{fun_ext}
 use Rattle.std.specs.Option.{option_map, option_map_or, option_and_then, option_or}
 use Rattle.rtx_tree.specs.declared.tree.Rtx.{Rtx}
-use Rattle.test_rows.specs.Tests.{Accepts}
+use Rattle.pred_rows.specs.Tests.{Accepts}
 use Rattle.md_forms.specs.declared.form.Entry.{Entry}
 use Rattle.md_attr.specs.Alternatives.{accepted}
 use Rattle.md_constr.specs.declared.meaning.Meaning.{Meaning}

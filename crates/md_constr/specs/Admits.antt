@@ -12,8 +12,8 @@ use Rattle.rv_operand.specs.Classes.{is_in_class}
 use Rattle.rv_operand.specs.Addresses.{is_legitimate_address}
 use Rattle.md_operand.specs.Operand.{is_register, is_memory, is_constant, is_symbol}
 use Rattle.c_eval.specs.Value.{register_in}
-use Rattle.md_test.specs.declared.question.Test.{Test}
-use Rattle.test_rows.specs.Tests.{Accepts, test_holds}
+use Rattle.pred_expr.specs.declared.question.Test.{Test}
+use Rattle.pred_rows.specs.Tests.{Accepts, test_holds}
 use Rattle.md_text.specs.declared.constraint.Letter.{Letter}
 use Rattle.md_text.specs.declared.constraint.Letter.TheVariants as letter
 use Rattle.md_draft.specs.declared.head.RegisterClass.{RegisterClass}

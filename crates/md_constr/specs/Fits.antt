@@ -7,7 +7,7 @@ use Rattle.rtx_tree.specs.declared.tree.Rtx.{Rtx}
 use Rattle.rtx_tree.specs.Operands.{operand_at}
 use Rattle.rtx_tree.specs.Tree.{mentions_reg}
 use Rattle.c_eval.specs.Value.{same_tree}
-use Rattle.test_rows.specs.Tests.{Accepts}
+use Rattle.pred_rows.specs.Tests.{Accepts}
 use Rattle.md_text.specs.declared.constraint.Member.{Member}
 use Rattle.md_text.specs.declared.constraint.Member.TheVariants as member
 use Rattle.md_text.specs.declared.constraint.Alternative.{Alternative}

@@ -70,7 +70,7 @@ fn push_here(x: &Rtx, numbers: &mut Items<u64>) -> Result<(), Memory>
 }
 
 /// Appends the numbers of the operands that a pattern matches.
-#[tactic(auto, using(crate::proofs::InputLaws::matched_first, md_test::proofs::Each::pushed_next, md_test::proofs::Each::pushed_ends))]
+#[tactic(auto, using(crate::proofs::InputLaws::matched_first, pred_expr::proofs::Each::pushed_next, pred_expr::proofs::Each::pushed_ends))]
 fn push_matched(x: &Rtx, numbers: &mut Items<u64>) -> Result<(), Memory>
     ensures { OnOk result (numbers.new ≡ numbers.old ++ spec.matched_in x.now) }
 {
@@ -81,7 +81,7 @@ fn push_matched(x: &Rtx, numbers: &mut Items<u64>) -> Result<(), Memory>
     Ok(())
 }
 
-#[tactic(auto, using(md_test::proofs::Each::pushed_next, md_test::proofs::Each::pushed_ends))]
+#[tactic(auto, using(pred_expr::proofs::Each::pushed_next, pred_expr::proofs::Each::pushed_ends))]
 fn push_all_matched(patterns: &[Rtx], numbers: &mut Items<u64>) -> Result<(), Memory>
     ensures { OnOk result (numbers.new ≡ numbers.old ++ flat_map spec.matched_in patterns.now) }
 {

@@ -1,18 +1,18 @@
 //! What the constraints mean that a description defines.
 ghost use Rattle.std.specs.Prelude.{◌≡◌, IfOk};
 ghost use Rattle.rtx_tree.specs.declared.tree.Rtx.{Rtx};
-ghost use Rattle.test_rows.specs.Tests.{Accepts};
+ghost use Rattle.pred_rows.specs.Tests.{Accepts};
 ghost use Rattle.md_constr.specs.Admits as spec;
 ghost use Rattle.md_constr.specs.Tables as tables;
 
 use crate::admits::class_admits;
 use c_eval::Preds;
 use md_forms::{Form, RegisterClass};
-use md_test::Test;
 use plain_data::Memory;
+use pred_expr::Test;
+use pred_rows::TestRows;
 use rtx_tree::{Mode, Rtx};
 use std::alloc::Global;
-use test_rows::TestRows;
 
 /// What a constraint admits.
 #[derive(Drop)]

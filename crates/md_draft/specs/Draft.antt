@@ -27,9 +27,9 @@ use Rattle.md_pattern.specs.declared.reason.Reason.TheVariants as reason
 use Rattle.md_pattern.specs.declared.pattern.Patterns.{Patterns}
 use Rattle.md_pattern.specs.Reason.{both, judged_with, judged_map}
 use Rattle.md_pattern.specs.Pattern.{or_aside, no_patterns, patterns_of}
-use Rattle.md_test.specs.declared.question.Test as test
-use Rattle.md_test.specs.Texts.{condition_of, statements_of, always, nothing}
-use Rattle.md_test.specs.Test.{test_of}
+use Rattle.pred_expr.specs.declared.question.Test as test
+use Rattle.pred_expr.specs.Texts.{condition_of, statements_of, always, nothing}
+use Rattle.pred_expr.specs.Test.{test_of}
 use Rattle.md_draft.specs.declared.head.Head.{Head}
 use Rattle.md_draft.specs.declared.head.Head.TheVariants as head
 use Rattle.md_draft.specs.declared.draft.Attribute.{Attribute}

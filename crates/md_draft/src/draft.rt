@@ -6,9 +6,9 @@ ghost use Rattle.md_draft.specs.Draft as spec;
 use crate::head::{Head, RegisterClass};
 use c_cond::{Cond, Prep};
 use md_pattern::{Judged, Patterns, both};
-use md_test::{Test, no_condition, no_statements};
 use md_text::Template;
 use plain_data::{Items, Memory};
+use pred_expr::{Test, no_condition, no_statements};
 use rtx_tree::Name;
 use std::alloc::Global;
 

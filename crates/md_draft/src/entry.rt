@@ -19,9 +19,9 @@ use crate::part::{
 };
 use lisp_read::{Tree, atom, items, string};
 use md_pattern::{Judged, Reason, patterns_of};
-use md_test::test_of;
 use md_text::members_of;
 use plain_data::Memory;
+use pred_expr::test_of;
 use rtx_tree::{Constants, Name};
 use std::alloc::Global;
 

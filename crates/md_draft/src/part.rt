@@ -13,9 +13,9 @@ use crate::draft::Attribute;
 use c_cond::{Cond, Prep};
 use lisp_read::{Tree, is_vector, is_word, items, string, vector};
 use md_pattern::{Judged, Patterns, Reason, both, patterns_of};
-use md_test::{condition, no_statements, statements};
 use md_text::{Reading, Template, members_of, template_of};
 use plain_data::{Items, Memory};
+use pred_expr::{condition, no_statements, statements};
 use rtx_tree::{Code, Constants, Kids, Mode, Name, Rtx};
 use std::alloc::Global;
 

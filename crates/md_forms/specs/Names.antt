@@ -11,8 +11,8 @@ use Rattle.c_words.specs.declared.head.Head.{Head}
 use Rattle.c_words.specs.declared.head.Head.TheVariants.{Predicate, Assign}
 use Rattle.c_cond.specs.declared.tree.Tree.{Tree}
 use Rattle.c_cond.specs.Tree.{heads_of}
-use Rattle.md_test.specs.declared.question.Test.{Test}
-use Rattle.md_test.specs.Test.{predicates_of}
+use Rattle.pred_expr.specs.declared.question.Test.{Test}
+use Rattle.pred_expr.specs.Test.{predicates_of}
 use Rattle.md_draft.specs.declared.draft.Draft.{Draft}
 
 -- ---- predicates

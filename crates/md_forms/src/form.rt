@@ -2,9 +2,9 @@
 use c_cond::{Cond, Prep};
 use md_draft::{Attribute, Head, RegisterClass};
 use md_pattern::Judged;
-use md_test::Test;
 use md_text::{Constraint, Template};
 use plain_data::Items;
+use pred_expr::Test;
 use rtx_tree::{Kids, Name};
 
 /// The constraint of an operand.

@@ -6,8 +6,8 @@ ghost use Rattle.md_forms.specs.Names as spec;
 
 use c_cond::Head;
 use md_draft::Draft;
-use md_test::Test;
 use plain_data::{Items, Memory};
+use pred_expr::Test;
 use rtx_tree::{Code, Name, Rtx};
 use std::alloc::Global;
 
@@ -23,7 +23,7 @@ fn push_predicate(alloc: Global, x: &Rtx, names: &mut Items<Name>) -> Result<(),
 }
 
 /// Appends the predicates of an expression's operands.
-#[tactic(auto, using(crate::proofs::NameLaws::predicates_first, md_test::proofs::Each::pushed_next, md_test::proofs::Each::pushed_ends))]
+#[tactic(auto, using(crate::proofs::NameLaws::predicates_first, pred_expr::proofs::Each::pushed_next, pred_expr::proofs::Each::pushed_ends))]
 fn push_predicates(alloc: Global, x: &Rtx, names: &mut Items<Name>) -> Result<(), Memory>
     ensures { OnOk result (names.new ≡ names.old ++ spec.predicates_in x.now) }
 {
@@ -35,7 +35,7 @@ fn push_predicates(alloc: Global, x: &Rtx, names: &mut Items<Name>) -> Result<()
 }
 
 /// Appends those of several expressions.
-#[tactic(auto, using(md_test::proofs::Each::pushed_next, md_test::proofs::Each::pushed_ends))]
+#[tactic(auto, using(pred_expr::proofs::Each::pushed_next, pred_expr::proofs::Each::pushed_ends))]
 fn push_all_predicates(alloc: Global, trees: &[Rtx], names: &mut Items<Name>) -> Result<(), Memory>
     ensures { OnOk result (names.new ≡ names.old ++ flat_map spec.predicates_in trees.now) }
 {
@@ -55,7 +55,7 @@ fn push_predicate_of(alloc: Global, head: &Head, names: &mut Items<Name>) -> Res
 }
 
 /// Appends the predicates that a condition or statements call.
-#[tactic(auto, using(md_test::proofs::Each::pushed_next, md_test::proofs::Each::pushed_ends))]
+#[tactic(auto, using(pred_expr::proofs::Each::pushed_next, pred_expr::proofs::Each::pushed_ends))]
 fn push_called(alloc: Global, heads: &[Head], names: &mut Items<Name>) -> Result<(), Memory>
     ensures { OnOk result (names.new ≡ names.old ++ flat_map spec.predicate_of_head heads.now) }
 {
@@ -103,7 +103,7 @@ fn push_operand(x: &Rtx, numbers: &mut Items<u64>) -> Result<(), Memory>
 }
 
 /// Appends the numbers of an expression's operands.
-#[tactic(auto, using(crate::proofs::NameLaws::operands_first, md_test::proofs::Each::pushed_next, md_test::proofs::Each::pushed_ends))]
+#[tactic(auto, using(crate::proofs::NameLaws::operands_first, pred_expr::proofs::Each::pushed_next, pred_expr::proofs::Each::pushed_ends))]
 fn push_operands(x: &Rtx, numbers: &mut Items<u64>) -> Result<(), Memory>
     ensures { OnOk result (numbers.new ≡ numbers.old ++ spec.operands_in x.now) }
 {
@@ -115,7 +115,7 @@ fn push_operands(x: &Rtx, numbers: &mut Items<u64>) -> Result<(), Memory>
 }
 
 /// Appends the numbers of the operands of several expressions.
-#[tactic(auto, using(md_test::proofs::Each::pushed_next, md_test::proofs::Each::pushed_ends))]
+#[tactic(auto, using(pred_expr::proofs::Each::pushed_next, pred_expr::proofs::Each::pushed_ends))]
 pub fn push_all_operands(trees: &[Rtx], numbers: &mut Items<u64>) -> Result<(), Memory>
     ensures { OnOk result (numbers.new ≡ numbers.old ++ flat_map spec.operands_in trees.now) }
 {
@@ -135,7 +135,7 @@ fn push_dup(x: &Rtx, numbers: &mut Items<u64>) -> Result<(), Memory>
 }
 
 /// Appends the numbers of the operands that stand in an expression once more.
-#[tactic(auto, using(crate::proofs::NameLaws::dups_first, md_test::proofs::Each::pushed_next, md_test::proofs::Each::pushed_ends))]
+#[tactic(auto, using(crate::proofs::NameLaws::dups_first, pred_expr::proofs::Each::pushed_next, pred_expr::proofs::Each::pushed_ends))]
 fn push_dups(x: &Rtx, numbers: &mut Items<u64>) -> Result<(), Memory>
     ensures { OnOk result (numbers.new ≡ numbers.old ++ spec.dups_in x.now) }
 {
@@ -147,7 +147,7 @@ fn push_dups(x: &Rtx, numbers: &mut Items<u64>) -> Result<(), Memory>
 }
 
 /// Appends those of several expressions.
-#[tactic(auto, using(md_test::proofs::Each::pushed_next, md_test::proofs::Each::pushed_ends))]
+#[tactic(auto, using(pred_expr::proofs::Each::pushed_next, pred_expr::proofs::Each::pushed_ends))]
 pub fn push_all_dups(trees: &[Rtx], numbers: &mut Items<u64>) -> Result<(), Memory>
     ensures { OnOk result (numbers.new ≡ numbers.old ++ flat_map spec.dups_in trees.now) }
 {

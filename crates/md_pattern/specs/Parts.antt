@@ -40,7 +40,7 @@ parts_of_code code.Leu = Expressions 2
 parts_of_code code.Gtu = Expressions 2
 parts_of_code code.Geu = Expressions 2
 parts_of_code code.Set = Expressions 2
-parts_of_code code.Used = Expressions 1
+parts_of_code code.Use = Expressions 1
 parts_of_code code.Clobber = Expressions 1
 parts_of_code code.Parallel = Vector
 parts_of_code code.Call = Expressions 2
@@ -59,7 +59,7 @@ parts_of_code code.MatchOpDup = OperatorDup
 abbrev pub has_mode : Code → Bool
 has_mode code.ConstInt = false
 has_mode code.Set = false
-has_mode code.Used = false
+has_mode code.Use = false
 has_mode code.Clobber = false
 has_mode code.Parallel = false
 has_mode code.Call = false

@@ -47,7 +47,7 @@ pub fn parts_of_code(code: Code) -> Parts
         | Code::SignExtend
         | Code::ZeroExtend
         | Code::Truncate
-        | Code::Used
+        | Code::Use
         | Code::Clobber
         | Code::LabelRef => Parts::Expressions { count: 1 },
         Code::Plus
@@ -92,7 +92,7 @@ pub fn has_mode(code: Code) -> bool
     match code {
         Code::ConstInt
         | Code::Set
-        | Code::Used
+        | Code::Use
         | Code::Clobber
         | Code::Parallel
         | Code::Call

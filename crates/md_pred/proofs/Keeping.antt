@@ -14,9 +14,9 @@ use Rattle.md_draft.specs.declared.head.Head.TheVariants as head
 use Rattle.md_forms.specs.declared.form.Form.{Form}
 use Rattle.md_forms.specs.declared.form.Entry.{Entry}
 use Rattle.md_forms.proofs.TextKeys.{same_text}
-use Rattle.test_rows.specs.declared.node.Node.{Node}
-use Rattle.test_rows.specs.Tests.{Accepts}
-use Rattle.test_rows.proofs.Answering.{holds_still}
+use Rattle.pred_rows.specs.declared.node.Node.{Node}
+use Rattle.pred_rows.specs.Tests.{Accepts}
+use Rattle.pred_rows.proofs.Answering.{holds_still}
 use Rattle.md_pred.specs.declared.definitions.Definition.{Definition}
 use Rattle.md_pred.specs.declared.definitions.Definitions.{Definitions}
 use Rattle.md_pred.specs.Holds.{mode_fits, defines}

@@ -3,10 +3,10 @@ use Rattle.std.proofs.Common.{◌≡◌, ℕ, ◌<◌, ◌≤◌, false, List, l
 use Rattle.std.proofs.lemmas.List.{length-take-le}
 use Rattle.rtx_tree.specs.declared.code.Mode.{Mode}
 use Rattle.rtx_tree.specs.declared.tree.Rtx.{Rtx}
-use Rattle.test_rows.specs.declared.node.Node.{Node}
-use Rattle.test_rows.specs.Tests.{Accepts}
-use Rattle.test_rows.specs.Rows.{answer_at, answers, holds_at, node_answer}
-use Rattle.test_rows.proofs.Answering.{holds_still, holds_here, holds_nowhere}
+use Rattle.pred_rows.specs.declared.node.Node.{Node}
+use Rattle.pred_rows.specs.Tests.{Accepts}
+use Rattle.pred_rows.specs.Rows.{answer_at, answers, holds_at, node_answer}
+use Rattle.pred_rows.proofs.Answering.{holds_still, holds_here, holds_nowhere}
 
 module _ (other : Accepts) (x : Rtx) (m : Mode) (rows : List Node) where
   -- a part that stands before its question

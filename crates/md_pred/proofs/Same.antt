@@ -5,8 +5,8 @@ use Rattle.std.specs.List.{find}
 use Rattle.rtx_tree.specs.declared.code.Mode.{Mode}
 use Rattle.rtx_tree.specs.declared.tree.Rtx.{Rtx}
 use Rattle.md_forms.specs.declared.form.Entry.{Entry}
-use Rattle.test_rows.specs.declared.node.Node.{Node}
-use Rattle.test_rows.specs.Tests.{Accepts}
+use Rattle.pred_rows.specs.declared.node.Node.{Node}
+use Rattle.pred_rows.specs.Tests.{Accepts}
 use Rattle.md_pred.specs.declared.definitions.Definition.{Definition}
 use Rattle.md_pred.specs.declared.definitions.Definitions.{Definitions}
 use Rattle.md_pred.specs.Holds.{defines, definition_holds, defined, within, holds}

@@ -5,7 +5,7 @@ use Rattle.std.specs.List.{find}
 use Rattle.std.specs.Str.{bytes_eq}
 use Rattle.rtx_tree.specs.declared.code.Mode.{Mode}
 use Rattle.rtx_tree.specs.declared.tree.Rtx.{Rtx}
-use Rattle.md_test.specs.declared.question.Test.{Test}
+use Rattle.pred_expr.specs.declared.question.Test.{Test}
 use Rattle.md_pattern.specs.declared.reason.Reason.{Reason}
 use Rattle.md_draft.specs.declared.head.Head.{Head}
 use Rattle.md_draft.specs.declared.head.Head.TheVariants as head
@@ -15,7 +15,7 @@ use Rattle.md_forms.specs.declared.form.Entry.{Entry}
 use Rattle.md_forms.specs.Tables.{defines_predicate}
 use Rattle.md_operand.specs.declared.own.Own.{Own}
 use Rattle.md_operand.specs.Operand.{accepts, has_mode, is_constant, own_named}
-use Rattle.test_rows.specs.Tests.{Accepts, test_holds}
+use Rattle.pred_rows.specs.Tests.{Accepts, test_holds}
 
 -- ---- a definition
 

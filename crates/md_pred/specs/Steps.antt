@@ -4,15 +4,15 @@ use Rattle.std.specs.List.{find}
 use Rattle.std.specs.Str.{bytes_eq}
 use Rattle.rtx_tree.specs.declared.code.Mode.{Mode}
 use Rattle.rtx_tree.specs.declared.tree.Rtx.{Rtx}
-use Rattle.md_test.specs.declared.question.Test.{Test}
+use Rattle.pred_expr.specs.declared.question.Test.{Test}
 use Rattle.md_pattern.specs.declared.reason.Reason.{Reason}
 use Rattle.md_draft.specs.Head.{head_named}
 use Rattle.md_forms.specs.declared.form.Form.{Form}
 use Rattle.md_forms.specs.declared.form.Entry.{Entry}
 use Rattle.md_forms.specs.Tables.{defines_predicate}
-use Rattle.test_rows.specs.declared.node.Node.{Node}
-use Rattle.test_rows.specs.Tests.{Accepts}
-use Rattle.test_rows.specs.Rows.{answer_at, answers, holds_at, node_answer}
+use Rattle.pred_rows.specs.declared.node.Node.{Node}
+use Rattle.pred_rows.specs.Tests.{Accepts}
+use Rattle.pred_rows.specs.Rows.{answer_at, answers, holds_at, node_answer}
 use Rattle.md_pred.specs.declared.definitions.Definition.{Definition}
 use Rattle.md_pred.specs.declared.definitions.Definitions.{Definitions}
 use Rattle.md_pred.specs.declared.step.At.{At}

@@ -4,9 +4,9 @@ use Rattle.std.specs.Str.{bytes_eq}
 use Rattle.std.specs.HashMap.{get_by}
 use Rattle.rtx_tree.specs.declared.code.Mode.{Mode}
 use Rattle.rtx_tree.specs.declared.tree.Rtx.{Rtx}
-use Rattle.test_rows.specs.declared.node.Node.{Node}
-use Rattle.test_rows.specs.Tests.{Accepts}
-use Rattle.test_rows.specs.Rows.{holds_at}
+use Rattle.pred_rows.specs.declared.node.Node.{Node}
+use Rattle.pred_rows.specs.Tests.{Accepts}
+use Rattle.pred_rows.specs.Rows.{holds_at}
 use Rattle.md_pred.specs.declared.definitions.Definition.{Definition}
 use Rattle.md_pred.specs.declared.definitions.Definitions.{Definitions}
 use Rattle.md_pred.specs.declared.table.PredTable.{PredTable}

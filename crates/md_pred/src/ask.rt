@@ -7,15 +7,15 @@ ghost use Rattle.md_operand.specs.Operand as operands;
 ghost use Rattle.md_pred.specs.Holds as spec;
 ghost use Rattle.md_pred.specs.Steps as steps;
 ghost use Rattle.md_pred.specs.Table as tables;
-ghost use Rattle.test_rows.specs.Rows as rows;
+ghost use Rattle.pred_rows.specs.Rows as rows;
 
 use crate::definitions::Definition;
 use crate::step::{At, Step};
 use crate::table::PredTable;
 use md_forms::Head;
 use md_operand::{Own, is_constant};
+use pred_rows::{Node, condition_holds, has_code, mode_or};
 use rtx_tree::{Mode, Name, Rtx};
-use test_rows::{Node, condition_holds, has_code, mode_or};
 
 /// Whether a tree has the mode, where one is wanted.
 fn has_mode(wanted: Mode, x: &Rtx) -> bool

@@ -9,11 +9,11 @@ ghost use Rattle.md_pred.specs.Table as table;
 
 use indexmap::IndexMap;
 use md_forms::{Entry, Form, Head, Judged};
-use md_test::Test;
 use plain_data::Memory;
+use pred_expr::Test;
+use pred_rows::TestRows;
 use rtx_tree::Name;
 use std::alloc::Global;
-use test_rows::TestRows;
 
 /// What is kept of the definition of a predicate.
 #[derive(Clone, Copy, Debug, PartialEq, Eq)]

@@ -2,8 +2,8 @@
 
 use crate::definitions::Definitions;
 use plain_data::{Items, Memory};
+use pred_rows::Node;
 use std::alloc::Global;
-use test_rows::Node;
 
 /// The number at a place, or 0 where there is none.
 fn at(weights: &[u32], place: usize) -> u32 {

@@ -4,7 +4,7 @@ use Rattle.std.specs.Prelude.{◌≡◌, ℕ, ℤ, pos, Bool, true, false, not, 
 use Rattle.std.specs.Fmt.{decimal}
 use Rattle.std.specs.List.{list_any}
 use Rattle.rtx_tree.specs.declared.code.Code.{Code}
-use Rattle.rtx_tree.specs.declared.code.Code.TheVariants.{Reg, Used, Clobber}
+use Rattle.rtx_tree.specs.declared.code.Code.TheVariants.{Reg, Use, Clobber}
 use Rattle.rtx_tree.specs.declared.function.Kind.{Kind}
 use Rattle.rtx_tree.specs.declared.function.Kind.TheVariants.{Plain, Jump, Call}
 use Rattle.rtx_tree.specs.declared.function.Insn.{Insn}
@@ -48,7 +48,7 @@ is_kind _ = false
 
 -- a use or a clobber alone gives no line, and no form needs to match it
 abbrev pub is_note : Code → Bool
-is_note Used = true
+is_note Use = true
 is_note Clobber = true
 is_note _ = false
 

@@ -14,7 +14,7 @@ fn is_kind(kind: Kind) -> bool
 fn is_note(code: Code) -> bool
     ensures { result ≡ spec.is_note code }
 {
-    matches!(code, Code::Used | Code::Clobber)
+    matches!(code, Code::Use | Code::Clobber)
 }
 
 /// Whether some form has to match an instruction: it is none of labels, barriers, and a `use` or `clobber` alone.

@@ -4,7 +4,7 @@ use Rattle.std.specs.Prelude.{ℕ, ◌||◌, ◌&&◌, ◌==◌, nat_le, nat_lt,
 use Rattle.std.specs.Int.{cast_unsigned, w64}
 use Rattle.std.specs.List.{list_all}
 use Rattle.rtx_tree.specs.declared.code.Code.{Code}
-use Rattle.rtx_tree.specs.declared.code.Code.TheVariants.{Reg, ConstInt, SymbolRef, Mem, Subreg, Plus, Minus, Mult, Div, Udiv, Mod, Umod, And, Ior, Xor, Neg, Not, Ashift, Ashiftrt, Lshiftrt, SignExtend, ZeroExtend, Truncate, Eq, Ne, Lt, Le, Gt, Ge, Ltu, Leu, Gtu, Geu, Set, Used, Clobber, Parallel, Call, Return, Pc, LabelRef, IfThenElse, Scratch}
+use Rattle.rtx_tree.specs.declared.code.Code.TheVariants.{Reg, ConstInt, SymbolRef, Mem, Subreg, Plus, Minus, Mult, Div, Udiv, Mod, Umod, And, Ior, Xor, Neg, Not, Ashift, Ashiftrt, Lshiftrt, SignExtend, ZeroExtend, Truncate, Eq, Ne, Lt, Le, Gt, Ge, Ltu, Leu, Gtu, Geu, Set, Use, Clobber, Parallel, Call, Return, Pc, LabelRef, IfThenElse, Scratch}
 use Rattle.rtx_tree.specs.declared.code.Mode.{Mode}
 use Rattle.rtx_tree.specs.declared.code.Mode.TheVariants.{Void, QI, HI, SI, DI}
 use Rattle.rtx_tree.specs.declared.tree.Rtx.{Rtx, out-Rtx}
@@ -47,7 +47,7 @@ form_of Leu = form.Comparison
 form_of Gtu = form.Comparison
 form_of Geu = form.Comparison
 form_of Set = form.Setting
-form_of Used = form.Needing
+form_of Use = form.Needing
 form_of Clobber = form.Clobbering
 form_of Parallel = form.Together
 form_of Call = form.Calling

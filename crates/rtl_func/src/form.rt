@@ -89,7 +89,7 @@ fn form_of(code: Code) -> Form
         | Code::Gtu
         | Code::Geu => Form::Comparison,
         Code::Set => Form::Setting,
-        Code::Used => Form::Needing,
+        Code::Use => Form::Needing,
         Code::Clobber => Form::Clobbering,
         Code::Parallel => Form::Together,
         Code::Call => Form::Calling,

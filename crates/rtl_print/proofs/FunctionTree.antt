@@ -1,7 +1,7 @@
 -- A function as the tree that its canonical text writes.
 use Rattle.std.proofs.Common.{ℕ, List, [], ◌∷◌, map, Option, Some, None, codes}
 use Rattle.std.specs.Fmt.{decimal}
-use Rattle.rtx_tree.specs.declared.code.Code.TheVariants.{Used}
+use Rattle.rtx_tree.specs.declared.code.Code.TheVariants.{Use}
 use Rattle.rtx_tree.specs.declared.code.Mode.{Mode}
 use Rattle.rtx_tree.specs.declared.code.Mode.TheVariants.{Void}
 use Rattle.rtx_tree.specs.declared.function.ArgUse.{ArgUse}
@@ -16,7 +16,7 @@ use Rattle.rtl_print.proofs.Written.{atom, string, list, written}
 
 -- (use (reg:MODE R))
 abbrev pub use_rtx : ArgUse → Rtx
-use_rtx u = node_of Used Void (reg_of u.mode u.reg ∷ [])
+use_rtx u = node_of Use Void (reg_of u.mode u.reg ∷ [])
 
 unfoldable pub uses_tree : List ArgUse → Tree
 uses_tree [] = list (atom (codes "nil") ∷ [])

@@ -3,7 +3,7 @@ use Rattle.std.proofs.Common.{◌≡◌, ℕ, List, [], ◌∷◌, ◌++◌, map
 use Rattle.std.proofs.lemmas.List.{append-nil}
 use Rattle.std.proofs.lemmas.List.Concat.{flat_map-cons}
 use Rattle.std.specs.Fmt.{decimal}
-use Rattle.rtx_tree.specs.declared.code.Code.TheVariants.{Reg, Used}
+use Rattle.rtx_tree.specs.declared.code.Code.TheVariants.{Reg, Use}
 use Rattle.rtx_tree.specs.declared.code.Mode.{Mode}
 use Rattle.rtx_tree.specs.declared.code.Mode.TheVariants.{Void}
 use Rattle.rtx_tree.specs.declared.function.ArgUse.{ArgUse}

@@ -73,7 +73,7 @@ none_at _ c a b n h e = none_of_class c a b n e
 
 pub record Placed (p : Position) (h : Head) : Type 0 where
   pub written : Head
-  pub same_code : written.code ≡ h.code
+  pub same_behaviour : written.code ≡ h.code
   pub admitted : admits p (class_of h) ≡ true
   pub moded : mode_at p (class_of h) written.mode ≡ Some h.mode
 
@@ -90,7 +90,7 @@ placed_says p w h e =
     let same : w.code ≡ h.code = ap (λ (k : Head). k.code) m.2 in
     record {
       written = w;
-      same_code = same;
+      same_behaviour = same;
       admitted = subst (λ (k : Head). admits p (class_of k) ≡ true) m.2 (first (admits p (class_of w)) e).0;
       moded = subst (λ (k : Head). mode_at p (class_of k) w.mode ≡ Some k.mode) m.2 m.1;
     }

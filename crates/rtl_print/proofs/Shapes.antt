@@ -34,7 +34,7 @@ pub record IsReg (x : Rtx) : Type 0 where
 
 pub record IsUse (x : Rtx) : Type 0 where
   pub kid : Rtx
-  pub is : x ≡ node_of code.Used mode.Void (kid ∷ [])
+  pub is : x ≡ node_of code.Use mode.Void (kid ∷ [])
   pub reg : code_of kid ≡ code.Reg → IsReg kid
 
 -- each tree stands for an element
@@ -49,7 +49,7 @@ pub record IsParallel (t : Tree) (x : Rtx) : Type 0 where
 
 pub record Shape (p : Position) (t : Tree) (x : Rtx) : Type 0 where
   pub reg : code_of x ≡ code.Reg → IsReg x
-  pub use_is : code_of x ≡ code.Used → IsUse x
+  pub use_is : code_of x ≡ code.Use → IsUse x
   pub parallel : code_of x ≡ code.Parallel → IsParallel t x
 
 -- ---- the code of what is made
@@ -57,7 +57,7 @@ pub record Shape (p : Position) (t : Tree) (x : Rtx) : Type 0 where
 made_code : (x y : Rtx) (c : Code) → x ≡ y → code_of y ≡ c → code_of x ≡ c
 made_code x y c same is = ap code_of same ∙ is
 
-other : (p : Position) (t : Tree) (x : Rtx) (c : Code) → code_of x ≡ c → (c ≡ code.Reg → ⊥) → (c ≡ code.Used → ⊥) → (c ≡ code.Parallel → ⊥) → Shape p t x
+other : (p : Position) (t : Tree) (x : Rtx) (c : Code) → code_of x ≡ c → (c ≡ code.Reg → ⊥) → (c ≡ code.Use → ⊥) → (c ≡ code.Parallel → ⊥) → Shape p t x
 other p t x c is reg used parallel = record {
   reg = λ e. absurd (reg (sym is ∙ e));
   use_is = λ e. absurd (used (sym is ∙ e));
@@ -69,7 +69,7 @@ leaf p h t x (Leaf.register r c is fits same) =
     let code_is : code_of x ≡ code.Reg = made_code x (reg_of h.mode r) code.Reg same (ap (λ (o : Rtx-F Rtx). o.code) (out-roll-Rtx _)) in
     record {
       reg = λ e. record { mode = h.mode; number = r; is = same };
-      use_is = λ e. absurd (let wrong : code.Reg ≡ code.Used = sym code_is ∙ e in let none : ⊥ = cc in none);
+      use_is = λ e. absurd (let wrong : code.Reg ≡ code.Use = sym code_is ∙ e in let none : ⊥ = cc in none);
       parallel = λ e. absurd (let wrong : code.Reg ≡ code.Parallel = sym code_is ∙ e in let none : ⊥ = cc in none);
     }
 leaf p h t x (Leaf.number n c fits same) =
@@ -91,7 +91,7 @@ node_code c m kids = ap (λ (o : Rtx-F Rtx). o.code) (out-roll-Rtx _)
 parallel_shape : (p : Position) (t a v : Tree) (kids : List Rtx) → items_of t ≡ a ∷ v ∷ [] → is_vector v ≡ true → Elements Shape (vector_of v) kids → Shape p t (node_of code.Parallel mode.Void kids)
 parallel_shape p t a v kids items is all = record {
   reg = λ e. absurd (let wrong : code.Parallel ≡ code.Reg = sym (node_code code.Parallel mode.Void kids) ∙ e in let none : ⊥ = cc in none);
-  use_is = λ e. absurd (let wrong : code.Parallel ≡ code.Used = sym (node_code code.Parallel mode.Void kids) ∙ e in let none : ⊥ = cc in none);
+  use_is = λ e. absurd (let wrong : code.Parallel ≡ code.Use = sym (node_code code.Parallel mode.Void kids) ∙ e in let none : ⊥ = cc in none);
   parallel = λ e. record { a = a; v = v; kids = kids; items = items; vector = is; each = elements_each (vector_of v) kids all; is = refl };
 }
 
@@ -105,13 +105,13 @@ one_kid [] kids all = absurd all
 one_kid (t ∷ ts) [] all = absurd all
 one_kid (t ∷ ts) (y ∷ z ∷ more) all = absurd all.2
 
-used_node : (p : Position) (h : Head) (a : Tree) (ts : List Tree) (ps : List Position) (kids : List Rtx) → Placed p h → h.code ≡ code.Used → positions_of (class_of h) (a ∷ ts) ≡ Some ps → EachAt Shape ps ts kids → IsUse (node_of h.code h.mode kids)
+used_node : (p : Position) (h : Head) (a : Tree) (ts : List Tree) (ps : List Position) (kids : List Rtx) → Placed p h → h.code ≡ code.Use → positions_of (class_of h) (a ∷ ts) ≡ Some ps → EachAt Shape ps ts kids → IsUse (node_of h.code h.mode kids)
 used_node p h a ts ps kids s is parts all =
-    let at : exactly (Value ∷ []) (a ∷ ts) ≡ Some ps = no_node h.code code.Used (a ∷ ts) ps is parts in
+    let at : exactly (Value ∷ []) (a ∷ ts) ≡ Some ps = no_node h.code code.Use (a ∷ ts) ps is parts in
     let ps_is : Value ∷ [] ≡ ps = (if_some (length (a ∷ ts) == length (Value ∷ []) + 1) (Value ∷ []) ps at).1 in
     let k = one_kid ts kids (subst (λ (q : List Position). EachAt Shape q ts kids) (sym ps_is) all) in
     let void : h.mode ≡ mode.Void = placed_bare p h (rw is refl) s in
-    record { kid = k.0; is = ap (λ (c : Code). node_of c h.mode kids) is ∙ (ap (λ (m : Mode). node_of code.Used m kids) void ∙ ap (node_of code.Used mode.Void) k.1); reg = k.2 }
+    record { kid = k.0; is = ap (λ (c : Code). node_of c h.mode kids) is ∙ (ap (λ (m : Mode). node_of code.Use m kids) void ∙ ap (node_of code.Use mode.Void) k.1); reg = k.2 }
 
 node_shape : (p : Position) (h : Head) (t a : Tree) (ts : List Tree) (ps : List Position) (kids : List Rtx) → Placed p h → positions_of (class_of h) (a ∷ ts) ≡ Some ps → EachAt Shape ps ts kids → Shape p t (node_of h.code h.mode kids)
 node_shape p h t a ts ps kids s parts all = record {

@@ -55,17 +55,17 @@ use_says kid u e reg = by_code (code_of kid) refl e
     by_code c is h = absurd (let wrong : use_by_code c (out-Rtx kid).mode (out-Rtx kid).number ≡ Some u = ap (λ (d : Code). use_by_code d (out-Rtx kid).mode (out-Rtx kid).number) (sym is) ∙ h in let none : ⊥ = cc in none)
 
 -- ... and its expression
-in_says : (x : Rtx) (u : ArgUse) → use_in x ≡ Some u → (code_of x ≡ code.Used → IsUse x) → x ≡ use_rtx u
+in_says : (x : Rtx) (u : ArgUse) → use_in x ≡ Some u → (code_of x ≡ code.Use → IsUse x) → x ≡ use_rtx u
 in_says x u e used = by_code (code_of x) refl e
   where
-    made : (kid : Rtx) → x ≡ node_of code.Used mode.Void (kid ∷ []) → (code_of kid ≡ code.Reg → IsReg kid) → x ≡ use_rtx u
+    made : (kid : Rtx) → x ≡ node_of code.Use mode.Void (kid ∷ []) → (code_of kid ≡ code.Reg → IsReg kid) → x ≡ use_rtx u
     made kid is reg =
         let here : use_of_register kid ≡ Some u =
         sym (ap (λ (y : Rtx). use_by (code_of y) (out-Rtx y).kids) is ∙ ap (λ (o : Rtx-F Rtx). use_by o.code o.kids) (out-roll-Rtx _)) ∙ e in
-        is ∙ ap (λ (k : Rtx). node_of code.Used mode.Void (k ∷ [])) (use_says kid u here reg)
+        is ∙ ap (λ (k : Rtx). node_of code.Use mode.Void (k ∷ [])) (use_says kid u here reg)
 
     by_code : (c : Code) → code_of x ≡ c → use_by (code_of x) (out-Rtx x).kids ≡ Some u → x ≡ use_rtx u
-    by_code code.Used is h = let y : IsUse x = used is in made y.kid y.is y.reg
+    by_code code.Use is h = let y : IsUse x = used is in made y.kid y.is y.reg
     by_code c is h = absurd (let wrong : use_by c (out-Rtx x).kids ≡ Some u = ap (λ (d : Code). use_by d (out-Rtx x).kids) (sym is) ∙ h in let none : ⊥ = cc in none)
 
 pub if_stood : {A : Type 0} (p : Parsed A) (x : A) → if_stands p ≡ Some x → p ≡ stands x

@@ -4,7 +4,7 @@ use Rattle.std.specs.Prelude.{ℕ, ◌-◌, length, slice_get, ℤ, Bool, true, 
 use Rattle.std.specs.List.{list_all}
 use Rattle.std.specs.Str.{bytes_eq}
 use Rattle.rtx_tree.specs.declared.code.Code.{Code}
-use Rattle.rtx_tree.specs.declared.code.Code.TheVariants.{Reg, Used, Clobber, Parallel}
+use Rattle.rtx_tree.specs.declared.code.Code.TheVariants.{Reg, Use, Clobber, Parallel}
 use Rattle.rtx_tree.specs.declared.code.Mode.{Mode}
 use Rattle.rtx_tree.specs.declared.code.Mode.TheVariants.{Void}
 use Rattle.rtx_tree.specs.declared.function.ArgUse.{ArgUse}
@@ -33,7 +33,7 @@ abbrev pub is_parallel : Tree → Bool
 is_parallel t = head_is is_class_parallel (head_at Pattern t)
 
 abbrev pub is_dropped_code : Option Code → Bool
-is_dropped_code (Some Used) = true
+is_dropped_code (Some Use) = true
 is_dropped_code (Some Clobber) = true
 is_dropped_code _ = false
 
@@ -79,7 +79,7 @@ abbrev pub use_of_register : Rtx → Option ArgUse
 use_of_register x = use_by_code (out-Rtx x).code (out-Rtx x).mode (out-Rtx x).number
 
 abbrev pub use_by : Code → List Rtx → Option ArgUse
-use_by Used (x ∷ []) = use_of_register x
+use_by Use (x ∷ []) = use_of_register x
 use_by _ kids = None
 
 -- (use (reg:MODE R)), R being a hard register

@@ -45,7 +45,7 @@ fn effects(tree: &Tree) -> Option<&[Tree]>
 fn is_dropped(tree: &Tree) -> bool
     ensures { result ≡ spec.is_dropped tree.now }
 {
-    matches!(named_code(tree), Some(Code::Used | Code::Clobber))
+    matches!(named_code(tree), Some(Code::Use | Code::Clobber))
 }
 
 /// What the effects are, but for those that are dropped.
@@ -94,7 +94,7 @@ fn use_in(x: &Rtx) -> Option<ArgUse>
     ensures { result ≡ spec.use_in x.now }
 {
     match (x.code, x.kids.as_slice()) {
-        (Code::Used, [kid]) => register_use(kid),
+        (Code::Use, [kid]) => register_use(kid),
         _ => None,
     }
 }

@@ -18,7 +18,7 @@ fn names_pattern(tree: &Tree) -> bool
 {
     matches!(
         named_code(tree),
-        Some(Code::Set | Code::Used | Code::Clobber | Code::Parallel | Code::Call | Code::Return)
+        Some(Code::Set | Code::Use | Code::Clobber | Code::Parallel | Code::Call | Code::Return)
     )
 }
 

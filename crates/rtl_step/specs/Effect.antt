@@ -5,7 +5,7 @@ use Rattle.std.specs.Int.{cast_unsigned, w64}
 use Rattle.bits64.specs.declared.Width.{Width}
 use Rattle.bits64.specs.declared.Width.TheVariants.{W64}
 use Rattle.rtx_tree.specs.declared.code.Code.{Code}
-use Rattle.rtx_tree.specs.declared.code.Code.TheVariants.{Reg, Subreg, Mem, Scratch, Set, Used, Clobber, Parallel}
+use Rattle.rtx_tree.specs.declared.code.Code.TheVariants.{Reg, Subreg, Mem, Scratch, Set, Use, Clobber, Parallel}
 use Rattle.rtx_tree.specs.declared.memories.MemByte.{MemByte}
 use Rattle.rtx_tree.specs.declared.machine.SymbolAt.{SymbolAt}
 use Rattle.rtx_tree.specs.declared.tree.Rtx.{Rtx, out-Rtx}
@@ -70,7 +70,7 @@ clobber_effect place = clobber_by (out-Rtx place).code (register_of place)
 
 abbrev pub effect_by : Code → List Rtx → List SymbolAt → Regs → List MemByte → Option Effect
 effect_by Set (place ∷ source ∷ []) symbols regs memory = set_effect symbols regs memory place source
-effect_by Used (x ∷ []) symbols regs memory = Some Nothing
+effect_by Use (x ∷ []) symbols regs memory = Some Nothing
 effect_by Clobber (place ∷ []) symbols regs memory = clobber_effect place
 effect_by _ parts symbols regs memory = None
 

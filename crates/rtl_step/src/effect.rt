@@ -136,7 +136,7 @@ fn effect_of(symbols: &Symbols, regs: &Regs, memory: &Memories, x: &Rtx) -> Opti
 {
     match (x.code, x.kids.as_slice()) {
         (Code::Set, [place, source]) => set_effect(symbols, regs, memory, place, source),
-        (Code::Used, [_]) => Some(Effect::Nothing),
+        (Code::Use, [_]) => Some(Effect::Nothing),
         (Code::Clobber, [place]) => clobber_effect(place),
         _ => None,
     }

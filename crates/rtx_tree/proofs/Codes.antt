@@ -4,7 +4,7 @@ use Rattle.std.specs.Prelude.{slice_get}
 use Rattle.std.proofs.lemmas.Option.{slice_get_within, get_or_from_slice_get}
 use Rattle.rtx_tree.specs.Code.{code_name, all_codes, mode_name, named_modes}
 use Rattle.rtx_tree.specs.declared.code.Code.{Code}
-use Rattle.rtx_tree.specs.declared.code.Code.TheVariants.{Reg, ConstInt, SymbolRef, Mem, Subreg, Plus, Minus, Mult, Div, Udiv, Mod, Umod, And, Ior, Xor, Neg, Not, Ashift, Ashiftrt, Lshiftrt, SignExtend, ZeroExtend, Truncate, Eq, Ne, Lt, Le, Gt, Ge, Ltu, Leu, Gtu, Geu, Set, Used, Clobber, Parallel, Call, Return, Pc, LabelRef, IfThenElse, Scratch, MatchOperand, MatchDup, MatchScratch, MatchOperator, MatchOpDup}
+use Rattle.rtx_tree.specs.declared.code.Code.TheVariants.{Reg, ConstInt, SymbolRef, Mem, Subreg, Plus, Minus, Mult, Div, Udiv, Mod, Umod, And, Ior, Xor, Neg, Not, Ashift, Ashiftrt, Lshiftrt, SignExtend, ZeroExtend, Truncate, Eq, Ne, Lt, Le, Gt, Ge, Ltu, Leu, Gtu, Geu, Set, Use, Clobber, Parallel, Call, Return, Pc, LabelRef, IfThenElse, Scratch, MatchOperand, MatchDup, MatchScratch, MatchOperator, MatchOpDup}
 use Rattle.rtx_tree.specs.declared.code.Mode.{Mode}
 use Rattle.rtx_tree.specs.declared.code.Mode.TheVariants.{Void, QI, HI, SI, DI}
 
@@ -43,7 +43,7 @@ place_of Leu = 30
 place_of Gtu = 31
 place_of Geu = 32
 place_of Set = 33
-place_of Used = 34
+place_of Use = 34
 place_of Clobber = 35
 place_of Parallel = 36
 place_of Call = 37
@@ -94,7 +94,7 @@ stands Leu = refl
 stands Gtu = refl
 stands Geu = refl
 stands Set = refl
-stands Used = refl
+stands Use = refl
 stands Clobber = refl
 stands Parallel = refl
 stands Call = refl

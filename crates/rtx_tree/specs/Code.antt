@@ -1,7 +1,7 @@
 -- The names of RTL's codes and machine modes in text: GCC Internals, "RTL Expressions" and "Machine Modes".
 use Rattle.std.specs.Prelude.{ℕ, List, [], ◌∷◌, codes}
 use Rattle.rtx_tree.specs.declared.code.Code.{Code}
-use Rattle.rtx_tree.specs.declared.code.Code.TheVariants.{Reg, ConstInt, SymbolRef, Mem, Subreg, Plus, Minus, Mult, Div, Udiv, Mod, Umod, And, Ior, Xor, Neg, Not, Ashift, Ashiftrt, Lshiftrt, SignExtend, ZeroExtend, Truncate, Eq, Ne, Lt, Le, Gt, Ge, Ltu, Leu, Gtu, Geu, Set, Used, Clobber, Parallel, Call, Return, Pc, LabelRef, IfThenElse, Scratch, MatchOperand, MatchDup, MatchScratch, MatchOperator, MatchOpDup}
+use Rattle.rtx_tree.specs.declared.code.Code.TheVariants.{Reg, ConstInt, SymbolRef, Mem, Subreg, Plus, Minus, Mult, Div, Udiv, Mod, Umod, And, Ior, Xor, Neg, Not, Ashift, Ashiftrt, Lshiftrt, SignExtend, ZeroExtend, Truncate, Eq, Ne, Lt, Le, Gt, Ge, Ltu, Leu, Gtu, Geu, Set, Use, Clobber, Parallel, Call, Return, Pc, LabelRef, IfThenElse, Scratch, MatchOperand, MatchDup, MatchScratch, MatchOperator, MatchOpDup}
 use Rattle.rtx_tree.specs.declared.code.Mode.{Mode}
 use Rattle.rtx_tree.specs.declared.code.Mode.TheVariants.{Void, QI, HI, SI, DI}
 
@@ -41,7 +41,7 @@ code_name Leu = codes "leu"
 code_name Gtu = codes "gtu"
 code_name Geu = codes "geu"
 code_name Set = codes "set"
-code_name Used = codes "use"
+code_name Use = codes "use"
 code_name Clobber = codes "clobber"
 code_name Parallel = codes "parallel"
 code_name Call = codes "call"
@@ -71,7 +71,7 @@ all_codes =
     Div ∷ Udiv ∷ Mod ∷ Umod ∷ And ∷ Ior ∷ Xor ∷ Neg ∷
     Not ∷ Ashift ∷ Ashiftrt ∷ Lshiftrt ∷ SignExtend ∷ ZeroExtend ∷ Truncate ∷ Eq ∷
     Ne ∷ Lt ∷ Le ∷ Gt ∷ Ge ∷ Ltu ∷ Leu ∷ Gtu ∷
-    Geu ∷ Set ∷ Used ∷ Clobber ∷ Parallel ∷ Call ∷ Return ∷ Pc ∷
+    Geu ∷ Set ∷ Use ∷ Clobber ∷ Parallel ∷ Call ∷ Return ∷ Pc ∷
     LabelRef ∷ IfThenElse ∷ Scratch ∷ MatchOperand ∷ MatchDup ∷ MatchScratch ∷ MatchOperator ∷ MatchOpDup ∷ []
 
 -- the modes that have a name

@@ -90,7 +90,7 @@ pub enum Code {
     /// Stores a value in a place.
     Set,
     /// `use`: the value is needed here.
-    Used,
+    Use,
     /// The place is changed in an unknown way.
     Clobber,
     /// Several effects at once.
@@ -155,7 +155,7 @@ const CODES: [Code; 48] = [
     Code::Gtu,
     Code::Geu,
     Code::Set,
-    Code::Used,
+    Code::Use,
     Code::Clobber,
     Code::Parallel,
     Code::Call,
@@ -229,7 +229,7 @@ impl Code {
             Code::Gtu => "gtu",
             Code::Geu => "geu",
             Code::Set => "set",
-            Code::Used => "use",
+            Code::Use => "use",
             Code::Clobber => "clobber",
             Code::Parallel => "parallel",
             Code::Call => "call",

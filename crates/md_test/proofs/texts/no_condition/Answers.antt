@@ -1,5 +1,0 @@
-use Rattle.md_test.proofs.GrammarLaws.{no_condition_is}
-use Rattle.md_test.proofs.texts.no_condition.Goals as goal
-
-pub returns-in-Ok : goal.returns-in-Ok
-returns-in-Ok c = no_condition_is c.in-Ok.cond (rw c.new.ensures at c.in-Ok.ensures.answers)

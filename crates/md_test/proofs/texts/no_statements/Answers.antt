@@ -1,5 +1,0 @@
-use Rattle.md_test.proofs.GrammarLaws.{no_statements_is}
-use Rattle.md_test.proofs.texts.no_statements.Goals as goal
-
-pub returns-in-Ok : goal.returns-in-Ok
-returns-in-Ok c = no_statements_is c.in-Ok.prep (rw c.new.ensures at c.in-Ok.ensures.answers)

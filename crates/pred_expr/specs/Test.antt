@@ -1,0 +1,138 @@
+-- The tests of predicates and constraints: GCC Internals, "Defining Machine-Specific Predicates" and "Defining Machine-Specific
+-- Constraints". A test is made of questions on the operand with `and`, `ior`, `not` and `if_then_else`.
+use Rattle.std.specs.Prelude.{ℕ, ◌==◌, List, [], ◌∷◌, ◌++◌, Option, Some, None, Result, Ok, Err, if◌then◌else◌, length, codes, option_and_then}
+use Rattle.std.specs.List.{flat_map}
+use Rattle.std.specs.Str.{bytes_eq}
+use Rattle.rtx_tree.specs.declared.code.Code.{Code}
+use Rattle.rtx_tree.specs.declared.code.Code.TheVariants.{MatchOperand}
+use Rattle.rtx_tree.specs.declared.code.Mode.{Mode}
+use Rattle.rtx_tree.specs.declared.constants.Constant.{Constant}
+use Rattle.lisp_read.specs.declared.tree.Tree.{Tree}
+use Rattle.lisp_read.specs.declared.tree.Tree.TheOpen.{Tree-F}
+use Rattle.lisp_read.specs.declared.tree.Tree.TheFolds.{fold-Tree}
+use Rattle.lisp_read.specs.Shape.{atom_of, string_of, items_of}
+use Rattle.lisp_read.specs.Head.{code_named, code_of_head, mode_of_head}
+use Rattle.lisp_read.specs.Expression.{inside_at, inside_of}
+use Rattle.md_text.specs.Lists.{members}
+use Rattle.md_text.specs.Lists as lists
+use Rattle.md_pattern.specs.declared.reason.Reason.{Reason}
+use Rattle.md_pattern.specs.declared.reason.Reason.TheVariants as reason
+use Rattle.md_pattern.specs.Reason.{judged_with, judged_map}
+use Rattle.md_pattern.specs.Operand.{number_in}
+use Rattle.md_pattern.specs.Pattern.{or_aside}
+use Rattle.pred_expr.specs.declared.question.Question.{Question}
+use Rattle.pred_expr.specs.declared.question.Question.TheVariants as question
+use Rattle.pred_expr.specs.declared.question.Test.{Test, roll-Test}
+use Rattle.pred_expr.specs.declared.question.Test.TheOpen.{Test-F}
+use Rattle.pred_expr.specs.declared.question.Test.TheFolds.{fold-Test}
+use Rattle.pred_expr.specs.declared.test.Kind.{Kind}
+use Rattle.pred_expr.specs.declared.test.Kind.TheVariants as kind
+use Rattle.pred_expr.specs.Texts.{test_condition_of}
+
+abbrev pub test_with : Question → List Test → Test
+test_with q parts = roll-Test (record { question = q; parts = parts })
+
+-- a question that is no part of others
+abbrev pub alone : Question → Test
+alone q = test_with q []
+
+-- ---- heads
+
+abbrev pub is_operand : Code → Option Kind
+is_operand MatchOperand = Some kind.Predicate
+is_operand _ = None
+
+-- `match_operand` may have a mode
+abbrev pub kind_of : List ℕ → Option Kind
+kind_of text = if bytes_eq text (codes "match_code") then Some kind.Codes
+    else if bytes_eq text (codes "match_test") then Some kind.Condition
+    else if bytes_eq text (codes "and") then Some kind.And
+    else if bytes_eq text (codes "ior") then Some kind.Ior
+    else if bytes_eq text (codes "not") then Some kind.Not
+    else if bytes_eq text (codes "if_then_else") then Some kind.IfThenElse
+    else option_and_then is_operand (code_of_head text)
+
+-- ---- questions
+
+-- a string alone
+abbrev pub text_in : List Tree → Option (List ℕ)
+text_in (s ∷ []) = string_of s
+text_in _ = None
+
+-- codes by their names, with commas between them
+abbrev pub codes_in : List ℕ → Option (List Code)
+codes_in text = lists.each code_named (members text)
+
+abbrev pub codes_by : Option (List ℕ) → Result Test Reason
+codes_by None = Err reason.Parts
+codes_by (Some text) = judged_map (λ cs. alone (question.Codes cs)) (or_aside reason.Code (codes_in text))
+
+abbrev pub condition_by : List Constant → Option (List ℕ) → Result Test Reason
+condition_by constants None = Err reason.Parts
+condition_by constants (Some text) = judged_map (λ c. alone (question.Condition c)) (test_condition_of constants text)
+
+-- the predicate of an operand, whatever the operand's number
+abbrev pub predicate_in : List Tree → Option (List ℕ)
+predicate_in (n ∷ p ∷ []) = option_and_then (λ k. string_of p) (number_in n)
+predicate_in _ = None
+
+abbrev pub predicate_by : Option Mode → Option (List ℕ) → Result Test Reason
+predicate_by m None = Err reason.Parts
+predicate_by m (Some name) = judged_map (λ mode. alone (question.Predicate name mode)) (or_aside reason.Mode m)
+
+-- ---- tests of tests
+
+abbrev pub each : List (Result Test Reason) → Result (List Test) Reason
+each [] = Ok []
+each (t ∷ ts) = judged_with (λ x xs. x ∷ xs) t (each ts)
+
+abbrev pub joined : Question → ℕ → List (Result Test Reason) → Result Test Reason
+joined q count inside = if length inside == count then judged_map (test_with q) (each inside) else Err reason.Parts
+
+-- ---- a tree
+
+abbrev pub behind : List Constant → Kind → Option Mode → List Tree → List (Result Test Reason) → Result Test Reason
+behind constants kind.Codes m ts inside = codes_by (text_in ts)
+behind constants kind.Condition m ts inside = condition_by constants (text_in ts)
+behind constants kind.Predicate m ts inside = predicate_by m (predicate_in ts)
+behind constants kind.And m ts inside = joined question.And 2 inside
+behind constants kind.Ior m ts inside = joined question.Ior 2 inside
+behind constants kind.Not m ts inside = joined question.Not 1 inside
+behind constants kind.IfThenElse m ts inside = joined question.IfThenElse 3 inside
+
+abbrev pub of_kind : List Constant → Option Kind → Option Mode → List Tree → List (Result Test Reason) → Result Test Reason
+of_kind constants None m ts inside = Err reason.Parts
+of_kind constants (Some k) m ts inside = behind constants k m ts inside
+
+abbrev pub of_head : List Constant → Option (List ℕ) → List Tree → List (Result Test Reason) → Result Test Reason
+of_head constants None ts inside = Err reason.Parts
+of_head constants (Some text) ts inside = of_kind constants (kind_of text) (mode_of_head text) ts inside
+
+abbrev pub list_by : List Constant → List Tree → List (Result Test Reason) → Result Test Reason
+list_by constants (h ∷ ts) (x ∷ inside) = of_head constants (atom_of h) ts inside
+list_by constants _ _ = Err reason.Parts
+
+-- each tree is handed to the one that reads it
+abbrev pub each_read : List (Tree → Result Test Reason) → List Tree → List (Result Test Reason)
+each_read (read ∷ reads) (t ∷ ts) = read t ∷ each_read reads ts
+each_read _ _ = []
+
+abbrev pub test_step : List Constant → Tree-F (Tree → Result Test Reason) → Tree → Result Test Reason
+test_step constants x t = list_by constants (items_of t) (each_read (inside_at x) (inside_of t))
+
+-- the test that a tree writes, or the smallest reason that applies anywhere in it
+unfoldable pub test_of : List Constant → Tree → Result Test Reason
+test_of constants t = fold-Tree (Tree → Result Test Reason) (test_step constants) t t
+
+-- ---- what a test names
+
+abbrev pub predicate_of : Question → List (List ℕ)
+predicate_of (question.Predicate name m) = name ∷ []
+predicate_of _ = []
+
+abbrev pub predicates_step : Test-F (List (List ℕ)) → List (List ℕ)
+predicates_step x = predicate_of x.question ++ flat_map (λ names. names) x.parts
+
+-- the predicates that a test names, in the order of the text
+abbrev pub predicates_of : Test → List (List ℕ)
+predicates_of = fold-Test (List (List ℕ)) predicates_step

@@ -1,0 +1,266 @@
+//! Reads a test from its tree.
+ghost use Rattle.std.specs.Prelude.{◌≡◌, ◌∷◌, [], ◌++◌, IfOk, map};
+ghost use Rattle.std.specs.Option.{option_copied};
+ghost use Rattle.lisp_read.specs.Head.{code_named, mode_of_head};
+ghost use Rattle.lisp_read.specs.Shape.{atom_of};
+ghost use Rattle.md_text.specs.Lists as lists;
+ghost use Rattle.md_pattern.specs.Reason.{judged_with};
+ghost use Rattle.pred_expr.specs.Test as spec;
+
+use crate::question::{Codes, Question, Test, Tests};
+use crate::texts::test_condition;
+use lisp_read::{Tree, atom, head_words, items, string};
+use md_pattern::{Judged, Reason, both, number_in};
+use md_text::members_of;
+use plain_data::{Items, Memory};
+use rtx_tree::{Code, Constants, Mode, Name};
+use std::alloc::Global;
+
+/// What stands at the head of a test.
+#[derive(Clone, Copy, Debug, PartialEq, Eq)]
+pub enum Kind {
+    /// `match_code`
+    Codes,
+    /// `match_test`
+    Condition,
+    /// `match_operand`
+    Predicate,
+    /// `and`
+    And,
+    /// `ior`
+    Ior,
+    /// `not`
+    Not,
+    /// `if_then_else`
+    IfThenElse,
+}
+
+/// The kind of the test that this atom stands at the head of.
+fn kind_of(head: &[u8]) -> Option<Kind>
+    ensures { result ≡ spec.kind_of head.now }
+{
+    if head == b"match_code".as_slice() {
+        Some(Kind::Codes)
+    } else if head == b"match_test".as_slice() {
+        Some(Kind::Condition)
+    } else if head == b"and".as_slice() {
+        Some(Kind::And)
+    } else if head == b"ior".as_slice() {
+        Some(Kind::Ior)
+    } else if head == b"not".as_slice() {
+        Some(Kind::Not)
+    } else if head == b"if_then_else".as_slice() {
+        Some(Kind::IfThenElse)
+    } else {
+        match head_words(head).0 {
+            Some(Code::MatchOperand) => Some(Kind::Predicate),
+            _ => None,
+        }
+    }
+}
+
+/// A question that is no part of others.
+fn alone(alloc: Global, question: Question) -> Test
+    ensures { result ≡ spec.alone question }
+{
+    Test {
+        question,
+        parts: Items::new(alloc),
+    }
+}
+
+/// A string alone.
+fn text_in(parts: &[Tree]) -> Option<&Name>
+    ensures { option_copied result ≡ spec.text_in parts.now }
+{
+    match parts {
+        [text] => string(text),
+        _ => None,
+    }
+}
+
+fn code_named(name: &[u8]) -> Option<Code>
+    ensures { result ≡ code_named name.now }
+{
+    Code::named(name)
+}
+
+/// Codes by their names, or none where one of them is unknown.
+#[tactic(auto, using(md_text::proofs::Each::with_nothing, md_text::proofs::Each::each_next, md_text::proofs::Each::each_stops, md_text::proofs::Each::each_ends))]
+fn codes_named(alloc: Global, names: &[Name]) -> Result<Option<Codes>, Memory>
+    ensures { IfOk result (λ codes. codes ≡ lists.each code_named names.now) }
+{
+    let mut codes = Items::new(alloc);
+    for name in names {
+        match code_named(name.bytes()) {
+            Some(code) => codes.push(code)?,
+            None => return Ok(None),
+        }
+    }
+    Ok(Some(codes))
+}
+
+fn codes(alloc: Global, parts: &[Tree]) -> Result<Judged<Test>, Memory>
+    ensures { IfOk result (λ test. test ≡ spec.codes_by (spec.text_in parts.now)) }
+{
+    let Some(text) = text_in(parts) else {
+        return Ok(Err(Reason::Parts));
+    };
+    let names = members_of(alloc, text.bytes())?;
+    match codes_named(alloc, names.as_slice())? {
+        Some(codes) => Ok(Ok(alone(alloc, Question::Codes(codes)))),
+        None => Ok(Err(Reason::Code)),
+    }
+}
+
+fn condition(alloc: Global, constants: &Constants, parts: &[Tree]) -> Result<Judged<Test>, Memory>
+    ensures { IfOk result (λ test. test ≡ spec.condition_by constants.now (spec.text_in parts.now)) }
+{
+    let Some(text) = text_in(parts) else {
+        return Ok(Err(Reason::Parts));
+    };
+    match test_condition(alloc, text.bytes(), constants)? {
+        Ok(cond) => Ok(Ok(alone(alloc, Question::Condition(cond)))),
+        Err(reason) => Ok(Err(reason)),
+    }
+}
+
+/// The name of a predicate behind the number of an operand.
+fn predicate_in(parts: &[Tree]) -> Option<&Name>
+    ensures { option_copied result ≡ spec.predicate_in parts.now }
+{
+    match parts {
+        [number, predicate] => {
+            let _ = number_in(number)?;
+            string(predicate)
+        }
+        _ => None,
+    }
+}
+
+fn predicate(alloc: Global, mode: Option<Mode>, parts: &[Tree]) -> Result<Judged<Test>, Memory>
+    ensures { IfOk result (λ test. test ≡ spec.predicate_by mode (spec.predicate_in parts.now)) }
+{
+    let Some(name) = predicate_in(parts) else {
+        return Ok(Err(Reason::Parts));
+    };
+    match mode {
+        Some(mode) => {
+            let name = name.copy(alloc)?;
+            Ok(Ok(alone(alloc, Question::Predicate { name, mode })))
+        }
+        None => Ok(Err(Reason::Mode)),
+    }
+}
+
+fn added(mut tests: Tests, test: Test) -> Result<Tests, Memory>
+    ensures { IfOk result (λ all. all ≡ tests ++ test ∷ []) }
+{
+    tests.push(test)?;
+    Ok(tests)
+}
+
+fn judged_added(tests: Judged<Tests>, test: Judged<Test>) -> Result<Judged<Tests>, Memory>
+    ensures { IfOk result (λ all. all ≡ judged_with (λ xs x. xs ++ x ∷ []) tests test) }
+{
+    match both(tests, test) {
+        Ok((tests, test)) => Ok(Ok(added(tests, test)?)),
+        Err(reason) => Ok(Err(reason)),
+    }
+}
+
+#[cycle(read)]
+#[tactic(auto, using(crate::proofs::Each::joined_first, crate::proofs::Each::joined_ends))]
+fn each(alloc: Global, constants: &Constants, trees: &[Tree]) -> Result<Judged<Tests>, Memory>
+    ensures { IfOk result (λ tests. tests ≡ spec.each (map (spec.test_of constants.now) trees.now)) }
+{
+    let mut tests = Ok(Items::new(alloc));
+    for tree in trees {
+        let test = test_in(alloc, constants, tree)?;
+        tests = judged_added(tests, test)?;
+    }
+    Ok(tests)
+}
+
+/// A test that is made of so many others.
+#[cycle(read)]
+fn joined(
+    alloc: Global,
+    constants: &Constants,
+    question: Question,
+    count: usize,
+    parts: &[Tree],
+) -> Result<Judged<Test>, Memory>
+    ensures { IfOk result (λ test. test ≡ spec.joined question count (map (spec.test_of constants.now) parts.now)) }
+{
+    if parts.len() != count {
+        return Ok(Err(Reason::Parts));
+    }
+    match each(alloc, constants, parts)? {
+        Ok(parts) => Ok(Ok(Test { question, parts })),
+        Err(reason) => Ok(Err(reason)),
+    }
+}
+
+/// What stands behind the head of a test.
+#[cycle(read)]
+fn behind(
+    alloc: Global,
+    constants: &Constants,
+    kind: Kind,
+    mode: Option<Mode>,
+    parts: &[Tree],
+) -> Result<Judged<Test>, Memory>
+    ensures { IfOk result (λ test. test ≡ spec.behind constants.now kind mode parts.now (map (spec.test_of constants.now) parts.now)) }
+{
+    match kind {
+        Kind::Codes => codes(alloc, parts),
+        Kind::Condition => condition(alloc, constants, parts),
+        Kind::Predicate => predicate(alloc, mode, parts),
+        Kind::And => joined(alloc, constants, Question::And, 2, parts),
+        Kind::Ior => joined(alloc, constants, Question::Ior, 2, parts),
+        Kind::Not => joined(alloc, constants, Question::Not, 1, parts),
+        Kind::IfThenElse => joined(alloc, constants, Question::IfThenElse, 3, parts),
+    }
+}
+
+#[cycle(read)]
+fn list(
+    alloc: Global,
+    constants: &Constants,
+    head: &[u8],
+    parts: &[Tree],
+) -> Result<Judged<Test>, Memory>
+    ensures { IfOk result (λ test. test ≡ spec.of_kind constants.now (spec.kind_of head.now) (mode_of_head head.now) parts.now (map (spec.test_of constants.now) parts.now)) }
+{
+    match kind_of(head) {
+        Some(kind) => behind(alloc, constants, kind, head_words(head).1, parts),
+        None => Ok(Err(Reason::Parts)),
+    }
+}
+
+#[cycle(read)]
+#[tactic(auto, using(crate::proofs::TestLaws::test_out))]
+fn test_in(alloc: Global, constants: &Constants, tree: &Tree) -> Result<Judged<Test>, Memory>
+    ensures { IfOk result (λ test. test ≡ spec.test_of constants.now tree.now) }
+{
+    match items(tree) {
+        [head, parts @ ..] => match atom(head) {
+            Some(head) => list(alloc, constants, head.bytes(), parts),
+            None => Ok(Err(Reason::Parts)),
+        },
+        [] => Ok(Err(Reason::Parts)),
+    }
+}
+
+/// The test that a tree of a description writes, or the smallest reason that applies anywhere in it.
+///
+/// A test is `(match_code "CODES")`, `(match_test "CONDITION")`, `(match_operand N "PREDICATE")` with or without a mode, or made of
+/// tests: `and` and `ior` of two, `not` of one, `if_then_else` of three. `Parts` where it has other parts or another head, `Code`
+/// where a code is unknown, `Mode` where a mode is none of the four, `Condition` where a condition is outside the grammar. It goes
+/// as deep as the tree.
+pub fn test_of(alloc: Global, tree: &Tree, constants: &Constants) -> Result<Judged<Test>, Memory>
+    ensures { IfOk result (λ test. test ≡ spec.test_of constants.now tree.now) }
+{
+    test_in(alloc, constants, tree)
+}

@@ -5,7 +5,7 @@ ghost use Rattle.asm_table.specs.Template as spec;
 use crate::forms::Match;
 use crate::template::{print_filled, print_label, template};
 use plain_data::Memory;
-use run_refusal::print_text;
+use text_words::print_text;
 
 /// Appends the line of an instruction of a function by the form that matches it: a tab, the form's template with the
 /// operands put in, and a newline. `function` is the function's number.

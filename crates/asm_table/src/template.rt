@@ -8,7 +8,7 @@ use crate::forms::{Form, is_comparison, is_zero};
 use plain_data::Memory;
 use rtl_print::{print_number, print_reg};
 use rtx_tree::{Code, Operands, Rtx};
-use run_refusal::{print_count, print_text};
+use text_words::{print_count, print_text};
 
 /// The template of a form's instruction line.
 pub fn template(form: Form) -> &'static [u8]

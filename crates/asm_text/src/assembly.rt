@@ -12,8 +12,9 @@ use func_end::{is_ended, return_insn};
 use func_input::next_number;
 use plain_data::Memory;
 use rtx_tree::{Function, Insn, Kind, Name, Stage};
-use run_refusal::{Refusal, print_text};
+use run_refusal::Refusal;
 use std::alloc::Global;
+use text_words::print_text;
 
 fn unmatched(alloc: Global, function: &Name, insn: &Insn) -> Result<Refusal, Memory>
     ensures { IfOk result (λ e. e ≡ spec.unmatched function.now insn.now) }

@@ -7,8 +7,8 @@ use func_mean::Outcome;
 use plain_data::Memory;
 use rtl_step::width_of;
 use rtx_tree::{MemByte, Mode};
-use run_refusal::{print_count, print_text};
 use rv_line::CodeOutcome;
+use text_words::{print_count, print_text};
 
 /// What is told of the outcome of a run.
 #[derive(Clone, Copy, Debug, PartialEq, Eq)]

@@ -1,6 +1,7 @@
 //! A list in the code that is a list in contracts.
 ghost use Rattle.std.specs.Borrow.{sem};
-ghost use Rattle.std.specs.Prelude.{◌≡◌, [], ◌∷◌, ◌++◌, ◌<◌, length, slice_get, slice_set, OnOk, OnErr, MatchOption, IsTrue, ◌↔◌};
+ghost use Rattle.std.specs.Prelude.{◌≡◌, [], ◌∷◌, ◌++◌, ◌<◌, ◌≤◌, length, slice_get, slice_set, OnOk, OnErr, MatchOption, Some, IsTrue, ◌↔◌};
+ghost use Rattle.std.specs.List.{insert, remove};
 
 use crate::memory::Memory;
 use std::alloc::Global;
@@ -99,6 +100,16 @@ impl<T> Items<T> {
         mem::replace(&mut self.vec[at], item)
     }
 
+    /// Takes the element at place `at` out; those behind it move one place to the front. It takes
+    /// no memory.
+    pub fn remove(&mut self, at: usize) -> T
+        requires { at < length self.old }
+        ensures items { self.new ≡ remove self.old at }
+        ensures old { slice_get self.old at ≡ Some result }
+    {
+        self.vec.remove(at)
+    }
+
     /// Takes the last element away.
     pub fn pop(&mut self) -> Option<T>
         ensures { MatchOption result ((self.old ≡ []) × (self.new ≡ [])) (λ last. self.old ≡ self.new ++ last ∷ []) }
@@ -114,6 +125,17 @@ impl<T: Drop> Items<T> {
         ensures err { OnErr result (self.new ≡ self.old) }
     {
         self.vec.push(item)?;
+        Ok(())
+    }
+
+    /// Puts `item` at place `at`; the elements from there on move one place to the back. After
+    /// `Memory` the list is as before.
+    pub fn insert(&mut self, at: usize, item: T) -> Result<(), Memory>
+        requires { at ≤ length self.old }
+        ensures ok { OnOk result (self.new ≡ insert self.old at item) }
+        ensures err { OnErr result (self.new ≡ self.old) }
+    {
+        self.vec.insert(at, item)?;
         Ok(())
     }
 }

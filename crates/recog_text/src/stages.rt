@@ -12,8 +12,9 @@ use c_eval::Facts;
 use md_desc::{Chosen, Description};
 use plain_data::{Items, Memory};
 use rtx_tree::{Insn, Name, Stage};
-use run_refusal::{Refusal, print_count, print_text};
+use run_refusal::Refusal;
 use std::alloc::Global;
+use text_words::{print_count, print_text};
 
 fn lower_facts(alloc: Global) -> Facts
     ensures { result ≡ spec.lower_facts }

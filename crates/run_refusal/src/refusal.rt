@@ -6,11 +6,11 @@ ghost use Rattle.rtx_tree.specs.Stage.{stage_name};
 ghost use Rattle.rtl_print.specs.Print.{printed};
 ghost use Rattle.run_refusal.specs.Refusals as spec;
 
-use crate::print::{print_count, print_text};
 use plain_data::Memory;
 use rtl_print::print_rtx;
 use rtx_tree::{Limit, Name, Place, Rtx, Stage};
 use std::alloc::Global;
+use text_words::{print_count, print_text};
 use thiserror::Error;
 
 /// The line of want of memory, which takes none.

@@ -11,7 +11,7 @@ use run_refusal::{print_count, print_text};
 use rv_line::CodeOutcome;
 
 /// What is told of the outcome of a run.
-#[derive(Clone, Copy, Debug, PartialEq, Eq)]
+#[derive(Clone, Copy)]
 pub enum Ending {
     /// A step or a line had no meaning.
     Undefined,

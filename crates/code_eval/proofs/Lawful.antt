@@ -1,17 +1,24 @@
 -- The start and the world are those of which same behaviour speaks.
-use Rattle.std.proofs.Common.{◌≡◌, ◌≤◌, ◌<◌, ◌^◌, ◌+◌, ◌-◌, ℕ, zero, suc, Bool, true, false, ◌&&◌, ◌||◌, not, List, [], ◌∷◌, ◌++◌, replicate, Some, refl, sym, ap, subst, ◌∙◌, arith}
-use Rattle.std.specs.Prelude.{min, nat_eq, nat_le, nat_lt, slice_get, slice_index, IsSome}
-use Rattle.std.specs.List.{filter}
+use Rattle.std.proofs.Common.{◌≡◌, ◌≢◌, ◌≤◌, ◌<◌, ◌^◌, ◌+◌, ◌-◌, ℕ, zero, suc, Bool, true, false, ◌&&◌, ◌||◌, not, List, [], ◌∷◌, ◌++◌, replicate, Result, Ok, Err, refl, sym, ap, subst, ◌∙◌, arith}
+use Rattle.std.specs.Prelude.{min, nat_eq, nat_le, nat_lt, slice_index, IsSome, IfOk}
+use Rattle.std.specs.List.{All, filter}
 use Rattle.std.proofs.lemmas.Bool.Decides.{nat_tests}
-use Rattle.std.proofs.lemmas.List.Elements.{filter-append}
+use Rattle.std.proofs.lemmas.List.Elements.{All-nil, All-cons, All-append, All-replicate, filter-append}
 use Rattle.rtx_tree.specs.Memories.{byte_at}
 use Rattle.rtx_tree.specs.declared.memories.MemByte.{MemByte}
-use Rattle.rtx_tree.specs.declared.machine.Reply.{Reply}
+use Rattle.rtx_tree.specs.declared.machine.Start.{Start}
 use Rattle.rtx_tree.specs.declared.function.Function.{Function}
-use Rattle.same_behaviour.specs.Same.{locals_range, IsLawful, IsLawfulWorld, seen_by_rtl}
-use Rattle.code_eval.specs.Start.{stack_room, caller_range, zeros, start_with, code_start, rtl_start}
-use Rattle.code_eval.specs.World.{zero_reply, world_of}
-use Rattle.code_eval.specs.Eval.{lines_for, AreWords, IsFair}
+use Rattle.run_memory.specs.RunMemory.{is_visible}
+use Rattle.func_mean.specs.Run as rtl
+use Rattle.func_mean.specs.declared.outcome.Outcome.TheVariants as outcomes
+use Rattle.rv_text.specs.declared.line.CodeItem.{CodeItem}
+use Rattle.rv_line.specs.Run as code
+use Rattle.same_behaviour.specs.Lawful.{IsWord, IsByte, IsMemory, IsRange, locals_range, IsLawful, AreAddresses, IsLawfulReply, IsLawfulWorld, seen_by_rtl}
+use Rattle.same_behaviour.specs.Same.{SameOutcome, SameFrom}
+use Rattle.code_eval.specs.Start.{stack_room, stack_top, caller_range, zeros, memory_with, locals_below, start_with, code_start, rtl_start}
+use Rattle.code_eval.specs.World.{zero_reply, symbols_of, world_of}
+use Rattle.code_eval.specs.Eval.{lines_for, IsFair, AgreeAsSame}
+use Rattle.code_eval.proofs.Zeros.{memory_ordered}
 
 -- ---- bytes that are there
 
@@ -33,21 +40,44 @@ has_behind : (front bytes : List MemByte) (address : ℕ) → IsSome (byte_at by
 has_behind [] bytes address h = h
 has_behind (b ∷ front) bytes address h = has_later b (front ++ bytes) address (nat_eq b.address address) refl (has_behind front bytes address h)
 
+-- ---- they are bytes of a machine
+
+zeros_are_bytes : (first count : ℕ) → first + count ≤ 2 ^ 64 → All IsByte (zeros first count)
+unfolding zeros
+zeros_are_bytes first zero fits = All-nil IsByte
+zeros_are_bytes first (suc count) fits =
+    All-cons IsByte (record { address = first; byte = 0 }) (zeros (first + 1) count) (record { address = omega (arith, fits); byte = omega arith })
+    (zeros_are_bytes (first + 1) count (omega (arith, fits)))
+
+memory_is : IsMemory (memory_with stack_room)
+memory_is = record {
+  ordered = memory_ordered stack_room (omega arith);
+  bytes = All-append IsByte (zeros 65536 4096) (zeros 131072 1048576) (zeros_are_bytes 65536 4096 (omega arith)) (zeros_are_bytes 131072 1048576 (omega arith));
+}
+
 -- ---- the start is lawful
 
 ranges_are : (args : List ℕ) (locals room : ℕ) → (start_with args locals room).visible ≡ (caller_range ∷ []) ++ locals_range (start_with args locals room) locals
 ranges_are args zero room = refl
 ranges_are args (suc n) room = refl
 
-lawful : (f : Function) (args : List ℕ) (frame : ℕ) → ((i : ℕ) → i < 8 → slice_index args i < 2 ^ 64) → frame ≤ stack_room → IsLawful frame f.locals (code_start f args)
-lawful f args frame words within = record {
+locals_within : (locals : ℕ) → locals ≤ stack_room → All IsRange (locals_below locals)
+locals_within zero holds = All-nil IsRange
+locals_within (suc n) holds =
+    All-cons IsRange (record { address = stack_top - suc n; length = suc n }) [] (omega (arith, holds)) (All-nil IsRange)
+
+lawful : (f : Function) (args : List ℕ) → ((i : ℕ) → i < 8 → IsWord (slice_index args i)) → f.locals ≤ stack_room → IsLawful stack_room f.locals (code_start f args)
+lawful f args words holds = record {
   words = record { args = words; saved = λ i less. no_word i; sp = omega arith; ra = omega arith };
+  memory = memory_is;
+  within = All-cons IsRange caller_range (locals_below f.locals) (omega arith) (locals_within f.locals holds);
   aligned = refl;
-  above_zero = omega (arith, within);
-  present = λ address below. has_behind (zeros 65536 4096) (zeros 131072 1048576) address (zeros_have 131072 1048576 address (grind (arith, nat_tests, below, within)) (grind (arith, nat_tests, below, within)));
+  holds = holds;
+  above_zero = omega arith;
+  present = λ address below. has_behind (zeros 65536 4096) (zeros 131072 1048576) address (zeros_have 131072 1048576 address (grind (arith, nat_tests, below)) (grind (arith, nat_tests, below)));
   ranges = caller_range ∷ [];
   visible_is = ranges_are args f.locals stack_room;
-  apart = λ address below. grind (arith, nat_tests, below, within);
+  apart = λ address below. grind (arith, nat_tests, below);
 }
   where
     no_word : (i : ℕ) → slice_index (replicate 12 0) i < 2 ^ 64
@@ -60,14 +90,15 @@ lawful f args frame words within = record {
 
 -- ---- and so is the world
 
-writes_nothing : (count i : ℕ) (reply : Reply) → slice_get (replicate count zero_reply) i ≡ Some reply → reply ≡ zero_reply
-writes_nothing zero i reply is = cc
-writes_nothing (suc count) zero reply is = cc
-writes_nothing (suc count) (suc i) reply is = writes_nothing count i reply is
-
-lawful_world : (f : Function) (args : List ℕ) (count : ℕ) → IsLawfulWorld (code_start f args) (world_of f count)
-lawful_world f args count i j reply write at written =
-    absurd (let none : slice_get zero_reply.writes j ≡ Some write = subst (λ (r : Reply). slice_get r.writes j ≡ Some write) (writes_nothing count i reply at) written in let nothing : ⊥ = cc in nothing)
+lawful_world : (f : Function) (args : List ℕ) (count : ℕ) → AreAddresses (symbols_of f.insns) → IsLawfulWorld (code_start f args) (world_of f count)
+lawful_world f args count addresses = record {
+  symbols = addresses;
+  replies = All-replicate (IsLawfulReply (code_start f args)) count zero_reply (record {
+    value = omega arith;
+    bytes = All-nil IsByte;
+    visible = All-nil (λ write. is_visible (code_start f args).visible write.address ≡ true);
+  });
+}
 
 -- ---- what the function sees
 
@@ -111,9 +142,42 @@ seen f args =
 
 -- ---- all of it
 
-pub fair : (f : Function) (steps : ℕ) (args : List ℕ) → AreWords args → IsFair f steps args
-fair f steps args words = record {
-  start = λ frame within. lawful f args frame words within;
-  world = lawful_world f args (lines_for steps);
+pub eight_words : (args : List ℕ) → IsWord (slice_index args 0) → IsWord (slice_index args 1) → IsWord (slice_index args 2) → IsWord (slice_index args 3) →
+    IsWord (slice_index args 4) → IsWord (slice_index args 5) → IsWord (slice_index args 6) → IsWord (slice_index args 7) →
+    (i : ℕ) → i < 8 → IsWord (slice_index args i)
+eight_words args a0 a1 a2 a3 a4 a5 a6 a7 zero less = a0
+eight_words args a0 a1 a2 a3 a4 a5 a6 a7 (suc zero) less = a1
+eight_words args a0 a1 a2 a3 a4 a5 a6 a7 (suc (suc zero)) less = a2
+eight_words args a0 a1 a2 a3 a4 a5 a6 a7 (suc (suc (suc zero))) less = a3
+eight_words args a0 a1 a2 a3 a4 a5 a6 a7 (suc (suc (suc (suc zero)))) less = a4
+eight_words args a0 a1 a2 a3 a4 a5 a6 a7 (suc (suc (suc (suc (suc zero))))) less = a5
+eight_words args a0 a1 a2 a3 a4 a5 a6 a7 (suc (suc (suc (suc (suc (suc zero)))))) less = a6
+eight_words args a0 a1 a2 a3 a4 a5 a6 a7 (suc (suc (suc (suc (suc (suc (suc zero))))))) less = a7
+eight_words args a0 a1 a2 a3 a4 a5 a6 a7 (suc (suc (suc (suc (suc (suc (suc (suc i)))))))) less = absurd (omega (arith, less))
+
+pub fair : (f : Function) (steps : ℕ) (args : List ℕ) → ((i : ℕ) → i < 8 → IsWord (slice_index args i)) → AreAddresses (symbols_of f.insns) → IsFair f steps args
+fair f steps args words addresses = record {
+  start = λ holds. lawful f args words holds;
+  world = lawful_world f args (lines_for steps) addresses;
   seen = seen f args;
 }
+
+pub agree : (f : Function) (items : List CodeItem) (steps : ℕ) (args : List ℕ) → IsFair f steps args → AgreeAsSame f items steps args
+agree f items steps args is_fair = λ least same enough holds.
+    let all : SameFrom stack_room f items (code_start f args) (world_of f (lines_for steps)) steps =
+    same stack_room (code_start f args) (world_of f (lines_for steps)) steps enough (is_fair.start holds) is_fair.world in
+    subst (Comes f items steps args) (sym is_fair.seen) all
+  where
+    Comes : Function → List CodeItem → ℕ → List ℕ → Start → Type 0
+    Comes f items steps args start = rtl.run_of f start (world_of f (lines_for steps)) steps ≢ outcomes.Undefined →
+        (k : ℕ) × (rtl.taken f start (world_of f (lines_for steps)) steps ≤ k) ×
+        SameOutcome f.result (code_start f args) (rtl.run_of f start (world_of f (lines_for steps)) steps) (code.run items (code_start f args) (world_of f (lines_for steps)) k)
+
+-- where an answer was given it was of a fair trial
+pub all_fair : {X E : Type 0} (r : Result X E) (f : Function) (steps : ℕ) (args : List ℕ) → IsFair f steps args → IfOk r (λ x. IsFair f steps args)
+all_fair (Ok x) f steps args is_fair = is_fair
+all_fair (Err e) f steps args is_fair = tt
+
+pub all_agree : {X E : Type 0} (r : Result X E) (f : Function) (items : List CodeItem) (steps : ℕ) (args : List ℕ) → IsFair f steps args → IfOk r (λ x. AgreeAsSame f items steps args)
+all_agree (Ok x) f items steps args is_fair = agree f items steps args is_fair
+all_agree (Err e) f items steps args is_fair = tt

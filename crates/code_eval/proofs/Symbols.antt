@@ -1,12 +1,14 @@
 -- The symbols of a tree, by those of its kids, and of a chain, by those of its trees.
-use Rattle.std.proofs.Common.{◌≡◌, ◌<◌, ◌+◌, ℕ, List, [], ◌∷◌, ◌++◌, length, drop, get_or, refl, sym, ap, ◌∙◌}
+use Rattle.std.proofs.Common.{◌≡◌, ◌<◌, ◌+◌, ◌^◌, ℕ, List, [], ◌∷◌, ◌++◌, length, drop, get_or, refl, sym, ap, subst, ◌∙◌}
 use Rattle.std.proofs.lemmas.List.{at_drop_more}
+use Rattle.std.proofs.lemmas.List.Elements.{All-nil, All-cons, All-append}
 use Rattle.std.proofs.lemmas.List.Folds.{flat_map-map}
 use Rattle.std.specs.List.{flat_map}
 use Rattle.rtx_tree.specs.declared.tree.Rtx.{Rtx}
 use Rattle.rtx_tree.specs.declared.tree.Rtx.TheFolds.{fold_out-Rtx}
 use Rattle.rtx_tree.specs.Tree.{head_of, kids_of}
 use Rattle.rtx_tree.specs.declared.machine.SymbolAt.{SymbolAt}
+use Rattle.same_behaviour.specs.Lawful.{IsWord, AreAddresses}
 use Rattle.code_eval.specs.World.{symbol_here, symbols_step, symbols_in, with_symbol, with_symbols}
 
 symbols_out : (x : Rtx) → symbols_in x ≡ symbol_here (head_of x).code (head_of x).name ++ flat_map symbols_in (kids_of x)
@@ -30,3 +32,9 @@ symbols_next {X = X} f xs i x symbols more whole within is made h =
     let here : with_symbols symbols (flat_map f (drop i xs)) ≡ with_symbols symbols (f x ++ flat_map f (drop (i + 1) xs)) =
     at_drop_more (λ ys. with_symbols symbols (flat_map f ys)) xs i x within ∙ ap (λ (u : X). with_symbols symbols (flat_map f (u ∷ drop (i + 1) xs))) (sym is) in
     rw made (sym (with_both symbols (f x) (flat_map f (drop (i + 1) xs))) ∙ sym here ∙ h)
+
+-- one more has an address
+pub address_pushed : (symbols after : List SymbolAt) (symbol : SymbolAt) → after ≡ symbols ++ symbol ∷ [] → symbol.address < 2 ^ 64 → AreAddresses symbols → AreAddresses after
+address_pushed symbols after symbol is fits all =
+    let P : SymbolAt → Type 0 = λ s. IsWord s.address in
+    subst AreAddresses (sym is) (All-append P symbols (symbol ∷ []) all (All-cons P symbol [] fits (All-nil P)))

@@ -1,12 +1,14 @@
 -- A function and its code, tried from one start in one world.
-use Rattle.std.specs.Prelude.{◌≡◌, ◌≤◌, ◌<◌, ◌^◌, ℕ, ◌+◌, ◌*◌, List, ◌++◌, codes, slice_index}
+use Rattle.std.specs.Prelude.{◌≡◌, ◌≢◌, ◌≤◌, ℕ, ◌+◌, ◌*◌, List, ◌++◌, codes}
 use Rattle.rtx_tree.specs.declared.function.Function.{Function}
 use Rattle.rv_text.specs.declared.line.CodeItem.{CodeItem}
 use Rattle.func_mean.specs.Run as rtl
 use Rattle.func_mean.specs.declared.outcome.Outcome.{Outcome}
+use Rattle.func_mean.specs.declared.outcome.Outcome.TheVariants as outcomes
 use Rattle.rv_line.specs.Run as code
 use Rattle.rv_line.specs.declared.outcome.CodeOutcome.{CodeOutcome}
-use Rattle.same_behaviour.specs.Same.{IsLawful, IsLawfulWorld, seen_by_rtl}
+use Rattle.same_behaviour.specs.Lawful.{IsLawful, IsLawfulWorld, seen_by_rtl}
+use Rattle.same_behaviour.specs.Same.{SameOutcome, Same}
 use Rattle.code_eval.specs.Start.{stack_room, rtl_start, code_start}
 use Rattle.code_eval.specs.World.{world_of}
 use Rattle.code_eval.specs.Ending.{rtl_ending, code_ending, ending_line}
@@ -30,13 +32,23 @@ eval_text f items steps args =
 
 -- ---- that the trial is a fair one
 
--- numbers of 64 bits in a0 to a7
-abbrev pub AreWords : List ℕ → Type 0
-AreWords args = (i : ℕ) → i < 8 → slice_index args i < 2 ^ 64
-
--- The start and the world are lawful for the function and whatever room its frame has in the stack, and the function starts with what a function
--- sees of the start of its code.
+-- The trial is one of which same behaviour speaks: the start is lawful, all of the stack being the frame, where the locals fit in it;
+-- the world is lawful; and the function starts with what a function sees of the start of its code.
 pub record IsFair (f : Function) (steps : ℕ) (args : List ℕ) : Type 0 where
-  pub start : (frame : ℕ) → frame ≤ stack_room → IsLawful frame f.locals (code_start f args)
+  pub start : f.locals ≤ stack_room → IsLawful stack_room f.locals (code_start f args)
   pub world : IsLawfulWorld (code_start f args) (world_of f (lines_for steps))
   pub seen : rtl_start f args ≡ seen_by_rtl stack_room f.locals (code_start f args)
+
+-- the jumps and calls that the function takes in so many steps
+abbrev pub taken : Function → ℕ → List ℕ → ℕ
+taken f steps args = rtl.taken f (rtl_start f args) (world_of f (lines_for steps)) steps
+
+-- where the outcome of the function has a value, its lines and labels come to the same one from their start
+abbrev pub ComesToSame : Function → List CodeItem → ℕ → List ℕ → Type 0
+ComesToSame f items steps args = rtl_outcome f steps args ≢ outcomes.Undefined →
+    (k : ℕ) × (taken f steps args ≤ k) ×
+    SameOutcome f.result (code_start f args) (rtl_outcome f steps args) (code.run items (code_start f args) (world_of f (lines_for steps)) k)
+
+-- so it is where they have the behaviour of the function, whose frame fits in the stack
+abbrev pub AgreeAsSame : Function → List CodeItem → ℕ → List ℕ → Type 0
+AgreeAsSame f items steps args = (least : ℕ) → Same least f items → least ≤ stack_room → f.locals ≤ stack_room → ComesToSame f items steps args

@@ -11,7 +11,7 @@ use rv_line::CodeOutcome;
 use text_words::{print_count, print_text};
 
 /// What is told of the outcome of a run.
-#[derive(Clone, Copy, Debug, PartialEq, Eq)]
+#[derive(Clone, Copy)]
 pub enum Ending {
     /// A step or a line had no meaning.
     Undefined,

@@ -2,7 +2,7 @@
 ghost use Rattle.std.specs.Prelude.{◌≡◌, ◌++◌, IfOk, codes};
 ghost use Rattle.func_mean.specs.Run as rtl;
 ghost use Rattle.code_eval.specs.Eval as spec;
-ghost use Rattle.code_eval.specs.Eval.{AreWords, IsFair};
+ghost use Rattle.code_eval.specs.Eval.{AgreeAsSame, IsFair};
 ghost use Rattle.code_eval.specs.World as worlds;
 ghost use Rattle.code_eval.specs.Ending as endings;
 
@@ -92,8 +92,12 @@ pub fn eval_text(
     args: [u64; 8],
 ) -> Result<Vec<u8>, Memory>
     ensures told { IfOk result (λ text. text.items ≡ spec.eval_text f.now items.now steps args) }
-    ensures fair { AreWords args → IsFair f.now steps args }
+    // The trial is one of which same behaviour speaks, and it says that both outcomes agree.
+    ensures fair { IfOk result (λ text. IsFair f.now steps args) }
+    ensures same { IfOk result (λ text. AgreeAsSame f.now items.now steps args) }
 {
+    // Each of these has 64 bits.
+    let [_a0, _a1, _a2, _a3, _a4, _a5, _a6, _a7] = args;
     let world = world_of(alloc, f, lines_for(steps))?;
     let rtl = rtl_run(alloc, f, &world, steps, args)?;
     let code = code_run(alloc, f, items, &world, steps, args)?;

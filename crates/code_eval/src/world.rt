@@ -1,6 +1,7 @@
 //! The world in which a function and its code are tried.
-ghost use Rattle.std.specs.Prelude.{◌≡◌, ◌++◌, IfOk, OnOk, replicate};
+ghost use Rattle.std.specs.Prelude.{◌≡◌, ◌++◌, ◌<◌, ◌^◌, IfOk, OnOk, replicate};
 ghost use Rattle.rtx_tree.specs.Tree.{head_of};
+ghost use Rattle.same_behaviour.specs.Lawful.{AreAddresses};
 ghost use Rattle.code_eval.specs.World as spec;
 
 use plain_data::{Items, Memory};
@@ -16,7 +17,8 @@ const NEXT_ADDRESS: u64 = 4_096;
 
 /// The address of the symbol at a place. It wants an address, as it wants memory.
 fn address_at(place: usize) -> Result<u64, Memory>
-    ensures { IfOk result (λ address. address ≡ spec.address_at place) }
+    ensures at { IfOk result (λ address. address ≡ spec.address_at place) }
+    ensures fits { IfOk result (λ address. address < 2 ^ 64) }
 {
     let Some(distance) = NEXT_ADDRESS.checked_mul(place as u64) else {
         return Err(Memory);
@@ -28,8 +30,10 @@ fn address_at(place: usize) -> Result<u64, Memory>
 }
 
 /// Puts a symbol behind others, unless it is one of them.
+#[tactic(auto, using(crate::proofs::Symbols::address_pushed))]
 fn push_symbol(alloc: Global, name: &Name, symbols: &mut Symbols) -> Result<(), Memory>
-    ensures { OnOk result (symbols.new ≡ spec.with_symbol symbols.old name.now) }
+    ensures made { OnOk result (symbols.new ≡ spec.with_symbol symbols.old name.now) }
+    ensures addresses { OnOk result (AreAddresses symbols.old → AreAddresses symbols.new) }
 {
     if symbol_address(symbols, name.bytes()).is_some() {
         return Ok(());
@@ -43,7 +47,8 @@ fn push_symbol(alloc: Global, name: &Name, symbols: &mut Symbols) -> Result<(), 
 
 /// Puts the symbol that a tree is, if it is one, behind others.
 fn push_symbol_here(alloc: Global, x: &Rtx, symbols: &mut Symbols) -> Result<(), Memory>
-    ensures { OnOk result (symbols.new ≡ spec.with_symbols symbols.old (spec.symbol_here (head_of x.now).code (head_of x.now).name)) }
+    ensures made { OnOk result (symbols.new ≡ spec.with_symbols symbols.old (spec.symbol_here (head_of x.now).code (head_of x.now).name)) }
+    ensures addresses { OnOk result (AreAddresses symbols.old → AreAddresses symbols.new) }
 {
     match x.code {
         Code::SymbolRef => push_symbol(alloc, &x.name, symbols),
@@ -54,7 +59,8 @@ fn push_symbol_here(alloc: Global, x: &Rtx, symbols: &mut Symbols) -> Result<(),
 /// Puts the symbols of a tree behind others, in the order of its text.
 #[tactic(auto, using(crate::proofs::Symbols::symbols_first))]
 fn push_symbols_in(alloc: Global, x: &Rtx, symbols: &mut Symbols) -> Result<(), Memory>
-    ensures { OnOk result (symbols.new ≡ spec.with_symbols symbols.old (spec.symbols_in x.now)) }
+    ensures made { OnOk result (symbols.new ≡ spec.with_symbols symbols.old (spec.symbols_in x.now)) }
+    ensures addresses { OnOk result (AreAddresses symbols.old → AreAddresses symbols.new) }
 {
     push_symbol_here(alloc, x, symbols)?;
     for kid in x.kids.as_slice() {
@@ -65,7 +71,8 @@ fn push_symbols_in(alloc: Global, x: &Rtx, symbols: &mut Symbols) -> Result<(), 
 
 /// The symbols of a chain, in the order of their first use.
 fn symbols_of(alloc: Global, insns: &[Insn]) -> Result<Symbols, Memory>
-    ensures { IfOk result (λ symbols. symbols ≡ spec.symbols_of insns.now) }
+    ensures made { IfOk result (λ symbols. symbols ≡ spec.symbols_of insns.now) }
+    ensures addresses { IfOk result AreAddresses }
 {
     let mut symbols = Items::new(alloc);
     for insn in insns {
@@ -91,7 +98,8 @@ fn zero_replies(alloc: Global, count: u64) -> Result<Replies, Memory>
 
 /// The world of a function, in which so many calls have a reply.
 pub fn world_of(alloc: Global, f: &Function, count: u64) -> Result<World, Memory>
-    ensures { IfOk result (λ world. world ≡ spec.world_of f.now count) }
+    ensures made { IfOk result (λ world. world ≡ spec.world_of f.now count) }
+    ensures addresses { IfOk result (λ world. AreAddresses world.symbols) }
 {
     Ok(World {
         symbols: symbols_of(alloc, f.insns.as_slice())?,

@@ -182,10 +182,9 @@ fn parts(rt: HostRuntime) -> Result<(), Fail> {
         panic!(rt; "no line");
     };
     assert_eq!(rt; (line.rd, line.rs, line.rt, line.imm), (0, 2, 9, -8));
-    let width = bits64::Width::W64;
-    assert_eq!(rt; line.action(), Some(Action::Store { width }));
+    assert!(rt; matches!(line.action(), Some(Action::Store { width: bits64::Width::W64 })));
     let spoilt = Line { rd: 1, ..line };
-    assert_eq!(rt; spoilt.action(), None);
+    assert!(rt; spoilt.action().is_none());
     assert!(rt; printed(rt.alloc(), &spoilt)?.is_empty());
     Ok(())
 }

@@ -19,7 +19,7 @@ use Rattle.rtl_step.specs.declared.step.StepEnd.{StepEnd}
 use Rattle.rtl_step.specs.declared.step.StepEnd.TheVariants.{Next, Jumped, Called, Returned, Asked, Undefined}
 use Rattle.rtl_step.specs.Step.{Stepped, step, act, act_at, after_effects, after_jump, after_goes, after_event, after_reply, has_result, is_mark, passed, place_from}
 use Rattle.rtx_tree.specs.Patterns.{place_of}
-use Rattle.func_mean.specs.Run.{IsRunning, insn_count, go_on, run, run_of, entry_of, taken, taken_on, taken_from}
+use Rattle.func_mean.specs.Run.{IsRunning, insn_count, go_on, run, run_of, entry_of, taken, taken_on, taken_from, TakesEnough}
 
 -- ---- a step that goes on to the next instruction
 
@@ -148,6 +148,9 @@ module _ (world : World) (f : Function) where
       let r : Stepped = step world f s in
       bound_step n s r.1 r.0 (step_less s) (count_drop r.1.next f.insns) (bound n r.1) is
 
-  pub taken_enough : (start : Start) (n : ℕ) → IsRunning (run_of f start world n) → n ≤ (taken f start world n + 1) * (insn_count f.insns + 1)
+  taken_enough : (start : Start) (n : ℕ) → IsRunning (run_of f start world n) → n ≤ (taken f start world n + 1) * (insn_count f.insns + 1)
   unfolding Bound left
   taken_enough start n is = let b = bound n (entry_of start) is in omega arith
+
+pub takes_enough : TakesEnough
+takes_enough f start world n is = taken_enough world f start n is

@@ -1,6 +1,6 @@
 -- The run of a function from a start in a world: GCC Internals, "Insns" (a chain is followed from its first instruction); RISC-V ELF psABI, "Integer
 -- Register Convention" (what holds what at entry).
-use Rattle.std.specs.Prelude.{ℕ, zero, suc, Bool, true, false, List, [], ◌∷◌, map, slice_index, Option, if◌then◌else◌}
+use Rattle.std.specs.Prelude.{◌≡◌, ℕ, zero, suc, ◌+◌, ◌*◌, ◌≤◌, Bool, true, false, List, [], ◌∷◌, map, slice_index, Option, Some, None, if◌then◌else◌}
 use Rattle.std.specs.FinMap.{empty}
 use Rattle.bits64.specs.declared.Width.TheVariants.{W64}
 use Rattle.rtx_tree.specs.declared.function.Insn.{Insn}
@@ -111,3 +111,33 @@ IsRunning _ = ⊥
 abbrev pub insn_count : List Insn → ℕ
 insn_count [] = 0
 insn_count (i ∷ insns) = if is_mark i.kind then insn_count insns else suc (insn_count insns)
+
+-- An endless run takes jumps and makes calls without end: a run of a function of K instructions that goes on after n steps has taken
+-- so many of them that n is at most (taken + 1) * (K + 1).
+abbrev pub TakesEnough : Type 0
+TakesEnough = (f : Function) (start : Start) (world : World) (n : ℕ) → IsRunning (run_of f start world n) →
+    n ≤ (taken f start world n + 1) * (insn_count f.insns + 1)
+
+-- ---- the states of a run
+
+-- the state after n steps that all go on, or none where one of them ended the run
+abbrev pub state_after : World → Function → ℕ → State → Option State
+state_after world f zero s = Some s
+state_after world f (suc n) s = let e = step world f s in if goes_on e.0 then state_after world f n e.1 else None
+
+-- what a run of n steps comes to in m more, by the state after the n; once ended it stays
+abbrev pub run_on : World → Function → ℕ → ℕ → State → Option State → Outcome
+run_on world f n m s None = run world f n s
+run_on world f n m s (Some after) = run world f m after
+
+abbrev pub taken_more : World → Function → ℕ → ℕ → State → Option State → ℕ
+taken_more world f n m s None = taken_from world f n s
+taken_more world f n m s (Some after) = taken_from world f n s + taken_from world f m after
+
+-- A run is cut in two: n steps and m more are the n, and the m from the state after them.
+pub record IsCut (world : World) (f : Function) (n m : ℕ) (s : State) : Type 0 where
+  pub outcome : run world f (n + m) s ≡ run_on world f n m s (state_after world f n s)
+  pub taken_is : taken_from world f (n + m) s ≡ taken_more world f n m s (state_after world f n s)
+
+abbrev pub AreCut : Type 0
+AreCut = (world : World) (f : Function) (n m : ℕ) (s : State) → IsCut world f n m s

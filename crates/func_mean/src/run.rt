@@ -1,7 +1,7 @@
 //! The run of a function.
-ghost use Rattle.std.specs.Prelude.{◌≡◌, ◌+◌, ◌*◌, ◌≤◌, ◌<◌, ◌^◌, IfOk, OnOk, length};
+ghost use Rattle.std.specs.Prelude.{◌≡◌, ◌<◌, ◌^◌, IfOk, OnOk, length};
 ghost use Rattle.func_mean.specs.Run as spec;
-ghost use Rattle.func_mean.specs.Run.{IsRunning, insn_count, taken};
+ghost use Rattle.func_mean.specs.Run.{AreCut, TakesEnough};
 
 use crate::outcome::{Kept, Outcome};
 use bits64::Width;
@@ -164,8 +164,9 @@ pub fn run_function(
 ) -> Result<Outcome, Memory>
     requires { length f.now.insns < 2 ^ 32 }
     ensures run { IfOk result (λ outcome. outcome ≡ spec.run_of f.now start.now world.now n) }
-    // An endless run takes jumps and makes calls without end.
-    ensures taken { IsRunning (spec.run_of f.now start.now world.now n) → n ≤ (taken f.now start.now world.now n + 1) * (insn_count f.now.insns + 1) }
+    // An endless run takes jumps and makes calls without end, and a run is cut in two.
+    ensures taken { TakesEnough }
+    ensures cut { AreCut }
 {
     let state = entry_of(alloc, start)?;
     run_from(alloc, f, state, world, n)

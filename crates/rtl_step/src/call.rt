@@ -15,7 +15,7 @@ use std::alloc::Global;
 pub const RESULT_REGISTER: u64 = 10;
 
 /// An argument of a call.
-#[derive(Clone, Copy, Debug)]
+#[derive(Clone, Copy)]
 pub struct ArgValue {
     /// The hard register's number.
     pub reg: u8,

@@ -11,7 +11,7 @@ use run_memory::{load, store};
 use std::alloc::Global;
 
 /// What one part of an instruction does, its values and addresses taken.
-#[derive(Clone, Copy, Debug)]
+#[derive(Clone, Copy)]
 pub enum Effect {
     /// Nothing.
     Nothing,

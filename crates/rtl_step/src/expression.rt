@@ -10,7 +10,7 @@ use rtx_tree::{Code, Memories, Mode, Rtx, Symbols};
 use run_memory::{load, symbol_address};
 
 /// How an expression has its value.
-#[derive(Clone, Copy, Debug, PartialEq, Eq)]
+#[derive(Clone, Copy)]
 pub enum Class {
     /// What is known of a register.
     Register,

@@ -8,7 +8,7 @@ use bits64::Width;
 use rtx_tree::{Code, Memories, Rtx, Symbols};
 
 /// Where a jump leads.
-#[derive(Clone, Copy, Debug)]
+#[derive(Clone, Copy)]
 pub enum Way {
     /// To the next instruction.
     Falls,

@@ -32,7 +32,7 @@ pub struct State {
 }
 
 /// How a step ends.
-#[derive(Clone, Copy, Debug, PartialEq, Eq)]
+#[derive(Clone, Copy)]
 pub enum StepEnd {
     /// With the next instruction.
     Next,

@@ -4,7 +4,7 @@ use crate::name::Name;
 use plain_data::Items;
 
 /// A range of addresses.
-#[derive(Clone, Copy, Debug, PartialEq, Eq)]
+#[derive(Clone, Copy)]
 pub struct RangeAt {
     /// The first address.
     pub address: u64,
@@ -16,7 +16,7 @@ pub struct RangeAt {
 pub type Ranges = Items<RangeAt>;
 
 /// A symbol with its address.
-#[derive(Debug, Drop)]
+#[derive(Drop)]
 pub struct SymbolAt {
     /// The symbol.
     pub name: Name,

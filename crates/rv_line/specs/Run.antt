@@ -1,5 +1,5 @@
 -- The run of a list of lines and labels.
-use Rattle.std.specs.Prelude.{◌≡◌, ℕ, zero, suc, Bool, false, if◌then◌else◌, List, [], ◌∷◌, ◌++◌, Option, Some, None, slice_index, slice_set, bytes_eq}
+use Rattle.std.specs.Prelude.{◌≡◌, ℕ, zero, suc, ◌+◌, Bool, false, if◌then◌else◌, List, [], ◌∷◌, ◌++◌, Option, Some, None, slice_index, bytes_eq}
 use Rattle.rtx_tree.specs.Registers.{is_call_used}
 use Rattle.rtx_tree.specs.declared.machine.Start.{Start}
 use Rattle.rtx_tree.specs.declared.machine.World.{World}
@@ -16,7 +16,6 @@ use Rattle.rv_line.specs.declared.outcome.CodeCall.{CodeCall}
 use Rattle.rv_line.specs.declared.outcome.CodeOutcome.{CodeOutcome}
 use Rattle.rv_line.specs.declared.outcome.CodeOutcome.TheVariants as outcomes
 use Rattle.rv_line.specs.declared.outcome.Saved.{Saved}
-use Rattle.rv_line.specs.declared.registers.TheConstants.{HARD_REGISTERS}
 use Rattle.rv_line.specs.declared.state.RvState.{RvState}
 use Rattle.rv_line.specs.declared.state.LineEnd.{LineEnd}
 use Rattle.rv_line.specs.declared.state.LineEnd.TheVariants.{Next, Jumped, Called, Returned, Stuck}
@@ -41,19 +40,15 @@ entry_regs start =
 abbrev pub entry : Start → RvState
 entry start = record { regs = entry_regs start; entry_ra = start.ra; memory = start.memory }
 
--- the registers without one, if a called function need not preserve it
-abbrev pub unset_if_used : ℕ → List (Option ℕ) → List (Option ℕ)
-unset_if_used reg regs = if is_call_used reg then slice_set regs reg None else regs
-
--- the registers without those of some that a called function need not preserve
-abbrev pub unset_used : List ℕ → List (Option ℕ) → List (Option ℕ)
-unset_used [] regs = regs
-unset_used (reg ∷ rest) regs = unset_used rest (unset_if_used reg regs)
+-- what a call leaves in registers, from the one with a number on: those that a called function need not preserve are unset
+abbrev pub left_from : ℕ → List (Option ℕ) → List (Option ℕ)
+left_from reg [] = []
+left_from reg (value ∷ rest) = (if is_call_used reg then None else value) ∷ left_from (reg + 1) rest
 
 -- after a call a0 holds the reply's number, and the other registers that need not be preserved are unset; the reply's bytes are written
 abbrev pub after_call : Reply → RvState → RvState
 after_call reply state = record state {
-  regs = with_register (unset_used HARD_REGISTERS state.regs) 10 reply.value;
+  regs = with_register (left_from 0 state.regs) 10 reply.value;
   memory = written reply.writes state.memory;
 }
 

@@ -17,7 +17,7 @@ pub struct CodeCall {
 pub type CodeCalls = Items<CodeCall>;
 
 /// What the registers that a function has to preserve hold at its return.
-#[derive(Clone, Copy, Debug, PartialEq, Eq)]
+#[derive(Clone, Copy)]
 pub struct Saved {
     /// `sp`.
     pub sp: Option<u64>,

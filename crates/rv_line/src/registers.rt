@@ -4,14 +4,8 @@ ghost use Rattle.rv_line.specs.Run as spec;
 
 use crate::outcome::Saved;
 use crate::state::RvState;
-use rtx_tree::{Reply, Start, reg_call_used};
+use rtx_tree::{HARD_REGS, Reply, Start, reg_call_used};
 use run_memory::write_all;
-
-/// The numbers of the hard registers.
-pub const HARD_REGISTERS: [u8; 32] = [
-    0, 1, 2, 3, 4, 5, 6, 7, 8, 9, 10, 11, 12, 13, 14, 15, 16, 17, 18, 19, 20, 21, 22, 23, 24, 25,
-    26, 27, 28, 29, 30, 31,
-];
 
 /// The registers at entry.
 pub(crate) fn entry_regs(start: &Start) -> [Option<u64>; 32]
@@ -56,20 +50,14 @@ pub(crate) fn entry_regs(start: &Start) -> [Option<u64>; 32]
 }
 
 impl RvState {
-    fn unset_if_used(&mut self, reg: u8)
-        ensures { self.new ≡ record self.old { regs = spec.unset_if_used reg self.old.regs } }
+    /// Unsets the registers that a called function need not preserve.
+    fn unset_used(&mut self)
+        ensures { self.new ≡ record self.old { regs = spec.left_from 0 self.old.regs } }
     {
-        if reg_call_used(reg) {
-            self.regs[usize::from(reg)] = None;
-        }
-    }
-
-    /// Unsets those of some registers that a called function need not preserve.
-    fn unset_used(&mut self, regs: &[u8])
-        ensures { self.new ≡ record self.old { regs = spec.unset_used regs.now self.old.regs } }
-    {
-        for reg in regs {
-            self.unset_if_used(*reg);
+        for reg in 0..HARD_REGS {
+            if reg_call_used(reg) {
+                self.regs[usize::from(reg)] = None;
+            }
         }
     }
 
@@ -77,7 +65,7 @@ impl RvState {
     pub(crate) fn take_reply(&mut self, reply: &Reply)
         ensures { self.new ≡ spec.after_call reply.now self.old }
     {
-        self.unset_used(&HARD_REGISTERS);
+        self.unset_used();
         self.set_register(10, reply.value);
         write_all(&mut self.memory, &reply.writes);
     }

@@ -17,7 +17,7 @@ pub struct RvState {
 }
 
 /// How a line ends.
-#[derive(Clone, Copy, Debug, PartialEq, Eq)]
+#[derive(Clone, Copy, Debug)]
 pub enum LineEnd {
     /// The next line in the list follows.
     Next,

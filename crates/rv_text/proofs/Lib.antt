@@ -13,3 +13,4 @@ pub mod Marks
 pub mod Inner
 pub mod LabelTexts
 pub mod SpelledOnce
+pub mod Every

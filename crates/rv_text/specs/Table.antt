@@ -1,7 +1,7 @@
 -- The table of the lines of RV64I and M that are read and written: each mnemonic with its operands, as the assembler takes them, and with
 -- what a line of it does. Names of sections are those of "The RISC-V Instruction Set Manual, Volume I: Unprivileged ISA"; the assembly manual
 -- is the "RISC-V Assembly Programmer's Manual", whose pseudo-instructions are given by the instructions that they stand for.
-use Rattle.std.specs.Prelude.{ℕ, pos, negsuc, List, [], ◌∷◌, Option, Some, None, if◌then◌else◌, bytes_eq, codes, map}
+use Rattle.std.specs.Prelude.{◌≡◌, ℕ, pos, negsuc, List, [], ◌∷◌, Option, Some, None, if◌then◌else◌, bytes_eq, codes, map}
 use Rattle.bits64.specs.declared.Width.TheVariants.{W8, W16, W32, W64}
 use Rattle.rv_text.specs.declared.table.Row as code
 use Rattle.rv_text.specs.declared.action.Action.{Action}
@@ -200,3 +200,7 @@ find_row name (row ∷ rows) = if bytes_eq row.name name then Some row else find
 -- the row with a name
 abbrev pub row_named : List ℕ → Option Row
 row_named name = find_row name table
+
+-- the table has the row of every mnemonic, under its name
+abbrev pub HasEvery : Type 0
+HasEvery = (m : Mnemonic) → row_named (row_of m).name ≡ Some (row_of m)

@@ -13,7 +13,7 @@ use std::alloc::Global;
 use text_words::is_symbol;
 
 /// A line of assembly. What its mnemonic doesn't use is 0 or empty.
-#[derive(Debug, Drop)]
+#[derive(Drop)]
 pub struct Line {
     /// The mnemonic.
     pub name: Name,
@@ -30,7 +30,7 @@ pub struct Line {
 }
 
 /// What the code of a function is made of.
-#[derive(Debug, Drop)]
+#[derive(Drop)]
 pub enum CodeItem {
     /// A label, which stands for an instruction of a function.
     Label {

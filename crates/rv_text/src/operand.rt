@@ -1,7 +1,7 @@
 //! The operands of a line.
 
 /// One of the parts of a line's text that commas part, with the part of the line that it names.
-#[derive(Clone, Copy, Debug, PartialEq, Eq)]
+#[derive(Clone, Copy)]
 pub enum Operand {
     /// The name of the register `rd`.
     Rd,

@@ -6,7 +6,7 @@ ghost use Rattle.rv_text.specs.Lines as lines;
 ghost use Rattle.rv_text.specs.Lines.{parts_view};
 ghost use Rattle.rv_text.specs.Text as spec;
 ghost use Rattle.rv_text.specs.Text.{Finds, Sets, IsListed, IsListedFrom, IsRestOf, IsTextOf};
-ghost use Rattle.rv_text.specs.Table.{row_view};
+ghost use Rattle.rv_text.specs.Table.{HasEvery, row_view};
 
 use crate::line::{Line, Parts, is_within};
 use crate::operand::Operand;
@@ -328,6 +328,7 @@ pub fn parse_line(alloc: Global, bytes: &[u8]) -> Result<Option<Line>, Memory>
     ensures line { IfOk result (Finds (IsTextOf bytes.now)) }
     ensures action { IfOk result (λ found. IfSome found (λ line. IsSome (lines.action_of line))) }
     ensures one { (text : List ℕ) (a b : Line) → IsTextOf text a → IsTextOf text b → a ≡ b }
+    ensures every { HasEvery }
 {
     match read_parts(bytes) {
         None => Ok(None),

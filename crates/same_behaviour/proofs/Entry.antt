@@ -15,7 +15,7 @@ use Rattle.func_mean.specs.Run as rtl
 use Rattle.rv_line.specs.Run as lines
 use Rattle.rv_line.specs.Step.{register}
 use Rattle.same_behaviour.specs.Direct.{IsArgument}
-use Rattle.same_behaviour.specs.Same.{AreWords, IsLawful, is_below_sp, locals_range, seen_by_rtl}
+use Rattle.same_behaviour.specs.Lawful.{AreWords, IsLawful, is_below_sp, locals_range, seen_by_rtl}
 use Rattle.same_behaviour.proofs.Registers.{AreWide, wide_empty, wide_after, value_set, value_kept, low_same}
 use Rattle.same_behaviour.proofs.Insns.{Agree}
 
@@ -111,6 +111,7 @@ stays frame locals start lawful address true fits room is =
     in_locals start locals address (omega (arith, fits, lawful.above_zero)) (any_of_both (is_in address) lawful.ranges (locals_range start locals) is (lawful.apart address room))
 
 -- of what is visible it sees all
-pub visible_at_entry : (frame locals : ℕ) (start : Start) → locals ≤ frame → IsLawful frame locals start → visible start.visible start.memory ≡ visible start.visible (seen_by_rtl frame locals start).memory
-visible_at_entry frame locals start fits lawful = sym (kept (λ (b : MemByte). is_visible start.visible b.address) (λ b. not (is_below_sp start frame b.address) || is_below_sp start locals b.address) start.memory
-    (λ b is. stays frame locals start lawful b.address (is_below_sp start frame b.address) fits refl (sym (ap (λ ranges. is_visible ranges b.address) lawful.visible_is) ∙ is)))
+pub visible_at_entry : (frame locals : ℕ) (start : Start) → IsLawful frame locals start →
+    visible start.visible start.memory ≡ visible start.visible (seen_by_rtl frame locals start).memory
+visible_at_entry frame locals start lawful = sym (kept (λ (b : MemByte). is_visible start.visible b.address) (λ b. not (is_below_sp start frame b.address) || is_below_sp start locals b.address) start.memory
+    (λ b is. stays frame locals start lawful b.address (is_below_sp start frame b.address) lawful.holds refl (sym (ap (λ ranges. is_visible ranges b.address) lawful.visible_is) ∙ is)))

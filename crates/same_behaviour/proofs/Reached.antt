@@ -1,5 +1,5 @@
 -- The places that a run of direct code reaches are those to which paths lead.
-use Rattle.std.proofs.Common.{◌≡◌, ◌≢◌, ◌≤◌, ℕ, ◌+◌, Bool, true, false, ◌||◌, ◌==◌, List, [], ◌∷◌, Some, refl, ap, ◌∙◌, arith}
+use Rattle.std.proofs.Common.{◌≡◌, ◌≢◌, ℕ, ◌+◌, Bool, true, false, ◌||◌, ◌==◌, List, [], ◌∷◌, Some, refl, ap, ◌∙◌, arith}
 use Rattle.std.proofs.lemmas.Bool.Decides.{nat_tests}
 use Rattle.std.specs.Prelude.{slice_get, if◌then◌else◌}
 use Rattle.std.specs.Option.{option_to_list}
@@ -86,6 +86,7 @@ reached_by_paths f = record {
       ap (λ b. (p + 1 == q) || (b || false)) (is_here q) ∙ or_true (p + 1 == q));
 }
 
--- the items of direct code, which uses no stack, have the same behaviour as the function, whatever frame holds its locals
-pub direct_code_is_same : (number frame : ℕ) (f : Function) (items : List CodeItem) → f.locals ≤ frame → IsCodeOf number f items → Same frame f items
-direct_code_is_same number frame f items fits code = same_where_reached number frame f (Path f.insns 0) (reached_by_paths f) code.ending items fits (Here 0) code.are code.ends
+-- the items of direct code, which uses no stack, have the same behaviour as the function, whatever frame it is said to need
+pub direct_code_is_same : (number least : ℕ) (f : Function) (items : List CodeItem) → IsCodeOf number f items → Same least f items
+direct_code_is_same number least f items code =
+    same_where_reached number least f (Path f.insns 0) (reached_by_paths f) code.ending items (Here 0) code.are code.ends

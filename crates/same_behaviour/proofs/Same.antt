@@ -11,7 +11,8 @@ use Rattle.func_mean.specs.Run as func
 use Rattle.rv_text.specs.declared.line.CodeItem.{CodeItem}
 use Rattle.rv_line.specs.Run as lines
 use Rattle.same_behaviour.specs.Direct.{AreItemsOf, IsEnding}
-use Rattle.same_behaviour.specs.Same.{IsLawful, Same, seen_by_rtl}
+use Rattle.same_behaviour.specs.Lawful.{IsLawful, seen_by_rtl}
+use Rattle.same_behaviour.specs.Same.{Same}
 use Rattle.same_behaviour.proofs.Entry.{agree_at_entry, wide_at_entry, visible_at_entry}
 use Rattle.same_behaviour.proofs.Follows.{Follows}
 use Rattle.same_behaviour.proofs.Direct.{AreReached}
@@ -33,12 +34,12 @@ taken_few world f (suc n) s = let e = rtl_step.step world f s in taken_once e.0 
 
 -- ---- entry
 
-follows_at_entry : (frame locals : ℕ) (start : Start) → locals ≤ frame → IsLawful frame locals start → Follows start (func.entry_of (seen_by_rtl frame locals start)) (lines.entry start)
-follows_at_entry frame locals start fits lawful = record {
+follows_at_entry : (frame locals : ℕ) (start : Start) → IsLawful frame locals start → Follows start (func.entry_of (seen_by_rtl frame locals start)) (lines.entry start)
+follows_at_entry frame locals start lawful = record {
   agree = agree_at_entry (seen_by_rtl frame locals start) (record { args = lawful.words.args; saved = lawful.words.saved; sp = lawful.words.sp; ra = lawful.words.ra });
   long = refl;
   wide = wide_at_entry (seen_by_rtl frame locals start);
-  memory_is = visible_at_entry frame locals start fits lawful;
+  memory_is = visible_at_entry frame locals start lawful;
   ra_is = refl;
   saved_is = refl;
   visible_is = refl;
@@ -47,10 +48,12 @@ follows_at_entry frame locals start fits lawful = record {
 
 -- ---- the law
 
-pub same_where_reached : (number frame : ℕ) (f : Function) (Reached : ℕ → Type 0) (graph : AreReached f Reached) (ending items : List CodeItem) → f.locals ≤ frame → Reached 0 → AreItemsOf number ending f.insns items → IsEnding (Reached (length f.insns)) ending → Same frame f items
-same_where_reached number frame f Reached graph ending items fits first all ended = λ start world n lawful lawful_world defined. (
+pub same_where_reached : (number least : ℕ) (f : Function) (Reached : ℕ → Type 0) (graph : AreReached f Reached)
+    (ending items : List CodeItem) → Reached 0 → AreItemsOf number ending f.insns items → IsEnding (Reached (length f.insns)) ending →
+    Same least f items
+same_where_reached number least f Reached graph ending items first all ended = λ frame start world n enough lawful lawful_world defined. (
   n,
   taken_few world f n (func.entry_of (seen_by_rtl frame f.locals start)),
   agrees number f Reached graph ending items all ended start world n (func.entry_of (seen_by_rtl frame f.locals start)) items (lines.entry start)
-      (record { within = omega arith; reached = first; there = items; are = all; same = refl }) (follows_at_entry frame f.locals start fits lawful) defined,
+      (record { within = omega arith; reached = first; there = items; are = all; same = refl }) (follows_at_entry frame f.locals start lawful) defined,
 )

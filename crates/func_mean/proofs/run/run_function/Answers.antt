@@ -1,8 +1,15 @@
-use Rattle.func_mean.proofs.Law.{taken_enough}
+use Rattle.func_mean.proofs.Law.{takes_enough}
+use Rattle.func_mean.proofs.Cuts.{are_cut}
 use Rattle.func_mean.proofs.run.run_function.Goals as goal
 
 pub returns-in_err-state-clause-taken : goal.returns-in_err-state-clause-taken
-returns-in_err-state-clause-taken c = taken_enough c.args.world.now c.args.f.now c.args.start.now c.args.n
+returns-in_err-state-clause-taken c = takes_enough
 
 pub returns-clause-taken : goal.returns-clause-taken
-returns-clause-taken c = taken_enough c.args.world.now c.args.f.now c.args.start.now c.args.n
+returns-clause-taken c = takes_enough
+
+pub returns-in_err-state-clause-cut : goal.returns-in_err-state-clause-cut
+returns-in_err-state-clause-cut c = are_cut
+
+pub returns-clause-cut : goal.returns-clause-cut
+returns-clause-cut c = are_cut

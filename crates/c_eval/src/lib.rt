@@ -2,7 +2,7 @@
 //!
 //! What a condition is worth is defined in `specs/Value.antt`: a number of 64 signed bits, which is 0 where
 //! a shift count or an accessor that C evaluates has no value. [`eval`] gives it. [`Facts`] is what is
-//! known besides the operands, and [`Preds`] says which trees predicates accept. [`eval_test`] gives what
+//! known besides the operands, and [`Preds`] says which trees predicates accept. [`eval_test`] and [`test_worth`] give what
 //! the test of a predicate is worth for an operand, and [`read`] what the last tree of a row of heads is
 //! read as. None of them takes memory, and their calls are nested no deeper than a number has bits, however
 //! deep a condition is (`src/walk.rt`).
@@ -22,4 +22,4 @@ mod worth;
 pub use facts::{DeadTable, Facts};
 pub use preds::Preds;
 pub use reading::Reading;
-pub use worth::{eval, eval_test, read};
+pub use worth::{eval, eval_test, read, test_worth};

@@ -35,9 +35,9 @@ pub fn eval<P: Preds>(cond: &Cond, facts: &Facts, operands: &Operands, preds: &P
         .unwrap_or(0)
 }
 
-/// What the test of a predicate is worth for an operand. No memory is taken, and nesting has no limit.
-pub fn eval_test(test: &Cond, x: &Rtx) -> i64
-    ensures { result ≡ spec.worth (spec.under_test x.now) test.now }
+/// What the test of a predicate, given by its heads, is worth for an operand. No memory is taken, and nesting has no limit.
+pub fn test_worth(heads: &[Head], x: &Rtx) -> i64
+    ensures { result ≡ spec.worth (spec.under_test x.now) (tree_of heads.now) }
 {
     let known = Known {
         reloaded: false,
@@ -46,5 +46,12 @@ pub fn eval_test(test: &Cond, x: &Rtx) -> i64
         operands: Given::Tested(x),
         preds: &NoPreds,
     };
-    read_last(&known, test.heads()).number().unwrap_or(0)
+    read_last(&known, heads).number().unwrap_or(0)
+}
+
+/// What the test of a predicate is worth for an operand. No memory is taken, and nesting has no limit.
+pub fn eval_test(test: &Cond, x: &Rtx) -> i64
+    ensures { result ≡ spec.worth (spec.under_test x.now) test.now }
+{
+    test_worth(test.heads(), x)
 }

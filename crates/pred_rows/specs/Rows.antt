@@ -2,6 +2,7 @@
 use Rattle.std.specs.Prelude.{◌≡◌, ℕ, ◌<◌, Bool, false, not, ◌&&◌, ◌||◌, List, [], ◌∷◌, ◌++◌, length, slice_index_or, if◌then◌else◌}
 use Rattle.rtx_tree.specs.declared.code.Mode.{Mode}
 use Rattle.rtx_tree.specs.declared.tree.Rtx.{Rtx}
+use Rattle.c_cond.specs.Tree.{tree_of}
 use Rattle.pred_expr.specs.declared.question.Test.{Test}
 use Rattle.pred_rows.specs.declared.node.Node.{Node}
 use Rattle.pred_rows.specs.declared.node.Node.TheVariants as node
@@ -14,7 +15,7 @@ answer_at answers place = slice_index_or answers place false
 -- the answer of a node, with the answers of the nodes before it
 abbrev pub node_answer : Accepts → Rtx → Mode → List Bool → Node → Bool
 node_answer accepts x m before (node.Codes cs) = has_code cs x
-node_answer accepts x m before (node.Condition c) = condition_holds c x
+node_answer accepts x m before (node.Condition heads) = condition_holds (tree_of heads) x
 node_answer accepts x m before (node.Predicate name own) = accepts name x (mode_or own m)
 node_answer accepts x m before (node.And a b) = answer_at before a && answer_at before b
 node_answer accepts x m before (node.Ior a b) = answer_at before a || answer_at before b

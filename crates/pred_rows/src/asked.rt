@@ -1,12 +1,13 @@
 //! What questions ask.
 ghost use Rattle.std.specs.Prelude.{◌≡◌};
+ghost use Rattle.c_cond.specs.Tree.{tree_of};
 ghost use Rattle.c_eval.specs.Value.{is_a};
 ghost use Rattle.pred_rows.specs.Rows as rows;
 ghost use Rattle.pred_rows.specs.Tests as spec;
 
 use crate::node::Node;
-use c_cond::Cond;
-use c_eval::{Preds, eval_test};
+use c_cond::Head;
+use c_eval::{Preds, test_worth};
 use rtx_tree::{Code, Mode, Rtx};
 
 /// Whether an operand has a code.
@@ -24,11 +25,11 @@ pub fn has_code(codes: &[Code], x: &Rtx) -> bool
     codes.iter().any(|code| is_a(*code, x))
 }
 
-/// Whether a condition isn't 0 for an operand.
-pub fn condition_holds(condition: &Cond, x: &Rtx) -> bool
-    ensures { result ≡ spec.condition_holds condition.now x.now }
+/// Whether a condition, given by its heads, isn't 0 for an operand.
+pub fn condition_holds(heads: &[Head], x: &Rtx) -> bool
+    ensures { result ≡ spec.condition_holds (tree_of heads.now) x.now }
 {
-    eval_test(condition, x) != 0
+    test_worth(heads, x) != 0
 }
 
 /// The mode in which an inner predicate is asked: its own, or that of the call where it has none.
@@ -59,7 +60,7 @@ fn node_answer<P: Preds>(before: &[Node], node: &Node, preds: &P, x: &Rtx, mode:
 {
     match node {
         Node::Codes(codes) => has_code(codes.as_slice(), x),
-        Node::Condition(condition) => condition_holds(condition, x),
+        Node::Condition(heads) => condition_holds(heads.as_slice(), x),
         Node::Predicate { name, mode: own } => preds.holds(name, x, mode_or(*own, mode)),
         Node::And(a, b) => {
             holds_at(before, *a, preds, x, mode) && holds_at(before, *b, preds, x, mode)

@@ -1,10 +1,23 @@
 //! Copies of what questions have.
 ghost use Rattle.std.specs.Prelude.{◌≡◌, IfOk};
 
+use crate::node::Heads;
+use c_cond::Head;
 use plain_data::{Items, Memory};
 use pred_expr::Codes;
 use rtx_tree::Code;
 use std::alloc::Global;
+
+/// The same heads once more.
+pub fn heads_copy(alloc: Global, heads: &[Head]) -> Result<Heads, Memory>
+    ensures { IfOk result (λ copy. copy ≡ heads.now) }
+{
+    let mut copy = Items::new(alloc);
+    for head in heads {
+        copy.push(head.copy(alloc)?)?;
+    }
+    Ok(copy)
+}
 
 /// The same codes once more.
 pub fn codes_copy(alloc: Global, codes: &[Code]) -> Result<Codes, Memory>

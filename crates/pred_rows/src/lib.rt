@@ -11,5 +11,5 @@ mod node;
 mod row;
 
 pub use asked::{condition_holds, has_code, mode_or};
-pub use node::{Node, Nodes};
+pub use node::{Heads, Node, Nodes};
 pub use row::TestRows;

@@ -4,7 +4,7 @@ ghost use Rattle.pred_rows.specs.Rows as spec;
 ghost use Rattle.pred_rows.specs.Steps as steps;
 
 use crate::asked::holds_at;
-use crate::copy::codes_copy;
+use crate::copy::{codes_copy, heads_copy};
 use crate::node::{Node, Nodes};
 use c_eval::Preds;
 use plain_data::{Items, Memory};
@@ -42,7 +42,9 @@ fn alone(alloc: Global, question: &Question) -> Result<Node, Memory>
 {
     match question {
         Question::Codes(codes) => Ok(Node::Codes(codes_copy(alloc, codes.as_slice())?)),
-        Question::Condition(condition) => Ok(Node::Condition(condition.copy(alloc)?)),
+        Question::Condition(condition) => {
+            Ok(Node::Condition(heads_copy(alloc, condition.heads())?))
+        }
         Question::Predicate { name, mode } => Ok(Node::Predicate {
             name: name.copy(alloc)?,
             mode: *mode,

@@ -30,7 +30,7 @@ use Rattle.c_words.specs.declared.head.Head.TheVariants as head
 use Rattle.c_words.specs.declared.keyword.Keyword.TheVariants as keyword
 use Rattle.c_words.proofs.Codes.{none_that}
 use Rattle.c_words.proofs.Listed.{Known, both, known_code, known_constant, known_keyword, known_mode, known_target, or_first, or_second, same_bytes}
-use Rattle.c_words.specs.Words.{call_name, keyword_name, all_keywords, keyword_named, mode_named, small, is_small, code_with_name, code_named, is_target, constant_named}
+use Rattle.c_words.specs.Words.{call_name, keyword_name, all_keywords, keyword_named, mode_named, small, is_small, code_of_name, code_with_name, code_named, is_target, constant_named}
 use Rattle.c_words.specs.Atoms.{atom_of, atom_of_name, predicate_or_nothing, target_number}
 use Rattle.c_words.specs.Numbers.{number_in}
 use Rattle.c_words.specs.Tokens.{in_word, is_no_word, operator_with_equals, operator_of_two, token_of_byte, number_or_bad, token_of_run}
@@ -202,10 +202,14 @@ zero_no_keyword : (run : List ℕ) → keyword_named (run ++ 48 ∷ []) ≡ None
 zero_no_keyword run = none_that (λ k. bytes_eq (keyword_name k) (run ++ 48 ∷ [])) all_keywords (λ k. other_end (keyword_name k) (run ++ 48 ∷ []) (keyword_end k) (last_zero run))
 
 zero_no_code : (run : List ℕ) → code_named (run ++ 48 ∷ []) ≡ None
+unfolding last_of code_of_name
 zero_no_code run = by_test (list_all (λ b. not (is_small b)) (run ++ 48 ∷ []))
   where
+    no_return : bytes_eq (map small (run ++ 48 ∷ [])) (codes "simple_return") ≡ false
+    no_return = other_end_back (map small (run ++ 48 ∷ [])) (codes "simple_return") (last_small run) refl
+
     none : code_with_name (map small (run ++ 48 ∷ [])) ≡ None
-    none = none_that (λ c. bytes_eq (code_name c) (map small (run ++ 48 ∷ []))) all_codes (λ c. other_end (code_name c) (map small (run ++ 48 ∷ [])) (code_end c) (last_small run))
+    none = rw no_return (none_that (λ c. bytes_eq (code_name c) (map small (run ++ 48 ∷ []))) all_codes (λ c. other_end (code_name c) (map small (run ++ 48 ∷ [])) (code_end c) (last_small run)))
 
     by_test : (t : Bool) → cond t (code_with_name (map small (run ++ 48 ∷ []))) None ≡ None
     by_test true = none

@@ -10,7 +10,7 @@ use std::alloc::Global;
 use std::marker::Model;
 
 /// What must come next, or may.
-#[derive(Debug, Drop)]
+#[derive(Drop)]
 pub enum Goal {
     /// This byte must come.
     Mark(u8),

@@ -26,7 +26,7 @@ use thiserror::Error;
 
 /// A condition. Contracts see its tree. It is kept as the heads of the tree, each behind its parts, so
 /// that no depth of nesting takes more than memory.
-#[derive(Debug, Drop)]
+#[derive(Drop)]
 pub struct Cond {
     heads: Items<Head>,
 }
@@ -46,7 +46,26 @@ impl Model for Cond {
     ghost invariant = { λ cond. heads_of (tree_of cond.heads) ≡ cond.heads };
 }
 
+/// The same heads once more.
+fn heads_copy(alloc: Global, heads: &[Head]) -> Result<Items<Head>, Memory>
+    ensures { IfOk result (λ copy. copy ≡ heads.now) }
+{
+    let mut copy = Items::new(alloc);
+    for head in heads {
+        copy.push(head.copy(alloc)?)?;
+    }
+    Ok(copy)
+}
+
 impl Cond {
+    /// The same condition once more.
+    pub fn copy(&self, alloc: Global) -> Result<Cond, Memory>
+        ensures { IfOk result (λ cond. cond ≡ self.now) }
+    {
+        let heads = heads_copy(alloc, self.heads.as_slice())?;
+        Ok(Cond { heads })
+    }
+
     /// The heads of the tree, each behind its parts.
     pub fn heads(&self) -> &[Head]
         ensures heads { result.now ≡ heads_of self.now }
@@ -58,7 +77,7 @@ impl Cond {
 
 /// Preparation statements. Contracts see their tree. They are kept as the heads of the tree, each behind
 /// its parts.
-#[derive(Debug, Drop)]
+#[derive(Drop)]
 pub struct Prep {
     heads: Items<Head>,
 }
@@ -89,7 +108,7 @@ impl Prep {
 }
 
 /// Why a text was not read.
-#[derive(Clone, Copy, Debug, PartialEq, Eq, Error)]
+#[derive(Clone, Copy, Debug, Error)]
 pub enum CondRefusal {
     /// The text is not in the grammar. The offset ends the longest prefix of it that begins a text of the
     /// grammar: it is the number of that prefix's bytes.

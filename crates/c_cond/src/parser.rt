@@ -10,7 +10,7 @@ use rtx_tree::Constant;
 use std::alloc::Global;
 
 /// Why a token was not read.
-#[derive(Clone, Copy, Debug, PartialEq, Eq)]
+#[derive(Clone, Copy)]
 pub enum StepError {
     /// No text goes on so.
     Outside,

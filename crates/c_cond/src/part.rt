@@ -5,7 +5,7 @@ ghost use Rattle.c_cond.specs.Grammar as spec;
 use c_words::{Binary, Call, Token, Unary};
 
 /// A part of a call.
-#[derive(Clone, Copy, Debug, PartialEq, Eq)]
+#[derive(Clone, Copy)]
 pub enum Part {
     /// An expression none of whose outer operators binds less tightly than the level.
     Expression { level: u8 },
@@ -22,7 +22,7 @@ pub enum Part {
 }
 
 /// The parts of a call.
-#[derive(Clone, Copy, Debug, PartialEq, Eq)]
+#[derive(Clone, Copy)]
 pub enum Signature {
     None,
     One(Part),

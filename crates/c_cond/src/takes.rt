@@ -3,6 +3,7 @@ ghost use Rattle.std.specs.Prelude.{◌≡◌, List, [], ◌∷◌, OnOk, IfOk, 
 ghost use Rattle.bits64.specs.Words.{signed};
 ghost use Rattle.bits64.specs.declared.Width.TheVariants as Width;
 ghost use Rattle.c_words.specs.Words as words;
+ghost use Rattle.c_words.specs.declared.keyword.Keyword.TheVariants as keyword;
 ghost use Rattle.c_cond.specs.Grammar.{comparison_with, comparison_of, value_mode_named};
 ghost use Rattle.c_cond.specs.machine.Steps as spec;
 ghost use Rattle.c_cond.specs.machine.Steps.{Takes};
@@ -200,19 +201,37 @@ impl Goals {
         }
     }
 
-    fn operand_by(&mut self, dialect: Dialect, keyword: Option<Keyword>) -> Result<bool, Memory>
-        ensures { Takes result self.old self.new (spec.operand_by dialect keyword self.old) }
+    fn operands(&mut self, dialect: Dialect) -> Result<bool, Memory>
+        ensures { Takes result self.old self.new (spec.operand_by dialect (Option.Some keyword.Operands) self.old) }
     {
-        match (dialect, keyword) {
-            (Dialect::Condition, Some(Keyword::Operands)) => {
+        match dialect {
+            Dialect::Condition => {
                 self.push(Goal::Index)?;
                 self.push(Goal::Mark(b'['))?;
                 Ok(true)
             }
-            (Dialect::Test, Some(Keyword::Op)) => {
+            Dialect::Test => Ok(false),
+        }
+    }
+
+    fn tested(&mut self, dialect: Dialect) -> Result<bool, Memory>
+        ensures { Takes result self.old self.new (spec.operand_by dialect (Option.Some keyword.Op) self.old) }
+    {
+        match dialect {
+            Dialect::Condition => Ok(false),
+            Dialect::Test => {
                 self.push(Goal::Yield(Head::Operand(0)))?;
                 Ok(true)
             }
+        }
+    }
+
+    fn operand_by(&mut self, dialect: Dialect, keyword: Option<Keyword>) -> Result<bool, Memory>
+        ensures { Takes result self.old self.new (spec.operand_by dialect keyword self.old) }
+    {
+        match keyword {
+            Some(Keyword::Operands) => self.operands(dialect),
+            Some(Keyword::Op) => self.tested(dialect),
             _ => Ok(false),
         }
     }

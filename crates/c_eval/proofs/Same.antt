@@ -16,9 +16,9 @@ use Rattle.rtx_tree.specs.declared.tree.Rtx.TheFolds.{fold-roll-Rtx, ind-Rtx}
 use Rattle.rtx_tree.specs.Code.{code_name, mode_name}
 use Rattle.rtx_tree.specs.Tree.{Head, head_of, kids_of}
 use Rattle.rtx_tree.proofs.Trees.{same_parts, head_of-tree, kids_of-tree}
-use Rattle.c_words.specs.Words.{code_with_name}
+use Rattle.c_words.specs.Words.{code_of_name}
 use Rattle.c_words.proofs.Codes.{named_is}
-use Rattle.c_eval.specs.Value.{same_behaviour, same_mode, all_same, same_step, same_tree}
+use Rattle.c_eval.specs.Value.{same_code, same_mode, all_same, same_step, same_tree}
 
 -- two tests of one fact have one answer
 one_answer : {P : Type 0} (found test : Bool) → (IsTrue found ↔ P) → Decides test P → found ≡ test
@@ -30,15 +30,15 @@ one_answer false false is decides = refl
 
 code_apart : (a b : Code) → code_name a ≡ code_name b → a ≡ b
 code_apart a b e =
-    let first : Some a ≡ code_with_name (code_name b) = named_is (Some a) (code_name b) e in
-    let second : Some b ≡ code_with_name (code_name b) = named_is (Some b) (code_name b) refl in
+    let first : Some a ≡ code_of_name (code_name b) = named_is (Some a) (code_name b) e in
+    let second : Some b ≡ code_of_name (code_name b) = named_is (Some b) (code_name b) refl in
     cc
 
-code_decides : (a b : Code) → Decides (same_behaviour a b) (a ≡ b)
+code_decides : (a b : Code) → Decides (same_code a b) (a ≡ b)
 code_decides a b = (λ e. code_apart a b ((bytes_eq-Decides (code_name a) (code_name b)).0 e), λ e. (bytes_eq-Decides (code_name a) (code_name b)).1 (ap code_name e))
 
-pub code_is : (a b : Code) (found : Bool) → (IsTrue found ↔ (a ≡ b)) → found ≡ same_behaviour a b
-code_is a b found is = one_answer found (same_behaviour a b) is (code_decides a b)
+pub code_is : (a b : Code) (found : Bool) → (IsTrue found ↔ (a ≡ b)) → found ≡ same_code a b
+code_is a b found is = one_answer found (same_code a b) is (code_decides a b)
 
 -- the mode with a name, by its first letter
 mode_called : List ℕ → Mode

@@ -44,14 +44,14 @@ under_test x = setting test_facts (Some x ∷ []) (λ name tree mode. false)
 -- ---- accessors
 
 -- codes and modes are the same where their names are
-abbrev pub same_behaviour : Code → Code → Bool
-same_behaviour a b = bytes_eq (code_name a) (code_name b)
+abbrev pub same_code : Code → Code → Bool
+same_code a b = bytes_eq (code_name a) (code_name b)
 
 abbrev pub same_mode : Mode → Mode → Bool
 same_mode a b = bytes_eq (mode_name a) (mode_name b)
 
 abbrev pub is_a : Code → Rtx → Bool
-is_a c x = same_behaviour (out-Rtx x).code c
+is_a c x = same_code (out-Rtx x).code c
 
 -- the number of a tree of a code; any other tree has none
 abbrev pub number_in : Code → Rtx → Option ℤ
@@ -65,7 +65,7 @@ all_same _ _ = false
 
 abbrev pub same_step : Rtx-F (Rtx → Bool) → Rtx → Bool
 same_step x y =
-    same_behaviour x.code (out-Rtx y).code && (same_mode x.mode (out-Rtx y).mode && (int_eq x.number (out-Rtx y).number && (bytes_eq x.name (out-Rtx y).name && all_same x.kids (out-Rtx y).kids)))
+    same_code x.code (out-Rtx y).code && (same_mode x.mode (out-Rtx y).mode && (int_eq x.number (out-Rtx y).number && (bytes_eq x.name (out-Rtx y).name && all_same x.kids (out-Rtx y).kids)))
 
 abbrev pub same_tree : Rtx → Rtx → Bool
 same_tree = fold-Rtx (Rtx → Bool) same_step

@@ -8,8 +8,8 @@ use c_cond::Call;
 use rtx_tree::{Code, Mode, RegSet, Rtx, same};
 
 #[tactic(auto, using(crate::proofs::Same::code_is))]
-fn same_behaviour(a: Code, b: Code) -> bool
-    ensures { result ≡ spec.same_behaviour a b }
+fn same_code(a: Code, b: Code) -> bool
+    ensures { result ≡ spec.same_code a b }
 {
     a.same(b)
 }
@@ -25,7 +25,7 @@ fn same_mode(a: Mode, b: Mode) -> bool
 fn is_a(code: Code, x: &Rtx) -> bool
     ensures { result ≡ spec.is_a code x.now }
 {
-    same_behaviour(x.code, code)
+    same_code(x.code, code)
 }
 
 /// The number of a tree of a code; any other tree has none.

@@ -6,13 +6,14 @@ use Rattle.std.proofs.lemmas.Slice.Eq.{bytes_eq-Decides}
 use Rattle.rtx_tree.specs.declared.code.Code.{Code}
 use Rattle.rtx_tree.specs.declared.code.Code.TheVariants as code
 use Rattle.rtx_tree.specs.Code.{code_name, all_codes}
-use Rattle.c_words.specs.Words.{first_that, code_with_name}
+use Rattle.c_words.specs.Words.{first_that, code_of_name}
 
 pub none_that : {A : Type 0} (test : A → Bool) (xs : List A) → ((x : A) → test x ≡ false) → first_that test xs ≡ None
 none_that test [] h = refl
 none_that test (x ∷ xs) h = rw (h x) (none_that test xs h)
 
-found : (c : Code) → code_with_name (code_name c) ≡ Some c
+found : (c : Code) → code_of_name (code_name c) ≡ Some c
+unfolding code_of_name
 found code.Reg = refl
 found code.ConstInt = refl
 found code.SymbolRef = refl
@@ -69,6 +70,7 @@ not_equal a b n = by_test (bytes_eq a b) refl
     by_test false e = e
     by_test true e = absurd (n ((bytes_eq-Decides a b).0 e))
 
-pub named_is : (o : Option Code) (name : List ℕ) → MatchOption o ((c : Code) → code_name c ≢ name) (λ c. code_name c ≡ name) → o ≡ code_with_name name
+pub named_is : (o : Option Code) (name : List ℕ) → MatchOption o ((c : Code) → code_name c ≢ name) (λ c. code_name c ≡ name) → o ≡ code_of_name name
+unfolding code_of_name
 named_is None name h = sym (none_that (λ c. bytes_eq (code_name c) name) all_codes (λ c. not_equal (code_name c) name (h c)))
-named_is (Some c) name h = sym (found c) ∙ ap code_with_name h
+named_is (Some c) name h = sym (found c) ∙ ap code_of_name h

@@ -7,13 +7,14 @@ use Rattle.std.proofs.lemmas.List.Folds.{list_any-append}
 use Rattle.std.proofs.lemmas.Slice.Eq.{bytes_eq-Decides}
 use Rattle.std.proofs.lemmas.Bool.{le-leb, leb-true}
 use Rattle.rtx_tree.specs.declared.code.Code.{Code}
+use Rattle.rtx_tree.specs.declared.code.Code.TheVariants.{Return}
 use Rattle.rtx_tree.specs.declared.code.Mode.{Mode}
 use Rattle.rtx_tree.specs.declared.code.Mode.TheVariants as mode
 use Rattle.rtx_tree.specs.declared.constants.Constant.{Constant}
 use Rattle.rtx_tree.specs.Code.{code_name, all_codes}
 use Rattle.c_words.specs.declared.keyword.Keyword.{Keyword}
-use Rattle.c_words.specs.Words.{first_that, keyword_name, all_keywords, keyword_named, mode_named, is_capital, is_small, small, code_with_name, code_named, constant_named}
-use Rattle.c_words.specs.machine.Known.{mode_words, capital, code_word, known_words}
+use Rattle.c_words.specs.Words.{first_that, keyword_name, all_keywords, keyword_named, mode_named, is_capital, is_small, small, code_of_name, code_with_name, code_named, constant_named}
+use Rattle.c_words.specs.machine.Known.{first_words, capital, code_word, known_words}
 
 some_is : {A : Type 0} {x y : A} → Some x ≡ Some y → x ≡ y
 some_is e = cc
@@ -75,7 +76,7 @@ first_listed f test q (y ∷ ys) x e h = by_test (test y) refl e (λ e. first_li
 pub known_keyword : (cs : List Constant) (q : List ℕ → Bool) (word : List ℕ) (k : Keyword) → keyword_named word ≡ Some k → q word ≡ true → Known q cs
 unfolding Known
 known_keyword cs q word k e h =
-    in_second q mode_words (map keyword_name all_keywords) (map code_word all_codes) (names cs)
+    in_second q first_words (map keyword_name all_keywords) (map code_word all_codes) (names cs)
     (first_listed keyword_name (λ k. bytes_eq (keyword_name k) word) q all_keywords k e (λ y f. ap q (same_bytes (keyword_name y) word f) ∙ h))
 
 -- ---- codes
@@ -108,14 +109,21 @@ letters_back [] e = refl
 letters_back (b ∷ bs) e = let f : (not (is_small b) ≡ true) × (list_all (λ b. not (is_small b)) bs ≡ true) = both e in rw (letter_back b f.0, letters_back bs f.1) refl
 
 pub known_code : (cs : List Constant) (q : List ℕ → Bool) (word : List ℕ) (c : Code) → code_named word ≡ Some c → q word ≡ true → Known q cs
-unfolding Known
+unfolding Known code_of_name
 known_code cs q word c e h = by_test (list_all (λ b. not (is_small b)) word) refl e
   where
     by_test : (t : Bool) → list_all (λ b. not (is_small b)) word ≡ t → cond t (code_with_name (map small word)) None ≡ Some c → list_any q (known_words cs) ≡ true
     by_test false k e = absurd (none_some e)
-    by_test true k e =
-        in_third q mode_words (map keyword_name all_keywords) (map code_word all_codes) (names cs)
-        (first_listed code_word (λ c. bytes_eq (code_name c) (map small word)) q all_codes c e (λ y f. ap q (ap (map capital) (same_bytes (code_name y) (map small word) f) ∙ letters_back word k) ∙ h))
+    by_test true k e = by_return (bytes_eq (map small word) (codes "simple_return")) refl e
+      where
+        by_return : (t : Bool) → bytes_eq (map small word) (codes "simple_return") ≡ t → cond t (Some Return) (code_of_name (map small word)) ≡ Some c → list_any q (known_words cs) ≡ true
+        by_return true f e =
+            let is : word ≡ codes "SIMPLE_RETURN" = sym (letters_back word k) ∙ ap (map capital) (same_bytes (map small word) (codes "simple_return") f) in
+            in_first q first_words (map keyword_name all_keywords) (map code_word all_codes) (names cs)
+            (or_second (q (codes "TARGET_")) _ (or_first (q (codes "SIMPLE_RETURN")) _ (ap q (sym is) ∙ h)))
+        by_return false f e =
+            in_third q first_words (map keyword_name all_keywords) (map code_word all_codes) (names cs)
+            (first_listed code_word (λ c. bytes_eq (code_name c) (map small word)) q all_codes c e (λ y f. ap q (ap (map capital) (same_bytes (code_name y) (map small word) f) ∙ letters_back word k) ∙ h))
 
 -- ---- modes
 
@@ -155,17 +163,17 @@ qi_words = codes "QImode" ∷ hi_words
 pub known_mode : (cs : List Constant) (q : List ℕ → Bool) (word : List ℕ) (m : Mode) → mode_named word ≡ Some m → q word ≡ true → Known q cs
 unfolding Known
 known_mode cs q word m e h =
-    in_first q mode_words (map keyword_name all_keywords) (map code_word all_codes) (names cs)
-    (or_second (q (codes "TARGET_")) (list_any q (codes "VOIDmode" ∷ qi_words))
+    in_first q first_words (map keyword_name all_keywords) (map code_word all_codes) (names cs)
+    (or_second (q (codes "TARGET_")) _ (or_second (q (codes "SIMPLE_RETURN")) (list_any q (codes "VOIDmode" ∷ qi_words))
     (one_mode q word (codes "VOIDmode") qi_words m mode.Void (by_qi word) h e (λ e.
     one_mode q word (codes "QImode") hi_words m mode.QI (by_hi word) h e (λ e.
     one_mode q word (codes "HImode") si_words m mode.HI (by_si word) h e (λ e.
     one_mode q word (codes "SImode") di_words m mode.SI (by_di word) h e (λ e.
-    one_mode q word (codes "DImode") [] m mode.DI None h e (λ e. absurd (none_some e))))))))
+    one_mode q word (codes "DImode") [] m mode.DI None h e (λ e. absurd (none_some e)))))))))
 
 pub known_target : (cs : List Constant) (q : List ℕ → Bool) → q (codes "TARGET_") ≡ true → Known q cs
 unfolding Known
-known_target cs q h = in_first q mode_words (map keyword_name all_keywords) (map code_word all_codes) (names cs) (or_first (q (codes "TARGET_")) _ h)
+known_target cs q h = in_first q first_words (map keyword_name all_keywords) (map code_word all_codes) (names cs) (or_first (q (codes "TARGET_")) _ h)
 
 -- ---- constants
 
@@ -179,4 +187,4 @@ constant_listed (c ∷ cs) q word n e h = by_test (bytes_eq c.name word) refl e 
 
 pub known_constant : (cs : List Constant) (q : List ℕ → Bool) (word : List ℕ) (n : ℤ) → constant_named cs word ≡ Some n → q word ≡ true → Known q cs
 unfolding Known
-known_constant cs q word n e h = in_fourth q mode_words (map keyword_name all_keywords) (map code_word all_codes) (names cs) (constant_listed cs q word n e h)
+known_constant cs q word n e h = in_fourth q first_words (map keyword_name all_keywords) (map code_word all_codes) (names cs) (constant_listed cs q word n e h)

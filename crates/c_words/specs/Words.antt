@@ -5,6 +5,7 @@ use Rattle.std.specs.Prelude.{ℕ, ℤ, List, [], ◌∷◌, Bool, Option, Some,
 use Rattle.std.specs.Str.{bytes_eq}
 use Rattle.std.specs.List.{list_all}
 use Rattle.rtx_tree.specs.declared.code.Code.{Code}
+use Rattle.rtx_tree.specs.declared.code.Code.TheVariants.{Return}
 use Rattle.rtx_tree.specs.declared.code.Mode.{Mode}
 use Rattle.rtx_tree.specs.declared.code.Mode.TheVariants as mode
 use Rattle.rtx_tree.specs.declared.constants.Constant.{Constant}
@@ -83,9 +84,13 @@ is_small b = nat_le 97 b && nat_le b 122
 abbrev pub small : ℕ → ℕ
 small b = if is_capital b then b + 32 else b
 
--- the code with a name
+-- the code of a name
+unfoldable pub code_of_name : List ℕ → Option Code
+code_of_name name = first_that (λ c. bytes_eq (code_name c) name) all_codes
+
+-- the code with a name; a `simple_return` is a return
 abbrev pub code_with_name : List ℕ → Option Code
-code_with_name name = first_that (λ c. bytes_eq (code_name c) name) all_codes
+code_with_name name = if bytes_eq name (codes "simple_return") then Some Return else code_of_name name
 
 -- the code that a word is in C: its name in capitals
 abbrev pub code_named : List ℕ → Option Code

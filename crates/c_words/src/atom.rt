@@ -11,7 +11,7 @@ use rtx_tree::{Code, Constant, Mode};
 use std::alloc::Global;
 
 /// What the text belongs to.
-#[derive(Clone, Copy, Debug, PartialEq, Eq)]
+#[derive(Clone, Copy)]
 pub enum Dialect {
     /// A form's condition, or statements: operands are `operands[k]`, and predicates may be called.
     Condition,
@@ -20,7 +20,7 @@ pub enum Dialect {
 }
 
 /// What of an operand is compared with a name.
-#[derive(Clone, Copy, Debug, PartialEq, Eq)]
+#[derive(Clone, Copy)]
 pub enum Property {
     /// `GET_CODE (x)`
     Code,
@@ -29,7 +29,7 @@ pub enum Property {
 }
 
 /// What a word means where an expression may begin.
-#[derive(Debug, Drop)]
+#[derive(Drop)]
 pub enum Atom {
     /// It is an expression by itself.
     Leaf(Head),
@@ -82,9 +82,12 @@ fn target_number(word: &[u8]) -> i64
 fn predicate_or_nothing(dialect: Dialect, code: Option<Code>, mode: Option<Mode>) -> Atom
     ensures { result ≡ spec.predicate_or_nothing dialect code mode }
 {
-    match (dialect, code, mode) {
-        (Dialect::Condition, None, None) => Atom::Predicate,
-        _ => Atom::Nothing,
+    if code.is_some() || mode.is_some() {
+        return Atom::Nothing;
+    }
+    match dialect {
+        Dialect::Condition => Atom::Predicate,
+        Dialect::Test => Atom::Nothing,
     }
 }
 

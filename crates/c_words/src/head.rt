@@ -1,8 +1,12 @@
 //! What conditions and statements are made of.
+ghost use Rattle.std.specs.Prelude.{◌≡◌, IfOk};
+
+use plain_data::Memory;
 use rtx_tree::{Code, Mode, Name};
+use std::alloc::Global;
 
 /// An operator between two operands, from the one that binds least.
-#[derive(Clone, Copy, Debug, PartialEq, Eq)]
+#[derive(Clone, Copy, Debug)]
 pub enum Binary {
     /// `||`
     Or,
@@ -39,7 +43,7 @@ pub enum Binary {
 }
 
 /// An operator before its operand.
-#[derive(Clone, Copy, Debug, PartialEq, Eq)]
+#[derive(Clone, Copy, Debug)]
 pub enum Unary {
     /// `!`
     Not,
@@ -50,7 +54,7 @@ pub enum Unary {
 }
 
 /// A name that stands before its parts in parentheses.
-#[derive(Clone, Copy, Debug, PartialEq, Eq)]
+#[derive(Clone, Copy, Debug)]
 pub enum Call {
     /// `can_create_pseudo_p ()`
     CanCreatePseudo,
@@ -131,4 +135,40 @@ pub enum Head {
     Nothing,
     /// A statement and those behind it, of two parts.
     Then,
+}
+
+impl Head {
+    /// The same head once more.
+    pub fn copy(&self, alloc: Global) -> Result<Head, Memory>
+        ensures { IfOk result (λ head. head ≡ self.now) }
+    {
+        match self {
+            Head::Predicate(name) => Ok(Head::Predicate(name.copy(alloc)?)),
+            Head::Number(number) => Ok(Head::Number(*number)),
+            Head::ReloadCompleted => Ok(Head::ReloadCompleted),
+            Head::Ival => Ok(Head::Ival),
+            Head::Operand(number) => Ok(Head::Operand(*number)),
+            Head::Mode(mode) => Ok(Head::Mode(*mode)),
+            Head::Window(place) => Ok(Head::Window(*place)),
+            Head::CodeIs { code, equal } => Ok(Head::CodeIs {
+                code: *code,
+                equal: *equal,
+            }),
+            Head::ModeIs { mode, equal } => Ok(Head::ModeIs {
+                mode: *mode,
+                equal: *equal,
+            }),
+            Head::Unary(operator) => Ok(Head::Unary(*operator)),
+            Head::Binary(operator) => Ok(Head::Binary(*operator)),
+            Head::Choose => Ok(Head::Choose),
+            Head::Call(call) => Ok(Head::Call(*call)),
+            Head::Assign(number) => Ok(Head::Assign(*number)),
+            Head::Done => Ok(Head::Done),
+            Head::Fail => Ok(Head::Fail),
+            Head::If => Ok(Head::If),
+            Head::IfElse => Ok(Head::IfElse),
+            Head::Nothing => Ok(Head::Nothing),
+            Head::Then => Ok(Head::Then),
+        }
+    }
 }

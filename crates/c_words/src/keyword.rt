@@ -5,7 +5,7 @@ ghost use Rattle.c_words.specs.Words as spec;
 use crate::head::Call;
 
 /// A word with a meaning of its own.
-#[derive(Clone, Copy, Debug, PartialEq, Eq)]
+#[derive(Clone, Copy)]
 pub enum Keyword {
     /// A name before its parts.
     Call(Call),

@@ -85,11 +85,12 @@ fn code_word(alloc: Global, code: Code) -> Result<Name, Memory>
     Ok(Name::from_vec(letters))
 }
 
-fn mode_words(alloc: Global) -> Result<Items<Name>, Memory>
-    ensures { IfOk result (λ words. words ≡ spec.mode_words) }
+fn first_words(alloc: Global) -> Result<Items<Name>, Memory>
+    ensures { IfOk result (λ words. words ≡ spec.first_words) }
 {
     let mut words = Items::new(alloc);
     words.push(Name::of(alloc, b"TARGET_")?)?;
+    words.push(Name::of(alloc, b"SIMPLE_RETURN")?)?;
     words.push(Name::of(alloc, b"VOIDmode")?)?;
     words.push(Name::of(alloc, b"QImode")?)?;
     words.push(Name::of(alloc, b"HImode")?)?;
@@ -129,12 +130,12 @@ fn push_constants(
     Ok(())
 }
 
-/// The words that are known before a text is read: those that begin the names of facts of the target, the
-/// modes, the keywords, the codes, and the names of constants.
+/// The words that are known before a text is read: what begins the names of facts of the target, the modes, the keywords, the codes,
+/// and the names of constants.
 pub fn known_words(alloc: Global, constants: &[Constant]) -> Result<Items<Name>, Memory>
     ensures { IfOk result (λ words. words ≡ spec.known_words constants.now) }
 {
-    let mut words = mode_words(alloc)?;
+    let mut words = first_words(alloc)?;
     push_keywords(alloc, &mut words)?;
     push_codes(alloc, &mut words)?;
     push_constants(alloc, constants, &mut words)?;

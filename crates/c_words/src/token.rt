@@ -6,7 +6,7 @@ use crate::head::Binary;
 use rtx_tree::Name;
 
 /// A piece of a text that has a meaning as a whole.
-#[derive(Debug, Drop)]
+#[derive(Drop)]
 pub enum Token {
     /// A number, in decimal or hexadecimal.
     Number(u64),

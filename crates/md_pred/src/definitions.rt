@@ -16,7 +16,7 @@ use rtx_tree::Name;
 use std::alloc::Global;
 
 /// What is kept of the definition of a predicate.
-#[derive(Clone, Copy, Debug, PartialEq, Eq)]
+#[derive(Clone, Copy)]
 pub struct Definition {
     /// Its head.
     pub head: Head,

@@ -30,7 +30,7 @@ impl PredTable {
         ensures { IfOk result (λ table. accepted_by table ≡ holds forms.now) }
     {
         let definitions = Definitions::of(alloc, forms.as_slice())?;
-        let weights = weights_of(alloc, &definitions, forms.len())?;
+        let weights = weights_of(alloc, &definitions)?;
         Ok(PredTable {
             definitions,
             weights,

@@ -57,43 +57,135 @@ fn targets_of(alloc: Global, definitions: &Definitions) -> Result<Vec<Option<usi
     Ok(targets)
 }
 
-/// Puts a greater number in the place of a smaller, and says whether it did.
-fn raise(weights: &mut [u32], place: usize, weight: u32) -> bool {
-    match weights.get_mut(place) {
-        Some(old) if *old < weight => {
-            *old = weight;
-            true
-        }
-        _ => false,
+/// How far the weight of a node has come.
+#[derive(Clone, Copy)]
+enum Stage {
+    /// Nobody has asked for it.
+    New,
+    /// Those that it is made of come first.
+    Begun,
+    /// It is known.
+    Done,
+}
+
+/// The weights of nodes, with a stack of those that are still to come.
+#[derive(Drop)]
+struct Weighing {
+    weights: Vec<u32>,
+    stages: Vec<Stage>,
+    stack: Vec<usize>,
+}
+
+/// The stage of the node at a place; one that isn't there has nothing to be done.
+fn stage_at(stages: &[Stage], place: usize) -> Stage {
+    stages.get(place).copied().unwrap_or(Stage::Done)
+}
+
+fn put_stage(stages: &mut [Stage], place: usize, stage: Stage) {
+    if let Some(old) = stages.get_mut(place) {
+        *old = stage;
     }
 }
 
-/// Raises all weights by what is known, and says whether one was raised.
-fn raise_all(nodes: &[Node], targets: &[Option<usize>], weights: &mut [u32]) -> bool {
-    let mut raised = false;
-    for (place, node) in nodes.iter().enumerate() {
-        let weight = weight_of(node, targets.get(place).copied().flatten(), weights);
-        if raise(weights, place, weight) {
-            raised = true;
-        }
+fn put_weight(weights: &mut [u32], place: usize, weight: u32) {
+    if let Some(old) = weights.get_mut(place) {
+        *old = weight;
     }
-    raised
 }
 
-/// The weights of all nodes. They are raised until none is, so often at most.
-pub fn weights_of(
-    alloc: Global,
-    definitions: &Definitions,
-    rounds: usize,
-) -> Result<Items<u32>, Memory> {
+/// All places, the first on top.
+fn places_below(alloc: Global, count: usize) -> Result<Vec<usize>, Memory> {
+    let mut places = Vec::new(alloc);
+    for place in (0..count).rev() {
+        places.push(place)?;
+    }
+    Ok(places)
+}
+
+impl Weighing {
+    fn new(alloc: Global, count: usize) -> Result<Weighing, Memory> {
+        let mut weights = Vec::new(alloc);
+        weights.resize(count, 0)?;
+        let mut stages = Vec::new(alloc);
+        stages.resize(count, Stage::New)?;
+        let stack = places_below(alloc, count)?;
+        Ok(Weighing {
+            weights,
+            stages,
+            stack,
+        })
+    }
+
+    /// Puts a place on the stack, where nobody has asked for it.
+    fn ask(&mut self, place: usize) -> Result<(), Memory> {
+        match stage_at(self.stages.as_slice(), place) {
+            Stage::New => self.stack.push(place)?,
+            Stage::Begun | Stage::Done => {}
+        }
+        Ok(())
+    }
+
+    /// Asks for the nodes that a node is made of.
+    fn ask_parts(&mut self, node: &Node, target: Option<usize>) -> Result<(), Memory> {
+        match node {
+            Node::Codes(_) | Node::Condition(_) => Ok(()),
+            Node::Predicate { .. } => match target {
+                Some(root) => self.ask(root),
+                None => Ok(()),
+            },
+            Node::Not(a) => self.ask(*a),
+            Node::And(a, b) | Node::Ior(a, b) => {
+                self.ask(*a)?;
+                self.ask(*b)
+            }
+            Node::IfThenElse(a, b, c) => {
+                self.ask(*a)?;
+                self.ask(*b)?;
+                self.ask(*c)
+            }
+        }
+    }
+
+    /// Goes on with a node: those that it is made of come first, and when it is met again its weight is known.
+    fn go_on(&mut self, place: usize, node: &Node, target: Option<usize>) -> Result<(), Memory> {
+        match stage_at(self.stages.as_slice(), place) {
+            Stage::New => {
+                put_stage(self.stages.as_mut_slice(), place, Stage::Begun);
+                self.stack.push(place)?;
+                self.ask_parts(node, target)
+            }
+            Stage::Begun => {
+                let weight = weight_of(node, target, self.weights.as_slice());
+                put_weight(self.weights.as_mut_slice(), place, weight);
+                put_stage(self.stages.as_mut_slice(), place, Stage::Done);
+                Ok(())
+            }
+            Stage::Done => Ok(()),
+        }
+    }
+
+    /// Goes on with the node on top of the stack, and says whether there was one.
+    fn next(&mut self, nodes: &[Node], targets: &[Option<usize>]) -> Result<bool, Memory> {
+        let Some(place) = self.stack.pop() else {
+            return Ok(false);
+        };
+        if let Some(node) = nodes.get(place) {
+            self.go_on(place, node, targets.get(place).copied().flatten())?;
+        }
+        Ok(true)
+    }
+}
+
+/// The weights of all nodes. Each node stands on the stack once from the beginning, once behind those that it is made of, and once for
+/// each question that asks for it, of which a node has three at most.
+pub fn weights_of(alloc: Global, definitions: &Definitions) -> Result<Items<u32>, Memory> {
     let nodes = definitions.rows.nodes();
     let targets = targets_of(alloc, definitions)?;
-    let mut weights = Vec::new(alloc);
-    weights.resize(nodes.len(), 0)?;
-    for _round in 0..rounds {
-        if !raise_all(nodes, targets.as_slice(), weights.as_mut_slice()) {
+    let mut weighing = Weighing::new(alloc, nodes.len())?;
+    for _step in 0..nodes.len().saturating_mul(5) {
+        if !weighing.next(nodes, targets.as_slice())? {
             break;
         }
     }
-    Ok(Items::from_vec(weights))
+    Ok(Items::from_vec(weighing.weights))
 }

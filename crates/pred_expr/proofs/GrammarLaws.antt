@@ -1,5 +1,5 @@
 -- The tree of a text as a value is the one that the grammar gives it.
-use Rattle.std.proofs.Common.{◌≡◌, List, [], ◌∷◌, ℕ, Option, Some, None, Err, option_map, refl, sym, ap, subst, ◌∙◌}
+use Rattle.std.proofs.Common.{◌≡◌, List, [], ◌∷◌, ℕ, Option, Some, None, Result, Ok, Err, option_map, refl, sym, ap, subst, ◌∙◌}
 use Rattle.rtx_tree.specs.declared.constants.Constant.{Constant}
 use Rattle.c_words.specs.declared.atom.Dialect.{Dialect}
 use Rattle.c_words.specs.declared.atom.Dialect.TheVariants as dialect
@@ -15,18 +15,27 @@ use Rattle.c_cond.specs.declared.parse.CondRefusal.{CondRefusal}
 use Rattle.c_cond.specs.declared.parse.CondRefusal.TheVariants as refusal
 use Rattle.c_cond.specs.machine.Steps.{run, result_of, at}
 use Rattle.c_cond.proofs.Answered.{is_condition, is_statements, no_condition, no_statements, one_condition, one_statements}
-use Rattle.pred_expr.specs.Texts.{Reads, tree_in, always, nothing}
+use Rattle.md_pattern.specs.declared.reason.Reason.{Reason}
+use Rattle.md_pattern.specs.declared.reason.Reason.TheVariants as reason
+use Rattle.md_pattern.specs.Pattern.{or_aside}
+use Rattle.pred_expr.specs.machine.Reading.{tree_in}
+use Rattle.pred_expr.specs.Texts.{Says, condition_of, test_condition_of, statements_of, always, nothing}
+
+-- a value is the one tree that there is, if there is one
+abbrev Reads : Option Tree → (Tree → Type 0) → Type 0
+Reads (Some tree) IsTree = IsTree tree
+Reads None IsTree = (tree : Tree) → IsTree tree → ⊥
 
 -- a text outside has no tree
 pub none_in : (P : List ℕ → Tree → Type 0) (bytes : List ℕ) (e : CondRefusal) (offset : ℕ) → e ≡ refusal.Outside offset → Answers P bytes (Err e) → (t : Tree) → P bytes t → ⊥
 none_in P bytes e offset is h = let o : IsOutside P bytes offset = subst (λ e. Answers P bytes (Err e)) is h in o.no_text
 
 -- where a tree is the only one, the value is that tree
-pub is_the : (o : Option Tree) (P : Tree → Type 0) → Reads o P → ((a b : Tree) → P a → P b → a ≡ b) → (t : Tree) → P t → o ≡ Some t
+is_the : (o : Option Tree) (P : Tree → Type 0) → Reads o P → ((a b : Tree) → P a → P b → a ≡ b) → (t : Tree) → P t → o ≡ Some t
 is_the None P none one t p = absurd (none t p)
 is_the (Some u) P is one t p = ap (λ (x : Tree). Some x) (one u t is p)
 
-pub is_none : (o : Option Tree) (P : Tree → Type 0) → Reads o P → ((t : Tree) → P t → ⊥) → o ≡ None
+is_none : (o : Option Tree) (P : Tree → Type 0) → Reads o P → ((t : Tree) → P t → ⊥) → o ≡ None
 is_none None P is none = refl
 is_none (Some u) P is none = absurd (none u is)
 
@@ -38,11 +47,11 @@ statements_by : (d : Dialect) (cs : List Constant) (text : List ℕ) (r : Option
 statements_by d cs text None e = no_statements d cs (tokens_in text) e
 statements_by d cs text (Some heads) e = (is_statements d cs heads (tokens_in text) e).is
 
-pub condition_reads : (d : Dialect) (cs : List Constant) (text : List ℕ) → Reads (tree_in d goal.Condition cs text) (IsText d cs Condition text)
+condition_reads : (d : Dialect) (cs : List Constant) (text : List ℕ) → Reads (tree_in d goal.Condition cs text) (IsText d cs Condition text)
 unfolding tree_in
 condition_reads d cs text = condition_by d cs text _ refl
 
-pub statements_reads : (d : Dialect) (cs : List Constant) (text : List ℕ) → Reads (tree_in d goal.Statements cs text) (IsText d cs Statements text)
+statements_reads : (d : Dialect) (cs : List Constant) (text : List ℕ) → Reads (tree_in d goal.Statements cs text) (IsText d cs Statements text)
 unfolding tree_in
 statements_reads d cs text = statements_by d cs text _ refl
 
@@ -60,6 +69,45 @@ statements_none d cs text none = is_none (tree_in d goal.Statements cs text) (Is
 
 some_is : (a b : Tree) → Some a ≡ Some b → a ≡ b
 some_is a b e = cc
+
+-- ---- judged
+
+abbrev answered : Tree → Result Tree Reason
+answered t = Ok t
+
+ok_is : (a b : Tree) → answered a ≡ Ok b → a ≡ b
+ok_is a b e = cc
+
+ok_aside : (a : Tree) (r : Reason) → answered a ≡ Err r → ⊥
+ok_aside a r e = cc
+
+aside_ok : (a : Tree) (r : Reason) → Err r ≡ answered a → ⊥
+aside_ok a r e = cc
+
+says : (r : Reason) (o : Option Tree) (P : Tree → Type 0) → Reads o P → ((a b : Tree) → P a → P b → a ≡ b) → Says r P (or_aside r o)
+says r (Some u) P is one = record {
+  tree = λ t. (λ e. subst P (ok_is u t e) is, λ p. ap answered (one u t is p));
+  aside = (λ e. absurd (ok_aside u r e), λ none. absurd (none u is));
+}
+says r None P none one = record {
+  tree = λ t. (λ e. absurd (aside_ok t r e), λ p. absurd (none t p));
+  aside = (λ e. none, λ n. refl);
+}
+
+pub condition_says : (cs : List Constant) (text : List ℕ) → Says reason.Condition (IsText dialect.Condition cs Condition text) (condition_of cs text)
+condition_says cs text =
+    says reason.Condition (tree_in dialect.Condition goal.Condition cs text) (IsText dialect.Condition cs Condition text)
+    (condition_reads dialect.Condition cs text) (one_condition dialect.Condition cs (tokens_in text))
+
+pub test_condition_says : (cs : List Constant) (text : List ℕ) → Says reason.Condition (IsText dialect.Test cs Condition text) (test_condition_of cs text)
+test_condition_says cs text =
+    says reason.Condition (tree_in dialect.Test goal.Condition cs text) (IsText dialect.Test cs Condition text)
+    (condition_reads dialect.Test cs text) (one_condition dialect.Test cs (tokens_in text))
+
+pub statements_says : (cs : List Constant) (text : List ℕ) → Says reason.Statements (IsText dialect.Condition cs Statements text) (statements_of cs text)
+statements_says cs text =
+    says reason.Statements (tree_in dialect.Condition goal.Statements cs text) (IsText dialect.Condition cs Statements text)
+    (statements_reads dialect.Condition cs text) (one_statements dialect.Condition cs (tokens_in text))
 
 -- the trees of no text
 nothing_condition : tree_in dialect.Condition goal.Condition [] [] ≡ Some always

@@ -11,7 +11,7 @@ use Rattle.lisp_read.specs.declared.tree.Tree.{Tree}
 use Rattle.lisp_read.specs.declared.tree.Tree.TheOpen.{Tree-F}
 use Rattle.lisp_read.specs.declared.tree.Tree.TheFolds.{fold-Tree}
 use Rattle.lisp_read.specs.Shape.{atom_of, string_of, items_of}
-use Rattle.lisp_read.specs.Head.{code_named, code_of_head, mode_of_head}
+use Rattle.lisp_read.specs.Head.{code_in, code_of_head, mode_of_head}
 use Rattle.lisp_read.specs.Expression.{inside_at, inside_of}
 use Rattle.md_text.specs.Lists.{members}
 use Rattle.md_text.specs.Lists as lists
@@ -61,7 +61,7 @@ text_in _ = None
 
 -- codes by their names, with commas between them
 abbrev pub codes_in : List ℕ → Option (List Code)
-codes_in text = lists.each code_named (members text)
+codes_in text = lists.each code_in (members text)
 
 abbrev pub codes_by : Option (List ℕ) → Result Test Reason
 codes_by None = Err reason.Parts
@@ -72,8 +72,13 @@ condition_by constants None = Err reason.Parts
 condition_by constants (Some text) = judged_map (λ c. alone (question.Condition c)) (test_condition_of constants text)
 
 -- the predicate of an operand, whatever the operand's number
+abbrev pub predicate_behind : Tree → Tree → Option (List ℕ)
+predicate_behind n p = option_and_then (λ k. string_of p) (number_in n)
+
+-- a constraint may stand behind it, whatever it is
 abbrev pub predicate_in : List Tree → Option (List ℕ)
-predicate_in (n ∷ p ∷ []) = option_and_then (λ k. string_of p) (number_in n)
+predicate_in (n ∷ p ∷ []) = predicate_behind n p
+predicate_in (n ∷ p ∷ k ∷ []) = option_and_then (λ constraint. predicate_behind n p) (string_of k)
 predicate_in _ = None
 
 abbrev pub predicate_by : Option Mode → Option (List ℕ) → Result Test Reason

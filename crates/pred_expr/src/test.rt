@@ -1,11 +1,15 @@
 //! Reads a test from its tree.
-ghost use Rattle.std.specs.Prelude.{◌≡◌, ◌∷◌, [], ◌++◌, IfOk, map};
+ghost use Rattle.std.specs.Prelude.{◌≡◌, ℕ, List, ◌∷◌, [], ◌++◌, IfOk, map};
 ghost use Rattle.std.specs.Option.{option_copied};
-ghost use Rattle.lisp_read.specs.Head.{code_named, mode_of_head};
+ghost use Rattle.lisp_read.specs.Head.{code_in, code_named, mode_of_head};
 ghost use Rattle.lisp_read.specs.Shape.{atom_of};
 ghost use Rattle.md_text.specs.Lists as lists;
 ghost use Rattle.md_pattern.specs.Reason.{judged_with};
+ghost use Rattle.md_pattern.specs.declared.reason.Reason.TheVariants as reason;
+ghost use Rattle.c_words.specs.declared.atom.Dialect.TheVariants as Dialect;
+ghost use Rattle.c_cond.specs.Grammar.{IsText, Condition};
 ghost use Rattle.pred_expr.specs.Test as spec;
+ghost use Rattle.pred_expr.specs.Texts as texts;
 
 use crate::question::{Codes, Question, Test, Tests};
 use crate::texts::test_condition;
@@ -17,7 +21,7 @@ use rtx_tree::{Code, Constants, Mode, Name};
 use std::alloc::Global;
 
 /// What stands at the head of a test.
-#[derive(Clone, Copy, Debug, PartialEq, Eq)]
+#[derive(Clone, Copy)]
 pub enum Kind {
     /// `match_code`
     Codes,
@@ -85,14 +89,25 @@ fn code_named(name: &[u8]) -> Option<Code>
     Code::named(name)
 }
 
+/// The code with a name, `simple_return` being a return.
+fn code_in(name: &[u8]) -> Option<Code>
+    ensures { result ≡ code_in name.now }
+{
+    if name == b"simple_return".as_slice() {
+        Some(Code::Return)
+    } else {
+        code_named(name)
+    }
+}
+
 /// Codes by their names, or none where one of them is unknown.
 #[tactic(auto, using(md_text::proofs::Each::with_nothing, md_text::proofs::Each::each_next, md_text::proofs::Each::each_stops, md_text::proofs::Each::each_ends))]
 fn codes_named(alloc: Global, names: &[Name]) -> Result<Option<Codes>, Memory>
-    ensures { IfOk result (λ codes. codes ≡ lists.each code_named names.now) }
+    ensures { IfOk result (λ codes. codes ≡ lists.each code_in names.now) }
 {
     let mut codes = Items::new(alloc);
     for name in names {
-        match code_named(name.bytes()) {
+        match code_in(name.bytes()) {
             Some(code) => codes.push(code)?,
             None => return Ok(None),
         }
@@ -126,13 +141,22 @@ fn condition(alloc: Global, constants: &Constants, parts: &[Tree]) -> Result<Jud
 }
 
 /// The name of a predicate behind the number of an operand.
+fn predicate_behind<'a>(number: &Tree, predicate: &'a Tree) -> Option<&'a Name>
+    ensures { option_copied result ≡ spec.predicate_behind number.now predicate.now }
+{
+    let _ = number_in(number)?;
+    string(predicate)
+}
+
+/// The name of a predicate behind the number of an operand. A constraint may stand behind it.
 fn predicate_in(parts: &[Tree]) -> Option<&Name>
     ensures { option_copied result ≡ spec.predicate_in parts.now }
 {
     match parts {
-        [number, predicate] => {
-            let _ = number_in(number)?;
-            string(predicate)
+        [number, predicate] => predicate_behind(number, predicate),
+        [number, predicate, constraint] => {
+            let _ = string(constraint)?;
+            predicate_behind(number, predicate)
         }
         _ => None,
     }
@@ -255,12 +279,14 @@ fn test_in(alloc: Global, constants: &Constants, tree: &Tree) -> Result<Judged<T
 
 /// The test that a tree of a description writes, or the smallest reason that applies anywhere in it.
 ///
-/// A test is `(match_code "CODES")`, `(match_test "CONDITION")`, `(match_operand N "PREDICATE")` with or without a mode, or made of
-/// tests: `and` and `ior` of two, `not` of one, `if_then_else` of three. `Parts` where it has other parts or another head, `Code`
-/// where a code is unknown, `Mode` where a mode is none of the four, `Condition` where a condition is outside the grammar. It goes
-/// as deep as the tree.
+/// A test is `(match_code "CODES")`, `(match_test "CONDITION")`, `(match_operand N "PREDICATE")` with or without a mode and a
+/// constraint, which is ignored, or made of tests: `and` and `ior` of two, `not` of one, `if_then_else` of three. `Parts` where it
+/// has other parts or another head, `Code` where a code is unknown, `Mode` where a mode is none of the four, `Condition` where a
+/// condition is outside the grammar. It goes as deep as the tree.
 pub fn test_of(alloc: Global, tree: &Tree, constants: &Constants) -> Result<Judged<Test>, Memory>
-    ensures { IfOk result (λ test. test ≡ spec.test_of constants.now tree.now) }
+    ensures value { IfOk result (λ test. test ≡ spec.test_of constants.now tree.now) }
+    ensures grammar { (bytes : List ℕ) → texts.Says reason.Condition (IsText Dialect.Test constants.now Condition bytes)
+        (texts.test_condition_of constants.now bytes) }
 {
     test_in(alloc, constants, tree)
 }

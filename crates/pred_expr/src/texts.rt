@@ -2,6 +2,7 @@
 ghost use Rattle.std.specs.Prelude.{◌≡◌, IfOk, List, ℕ};
 ghost use Rattle.c_cond.specs.Grammar.{IsText, Condition, Statements};
 ghost use Rattle.c_words.specs.declared.atom.Dialect.TheVariants as Dialect;
+ghost use Rattle.md_pattern.specs.declared.reason.Reason.TheVariants as reason;
 ghost use Rattle.pred_expr.specs.Texts as spec;
 
 use c_cond::{Cond, CondRefusal, Prep, parse_cond, parse_prep, parse_test};
@@ -13,7 +14,8 @@ use std::alloc::Global;
 /// The condition of a form that a text is, or `Condition` where the text is outside the grammar.
 pub fn condition(alloc: Global, text: &[u8], constants: &Constants) -> Result<Judged<Cond>, Memory>
     ensures value { IfOk result (λ cond. cond ≡ spec.condition_of constants.now text.now) }
-    ensures grammar { (bytes : List ℕ) → spec.Reads (spec.condition_in constants.now bytes) (IsText Dialect.Condition constants.now Condition bytes) }
+    ensures grammar { (bytes : List ℕ) → spec.Says reason.Condition (IsText Dialect.Condition constants.now Condition bytes)
+        (spec.condition_of constants.now bytes) }
 {
     match parse_cond(alloc, text, constants) {
         Ok(cond) => Ok(Ok(cond)),
@@ -40,7 +42,8 @@ pub(crate) fn test_condition(
 /// The preparation statements that a text is, or `Statements` where the text is outside the grammar.
 pub fn statements(alloc: Global, text: &[u8], constants: &Constants) -> Result<Judged<Prep>, Memory>
     ensures value { IfOk result (λ prep. prep ≡ spec.statements_of constants.now text.now) }
-    ensures grammar { (bytes : List ℕ) → spec.Reads (spec.statements_in constants.now bytes) (IsText Dialect.Condition constants.now Statements bytes) }
+    ensures grammar { (bytes : List ℕ) → spec.Says reason.Statements (IsText Dialect.Condition constants.now Statements bytes)
+        (spec.statements_of constants.now bytes) }
 {
     match parse_prep(alloc, text, constants) {
         Ok(prep) => Ok(Ok(prep)),

@@ -1,7 +1,7 @@
 use Rattle.std.proofs.Common.{refl}
 use Rattle.c_words.specs.declared.atom.Dialect.TheVariants as Dialect
 use Rattle.c_cond.specs.Grammar.{IsText, Statements}
-use Rattle.pred_expr.proofs.GrammarLaws.{none_in, statements_is, statements_none, statements_reads}
+use Rattle.pred_expr.proofs.GrammarLaws.{none_in, statements_is, statements_none, statements_says}
 use Rattle.pred_expr.proofs.texts.statements.Goals as goal
 
 pub returns-in-Ok-clause-value : goal.returns-in-Ok-clause-value
@@ -11,10 +11,10 @@ pub returns-in-Err-Outside-clause-value : goal.returns-in-Err-Outside-clause-val
 returns-in-Err-Outside-clause-value c = rw (statements_none Dialect.Condition c.args.constants.now c.args.text.now (none_in (IsText Dialect.Condition c.args.constants.now Statements) c.args.text.now _ _ c.in-Err-Outside.field-0-is c.in-Err-Outside.ensures.answers)) refl
 
 pub returns-in-Ok-clause-grammar : goal.returns-in-Ok-clause-grammar
-returns-in-Ok-clause-grammar c bytes = statements_reads Dialect.Condition c.args.constants.now bytes
+returns-in-Ok-clause-grammar c bytes = statements_says c.args.constants.now bytes
 
 pub returns-in-Err-Outside-clause-grammar : goal.returns-in-Err-Outside-clause-grammar
-returns-in-Err-Outside-clause-grammar c bytes = statements_reads Dialect.Condition c.args.constants.now bytes
+returns-in-Err-Outside-clause-grammar c bytes = statements_says c.args.constants.now bytes
 
 pub returns-in-Err-Memory-clause-grammar : goal.returns-in-Err-Memory-clause-grammar
-returns-in-Err-Memory-clause-grammar c bytes = statements_reads Dialect.Condition c.args.constants.now bytes
+returns-in-Err-Memory-clause-grammar c bytes = statements_says c.args.constants.now bytes

@@ -1,0 +1,5 @@
+use Rattle.pred_expr.proofs.GrammarLaws.{test_condition_says}
+use Rattle.pred_expr.proofs.test.test_of.Goals as goal
+
+pub returns-clause-grammar : goal.returns-clause-grammar
+returns-clause-grammar c bytes = test_condition_says c.args.constants.now bytes

@@ -2,8 +2,8 @@
 use Rattle.std.specs.Prelude.{ℕ, nat_lt, ◌==◌, Bool, false, List}
 use Rattle.std.specs.List.{list_any}
 use Rattle.rv_regs.specs.Registers.{argument_registers, saved_registers}
-use Rattle.rv_operand.specs.declared.classes.Class.{Class}
-use Rattle.rv_operand.specs.declared.classes.Class.TheVariants.{General, Args, Saved, Nothing}
+use Rattle.rv_regs.specs.declared.classes.Class.{Class}
+use Rattle.rv_regs.specs.declared.classes.Class.TheVariants.{General, Args, Saved, Nothing}
 
 abbrev pub is_among : List ℕ → ℕ → Bool
 is_among regs reg = list_any (λ r. r == reg) regs

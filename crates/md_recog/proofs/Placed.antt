@@ -8,7 +8,7 @@ use Rattle.md_match.specs.declared.role.Role.{Role}
 use Rattle.md_match.specs.declared.role.Role.TheVariants.{Operand, Operator, Itself}
 use Rattle.md_match.specs.Pattern.{Ops, role_of, placeholders, placeholders_as}
 use Rattle.md_match.proofs.Placeholders.{placeholders_out}
-use Rattle.insn_match.specs.Match.{Accepts, is_accepted, are_accepted}
+use Rattle.md_recog.specs.Match.{Accepts, is_accepted, are_accepted}
 
 all_of_both : {A : Type 0} (f : A → Bool) (xs ys : List A) → list_all f (xs ++ ys) ≡ (list_all f xs && list_all f ys)
 all_of_both f [] ys = refl

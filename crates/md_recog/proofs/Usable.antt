@@ -5,7 +5,7 @@ use Rattle.c_cond.specs.declared.tree.Tree.{Tree}
 use Rattle.c_eval.specs.declared.facts.Facts.{Facts}
 use Rattle.md_match.specs.Pattern.{Ops}
 use Rattle.md_match.specs.Match.{Matches}
-use Rattle.insn_match.specs.Match.{Accepts, are_accepted, is_met, IsMatch}
+use Rattle.md_recog.specs.Match.{Accepts, are_accepted, is_met, IsMatch}
 
 -- whether operands are admitted, their shape aside
 abbrev pub admits : Accepts → Facts → Rtx → Tree → Ops → Bool

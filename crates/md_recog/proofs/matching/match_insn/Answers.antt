@@ -1,6 +1,6 @@
 use Rattle.std.proofs.Common.{sym, subst, ◌∙◌}
-use Rattle.insn_match.proofs.Usable.{HasShape, refusing}
-use Rattle.insn_match.proofs.matching.match_insn.Goals as goal
+use Rattle.md_recog.proofs.Usable.{HasShape, refusing}
+use Rattle.md_recog.proofs.matching.match_insn.Goals as goal
 
 pub returns-else-admits-clause-operands : goal.returns-else-admits-clause-operands
 returns-else-admits-clause-operands g c =

@@ -1,11 +1,9 @@
 //! The classes of hard registers.
 ghost use Rattle.std.specs.Prelude.{◌≡◌};
-ghost use Rattle.rv_operand.specs.Classes as spec;
-
-use rtx_tree::HARD_REGS;
+ghost use Rattle.rv_regs.specs.Classes as spec;
 
 /// A class of hard registers.
-#[derive(Clone, Copy, Debug, PartialEq, Eq)]
+#[derive(Clone, Copy)]
 pub enum Class {
     /// All of them.
     General,
@@ -22,7 +20,7 @@ pub fn in_class(class: Class, reg: u8) -> bool
     ensures { result ≡ spec.is_in_class class reg }
 {
     match class {
-        Class::General => reg < HARD_REGS,
+        Class::General => reg < 32,
         Class::Args => matches!(reg, 10..=17),
         Class::Saved => matches!(reg, 8 | 9 | 18..=27),
         Class::Nothing => false,

@@ -1,7 +1,7 @@
 //! Whether predicates accept the operands of a pattern.
 ghost use Rattle.std.specs.Prelude.{◌≡◌};
 ghost use Rattle.std.specs.List.{list_all};
-ghost use Rattle.insn_match.specs.Match as spec;
+ghost use Rattle.md_recog.specs.Match as spec;
 
 use c_eval::Preds;
 use md_match::{Role, operand_of, role_of};

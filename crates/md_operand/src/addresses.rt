@@ -1,6 +1,6 @@
 //! The addresses of loads and stores.
 ghost use Rattle.std.specs.Prelude.{◌≡◌};
-ghost use Rattle.rv_operand.specs.Addresses as spec;
+ghost use Rattle.md_operand.specs.Addresses as spec;
 
 use rtx_tree::{Code, Rtx, VIRTUAL_STACK_VARS};
 

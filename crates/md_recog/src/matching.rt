@@ -1,8 +1,8 @@
 //! Matches patterns with instructions.
 ghost use Rattle.std.specs.Prelude.{◌≡◌, ◌↔◌, ◌+◌, ◌&&◌, Some, IfOk};
 ghost use Rattle.md_match.specs.Pattern.{Ops};
-ghost use Rattle.insn_match.specs.Match.{IsMatch};
-ghost use Rattle.insn_match.specs.Match as spec;
+ghost use Rattle.md_recog.specs.Match.{IsMatch};
+ghost use Rattle.md_recog.specs.Match as spec;
 
 use crate::accepted::are_accepted;
 use c_cond::Cond;

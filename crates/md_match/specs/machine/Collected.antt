@@ -1,5 +1,5 @@
 -- How operands are collected, for the contracts of private functions.
-use Rattle.std.specs.Prelude.{◌≡◌, ◌⊎◌, ℕ, Bool, true, List, map, flat_map, Option, Some, None, IsSome, option_map}
+use Rattle.std.specs.Prelude.{◌≡◌, ◌⊎◌, ℕ, Bool, true, List, flat_map, Option, Some, None, IsSome, option_map}
 use Rattle.std.specs.List.{AllByRecursion, list_any}
 use Rattle.rtx_tree.specs.declared.code.Code.{Code}
 use Rattle.rtx_tree.specs.declared.code.Code.TheVariants.{MatchScratch, MatchOperator}
@@ -7,22 +7,26 @@ use Rattle.rtx_tree.specs.declared.code.Mode.{Mode}
 use Rattle.rtx_tree.specs.declared.tree.Rtx.{Rtx}
 use Rattle.rtx_tree.specs.Tree.{head_of}
 use Rattle.rtx_tree.specs.Operands.{operand_at}
-use Rattle.md_match.specs.Pattern.{Ops, placeholders, gives, gives_number, operand_of, all_some, instantiated}
-use Rattle.md_match.specs.Match.{Fits, IsScratch, IsShort}
+use Rattle.md_match.specs.Pattern.{Ops, placeholders, gives, gives_number, is_given, operand_of, instantiated, all_instantiated}
+use Rattle.md_match.specs.Match.{IsAsked, IsScratch, IsShort}
 
 -- the pattern with the operands put in is the expression, and each operand is what its placeholder asks for
 pub record Makes (pattern x : Rtx) (operands : Ops) : Type 0 where
   pub made : instantiated pattern operands ≡ Some x
-  pub fit : AllByRecursion (Fits operands) (placeholders pattern)
+  pub fit : AllByRecursion (IsAsked operands) (placeholders pattern)
 
--- the same of some patterns and expressions, one each
+-- some patterns with the operands put in are some expressions, one each, and each operand is what its placeholder asks for
 pub record MakesAll (patterns xs : List Rtx) (operands : Ops) : Type 0 where
-  pub made : all_some (map (λ p. instantiated p operands) patterns) ≡ Some xs
-  pub fit : AllByRecursion (Fits operands) (flat_map placeholders patterns)
+  pub made : all_instantiated patterns operands ≡ Some xs
+  pub fit : AllByRecursion (IsAsked operands) (flat_map placeholders patterns)
+
+-- whether a pattern gives an operand with this number
+abbrev pub is_given_in : ℕ → Rtx → Bool
+is_given_in k pattern = list_any (gives_number k) (placeholders pattern)
 
 -- whether some patterns give an operand with this number
 abbrev pub is_given_by : List Rtx → ℕ → Bool
-is_given_by patterns k = list_any (gives_number k) (flat_map placeholders patterns)
+is_given_by patterns k = is_given k patterns
 
 -- the operand that a placeholder names is this expression
 abbrev pub Names : Rtx → Rtx → Ops → Type 0

@@ -1,8 +1,8 @@
 -- Which registers are in no class.
 use Rattle.std.proofs.Common.{◌≡◌, ℕ, ◌≤◌, false, arith}
-use Rattle.rv_operand.specs.declared.classes.Class.{Class}
-use Rattle.rv_operand.specs.declared.classes.Class.TheVariants as class
-use Rattle.rv_operand.specs.Classes.{is_in_class}
+use Rattle.rv_regs.specs.declared.classes.Class.{Class}
+use Rattle.rv_regs.specs.declared.classes.Class.TheVariants as class
+use Rattle.rv_regs.specs.Classes.{is_in_class}
 
 -- a number that a byte doesn't hold
 pub no_pseudo : (k : Class) (reg : ℕ) → 256 ≤ reg → is_in_class k reg ≡ false

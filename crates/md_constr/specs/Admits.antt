@@ -6,10 +6,10 @@ use Rattle.rtx_tree.specs.declared.code.Code.{Code}
 use Rattle.rtx_tree.specs.declared.code.Code.TheVariants.{Reg, Subreg}
 use Rattle.rtx_tree.specs.declared.code.Mode.TheVariants.{Void}
 use Rattle.rtx_tree.specs.declared.tree.Rtx.{Rtx, out-Rtx}
-use Rattle.rv_operand.specs.declared.classes.Class.{Class}
-use Rattle.rv_operand.specs.declared.classes.Class.TheVariants as class
-use Rattle.rv_operand.specs.Classes.{is_in_class}
-use Rattle.rv_operand.specs.Addresses.{is_legitimate_address}
+use Rattle.rv_regs.specs.declared.classes.Class.{Class}
+use Rattle.rv_regs.specs.declared.classes.Class.TheVariants as class
+use Rattle.rv_regs.specs.Classes.{is_in_class}
+use Rattle.md_operand.specs.Addresses.{is_legitimate_address}
 use Rattle.md_operand.specs.Operand.{is_register, is_memory, is_constant, is_symbol}
 use Rattle.c_eval.specs.Value.{register_in}
 use Rattle.pred_expr.specs.declared.question.Test.{Test}

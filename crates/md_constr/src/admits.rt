@@ -1,14 +1,14 @@
 //! What letters and classes of registers admit.
 ghost use Rattle.std.specs.Prelude.{◌≡◌};
 ghost use Rattle.c_eval.specs.Value.{register_in};
-ghost use Rattle.rv_operand.specs.Classes.{is_in_class};
+ghost use Rattle.rv_regs.specs.Classes.{is_in_class};
 ghost use Rattle.md_constr.specs.Admits as spec;
 
 use md_forms::RegisterClass;
-use md_operand::{is_constant, is_memory, is_register, is_symbol};
+use md_operand::{is_constant, is_memory, is_register, is_symbol, legitimate_address};
 use md_text::Letter;
 use rtx_tree::{Code, Rtx};
-use rv_operand::{Class, in_class, legitimate_address};
+use rv_regs::{Class, in_class};
 
 fn is_immediate(x: &Rtx) -> bool
     ensures { result ≡ spec.is_immediate x.now }

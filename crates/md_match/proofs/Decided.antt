@@ -5,7 +5,7 @@ use Rattle.rtx_tree.specs.declared.tree.Rtx.{Rtx}
 use Rattle.rtx_tree.specs.Tree.{head_of, kids_of}
 use Rattle.md_match.specs.declared.role.Role.TheVariants.{Operand, Operator, Itself}
 use Rattle.md_match.specs.Pattern.{Ops, role_of}
-use Rattle.md_match.specs.Collected.{Makes, MakesAll, Names, NamesOperator, Asks}
+use Rattle.md_match.specs.machine.Collected.{Makes, MakesAll, Names, NamesOperator, Asks}
 use Rattle.md_match.proofs.Nodes.{operand_makes, operand_named, operand_asked, operator_makes, operator_named, operator_parts, itself_makes, itself_head, itself_parts}
 
 refuted : (A : Type 0) → (A → ⊥) → IsTrue false ↔ A

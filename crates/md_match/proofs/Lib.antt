@@ -4,7 +4,9 @@ pub mod Decided
 pub mod Instantiated
 pub mod Lacking
 pub mod Nodes
+pub mod OnePattern
 pub mod Parts
+pub mod Seen
 pub mod Placeholders
 pub mod Placing
 pub mod Reaching

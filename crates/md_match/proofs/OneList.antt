@@ -1,4 +1,4 @@
--- A pattern matches an expression with one list of operands.
+-- Patterns match expressions with one list of operands.
 use Rattle.std.proofs.Common.{◌≡◌, ⊎_elim, ℕ, pos, Bool, true, false, ◌&&◌, List, [], ◌∷◌, length, Option, Some, None, refl, sym, ap, ◌∙◌}
 use Rattle.std.specs.Prelude.{flat_map, is_some}
 use Rattle.std.specs.List.{AllByRecursion}
@@ -9,9 +9,9 @@ use Rattle.rtx_tree.specs.Tree.{head_of, kids_of}
 use Rattle.rtx_tree.specs.Operands.{operand_at}
 use Rattle.md_match.specs.declared.role.Role.{Role}
 use Rattle.md_match.specs.declared.role.Role.TheVariants.{Operand, Operator, Itself}
-use Rattle.md_match.specs.Pattern.{Ops, role_of, gives, gives_number, is_given, placeholders, operand_numbered}
+use Rattle.md_match.specs.Pattern.{Ops, role_of, gives, gives_number, placeholders, operand_numbered}
 use Rattle.md_match.specs.Match.{Matches}
-use Rattle.md_match.specs.Collected.{Makes, MakesAll, Names, is_given_by}
+use Rattle.md_match.specs.machine.Collected.{Makes, MakesAll, Names, is_given_by, is_given_in}
 use Rattle.md_match.proofs.Anys.{any_of_both, or_false}
 use Rattle.md_match.proofs.Collecting.{or_split, given_as, made_gives}
 use Rattle.md_match.proofs.Nodes.{operand_named, operator_parts, itself_parts}
@@ -21,7 +21,7 @@ use Rattle.md_match.proofs.Short.{same_short}
 
 -- two lists with which a pattern makes an expression have the operands in common that the pattern gives
 abbrev Agree : Rtx → Type 0
-Agree p = (x : Rtx) (a b : Ops) (k : ℕ) → Makes p x a → Makes p x b → is_given k p ≡ true → operand_at a k ≡ operand_at b k
+Agree p = (x : Rtx) (a b : Ops) (k : ℕ) → Makes p x a → Makes p x b → is_given_in k p ≡ true → operand_at a k ≡ operand_at b k
 
 second : (a b : Bool) → (a && b) ≡ true → b ≡ true
 second true b e = e
@@ -49,7 +49,7 @@ all_agree (p ∷ ps) (x ∷ xs) a b k all m n e =
     ⊎_elim
     (λ given. all.0 x a b k here.0 there.0 given)
     (λ given. all_agree ps xs a b k all.1 here.1 there.1 given)
-    (or_split (is_given k p) (is_given_by ps k) (sym (any_of_both (gives_number k) (placeholders p) (flat_map placeholders ps)) ∙ e))
+    (or_split (is_given_in k p) (is_given_by ps k) (sym (any_of_both (gives_number k) (placeholders p) (flat_map placeholders ps)) ∙ e))
 
 agree_as : (p : Rtx) (r : Role) → role_of (head_of p).code ≡ r → AllByRecursion Agree (kids_of p) → Agree p
 agree_as p Operand e all x a b k m n given =
@@ -63,16 +63,20 @@ agree_as p Itself e all x a b k m n given = all_agree (kids_of p) (kids_of x) a 
 agree : (p : Rtx) → Agree p
 agree = induction Agree (λ p all. agree_as p (role_of (head_of p).code) refl all)
 
+all_agreeing : (ps : List Rtx) → AllByRecursion Agree ps
+all_agreeing [] = tt
+all_agreeing (p ∷ ps) = (agree p, all_agreeing ps)
+
 -- an operand that one of the lists has is in both
-module _ (p x : Rtx) (a b : Ops) (m : Matches p x a) (n : Matches p x b) where
-  makes : (o : Ops) → Matches p x o → Makes p x o
-  makes o h = record { made = h.made; fit = h.suits.fit }
+module _ (ps xs : List Rtx) (a b : Ops) (m : Matches ps xs a) (n : Matches ps xs b) where
+  makes : (o : Ops) → Matches ps xs o → MakesAll ps xs o
+  makes o h = record { made = h.made; fit = h.suits.asked }
 
   same_at : (k : ℕ) → operand_at a k ≡ operand_at b k
   same_at k = go (operand_at a k) (operand_at b k) refl refl
     where
-      given : is_given k p ≡ true → operand_at a k ≡ operand_at b k
-      given e = agree p x a b k (makes a m) (makes b n) e
+      given : is_given_by ps k ≡ true → operand_at a k ≡ operand_at b k
+      given e = all_agree ps xs a b k (all_agreeing ps) (makes a m) (makes b n) e
 
       go : (y z : Option Rtx) → operand_at a k ≡ y → operand_at b k ≡ z → operand_at a k ≡ operand_at b k
       go None None e f = e ∙ sym f

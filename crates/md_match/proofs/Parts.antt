@@ -6,8 +6,8 @@ use Rattle.std.proofs.Math.Seq.{drop-cons}
 use Rattle.std.proofs.lemmas.List.{drop_all}
 use Rattle.rtx_tree.specs.declared.tree.Rtx.{Rtx}
 use Rattle.md_match.specs.Pattern.{Ops, instantiated, placeholders}
-use Rattle.md_match.specs.Match.{Fits}
-use Rattle.md_match.specs.Collected.{Makes, MakesAll}
+use Rattle.md_match.specs.Match.{IsAsked}
+use Rattle.md_match.specs.machine.Collected.{Makes, MakesAll}
 use Rattle.md_match.proofs.Instantiated.{each_made}
 
 -- ---- the first of them, and the others
@@ -33,13 +33,13 @@ no_front (Some y) (Some ys) e = cc
 pub makes_first : (p x : Rtx) (ps xs : List Rtx) (o : Ops) → MakesAll (p ∷ ps) (x ∷ xs) o → Makes p x o × MakesAll ps xs o
 makes_first p x ps xs o m =
     let parts = front (instantiated p o) (each_made ps o) x xs m.made in
-    let fit = all_split (Fits o) (placeholders p) (flat_map placeholders ps) m.fit in
+    let fit = all_split (IsAsked o) (placeholders p) (flat_map placeholders ps) m.fit in
     (record { made = parts.0; fit = fit.0 }, record { made = parts.1; fit = fit.1 })
 
 pub makes_more : (p x : Rtx) (ps xs : List Rtx) (o : Ops) → Makes p x o → MakesAll ps xs o → MakesAll (p ∷ ps) (x ∷ xs) o
 makes_more p x ps xs o m n = record {
   made = ap (λ a. option_and_then (λ x. option_map (λ xs. x ∷ xs) (each_made ps o)) a) m.made ∙ ap (option_map (λ xs. x ∷ xs)) n.made;
-  fit = all_both (Fits o) (placeholders p) (flat_map placeholders ps) m.fit n.fit;
+  fit = all_both (IsAsked o) (placeholders p) (flat_map placeholders ps) m.fit n.fit;
 }
 
 -- as many expressions as patterns

@@ -9,7 +9,7 @@ use Rattle.rtx_tree.specs.Tree.{head_of}
 use Rattle.rtx_tree.specs.Operands.{operand_at, put_at}
 use Rattle.rtx_tree.proofs.OperandLaws.{read_placed, read_other}
 use Rattle.md_match.specs.Pattern.{Ops, gives, gives_number, operand_numbered}
-use Rattle.md_match.specs.Collected.{Gives, Grows, Collected}
+use Rattle.md_match.specs.machine.Collected.{Gives, Grows, Collected}
 use Rattle.md_match.proofs.Short.{put_short}
 
 and_first : (a b : Bool) → (a && b) ≡ true → a ≡ true

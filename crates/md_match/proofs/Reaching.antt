@@ -3,8 +3,8 @@ use Rattle.std.proofs.Common.{◌≡◌, inl, ◌≤◌, ◌<◌, ◌+◌, ℕ, 
 use Rattle.std.specs.Prelude.{flat_map}
 use Rattle.std.proofs.lemmas.List.{drop_all}
 use Rattle.rtx_tree.specs.declared.tree.Rtx.{Rtx}
-use Rattle.md_match.specs.Pattern.{Ops, gives_number, is_given, placeholders}
-use Rattle.md_match.specs.Collected.{Makes, MakesAll, Collected, Collects, is_given_by}
+use Rattle.md_match.specs.Pattern.{Ops, gives_number, placeholders}
+use Rattle.md_match.specs.machine.Collected.{Makes, MakesAll, Collected, Collects, is_given_by, is_given_in}
 use Rattle.md_match.proofs.Anys.{any_of_both}
 use Rattle.md_match.proofs.Parts.{makes_first, as_many, opened}
 use Rattle.md_match.proofs.Collecting.{collects_both}
@@ -24,8 +24,8 @@ pub reaches_start : (ps xs : List Rtx) (ops : Ops) → Reaches ps xs ops 0 ops
 reaches_start ps xs ops = record { goes_on = λ r c. c }
 
 -- a first pattern, and then the others
-first_then : (p x : Rtx) (ps xs : List Rtx) (old more : Ops) (r : Option Ops) → Collected (λ k. is_given k p) (Makes p x) old more → CollectsAll ps xs more r → CollectsAll (p ∷ ps) (x ∷ xs) old r
-first_then p x ps xs old more r = collects_both (Makes p x) (MakesAll ps xs) (MakesAll (p ∷ ps) (x ∷ xs)) (λ k. is_given k p) (is_given_by ps) (is_given_by (p ∷ ps)) old more r
+first_then : (p x : Rtx) (ps xs : List Rtx) (old more : Ops) (r : Option Ops) → Collected (λ k. is_given_in k p) (Makes p x) old more → CollectsAll ps xs more r → CollectsAll (p ∷ ps) (x ∷ xs) old r
+first_then p x ps xs old more r = collects_both (Makes p x) (MakesAll ps xs) (MakesAll (p ∷ ps) (x ∷ xs)) (λ k. is_given_in k p) (is_given_by ps) (is_given_by (p ∷ ps)) old more r
     (makes_first p x ps xs) (λ k. any_of_both (gives_number k) (placeholders p) (flat_map placeholders ps))
 
 -- from a place on, a first pattern and the others
@@ -35,7 +35,7 @@ opened_all ps xs i p x old r h k e f c =
     subst (λ qs. CollectsAll qs (drop i xs) old r) (sym (opened ps i p h e)) (subst (λ ys. CollectsAll (p ∷ drop (i + 1) ps) ys old r) (sym (opened xs i x k f)) c)
 
 pub reaches_next : (ps xs : List Rtx) (start ops more : Ops) (i : ℕ) (p x : Rtx) → i < length ps → i < length xs → p ≡ get_or ps i p → x ≡ get_or xs i x →
-    Collected (λ k. is_given k p) (Makes p x) ops more → Reaches ps xs start i ops → Reaches ps xs start (i + 1) more
+    Collected (λ k. is_given_in k p) (Makes p x) ops more → Reaches ps xs start i ops → Reaches ps xs start (i + 1) more
 reaches_next ps xs start ops more i p x h k e f c g = record {
   goes_on = λ r d. g.goes_on r (opened_all ps xs i p x ops r h k e f (first_then p x (drop (i + 1) ps) (drop (i + 1) xs) ops more r c d));
 }

@@ -1,3 +1,3 @@
 pub mod Pattern
 pub mod Match
-pub mod Collected
+pub mod machine

@@ -67,9 +67,9 @@ gives _ = false
 abbrev pub gives_number : ℕ → Rtx → Bool
 gives_number k x = gives (head_of x).code && int_eq (head_of x).number (pos k)
 
--- whether a pattern gives an operand with this number
-abbrev pub is_given : ℕ → Rtx → Bool
-is_given k pattern = list_any (gives_number k) (placeholders pattern)
+-- whether some patterns give an operand with this number
+abbrev pub is_given : ℕ → List Rtx → Bool
+is_given k patterns = list_any (gives_number k) (flat_map placeholders patterns)
 
 -- ---- the operands put in
 
@@ -99,6 +99,10 @@ instantiated_step operands x = instantiated_as (role_of x.code) operands (layer_
 -- the pattern with the operands put in, or none where one is missing
 unfoldable pub instantiated : Rtx → Ops → Option Rtx
 instantiated pattern operands = fold-Rtx (Option Rtx) (instantiated_step operands) pattern
+
+-- patterns with the operands put in, or none where one is missing
+abbrev pub all_instantiated : List Rtx → Ops → Option (List Rtx)
+all_instantiated patterns operands = all_some (map (λ p. instantiated p operands) patterns)
 
 -- whether an operand that the pattern names is missing
 abbrev pub is_lacking : Rtx → Ops → Bool

@@ -1,7 +1,7 @@
 //! Collects the operands that a pattern gives from an expression.
-ghost use Rattle.std.specs.Prelude.{◌≡◌, IfOk};
-ghost use Rattle.md_match.specs.Pattern.{is_given, gives_number};
-ghost use Rattle.md_match.specs.Collected.{Makes, MakesAll, Gives, Collects, is_given_by};
+ghost use Rattle.std.specs.Prelude.{◌≡◌, IfOk, map};
+ghost use Rattle.md_match.specs.Pattern.{gives_number};
+ghost use Rattle.md_match.specs.machine.Collected.{Makes, MakesAll, Gives, Collects, is_given_by, is_given_in};
 
 use crate::makes::same_head;
 use crate::role::{Role, gives, role_of};
@@ -13,13 +13,13 @@ use std::alloc::Global;
 /// the pattern.
 #[cycle(collecting)]
 #[tactic(auto, using(crate::proofs::Collecting::itself_nowhere))]
-pub fn collect(
+fn collect(
     alloc: Global,
     pattern: &Rtx,
     insn: &Rtx,
     operands: Operands,
 ) -> Result<Option<Operands>, Memory>
-    ensures { IfOk result (Collects (λ k. is_given k pattern.now) (Makes pattern.now insn.now) operands) }
+    ensures { IfOk result (Collects (λ k. is_given_in k pattern.now) (Makes pattern.now insn.now) operands) }
 {
     match role_of(pattern.code) {
         Role::Operand => place(alloc, pattern, insn, operands),
@@ -65,6 +65,30 @@ fn collect_all(
     let mut operands = operands;
     for i in 0..patterns.len() {
         match collect(alloc, &patterns[i], &insns[i], operands)? {
+            None => return Ok(None),
+            Some(more) => operands = more,
+        }
+    }
+    Ok(Some(operands))
+}
+
+/// The operands, with those that some patterns give where they were missing; `None` only where no operands make the expressions of the
+/// patterns, one each.
+#[tactic(auto, using(crate::proofs::Reaching::reaches_start, crate::proofs::Reaching::reaches_next, crate::proofs::Reaching::reaches_none, crate::proofs::Reaching::reaches_end, crate::proofs::Reaching::other_length))]
+pub fn collect_each(
+    alloc: Global,
+    patterns: &[Rtx],
+    insns: &[&Rtx],
+    operands: Operands,
+) -> Result<Option<Operands>, Memory>
+    ensures { IfOk result (Collects (is_given_by patterns.now) (MakesAll patterns.now (map (λ insn. insn.now) insns.now)) operands) }
+{
+    if patterns.len() != insns.len() {
+        return Ok(None);
+    }
+    let mut operands = operands;
+    for i in 0..patterns.len() {
+        match collect(alloc, &patterns[i], insns[i], operands)? {
             None => return Ok(None),
             Some(more) => operands = more,
         }

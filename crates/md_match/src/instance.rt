@@ -1,8 +1,8 @@
 //! Puts operands into patterns.
-ghost use Rattle.std.specs.Prelude.{◌≡◌, IfOk, IfSome, map, option_map, option_copied, is_none};
+ghost use Rattle.std.specs.Prelude.{◌≡◌, IfOk, IfSome, option_map, option_copied, is_none, [], ◌∷◌};
 ghost use Rattle.rtx_tree.specs.Tree.{head_of, tree_of};
-ghost use Rattle.md_match.specs.Match.{Suits, Matches};
-ghost use Rattle.md_match.specs.Pattern.{all_some, instantiated, is_lacking};
+ghost use Rattle.md_match.specs.Match.{Suits, MatchesOne};
+ghost use Rattle.md_match.specs.Pattern.{instantiated, all_instantiated, is_lacking};
 
 use crate::role::{Role, operand_of, role_of};
 use plain_data::{Items, Memory};
@@ -12,11 +12,11 @@ use std::alloc::Global;
 /// The pattern with the operands put in: an operand stands in the place of its placeholders and dups, and for an operator stands
 /// the operand's code with the parts that the pattern has there. `None` exactly where an operand that the pattern names is
 /// missing. Where the operands suit the pattern, it matches what is made of it with the same operands.
-#[tactic(auto, using(crate::proofs::Lacking::none_where_lacking))]
+#[tactic(auto, using(crate::proofs::Lacking::none_where_lacking, crate::proofs::OnePattern::matches_one))]
 pub fn instantiate(alloc: Global, pattern: &Rtx, operands: &Operands) -> Result<Option<Rtx>, Memory>
     ensures made { IfOk result (λ r. r ≡ instantiated pattern.now operands.now) }
     ensures none { IfOk result (λ r. is_none r ≡ is_lacking pattern.now operands.now) }
-    ensures inverse { IfOk result (λ r. IfSome r (λ insn. Suits pattern.now operands.now → Matches pattern.now insn operands.now)) }
+    ensures inverse { IfOk result (λ r. IfSome r (λ insn. Suits (pattern.now ∷ []) operands.now → MatchesOne pattern.now insn operands.now)) }
 {
     instance(alloc, pattern, operands)
 }
@@ -45,7 +45,7 @@ fn instance(alloc: Global, pattern: &Rtx, operands: &Operands) -> Result<Option<
 // The patterns with the operands put in, or `None` where an operand is missing.
 #[cycle(instantiating)]
 fn instances(alloc: Global, patterns: &[Rtx], operands: &Operands) -> Result<Option<Kids>, Memory>
-    ensures { IfOk result (λ r. r ≡ all_some (map (λ p. instantiated p operands.now) patterns.now)) }
+    ensures { IfOk result (λ r. r ≡ all_instantiated patterns.now operands.now) }
 {
     let mut kids = Items::new(alloc);
     for pattern in patterns {

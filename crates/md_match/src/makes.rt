@@ -1,10 +1,10 @@
 //! Whether a pattern makes an expression of operands.
-ghost use Rattle.std.specs.Prelude.{◌≡◌, ◌↔◌, IsTrue};
+ghost use Rattle.std.specs.Prelude.{◌≡◌, ◌↔◌, IsTrue, map};
 ghost use Rattle.rtx_tree.specs.Tree.{head_of};
 ghost use Rattle.md_match.specs.Pattern as spec;
 ghost use Rattle.md_match.specs.declared.role.Role.TheVariants.{Operand};
 ghost use Rattle.md_match.specs.Match.{IsScratch};
-ghost use Rattle.md_match.specs.Collected.{Makes, MakesAll, Names, NamesHead, NamesOperator, Asks};
+ghost use Rattle.md_match.specs.machine.Collected.{Makes, MakesAll, Names, NamesHead, NamesOperator, Asks};
 
 use crate::role::{Role, operand_of, role_of};
 use rtx_tree::{Code, Mode, Operands, Rtx, same};
@@ -12,7 +12,7 @@ use rtx_tree::{Code, Mode, Operands, Rtx, same};
 /// Whether the pattern with the operands put in is the expression, and each operand is what its placeholder asks for.
 #[cycle(making)]
 #[tactic(auto, using(crate::proofs::Decided::operator_not_named, crate::proofs::Decided::operator_decided, crate::proofs::Decided::itself_other, crate::proofs::Decided::itself_decided))]
-pub fn makes(pattern: &Rtx, insn: &Rtx, operands: &Operands) -> bool
+fn makes(pattern: &Rtx, insn: &Rtx, operands: &Operands) -> bool
     ensures { IsTrue result ↔ Makes pattern.now insn.now operands.now }
 {
     match role_of(pattern.code) {
@@ -43,6 +43,22 @@ fn makes_all(patterns: &[Rtx], insns: &[Rtx], operands: &Operands) -> bool
     }
     for i in 0..patterns.len() {
         if !makes(&patterns[i], &insns[i], operands) {
+            return false;
+        }
+    }
+    true
+}
+
+/// Whether some patterns with the operands put in are the expressions, one each, and each operand is what its placeholder asks for.
+#[tactic(auto, using(crate::proofs::Parts::other_length, crate::proofs::Parts::decides_start, crate::proofs::Parts::decides_next, crate::proofs::Parts::decides_not, crate::proofs::Parts::decides_end))]
+pub fn makes_each(patterns: &[Rtx], insns: &[&Rtx], operands: &Operands) -> bool
+    ensures { IsTrue result ↔ MakesAll patterns.now (map (λ insn. insn.now) insns.now) operands.now }
+{
+    if patterns.len() != insns.len() {
+        return false;
+    }
+    for i in 0..patterns.len() {
+        if !makes(&patterns[i], insns[i], operands) {
             return false;
         }
     }

@@ -8,7 +8,7 @@ ghost use Rattle.md_match.specs.Pattern.{operand_of};
 use rtx_tree::{Code, Operands, Rtx};
 
 /// What an expression of a pattern stands for.
-#[derive(Clone, Copy, Debug, PartialEq, Eq)]
+#[derive(Clone, Copy)]
 pub enum Role {
     /// The operand with its number.
     Operand,

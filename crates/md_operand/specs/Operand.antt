@@ -8,7 +8,7 @@ use Rattle.rtx_tree.specs.declared.code.Mode.{Mode}
 use Rattle.rtx_tree.specs.declared.code.Mode.TheVariants.{Void, QI, HI, SI, DI}
 use Rattle.rtx_tree.specs.declared.tree.Rtx.{Rtx, out-Rtx}
 use Rattle.rtx_tree.specs.Code.{mode_name}
-use Rattle.rv_operand.specs.Addresses.{is_legitimate_address, is_frame_reference, is_base}
+use Rattle.md_operand.specs.Addresses.{is_legitimate_address, is_frame_reference, is_base}
 use Rattle.md_operand.specs.declared.own.Own.{Own}
 use Rattle.md_operand.specs.declared.own.Own.TheVariants as own
 

@@ -3,7 +3,7 @@ ghost use Rattle.std.specs.Prelude.{◌≡◌};
 ghost use Rattle.md_operand.specs.Operand as spec;
 
 use rtx_tree::{Code, Mode, Rtx};
-use rv_operand::{is_base, legitimate_address};
+use crate::addresses::{is_base, legitimate_address};
 
 /// Whether a mode accepts another: a mode that is none accepts every mode.
 pub fn accepts_mode(wanted: Mode, mode: Mode) -> bool

@@ -8,10 +8,10 @@ use crate::kinds::{
     accepts_mode, has_mode, is_comparison, is_constant, is_memory, is_register, is_symbol,
 };
 use rtx_tree::{Mode, Rtx};
-use rv_operand::{frame_reference, legitimate_address};
+use crate::addresses::{frame_reference, legitimate_address};
 
 /// A predicate that is there without a definition.
-#[derive(Clone, Copy, Debug, PartialEq, Eq)]
+#[derive(Clone, Copy)]
 pub enum Own {
     /// The one without a name, which accepts anything.
     Anything,

@@ -6,7 +6,7 @@ use Rattle.std.proofs.lemmas.Option.{slice_get_within}
 use Rattle.rtx_tree.specs.declared.tree.Rtx.{Rtx}
 use Rattle.c_eval.specs.declared.facts.Facts.{Facts}
 use Rattle.md_match.specs.Pattern.{Ops}
-use Rattle.insn_match.specs.Match.{Accepts}
+use Rattle.md_recog.specs.Match.{Accepts}
 use Rattle.md_forms.specs.declared.form.Entry.{Entry}
 use Rattle.md_recog.specs.Recog.{EntryMatches, MatchesAt, MatchesHere, NoneBetween, IsFirst}
 use Rattle.md_recog.specs.declared.recog.Match.{Match}

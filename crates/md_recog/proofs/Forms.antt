@@ -4,7 +4,7 @@ use Rattle.std.specs.Prelude.{IfOk}
 use Rattle.rtx_tree.specs.declared.tree.Rtx.{Rtx}
 use Rattle.c_eval.specs.declared.facts.Facts.{Facts}
 use Rattle.md_match.specs.Pattern.{Ops}
-use Rattle.insn_match.specs.Match.{Accepts, IsMatch}
+use Rattle.md_recog.specs.Match.{Accepts, IsMatch}
 use Rattle.md_pattern.specs.declared.reason.Reason.{Reason}
 use Rattle.md_forms.specs.declared.form.Form.{Form}
 use Rattle.md_forms.specs.declared.form.Entry.{Entry}

@@ -1,2 +1,4 @@
+pub mod Placed
+pub mod Usable
 pub mod Forms
 pub mod First

@@ -4,9 +4,10 @@ ghost use Rattle.md_match.specs.Pattern.{Ops};
 ghost use Rattle.md_recog.specs.Recog.{FormMatches, EntryMatches};
 ghost use Rattle.md_recog.specs.Recog as spec;
 
+use crate::matching::match_insn;
 use c_eval::{Facts, Preds};
-use insn_match::{Steps, match_insn};
 use md_forms::{Entry, Form, Head};
+use md_match::Steps;
 use plain_data::Memory;
 use rtx_tree::{Operands, Rtx};
 use std::alloc::Global;

@@ -5,8 +5,8 @@ ghost use Rattle.md_recog.specs.declared.recog.Match.{Match};
 
 use crate::form::match_entry;
 use c_eval::{Facts, Preds};
-use insn_match::Steps;
 use md_forms::Entry;
+use md_match::Steps;
 use plain_data::Memory;
 use rtx_tree::{Operands, Rtx};
 use std::alloc::Global;

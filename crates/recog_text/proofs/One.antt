@@ -7,7 +7,7 @@ use Rattle.rtx_tree.specs.declared.tree.Rtx.{Rtx}
 use Rattle.c_eval.specs.declared.facts.Facts.{Facts}
 use Rattle.md_match.specs.Pattern.{Ops}
 use Rattle.md_match.proofs.OneList.{one_list}
-use Rattle.insn_match.specs.Match.{Accepts, IsMatch}
+use Rattle.md_recog.specs.Match.{Accepts, IsMatch}
 use Rattle.md_forms.specs.declared.form.Form.{Form}
 use Rattle.md_forms.specs.declared.form.Entry.{Entry}
 use Rattle.md_forms.specs.Forms.{names_of}

@@ -1,7 +1,8 @@
 //! Classes and addresses, by tables.
+use md_operand::{frame_reference, legitimate_address};
 use plain_data::Memory;
 use rtx_tree::{Code, Mode, Name, Rtx};
-use rv_operand::{Class, frame_reference, in_class, legitimate_address};
+use rv_regs::{Class, in_class};
 use std::alloc::Global;
 use std::test::Fail;
 

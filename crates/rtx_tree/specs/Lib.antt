@@ -8,3 +8,4 @@ pub mod Registers
 pub mod Stage
 pub mod Tree
 pub mod Words
+pub mod machine

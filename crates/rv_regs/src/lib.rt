@@ -1,10 +1,16 @@
-//! Which hard registers a compilation may use, and in which order: the RISC-V calling convention as tables.
+//! The hard registers of the target: their classes, and which of them a compilation may use, in which order. They are those of the RISC-V
+//! calling convention.
 //!
-//! Each call gives the table of its definition, by the registers' numbers, and takes no memory.
+//! Each call gives what its definition in `specs/Registers.antt` or `specs/Classes.antt` gives, by the registers' numbers, and takes no
+//! memory.
 #![tactic(auto)]
 
 ghost use Rattle.std.specs.Prelude.{◌≡◌};
 ghost use Rattle.rv_regs.specs.Registers as spec;
+
+mod classes;
+
+pub use classes::{Class, in_class};
 
 /// The return address, `ra`.
 pub const RETURN_ADDRESS: u8 = 1;

@@ -1,7 +1,7 @@
 use Rattle.std.proofs.Common.{sym, subst, ◌∙◌}
 use Rattle.std.proofs.lemmas.Result.{IfOk-weaker}
 use Rattle.md_match.specs.Pattern.{gives_number}
-use Rattle.md_match.specs.Collected.{Gives, Collects}
+use Rattle.md_match.specs.machine.Collected.{Gives, Collects}
 use Rattle.md_match.proofs.Collecting.{collects_operand, operator_nowhere, collects_operator, collects_itself}
 use Rattle.md_match.proofs.collect.+collecting.Goals as goal
 

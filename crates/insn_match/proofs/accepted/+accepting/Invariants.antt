@@ -1,7 +1,0 @@
-use Rattle.std.proofs.Common.{◌≡◌, drop}
-use Rattle.std.specs.List.{list_all}
-use Rattle.insn_match.specs.Match.{are_accepted}
-use Rattle.insn_match.proofs.accepted.+accepting.Given as goal
-
-abbrev pub invariant-all_accepted-loop-pattern : goal.invariant-all_accepted-loop-pattern
-invariant-all_accepted-loop-pattern g l = list_all (are_accepted (g.P.Preds.accepts l.preds) l.operands) (drop l.pattern-index l.patterns) ≡ list_all (are_accepted (g.P.Preds.accepts l.preds) l.operands) l.patterns

@@ -1,6 +1,6 @@
 //! The counts of a chain.
 ghost use Rattle.std.specs.Prelude.{◌≡◌, ◌≤◌, ◌<◌, ◌+◌, ◌^◌, List, length, vec_len};
-ghost use Rattle.rtl_count.specs.Counts as spec;
+ghost use Rattle.rtl_chain.specs.Counts as spec;
 ghost use Rattle.rtx_tree.specs.Tree.{head_of, kids_of};
 
 use rtx_tree::{Code, Insn, Kind, Rtx};

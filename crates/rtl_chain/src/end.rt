@@ -1,10 +1,10 @@
 //! What is added at the end of a chain.
 ghost use Rattle.std.specs.Prelude.{◌≡◌, ◌↔◌, IfOk, IsTrue};
 ghost use Rattle.rtl_func.specs.Paths.{ReachesExit};
-ghost use Rattle.func_end.specs.End as spec;
+ghost use Rattle.rtl_chain.specs.End as spec;
 
+use crate::counts::greatest_uid;
 use plain_data::{Items, Memory};
-use rtl_count::greatest_uid;
 use rtl_func::reaches_exit;
 use rtx_tree::{Code, Function, Insn, Kind, Mode, Rtx};
 use std::alloc::Global;

@@ -2,7 +2,7 @@
 use Rattle.std.proofs.Common.{◌≡◌, ◌↔◌, Bool, true, false, IsTrue, List, Some, None, refl, sym, subst}
 use Rattle.rtx_tree.specs.declared.function.Insn.{Insn}
 use Rattle.rtl_func.specs.Paths.{ReachesExit}
-use Rattle.func_end.specs.End.{return_insn, IsFinished, IsEnd}
+use Rattle.rtl_chain.specs.End.{return_insn, IsFinished, IsEnd}
 
 pub returning : (reached : Bool) (insns : List Insn) (end : Insn) → (IsTrue reached ↔ ReachesExit insns) → reached ≡ true → end ≡ return_insn insns → IsEnd insns (Some end)
 returning reached insns end both is same = subst (λ i. IsEnd insns (Some i)) (sym same) (IsEnd.returning (both.0 is))

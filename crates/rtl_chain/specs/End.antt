@@ -5,7 +5,7 @@ use Rattle.std.specs.declared.option.Option.{Option}
 use Rattle.rtx_tree.specs.Patterns.{return_rtx}
 use Rattle.rtx_tree.specs.declared.function.Kind.TheVariants.{Jump}
 use Rattle.rtx_tree.specs.declared.function.Insn.{Insn}
-use Rattle.rtl_count.specs.Counts.{greatest_uid}
+use Rattle.rtl_chain.specs.Counts.{greatest_uid}
 use Rattle.rtl_func.specs.Paths.{ReachesExit}
 
 -- the return that is added at the end of a chain, with the number after the greatest

@@ -1,24 +1,18 @@
--- What the rules ask of each tree within a pattern.
+-- What the rules ask of each tree within a pattern, by the function in which it stands.
 use Rattle.std.specs.Prelude.{Bool}
 use Rattle.std.specs.List.{list_all}
 use Rattle.rtx_tree.specs.declared.function.Function.{Function}
 use Rattle.rtx_tree.specs.declared.tree.Rtx.{Rtx}
 use Rattle.rtl_func.specs.declared.nodes.NodeRule.{NodeRule}
-use Rattle.rtl_func.specs.declared.nodes.NodeRule.TheVariants.{LabelStands, IsPlain, IsFormed, HasItsMode, IsArgument, IsLawfulParallel, IsStackVariable}
+use Rattle.rtl_func.specs.declared.nodes.NodeRule.TheVariants.{LabelStands, HasItsMode, IsStackVariable}
 use Rattle.rtl_func.specs.Nodes.{nodes_of}
-use Rattle.rtl_func.specs.Table.{is_formed}
-use Rattle.rtl_func.specs.Kinds.{label_stands, is_plain_tree}
+use Rattle.rtl_func.specs.Kinds.{label_stands}
 use Rattle.rtl_func.specs.Modes.{has_its_mode}
-use Rattle.rtl_func.specs.Calls.{has_argument}
-use Rattle.rtl_func.specs.Effects.{is_lawful_parallel, has_stack_variables}
+use Rattle.rtl_func.specs.Effects.{has_stack_variables}
 
 abbrev pub node_keeps : NodeRule → Function → Rtx → Bool
 node_keeps LabelStands f x = label_stands f.insns x
-node_keeps IsPlain f x = is_plain_tree x
-node_keeps IsFormed f x = is_formed x
 node_keeps HasItsMode f x = has_its_mode f.insns x
-node_keeps IsArgument f x = has_argument x
-node_keeps IsLawfulParallel f x = is_lawful_parallel x
 node_keeps IsStackVariable f x = has_stack_variables f.locals x
 
 -- a tree and all trees within it

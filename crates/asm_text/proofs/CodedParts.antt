@@ -2,7 +2,7 @@
 use Rattle.std.proofs.Common.{◌≡◌, ℕ, ◌+◌, Bool, true, false, cond, List, ◌∷◌, Ok, Some, None, refl, sym, subst, ◌∙◌}
 use Rattle.rtx_tree.specs.declared.function.Function.{Function}
 use Rattle.rv_text.specs.declared.line.CodeItem.{CodeItem}
-use Rattle.func_end.proofs.Ends.{finish_one}
+use Rattle.rtl_chain.proofs.Ends.{finish_one}
 use Rattle.asm_text.specs.declared.code.Coded.{Coded}
 use Rattle.func_input.specs.Refused.{first_refused}
 use Rattle.func_input.specs.Input.{FunctionsComeTo}

@@ -12,7 +12,7 @@ use Rattle.func_input.specs.Refused.{first_refused}
 use Rattle.func_input.specs.Input.{IsInput}
 use Rattle.func_input.proofs.Inputs.{admitted_last, input_last}
 use Rattle.func_input.specs.Outcome.{Outcome, outcome_map, outcome_then}
-use Rattle.func_end.specs.End.{return_insn, IsFinished}
+use Rattle.rtl_chain.specs.End.{return_insn, IsFinished}
 use Rattle.asm_text.specs.Assembly.{line_by, item_by, item_text, body_text, framed, IsBodyText, IsFunctionText, AreTexts}
 use Rattle.asm_text.specs.Compile.{FunctionsCome, InputComes}
 use Rattle.asm_text.specs.Lines.{IsMatched, AreMatched, AllMatched}

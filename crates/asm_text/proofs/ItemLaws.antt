@@ -12,7 +12,7 @@ use Rattle.rv_text.specs.declared.line.CodeItem.TheVariants as item
 use Rattle.asm_table.specs.declared.forms.Match.{Match}
 use Rattle.asm_table.specs.Forms.{first_match}
 use Rattle.asm_table.specs.Template.{filled_line}
-use Rattle.func_end.specs.End.{IsFinished}
+use Rattle.rtl_chain.specs.End.{IsFinished}
 use Rattle.asm_text.specs.Lines.{AreLines, IsAssembly, AreMatched, AllMatched}
 use Rattle.asm_text.specs.Code.{AreItems}
 use Rattle.asm_text.proofs.SameLaws.{ended}

@@ -11,7 +11,7 @@ use Rattle.asm_table.specs.Template.{filled_line, label_item}
 use Rattle.func_input.specs.Input.{IsInput}
 use Rattle.func_input.proofs.Inputs.{input_reached}
 use Rattle.func_input.specs.Outcome.{Outcome, outcome_map, outcome_then}
-use Rattle.func_end.specs.End.{IsFinished}
+use Rattle.rtl_chain.specs.End.{IsFinished}
 use Rattle.asm_text.specs.Assembly.{line_by, item_by, item_text, body_text, framed, IsBodyText, IsFunctionText, AreTexts}
 use Rattle.asm_text.specs.Compile.{InputComes}
 use Rattle.asm_text.specs.Lines.{AreLines, IsAssembly}

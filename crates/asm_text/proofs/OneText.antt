@@ -4,7 +4,7 @@ use Rattle.rtx_tree.specs.declared.function.Function.{Function}
 use Rattle.func_input.proofs.One as input
 use Rattle.func_input.proofs.One.{one_coming_to}
 use Rattle.func_input.specs.Outcome.{Outcome, outcome_map}
-use Rattle.func_end.proofs.Ends.{finish_one}
+use Rattle.rtl_chain.proofs.Ends.{finish_one}
 use Rattle.asm_text.specs.Assembly.{body_text, framed, IsBodyText, IsFunctionText, AreTexts}
 use Rattle.asm_text.specs.Compile.{FunctionsCome, InputComes}
 

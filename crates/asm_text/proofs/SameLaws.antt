@@ -15,7 +15,7 @@ use Rattle.same_behaviour.proofs.Reached.{direct_code_is_same}
 use Rattle.asm_table.specs.declared.forms.Match.{Match}
 use Rattle.asm_table.specs.Template.{filled_line, label_item}
 use Rattle.func_input.specs.Input.{IsInput}
-use Rattle.func_end.specs.End.{return_insn, IsFinished}
+use Rattle.rtl_chain.specs.End.{return_insn, IsFinished}
 use Rattle.asm_text.specs.Lines.{AreLines, IsAssembly}
 use Rattle.asm_text.specs.Same.{frame_size, AreParts, AreSame, DoesSame}
 use Rattle.asm_table.proofs.InsnLines.{HasLine, matched_has_line, return_line}

@@ -9,7 +9,7 @@ use Rattle.func_input.specs.Input.{RefusesWith}
 use Rattle.func_input.proofs.Refusing.{refuses_map}
 use Rattle.func_input.proofs.Firsts.{drop_at}
 use Rattle.func_input.specs.Outcome.{Outcome, outcome_map, outcome_then, AppendedSome}
-use Rattle.func_end.specs.End.{return_insn, IsFinished}
+use Rattle.rtl_chain.specs.End.{return_insn, IsFinished}
 use Rattle.asm_text.specs.Assembly.{each_text, Refuses, Appended, opening_lines, closing_line, framed, IsBodyText, IsFunctionText, AreTexts}
 
 -- what is there, and behind it what the rest gives, is what was there and behind it the whole

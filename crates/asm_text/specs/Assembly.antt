@@ -10,7 +10,7 @@ use Rattle.run_refusal.specs.declared.refusal.Refusal.{Refusal}
 use Rattle.run_refusal.specs.declared.refusal.Refusal.TheVariants as refusal
 use Rattle.func_input.specs.Input.{RefusesWith}
 use Rattle.func_input.specs.Outcome.{Outcome, outcome_map, outcome_then}
-use Rattle.func_end.specs.End.{IsFinished}
+use Rattle.rtl_chain.specs.End.{IsFinished}
 use Rattle.asm_table.specs.Forms.{first_match}
 use Rattle.asm_table.specs.Template.{filled_line, label_item}
 

@@ -16,7 +16,7 @@ use Rattle.asm_table.specs.Template.{filled_line}
 use Rattle.run_refusal.specs.declared.refusal.Refusal.{Refusal}
 use Rattle.run_refusal.specs.declared.refusal.Refusal.TheVariants as refusal
 use Rattle.func_input.specs.Input.{IsRead, IsInput}
-use Rattle.func_end.specs.End.{IsFinished}
+use Rattle.rtl_chain.specs.End.{IsFinished}
 use Rattle.asm_text.specs.Compile.{FunctionsCome, InputComes}
 use Rattle.asm_text.specs.Lines.{IsAssembly}
 use Rattle.asm_text.specs.Same.{AreParts}

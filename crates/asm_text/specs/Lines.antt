@@ -8,7 +8,7 @@ use Rattle.rtl_step.specs.Step.{is_mark}
 use Rattle.asm_table.specs.declared.forms.Match.{Match}
 use Rattle.asm_table.specs.Forms.{first_match}
 use Rattle.asm_table.specs.Template.{filled_line, label_item}
-use Rattle.func_end.specs.End.{IsFinished}
+use Rattle.rtl_chain.specs.End.{IsFinished}
 use Rattle.asm_text.specs.Assembly.{framed}
 
 -- the lines of a chain of a function with a number: of each instruction that of the first form that matches it, of each label its own

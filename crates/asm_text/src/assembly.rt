@@ -3,12 +3,12 @@ ghost use Rattle.std.specs.Prelude.{◌≡◌, ◌↔◌, [], ◌∷◌, ◌++�
 ghost use Rattle.asm_text.specs.Assembly as spec;
 ghost use Rattle.rtl_func.specs.Paths.{ReachesExit};
 ghost use Rattle.asm_table.specs.Forms as forms;
-ghost use Rattle.func_end.specs.End.{return_insn};
+ghost use Rattle.rtl_chain.specs.End.{return_insn};
 ghost use Rattle.func_input.specs.Outcome.{AppendedSome, outcome_then};
 ghost use Rattle.asm_text.specs.Assembly.{Appended, IsBodyText, IsFunctionText, AreTexts};
 
 use asm_table::{first_match, print_label_line, print_line};
-use func_end::{is_ended, return_insn};
+use rtl_chain::{is_ended, return_insn};
 use func_input::next_number;
 use plain_data::Memory;
 use rtx_tree::{Function, Insn, Kind, Name, Stage};

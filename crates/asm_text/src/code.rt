@@ -5,7 +5,7 @@ ghost use Rattle.rv_text.specs.declared.line.CodeItem.TheVariants as code_item;
 ghost use Rattle.asm_table.specs.declared.forms.Match.{Match};
 ghost use Rattle.asm_table.specs.Forms as forms;
 ghost use Rattle.asm_table.specs.Template.{filled_line};
-ghost use Rattle.func_end.specs.End.{return_insn};
+ghost use Rattle.rtl_chain.specs.End.{return_insn};
 ghost use Rattle.func_input.specs.Input.{most_bytes};
 ghost use Rattle.asm_text.specs.Lines.{IsMatched, AreMatched, AllMatched};
 ghost use Rattle.asm_text.specs.Code as codes;
@@ -13,7 +13,7 @@ ghost use Rattle.asm_text.specs.Code.{Answer, Answers, IsLineText, IsItemOf, IsL
 
 use crate::compile::compile;
 use asm_table::{Match, first_match, print_line};
-use func_end::{is_ended, return_insn};
+use rtl_chain::{is_ended, return_insn};
 use func_input::{next_number, read_functions};
 use plain_data::{Items, Memory};
 use rtx_tree::{Function, Functions, Insn, Kind};

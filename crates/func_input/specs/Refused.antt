@@ -7,7 +7,7 @@ use Rattle.rtx_tree.specs.declared.limit.Limit.TheVariants as limit
 use Rattle.rtl_func.specs.declared.fault.Fault.{Fault}
 use Rattle.rtl_func.specs.Faults as rules
 use Rattle.rtl_func.specs.Rules.{faults}
-use Rattle.rtl_count.specs.Counts.{instruction_count, next_pseudo}
+use Rattle.rtl_chain.specs.Counts.{instruction_count, next_pseudo}
 use Rattle.run_refusal.specs.declared.refusal.Refusal.{Refusal}
 use Rattle.run_refusal.specs.declared.refusal.Refusal.TheVariants as refusal
 

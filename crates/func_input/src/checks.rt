@@ -8,7 +8,7 @@ ghost use Rattle.func_input.specs.Steps.{IsOrMemory, Checked};
 ghost use Rattle.run_refusal.specs.declared.refusal.Refusal.TheVariants as refused;
 
 use plain_data::Memory;
-use rtl_count::{instruction_count, next_pseudo};
+use rtl_chain::{instruction_count, next_pseudo};
 use rtl_func::{CheckRefusal, check};
 use rtx_tree::{Function, Limit, Name};
 use run_refusal::Refusal;

@@ -1,6 +1,6 @@
 //! What a small chain has.
 use plain_data::{Items, Memory};
-use rtl_count::{greatest_uid, instruction_count, next_pseudo};
+use rtl_chain::{greatest_uid, instruction_count, next_pseudo};
 use rtx_tree::{Code, Insn, Insns, Kind, Mode, Rtx};
 use std::alloc::Global;
 use std::test::Fail;

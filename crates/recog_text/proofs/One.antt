@@ -15,8 +15,8 @@ use Rattle.md_pred.specs.Holds.{holds}
 use Rattle.md_recog.specs.Recog.{FormMatches, EntryMatches, MatchesAt}
 use Rattle.md_desc.specs.declared.output.Chosen.{Chosen}
 use Rattle.md_desc.specs.Recog.{IsLowest, is_usable, MatchesOut, IsChosen, NoneMatchesOut}
-use Rattle.func_end.specs.End.{IsFinished}
-use Rattle.func_end.proofs.Ends.{finish_one}
+use Rattle.rtl_chain.specs.End.{IsFinished}
+use Rattle.rtl_chain.proofs.Ends.{finish_one}
 use Rattle.func_input.specs.Outcome.{Outcome}
 use Rattle.recog_text.specs.Each.{EachComes}
 use Rattle.recog_text.specs.Recog.{line_of, needs_form, is_held, output_facts, LowerComes, OutputComes, FunctionComes, FunctionsCome}

@@ -6,7 +6,7 @@ use Rattle.rtx_tree.specs.declared.function.Function.{Function}
 use Rattle.rtx_tree.specs.declared.stage.Stage.{Stage}
 use Rattle.run_refusal.specs.declared.refusal.Refusal.{Refusal}
 use Rattle.md_forms.specs.declared.form.Entry.{Entry}
-use Rattle.func_end.specs.End.{IsEnd, IsFinished}
+use Rattle.rtl_chain.specs.End.{IsEnd, IsFinished}
 use Rattle.func_input.specs.Input.{RefusesWith}
 use Rattle.func_input.specs.Outcome.{Outcome, AppendedSome}
 use Rattle.func_input.proofs.Refusing.{refuses_map}

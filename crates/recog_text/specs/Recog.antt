@@ -23,7 +23,7 @@ use Rattle.md_forms.specs.Forms.{names_of}
 use Rattle.md_recog.specs.declared.recog.Match.{Match}
 use Rattle.md_desc.specs.declared.output.Chosen.{Chosen}
 use Rattle.md_desc.specs.Recog.{IsFirst, NoneMatches, IsChosen, NoneMatchesOut}
-use Rattle.func_end.specs.End.{IsFinished}
+use Rattle.rtl_chain.specs.End.{IsFinished}
 use Rattle.func_input.specs.Outcome.{Outcome}
 use Rattle.recog_text.specs.Each.{EachComes}
 

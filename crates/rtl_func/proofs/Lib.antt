@@ -3,5 +3,6 @@ pub mod SearchLaws
 pub mod NodeLaws
 pub mod PathLaws
 pub mod ModeLaws
+pub mod NameLaws
 pub mod RuleLaws
 pub mod FaultLaws

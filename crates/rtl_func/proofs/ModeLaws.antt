@@ -8,7 +8,8 @@ use Rattle.rtx_tree.specs.declared.tree.Rtx.{Rtx}
 use Rattle.rtx_tree.specs.Tree.{kids_of}
 use Rattle.rtl_func.specs.Nodes.{nodes_of}
 use Rattle.rtl_func.specs.Calls.{are_distinct}
-use Rattle.rtl_func.specs.Effects.{is_among}
+use Rattle.rtl_func.specs.Paths.{has_place}
+use Rattle.rtl_func.specs.machine.Changes.{is_known}
 use Rattle.rtl_func.specs.Modes.{Mention, mention_of, mentions_in, first_mode, mode_in, mentions}
 use Rattle.rtl_func.specs.Uids.{is_ruled}
 use Rattle.rtl_func.proofs.NodeLaws.{nodes_out}
@@ -76,6 +77,6 @@ pub mentions_other : (i : Insn) (rest : List Insn) → is_ruled i ≡ false → 
 mentions_other i rest is = ap (λ b. flat_map (λ (i : Insn). mentions_in i.pattern) (cond b (i ∷ filter is_ruled rest) (filter is_ruled rest))) is
 
 -- a register that may be there stands in no place behind
-pub distinct_cons : (o : Option ℕ) (rest : List ℕ) → are_distinct (cons_option o rest) ≡ (not (is_among o rest) && are_distinct rest)
+pub distinct_cons : (o : Option ℕ) (rest : List ℕ) → are_distinct (cons_option o rest) ≡ (not (is_known (has_place rest) o) && are_distinct rest)
 distinct_cons None rest = refl
 distinct_cons (Some reg) rest = refl

@@ -12,7 +12,7 @@ use Rattle.rtx_tree.specs.declared.function.Insn.{Insn}
 use Rattle.rtl_func.specs.Successors.{successors_by, successors_of}
 use Rattle.rtl_func.specs.Paths.{Path, Here, Along, has_place, leads, ReachesExit}
 use Rattle.rtl_func.proofs.PathLaws.{path_on}
-use Rattle.rtl_func.specs.Search.{is_found, with_place, with_places, IsSearch}
+use Rattle.rtl_func.specs.machine.Search.{is_found, with_place, with_places, IsSearch}
 use Rattle.rtl_func.specs.declared.paths.Search.{Search}
 
 has_append : (xs ys : List ℕ) (q : ℕ) → has_place (xs ++ ys) q ≡ (has_place xs q || has_place ys q)

@@ -66,12 +66,21 @@ is_result_by _ reg = false
 abbrev pub is_result : Rtx → Bool
 is_result x = is_result_by (form_at x) (number_at x)
 
-abbrev pub is_lawful_call_by : Form → List Rtx → Rtx → Bool
-is_lawful_call_by form.Setting (target ∷ source ∷ []) x = is_result target && calls_target source
-is_lawful_call_by _ parts x = calls_target x
+abbrev pub has_result_by : Form → List Rtx → Bool
+has_result_by form.Setting (target ∷ source ∷ []) = is_result target
+has_result_by _ parts = true
 
-abbrev pub is_lawful_call : Rtx → Bool
-is_lawful_call x = is_lawful_call_by (form_at x) (out-Rtx x).kids x
+-- what is set to a call is a0
+abbrev pub has_result : Rtx → Bool
+has_result x = has_result_by (form_at x) (out-Rtx x).kids
+
+abbrev pub has_target_by : Form → List Rtx → Rtx → Bool
+has_target_by form.Setting (target ∷ source ∷ []) x = calls_target source
+has_target_by _ parts x = calls_target x
+
+-- a call, or a set of one, calls a symbol or a register of mode DI
+abbrev pub has_target : Rtx → Bool
+has_target x = has_target_by (form_at x) (out-Rtx x).kids x
 
 -- no number stands twice
 abbrev pub are_distinct : List ℕ → Bool
@@ -84,6 +93,15 @@ used_registers uses = map (λ u. u.reg) uses
 abbrev pub are_lawful_uses : List ArgUse → Bool
 are_lawful_uses uses = list_all use_is_argument uses && are_distinct (used_registers uses)
 
+-- a call's result is set to a0, and its uses are different ones of a0 to a7
+abbrev pub call_result_agrees : Kind → Rtx → List ArgUse → Bool
+call_result_agrees Call pattern uses = has_result pattern && are_lawful_uses uses
+call_result_agrees _ pattern uses = true
+
+-- a call's target is a symbol or a register of mode DI
+abbrev pub call_target_agrees : Kind → Rtx → Bool
+call_target_agrees Call pattern = has_target pattern
+call_target_agrees _ pattern = true
+
 abbrev pub calls_agree : Kind → Rtx → List ArgUse → Bool
-calls_agree Call pattern uses = is_lawful_call pattern && are_lawful_uses uses
-calls_agree _ pattern uses = true
+calls_agree kind pattern uses = call_result_agrees kind pattern uses && call_target_agrees kind pattern

@@ -11,7 +11,6 @@ use Rattle.rtl_func.specs.Nodes.{nodes_of}
 use Rattle.rtl_func.specs.Table.{form_at, is_constant}
 use Rattle.rtl_func.specs.Calls.{are_distinct}
 use Rattle.rtl_func.specs.Modes.{register_at}
-use Rattle.rtl_func.specs.Paths.{has_place}
 
 -- ---- parallels: one holds set, use and clobber alone, and changes no register twice
 
@@ -32,16 +31,6 @@ changed_by _ parts = None
 abbrev pub changed_register : Rtx → Option ℕ
 changed_register x = changed_by (form_at x) (out-Rtx x).kids
 
--- the one register, if there is one
-abbrev pub is_register : Option ℕ → ℕ → Bool
-is_register None reg = false
-is_register (Some changed) reg = changed == reg
-
--- a register, if there is one, is among others
-abbrev pub is_among : Option ℕ → List ℕ → Bool
-is_among None others = false
-is_among (Some reg) others = has_place others reg
-
 abbrev pub is_simple_form : Form → Bool
 is_simple_form form.Setting = true
 is_simple_form form.Needing = true
@@ -52,18 +41,32 @@ is_simple_form _ = false
 abbrev pub is_simple_effect : Rtx → Bool
 is_simple_effect x = is_simple_form (form_at x)
 
-abbrev pub are_lawful_effects : List Rtx → Bool
-are_lawful_effects parts = list_all is_simple_effect parts && are_distinct (filter_map changed_register parts)
+abbrev pub holds_simple_by : Form → List Rtx → Bool
+holds_simple_by form.Together parts = list_all is_simple_effect parts
+holds_simple_by _ parts = true
 
-abbrev pub is_lawful_parallel_by : Form → List Rtx → Bool
-is_lawful_parallel_by form.Together parts = are_lawful_effects parts
-is_lawful_parallel_by _ parts = true
+-- a parallel holds set, use and clobber alone
+abbrev pub holds_simple : Rtx → Bool
+holds_simple x = holds_simple_by (form_at x) (out-Rtx x).kids
 
-abbrev pub is_lawful_parallel : Rtx → Bool
-is_lawful_parallel x = is_lawful_parallel_by (form_at x) (out-Rtx x).kids
+abbrev pub changes_once_by : Form → List Rtx → Bool
+changes_once_by form.Together parts = are_distinct (filter_map changed_register parts)
+changes_once_by _ parts = true
+
+-- a parallel changes no register twice
+abbrev pub changes_once : Rtx → Bool
+changes_once x = changes_once_by (form_at x) (out-Rtx x).kids
+
+-- each parallel of a pattern holds set, use and clobber alone
+abbrev pub parallels_hold_simple : Rtx → Bool
+parallels_hold_simple pattern = list_all holds_simple (nodes_of pattern)
+
+-- each parallel of a pattern changes no register twice
+abbrev pub parallels_change_once : Rtx → Bool
+parallels_change_once pattern = list_all changes_once (nodes_of pattern)
 
 abbrev pub parallels_agree : Rtx → Bool
-parallels_agree pattern = list_all is_lawful_parallel (nodes_of pattern)
+parallels_agree pattern = parallels_hold_simple pattern && parallels_change_once pattern
 
 -- ---- stack variables: virtual-stack-vars is changed nowhere, and a constant is added to it only from -locals to 0
 

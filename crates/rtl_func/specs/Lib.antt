@@ -3,14 +3,12 @@ pub mod Calls
 pub mod Effects
 pub mod Faults
 pub mod Kinds
-pub mod Labels
 pub mod Modes
-pub mod NodeRules
+pub mod Names
 pub mod Nodes
 pub mod Paths
 pub mod Rules
-pub mod Search
 pub mod Successors
 pub mod Table
-pub mod Tables
 pub mod Uids
+pub mod machine

@@ -7,13 +7,21 @@ use Rattle.rtx_tree.specs.declared.tree.Rtx.{Rtx}
 use Rattle.rtl_func.specs.declared.form.Form.{Form}
 use Rattle.rtl_func.specs.declared.form.Form.TheVariants as form
 use Rattle.rtl_func.specs.Nodes.{nodes_of}
-use Rattle.rtl_func.specs.Table.{form_at, mode_at, number_at, same_mode, is_effect, is_formed}
+use Rattle.rtl_func.specs.Table.{form_at, mode_at, number_at, same_mode, is_effect, is_shaped, has_call_mode}
 use Rattle.rtl_func.specs.Uids.{is_ruled}
 
--- ---- modes agree: a pattern is an effect, and each tree in it has the parts of its row
+-- ---- modes agree: a pattern is an effect, each tree in it has the parts of its row, and a call's memory has mode SI
+
+-- an effect whose trees have the parts of their rows, the mode of a call's memory apart
+abbrev pub shapes_agree : Rtx → Bool
+shapes_agree pattern = is_effect pattern && list_all is_shaped (nodes_of pattern)
+
+-- the memory of each call has mode SI
+abbrev pub call_modes_agree : Rtx → Bool
+call_modes_agree pattern = list_all has_call_mode (nodes_of pattern)
 
 abbrev pub modes_agree : Rtx → Bool
-modes_agree pattern = is_effect pattern && list_all is_formed (nodes_of pattern)
+modes_agree pattern = shapes_agree pattern && call_modes_agree pattern
 
 -- ---- one mode a pseudo: it has throughout the mode of its first mention, in the order of the chain and of each tree
 
@@ -48,7 +56,7 @@ mentions insns = flat_map (λ i. mentions_in i.pattern) (filter is_ruled insns)
 abbrev pub first_mode : List Mention → ℕ → Option Mode
 first_mode all reg = option_map (λ m. m.mode) (find (λ m. m.reg == reg) all)
 
--- the same of a tree alone
+-- the mode of a register in one mention, if it is there
 abbrev pub mode_in : Option Mention → ℕ → Option Mode
 mode_in None reg = None
 mode_in (Some m) reg = if m.reg == reg then Some m.mode else None

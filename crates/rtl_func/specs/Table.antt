@@ -212,7 +212,7 @@ fits_none _ mode reg = false
 
 -- of one part
 abbrev pub fits_one : Form → Mode → Rtx → Bool
-fits_one form.Memory mode address = has_mode mode && (is_value address && same_mode (mode_at address) DI)
+fits_one form.Memory mode address = has_mode mode && is_operand DI address
 fits_one form.Lowpart mode whole = is_true_register (form_at whole) (number_at whole) && is_narrower mode (mode_at whole)
 fits_one form.Unary mode a = has_mode mode && is_operand mode a
 fits_one form.Extension mode a = is_value a && is_narrower (mode_at a) mode
@@ -224,7 +224,7 @@ fits_one _ mode x = false
 
 -- the memory of a call's target, and a constant
 abbrev pub is_called : Rtx → Rtx → Bool
-is_called place size = is_memory_form (form_at place) && (same_mode (mode_at place) SI && is_constant size)
+is_called place size = is_memory_form (form_at place) && is_constant size
 
 -- of two parts
 abbrev pub fits_two : Form → Mode → Rtx → Rtx → Bool
@@ -273,7 +273,16 @@ is_nameless (b ∷ name) = false
 abbrev pub is_bare : Form → ℕ → List ℕ → Bool
 is_bare row number name = (has_number row || number == 0) && (is_symbol_form row || is_nameless name)
 
--- a tree has the parts of its row, each with the mode that the row asks for
-abbrev pub is_formed : Rtx → Bool
-is_formed x =
-    is_bare (form_at x) (number_at x) (out-Rtx x).name && fits_row (form_at x) (mode_at x) (number_at x) (out-Rtx x).kids
+-- a tree has the parts of its row, each with the mode that the row asks for; the mode of a call's memory is not asked
+abbrev pub is_shaped : Rtx → Bool
+is_shaped x =
+    is_bare (form_at x) (number_at x) (out-Rtx x).name
+    && fits_row (form_at x) (mode_at x) (number_at x) (out-Rtx x).kids
+
+abbrev pub has_call_mode_by : Form → List Rtx → Bool
+has_call_mode_by form.Calling (place ∷ parts) = same_mode (mode_at place) SI
+has_call_mode_by _ parts = true
+
+-- a call's memory has mode SI
+abbrev pub has_call_mode : Rtx → Bool
+has_call_mode x = has_call_mode_by (form_at x) (out-Rtx x).kids

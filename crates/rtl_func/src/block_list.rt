@@ -9,7 +9,7 @@ use rtx_tree::{Function, Insn, Kind};
 use std::alloc::Global;
 
 /// A basic block: the places from `first` on, below `end`.
-#[derive(Clone, Copy, Debug, PartialEq, Eq)]
+#[derive(Clone, Copy)]
 pub struct Block {
     /// Its first place.
     pub first: u32,
@@ -36,7 +36,8 @@ fn starts_block(insns: &[Insn], place: usize) -> bool
     place == 0 || is_label(&insns[place]) || is_jump(&insns[place - 1])
 }
 
-/// The basic blocks of a function's chain, in order: one starts at the first place, at each label and after each jump. They cover the chain, and none is empty.
+/// The basic blocks of a function's chain, in order: one starts at the first place, at each label and after each jump. They cover
+/// the chain, and none is empty.
 #[tactic(auto, using(crate::proofs::BlockLaws::blocks_cover))]
 pub fn blocks(alloc: Global, f: &Function) -> Result<Vec<Block>, Memory>
     requires { length f.now.insns < 2 ^ 32 }

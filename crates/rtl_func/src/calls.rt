@@ -67,11 +67,20 @@ fn is_result(x: &Rtx) -> bool
     matches!(form_at(x), Form::Register) && x.number.cast_unsigned() == 10
 }
 
-fn is_lawful_call(x: &Rtx) -> bool
-    ensures { result ≡ spec.is_lawful_call x.now }
+fn has_result(x: &Rtx) -> bool
+    ensures { result ≡ spec.has_result x.now }
 {
     match (form_at(x), x.kids.as_slice()) {
-        (Form::Setting, [target, source]) => is_result(target) && calls_target(source),
+        (Form::Setting, [target, _]) => is_result(target),
+        _ => true,
+    }
+}
+
+fn has_target(x: &Rtx) -> bool
+    ensures { result ≡ spec.has_target x.now }
+{
+    match (form_at(x), x.kids.as_slice()) {
+        (Form::Setting, [_, source]) => calls_target(source),
         _ => calls_target(x),
     }
 }
@@ -100,12 +109,22 @@ fn uses_differ(uses: &[ArgUse]) -> bool
     true
 }
 
-/// Whether a call has a lawful target, result and uses.
-pub fn calls_agree(kind: Kind, pattern: &Rtx, uses: &[ArgUse]) -> bool
-    ensures { result ≡ spec.calls_agree kind pattern.now uses.now }
+/// Whether a call's result is set to a0, and its uses are different ones of a0 to a7. What is no call has neither.
+pub fn call_result_agrees(kind: Kind, pattern: &Rtx, uses: &[ArgUse]) -> bool
+    ensures { result ≡ spec.call_result_agrees kind pattern.now uses.now }
 {
     match kind {
-        Kind::Call => is_lawful_call(pattern) && (uses_are_arguments(uses) && uses_differ(uses)),
+        Kind::Call => has_result(pattern) && (uses_are_arguments(uses) && uses_differ(uses)),
+        _ => true,
+    }
+}
+
+/// Whether a call's target is a symbol or a register of mode DI. What is no call has none.
+pub fn call_target_agrees(kind: Kind, pattern: &Rtx) -> bool
+    ensures { result ≡ spec.call_target_agrees kind pattern.now }
+{
+    match kind {
+        Kind::Call => has_target(pattern),
         _ => true,
     }
 }

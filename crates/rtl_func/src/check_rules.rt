@@ -1,16 +1,17 @@
 //! Whether a function is well formed.
-ghost use Rattle.std.specs.Prelude.{◌≡◌, ◌<◌, ◌^◌, ℕ, All, IfOk, length};
-ghost use Rattle.std.specs.List.{list_any};
-ghost use Rattle.std.specs.Str.{bytes_eq};
+ghost use Rattle.std.specs.Prelude.{◌≡◌, ◌<◌, ◌^◌, All, IfOk, List, length};
+ghost use Rattle.rtx_tree.specs.declared.function.Function.{Function};
 ghost use Rattle.rtl_func.specs.Faults.{earlier, first_fault};
+ghost use Rattle.rtl_func.specs.Names.{AreNames};
 ghost use Rattle.rtl_func.specs.Rules as spec;
 
 use crate::fault::{Fault, note};
+use crate::names::Names;
 use crate::rules::note_rules;
 use crate::tables::tables_of;
 use crate::uids::note_uids;
 use plain_data::Memory;
-use rtx_tree::{Function, Name};
+use rtx_tree::Function;
 use std::alloc::Global;
 use thiserror::Error;
 
@@ -36,53 +37,57 @@ impl From<Memory> for CheckRefusal {
     }
 }
 
-fn same_bytes(a: &[u8], b: &[u8]) -> bool
-    ensures { result ≡ bytes_eq a.now b.now }
+fn has_own_name(names: &Names, f: &Function) -> bool
+    ensures { (before : List Function) → AreNames before names.now → result ≡ spec.has_own_name before f.now }
 {
-    a == b
+    !names.has(&f.name) && f.result_reg == 10
 }
 
-fn has_name(name: &Name, f: &Function) -> bool
-    ensures { result ≡ spec.has_name name.now f.now }
+fn note_name(names: &Names, f: &Function, first: &mut Option<Fault>)
+    ensures { (before : List Function) → AreNames before names.now → first.new ≡ earlier first.old (first_fault (spec.name_faults before f.now)) }
 {
-    same_bytes(f.name.bytes(), name.bytes())
-}
-
-fn is_named(before: &[Function], name: &Name) -> bool
-    ensures { result ≡ list_any (spec.has_name name.now) before.now }
-{
-    before.iter().any(|f| has_name(name, f))
-}
-
-fn has_own_name(before: &[Function], f: &Function) -> bool
-    ensures { result ≡ spec.has_own_name before.now f.now }
-{
-    !is_named(before, &f.name) && f.result_reg == 10
-}
-
-fn note_name(before: &[Function], f: &Function, first: &mut Option<Fault>)
-    ensures { first.new ≡ earlier first.old (first_fault (spec.name_faults before.now f.now)) }
-{
-    if !has_own_name(before, f) {
+    if !has_own_name(names, f) {
         note(first, 0, 10);
     }
 }
 
-/// The first place at which a function breaks a rule, behind the functions that stand before it.
-fn first_of_function(
-    alloc: Global,
-    before: &[Function],
-    f: &Function,
-) -> Result<Option<Fault>, Memory>
+/// The first place at which a function breaks a rule, behind the functions with these names.
+fn first_of_function(alloc: Global, names: &Names, f: &Function) -> Result<Option<Fault>, Memory>
     requires { length f.now.insns < 2 ^ 32 }
-    ensures { IfOk result (λ first. first ≡ first_fault (spec.faults_of before.now f.now)) }
+    ensures { IfOk result (λ first. (before : List Function) → AreNames before names.now → first ≡ first_fault (spec.faults_of before f.now)) }
 {
     let mut first = None;
     note_uids(alloc, f.insns.as_slice(), &mut first)?;
     let tables = tables_of(alloc, f)?;
-    note_rules(f, &tables, &mut first);
-    note_name(before, f, &mut first);
+    note_rules(alloc, f, &tables, &mut first)?;
+    note_name(names, f, &mut first);
     Ok(first)
+}
+
+/// Whether a function keeps the ten rules of a well-formed function behind others, of which these are the names. Where it does not,
+/// the refusal tells the lowest uid at which a rule fails, and the lowest rule that fails there.
+pub fn check_behind(alloc: Global, names: &Names, f: &Function) -> Result<(), CheckRefusal>
+    requires { length f.now.insns < 2 ^ 32 }
+    ensures { (before : List Function) → AreNames before names.now → spec.IsVerdict result (first_fault (spec.faults_of before f.now)) }
+{
+    match first_of_function(alloc, names, f)? {
+        None => Ok(()),
+        Some(fault) => Err(CheckRefusal::IllFormed {
+            uid: fault.uid,
+            rule: fault.rule,
+        }),
+    }
+}
+
+/// The names of functions.
+fn names_of(alloc: Global, functions: &[Function]) -> Result<Names, Memory>
+    ensures { IfOk result (λ names. AreNames functions.now names) }
+{
+    let mut names = Names::new(alloc);
+    for f in functions {
+        names.put(alloc, &f.name)?;
+    }
+    Ok(names)
 }
 
 /// Whether the function at `index` keeps the ten rules of a well-formed function among the others of its input. Where it does
@@ -93,12 +98,6 @@ pub fn check(alloc: Global, functions: &[Function], index: u32) -> Result<(), Ch
     ensures { spec.IsVerdict result (first_fault (spec.faults functions.now index)) }
 {
     let place = index as usize;
-    let f = &functions[place];
-    match first_of_function(alloc, &functions[..place], f)? {
-        None => Ok(()),
-        Some(fault) => Err(CheckRefusal::IllFormed {
-            uid: fault.uid,
-            rule: fault.rule,
-        }),
-    }
+    let names = names_of(alloc, &functions[..place])?;
+    check_behind(alloc, &names, &functions[place])
 }

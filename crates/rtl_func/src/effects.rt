@@ -1,14 +1,19 @@
 //! Effects at once, and a function's locals.
-ghost use Rattle.std.specs.Prelude.{◌≡◌};
+ghost use Rattle.std.specs.Prelude.{◌≡◌, ◌||◌, ◌&&◌, ℕ, not, IfOk, OnOk};
 ghost use Rattle.std.specs.List.{list_all, filter_map};
+ghost use Rattle.std.specs.Ordering.{nat_cmp};
+ghost use Rattle.std.specs.BTreeSet as set;
 ghost use Rattle.rtl_func.specs.Calls.{are_distinct};
 ghost use Rattle.rtl_func.specs.Effects as spec;
-ghost use Rattle.rtl_func.specs.Paths.{has_place};
+ghost use Rattle.rtl_func.specs.machine.Changes as changes;
 ghost use Rattle.rtl_func.specs.Table.{is_constant};
 
 use crate::form::{Form, form_at};
 use crate::tables::register_at;
+use plain_data::Memory;
 use rtx_tree::{Code, Rtx};
+use std::alloc::Global;
+use std::collections::BTreeSet;
 
 fn place_register(x: &Rtx) -> Option<u64>
     ensures { result ≡ spec.place_register x.now }
@@ -41,57 +46,66 @@ fn are_simple(parts: &[Rtx]) -> bool
     parts.iter().all(|part| is_simple_effect(part))
 }
 
-fn changes(x: &Rtx, reg: u64) -> bool
-    ensures { result ≡ spec.is_register (spec.changed_register x.now) reg }
-{
-    match changed_register(x) {
-        None => false,
-        Some(changed) => changed == reg,
-    }
-}
-
-fn is_changed(parts: &[Rtx], reg: u64) -> bool
-    ensures { result ≡ has_place (filter_map spec.changed_register parts.now) reg }
-{
-    for part in parts {
-        if changes(part, reg) {
-            return true;
-        }
-    }
-    false
-}
-
-fn is_changed_again(part: &Rtx, others: &[Rtx]) -> bool
-    ensures { result ≡ spec.is_among (spec.changed_register part.now) (filter_map spec.changed_register others.now) }
+/// Notes the register that a part changes, and tells whether it is another than those noted and those were different ones.
+fn note_change(changed: &mut BTreeSet<u64>, part: &Rtx, differ: bool) -> Result<bool, Memory>
+    ensures differ { IfOk result (λ still. still ≡ (not (changes.is_known (set.contains nat_cmp changed.old) (spec.changed_register part.now)) && differ)) }
+    ensures changed { OnOk result ((reg : ℕ) → set.contains nat_cmp changed.new reg ≡ (changes.is_register (spec.changed_register part.now) reg || set.contains nat_cmp changed.old reg)) }
 {
     match changed_register(part) {
-        None => false,
-        Some(reg) => is_changed(others, reg),
-    }
-}
-
-#[tactic(auto, using(crate::proofs::ModeLaws::distinct_cons))]
-fn changes_differ(parts: &[Rtx]) -> bool
-    ensures { result ≡ are_distinct (filter_map spec.changed_register parts.now) }
-{
-    let mut rest = parts;
-    while let [part, others @ ..] = rest {
-        if is_changed_again(part, others) {
-            return false;
+        None => Ok(differ),
+        Some(reg) => {
+            let is_new = changed.insert(reg)?;
+            Ok(is_new && differ)
         }
-        rest = others;
     }
-    true
 }
 
-/// Whether a parallel holds simple effects alone and changes no register twice.
-pub fn is_lawful_parallel(x: &Rtx) -> bool
-    ensures { result ≡ spec.is_lawful_parallel x.now }
+/// Whether parts change different registers.
+fn changes_differ(alloc: Global, parts: &[Rtx]) -> Result<bool, Memory>
+    ensures { IfOk result (λ differ. differ ≡ are_distinct (filter_map spec.changed_register parts.now)) }
+{
+    let mut changed = BTreeSet::new(alloc);
+    let mut differ = true;
+    for at in (0..parts.len()).rev() {
+        differ = note_change(&mut changed, &parts[at], differ)?;
+    }
+    Ok(differ)
+}
+
+/// Whether a parallel holds simple effects alone.
+pub fn holds_simple(x: &Rtx) -> bool
+    ensures { result ≡ spec.holds_simple x.now }
 {
     match form_at(x) {
-        Form::Together => are_simple(x.kids.as_slice()) && changes_differ(x.kids.as_slice()),
+        Form::Together => are_simple(x.kids.as_slice()),
         _ => true,
     }
+}
+
+/// Whether a parallel changes no register twice.
+fn changes_once(alloc: Global, x: &Rtx) -> Result<bool, Memory>
+    ensures { IfOk result (λ once. once ≡ spec.changes_once x.now) }
+{
+    match form_at(x) {
+        Form::Together => changes_differ(alloc, x.kids.as_slice()),
+        _ => Ok(true),
+    }
+}
+
+/// Whether each parallel of a pattern changes no register twice.
+#[tactic(auto, using(crate::proofs::RuleLaws::once_out))]
+pub fn parallels_change_once(alloc: Global, pattern: &Rtx) -> Result<bool, Memory>
+    ensures { IfOk result (λ once. once ≡ spec.parallels_change_once pattern.now) }
+{
+    if !changes_once(alloc, pattern)? {
+        return Ok(false);
+    }
+    for kid in pattern.kids.as_slice() {
+        if !parallels_change_once(alloc, kid)? {
+            return Ok(false);
+        }
+    }
+    Ok(true)
 }
 
 fn is_stack_register(reg: Option<u64>) -> bool

@@ -6,7 +6,7 @@ ghost use Rattle.rtl_func.specs.Successors as spec;
 use rtx_tree::{Code, Insn, Kind, Rtx};
 
 /// Where an instruction leads.
-#[derive(Clone, Copy, Debug, PartialEq, Eq)]
+#[derive(Clone, Copy)]
 pub enum Flow {
     /// To the next place.
     Falls,
@@ -19,9 +19,9 @@ pub enum Flow {
 }
 
 /// The places to which an instruction leads, at most two.
-#[derive(Clone, Copy, Debug, PartialEq, Eq)]
+#[derive(Clone, Copy)]
 pub struct Successors {
-    /// The next place, or else the one place to which it leads.
+    /// The next place, or the one place to which an instruction leads.
     pub first: Option<u32>,
     /// The place of a branch's label.
     pub second: Option<u32>,

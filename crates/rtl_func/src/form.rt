@@ -6,7 +6,7 @@ ghost use Rattle.rtl_func.specs.Table as spec;
 use rtx_tree::{Code, Mode, Rtx};
 
 /// A row of the table of codes.
-#[derive(Clone, Copy, Debug, PartialEq, Eq)]
+#[derive(Clone, Copy)]
 pub enum Form {
     /// A register.
     Register,
@@ -264,12 +264,6 @@ fn is_set_to(target: &Rtx, source: &Rtx) -> bool
         || (is_counter(target) && is_jump_source(source))
 }
 
-fn is_address(x: &Rtx) -> bool
-    ensures { result ≡ (spec.is_value x.now && spec.same_mode (spec.mode_at x.now) Mode.DI) }
-{
-    is_value(x) && same_mode(x.mode, Mode::DI)
-}
-
 fn is_choice(test: &Rtx, label: &Rtx, next: &Rtx) -> bool
     ensures { result ≡ spec.is_choice test.now label.now next.now }
 {
@@ -279,7 +273,7 @@ fn is_choice(test: &Rtx, label: &Rtx, next: &Rtx) -> bool
 fn is_called(place: &Rtx, size: &Rtx) -> bool
     ensures { result ≡ spec.is_called place.now size.now }
 {
-    matches!(form_at(place), Form::Memory) && (same_mode(place.mode, Mode::SI) && is_constant(size))
+    matches!(form_at(place), Form::Memory) && is_constant(size)
 }
 
 fn are_effects(parts: &[Rtx]) -> bool
@@ -304,7 +298,7 @@ fn fits_one(row: Form, mode: Mode, x: &Rtx) -> bool
     ensures { result ≡ spec.fits_one row mode x.now }
 {
     match row {
-        Form::Memory => has_mode(mode) && is_address(x),
+        Form::Memory => has_mode(mode) && is_operand(Mode::DI, x),
         Form::Lowpart => is_true_register(x) && is_narrower(mode, x.mode),
         Form::Unary => has_mode(mode) && is_operand(mode, x),
         Form::Extension => is_value(x) && is_narrower(x.mode, mode),
@@ -373,9 +367,19 @@ fn is_bare(row: Form, number: u64, name: &[u8]) -> bool
         && (matches!(row, Form::Symbol) || is_nameless(name))
 }
 
-/// Whether a tree has the parts of its row, each with the mode that the row asks for.
-pub fn is_formed(x: &Rtx) -> bool
-    ensures { result ≡ spec.is_formed x.now }
+/// Whether a tree that is a call has its memory in mode SI.
+pub fn has_call_mode(x: &Rtx) -> bool
+    ensures { result ≡ spec.has_call_mode x.now }
+{
+    match (form_at(x), x.kids.as_slice()) {
+        (Form::Calling, [place, ..]) => same_mode(place.mode, Mode::SI),
+        _ => true,
+    }
+}
+
+/// Whether a tree has the parts of its row, each with the mode that the row asks for. The mode of a call's memory is not asked.
+pub fn is_shaped(x: &Rtx) -> bool
+    ensures { result ≡ spec.is_shaped x.now }
 {
     let row = form_at(x);
     let number = x.number.cast_unsigned();

@@ -3,7 +3,7 @@ ghost use Rattle.std.specs.Prelude.{◌≡◌, ◌<◌, ◌^◌, ℕ, IfOk, OnOk
 ghost use Rattle.std.specs.Ordering.{nat_cmp};
 ghost use Rattle.std.specs.BTreeMap as map;
 ghost use Rattle.rtx_tree.specs.Patterns.{is_label_kind, place_of};
-ghost use Rattle.rtl_func.specs.Labels as spec;
+ghost use Rattle.rtl_func.specs.machine.Labels as spec;
 
 use plain_data::Memory;
 use rtx_tree::{Insn, Kind};

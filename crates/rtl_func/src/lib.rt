@@ -3,8 +3,10 @@
 //! [`successors`] are the places to which an instruction leads; [`blocks`] are the basic blocks, which cover the chain; and
 //! [`reaches_exit`] says whether a path of successors leads from the first place to the exit, the place past the last. The search for
 //! it is linear but for the look-up of labels, which a map keeps. [`check`] tells the first place at which a function breaks one of ten
-//! rules: the lowest uid, and there the lowest rule. Each call gives exactly what its definition in `specs/` gives, unless memory
-//! runs out: paths, and each rule as a test of an instruction. `check` takes any trees, also those that no text stands for.
+//! rules: the lowest uid, and there the lowest rule. [`check_behind`] does so with the names of the functions in front known, and is
+//! nearly linear in the function. The rules' tests of a pattern stand alone too, those on calls, parallels and the modes of a call's
+//! memory each in its parts. Each call gives exactly what its definition in `specs/` gives, unless memory runs out: paths, and each rule
+//! as a test of an instruction. `check` takes any trees, also those that no text stands for.
 #![tactic(auto)]
 
 mod block_list;
@@ -17,14 +19,22 @@ mod flow;
 mod form;
 mod kinds;
 mod labels;
+mod names;
 mod nodes;
 mod paths;
 mod rules;
 mod tables;
+mod trees;
 mod uids;
 
 pub use block_list::{Block, blocks};
-pub use check_rules::{CheckRefusal, check};
+pub use calls::{call_result_agrees, call_target_agrees};
+pub use check_rules::{CheckRefusal, check, check_behind};
 pub use edges::successors;
+pub use effects::parallels_change_once;
 pub use flow::Successors;
+pub use names::Names;
 pub use paths::reaches_exit;
+pub use trees::{
+    argument_registers, call_modes_agree, kinds_agree, parallels_hold_simple, shapes_agree,
+};

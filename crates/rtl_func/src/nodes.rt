@@ -1,32 +1,22 @@
-//! What the rules ask of each tree within a pattern.
+//! What the rules ask of each tree within a pattern, by the function in which it stands.
 ghost use Rattle.std.specs.Prelude.{◌≡◌, ℕ};
 ghost use Rattle.rtl_func.specs.Kinds as kinds;
 ghost use Rattle.rtl_func.specs.Modes as modes;
-ghost use Rattle.rtl_func.specs.NodeRules as spec;
-ghost use Rattle.rtl_func.specs.Tables.{AreTables};
+ghost use Rattle.rtl_func.specs.machine.NodeRules as spec;
+ghost use Rattle.rtl_func.specs.machine.Tables.{AreTables};
 
-use crate::calls::has_argument;
-use crate::effects::{has_stack_variables, is_lawful_parallel};
-use crate::form::{is_formed, same_mode};
-use crate::kinds::is_plain_tree;
+use crate::effects::has_stack_variables;
+use crate::form::same_mode;
 use crate::tables::{Tables, register_at};
 use rtx_tree::{FIRST_PSEUDO, Function, Rtx};
 
 /// What a rule asks of each tree within a pattern.
-#[derive(Clone, Copy, Debug, PartialEq, Eq)]
+#[derive(Clone, Copy)]
 pub enum NodeRule {
     /// A label that it names stands.
     LabelStands,
-    /// It is no jump and no call.
-    IsPlain,
-    /// It has the parts of its row of the table.
-    IsFormed,
     /// A pseudo has the mode of its first mention.
     HasItsMode,
-    /// A hard register is one of a0 to a7.
-    IsArgument,
-    /// A parallel is lawful.
-    IsLawfulParallel,
     /// `virtual-stack-vars` is used as it may be.
     IsStackVariable,
 }
@@ -63,11 +53,7 @@ fn node_keeps(rule: NodeRule, f: &Function, tables: &Tables, x: &Rtx) -> bool
 {
     match rule {
         NodeRule::LabelStands => label_stands(f, tables, x),
-        NodeRule::IsPlain => is_plain_tree(x),
-        NodeRule::IsFormed => is_formed(x),
         NodeRule::HasItsMode => has_its_mode(f, tables, x),
-        NodeRule::IsArgument => has_argument(x),
-        NodeRule::IsLawfulParallel => is_lawful_parallel(x),
         NodeRule::IsStackVariable => has_stack_variables(f.locals, x),
     }
 }

@@ -5,7 +5,7 @@ ghost use Rattle.std.specs.Ordering.{nat_cmp};
 ghost use Rattle.std.specs.BTreeMap as map;
 ghost use Rattle.rtx_tree.specs.Patterns.{place_of};
 ghost use Rattle.rtl_func.specs.Paths.{ReachesExit};
-ghost use Rattle.rtl_func.specs.Search as spec;
+ghost use Rattle.rtl_func.specs.machine.Search as spec;
 ghost use Rattle.rtl_func.specs.Successors.{successors_of};
 
 use crate::edges::successors_by;

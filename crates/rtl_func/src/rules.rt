@@ -1,23 +1,26 @@
 //! The rules that each instruction keeps or breaks.
-ghost use Rattle.std.specs.Prelude.{◌≡◌};
+ghost use Rattle.std.specs.Prelude.{◌≡◌, IfOk, OnOk};
 ghost use Rattle.rtl_func.specs.Faults.{earlier, first_fault};
-ghost use Rattle.rtl_func.specs.Kinds as kinds;
 ghost use Rattle.rtl_func.specs.Modes.{modes_agree};
-ghost use Rattle.rtl_func.specs.Calls.{argument_registers};
-ghost use Rattle.rtl_func.specs.NodeRules.{nodes_keep};
+ghost use Rattle.rtl_func.specs.Calls.{calls_agree};
+ghost use Rattle.rtl_func.specs.Effects.{parallels_agree};
 ghost use Rattle.rtl_func.specs.Rules as spec;
-ghost use Rattle.rtl_func.specs.Tables.{AreTables};
+ghost use Rattle.rtl_func.specs.machine.Tables.{AreTables};
 
-use crate::calls::{calls_agree, uses_are_arguments};
+use crate::calls::{call_result_agrees, call_target_agrees};
+use crate::effects::parallels_change_once;
 use crate::fault::{Fault, note};
-use crate::form::is_effect;
-use crate::kinds::{is_call_tree, is_jump_tree, is_nothing};
 use crate::nodes::{NodeRule, nodes_keep};
 use crate::tables::{Tables, is_ruled};
-use rtx_tree::{Function, Insn, Kind};
+use crate::trees::{
+    argument_registers, call_modes_agree, kinds_agree, parallels_hold_simple, shapes_agree,
+};
+use plain_data::Memory;
+use rtx_tree::{Function, Insn, Rtx};
+use std::alloc::Global;
 
 /// A rule that each instruction keeps or breaks.
-#[derive(Clone, Copy, Debug, PartialEq, Eq)]
+#[derive(Clone, Copy)]
 pub enum InsnRule {
     /// Each label that it names stands.
     LabelsStand,
@@ -37,7 +40,7 @@ pub enum InsnRule {
     StackVariables,
 }
 
-/// These rules, in the order of their numbers.
+/// The rules of instructions, in the order of their numbers.
 const INSN_RULES: [InsnRule; 8] = [
     InsnRule::LabelsStand,
     InsnRule::KindsAgree,
@@ -70,77 +73,101 @@ fn rule_number(rule: InsnRule) -> u8
     }
 }
 
-fn kinds_agree(f: &Function, tables: &Tables, insn: &Insn) -> bool
-    requires { AreTables f.now tables.now }
-    ensures { result ≡ kinds.kinds_agree insn.now.kind insn.now.pattern }
+fn modes_agree(pattern: &Rtx) -> bool
+    ensures { result ≡ modes_agree pattern.now }
 {
-    match insn.kind {
-        Kind::Plain => nodes_keep(NodeRule::IsPlain, f, tables, &insn.pattern),
-        Kind::Jump => is_jump_tree(&insn.pattern),
-        Kind::Call => is_call_tree(&insn.pattern),
-        Kind::Label => is_nothing(&insn.pattern),
-        Kind::Barrier => true,
+    shapes_agree(pattern) && call_modes_agree(pattern)
+}
+
+fn calls_agree(insn: &Insn) -> bool
+    ensures { result ≡ calls_agree insn.now.kind insn.now.pattern insn.now.uses }
+{
+    call_result_agrees(insn.kind, &insn.pattern, insn.uses.as_slice())
+        && call_target_agrees(insn.kind, &insn.pattern)
+}
+
+fn parallels_agree(alloc: Global, pattern: &Rtx) -> Result<bool, Memory>
+    ensures { IfOk result (λ agree. agree ≡ parallels_agree pattern.now) }
+{
+    if parallels_hold_simple(pattern) {
+        parallels_change_once(alloc, pattern)
+    } else {
+        Ok(false)
     }
 }
 
-fn modes_agree(f: &Function, tables: &Tables, insn: &Insn) -> bool
+fn keeps(
+    alloc: Global,
+    rule: InsnRule,
+    f: &Function,
+    tables: &Tables,
+    insn: &Insn,
+) -> Result<bool, Memory>
     requires { AreTables f.now tables.now }
-    ensures { result ≡ modes_agree insn.now.pattern }
-{
-    is_effect(&insn.pattern) && nodes_keep(NodeRule::IsFormed, f, tables, &insn.pattern)
-}
-
-fn argument_registers(f: &Function, tables: &Tables, insn: &Insn) -> bool
-    requires { AreTables f.now tables.now }
-    ensures { result ≡ argument_registers insn.now.pattern insn.now.uses }
-{
-    nodes_keep(NodeRule::IsArgument, f, tables, &insn.pattern)
-        && uses_are_arguments(insn.uses.as_slice())
-}
-
-fn keeps(rule: InsnRule, f: &Function, tables: &Tables, insn: &Insn) -> bool
-    requires { AreTables f.now tables.now }
-    ensures { result ≡ spec.keeps rule f.now insn.now }
+    ensures { IfOk result (λ kept. kept ≡ spec.keeps rule f.now insn.now) }
 {
     let pattern = &insn.pattern;
     match rule {
-        InsnRule::LabelsStand => nodes_keep(NodeRule::LabelStands, f, tables, pattern),
-        InsnRule::KindsAgree => kinds_agree(f, tables, insn),
-        InsnRule::ModesAgree => modes_agree(f, tables, insn),
-        InsnRule::OneModeAPseudo => nodes_keep(NodeRule::HasItsMode, f, tables, pattern),
-        InsnRule::ArgumentRegisters => argument_registers(f, tables, insn),
-        InsnRule::Calls => calls_agree(insn.kind, pattern, insn.uses.as_slice()),
-        InsnRule::Parallels => nodes_keep(NodeRule::IsLawfulParallel, f, tables, pattern),
-        InsnRule::StackVariables => nodes_keep(NodeRule::IsStackVariable, f, tables, pattern),
+        InsnRule::LabelsStand => Ok(nodes_keep(NodeRule::LabelStands, f, tables, pattern)),
+        InsnRule::KindsAgree => Ok(kinds_agree(insn.kind, pattern)),
+        InsnRule::ModesAgree => Ok(modes_agree(pattern)),
+        InsnRule::OneModeAPseudo => Ok(nodes_keep(NodeRule::HasItsMode, f, tables, pattern)),
+        InsnRule::ArgumentRegisters => Ok(argument_registers(pattern, insn.uses.as_slice())),
+        InsnRule::Calls => Ok(calls_agree(insn)),
+        InsnRule::Parallels => parallels_agree(alloc, pattern),
+        InsnRule::StackVariables => Ok(nodes_keep(NodeRule::IsStackVariable, f, tables, pattern)),
     }
 }
 
-fn breaks(rule: InsnRule, f: &Function, tables: &Tables, insn: &Insn) -> bool
+fn breaks(
+    alloc: Global,
+    rule: InsnRule,
+    f: &Function,
+    tables: &Tables,
+    insn: &Insn,
+) -> Result<bool, Memory>
     requires { AreTables f.now tables.now }
-    ensures { result ≡ spec.breaks rule f.now insn.now }
+    ensures { IfOk result (λ broken. broken ≡ spec.breaks rule f.now insn.now) }
 {
-    is_ruled(insn) && !keeps(rule, f, tables, insn)
+    if !is_ruled(insn) {
+        return Ok(false);
+    }
+    Ok(!keeps(alloc, rule, f, tables, insn)?)
 }
 
 /// Notes where a rule fails.
-fn note_rule(rule: InsnRule, f: &Function, tables: &Tables, first: &mut Option<Fault>)
+fn note_rule(
+    alloc: Global,
+    rule: InsnRule,
+    f: &Function,
+    tables: &Tables,
+    first: &mut Option<Fault>,
+) -> Result<(), Memory>
     requires { AreTables f.now tables.now }
-    ensures { first.new ≡ earlier first.old (first_fault (spec.rule_faults f.now rule)) }
+    ensures { OnOk result (first.new ≡ earlier first.old (first_fault (spec.rule_faults f.now rule))) }
 {
     let insns = f.insns.as_slice();
     for insn in insns {
-        if breaks(rule, f, tables, insn) {
+        let is_broken = breaks(alloc, rule, f, tables, insn)?;
+        if is_broken {
             note(first, insn.uid, rule_number(rule));
         }
     }
+    Ok(())
 }
 
-/// Notes where one of these rules fails.
-pub fn note_rules(f: &Function, tables: &Tables, first: &mut Option<Fault>)
+/// Notes where one of the rules of instructions fails.
+pub fn note_rules(
+    alloc: Global,
+    f: &Function,
+    tables: &Tables,
+    first: &mut Option<Fault>,
+) -> Result<(), Memory>
     requires { AreTables f.now tables.now }
-    ensures { first.new ≡ earlier first.old (first_fault (spec.all_rule_faults f.now spec.insn_rules)) }
+    ensures { OnOk result (first.new ≡ earlier first.old (first_fault (spec.all_rule_faults f.now spec.insn_rules))) }
 {
     for rule in insn_rules() {
-        note_rule(*rule, f, tables, first);
+        note_rule(alloc, *rule, f, tables, first)?;
     }
+    Ok(())
 }

@@ -4,7 +4,7 @@ ghost use Rattle.std.specs.Option.{option_or};
 ghost use Rattle.std.specs.Ordering.{nat_cmp};
 ghost use Rattle.std.specs.BTreeMap as map;
 ghost use Rattle.rtl_func.specs.Modes as spec;
-ghost use Rattle.rtl_func.specs.Tables.{AreTables};
+ghost use Rattle.rtl_func.specs.machine.Tables.{AreTables};
 ghost use Rattle.rtl_func.specs.Uids.{is_ruled};
 
 use crate::form::{Form, form_at};

@@ -1,6 +1,6 @@
 use Rattle.std.proofs.Common.{[], ◌∷◌, ◌++◌, subst}
 use Rattle.func_input.specs.Outcome.{outcome_then}
-use Rattle.func_end.specs.End.{return_insn}
+use Rattle.rtl_chain.specs.End.{return_insn}
 use Rattle.asm_text.specs.Assembly.{item_text, body_text, IsBodyText}
 use Rattle.asm_text.proofs.Texts.{appended_some, text_and_last, finished_then, finished_else}
 use Rattle.asm_text.proofs.assembly.print_chain.Goals as goal

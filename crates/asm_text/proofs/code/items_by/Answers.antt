@@ -1,5 +1,5 @@
 use Rattle.std.proofs.Common.{◌∷◌, [], ◌++◌}
-use Rattle.func_end.specs.End.{return_insn}
+use Rattle.rtl_chain.specs.End.{return_insn}
 use Rattle.asm_text.proofs.Texts.{finished_then, finished_else}
 use Rattle.asm_text.proofs.LineTexts.{items_finished}
 use Rattle.asm_text.proofs.code.items_by.Goals as goal

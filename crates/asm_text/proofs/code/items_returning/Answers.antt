@@ -1,5 +1,5 @@
 use Rattle.std.proofs.Common.{refl}
-use Rattle.func_end.specs.End.{return_insn}
+use Rattle.rtl_chain.specs.End.{return_insn}
 use Rattle.asm_text.proofs.LineTexts.{items_last}
 use Rattle.asm_text.proofs.code.items_returning.Goals as goal
 

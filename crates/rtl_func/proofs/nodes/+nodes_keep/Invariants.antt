@@ -1,6 +1,6 @@
 use Rattle.std.proofs.Common.{◌≡◌, drop}
 use Rattle.std.specs.List.{list_all}
-use Rattle.rtl_func.specs.NodeRules.{nodes_keep}
+use Rattle.rtl_func.specs.machine.NodeRules.{nodes_keep}
 use Rattle.rtl_func.proofs.nodes.+nodes_keep.Given as goal
 
 abbrev pub invariant-loop-kid : goal.invariant-loop-kid

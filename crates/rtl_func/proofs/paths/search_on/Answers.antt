@@ -1,6 +1,6 @@
 use Rattle.std.proofs.Common.{◌<◌, refl, sym, subst}
 use Rattle.rtl_func.specs.declared.paths.Search.{Search}
-use Rattle.rtl_func.specs.Search.{IsSearch}
+use Rattle.rtl_func.specs.machine.Search.{IsSearch}
 use Rattle.rtl_func.specs.Successors.{successors_of}
 use Rattle.rtl_func.proofs.SearchLaws.{work, visited, visited-work}
 use Rattle.rtl_func.proofs.paths.search_on.Goals as goal

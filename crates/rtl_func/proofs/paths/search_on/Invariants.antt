@@ -1,4 +1,4 @@
-use Rattle.rtl_func.specs.Search.{IsSearch}
+use Rattle.rtl_func.specs.machine.Search.{IsSearch}
 use Rattle.rtl_func.proofs.SearchLaws.{work}
 use Rattle.rtl_func.proofs.paths.search_on.Given as goal
 

@@ -1,6 +1,6 @@
 use Rattle.std.proofs.Common.{◌+◌, ◌≡◌, List, Bool, ℕ, length, sym, subst, ap, ◌∙◌}
 use Rattle.rtl_func.specs.declared.paths.Search.{Search}
-use Rattle.rtl_func.specs.Search.{IsSearch, with_place}
+use Rattle.rtl_func.specs.machine.Search.{IsSearch, with_place}
 use Rattle.rtl_func.proofs.SearchLaws.{nothing_found, search_start}
 use Rattle.rtl_func.proofs.paths.started.Goals as goal
 

@@ -15,6 +15,6 @@ loop-rule-preserved c =
     let f = c.args.f.now in
     let here : drop index rules ≡ rule ∷ rest = drop_more rules index LabelsStand c.loop-rule-test.true in
     let before = c.loop-rule.first in
-    all_noted before _ (rule_faults f rule) (all_rule_faults f rest) c.note_rule.ensures
+    all_noted before _ (rule_faults f rule) (all_rule_faults f rest) c.in_ok-note_rule.ensures
     ∙ sym (ap (λ rules. earlier before (first_fault (all_rule_faults f rules))) here)
     ∙ c.loop-rule.invariant

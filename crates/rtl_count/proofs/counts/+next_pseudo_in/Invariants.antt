@@ -1,7 +1,0 @@
-use Rattle.std.proofs.Common.{◌≡◌, max, drop, map}
-use Rattle.rtx_tree.specs.Tree.{head_of, kids_of}
-use Rattle.rtl_count.specs.Counts.{greatest, next_pseudo_in, above_pseudo}
-use Rattle.rtl_count.proofs.counts.+next_pseudo_in.Given as goal
-
-abbrev pub invariant-loop-kid : goal.invariant-loop-kid
-invariant-loop-kid l = max l.greatest (greatest (map next_pseudo_in (drop l.kid-index l.kid-items))) ≡ next_pseudo_in l.x

@@ -1,5 +1,5 @@
 -- A test for 0 comes to its end in no more rounds than the term has nodes: each round that goes on takes an operator away.
-use Rattle.std.proofs.Common.{◌≡◌, ℕ, zero, suc, ◌+◌, ◌-◌, ◌^◌, ◌<◌, ◌≤◌, refl, sym, ◌∙◌, ap, subst, arith, cond, eqb, Bool, true, false, ◌&&◌, List, [], ◌∷◌, Option, Some, None, ◌⊎◌, inl, inr}
+use Rattle.std.proofs.Common.{◌≡◌, ℕ, zero, suc, ◌+◌, ◌-◌, ◌^◌, ◌<◌, ◌≤◌, refl, sym, ◌∙◌, ap, subst, arith, cond, eqb, ltb, ltb-true, lt-ltb, Bool, true, false, ◌&&◌, List, [], ◌∷◌, Option, Some, None, ◌⊎◌, inl, inr}
 use Rattle.std.specs.Option.{option_or}
 use Rattle.bits64.specs.declared.Width.{Width}
 use Rattle.bits64.specs.declared.Width.TheVariants.{W8}
@@ -16,7 +16,7 @@ use Rattle.term_mean.specs.Extensions.{extended_by}
 use Rattle.term_mean.specs.Masks.{low_8}
 use Rattle.term_mean.specs.Truths.{is_truth, opposite}
 use Rattle.term_mean.specs.Zero.{nearer, Extended, Operands, extension_in, same_kind, operand_if, constant_if, operand_in, operands_of, operands_as, operands_in, from_zero, as_difference, zero_extended_test, zero_difference, zero_xor, zero_truth, zero_constant, zero_chosen, zero_test, equals_zero}
-use borrow.Author.Tests.{ltb-true, lt-ltb}
+use Rattle.term_zero.specs.machine.Rounds.{xor_parts, zero_parted}
 use Rattle.term_zero.proofs.OperatorLaws.{operators, operators-below, operators-minus, operators-nearer}
 
 -- ---- what extensions extend has fewer operators
@@ -170,3 +170,15 @@ answer-same w t answer h = h (zero_test (operators t))
 
 pub rounds-begin : (w : Width) (t : Tree) → zero_test (suc (operators t)) w t ≡ equals_zero w t
 rounds-begin w t = let h = operators-below t in rounds-same (suc (operators t)) (tree_size t) w t (omega arith) (omega arith)
+
+-- the test of an exclusive or goes by its parts
+pub zero_xor-parted : (again : Width → Tree → Tree) (w : Width) (t : Tree) → zero_parted (xor_parts w t) again w t ≡ zero_xor again w t
+zero_xor-parted again w (Node heads.Xor u n s (tree a (tree b no_trees))) = go (same_width u w)
+  where
+    t : Tree
+    t = Node heads.Xor u n s (tree a (tree b no_trees))
+
+    go : (c : Bool) → zero_parted (cond c (Some (a, b)) None) again w t ≡ cond c (again w (minus w a b)) (zero_difference again w t)
+    go true = refl
+    go false = refl
+zero_xor-parted again w t = refl

@@ -1,5 +1,5 @@
 //! Whether a term is 0.
-ghost use Rattle.std.specs.Prelude.{ℕ, ◌≡◌, ◌≤◌, [], ◌∷◌, map, IfOk};
+ghost use Rattle.std.specs.Prelude.{ℕ, ◌≡◌, ◌≤◌, [], ◌∷◌, map, if◌then◌else◌, IfOk};
 ghost use Rattle.bits64.specs.declared.Width.{Width};
 ghost use Rattle.term_tree.specs.declared.head.Head.TheVariants as heads;
 ghost use Rattle.term_tree.specs.Tree.{Tree, trees_of, atoms_of, tree_size};
@@ -8,8 +8,8 @@ ghost use Rattle.term_tree.specs.View.{tree_of, atom_of};
 ghost use Rattle.term_mean.specs.Sums.{minus as minus_spec};
 ghost use Rattle.term_mean.specs.Cuts.{one_part as one_part_spec};
 ghost use Rattle.term_mean.specs.Zero as spec;
-ghost use Rattle.term_zero.specs.machine.Rounds.{round_tree};
-ghost use Rattle.term_zero.specs.machine.Views.{operands_found, difference_found};
+ghost use Rattle.term_zero.specs.machine.Rounds.{round_tree, zero_parted, xor_parts as xor_parts_spec};
+ghost use Rattle.term_zero.specs.machine.Views.{operands_found, difference_found, parts_found};
 
 use crate::constants::truth;
 use crate::operands::{Operands, operands_in};
@@ -214,12 +214,12 @@ fn round_difference(alloc: Global, w: Width, t: &Term) -> Result<Round, Memory>
     round_extended(alloc, operands, w, t)
 }
 
-/// Of an exclusive or of two parts it is the test of their difference.
-fn round_xor(alloc: Global, w: Width, t: &Term) -> Result<Round, Memory>
-    ensures { (again : Width → Tree → Tree) → IfOk result (λ r. round_tree again r ≡ spec.zero_xor again w (tree_of t.now)) }
+/// The two parts of an exclusive or of the width.
+fn xor_parts(alloc: Global, w: Width, t: &Term) -> Result<Option<Difference>, Memory>
+    ensures { IfOk result (λ r. parts_found r ≡ xor_parts_spec w (tree_of t.now)) }
 {
     match t {
-        Term::Sum { .. } => round_difference(alloc, w, t),
+        Term::Sum { .. } => Ok(None),
         Term::Node {
             head,
             width,
@@ -228,16 +228,10 @@ fn round_xor(alloc: Global, w: Width, t: &Term) -> Result<Round, Memory>
             parts,
         } => match head {
             Head::Xor => match parts.as_slice() {
-                [a, b] => {
-                    if is_same_width(*width, w) {
-                        next_minus(alloc, w, a, b)
-                    } else {
-                        round_difference(alloc, w, t)
-                    }
-                }
-                [] => round_difference(alloc, w, t),
-                [_a] => round_difference(alloc, w, t),
-                [_a, _b, _c, ..] => round_difference(alloc, w, t),
+                [a, b] => parts_if(alloc, is_same_width(*width, w), a, b),
+                [] => Ok(None),
+                [_a] => Ok(None),
+                [_a, _b, _c, ..] => Ok(None),
             },
             Head::Reg
             | Head::Sym
@@ -261,9 +255,42 @@ fn round_xor(alloc: Global, w: Width, t: &Term) -> Result<Round, Memory>
             | Head::Lt
             | Head::Ltu
             | Head::Eq
-            | Head::Load => round_difference(alloc, w, t),
+            | Head::Load => Ok(None),
         },
     }
+}
+
+fn parts_if(alloc: Global, is: bool, a: &Term, b: &Term) -> Result<Option<Difference>, Memory>
+    ensures { IfOk result (λ r. parts_found r ≡ (if is then Some (tree_of a.now, tree_of b.now) else None)) }
+{
+    if !is {
+        return Ok(None);
+    }
+    let left = a.copy(alloc)?;
+    let right = b.copy(alloc)?;
+    Ok(Some(Difference { left, right }))
+}
+
+fn round_parted(
+    alloc: Global,
+    parts: Option<Difference>,
+    w: Width,
+    t: &Term,
+) -> Result<Round, Memory>
+    ensures { (again : Width → Tree → Tree) → IfOk result (λ r. round_tree again r ≡ zero_parted (parts_found parts) again w (tree_of t.now)) }
+{
+    match parts {
+        None => round_difference(alloc, w, t),
+        Some(x) => next_minus(alloc, w, &x.left, &x.right),
+    }
+}
+
+/// Of an exclusive or of two parts it is the test of their difference.
+fn round_xor(alloc: Global, w: Width, t: &Term) -> Result<Round, Memory>
+    ensures { (again : Width → Tree → Tree) → IfOk result (λ r. round_tree again r ≡ spec.zero_xor again w (tree_of t.now)) }
+{
+    let parts = xor_parts(alloc, w, t)?;
+    round_parted(alloc, parts, w, t)
 }
 
 /// Of a truth it is the opposite.
@@ -292,7 +319,7 @@ fn round_chosen(alloc: Global, w: Width, t: &Term) -> Result<Round, Memory>
 }
 
 /// One round of the test.
-fn round(alloc: Global, w: Width, t: &Term) -> Result<Round, Memory>
+fn one_round(alloc: Global, w: Width, t: &Term) -> Result<Round, Memory>
     ensures { (again : Width → Tree → Tree) → IfOk result (λ r. round_tree again r ≡ spec.zero_chosen again w (spec.nearer w (tree_of t.now))) }
 {
     let chosen = nearer(alloc, w, t)?;
@@ -317,9 +344,12 @@ fn rounds(alloc: Global, w: Width, t: &Term) -> Result<Term, Memory>
     let mut width = w;
     let mut term = t.copy(alloc)?;
     loop {
-        match round(alloc, width, &term)? {
+        match one_round(alloc, width, &term)? {
             Round::Done { answer } => return Ok(answer),
-            Round::Next { width: v, term: next } => {
+            Round::Next {
+                width: v,
+                term: next,
+            } => {
                 width = v;
                 term = next;
             }

@@ -28,3 +28,7 @@ operands_found None = None
 
 abbrev pub difference_found : Difference → Tree × Tree
 difference_found d = (tree_of d.left, tree_of d.right)
+
+abbrev pub parts_found : Option Difference → Option (Tree × Tree)
+parts_found (Some d) = Some (difference_found d)
+parts_found None = None

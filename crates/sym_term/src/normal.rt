@@ -4,7 +4,7 @@ ghost use Rattle.term_tree.specs.Tree.{tree_size, trees_of, atoms_of, Node, tree
 ghost use Rattle.term_tree.specs.View.{tree_of, atom_of};
 ghost use Rattle.term_mean.specs.Meaning.{Valuation, mean};
 ghost use Rattle.term_mean.specs.Stores.{Stored};
-ghost use Rattle.term_mean.specs.Sums.{summed, constant as constant_spec};
+ghost use Rattle.term_mean.specs.Sums.{summed as summed_spec};
 ghost use Rattle.term_mean.specs.Shifts.{plain_two as plain_two_spec};
 ghost use Rattle.term_mean.specs.Normal as spec;
 ghost use Rattle.sym_term.specs.Views.{store_of};
@@ -17,7 +17,7 @@ use plain_data::{Items, Memory};
 use rtx_tree::Name;
 use std::alloc::Global;
 use term_cuts::{AtWidth, cut_to, extended, made_at};
-use term_sums::{constant_of, constant_term, plus_times};
+use term_sums::{constant_of, summed};
 use term_tree::{Atom, Extension, Head, Joint, LIMIT, Term, size};
 use term_zero::{equals_zero, less_than, on_constants, two_parts};
 use thiserror::Error;
@@ -295,14 +295,16 @@ fn normal_sum(
     constant: u64,
     atoms: &[Atom],
 ) -> Result<Term, Memory>
-    ensures { IfOk result (λ r. tree_of r ≡ summed w (constant_spec w constant) (spec.normal_atoms (map store_of stores.now) (atoms_of (map atom_of atoms.now)))) }
+    ensures { IfOk result (λ r. tree_of r ≡ summed_spec w constant (spec.normal_atoms (map store_of stores.now) (atoms_of (map atom_of atoms.now)))) }
 {
-    let mut sum = constant_term(alloc, w, constant);
+    let mut normals = Vec::new(alloc);
     for atom in atoms {
-        let term = normal(alloc, &atom.term, stores)?;
-        sum = plus_times(alloc, w, sum, atom.coefficient, &term)?;
+        normals.push(Atom {
+            coefficient: atom.coefficient,
+            term: normal(alloc, &atom.term, stores)?,
+        })?;
     }
-    Ok(sum)
+    summed(alloc, w, constant, normals.as_slice())
 }
 
 #[cycle(normal)]

@@ -247,32 +247,37 @@ fn reduced(w: Width, k: u64) -> u64
     }
 }
 
-/// A shift by a count that is a constant, or by another that is cut to 8 bits.
+/// A shift by a constant modulo the width, or by another count as it stands.
 fn by_count(
     alloc: Global,
     count: Option<u64>,
     head: Head,
     w: Width,
     a: Term,
-    b: &Term,
+    b: Term,
 ) -> Result<Term, Memory>
-    ensures { IfOk result (λ r. tree_of r ≡ spec.by_count count head w (tree_of a) (tree_of b.now)) }
+    ensures { IfOk result (λ r. tree_of r ≡ spec.by_count count head w (tree_of a) (tree_of b)) }
 {
     match count {
         Some(k) => by_constant(alloc, head, w, a, reduced(w, k)),
-        None => {
-            let low = low_8(alloc, b)?;
-            two_parts(alloc, head, w, a, low)
-        }
+        None => two_parts(alloc, head, w, a, b),
     }
 }
 
-/// A shift.
+/// A shift by a count of 8 bits.
+fn shifted_by(alloc: Global, head: Head, w: Width, a: Term, b: Term) -> Result<Term, Memory>
+    ensures { IfOk result (λ r. tree_of r ≡ spec.shifted_by head w (tree_of a) (tree_of b)) }
+{
+    let number = constant_of(&a);
+    let count = constant_of(&b);
+    let other = by_count(alloc, count, head, w, a, b)?;
+    Ok(on_constants(alloc, number, count, head, w, other))
+}
+
+/// A shift: its count is cut to 8 bits first, and the rules go by what that is.
 pub fn shifted(alloc: Global, head: Head, w: Width, a: Term, b: &Term) -> Result<Term, Memory>
     ensures { IfOk result (λ r. tree_of r ≡ spec.shifted head w (tree_of a) (tree_of b.now)) }
 {
-    let number = constant_of(&a);
-    let count = constant_of(b);
-    let other = by_count(alloc, count, head, w, a, b)?;
-    Ok(on_constants(alloc, number, count, head, w, other))
+    let count = low_8(alloc, b)?;
+    shifted_by(alloc, head, w, a, count)
 }

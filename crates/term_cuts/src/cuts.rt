@@ -3,14 +3,14 @@ ghost use Rattle.std.specs.Prelude.{◌≡◌, List, map, IfOk};
 ghost use Rattle.term_tree.specs.declared.head.Joint.{Joint};
 ghost use Rattle.term_tree.specs.Tree.{Tree, trees_of, atoms_of};
 ghost use Rattle.term_tree.specs.View.{tree_of, atom_of};
-ghost use Rattle.term_mean.specs.Sums.{constant as constant_spec, summed};
+ghost use Rattle.term_mean.specs.Sums.{summed as summed_spec};
 ghost use Rattle.term_mean.specs.Cuts as spec;
 
 use bits64::{Width, trunc};
 use plain_data::{Items, Memory};
 use rtx_tree::Name;
 use std::alloc::Global;
-use term_sums::{constant_term, plus_times};
+use term_sums::summed;
 use term_tree::{Atom, Head, Joint, Term, is_narrower, is_same_width};
 
 /// How products and operators on bits are made at one width.
@@ -149,14 +149,16 @@ fn cut_atoms<M: Makes>(
     constant: u64,
     atoms: &[Atom],
 ) -> Result<Term, Memory>
-    ensures { IfOk result (λ r. tree_of r ≡ summed m (constant_spec m constant) (spec.cut_atoms (M.made makes.now) m (atoms_of (map atom_of atoms.now)))) }
+    ensures { IfOk result (λ r. tree_of r ≡ summed_spec m constant (spec.cut_atoms (M.made makes.now) m (atoms_of (map atom_of atoms.now)))) }
 {
-    let mut sum = constant_term(alloc, m, constant);
+    let mut cuts = Vec::new(alloc);
     for atom in atoms {
-        let term = cut(alloc, makes, m, &atom.term)?;
-        sum = plus_times(alloc, m, sum, trunc(atom.coefficient, m), &term)?;
+        cuts.push(Atom {
+            coefficient: trunc(atom.coefficient, m),
+            term: cut(alloc, makes, m, &atom.term)?,
+        })?;
     }
-    Ok(sum)
+    summed(alloc, m, constant, cuts.as_slice())
 }
 
 #[cycle(cut)]

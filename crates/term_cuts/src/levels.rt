@@ -12,7 +12,7 @@ use crate::extensions::extended;
 use bits64::{Width, trunc};
 use plain_data::Memory;
 use std::alloc::Global;
-use term_sums::{Parts, finished, gather, joined, plain};
+use term_sums::{Gathered, finished, gather, joined, plain};
 use term_tree::{Extension, Head, Joint, Term, is_same_width};
 
 /// Products and operators on bits with no masks.
@@ -139,7 +139,7 @@ fn made<N: Narrows>(
 ) -> Result<Term, Memory>
     ensures { IfOk result (λ r. tree_of r ≡ spec.made (N.narrowed narrows.now) o w (map tree_of terms.now)) }
 {
-    let Parts { constant, parts } = gather(alloc, o, w, terms)?;
+    let Gathered { constant, parts } = gather(alloc, o, w, terms)?;
     made_of(alloc, narrows, o, w, trunc(constant, w), parts)
 }
 

@@ -1,5 +1,5 @@
 -- What truncation means.
-use Rattle.std.proofs.Common.{◌≡◌, ℕ, zero, suc, ◌+◌, ◌*◌, ◌%◌, ◌^◌, ◌<◌, ◌≤◌, refl, sym, ◌∙◌, ap, arith, rules, tests, cond, nat_lt, Bool, true, false, List, [], ◌∷◌}
+use Rattle.std.proofs.Common.{◌≡◌, ℕ, ◌+◌, ◌*◌, ◌%◌, ◌^◌, ◌≤◌, refl, sym, ◌∙◌, ap, arith, tests, cond, Bool, true, false, List, [], ◌∷◌}
 use Rattle.std.proofs.Math.Nat.{mod-mod}
 use Rattle.bits64.specs.declared.Width.{Width}
 use Rattle.bits64.specs.declared.Width.TheVariants.{W8, W16, W32, W64}
@@ -8,16 +8,15 @@ use Rattle.term_tree.specs.declared.head.Head.{Head}
 use Rattle.term_tree.specs.declared.head.Head.TheVariants as heads
 use Rattle.term_tree.specs.declared.head.Joint.{Joint}
 use Rattle.term_tree.specs.declared.head.Joint.TheVariants.{Mul, And, Ior, Xor}
-use Rattle.term_tree.specs.Tree.{Tree, Atoms, Trees, AtomTree, Sum, Node, no_atoms, atom, no_trees, tree, width_of, own_width, trees_of}
-use Rattle.term_mean.specs.Meaning.{Valuation, mean, weighed, applied, values, over_all}
-use Rattle.term_mean.specs.Sums.{constant, plus_times, summed}
+use Rattle.term_tree.specs.Tree.{Tree, Atoms, Trees, AtomTree, Sum, Node, no_atoms, atom, no_trees, tree, width_of, own_width}
+use Rattle.term_mean.specs.Meaning.{Valuation, mean, weighed, values, over_all}
+use Rattle.term_mean.specs.Sums.{summed}
 use Rattle.term_tree.specs.Form.{same_width, narrower}
 use Rattle.term_mean.specs.Joints.{join, start}
 use Rattle.term_mean.specs.Cuts.{one_part, extension_cut, cut_node, cut, cut_atoms, cut_all}
 use Rattle.term_mean.proofs.Modulo.{same-add, same-mul, same-cut}
 use Rattle.term_tree.proofs.OrderLaws.{same_width-true}
-use Rattle.term_mean.proofs.SumLaws.{mean-constant, mean-summed, mean-cut, weight}
-use Rattle.term_mean.proofs.Widths.{width-summed}
+use Rattle.term_mean.proofs.SumLaws.{mean-summed, mean-cut, weight}
 use Rattle.term_mean.proofs.JoinLaws.{folded}
 use Rattle.term_mean.proofs.JoinedLaws.{same-join}
 
@@ -109,18 +108,11 @@ mean-cut_node v m w f heads.Sext n s (tree p no_trees) (q ∷ []) sound le all =
 mean-cut_node v m w f h n s ps qs sound le all = refl
 
 -- a sum of its width keeps its number when it is cut to it
-pub mean-summed_cut : (v : Valuation) (m : Width) (c : ℕ) (xs : List AtomTree) (n : ℕ) → weight v xs % 2 ^ bits_of m ≡ n % 2 ^ bits_of m → mean v (summed m (constant m c) xs) ≡ low m (c + n)
-mean-summed_cut v m c xs n e =
-    let z : ℕ = 2 ^ bits_of m in
-    let own : mean v (constant m c) % z ≡ c % z = ap (low m) (mean-constant v m c) ∙ same-cut z c in
-    let width : width_of (summed m (constant m c) xs) ≡ m = width-summed m (constant m c) xs refl in
-    sym (mean-cut v (summed m (constant m c) xs))
-    ∙ ap (λ x. low x (mean v (summed m (constant m c) xs))) width
-    ∙ mean-summed v m (constant m c) xs
-    ∙ same-add z (mean v (constant m c)) c (weight v xs) n own e
+pub mean-summed_cut : (v : Valuation) (m : Width) (c : ℕ) (xs : List AtomTree) (n : ℕ) → weight v xs % 2 ^ bits_of m ≡ n % 2 ^ bits_of m → mean v (summed m c xs) ≡ low m (c + n)
+mean-summed_cut v m c xs n e = mean-summed v m c xs ∙ same-add (2 ^ bits_of m) c c (weight v xs) n refl e
 
 -- one level, whether it is cut or not
-cut_if_sum : (v : Valuation) (m : Width) (f : Joint → List Tree → Tree) (w : Width) (c : ℕ) (xs : Atoms) → weight v (cut_atoms f m xs) % 2 ^ bits_of m ≡ weighed v xs % 2 ^ bits_of m → (b : Bool) → narrower m w ≡ b → mean v (cond b (summed m (constant m c) (cut_atoms f m xs)) (one_part heads.Trunc m (Sum w c xs))) ≡ low m (mean v (Sum w c xs))
+cut_if_sum : (v : Valuation) (m : Width) (f : Joint → List Tree → Tree) (w : Width) (c : ℕ) (xs : Atoms) → weight v (cut_atoms f m xs) % 2 ^ bits_of m ≡ weighed v xs % 2 ^ bits_of m → (b : Bool) → narrower m w ≡ b → mean v (cond b (summed m c (cut_atoms f m xs)) (one_part heads.Trunc m (Sum w c xs))) ≡ low m (mean v (Sum w c xs))
 cut_if_sum v m f w c xs inner true e = mean-summed_cut v m c (cut_atoms f m xs) (weighed v xs) inner ∙ sym (low-low m w (c + weighed v xs) (narrower-true m w e))
 cut_if_sum v m f w c xs inner false e = refl
 

@@ -1,27 +1,25 @@
 -- Right shifts of sums whose constant and coefficients are multiples: what the rule makes of them has their number.
-use Rattle.std.proofs.Common.{◌≡◌, ℕ, zero, suc, ◌+◌, ◌-◌, ◌*◌, ◌/◌, ◌%◌, ◌^◌, ◌<◌, ◌≤◌, refl, sym, ◌∙◌, ap, subst, arith, rules, tests, cond, eqb, Bool, true, false, ◌&&◌, List, [], ◌∷◌, Option, Some, None, ◌⊎◌, inl, inr}
-use Rattle.std.specs.Int.{int_shr}
-use Rattle.std.proofs.Math.Nat.{mod-mod, mod-lt, div-add-mod}
+use Rattle.std.proofs.Common.{◌≡◌, ℕ, zero, suc, ◌+◌, ◌*◌, ◌/◌, ◌%◌, ◌^◌, ◌<◌, refl, sym, ◌∙◌, ap, subst, arith, cond, eqb, Bool, true, false, ◌&&◌, Option, Some, None, inl, inr}
+use Rattle.std.proofs.Math.Nat.{mod-mod, div-add-mod}
 use Rattle.bits64.specs.declared.Width.{Width}
 use Rattle.bits64.specs.declared.Width.TheVariants.{W8, W16, W32, W64}
-use Rattle.bits64.specs.Words.{bits_of, low, signed, wrapped, sign_extended, shifted_left, shifted_right, shifted_arithmetic}
+use Rattle.bits64.specs.Words.{bits_of, low, sign_extended, shifted_right, shifted_arithmetic}
 use Rattle.term_tree.specs.declared.head.Head.{Head}
 use Rattle.term_tree.specs.declared.head.Head.TheVariants as heads
 use Rattle.term_tree.specs.declared.head.Extension.{Extension}
 use Rattle.term_tree.specs.declared.head.Extension.TheVariants.{Zero, Sign}
-use Rattle.term_tree.specs.Tree.{Tree, Atoms, Trees, AtomTree, Sum, Node, no_atoms, atom, no_trees, tree, own_width, width_of}
+use Rattle.term_tree.specs.Tree.{Tree, Atoms, Sum, Node, no_atoms, atom, own_width, width_of}
 use Rattle.term_tree.specs.Form.{same_width}
 use Rattle.term_tree.proofs.OrderLaws.{eqb-true, same_width-true}
-use Rattle.term_mean.specs.Meaning.{Valuation, mean, weighed, operation, values}
-use Rattle.term_mean.specs.Sums.{constant, constant_in, sum, times}
-use Rattle.term_mean.specs.Extensions.{extended_by, extended}
+use Rattle.term_mean.specs.Meaning.{Valuation, mean, weighed}
+use Rattle.term_mean.specs.Sums.{constant, constant_in, sum}
+use Rattle.term_mean.specs.Extensions.{extended_by}
 use Rattle.term_mean.specs.Masks.{made_at, cut_to, low_8}
-use Rattle.term_mean.specs.Shifts.{two_parts, on_constants, left_of, divides, divides_all, quotients, exact, right_exact, by_nonzero, by_constant, by_count, shifted}
-use Rattle.term_mean.proofs.SumLaws.{weight, mean-sum, mean-constant, mean-cut, mean-times}
+use Rattle.term_mean.specs.Shifts.{two_parts, left_of, divides, divides_all, quotients, exact, right_exact, by_nonzero, by_constant, by_count, shifted_by, shifted}
+use Rattle.term_mean.proofs.SumLaws.{weight, mean-sum, mean-cut}
 use Rattle.term_mean.proofs.JoinedLaws.{and-true}
 use Rattle.term_mean.proofs.CutLaws.{low-low}
 use Rattle.term_mean.proofs.ExtendedLaws.{mean-extended, extended-cut, low-within}
-use Rattle.term_mean.proofs.RuleLaws.{shift-multiple}
 use Rattle.term_mean.proofs.MaskLaws.{mean-made_at, is-cut_to, is-low_8}
 use Rattle.term_mean.proofs.ShiftLaws.{IsShift, shift_number, mean-on_constants, mean-two_parts, mean-counted, shift-zero, mean-left, same-count, constant-is, count-cut}
 
@@ -158,15 +156,19 @@ mean-by_count v h s w a b (Some k) e =
     let small : k % bits_of w % bits_of w ≡ k % bits_of w = mod-mod k (bits_of w) in
     let count : k % bits_of w % bits_of w ≡ mean v b % bits_of w = small ∙ ap (λ n. n % bits_of w) (sym (constant-is v b k e)) in
     mean-by_constant v h s w a (k % bits_of w) small ∙ ap (low w) (same-count h s w (mean v a) (k % bits_of w) (mean v b) count)
-mean-by_count v h s w a b None e =
-    let count : mean v (low_8 b) % bits_of w ≡ mean v b % bits_of w = ap (λ n. n % bits_of w) ((is-low_8 v b).0) ∙ count-cut w (mean v b) in
-    mean-two_parts v h s w a (low_8 b) ∙ ap (low w) (same-count h s w (mean v a) (mean v (low_8 b)) (mean v b) count)
+mean-by_count v h s w a b None e = mean-two_parts v h s w a b
 
 own-shift : (h : Head) → IsShift h → (w : Width) → own_width h w ≡ w
 own-shift h (inl s) w = rw s refl
 own-shift h (inr (inl s)) w = rw s refl
 own-shift h (inr (inr s)) w = rw s refl
 
+mean-shifted_by : (v : Valuation) (h : Head) → IsShift h → (w : Width) (a b : Tree) → mean v (shifted_by h w a b) ≡ low w (shift_number h w (mean v a) (mean v b))
+mean-shifted_by v h s w a b =
+    mean-on_constants v h w a b (by_count (constant_in b) h w a b) (low w (shift_number h w (mean v a) (mean v b))) (mean-by_count v h s w a b (constant_in b) refl) (ap (λ x. low x (shift_number h w (mean v a) (mean v b))) (sym (own-shift h s w)))
+
+-- the low 8 bits of a count are that count modulo each width
 pub mean-shifted : (v : Valuation) (h : Head) → IsShift h → (w : Width) (a b : Tree) → mean v (shifted h w a b) ≡ low w (shift_number h w (mean v a) (mean v b))
 mean-shifted v h s w a b =
-    mean-on_constants v h w a b (by_count (constant_in b) h w a b) (low w (shift_number h w (mean v a) (mean v b))) (mean-by_count v h s w a b (constant_in b) refl) (ap (λ x. low x (shift_number h w (mean v a) (mean v b))) (sym (own-shift h s w)))
+    let count : mean v (low_8 b) % bits_of w ≡ mean v b % bits_of w = ap (λ n. n % bits_of w) ((is-low_8 v b).0) ∙ count-cut w (mean v b) in
+    mean-shifted_by v h s w a (low_8 b) ∙ ap (low w) (same-count h s w (mean v a) (mean v (low_8 b)) (mean v b) count)

@@ -1,21 +1,21 @@
 -- Extensions: what the rule makes of an extension has its number.
-use Rattle.std.proofs.Common.{◌≡◌, ℕ, zero, suc, ◌+◌, ◌*◌, ◌%◌, ◌^◌, ◌<◌, ◌≤◌, refl, sym, ◌∙◌, ap, arith, rules, tests, cond, nat_lt, Bool, true, false, ◌&&◌, List, [], ◌∷◌}
+use Rattle.std.proofs.Common.{◌≡◌, ℕ, ◌%◌, ◌^◌, ◌<◌, ◌≤◌, refl, sym, ◌∙◌, ap, arith, tests, cond, Bool, true, false, List, [], ◌∷◌}
 use Rattle.std.proofs.Math.Nat.{mod-mod}
 use Rattle.bits64.specs.declared.Width.{Width}
 use Rattle.bits64.specs.declared.Width.TheVariants.{W8, W16, W32, W64}
-use Rattle.bits64.specs.Words.{bits_of, low, signed, wrapped, sign_extended}
+use Rattle.bits64.specs.Words.{bits_of, low, wrapped, sign_extended}
 use Rattle.term_tree.specs.declared.head.Head.{Head}
 use Rattle.term_tree.specs.declared.head.Head.TheVariants as heads
 use Rattle.term_tree.specs.declared.head.Joint.{Joint}
-use Rattle.term_tree.specs.declared.head.Joint.TheVariants.{Mul, And, Ior, Xor}
+use Rattle.term_tree.specs.declared.head.Joint.TheVariants.{And, Ior, Xor}
 use Rattle.term_tree.specs.declared.head.Extension.{Extension}
 use Rattle.term_tree.specs.declared.head.Extension.TheVariants.{Zero, Sign}
-use Rattle.term_tree.specs.Tree.{Tree, Atoms, Trees, Sum, Node, no_atoms, atom, no_trees, tree, width_of, own_width, trees_of}
+use Rattle.term_tree.specs.Tree.{Tree, Trees, Sum, Node, no_atoms, atom, no_trees, tree, width_of, own_width}
 use Rattle.term_tree.specs.Form.{same_width, narrower, all_of_width}
 use Rattle.term_tree.proofs.OrderLaws.{same_width-true}
-use Rattle.term_mean.specs.Meaning.{Valuation, mean, weighed, applied, values, over_all}
+use Rattle.term_mean.specs.Meaning.{Valuation, mean, values, over_all}
 use Rattle.term_mean.specs.Joints.{join, start}
-use Rattle.term_mean.specs.Extensions.{extended_by, extension, of_sign, extended_joint, extended_node, extended_sum, extended, extended_all}
+use Rattle.term_mean.specs.Extensions.{extended_by, extension, of_sign, extended_joint, extended_node, extended, extended_all}
 use Rattle.term_mean.proofs.Modulo.{same-cut}
 use Rattle.term_mean.proofs.SumLaws.{mean-constant}
 use Rattle.term_mean.proofs.JoinLaws.{OnBits, join-cut, folded, low_plus_zero}

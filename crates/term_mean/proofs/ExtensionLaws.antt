@@ -1,12 +1,11 @@
 -- Extensions go into operators on bits.
-use Rattle.std.proofs.Common.{◌≡◌, ℕ, zero, suc, ◌+◌, ◌-◌, ◌*◌, ◌/◌, ◌%◌, ◌^◌, ◌<◌, ◌≤◌, refl, sym, ◌∙◌, ap, subst, arith, rules, tests, cond, eqb, nat_lt, Bool, true, false, bit_and, bit_or, bit_xor}
-use Rattle.std.proofs.Math.Nat.{mod-mod, mod-lt}
-use Rattle.std.proofs.lemmas.Nat.{and_block, or_block, xor_block, and_shr, or_shr, xor_shr, and_mod, or_mod, xor_mod, pow_pos}
-use Rattle.std.specs.Int.Bits.{and_self, and_zero_l, and_zero_r, or_self, xor_self, xor_zero_l}
-use Rattle.std.proofs.lemmas.Nat.{or_comm, xor_comm}
+use Rattle.std.proofs.Common.{◌≡◌, ℕ, zero, suc, ◌+◌, ◌-◌, ◌*◌, ◌/◌, ◌%◌, ◌^◌, ◌<◌, sym, ◌∙◌, ap, arith, rules, bit_and, bit_or, bit_xor}
+use Rattle.std.proofs.Math.Nat.{mod-lt}
+use Rattle.std.proofs.lemmas.Nat.{and_block, or_block, xor_block, and_shr, or_shr, xor_shr, pow_pos}
+use Rattle.std.specs.Int.Bits.{and_self, and_zero_l, or_self, xor_self, xor_zero_l}
 use Rattle.bits64.specs.declared.Width.{Width}
 use Rattle.bits64.specs.declared.Width.TheVariants.{W8, W16, W32, W64}
-use Rattle.bits64.specs.Words.{bits_of, low, signed, sign_extended}
+use Rattle.bits64.specs.Words.{sign_extended}
 use Rattle.term_tree.specs.declared.head.Joint.{Joint}
 use Rattle.term_tree.specs.declared.head.Joint.TheVariants.{Mul, And, Ior, Xor}
 use Rattle.term_mean.specs.Joints.{join}

@@ -1,28 +1,19 @@
 -- What and, or and exclusive or mean.
-use Rattle.std.proofs.Common.{◌≡◌, ℕ, zero, suc, ◌+◌, ◌-◌, ◌*◌, ◌%◌, ◌^◌, ◌<◌, ◌≤◌, refl, sym, ◌∙◌, ap, arith, rules, tests, cond, eqb, Bool, true, false, ◌&&◌, subst, List, [], ◌∷◌, ◌++◌, bit_and, bit_or, bit_xor, max}
-use Rattle.std.proofs.Math.Nat.{mod-mod}
-use Rattle.std.proofs.lemmas.Nat.{and_comm, or_comm, xor_comm, and_assoc, and_mod, or_mod, xor_mod, and_mask}
+use Rattle.std.proofs.Common.{◌≡◌, ℕ, ◌+◌, ◌%◌, ◌^◌, refl, sym, ◌∙◌, ap, arith, List, [], ◌∷◌, bit_and, bit_or, bit_xor}
+use Rattle.std.proofs.lemmas.Nat.{and_comm, or_comm, xor_comm, and_assoc, and_mod, or_mod, xor_mod}
 use Rattle.std.proofs.lemmas.Nat.Bits.{same_from_bits, bit_at_or, bit_at_and}
 use Rattle.std.specs.Int.Bits.{xor_assoc, xor_self, xor_zero_l}
-use Rattle.std.specs.Int.{bit_at}
 use Rattle.std.specs.declared.cmp.Ordering.{Ordering}
 use Rattle.std.specs.declared.cmp.Ordering.TheVariants.{Less, Equal, Greater}
 use Rattle.bits64.specs.declared.Width.{Width}
-use Rattle.bits64.specs.declared.Width.TheVariants.{W8, W16, W32, W64}
 use Rattle.bits64.specs.Words.{bits_of, low}
-use Rattle.term_tree.specs.declared.head.Head.{Head}
-use Rattle.term_tree.specs.declared.head.Head.TheVariants as heads
 use Rattle.term_tree.specs.declared.head.Joint.{Joint}
 use Rattle.term_tree.specs.declared.head.Joint.TheVariants.{Mul, And, Ior, Xor}
-use Rattle.term_tree.specs.Tree.{Tree, Atoms, Trees, Sum, Node, no_atoms, atom, no_trees, tree, width_of, list_of, trees_of}
-use Rattle.term_mean.specs.Meaning.{Valuation, mean, weighed, applied, values, over_all}
-use Rattle.term_tree.specs.Order.{tree_cmp, head_index}
-use Rattle.term_mean.specs.Sums.{constant}
-use Rattle.term_tree.specs.Form.{same_width}
-use Rattle.term_mean.specs.Joints.{head_of, join, start, absorbs, met, put, with_part, Joined, take_part, take_parts, flat, node_of, plain, with_constant, finished, joined}
-use Rattle.term_mean.proofs.Modulo.{same-cut}
-use Rattle.term_tree.proofs.OrderLaws.{tree_cmp-equal, same_width-true, same_head}
-use Rattle.term_mean.proofs.SumLaws.{mean-constant, mean-cut}
+use Rattle.term_tree.specs.Tree.{Tree, trees_of}
+use Rattle.term_mean.specs.Meaning.{Valuation, mean, values, over_all}
+use Rattle.term_tree.specs.Order.{tree_cmp}
+use Rattle.term_mean.specs.Joints.{join, start, met, put, with_part, Joined}
+use Rattle.term_tree.proofs.OrderLaws.{tree_cmp-equal}
 
 pub join-comm : (o : Joint) (a b : ℕ) → join o a b ≡ join o b a
 join-comm Mul a b = omega arith

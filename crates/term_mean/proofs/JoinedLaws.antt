@@ -1,7 +1,7 @@
 -- What a flattened, sorted and joined operator means.
-use Rattle.std.proofs.Common.{◌≡◌, ℕ, zero, suc, ◌+◌, ◌-◌, ◌*◌, ◌%◌, ◌^◌, ◌<◌, ◌≤◌, refl, sym, ◌∙◌, ap, arith, rules, tests, cond, eqb, Bool, true, false, ◌&&◌, subst, List, [], ◌∷◌, ◌++◌, bit_and, bit_or, bit_xor, max}
+use Rattle.std.proofs.Common.{◌≡◌, ℕ, ◌+◌, ◌-◌, ◌*◌, ◌%◌, ◌^◌, ◌<◌, refl, sym, ◌∙◌, ap, arith, rules, cond, eqb, Bool, true, false, ◌&&◌, List, [], ◌∷◌, ◌++◌, bit_and, bit_or}
 use Rattle.std.proofs.Math.Nat.{mod-mod, mod-lt, mod-eq_of_lt}
-use Rattle.std.proofs.lemmas.Nat.{and_comm, or_comm, and_mask, pow_pos}
+use Rattle.std.proofs.lemmas.Nat.{and_comm, and_mask, pow_pos}
 use Rattle.std.proofs.lemmas.Nat.Bits.{same_from_bits_below, bit_at_or, bit_at_ones, bit_at-lt}
 use Rattle.std.proofs.lemmas.Nat.{or_lt, and_mod, or_mod, xor_mod}
 use Rattle.term_mean.proofs.Modulo.{same-mul}
@@ -9,15 +9,14 @@ use Rattle.std.specs.Int.Bits.{xor_zero_l, and_zero_l}
 use Rattle.bits64.specs.declared.Width.{Width}
 use Rattle.bits64.specs.declared.Width.TheVariants.{W8, W16, W32, W64}
 use Rattle.bits64.specs.Words.{bits_of, low}
-use Rattle.term_tree.specs.declared.head.Head.{Head}
 use Rattle.term_tree.specs.declared.head.Joint.{Joint}
 use Rattle.term_tree.specs.declared.head.Joint.TheVariants.{Mul, And, Ior, Xor}
-use Rattle.term_tree.specs.Tree.{Tree, Atoms, Trees, Sum, Node, no_atoms, atom, no_trees, tree, width_of, list_of, trees_of}
-use Rattle.term_mean.specs.Meaning.{Valuation, mean, weighed, applied, values, over_all, Value}
+use Rattle.term_tree.specs.Tree.{Tree, Trees, Sum, Node, no_atoms, atom, no_trees, tree, width_of, list_of, trees_of}
+use Rattle.term_mean.specs.Meaning.{Valuation, mean, values, over_all, Value}
 use Rattle.term_tree.specs.Order.{head_index}
-use Rattle.term_mean.specs.Sums.{constant, times}
+use Rattle.term_mean.specs.Sums.{constant}
 use Rattle.term_tree.specs.Form.{same_width}
-use Rattle.term_mean.specs.Joints.{head_of, join, start, absorbs, with_part, join_constants, Joined, take_part, take_parts, take_all, flat, node_of, plain, with_constant, finished, gathered, joined, flat_node, flat_factor}
+use Rattle.term_mean.specs.Joints.{head_of, join, start, absorbs, with_part, join_constants, Joined, take_part, take_parts, take_all, flat, node_of, plain, with_constant, finished, joined, flat_node, flat_factor}
 use Rattle.term_tree.proofs.OrderLaws.{same_width-true, same_head, eqb-true}
 use Rattle.term_mean.proofs.SumLaws.{mean-constant, mean-cut, mean-times}
 use Rattle.term_mean.proofs.JoinLaws.{join-comm, join-assoc, folded, onto, onto-swap, folded-with_part, join-swap, low_plus_zero, total}

@@ -1,11 +1,10 @@
 -- Whether a number is less than another: what the rules make of the comparison has its number, in any number of rounds.
-use Rattle.std.proofs.Common.{◌≡◌, ℕ, zero, suc, ◌+◌, ◌*◌, ◌-◌, ◌%◌, ◌^◌, ◌<◌, ◌≤◌, refl, sym, ◌∙◌, ap, subst, arith, rules, tests, cond, eqb, nat_lt, Bool, true, false, not, ℤ, pos, int_lt, List, [], ◌∷◌, Option, Some, None}
+use Rattle.std.proofs.Common.{◌≡◌, ℕ, zero, suc, ◌-◌, ◌%◌, ◌^◌, ◌<◌, refl, sym, ◌∙◌, ap, subst, arith, tests, cond, eqb, nat_lt, Bool, true, false, ℤ, pos, int_lt, Option, Some, None}
 use Rattle.std.specs.declared.cmp.Ordering.{Ordering}
 use Rattle.std.specs.declared.cmp.Ordering.TheVariants.{Less, Equal, Greater}
 use Rattle.bits64.specs.declared.Width.{Width}
 use Rattle.bits64.specs.declared.Width.TheVariants.{W8, W16, W32, W64}
 use Rattle.bits64.specs.Words.{bits_of, low, signed, sign_extended, less_signed, less_unsigned}
-use Rattle.term_tree.specs.declared.head.Head.{Head}
 use Rattle.term_tree.specs.declared.head.Head.TheVariants as heads
 use Rattle.term_tree.specs.declared.head.Extension.{Extension}
 use Rattle.term_tree.specs.declared.head.Extension.TheVariants.{Zero, Sign}
@@ -13,9 +12,9 @@ use Rattle.term_tree.specs.Tree.{Tree, own_width}
 use Rattle.term_tree.specs.Order.{tree_cmp}
 use Rattle.term_tree.proofs.OrderLaws.{eqb-true, tree_cmp-equal}
 use Rattle.term_mean.specs.Meaning.{Valuation, mean, truth}
-use Rattle.term_mean.specs.Sums.{constant, constant_in}
+use Rattle.term_mean.specs.Sums.{constant_in}
 use Rattle.term_mean.specs.Extensions.{extended_by}
-use Rattle.term_mean.specs.Shifts.{two_parts, binary_number, on_constants}
+use Rattle.term_mean.specs.Shifts.{two_parts, binary_number}
 use Rattle.term_mean.specs.Truths.{opposite}
 use Rattle.term_mean.specs.Zero.{Operands, operands_in, equals_zero}
 use Rattle.term_mean.specs.Less.{less_head, is_number, less_bounds_unsigned, less_bounds, less_kind, less_extended, less_unless, less_step, less_test, less_than}
@@ -25,8 +24,8 @@ use Rattle.term_mean.proofs.ExtendedLaws.{low-within}
 use Rattle.term_mean.proofs.RuleLaws.{signed-sign_extended, below-one}
 use Rattle.term_mean.proofs.ShiftLaws.{constant-is, mean-on_constants}
 use Rattle.term_mean.proofs.TruthLaws.{small_truth, mean-opposite}
-use Rattle.term_mean.proofs.OperandLaws.{Extends, AreOperands, operands-are}
-use Rattle.term_mean.proofs.ZeroLaws.{is_zero, mean-equals_zero}
+use Rattle.term_mean.proofs.OperandLaws.{operands-are}
+use Rattle.term_mean.proofs.ZeroLaws.{mean-equals_zero}
 
 -- a comparison of numbers, signed or not
 abbrev pub less_number : Extension → Width → ℕ → ℕ → Bool

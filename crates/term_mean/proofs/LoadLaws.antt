@@ -1,11 +1,9 @@
 -- Loads over stores: a load that lies apart from a store reads the same before it.
-use Rattle.std.proofs.Common.{◌≡◌, ℕ, zero, suc, ◌+◌, ◌*◌, ◌-◌, ◌/◌, ◌%◌, ◌^◌, ◌<◌, ◌≤◌, refl, sym, ◌∙◌, ap, subst, arith, tests, rules, cond, nat_lt, Bool, true, false, ◌&&◌, List, [], ◌∷◌, Option, Some, None, slice_get}
-use Rattle.std.proofs.Math.Nat.{mod-mod}
+use Rattle.std.proofs.Common.{◌≡◌, ℕ, zero, suc, ◌+◌, ◌*◌, ◌-◌, ◌%◌, ◌^◌, ◌<◌, ◌≤◌, refl, sym, ◌∙◌, ap, subst, arith, tests, cond, nat_lt, Bool, true, false, List, [], ◌∷◌, Option, Some, None, slice_get}
 use Rattle.bits64.specs.declared.Width.{Width}
 use Rattle.bits64.specs.declared.Width.TheVariants.{W64}
-use Rattle.bits64.specs.Words.{bits_of, bytes_of, low}
-use Rattle.term_tree.specs.declared.head.Head.TheVariants as heads
-use Rattle.term_tree.specs.Tree.{Tree, Node, no_trees, tree, width_of}
+use Rattle.bits64.specs.Words.{bytes_of, low}
+use Rattle.term_tree.specs.Tree.{Tree, width_of}
 use Rattle.term_mean.specs.Meaning.{Valuation, mean, bytes_at}
 use Rattle.term_mean.specs.Stores.{Store, byte_of, written, Follow, Stored}
 use Rattle.term_mean.specs.Sums.{constant_in, minus}

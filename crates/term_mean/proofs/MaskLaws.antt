@@ -1,5 +1,5 @@
 -- Masks, and products and operators on bits at each width: what the rules make of them has their number.
-use Rattle.std.proofs.Common.{◌≡◌, ℕ, zero, suc, ◌+◌, ◌-◌, ◌*◌, ◌%◌, ◌^◌, ◌<◌, ◌≤◌, refl, sym, ◌∙◌, ap, arith, rules, tests, cond, eqb, Bool, true, false, subst, List, [], ◌∷◌, Option, Some, None, bit_and}
+use Rattle.std.proofs.Common.{◌≡◌, ℕ, ◌-◌, ◌^◌, ◌<◌, refl, sym, ◌∙◌, ap, arith, cond, eqb, Bool, true, false, subst, List, [], ◌∷◌, Option, Some, None, bit_and}
 use Rattle.std.proofs.Math.Nat.{mod-mod}
 use Rattle.std.proofs.lemmas.Nat.{and_comm, and_mask}
 use Rattle.bits64.specs.declared.Width.{Width}
@@ -12,16 +12,14 @@ use Rattle.term_tree.specs.Tree.{Tree, width_of, trees_of}
 use Rattle.term_tree.specs.Form.{same_width}
 use Rattle.term_tree.proofs.OrderLaws.{eqb-true, same_width-true}
 use Rattle.term_mean.specs.Meaning.{Valuation, mean, values}
-use Rattle.term_mean.specs.Joints.{Joined, join, start, gathered, plain, finished, joined}
-use Rattle.term_mean.specs.Cuts.{cut}
-use Rattle.term_mean.specs.Extensions.{extended}
+use Rattle.term_mean.specs.Joints.{Joined, join, start, gathered, plain, joined}
 use Rattle.term_mean.specs.Masks.{mask_8, mask_16, mask_32, mask_in, masked, made_of, made, made_8, cut_8, narrow_16, made_16, cut_16, narrow_32, made_32, cut_32, narrow_64, made_64, made_at, cut_to, low_8}
 use Rattle.term_mean.proofs.SumLaws.{mean-cut}
-use Rattle.term_mean.proofs.JoinLaws.{folded, total}
+use Rattle.term_mean.proofs.JoinLaws.{folded}
 use Rattle.term_mean.proofs.JoinedLaws.{same-join, join-start, join-start_right, onto-start, total-take_all, mean-plain, mean-finished, mean-joined}
 use Rattle.term_mean.proofs.CutLaws.{MakesAre, low-low, mean-cut_tree}
-use Rattle.term_mean.proofs.ExtendedLaws.{mean-extended, low-within}
-use Rattle.term_mean.proofs.Widths.{MakesWidth, width-plain, width-finished, width-joined, width-cut, width-extended}
+use Rattle.term_mean.proofs.ExtendedLaws.{mean-extended}
+use Rattle.term_mean.proofs.Widths.{MakesWidth, width-finished, width-joined, width-cut, width-extended}
 
 -- a mask is all ones of a width below
 abbrev pub IsMask : Width → ℕ → Width → Type 0

@@ -1,5 +1,5 @@
 -- The law: a normal form has the number of its term.
-use Rattle.std.proofs.Common.{◌≡◌, ℕ, zero, suc, ◌+◌, ◌*◌, ◌%◌, ◌^◌, refl, sym, ◌∙◌, ap, arith, List, [], ◌∷◌, inl, inr}
+use Rattle.std.proofs.Common.{◌≡◌, ℕ, ◌%◌, ◌^◌, refl, sym, ◌∙◌, ap, List, [], ◌∷◌, inl, inr}
 use Rattle.bits64.specs.declared.Width.{Width}
 use Rattle.bits64.specs.declared.Width.TheVariants.{W8}
 use Rattle.bits64.specs.Words.{bits_of, low}
@@ -7,12 +7,11 @@ use Rattle.term_tree.specs.declared.head.Head.{Head}
 use Rattle.term_tree.specs.declared.head.Head.TheVariants as heads
 use Rattle.term_tree.specs.declared.head.Joint.TheVariants.{Mul, And, Ior, Xor}
 use Rattle.term_tree.specs.declared.head.Extension.TheVariants.{Zero, Sign}
-use Rattle.term_tree.specs.Tree.{Tree, Atoms, Trees, AtomTree, Sum, Node, no_atoms, atom, no_trees, tree, width_of, own_width, trees_of}
-use Rattle.term_mean.specs.Meaning.{Valuation, mean, weighed, applied, values, truth}
+use Rattle.term_tree.specs.Tree.{Tree, Atoms, Trees, Sum, Node, no_atoms, atom, no_trees, tree, own_width, trees_of}
+use Rattle.term_mean.specs.Meaning.{Valuation, mean, weighed, applied, values}
 use Rattle.term_mean.specs.Stores.{Store, Stored}
-use Rattle.term_mean.specs.Sums.{constant}
 use Rattle.term_mean.specs.Masks.{made_at}
-use Rattle.term_mean.specs.Shifts.{two_parts, plain_two}
+use Rattle.term_mean.specs.Shifts.{two_parts}
 use Rattle.term_mean.specs.Normal.{built_one, built_two, built_parts, built, normal, normal_atoms, normal_all}
 use Rattle.term_mean.proofs.SumLaws.{weight}
 use Rattle.term_mean.proofs.CutLaws.{mean-summed_cut}

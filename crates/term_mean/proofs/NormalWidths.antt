@@ -1,28 +1,26 @@
 -- A normal form has the width of its term.
-use Rattle.std.proofs.Common.{◌≡◌, ℕ, zero, suc, ◌%◌, ◌/◌, ◌^◌, refl, sym, ◌∙◌, ap, cond, eqb, Bool, true, false, ◌&&◌, List, [], ◌∷◌, Option, Some, None, slice_get}
+use Rattle.std.proofs.Common.{◌≡◌, ℕ, zero, suc, ◌%◌, ◌/◌, ◌^◌, refl, sym, ◌∙◌, cond, Bool, true, false, ◌&&◌, List, [], ◌∷◌, Option, Some, None}
 use Rattle.std.specs.declared.cmp.Ordering.{Ordering}
 use Rattle.std.specs.declared.cmp.Ordering.TheVariants.{Less, Equal, Greater}
 use Rattle.bits64.specs.declared.Width.{Width}
-use Rattle.bits64.specs.declared.Width.TheVariants.{W8, W16, W32, W64}
-use Rattle.bits64.specs.Words.{bits_of, low}
+use Rattle.bits64.specs.declared.Width.TheVariants.{W8}
+use Rattle.bits64.specs.Words.{bits_of}
 use Rattle.term_tree.specs.declared.head.Head.{Head}
 use Rattle.term_tree.specs.declared.head.Head.TheVariants as heads
 use Rattle.term_tree.specs.declared.head.Joint.TheVariants.{Mul, And, Ior, Xor}
 use Rattle.term_tree.specs.declared.head.Extension.{Extension}
 use Rattle.term_tree.specs.declared.head.Extension.TheVariants.{Zero, Sign}
-use Rattle.term_tree.specs.Tree.{Tree, Atoms, Trees, AtomTree, Sum, Node, no_atoms, atom, no_trees, tree, width_of, own_width, trees_of}
+use Rattle.term_tree.specs.Tree.{Tree, Sum, Node, no_trees, tree, width_of, own_width, tree_size}
 use Rattle.term_tree.specs.Form.{same_width}
-use Rattle.term_tree.specs.Order.{tree_cmp, numbers_cmp}
+use Rattle.term_tree.specs.Order.{tree_cmp}
 use Rattle.term_tree.proofs.OrderLaws.{same_width-true}
-use Rattle.term_mean.specs.Meaning.{operation, truth}
 use Rattle.term_mean.specs.Stores.{Store}
-use Rattle.term_mean.specs.Sums.{constant, constant_in, sum, times, minus, summed}
-use Rattle.term_mean.specs.Cuts.{one_part}
-use Rattle.term_mean.specs.Masks.{made_8, made_at, cut_to, low_8}
-use Rattle.term_mean.specs.Shifts.{two_parts, on_constants, plain_two, left_of, divides, divides_all, quotients, exact, right_exact, by_nonzero, by_constant, by_count, shifted}
+use Rattle.term_mean.specs.Sums.{constant, constant_in, sum, minus}
+use Rattle.term_mean.specs.Masks.{made_at, cut_to, low_8}
+use Rattle.term_mean.specs.Shifts.{two_parts, on_constants, plain_two, left_of, divides, divides_all, quotients, exact, right_exact, by_constant, by_count, shifted_by}
 use Rattle.term_mean.specs.Truths.{is_truth, opposite}
-use Rattle.term_mean.specs.Zero.{nearer, Operands, operands_in, as_difference, zero_extended_test, zero_difference, zero_xor, zero_truth, zero_constant, zero_chosen, zero_test, rounds, equals_zero}
-use Rattle.term_mean.specs.Less.{less_head, is_number, less_bounds_unsigned, less_bounds, less_kind, less_extended, less_unless, less_step, less_test, less_than}
+use Rattle.term_mean.specs.Zero.{nearer, Operands, operands_in, as_difference, zero_extended_test, zero_difference, zero_xor, zero_constant, zero_test, equals_zero}
+use Rattle.term_mean.specs.Less.{less_head, is_number, less_bounds, less_kind, less_extended, less_unless, less_test}
 use Rattle.term_mean.specs.Normal.{built_one, built_two, built_parts, built, normal, normal_atoms, normal_all}
 use Rattle.term_mean.proofs.Widths.{width-cond, width-plus_times, width-summed, width-extended}
 use Rattle.term_mean.proofs.MaskLaws.{width-made_at, width-cut_to}
@@ -66,21 +64,21 @@ width-left_constant : (w : Width) (a : Tree) (k : ℕ) → width_of (by_constant
 width-left_constant w a zero = width-zero_count heads.Shl w a refl
 width-left_constant w a (suc k) = width-plus_times w (constant w 0) (2 ^ suc k) a
 
-width-left : (w : Width) (a b : Tree) → width_of (shifted heads.Shl w a b) ≡ w
+width-left : (w : Width) (a b : Tree) → width_of (shifted_by heads.Shl w a b) ≡ w
 width-left w a b = width-on_constants (constant_in a) (constant_in b) heads.Shl w (by_count (constant_in b) heads.Shl w a b) (go (constant_in b))
   where
     go : (o : Option ℕ) → width_of (by_count o heads.Shl w a b) ≡ w
     go (Some k) = width-left_constant w a (k % bits_of w)
     go None = refl
 
-width-logical : (w : Width) (a b : Tree) → width_of (shifted heads.Shr w a b) ≡ w
+width-logical : (w : Width) (a b : Tree) → width_of (shifted_by heads.Shr w a b) ≡ w
 width-logical w a b = width-on_constants (constant_in a) (constant_in b) heads.Shr w (by_count (constant_in b) heads.Shr w a b) (go (constant_in b))
   where
     go : (o : Option ℕ) → width_of (by_count o heads.Shr w a b) ≡ w
     go (Some k) = width-by_constant Zero w a (k % bits_of w)
     go None = refl
 
-width-arithmetic : (w : Width) (a b : Tree) → width_of (shifted heads.Sar w a b) ≡ w
+width-arithmetic : (w : Width) (a b : Tree) → width_of (shifted_by heads.Sar w a b) ≡ w
 width-arithmetic w a b = width-on_constants (constant_in a) (constant_in b) heads.Sar w (by_count (constant_in b) heads.Sar w a b) (go (constant_in b))
   where
     go : (o : Option ℕ) → width_of (by_count o heads.Sar w a b) ≡ w
@@ -116,7 +114,7 @@ width-zero_test zero w t = refl
 width-zero_test (suc n) w t = width-zero_constant (zero_test n) w (nearer w t) (constant_in (nearer w t)) (width-zero_test n)
 
 pub width-equals_zero : (w : Width) (t : Tree) → width_of (equals_zero w t) ≡ W8
-width-equals_zero w t = width-zero_test rounds w t
+width-equals_zero w t = width-zero_test (tree_size t) w t
 
 -- ---- comparisons
 abbrev LessIn8 : (Extension → Width → Tree → Tree → Tree) → Type 0
@@ -167,9 +165,9 @@ width-built_two heads.Div w n s a b = width-plain_two heads.Div w a b
 width-built_two heads.Udiv w n s a b = width-plain_two heads.Udiv w a b
 width-built_two heads.Rem w n s a b = width-plain_two heads.Rem w a b
 width-built_two heads.Urem w n s a b = width-plain_two heads.Urem w a b
-width-built_two heads.Shl w n s a b = width-left w a b
-width-built_two heads.Shr w n s a b = width-logical w a b
-width-built_two heads.Sar w n s a b = width-arithmetic w a b
+width-built_two heads.Shl w n s a b = width-left w a (low_8 b)
+width-built_two heads.Shr w n s a b = width-logical w a (low_8 b)
+width-built_two heads.Sar w n s a b = width-arithmetic w a (low_8 b)
 width-built_two heads.Lt w n s a b = width-less_test 4 Sign w a b
 width-built_two heads.Ltu w n s a b = width-less_test 4 Zero w a b
 width-built_two h w n s a b = refl
@@ -188,5 +186,5 @@ width-built stores heads.Xor w n s ts = width-made_at w Xor ts
 width-built stores h w n s ts = width-built_parts stores h w n s ts
 
 pub width-normal : (stores : List Store) (t : Tree) → width_of (normal stores t) ≡ width_of t
-width-normal stores (Sum w c xs) = width-summed w (constant w c) (normal_atoms stores xs) refl
+width-normal stores (Sum w c xs) = width-summed w c (normal_atoms stores xs)
 width-normal stores (Node h w n s ps) = width-built stores h w n s (normal_all stores ps)

@@ -1,19 +1,18 @@
 -- Two extensions of one kind from one width: a constant counts as one where it is that.
-use Rattle.std.proofs.Common.{◌≡◌, ℕ, zero, suc, ◌+◌, ◌*◌, ◌-◌, ◌%◌, ◌^◌, ◌<◌, ◌≤◌, refl, sym, ◌∙◌, ap, subst, arith, rules, tests, cond, eqb, Bool, true, false, ◌&&◌, List, [], ◌∷◌, Option, Some, None, ◌⊎◌, inl, inr}
+use Rattle.std.proofs.Common.{◌≡◌, ℕ, ◌<◌, refl, sym, ◌∙◌, ap, subst, cond, eqb, Bool, true, false, ◌&&◌, Option, Some, None, ◌⊎◌, inl, inr}
 use Rattle.std.specs.Option.{option_or}
 use Rattle.bits64.specs.declared.Width.{Width}
-use Rattle.bits64.specs.Words.{bits_of, low, sign_extended}
-use Rattle.term_tree.specs.declared.head.Head.{Head}
+use Rattle.bits64.specs.Words.{bits_of, low}
 use Rattle.term_tree.specs.declared.head.Head.TheVariants as heads
 use Rattle.term_tree.specs.declared.head.Extension.{Extension}
 use Rattle.term_tree.specs.declared.head.Extension.TheVariants.{Zero, Sign}
-use Rattle.term_tree.specs.Tree.{Tree, Atoms, Trees, Sum, Node, no_atoms, atom, no_trees, tree, width_of}
+use Rattle.term_tree.specs.Tree.{Tree, Sum, Node, no_atoms, no_trees, tree, width_of}
 use Rattle.term_tree.specs.Form.{same_width, narrower}
 use Rattle.term_tree.proofs.OrderLaws.{eqb-true, same_width-true}
 use Rattle.term_mean.specs.Meaning.{Valuation, mean}
 use Rattle.term_mean.specs.Sums.{constant}
 use Rattle.term_mean.specs.Extensions.{extended_by}
-use Rattle.term_mean.specs.Zero.{Extended, Operands, extension_of, extension_in, same_kind, operand_if, constant_if, operand_in, operands_of, operands_as, operands_in}
+use Rattle.term_mean.specs.Zero.{Extended, Operands, extension_in, same_kind, operand_in, operands_of, operands_as, operands_in}
 use Rattle.term_mean.proofs.SumLaws.{mean-constant}
 use Rattle.term_mean.proofs.JoinLaws.{low_plus_zero}
 use Rattle.term_mean.proofs.JoinedLaws.{and-true}

@@ -1,5 +1,5 @@
 -- Comparisons: a relation as a term is 1 exactly where the relation holds.
-use Rattle.std.proofs.Common.{◌≡◌, ℕ, zero, suc, ◌+◌, ◌*◌, ◌-◌, ◌%◌, ◌^◌, refl, sym, ◌∙◌, ap, arith, cond, eqb, Bool, true, false, not, bit_xor, List, [], ◌∷◌}
+use Rattle.std.proofs.Common.{◌≡◌, ℕ, ◌+◌, ◌*◌, ◌-◌, ◌^◌, refl, ◌∙◌, ap, arith, eqb, Bool, true, false, not, bit_xor}
 use Rattle.bits64.specs.declared.Width.{Width}
 use Rattle.bits64.specs.declared.Width.TheVariants.{W8}
 use Rattle.bits64.specs.Words.{bits_of, low, less_signed, less_unsigned}

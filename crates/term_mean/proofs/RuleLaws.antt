@@ -1,11 +1,10 @@
 -- Laws on numbers behind the rules on shifts, comparisons and loads.
-use Rattle.std.proofs.Common.{◌≡◌, ℕ, zero, suc, ◌+◌, ◌-◌, ◌*◌, ◌/◌, ◌%◌, ◌^◌, ◌<◌, ◌≤◌, refl, sym, ◌∙◌, ap, subst, arith, rules, tests, cond, eqb, nat_lt, Bool, true, false}
-use Rattle.std.proofs.Math.Nat.{mod-mod, mod-lt, mul-div_right}
-use Rattle.std.proofs.lemmas.Nat.{field_of, pow_pos, pow-add}
+use Rattle.std.proofs.Common.{◌≡◌, ℕ, ◌+◌, ◌-◌, ◌*◌, ◌/◌, ◌%◌, ◌^◌, ◌<◌, ◌≤◌, ◌∙◌, ap, arith, tests, eqb}
+use Rattle.std.proofs.Math.Nat.{mul-div_right}
+use Rattle.std.proofs.lemmas.Nat.{field_of, pow_pos}
 use Rattle.bits64.specs.declared.Width.{Width}
 use Rattle.bits64.specs.declared.Width.TheVariants.{W8, W16, W32, W64}
-use Rattle.bits64.specs.Words.{bits_of, low, signed, sign_extended, less_signed, less_unsigned, difference_of}
-use Rattle.term_mean.proofs.Modulo.{same-add, same-mul, same-cut}
+use Rattle.bits64.specs.Words.{bits_of, low, signed, sign_extended, less_unsigned}
 
 -- a shift right of a multiple
 pub shift-multiple : (j k q : ℕ) → (2 ^ k * q) % 2 ^ (j + k) / 2 ^ k ≡ q % 2 ^ j

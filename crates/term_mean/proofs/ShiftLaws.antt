@@ -1,30 +1,18 @@
 -- Constants, shift counts and exact shifts: what the rules make of them has their number.
-use Rattle.std.proofs.Common.{◌≡◌, ℕ, zero, suc, ◌+◌, ◌-◌, ◌*◌, ◌/◌, ◌%◌, ◌^◌, ◌<◌, ◌≤◌, refl, sym, ◌∙◌, ap, subst, arith, rules, tests, cond, eqb, Bool, true, false, ◌&&◌, List, [], ◌∷◌, Option, Some, None, ◌⊎◌, inl, inr}
+use Rattle.std.proofs.Common.{◌≡◌, ℕ, ◌*◌, ◌/◌, ◌%◌, ◌^◌, refl, sym, ◌∙◌, ap, arith, Option, Some, None, ◌⊎◌, inl, inr}
 use Rattle.std.specs.Int.{int_shr}
-use Rattle.std.proofs.Math.Nat.{mod-mod, mod-lt, div-add-mod}
+use Rattle.std.proofs.Math.Nat.{mod-mod}
 use Rattle.bits64.specs.declared.Width.{Width}
 use Rattle.bits64.specs.declared.Width.TheVariants.{W8, W16, W32, W64}
-use Rattle.bits64.specs.Words.{bits_of, low, signed, wrapped, sign_extended, shifted_left, shifted_right, shifted_arithmetic}
+use Rattle.bits64.specs.Words.{bits_of, low, signed, wrapped, shifted_left, shifted_right, shifted_arithmetic}
 use Rattle.term_tree.specs.declared.head.Head.{Head}
 use Rattle.term_tree.specs.declared.head.Head.TheVariants as heads
-use Rattle.term_tree.specs.declared.head.Extension.{Extension}
-use Rattle.term_tree.specs.declared.head.Extension.TheVariants.{Zero, Sign}
-use Rattle.term_tree.specs.Tree.{Tree, Atoms, Trees, AtomTree, Sum, Node, no_atoms, atom, no_trees, tree, own_width, width_of}
-use Rattle.term_tree.specs.Form.{same_width}
-use Rattle.term_tree.proofs.OrderLaws.{eqb-true, same_width-true}
-use Rattle.term_mean.specs.Meaning.{Valuation, mean, weighed, values}
-use Rattle.term_mean.specs.Sums.{constant, constant_in, sum, times}
-use Rattle.term_mean.specs.Extensions.{extended_by, extended}
-use Rattle.term_mean.specs.Masks.{made_at, cut_to, low_8}
-use Rattle.term_mean.specs.Shifts.{two_parts, binary_number, on_constants, plain_two, left_of, divides, divides_all, quotients, exact, right_exact, by_nonzero, by_constant, by_count, shifted}
-use Rattle.term_mean.proofs.Modulo.{same-add, same-mul, same-cut}
-use Rattle.term_mean.proofs.SumLaws.{weight, mean-sum, mean-constant, mean-cut, mean-times}
+use Rattle.term_tree.specs.Tree.{Tree, Sum, Node, no_atoms, atom, own_width}
+use Rattle.term_mean.specs.Meaning.{Valuation, mean}
+use Rattle.term_mean.specs.Sums.{constant, constant_in, times}
+use Rattle.term_mean.specs.Shifts.{two_parts, binary_number, on_constants}
+use Rattle.term_mean.proofs.SumLaws.{mean-constant, mean-times}
 use Rattle.term_mean.proofs.JoinLaws.{low_plus_zero}
-use Rattle.term_mean.proofs.JoinedLaws.{and-true}
-use Rattle.term_mean.proofs.CutLaws.{low-low}
-use Rattle.term_mean.proofs.ExtendedLaws.{mean-extended, extended-cut}
-use Rattle.term_mean.proofs.RuleLaws.{shift-multiple}
-use Rattle.term_mean.proofs.MaskLaws.{mean-made_at, is-cut_to, is-low_8}
 
 -- ---- constants
 pub constant-is : (v : Valuation) (t : Tree) (c : ℕ) → constant_in t ≡ Some c → mean v t ≡ c

@@ -1,15 +1,14 @@
 -- Truths are 0 or 1, and the opposite of one is the other.
-use Rattle.std.proofs.Common.{◌≡◌, ℕ, zero, suc, ◌+◌, ◌*◌, ◌-◌, ◌%◌, ◌^◌, ◌<◌, refl, sym, ◌∙◌, ap, subst, arith, tests, cond, eqb, Bool, true, false, not, ◌&&◌, bit_xor, List, [], ◌∷◌}
+use Rattle.std.proofs.Common.{◌≡◌, ℕ, zero, suc, ◌+◌, ◌<◌, refl, sym, ◌∙◌, ap, subst, arith, eqb, Bool, true, false, bit_xor, List, [], ◌∷◌}
 use Rattle.bits64.specs.declared.Width.{Width}
 use Rattle.bits64.specs.declared.Width.TheVariants.{W8, W16, W32, W64}
-use Rattle.bits64.specs.Words.{bits_of, low, less_signed, less_unsigned}
+use Rattle.bits64.specs.Words.{low, less_signed, less_unsigned}
 use Rattle.term_tree.specs.declared.head.Head.TheVariants as heads
 use Rattle.term_tree.specs.declared.head.Joint.TheVariants.{Xor}
-use Rattle.term_tree.specs.Tree.{Tree, Atoms, Trees, Sum, Node, no_atoms, atom, no_trees, tree, width_of}
+use Rattle.term_tree.specs.Tree.{Tree, Sum, Node, no_atoms, atom, no_trees, tree, width_of}
 use Rattle.term_tree.proofs.OrderLaws.{eqb-true}
 use Rattle.term_mean.specs.Meaning.{Valuation, Value, mean, values, truth, on_one, on_two}
 use Rattle.term_mean.specs.Sums.{constant}
-use Rattle.term_mean.specs.Masks.{made_8}
 use Rattle.term_mean.specs.Truths.{is_one, is_truth, opposite}
 use Rattle.term_mean.proofs.JoinedLaws.{and-true}
 use Rattle.term_mean.proofs.MaskLaws.{mean-made_8_at}

@@ -1,19 +1,19 @@
 -- The widths of what the rules make.
 use Rattle.std.proofs.Common.{◌≡◌, ℕ, zero, suc, refl, sym, cond, eqb, Bool, true, false, List, [], ◌∷◌}
 use Rattle.bits64.specs.declared.Width.{Width}
-use Rattle.bits64.specs.Words.{bits_of, low}
+use Rattle.bits64.specs.Words.{low}
 use Rattle.term_tree.specs.declared.head.Head.{Head}
 use Rattle.term_tree.specs.declared.head.Head.TheVariants as heads
 use Rattle.term_tree.specs.declared.head.Joint.{Joint}
 use Rattle.term_tree.specs.declared.head.Joint.TheVariants.{Mul, And, Ior, Xor}
 use Rattle.term_tree.specs.declared.head.Extension.{Extension}
 use Rattle.term_tree.specs.declared.head.Extension.TheVariants.{Zero, Sign}
-use Rattle.term_tree.specs.Tree.{Tree, Atoms, Trees, Sum, Node, no_atoms, atom, no_trees, tree, width_of, own_width, AtomTree}
+use Rattle.term_tree.specs.Tree.{Tree, Trees, Sum, Node, no_atoms, atom, no_trees, tree, width_of, own_width, AtomTree}
 use Rattle.term_mean.specs.Joints.{start, absorbs, node_of, plain, with_constant, finished, joined}
 use Rattle.term_mean.specs.Cuts.{one_part, extension_cut, cut_node, cut, cut_atoms, cut_all}
-use Rattle.term_mean.specs.Extensions.{extension, of_sign, extended_joint, extended_node, extended_sum, extended, extended_all}
+use Rattle.term_mean.specs.Extensions.{extension, of_sign, extended_joint, extended_node, extended, extended_all}
 use Rattle.term_tree.specs.Form.{same_width, narrower, all_of_width}
-use Rattle.term_mean.specs.Sums.{sum, constant, times, plus_times, summed}
+use Rattle.term_mean.specs.Sums.{sum, constant, plus_times, summed}
 use Rattle.term_tree.proofs.OrderLaws.{same_width-true}
 
 pub width-sum : (w : Width) (c : ℕ) (xs : List AtomTree) → width_of (sum w c xs) ≡ w
@@ -27,9 +27,8 @@ width-sum w c xs = refl
 pub width-plus_times : (w : Width) (a : Tree) (f : ℕ) (b : Tree) → width_of (plus_times w a f b) ≡ w
 width-plus_times w a f b = width-sum w _ _
 
-pub width-summed : (w : Width) (a : Tree) (xs : List AtomTree) → width_of a ≡ w → width_of (summed w a xs) ≡ w
-width-summed w a [] e = e
-width-summed w a (x ∷ xs) e = width-summed w (plus_times w a x.0 x.1) xs (width-plus_times w a x.0 x.1)
+pub width-summed : (w : Width) (c : ℕ) (xs : List AtomTree) → width_of (summed w c xs) ≡ w
+width-summed w c xs = width-sum w _ _
 
 pub width-cond : (b : Bool) (m : Width) (t u : Tree) → width_of t ≡ m → width_of u ≡ m → width_of (cond b t u) ≡ m
 width-cond true m t u p q = p
@@ -94,7 +93,7 @@ width-cut_node f m h t ps qs g a = refl
 mutual
   pub width-cut : (f : Joint → List Tree → Tree) (m : Width) (t : Tree) → MakesWidth m f → width_of (cut f m t) ≡ m
   width-cut f m (Sum w c xs) g =
-      width-cond (narrower m w) m (summed m (constant m c) (cut_atoms f m xs)) (one_part heads.Trunc m (Sum w c xs)) (width-summed m (constant m c) (cut_atoms f m xs) refl) refl
+      width-cond (narrower m w) m (summed m c (cut_atoms f m xs)) (one_part heads.Trunc m (Sum w c xs)) (width-summed m c (cut_atoms f m xs)) refl
   width-cut f m (Node h w n s ps) g = width-cond (narrower m (own_width h w)) m (cut_node f m h (Node h w n s ps) ps (cut_all f m ps)) (one_part heads.Trunc m (Node h w n s ps)) (width-cut_node f m h (Node h w n s ps) ps (cut_all f m ps) g (width-cut_all f m ps g)) refl
 
   pub width-cut_all : (f : Joint → List Tree → Tree) (m : Width) (ps : Trees) → MakesWidth m f → AllHave m (cut_all f m ps)

@@ -1,28 +1,26 @@
 -- Whether a term is 0: what the rules make of the test has its number, in any number of rounds.
-use Rattle.std.proofs.Common.{◌≡◌, ℕ, zero, suc, ◌+◌, ◌*◌, ◌-◌, ◌%◌, ◌^◌, ◌<◌, ◌≤◌, refl, sym, ◌∙◌, ap, subst, arith, tests, cond, eqb, Bool, true, false, ◌&&◌, bit_xor, List, [], ◌∷◌, Option, Some, None}
+use Rattle.std.proofs.Common.{◌≡◌, ℕ, zero, suc, ◌+◌, ◌*◌, ◌-◌, ◌^◌, ◌<◌, refl, sym, ◌∙◌, ap, subst, arith, tests, cond, eqb, Bool, true, false, ◌&&◌, bit_xor, List, Option, Some, None}
 use Rattle.std.specs.declared.cmp.Ordering.{Ordering}
 use Rattle.std.specs.declared.cmp.Ordering.TheVariants.{Less, Equal, Greater}
-use Rattle.std.proofs.Math.Nat.{mod-mod}
 use Rattle.std.proofs.lemmas.Nat.{xor_comm, xor_mod}
 use Rattle.std.specs.Int.Bits.{xor_assoc, xor_self, xor_zero_l}
 use Rattle.bits64.specs.declared.Width.{Width}
 use Rattle.bits64.specs.declared.Width.TheVariants.{W8, W16, W32, W64}
 use Rattle.bits64.specs.Words.{bits_of, low, difference_of, sign_extended}
-use Rattle.term_tree.specs.declared.head.Head.{Head}
 use Rattle.term_tree.specs.declared.head.Head.TheVariants as heads
 use Rattle.term_tree.specs.declared.head.Extension.{Extension}
 use Rattle.term_tree.specs.declared.head.Extension.TheVariants.{Zero, Sign}
-use Rattle.term_tree.specs.Tree.{Tree, Atoms, Trees, Sum, Node, no_atoms, atom, no_trees, tree, width_of}
+use Rattle.term_tree.specs.Tree.{Tree, Sum, Node, no_atoms, atom, no_trees, tree, tree_size}
 use Rattle.term_tree.specs.Form.{same_width}
 use Rattle.term_tree.specs.Order.{numbers_cmp}
 use Rattle.term_tree.proofs.OrderLaws.{eqb-true, same_width-true}
-use Rattle.term_mean.specs.Meaning.{Valuation, mean, weighed, truth}
+use Rattle.term_mean.specs.Meaning.{Valuation, mean, truth}
 use Rattle.term_mean.specs.Sums.{constant, constant_in, minus, negated}
 use Rattle.term_mean.specs.Cuts.{one_part}
 use Rattle.term_mean.specs.Extensions.{extended_by}
 use Rattle.term_mean.specs.Masks.{low_8}
 use Rattle.term_mean.specs.Truths.{is_truth, opposite}
-use Rattle.term_mean.specs.Zero.{numbers_of, first_of, nearer, Operands, operands_in, from_zero, as_difference, zero_extended_test, zero_difference, zero_xor, zero_truth, zero_constant, zero_chosen, zero_test, rounds, equals_zero}
+use Rattle.term_mean.specs.Zero.{numbers_of, first_of, nearer, Operands, operands_in, from_zero, as_difference, zero_extended_test, zero_difference, zero_xor, zero_constant, zero_chosen, zero_test, equals_zero}
 use Rattle.term_mean.proofs.Modulo.{same-cut}
 use Rattle.term_mean.proofs.SumLaws.{mean-plus_times, mean-times, mean-constant}
 use Rattle.term_mean.proofs.JoinedLaws.{and-true}
@@ -32,7 +30,7 @@ use Rattle.term_mean.proofs.RuleLaws.{difference-zero, negative-zero}
 use Rattle.term_mean.proofs.MaskLaws.{is-low_8}
 use Rattle.term_mean.proofs.ShiftLaws.{constant-is}
 use Rattle.term_mean.proofs.TruthLaws.{small_truth, small, truth-is, mean-opposite}
-use Rattle.term_mean.proofs.OperandLaws.{Extends, AreOperands, operands-are}
+use Rattle.term_mean.proofs.OperandLaws.{operands-are}
 
 -- whether a term's number is 0 in a width
 abbrev pub is_zero : Valuation → Width → Tree → ℕ
@@ -204,9 +202,8 @@ unfolding zero_test
 mean-zero_test v zero w t = mean-one_part v w t
 mean-zero_test v (suc n) w t = mean-zero_constant v (zero_test n) w (nearer w t) (mean-zero_test v n) (constant_in (nearer w t)) refl ∙ zero-nearer v w t
 
--- the number of rounds is never computed with
 pub mean-equals_zero : (v : Valuation) (w : Width) (t : Tree) → mean v (equals_zero w t) ≡ is_zero v w t
-mean-equals_zero v w t = mean-zero_test v rounds w t
+mean-equals_zero v w t = mean-zero_test v (tree_size t) w t
 
 -- one round
 pub zero_test-step : (n : ℕ) (w : Width) (t : Tree) → 0 < n → zero_test n w t ≡ zero_chosen (zero_test (n - 1)) w (nearer w t)
@@ -220,7 +217,3 @@ zero_test-step (suc n) w t h = ap (λ k. zero_chosen (zero_test k) w (nearer w t
 pub zero_test-none : (w : Width) (t : Tree) → zero_test 0 w t ≡ one_part heads.Eq w t
 unfolding zero_test
 zero_test-none w t = refl
-
-pub rounds-is : rounds ≡ 1048576
-unfolding rounds
-rounds-is = refl

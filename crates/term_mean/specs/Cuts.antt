@@ -1,5 +1,5 @@
 -- Truncation, which goes into the parts of sums, products and operators on bits.
-use Rattle.std.specs.Prelude.{ℕ, Bool, true, false, if◌then◌else◌, List, [], ◌∷◌}
+use Rattle.std.specs.Prelude.{if◌then◌else◌, List, [], ◌∷◌}
 use Rattle.bits64.specs.declared.Width.{Width}
 use Rattle.bits64.specs.Words.{low}
 use Rattle.term_tree.specs.declared.head.Head.{Head}
@@ -8,7 +8,7 @@ use Rattle.term_tree.specs.declared.head.Joint.{Joint}
 use Rattle.term_tree.specs.declared.head.Joint.TheVariants.{Mul, And, Ior, Xor}
 use Rattle.term_tree.specs.Tree.{Tree, Atoms, Trees, AtomTree, Sum, Node, no_atoms, atom, no_trees, tree, own_width, width_of}
 use Rattle.term_tree.specs.Form.{same_width, narrower}
-use Rattle.term_mean.specs.Sums.{constant, summed}
+use Rattle.term_mean.specs.Sums.{summed}
 
 -- an operator over one part
 abbrev pub one_part : Head → Width → Tree → Tree
@@ -33,7 +33,7 @@ cut_node make m h t ps qs = one_part heads.Trunc m t
 -- a term that is wider, cut to m bits
 abbrev mutual
   pub cut : (Joint → List Tree → Tree) → Width → Tree → Tree
-  cut make m (Sum w c xs) = if narrower m w then summed m (constant m c) (cut_atoms make m xs) else one_part heads.Trunc m (Sum w c xs)
+  cut make m (Sum w c xs) = if narrower m w then summed m c (cut_atoms make m xs) else one_part heads.Trunc m (Sum w c xs)
   cut make m (Node h w n s ps) =
       if narrower m (own_width h w) then cut_node make m h (Node h w n s ps) ps (cut_all make m ps) else one_part heads.Trunc m (Node h w n s ps)
 

@@ -1,7 +1,7 @@
 -- Extensions: those of one kind compose, one by the sign of one by zeros is one by zeros, and both go into operators on bits.
-use Rattle.std.specs.Prelude.{ℕ, Bool, true, false, if◌then◌else◌, List, [], ◌∷◌}
+use Rattle.std.specs.Prelude.{ℕ, if◌then◌else◌, List, [], ◌∷◌}
 use Rattle.bits64.specs.declared.Width.{Width}
-use Rattle.bits64.specs.Words.{low, sign_extended, zero_extended}
+use Rattle.bits64.specs.Words.{sign_extended, zero_extended}
 use Rattle.term_tree.specs.declared.head.Head.{Head}
 use Rattle.term_tree.specs.declared.head.Head.TheVariants as heads
 use Rattle.term_tree.specs.declared.head.Joint.{Joint}

@@ -1,5 +1,5 @@
 -- Products, and, or and exclusive or: flattened and sorted, with one constant.
-use Rattle.std.specs.Prelude.{ℕ, zero, ◌-◌, ◌*◌, ◌^◌, ◌==◌, Bool, true, false, if◌then◌else◌, ◌&&◌, List, [], ◌∷◌, Option, Some, None, bit_and, bit_or, bit_xor}
+use Rattle.std.specs.Prelude.{ℕ, ◌-◌, ◌*◌, ◌^◌, ◌==◌, Bool, false, if◌then◌else◌, ◌&&◌, List, [], ◌∷◌, Option, Some, None, bit_and, bit_or, bit_xor}
 use Rattle.std.specs.declared.cmp.Ordering.{Ordering}
 use Rattle.std.specs.declared.cmp.Ordering.TheVariants.{Less, Equal, Greater}
 use Rattle.bits64.specs.declared.Width.{Width}
@@ -9,7 +9,7 @@ use Rattle.term_tree.specs.declared.head.Head.{Head}
 use Rattle.term_tree.specs.declared.head.Head.TheVariants as heads
 use Rattle.term_tree.specs.declared.head.Joint.{Joint}
 use Rattle.term_tree.specs.declared.head.Joint.TheVariants.{Mul, And, Ior, Xor}
-use Rattle.term_tree.specs.Tree.{Tree, Atoms, Trees, Sum, Node, no_atoms, atom, no_trees, tree, width_of, list_of, trees_of}
+use Rattle.term_tree.specs.Tree.{Tree, Sum, Node, no_atoms, atom, width_of, list_of, trees_of}
 use Rattle.term_tree.specs.Form.{same_width}
 use Rattle.term_tree.specs.Order.{tree_cmp, head_index}
 use Rattle.term_mean.specs.Sums.{constant, constant_in, times}

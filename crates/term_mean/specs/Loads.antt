@@ -1,5 +1,5 @@
 -- A load from memory n moves to memory n - 1 where it lies apart from store n.
-use Rattle.std.specs.Prelude.{ℕ, zero, suc, ◌+◌, ◌-◌, ◌^◌, nat_lt, Bool, true, false, if◌then◌else◌, ◌&&◌, List, [], ◌∷◌, Option, Some, None, slice_get}
+use Rattle.std.specs.Prelude.{ℕ, zero, suc, ◌+◌, ◌^◌, nat_lt, Bool, false, if◌then◌else◌, ◌&&◌, List, [], Option, Some, None, slice_get}
 use Rattle.bits64.specs.declared.Width.{Width}
 use Rattle.bits64.specs.declared.Width.TheVariants.{W64}
 use Rattle.bits64.specs.Words.{bytes_of}

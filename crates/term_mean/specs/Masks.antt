@@ -1,16 +1,16 @@
 -- Products and operators on bits at each width, and truncation to it. An `and` with the constant of 8, 16 or 32 ones, below its own width,
 -- is an extension by zeros of what is cut of the rest; so each width needs truncation to those below it, and nothing above.
-use Rattle.std.specs.Prelude.{ℕ, ◌-◌, ◌^◌, ◌==◌, Bool, true, false, if◌then◌else◌, List, [], ◌∷◌, Option, Some, None}
+use Rattle.std.specs.Prelude.{ℕ, ◌-◌, ◌^◌, ◌==◌, if◌then◌else◌, List, [], ◌∷◌, Option, Some, None}
 use Rattle.bits64.specs.declared.Width.{Width}
 use Rattle.bits64.specs.declared.Width.TheVariants.{W8, W16, W32, W64}
 use Rattle.bits64.specs.Words.{low}
 use Rattle.term_tree.specs.declared.head.Joint.{Joint}
-use Rattle.term_tree.specs.declared.head.Joint.TheVariants.{Mul, And, Ior, Xor}
+use Rattle.term_tree.specs.declared.head.Joint.TheVariants.{And}
 use Rattle.term_tree.specs.declared.head.Extension.TheVariants.{Zero}
 use Rattle.term_tree.specs.declared.head.Head.TheVariants as heads
 use Rattle.term_tree.specs.Tree.{Tree, width_of}
 use Rattle.term_tree.specs.Form.{same_width}
-use Rattle.term_mean.specs.Joints.{Joined, gathered, plain, finished, joined}
+use Rattle.term_mean.specs.Joints.{gathered, plain, finished, joined}
 use Rattle.term_mean.specs.Cuts.{cut, one_part}
 use Rattle.term_mean.specs.Extensions.{extended}
 

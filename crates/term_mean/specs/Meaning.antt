@@ -1,10 +1,9 @@
 -- The number of a term.
 use Rattle.std.specs.Prelude.{ℕ, zero, suc, List, [], ◌∷◌, ◌+◌, ◌-◌, ◌*◌, ◌%◌, ◌^◌, ◌==◌, bit_and, bit_or, bit_xor, if◌then◌else◌, Bool}
 use Rattle.bits64.specs.declared.Width.{Width}
-use Rattle.bits64.specs.Words.{bits_of, bytes_of, low, high_signed, high_unsigned, high_mixed, quotient_signed, quotient_unsigned, remainder_signed, remainder_unsigned, shifted_left, shifted_right, shifted_arithmetic, sign_extended, zero_extended, less_signed, less_unsigned}
+use Rattle.bits64.specs.Words.{bytes_of, low, high_signed, high_unsigned, high_mixed, quotient_signed, quotient_unsigned, remainder_signed, remainder_unsigned, shifted_left, shifted_right, shifted_arithmetic, sign_extended, zero_extended, less_signed, less_unsigned}
 use Rattle.term_tree.specs.declared.head.Head.{Head}
 use Rattle.term_tree.specs.declared.head.Head.TheVariants.{Reg, Sym, Mul, Mulh, Mulhu, Mulhsu, Div, Udiv, Rem, Urem, And, Ior, Xor, Shl, Shr, Sar, Trunc, Zext, Sext, Lt, Ltu, Eq, Load}
-use Rattle.term_tree.specs.declared.head.Head.TheVariants as heads
 use Rattle.term_tree.specs.Tree.{Tree, Atoms, Trees, Sum, Node, no_atoms, atom, no_trees, tree, own_width, width_of}
 
 -- what registers and symbols are, and the byte at each address of each memory: memory 0 is that of the beginning

@@ -7,7 +7,7 @@ use Rattle.term_tree.specs.declared.head.Joint.TheVariants.{Mul, And, Ior, Xor}
 use Rattle.term_tree.specs.declared.head.Extension.TheVariants.{Zero, Sign}
 use Rattle.term_tree.specs.Tree.{Tree, Atoms, Trees, AtomTree, Sum, Node, no_atoms, atom, no_trees, tree, trees_of}
 use Rattle.term_mean.specs.Stores.{Store}
-use Rattle.term_mean.specs.Sums.{constant, summed}
+use Rattle.term_mean.specs.Sums.{summed}
 use Rattle.term_mean.specs.Extensions.{extended}
 use Rattle.term_mean.specs.Masks.{made_at, cut_to}
 use Rattle.term_mean.specs.Shifts.{plain_two, shifted}
@@ -56,7 +56,7 @@ built stores h w n s ts = built_parts stores h w n s ts
 
 abbrev mutual
   pub normal : List Store → Tree → Tree
-  normal stores (Sum w c xs) = summed w (constant w c) (normal_atoms stores xs)
+  normal stores (Sum w c xs) = summed w c (normal_atoms stores xs)
   normal stores (Node h w n s ps) = built stores h w n s (normal_all stores ps)
 
   pub normal_atoms : List Store → Atoms → List AtomTree

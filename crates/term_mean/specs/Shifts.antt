@@ -1,14 +1,14 @@
--- Shifts: a constant count is modulo the width, and another is cut to 8 bits. A left shift by a constant is a product. A right shift of a sum
--- whose constant and coefficients are multiples of 2 ^ k, by k, is an extension of the quotient cut to the bits that are left.
-use Rattle.std.specs.Prelude.{ℕ, zero, suc, ◌/◌, ◌%◌, ◌^◌, ◌==◌, Bool, true, false, if◌then◌else◌, ◌&&◌, List, [], ◌∷◌, Option, Some, None}
+-- Shifts: a count is cut to 8 bits, and where that is a constant it is modulo the width. A left shift by a constant is a product. A right
+-- shift of a sum whose constant and coefficients are multiples of 2 ^ k, by k, is an extension of the quotient cut to the bits that are left.
+use Rattle.std.specs.Prelude.{ℕ, zero, suc, ◌/◌, ◌%◌, ◌^◌, ◌==◌, Bool, true, if◌then◌else◌, ◌&&◌, List, [], ◌∷◌, Option, Some, None}
 use Rattle.bits64.specs.declared.Width.{Width}
 use Rattle.bits64.specs.declared.Width.TheVariants.{W8, W16, W32, W64}
-use Rattle.bits64.specs.Words.{bits_of, low, high_signed, high_unsigned, high_mixed, quotient_signed, quotient_unsigned, remainder_signed, remainder_unsigned, shifted_left, shifted_right, shifted_arithmetic, less_signed, less_unsigned}
+use Rattle.bits64.specs.Words.{bits_of, high_signed, high_unsigned, high_mixed, quotient_signed, quotient_unsigned, remainder_signed, remainder_unsigned, shifted_left, shifted_right, shifted_arithmetic, less_signed, less_unsigned}
 use Rattle.term_tree.specs.declared.head.Head.{Head}
 use Rattle.term_tree.specs.declared.head.Head.TheVariants as heads
 use Rattle.term_tree.specs.declared.head.Extension.{Extension}
 use Rattle.term_tree.specs.declared.head.Extension.TheVariants.{Zero, Sign}
-use Rattle.term_tree.specs.Tree.{Tree, Atoms, Trees, AtomTree, Sum, Node, no_atoms, atom, no_trees, tree, own_width, width_of}
+use Rattle.term_tree.specs.Tree.{Tree, Atoms, AtomTree, Sum, Node, no_atoms, atom, no_trees, tree, own_width, width_of}
 use Rattle.term_tree.specs.Form.{same_width}
 use Rattle.term_mean.specs.Meaning.{truth}
 use Rattle.term_mean.specs.Sums.{constant, constant_in, sum, times}
@@ -84,9 +84,16 @@ abbrev pub by_constant : Head → Width → Tree → ℕ → Tree
 by_constant h w a zero = if same_width (width_of a) w then a else two_parts h w a (constant W8 0)
 by_constant h w a (suc k) = by_nonzero h w a (suc k)
 
+-- by a constant modulo the width, or by another count as it stands
 abbrev pub by_count : Option ℕ → Head → Width → Tree → Tree → Tree
 by_count (Some k) h w a b = by_constant h w a (k % bits_of w)
-by_count None h w a b = two_parts h w a (low_8 b)
+by_count None h w a b = two_parts h w a b
 
+-- a shift by a count of 8 bits
+abbrev pub shifted_by : Head → Width → Tree → Tree → Tree
+shifted_by h w a b =
+    on_constants (constant_in a) (constant_in b) h w (by_count (constant_in b) h w a b)
+
+-- a count is cut to 8 bits first, and the rules go by what that is
 abbrev pub shifted : Head → Width → Tree → Tree → Tree
-shifted h w a b = on_constants (constant_in a) (constant_in b) h w (by_count (constant_in b) h w a b)
+shifted h w a b = shifted_by h w a (low_8 b)

@@ -1,10 +1,10 @@
 -- Sums: the constants are added, equal atoms are joined, coefficients are modulo 2 ^ w and zero ones dropped, and atoms stand in order.
-use Rattle.std.specs.Prelude.{ℕ, zero, suc, ◌+◌, ◌-◌, ◌*◌, ◌^◌, Bool, true, false, if◌then◌else◌, List, [], ◌∷◌, Option, Some, None}
+use Rattle.std.specs.Prelude.{ℕ, zero, suc, ◌+◌, ◌-◌, ◌*◌, ◌^◌, if◌then◌else◌, List, [], ◌∷◌, ◌++◌, Option, Some, None}
 use Rattle.std.specs.declared.cmp.Ordering.{Ordering}
 use Rattle.std.specs.declared.cmp.Ordering.TheVariants.{Less, Equal, Greater}
 use Rattle.bits64.specs.declared.Width.{Width}
 use Rattle.bits64.specs.Words.{bits_of, low, sum_of, product_of}
-use Rattle.term_tree.specs.Tree.{Tree, Atoms, Trees, Sum, Node, no_atoms, atom, no_trees, tree, width_of, AtomTree, atoms_of, list_of_atoms}
+use Rattle.term_tree.specs.Tree.{Tree, Sum, Node, no_atoms, atom, width_of, AtomTree, atoms_of, list_of_atoms}
 use Rattle.term_tree.specs.Form.{same_width}
 use Rattle.term_tree.specs.Order.{tree_cmp}
 
@@ -23,19 +23,24 @@ with_atom (suc k) t xs = (suc k, t) ∷ xs
 
 -- k times t before, at or after an atom x, where `later` has it among the atoms after that
 abbrev pub placed : Ordering → Width → ℕ → Tree → AtomTree → List AtomTree → List AtomTree → List AtomTree
-placed Less w k t x xs later = with_atom k t (x ∷ xs)
+placed Less w k t x xs later = with_atom (low w k) t (x ∷ xs)
 placed Equal w k t x xs later = with_atom (low w (k + x.0)) x.1 xs
 placed Greater w k t x xs later = x ∷ later
 
 -- k times t more
 abbrev pub insert : Width → ℕ → Tree → List AtomTree → List AtomTree
-insert w k t [] = with_atom k t []
+insert w k t [] = with_atom (low w k) t []
 insert w k t (x ∷ xs) = placed (tree_cmp t x.1) w k t x xs (insert w k t xs)
 
--- f times these atoms more
-abbrev pub add_atoms : Width → ℕ → List AtomTree → List AtomTree → List AtomTree
-add_atoms w f [] ys = ys
-add_atoms w f (x ∷ xs) ys = add_atoms w f xs (insert w (low w (f * x.0)) x.1 ys)
+-- atoms put in order, one after another
+abbrev pub in_order : Width → List AtomTree → List AtomTree → List AtomTree
+in_order w [] ys = ys
+in_order w (x ∷ xs) ys = in_order w xs (insert w x.0 x.1 ys)
+
+-- f times these atoms
+abbrev pub scaled : Width → ℕ → List AtomTree → List AtomTree
+scaled w f [] = []
+scaled w f (x ∷ xs) = (low w (f * x.0), x.1) ∷ scaled w f xs
 
 -- a term as a constant and atoms: a sum of the width is these, and any other term is one atom
 abbrev pub constant_at : Width → Tree → ℕ
@@ -54,12 +59,22 @@ sum w c xs = Sum w c (atoms_of xs)
 -- a + f * b
 abbrev pub plus_times : Width → Tree → ℕ → Tree → Tree
 plus_times w a f b =
-    sum w (sum_of w (constant_at w a) (product_of w f (constant_at w b))) (add_atoms w f (atoms_at w b) (atoms_at w a))
+    sum w (sum_of w (constant_at w a) (product_of w f (constant_at w b)))
+    (in_order w (atoms_at w a ++ scaled w f (atoms_at w b)) [])
 
--- a term with each of these atoms more, the first one first
-abbrev pub summed : Width → Tree → List AtomTree → Tree
-summed w a [] = a
-summed w a (x ∷ xs) = summed w (plus_times w a x.0 x.1) xs
+-- a constant, and that of each of these terms, as often as its coefficient says
+abbrev pub constants_at : Width → ℕ → List AtomTree → ℕ
+constants_at w c [] = c
+constants_at w c (x ∷ xs) = constants_at w (sum_of w c (product_of w x.0 (constant_at w x.1))) xs
+
+-- the atoms of all these terms, as often as their coefficients say
+abbrev pub all_atoms : Width → List AtomTree → List AtomTree
+all_atoms w [] = []
+all_atoms w (x ∷ xs) = scaled w x.0 (atoms_at w x.1) ++ all_atoms w xs
+
+-- the sum of a constant and terms with coefficients
+abbrev pub summed : Width → ℕ → List AtomTree → Tree
+summed w c xs = sum w (constants_at w (low w c) xs) (in_order w (all_atoms w xs) [])
 
 -- f * a: a product with a constant, or a shift to the left by a constant
 abbrev pub times : Width → ℕ → Tree → Tree

@@ -1,9 +1,9 @@
 -- Truths: comparisons, their extensions by zeros, and their opposites. Each is 0 or 1.
-use Rattle.std.specs.Prelude.{ℕ, ◌==◌, Bool, true, false, ◌&&◌, List, [], ◌∷◌}
+use Rattle.std.specs.Prelude.{◌==◌, Bool, true, false, ◌&&◌, [], ◌∷◌}
 use Rattle.bits64.specs.declared.Width.TheVariants.{W8}
 use Rattle.term_tree.specs.declared.head.Head.TheVariants as heads
 use Rattle.term_tree.specs.declared.head.Joint.TheVariants.{Xor}
-use Rattle.term_tree.specs.Tree.{Tree, Atoms, Trees, Sum, Node, no_atoms, atom, no_trees, tree}
+use Rattle.term_tree.specs.Tree.{Tree, Sum, Node, no_atoms, no_trees, tree}
 use Rattle.term_mean.specs.Sums.{constant}
 use Rattle.term_mean.specs.Masks.{made_8}
 

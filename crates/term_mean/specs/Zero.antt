@@ -1,16 +1,15 @@
 -- Whether a term is 0.
-use Rattle.std.specs.Prelude.{ℕ, zero, suc, ◌-◌, ◌^◌, ◌==◌, Bool, true, false, if◌then◌else◌, ◌&&◌, ◌++◌, List, [], ◌∷◌, Option, Some, None, map}
+use Rattle.std.specs.Prelude.{ℕ, zero, suc, ◌-◌, ◌^◌, ◌==◌, Bool, true, false, if◌then◌else◌, ◌&&◌, List, [], ◌∷◌, Option, Some, None}
 use Rattle.std.specs.Option.{option_or}
 use Rattle.std.specs.declared.cmp.Ordering.{Ordering}
 use Rattle.std.specs.declared.cmp.Ordering.TheVariants.{Less, Equal, Greater}
 use Rattle.bits64.specs.declared.Width.{Width}
 use Rattle.bits64.specs.declared.Width.TheVariants.{W8}
 use Rattle.bits64.specs.Words.{bits_of, low, difference_of}
-use Rattle.term_tree.specs.declared.head.Head.{Head}
 use Rattle.term_tree.specs.declared.head.Head.TheVariants as heads
 use Rattle.term_tree.specs.declared.head.Extension.{Extension}
 use Rattle.term_tree.specs.declared.head.Extension.TheVariants.{Zero, Sign}
-use Rattle.term_tree.specs.Tree.{Tree, Atoms, Trees, AtomTree, Sum, Node, no_atoms, atom, no_trees, tree, width_of}
+use Rattle.term_tree.specs.Tree.{Tree, Atoms, Sum, Node, no_atoms, atom, no_trees, tree, width_of, tree_size}
 use Rattle.term_tree.specs.Form.{same_width, narrower}
 use Rattle.term_tree.specs.Order.{numbers_cmp}
 use Rattle.term_mean.specs.Meaning.{truth}
@@ -135,15 +134,11 @@ zero_constant None again w t = zero_truth again w t
 abbrev pub zero_chosen : (Width → Tree → Tree) → Width → Tree → Tree
 zero_chosen again w t = zero_constant (constant_in t) again w t
 
--- what the rules make of it is made by the same rules: each time an exclusive or or an extension goes, so the rounds below never run out
--- on a term that has no more nodes than there are rounds
+-- what the rules make of it is made by the same rules, in so many rounds
 unfoldable pub zero_test : ℕ → Width → Tree → Tree
 zero_test zero w t = one_part heads.Eq w t
 zero_test (suc n) w t = zero_chosen (zero_test n) w (nearer w t)
 
-unfoldable pub rounds : ℕ
-rounds = 2 ^ 20
-
--- whether a term of w bits is 0
+-- whether a term of w bits is 0: each round that goes on takes an operator away, so no more rounds are needed than the term has nodes
 abbrev pub equals_zero : Width → Tree → Tree
-equals_zero w t = zero_test rounds w t
+equals_zero w t = zero_test (tree_size t) w t

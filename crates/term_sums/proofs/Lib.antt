@@ -1,4 +1,3 @@
-pub mod InsertLaws
 pub mod EditLaws
 pub mod PartLaws
 pub mod FlatLaws
@@ -7,3 +6,5 @@ pub mod OrderedLaws
 pub mod CountLaws
 pub mod GatherLaws
 pub mod SortLaws
+pub mod AmountLaws
+pub mod SumsLaws

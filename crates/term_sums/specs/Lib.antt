@@ -1,3 +1,2 @@
-pub mod Places
-pub mod PartsView
-pub mod Gathering
+pub mod GatheredView
+pub mod machine

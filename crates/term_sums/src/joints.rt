@@ -3,9 +3,9 @@ ghost use Rattle.std.specs.Prelude.{◌≡◌, ◌<◌, ◌≤◌, map, insert, 
 ghost use Rattle.term_tree.specs.View.{tree_of};
 ghost use Rattle.term_mean.specs.Sums as sums_spec;
 ghost use Rattle.term_mean.specs.Joints as spec;
-ghost use Rattle.term_sums.specs.Places.{met_at, IsPartFound, IsPartMissing};
+ghost use Rattle.term_sums.specs.machine.Places.{met_at, IsPartFound, IsPartMissing};
 
-use crate::gathering::{Parts, gather, head_of, start};
+use crate::gathering::{Gathered, gather, head_of, start};
 use crate::sums::{constant_term, minus_one, times};
 use bits64::{Width, trunc};
 use plain_data::{Items, Memory};
@@ -95,7 +95,7 @@ fn node_of(alloc: Global, o: Joint, w: Width, parts: Vec<Term>) -> Term
     }
 }
 
-/// Parts with no constant.
+/// Gathered with no constant.
 pub fn plain(alloc: Global, o: Joint, w: Width, mut parts: Vec<Term>) -> Term
     ensures { tree_of result ≡ spec.plain o w (map tree_of parts.items) }
 {
@@ -165,6 +165,6 @@ pub fn finished(alloc: Global, o: Joint, w: Width, c: u64, parts: Vec<Term>) -> 
 pub fn joined(alloc: Global, o: Joint, w: Width, terms: &[Term]) -> Result<Term, Memory>
     ensures { IfOk result (λ r. tree_of r ≡ spec.joined o w (map tree_of terms.now)) }
 {
-    let Parts { constant, parts } = gather(alloc, o, w, terms)?;
+    let Gathered { constant, parts } = gather(alloc, o, w, terms)?;
     finished(alloc, o, w, trunc(constant, w), parts)
 }

@@ -4,10 +4,11 @@
 //! Each call gives the term of its definition in `term_mean`, unless memory runs out.
 #![tactic(auto)]
 
+mod atoms;
 mod gathering;
 mod joints;
 mod sums;
 
-pub use gathering::{Parts, constant_of, gather};
+pub use gathering::{Gathered, constant_of, gather};
 pub use joints::{finished, joined, plain};
-pub use sums::{constant_term, minus, minus_one, negated, plus_times, sum, times};
+pub use sums::{constant_term, minus, minus_one, negated, plus_times, sum, summed, times};

@@ -1,16 +1,14 @@
 //! Sums: constants are added, equal atoms are joined, and atoms stand in order.
-ghost use Rattle.std.specs.Prelude.{◌≡◌, [], ◌∷◌, ◌<◌, ◌≤◌, ◌-◌, ◌^◌, map, OnOk, IfOk, IfErr, vec_len};
-ghost use Rattle.bits64.specs.Words.{bits_of, low};
-ghost use Rattle.term_tree.specs.Tree.{Tree, Sum, no_atoms};
+ghost use Rattle.std.specs.Prelude.{◌≡◌, [], ◌∷◌, ◌-◌, ◌^◌, map, IfOk};
+ghost use Rattle.bits64.specs.Words.{bits_of};
 ghost use Rattle.term_tree.specs.View.{tree_of, atom_of};
 ghost use Rattle.term_mean.specs.Sums as spec;
-ghost use Rattle.term_sums.specs.Places.{IsFound, IsMissing, with_coefficient, with_new};
 
+use crate::atoms::{in_order, push_atoms_of};
 use bits64::{Width, add, mul, trunc};
 use plain_data::{Items, Memory};
 use std::alloc::Global;
-use std::cmp::Ordering;
-use term_tree::{Atom, Term, compare, is_same_width};
+use term_tree::{Atom, Term, is_same_width};
 
 /// A constant, cut to its width. It takes no memory.
 pub fn constant_term(alloc: Global, width: Width, constant: u64) -> Term
@@ -21,76 +19,6 @@ pub fn constant_term(alloc: Global, width: Width, constant: u64) -> Term
         constant: trunc(constant, width),
         atoms: Items::new(alloc),
     }
-}
-
-/// The place of an atom of `t`, or the place where one belongs.
-fn place_of(t: &Term, atoms: &[Atom]) -> Result<usize, usize>
-    ensures found { IfOk result (IsFound (tree_of t.now) (map atom_of atoms.now)) }
-    ensures missing { IfErr result (IsMissing (tree_of t.now) (map atom_of atoms.now)) }
-{
-    for (i, x) in atoms.iter().enumerate() {
-        match compare(t, &x.term) {
-            Ordering::Greater => {}
-            Ordering::Equal => return Ok(i),
-            Ordering::Less => return Err(i),
-        }
-    }
-    Err(atoms.len())
-}
-
-/// Another coefficient, or no atom where it is 0.
-fn set_coefficient(atoms: &mut Vec<Atom>, place: usize, coefficient: u64)
-    requires { place < vec_len atoms.old }
-    ensures { (t : Tree) → map atom_of atoms.new.items ≡ with_coefficient (map atom_of atoms.old.items) place coefficient t }
-{
-    if coefficient == 0 {
-        atoms.remove(place);
-    } else {
-        atoms[place].coefficient = coefficient;
-    }
-}
-
-/// An atom more, unless its coefficient is 0.
-fn put_new(atoms: &mut Vec<Atom>, place: usize, coefficient: u64, term: Term) -> Result<(), Memory>
-    requires { place ≤ vec_len atoms.old }
-    ensures { OnOk result (map atom_of atoms.new.items ≡ with_new (map atom_of atoms.old.items) place coefficient (tree_of term)) }
-{
-    if coefficient != 0 {
-        atoms.insert(place, Atom { coefficient, term })?;
-    }
-    Ok(())
-}
-
-/// `k` times `t` more.
-fn put(atoms: &mut Vec<Atom>, w: Width, k: u64, t: Term) -> Result<(), Memory>
-    ensures { OnOk result (map atom_of atoms.new.items
-        ≡ spec.insert w k (tree_of t) (map atom_of atoms.old.items)) }
-{
-    match place_of(&t, atoms) {
-        Ok(place) => {
-            let sum = add(k, atoms[place].coefficient, w);
-            set_coefficient(atoms, place, sum);
-            Ok(())
-        }
-        Err(place) => put_new(atoms, place, k, t),
-    }
-}
-
-/// `f` times these atoms more.
-fn put_all(
-    alloc: Global,
-    atoms: &mut Vec<Atom>,
-    w: Width,
-    f: u64,
-    more: &[Atom],
-) -> Result<(), Memory>
-    ensures { OnOk result (map atom_of atoms.new.items
-        ≡ spec.add_atoms w f (map atom_of more.now) (map atom_of atoms.old.items)) }
-{
-    for x in more {
-        put(atoms, w, mul(f, x.coefficient, w), x.term.copy(alloc)?)?;
-    }
-    Ok(())
 }
 
 /// A constant and atoms as a term: the atom itself, where it is alone.
@@ -165,35 +93,59 @@ fn one_atom(alloc: Global, term: Term) -> Result<Vec<Atom>, Memory>
     Ok(atoms)
 }
 
-/// `f` times the atoms of `t` more.
-fn put_atoms_of(
-    alloc: Global,
-    atoms: &mut Vec<Atom>,
-    w: Width,
-    f: u64,
-    t: &Term,
-) -> Result<(), Memory>
-    ensures { OnOk result (map atom_of atoms.new.items
-        ≡ spec.add_atoms w f (spec.atoms_at w (tree_of t.now)) (map atom_of atoms.old.items)) }
-{
-    match t {
-        Term::Sum {
-            width,
-            constant: _,
-            atoms: more,
-        } if is_same_width(*width, w) => { put_all(alloc, atoms, w, f, more.as_slice()) }
-        _ => put(atoms, w, mul(f, 1, w), t.copy(alloc)?),
-    }
-}
-
 /// `a + f * b`.
 pub fn plus_times(alloc: Global, w: Width, a: Term, f: u64, b: &Term) -> Result<Term, Memory>
     ensures { IfOk result (λ r. tree_of r ≡ spec.plus_times w (tree_of a) f (tree_of b.now)) }
 {
     let constant = add(constant_part(w, &a), mul(f, constant_part(w, b), w), w);
     let mut atoms = into_atoms(alloc, w, a)?;
-    put_atoms_of(alloc, &mut atoms, w, f, b)?;
+    push_atoms_of(alloc, w, f, &mut atoms, b)?;
+    let atoms = in_order(alloc, w, atoms)?;
     Ok(sum(w, constant, atoms))
+}
+
+/// The sum of a constant and terms with coefficients.
+pub fn summed(alloc: Global, w: Width, constant: u64, terms: &[Atom]) -> Result<Term, Memory>
+    ensures { IfOk result (λ r. tree_of r ≡ spec.summed w constant (map atom_of terms.now)) }
+{
+    let atoms = all_atoms(alloc, w, terms)?;
+    let atoms = in_order(alloc, w, atoms)?;
+    Ok(sum(w, constants(w, trunc(constant, w), terms), atoms))
+}
+
+/// A constant, and that of one more term as often as its coefficient says.
+#[tactic(auto, using(term_tree::proofs::ViewLaws::view_laws))]
+fn plus_constant(w: Width, constant: u64, x: &Atom) -> u64
+    ensures { result ≡ spec.constants_at w constant (atom_of x.now ∷ []) }
+{
+    add(
+        constant,
+        mul(x.coefficient, constant_part(w, &x.term), w),
+        w,
+    )
+}
+
+/// A constant, and that of each term as often as its coefficient says.
+fn constants(w: Width, constant: u64, terms: &[Atom]) -> u64
+    ensures { result ≡ spec.constants_at w constant (map atom_of terms.now) }
+{
+    let mut so_far = constant;
+    for x in terms {
+        so_far = plus_constant(w, so_far, x);
+    }
+    so_far
+}
+
+/// The atoms of all terms, as they come.
+#[tactic(auto, using(term_tree::proofs::ViewLaws::view_laws))]
+fn all_atoms(alloc: Global, w: Width, terms: &[Atom]) -> Result<Vec<Atom>, Memory>
+    ensures { IfOk result (λ r. map atom_of r.items ≡ spec.all_atoms w (map atom_of terms.now)) }
+{
+    let mut atoms = Vec::new(alloc);
+    for x in terms {
+        push_atoms_of(alloc, w, x.coefficient, &mut atoms, &x.term)?;
+    }
+    Ok(atoms)
 }
 
 /// `f * a`.

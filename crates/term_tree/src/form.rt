@@ -1,5 +1,5 @@
 //! Which terms are well-formed.
-ghost use Rattle.std.specs.Prelude.{◌≡◌, map};
+ghost use Rattle.std.specs.Prelude.{◌≡◌, [], ◌∷◌, map};
 ghost use Rattle.term_tree.specs.Tree.{trees_of, atoms_of, width_of};
 ghost use Rattle.term_tree.specs.Form as spec;
 ghost use Rattle.term_tree.specs.View.{tree_of, atom_of};
@@ -52,10 +52,12 @@ fn does_fit(w: Width, n: u64) -> bool
 pub fn are_of_width(w: Width, parts: &[Term]) -> bool
     ensures { result ≡ spec.all_of_width w (trees_of (map tree_of parts.now)) }
 {
-    match parts {
-        [] => true,
-        [first, rest @ ..] => is_same_width(first.width(), w) && are_of_width(w, rest),
+    for part in parts {
+        if !is_same_width(part.width(), w) {
+            return false;
+        }
     }
+    true
 }
 
 fn are_several(w: Width, parts: &[Term]) -> bool
@@ -209,26 +211,35 @@ pub fn is_well_formed(term: &Term) -> bool
 
 #[cycle(form)]
 #[tactic(auto, using(crate::proofs::ViewLaws::view_laws))]
+fn is_well_formed_atom(w: Width, atom: &Atom) -> bool
+    ensures { result ≡ spec.well_formed_atoms w (atoms_of (atom_of atom.now ∷ [])) }
+{
+    does_fit(w, atom.coefficient)
+        && is_same_width(atom.term.width(), w)
+        && is_well_formed(&atom.term)
+}
+
+#[cycle(form)]
+#[tactic(auto, using(crate::proofs::ViewLaws::view_laws))]
 fn are_well_formed_atoms(w: Width, atoms: &[Atom]) -> bool
     ensures { result ≡ spec.well_formed_atoms w (atoms_of (map atom_of atoms.now)) }
 {
-    match atoms {
-        [] => true,
-        [first, rest @ ..] => {
-            does_fit(w, first.coefficient)
-                && is_same_width(first.term.width(), w)
-                && is_well_formed(&first.term)
-                && are_well_formed_atoms(w, rest)
+    for atom in atoms {
+        if !is_well_formed_atom(w, atom) {
+            return false;
         }
     }
+    true
 }
 
 #[cycle(form)]
 fn are_well_formed(parts: &[Term]) -> bool
     ensures { result ≡ spec.well_formed_parts (trees_of (map tree_of parts.now)) }
 {
-    match parts {
-        [] => true,
-        [first, rest @ ..] => is_well_formed(first) && are_well_formed(rest),
+    for part in parts {
+        if !is_well_formed(part) {
+            return false;
+        }
     }
+    true
 }

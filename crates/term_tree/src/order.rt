@@ -2,12 +2,13 @@
 
 ghost use Rattle.std.specs.Prelude.{◌≡◌, map};
 ghost use Rattle.std.specs.Ordering.{ordering_then};
-ghost use Rattle.term_tree.specs.Tree.{trees_of, atoms_of};
+ghost use Rattle.term_tree.specs.Tree.{Sum, Node, trees_of, atoms_of};
 ghost use Rattle.term_tree.specs.Order.{head_index, numbers_cmp, tree_cmp, atoms_cmp, trees_cmp};
 ghost use Rattle.term_tree.specs.View.{tree_of, atom_of};
 
 use crate::head::Head;
 use crate::term::{Atom, Term};
+use bits64::Width;
 use std::cmp::Ordering;
 
 /// The place of a head among all.
@@ -20,69 +21,97 @@ pub fn place(head: Head) -> u8
 fn compare_names(a: &[u8], b: &[u8]) -> Ordering
     ensures { result ≡ numbers_cmp a.now b.now }
 {
-    match a {
-        [] => match b {
-            [] => Ordering::Equal,
-            [_y, ..] => Ordering::Less,
-        },
-        [x, xs @ ..] => match b {
-            [] => Ordering::Greater,
-            [y, ys @ ..] => x.cmp(y).then(compare_names(xs, ys)),
-        },
+    let mut left = a;
+    let mut right = b;
+    while let [x, xs @ ..] = left {
+        let [y, ys @ ..] = right else {
+            return Ordering::Greater;
+        };
+        match x.cmp(y) {
+            Ordering::Less => return Ordering::Less,
+            Ordering::Equal => {}
+            Ordering::Greater => return Ordering::Greater,
+        }
+        left = xs;
+        right = ys;
+    }
+    match right {
+        [] => Ordering::Equal,
+        [_y, ..] => Ordering::Less,
     }
 }
 
-/// The order of terms.
+/// The order of terms. It is known at the first difference.
 #[cycle(order)]
 pub fn compare(a: &Term, b: &Term) -> Ordering
     ensures { result ≡ tree_cmp (tree_of a.now) (tree_of b.now) }
 {
-    match (a, b) {
-        (
-            Term::Sum {
-                width,
-                constant,
-                atoms,
-            },
-            Term::Sum {
-                width: width_b,
-                constant: constant_b,
-                atoms: atoms_b,
-            },
-        ) => width
-            .bits()
-            .cmp(&width_b.bits())
-            .then(constant.cmp(constant_b))
-            .then(compare_atoms(atoms.as_slice(), atoms_b.as_slice())),
-        (Term::Sum { .. }, Term::Node { head, .. }) => match head {
+    match a {
+        Term::Sum {
+            width,
+            constant,
+            atoms,
+        } => compare_sum(*width, *constant, atoms.as_slice(), b),
+        Term::Node {
+            head,
+            width,
+            number,
+            name,
+            parts,
+        } => compare_node(*head, *width, *number, name.bytes(), parts.as_slice(), b),
+    }
+}
+
+/// The order of a sum and a term.
+#[cycle(order)]
+fn compare_sum(w: Width, c: u64, atoms: &[Atom], b: &Term) -> Ordering
+    ensures { result ≡ tree_cmp (Sum w c (atoms_of (map atom_of atoms.now))) (tree_of b.now) }
+{
+    match b {
+        Term::Sum {
+            width,
+            constant,
+            atoms: others,
+        } => match w.bits().cmp(&width.bits()).then(c.cmp(constant)) {
+            Ordering::Less => Ordering::Less,
+            Ordering::Equal => compare_atoms(atoms, others.as_slice()),
+            Ordering::Greater => Ordering::Greater,
+        },
+        Term::Node { head, .. } => match head {
             Head::Reg | Head::Sym => Ordering::Greater,
             _ => Ordering::Less,
         },
-        (Term::Node { head, .. }, Term::Sum { .. }) => match head {
+    }
+}
+
+/// The order of a node and a term.
+#[cycle(order)]
+fn compare_node(h: Head, w: Width, n: u64, s: &[u8], parts: &[Term], b: &Term) -> Ordering
+    ensures { result ≡ tree_cmp (Node h w n s.now (trees_of (map tree_of parts.now))) (tree_of b.now) }
+{
+    match b {
+        Term::Sum { .. } => match h {
             Head::Reg | Head::Sym => Ordering::Less,
             _ => Ordering::Greater,
         },
-        (
-            Term::Node {
-                head,
-                width,
-                number,
-                name,
-                parts,
-            },
-            Term::Node {
-                head: head_b,
-                width: width_b,
-                number: number_b,
-                name: name_b,
-                parts: parts_b,
-            },
-        ) => place(*head)
-            .cmp(&place(*head_b))
-            .then(width.bits().cmp(&width_b.bits()))
-            .then(number.cmp(number_b))
-            .then(compare_names(name.bytes(), name_b.bytes()))
-            .then(compare_parts(parts.as_slice(), parts_b.as_slice())),
+        Term::Node {
+            head,
+            width,
+            number,
+            name,
+            parts: others,
+        } => {
+            let first = place(h)
+                .cmp(&place(*head))
+                .then(w.bits().cmp(&width.bits()))
+                .then(n.cmp(number))
+                .then(compare_names(s, name.bytes()));
+            match first {
+                Ordering::Less => Ordering::Less,
+                Ordering::Equal => compare_parts(parts, others.as_slice()),
+                Ordering::Greater => Ordering::Greater,
+            }
+        }
     }
 }
 
@@ -91,17 +120,23 @@ pub fn compare(a: &Term, b: &Term) -> Ordering
 fn compare_atoms(a: &[Atom], b: &[Atom]) -> Ordering
     ensures { result ≡ atoms_cmp (atoms_of (map atom_of a.now)) (atoms_of (map atom_of b.now)) }
 {
-    match a {
-        [] => match b {
-            [] => Ordering::Equal,
-            [_y, ..] => Ordering::Less,
-        },
-        [x, xs @ ..] => match b {
-            [] => Ordering::Greater,
-            [y, ys @ ..] => compare(&x.term, &y.term)
-                .then(x.coefficient.cmp(&y.coefficient))
-                .then(compare_atoms(xs, ys)),
-        },
+    let mut left = a;
+    let mut right = b;
+    while let [x, xs @ ..] = left {
+        let [y, ys @ ..] = right else {
+            return Ordering::Greater;
+        };
+        match compare(&x.term, &y.term).then(x.coefficient.cmp(&y.coefficient)) {
+            Ordering::Less => return Ordering::Less,
+            Ordering::Equal => {}
+            Ordering::Greater => return Ordering::Greater,
+        }
+        left = xs;
+        right = ys;
+    }
+    match right {
+        [] => Ordering::Equal,
+        [_y, ..] => Ordering::Less,
     }
 }
 
@@ -109,14 +144,22 @@ fn compare_atoms(a: &[Atom], b: &[Atom]) -> Ordering
 fn compare_parts(a: &[Term], b: &[Term]) -> Ordering
     ensures { result ≡ trees_cmp (trees_of (map tree_of a.now)) (trees_of (map tree_of b.now)) }
 {
-    match a {
-        [] => match b {
-            [] => Ordering::Equal,
-            [_y, ..] => Ordering::Less,
-        },
-        [x, xs @ ..] => match b {
-            [] => Ordering::Greater,
-            [y, ys @ ..] => compare(x, y).then(compare_parts(xs, ys)),
-        },
+    let mut left = a;
+    let mut right = b;
+    while let [x, xs @ ..] = left {
+        let [y, ys @ ..] = right else {
+            return Ordering::Greater;
+        };
+        match compare(x, y) {
+            Ordering::Less => return Ordering::Less,
+            Ordering::Equal => {}
+            Ordering::Greater => return Ordering::Greater,
+        }
+        left = xs;
+        right = ys;
+    }
+    match right {
+        [] => Ordering::Equal,
+        [_y, ..] => Ordering::Less,
     }
 }

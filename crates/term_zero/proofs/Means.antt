@@ -1,18 +1,15 @@
 -- The laws that the contracts name.
 use Rattle.term_mean.proofs.RelationLaws.{mean-related}
-use Rattle.term_mean.proofs.ZeroLaws.{zero_test-none, zero_test-step}
 use Rattle.term_mean.proofs.LessLaws.{less_test-none, less_test-step}
-use Rattle.term_zero.proofs.RoundLaws.{zero_test-enough}
+use Rattle.term_zero.proofs.RoundLaws.{equals_zero-enough}
 use Rattle.term_zero.proofs.DepthLaws.{less_than-enough}
 
 pub ruleset related_means = (mean-related)
 
--- one round of the tests
-pub ruleset zero_rounds = (zero_test-none, zero_test-step)
-
+-- one round of a comparison
 pub ruleset less_rounds = (less_test-none, less_test-step)
 
 -- more rounds change nothing
-pub ruleset zero_ends = (zero_test-enough)
+pub ruleset zero_ends = (equals_zero-enough)
 
 pub ruleset less_ends = (less_than-enough)

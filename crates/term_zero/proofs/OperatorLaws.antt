@@ -1,5 +1,5 @@
 -- How many operators a term has, and that no rule for sums makes more of them.
-use Rattle.std.proofs.Common.{◌≡◌, ℕ, zero, suc, ◌+◌, ◌-◌, ◌*◌, ◌^◌, ◌<◌, ◌≤◌, refl, ap, arith, cond, Bool, true, false, List, [], ◌∷◌}
+use Rattle.std.proofs.Common.{◌≡◌, ℕ, zero, suc, ◌+◌, ◌-◌, ◌*◌, ◌^◌, ◌<◌, ◌≤◌, refl, ap, arith, cond, Bool, true, false, List, [], ◌∷◌, ◌++◌}
 use Rattle.std.specs.declared.cmp.Ordering.{Ordering}
 use Rattle.std.specs.declared.cmp.Ordering.TheVariants.{Less, Equal, Greater}
 use Rattle.bits64.specs.declared.Width.{Width}
@@ -7,7 +7,7 @@ use Rattle.bits64.specs.Words.{bits_of, low, sum_of, product_of}
 use Rattle.term_tree.specs.Tree.{Tree, Atoms, Trees, AtomTree, Sum, Node, no_atoms, atom, no_trees, tree, width_of, atoms_of, list_of_atoms, tree_size, atoms_size, trees_size}
 use Rattle.term_tree.specs.Form.{same_width}
 use Rattle.term_tree.specs.Order.{tree_cmp, numbers_cmp}
-use Rattle.term_mean.specs.Sums.{with_atom, placed, insert, add_atoms, constant_at, atoms_at, sum, constant, plus_times, minus, negated}
+use Rattle.term_mean.specs.Sums.{with_atom, placed, insert, in_order, scaled, constant_at, atoms_at, sum, constant, plus_times, minus, negated}
 use Rattle.term_mean.specs.Zero.{numbers_of, first_of, nearer}
 use Rattle.term_mean.proofs.SumLaws.{atoms_of-list_of}
 
@@ -59,20 +59,28 @@ operators-with_atom zero t xs = omega arith
 operators-with_atom (suc k) t xs = omega arith
 
 operators-insert : (w : Width) (k : ℕ) (t : Tree) (xs : List AtomTree) → list_operators (insert w k t xs) ≤ operators t + list_operators xs
-operators-insert w k t [] = operators-with_atom k t []
+operators-insert w k t [] = operators-with_atom (low w k) t []
 operators-insert w k t (x ∷ xs) = go (tree_cmp t x.1) (operators-insert w k t xs)
   where
     go : (o : Ordering) → list_operators (insert w k t xs) ≤ operators t + list_operators xs → list_operators (placed o w k t x xs (insert w k t xs)) ≤ operators t + (operators x.1 + list_operators xs)
-    go Less ih = operators-with_atom k t (x ∷ xs)
+    go Less ih = operators-with_atom (low w k) t (x ∷ xs)
     go Equal ih = let one = operators-with_atom (low w (k + x.0)) x.1 xs in omega arith
     go Greater ih = omega arith
 
-operators-add_atoms : (w : Width) (f : ℕ) (xs ys : List AtomTree) → list_operators (add_atoms w f xs ys) ≤ list_operators xs + list_operators ys
-operators-add_atoms w f [] ys = omega arith
-operators-add_atoms w f (x ∷ xs) ys =
-    let rest = operators-add_atoms w f xs (insert w (low w (f * x.0)) x.1 ys) in
-    let one = operators-insert w (low w (f * x.0)) x.1 ys in
+operators-in_order : (w : Width) (xs ys : List AtomTree) → list_operators (in_order w xs ys) ≤ list_operators xs + list_operators ys
+operators-in_order w [] ys = omega arith
+operators-in_order w (x ∷ xs) ys =
+    let rest = operators-in_order w xs (insert w x.0 x.1 ys) in
+    let one = operators-insert w x.0 x.1 ys in
     omega arith
+
+operators-scaled : (w : Width) (f : ℕ) (xs : List AtomTree) → list_operators (scaled w f xs) ≡ list_operators xs
+operators-scaled w f [] = refl
+operators-scaled w f (x ∷ xs) = ap (λ n. operators x.1 + n) (operators-scaled w f xs)
+
+operators-append : (xs ys : List AtomTree) → list_operators (xs ++ ys) ≡ list_operators xs + list_operators ys
+operators-append [] ys = omega arith
+operators-append (x ∷ xs) ys = let rest = operators-append xs ys in omega arith
 
 operators-atoms_at : (w : Width) (t : Tree) → list_operators (atoms_at w t) ≡ operators t
 operators-atoms_at w (Sum u c xs) = go (same_width u w)
@@ -93,8 +101,12 @@ operators-sum w c xs = refl
 operators-plus_times : (w : Width) (a : Tree) (f : ℕ) (b : Tree) → operators (plus_times w a f b) ≤ operators a + operators b
 operators-plus_times w a f b =
     let c : ℕ = sum_of w (constant_at w a) (product_of w f (constant_at w b)) in
-    let whole = operators-sum w c (add_atoms w f (atoms_at w b) (atoms_at w a)) in
-    let both = operators-add_atoms w f (atoms_at w b) (atoms_at w a) in
+    let mine : List AtomTree = atoms_at w a in
+    let its : List AtomTree = scaled w f (atoms_at w b) in
+    let whole = operators-sum w c (in_order w (mine ++ its) []) in
+    let put = operators-in_order w (mine ++ its) [] in
+    let both = operators-append mine its in
+    let same = operators-scaled w f (atoms_at w b) in
     let left = operators-atoms_at w a in
     let right = operators-atoms_at w b in
     omega arith

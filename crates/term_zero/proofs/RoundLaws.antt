@@ -1,5 +1,5 @@
 -- A test for 0 comes to its end in no more rounds than the term has nodes: each round that goes on takes an operator away.
-use Rattle.std.proofs.Common.{◌≡◌, ℕ, zero, suc, ◌+◌, ◌-◌, ◌^◌, ◌<◌, ◌≤◌, refl, ap, subst, arith, cond, eqb, Bool, true, false, ◌&&◌, List, [], ◌∷◌, Option, Some, None, ◌⊎◌, inl, inr}
+use Rattle.std.proofs.Common.{◌≡◌, ℕ, zero, suc, ◌+◌, ◌-◌, ◌^◌, ◌<◌, ◌≤◌, refl, sym, ◌∙◌, ap, subst, arith, cond, eqb, ltb, ltb-true, lt-ltb, Bool, true, false, ◌&&◌, List, [], ◌∷◌, Option, Some, None, ◌⊎◌, inl, inr}
 use Rattle.std.specs.Option.{option_or}
 use Rattle.bits64.specs.declared.Width.{Width}
 use Rattle.bits64.specs.declared.Width.TheVariants.{W8}
@@ -15,7 +15,8 @@ use Rattle.term_mean.specs.Sums.{constant, constant_in, minus}
 use Rattle.term_mean.specs.Extensions.{extended_by}
 use Rattle.term_mean.specs.Masks.{low_8}
 use Rattle.term_mean.specs.Truths.{is_truth, opposite}
-use Rattle.term_mean.specs.Zero.{nearer, Extended, Operands, extension_in, same_kind, operand_if, constant_if, operand_in, operands_of, operands_as, operands_in, from_zero, as_difference, zero_extended_test, zero_difference, zero_xor, zero_truth, zero_constant, zero_chosen, zero_test}
+use Rattle.term_mean.specs.Zero.{nearer, Extended, Operands, extension_in, same_kind, operand_if, constant_if, operand_in, operands_of, operands_as, operands_in, from_zero, as_difference, zero_extended_test, zero_difference, zero_xor, zero_truth, zero_constant, zero_chosen, zero_test, equals_zero}
+use Rattle.term_zero.specs.machine.Rounds.{xor_parts, zero_parted}
 use Rattle.term_zero.proofs.OperatorLaws.{operators, operators-below, operators-minus, operators-nearer}
 
 -- ---- what extensions extend has fewer operators
@@ -125,5 +126,59 @@ rounds-same (suc m) (suc n) w t a b =
     let near = operators-nearer w t in
     same-constant (zero_test m) (zero_test n) w (nearer w t) (λ u s h. rounds-same m n u s (omega arith) (omega arith)) (constant_in (nearer w t))
 
-pub zero_test-enough : (m n : ℕ) (w : Width) (t : Tree) → tree_size t ≤ m → tree_size t ≤ n → zero_test m w t ≡ zero_test n w t
-zero_test-enough m n w t a b = let h = operators-below t in rounds-same m n w t (omega arith) (omega arith)
+pub equals_zero-enough : (n : ℕ) (w : Width) (t : Tree) → tree_size t ≤ n → equals_zero w t ≡ zero_test n w t
+equals_zero-enough n w t a = let h = operators-below t in rounds-same (tree_size t) n w t (omega arith) (omega arith)
+
+-- ---- rounds in the code: `answer` is what `again` makes of a next term, whatever `again` is
+abbrev IsNext : Width → Tree → Width → Tree → Type 0
+IsNext w t v u = (again : Width → Tree → Tree) → again v u ≡ zero_chosen again w (nearer w t)
+
+-- two tests that part only on terms with no fewer operators than t
+abbrev marked : Bool → Tree
+marked b = cond b (Sum W8 0 no_atoms) (Sum W8 1 no_atoms)
+
+pub next-fewer : (w : Width) (t : Tree) (v : Width) (u : Tree) → IsNext w t v u → operators u < operators t
+next-fewer w t v u h = go (ltb (operators u) (operators t)) refl
+  where
+    f : Width → Tree → Tree
+    f x s = marked true
+
+    g : Width → Tree → Tree
+    g x s = marked (ltb (operators s) (operators t))
+
+    agree : Agree (operators (nearer w t)) f g
+    agree x s l =
+        let near = operators-nearer w t in
+        ap marked (sym (lt-ltb (operators s) (operators t) (omega arith)))
+
+    same : marked true ≡ marked (ltb (operators u) (operators t))
+    same = h f ∙ same-constant f g w (nearer w t) agree (constant_in (nearer w t)) ∙ sym (h g)
+
+    go : (b : Bool) → ltb (operators u) (operators t) ≡ b → operators u < operators t
+    go true e = ltb-true (operators u) (operators t) e
+    go false e = absurd (let parted : marked true ≡ marked false = same ∙ ap marked e in cc)
+
+pub next-same : (w : Width) (t : Tree) (v : Width) (u : Tree) → IsNext w t v u → zero_test (suc (operators u)) v u ≡ zero_test (suc (operators t)) w t
+unfolding zero_test
+next-same w t v u h =
+    let fewer = next-fewer w t v u h in
+    rounds-same (suc (operators u)) (operators t) v u (omega arith) fewer ∙ h (zero_test (operators t))
+
+pub answer-same : (w : Width) (t answer : Tree) → ((again : Width → Tree → Tree) → answer ≡ zero_chosen again w (nearer w t)) → answer ≡ zero_test (suc (operators t)) w t
+unfolding zero_test
+answer-same w t answer h = h (zero_test (operators t))
+
+pub rounds-begin : (w : Width) (t : Tree) → zero_test (suc (operators t)) w t ≡ equals_zero w t
+rounds-begin w t = let h = operators-below t in rounds-same (suc (operators t)) (tree_size t) w t (omega arith) (omega arith)
+
+-- the test of an exclusive or goes by its parts
+pub zero_xor-parted : (again : Width → Tree → Tree) (w : Width) (t : Tree) → zero_parted (xor_parts w t) again w t ≡ zero_xor again w t
+zero_xor-parted again w (Node heads.Xor u n s (tree a (tree b no_trees))) = go (same_width u w)
+  where
+    t : Tree
+    t = Node heads.Xor u n s (tree a (tree b no_trees))
+
+    go : (c : Bool) → zero_parted (cond c (Some (a, b)) None) again w t ≡ cond c (again w (minus w a b)) (zero_difference again w t)
+    go true = refl
+    go false = refl
+zero_xor-parted again w t = refl

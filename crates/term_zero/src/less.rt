@@ -3,7 +3,7 @@ ghost use Rattle.std.specs.Prelude.{ℕ, ◌≡◌, ◌≤◌, IfOk};
 ghost use Rattle.term_tree.specs.declared.head.Extension.TheVariants.{Zero};
 ghost use Rattle.term_tree.specs.View.{tree_of};
 ghost use Rattle.term_mean.specs.Less as spec;
-ghost use Rattle.term_zero.specs.Views.{operands_found};
+ghost use Rattle.term_zero.specs.machine.Views.{operands_found};
 
 use crate::constants::{on_constants, two_copies};
 use crate::operands::{Operands, operands_in};

@@ -6,8 +6,8 @@
 //! constants, stand here too, since comparisons are the lowest rules that make them. Each call gives the term of its
 //! definition in `term_mean`, unless memory runs out.
 //!
-//! The rules of a test make tests again, in a number of rounds that is fixed. The contracts say that this number does not
-//! matter: on a term with no more nodes than rounds, more rounds give the same.
+//! The rules of a test for 0 make tests again, in as many rounds as the term has nodes, and those of a comparison at most
+//! three times. The contracts say that more rounds give the same.
 #![tactic(auto)]
 
 mod constants;

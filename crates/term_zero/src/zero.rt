@@ -1,11 +1,15 @@
 //! Whether a term is 0.
-ghost use Rattle.std.specs.Prelude.{ℕ, ◌≡◌, ◌≤◌, [], ◌∷◌, map, IfOk};
-ghost use Rattle.term_tree.specs.Tree.{trees_of, atoms_of, tree_size};
+ghost use Rattle.std.specs.Prelude.{ℕ, ◌≡◌, ◌≤◌, [], ◌∷◌, map, if◌then◌else◌, IfOk};
+ghost use Rattle.bits64.specs.declared.Width.{Width};
+ghost use Rattle.term_tree.specs.declared.head.Head.TheVariants as heads;
+ghost use Rattle.term_tree.specs.Tree.{Tree, trees_of, atoms_of, tree_size};
 ghost use Rattle.term_tree.specs.Order.{numbers_cmp};
 ghost use Rattle.term_tree.specs.View.{tree_of, atom_of};
 ghost use Rattle.term_mean.specs.Sums.{minus as minus_spec};
+ghost use Rattle.term_mean.specs.Cuts.{one_part as one_part_spec};
 ghost use Rattle.term_mean.specs.Zero as spec;
-ghost use Rattle.term_zero.specs.Views.{operands_found, difference_found};
+ghost use Rattle.term_zero.specs.machine.Rounds.{round_tree, zero_parted, xor_parts as xor_parts_spec};
+ghost use Rattle.term_zero.specs.machine.Views.{operands_found, difference_found, parts_found};
 
 use crate::constants::truth;
 use crate::operands::{Operands, operands_in};
@@ -18,22 +22,27 @@ use term_cuts::{low_8, one_copy};
 use term_sums::{constant_of, constant_term, minus, minus_one, negated};
 use term_tree::{Atom, Head, Term, is_same_width};
 
-/// How often a rule may make a test that the rules change again.
-const ROUNDS: u32 = 1 << 20;
-
 /// The order of lists of numbers, from the left, fewer first.
 fn compare_numbers(a: &[u64], b: &[u64]) -> Ordering
     ensures { result ≡ numbers_cmp a.now b.now }
 {
-    match a {
-        [] => match b {
-            [] => Ordering::Equal,
-            [_y, ..] => Ordering::Less,
-        },
-        [x, xs @ ..] => match b {
-            [] => Ordering::Greater,
-            [y, ys @ ..] => x.cmp(y).then(compare_numbers(xs, ys)),
-        },
+    let mut left = a;
+    let mut right = b;
+    while let [x, xs @ ..] = left {
+        let [y, ys @ ..] = right else {
+            return Ordering::Greater;
+        };
+        match x.cmp(y) {
+            Ordering::Less => return Ordering::Less,
+            Ordering::Equal => {}
+            Ordering::Greater => return Ordering::Greater,
+        }
+        left = xs;
+        right = ys;
+    }
+    match right {
+        [] => Ordering::Equal,
+        [_y, ..] => Ordering::Less,
     }
 }
 
@@ -156,49 +165,61 @@ fn as_difference(alloc: Global, w: Width, t: &Term) -> Result<Difference, Memory
     }
 }
 
-/// Whether a term of `w` bits is 0, in so many rounds.
-#[cycle(zero)]
-#[tactic(auto, using(crate::proofs::Means::zero_rounds))]
-fn zero_test(alloc: Global, rounds: u32, w: Width, t: &Term) -> Result<Term, Memory>
-    ensures { IfOk result (λ r. tree_of r ≡ spec.zero_test rounds w (tree_of t.now)) }
-{
-    if rounds == 0 {
-        return one_copy(alloc, Head::Eq, w, t);
-    }
-    let chosen = nearer(alloc, w, t)?;
-    zero_chosen(alloc, rounds - 1, w, &chosen)
+/// What one round of the test comes to.
+#[derive(Drop)]
+pub enum Round {
+    /// The answer.
+    Done { answer: Term },
+    /// The test of another term.
+    Next { width: Width, term: Term },
 }
 
-#[cycle(zero)]
-fn zero_chosen(alloc: Global, rounds: u32, w: Width, t: &Term) -> Result<Term, Memory>
-    ensures { IfOk result (λ r. tree_of r ≡ spec.zero_chosen (spec.zero_test rounds) w (tree_of t.now)) }
+/// The test as it stands.
+fn ended(alloc: Global, w: Width, t: &Term) -> Result<Round, Memory>
+    ensures { (again : Width → Tree → Tree) → IfOk result (λ r. round_tree again r ≡ one_part_spec heads.Eq w (tree_of t.now)) }
 {
-    match constant_of(t) {
-        Some(c) => Ok(constant_term(alloc, Width::W8, truth(trunc(c, w) == 0))),
-        None => zero_truth(alloc, rounds, w, t),
+    let answer = one_copy(alloc, Head::Eq, w, t)?;
+    Ok(Round::Done { answer })
+}
+
+/// The test of a difference.
+fn next_minus(alloc: Global, w: Width, a: &Term, b: &Term) -> Result<Round, Memory>
+    ensures { (again : Width → Tree → Tree) → IfOk result (λ r. round_tree again r ≡ again w (minus_spec w (tree_of a.now) (tree_of b.now))) }
+{
+    let left = a.copy(alloc)?;
+    let term = minus(alloc, w, left, b)?;
+    Ok(Round::Next { width: w, term })
+}
+
+/// Of the difference of two extensions it is the test of that of what they extend.
+fn round_extended(
+    alloc: Global,
+    operands: Option<Operands>,
+    w: Width,
+    t: &Term,
+) -> Result<Round, Memory>
+    ensures { (again : Width → Tree → Tree) → IfOk result (λ r. round_tree again r ≡ spec.zero_extended_test (operands_found operands) again w (tree_of t.now)) }
+{
+    match operands {
+        None => ended(alloc, w, t),
+        Some(x) => next_minus(alloc, x.width, &x.left, &x.right),
     }
 }
 
-/// Of a truth it is the opposite.
-#[cycle(zero)]
-fn zero_truth(alloc: Global, rounds: u32, w: Width, t: &Term) -> Result<Term, Memory>
-    ensures { IfOk result (λ r. tree_of r ≡ spec.zero_truth (spec.zero_test rounds) w (tree_of t.now)) }
+fn round_difference(alloc: Global, w: Width, t: &Term) -> Result<Round, Memory>
+    ensures { (again : Width → Tree → Tree) → IfOk result (λ r. round_tree again r ≡ spec.zero_difference again w (tree_of t.now)) }
 {
-    if is_truth(t) {
-        let low = low_8(alloc, t)?;
-        opposite(alloc, low)
-    } else {
-        zero_xor(alloc, rounds, w, t)
-    }
+    let difference = as_difference(alloc, w, t)?;
+    let operands = operands_in(alloc, w, &difference.left, &difference.right)?;
+    round_extended(alloc, operands, w, t)
 }
 
-/// Of an exclusive or of two parts it is that of their difference.
-#[cycle(zero)]
-fn zero_xor(alloc: Global, rounds: u32, w: Width, t: &Term) -> Result<Term, Memory>
-    ensures { IfOk result (λ r. tree_of r ≡ spec.zero_xor (spec.zero_test rounds) w (tree_of t.now)) }
+/// The two parts of an exclusive or of the width.
+fn xor_parts(alloc: Global, w: Width, t: &Term) -> Result<Option<Difference>, Memory>
+    ensures { IfOk result (λ r. parts_found r ≡ xor_parts_spec w (tree_of t.now)) }
 {
     match t {
-        Term::Sum { .. } => zero_difference(alloc, rounds, w, t),
+        Term::Sum { .. } => Ok(None),
         Term::Node {
             head,
             width,
@@ -207,16 +228,10 @@ fn zero_xor(alloc: Global, rounds: u32, w: Width, t: &Term) -> Result<Term, Memo
             parts,
         } => match head {
             Head::Xor => match parts.as_slice() {
-                [a, b] => {
-                    if is_same_width(*width, w) {
-                        zero_minus(alloc, rounds, w, a, b)
-                    } else {
-                        zero_difference(alloc, rounds, w, t)
-                    }
-                }
-                [] => zero_difference(alloc, rounds, w, t),
-                [_a] => zero_difference(alloc, rounds, w, t),
-                [_a, _b, _c, ..] => zero_difference(alloc, rounds, w, t),
+                [a, b] => parts_if(alloc, is_same_width(*width, w), a, b),
+                [] => Ok(None),
+                [_a] => Ok(None),
+                [_a, _b, _c, ..] => Ok(None),
             },
             Head::Reg
             | Head::Sym
@@ -240,63 +255,104 @@ fn zero_xor(alloc: Global, rounds: u32, w: Width, t: &Term) -> Result<Term, Memo
             | Head::Lt
             | Head::Ltu
             | Head::Eq
-            | Head::Load => zero_difference(alloc, rounds, w, t),
+            | Head::Load => Ok(None),
         },
     }
 }
 
-/// Whether a difference is 0.
-#[cycle(zero)]
-fn zero_minus(alloc: Global, rounds: u32, w: Width, a: &Term, b: &Term) -> Result<Term, Memory>
-    ensures { IfOk result (λ r. tree_of r ≡ spec.zero_test rounds w (minus_spec w (tree_of a.now) (tree_of b.now))) }
+fn parts_if(alloc: Global, is: bool, a: &Term, b: &Term) -> Result<Option<Difference>, Memory>
+    ensures { IfOk result (λ r. parts_found r ≡ (if is then Some (tree_of a.now, tree_of b.now) else None)) }
 {
+    if !is {
+        return Ok(None);
+    }
     let left = a.copy(alloc)?;
-    let difference = minus(alloc, w, left, b)?;
-    zero_test(alloc, rounds, w, &difference)
+    let right = b.copy(alloc)?;
+    Ok(Some(Difference { left, right }))
 }
 
-/// Of the difference of two extensions it is that of what they extend.
-#[cycle(zero)]
-fn zero_difference(alloc: Global, rounds: u32, w: Width, t: &Term) -> Result<Term, Memory>
-    ensures { IfOk result (λ r. tree_of r ≡ spec.zero_difference (spec.zero_test rounds) w (tree_of t.now)) }
-{
-    let difference = as_difference(alloc, w, t)?;
-    let operands = operands_in(alloc, w, &difference.left, &difference.right)?;
-    zero_extended(alloc, operands, rounds, w, t)
-}
-
-#[cycle(zero)]
-fn zero_extended(
+fn round_parted(
     alloc: Global,
-    operands: Option<Operands>,
-    rounds: u32,
+    parts: Option<Difference>,
     w: Width,
     t: &Term,
-) -> Result<Term, Memory>
-    ensures { IfOk result (λ r. tree_of r ≡ spec.zero_extended_test (operands_found operands) (spec.zero_test rounds) w (tree_of t.now)) }
+) -> Result<Round, Memory>
+    ensures { (again : Width → Tree → Tree) → IfOk result (λ r. round_tree again r ≡ zero_parted (parts_found parts) again w (tree_of t.now)) }
 {
-    match operands {
-        None => one_copy(alloc, Head::Eq, w, t),
-        Some(x) => zero_minus(alloc, rounds, x.width, &x.left, &x.right),
+    match parts {
+        None => round_difference(alloc, w, t),
+        Some(x) => next_minus(alloc, w, &x.left, &x.right),
     }
 }
 
-/// The test in more rounds than a term within the limit of terms can take.
-#[tactic(auto, unfolding(term_mean::specs::Zero::rounds))]
-fn zero_in_rounds(alloc: Global, w: Width, t: &Term) -> Result<Term, Memory>
-    ensures { IfOk result (λ r. tree_of r ≡ spec.zero_test spec.rounds w (tree_of t.now)) }
+/// Of an exclusive or of two parts it is the test of their difference.
+fn round_xor(alloc: Global, w: Width, t: &Term) -> Result<Round, Memory>
+    ensures { (again : Width → Tree → Tree) → IfOk result (λ r. round_tree again r ≡ spec.zero_xor again w (tree_of t.now)) }
 {
-    zero_test(alloc, ROUNDS, w, t)
+    let parts = xor_parts(alloc, w, t)?;
+    round_parted(alloc, parts, w, t)
+}
+
+/// Of a truth it is the opposite.
+fn round_truth(alloc: Global, w: Width, t: &Term) -> Result<Round, Memory>
+    ensures { (again : Width → Tree → Tree) → IfOk result (λ r. round_tree again r ≡ spec.zero_truth again w (tree_of t.now)) }
+{
+    if is_truth(t) {
+        let low = low_8(alloc, t)?;
+        let answer = opposite(alloc, low)?;
+        Ok(Round::Done { answer })
+    } else {
+        round_xor(alloc, w, t)
+    }
+}
+
+/// Of a constant it is its number.
+fn round_chosen(alloc: Global, w: Width, t: &Term) -> Result<Round, Memory>
+    ensures { (again : Width → Tree → Tree) → IfOk result (λ r. round_tree again r ≡ spec.zero_chosen again w (tree_of t.now)) }
+{
+    match constant_of(t) {
+        Some(c) => Ok(Round::Done {
+            answer: constant_term(alloc, Width::W8, truth(trunc(c, w) == 0)),
+        }),
+        None => round_truth(alloc, w, t),
+    }
+}
+
+/// One round of the test.
+fn one_round(alloc: Global, w: Width, t: &Term) -> Result<Round, Memory>
+    ensures { (again : Width → Tree → Tree) → IfOk result (λ r. round_tree again r ≡ spec.zero_chosen again w (spec.nearer w (tree_of t.now))) }
+{
+    let chosen = nearer(alloc, w, t)?;
+    round_chosen(alloc, w, &chosen)
 }
 
 /// Whether a term of `w` bits is 0.
 ///
-/// On a term with no more nodes than there are rounds, more rounds would change nothing: the test is that of any number
-/// of rounds that is no smaller than the term.
+/// Each round that goes on takes an operator away, so more rounds than the term has nodes would change nothing.
 #[tactic(auto, using(crate::proofs::Means::zero_ends))]
 pub fn equals_zero(alloc: Global, w: Width, t: &Term) -> Result<Term, Memory>
     ensures test { IfOk result (λ r. tree_of r ≡ spec.equals_zero w (tree_of t.now)) }
-    ensures ends { (n : ℕ) → tree_size (tree_of t.now) ≤ spec.rounds → tree_size (tree_of t.now) ≤ n → IfOk result (λ r. tree_of r ≡ spec.zero_test n w (tree_of t.now)) }
+    ensures ends { (n : ℕ) → tree_size (tree_of t.now) ≤ n → IfOk result (λ r. tree_of r ≡ spec.zero_test n w (tree_of t.now)) }
 {
-    zero_in_rounds(alloc, w, t)
+    rounds(alloc, w, t)
+}
+
+/// Rounds up to the answer.
+fn rounds(alloc: Global, w: Width, t: &Term) -> Result<Term, Memory>
+    ensures { IfOk result (λ r. tree_of r ≡ spec.equals_zero w (tree_of t.now)) }
+{
+    let mut width = w;
+    let mut term = t.copy(alloc)?;
+    loop {
+        match one_round(alloc, width, &term)? {
+            Round::Done { answer } => return Ok(answer),
+            Round::Next {
+                width: v,
+                term: next,
+            } => {
+                width = v;
+                term = next;
+            }
+        }
+    }
 }

@@ -1,14 +1,13 @@
 use Rattle.std.proofs.Common.{◌≡◌, map, drop, ◌++◌}
 use Rattle.term_tree.specs.Tree.{trees_of, atoms_of}
 use Rattle.term_tree.specs.View.{tree_of, atom_of}
-use Rattle.term_mean.specs.Sums.{constant, summed}
 use Rattle.term_mean.specs.Normal.{normal_atoms, normal_all}
 use Rattle.sym_term.specs.Views.{store_of}
 use Rattle.sym_term.proofs.normal.+normal.Given as goal
 
 abbrev pub invariant-normal_sum-loop-atom : goal.invariant-normal_sum-loop-atom
 invariant-normal_sum-loop-atom l =
-    summed l.w (tree_of l.sum) (normal_atoms (map store_of l.stores) (atoms_of (map atom_of (drop l.atom-index l.atoms)))) ≡ summed l.w (constant l.w l.constant) (normal_atoms (map store_of l.stores) (atoms_of (map atom_of l.atoms)))
+    map atom_of l.normals.items ++ normal_atoms (map store_of l.stores) (atoms_of (map atom_of (drop l.atom-index l.atoms))) ≡ normal_atoms (map store_of l.stores) (atoms_of (map atom_of l.atoms))
 
 abbrev pub invariant-normal_parts-loop-part : goal.invariant-normal_parts-loop-part
 invariant-normal_parts-loop-part l =

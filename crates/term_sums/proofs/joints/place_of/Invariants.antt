@@ -1,5 +1,5 @@
 use Rattle.std.proofs.Common.{◌≡◌, ◌+◌, map, drop}
-use Rattle.term_sums.specs.Places.{part_place}
+use Rattle.term_sums.specs.machine.Places.{part_place}
 use Rattle.term_tree.specs.View.{tree_of}
 use Rattle.term_sums.proofs.joints.place_of.Given as goal
 

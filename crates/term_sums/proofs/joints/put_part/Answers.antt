@@ -1,5 +1,5 @@
 use Rattle.std.proofs.Common.{◌≡◌, ap, ◌∙◌, sym, subst, map, OnOk}
-use Rattle.term_sums.specs.Places.{IsPartFound, IsPartMissing}
+use Rattle.term_sums.specs.machine.Places.{IsPartFound, IsPartMissing}
 use Rattle.term_tree.specs.View.{tree_of}
 use Rattle.term_sums.proofs.PartLaws.{with_part-found, with_part-missing}
 use Rattle.term_sums.proofs.joints.put_part.Goals as goal

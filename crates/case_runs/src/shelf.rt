@@ -1,0 +1,53 @@
+//! The files of a case.
+ghost use Rattle.std.specs.Prelude.{◌≡◌, ◌↔◌, ℕ, List, Contains, IsTrue, None};
+ghost use Rattle.byte_edge.specs.Stored.{file_of};
+ghost use Rattle.byte_edge.specs.ByteFiles.{entries_of};
+
+use crate::fault::Fault;
+use crate::setting::{Setting, failing, part_bytes};
+use byte_edge::ByteFiles;
+use plain_data::Items;
+use std::alloc::Global;
+
+/// Files in memory, and their names.
+#[derive(Drop)]
+struct Shelf {
+    files: ByteFiles,
+    names: Items<Items<u8>>,
+    ghost others: { (name : List ℕ) → ¬ Contains names name → file_of (entries_of files) name ≡ None },
+}
+
+/// Whether a name is among names.
+fn is_among(names: &[Items<u8>], name: &[u8]) -> bool
+    ensures { IsTrue result ↔ Contains names.now name.now }
+{
+    names.iter().any(|known| known.as_slice() == name)
+}
+
+impl Shelf {
+    /// Puts a file, unless there is one of its name.
+    fn put(&mut self, alloc: Global, name: &[u8], bytes: &[u8]) -> Result<(), Fault> {
+        if !is_among(self.names.as_slice(), name) {
+            self.names
+                .push(Items::from_vec(Vec::from_slice(alloc, name)?))?;
+            self.files.put_file(name, bytes)?;
+        }
+        Ok(())
+    }
+}
+
+/// The files of a case, its own before the shared ones, of which the first of a name counts.
+pub fn shelf_of(alloc: Global, setting: Setting) -> Result<ByteFiles, Fault> {
+    let fetches = failing(alloc, setting, "-- fails fetch ")?;
+    let mut shelf = Shelf {
+        files: ByteFiles::new(alloc, &fetches)?,
+        names: Items::new(alloc),
+    };
+    for part in setting.own.iter().chain(setting.shared) {
+        if let Some(name) = part.head.strip_prefix("-- file ") {
+            let bytes = part_bytes(alloc, part)?;
+            shelf.put(alloc, name.as_bytes(), &bytes)?;
+        }
+    }
+    Ok(shelf.files)
+}

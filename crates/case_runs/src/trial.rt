@@ -1,0 +1,155 @@
+//! The run of a case, and what is told of it.
+use crate::fault::Fault;
+use crate::outcome::outcome;
+use crate::setting::{
+    Setting, bytes_of, check_parts, failing, is_command, status_of, takes_of, words_of,
+};
+use crate::shelf::shelf_of;
+use byte_edge::{ByteFiles, ByteSink, ByteSource};
+use case_text::{Case, Part, Report, cases_of};
+use plain_data::Memory;
+use rtlc_run::run;
+use std::alloc::Global;
+use std::str;
+
+/// How many bytes of output there is room for.
+const ROOM: usize = 1_048_576;
+
+/// How many bytes of the line of a refusal there is room for.
+const LINE_ROOM: usize = 65_536;
+
+/// The objects that a run meets.
+#[derive(Drop)]
+struct Objects {
+    files: ByteFiles,
+    input: ByteSource,
+    output: ByteSink,
+    errors: ByteSink,
+}
+
+/// The input of a case.
+fn source_of(alloc: Global, setting: Setting) -> Result<ByteSource, Fault> {
+    let bytes = bytes_of(alloc, setting, "-- input")?;
+    let reads = failing(alloc, setting, "-- fails read ")?;
+    Ok(ByteSource::new(alloc, &bytes, &reads)?)
+}
+
+/// A sink of a case, with so much room, of which the calls that the parts with this head name are to fail.
+fn sink_of(alloc: Global, setting: Setting, room: usize, head: &str) -> Result<ByteSink, Fault> {
+    let writes = failing(alloc, setting, head)?;
+    let takes = takes_of(setting)?;
+    Ok(ByteSink::new(alloc, room, takes, &writes)?)
+}
+
+fn objects_of(alloc: Global, setting: Setting) -> Result<Objects, Fault> {
+    Ok(Objects {
+        files: shelf_of(alloc, setting)?,
+        input: source_of(alloc, setting)?,
+        output: sink_of(alloc, setting, ROOM, "-- fails write ")?,
+        errors: sink_of(alloc, setting, LINE_ROOM, "-- fails tell ")?,
+    })
+}
+
+/// The words as texts.
+fn texts<'a>(alloc: Global, words: &'a [Vec<u8>]) -> Result<Vec<&'a str>, Fault> {
+    let mut texts = Vec::new(alloc);
+    for word in words {
+        let Ok(text) = str::from_utf8(word) else {
+            return Err(Fault::Unread("a word that is no text"));
+        };
+        texts.push(text)?;
+    }
+    Ok(texts)
+}
+
+/// What a run with these words leaves.
+fn came(alloc: Global, setting: Setting, command: &str) -> Result<Vec<u8>, Fault> {
+    let words = words_of(alloc, command)?;
+    let texts = texts(alloc, &words)?;
+    let mut objects = objects_of(alloc, setting)?;
+    let status = run(
+        alloc,
+        &texts,
+        &mut objects.files,
+        &mut objects.input,
+        &mut objects.output,
+        &mut objects.errors,
+    );
+    Ok(outcome(
+        alloc,
+        status,
+        objects.output.taken(),
+        objects.errors.taken(),
+    )?)
+}
+
+/// What a case wants.
+fn wanted(alloc: Global, setting: Setting) -> Result<Vec<u8>, Fault> {
+    let output = bytes_of(alloc, setting, "-- output")?;
+    let errors = bytes_of(alloc, setting, "-- errors")?;
+    Ok(outcome(alloc, status_of(setting)?, &output, &errors)?)
+}
+
+/// Tries one line of words of a case.
+fn try_run(
+    alloc: Global,
+    setting: Setting,
+    title: &[u8],
+    command: &str,
+    report: &mut Report,
+) -> Result<(), Fault> {
+    check_parts(setting.own)?;
+    check_parts(setting.shared)?;
+    let wanted = wanted(alloc, setting)?;
+    let came = came(alloc, setting, command)?;
+    Ok(report.judge(title, &wanted, &came)?)
+}
+
+/// Tries one line of words of a case, and counts it where it can't be tried as well.
+fn judge_run(
+    alloc: Global,
+    setting: Setting,
+    title: &str,
+    command: &str,
+    report: &mut Report,
+) -> Result<(), Memory> {
+    let title = format!(in alloc; "{title}: {command}")?.into_bytes();
+    match try_run(alloc, setting, &title, command, report) {
+        Ok(()) => Ok(()),
+        Err(Fault::Unread(reason)) => Ok(report.refuse(&title, reason.as_bytes())?),
+        Err(Fault::Memory) => Err(Memory),
+    }
+}
+
+/// Tries a case with each line of words that it has, or that its file has for all cases.
+fn judge_case(
+    alloc: Global,
+    shared: &[Part],
+    case: &Case,
+    report: &mut Report,
+) -> Result<(), Memory> {
+    let own = case.parts.as_slice();
+    let setting = Setting { own, shared };
+    let has_own = own.iter().any(is_command);
+    let parts = if has_own { own } else { shared };
+    if !parts.iter().any(is_command) {
+        return Ok(report.refuse(case.title.as_bytes(), b"no words")?);
+    }
+    for part in parts {
+        if is_command(part) {
+            judge_run(alloc, setting, case.title, part.head, report)?;
+        }
+    }
+    Ok(())
+}
+
+/// Tries each case of a file of whole runs, and puts it to the report.
+pub fn judge_runs(alloc: Global, text: &str, report: &mut Report) -> Result<(), Memory> {
+    let cases = cases_of(alloc, text)?;
+    if let Some((shared, cases)) = cases.split_first() {
+        for case in cases {
+            judge_case(alloc, &shared.parts, case, report)?;
+        }
+    }
+    Ok(())
+}

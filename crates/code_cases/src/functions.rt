@@ -3,7 +3,7 @@ ghost use Rattle.std.specs.Prelude.{◌≡◌, ◌<◌, ◌^◌, All, true, leng
 
 use crate::parts::{function_in, functions_in};
 use anyhow::{Result, bail};
-use rtl_count::{greatest_uid, instruction_count, next_pseudo};
+use rtl_chain::{greatest_uid, instruction_count, next_pseudo};
 use rtl_func::{CheckRefusal, blocks, check, reaches_exit, successors};
 use rtx_tree::Function;
 use std::alloc::Global;

@@ -1,9 +1,11 @@
 //! What the predicates of the manual accept, classes and addresses.
 use anyhow::{Result, bail};
 use lisp_read::{atom, rtx_of_tree};
-use md_operand::{Own, is_constant, is_memory, is_register, is_symbol};
+use md_operand::{
+    Own, frame_reference, is_constant, is_memory, is_register, is_symbol, legitimate_address,
+};
 use rtx_tree::{Mode, Rtx};
-use rv_operand::{Class, frame_reference, in_class, legitimate_address};
+use rv_regs::{Class, in_class};
 use std::alloc::Global;
 use text_cases::{push_apart, push_shown, tree_in, trees_in};
 

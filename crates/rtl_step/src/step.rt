@@ -32,7 +32,7 @@ pub struct State {
 }
 
 /// How a step ends.
-#[derive(Clone, Copy)]
+#[derive(Clone, Copy, Debug)]
 pub enum StepEnd {
     /// With the next instruction.
     Next,

@@ -2,7 +2,7 @@
 use bits64::Width;
 
 /// An operation of the integer instructions on two numbers, named as the instruction that makes it.
-#[derive(Clone, Copy)]
+#[derive(Clone, Copy, Debug)]
 pub enum Operation {
     /// The sum.
     Add,
@@ -43,7 +43,7 @@ pub enum Operation {
 }
 
 /// Where a number comes from.
-#[derive(Clone, Copy)]
+#[derive(Clone, Copy, Debug)]
 pub enum Source {
     /// The register `rs`.
     First,
@@ -61,7 +61,7 @@ pub enum Source {
 }
 
 /// How two numbers are compared by a branch.
-#[derive(Clone, Copy)]
+#[derive(Clone, Copy, Debug)]
 pub enum Comparison {
     /// They are equal.
     Equal,
@@ -78,7 +78,7 @@ pub enum Comparison {
 }
 
 /// What stands above a number of less than 64 bits that is loaded.
-#[derive(Clone, Copy)]
+#[derive(Clone, Copy, Debug)]
 pub enum Extension {
     /// Copies of its highest bit.
     Sign,
@@ -87,7 +87,7 @@ pub enum Extension {
 }
 
 /// What a line does.
-#[derive(Clone, Copy)]
+#[derive(Clone, Copy, Debug)]
 pub enum Action {
     /// `rd` becomes an operation's result, which is extended by its sign from the width.
     Compute {

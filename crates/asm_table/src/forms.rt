@@ -8,7 +8,7 @@ use rtx_tree::{Code, Insn, Kind, Mode, Operands, Rtx};
 use std::alloc::Global;
 
 /// A form of the table.
-#[derive(Clone, Copy, Debug, PartialEq, Eq)]
+#[derive(Clone, Copy)]
 pub enum Form {
     /// A register set to the sum of two registers.
     Add,

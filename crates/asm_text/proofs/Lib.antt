@@ -11,3 +11,4 @@ pub mod CodeLaws
 pub mod CodeSteps
 pub mod LineTexts
 pub mod NamedLaws
+pub mod CodedSame

@@ -1,5 +1,5 @@
 -- The text by its lines has the behaviour of the functions.
-use Rattle.std.proofs.Common.{◌≡◌, ◌≤◌, ◌<◌, ◌^◌, ℕ, ◌+◌, List, [], ◌∷◌, ◌++◌, refl, sym, ap, subst, ◌∙◌, append_assoc, arith}
+use Rattle.std.proofs.Common.{◌≡◌, ◌<◌, ◌^◌, ℕ, ◌+◌, List, [], ◌∷◌, ◌++◌, refl, sym, ap, subst, ◌∙◌, append_assoc}
 use Rattle.rtx_tree.specs.declared.function.Kind.TheVariants as kind
 use Rattle.rtx_tree.specs.declared.function.Insn.{Insn}
 use Rattle.rtx_tree.specs.declared.function.Function.{Function}
@@ -110,10 +110,6 @@ finished_code number insns _ text small uids (IsFinished.returning reached) line
 finished_code number insns _ text small uids (IsFinished.staying never) lines =
     coded number (ReachesExit insns) [] insns text small (nothing_behind number (ReachesExit insns) never) uids (subst (λ l. AreLines number l text) (with_nothing insns) lines)
 
--- a frame holds the locals
-fits_frame : (locals : ℕ) → locals ≤ frame_size locals
-fits_frame locals = omega arith
-
 pub does_same : (number : ℕ) (functions : List Function) (text : List ℕ) → AllUids functions → IsAssembly number functions text → DoesSame functions text
 does_same number _ _ uids (IsAssembly.none _) = record { items = []; parts = AreParts.none; same = AreSame.none }
 does_same number _ _ uids (IsAssembly.function _ f functions finished body rest small finish lines others) =
@@ -122,7 +118,7 @@ does_same number _ _ uids (IsAssembly.function _ f functions finished body rest 
     record {
       items = code.items ∷ more.items;
       parts = AreParts.part f functions body rest code.items more.items code.spelled more.parts;
-      same = AreSame.function f functions code.items more.items (direct_code_is_same number (frame_size f.locals) f code.items (fits_frame f.locals) (record { ending = code.ending; ends = code.ends; are = code.are })) more.same;
+      same = AreSame.function f functions code.items more.items (direct_code_is_same number (frame_size f.locals) f code.items (record { ending = code.ending; ends = code.ends; are = code.are })) more.same;
     }
 
 -- the assembly of an input does what its functions do

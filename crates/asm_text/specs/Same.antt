@@ -18,7 +18,7 @@ pub data AreParts : List Function → List ℕ → List (List CodeItem) → Type
 abbrev pub frame_size : ℕ → ℕ
 frame_size locals = 16 * ((locals + 15) / 16)
 
--- the items of each function have its behaviour
+-- the items of each function have its behaviour, in each frame that has this room at least
 pub data AreSame : List Function → List (List CodeItem) → Type 0 where
   none : AreSame [] []
   function : (f : Function) (functions : List Function) (items : List CodeItem) (others : List (List CodeItem)) → Same (frame_size f.locals) f items → AreSame functions others → AreSame (f ∷ functions) (items ∷ others)

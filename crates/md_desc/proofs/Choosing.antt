@@ -6,7 +6,7 @@ use Rattle.rtx_tree.specs.declared.tree.Rtx.{Rtx}
 use Rattle.c_eval.specs.declared.facts.Facts.{Facts}
 use Rattle.md_match.specs.Pattern.{Ops}
 use Rattle.md_forms.specs.declared.form.Entry.{Entry}
-use Rattle.md_recog.specs.declared.recog.Match.{Match}
+use Rattle.md_recog.specs.declared.recog.FormMatch.{FormMatch}
 use Rattle.md_desc.specs.declared.output.Chosen.{Chosen}
 use Rattle.md_desc.specs.Recog.{MatchesAt, IsFirst, NoneBehind, MatchesOut, NoneOutBefore, NoneMatchesOut, IsChosen, IsLowest, Counts}
 
@@ -15,10 +15,10 @@ none_is_some x e = cc
 
 module _ (es : List Entry) (f : Facts) (i : Rtx) where
   -- the first match from an index on
-  abbrev pub First : ℕ → Option Match → Type 0
-  First from r = (m : Match) → (r ≡ Some m) ↔ IsFirst es f i from m
+  abbrev pub First : ℕ → Option FormMatch → Type 0
+  First from r = (m : FormMatch) → (r ≡ Some m) ↔ IsFirst es f i from m
 
-  abbrev pub Counted : Match → Option Chosen → Type 0
+  abbrev pub Counted : FormMatch → Option Chosen → Type 0
   Counted m r = (c : Chosen) → (r ≡ Some c) ↔ Counts es m c
 
   abbrev pub Out : Option Chosen → Type 0
@@ -28,7 +28,7 @@ module _ (es : List Entry) (f : Facts) (i : Rtx) where
   order n k = ⊎_elim (λ below. inl (inl below)) (λ reached. ⊎_elim (λ above. inl (inr above)) (λ other. inr (omega (arith, reached, other))) (cases_lt k n)) (cases_lt n k)
 
   -- a form matches with one list of operands
-  one_list : (from : ℕ) (m : Match) (o : Ops) → First from (Some m) → MatchesAt es f i m.form o → o ≡ m.operands
+  one_list : (from : ℕ) (m : FormMatch) (o : Ops) → First from (Some m) → MatchesAt es f i m.form o → o ≡ m.operands
   one_list from m o first matches =
       let found = (first m).0 refl in
       let other : IsFirst es f i from (record { form = m.form; operands = o }) = record { behind = found.behind; matches = matches; first = found.first } in
@@ -36,14 +36,14 @@ module _ (es : List Entry) (f : Facts) (i : Rtx) where
       let operands : m.operands ≡ o = cc in sym operands
 
   -- behind a match there are fewer forms
-  pub falls : (from : ℕ) (m : Match) → First from (Some m) → length es - (m.form + 1) < length es - from
+  pub falls : (from : ℕ) (m : FormMatch) → First from (Some m) → length es - (m.form + 1) < length es - from
   falls from m first =
       let found = (first m).0 refl in
       let within : m.form < length es = slice_get_within es m.form found.matches.entry found.matches.at in
       omega (arith, within, found.behind)
 
   -- nothing counts before the first match
-  before : (from : ℕ) (m : Match) → NoneOutBefore es f i from → IsFirst es f i from m → NoneOutBefore es f i m.form
+  before : (from : ℕ) (m : FormMatch) → NoneOutBefore es f i from → IsFirst es f i from m → NoneOutBefore es f i m.form
   before from m none first form below o a out = ⊎_elim
       (λ early. none form early o a out)
       (λ late. first.first form late below o out.matches)
@@ -52,12 +52,12 @@ module _ (es : List Entry) (f : Facts) (i : Rtx) where
       split : (n k : ℕ) → (n < k) ⊎ (k ≤ n)
       split n k = cases_lt n k
 
-  counted_at : (from : ℕ) (m : Match) (o : Ops) (a : ℕ) → First from (Some m) → MatchesOut es f i m.form o a → Counts es m (record { form = m.form; operands = o; alternative = a })
+  counted_at : (from : ℕ) (m : FormMatch) (o : Ops) (a : ℕ) → First from (Some m) → MatchesOut es f i m.form o a → Counts es m (record { form = m.form; operands = o; alternative = a })
   counted_at from m o a first out =
       let same : o ≡ m.operands = one_list from m o first out.matches in
       record { form_is = refl; operands_are = same; printed = out.printed; lowest = subst (λ x. IsLowest es m.form x a) same out.lowest }
 
-  pub passes : (from : ℕ) (m : Match) → NoneOutBefore es f i from → First from (Some m) → Counted m None → NoneOutBefore es f i (m.form + 1)
+  pub passes : (from : ℕ) (m : FormMatch) → NoneOutBefore es f i from → First from (Some m) → Counted m None → NoneOutBefore es f i (m.form + 1)
   passes from m none first uncounted form below o a out = ⊎_elim
       (λ early. before from m none ((first m).0 refl) form early o a out)
       (λ same. uncounted_here (subst (λ n. MatchesOut es f i n o a) same out))
@@ -69,10 +69,10 @@ module _ (es : List Entry) (f : Facts) (i : Rtx) where
       uncounted_here : MatchesOut es f i m.form o a → ⊥
       uncounted_here here = none_is_some (record { form = m.form; operands = o; alternative = a }) ((uncounted (record { form = m.form; operands = o; alternative = a })).1 (counted_at from m o a first here))
 
-  out_of : (from : ℕ) (m : Match) (c : Chosen) → First from (Some m) → Counts es m c → MatchesOut es f i m.form m.operands c.alternative
+  out_of : (from : ℕ) (m : FormMatch) (c : Chosen) → First from (Some m) → Counts es m c → MatchesOut es f i m.form m.operands c.alternative
   out_of from m c first counts = record { matches = ((first m).0 refl).matches; printed = counts.printed; lowest = counts.lowest }
 
-  pub chosen : (from : ℕ) (m : Match) (c : Chosen) → NoneOutBefore es f i from → First from (Some m) → Counted m (Some c) → Out (Some c)
+  pub chosen : (from : ℕ) (m : FormMatch) (c : Chosen) → NoneOutBefore es f i from → First from (Some m) → Counted m (Some c) → Out (Some c)
   chosen from m c none first counted d = (
     λ same. subst (IsChosen es f i) (let one : c ≡ d = cc in one) found,
     λ is. by_order is (order d.form m.form),

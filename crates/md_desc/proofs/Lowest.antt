@@ -4,7 +4,7 @@ use Rattle.std.proofs.Common.{◌≡◌, ◌↔◌, ◌⊎◌, ⊎_elim, inl, in
 use Rattle.md_match.specs.Pattern.{Ops}
 use Rattle.md_forms.specs.declared.form.Entry.{Entry}
 use Rattle.md_attr.specs.Alternatives.{IsAlternative}
-use Rattle.md_recog.specs.declared.recog.Match.{Match}
+use Rattle.md_recog.specs.declared.recog.FormMatch.{FormMatch}
 use Rattle.md_desc.specs.declared.output.Chosen.{Chosen}
 use Rattle.md_desc.specs.Recog.{is_usable, is_printed, IsLowest, Counts}
 
@@ -51,13 +51,13 @@ module _ (es : List Entry) (form : ℕ) (o : Ops) where
 
 -- ---- what a match comes to
 
-pub unprinted : (es : List Entry) (m : Match) → is_printed es m.form ≡ false → (c : Chosen) → (None ≡ Some c) ↔ Counts es m c
+pub unprinted : (es : List Entry) (m : FormMatch) → is_printed es m.form ≡ false → (c : Chosen) → (None ≡ Some c) ↔ Counts es m c
 unprinted es m e c = (
   λ same. absurd (let never : ⊥ = cc in never),
   λ counts. absurd (true_false (is_printed es m.form) counts.printed e),
 )
 
-pub unused : (es : List Entry) (m : Match) → ((a : ℕ) → (None ≡ Some a) ↔ IsLowest es m.form m.operands a) → (c : Chosen) → (None ≡ Some c) ↔ Counts es m c
+pub unused : (es : List Entry) (m : FormMatch) → ((a : ℕ) → (None ≡ Some a) ↔ IsLowest es m.form m.operands a) → (c : Chosen) → (None ≡ Some c) ↔ Counts es m c
 unused es m none c = (
   λ same. absurd (let never : ⊥ = cc in never),
   λ counts. absurd (let same : None ≡ Some c.alternative = (none c.alternative).1 counts.lowest in let never : ⊥ = cc in never),
@@ -66,12 +66,12 @@ unused es m none c = (
 same_number : (k a : ℕ) → Some k ≡ Some a → k ≡ a
 same_number k a e = cc
 
-rebuilt : (m : Match) (k : ℕ) (c : Chosen) → c.form ≡ m.form → c.operands ≡ m.operands → k ≡ c.alternative → ◌≡◌ {A = Chosen} (record { form = m.form; operands = m.operands; alternative = k }) c
+rebuilt : (m : FormMatch) (k : ℕ) (c : Chosen) → c.form ≡ m.form → c.operands ≡ m.operands → k ≡ c.alternative → ◌≡◌ {A = Chosen} (record { form = m.form; operands = m.operands; alternative = k }) c
 rebuilt m k c e f g =
     ap (λ (n : ℕ). record { form = n; operands = m.operands; alternative = k }) (sym e) ∙
     (ap (λ (o : Ops). record { form = c.form; operands = o; alternative = k }) (sym f) ∙ ap (λ (n : ℕ). record { form = c.form; operands = c.operands; alternative = n }) g)
 
-pub counts : (es : List Entry) (m : Match) (k : ℕ) → is_printed es m.form ≡ true → ((a : ℕ) → (Some k ≡ Some a) ↔ IsLowest es m.form m.operands a) →
+pub counts : (es : List Entry) (m : FormMatch) (k : ℕ) → is_printed es m.form ≡ true → ((a : ℕ) → (Some k ≡ Some a) ↔ IsLowest es m.form m.operands a) →
     (c : Chosen) → (Some (record { form = m.form; operands = m.operands; alternative = k }) ≡ Some c) ↔ Counts es m c
 counts es m k printed which c = (
   λ same. subst (Counts es m) (let one : (record { form = m.form; operands = m.operands; alternative = k }) ≡ c = cc in one) (record { form_is = refl; operands_are = refl; printed = printed; lowest = (which k).0 refl }),

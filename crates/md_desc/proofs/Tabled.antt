@@ -15,7 +15,7 @@ use Rattle.md_constr.specs.declared.table.Constraints.{Constraints}
 use Rattle.md_constr.specs.Tables.{AreConstraintsOf}
 use Rattle.md_constr.specs.Fits.{fits}
 use Rattle.md_recog.specs.Recog as recog
-use Rattle.md_recog.specs.declared.recog.Match.{Match}
+use Rattle.md_recog.specs.declared.recog.FormMatch.{FormMatch}
 use Rattle.md_desc.specs.Recog.{IsFirst, NoneBehind, NoneMatches}
 
 -- what holds by the forms that were looked at holds by those of the description, and what the table of predicates accepts is what they accept
@@ -26,23 +26,23 @@ pub fits_as : (es fs : List Entry) (t : Constraints) (p : PredTable) (form alter
     ((forms : List Entry) → AreConstraintsOf t forms → r ≡ fits forms (accepted_by p) form alternative o) → r ≡ fits es (holds es) form alternative o
 fits_as es fs t p form alternative o r same asks accepts f = by_forms (λ gs a. r ≡ fits gs a form alternative o) es fs p same accepts (f fs asks)
 
-pub first_as : {E : Type 0} (es fs gs : List Entry) (p : PredTable) (facts : Facts) (i : Rtx) (from : ℕ) (r : Result (Option Match) E) → gs ≡ fs → fs ≡ es → accepted_by p ≡ holds fs →
-    IfOk r (λ r. (m : Match) → (r ≡ Some m) ↔ recog.IsFirst (accepted_by p) facts i gs from m) → IfOk r (λ r. (m : Match) → (r ≡ Some m) ↔ IsFirst es facts i from m)
+pub first_as : {E : Type 0} (es fs gs : List Entry) (p : PredTable) (facts : Facts) (i : Rtx) (from : ℕ) (r : Result (Option FormMatch) E) → gs ≡ fs → fs ≡ es → accepted_by p ≡ holds fs →
+    IfOk r (λ r. (m : FormMatch) → (r ≡ Some m) ↔ recog.IsFirst (accepted_by p) facts i gs from m) → IfOk r (λ r. (m : FormMatch) → (r ≡ Some m) ↔ IsFirst es facts i from m)
 first_as es fs gs p facts i from r looked same accepts h =
-    by_forms (λ gs a. IfOk r (λ r. (m : Match) → (r ≡ Some m) ↔ recog.IsFirst a facts i gs from m)) es fs p same accepts (subst (λ hs. IfOk r (λ r. (m : Match) → (r ≡ Some m) ↔ recog.IsFirst (accepted_by p) facts i hs from m)) looked h)
+    by_forms (λ gs a. IfOk r (λ r. (m : FormMatch) → (r ≡ Some m) ↔ recog.IsFirst a facts i gs from m)) es fs p same accepts (subst (λ hs. IfOk r (λ r. (m : FormMatch) → (r ≡ Some m) ↔ recog.IsFirst (accepted_by p) facts i hs from m)) looked h)
 
-pub none_as : {E : Type 0} (es fs gs : List Entry) (p : PredTable) (facts : Facts) (i : Rtx) (from : ℕ) (r : Result (Option Match) E) → gs ≡ fs → fs ≡ es → accepted_by p ≡ holds fs →
+pub none_as : {E : Type 0} (es fs gs : List Entry) (p : PredTable) (facts : Facts) (i : Rtx) (from : ℕ) (r : Result (Option FormMatch) E) → gs ≡ fs → fs ≡ es → accepted_by p ≡ holds fs →
     IfOk r (λ r. r ≡ None → recog.NoneBetween (accepted_by p) facts i gs from (length gs)) → IfOk r (λ r. r ≡ None → NoneBehind es facts i from)
 none_as es fs gs p facts i from r looked same accepts h =
     by_forms (λ gs a. IfOk r (λ r. r ≡ None → recog.NoneBetween a facts i gs from (length gs))) es fs p same accepts (subst (λ hs. IfOk r (λ r. r ≡ None → recog.NoneBetween (accepted_by p) facts i hs from (length hs))) looked h)
 
 -- where no form from the first on matches, none does
-pub none_at_all : {E : Type 0} (es : List Entry) (facts : Facts) (i : Rtx) (r : Result (Option Match) E) → IfOk r (λ r. r ≡ None → NoneBehind es facts i 0) → IfOk r (λ r. r ≡ None → NoneMatches es facts i)
+pub none_at_all : {E : Type 0} (es : List Entry) (facts : Facts) (i : Rtx) (r : Result (Option FormMatch) E) → IfOk r (λ r. r ≡ None → NoneBehind es facts i 0) → IfOk r (λ r. r ≡ None → NoneMatches es facts i)
 none_at_all es facts i (Ok r) h = λ none form o m. h none form (let least : 0 ≤ form = omega arith in least) (slice_get_within es form m.entry m.at) o m
 none_at_all es facts i (Err e) h = tt
 
 -- a match is of one of the forms, which are not too many
-pub small_as : {E : Type 0} (es fs : List Entry) (facts : Facts) (i : Rtx) (from : ℕ) (r : Result (Option Match) E) → fs ≡ es → length fs ≤ most_forms → IfOk r (λ r. (m : Match) → (r ≡ Some m) ↔ IsFirst es facts i from m) →
+pub small_as : {E : Type 0} (es fs : List Entry) (facts : Facts) (i : Rtx) (from : ℕ) (r : Result (Option FormMatch) E) → fs ≡ es → length fs ≤ most_forms → IfOk r (λ r. (m : FormMatch) → (r ≡ Some m) ↔ IsFirst es facts i from m) →
     IfOk r (λ r. IfSome r (λ m. m.form < most_forms))
 small_as es fs facts i from (Ok (Some m)) same short h =
     let found = (h m).0 refl in

@@ -15,7 +15,7 @@ use Rattle.md_attr.specs.Values.{is_enabled}
 use Rattle.md_pred.specs.Holds.{holds}
 use Rattle.md_constr.specs.Fits.{fits}
 use Rattle.md_recog.specs.Recog as recog
-use Rattle.md_recog.specs.declared.recog.Match.{Match}
+use Rattle.md_recog.specs.declared.recog.FormMatch.{FormMatch}
 use Rattle.md_desc.specs.declared.output.Chosen.{Chosen}
 
 -- the form with an index of a description matches an instruction with these operands
@@ -23,7 +23,7 @@ abbrev pub MatchesAt : List Entry → Facts → Rtx → ℕ → Ops → Type 0
 MatchesAt forms facts insn form operands = recog.MatchesAt (holds forms) facts insn forms form operands
 
 -- the first form from an index on that matches
-abbrev pub IsFirst : List Entry → Facts → Rtx → ℕ → Match → Type 0
+abbrev pub IsFirst : List Entry → Facts → Rtx → ℕ → FormMatch → Type 0
 IsFirst forms facts insn from m = recog.IsFirst (holds forms) facts insn forms from m
 
 -- no form from an index on matches
@@ -83,7 +83,7 @@ NoneMatchesOut forms facts insn = (form : ℕ) (operands : Ops) (alternative : �
 -- ---- a step of the code
 
 -- a match counts at output, with the lowest alternative that can be used
-pub record Counts (forms : List Entry) (m : Match) (c : Chosen) : Type 0 where
+pub record Counts (forms : List Entry) (m : FormMatch) (c : Chosen) : Type 0 where
   pub form_is : c.form ≡ m.form
   pub operands_are : c.operands ≡ m.operands
   pub printed : is_printed forms m.form ≡ true

@@ -9,14 +9,14 @@ ghost use Rattle.md_pred.specs.Holds.{holds};
 ghost use Rattle.md_pred.specs.Table.{accepted_by};
 ghost use Rattle.tree_forms.specs.Trees.{most_forms};
 ghost use Rattle.md_desc.specs.Recog as spec;
-ghost use Rattle.md_recog.specs.declared.recog.Match.{Match};
+ghost use Rattle.md_recog.specs.declared.recog.FormMatch.{FormMatch};
 
 use c_eval::Facts;
 use md_attr::{Attributes, enabled, has_alternative};
 use md_constr::{Constraints, fits};
 use md_forms::Forms;
 use md_pred::PredTable;
-use md_recog::{Match, Steps, first_match};
+use md_recog::{FormMatch, Steps, first_match};
 use plain_data::Memory;
 use rtx_tree::{Operands, Rtx};
 use std::alloc::Global;
@@ -123,11 +123,11 @@ impl Description {
         facts: &Facts,
         from: u32,
         blank: Blank,
-    ) -> Result<Option<Match>, Memory>
+    ) -> Result<Option<FormMatch>, Memory>
         requires name { blank.name ≡ L.name }
         requires parts { blank.parts ≡ L.parts }
         requires some { 0 < blank.parts }
-        ensures first { IfOk result (λ r. (m : Match) → (r ≡ Some m) ↔ spec.IsFirst self.now facts.now insn.now from m) }
+        ensures first { IfOk result (λ r. (m : FormMatch) → (r ≡ Some m) ↔ spec.IsFirst self.now facts.now insn.now from m) }
         ensures none { IfOk result (λ r. r ≡ None → spec.NoneBehind self.now facts.now insn.now from) }
         ensures small { IfOk result (λ r. IfSome r (λ m. m.form < most_forms)) }
     {
@@ -150,8 +150,8 @@ impl Description {
         insn: &Rtx,
         facts: &Facts,
         from: u32,
-    ) -> Result<Option<Match>, Memory>
-        ensures first { IfOk result (λ r. (m : Match) → (r ≡ Some m) ↔ spec.IsFirst self.now facts.now insn.now from m) }
+    ) -> Result<Option<FormMatch>, Memory>
+        ensures first { IfOk result (λ r. (m : FormMatch) → (r ≡ Some m) ↔ spec.IsFirst self.now facts.now insn.now from m) }
         ensures none { IfOk result (λ r. r ≡ None → spec.NoneBehind self.now facts.now insn.now from) }
         ensures small { IfOk result (λ r. IfSome r (λ m. m.form < most_forms)) }
     {
@@ -159,8 +159,8 @@ impl Description {
     }
 
     /// The first form that matches an instruction, or `None` exactly where there is none such.
-    pub fn recog(&self, alloc: Global, insn: &Rtx, facts: &Facts) -> Result<Option<Match>, Memory>
-        ensures first { IfOk result (λ r. (m : Match) → (r ≡ Some m) ↔ spec.IsFirst self.now facts.now insn.now 0 m) }
+    pub fn recog(&self, alloc: Global, insn: &Rtx, facts: &Facts) -> Result<Option<FormMatch>, Memory>
+        ensures first { IfOk result (λ r. (m : FormMatch) → (r ≡ Some m) ↔ spec.IsFirst self.now facts.now insn.now 0 m) }
         ensures none { IfOk result (λ r. r ≡ None → spec.NoneMatches self.now facts.now insn.now) }
     {
         self.first_from(alloc, insn, facts, 0)

@@ -11,7 +11,7 @@ mod output;
 mod trees;
 
 pub use description::Description;
-pub use md_recog::Match;
+pub use md_recog::FormMatch;
 pub use output::Chosen;
 pub use tree_forms::DescRefusal;
 pub use trees::describe;

@@ -7,7 +7,7 @@ ghost use Rattle.md_desc.specs.declared.output.Chosen.{Chosen};
 use crate::description::Description;
 use c_eval::Facts;
 use md_forms::{Entry, Form};
-use md_recog::Match;
+use md_recog::FormMatch;
 use md_text::Template;
 use plain_data::Memory;
 use rtx_tree::{Operands, Rtx};
@@ -76,7 +76,7 @@ impl Description {
 
     /// A match, with the lowest alternative that can be used, if it counts at output.
     #[tactic(auto, using(crate::proofs::Lowest::unprinted, crate::proofs::Lowest::unused, crate::proofs::Lowest::counts))]
-    fn counted(&self, found: Match) -> Result<Option<Chosen>, Memory>
+    fn counted(&self, found: FormMatch) -> Result<Option<Chosen>, Memory>
         ensures { IfOk result (λ r. (c : Chosen) → (r ≡ Some c) ↔ spec.Counts self.now found c) }
     {
         if !self.is_printed(found.form) {

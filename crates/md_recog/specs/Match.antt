@@ -1,4 +1,4 @@
--- When a pattern with a condition matches an instruction: GCC Internals, "RTL Template" and "Defining Machine-Specific Predicates" (the
+-- When patterns with a condition match instructions: GCC Internals, "RTL Template" and "Defining Machine-Specific Predicates" (the
 -- predicates), and "Example of define_insn" (the condition).
 use Rattle.std.specs.Prelude.{◌≡◌, ℕ, Bool, true, false, not, List, if◌then◌else◌}
 use Rattle.std.specs.Option.{option_map_or}
@@ -30,16 +30,21 @@ abbrev pub is_accepted : Accepts → Ops → Rtx → Bool
 is_accepted accepts operands p =
     if names_predicate (head_of p).code then option_map_or (λ x. accepts (head_of p).name x (head_of p).mode) (operand_of p operands) false else true
 
--- the same of each placeholder of a pattern
+-- whether the predicate of each placeholder of a pattern does
 abbrev pub are_accepted : Accepts → Ops → Rtx → Bool
 are_accepted accepts operands pattern = list_all (is_accepted accepts operands) (placeholders pattern)
+
+-- whether the predicate of each placeholder of some patterns does
+abbrev pub all_accepted : Accepts → Ops → List Rtx → Bool
+all_accepted accepts operands patterns = list_all (are_accepted accepts operands) patterns
 
 -- whether the condition is not 0 with these operands
 abbrev pub is_met : Accepts → Facts → Tree → Ops → Bool
 is_met accepts facts condition operands = not (is_zero (worth (setting facts operands accepts) condition))
 
--- The pattern matches the instruction with these operands: it has the shape, each predicate accepts its operand, and the condition is not 0.
-pub record IsMatch (accepts : Accepts) (facts : Facts) (pattern : Rtx) (condition : Tree) (insn : Rtx) (operands : Ops) : Type 0 where
-  pub shape : Matches pattern insn operands
-  pub accepted : are_accepted accepts operands pattern ≡ true
+-- Patterns match as many instructions with these operands, which they share: they have the shape, each predicate accepts its operand, and the
+-- condition is not 0.
+pub record IsMatch (accepts : Accepts) (facts : Facts) (patterns : List Rtx) (condition : Tree) (insns : List Rtx) (operands : Ops) : Type 0 where
+  pub shape : Matches patterns insns operands
+  pub accepted : all_accepted accepts operands patterns ≡ true
   pub holds : is_met accepts facts condition operands ≡ true

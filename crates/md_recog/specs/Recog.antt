@@ -1,6 +1,6 @@
--- The first form of a description that matches an instruction: GCC Internals, "Interdependence of Patterns" and "Pattern Ordering". Of a
--- define_insn_and_split the instruction is matched ("Defining How to Split Instructions").
-use Rattle.std.specs.Prelude.{◌≡◌, ℕ, ◌≤◌, ◌<◌, Bool, true, false, List, [], ◌∷◌, Some, Ok, slice_get}
+-- The first form of a description that matches instructions: GCC Internals, "Interdependence of Patterns" and "Pattern Ordering". A
+-- define_insn_and_split has two halves ("Defining How to Split Instructions").
+use Rattle.std.specs.Prelude.{◌≡◌, ℕ, ◌≤◌, ◌<◌, Bool, true, false, List, Some, Ok, slice_get}
 use Rattle.rtx_tree.specs.declared.tree.Rtx.{Rtx}
 use Rattle.c_eval.specs.declared.facts.Facts.{Facts}
 use Rattle.md_match.specs.Pattern.{Ops}
@@ -9,7 +9,10 @@ use Rattle.md_draft.specs.declared.head.Head.{Head}
 use Rattle.md_draft.specs.declared.head.Head.TheVariants as head
 use Rattle.md_forms.specs.declared.form.Form.{Form}
 use Rattle.md_forms.specs.declared.form.Entry.{Entry}
-use Rattle.md_recog.specs.declared.recog.Match.{Match}
+use Rattle.c_cond.specs.declared.tree.Tree.{Tree}
+use Rattle.md_recog.specs.declared.half.Half.{Half}
+use Rattle.md_recog.specs.declared.half.Half.TheVariants as half
+use Rattle.md_recog.specs.declared.recog.FormMatch.{FormMatch}
 
 -- whether a head defines an instruction
 abbrev pub is_instruction : Head → Bool
@@ -17,36 +20,58 @@ is_instruction head.Insn = true
 is_instruction head.InsnAndSplit = true
 is_instruction _ = false
 
--- What a form says matches an instruction with these operands: it defines an instruction, and its one pattern with its condition matches.
-pub record FormMatches (accepts : Accepts) (facts : Facts) (insn : Rtx) (form : Form) (operands : Ops) : Type 0 where
-  pub defines : is_instruction form.head ≡ true
-  pub pattern : Rtx
-  pub only : form.patterns ≡ pattern ∷ []
-  pub matches : IsMatch accepts facts pattern form.condition insn operands
+-- whether a head defines a split
+abbrev pub is_split : Head → Bool
+is_split head.Split = true
+is_split head.InsnAndSplit = true
+is_split _ = false
+
+-- ---- the half of a form that is asked for
+
+-- whether a form has a half, by its head
+abbrev pub has_half : Half → Head → Bool
+has_half half.Insn h = is_instruction h
+has_half half.Split h = is_split h
+
+-- the condition of a split is that of the split half, where there are two
+abbrev pub split_condition : Head → Form → Tree
+split_condition head.InsnAndSplit f = f.split_condition
+split_condition _ f = f.condition
+
+abbrev pub condition_of : Half → Form → Tree
+condition_of half.Insn f = f.condition
+condition_of half.Split f = split_condition f.head f
+
+-- ---- matches
+
+-- What a form says in a half matches instructions with these operands: it has the half, and its patterns with the half's condition match.
+pub record FormMatches (accepts : Accepts) (facts : Facts) (asked : Half) (insns : List Rtx) (form : Form) (operands : Ops) : Type 0 where
+  pub has : has_half asked form.head ≡ true
+  pub matches : IsMatch accepts facts form.patterns (condition_of asked form) insns operands
 
 -- a form that is set aside never matches
-pub record EntryMatches (accepts : Accepts) (facts : Facts) (insn : Rtx) (entry : Entry) (operands : Ops) : Type 0 where
+pub record EntryMatches (accepts : Accepts) (facts : Facts) (asked : Half) (insns : List Rtx) (entry : Entry) (operands : Ops) : Type 0 where
   pub says : Form
   pub accepted : entry.form ≡ Ok says
-  pub matches : FormMatches accepts facts insn says operands
+  pub matches : FormMatches accepts facts asked insns says operands
 
--- the form with an index matches an instruction with these operands
-pub record MatchesAt (accepts : Accepts) (facts : Facts) (insn : Rtx) (forms : List Entry) (form : ℕ) (operands : Ops) : Type 0 where
+-- the form with an index matches instructions with these operands
+pub record MatchesAt (accepts : Accepts) (facts : Facts) (asked : Half) (insns : List Rtx) (forms : List Entry) (form : ℕ) (operands : Ops) : Type 0 where
   pub entry : Entry
   pub at : slice_get forms form ≡ Some entry
-  pub matches : EntryMatches accepts facts insn entry operands
+  pub matches : EntryMatches accepts facts asked insns entry operands
 
 -- a match is of the form with an index
-pub record MatchesHere (accepts : Accepts) (facts : Facts) (insn : Rtx) (forms : List Entry) (form : ℕ) (m : Match) : Type 0 where
+pub record MatchesHere (accepts : Accepts) (facts : Facts) (asked : Half) (insns : List Rtx) (forms : List Entry) (form : ℕ) (m : FormMatch) : Type 0 where
   pub is : m.form ≡ form
-  pub matches : MatchesAt accepts facts insn forms form m.operands
+  pub matches : MatchesAt accepts facts asked insns forms form m.operands
 
 -- no form from one index on and before another matches
-abbrev pub NoneBetween : Accepts → Facts → Rtx → List Entry → ℕ → ℕ → Type 0
-NoneBetween accepts facts insn forms from to = (form : ℕ) → from ≤ form → form < to → (operands : Ops) → MatchesAt accepts facts insn forms form operands → ⊥
+abbrev pub NoneBetween : Accepts → Facts → Half → List Rtx → List Entry → ℕ → ℕ → Type 0
+NoneBetween accepts facts asked insns forms from to = (form : ℕ) → from ≤ form → form < to → (operands : Ops) → MatchesAt accepts facts asked insns forms form operands → ⊥
 
 -- The first match from an index on: the form matches with these operands, and no form before it does.
-pub record IsFirst (accepts : Accepts) (facts : Facts) (insn : Rtx) (forms : List Entry) (from : ℕ) (m : Match) : Type 0 where
+pub record IsFirst (accepts : Accepts) (facts : Facts) (asked : Half) (insns : List Rtx) (forms : List Entry) (from : ℕ) (m : FormMatch) : Type 0 where
   pub behind : from ≤ m.form
-  pub matches : MatchesAt accepts facts insn forms m.form m.operands
-  pub first : NoneBetween accepts facts insn forms from m.form
+  pub matches : MatchesAt accepts facts asked insns forms m.form m.operands
+  pub first : NoneBetween accepts facts asked insns forms from m.form

@@ -1,6 +1,5 @@
 //! Whether predicates accept the operands of a pattern.
 ghost use Rattle.std.specs.Prelude.{◌≡◌};
-ghost use Rattle.std.specs.List.{list_all};
 ghost use Rattle.md_recog.specs.Match as spec;
 
 use c_eval::Preds;
@@ -26,10 +25,10 @@ fn is_accepted<P: Preds>(placeholder: &Rtx, operands: &Operands, preds: &P) -> b
     }
 }
 
-/// Whether each predicate of a pattern accepts its operand.
+// Whether each predicate of a pattern accepts its operand.
 #[cycle(accepting)]
 #[tactic(auto, using(crate::proofs::Placed::operand_accepted, crate::proofs::Placed::operator_accepted, crate::proofs::Placed::operator_refused, crate::proofs::Placed::itself_accepted))]
-pub fn are_accepted<P: Preds>(pattern: &Rtx, operands: &Operands, preds: &P) -> bool
+fn are_accepted<P: Preds>(pattern: &Rtx, operands: &Operands, preds: &P) -> bool
     ensures { result ≡ spec.are_accepted (P.accepts preds.now) operands.now pattern.now }
 {
     match role_of(pattern.code) {
@@ -44,10 +43,10 @@ pub fn are_accepted<P: Preds>(pattern: &Rtx, operands: &Operands, preds: &P) -> 
     }
 }
 
-/// The same of some patterns.
+/// Whether each predicate of some patterns accepts its operand.
 #[cycle(accepting)]
-fn all_accepted<P: Preds>(patterns: &[Rtx], operands: &Operands, preds: &P) -> bool
-    ensures { result ≡ list_all (spec.are_accepted (P.accepts preds.now) operands.now) patterns.now }
+pub fn all_accepted<P: Preds>(patterns: &[Rtx], operands: &Operands, preds: &P) -> bool
+    ensures { result ≡ spec.all_accepted (P.accepts preds.now) operands.now patterns.now }
 {
     for pattern in patterns {
         if !are_accepted(pattern, operands, preds) {

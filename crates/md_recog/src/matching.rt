@@ -1,13 +1,13 @@
 //! Matches patterns with instructions.
-ghost use Rattle.std.specs.Prelude.{◌≡◌, ◌↔◌, ◌+◌, ◌&&◌, Some, IfOk};
+ghost use Rattle.std.specs.Prelude.{◌≡◌, ◌↔◌, ◌+◌, ◌&&◌, Some, IfOk, map};
 ghost use Rattle.md_match.specs.Pattern.{Ops};
 ghost use Rattle.md_recog.specs.Match.{IsMatch};
 ghost use Rattle.md_recog.specs.Match as spec;
 
-use crate::accepted::are_accepted;
+use crate::accepted::all_accepted;
 use c_cond::Cond;
 use c_eval::{Facts, Preds, eval};
-use md_match::{Steps, match_shape};
+use md_match::{Steps, match_shapes};
 use plain_data::Memory;
 use rtx_tree::{Operands, Rtx};
 use std::alloc::Global;
@@ -22,36 +22,36 @@ fn is_met<P: Preds>(condition: &Cond, facts: &Facts, operands: &Operands, preds:
 
 /// Whether predicates and the condition admit operands.
 fn admits<P: Preds>(
-    pattern: &Rtx,
+    patterns: &[Rtx],
     condition: &Cond,
     operands: &Operands,
     facts: &Facts,
     preds: &P,
 ) -> bool
-    ensures { result ≡ (spec.are_accepted (P.accepts preds.now) operands.now pattern.now && spec.is_met (P.accepts preds.now) facts.now condition.now operands.now) }
+    ensures { result ≡ (spec.all_accepted (P.accepts preds.now) operands.now patterns.now && spec.is_met (P.accepts preds.now) facts.now condition.now operands.now) }
 {
-    are_accepted(pattern, operands, preds) && is_met(condition, facts, operands, preds)
+    all_accepted(patterns, operands, preds) && is_met(condition, facts, operands, preds)
 }
 
-/// The operands with which a pattern with a condition matches an instruction, or `None` exactly where there are none such. Each call is one
-/// step, since it tries the shape once.
-#[tactic(auto, using(crate::proofs::Usable::shapeless, crate::proofs::Usable::admitting, crate::proofs::Usable::refusing))]
-pub fn match_insn<P: Preds, L: Ledger>(
+/// The operands with which some patterns with a condition match as many instructions, or `None` exactly where there are none such. Each call is
+/// one step, since it tries the shape once.
+#[tactic(auto, using(crate::proofs::Usable::shapeless, crate::proofs::Usable::admitting))]
+pub fn match_insns<P: Preds, L: Ledger>(
     alloc: Global,
-    pattern: &Rtx,
+    patterns: &[Rtx],
     condition: &Cond,
-    insn: &Rtx,
+    insns: &[&Rtx],
     facts: &Facts,
     preds: &P,
     steps: &mut Steps<L>,
 ) -> Result<Option<Operands>, Memory>
-    ensures operands { IfOk result (λ r. (operands : Ops) → (r ≡ Some operands) ↔ IsMatch (P.accepts preds.now) facts.now pattern.now condition.now insn.now operands) }
+    ensures operands { IfOk result (λ r. (operands : Ops) → (r ≡ Some operands) ↔ IsMatch (P.accepts preds.now) facts.now patterns.now condition.now (map (λ insn. insn.now) insns.now) operands) }
     ensures step { steps.new ≡ steps.old + 1 }
 {
-    let Some(operands) = match_shape(alloc, pattern, insn, steps)? else {
+    let Some(operands) = match_shapes(alloc, patterns, insns, steps)? else {
         return Ok(None);
     };
-    if admits(pattern, condition, &operands, facts, preds) {
+    if admits(patterns, condition, &operands, facts, preds) {
         Ok(Some(operands))
     } else {
         Ok(None)

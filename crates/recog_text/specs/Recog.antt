@@ -20,7 +20,7 @@ use Rattle.run_refusal.specs.declared.refusal.Refusal.{Refusal}
 use Rattle.run_refusal.specs.declared.refusal.Refusal.TheVariants as refusal
 use Rattle.md_forms.specs.declared.form.Entry.{Entry}
 use Rattle.md_forms.specs.Forms.{names_of}
-use Rattle.md_recog.specs.declared.recog.Match.{Match}
+use Rattle.md_recog.specs.declared.recog.FormMatch.{FormMatch}
 use Rattle.md_desc.specs.declared.output.Chosen.{Chosen}
 use Rattle.md_desc.specs.Recog.{IsFirst, NoneMatches, IsChosen, NoneMatchesOut}
 use Rattle.rtl_chain.specs.End.{IsFinished}
@@ -94,7 +94,7 @@ unmatched_at stage function i = refusal.Unmatched function i.uid stage i.pattern
 -- at lower: some form has to match it, whatever its alternatives
 pub data LowerComes (forms : List Entry) (function : List ℕ) (i : Insn) : Outcome → Type 0 where
   free : needs_form i ≡ false → LowerComes forms function i (Ok [])
-  matched : (m : Match) → needs_form i ≡ true → IsFirst forms lower_facts i.pattern 0 m → LowerComes forms function i (Ok [])
+  matched : (m : FormMatch) → needs_form i ≡ true → IsFirst forms lower_facts i.pattern 0 m → LowerComes forms function i (Ok [])
   unmatched : needs_form i ≡ true → NoneMatches forms lower_facts i.pattern → LowerComes forms function i (Err (unmatched_at Lower function i))
 
 -- at output: the line of the first form that counts, with the lowest enabled alternative that fits

@@ -1,10 +1,9 @@
-use Rattle.std.proofs.Common.{◌≡◌, true, [], ◌∷◌, rules}
-use Rattle.md_recog.specs.Recog.{is_instruction}
-use Rattle.md_recog.proofs.Forms.{one_item, form_found}
+use Rattle.std.proofs.Common.{rules}
+use Rattle.md_match.proofs.Seen.{seen}
+use Rattle.md_recog.proofs.Forms.{form_found}
 use Rattle.md_recog.proofs.form.match_form.Goals as goal
 
-pub returns-in-len1-clause-operands : goal.returns-in-len1-clause-operands
-returns-in-len1-clause-operands g c =
-    let defines : is_instruction c.args.form.now.head ≡ true = search rules in
-    let only : c.args.form.now.patterns ≡ c.pattern-item.result ∷ [] = search (rules, one_item) in
-    form_found (g.P.Preds.accepts c.args.preds.now) c.args.facts.now c.args.insn.now c.args.form.now c.pattern-item.result c.match_insn.result defines only c.match_insn.ensures.operands
+pub returns-clause-operands : goal.returns-clause-operands
+returns-clause-operands g c =
+    form_found (g.P.Preds.accepts c.args.preds.now) c.args.facts.now c.args.half (seen c.args.insns.now) c.args.form.now c.as_slice-patterns.result.now c.condition_of-condition.result.now c.match_insns.result (search rules)
+    c.as_slice-patterns.ensures.value c.condition_of-condition.ensures c.match_insns.ensures.operands

@@ -1,4 +1,5 @@
 use Rattle.std.proofs.Common.{◌≡◌, ◌≤◌, None, length, ⊎_elim, inl, rules, subst, arith}
+use Rattle.md_match.proofs.Seen.{seen}
 use Rattle.md_recog.proofs.First.{HasHere, goes_on, is_first, none_first, none_behind}
 use Rattle.md_recog.proofs.recog.first_match.Goals as goal
 
@@ -6,8 +7,8 @@ pub returns-in-Some-clause-first : goal.returns-in-Some-clause-first
 returns-in-Some-clause-first g c =
     let a = g.P.Preds.accepts c.args.preds.now in
     let inv = c.loop-form.invariant in
-    is_first a c.args.facts.now c.args.insn.now c.args.forms.now c.args.from c.loop-form.form c.in-Some.found inv.none inv.behind
-    (subst (HasHere a c.args.facts.now c.args.insn.now c.args.forms.now c.loop-form.form) c.in-Some.is c.in_ok-found.ensures.here)
+    is_first a c.args.facts.now c.args.half (seen c.args.insns.now) c.args.forms.now c.args.from c.loop-form.form c.in-Some.found inv.none inv.behind
+    (subst (HasHere a c.args.facts.now c.args.half (seen c.args.insns.now) c.args.forms.now c.loop-form.form) c.in-Some.is c.in_ok-found.ensures.here)
 
 pub loop-form-preserved : goal.loop-form-preserved
 loop-form-preserved g c =
@@ -15,7 +16,7 @@ loop-form-preserved g c =
     let inv = c.loop-form.invariant in
     let none : c.in_ok-found.field-0 ≡ None = search rules in
     record {
-      none = goes_on a c.args.facts.now c.args.insn.now c.args.forms.now c.args.from c.loop-form.form inv.none (subst (HasHere a c.args.facts.now c.args.insn.now c.args.forms.now c.loop-form.form) none c.in_ok-found.ensures.here);
+      none = goes_on a c.args.facts.now c.args.half (seen c.args.insns.now) c.args.forms.now c.args.from c.loop-form.form inv.none (subst (HasHere a c.args.facts.now c.args.half (seen c.args.insns.now) c.args.forms.now c.loop-form.form) none c.in_ok-found.ensures.here);
       behind = omega (arith, inv.behind);
       tries = omega (arith, inv.tries, c.match_at.ensures.step);
       upto = inl (omega arith);
@@ -25,13 +26,13 @@ pub returns-clause-first : goal.returns-clause-first
 returns-clause-first g c =
     let a = g.P.Preds.accepts c.args.preds.now in
     let inv = c.loop-form.invariant in
-    none_first a c.args.facts.now c.args.insn.now c.args.forms.now c.args.from (none_behind a c.args.facts.now c.args.insn.now c.args.forms.now c.args.from c.loop-form.form inv.none (omega arith))
+    none_first a c.args.facts.now c.args.half (seen c.args.insns.now) c.args.forms.now c.args.from (none_behind a c.args.facts.now c.args.half (seen c.args.insns.now) c.args.forms.now c.args.from c.loop-form.form inv.none (omega arith))
 
 pub returns-clause-none : goal.returns-clause-none
 returns-clause-none g c =
     let a = g.P.Preds.accepts c.args.preds.now in
     let inv = c.loop-form.invariant in
-    λ none. none_behind a c.args.facts.now c.args.insn.now c.args.forms.now c.args.from c.loop-form.form inv.none (omega arith)
+    λ none. none_behind a c.args.facts.now c.args.half (seen c.args.insns.now) c.args.forms.now c.args.from c.loop-form.form inv.none (omega arith)
 
 pub returns-clause-tries : goal.returns-clause-tries
 returns-clause-tries g c =

@@ -1,13 +1,13 @@
 use Rattle.std.proofs.Common.{◌≡◌, ◌<◌, Option, None, rules, subst, arith}
 use Rattle.std.specs.Prelude.{IfSome}
 use Rattle.tree_forms.specs.Trees.{most_forms}
-use Rattle.md_recog.specs.declared.recog.Match.{Match}
+use Rattle.md_recog.specs.declared.recog.FormMatch.{FormMatch}
 use Rattle.md_desc.proofs.Choosing.{First, Counted, falls, passes, chosen, ends, nowhere}
 use Rattle.md_desc.proofs.description.Description.recog_out.Goals as goal
 
 pub overflow_add-next : goal.overflow_add-next
 overflow_add-next c =
-    let small : c.in-Some.found.form < most_forms = subst (λ (r : Option Match). IfSome r (λ m. m.form < most_forms)) c.in-Some.is c.in_ok-found.ensures.small in
+    let small : c.in-Some.found.form < most_forms = subst (λ (r : Option FormMatch). IfSome r (λ m. m.form < most_forms)) c.in-Some.is c.in_ok-found.ensures.small in
     omega (arith, small)
 
 pub loop-found-smaller : goal.loop-found-smaller

@@ -1,9 +1,12 @@
 -- The first function that is refused, one function after the other.
-use Rattle.std.proofs.Common.{◌≡◌, ◌<◌, ℕ, suc, ◌+◌, List, ◌∷◌, length, drop, get_or, Result, Err, Some, None, sym, ap, ◌∙◌, add-one}
+use Rattle.std.proofs.Common.{◌≡◌, ◌<◌, ℕ, suc, ◌+◌, List, ◌∷◌, length, drop, take, get_or, Result, Err, Some, None, sym, ap, ◌∙◌, add-one}
 use Rattle.std.proofs.Math.Seq.{drop-cons}
+use Rattle.std.specs.Prelude.{slice_get}
+use Rattle.rtl_func.specs.Faults as rules
+use Rattle.rtl_func.specs.Rules.{faults_by}
 use Rattle.rtx_tree.specs.declared.function.Function.{Function}
 use Rattle.run_refusal.specs.declared.refusal.Refusal.{Refusal}
-use Rattle.func_input.specs.Refused.{or_later, refused_at, refused_from, first_refused}
+use Rattle.func_input.specs.Refused.{or_later, limit_passed, refused_at, refused_behind, refused_from, rule_broken, first_refused}
 use Rattle.func_input.specs.Input.{FunctionsComeTo, FunctionsGive, RefusesWith}
 use Rattle.func_input.specs.Steps.{TellsOf}
 use Rattle.func_input.proofs.Refusing.{refuses_map}
@@ -14,6 +17,10 @@ drop_at {A = A} xs i x within is =
     let lt : i < length xs = within in
     let cons : drop i xs ≡ get_or xs i x ∷ drop (suc i) xs = drop-cons xs i x lt in
     rw add-one (cons ∙ ap (λ (u : A). u ∷ drop (suc i) xs) (sym is))
+
+-- the function at a place, by those that stand before
+pub refused_here : (functions : List Function) (index : ℕ) (f : Function) → slice_get functions index ≡ Some f → refused_at functions index f ≡ refused_behind (take index functions) f
+refused_here functions index f at = ap (λ o. or_later (rule_broken f (rules.first_fault (faults_by functions index o))) (limit_passed f)) at
 
 -- one that is not refused leads on
 pub checked_on : (functions : List Function) (index : ℕ) (f : Function) (rest : List Function) → refused_at functions index f ≡ None → refused_from functions index (f ∷ rest) ≡ first_refused functions →

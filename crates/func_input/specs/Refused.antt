@@ -6,7 +6,7 @@ use Rattle.rtx_tree.specs.declared.limit.Limit.{Limit}
 use Rattle.rtx_tree.specs.declared.limit.Limit.TheVariants as limit
 use Rattle.rtl_func.specs.declared.fault.Fault.{Fault}
 use Rattle.rtl_func.specs.Faults as rules
-use Rattle.rtl_func.specs.Rules.{faults}
+use Rattle.rtl_func.specs.Rules.{faults, faults_of}
 use Rattle.rtl_chain.specs.Counts.{instruction_count, next_pseudo}
 use Rattle.run_refusal.specs.declared.refusal.Refusal.{Refusal}
 use Rattle.run_refusal.specs.declared.refusal.Refusal.TheVariants as refusal
@@ -26,6 +26,10 @@ limit_passed f = or_later (over limit.Instructions 10000 (instruction_count f.in
 abbrev pub rule_broken : Function → Option Fault → Option Refusal
 rule_broken f None = None
 rule_broken f (Some fault) = Some (refusal.IllFormed f.name fault.uid fault.rule)
+
+-- a function that stands behind others: the first rule that it breaks, or the first limit that it passes
+abbrev pub refused_behind : List Function → Function → Option Refusal
+refused_behind before f = or_later (rule_broken f (rules.first_fault (faults_of before f))) (limit_passed f)
 
 -- the function at an index among others: the first rule that it breaks, or the first limit that it passes
 abbrev pub refused_at : List Function → ℕ → Function → Option Refusal

@@ -1,15 +1,17 @@
 //! The rules of well-formed functions, and the limits.
-ghost use Rattle.std.specs.Prelude.{◌≡◌, ◌+◌, ◌<◌, ◌↔◌, ◌^◌, All, IfOk, IsTrue, length};
+ghost use Rattle.std.specs.Prelude.{◌≡◌, ◌+◌, ◌<◌, ◌↔◌, ◌^◌, All, IfOk, IsTrue, List, length};
 ghost use Rattle.rtl_func.specs.Faults.{first_fault};
-ghost use Rattle.rtl_func.specs.Rules.{faults};
-ghost use Rattle.func_input.specs.Refused.{rule_broken, over, limit_passed, refused_at};
+ghost use Rattle.rtl_func.specs.Names.{AreNames};
+ghost use Rattle.rtl_func.specs.Rules.{faults_of};
+ghost use Rattle.rtx_tree.specs.declared.function.Function.{Function};
+ghost use Rattle.func_input.specs.Refused.{rule_broken, over, limit_passed, refused_behind};
 ghost use Rattle.func_input.specs.Input.{Checks};
 ghost use Rattle.func_input.specs.Steps.{IsOrMemory, Checked};
 ghost use Rattle.run_refusal.specs.declared.refusal.Refusal.TheVariants as refused;
 
 use plain_data::Memory;
 use rtl_chain::{instruction_count, next_pseudo};
-use rtl_func::{CheckRefusal, check};
+use rtl_func::{CheckRefusal, Names, check_behind};
 use rtx_tree::{Function, Limit, Name};
 use run_refusal::Refusal;
 use std::alloc::Global;
@@ -27,18 +29,12 @@ fn ill_formed(alloc: Global, function: &Name, uid: u32, rule: u8) -> Refusal
     }
 }
 
-/// Checks that the function at an index keeps the rules.
-fn check_rules(
-    alloc: Global,
-    functions: &[Function],
-    index: u32,
-    f: &Function,
-) -> Result<(), Refusal>
-    requires within { index < length functions.now }
-    requires short { All (λ f. length f.insns < 2 ^ 32) functions.now }
-    ensures { Checked result (rule_broken f.now (first_fault (faults functions.now index))) }
+/// Checks that a function keeps the rules, behind those with these names.
+fn check_rules(alloc: Global, names: &Names, f: &Function) -> Result<(), Refusal>
+    requires { length f.now.insns < 2 ^ 32 }
+    ensures { (before : List Function) → AreNames before names.now → Checked result (rule_broken f.now (first_fault (faults_of before f.now))) }
 {
-    match check(alloc, functions, index) {
+    match check_behind(alloc, names, f) {
         Ok(()) => Ok(()),
         Err(CheckRefusal::IllFormed { uid, rule }) => Err(ill_formed(alloc, &f.name, uid, rule)),
         Err(CheckRefusal::Memory) => Err(Refusal::Memory),
@@ -68,18 +64,12 @@ fn check_limits(f: &Function) -> Result<(), Refusal>
     within(Limit::Pseudos, 10_000, next_pseudo(f.insns.as_slice()))
 }
 
-/// Checks the function at an index: the rules, and then the limits.
-fn check_function(
-    alloc: Global,
-    functions: &[Function],
-    index: u32,
-    f: &Function,
-) -> Result<(), Refusal>
-    requires within { index < length functions.now }
-    requires short { All (λ f. length f.insns < 2 ^ 32) functions.now }
-    ensures { Checked result (refused_at functions.now index f.now) }
+/// Checks a function behind those with these names: the rules, and then the limits.
+fn check_function(alloc: Global, names: &Names, f: &Function) -> Result<(), Refusal>
+    requires { length f.now.insns < 2 ^ 32 }
+    ensures { (before : List Function) → AreNames before names.now → Checked result (refused_behind before f.now) }
 {
-    check_rules(alloc, functions, index, f)?;
+    check_rules(alloc, names, f)?;
     check_limits(f)
 }
 
@@ -99,10 +89,10 @@ fn check_each(alloc: Global, functions: &[Function]) -> Result<(), Refusal>
     requires { All (λ f. length f.insns < 2 ^ 32) functions.now }
     ensures { Checks result functions.now }
 {
-    let mut index: u32 = 0;
+    let mut names = Names::new(alloc);
     for f in functions {
-        check_function(alloc, functions, index, f)?;
-        index = next_number(index)?;
+        check_function(alloc, &names, f)?;
+        names.put(alloc, &f.name)?;
     }
     Ok(())
 }

@@ -50,10 +50,10 @@ insn_sets reg i = list_any (effect_sets reg) (effects_of i.pattern)
 abbrev pub function_sets : Function → ℕ → Bool
 function_sets f reg = list_any (insn_sets reg) f.insns
 
--- the register holds the result, where there is one
+-- a0, the register that holds a result, where there is one
 abbrev pub is_result : Function → ℕ → Bool
-is_result f reg = is_some f.result && (f.result_reg == reg)
+is_result f reg = is_some f.result && (reg == 10)
 
--- a return uses the result, and those of ra, sp and s0 to s11 that the function sets
+-- a return uses the register of the result, and those of ra, sp and s0 to s11 that the function sets
 abbrev pub return_uses : Function → ℕ → Bool
 return_uses f reg = is_result f reg || (has_reg kept_registers reg && function_sets f reg)

@@ -6,25 +6,11 @@ ghost use Rattle.reg_uses.specs.Effects as spec;
 ghost use Rattle.reg_uses.specs.Uses as insns;
 
 use crate::Regs;
+use crate::asked::place_is;
 use plain_data::Memory;
 use rtx_tree::{Code, Function, Insn, Rtx};
 use rv_regs::kept_registers;
 use std::alloc::Global;
-
-fn is_register(x: &Rtx, reg: u32) -> bool
-    ensures { result ≡ spec.is_register reg x.now }
-{
-    reg != 0 && matches!(x.code, Code::Reg) && x.number == i64::from(reg)
-}
-
-fn place_is(place: &Rtx, reg: u32) -> bool
-    ensures { result ≡ spec.place_is reg place.now }
-{
-    match (place.code, place.kids.as_slice()) {
-        (Code::Subreg, [whole, ..]) => is_register(whole, reg),
-        _ => is_register(place, reg),
-    }
-}
 
 fn effect_sets(x: &Rtx, reg: u32) -> bool
     ensures { result ≡ spec.effect_sets reg x.now }
@@ -56,12 +42,16 @@ fn any_insn_sets(chain: &[Insn], reg: u32) -> bool
     chain.iter().any(|insn| insn_sets(insn, reg))
 }
 
+/// The register that holds a result: a0.
+const RESULT: u32 = 10;
+
+/// Adds the register of the function's result, if there is one.
 fn add_result(f: &Function, regs: &mut Regs) -> Result<(), Memory>
     ensures { OnOk result ((reg : ℕ) → has_reg regs.new reg ≡ (has_reg regs.old reg || insns.is_result f.now reg)) }
 {
     match f.result {
         None => Ok(()),
-        Some(_) => regs.push(f.result_reg),
+        Some(_) => regs.push(RESULT),
     }
 }
 

@@ -1,11 +1,11 @@
 //! Prints functions in canonical text.
-ghost use Rattle.std.specs.Prelude.{◌≡◌, ◌++◌, List, OnOk, flat_map, codes};
+ghost use Rattle.std.specs.Prelude.{◌≡◌, ◌++◌, List, OnErr, OnOk, flat_map, codes};
 ghost use Rattle.std.specs.Fmt.{decimal};
 ghost use Rattle.rtx_tree.specs.declared.function.Function.{Function};
 ghost use Rattle.rtl_print.specs.Back.{IsReadable, AreReadable, ReadsBack, AllReadBack};
 ghost use Rattle.rtl_print.specs.Canonical as spec;
 
-use crate::print::{print_head, print_reg_at, print_rtx};
+use crate::print::{print, print_head, print_reg_at};
 use itoa::Buffer;
 use plain_data::Memory;
 use rtx_tree::{ArgUse, Code, Function, Insn, Kind, Mode};
@@ -96,7 +96,7 @@ fn print_doing(word: &[u8], insn: &Insn, out: &mut Vec<u8>) -> Result<(), Memory
 {
     print_numbered(word, insn, out)?;
     out.push(b' ')?;
-    print_rtx(&insn.pattern, out)
+    print(&insn.pattern, out)
 }
 
 fn print_call(insn: &Insn, out: &mut Vec<u8>) -> Result<(), Memory>
@@ -182,20 +182,31 @@ fn print_front(f: &Function, out: &mut Vec<u8>) -> Result<(), Memory>
     Ok(())
 }
 
+/// Prints a function. Where memory runs out `out` holds what it held and a front of the text.
+fn print_whole(f: &Function, out: &mut Vec<u8>) -> Result<(), Memory>
+    ensures { OnOk result (out.new.items ≡ out.old.items ++ spec.printed_function f.now) }
+{
+    print_front(f, out)?;
+    print_locals(f.locals, out)?;
+    print_result(f.result, f.result_reg, out)?;
+    out.extend_from_slice(b")\n")?;
+    Ok(())
+}
+
 /// Appends a function as canonical text: one instruction on a line, the size of the locals, and the result if there is one.
-/// Where memory runs out `out` holds what it held and a front of that text.
+/// Where memory runs out `out` holds what it held.
 ///
 /// Where a tree of some text stands for the function, and its calls are settled, the canonical text is read as one tree, which
 /// stands for it; so are the canonical texts of several such functions, one behind the other.
 #[tactic(auto, using(crate::proofs::CanonicalBack::reads_back, crate::proofs::CanonicalBack::all_read_back))]
 pub fn print_function(f: &Function, out: &mut Vec<u8>) -> Result<(), Memory>
     ensures prints { OnOk result (out.new.items ≡ out.old.items ++ spec.printed_function f.now) }
+    ensures kept { OnErr result (out.new.items ≡ out.old.items) }
     ensures reads_back { IsReadable f.now → ReadsBack f.now }
     ensures all_read_back { (fs : List Function) → AreReadable fs → AllReadBack fs }
 {
-    print_front(f, out)?;
-    print_locals(f.locals, out)?;
-    print_result(f.result, f.result_reg, out)?;
-    out.extend_from_slice(b")\n")?;
+    let mut text = Vec::new(*out.allocator());
+    print_whole(f, &mut text)?;
+    out.extend_from_slice(text.as_slice())?;
     Ok(())
 }

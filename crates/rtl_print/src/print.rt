@@ -1,5 +1,5 @@
 //! Prints expressions on one line.
-ghost use Rattle.std.specs.Prelude.{◌≡◌, ◌++◌, ◌∷◌, [], OnOk, flat_map, codes};
+ghost use Rattle.std.specs.Prelude.{◌≡◌, ◌++◌, ◌∷◌, [], OnErr, OnOk, flat_map, codes};
 ghost use Rattle.std.specs.Fmt.{decimal, signed_decimal};
 ghost use Rattle.lisp_read.specs.declared.position.Position.{Position};
 ghost use Rattle.rtl_print.specs.Print.{head_text, mode_suffix};
@@ -163,8 +163,9 @@ fn print_body(x: &Rtx, out: &mut Vec<u8>) -> Result<(), Memory>
     }
 }
 
+/// Prints an expression. Where memory runs out `out` holds what it held and a front of the text.
 #[cycle(print)]
-fn print(x: &Rtx, out: &mut Vec<u8>) -> Result<(), Memory>
+pub(crate) fn print(x: &Rtx, out: &mut Vec<u8>) -> Result<(), Memory>
     ensures { OnOk result (out.new.items ≡ out.old.items ++ spec.printed x.now) }
 {
     out.push(b'(')?;
@@ -174,14 +175,17 @@ fn print(x: &Rtx, out: &mut Vec<u8>) -> Result<(), Memory>
     Ok(())
 }
 
-/// Appends the text of an expression, on one line with single spaces and no flags. Where memory runs out `out` holds what it
-/// held and a front of that text.
+/// Appends the text of an expression, on one line with single spaces and no flags. Where memory runs out `out` holds what it held.
 ///
 /// Where a tree of some text stands for the expression at a position, the text is read as one tree, which stands for it there.
 #[tactic(auto, using(crate::proofs::RtxBack::rtx_reads_back))]
 pub fn print_rtx(x: &Rtx, out: &mut Vec<u8>) -> Result<(), Memory>
     ensures prints { OnOk result (out.new.items ≡ out.old.items ++ spec.printed x.now) }
+    ensures kept { OnErr result (out.new.items ≡ out.old.items) }
     ensures reads_back { (p : Position) → IsReadableAt p x.now → ReadsBackAt p x.now }
 {
-    print(x, out)
+    let mut text = Vec::new(*out.allocator());
+    print(x, &mut text)?;
+    out.extend_from_slice(text.as_slice())?;
+    Ok(())
 }

@@ -1,5 +1,5 @@
 //! Prints trees on one line.
-ghost use Rattle.std.specs.Prelude.{◌≡◌, ◌++◌, ◌∷◌, [], OnOk};
+ghost use Rattle.std.specs.Prelude.{◌≡◌, ◌++◌, ◌∷◌, [], OnErr, OnOk};
 ghost use Rattle.tree_print.specs.Print as spec;
 ghost use Rattle.tree_print.specs.Print.{IsPrintable, ReadsBack};
 
@@ -59,14 +59,18 @@ fn print(tree: &Tree, out: &mut Vec<u8>) -> Result<(), Memory>
 }
 
 /// Appends the text of a tree: on one line, but for what strings and blocks hold, with a space between each two items
-/// of a list or a vector. Where memory runs out `out` holds what it held and a front of that text.
+/// of a list or a vector. Where memory runs out `out` holds what it held.
 ///
 /// Where each atom, string and block is one that a text may have, and at most 200 lists and vectors stand within each
 /// other, `read_trees` reads the text as that tree, places aside.
 #[tactic(auto, using(crate::proofs::PrintsBack::reads_back))]
 pub fn print_tree(tree: &Tree, out: &mut Vec<u8>) -> Result<(), Memory>
     ensures prints { OnOk result (out.new.items ≡ out.old.items ++ spec.printed_tree tree.now) }
+    ensures kept { OnErr result (out.new.items ≡ out.old.items) }
     ensures reads_back { IsPrintable tree.now → ReadsBack tree.now }
 {
-    print(tree, out)
+    let mut text = Vec::new(*out.allocator());
+    print(tree, &mut text)?;
+    out.extend_from_slice(text.as_slice())?;
+    Ok(())
 }

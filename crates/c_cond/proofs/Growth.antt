@@ -72,7 +72,7 @@ GrowsOne t = (before : List Tree) (hs : List Head) → grown before (heads_of t 
 step : (h : Head) (n : ℕ) (before : List Tree) (hs : List Head) → size_of h ≡ n → grown before (h ∷ hs) ≡ grown (node h (reverse (take n before)) ∷ drop n before) hs
 step h n before hs e = ap (λ (k : ℕ). grown (node h (reverse (take k before)) ∷ drop k before) hs) e
 
-grows_one : (t : Tree) → Grows (t ∷ []) → GrowsOne t
+pub grows_one : (t : Tree) → Grows (t ∷ []) → GrowsOne t
 grows_one t g before hs = ap (λ (x : List Head). grown before (x ++ hs)) (sym (all_1 t)) ∙ g before hs
 
 one_grows : (t : Tree) → GrowsOne t → Grows (t ∷ [])

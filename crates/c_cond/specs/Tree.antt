@@ -1,8 +1,9 @@
 -- Conditions and statements as trees, and their heads in a row.
-use Rattle.std.specs.Prelude.{ℕ, List, [], ◌∷◌, ◌++◌, take, drop, reverse}
+use Rattle.std.specs.Prelude.{◌≡◌, ℕ, List, [], ◌∷◌, ◌++◌, take, drop, reverse}
 use Rattle.std.specs.List.{flat_map}
 use Rattle.c_words.specs.declared.head.Head.{Head}
 use Rattle.c_words.specs.declared.head.Head.TheVariants as head
+use Rattle.c_words.specs.declared.head.Binary.TheVariants as binary
 use Rattle.c_words.specs.declared.head.Call.{Call}
 use Rattle.c_words.specs.declared.head.Call.TheVariants as call
 use Rattle.c_cond.specs.declared.tree.Tree.{Tree, roll-Tree}
@@ -66,3 +67,13 @@ first_or_nothing (t ∷ ts) = t
 -- the tree whose heads these are
 abbrev pub tree_of : List Head → Tree
 tree_of heads = first_or_nothing (grown [] heads)
+
+-- Heads are those of one whole tree: it has them, and it grows from them whatever stands before and behind.
+pub record IsWhole (heads : List Head) : Type 0 where
+  pub heads_are : heads_of (tree_of heads) ≡ heads
+  pub grows : (before : List Tree) (more : List Head) →
+      grown before (heads ++ more) ≡ grown (tree_of heads ∷ before) more
+
+-- both conditions hold: C's &&
+abbrev pub both : Tree → Tree → Tree
+both a b = node (head.Binary binary.And) (a ∷ b ∷ [])

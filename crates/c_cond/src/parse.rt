@@ -1,7 +1,7 @@
 //! Conditions and statements, read from their texts.
 ghost use Rattle.std.specs.Prelude.{◌≡◌, ℕ, List, [], ◌∷◌, IfOk};
 ghost use Rattle.c_cond.specs.declared.tree.Tree.{Tree};
-ghost use Rattle.c_cond.specs.Tree.{heads_of, tree_of};
+ghost use Rattle.c_cond.specs.Tree.{both, heads_of, tree_of};
 ghost use Rattle.c_words.specs.declared.atom.Dialect.TheVariants as Dialect;
 ghost use Rattle.c_words.specs.Tokens.{tokens_in};
 ghost use Rattle.c_cond.specs.Grammar.{IsText, Condition, Statements};
@@ -17,7 +17,7 @@ ghost use Rattle.c_cond.specs.machine.Steps.{Gives};
 use crate::front::reach;
 use crate::goal::Goal;
 use crate::parser::{Parser, StepError};
-use c_words::{Dialect, Head, Token, tokens_in};
+use c_words::{Binary, Dialect, Head, Token, tokens_in};
 use plain_data::{Items, Memory};
 use rtx_tree::{Constant, Constants};
 use std::alloc::Global;
@@ -32,10 +32,9 @@ pub struct Cond {
 }
 
 impl Model for Cond {
-    ghost use Rattle.std.specs.Prelude.{◌≡◌};
     ghost use Rattle.c_cond.specs.declared.tree.Tree.{Tree};
     ghost use Rattle.c_cond.specs.contracts.tree.Tree as tree;
-    ghost use Rattle.c_cond.specs.Tree.{heads_of, tree_of};
+    ghost use Rattle.c_cond.specs.Tree.{tree_of, IsWhole};
 
     ghost Value = { Tree };
 
@@ -43,7 +42,7 @@ impl Model for Cond {
 
     ghost view = { λ cond. tree_of cond.heads };
 
-    ghost invariant = { λ cond. heads_of (tree_of cond.heads) ≡ cond.heads };
+    ghost invariant = { λ cond. IsWhole cond.heads };
 }
 
 /// The same heads once more.
@@ -72,6 +71,20 @@ impl Cond {
         ensures tree { tree_of result.now ≡ self.now }
     {
         self.heads.as_slice()
+    }
+}
+
+impl Cond {
+    /// The condition that holds where both hold.
+    pub fn and(self, other: Cond) -> Result<Cond, Memory>
+        ensures { IfOk result (λ condition. condition ≡ both self other) }
+    {
+        let mut heads = self.heads.into_vec();
+        heads.append(&mut other.heads.into_vec())?;
+        heads.push(Head::Binary(Binary::And))?;
+        Ok(Cond {
+            heads: Items::from_vec(heads),
+        })
     }
 }
 

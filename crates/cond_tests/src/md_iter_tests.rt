@@ -49,6 +49,23 @@ fn print_tree(tree: &Tree, out: &mut Vec<u8>) -> Result<(), Memory> {
     }
 }
 
+/// Appends forms, each with the conditions of its values behind it.
+fn print_forms(forms: &[Instance], out: &mut Vec<u8>) -> Result<(), Memory> {
+    for at in 0..forms.len() {
+        if at > 0 {
+            out.push(b' ')?;
+        }
+        print_tree(&forms[at].tree, out)?;
+        for condition in forms[at].conditions.as_slice() {
+            if condition.bytes().len() > 0 {
+                out.extend_from_slice(b" & ")?;
+                out.extend_from_slice(condition.bytes())?;
+            }
+        }
+    }
+    Ok(())
+}
+
 /// The forms, and the constants behind them; of more than 20 forms only how many there are.
 fn shown(alloc: Global, expanded: &Expanded) -> Result<Vec<u8>, Memory> {
     let mut out = Vec::new(alloc);
@@ -57,7 +74,7 @@ fn shown(alloc: Global, expanded: &Expanded) -> Result<Vec<u8>, Memory> {
         out.extend_from_slice(shown.as_bytes())?;
         return Ok(out);
     }
-    print_trees(expanded.forms.as_slice(), &mut out)?;
+    print_forms(expanded.forms.as_slice(), &mut out)?;
     for constant in expanded.constants.as_slice() {
         let number = format!(in alloc; "={}", constant.number)?;
         out.extend_from_slice(b" ")?;
@@ -99,9 +116,9 @@ const CASES: &str = "\
 (define_mode_iterator GPR [SI DI]) (f \"<GPR:mode> <mode>\" {<MODE>mode} (match_operand:<GPR:MODE>)) => (f \"<GPR:mode> <mode>\" {<MODE>mode} (match_operand:<GPR:MODE>))\n\
 (define_code_iterator LOG [and ior xor]) (define_code_attr std [(and \"and\") (xor \"xor\") (ior \"ior\")]) (define_code_attr ins [(ior \"or\") (and \"and\")]) (f \"<std> <ins> <code> <CODE>\" (LOG:SI (LOG) LOG)) => (f \"and and and AND\" (and:SI (and) LOG)) (f \"ior or ior IOR\" (ior:SI (ior) LOG)) (f \"xor <ins> xor XOR\" (xor:SI (xor) LOG))\n\
 (define_int_iterator U [UNSPEC_A 7]) (define_int_attr n [(UNSPEC_A \"a\") (7 \"b\")]) (define_constants [(UNSPEC_A 40)]) (f \"<n> UNSPEC_A\" (unspec [U] U) (U x:U)) => (f \"a UNSPEC_A\" (unspec [40] 40) (U x:U)) (f \"b UNSPEC_A\" (unspec [7] 7) (U x:U)) UNSPEC_A=40\n\
-(define_mode_iterator P [(SI \"A\") (DI \"\") HI]) (define_insn \"n\" [(x:P)] \"B\") => (define_insn \"n\" [(x:SI)] \"(B) && (A)\") (define_insn \"n\" [(x:DI)] \"B\") (define_insn \"n\" [(x:HI)] \"B\")\n\
-(define_mode_iterator P [(SI \"A\")]) (define_code_iterator C [(and \"D\")]) (define_expand \"n\" [(C:P)] \"\" \"\") (define_split [(C:P)] \"B\" []) (define_peephole2 [(x:P)] \" \" []) => (define_expand \"n\" [(and:SI)] \"(D) && (A)\" \"\") (define_split [(and:SI)] \"((B) && (D)) && (A)\" []) (define_peephole2 [(x:SI)] \"A\" [])\n\
-(define_mode_iterator P [(SI \"A || <mode>\")]) (define_insn_and_split \"n\" [(x:P)] \"B<mode>\" \"#\" \"&& C\" []) (define_insn_and_split \"n\" [(x:P)] \"\" \"#\" \"C\" []) (define_attr \"n\" [(x:P)] \"B\" \"C\") (define_insn \"n\" [(x:P)] b) => (define_insn_and_split \"n\" [(x:SI)] \"(Bsi) && (A || <mode>)\" \"#\" \"&& C\" []) (define_insn_and_split \"n\" [(x:SI)] \"A || <mode>\" \"#\" \"(C) && (A || <mode>)\" []) (define_attr \"n\" [(x:SI)] \"B\" \"C\") (define_insn \"n\" [(x:SI)] b)\n\
+(define_mode_iterator P [(SI \"A\") (DI \"\") HI]) (define_insn \"n\" [(x:P)] \"B\") => (define_insn \"n\" [(x:SI)] \"B\") & A (define_insn \"n\" [(x:DI)] \"B\") (define_insn \"n\" [(x:HI)] \"B\")\n\
+(define_mode_iterator P [(SI \"A\")]) (define_code_iterator C [(and \"D\")]) (define_expand \"n\" [(C:P)] \"\" \"\") (define_split [(C:P)] \"B\" []) (define_peephole2 [(x:P)] \" \" []) => (define_expand \"n\" [(and:SI)] \"\" \"\") & D & A (define_split [(and:SI)] \"B\" []) & D & A (define_peephole2 [(x:SI)] \" \" []) & A\n\
+(define_mode_iterator P [(SI \"A || <mode>\")]) (define_insn_and_split \"n\" [(x:P)] \"B<mode>\" \"#\" \"&& C\" []) (define_insn_and_split \"n\" [(x:P)] \"\" \"#\" \"C\" []) (define_attr \"n\" [(x:P)] \"B\" \"C\") (define_insn \"n\" [(x:P)] b) => (define_insn_and_split \"n\" [(x:SI)] \"Bsi\" \"#\" \"&& C\" []) & A || <mode> (define_insn_and_split \"n\" [(x:SI)] \"\" \"#\" \"C\" []) & A || <mode> (define_attr \"n\" [(x:SI)] \"B\" \"C\") & A || <mode> (define_insn \"n\" [(x:SI)] b) & A || <mode>\n\
 (define_mode_iterator P [SI]) (define_mode_attr a [(SI \"v\") (SI \"w\")]) (f (x:P y:P P) \"<a><b><P:b><Q:a><P:a><<a>> <a < <a> a> <\" {<a>}) => (f (x:SI y:SI P) \"v<b><P:b><Q:a>v<v> <a < v a> <\" {v})\n\
 (define_mode_iterator P [SI]) (define_code_attr a [(SI \"v\")]) (f (x:P) \"<a> <code>\") => (f (x:SI) \"<a> <code>\")\n\
 (define_mode_iterator P [SI]) (define_mode_iterator P [DI HI]) (define_mode_attr a [(HI \"h\")]) (define_mode_attr a [(SI \"s\")]) (define_constants [(C 1) (C 2)]) (define_constants [(C 3)]) (f (x:P) \"<a>\" C) => (f (x:SI) \"<a>\" 1) C=1 C=2 C=3\n\

@@ -6,6 +6,8 @@
 #[cfg(test)]
 mod gcc_style;
 #[cfg(test)]
+mod instances;
+#[cfg(test)]
 mod lists;
 #[cfg(test)]
 mod md_attr_tests;

@@ -1,6 +1,7 @@
 //! Values of attributes, by descriptions.
 ghost use Rattle.std.specs.Prelude.{◌<◌, length};
 
+use crate::instances::instances_of;
 use lisp_read::read_trees;
 use md_attr::{Attributes, enabled, has_alternative, value};
 use md_forms::forms_of;
@@ -38,7 +39,7 @@ fn listed(alloc: Global, text: &[u8]) -> Result<Vec<u8>, Fail>
     requires { length text.now < 4294967295 }
 {
     let trees = read_trees(alloc, text)?;
-    let forms = forms_of(alloc, trees.as_slice(), &Items::new(alloc))?;
+    let forms = forms_of(alloc, instances_of(alloc, trees)?.as_slice(), &Items::new(alloc))?;
     let attrs = Attributes::of(alloc, &forms)?;
     let mut out = Vec::new(alloc);
     for form in 0..10 {

@@ -1,6 +1,7 @@
 //! Which operands fit, by descriptions.
 
 use c_eval::Preds;
+use crate::instances::instances_of;
 use lisp_read::{RtlRefusal, Tree, atom, is_word, read_trees, rtx_of_tree, vector};
 use md_constr::{Constraints, alternatives_of, fits};
 use md_forms::forms_of;
@@ -158,7 +159,7 @@ fn right_rows(alloc: Global, table: &Constraints) -> Result<u32, RtlRefusal> {
 fn operands_that_fit(rt: HostRuntime) -> Result<(), Fail> {
     let alloc = rt.alloc();
     let trees = read_trees(alloc, FORMS)?;
-    let forms = forms_of(alloc, trees.as_slice(), &Items::new(alloc))?;
+    let forms = forms_of(alloc, instances_of(alloc, trees)?.as_slice(), &Items::new(alloc))?;
     let table = Constraints::of(alloc, &forms)?;
     assert_eq!(rt; right_rows(alloc, &table)?, 15);
     let none = Operands::new(alloc);

@@ -1,6 +1,7 @@
 // Forms by their texts.
 ghost use Rattle.std.specs.Prelude.{◌<◌, length};
 
+use crate::instances::instances_of;
 use lisp_read::read_trees;
 use md_forms::*;
 use plain_data::{Items, Memory};
@@ -24,7 +25,7 @@ fn listed(alloc: Global, text: &[u8]) -> Result<Vec<u8>, Fail>
 {
     let trees = read_trees(alloc, text)?;
     let constants = constants(alloc)?;
-    let forms = forms_of(alloc, trees.as_slice(), &constants)?;
+    let forms = forms_of(alloc, instances_of(alloc, trees)?.as_slice(), &constants)?;
     let names = names_of(alloc, forms.as_slice())?;
     let mut out = Vec::new(alloc);
     for (form, name) in forms.as_slice().iter().zip(names.as_slice()) {

@@ -2,6 +2,7 @@
 ghost use Rattle.std.specs.Prelude.{◌<◌, length};
 
 use c_eval::Preds;
+use crate::instances::instances_of;
 use lisp_read::read_trees;
 use md_forms::forms_of;
 use md_pred::PredTable;
@@ -14,7 +15,7 @@ use std::test::Fail;
 fn table_of(alloc: Global, text: &str) -> Result<PredTable, Fail> {
     let text = if text.len() > 4_000_000 { "" } else { text };
     let trees = read_trees(alloc, text.as_bytes())?;
-    let forms = forms_of(alloc, trees.as_slice(), &Items::new(alloc))?;
+    let forms = forms_of(alloc, instances_of(alloc, trees)?.as_slice(), &Items::new(alloc))?;
     Ok(PredTable::of(alloc, &forms)?)
 }
 

@@ -8,8 +8,9 @@ use Rattle.md_iter.specs.declared.definition.FormIterator.{FormIterator}
 use Rattle.md_iter.specs.declared.definition.Definitions.{Definitions}
 use Rattle.md_iter.specs.declared.choice.Choice.{Choice}
 use Rattle.md_iter.specs.Choice.{Chosen, chosen_of, choices, choice_count, iterators_of, lent}
+use Rattle.md_iter.specs.declared.substitution.Instance.{Instance}
 use Rattle.md_iter.specs.Substitution.{form_under}
-use Rattle.md_iter.specs.Expansion.{forms_of_form}
+use Rattle.md_iter.specs.Expansion.{forms_of_form, most_forms}
 use Rattle.md_iter.proofs.Counts.{length_choices, length_map}
 
 module _ (definitions : Definitions) (form : Tree) (used lent_used : List (Bor FormIterator)) (count : ℕ) (lists : lent used ≡ iterators_of definitions.iterators form) (same : lent_used ≡ used) (counts : count ≡ min (choice_count (lent lent_used)) (2 ^ 64 - 1)) where
@@ -20,11 +21,11 @@ module _ (definitions : Definitions) (form : Tree) (used lent_used : List (Bor F
   length_forms : length (forms_of_form definitions form) ≡ choice_count (lent used)
   length_forms = length_map (form_under definitions form) (choices (iterators_of definitions.iterators form)) ∙ length_choices (iterators_of definitions.iterators form) ∙ ap choice_count (sym lists)
 
-  pub too_many : (n : ℕ) → n ≤ 20000 → 20000 - n < count → 20000 < n + length (forms_of_form definitions form)
+  pub too_many : (n : ℕ) → n ≤ most_forms → most_forms - n < count → most_forms < n + length (forms_of_form definitions form)
   too_many n few many = rw length_forms (omega (arith, counted, few, many))
 
   -- one form more
-  pub form_next : (old before now : List Tree) (at : ℕ) (again : List (Bor FormIterator)) (choice lent_choice : List Choice) (x : Tree) → again ≡ used → slice_get (choices (lent again)) at ≡ Some (map chosen_of choice) → lent_choice ≡ choice → x ≡ form_under definitions form (map chosen_of lent_choice) → now ≡ before ++ x ∷ [] →
+  pub form_next : (old before now : List Instance) (at : ℕ) (again : List (Bor FormIterator)) (choice lent_choice : List Choice) (x : Instance) → again ≡ used → slice_get (choices (lent again)) at ≡ Some (map chosen_of choice) → lent_choice ≡ choice → x ≡ form_under definitions form (map chosen_of lent_choice) → now ≡ before ++ x ∷ [] →
       before ≡ old ++ map (form_under definitions form) (take at (choices (iterators_of definitions.iterators form))) → now ≡ old ++ map (form_under definitions form) (take (at + 1) (choices (iterators_of definitions.iterators form)))
   form_next old before now at again choice lent_choice x same_again found same_choice made added h =
       let chosen : List Chosen = map chosen_of choice in
@@ -39,7 +40,7 @@ module _ (definitions : Definitions) (form : Tree) (used lent_used : List (Bor F
       ∙ ap (λ xs. old ++ map (form_under definitions form) xs) (sym more)
 
   -- all forms
-  pub forms_end : (old now : List Tree) (at : ℕ) → count ≤ 20000 → count ≤ at →
+  pub forms_end : (old now : List Instance) (at : ℕ) → count ≤ most_forms → count ≤ at →
       now ≡ old ++ map (form_under definitions form) (take at (choices (iterators_of definitions.iterators form))) → now ≡ old ++ forms_of_form definitions form
   forms_end old now at few end h =
       let many : length (choices (iterators_of definitions.iterators form)) ≡ choice_count (lent used) = length_choices (iterators_of definitions.iterators form) ∙ ap choice_count (sym lists) in

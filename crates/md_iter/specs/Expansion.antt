@@ -3,6 +3,7 @@ use Rattle.std.specs.Prelude.{◌≡◌, ℕ, ◌+◌, ◌≤◌, ◌<◌, List,
 use Rattle.std.specs.List.{flat_map}
 use Rattle.lisp_read.specs.declared.tree.Tree.{Tree}
 use Rattle.md_iter.specs.declared.definition.Definitions.{Definitions}
+use Rattle.md_iter.specs.declared.substitution.Instance.{Instance}
 use Rattle.md_iter.specs.declared.expand.Expanded.{Expanded}
 use Rattle.md_iter.specs.declared.expand.TreeRefusal.{TreeRefusal}
 use Rattle.md_iter.specs.declared.expand.TreeRefusal.TheVariants as tree_refusal
@@ -12,41 +13,45 @@ use Rattle.md_iter.specs.Definition.{is_form, definitions_in, all_constants_in}
 use Rattle.md_iter.specs.Choice.{iterators_of, choices}
 use Rattle.md_iter.specs.Substitution.{form_under}
 
+-- the most forms of a description
+abbrev pub most_forms : ℕ
+most_forms = 20000
+
 -- a form once for each choice of values of the iterators that it uses
-abbrev pub forms_of_form : Definitions → Tree → List Tree
+abbrev pub forms_of_form : Definitions → Tree → List Instance
 forms_of_form definitions form = map (form_under definitions form) (choices (iterators_of definitions.iterators form))
 
-abbrev pub forms_of_tree : Definitions → Tree → List Tree
+abbrev pub forms_of_tree : Definitions → Tree → List Instance
 forms_of_tree definitions t = if is_form t then forms_of_form definitions t else []
 
-abbrev pub forms_with : Definitions → List Tree → List Tree
+abbrev pub forms_with : Definitions → List Tree → List Instance
 forms_with definitions trees = flat_map (forms_of_tree definitions) trees
 
 -- all forms of a description, in the order of its trees
-abbrev pub forms_of : List Tree → List Tree
+abbrev pub forms_of : List Tree → List Instance
 forms_of trees = forms_with (definitions_in trees) trees
 
 -- the tree at which there are more than 20,000 forms for the first time
 pub record PassesAt (definitions : Definitions) (trees : List Tree) (at : ℕ) : Type 0 where
   pub within : at < length trees
-  pub before : length (forms_with definitions (take at trees)) ≤ 20000
-  pub after : 20000 < length (forms_with definitions (take (at + 1) trees))
+  pub before : length (forms_with definitions (take at trees)) ≤ most_forms
+  pub after : most_forms < length (forms_with definitions (take (at + 1) trees))
 
 -- what a call answers on some trees; want of memory is free
 abbrev pub Gives : List Tree → Result Expanded IterRefusal → Type 0
-Gives trees (Ok e) = (e.forms ≡ forms_of trees) × (e.constants ≡ all_constants_in trees) × (length (forms_of trees) ≤ 20000)
+Gives trees (Ok e) = (e.forms ≡ forms_of trees) × (e.constants ≡ all_constants_in trees) × (length (forms_of trees) ≤ most_forms)
 Gives trees (Err (refusal.Limit at)) = PassesAt (definitions_in trees) trees at
 Gives trees (Err refusal.Memory) = Unit {0}
 
 -- ---- the steps of the code
 
-abbrev pub GivesForms : Definitions → List Tree → Result (List Tree) IterRefusal → Type 0
-GivesForms definitions trees (Ok forms) = (forms ≡ forms_with definitions trees) × (length (forms_with definitions trees) ≤ 20000)
+abbrev pub GivesForms : Definitions → List Tree → Result (List Instance) IterRefusal → Type 0
+GivesForms definitions trees (Ok forms) = (forms ≡ forms_with definitions trees) × (length (forms_with definitions trees) ≤ most_forms)
 GivesForms definitions trees (Err (refusal.Limit at)) = PassesAt definitions trees at
 GivesForms definitions trees (Err refusal.Memory) = Unit {0}
 
-abbrev pub IsTooMany : TreeRefusal → List Tree → List Tree → Type 0
-IsTooMany tree_refusal.Limit before more = 20000 < length before + length more
+abbrev pub IsTooMany : TreeRefusal → List Instance → List Instance → Type 0
+IsTooMany tree_refusal.Limit before more = most_forms < length before + length more
 IsTooMany tree_refusal.Memory before more = Unit {0}
 
 abbrev pub IsLimitAt : ℕ → IterRefusal → Type 0

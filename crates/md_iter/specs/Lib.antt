@@ -4,6 +4,5 @@ pub mod Definition
 pub mod Choice
 pub mod Attribute
 pub mod Angles
-pub mod Condition
 pub mod Substitution
 pub mod Expansion

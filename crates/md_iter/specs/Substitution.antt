@@ -11,11 +11,11 @@ use Rattle.lisp_read.specs.declared.tree.Tree.TheFolds.{fold-Tree}
 use Rattle.md_iter.specs.declared.definition.Kind.{Kind}
 use Rattle.md_iter.specs.declared.definition.Kind.TheVariants.{Mode, Code, Int}
 use Rattle.md_iter.specs.declared.definition.Definitions.{Definitions}
+use Rattle.md_iter.specs.declared.substitution.Instance.{Instance}
 use Rattle.md_iter.specs.Shape.{cut}
 use Rattle.md_iter.specs.Choice.{Chosen, is_iterator, from_head}
 use Rattle.md_iter.specs.Attribute.{filling}
 use Rattle.md_iter.specs.Angles.{filled}
-use Rattle.md_iter.specs.Condition.{conditioned}
 
 -- ---- texts
 
@@ -80,6 +80,13 @@ substituted definitions choice = fold-Tree (Bool → Tree) (substituted_step def
 abbrev pub substituted_trees : Definitions → List Chosen → List Tree → Bool → List Tree
 substituted_trees definitions choice trees head_first = from_head head_first (map (substituted definitions choice) trees)
 
--- a form under a choice of values: with them in the places of the iterators, and with their conditions
-abbrev pub form_under : Definitions → Tree → List Chosen → Tree
-form_under definitions form choice = conditioned choice (substituted definitions choice form false)
+-- the conditions of the values: GCC Internals, "Mode Iterators", "Defining Mode Iterators"
+abbrev pub conditions_of : List Chosen → List (List ℕ)
+conditions_of choice = map (λ c. c.value.condition) choice
+
+-- a form under a choice of values: with them in the places of the iterators, and with their conditions, which hold besides its own
+abbrev pub form_under : Definitions → Tree → List Chosen → Instance
+form_under definitions form choice = record {
+  tree = substituted definitions choice form false;
+  conditions = conditions_of choice;
+}

@@ -5,8 +5,8 @@ ghost use Rattle.md_iter.specs.Expansion as spec;
 use crate::choice::{choice_at, choice_count, iterators_of};
 use crate::definition::{Definitions, definitions_in, is_form};
 use crate::refusal::IterRefusal;
-use crate::substitution::form_under;
-use lisp_read::{Tree, Trees};
+use crate::substitution::{Instance, form_under};
+use lisp_read::Tree;
 use plain_data::{Items, Memory};
 use rtx_tree::Constants;
 use std::alloc::Global;
@@ -18,7 +18,7 @@ const MOST_FORMS: usize = 20_000;
 #[derive(Drop)]
 pub struct Expanded {
     /// The forms, in order.
-    pub forms: Trees,
+    pub forms: Items<Instance>,
     /// All constants that the description defines, in order. Of a name that stands twice the first counts.
     pub constants: Constants,
 }
@@ -46,11 +46,11 @@ fn expand_form(
     alloc: Global,
     definitions: &Definitions,
     form: &Tree,
-    forms: &mut Trees,
+    forms: &mut Items<Instance>,
 ) -> Result<(), TreeRefusal>
-    requires { length forms.old ≤ 20000 }
+    requires { length forms.old ≤ spec.most_forms }
     ensures ok { OnOk result (forms.new ≡ forms.old ++ spec.forms_of_form definitions.now form.now) }
-    ensures bound { OnOk result (length forms.new ≤ 20000) }
+    ensures bound { OnOk result (length forms.new ≤ spec.most_forms) }
     ensures limit { IfErr result (λ e. spec.IsTooMany e forms.old (spec.forms_of_form definitions.now form.now)) }
 {
     let used = iterators_of(alloc, definitions.iterators.as_slice(), form)?;
@@ -70,11 +70,11 @@ fn expand_tree(
     alloc: Global,
     definitions: &Definitions,
     tree: &Tree,
-    forms: &mut Trees,
+    forms: &mut Items<Instance>,
 ) -> Result<(), TreeRefusal>
-    requires { length forms.old ≤ 20000 }
+    requires { length forms.old ≤ spec.most_forms }
     ensures ok { OnOk result (forms.new ≡ forms.old ++ spec.forms_of_tree definitions.now tree.now) }
-    ensures bound { OnOk result (length forms.new ≤ 20000) }
+    ensures bound { OnOk result (length forms.new ≤ spec.most_forms) }
     ensures limit { IfErr result (λ e. spec.IsTooMany e forms.old (spec.forms_of_tree definitions.now tree.now)) }
 {
     if is_form(alloc, tree)? {
@@ -98,7 +98,7 @@ fn expand_trees(
     alloc: Global,
     definitions: &Definitions,
     trees: &[Tree],
-) -> Result<Trees, IterRefusal>
+) -> Result<Items<Instance>, IterRefusal>
     ensures { spec.GivesForms definitions.now trees.now result }
 {
     let mut forms = Items::new(alloc);
@@ -118,7 +118,7 @@ fn expand_trees(
 /// text, wherever they stand; of a name that is defined twice the first definition counts. A definition
 /// whose parts are missing, too many or of the wrong kind is a form like all other trees. A form stands
 /// once for each choice of values of the iterators that its atoms use, the first of them varying slowest,
-/// with the values' conditions joined to its own. `Limit` is answered exactly where there are more than
+/// with the values' conditions beside it. `Limit` is answered exactly where there are more than
 /// 20,000 forms, with the tree that passes this number, or `Memory`.
 pub fn expand_forms(alloc: Global, trees: &[Tree]) -> Result<Expanded, IterRefusal>
     ensures { spec.Gives trees.now result }

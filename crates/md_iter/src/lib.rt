@@ -3,7 +3,7 @@
 //! A description defines iterators (of modes, codes and integers), attributes that give each value of an
 //! iterator a text, and constants. [`expand_forms`] takes these definitions out and gives all other trees,
 //! the forms, in order: each of them once for every choice of values of the iterators that it uses, the
-//! first of them varying slowest (`specs/Expansion.antt`). It answers [`IterRefusal::Limit`] exactly where
+//! first of them varying slowest, with the conditions of these values (`specs/Expansion.antt`). It answers [`IterRefusal::Limit`] exactly where
 //! that makes more than 20,000 forms, with the tree that passes this number, and before it makes the forms
 //! of that tree.
 #![tactic(auto)]
@@ -11,7 +11,6 @@
 mod angles;
 mod attribute;
 mod choice;
-mod condition;
 mod definition;
 mod expand;
 mod number;
@@ -21,3 +20,4 @@ mod substitution;
 
 pub use expand::{Expanded, expand_forms};
 pub use refusal::IterRefusal;
+pub use substitution::Instance;

@@ -7,7 +7,6 @@ ghost use Rattle.md_iter.specs.Substitution as spec;
 
 use crate::angles::filled;
 use crate::choice::Choice;
-use crate::condition::conditioned;
 use crate::definition::{Definitions, Kind};
 use crate::shape::{cut, same};
 use itoa::Buffer;
@@ -15,6 +14,16 @@ use lisp_read::{Tree, Trees};
 use plain_data::{Items, Memory};
 use rtx_tree::{Constant, Name};
 use std::alloc::Global;
+
+/// A form with values in the places of its iterators.
+#[derive(Drop)]
+pub struct Instance {
+    /// The form's tree.
+    pub tree: Tree,
+    /// The conditions of the values, in the order of the iterators. Where the form has a condition, they hold besides it. The
+    /// empty condition is always true.
+    pub conditions: Items<Name>,
+}
 
 /// The value of the iterator of a kind and a name.
 fn value_named<'a>(choices: &[Choice<'a>], kind: Kind, name: &[u8]) -> Option<&'a Name>
@@ -208,15 +217,29 @@ fn substituted(
     }
 }
 
+/// The conditions of the values of a choice, in the order of the iterators.
+fn conditions_of(alloc: Global, choices: &[Choice]) -> Result<Items<Name>, Memory>
+    ensures { IfOk result (λ conditions. conditions ≡ spec.conditions_of (map chosen_of choices.now)) }
+{
+    let mut conditions = Items::new(alloc);
+    for choice in choices {
+        conditions.push(choice.value.condition.copy(alloc)?)?;
+    }
+    Ok(conditions)
+}
+
 /// A form under a choice of values.
 pub fn form_under(
     alloc: Global,
     definitions: &Definitions,
     choices: &[Choice],
     form: &Tree,
-) -> Result<Tree, Memory>
+) -> Result<Instance, Memory>
     ensures { IfOk result (λ out. out ≡ spec.form_under definitions.now form.now (map chosen_of choices.now)) }
 {
     let tree = substituted(alloc, definitions, choices, form, false)?;
-    conditioned(alloc, choices, tree)
+    Ok(Instance {
+        tree,
+        conditions: conditions_of(alloc, choices)?,
+    })
 }

@@ -3,7 +3,7 @@ use Rattle.c_cond.proofs.Outside.{refused_statements}
 use Rattle.c_cond.proofs.parse.statements_of.Goals as goal
 
 pub invariant_of-result : goal.invariant_of-result
-invariant_of-result c = (is_statements _ _ _ _ c.in-Ok.ensures).heads_are
+invariant_of-result c = (is_statements _ _ _ _ c.in-Ok.ensures).whole.heads_are
 
 pub returns-in-Ok : goal.returns-in-Ok
 returns-in-Ok c = (is_statements _ _ _ _ c.in-Ok.ensures).is

@@ -1,6 +1,0 @@
-use Rattle.std.proofs.Common.{◌≡◌, take}
-use Rattle.md_draft.specs.Draft as spec
-use Rattle.md_draft.proofs.part.instructions.Given as goal
-
-abbrev pub invariant-loop-tree : goal.invariant-loop-tree
-invariant-loop-tree l = l.count ≡ spec.instructions (take l.tree-index l.trees)

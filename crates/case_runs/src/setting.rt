@@ -110,10 +110,7 @@ pub fn is_command(part: &Part) -> bool {
 
 /// Whether a part has lines below its head that count.
 fn has_lines(head: &str) -> bool {
-    head == "-- input"
-        || head == "-- output"
-        || head == "-- errors"
-        || head.starts_with("-- file ")
+    head == "-- input" || head == "-- output" || head == "-- errors" || head.starts_with("-- file ")
 }
 
 /// Whether a head is that of a part without lines.
@@ -129,8 +126,7 @@ fn is_bare(head: &str) -> bool {
 
 /// Whether a part is one that a case may have.
 fn is_known(part: &Part) -> bool {
-    has_lines(part.head)
-        || is_bare(part.head) && part.lines.iter().all(|line| line.is_empty())
+    has_lines(part.head) || is_bare(part.head) && part.lines.iter().all(|line| line.is_empty())
 }
 
 /// Refuses a case that has a part which none may have.

@@ -1,6 +1,5 @@
 //! Tables of cases.
-use anyhow::Result;
-use case_tables::answer;
+use anyhow::{Result, bail};
 use case_text::{Report, Table, push_bytes, push_shown, push_word};
 use std::alloc::Global;
 
@@ -12,9 +11,12 @@ fn shown_answer(alloc: Global, table: &Table, input: &str) -> Result<Vec<u8>> {
     let mut given = Vec::new(alloc);
     let mut bytes = Vec::new(alloc);
     if !push_bytes(table.given(), &mut given)? || !push_word(input, &mut bytes)? {
-        anyhow::bail!("{UNREAD}")
+        bail!("{UNREAD}")
     }
-    let came = answer(alloc, table.name(), &given, &bytes)?;
+    let came = match base_cases::answer(alloc, table.name(), &bytes)? {
+        Some(came) => came,
+        None => case_tables::answer(alloc, table.name(), &given, &bytes)?,
+    };
     let mut shown = Vec::new(alloc);
     push_shown(&came, false, &mut shown)?;
     Ok(shown)
@@ -24,7 +26,7 @@ fn shown_answer(alloc: Global, table: &Table, input: &str) -> Result<Vec<u8>> {
 fn shown_wanted(alloc: Global, wanted: &str) -> Result<Vec<u8>> {
     let mut bytes = Vec::new(alloc);
     if !push_word(wanted, &mut bytes)? {
-        anyhow::bail!("{UNREAD}")
+        bail!("{UNREAD}")
     }
     let mut shown = Vec::new(alloc);
     push_shown(&bytes, false, &mut shown)?;
@@ -39,7 +41,7 @@ fn try_row(alloc: Global, table: &Table, report: &mut Report) -> Result<()> {
         None => match (row.strip_suffix(" =>"), row.strip_prefix("=> ")) {
             (Some(input), _) => (input, ""),
             (None, Some(wanted)) => ("", wanted),
-            (None, None) => anyhow::bail!("no row of a table"),
+            (None, None) => bail!("no row of a table"),
         },
     };
     let wanted = shown_wanted(alloc, wanted.trim())?;

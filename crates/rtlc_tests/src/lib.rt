@@ -1,19 +1,12 @@
-//! Tests of the whole program as one call, over objects in memory.
-//!
-//! They stand in a crate of their own, since a crate with tests is proved twice.
+//! Tests of what no text of a case can say: objects of the outside that fail, what is generated since it is large, and values without a
+//! text. All else is a case of the program `rtlc_cases`.
 #![tactic(auto)]
 
 #[cfg(test)]
-mod asm_tests;
+mod byte_edge_tests;
 #[cfg(test)]
-mod eval_tests;
+mod plain_data_tests;
 #[cfg(test)]
-mod jump_tests;
+mod rtx_tree_tests;
 #[cfg(test)]
-mod list_tests;
-#[cfg(test)]
-mod recog_tests;
-#[cfg(test)]
-mod whole_tests;
-#[cfg(test)]
-mod words_tests;
+mod run_tests;

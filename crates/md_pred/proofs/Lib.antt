@@ -3,3 +3,7 @@ pub mod Keeping
 pub mod Same
 pub mod Parts
 pub mod Asking
+pub mod Agreeing
+pub mod Firsts
+pub mod Asked
+pub mod Told

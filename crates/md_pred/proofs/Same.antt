@@ -1,5 +1,5 @@
 -- A table of the first definitions accepts what the forms' predicates accept.
-use Rattle.std.proofs.Common.{◌≡◌, ℕ, List, Option, Some, None, length, refl, ap, ◌∙◌}
+use Rattle.std.proofs.Common.{◌≡◌, ℕ, ◌+◌, List, Option, Some, None, length, refl, ap, ◌∙◌}
 use Rattle.std.proofs.Math.Path.{fun_ext}
 use Rattle.std.specs.List.{find}
 use Rattle.rtx_tree.specs.declared.code.Mode.{Mode}
@@ -22,5 +22,5 @@ first_same nodes (Some d) None is other x m = absurd is
 same : (ds : Definitions) (es : List Entry) → AreKept ds es → kept ds ≡ defined es
 same ds es are = fun_ext (λ other. fun_ext (λ name. fun_ext (λ x. fun_ext (λ m. first_same ds.rows (definition_in ds name) (find (defines name) es) (are name) other x m))))
 
-pub table_holds : (ds : Definitions) (es : List Entry) (rounds : ℕ) → AreKept ds es → rounds ≡ length es → within (kept ds) rounds ≡ holds es
+pub table_holds : (ds : Definitions) (es : List Entry) (rounds : ℕ) → AreKept ds es → rounds ≡ length es + 1 → within (kept ds) rounds ≡ holds es
 table_holds ds es rounds are is = ap (λ (define : Accepts → Accepts). within define rounds) (same ds es are) ∙ ap (within (defined es)) is

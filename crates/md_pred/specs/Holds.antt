@@ -1,6 +1,6 @@
 -- Which trees the predicates of a description accept: GCC Internals, "Machine-Independent Predicates" and "Defining
 -- Machine-Specific Predicates".
-use Rattle.std.specs.Prelude.{ℕ, zero, suc, Bool, true, false, ◌&&◌, ◌||◌, List, Option, Some, None, Result, Ok, Err, length}
+use Rattle.std.specs.Prelude.{ℕ, zero, suc, Bool, true, false, ◌&&◌, ◌||◌, List, Option, Some, None, Result, Ok, Err, length, ◌≡◌, ◌+◌}
 use Rattle.std.specs.List.{find}
 use Rattle.std.specs.Str.{bytes_eq}
 use Rattle.rtx_tree.specs.declared.code.Mode.{Mode}
@@ -71,6 +71,19 @@ defined_within define (suc rounds) name x m = define (λ other y n. own_or (own_
 abbrev pub within : (Accepts → Accepts) → ℕ → Accepts
 within define rounds name x m = own_or (own_named name) m x (defined_within define rounds name x m)
 
--- An accepted predicate does not reach itself, so that definitions ask for one another less often than there are forms.
+-- Which trees the predicates of a description accept. That this is told by their definitions alone, whatever the number of
+-- rounds, is the law IsTold: a predicate that reaches itself is set aside.
 abbrev pub holds : List Entry → Accepts
-holds es = within (defined es) (length es)
+holds es = within (defined es) (length es + 1)
+
+-- ---- what tells them
+
+-- Predicates accept what they are defined to accept: one that the manual has answers itself, and any other accepts what its
+-- definition does, by what the predicates accept that this asks for.
+abbrev pub AreDefined : List Entry → Accepts → Type 0
+AreDefined es accepted = (name : List ℕ) (x : Rtx) (m : Mode) → accepted name x m ≡ own_or (own_named name) m x (defined es accepted name x m)
+
+-- The definitions tell what predicates accept: they accept what they are defined to accept, and nothing else could be accepted.
+pub record IsTold (es : List Entry) (accepted : Accepts) : Type 0 where
+  pub defined_so : AreDefined es accepted
+  pub alone : (other : Accepts) → AreDefined es other → (name : List ℕ) (x : Rtx) (m : Mode) → other name x m ≡ accepted name x m

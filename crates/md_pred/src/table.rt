@@ -21,20 +21,24 @@ pub struct PredTable {
 }
 
 impl PredTable {
-    ghost use Rattle.md_pred.specs.Holds.{holds};
+    ghost use Rattle.std.specs.Prelude.{List};
+    ghost use Rattle.md_draft.specs.declared.draft.DraftEntry.{DraftEntry};
+    ghost use Rattle.md_forms.specs.Forms.{forms_in};
+    ghost use Rattle.md_pred.specs.Holds.{holds, IsTold};
     ghost use Rattle.md_pred.specs.Table.{accepted_by};
 
     /// The table of the predicates that some forms define. Of a name the first definition counts, and one that is set aside accepts
-    /// nothing.
+    /// nothing. For the forms of a description the definitions tell what predicates accept.
     pub fn of(alloc: Global, forms: &Forms) -> Result<PredTable, Memory>
-        ensures { IfOk result (λ table. accepted_by table ≡ holds forms.now) }
+        ensures accepts { IfOk result (λ table. accepted_by table ≡ holds forms.now) }
+        ensures told { (drafts : List DraftEntry) → forms.now ≡ forms_in drafts → IsTold forms.now (holds forms.now) }
     {
         let definitions = Definitions::of(alloc, forms.as_slice())?;
         let weights = weights_of(alloc, &definitions)?;
         Ok(PredTable {
             definitions,
             weights,
-            rounds: forms.len(),
+            rounds: forms.len() + 1,
         })
     }
 }

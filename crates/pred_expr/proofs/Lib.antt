@@ -1,3 +1,4 @@
 pub mod GrammarLaws
 pub mod Each
 pub mod TestLaws
+pub mod Tests

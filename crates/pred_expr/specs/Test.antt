@@ -1,12 +1,15 @@
 -- The tests of predicates and constraints: GCC Internals, "Defining Machine-Specific Predicates" and "Defining Machine-Specific
 -- Constraints". A test is made of questions on the operand with `and`, `ior`, `not` and `if_then_else`.
-use Rattle.std.specs.Prelude.{ℕ, ◌==◌, List, [], ◌∷◌, ◌++◌, Option, Some, None, Result, Ok, Err, if◌then◌else◌, length, codes, option_and_then}
+use Rattle.std.specs.Prelude.{◌≡◌, ℕ, ◌==◌, List, [], ◌∷◌, ◌++◌, Option, Some, None, Result, Ok, Err, if◌then◌else◌, length, codes, option_and_then}
 use Rattle.std.specs.List.{flat_map}
 use Rattle.std.specs.Str.{bytes_eq}
 use Rattle.rtx_tree.specs.declared.code.Code.{Code}
 use Rattle.rtx_tree.specs.declared.code.Code.TheVariants.{MatchOperand}
 use Rattle.rtx_tree.specs.declared.code.Mode.{Mode}
 use Rattle.rtx_tree.specs.declared.constants.Constant.{Constant}
+use Rattle.c_words.specs.declared.atom.Dialect.TheVariants as dialect
+use Rattle.c_cond.specs.declared.tree.Tree as c_tree
+use Rattle.c_cond.specs.Grammar.{IsText, Condition}
 use Rattle.lisp_read.specs.declared.tree.Tree.{Tree}
 use Rattle.lisp_read.specs.declared.tree.Tree.TheOpen.{Tree-F}
 use Rattle.lisp_read.specs.declared.tree.Tree.TheFolds.{fold-Tree}
@@ -128,6 +131,44 @@ test_step constants x t = list_by constants (items_of t) (each_read (inside_at x
 -- the test that a tree writes, or the smallest reason that applies anywhere in it
 unfoldable pub test_of : List Constant → Tree → Result Test Reason
 test_of constants t = fold-Tree (Tree → Result Test Reason) (test_step constants) t t
+
+-- ---- what a test is
+
+-- The tree is a list: a word, and trees behind it.
+pub record IsList (t : Tree) (word : List ℕ) (ts : List Tree) : Type 0 where
+  pub head : Tree
+  pub items : items_of t ≡ head ∷ ts
+  pub word_is : atom_of head ≡ Some word
+
+-- The tree is this test. One case for each word that may stand at its head; what the text of a
+-- match_test is, the grammar of conditions says. That test_of gives this test is a clause.
+pub data IsTest (constants : List Constant) : Tree → Test → Type 0 where
+  of_codes : (t : Tree) (word : List ℕ) (ts : List Tree) (text : List ℕ) (cs : List Code) →
+      IsList t word ts → kind_of word ≡ Some kind.Codes →
+      text_in ts ≡ Some text → codes_in text ≡ Some cs →
+      IsTest constants t (alone (question.Codes cs))
+  of_condition : (t : Tree) (word : List ℕ) (ts : List Tree) (text : List ℕ) (c : c_tree.Tree) →
+      IsList t word ts → kind_of word ≡ Some kind.Condition →
+      text_in ts ≡ Some text → IsText dialect.Test constants Condition text c →
+      IsTest constants t (alone (question.Condition c))
+  of_predicate : (t : Tree) (word : List ℕ) (ts : List Tree) (name : List ℕ) (m : Mode) →
+      IsList t word ts → kind_of word ≡ Some kind.Predicate →
+      predicate_in ts ≡ Some name → mode_of_head word ≡ Some m →
+      IsTest constants t (alone (question.Predicate name m))
+  of_both : (t : Tree) (word : List ℕ) (a b : Tree) (x y : Test) →
+      IsList t word (a ∷ b ∷ []) → kind_of word ≡ Some kind.And →
+      IsTest constants a x → IsTest constants b y →
+      IsTest constants t (test_with question.And (x ∷ y ∷ []))
+  of_either : (t : Tree) (word : List ℕ) (a b : Tree) (x y : Test) →
+      IsList t word (a ∷ b ∷ []) → kind_of word ≡ Some kind.Ior →
+      IsTest constants a x → IsTest constants b y →
+      IsTest constants t (test_with question.Ior (x ∷ y ∷ []))
+  of_not : (t : Tree) (word : List ℕ) (a : Tree) (x : Test) → IsList t word (a ∷ []) → kind_of word ≡ Some kind.Not →
+      IsTest constants a x → IsTest constants t (test_with question.Not (x ∷ []))
+  of_choice : (t : Tree) (word : List ℕ) (a b c : Tree) (x y z : Test) →
+      IsList t word (a ∷ b ∷ c ∷ []) → kind_of word ≡ Some kind.IfThenElse →
+      IsTest constants a x → IsTest constants b y → IsTest constants c z →
+      IsTest constants t (test_with question.IfThenElse (x ∷ y ∷ z ∷ []))
 
 -- ---- what a test names
 

@@ -1,5 +1,5 @@
 //! Reads a test from its tree.
-ghost use Rattle.std.specs.Prelude.{◌≡◌, ℕ, List, ◌∷◌, [], ◌++◌, IfOk, map};
+ghost use Rattle.std.specs.Prelude.{◌≡◌, ◌↔◌, ℕ, List, ◌∷◌, [], ◌++◌, IfOk, map};
 ghost use Rattle.std.specs.Option.{option_copied};
 ghost use Rattle.lisp_read.specs.Head.{code_in, code_named, mode_of_head};
 ghost use Rattle.lisp_read.specs.Shape.{atom_of};
@@ -8,6 +8,8 @@ ghost use Rattle.md_pattern.specs.Reason.{judged_with};
 ghost use Rattle.md_pattern.specs.declared.reason.Reason.TheVariants as reason;
 ghost use Rattle.c_words.specs.declared.atom.Dialect.TheVariants as Dialect;
 ghost use Rattle.c_cond.specs.Grammar.{IsText, Condition};
+ghost use Rattle.lisp_read.specs.declared.tree.Tree.{Tree};
+ghost use Rattle.pred_expr.specs.declared.question.Test.{Test};
 ghost use Rattle.pred_expr.specs.Test as spec;
 ghost use Rattle.pred_expr.specs.Texts as texts;
 
@@ -285,6 +287,7 @@ fn test_in(alloc: Global, constants: &Constants, tree: &Tree) -> Result<Judged<T
 /// condition is outside the grammar. It goes as deep as the tree.
 pub fn test_of(alloc: Global, tree: &Tree, constants: &Constants) -> Result<Judged<Test>, Memory>
     ensures value { IfOk result (λ test. test ≡ spec.test_of constants.now tree.now) }
+    ensures tests { (t : Tree) (x : Test) → (spec.test_of constants.now t ≡ Ok x) ↔ spec.IsTest constants.now t x }
     ensures grammar { (bytes : List ℕ) → texts.Says reason.Condition (IsText Dialect.Test constants.now Condition bytes)
         (texts.test_condition_of constants.now bytes) }
 {

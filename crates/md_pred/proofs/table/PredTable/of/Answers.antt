@@ -1,6 +1,17 @@
-use Rattle.std.proofs.Common.{sym}
+use Rattle.std.proofs.Common.{sym, ap, ◌+◌, ℕ}
 use Rattle.md_pred.proofs.Same.{table_holds}
+use Rattle.md_pred.proofs.Told.{told}
 use Rattle.md_pred.proofs.table.PredTable.of.Goals as goal
 
-pub returns : goal.returns
-returns c = table_holds c.in_ok-definitions.definitions c.args.forms.now c.len-2.result (rw (sym c.as_slice.ensures.value) c.in_ok-definitions.ensures) c.len-2.ensures
+pub returns-clause-accepts : goal.returns-clause-accepts
+returns-clause-accepts c =
+    table_holds c.in_ok-definitions.definitions c.args.forms.now _ (rw (sym c.as_slice.ensures.value) c.in_ok-definitions.ensures) (ap (λ (n : ℕ). n + 1) c.len.ensures)
+
+pub returns-clause-told : goal.returns-clause-told
+returns-clause-told c drafts is = told drafts c.args.forms.now is
+
+pub returns-in_err-definitions-clause-told : goal.returns-in_err-definitions-clause-told
+returns-in_err-definitions-clause-told c drafts is = told drafts c.args.forms.now is
+
+pub returns-in_err-weights-clause-told : goal.returns-in_err-weights-clause-told
+returns-in_err-weights-clause-told c drafts is = told drafts c.args.forms.now is

@@ -18,3 +18,4 @@ pub mod LessLaws
 pub mod RelationLaws
 pub mod NormalWidths
 pub mod NormalLaws
+pub mod ComparedLaws

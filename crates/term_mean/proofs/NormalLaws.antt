@@ -54,7 +54,7 @@ mean-built_parts v stores h w n s (a ∷ []) f = mean-built_one v stores h w n s
 mean-built_parts v stores h w n s (a ∷ b ∷ []) f = mean-built_two v h w n s a b
 mean-built_parts v stores h w n s (a ∷ b ∷ c ∷ ts) f = refl
 
-mean-built : (v : Valuation) (stores : List Store) (h : Head) (w : Width) (n : ℕ) (s : List ℕ) (ts : List Tree) → Stored v stores → mean v (built stores h w n s ts) ≡ low (own_width h w) (applied v h w n s (values v (trees_of ts)))
+pub mean-built : (v : Valuation) (stores : List Store) (h : Head) (w : Width) (n : ℕ) (s : List ℕ) (ts : List Tree) → Stored v stores → mean v (built stores h w n s ts) ≡ low (own_width h w) (applied v h w n s (values v (trees_of ts)))
 mean-built v stores heads.Mul w n s ts f = mean-made_at v w Mul ts
 mean-built v stores heads.And w n s ts f = mean-made_at v w And ts
 mean-built v stores heads.Ior w n s ts f = mean-made_at v w Ior ts

@@ -178,7 +178,7 @@ width-built_parts stores h w n s (a ∷ []) = width-built_one stores h w n s a
 width-built_parts stores h w n s (a ∷ b ∷ []) = width-built_two h w n s a b
 width-built_parts stores h w n s (a ∷ b ∷ c ∷ ts) = refl
 
-width-built : (stores : List Store) (h : Head) (w : Width) (n : ℕ) (s : List ℕ) (ts : List Tree) → width_of (built stores h w n s ts) ≡ own_width h w
+pub width-built : (stores : List Store) (h : Head) (w : Width) (n : ℕ) (s : List ℕ) (ts : List Tree) → width_of (built stores h w n s ts) ≡ own_width h w
 width-built stores heads.Mul w n s ts = width-made_at w Mul ts
 width-built stores heads.And w n s ts = width-made_at w And ts
 width-built stores heads.Ior w n s ts = width-made_at w Ior ts

@@ -12,3 +12,4 @@ pub mod Less
 pub mod Relations
 pub mod Loads
 pub mod Normal
+pub mod Compared

@@ -105,11 +105,3 @@ pub fn own_width(head: Head, w: Width) -> Width
         _ => w,
     }
 }
-
-/// An operation of which nothing else is known.
-pub fn plain_two(alloc: Global, head: Head, w: Width, a: &Term, b: &Term) -> Result<Term, Memory>
-    ensures { IfOk result (λ r. tree_of r ≡ spec.plain_two head w (tree_of a.now) (tree_of b.now)) }
-{
-    let other = two_copies(alloc, head, w, a, b)?;
-    Ok(on_constants(alloc, constant_of(a), constant_of(b), head, w, other))
-}

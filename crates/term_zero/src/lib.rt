@@ -18,7 +18,7 @@ mod truths;
 mod zero;
 
 pub use constants::{
-    binary_number, on_constants, own_width, plain_two, truth, two_copies, two_parts,
+    binary_number, on_constants, own_width, truth, two_copies, two_parts,
 };
 pub use less::less_than;
 pub use relations::relate;

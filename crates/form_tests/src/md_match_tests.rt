@@ -162,7 +162,7 @@ fn is_expression(alloc: Global, tree: &Tree, found: Option<&Rtx>) -> Result<bool
 }
 
 fn are_operands(alloc: Global, wanted: &[Tree], found: &Operands) -> Result<bool, Memory> {
-    if wanted.len() != found.len() {
+    if found.get(wanted.len()).is_some() {
         return Ok(false);
     }
     for i in 0..wanted.len() {

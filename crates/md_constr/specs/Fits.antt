@@ -1,6 +1,6 @@
 -- Whether operands fit an alternative of a form: GCC Internals, "Multiple Alternative Constraints", "Simple Constraints" and "Constraint
 -- Modifier Characters".
-use Rattle.std.specs.Prelude.{ℕ, ◌==◌, Bool, true, false, not, ◌&&◌, List, [], ◌∷◌, Option, slice_get}
+use Rattle.std.specs.Prelude.{ℕ, ◌==◌, Bool, true, false, not, ◌&&◌, ◌||◌, List, [], ◌∷◌, Option, slice_get}
 use Rattle.std.specs.List.{list_all, list_any}
 use Rattle.std.specs.Option.{option_map_or}
 use Rattle.rtx_tree.specs.declared.tree.Rtx.{Rtx}
@@ -14,7 +14,7 @@ use Rattle.md_text.specs.declared.constraint.Alternative.{Alternative}
 use Rattle.md_forms.specs.declared.form.OperandConstraint.{OperandConstraint}
 use Rattle.md_forms.specs.declared.form.Entry.{Entry}
 use Rattle.md_attr.specs.Alternatives.{form_at}
-use Rattle.md_constr.specs.Inputs.{direction_of, is_written, inputs_of}
+use Rattle.md_constr.specs.Inputs.{inputs_of, changed_of}
 use Rattle.md_constr.specs.Admits.{letter_admits, register_of, name_admits}
 
 -- the operands that defined constraints admit, by the constraints' names
@@ -50,36 +50,60 @@ is_shared inputs operands n reg = list_any (λ input. not (input == n) && mentio
 abbrev pub shares_register : List ℕ → List (Option Rtx) → ℕ → Rtx → Bool
 shares_register inputs operands n x = option_map_or (is_shared inputs operands n) (register_of x) false
 
--- written before all inputs are read
-abbrev pub is_early : OperandConstraint → Alternative → Bool
-is_early k a = a.early && is_written (direction_of k)
+-- the pattern changes it, and it is changed before all inputs are taken
+abbrev pub is_early : List ℕ → OperandConstraint → Alternative → Bool
+is_early changed k a = a.early && list_any (λ number. number == k.operand) changed
 
 -- ---- operands
 
 -- an operand fits an alternative of its constraint: it meets a member, and shares no register with an input if it is an earlyclobber
 -- output
-abbrev pub fits_in : Named → List ℕ → List (Option Rtx) → OperandConstraint → Rtx → Alternative → Bool
-fits_in named inputs operands k x a = meets named operands x a.members && not (is_early k a && shares_register inputs operands k.operand x)
+abbrev pub fits_in : Named → List ℕ → List ℕ → List (Option Rtx) → OperandConstraint → Rtx → Alternative → Bool
+fits_in named inputs changed operands k x a = meets named operands x a.members && not (is_early changed k a && shares_register inputs operands k.operand x)
 
 -- a constraint without alternatives is none, and accepts anything
-abbrev pub fits_among : Named → List ℕ → List (Option Rtx) → OperandConstraint → Rtx → ℕ → List Alternative → Bool
-fits_among named inputs operands k x alternative [] = true
-fits_among named inputs operands k x alternative (a ∷ more) = option_map_or (fits_in named inputs operands k x) (slice_get (a ∷ more) alternative) false
+abbrev pub fits_among : Named → List ℕ → List ℕ → List (Option Rtx) → OperandConstraint → Rtx → ℕ → List Alternative → Bool
+fits_among named inputs changed operands k x alternative [] = true
+fits_among named inputs changed operands k x alternative (a ∷ more) = option_map_or (fits_in named inputs changed operands k x) (slice_get (a ∷ more) alternative) false
 
-abbrev pub fits_at : Named → List ℕ → List (Option Rtx) → ℕ → OperandConstraint → Rtx → Bool
-fits_at named inputs operands alternative k x = fits_among named inputs operands k x alternative k.constraint
+abbrev pub fits_at : Named → List ℕ → List ℕ → List (Option Rtx) → ℕ → OperandConstraint → Rtx → Bool
+fits_at named inputs changed operands alternative k x = fits_among named inputs changed operands k x alternative k.constraint
 
 -- the operand of a constraint, where there is one, fits an alternative of it
-abbrev pub operand_fits : Named → List ℕ → List (Option Rtx) → ℕ → OperandConstraint → Bool
-operand_fits named inputs operands alternative k = option_map_or (fits_at named inputs operands alternative k) (operand_at operands k.operand) true
+abbrev pub operand_fits : Named → List ℕ → List ℕ → List (Option Rtx) → ℕ → OperandConstraint → Bool
+operand_fits named inputs changed operands alternative k = option_map_or (fits_at named inputs changed operands alternative k) (operand_at operands k.operand) true
 
 -- each operand that has a constraint fits
-abbrev pub all_fit : Named → List ℕ → List (Option Rtx) → ℕ → List OperandConstraint → Bool
-all_fit named inputs operands alternative ks = list_all (operand_fits named inputs operands alternative) ks
+abbrev pub all_fit : Named → List ℕ → List ℕ → List (Option Rtx) → ℕ → List OperandConstraint → Bool
+all_fit named inputs changed operands alternative ks = list_all (operand_fits named inputs changed operands alternative) ks
+
+-- ---- one operand alone
+
+-- what holds of each constraint of the operand with a number
+abbrev pub each_of : ℕ → (OperandConstraint → Bool) → List OperandConstraint → Bool
+each_of number p ks = list_all (λ k. not (k.operand == number) || p k) ks
+
+abbrev pub admits_among : Named → List (Option Rtx) → Rtx → ℕ → List Alternative → Bool
+admits_among named operands x alternative [] = true
+admits_among named operands x alternative (a ∷ more) = option_map_or (λ a. meets named operands x a.members) (slice_get (a ∷ more) alternative) false
+
+-- a constraint admits a tree in an alternative, in the place of its operand
+abbrev pub constraint_admits : Named → List (Option Rtx) → ℕ → Rtx → OperandConstraint → Bool
+constraint_admits named operands alternative x k = admits_among named operands x alternative k.constraint
 
 -- ---- forms
 
 -- whether operands fit an alternative of the accepted form with an index
 abbrev pub fits : List Entry → Accepts → ℕ → ℕ → List (Option Rtx) → Bool
 fits forms accepts form alternative operands =
-    option_map_or (λ f. all_fit (name_admits forms accepts) (inputs_of f) operands alternative f.constraints) (form_at forms form) false
+    option_map_or (λ f. all_fit (name_admits forms accepts) (inputs_of f) (changed_of f) operands alternative f.constraints) (form_at forms form) false
+
+-- whether the operand with a number fits an alternative of the accepted form with an index
+abbrev pub number_fits : List Entry → Accepts → ℕ → ℕ → List (Option Rtx) → ℕ → Bool
+number_fits forms accepts form alternative operands number =
+    option_map_or (λ f. each_of number (operand_fits (name_admits forms accepts) (inputs_of f) (changed_of f) operands alternative) f.constraints) (form_at forms form) false
+
+-- whether the constraint of the operand with a number admits a tree in an alternative of the accepted form with an index
+abbrev pub number_admits : List Entry → Accepts → ℕ → ℕ → List (Option Rtx) → ℕ → Rtx → Bool
+number_admits forms accepts form alternative operands number x =
+    option_map_or (λ f. each_of number (constraint_admits (name_admits forms accepts) operands alternative x) f.constraints) (form_at forms form) false

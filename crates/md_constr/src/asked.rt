@@ -1,12 +1,11 @@
 //! Whether operands fit.
-ghost use Rattle.std.specs.Prelude.{◌≡◌};
+ghost use Rattle.std.specs.Prelude.{◌≡◌, ◌==◌};
 ghost use Rattle.std.specs.List.{list_any};
 ghost use Rattle.c_eval.specs.Value.{same_tree};
 ghost use Rattle.md_constr.specs.Fits as spec;
 ghost use Rattle.md_constr.specs.Tables as tables;
 
 use crate::admits::{letter_admits, register_of};
-use crate::inputs::is_written;
 use crate::meanings::Meanings;
 use c_eval::Preds;
 use md_forms::OperandConstraint;
@@ -24,6 +23,8 @@ pub struct Asked<'a, P: Preds> {
     pub operands: &'a Operands,
     /// The numbers of the form's inputs.
     pub inputs: &'a [u64],
+    /// The numbers of the operands that the form changes.
+    pub changed: &'a [u64],
     /// The alternative.
     pub alternative: usize,
 }
@@ -50,6 +51,12 @@ fn mentions_at(operands: &Operands, reg: u32, number: u64) -> bool
         Some(x) => x.mentions(reg),
         None => false,
     }
+}
+
+fn is_among(numbers: &[u64], own: u64) -> bool
+    ensures { result ≡ list_any (λ number. number == own) numbers.now }
+{
+    numbers.iter().any(|number| *number == own)
 }
 
 /// Whether an input other than an operand mentions a register.
@@ -92,18 +99,24 @@ impl<P: Preds> Asked<'_, P> {
         }
     }
 
+    /// Whether an operand is changed before all inputs are taken.
+    fn is_early(&self, constraint: &OperandConstraint, alternative: &Alternative) -> bool
+        ensures { result ≡ spec.is_early self.now.changed.now constraint.now alternative.now }
+    {
+        alternative.early && is_among(self.changed, u64::from(constraint.operand))
+    }
+
     /// Whether an operand fits an alternative of its constraint.
     fn fits_in(&self, constraint: &OperandConstraint, x: &Rtx, alternative: &Alternative) -> bool
-        ensures { result ≡ spec.fits_in (tables.name_admits_in self.now.meanings.now (P.accepts self.now.preds.now)) self.now.inputs.now self.now.operands.now constraint.now x.now alternative.now }
+        ensures { result ≡ spec.fits_in (tables.name_admits_in self.now.meanings.now (P.accepts self.now.preds.now)) self.now.inputs.now self.now.changed.now self.now.operands.now constraint.now x.now alternative.now }
     {
         self.meets(x, alternative.members.as_slice())
-            && !(alternative.early
-                && is_written(constraint)
+            && !(self.is_early(constraint, alternative)
                 && self.shares_register(u64::from(constraint.operand), x))
     }
 
     fn fits_at(&self, constraint: &OperandConstraint, x: &Rtx) -> bool
-        ensures { result ≡ spec.fits_at (tables.name_admits_in self.now.meanings.now (P.accepts self.now.preds.now)) self.now.inputs.now self.now.operands.now self.now.alternative constraint.now x.now }
+        ensures { result ≡ spec.fits_at (tables.name_admits_in self.now.meanings.now (P.accepts self.now.preds.now)) self.now.inputs.now self.now.changed.now self.now.operands.now self.now.alternative constraint.now x.now }
     {
         if constraint.constraint.is_empty() {
             return true;
@@ -116,7 +129,7 @@ impl<P: Preds> Asked<'_, P> {
 
     /// Whether the operand of a constraint fits, where there is one.
     fn operand_fits(&self, constraint: &OperandConstraint) -> bool
-        ensures { result ≡ spec.operand_fits (tables.name_admits_in self.now.meanings.now (P.accepts self.now.preds.now)) self.now.inputs.now self.now.operands.now self.now.alternative constraint.now }
+        ensures { result ≡ spec.operand_fits (tables.name_admits_in self.now.meanings.now (P.accepts self.now.preds.now)) self.now.inputs.now self.now.changed.now self.now.operands.now self.now.alternative constraint.now }
     {
         match self.operands.get(constraint.operand as usize) {
             Some(x) => self.fits_at(constraint, x),
@@ -126,10 +139,38 @@ impl<P: Preds> Asked<'_, P> {
 
     /// Whether the operands of some constraints fit.
     pub fn all_fit(&self, constraints: &[OperandConstraint]) -> bool
-        ensures { result ≡ spec.all_fit (tables.name_admits_in self.now.meanings.now (P.accepts self.now.preds.now)) self.now.inputs.now self.now.operands.now self.now.alternative constraints.now }
+        ensures { result ≡ spec.all_fit (tables.name_admits_in self.now.meanings.now (P.accepts self.now.preds.now)) self.now.inputs.now self.now.changed.now self.now.operands.now self.now.alternative constraints.now }
     {
         constraints
             .iter()
             .all(|constraint| self.operand_fits(constraint))
+    }
+
+    fn constraint_admits(&self, constraint: &OperandConstraint, x: &Rtx) -> bool
+        ensures { result ≡ spec.constraint_admits (tables.name_admits_in self.now.meanings.now (P.accepts self.now.preds.now)) self.now.operands.now self.now.alternative x.now constraint.now }
+    {
+        if constraint.constraint.is_empty() {
+            return true;
+        }
+        match constraint.constraint.as_slice().get(self.alternative) {
+            Some(alternative) => self.meets(x, alternative.members.as_slice()),
+            None => false,
+        }
+    }
+
+    /// Whether the operand with a number fits, by each of its constraints.
+    pub fn number_fits(&self, constraints: &[OperandConstraint], number: u32) -> bool
+        ensures { result ≡ spec.each_of number (spec.operand_fits (tables.name_admits_in self.now.meanings.now (P.accepts self.now.preds.now)) self.now.inputs.now self.now.changed.now self.now.operands.now self.now.alternative) constraints.now }
+    {
+        constraints.iter().all(|constraint| constraint.operand != number
+            || self.operand_fits(constraint))
+    }
+
+    /// Whether a tree is admitted in the place of the operand with a number, by each of its constraints.
+    pub fn number_admits(&self, constraints: &[OperandConstraint], number: u32, x: &Rtx) -> bool
+        ensures { result ≡ spec.each_of number (spec.constraint_admits (tables.name_admits_in self.now.meanings.now (P.accepts self.now.preds.now)) self.now.operands.now self.now.alternative x.now) constraints.now }
+    {
+        constraints.iter().all(|constraint| constraint.operand != number
+            || self.constraint_admits(constraint, x))
     }
 }

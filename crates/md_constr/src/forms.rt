@@ -4,7 +4,7 @@ ghost use Rattle.md_forms.specs.Checks as checks;
 ghost use Rattle.md_constr.specs.Tables as tables;
 
 use crate::copies::constraints_copy;
-use crate::inputs::inputs_of;
+use crate::inputs::{changed_of, inputs_of};
 use md_forms::{Entry, Form, OperandConstraint};
 use plain_data::{Items, Memory};
 use std::alloc::Global;
@@ -18,6 +18,8 @@ pub struct FormConstraints {
     pub constraints: Items<OperandConstraint>,
     /// The numbers of its inputs.
     pub inputs: Items<u64>,
+    /// The numbers of the operands that it sets or clobbers.
+    pub changed: Items<u64>,
     /// How many alternatives it has.
     pub alternatives: usize,
 }
@@ -41,6 +43,7 @@ fn constraints_in(alloc: Global, form: &Form) -> Result<FormConstraints, Memory>
         accepted: true,
         constraints: constraints_copy(alloc, form.constraints.as_slice())?,
         inputs: inputs_of(alloc, form)?,
+        changed: changed_of(alloc, form)?,
         alternatives: alternatives(form.constraints.as_slice()),
     })
 }
@@ -54,6 +57,7 @@ fn constraints_of(alloc: Global, entry: &Entry) -> Result<FormConstraints, Memor
             accepted: false,
             constraints: Items::new(alloc),
             inputs: Items::new(alloc),
+            changed: Items::new(alloc),
             alternatives: 0,
         }),
     }

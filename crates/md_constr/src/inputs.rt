@@ -1,125 +1,185 @@
-//! The inputs of forms.
+//! The operands that forms take and change.
 ghost use Rattle.std.specs.Prelude.{◌≡◌, ◌++◌, IfOk, OnOk};
-ghost use Rattle.std.specs.List.{filter, flat_map, list_any};
+ghost use Rattle.std.specs.List.{flat_map};
 ghost use Rattle.rtx_tree.specs.Tree.{head_of};
 ghost use Rattle.md_constr.specs.Inputs as spec;
 
-use md_forms::{Form, OperandConstraint};
-use md_text::{Alternative, Direction};
+use md_forms::Form;
 use plain_data::{Items, Memory};
 use rtx_tree::{Code, Rtx};
 use std::alloc::Global;
+use std::slice;
 
-fn direction_in(alternatives: &[Alternative]) -> Direction
-    ensures { result ≡ spec.direction_in alternatives.now }
-{
-    match alternatives {
-        [] => Direction::Input,
-        [first, ..] => first.direction,
-    }
-}
+/// Numbers of operands.
+type Numbers = Items<u64>;
 
-fn direction_of(constraint: &OperandConstraint) -> Direction
-    ensures { result ≡ spec.direction_of constraint.now }
-{
-    direction_in(constraint.constraint.as_slice())
-}
-
-fn is_written_only(direction: Direction) -> bool
-    ensures { result ≡ spec.is_written_only direction }
-{
-    matches!(direction, Direction::Output)
-}
-
-/// Whether an operand is written, by the mark of its constraint.
-pub fn is_written(constraint: &OperandConstraint) -> bool
-    ensures { result ≡ spec.is_written (spec.direction_of constraint.now) }
-{
-    !matches!(direction_of(constraint), Direction::Input)
-}
-
-/// Whether a constraint says of an operand that it is written and not read.
-fn marks_output(number: u64, constraint: &OperandConstraint) -> bool
-    ensures { result ≡ spec.marks_output number constraint.now }
-{
-    u64::from(constraint.operand) == number && is_written_only(direction_of(constraint))
-}
-
-/// Whether some constraint says so.
-fn is_output(constraints: &[OperandConstraint], number: u64) -> bool
-    ensures { result ≡ list_any (spec.marks_output number) constraints.now }
-{
-    constraints
-        .iter()
-        .any(|constraint| marks_output(number, constraint))
-}
-
-fn is_read(constraints: &[OperandConstraint], number: u64) -> bool
-    ensures { result ≡ spec.is_read constraints.now number }
-{
-    !is_output(constraints, number)
-}
-
-fn push_here(x: &Rtx, numbers: &mut Items<u64>) -> Result<(), Memory>
-    ensures { OnOk result (numbers.new ≡ numbers.old ++ spec.matched_here (head_of x.now).code (head_of x.now).number) }
+fn push_taken_here(x: &Rtx, numbers: &mut Numbers) -> Result<(), Memory>
+    ensures { OnOk result (numbers.new ≡ numbers.old ++ spec.taken_here (head_of x.now).code (head_of x.now).number) }
 {
     match x.code {
-        Code::MatchOperand => numbers.push(x.number.cast_unsigned()),
+        Code::MatchOperand | Code::MatchDup | Code::MatchOperator => {
+            numbers.push(x.number.cast_unsigned())
+        }
         _ => Ok(()),
     }
 }
 
-/// Appends the numbers of the operands that a pattern matches.
-#[tactic(auto, using(crate::proofs::InputLaws::matched_first, pred_expr::proofs::Each::pushed_next, pred_expr::proofs::Each::pushed_ends))]
-fn push_matched(x: &Rtx, numbers: &mut Items<u64>) -> Result<(), Memory>
-    ensures { OnOk result (numbers.new ≡ numbers.old ++ spec.matched_in x.now) }
+/// Appends the numbers of the operands whose values an expression takes.
+#[tactic(auto, using(crate::proofs::InputLaws::taken_first, pred_expr::proofs::Each::pushed_next, pred_expr::proofs::Each::pushed_ends))]
+fn push_taken(x: &Rtx, numbers: &mut Numbers) -> Result<(), Memory>
+    ensures { OnOk result (numbers.new ≡ numbers.old ++ spec.taken_in x.now) }
 {
-    push_here(x, numbers)?;
+    push_taken_here(x, numbers)?;
     for kid in x.kids.as_slice() {
-        push_matched(kid, numbers)?;
+        push_taken(kid, numbers)?;
     }
     Ok(())
 }
 
 #[tactic(auto, using(pred_expr::proofs::Each::pushed_next, pred_expr::proofs::Each::pushed_ends))]
-fn push_all_matched(patterns: &[Rtx], numbers: &mut Items<u64>) -> Result<(), Memory>
-    ensures { OnOk result (numbers.new ≡ numbers.old ++ flat_map spec.matched_in patterns.now) }
+fn push_each_taken(parts: &[Rtx], numbers: &mut Numbers) -> Result<(), Memory>
+    ensures { OnOk result (numbers.new ≡ numbers.old ++ flat_map spec.taken_in parts.now) }
 {
-    for pattern in patterns {
-        push_matched(pattern, numbers)?;
+    for part in parts {
+        push_taken(part, numbers)?;
     }
     Ok(())
 }
 
-fn all_matched(alloc: Global, patterns: &[Rtx]) -> Result<Items<u64>, Memory>
-    ensures { IfOk result (λ numbers. numbers ≡ flat_map spec.matched_in patterns.now) }
+/// Appends what is taken where an expression is a target.
+fn push_taken_at(target: &Rtx, numbers: &mut Numbers) -> Result<(), Memory>
+    ensures { OnOk result (numbers.new ≡ numbers.old ++ spec.taken_at target.now) }
 {
-    let mut numbers = Items::new(alloc);
-    push_all_matched(patterns, &mut numbers)?;
-    Ok(numbers)
+    match (target.code, target.kids.as_slice()) {
+        (Code::Subreg, [inner]) => push_each_taken(inner.kids.as_slice(), numbers),
+        (_, parts) => push_each_taken(parts, numbers),
+    }
 }
 
-/// Those of some numbers of operands that are read.
-fn read_of(
-    alloc: Global,
-    constraints: &[OperandConstraint],
-    numbers: &[u64],
-) -> Result<Items<u64>, Memory>
-    ensures { IfOk result (λ inputs. inputs ≡ filter (spec.is_read constraints.now) numbers.now) }
+#[tactic(auto, using(crate::proofs::InputLaws::appended_both))]
+fn push_taken_by_set(target: &Rtx, source: &Rtx, numbers: &mut Numbers) -> Result<(), Memory>
+    ensures { OnOk result (numbers.new ≡ numbers.old ++ (spec.taken_at target.now ++ spec.taken_in source.now)) }
 {
-    let mut inputs = Items::new(alloc);
-    for number in numbers {
-        if is_read(constraints, *number) {
-            inputs.push(*number)?;
-        }
+    push_taken_at(target, numbers)?;
+    push_taken(source, numbers)
+}
+
+/// Appends what an effect takes.
+fn push_taken_by(x: &Rtx, numbers: &mut Numbers) -> Result<(), Memory>
+    ensures { OnOk result (numbers.new ≡ numbers.old ++ spec.taken_by x.now) }
+{
+    match (x.code, x.kids.as_slice()) {
+        (Code::Set, [target, source]) => push_taken_by_set(target, source, numbers),
+        (
+            Code::Use
+            | Code::Clobber
+            | Code::MatchOperand
+            | Code::MatchDup
+            | Code::MatchScratch
+            | Code::MatchOperator
+            | Code::MatchOpDup,
+            _,
+        ) => Ok(()),
+        _ => push_taken(x, numbers),
     }
-    Ok(inputs)
+}
+
+fn push_changed_whole(x: &Rtx, numbers: &mut Numbers) -> Result<(), Memory>
+    ensures { OnOk result (numbers.new ≡ numbers.old ++ spec.changed_whole x.now) }
+{
+    match x.code {
+        Code::MatchOperand | Code::MatchDup | Code::MatchScratch | Code::MatchOperator => {
+            numbers.push(x.number.cast_unsigned())
+        }
+        _ => Ok(()),
+    }
+}
+
+/// Appends the operand that is a target, or whose low part is.
+fn push_changed_at(target: &Rtx, numbers: &mut Numbers) -> Result<(), Memory>
+    ensures { OnOk result (numbers.new ≡ numbers.old ++ spec.changed_at target.now) }
+{
+    match (target.code, target.kids.as_slice()) {
+        (Code::Subreg, [inner]) => push_changed_whole(inner, numbers),
+        _ => push_changed_whole(target, numbers),
+    }
+}
+
+/// Appends what an effect changes.
+fn push_changed_by(x: &Rtx, numbers: &mut Numbers) -> Result<(), Memory>
+    ensures { OnOk result (numbers.new ≡ numbers.old ++ spec.changed_by x.now) }
+{
+    match (x.code, x.kids.as_slice()) {
+        (Code::Set, [target, _]) => push_changed_at(target, numbers),
+        (Code::Clobber, [target]) => push_changed_at(target, numbers),
+        _ => Ok(()),
+    }
+}
+
+#[tactic(auto, using(pred_expr::proofs::Each::pushed_next, pred_expr::proofs::Each::pushed_ends))]
+fn push_each_taken_by(effects: &[Rtx], numbers: &mut Numbers) -> Result<(), Memory>
+    ensures { OnOk result (numbers.new ≡ numbers.old ++ flat_map spec.taken_by effects.now) }
+{
+    for effect in effects {
+        push_taken_by(effect, numbers)?;
+    }
+    Ok(())
+}
+
+#[tactic(auto, using(pred_expr::proofs::Each::pushed_next, pred_expr::proofs::Each::pushed_ends))]
+fn push_each_changed_by(effects: &[Rtx], numbers: &mut Numbers) -> Result<(), Memory>
+    ensures { OnOk result (numbers.new ≡ numbers.old ++ flat_map spec.changed_by effects.now) }
+{
+    for effect in effects {
+        push_changed_by(effect, numbers)?;
+    }
+    Ok(())
+}
+
+/// The effects of a pattern: those of a `parallel`, or itself.
+fn effects_of(pattern: &Rtx) -> &[Rtx]
+    ensures { result.now ≡ spec.effects_of pattern.now }
+{
+    match pattern.code {
+        Code::Parallel => pattern.kids.as_slice(),
+        _ => slice::from_ref(pattern),
+    }
+}
+
+#[tactic(auto, using(pred_expr::proofs::Each::pushed_next, pred_expr::proofs::Each::pushed_ends))]
+fn push_inputs(patterns: &[Rtx], numbers: &mut Numbers) -> Result<(), Memory>
+    ensures { OnOk result (numbers.new ≡ numbers.old ++ flat_map spec.inputs_in patterns.now) }
+{
+    for pattern in patterns {
+        push_each_taken_by(effects_of(pattern), numbers)?;
+    }
+    Ok(())
+}
+
+#[tactic(auto, using(pred_expr::proofs::Each::pushed_next, pred_expr::proofs::Each::pushed_ends))]
+fn push_changed(patterns: &[Rtx], numbers: &mut Numbers) -> Result<(), Memory>
+    ensures { OnOk result (numbers.new ≡ numbers.old ++ flat_map spec.changed_in patterns.now) }
+{
+    for pattern in patterns {
+        push_each_changed_by(effects_of(pattern), numbers)?;
+    }
+    Ok(())
 }
 
 /// The numbers of a form's inputs.
-pub fn inputs_of(alloc: Global, form: &Form) -> Result<Items<u64>, Memory>
+pub fn inputs_of(alloc: Global, form: &Form) -> Result<Numbers, Memory>
     ensures { IfOk result (λ inputs. inputs ≡ spec.inputs_of form.now) }
 {
-    let numbers = all_matched(alloc, form.patterns.as_slice())?;
-    read_of(alloc, form.constraints.as_slice(), numbers.as_slice())
+    let mut numbers = Items::new(alloc);
+    push_inputs(form.patterns.as_slice(), &mut numbers)?;
+    Ok(numbers)
+}
+
+/// The numbers of the operands that a form sets or clobbers.
+pub fn changed_of(alloc: Global, form: &Form) -> Result<Numbers, Memory>
+    ensures { IfOk result (λ changed. changed ≡ spec.changed_of form.now) }
+{
+    let mut numbers = Items::new(alloc);
+    push_changed(form.patterns.as_slice(), &mut numbers)?;
+    Ok(numbers)
 }

@@ -12,7 +12,7 @@ use crate::meanings::{Meanings, meanings_of};
 use c_eval::Preds;
 use md_forms::Forms;
 use plain_data::{Items, Memory};
-use rtx_tree::Operands;
+use rtx_tree::{Operands, Rtx};
 use std::alloc::Global;
 
 /// What a description's forms ask of their operands.
@@ -53,6 +53,7 @@ impl Constraints {
             preds,
             operands,
             inputs: found.inputs.as_slice(),
+            changed: found.changed.as_slice(),
             alternative: alternative as usize,
         };
         found.accepted && asked.all_fit(found.constraints.as_slice())
@@ -63,6 +64,84 @@ impl Constraints {
     {
         match self.constraints_of(form) {
             Some(found) => self.found_fits(preds, found, alternative, operands),
+            None => false,
+        }
+    }
+
+    fn found_number_fits<P: Preds>(
+        &self,
+        preds: &P,
+        found: &FormConstraints,
+        alternative: u32,
+        operands: &Operands,
+        number: u32,
+    ) -> bool
+        ensures { result ≡ tables.found_number_fits (tables.name_admits_in self.now.meanings (P.accepts preds.now)) alternative operands.now number found.now }
+    {
+        let asked = Asked {
+            meanings: &self.meanings,
+            preds,
+            operands,
+            inputs: found.inputs.as_slice(),
+            changed: found.changed.as_slice(),
+            alternative: alternative as usize,
+        };
+        found.accepted && asked.number_fits(found.constraints.as_slice(), number)
+    }
+
+    fn number_fits_in<P: Preds>(
+        &self,
+        preds: &P,
+        form: u32,
+        alternative: u32,
+        operands: &Operands,
+        number: u32,
+    ) -> bool
+        ensures { result ≡ tables.number_fits_in self.now (P.accepts preds.now) form alternative operands.now number }
+    {
+        match self.constraints_of(form) {
+            Some(found) => self.found_number_fits(preds, found, alternative, operands, number),
+            None => false,
+        }
+    }
+
+    fn found_number_admits<P: Preds>(
+        &self,
+        preds: &P,
+        found: &FormConstraints,
+        alternative: u32,
+        operands: &Operands,
+        number: u32,
+        x: &Rtx,
+    ) -> bool
+        ensures { result ≡ tables.found_number_admits (tables.name_admits_in self.now.meanings (P.accepts preds.now)) alternative operands.now number x.now found.now }
+    {
+        let asked = Asked {
+            meanings: &self.meanings,
+            preds,
+            operands,
+            inputs: found.inputs.as_slice(),
+            changed: found.changed.as_slice(),
+            alternative: alternative as usize,
+        };
+        found.accepted && asked.number_admits(found.constraints.as_slice(), number, x)
+    }
+
+    fn number_admits_in<P: Preds>(
+        &self,
+        preds: &P,
+        form: u32,
+        alternative: u32,
+        operands: &Operands,
+        number: u32,
+        x: &Rtx,
+    ) -> bool
+        ensures { result ≡ tables.number_admits_in self.now (P.accepts preds.now) form alternative operands.now number x.now }
+    {
+        match self.constraints_of(form) {
+            Some(found) => {
+                self.found_number_admits(preds, found, alternative, operands, number, x)
+            }
             None => false,
         }
     }
@@ -90,6 +169,39 @@ pub fn fits<P: Preds>(
     ensures { (forms : List Entry) → tables.AreConstraintsOf table.now forms → result ≡ spec.fits forms (P.accepts preds.now) form alternative operands.now }
 {
     table.fits_in(preds, form, alternative, operands)
+}
+
+/// Whether the operand with a number fits an alternative of an accepted form, by itself: it meets a member of its constraint there, and shares
+/// no register with an input if it is an earlyclobber output. It takes no memory.
+#[tactic(auto, using(crate::proofs::TableLaws::number_fits_same))]
+pub fn operand_fits<P: Preds>(
+    table: &Constraints,
+    preds: &P,
+    form: u32,
+    alternative: u32,
+    operands: &Operands,
+    number: u32,
+) -> bool
+    ensures { (forms : List Entry) → tables.AreConstraintsOf table.now forms → result ≡ spec.number_fits forms (P.accepts preds.now) form alternative operands.now number }
+{
+    table.number_fits_in(preds, form, alternative, operands, number)
+}
+
+/// Whether the constraint of the operand with a number admits a tree in an alternative of an accepted form. A digit admits what is the same as
+/// the operand that it names. It takes no memory.
+#[tactic(auto, using(crate::proofs::TableLaws::number_admits_same))]
+pub fn operand_admits<P: Preds>(
+    table: &Constraints,
+    preds: &P,
+    form: u32,
+    alternative: u32,
+    operands: &Operands,
+    number: u32,
+    x: &Rtx,
+) -> bool
+    ensures { (forms : List Entry) → tables.AreConstraintsOf table.now forms → result ≡ spec.number_admits forms (P.accepts preds.now) form alternative operands.now number x.now }
+{
+    table.number_admits_in(preds, form, alternative, operands, number, x)
 }
 
 /// How many alternatives an accepted form has, 1 where it has no constraints. The greatest `u32` stands for more, of which no form has

@@ -1,5 +1,5 @@
 -- What the tables of a description tell of its forms.
-use Rattle.std.proofs.Common.{◌≡◌, ◌↔◌, ◌≤◌, ◌<◌, ℕ, Bool, List, length, Option, Some, None, Result, Ok, Err, refl, subst, arith}
+use Rattle.std.proofs.Common.{◌≡◌, ◌↔◌, ◌≤◌, ◌<◌, ℕ, Bool, List, [], ◌∷◌, length, Option, Some, None, Result, Ok, Err, refl, subst, arith}
 use Rattle.std.specs.Prelude.{IfOk, IfSome}
 use Rattle.std.proofs.lemmas.Option.{slice_get_within}
 use Rattle.rtx_tree.specs.declared.code.Mode.{Mode}
@@ -13,7 +13,8 @@ use Rattle.md_pred.specs.Holds.{holds}
 use Rattle.md_pred.specs.Table.{accepted_by}
 use Rattle.md_constr.specs.declared.table.Constraints.{Constraints}
 use Rattle.md_constr.specs.Tables.{AreConstraintsOf}
-use Rattle.md_constr.specs.Fits.{fits}
+use Rattle.md_constr.specs.Fits.{fits, number_fits, number_admits}
+use Rattle.md_recog.specs.declared.half.Half.TheVariants as half
 use Rattle.md_recog.specs.Recog as recog
 use Rattle.md_recog.specs.declared.recog.FormMatch.{FormMatch}
 use Rattle.md_desc.specs.Recog.{IsFirst, NoneBehind, NoneMatches}
@@ -26,15 +27,23 @@ pub fits_as : (es fs : List Entry) (t : Constraints) (p : PredTable) (form alter
     ((forms : List Entry) → AreConstraintsOf t forms → r ≡ fits forms (accepted_by p) form alternative o) → r ≡ fits es (holds es) form alternative o
 fits_as es fs t p form alternative o r same asks accepts f = by_forms (λ gs a. r ≡ fits gs a form alternative o) es fs p same accepts (f fs asks)
 
+pub number_fits_as : (es fs : List Entry) (t : Constraints) (p : PredTable) (form alternative : ℕ) (o : Ops) (number : ℕ) (r : Bool) → fs ≡ es → AreConstraintsOf t fs → accepted_by p ≡ holds fs →
+    ((forms : List Entry) → AreConstraintsOf t forms → r ≡ number_fits forms (accepted_by p) form alternative o number) → r ≡ number_fits es (holds es) form alternative o number
+number_fits_as es fs t p form alternative o number r same asks accepts f = by_forms (λ gs a. r ≡ number_fits gs a form alternative o number) es fs p same accepts (f fs asks)
+
+pub number_admits_as : (es fs : List Entry) (t : Constraints) (p : PredTable) (form alternative : ℕ) (o : Ops) (number : ℕ) (x : Rtx) (r : Bool) → fs ≡ es → AreConstraintsOf t fs → accepted_by p ≡ holds fs →
+    ((forms : List Entry) → AreConstraintsOf t forms → r ≡ number_admits forms (accepted_by p) form alternative o number x) → r ≡ number_admits es (holds es) form alternative o number x
+number_admits_as es fs t p form alternative o number x r same asks accepts f = by_forms (λ gs a. r ≡ number_admits gs a form alternative o number x) es fs p same accepts (f fs asks)
+
 pub first_as : {E : Type 0} (es fs gs : List Entry) (p : PredTable) (facts : Facts) (i : Rtx) (from : ℕ) (r : Result (Option FormMatch) E) → gs ≡ fs → fs ≡ es → accepted_by p ≡ holds fs →
-    IfOk r (λ r. (m : FormMatch) → (r ≡ Some m) ↔ recog.IsFirst (accepted_by p) facts i gs from m) → IfOk r (λ r. (m : FormMatch) → (r ≡ Some m) ↔ IsFirst es facts i from m)
+    IfOk r (λ r. (m : FormMatch) → (r ≡ Some m) ↔ recog.IsFirst (accepted_by p) facts half.Insn (i ∷ []) gs from m) → IfOk r (λ r. (m : FormMatch) → (r ≡ Some m) ↔ IsFirst es facts i from m)
 first_as es fs gs p facts i from r looked same accepts h =
-    by_forms (λ gs a. IfOk r (λ r. (m : FormMatch) → (r ≡ Some m) ↔ recog.IsFirst a facts i gs from m)) es fs p same accepts (subst (λ hs. IfOk r (λ r. (m : FormMatch) → (r ≡ Some m) ↔ recog.IsFirst (accepted_by p) facts i hs from m)) looked h)
+    by_forms (λ gs a. IfOk r (λ r. (m : FormMatch) → (r ≡ Some m) ↔ recog.IsFirst a facts half.Insn (i ∷ []) gs from m)) es fs p same accepts (subst (λ hs. IfOk r (λ r. (m : FormMatch) → (r ≡ Some m) ↔ recog.IsFirst (accepted_by p) facts half.Insn (i ∷ []) hs from m)) looked h)
 
 pub none_as : {E : Type 0} (es fs gs : List Entry) (p : PredTable) (facts : Facts) (i : Rtx) (from : ℕ) (r : Result (Option FormMatch) E) → gs ≡ fs → fs ≡ es → accepted_by p ≡ holds fs →
-    IfOk r (λ r. r ≡ None → recog.NoneBetween (accepted_by p) facts i gs from (length gs)) → IfOk r (λ r. r ≡ None → NoneBehind es facts i from)
+    IfOk r (λ r. r ≡ None → recog.NoneBetween (accepted_by p) facts half.Insn (i ∷ []) gs from (length gs)) → IfOk r (λ r. r ≡ None → NoneBehind es facts i from)
 none_as es fs gs p facts i from r looked same accepts h =
-    by_forms (λ gs a. IfOk r (λ r. r ≡ None → recog.NoneBetween a facts i gs from (length gs))) es fs p same accepts (subst (λ hs. IfOk r (λ r. r ≡ None → recog.NoneBetween (accepted_by p) facts i hs from (length hs))) looked h)
+    by_forms (λ gs a. IfOk r (λ r. r ≡ None → recog.NoneBetween a facts half.Insn (i ∷ []) gs from (length gs))) es fs p same accepts (subst (λ hs. IfOk r (λ r. r ≡ None → recog.NoneBetween (accepted_by p) facts half.Insn (i ∷ []) hs from (length hs))) looked h)
 
 -- where no form from the first on matches, none does
 pub none_at_all : {E : Type 0} (es : List Entry) (facts : Facts) (i : Rtx) (r : Result (Option FormMatch) E) → IfOk r (λ r. r ≡ None → NoneBehind es facts i 0) → IfOk r (λ r. r ≡ None → NoneMatches es facts i)

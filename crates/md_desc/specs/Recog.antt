@@ -1,6 +1,6 @@
 -- What a description makes of an instruction: GCC Internals, "Pattern Ordering", "Multiple Alternative Constraints" and "Disabling insn
 -- alternatives using the enabled attribute".
-use Rattle.std.specs.Prelude.{◌≡◌, ℕ, ◌<◌, Bool, true, false, not, ◌&&◌, List, length, Result, Ok, Err, slice_get}
+use Rattle.std.specs.Prelude.{◌≡◌, ℕ, ◌<◌, Bool, true, false, not, ◌&&◌, List, [], ◌∷◌, length, Result, Ok, Err, slice_get}
 use Rattle.std.specs.Option.{option_map_or}
 use Rattle.rtx_tree.specs.declared.tree.Rtx.{Rtx}
 use Rattle.c_eval.specs.declared.facts.Facts.{Facts}
@@ -14,21 +14,22 @@ use Rattle.md_attr.specs.Alternatives.{alternatives_of}
 use Rattle.md_attr.specs.Values.{is_enabled}
 use Rattle.md_pred.specs.Holds.{holds}
 use Rattle.md_constr.specs.Fits.{fits}
+use Rattle.md_recog.specs.declared.half.Half.TheVariants as half
 use Rattle.md_recog.specs.Recog as recog
 use Rattle.md_recog.specs.declared.recog.FormMatch.{FormMatch}
 use Rattle.md_desc.specs.declared.output.Chosen.{Chosen}
 
 -- the form with an index of a description matches an instruction with these operands
 abbrev pub MatchesAt : List Entry → Facts → Rtx → ℕ → Ops → Type 0
-MatchesAt forms facts insn form operands = recog.MatchesAt (holds forms) facts insn forms form operands
+MatchesAt forms facts insn form operands = recog.MatchesAt (holds forms) facts half.Insn (insn ∷ []) forms form operands
 
 -- the first form from an index on that matches
 abbrev pub IsFirst : List Entry → Facts → Rtx → ℕ → FormMatch → Type 0
-IsFirst forms facts insn from m = recog.IsFirst (holds forms) facts insn forms from m
+IsFirst forms facts insn from m = recog.IsFirst (holds forms) facts half.Insn (insn ∷ []) forms from m
 
 -- no form from an index on matches
 abbrev pub NoneBehind : List Entry → Facts → Rtx → ℕ → Type 0
-NoneBehind forms facts insn from = recog.NoneBetween (holds forms) facts insn forms from (length forms)
+NoneBehind forms facts insn from = recog.NoneBetween (holds forms) facts half.Insn (insn ∷ []) forms from (length forms)
 
 -- no form matches
 abbrev pub NoneMatches : List Entry → Facts → Rtx → Type 0

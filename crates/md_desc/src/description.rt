@@ -13,10 +13,10 @@ ghost use Rattle.md_recog.specs.declared.recog.FormMatch.{FormMatch};
 
 use c_eval::Facts;
 use md_attr::{Attributes, enabled, has_alternative};
-use md_constr::{Constraints, fits};
+use md_constr::{Constraints, fits, operand_admits, operand_fits};
 use md_forms::Forms;
 use md_pred::PredTable;
-use md_recog::{FormMatch, Steps, first_match};
+use md_recog::{FormMatch, Half, Steps, first_match};
 use plain_data::Memory;
 use rtx_tree::{Operands, Rtx};
 use std::alloc::Global;
@@ -115,6 +115,35 @@ impl Description {
         fits(&self.constraints, &self.preds, form, alternative, operands)
     }
 
+    /// Whether the operand with a number fits an alternative of an accepted form, by itself.
+    pub fn operand_fits(
+        &self,
+        form: u32,
+        alternative: u32,
+        operands: &Operands,
+        number: u32,
+    ) -> bool
+        ensures { result ≡ constraints.number_fits self.now (holds self.now) form alternative operands.now number }
+    {
+        let preds = &self.preds;
+        operand_fits(&self.constraints, preds, form, alternative, operands, number)
+    }
+
+    /// Whether the constraint of the operand with a number admits a tree in an alternative of an accepted form.
+    pub fn operand_admits(
+        &self,
+        form: u32,
+        alternative: u32,
+        operands: &Operands,
+        number: u32,
+        x: &Rtx,
+    ) -> bool
+        ensures { result ≡ constraints.number_admits self.now (holds self.now) form alternative operands.now number x.now }
+    {
+        let preds = &self.preds;
+        operand_admits(&self.constraints, preds, form, alternative, operands, number, x)
+    }
+
     /// The first form from an index on that matches an instruction, by steps that are counted in a ledger.
     fn first_counted<L: Ledger>(
         &self,
@@ -135,7 +164,8 @@ impl Description {
         first_match(
             alloc,
             self.forms.as_slice(),
-            insn,
+            Half::Insn,
+            &[insn],
             facts,
             &self.preds,
             from,

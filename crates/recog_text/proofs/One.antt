@@ -7,7 +7,9 @@ use Rattle.rtx_tree.specs.declared.tree.Rtx.{Rtx}
 use Rattle.c_eval.specs.declared.facts.Facts.{Facts}
 use Rattle.md_match.specs.Pattern.{Ops}
 use Rattle.md_match.proofs.OneList.{one_list}
-use Rattle.md_recog.specs.Match.{Accepts, IsMatch}
+use Rattle.md_recog.specs.declared.half.Half.{Half}
+use Rattle.md_recog.specs.declared.half.Half.TheVariants as half
+use Rattle.md_recog.specs.Match.{Accepts}
 use Rattle.md_forms.specs.declared.form.Form.{Form}
 use Rattle.md_forms.specs.declared.form.Entry.{Entry}
 use Rattle.md_forms.specs.Forms.{names_of}
@@ -27,25 +29,21 @@ both b t f = let none : true ≡ false = sym t ∙ f in let never : ⊥ = cc in 
 
 -- ---- one list of operands
 
-module _ (a : Accepts) (f : Facts) (i : Rtx) where
-  form_one : (g : Form) (o p : Ops) → FormMatches a f i g o → FormMatches a f i g p → o ≡ p
-  form_one g o p m n =
-      let lists : m.pattern ∷ [] ≡ n.pattern ∷ [] = sym m.only ∙ n.only in
-      let same : m.pattern ≡ n.pattern = cc in
-      let other : IsMatch a f n.pattern g.condition i o = subst (λ q. IsMatch a f q g.condition i o) same m.matches in
-      one_list n.pattern i o p other.shape n.matches.shape
+module _ (a : Accepts) (f : Facts) (h : Half) (i : List Rtx) where
+  form_one : (g : Form) (o p : Ops) → FormMatches a f h i g o → FormMatches a f h i g p → o ≡ p
+  form_one g o p m n = one_list g.patterns i o p m.matches.shape n.matches.shape
 
-  entry_one : (e : Entry) (o p : Ops) → EntryMatches a f i e o → EntryMatches a f i e p → o ≡ p
+  entry_one : (e : Entry) (o p : Ops) → EntryMatches a f h i e o → EntryMatches a f h i e p → o ≡ p
   entry_one e o p m n =
       let forms : Ok m.says ≡ Ok n.says = sym m.accepted ∙ n.accepted in
       let same : m.says ≡ n.says = cc in
-      form_one n.says o p (subst (λ g. FormMatches a f i g o) same m.matches) n.matches
+      form_one n.says o p (subst (λ g. FormMatches a f h i g o) same m.matches) n.matches
 
-  pub at_one : (es : List Entry) (k : ℕ) (o p : Ops) → MatchesAt a f i es k o → MatchesAt a f i es k p → o ≡ p
+  pub at_one : (es : List Entry) (k : ℕ) (o p : Ops) → MatchesAt a f h i es k o → MatchesAt a f h i es k p → o ≡ p
   at_one es k o p m n =
       let entries : Some m.entry ≡ Some n.entry = sym m.at ∙ n.at in
       let same : m.entry ≡ n.entry = cc in
-      entry_one n.entry o p (subst (λ e. EntryMatches a f i e o) same m.matches) n.matches
+      entry_one n.entry o p (subst (λ e. EntryMatches a f h i e o) same m.matches) n.matches
 
 -- ---- one choice
 
@@ -77,7 +75,7 @@ module _ (es : List Entry) (f : Facts) (i : Rtx) where
   same_alternative : (c d : Chosen) → c.form ≡ d.form → IsChosen es f i c → IsChosen es f i d → c.alternative ≡ d.alternative
   same_alternative c d same m n =
       let here : MatchesOut es f i d.form c.operands c.alternative = subst (λ k. MatchesOut es f i k c.operands c.alternative) same m.matches in
-      let operands : c.operands ≡ d.operands = at_one (holds es) f i es d.form c.operands d.operands here.matches n.matches.matches in
+      let operands : c.operands ≡ d.operands = at_one (holds es) f half.Insn (i ∷ []) es d.form c.operands d.operands here.matches n.matches.matches in
       lowest_one es d.form d.operands c.alternative d.alternative (subst (λ o. IsLowest es d.form o c.alternative) operands here.lowest) n.matches.lowest
 
 -- ---- instructions

@@ -13,7 +13,8 @@ use Rattle.code_eval.specs.Start.{stack_room, rtl_start, code_start}
 use Rattle.code_eval.specs.World.{world_of}
 use Rattle.code_eval.specs.Ending.{rtl_ending, code_ending, ending_line}
 
--- how many lines of code are run where a function is run for so many steps, and how many calls have a reply
+-- how many lines of code are run where a function is run for so many steps, and how many calls have
+-- a reply
 unfoldable pub lines_for : ℕ → ℕ
 lines_for steps = 64 * steps + 1000
 
@@ -32,8 +33,9 @@ eval_text f items steps args =
 
 -- ---- that the trial is a fair one
 
--- The trial is one of which same behaviour speaks: the start is lawful, all of the stack being the frame, where the locals fit in it;
--- the world is lawful; and the function starts with what a function sees of the start of its code.
+-- The trial is one of which same behaviour speaks: the start is lawful, all of the stack being the
+-- frame, where the locals fit in it; the world is lawful; and the function starts with what a
+-- function sees of the start of its code.
 pub record IsFair (f : Function) (steps : ℕ) (args : List ℕ) : Type 0 where
   pub start : f.locals ≤ stack_room → IsLawful stack_room f.locals (code_start f args)
   pub world : IsLawfulWorld (code_start f args) (world_of f (lines_for steps))
@@ -43,12 +45,15 @@ pub record IsFair (f : Function) (steps : ℕ) (args : List ℕ) : Type 0 where
 abbrev pub taken : Function → ℕ → List ℕ → ℕ
 taken f steps args = rtl.taken f (rtl_start f args) (world_of f (lines_for steps)) steps
 
--- where the outcome of the function has a value, its lines and labels come to the same one from their start
+-- where the outcome of the function has a value, its lines and labels come to the same one from
+-- their start
 abbrev pub ComesToSame : Function → List CodeItem → ℕ → List ℕ → Type 0
 ComesToSame f items steps args = rtl_outcome f steps args ≢ outcomes.Undefined →
     (k : ℕ) × (taken f steps args ≤ k) ×
-    SameOutcome f.result (code_start f args) (rtl_outcome f steps args) (code.run items (code_start f args) (world_of f (lines_for steps)) k)
+    SameOutcome f.result (code_start f args) (rtl_outcome f steps args)
+    (code.run items (code_start f args) (world_of f (lines_for steps)) k)
 
 -- so it is where they have the behaviour of the function, whose frame fits in the stack
 abbrev pub AgreeAsSame : Function → List CodeItem → ℕ → List ℕ → Type 0
-AgreeAsSame f items steps args = (least : ℕ) → Same least f items → least ≤ stack_room → f.locals ≤ stack_room → ComesToSame f items steps args
+AgreeAsSame f items steps args = (least : ℕ) → Same least f items → least ≤ stack_room → f.locals ≤ stack_room →
+    ComesToSame f items steps args

@@ -1,5 +1,6 @@
--- The run of a function from a start in a world: GCC Internals, "Insns" (a chain is followed from its first instruction); RISC-V ELF psABI, "Integer
--- Register Convention" (what holds what at entry).
+-- The run of a function from a start in a world: GCC Internals, "Insns" (a chain is followed from
+-- its first instruction); RISC-V ELF psABI, "Integer Register Convention" (what holds what at
+-- entry).
 use Rattle.std.specs.Prelude.{◌≡◌, ℕ, zero, suc, ◌+◌, ◌*◌, ◌≤◌, Bool, true, false, List, [], ◌∷◌, map, slice_index, Option, Some, None, if◌then◌else◌}
 use Rattle.std.specs.FinMap.{empty}
 use Rattle.bits64.specs.declared.Width.TheVariants.{W64}
@@ -18,7 +19,8 @@ use Rattle.func_mean.specs.declared.outcome.Outcome.TheVariants as outcomes
 
 -- ---- entry
 
--- the registers that are set at entry, each with its 64 bits: a0 to a7, sp, ra, s0 to s11, and virtual-stack-vars
+-- the registers that are set at entry, each with its 64 bits: a0 to a7, sp, ra, s0 to s11, and
+-- virtual-stack-vars
 abbrev pub entry_values : Start → List (ℕ × ℕ)
 entry_values start =
     (10, slice_index start.args 0) ∷ (11, slice_index start.args 1) ∷ (12, slice_index start.args 2) ∷ (13, slice_index start.args 3) ∷
@@ -112,8 +114,8 @@ abbrev pub insn_count : List Insn → ℕ
 insn_count [] = 0
 insn_count (i ∷ insns) = if is_mark i.kind then insn_count insns else suc (insn_count insns)
 
--- An endless run takes jumps and makes calls without end: a run of a function of K instructions that goes on after n steps has taken
--- so many of them that n is at most (taken + 1) * (K + 1).
+-- An endless run takes jumps and makes calls without end: a run of a function of K instructions
+-- that goes on after n steps has taken so many of them that n is at most (taken + 1) * (K + 1).
 abbrev pub TakesEnough : Type 0
 TakesEnough = (f : Function) (start : Start) (world : World) (n : ℕ) → IsRunning (run_of f start world n) →
     n ≤ (taken f start world n + 1) * (insn_count f.insns + 1)

@@ -40,12 +40,14 @@ entry_regs start =
 abbrev pub entry : Start → RvState
 entry start = record { regs = entry_regs start; entry_ra = start.ra; memory = start.memory }
 
--- what a call leaves in registers, from the one with a number on: those that a called function need not preserve are unset
+-- what a call leaves in registers, from the one with a number on: those that a called function need
+-- not preserve are unset
 abbrev pub left_from : ℕ → List (Option ℕ) → List (Option ℕ)
 left_from reg [] = []
 left_from reg (value ∷ rest) = (if is_call_used reg then None else value) ∷ left_from (reg + 1) rest
 
--- after a call a0 holds the reply's number, and the other registers that need not be preserved are unset; the reply's bytes are written
+-- after a call a0 holds the reply's number, and the other registers that need not be preserved are
+-- unset; the reply's bytes are written
 abbrev pub after_call : Reply → RvState → RvState
 after_call reply state = record state {
   regs = with_register (left_from 0 state.regs) 10 reply.value;
@@ -83,7 +85,8 @@ next_line (Code line ∷ items) = Some (line, items)
 
 -- ---- the run
 
--- where a run stands: the items that follow, the machine, the replies that are left, and the calls so far
+-- where a run stands: the items that follow, the machine, the replies that are left, and the calls
+-- so far
 pub record Running : Type 0 where
   pub rest : List CodeItem
   pub machine : RvState

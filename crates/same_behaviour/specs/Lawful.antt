@@ -1,6 +1,7 @@
--- The starts and the worlds of a machine, and which of them are lawful for a function: RISC-V unprivileged manual, "RV64I Base
--- Integer Instruction Set" (registers and addresses have 64 bits, a byte has 8); RISC-V ELF psABI, "Integer Calling Convention"
--- (the stack pointer is a multiple of 16 at entry).
+-- The starts and the worlds of a machine, and which of them are lawful for a function: RISC-V
+-- unprivileged manual, "RV64I Base Integer Instruction Set" (registers and addresses have 64 bits,
+-- a byte has 8); RISC-V ELF psABI, "Integer Calling Convention" (the stack pointer is a multiple of
+-- 16 at entry).
 use Rattle.std.specs.Prelude.{◌≡◌, ℕ, zero, suc, ◌+◌, ◌-◌, ◌%◌, ◌^◌, ◌≤◌, ◌<◌, ◌&&◌, ◌||◌, not, nat_le, nat_lt, Bool, true, false, List, [], ◌∷◌, ◌++◌, slice_index, IsSome}
 use Rattle.std.specs.List.{All, filter}
 use Rattle.rtx_tree.specs.Memories.{IsOrdered, byte_at}
@@ -50,9 +51,9 @@ abbrev pub locals_range : Start → ℕ → List RangeAt
 locals_range start zero = []
 locals_range start (suc n) = record { address = start.sp - suc n; length = suc n } ∷ []
 
--- A start is lawful for a function with a frame, in which its locals stand: it is one of a machine, sp is a multiple of 16, and the
--- room of the frame below it is there, does not pass below address 0, and is no part of what the caller sees. Visible are the
--- caller's ranges and the locals.
+-- A start is lawful for a function with a frame, in which its locals stand: it is one of a machine,
+-- sp is a multiple of 16, and the room of the frame below it is there, does not pass below address
+-- 0, and is no part of what the caller sees. Visible are the caller's ranges and the locals.
 pub record IsLawful (frame locals : ℕ) (start : Start) : Type 0 where
   pub words : AreWords start
   pub memory : IsMemory start.memory
@@ -65,7 +66,8 @@ pub record IsLawful (frame locals : ℕ) (start : Start) : Type 0 where
   pub visible_is : start.visible ≡ ranges ++ locals_range start locals
   pub apart : (address : ℕ) → is_below_sp start frame address ≡ true → is_visible ranges address ≡ false
 
--- what the function of RTL sees of a start: virtual-stack-vars is sp, and of the room only the locals are there
+-- what the function of RTL sees of a start: virtual-stack-vars is sp, and of the room only the
+-- locals are there
 abbrev pub seen_by_rtl : ℕ → ℕ → Start → Start
 seen_by_rtl frame locals start = record start {
   vars = start.sp;

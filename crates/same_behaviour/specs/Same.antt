@@ -1,5 +1,6 @@
--- When the lines and labels of a function do what the function does: GCC Internals, "Passes and Files of the Compiler"; RISC-V ELF
--- psABI, "Integer Calling Convention" (which registers a function preserves).
+-- When the lines and labels of a function do what the function does: GCC Internals, "Passes and
+-- Files of the Compiler"; RISC-V ELF psABI, "Integer Calling Convention" (which registers a
+-- function preserves).
 use Rattle.std.specs.Prelude.{◌≡◌, ◌≢◌, ℕ, ◌-◌, ◌≤◌, List, length, slice_get, Option, Some, None, MatchOption, option_map}
 use Rattle.bits64.specs.Words.{low}
 use Rattle.rtx_tree.specs.declared.code.Mode.{Mode}
@@ -22,7 +23,8 @@ use Rattle.same_behaviour.specs.Lawful.{IsLawful, IsLawfulWorld, seen_by_rtl}
 
 -- ---- the same calls
 
--- an argument stands in one of a0 to a7, which are registers 10 to 17: that of the code has the low bits that the function hands over
+-- an argument stands in one of a0 to a7, which are registers 10 to 17: that of the code has the low
+-- bits that the function hands over
 pub record SameArg (call : CodeCall) (arg : ArgValue) : Type 0 where
   pub least : 10 ≤ arg.reg
   pub most : arg.reg ≤ 17
@@ -42,7 +44,9 @@ pub record SameCall (event : CallEvent) (call : CodeCall) : Type 0 where
 -- equally many, each the same
 abbrev pub SameCalls : List CallEvent → List CodeCall → Type 0
 SameCalls events calls =
-    (length calls ≡ length events) × ((i : ℕ) (event : CallEvent) (call : CodeCall) → slice_get events i ≡ Some event → slice_get calls i ≡ Some call → SameCall event call)
+    (length calls ≡ length events) ×
+    ((i : ℕ) (event : CallEvent) (call : CodeCall) →
+    slice_get events i ≡ Some event → slice_get calls i ≡ Some call → SameCall event call)
 
 -- ---- the same outcome
 
@@ -65,15 +69,17 @@ SameOutcome mode start _ _ = ⊥
 
 -- ---- same behaviour
 
--- A function and its code, from a start whose frame has a size, in a world: where the function's run of n steps has a value, the code
--- reaches the same outcome in some k lines, which are as many at least as the jumps and calls that the function took.
+-- A function and its code, from a start whose frame has a size, in a world: where the function's
+-- run of n steps has a value, the code reaches the same outcome in some k lines, which are as many
+-- at least as the jumps and calls that the function took.
 abbrev pub SameFrom : ℕ → Function → List CodeItem → Start → World → ℕ → Type 0
 SameFrom frame f items start world n = let seen = seen_by_rtl frame f.locals start in
     run_of f seen world n ≢ rtl.Undefined →
-    (k : ℕ) × (taken f seen world n ≤ k) × SameOutcome f.result start (run_of f seen world n) (lines.run items start world k)
+    (k : ℕ) × (taken f seen world n ≤ k) ×
+    SameOutcome f.result start (run_of f seen world n) (lines.run items start world k)
 
--- The code of a function that needs a frame of a size has its behaviour: so it is from every lawful start whose frame has that size at
--- least, in every lawful world.
+-- The code of a function that needs a frame of a size has its behaviour: so it is from every lawful
+-- start whose frame has that size at least, in every lawful world.
 abbrev pub Same : ℕ → Function → List CodeItem → Type 0
 Same least f items = (frame : ℕ) (start : Start) (world : World) (n : ℕ) → least ≤ frame →
     IsLawful frame f.locals start → IsLawfulWorld start world → SameFrom frame f items start world n

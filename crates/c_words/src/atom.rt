@@ -20,7 +20,7 @@ pub enum Dialect {
 }
 
 /// What of an operand is compared with a name.
-#[derive(Clone, Copy)]
+#[derive(Clone, Copy, Debug)]
 pub enum Property {
     /// `GET_CODE (x)`
     Code,
@@ -29,7 +29,7 @@ pub enum Property {
 }
 
 /// What a word means where an expression may begin.
-#[derive(Drop)]
+#[derive(Debug, Drop)]
 pub enum Atom {
     /// It is an expression by itself.
     Leaf(Head),

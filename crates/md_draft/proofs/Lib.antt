@@ -1,2 +1,2 @@
-pub mod Shapes
-pub mod Made
+pub mod Smallest
+pub mod Reasons

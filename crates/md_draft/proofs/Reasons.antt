@@ -1,0 +1,156 @@
+-- A form's draft is set aside with the smallest of its reasons.
+use Rattle.std.proofs.Common.{◌≡◌, ◌≤◌, ℕ, Bool, true, false, true≢false, List, option_and_then, Option, Some, None, Ok, Err, refl, sym, ap, subst, ◌∙◌, inl, inr, ⊎_elim, arith}
+use Rattle.rtx_tree.specs.declared.constants.Constant.{Constant}
+use Rattle.lisp_read.specs.declared.tree.Tree.{Tree}
+use Rattle.lisp_read.specs.Shape.{items_of}
+use Rattle.md_pattern.specs.declared.reason.Reason.{Reason}
+use Rattle.md_pattern.specs.declared.reason.Reason.TheVariants as reason
+use Rattle.md_pattern.specs.Reason.{number_of, both}
+use Rattle.md_draft.specs.declared.head.Head.{Head}
+use Rattle.md_draft.specs.declared.draft.Draft.{Draft}
+use Rattle.md_draft.specs.Head.{head_named}
+use Rattle.md_draft.specs.Layout.{layout_of, is_whole}
+use Rattle.md_draft.specs.Draft as draft
+use Rattle.md_draft.specs.Draft.{draft_in, draft_by, whole_draft, matched_in, made_in, printed_in, defined_in, matched_with, made_with, printed_with, defined_with, draft_with, head_in, headed, entry_by, entry_of}
+use Rattle.md_draft.specs.Reasons.{Gives, Applies, IsSmallest, head_of}
+use Rattle.md_draft.proofs.Smallest.{Of, Or, alone, change, pair, with}
+
+module _ (constants : List Constant) (values : List (List ℕ)) (h : Head) (ts : List Tree) where
+  abbrev OfMatched : Reason → Type 0
+  OfMatched = Or (Of (draft.patterns_in constants h ts)) (Of (draft.condition_in constants values h ts))
+
+  matched : IsSmallest OfMatched (matched_in constants values h ts)
+  unfolding matched_in
+  matched = with (Of (draft.patterns_in constants h ts)) (Of (draft.condition_in constants values h ts)) matched_with (draft.patterns_in constants h ts) (draft.condition_in constants values h ts) (alone _) (alone _)
+
+  abbrev OfMade : Reason → Type 0
+  OfMade = Or (Of (draft.split_condition_in constants values h ts)) (Or (Of (draft.sequence_in constants h ts)) (Of (draft.statements_in constants h ts)))
+
+  made : IsSmallest OfMade (made_in constants values h ts)
+  unfolding made_in
+  made = with (Of (draft.split_condition_in constants values h ts)) (Or (Of (draft.sequence_in constants h ts)) (Of (draft.statements_in constants h ts))) made_with (draft.split_condition_in constants values h ts) (both (draft.sequence_in constants h ts) (draft.statements_in constants h ts)) (alone _)
+      (pair (Of (draft.sequence_in constants h ts)) (Of (draft.statements_in constants h ts)) (draft.sequence_in constants h ts) (draft.statements_in constants h ts) (alone _) (alone _))
+
+  abbrev OfPrinted : Reason → Type 0
+  OfPrinted = Or (Of (draft.output_in h ts)) (Of (draft.attributes_in h ts))
+
+  printed : IsSmallest OfPrinted (printed_in h ts)
+  unfolding printed_in
+  printed = with (Of (draft.output_in h ts)) (Of (draft.attributes_in h ts)) printed_with (draft.output_in h ts) (draft.attributes_in h ts) (alone _) (alone _)
+
+  abbrev OfDefined : Reason → Type 0
+  OfDefined = Or (Or (Of (draft.test_in constants h ts)) (Of (draft.class_in h ts))) (Or (Of (draft.values_in h ts)) (Of (draft.default_in h ts)))
+
+  defined : IsSmallest OfDefined (defined_in constants h ts)
+  unfolding defined_in
+  defined = with (Or (Of (draft.test_in constants h ts)) (Of (draft.class_in h ts))) (Or (Of (draft.values_in h ts)) (Of (draft.default_in h ts))) defined_with (both (draft.test_in constants h ts) (draft.class_in h ts)) (both (draft.values_in h ts) (draft.default_in h ts))
+      (pair (Of (draft.test_in constants h ts)) (Of (draft.class_in h ts)) (draft.test_in constants h ts) (draft.class_in h ts) (alone _) (alone _)) (pair (Of (draft.values_in h ts)) (Of (draft.default_in h ts)) (draft.values_in h ts) (draft.default_in h ts) (alone _) (alone _))
+
+  abbrev OfAll : Reason → Type 0
+  OfAll = Or (Or OfMatched OfMade) (Or OfPrinted OfDefined)
+
+  whole : IsSmallest OfAll (whole_draft constants values h ts)
+  unfolding whole_draft
+  whole = with (Or OfMatched OfMade) (Or OfPrinted OfDefined) (draft_with h) (both (matched_in constants values h ts) (made_in constants values h ts)) (both (printed_in h ts) (defined_in constants h ts))
+      (pair OfMatched OfMade (matched_in constants values h ts) (made_in constants values h ts) matched made) (pair OfPrinted OfDefined (printed_in h ts) (defined_in constants h ts) printed defined)
+
+  module _ (is : is_whole (layout_of h) ts ≡ true) where
+    to : (r : Reason) → OfAll r → Gives constants values h ts r
+    to r (inl (inl (inl e))) = Gives.patterns r is e
+    to r (inl (inl (inr e))) = Gives.condition r is e
+    to r (inl (inr (inl e))) = Gives.split_condition r is e
+    to r (inl (inr (inr (inl e)))) = Gives.sequence r is e
+    to r (inl (inr (inr (inr e)))) = Gives.statements r is e
+    to r (inr (inl (inl e))) = Gives.output r is e
+    to r (inr (inl (inr e))) = Gives.attributes r is e
+    to r (inr (inr (inl (inl e)))) = Gives.test r is e
+    to r (inr (inr (inl (inr e)))) = Gives.class r is e
+    to r (inr (inr (inr (inl e)))) = Gives.values_given r is e
+    to r (inr (inr (inr (inr e)))) = Gives.default r is e
+
+    not_both : {A : Type 0} → is_whole (layout_of h) ts ≡ false → A
+    not_both wrong = absurd (true≢false (sym is ∙ wrong))
+
+    from : (r : Reason) → Gives constants values h ts r → OfAll r
+    from _ (Gives.count wrong) = not_both wrong
+    from r (Gives.patterns _ _ e) = inl (inl (inl e))
+    from r (Gives.condition _ _ e) = inl (inl (inr e))
+    from r (Gives.split_condition _ _ e) = inl (inr (inl e))
+    from r (Gives.sequence _ _ e) = inl (inr (inr (inl e)))
+    from r (Gives.statements _ _ e) = inl (inr (inr (inr e)))
+    from r (Gives.output _ _ e) = inr (inl (inl e))
+    from r (Gives.attributes _ _ e) = inr (inl (inr e))
+    from r (Gives.test _ _ e) = inr (inr (inl (inl e)))
+    from r (Gives.class _ _ e) = inr (inr (inl (inr e)))
+    from r (Gives.values_given _ _ e) = inr (inr (inr (inl e)))
+    from r (Gives.default _ _ e) = inr (inr (inr (inr e)))
+
+    when_whole : IsSmallest (Gives constants values h ts) (whole_draft constants values h ts)
+    when_whole = change OfAll (Gives constants values h ts) (whole_draft constants values h ts) to from whole
+
+  -- a form with other parts has no other reason
+  only_parts : is_whole (layout_of h) ts ≡ false → (r : Reason) → Gives constants values h ts r → 2 ≤ number_of r
+  only_parts wrong _ (Gives.count _) = omega arith
+  only_parts wrong r (Gives.patterns _ is _) = absurd (true≢false (sym is ∙ wrong))
+  only_parts wrong r (Gives.condition _ is _) = absurd (true≢false (sym is ∙ wrong))
+  only_parts wrong r (Gives.split_condition _ is _) = absurd (true≢false (sym is ∙ wrong))
+  only_parts wrong r (Gives.sequence _ is _) = absurd (true≢false (sym is ∙ wrong))
+  only_parts wrong r (Gives.statements _ is _) = absurd (true≢false (sym is ∙ wrong))
+  only_parts wrong r (Gives.output _ is _) = absurd (true≢false (sym is ∙ wrong))
+  only_parts wrong r (Gives.attributes _ is _) = absurd (true≢false (sym is ∙ wrong))
+  only_parts wrong r (Gives.test _ is _) = absurd (true≢false (sym is ∙ wrong))
+  only_parts wrong r (Gives.class _ is _) = absurd (true≢false (sym is ∙ wrong))
+  only_parts wrong r (Gives.values_given _ is _) = absurd (true≢false (sym is ∙ wrong))
+  only_parts wrong r (Gives.default _ is _) = absurd (true≢false (sym is ∙ wrong))
+
+  by_count : (b : Bool) → is_whole (layout_of h) ts ≡ b → IsSmallest (Gives constants values h ts) (draft_in constants values h ts)
+  unfolding draft_in
+  by_count true is = rw is (when_whole is)
+  by_count false wrong = rw wrong (Gives.count wrong, only_parts wrong)
+
+  pub of_head : IsSmallest (Gives constants values h ts) (draft_in constants values h ts)
+  of_head = by_count (is_whole (layout_of h) ts) refl
+
+one_le : (r : Reason) → 1 ≤ number_of r
+one_le reason.Head = omega arith
+one_le reason.Parts = omega arith
+one_le reason.Code = omega arith
+one_le reason.Mode = omega arith
+one_le reason.CCode = omega arith
+one_le reason.Condition = omega arith
+one_le reason.Statements = omega arith
+one_le reason.Predicate = omega arith
+one_le reason.Constraint = omega arith
+one_le reason.Attribute = omega arith
+one_le reason.Operands = omega arith
+one_le reason.Template = omega arith
+
+module _ (constants : List Constant) (values : List (List ℕ)) (t : Tree) where
+  without_head : head_of t ≡ None → IsSmallest {A = Draft} (Applies constants values t) (Err reason.Head)
+  without_head none = (Applies.headless none, λ s has. one_le s)
+
+  with_head : (h : Head) → head_of t ≡ Some h → IsSmallest (Applies constants values t) (draft_in constants values h (items_of t))
+  with_head h is = change (Gives constants values h (items_of t)) (Applies constants values t) (draft_in constants values h (items_of t)) (λ r gives. Applies.of_head h r is gives) back (of_head constants values h (items_of t))
+    where
+      some_is : (g k : Head) → Some g ≡ Some k → g ≡ k
+      some_is g k e = cc
+
+      none_some : (k : Head) → ◌≡◌ {A = Option Head} None (Some k) → ⊥
+      none_some k e = cc
+
+      back : (r : Reason) → Applies constants values t r → Gives constants values h (items_of t) r
+      back _ (Applies.headless none) = absurd (none_some h (sym none ∙ is))
+      back r (Applies.of_head k _ other gives) = subst (λ (x : Head). Gives constants values x (items_of t) r) (some_is k h (sym other ∙ is)) gives
+
+  by_named : (o : Option Head) → head_of t ≡ o → IsSmallest (Applies constants values t) (draft_by constants values o (items_of t))
+  by_named None none = without_head none
+  by_named (Some h) is = with_head h is
+
+  by_head : (o : Option (List ℕ)) → head_in (items_of t) ≡ o → IsSmallest (Applies constants values t) (entry_by constants values o (items_of t)).draft
+  unfolding headed
+  by_head None none = without_head (ap (λ x. option_and_then head_named x) none)
+  by_head (Some text) is = by_named (head_named text) (ap (λ x. option_and_then head_named x) is)
+
+-- a form is set aside by its own text with the smallest of the reasons that the text gives
+pub of_entry : (constants : List Constant) (values : List (List ℕ)) (t : Tree) → IsSmallest (Applies constants values t) (entry_of constants values t).draft
+of_entry constants values t = by_head constants values t (head_in (items_of t)) refl

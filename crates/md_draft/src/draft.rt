@@ -1,0 +1,96 @@
+//! A form as far as its own text tells.
+use crate::head::{Head, RegisterClass};
+use c_cond::{Cond, Prep};
+use md_pattern::{Judged, Patterns};
+use md_text::Template;
+use plain_data::Items;
+use pred_expr::Test;
+use rtx_tree::Name;
+
+/// What a form gives an attribute: `(set_attr "NAME" "VALUES")`.
+#[derive(Debug, Drop)]
+pub struct Attribute {
+    /// The attribute's name.
+    pub name: Name,
+    /// One value, or one for each alternative; `*` stands for the default.
+    pub values: Items<Name>,
+}
+
+/// What a form has where its output stands.
+#[derive(Drop)]
+pub enum Output {
+    /// Text for all alternatives, or a line for each.
+    Template(Template),
+    /// A block of rows, one for each alternative, in the compact syntax.
+    Compact(Name),
+    /// Text with a sequence that none of the output's is.
+    Outside,
+}
+
+/// What a form matches, and when.
+#[derive(Drop)]
+pub struct Matched {
+    /// The instructions that it matches, or, for an expander, those that it makes, with the constraints in their text.
+    pub patterns: Patterns,
+    /// When it holds. The empty condition is true.
+    pub condition: Cond,
+}
+
+/// What a form makes.
+#[derive(Drop)]
+pub struct Made {
+    /// When the split half of an instruction and its split holds.
+    pub split_condition: Cond,
+    /// The instructions that it makes in place of the patterns.
+    pub sequence: Patterns,
+    /// The preparation statements. The empty ones do nothing.
+    pub statements: Prep,
+}
+
+/// How a form is printed, and what it gives attributes.
+#[derive(Drop)]
+pub struct Printed {
+    /// Its output.
+    pub output: Output,
+    /// What it gives attributes, in the order of the text.
+    pub attributes: Items<Attribute>,
+}
+
+/// What a form defines for others.
+#[derive(Drop)]
+pub struct Defined {
+    /// The test of a predicate, or of a constraint.
+    pub test: Option<Test>,
+    /// The class of a register constraint.
+    pub class: Option<RegisterClass>,
+    /// The values of an attribute.
+    pub values: Items<Name>,
+    /// The default of an attribute.
+    pub default: Name,
+}
+
+/// What a form says, before its predicates, constraints, attributes and operands were looked at. What its head doesn't have is empty.
+#[derive(Drop)]
+pub struct Draft {
+    /// What it is.
+    pub head: Head,
+    /// What it matches.
+    pub matched: Matched,
+    /// What it makes.
+    pub made: Made,
+    /// How it is printed.
+    pub printed: Printed,
+    /// What it defines.
+    pub defined: Defined,
+}
+
+/// A draft of one tree.
+#[derive(Drop)]
+pub struct DraftEntry {
+    /// The text of its head, or `-` where it has none.
+    pub head: Name,
+    /// Its name: its second part, where that is a string of one byte or more.
+    pub name: Option<Name>,
+    /// Its draft, or the smallest reason that its own text gives.
+    pub draft: Judged<Draft>,
+}

@@ -1,0 +1,282 @@
+//! Reads a form from its tree, as far as its own text tells.
+ghost use Rattle.std.specs.Prelude.{◌≡◌, IfOk};
+ghost use Rattle.std.specs.Option.{option_copied};
+ghost use Rattle.md_draft.specs.Draft as spec;
+ghost use Rattle.md_draft.specs.Head.{head_named};
+ghost use Rattle.md_draft.specs.Reasons.{Applies, IsSmallest};
+
+use crate::condition::{condition_in, split_condition_in, statements_in};
+use crate::draft::{Defined, Draft, DraftEntry, Made, Matched, Printed};
+use crate::head::Head;
+use crate::layout::{is_whole, layout_of, part_at};
+use crate::output::output_in;
+use crate::pattern::{patterns_in, sequence_in};
+use crate::text::{attributes_in, class_in, default_in, test_in, values_in};
+use c_cond::{Cond, Prep};
+use lisp_read::{Tree, atom, items, string};
+use md_pattern::{Judged, Patterns, Reason, both};
+use plain_data::Memory;
+use rtx_tree::{Constants, Name};
+use std::alloc::Global;
+
+// ---- the parts of a form, several at a time
+
+#[tactic(auto, unfolding(crate::specs::Draft::matched_in))]
+fn matched_in(
+    alloc: Global,
+    constants: &Constants,
+    values: &[Name],
+    head: Head,
+    items: &[Tree],
+) -> Result<Judged<Matched>, Memory>
+    ensures { IfOk result (λ matched. matched ≡ spec.matched_in constants.now values.now head items.now) }
+{
+    let places = layout_of(head);
+    let patterns = patterns_in(alloc, constants, head, part_at(items, places.patterns))?;
+    let condition = condition_in(alloc, constants, values, part_at(items, places.condition))?;
+    match both(patterns, condition) {
+        Ok((patterns, condition)) => Ok(Ok(Matched {
+            patterns,
+            condition,
+        })),
+        Err(reason) => Ok(Err(reason)),
+    }
+}
+
+fn made_by(
+    split_condition: Judged<Cond>,
+    sequence: Judged<Patterns>,
+    statements: Judged<Prep>,
+) -> Judged<Made>
+    ensures { result ≡ spec.made_by split_condition sequence statements }
+{
+    match both(split_condition, both(sequence, statements)) {
+        Ok((split_condition, (sequence, statements))) => Ok(Made {
+            split_condition,
+            sequence,
+            statements,
+        }),
+        Err(reason) => Err(reason),
+    }
+}
+
+#[tactic(auto, unfolding(crate::specs::Draft::made_in))]
+fn made_in(
+    alloc: Global,
+    constants: &Constants,
+    values: &[Name],
+    head: Head,
+    items: &[Tree],
+) -> Result<Judged<Made>, Memory>
+    ensures { IfOk result (λ made. made ≡ spec.made_in constants.now values.now head items.now) }
+{
+    let places = layout_of(head);
+    let insn = part_at(items, places.condition);
+    let split = part_at(items, places.split_condition);
+    let split_condition = split_condition_in(alloc, constants, values, insn, split)?;
+    let sequence = sequence_in(alloc, constants, part_at(items, places.sequence))?;
+    let statements = statements_in(alloc, constants, part_at(items, places.statements))?;
+    Ok(made_by(split_condition, sequence, statements))
+}
+
+#[tactic(auto, unfolding(crate::specs::Draft::printed_in))]
+fn printed_in(alloc: Global, head: Head, items: &[Tree]) -> Result<Judged<Printed>, Memory>
+    ensures { IfOk result (λ printed. printed ≡ spec.printed_in head items.now) }
+{
+    let places = layout_of(head);
+    let output = output_in(alloc, part_at(items, places.output))?;
+    let attributes = attributes_in(alloc, part_at(items, places.attributes))?;
+    match both(output, attributes) {
+        Ok((output, attributes)) => Ok(Ok(Printed { output, attributes })),
+        Err(reason) => Ok(Err(reason)),
+    }
+}
+
+#[tactic(auto, unfolding(crate::specs::Draft::defined_in))]
+fn defined_in(
+    alloc: Global,
+    constants: &Constants,
+    head: Head,
+    items: &[Tree],
+) -> Result<Judged<Defined>, Memory>
+    ensures { IfOk result (λ defined. defined ≡ spec.defined_in constants.now head items.now) }
+{
+    let places = layout_of(head);
+    let test = test_in(alloc, constants, part_at(items, places.test))?;
+    let class = class_in(part_at(items, places.class));
+    let values = values_in(alloc, part_at(items, places.values))?;
+    let default = default_in(alloc, part_at(items, places.default))?;
+    match both(both(test, class), both(values, default)) {
+        Ok(((test, class), (values, default))) => Ok(Ok(Defined {
+            test,
+            class,
+            values,
+            default,
+        })),
+        Err(reason) => Ok(Err(reason)),
+    }
+}
+
+fn together(
+    head: Head,
+    matched: Judged<Matched>,
+    made: Judged<Made>,
+    printed: Judged<Printed>,
+    defined: Judged<Defined>,
+) -> Judged<Draft>
+    ensures { result ≡ spec.together head matched made printed defined }
+{
+    match both(both(matched, made), both(printed, defined)) {
+        Ok(((matched, made), (printed, defined))) => Ok(Draft {
+            head,
+            matched,
+            made,
+            printed,
+            defined,
+        }),
+        Err(reason) => Err(reason),
+    }
+}
+
+/// The draft of a form with a head and as many trees as the head takes.
+#[tactic(auto, unfolding(crate::specs::Draft::whole_draft))]
+fn whole_draft(
+    alloc: Global,
+    constants: &Constants,
+    values: &[Name],
+    head: Head,
+    items: &[Tree],
+) -> Result<Judged<Draft>, Memory>
+    ensures { IfOk result (λ draft. draft ≡ spec.whole_draft constants.now values.now head items.now) }
+{
+    let matched = matched_in(alloc, constants, values, head, items)?;
+    let made = made_in(alloc, constants, values, head, items)?;
+    let printed = printed_in(alloc, head, items)?;
+    let defined = defined_in(alloc, constants, head, items)?;
+    Ok(together(head, matched, made, printed, defined))
+}
+
+/// The draft of a form with a head.
+#[tactic(auto, unfolding(crate::specs::Draft::draft_in))]
+fn draft_in(
+    alloc: Global,
+    constants: &Constants,
+    values: &[Name],
+    head: Head,
+    items: &[Tree],
+) -> Result<Judged<Draft>, Memory>
+    ensures { IfOk result (λ draft. draft ≡ spec.draft_in constants.now values.now head items.now) }
+{
+    if is_whole(&layout_of(head), items) {
+        whole_draft(alloc, constants, values, head, items)
+    } else {
+        Ok(Err(Reason::Parts))
+    }
+}
+
+fn draft_by(
+    alloc: Global,
+    constants: &Constants,
+    values: &[Name],
+    head: &[u8],
+    items: &[Tree],
+) -> Result<Judged<Draft>, Memory>
+    ensures { IfOk result (λ draft. draft ≡ spec.draft_by constants.now values.now (head_named head.now) items.now) }
+{
+    match Head::named(head) {
+        Some(head) => draft_in(alloc, constants, values, head, items),
+        None => Ok(Err(Reason::Head)),
+    }
+}
+
+// ---- entries
+
+fn some_text(text: Option<&Name>) -> Option<&Name>
+    ensures { option_copied result ≡ spec.some_text (option_copied text.entry) }
+{
+    match text {
+        Some(text) if text.bytes().len() > 0 => Some(text),
+        _ => None,
+    }
+}
+
+/// A form's name: its second part where that is a string of one byte or more.
+fn name_in(items: &[Tree]) -> Option<&Name>
+    ensures { option_copied result ≡ spec.name_in items.now }
+{
+    match items {
+        [_, name, ..] => some_text(string(name)),
+        _ => None,
+    }
+}
+
+fn name_of(alloc: Global, items: &[Tree]) -> Result<Option<Name>, Memory>
+    ensures { IfOk result (λ name. name ≡ spec.name_in items.now) }
+{
+    match name_in(items) {
+        Some(name) => Ok(Some(name.copy(alloc)?)),
+        None => Ok(None),
+    }
+}
+
+/// The atom at the head.
+fn head_in(items: &[Tree]) -> Option<&Name>
+    ensures { option_copied result ≡ spec.head_in items.now }
+{
+    match items {
+        [head, ..] => atom(head),
+        [] => None,
+    }
+}
+
+/// An entry without a draft.
+fn headless(alloc: Global, items: &[Tree]) -> Result<DraftEntry, Memory>
+    ensures { IfOk result (λ entry. entry ≡ spec.headless items.now) }
+{
+    Ok(DraftEntry {
+        head: Name::of(alloc, b"-")?,
+        name: name_of(alloc, items)?,
+        draft: Err(Reason::Head),
+    })
+}
+
+#[tactic(auto, unfolding(crate::specs::Draft::headed))]
+fn headed(
+    alloc: Global,
+    constants: &Constants,
+    values: &[Name],
+    head: &Name,
+    items: &[Tree],
+) -> Result<DraftEntry, Memory>
+    ensures { IfOk result (λ entry. entry ≡ spec.headed constants.now values.now head.now items.now) }
+{
+    let head_text = head.copy(alloc)?;
+    let name = name_of(alloc, items)?;
+    Ok(DraftEntry {
+        head: head_text,
+        name,
+        draft: draft_by(alloc, constants, values, head.bytes(), items)?,
+    })
+}
+
+/// What a tree says as a form, by itself: its head, its name, and its parts or the smallest reason that its own text gives. A tree that is
+/// no list with an atom at its head has the head `-` and no parts. `values` are the conditions that hold besides the form's own. The
+/// names in conditions and statements that are constants are read with `constants`.
+#[tactic(auto, using(crate::proofs::Reasons::of_entry))]
+pub fn entry_of(
+    alloc: Global,
+    constants: &Constants,
+    values: &[Name],
+    tree: &Tree,
+) -> Result<DraftEntry, Memory>
+    ensures entry { IfOk result (λ entry. entry ≡ spec.entry_of constants.now values.now tree.now) }
+
+    // A form that has parts has no reason, and any other has the smallest of its reasons.
+    ensures reasons { IsSmallest (Applies constants.now values.now tree.now) (spec.entry_of constants.now values.now tree.now).draft }
+{
+    let items = items(tree);
+    match head_in(items) {
+        Some(head) => headed(alloc, constants, values, head, items),
+        None => headless(alloc, items),
+    }
+}

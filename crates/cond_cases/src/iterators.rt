@@ -3,7 +3,8 @@ use anyhow::{Result, bail};
 use md_iter::{IterRefusal, expand_forms};
 use rtx_tree::Constants;
 use std::alloc::Global;
-use text_cases::{print_trees, push_apart, push_shown, trees_in};
+use text_cases::{push_apart, push_shown, trees_in};
+use tree_print::print_tree;
 
 /// The constants that a text defines.
 pub fn constants_in(alloc: Global, text: &[u8]) -> Result<Constants> {
@@ -11,7 +12,7 @@ pub fn constants_in(alloc: Global, text: &[u8]) -> Result<Constants> {
     Ok(expanded.constants)
 }
 
-/// Appends the forms of a description in two parts, and the constants behind them; of more than 20 forms only how many there are.
+/// Appends the forms of a description in two parts, each with the conditions of its values, and the constants behind them; of more than 20 forms only how many there are.
 pub fn tell(alloc: Global, given: &[u8], input: &[u8], out: &mut Vec<u8>) -> Result<()> {
     let mut text = Vec::from_slice(alloc, given)?;
     text.extend_from_slice(input)?;
@@ -28,7 +29,16 @@ pub fn tell(alloc: Global, given: &[u8], input: &[u8], out: &mut Vec<u8>) -> Res
             out,
         );
     }
-    print_trees(expanded.forms.as_slice(), out)?;
+    for form in expanded.forms.as_slice() {
+        push_apart("", out)?;
+        print_tree(&form.tree, out)?;
+        for condition in form.conditions.as_slice() {
+            if !condition.bytes().is_empty() {
+                push_shown(" & ", out)?;
+                out.extend_from_slice(condition.bytes())?;
+            }
+        }
+    }
     for constant in expanded.constants.as_slice() {
         push_apart("", out)?;
         out.extend_from_slice(constant.name.bytes())?;

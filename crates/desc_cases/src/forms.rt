@@ -1,10 +1,9 @@
 //! Forms with their reasons, attributes and alternatives.
 use crate::parts::{forms_in, halves, operands_of};
 use anyhow::Result;
-use cond_cases::constants_in;
 use md_attr::{Attributes, enabled, has_alternative, value};
 use md_constr::{Constraints, alternatives_of, fits};
-use md_forms::{forms_of, names_of};
+use md_forms::names_of;
 use md_pred::PredTable;
 use rtx_tree::Name;
 use std::alloc::Global;
@@ -12,8 +11,9 @@ use text_cases::{push_shown, show_number, trees_in};
 
 /// Appends the name of each form of a description, and `ok` or the number of the reason for which it is set aside.
 pub fn tell_forms(alloc: Global, given: &[u8], input: &[u8], out: &mut Vec<u8>) -> Result<()> {
-    let constants = constants_in(alloc, given)?;
-    let forms = forms_of(alloc, trees_in(alloc, input)?.as_slice(), &constants)?;
+    let mut text = Vec::from_slice(alloc, given)?;
+    text.extend_from_slice(input)?;
+    let forms = forms_in(alloc, text.as_slice())?;
     let names = names_of(alloc, forms.as_slice())?;
     for (form, name) in forms.as_slice().iter().zip(names.as_slice()) {
         if !out.is_empty() {

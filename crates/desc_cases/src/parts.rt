@@ -1,12 +1,12 @@
 //! The parts of inputs.
 use anyhow::{Result, bail};
 use lisp_read::{Tree, is_word, items, rtx_of_tree};
-use md_forms::{Forms, forms_of};
-use plain_data::Items;
+use md_forms::Forms;
 use rtx_tree::Operands;
 use std::alloc::Global;
 use std::str;
 use text_cases::trees_in;
+use tree_forms::forms_of_trees;
 
 /// The two parts of an input, on both sides of a bar.
 pub fn halves(input: &[u8]) -> Result<(&[u8], &[u8])> {
@@ -16,10 +16,9 @@ pub fn halves(input: &[u8]) -> Result<(&[u8], &[u8])> {
     }
 }
 
-/// The forms of a text, without constants.
+/// The forms of a description.
 pub fn forms_in(alloc: Global, text: &[u8]) -> Result<Forms> {
-    let trees = trees_in(alloc, text)?;
-    Ok(forms_of(alloc, trees.as_slice(), &Items::new(alloc))?)
+    Ok(forms_of_trees(alloc, trees_in(alloc, text)?.as_slice())?)
 }
 
 /// What stands behind the word in the first list that begins with it.

@@ -1,11 +1,10 @@
 //! What conditions are worth.
-use crate::parts::{behind_word, halves, operands_of};
+use crate::parts::{behind_word, forms_in, halves, operands_of};
 use anyhow::Result;
 use c_cond::{parse_cond, parse_test};
 use c_eval::{Facts, eval, eval_test};
 use cond_cases::constants_in;
 use lisp_read::{Tree, rtx_of_tree, vector};
-use md_forms::forms_of;
 use md_pred::PredTable;
 use plain_data::Items;
 use rtx_tree::RegSet;
@@ -33,8 +32,7 @@ fn facts_of(alloc: Global, windows: &[Tree]) -> Result<Facts> {
 pub fn tell_worth(alloc: Global, given: &[u8], input: &[u8], out: &mut Vec<u8>) -> Result<()> {
     let trees = trees_in(alloc, given)?;
     let constants = constants_in(alloc, given)?;
-    let forms = forms_of(alloc, trees.as_slice(), &Items::new(alloc))?;
-    let preds = PredTable::of(alloc, &forms)?;
+    let preds = PredTable::of(alloc, &forms_in(alloc, given)?)?;
     let operands = operands_of(alloc, behind_word(trees.as_slice(), b"operands"))?;
     let facts = facts_of(alloc, behind_word(trees.as_slice(), b"dead"))?;
     let cond = parse_cond(alloc, input, &constants)?;

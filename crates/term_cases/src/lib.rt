@@ -6,6 +6,8 @@
 mod normal;
 mod term;
 
+pub use term::register_term;
+
 use anyhow::Result;
 use std::alloc::Global;
 

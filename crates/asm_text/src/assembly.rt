@@ -8,9 +8,9 @@ ghost use Rattle.func_input.specs.Outcome.{AppendedSome, outcome_then};
 ghost use Rattle.asm_text.specs.Assembly.{Appended, IsBodyText, IsFunctionText, AreTexts};
 
 use asm_table::{first_match, print_label_line, print_line};
-use rtl_chain::{is_ended, return_insn};
 use func_input::next_number;
 use plain_data::Memory;
+use rtl_chain::{is_ended, return_insn};
 use rtx_tree::{Function, Insn, Kind, Name, Stage};
 use run_refusal::Refusal;
 use std::alloc::Global;

@@ -13,9 +13,9 @@ ghost use Rattle.asm_text.specs.Code.{Answer, Answers, IsLineText, IsItemOf, IsL
 
 use crate::compile::compile;
 use asm_table::{Match, first_match, print_line};
-use rtl_chain::{is_ended, return_insn};
 use func_input::{next_number, read_functions};
 use plain_data::{Items, Memory};
+use rtl_chain::{is_ended, return_insn};
 use rtx_tree::{Function, Functions, Insn, Kind};
 use run_refusal::Refusal;
 use rv_text::{CodeItem, Line, parse_line};

@@ -10,10 +10,10 @@ ghost use Rattle.recog_text.specs.Steps.{added};
 ghost use Rattle.recog_text.specs.Recog.{LowerComes, OutputComes, FunctionComes, FunctionsCome};
 
 use crate::stages::{lower_insn, lower_insns, print_insn, print_insns};
-use rtl_chain::end_of;
 use func_input::{check_functions, read_functions};
 use md_desc::Description;
 use md_forms::names_of;
+use rtl_chain::end_of;
 use rtx_tree::{Function, Insn, Name};
 use run_refusal::Refusal;
 use std::alloc::Global;

@@ -6,10 +6,9 @@
 mod normal;
 mod term;
 
-pub use term::register_term;
-
 use anyhow::Result;
 use std::alloc::Global;
+pub use term::register_term;
 
 /// What is told of an input; `None` where there is no such table.
 pub fn answer(alloc: Global, table: &str, given: &[u8], input: &[u8]) -> Result<Option<Vec<u8>>> {

@@ -126,7 +126,14 @@ impl Description {
         ensures { result ≡ constraints.number_fits self.now (holds self.now) form alternative operands.now number }
     {
         let preds = &self.preds;
-        operand_fits(&self.constraints, preds, form, alternative, operands, number)
+        operand_fits(
+            &self.constraints,
+            preds,
+            form,
+            alternative,
+            operands,
+            number,
+        )
     }
 
     /// Whether the constraint of the operand with a number admits a tree in an alternative of an accepted form.
@@ -141,7 +148,15 @@ impl Description {
         ensures { result ≡ constraints.number_admits self.now (holds self.now) form alternative operands.now number x.now }
     {
         let preds = &self.preds;
-        operand_admits(&self.constraints, preds, form, alternative, operands, number, x)
+        operand_admits(
+            &self.constraints,
+            preds,
+            form,
+            alternative,
+            operands,
+            number,
+            x,
+        )
     }
 
     /// The first form from an index on that matches an instruction, by steps that are counted in a ledger.
@@ -189,7 +204,12 @@ impl Description {
     }
 
     /// The first form that matches an instruction, or `None` exactly where there is none such.
-    pub fn recog(&self, alloc: Global, insn: &Rtx, facts: &Facts) -> Result<Option<FormMatch>, Memory>
+    pub fn recog(
+        &self,
+        alloc: Global,
+        insn: &Rtx,
+        facts: &Facts,
+    ) -> Result<Option<FormMatch>, Memory>
         ensures first { IfOk result (λ r. (m : FormMatch) → (r ≡ Some m) ↔ spec.IsFirst self.now facts.now insn.now 0 m) }
         ensures none { IfOk result (λ r. r ≡ None → spec.NoneMatches self.now facts.now insn.now) }
     {

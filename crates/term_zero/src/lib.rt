@@ -17,9 +17,8 @@ mod relations;
 mod truths;
 mod zero;
 
-pub use constants::{
-    binary_number, on_constants, own_width, truth, two_copies, two_parts,
-};
+pub use constants::{binary_number, on_constants, own_width, truth, two_copies, two_parts};
 pub use less::less_than;
 pub use relations::relate;
+pub use truths::opposite;
 pub use zero::equals_zero;

@@ -223,7 +223,7 @@ fn build_parts(
 }
 
 /// What the rules of a head make of normal parts.
-fn build(
+pub fn build(
     alloc: Global,
     stores: &SymStores,
     head: Head,

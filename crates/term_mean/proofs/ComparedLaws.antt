@@ -1,5 +1,5 @@
 -- Comparisons in normal form: each is the normal form of its relation as a term, and is 1 exactly where the relation holds.
-use Rattle.std.proofs.Common.{◌≡◌, ℕ, ◌-◌, ◌^◌, refl, ◌∙◌, ap, List, [], ◌∷◌, bit_xor, eqb}
+use Rattle.std.proofs.Common.{sym, cond, Bool, true, false, ◌≡◌, ℕ, ◌-◌, ◌^◌, refl, ◌∙◌, ap, List, [], ◌∷◌, bit_xor, eqb}
 use Rattle.bits64.specs.declared.Width.{Width}
 use Rattle.bits64.specs.declared.Width.TheVariants.{W8}
 use Rattle.bits64.specs.Words.{bits_of, low}
@@ -7,18 +7,22 @@ use Rattle.term_tree.specs.declared.head.Head.TheVariants as heads
 use Rattle.term_tree.specs.declared.head.Relation.{Relation}
 use Rattle.term_tree.specs.declared.head.Relation.TheVariants.{Eq, Ne, Lt, Gt, Le, Ge, Ltu, Gtu, Leu, Geu}
 use Rattle.term_tree.specs.declared.head.Extension.TheVariants.{Zero, Sign}
-use Rattle.term_tree.specs.Tree.{Tree}
+use Rattle.term_tree.specs.Tree.{Tree, width_of}
+use Rattle.term_tree.specs.Form.{same_width}
+use Rattle.term_tree.proofs.OrderLaws.{same_width-true}
 use Rattle.term_mean.specs.Meaning.{Valuation, mean, truth}
 use Rattle.term_mean.specs.Stores.{Store}
 use Rattle.term_mean.specs.Sums.{constant, summed}
 use Rattle.term_mean.specs.Cuts.{one_part}
 use Rattle.term_mean.specs.Shifts.{two_parts}
+use Rattle.term_mean.specs.Masks.{cut_to}
 use Rattle.term_mean.specs.Truths.{opposite}
 use Rattle.term_mean.specs.Less.{less_than}
 use Rattle.term_mean.specs.Relations.{difference, opposite_of, related, holds}
 use Rattle.term_mean.specs.Normal.{normal}
-use Rattle.term_mean.specs.Compared.{same_in, compared}
-use Rattle.term_mean.proofs.SumLaws.{mean-summed}
+use Rattle.term_mean.specs.Compared.{same_in, compared, low_bits}
+use Rattle.term_mean.proofs.SumLaws.{mean-summed, mean-cut}
+use Rattle.term_mean.proofs.MaskLaws.{is-cut_to, width-cut_to}
 use Rattle.term_mean.proofs.NormalLaws.{mean-built}
 use Rattle.term_mean.proofs.RelationLaws.{mean-related}
 
@@ -65,3 +69,17 @@ like-related v Geu w a b = mean-opposite_same v (less_than Zero w a b) (two_part
 
 pub mean-compared : (v : Valuation) (r : Relation) (w : Width) (a b : Tree) → mean v (compared r w a b) ≡ truth (holds r w (mean v a) (mean v b))
 mean-compared v r w a b = like-related v r w a b ∙ mean-related v r w a b
+
+pub mean-low_bits : (v : Valuation) (w : Width) (t : Tree) → mean v (low_bits w t) ≡ low w (mean v t)
+mean-low_bits v w t = go (same_width (width_of t) w) refl
+  where
+    go : (b : Bool) → same_width (width_of t) w ≡ b → mean v (cond b t (cut_to w t)) ≡ low w (mean v t)
+    go true e = sym (mean-cut v t) ∙ ap (λ x. low x (mean v t)) (same_width-true (width_of t) w e)
+    go false e = (is-cut_to v w t).0
+
+pub width-low_bits : (w : Width) (t : Tree) → width_of (low_bits w t) ≡ w
+width-low_bits w t = go (same_width (width_of t) w) refl
+  where
+    go : (b : Bool) → same_width (width_of t) w ≡ b → width_of (cond b t (cut_to w t)) ≡ w
+    go true e = same_width-true (width_of t) w e
+    go false e = width-cut_to w t

@@ -20,4 +20,5 @@ mod zero;
 pub use constants::{binary_number, on_constants, own_width, truth, two_copies, two_parts};
 pub use less::less_than;
 pub use relations::relate;
+pub use truths::opposite;
 pub use zero::equals_zero;

@@ -1,18 +1,7 @@
 //! Whole runs as cases: each runs the program over objects in memory, and compares what it left with what was wanted. A testing tool, of
-//! which nothing is promised but that it is safe.
-//!
-//! A case has the words of the command line in a part `$ WORDS`, with one blank between two words and `""` for the empty word; several
-//! of these are as many cases, which share the other parts. What the program meets stands in `-- file NAME` and `-- input`. The Nth read
-//! of the input, write of the output, fetch of a file or write of the errors fails where a part `-- fails read N`, `-- fails write N`,
-//! `-- fails fetch N` or `-- fails tell N` says so, and `-- takes N` says how many bytes a write takes at most. What is wanted stands in
-//! `-- status N`, `-- output` and `-- errors`. What has no part is empty, and the status is 0. The parts before the first case hold for
-//! each case that has none of its own.
+//! which nothing is promised but that it is safe. The parts of a case are those of `case_setting`.
 #![tactic(auto)]
 
-mod fault;
-mod outcome;
-mod setting;
-mod shelf;
 mod trial;
 
 pub use trial::judge_runs;

@@ -1,11 +1,9 @@
 //! The run of a case, and what is told of it.
-use crate::fault::Fault;
-use crate::outcome::outcome;
-use crate::setting::{
-    Setting, bytes_of, check_parts, failing, is_command, status_of, takes_of, words_of,
-};
-use crate::shelf::shelf_of;
 use byte_edge::{ByteFiles, ByteSink, ByteSource};
+use case_setting::{
+    Fault, Setting, bytes_of, check_parts, failing, is_command, outcome, shelf_of, status_of,
+    takes_of, words_of,
+};
 use case_text::{Case, Part, Report, cases_of};
 use plain_data::Memory;
 use rtlc_run::run;

@@ -2,8 +2,8 @@
 ghost use Rattle.std.specs.Prelude.{◌≡◌};
 ghost use Rattle.md_operand.specs.Operand as spec;
 
-use rtx_tree::{Code, Mode, Rtx};
 use crate::addresses::{is_base, legitimate_address};
+use rtx_tree::{Code, Mode, Rtx};
 
 /// Whether a mode accepts another: a mode that is none accepts every mode.
 pub fn accepts_mode(wanted: Mode, mode: Mode) -> bool

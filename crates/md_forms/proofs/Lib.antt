@@ -5,3 +5,4 @@ pub mod TextKeys
 pub mod FirstNames
 pub mod CountLaws
 pub mod ShownNames
+pub mod Checked

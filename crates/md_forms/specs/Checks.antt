@@ -2,7 +2,8 @@
 -- numbered right, and its template inside. GCC Internals, "RTL Template", "Multiple Alternative Constraints", "Assigning Attribute
 -- Values to Insns" and "Output Templates and Operand Substitution".
 use Rattle.std.specs.Prelude.{◌≡◌, ℕ, ◌==◌, nat_le, Bool, true, false, not, ◌&&◌, ◌||◌, List, [], ◌∷◌, ◌++◌, Option, Some, None, Result, Ok, Err, if◌then◌else◌, length, option_map, option_and_then}
-use Rattle.std.specs.List.{flat_map, list_all, list_any}
+use Rattle.std.specs.Option.{unwrap_or}
+use Rattle.std.specs.List.{find, flat_map, list_all, list_any}
 use Rattle.rtx_tree.specs.declared.tree.Rtx.{Rtx}
 use Rattle.c_words.specs.declared.head.Head as c
 use Rattle.c_cond.specs.Tree.{heads_of}
@@ -19,6 +20,8 @@ use Rattle.md_pattern.specs.declared.operand.OperandText.{OperandText}
 use Rattle.md_draft.specs.declared.head.Head.{Head}
 use Rattle.md_draft.specs.declared.head.Head.TheVariants as head
 use Rattle.md_draft.specs.declared.draft.Attribute.{Attribute}
+use Rattle.md_draft.specs.declared.draft.Output.{Output}
+use Rattle.md_draft.specs.declared.draft.Output.TheVariants as output
 use Rattle.md_forms.specs.declared.form.Form.{Form}
 use Rattle.md_forms.specs.declared.form.OperandConstraint.{OperandConstraint}
 use Rattle.md_draft.specs.declared.draft.Draft.{Draft}
@@ -39,11 +42,11 @@ predicates_known tables d = list_all (is_known tables.predicates tables.accepted
 
 -- the numbers of the operands that the form matches, or, for an expander, that it is made of
 unfoldable pub matched : Draft → List ℕ
-matched d = flat_map operands_in d.patterns.trees
+matched d = flat_map operands_in d.matched.patterns.trees
 
 -- and those of the operands of its new sequence
 unfoldable pub all_operands : Draft → List ℕ
-all_operands d = matched d ++ flat_map operands_in d.sequence.trees
+all_operands d = matched d ++ flat_map operands_in d.made.sequence.trees
 
 -- in the code, which counts them once
 abbrev pub AreNumbers : Numbers → Draft → Type 0
@@ -67,8 +70,8 @@ dup_by settable numbers statements n = has numbers n || (settable && list_any (i
 -- statements may set an operand of a new sequence, and of the pattern of an expander
 unfoldable pub dups_by : List ℕ → Draft → Bool
 dups_by numbers d =
-    list_all (dup_by (is_expander d.head) numbers (heads_of d.statements)) (flat_map dups_in d.patterns.trees)
-    && list_all (dup_by true numbers (heads_of d.statements)) (flat_map dups_in d.sequence.trees)
+    list_all (dup_by (is_expander d.head) numbers (heads_of d.made.statements)) (flat_map dups_in d.matched.patterns.trees)
+    && list_all (dup_by true numbers (heads_of d.made.statements)) (flat_map dups_in d.made.sequence.trees)
 
 -- ---- constraints
 
@@ -77,7 +80,9 @@ constraint_in names t = option_map (λ k. record { operand = t.operand; constrai
 
 -- the constraints of a form; none where one of them has something unknown in it
 unfoldable pub constraints_in : List (List ℕ) → Draft → Option (List OperandConstraint)
-constraints_in names d = option_and_then (λ ks. option_map (λ more. ks ++ more) (lists.each (constraint_in names) d.sequence.texts)) (lists.each (constraint_in names) d.patterns.texts)
+constraints_in names d =
+    option_and_then (λ ks. option_map (λ more. ks ++ more) (lists.each (constraint_in names) d.made.sequence.texts))
+    (lists.each (constraint_in names) d.matched.patterns.texts)
 
 -- a digit names an operand, and a name a constraint that is accepted
 abbrev pub member_stands : List ℕ → List ConstraintDraft → Member → Bool
@@ -123,10 +128,10 @@ is_attr _ = false
 
 -- an attribute's default is one of its values
 abbrev pub default_stands : Draft → Bool
-default_stands d = not (is_attr d.head) || is_among d.values d.default
+default_stands d = not (is_attr d.head) || is_among d.defined.values d.defined.default
 
 unfoldable pub attributes_stand : List AttributeDraft → Draft → ℕ → Bool
-attributes_stand known d n = default_stands d && list_all (attribute_stands known n) d.attributes
+attributes_stand known d n = default_stands d && list_all (attribute_stands known n) d.printed.attributes
 
 -- ---- numbers
 
@@ -137,7 +142,7 @@ numbers_stand numbers n = nat_le (length numbers) 30 && (nat_le n 30 && are_dist
 unfoldable pub operands_stand : Draft → ℕ → Bool
 operands_stand d n = numbers_stand (all_operands d) n && dups_by (matched d) d
 
--- ---- templates
+-- ---- outputs
 
 -- a text for each alternative
 abbrev pub template_stands : ℕ → Template → Bool
@@ -145,37 +150,83 @@ template_stands n template.Split = true
 template_stands n (template.One line) = true
 template_stands n (template.Each lines) = length lines == n
 
--- ---- all in the order of the reasons
+-- a block in the compact syntax isn't taken
+abbrev pub output_stands : ℕ → Output → Bool
+output_stands n (output.Template t) = template_stands n t
+output_stands n (output.Compact rows) = false
+output_stands n output.Outside = false
 
-abbrev pub form_with : Draft → List OperandConstraint → Template → Form
-form_with d ks t = record {
+abbrev pub template_of : Output → Template
+template_of (output.Template t) = t
+template_of _ = template.One []
+
+-- ---- the reasons of a form whose own text is in order
+
+-- its constraints, none where they aren't known
+abbrev pub constraints_of : Tables → Draft → List OperandConstraint
+constraints_of tables d = unwrap_or (constraints_in tables.constraint_names d) []
+
+abbrev pub stand_where_known : Tables → Draft → Option (List OperandConstraint) → Bool
+stand_where_known tables d None = false
+stand_where_known tables d (Some ks) = constraints_stand (matched d) tables.constraints ks
+
+-- they are known, and stand
+abbrev pub constraints_known : Tables → Draft → Bool
+constraints_known tables d = stand_where_known tables d (constraints_in tables.constraint_names d)
+
+abbrev pub alternatives_of : Tables → Draft → ℕ
+alternatives_of tables d = alternatives (constraints_of tables d)
+
+-- Whether the form has a reason. Those of its own text are looked at before.
+abbrev pub has_reason : Tables → Draft → Reason → Bool
+has_reason tables d reason.Predicate = not (predicates_known tables d)
+has_reason tables d reason.Constraint = not (constraints_known tables d)
+has_reason tables d reason.Attribute = not (attributes_stand tables.attributes d (alternatives_of tables d))
+has_reason tables d reason.Operands = not (operands_stand d (alternatives_of tables d))
+has_reason tables d reason.Template = not (output_stands (alternatives_of tables d) d.printed.output)
+has_reason tables d _ = false
+
+-- these reasons in the order of their numbers
+abbrev pub later_reasons : List Reason
+later_reasons = reason.Predicate ∷ reason.Constraint ∷ reason.Attribute ∷ reason.Operands ∷ reason.Template ∷ []
+
+-- the smallest that it has
+abbrev pub reason_of : Tables → Draft → Option Reason
+reason_of tables d = find (has_reason tables d) later_reasons
+
+-- ---- the form
+
+abbrev pub form_with : Draft → List OperandConstraint → Form
+form_with d ks = record {
   head = d.head;
-  patterns = d.patterns.trees;
-  condition = d.condition;
-  split_condition = d.split_condition;
-  statements = d.statements;
-  sequence = d.sequence.trees;
+  patterns = d.matched.patterns.trees;
+  condition = d.matched.condition;
+  split_condition = d.made.split_condition;
+  statements = d.made.statements;
+  sequence = d.made.sequence.trees;
   constraints = ks;
-  attributes = d.attributes;
-  template = t;
-  test = d.test;
-  class = d.class;
-  values = d.values;
-  default = d.default;
+  attributes = d.printed.attributes;
+  template = template_of d.printed.output;
+  test = d.defined.test;
+  class = d.defined.class;
+  values = d.defined.values;
+  default = d.defined.default;
 }
 
-abbrev pub with_template : Draft → List OperandConstraint → Option Template → Result Form Reason
-with_template d ks None = Err reason.Template
-with_template d ks (Some t) = if template_stands (alternatives ks) t then Ok (form_with d ks t) else Err reason.Template
-
-abbrev pub with_constraints : Tables → Draft → Option (List OperandConstraint) → Result Form Reason
-with_constraints tables d None = Err reason.Constraint
-with_constraints tables d (Some ks) =
-    if not (constraints_stand (matched d) tables.constraints ks) then Err reason.Constraint
-    else if not (attributes_stand tables.attributes d (alternatives ks)) then Err reason.Attribute
-    else if not (operands_stand d (alternatives ks)) then Err reason.Operands
-    else with_template d ks d.template
+abbrev pub unless : {A : Type 0} → Option Reason → A → Result A Reason
+unless None x = Ok x
+unless (Some r) x = Err r
 
 -- a form, or the smallest reason that applies to a draft
 unfoldable pub form_of : Tables → Draft → Result Form Reason
-form_of tables d = if predicates_known tables d then with_constraints tables d (constraints_in tables.constraint_names d) else Err reason.Predicate
+form_of tables d = unless (reason_of tables d) (form_with d (constraints_of tables d))
+
+-- ---- steps of the code
+
+-- the smallest reason behind those of predicates, where the constraints are known
+abbrev pub reason_behind : Tables → Draft → Option Reason
+reason_behind tables d = find (has_reason tables d) (reason.Constraint ∷ reason.Attribute ∷ reason.Operands ∷ reason.Template ∷ [])
+
+-- the constraints, or the smallest reason
+unfoldable pub checked : Tables → Draft → Result (List OperandConstraint) Reason
+checked tables d = unless (reason_of tables d) (constraints_of tables d)

@@ -4,26 +4,34 @@ use Rattle.std.specs.List.{count_by}
 use Rattle.std.specs.Str.{bytes_eq}
 use Rattle.std.specs.Fmt.{decimal}
 use Rattle.rtx_tree.specs.declared.constants.Constant.{Constant}
-use Rattle.lisp_read.specs.declared.tree.Tree.{Tree}
 use Rattle.md_pattern.specs.declared.reason.Reason.{Reason}
 use Rattle.md_forms.specs.declared.form.Form.{Form}
 use Rattle.md_forms.specs.declared.form.Entry.{Entry}
 use Rattle.md_draft.specs.declared.draft.Draft.{Draft}
 use Rattle.md_draft.specs.declared.draft.DraftEntry.{DraftEntry}
 use Rattle.md_forms.specs.declared.tables.Tables.{Tables}
-use Rattle.md_draft.specs.Draft.{entry_of, judged_then}
+use Rattle.md_iter.specs.declared.substitution.Instance.{Instance}
+use Rattle.md_draft.specs.Draft.{entry_of}
 use Rattle.md_forms.specs.Tables.{tables_of}
 use Rattle.md_forms.specs.Checks.{form_of}
 
+abbrev pub judged_form : Tables → Result Draft Reason → Result Form Reason
+judged_form tables (Ok d) = form_of tables d
+judged_form tables (Err r) = Err r
+
 abbrev pub finished : Tables → DraftEntry → Entry
-finished tables e = record { head = e.head; name = e.name; form = judged_then e.draft (form_of tables) }
+finished tables e = record { head = e.head; name = e.name; form = judged_form tables e.draft }
 
 abbrev pub forms_in : List DraftEntry → List Entry
 forms_in es = map (finished (tables_of es)) es
 
+-- what the own text of a form says
+abbrev pub draft_entry : List Constant → Instance → DraftEntry
+draft_entry constants form = entry_of constants form.conditions form.tree
+
 -- each form in order, with its parts, or the smallest reason that applies to it
-abbrev pub forms_of : List Constant → List Tree → List Entry
-forms_of constants trees = forms_in (map (entry_of constants) trees)
+abbrev pub forms_of : List Constant → List Instance → List Entry
+forms_of constants forms = forms_in (map (draft_entry constants) forms)
 
 -- ---- names
 

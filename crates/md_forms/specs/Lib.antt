@@ -3,5 +3,6 @@ pub mod Predicates
 pub mod Tables
 pub mod Checks
 pub mod Forms
+pub mod Reasons
 pub mod Places
 pub mod Counts

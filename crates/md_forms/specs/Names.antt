@@ -44,8 +44,9 @@ predicates_tested (Some t) = predicates_of t
 -- all predicates that a form names
 unfoldable pub predicates_named : Draft → List (List ℕ)
 predicates_named d =
-    flat_map predicates_in d.patterns.trees ++ (flat_map predicates_in d.sequence.trees ++ (predicates_called d.condition
-    ++ (predicates_called d.split_condition ++ (predicates_called d.statements ++ predicates_tested d.test))))
+    flat_map predicates_in d.matched.patterns.trees ++ (flat_map predicates_in d.made.sequence.trees
+    ++ (predicates_called d.matched.condition ++ (predicates_called d.made.split_condition
+    ++ (predicates_called d.made.statements ++ predicates_tested d.defined.test))))
 
 -- ---- operands
 

@@ -75,7 +75,7 @@ is_among names name = list_any (λ n. bytes_eq n name) names
 
 -- an attribute is accepted where its default is one of its values
 abbrev pub attribute_draft : List ℕ → Result Draft Reason → AttributeDraft
-attribute_draft name (Ok d) = record { name = name; accepted = is_among d.values d.default; values = d.values }
+attribute_draft name (Ok d) = record { name = name; accepted = is_among d.defined.values d.defined.default; values = d.defined.values }
 attribute_draft name (Err r) = record { name = name; accepted = false; values = [] }
 
 abbrev pub attribute_of : DraftEntry → Option AttributeDraft

@@ -11,11 +11,11 @@ use crate::names::{assigns, predicates_named, push_all_dups, push_all_operands};
 use crate::predicates::{all_known, same};
 use crate::tables::{AttributeDraft, ConstraintDraft, Tables, is_among, is_constraint};
 use c_cond::Head as CondHead;
-use md_draft::{Attribute, Draft, Head};
-use md_pattern::{Judged, OperandText, Reason};
+use md_draft::{Attribute, Defined, Draft, Head, Made, Matched, Output, Printed};
+use md_pattern::{Judged, OperandText, Patterns, Reason};
 use md_text::{Alternative, Member, Template, constraint_of};
 use plain_data::{Items, Memory};
-use rtx_tree::{Name, Rtx};
+use rtx_tree::{Kids, Name, Rtx};
 use std::alloc::Global;
 
 /// The greatest number of operands, and of alternatives.
@@ -66,9 +66,9 @@ fn dups_of(alloc: Global, trees: &[Rtx]) -> Result<Items<u64>, Memory>
 fn numbers_of(alloc: Global, draft: &Draft) -> Result<Numbers, Memory>
     ensures { IfOk result (λ numbers. spec.AreNumbers numbers draft.now) }
 {
-    let matched = operands_of(alloc, draft.patterns.trees.as_slice())?;
-    let mut all = operands_of(alloc, draft.patterns.trees.as_slice())?;
-    push_all_operands(draft.sequence.trees.as_slice(), &mut all)?;
+    let matched = operands_of(alloc, draft.matched.patterns.trees.as_slice())?;
+    let mut all = operands_of(alloc, draft.matched.patterns.trees.as_slice())?;
+    push_all_operands(draft.made.sequence.trees.as_slice(), &mut all)?;
     Ok(Numbers { matched, all })
 }
 
@@ -112,9 +112,9 @@ fn all_dups_stand(expander: bool, matched: &[u64], statements: &[CondHead], dups
 fn dups_stand(alloc: Global, draft: &Draft, matched: &[u64]) -> Result<bool, Memory>
     ensures { IfOk result (λ stand. stand ≡ spec.dups_by matched.now draft.now) }
 {
-    let statements = draft.statements.heads();
-    let dups = dups_of(alloc, draft.patterns.trees.as_slice())?;
-    let new_dups = dups_of(alloc, draft.sequence.trees.as_slice())?;
+    let statements = draft.made.statements.heads();
+    let dups = dups_of(alloc, draft.matched.patterns.trees.as_slice())?;
+    let new_dups = dups_of(alloc, draft.made.sequence.trees.as_slice())?;
     Ok(
         all_dups_stand(
             is_expander(draft.head),
@@ -181,8 +181,8 @@ fn constraints_in(
 ) -> Result<Option<Items<OperandConstraint>>, Memory>
     ensures { IfOk result (λ constraints. constraints ≡ spec.constraints_in names.now draft.now) }
 {
-    let constraints = constraints_of(alloc, names, draft.patterns.texts.as_slice())?;
-    let more = constraints_of(alloc, names, draft.sequence.texts.as_slice())?;
+    let constraints = constraints_of(alloc, names, draft.matched.patterns.texts.as_slice())?;
+    let more = constraints_of(alloc, names, draft.made.sequence.texts.as_slice())?;
     match (constraints, more) {
         (Some(constraints), Some(more)) => Ok(Some(together(constraints, more)?)),
         _ => Ok(None),
@@ -337,14 +337,19 @@ fn is_attr(head: Head) -> bool
 fn default_stands(draft: &Draft) -> bool
     ensures { result ≡ spec.default_stands draft.now }
 {
-    !is_attr(draft.head) || is_among(draft.values.as_slice(), draft.default.bytes())
+    !is_attr(draft.head)
+        || is_among(
+            draft.defined.values.as_slice(),
+            draft.defined.default.bytes(),
+        )
 }
 
 #[tactic(auto, unfolding(crate::specs::Checks::attributes_stand))]
 fn attributes_stand(known: &Definitions<AttributeDraft>, draft: &Draft, alternatives: usize) -> bool
     ensures { result ≡ spec.attributes_stand known.now draft.now alternatives }
 {
-    default_stands(draft) && all_attributes_stand(known, alternatives, draft.attributes.as_slice())
+    default_stands(draft)
+        && all_attributes_stand(known, alternatives, draft.printed.attributes.as_slice())
 }
 
 // ---- numbers and templates
@@ -385,86 +390,132 @@ fn template_stands(alternatives: usize, template: &Template) -> bool
     }
 }
 
+/// Whether an output is printed for each alternative.
+fn output_stands(alternatives: usize, output: &Output) -> bool
+    ensures { result ≡ spec.output_stands alternatives output.now }
+{
+    match output {
+        Output::Template(template) => template_stands(alternatives, template),
+        Output::Compact(_) | Output::Outside => false,
+    }
+}
+
 // ---- all in the order of the reasons
 
-fn form_with(
-    draft: Draft,
-    constraints: Items<OperandConstraint>,
-    alternatives: usize,
-) -> Judged<Form>
-    requires { alternatives ≡ spec.alternatives constraints }
-    ensures { result ≡ spec.with_template draft constraints draft.template }
+/// The smallest reason that applies to a draft of which the predicates are known, and these are the constraints.
+fn reason_behind(
+    alloc: Global,
+    tables: &Tables,
+    draft: &Draft,
+    constraints: &[OperandConstraint],
+) -> Result<Option<Reason>, Memory>
+    requires { spec.constraints_in tables.now.constraint_names draft.now ≡ Some constraints.now }
+    ensures { IfOk result (λ reason. reason ≡ spec.reason_behind tables.now draft.now) }
+{
+    let numbers = numbers_of(alloc, draft)?;
+    if !constraints_stand(numbers.matched.as_slice(), &tables.constraints, constraints) {
+        return Ok(Some(Reason::Constraint));
+    }
+    let count = alternatives(constraints);
+    if !attributes_stand(&tables.attributes, draft, count) {
+        return Ok(Some(Reason::Attribute));
+    }
+    if !operands_stand(alloc, draft, &numbers, count)? {
+        return Ok(Some(Reason::Operands));
+    }
+    if !output_stands(count, &draft.printed.output) {
+        return Ok(Some(Reason::Template));
+    }
+    Ok(None)
+}
+
+/// The constraints of a draft, or the smallest reason that applies to it.
+#[tactic(auto, unfolding(crate::specs::Checks::checked))]
+fn checked(
+    alloc: Global,
+    tables: &Tables,
+    draft: &Draft,
+) -> Result<Judged<Items<OperandConstraint>>, Memory>
+    ensures { IfOk result (λ constraints. constraints ≡ spec.checked tables.now draft.now) }
+{
+    if !predicates_known(alloc, tables, draft)? {
+        return Ok(Err(Reason::Predicate));
+    }
+    let Some(constraints) = constraints_in(alloc, tables.constraint_names.as_slice(), draft)? else {
+        return Ok(Err(Reason::Constraint));
+    };
+    match reason_behind(alloc, tables, draft, constraints.as_slice())? {
+        Some(reason) => Ok(Err(reason)),
+        None => Ok(Ok(constraints)),
+    }
+}
+
+/// Patterns without the texts of their constraints.
+fn trees_of(patterns: Patterns) -> Kids
+    ensures { result ≡ patterns.trees }
+{
+    let Patterns { trees, .. } = patterns;
+    trees
+}
+
+fn template_of(alloc: Global, output: Output) -> Template
+    ensures { result ≡ spec.template_of output }
+{
+    match output {
+        Output::Template(template) => template,
+        _ => Template::One(Items::new(alloc)),
+    }
+}
+
+fn form_with(alloc: Global, draft: Draft, constraints: Items<OperandConstraint>) -> Form
+    ensures { result ≡ spec.form_with draft constraints }
 {
     let Draft {
         head,
+        matched,
+        made,
+        printed,
+        defined,
+    } = draft;
+    let Matched {
         patterns,
         condition,
+    } = matched;
+    let Made {
         split_condition,
-        statements,
         sequence,
-        attributes,
-        template,
+        statements,
+    } = made;
+    let Printed { output, attributes } = printed;
+    let Defined {
         test,
         class,
         values,
         default,
-    } = draft;
-    match template {
-        Some(template) if template_stands(alternatives, &template) => Ok(Form {
-            head,
-            patterns: patterns.trees,
-            condition,
-            split_condition,
-            statements,
-            sequence: sequence.trees,
-            constraints,
-            attributes,
-            template,
-            test,
-            class,
-            values,
-            default,
-        }),
-        _ => Err(Reason::Template),
+    } = defined;
+    Form {
+        head,
+        patterns: trees_of(patterns),
+        condition,
+        split_condition,
+        statements,
+        sequence: trees_of(sequence),
+        constraints,
+        attributes,
+        template: template_of(alloc, output),
+        test,
+        class,
+        values,
+        default,
     }
-}
-
-fn with_constraints(
-    alloc: Global,
-    tables: &Tables,
-    draft: Draft,
-    constraints: Items<OperandConstraint>,
-) -> Result<Judged<Form>, Memory>
-    ensures { IfOk result (λ form. form ≡ spec.with_constraints tables.now draft (Some constraints)) }
-{
-    let numbers = numbers_of(alloc, &draft)?;
-    if !constraints_stand(
-        numbers.matched.as_slice(),
-        &tables.constraints,
-        constraints.as_slice(),
-    ) {
-        return Ok(Err(Reason::Constraint));
-    }
-    let count = alternatives(constraints.as_slice());
-    if !attributes_stand(&tables.attributes, &draft, count) {
-        return Ok(Err(Reason::Attribute));
-    }
-    if !operands_stand(alloc, &draft, &numbers, count)? {
-        return Ok(Err(Reason::Operands));
-    }
-    Ok(form_with(draft, constraints, count))
 }
 
 /// A form, or the smallest reason that applies to a draft.
-#[tactic(auto, unfolding(crate::specs::Checks::form_of))]
 pub fn form_of(alloc: Global, tables: &Tables, draft: Draft) -> Result<Judged<Form>, Memory>
     ensures { IfOk result (λ form. form ≡ spec.form_of tables.now draft) }
 {
-    if !predicates_known(alloc, tables, &draft)? {
-        return Ok(Err(Reason::Predicate));
-    }
-    match constraints_in(alloc, tables.constraint_names.as_slice(), &draft)? {
-        Some(constraints) => with_constraints(alloc, tables, draft, constraints),
-        None => Ok(Err(Reason::Constraint)),
+    match checked(alloc, tables, &draft)? {
+        Ok(constraints) => Ok(Ok(form_with(alloc, draft, constraints))),
+        Err(reason) => Ok(Err(reason)),
     }
 }

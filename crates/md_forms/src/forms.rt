@@ -1,27 +1,35 @@
 //! The forms of a description.
 ghost use Rattle.std.specs.Prelude.{◌≡◌, IfOk, map};
-ghost use Rattle.md_draft.specs.Draft.{entry_of};
+ghost use Rattle.md_iter.specs.declared.substitution.Instance.{Instance};
+ghost use Rattle.md_draft.specs.Reasons.{IsSmallest};
+ghost use Rattle.md_forms.specs.Reasons as reasons;
 ghost use Rattle.md_forms.specs.Forms as spec;
 
 use crate::checks::form_of;
 use crate::form::{Entry, Forms};
 use crate::tables::{Tables, tables_of};
-use lisp_read::Tree;
 use md_draft::{DraftEntry, entry_of};
+use md_iter::Instance;
 use plain_data::{Items, Memory};
 use rtx_tree::Constants;
 use std::alloc::Global;
 
+fn draft_entry(alloc: Global, constants: &Constants, form: &Instance) -> Result<DraftEntry, Memory>
+    ensures { IfOk result (λ entry. entry ≡ spec.draft_entry constants.now form.now) }
+{
+    entry_of(alloc, constants, form.conditions.as_slice(), &form.tree)
+}
+
 fn entries_of(
     alloc: Global,
     constants: &Constants,
-    trees: &[Tree],
+    forms: &[Instance],
 ) -> Result<Items<DraftEntry>, Memory>
-    ensures { IfOk result (λ entries. entries ≡ map (entry_of constants.now) trees.now) }
+    ensures { IfOk result (λ entries. entries ≡ map (spec.draft_entry constants.now) forms.now) }
 {
     let mut entries = Items::new(alloc);
-    for tree in trees {
-        entries.push(entry_of(alloc, constants, tree)?)?;
+    for form in forms {
+        entries.push(draft_entry(alloc, constants, form)?)?;
     }
     Ok(entries)
 }
@@ -54,10 +62,15 @@ fn all_finished(alloc: Global, tables: &Tables, entries: Items<DraftEntry>) -> R
 /// turn, so none that reaches itself is; a constraint where its predicates are, an attribute where its default is one of its
 /// values. Of a name the first definition counts, also where it is set aside. The names in conditions and statements that are
 /// constants are read with `constants`.
-pub fn forms_of(alloc: Global, trees: &[Tree], constants: &Constants) -> Result<Forms, Memory>
-    ensures { IfOk result (λ forms. forms ≡ spec.forms_of constants.now trees.now) }
+#[tactic(auto, using(crate::proofs::Checked::smallest))]
+pub fn forms_of(alloc: Global, forms: &[Instance], constants: &Constants) -> Result<Forms, Memory>
+    ensures forms { IfOk result (λ all. all ≡ spec.forms_of constants.now forms.now) }
+
+    // A form that is taken has no reason, and any other has the smallest of its reasons.
+    ensures reasons { (form : Instance) → IsSmallest (reasons.Applies constants.now (reasons.tables_in constants.now forms.now) form)
+        (reasons.judged_in constants.now forms.now form) }
 {
-    let entries = entries_of(alloc, constants, trees)?;
+    let entries = entries_of(alloc, constants, forms)?;
     let tables = tables_of(alloc, entries.as_slice())?;
     all_finished(alloc, &tables, entries)
 }

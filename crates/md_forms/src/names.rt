@@ -80,12 +80,12 @@ pub fn predicates_named(alloc: Global, draft: &Draft) -> Result<Items<Name>, Mem
     ensures { IfOk result (λ names. names ≡ spec.predicates_named draft.now) }
 {
     let mut names = Items::new(alloc);
-    push_all_predicates(alloc, draft.patterns.trees.as_slice(), &mut names)?;
-    push_all_predicates(alloc, draft.sequence.trees.as_slice(), &mut names)?;
-    push_called(alloc, draft.condition.heads(), &mut names)?;
-    push_called(alloc, draft.split_condition.heads(), &mut names)?;
-    push_called(alloc, draft.statements.heads(), &mut names)?;
-    push_tested(alloc, &draft.test, &mut names)?;
+    push_all_predicates(alloc, draft.matched.patterns.trees.as_slice(), &mut names)?;
+    push_all_predicates(alloc, draft.made.sequence.trees.as_slice(), &mut names)?;
+    push_called(alloc, draft.matched.condition.heads(), &mut names)?;
+    push_called(alloc, draft.made.split_condition.heads(), &mut names)?;
+    push_called(alloc, draft.made.statements.heads(), &mut names)?;
+    push_tested(alloc, &draft.defined.test, &mut names)?;
     Ok(names)
 }
 

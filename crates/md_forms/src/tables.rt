@@ -279,8 +279,11 @@ fn attribute_draft(
     match draft {
         Ok(draft) => Ok(AttributeDraft {
             name,
-            accepted: is_among(draft.values.as_slice(), draft.default.bytes()),
-            values: copied(alloc, draft.values.as_slice())?,
+            accepted: is_among(
+                draft.defined.values.as_slice(),
+                draft.defined.default.bytes(),
+            ),
+            values: copied(alloc, draft.defined.values.as_slice())?,
         }),
         Err(_) => Ok(AttributeDraft {
             name,

@@ -33,16 +33,25 @@ fn shown_wanted(alloc: Global, wanted: &str) -> Result<Vec<u8>> {
     Ok(shown)
 }
 
+/// The input and what is wanted, of which either may be empty.
+fn sides_of(row: &str) -> Option<(&str, &str)> {
+    if row == "=>" {
+        return Some(("", ""));
+    }
+    if let Some(wanted) = row.strip_prefix("=> ") {
+        return Some(("", wanted));
+    }
+    match row.strip_suffix(" =>") {
+        Some(input) => Some((input, "")),
+        None => row.split_once(" => "),
+    }
+}
+
 /// Tries a row.
 fn try_row(alloc: Global, table: &Table, report: &mut Report) -> Result<()> {
     let row = table.row();
-    let (input, wanted) = match row.split_once(" => ") {
-        Some(sides) => sides,
-        None => match (row.strip_suffix(" =>"), row.strip_prefix("=> ")) {
-            (Some(input), _) => (input, ""),
-            (None, Some(wanted)) => ("", wanted),
-            (None, None) => bail!("no row of a table"),
-        },
+    let Some((input, wanted)) = sides_of(row) else {
+        bail!("no row of a table")
     };
     let wanted = shown_wanted(alloc, wanted.trim())?;
     let came = shown_answer(alloc, table, input.trim())?;

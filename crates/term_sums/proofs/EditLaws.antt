@@ -1,5 +1,5 @@
 -- What edits of a list leave, as views of their elements.
-use Rattle.std.proofs.Common.{◌≡◌, ℕ, zero, suc, refl, ap, List, [], ◌∷◌, ◌++◌, take, drop, map}
+use Rattle.std.proofs.Common.{◌≡◌, ℕ, zero, suc, refl, ap, List, [], ◌∷◌, map}
 use Rattle.std.specs.List.{insert, remove}
 
 module _ {A B : Type 0} (f : A → B) where

@@ -1,14 +1,13 @@
 -- What a term of the code is as a list of atoms or parts.
-use Rattle.std.proofs.Common.{◌≡◌, ℕ, refl, sym, ◌∙◌, ap, List, [], ◌∷◌, map, cond, eqb, true, ◌&&◌, arith, tests}
+use Rattle.std.proofs.Common.{◌≡◌, ℕ, ◌∙◌, ap, List, [], ◌∷◌, map, cond, eqb, true, ◌&&◌, arith, tests}
 use Rattle.bits64.specs.declared.Width.{Width}
 use Rattle.bits64.specs.declared.Width.TheVariants.{W8, W16, W32, W64}
-use Rattle.bits64.specs.Words.{bits_of}
 use Rattle.term_tree.specs.declared.head.Head.{Head}
 use Rattle.term_tree.specs.declared.head.Joint.{Joint}
 use Rattle.term_tree.specs.declared.term.Term.{Term}
 use Rattle.term_tree.specs.declared.term.Term.TheViews as terms
 use Rattle.term_tree.specs.declared.term.Atom.{Atom}
-use Rattle.term_tree.specs.Tree.{Tree, Trees, Sum, Node, no_trees, tree, trees_of, list_of, AtomTree, atoms_of}
+use Rattle.term_tree.specs.Tree.{Tree, Sum, Node, trees_of, list_of, AtomTree, atoms_of}
 use Rattle.term_tree.specs.Form.{same_width}
 use Rattle.term_tree.specs.Order.{head_index}
 use Rattle.term_tree.specs.View.{tree_of, atom_of}

@@ -9,7 +9,7 @@ use Rattle.term_tree.specs.declared.term.Term.TheFolds.{fold_out-Atom, fold-roll
 use Rattle.term_tree.specs.declared.term.Term.TheVariants.{rolls-Sum, rolls-Node}
 use Rattle.term_tree.specs.declared.term.Atom.{Atom}
 use Rattle.bits64.specs.declared.Width.{Width}
-use Rattle.term_tree.specs.Tree.{Tree, Atoms, Trees, AtomTree, atoms_of, list_of_atoms, list_of, Sum, Node, no_atoms, atom, no_trees, tree, trees_of}
+use Rattle.term_tree.specs.Tree.{Tree, AtomTree, atoms_of, list_of_atoms, list_of, Sum, Node, trees_of}
 use Rattle.term_tree.specs.View.{tree_of, atom_of, term_step, atom_step}
 
 pub list_of-atoms_of : (xs : List AtomTree) → list_of_atoms (atoms_of xs) ≡ xs

@@ -1,10 +1,9 @@
 -- The tree that a term of the code is.
-use Rattle.std.specs.Prelude.{ℕ, List, [], ◌∷◌, map}
 use Rattle.term_tree.specs.declared.term.Term.{Term}
 use Rattle.term_tree.specs.declared.term.Term.TheOpen.{Term-F, Atom-F}
 use Rattle.term_tree.specs.declared.term.Term.TheFolds.{fold-Term, fold-Atom}
 use Rattle.term_tree.specs.declared.term.Atom.{Atom}
-use Rattle.term_tree.specs.Tree.{Tree, Atoms, Trees, AtomTree, Sum, Node, trees_of, atoms_of}
+use Rattle.term_tree.specs.Tree.{Tree, AtomTree, Sum, Node, trees_of, atoms_of}
 
 -- one level, where each term inside is its tree already
 abbrev pub term_step : Term-F Tree AtomTree → Tree

@@ -1,21 +1,16 @@
 -- A test for 0 comes to its end in no more rounds than the term has nodes: each round that goes on takes an operator away.
-use Rattle.std.proofs.Common.{◌≡◌, ℕ, zero, suc, ◌+◌, ◌-◌, ◌^◌, ◌<◌, ◌≤◌, refl, sym, ◌∙◌, ap, subst, arith, cond, eqb, ltb, ltb-true, lt-ltb, Bool, true, false, ◌&&◌, List, [], ◌∷◌, Option, Some, None, ◌⊎◌, inl, inr}
+use Rattle.std.proofs.Common.{◌≡◌, ℕ, zero, suc, ◌+◌, ◌-◌, ◌^◌, ◌<◌, ◌≤◌, refl, sym, ◌∙◌, ap, subst, arith, cond, eqb, ltb, ltb-true, lt-ltb, Bool, true, false, ◌&&◌, Option, Some, None, ◌⊎◌, inl, inr}
 use Rattle.std.specs.Option.{option_or}
 use Rattle.bits64.specs.declared.Width.{Width}
 use Rattle.bits64.specs.declared.Width.TheVariants.{W8}
 use Rattle.bits64.specs.Words.{bits_of, low, difference_of}
-use Rattle.term_tree.specs.declared.head.Head.{Head}
 use Rattle.term_tree.specs.declared.head.Head.TheVariants as heads
-use Rattle.term_tree.specs.declared.head.Extension.{Extension}
-use Rattle.term_tree.specs.declared.head.Extension.TheVariants.{Zero, Sign}
-use Rattle.term_tree.specs.Tree.{Tree, Atoms, Trees, Sum, Node, no_atoms, atom, no_trees, tree, width_of, tree_size}
+use Rattle.term_tree.specs.Tree.{Tree, Sum, Node, no_atoms, atom, no_trees, tree, tree_size}
 use Rattle.term_tree.specs.Form.{same_width}
-use Rattle.term_mean.specs.Meaning.{truth}
 use Rattle.term_mean.specs.Sums.{constant, constant_in, minus}
-use Rattle.term_mean.specs.Extensions.{extended_by}
 use Rattle.term_mean.specs.Masks.{low_8}
 use Rattle.term_mean.specs.Truths.{is_truth, opposite}
-use Rattle.term_mean.specs.Zero.{nearer, Extended, Operands, extension_in, same_kind, operand_if, constant_if, operand_in, operands_of, operands_as, operands_in, from_zero, as_difference, zero_extended_test, zero_difference, zero_xor, zero_truth, zero_constant, zero_chosen, zero_test, equals_zero}
+use Rattle.term_mean.specs.Zero.{nearer, Extended, Operands, extension_in, operand_in, operands_of, operands_as, operands_in, from_zero, as_difference, zero_extended_test, zero_difference, zero_xor, zero_constant, zero_chosen, zero_test, equals_zero}
 use Rattle.term_zero.specs.machine.Rounds.{xor_parts, zero_parted}
 use Rattle.term_zero.proofs.OperatorLaws.{operators, operators-below, operators-minus, operators-nearer}
 

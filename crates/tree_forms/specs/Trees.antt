@@ -2,6 +2,7 @@
 use Rattle.std.specs.Prelude.{◌≡◌, ◌≤◌, ◌<◌, ℕ, List, length, Result, Ok, Err}
 use Rattle.rtx_tree.specs.declared.limit.Limit.TheVariants as limit
 use Rattle.lisp_read.specs.declared.tree.Tree.{Tree}
+use Rattle.md_iter.specs.declared.substitution.Instance.{Instance}
 use Rattle.md_iter.specs.declared.expand.Expanded.{Expanded}
 use Rattle.md_iter.specs.Definition.{all_constants_in}
 use Rattle.md_iter.specs.Expansion as expansion
@@ -12,10 +13,10 @@ use Rattle.tree_forms.specs.declared.refusal.DescRefusal.TheVariants as refusal
 
 -- the most forms of a description
 abbrev pub most_forms : ℕ
-most_forms = 20000
+most_forms = expansion.most_forms
 
--- the trees after expansion, one for each form
-abbrev pub expanded : List Tree → List Tree
+-- the forms after expansion
+abbrev pub expanded : List Tree → List Instance
 expanded trees = expansion.forms_of trees
 
 -- the forms of a description's trees

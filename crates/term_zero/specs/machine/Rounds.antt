@@ -2,7 +2,7 @@
 use Rattle.std.specs.Prelude.{Option, Some, None, if◌then◌else◌}
 use Rattle.bits64.specs.declared.Width.{Width}
 use Rattle.term_tree.specs.declared.head.Head.TheVariants as heads
-use Rattle.term_tree.specs.Tree.{Tree, Sum, Node, no_trees, tree}
+use Rattle.term_tree.specs.Tree.{Tree, Node, no_trees, tree}
 use Rattle.term_tree.specs.Form.{same_width}
 use Rattle.term_tree.specs.View.{tree_of}
 use Rattle.term_mean.specs.Sums.{minus}

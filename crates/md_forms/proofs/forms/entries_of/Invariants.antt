@@ -1,6 +1,6 @@
 use Rattle.std.proofs.Common.{◌≡◌, map, take}
-use Rattle.md_draft.specs.Draft.{entry_of}
+use Rattle.md_forms.specs.Forms.{draft_entry}
 use Rattle.md_forms.proofs.forms.entries_of.Given as goal
 
-abbrev pub invariant-loop-tree : goal.invariant-loop-tree
-invariant-loop-tree l = l.entries ≡ map (entry_of l.constants) (take l.tree-index l.trees)
+abbrev pub invariant-loop-form : goal.invariant-loop-form
+invariant-loop-form l = l.entries ≡ map (draft_entry l.constants) (take l.form-index l.forms)

@@ -1,4 +1,4 @@
-use Rattle.std.proofs.Common.{◌≡◌, ap, ◌∙◌, sym, subst, map, OnOk}
+use Rattle.std.proofs.Common.{◌≡◌, sym, subst, map, OnOk}
 use Rattle.term_sums.specs.machine.Places.{IsPartFound, IsPartMissing}
 use Rattle.term_tree.specs.View.{tree_of}
 use Rattle.term_sums.proofs.PartLaws.{with_part-found, with_part-missing}

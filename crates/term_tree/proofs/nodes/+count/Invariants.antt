@@ -1,4 +1,4 @@
-use Rattle.std.proofs.Common.{◌≡◌, ◌+◌, ◌*◌, ◌≤◌, map, drop, min}
+use Rattle.std.proofs.Common.{◌≡◌, ◌+◌, ◌≤◌, map, drop, min}
 use Rattle.term_tree.specs.Tree.{atoms_size, trees_size, trees_of, atoms_of}
 use Rattle.term_tree.specs.View.{tree_of, atom_of}
 use Rattle.term_tree.proofs.nodes.+count.Given as goal

@@ -15,8 +15,10 @@ fn low_byte(value: u64) -> u8 {
 /// Memory with bytes at rising addresses: each address is followed by its byte.
 pub fn memory_of(alloc: Global, pairs: &[u64]) -> Result<Memories> {
     let mut memory = Memories::new(alloc);
-    let mut pairs = pairs.iter();
-    while let (Some(address), Some(byte)) = (pairs.next(), pairs.next()) {
+    for pair in pairs.chunks(2) {
+        let [address, byte] = pair else {
+            break;
+        };
         if memory.is_above(*address) {
             memory.push(MemByte {
                 address: *address,
@@ -66,8 +68,10 @@ pub fn tell(
 
 fn write_pairs(alloc: Global, pairs: &[u64], memory: &mut Memories) -> Result<()> {
     let mut writes = Items::new(alloc);
-    let mut pairs = pairs.iter();
-    while let (Some(address), Some(byte)) = (pairs.next(), pairs.next()) {
+    for pair in pairs.chunks(2) {
+        let [address, byte] = pair else {
+            break;
+        };
         writes.push(MemByte {
             address: *address,
             byte: low_byte(*byte),
@@ -79,8 +83,10 @@ fn write_pairs(alloc: Global, pairs: &[u64], memory: &mut Memories) -> Result<()
 
 fn visible(alloc: Global, pairs: &[u64], memory: &Memories) -> Result<Memories> {
     let mut ranges = Items::new(alloc);
-    let mut pairs = pairs.iter();
-    while let (Some(address), Some(length)) = (pairs.next(), pairs.next()) {
+    for pair in pairs.chunks(2) {
+        let [address, length] = pair else {
+            break;
+        };
         ranges.push(RangeAt {
             address: *address,
             length: *length,

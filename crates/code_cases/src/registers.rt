@@ -131,8 +131,10 @@ fn tell_conflicts(alloc: Global, input: &[u8], out: &mut Vec<u8>) -> Result<()> 
     let live = liveness(alloc, &f)?;
     let rows = conflict_rows(alloc, &f, &live, 2)?;
     let pairs = numbers(alloc, pairs)?;
-    let mut pairs = pairs.iter();
-    while let (Some(x), Some(y)) = (pairs.next(), pairs.next()) {
+    for pair in pairs.chunks(2) {
+        let [x, y] = pair else {
+            break;
+        };
         let is = conflict(rows.as_slice(), u32::try_from(*x)?, u32::try_from(*y)?);
         push_apart(if is { "yes" } else { "no" }, out)?;
     }

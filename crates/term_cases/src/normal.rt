@@ -37,13 +37,14 @@ pub fn tell_text(alloc: Global, input: &[u8], out: &mut Vec<u8>) -> Result<()> {
 fn stores_in(alloc: Global, text: &[u8]) -> Result<SymStores> {
     let mut stores = Items::new(alloc);
     let trees = trees_in(alloc, text)?;
-    let mut trees = trees.as_slice();
-    while let [address, value, rest @ ..] = trees {
+    for pair in trees.as_slice().chunks(2) {
+        let [address, value] = pair else {
+            break;
+        };
         stores.push(SymStore {
             address: term_of(alloc, address)?,
             value: term_of(alloc, value)?,
         })?;
-        trees = rest;
     }
     Ok(stores)
 }

@@ -120,10 +120,10 @@ fn judge_run(
 }
 
 /// Tries a case with each line of words that it has, or that its file has for all cases.
-fn judge_case(
+fn judge_case<'s, 't>(
     alloc: Global,
-    shared: &[Part],
-    case: &Case,
+    shared: &'s [Part<'t>],
+    case: &'s Case<'t>,
     report: &mut Report,
 ) -> Result<(), Memory> {
     let own = case.parts.as_slice();

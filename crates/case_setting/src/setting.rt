@@ -10,13 +10,13 @@ const TAKES: usize = 4096;
 
 /// The parts of a case, and those that hold for all cases of its file.
 #[derive(Clone, Copy)]
-pub struct Setting<'a> {
-    pub own: &'a [Part<'a>],
-    pub shared: &'a [Part<'a>],
+pub struct Setting<'s, 't> {
+    pub own: &'s [Part<'t>],
+    pub shared: &'s [Part<'t>],
 }
 
 /// What stands behind the head of the first part with this head, a case's own parts before the shared ones.
-fn value_of<'a>(setting: Setting<'a>, head: &str) -> Option<&'a str> {
+fn value_of<'a>(setting: Setting<'_, 'a>, head: &str) -> Option<&'a str> {
     setting
         .own
         .iter()

@@ -3,16 +3,14 @@ use Rattle.std.proofs.Common.{◌≡◌, ℕ, Bool, true, false, cond, not, ◌|
 use Rattle.std.specs.List.{flat_map, list_all}
 use Rattle.std.specs.Str.{bytes_eq}
 use Rattle.std.specs.Prelude.{codes}
-use Rattle.md_text.specs.declared.template.Template.{Template}
 use Rattle.md_pattern.specs.declared.reason.Reason.{Reason}
 use Rattle.md_pattern.specs.declared.reason.Reason.TheVariants as reason
 use Rattle.md_draft.specs.declared.draft.Draft.{Draft}
 use Rattle.md_forms.specs.declared.form.Form.{Form}
-use Rattle.md_forms.specs.declared.form.OperandConstraint.{OperandConstraint}
 use Rattle.md_forms.specs.declared.tables.Tables.{Tables}
 use Rattle.md_forms.specs.Names.{predicates_in, predicates_called, predicates_tested, predicates_named}
 use Rattle.md_forms.specs.Predicates.{is_own}
-use Rattle.md_forms.specs.Checks.{predicates_known, constraints_stand, attributes_stand, operands_stand, template_stands, matched, alternatives, constraints_in, form_with, with_template, with_constraints, form_of}
+use Rattle.md_forms.specs.Checks.{predicates_known, reason_of, constraints_of, form_with, unless, form_of}
 use Rattle.md_operand.specs.declared.own.Own.{Own}
 use Rattle.md_operand.specs.declared.own.Own.TheVariants as own
 use Rattle.md_operand.specs.Operand.{own_named}
@@ -24,53 +22,45 @@ Judgement = Result Form Reason
 aside : (r : Reason) (f : Form) (g : Judgement) → g ≡ Err r → g ≡ Ok f → ⊥
 aside r f g e h = cc
 
+some_none : (r : Reason) → Some r ≡ None → ⊥
+some_none r e = cc
+
 same_form : (f g : Form) (a b : Judgement) → a ≡ Ok f → b ≡ Ok g → a ≡ b → f ≡ g
 same_form f g a b d e h = cc
 
--- a check that did not set the form aside
-passed : (t : Bool) (r : Reason) (rest : Judgement) (f : Form) → cond t (Err r) rest ≡ Ok f → rest ≡ Ok f
-passed true r rest f e = absurd (aside r f (Err r) refl e)
-passed false r rest f e = e
+-- a reason that is not the first found is none
+known_if : (b : Bool) (rest : Option Reason) → cond (not b) (Some reason.Predicate) rest ≡ None → b ≡ true
+known_if true rest h = refl
+known_if false rest h = absurd (some_none reason.Predicate h)
 
--- its test is the draft's
-with_template_test : (d : Draft) (ks : List OperandConstraint) (o : Option Template) (f : Form) → with_template d ks o ≡ Ok f → f.test ≡ d.test
-with_template_test d ks None f e = absurd (aside reason.Template f (Err reason.Template) refl e)
-with_template_test d ks (Some t) f e = by_test (template_stands (alternatives ks) t) e
-  where
-    by_test : (b : Bool) → cond b (Ok (form_with d ks t)) (Err reason.Template) ≡ Ok f → f.test ≡ d.test
-    by_test true h = sym (ap (λ (g : Form). g.test) (same_form (form_with d ks t) f (Ok (form_with d ks t)) (Ok f) refl refl h))
-    by_test false h = absurd (aside reason.Template f (Err reason.Template) refl h)
-
-with_constraints_test : (tables : Tables) (d : Draft) (o : Option (List OperandConstraint)) (f : Form) → with_constraints tables d o ≡ Ok f → f.test ≡ d.test
-with_constraints_test tables d None f e = absurd (aside reason.Constraint f (Err reason.Constraint) refl e)
-with_constraints_test tables d (Some ks) f e =
-    with_template_test d ks d.template f
-    (passed (not (operands_stand d (alternatives ks))) reason.Operands _ f
-    (passed (not (attributes_stand tables.attributes d (alternatives ks))) reason.Attribute _ f
-    (passed (not (constraints_stand (matched d) tables.constraints ks)) reason.Constraint _ f e)))
-
--- its predicates are known
+-- its predicates are known, and its test is the draft's
 pub record IsAccepted (tables : Tables) (d : Draft) (f : Form) : Type 0 where
   pub known : predicates_known tables d ≡ true
-  pub test : f.test ≡ d.test
+  pub test : f.test ≡ d.defined.test
 
 pub accepted : (tables : Tables) (d : Draft) (f : Form) → form_of tables d ≡ Ok f → IsAccepted tables d f
 unfolding form_of
-accepted tables d f e = by_known (predicates_known tables d) refl e
+accepted tables d f e = by_reason (reason_of tables d) refl e
   where
-    by_known : (b : Bool) → predicates_known tables d ≡ b → cond b (with_constraints tables d (constraints_in tables.constraint_names d)) (Err reason.Predicate) ≡ Ok f → IsAccepted tables d f
-    by_known true k h = record { known = k; test = with_constraints_test tables d (constraints_in tables.constraint_names d) f h }
-    by_known false k h = absurd (aside reason.Predicate f (Err reason.Predicate) refl h)
+    made : Form
+    made = form_with d (constraints_of tables d)
+
+    by_reason : (o : Option Reason) → reason_of tables d ≡ o → unless o made ≡ Ok f → IsAccepted tables d f
+    by_reason None is h = record {
+      known = known_if (predicates_known tables d) _ is;
+      test = sym (ap (λ (g : Form). g.test) (same_form made f (Ok made) (Ok f) refl refl h));
+    }
+    by_reason (Some r) is h = absurd (aside r f (Err r) refl h)
 
 -- what its test names is named by the draft
-pub tested_named : (p : List ℕ → Bool) (d : Draft) → list_all p (predicates_named d) ≡ true → list_all p (predicates_tested d.test) ≡ true
+pub tested_named : (p : List ℕ → Bool) (d : Draft) → list_all p (predicates_named d) ≡ true → list_all p (predicates_tested d.defined.test) ≡ true
 unfolding predicates_named
 tested_named p d all =
-    let a = both_parts p (flat_map predicates_in d.patterns.trees) _ all in
-    let b = both_parts p (flat_map predicates_in d.sequence.trees) _ a.1 in
-    let c = both_parts p (predicates_called d.condition) _ b.1 in
-    let e = both_parts p (predicates_called d.split_condition) _ c.1 in
-    (both_parts p (predicates_called d.statements) (predicates_tested d.test) e.1).1
+    let a = both_parts p (flat_map predicates_in d.matched.patterns.trees) _ all in
+    let b = both_parts p (flat_map predicates_in d.made.sequence.trees) _ a.1 in
+    let c = both_parts p (predicates_called d.matched.condition) _ b.1 in
+    let e = both_parts p (predicates_called d.made.split_condition) _ c.1 in
+    (both_parts p (predicates_called d.made.statements) (predicates_tested d.defined.test) e.1).1
 
 -- ---- the predicates that every description has
 

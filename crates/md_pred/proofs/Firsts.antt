@@ -6,7 +6,6 @@ use Rattle.std.proofs.lemmas.Option.{slice_get-map}
 use Rattle.md_pattern.specs.declared.reason.Reason.{Reason}
 use Rattle.md_draft.specs.declared.draft.Draft.{Draft}
 use Rattle.md_draft.specs.declared.draft.DraftEntry.{DraftEntry}
-use Rattle.md_draft.specs.Draft.{judged_then}
 use Rattle.md_draft.specs.Head.{head_named}
 use Rattle.md_forms.specs.declared.form.Entry.{Entry}
 use Rattle.md_forms.specs.declared.tables.PredicateDraft.{PredicateDraft}
@@ -14,7 +13,7 @@ use Rattle.md_forms.specs.declared.tables.Tables.{Tables}
 use Rattle.md_forms.specs.Tables.{defines_predicate, predicate_draft, predicate_of}
 use Rattle.md_forms.specs.Predicates.{is_accepted}
 use Rattle.md_forms.specs.Checks.{form_of}
-use Rattle.md_forms.specs.Forms.{finished}
+use Rattle.md_forms.specs.Forms.{judged_form, finished}
 use Rattle.md_forms.proofs.FirstNames.{find_at_place}
 use Rattle.md_pred.specs.Holds.{defines}
 
@@ -54,7 +53,7 @@ pub record AreOf (tables : Tables) (p : PredicateDraft) (e : Entry) : Type 0 whe
   pub draft : DraftEntry
   pub own : List ℕ
   pub kept : p ≡ predicate_draft own draft.draft
-  pub form : e.form ≡ judged_then draft.draft (form_of tables)
+  pub form : e.form ≡ judged_form tables draft.draft
 
 abbrev pub Linked : Tables → Option PredicateDraft → Option Entry → Type 0
 Linked tables None None = Unit {0}

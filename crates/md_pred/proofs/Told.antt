@@ -9,7 +9,6 @@ use Rattle.md_pattern.specs.declared.reason.Reason.{Reason}
 use Rattle.pred_expr.specs.declared.question.Test.{Test}
 use Rattle.md_draft.specs.declared.draft.Draft.{Draft}
 use Rattle.md_draft.specs.declared.draft.DraftEntry.{DraftEntry}
-use Rattle.md_draft.specs.Draft.{judged_then}
 use Rattle.md_forms.specs.declared.form.Form.{Form}
 use Rattle.md_forms.specs.declared.form.Entry.{Entry}
 use Rattle.md_forms.specs.declared.tables.PredicateDraft.{PredicateDraft}
@@ -17,7 +16,7 @@ use Rattle.md_forms.specs.Names.{predicates_named, predicates_tested}
 use Rattle.md_forms.specs.Predicates.{is_own, is_accepted, is_known, is_sound, accepted_within}
 use Rattle.md_forms.specs.Tables.{predicates_of, predicate_draft, tables_of}
 use Rattle.md_forms.specs.Checks.{form_of, predicates_known}
-use Rattle.md_forms.specs.Forms.{finished, forms_in}
+use Rattle.md_forms.specs.Forms.{judged_form, finished, forms_in}
 use Rattle.md_operand.specs.declared.own.Own.{Own}
 use Rattle.md_operand.specs.Operand.{own_named}
 use Rattle.pred_rows.specs.Tests.{Accepts}
@@ -77,7 +76,7 @@ module _ (ds : List DraftEntry) where
           let all : list_all (known k) (predicates_tested f.test) ≡ true = rw (accepted (tables_of ds) d f e).test (tested_named (known k) d (asks own d f is e)) in
           ap (λ (c : Bool). mode_fits f.head m x && c) (tested_same (known k) a b agree x m f.test all)
 
-      by_draft : (own : List ℕ) (r : Result Draft Reason) → find (named name) ps ≡ Some (predicate_draft own r) → form_holds a x m (judged_then r (form_of (tables_of ds))) ≡ form_holds b x m (judged_then r (form_of (tables_of ds)))
+      by_draft : (own : List ℕ) (r : Result Draft Reason) → find (named name) ps ≡ Some (predicate_draft own r) → form_holds a x m (judged_form (tables_of ds) r) ≡ form_holds b x m (judged_form (tables_of ds) r)
       by_draft own (Err r) is = refl
       by_draft own (Ok d) is = by_form own d is (form_of (tables_of ds) d) refl
 

@@ -98,6 +98,15 @@ fn start(alloc: Global) -> Start {
     }
 }
 
+fn outcome_text(alloc: Global, outcome: &Outcome) -> Result<String> {
+    Ok(match outcome {
+        Outcome::Undefined => format!(in alloc; "undefined")?,
+        Outcome::Running { calls } => format!(in alloc; "running {}", calls.len())?,
+        Outcome::Asked { calls } => format!(in alloc; "asked {}", calls.len())?,
+        Outcome::Returned { value, calls, .. } => format!(in alloc; "{value:?} {}", calls.len())?,
+    })
+}
+
 /// Appends how so many steps of a function with the argument 5 stand, its value and its calls. The replies stand behind the number of
 /// steps.
 pub fn tell_run(alloc: Global, given: &[u8], input: &[u8], out: &mut Vec<u8>) -> Result<()> {
@@ -107,11 +116,7 @@ pub fn tell_run(alloc: Global, given: &[u8], input: &[u8], out: &mut Vec<u8>) ->
         bail!("no number of steps");
     };
     let world = world(alloc, replies)?;
-    let shown = match run_function(alloc, &f, &start(alloc), &world, *steps)? {
-        Outcome::Undefined => format!(in alloc; "undefined")?,
-        Outcome::Running { calls } => format!(in alloc; "running {}", calls.len())?,
-        Outcome::Asked { calls } => format!(in alloc; "asked {}", calls.len())?,
-        Outcome::Returned { value, calls, .. } => format!(in alloc; "{value:?} {}", calls.len())?,
-    };
-    push_shown(shown.as_str(), out)
+    let start = start(alloc);
+    let outcome = run_function(alloc, &f, &start, &world, *steps)?;
+    push_shown(outcome_text(alloc, &outcome)?.as_str(), out)
 }

@@ -62,22 +62,8 @@ fn operands(alloc: Global) -> Result<Vec<(&'static str, Rtx)>> {
     Ok(operands)
 }
 
-/// Appends the letters of the operands that are accepted: without a mode, in QI, in SI and in DI.
-fn show_accepted<F: Fn(&Rtx, Mode) -> bool>(
-    alloc: Global,
-    accepts: F,
-    out: &mut Vec<u8>,
-) -> Result<()> {
-    for mode in [Mode::Void, Mode::QI, Mode::SI, Mode::DI] {
-        push_shown("/", out)?;
-        for (letter, operand) in operands(alloc)?.iter() {
-            if accepts(operand, mode) {
-                push_shown(letter, out)?;
-            }
-        }
-    }
-    Ok(())
-}
+/// The modes in which operands are asked for: none, QI, SI and DI.
+const MODES: [Mode; 4] = [Mode::Void, Mode::QI, Mode::SI, Mode::DI];
 
 /// Appends what a test accepts, in a row behind itself, with the predicates of a description.
 pub fn tell_held(alloc: Global, given: &[u8], input: &[u8], out: &mut Vec<u8>) -> Result<()> {
@@ -88,20 +74,28 @@ pub fn tell_held(alloc: Global, given: &[u8], input: &[u8], out: &mut Vec<u8>) -
     let mut rows = TestRows::new(alloc);
     rows.push(alloc, &test)?;
     let root = rows.push(alloc, &test)?;
-    show_accepted(
-        alloc,
-        |operand, mode| rows.holds(root, &preds, operand, mode),
-        out,
-    )
+    for mode in MODES {
+        push_shown("/", out)?;
+        for (letter, operand) in operands(alloc)?.iter() {
+            if rows.holds(root, &preds, operand, mode) {
+                push_shown(letter, out)?;
+            }
+        }
+    }
+    Ok(())
 }
 
 /// Appends what the predicate of a name accepts, with the predicates of a description.
 pub fn tell_accepted(alloc: Global, given: &[u8], input: &[u8], out: &mut Vec<u8>) -> Result<()> {
     let preds = PredTable::of(alloc, &forms_in(alloc, given)?)?;
     let name = Name::of(alloc, input)?;
-    show_accepted(
-        alloc,
-        |operand, mode| preds.holds(&name, operand, mode),
-        out,
-    )
+    for mode in MODES {
+        push_shown("/", out)?;
+        for (letter, operand) in operands(alloc)?.iter() {
+            if preds.holds(&name, operand, mode) {
+                push_shown(letter, out)?;
+            }
+        }
+    }
+    Ok(())
 }

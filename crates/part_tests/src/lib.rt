@@ -1,0 +1,19 @@
+//! Tests of the parts on what no line of cases holds: inputs that are generated, files that fail, and values without a text.
+//!
+//! They stand in a crate of their own, since a crate with tests is proved twice.
+#![tactic(auto)]
+
+#[cfg(test)]
+mod code_tests;
+#[cfg(test)]
+mod cond_tests;
+#[cfg(test)]
+mod desc_tests;
+#[cfg(test)]
+mod long_tests;
+#[cfg(test)]
+mod reg_tests;
+#[cfg(test)]
+mod source_tests;
+#[cfg(test)]
+mod term_tests;

@@ -1,0 +1,88 @@
+//! How large a normal form may be: 1,048,576 nodes.
+use bits64::Width;
+use plain_data::{Items, Memory};
+use rtx_tree::Name;
+use std::alloc::Global;
+use std::test::Fail;
+use sym_term::{SymStores, TermRefusal, norm};
+use term_cases::register_term;
+use term_tree::{Head, Term, size};
+
+fn two_parts(alloc: Global, head: Head, a: Term, b: Term) -> Result<Term, Memory> {
+    let mut parts = Items::new(alloc);
+    parts.push(a)?;
+    parts.push(b)?;
+    Ok(Term::Node {
+        head,
+        width: Width::W64,
+        number: 0,
+        name: Name::empty(alloc),
+        parts,
+    })
+}
+
+// An operator over twice the same term.
+fn doubled(alloc: Global, head: Head, t: Term) -> Result<Term, Memory> {
+    let same = t.copy(alloc)?;
+    two_parts(alloc, head, t, same)
+}
+
+// a0 by an operator with itself, and what that gives with itself, so often.
+fn doubled_often(alloc: Global, head: Head, times: u32) -> Result<Term, Memory> {
+    let mut t = register_term(alloc, 10);
+    for _ in 0..times {
+        t = doubled(alloc, head, t)?;
+    }
+    Ok(t)
+}
+
+// The size of a normal form, or what is answered in its place.
+fn normal_size(alloc: Global, t: &Term, stores: &SymStores) -> Result<u64, TermRefusal> {
+    Ok(size(&norm(alloc, t, stores)?))
+}
+
+// The upper half of a product is not flattened.
+#[test]
+fn doubled_upper_halves(rt: HostRuntime) -> Result<(), Fail> {
+    let none = Items::new(rt.alloc());
+    let half = doubled_often(rt.alloc(), Head::Mulhu, 19)?;
+    assert!(rt; matches!(normal_size(rt.alloc(), &half, &none), Ok(1_048_575)));
+    let whole = doubled(rt.alloc(), Head::Mulhu, half)?;
+    assert!(rt;
+        matches!(
+            normal_size(rt.alloc(), &whole, &none),
+            Err(TermRefusal::Size { size: 1_048_577 })
+        )
+    );
+    Ok(())
+}
+
+// The product of a normal form with itself and a0: 2 t + 1 factors where there were t.
+fn doubled_and_one(alloc: Global, t: Term, stores: &SymStores) -> Result<Term, TermRefusal> {
+    let square = doubled(alloc, Head::Mul, t)?;
+    norm(
+        alloc,
+        &two_parts(alloc, Head::Mul, square, register_term(alloc, 10))?,
+        stores,
+    )
+}
+
+// One step after the other, as lines of code multiply a register by itself: 1,048,575 factors are just few enough, and
+// one more is too many.
+#[test]
+fn step_by_step(rt: HostRuntime) -> Result<(), Fail> {
+    let none = Items::new(rt.alloc());
+    let mut t = register_term(rt.alloc(), 10);
+    for _ in 0..19 {
+        t = doubled_and_one(rt.alloc(), t, &none)?;
+    }
+    assert!(rt; size(&t) == 1_048_576);
+    let more = two_parts(rt.alloc(), Head::Mul, t, register_term(rt.alloc(), 10))?;
+    assert!(rt;
+        matches!(
+            normal_size(rt.alloc(), &more, &none),
+            Err(TermRefusal::Size { size: 1_048_577 })
+        )
+    );
+    Ok(())
+}

@@ -11,7 +11,7 @@ use Rattle.lisp_read.specs.declared.tree.Tree.{Tree}
 use Rattle.lisp_read.specs.declared.head.Head.{Head}
 use Rattle.lisp_read.specs.declared.position.Position.TheVariants.{Pattern}
 use Rattle.lisp_read.specs.Shape.{atom_of, items_of}
-use Rattle.lisp_read.specs.CodeClass.{class_of_code}
+use Rattle.rtx_tree.specs.Code.{class_of_code}
 use Rattle.lisp_read.specs.Positions.{unwanted, admits, mode_at}
 use Rattle.lisp_read.specs.Head as head
 use Rattle.lisp_read.specs.Expression.{head_is, placed, head_of_items}

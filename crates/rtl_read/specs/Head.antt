@@ -2,7 +2,7 @@
 use Rattle.std.specs.Prelude.{ℕ, Bool, true, false, ◌&&◌, is_none, List, Option, Some, None}
 use Rattle.rtx_tree.specs.declared.code.Code.{Code}
 use Rattle.lisp_read.specs.declared.tree.Tree.{Tree}
-use Rattle.lisp_read.specs.CodeClass.{class_of_code}
+use Rattle.rtx_tree.specs.Code.{class_of_code}
 use Rattle.lisp_read.specs.Head.{cut, code_in, are_flags}
 use Rattle.lisp_read.specs.Positions.{is_pattern}
 use Rattle.rtl_read.specs.Word.{named_code}

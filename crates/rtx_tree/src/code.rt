@@ -1,7 +1,10 @@
 //! The codes and machine modes of RTL, with their names.
 ghost use Rattle.std.specs.Prelude.{◌≡◌, ◌≢◌, ◌↔◌, IsTrue, MatchOption};
 ghost use Rattle.rtx_tree.specs.Code as spec;
-ghost use Rattle.rtx_tree.specs.Code.{code_name, mode_name};
+ghost use Rattle.rtx_tree.specs.Code.{HasEvery, class_of_code, code_name, mode_name};
+ghost use Rattle.rtx_tree.specs.machine.Row.{row_view};
+
+use crate::class::Class;
 
 /// A machine mode: the width of a value. `Void` stands where an expression has none.
 #[derive(Clone, Copy, Debug, PartialEq, Eq)]
@@ -119,6 +122,22 @@ pub enum Code {
     MatchOpDup,
 }
 
+/// A row of the table of codes.
+#[derive(Clone, Copy)]
+struct Row {
+    name: &'static str,
+    class: Class,
+}
+
+macro_rules! listed {
+    ($name:expr, $class:ident) => {
+        Row {
+            name: $name,
+            class: Class::$class,
+        }
+    };
+}
+
 /// Every code, once.
 const CODES: [Code; 48] = [
     Code::Reg,
@@ -174,12 +193,6 @@ const CODES: [Code; 48] = [
 /// The modes that have a name.
 const NAMED_MODES: [Mode; 4] = [Mode::QI, Mode::HI, Mode::SI, Mode::DI];
 
-fn all_codes() -> &'static [Code]
-    ensures { result.now ≡ spec.all_codes }
-{
-    &CODES
-}
-
 fn named_modes() -> &'static [Mode]
     ensures { result.now ≡ spec.named_modes }
 {
@@ -189,61 +202,84 @@ fn named_modes() -> &'static [Mode]
 impl Code {
     ghost use Rattle.rtx_tree.specs.declared.code.Code.{Code};
 
+    /// Every code, once.
+    #[tactic(auto, using(crate::proofs::Codes::has_every))]
+    pub fn all() -> &'static [Code]
+        ensures all { result.now ≡ spec.all_codes }
+        ensures every { HasEvery }
+    {
+        &CODES
+    }
+
+    /// The row of a code: its name, and what its expressions are.
+    fn row(self) -> Row
+        ensures { row_view result ≡ spec.row_of self }
+    {
+        match self {
+            Code::Reg => listed!("reg", Register),
+            Code::ConstInt => listed!("const_int", Constant),
+            Code::SymbolRef => listed!("symbol_ref", Symbol),
+            Code::Mem => listed!("mem", Memory),
+            Code::Subreg => listed!("subreg", Lowpart),
+            Code::Plus => listed!("plus", Binary),
+            Code::Minus => listed!("minus", Binary),
+            Code::Mult => listed!("mult", Binary),
+            Code::Div => listed!("div", Binary),
+            Code::Udiv => listed!("udiv", Binary),
+            Code::Mod => listed!("mod", Binary),
+            Code::Umod => listed!("umod", Binary),
+            Code::And => listed!("and", Binary),
+            Code::Ior => listed!("ior", Binary),
+            Code::Xor => listed!("xor", Binary),
+            Code::Neg => listed!("neg", Unary),
+            Code::Not => listed!("not", Unary),
+            Code::Ashift => listed!("ashift", Shift),
+            Code::Ashiftrt => listed!("ashiftrt", Shift),
+            Code::Lshiftrt => listed!("lshiftrt", Shift),
+            Code::SignExtend => listed!("sign_extend", Extension),
+            Code::ZeroExtend => listed!("zero_extend", Extension),
+            Code::Truncate => listed!("truncate", Truncation),
+            Code::Eq => listed!("eq", Comparison),
+            Code::Ne => listed!("ne", Comparison),
+            Code::Lt => listed!("lt", Comparison),
+            Code::Le => listed!("le", Comparison),
+            Code::Gt => listed!("gt", Comparison),
+            Code::Ge => listed!("ge", Comparison),
+            Code::Ltu => listed!("ltu", Comparison),
+            Code::Leu => listed!("leu", Comparison),
+            Code::Gtu => listed!("gtu", Comparison),
+            Code::Geu => listed!("geu", Comparison),
+            Code::Set => listed!("set", Setting),
+            Code::Use => listed!("use", Use),
+            Code::Clobber => listed!("clobber", Clobber),
+            Code::Parallel => listed!("parallel", Parallel),
+            Code::Call => listed!("call", Call),
+            Code::Return => listed!("return", Return),
+            Code::Pc => listed!("pc", Counter),
+            Code::LabelRef => listed!("label_ref", Label),
+            Code::IfThenElse => listed!("if_then_else", Branch),
+            Code::Scratch => listed!("scratch", Scratch),
+            Code::MatchOperand => listed!("match_operand", Operand),
+            Code::MatchDup => listed!("match_dup", OperandAgain),
+            Code::MatchScratch => listed!("match_scratch", OperandScratch),
+            Code::MatchOperator => listed!("match_operator", Operator),
+            Code::MatchOpDup => listed!("match_op_dup", OperatorAgain),
+        }
+    }
+
+    /// What an expression of this code is.
+    pub fn class(self) -> Class
+        ensures { result ≡ class_of_code self }
+    {
+        self.row().class
+    }
+
     /// The code's name in text, as `const_int`. Different codes have different names.
     pub fn name(self) -> &'static str
         ensures name { result.now ≡ code_name self }
         ensures distinct { (other : Code) → code_name other ≡ code_name self → other ≡ self }
     {
-        match self {
-            Code::Reg => "reg",
-            Code::ConstInt => "const_int",
-            Code::SymbolRef => "symbol_ref",
-            Code::Mem => "mem",
-            Code::Subreg => "subreg",
-            Code::Plus => "plus",
-            Code::Minus => "minus",
-            Code::Mult => "mult",
-            Code::Div => "div",
-            Code::Udiv => "udiv",
-            Code::Mod => "mod",
-            Code::Umod => "umod",
-            Code::And => "and",
-            Code::Ior => "ior",
-            Code::Xor => "xor",
-            Code::Neg => "neg",
-            Code::Not => "not",
-            Code::Ashift => "ashift",
-            Code::Ashiftrt => "ashiftrt",
-            Code::Lshiftrt => "lshiftrt",
-            Code::SignExtend => "sign_extend",
-            Code::ZeroExtend => "zero_extend",
-            Code::Truncate => "truncate",
-            Code::Eq => "eq",
-            Code::Ne => "ne",
-            Code::Lt => "lt",
-            Code::Le => "le",
-            Code::Gt => "gt",
-            Code::Ge => "ge",
-            Code::Ltu => "ltu",
-            Code::Leu => "leu",
-            Code::Gtu => "gtu",
-            Code::Geu => "geu",
-            Code::Set => "set",
-            Code::Use => "use",
-            Code::Clobber => "clobber",
-            Code::Parallel => "parallel",
-            Code::Call => "call",
-            Code::Return => "return",
-            Code::Pc => "pc",
-            Code::LabelRef => "label_ref",
-            Code::IfThenElse => "if_then_else",
-            Code::Scratch => "scratch",
-            Code::MatchOperand => "match_operand",
-            Code::MatchDup => "match_dup",
-            Code::MatchScratch => "match_scratch",
-            Code::MatchOperator => "match_operator",
-            Code::MatchOpDup => "match_op_dup",
-        }
+        self.row().name
     }
 
     fn is_named(self, name: &[u8]) -> bool
@@ -256,7 +292,7 @@ impl Code {
     pub fn named(name: &[u8]) -> Option<Code>
         ensures { MatchOption result ((code : Code) → code_name code ≢ name.now) (λ code. code_name code ≡ name.now) }
     {
-        for code in all_codes() {
+        for code in Code::all() {
             if code.is_named(name) {
                 return Some(*code);
             }

@@ -10,6 +10,7 @@
 //! its registers, and [`Memories`] has each address once, in increasing order.
 #![tactic(auto)]
 
+mod class;
 mod code;
 mod constants;
 mod function;
@@ -25,6 +26,7 @@ mod stage;
 mod tree;
 mod words;
 
+pub use class::{Class, HeadMode, Parts};
 pub use code::{Code, Mode};
 pub use constants::{Constant, Constants};
 pub use function::{ArgUse, ArgUses, Function, Functions, Insn, Insns, Kind, label_place};

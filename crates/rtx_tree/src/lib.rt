@@ -24,7 +24,6 @@ mod reg_set;
 mod registers;
 mod stage;
 mod tree;
-mod words;
 
 pub use class::{Class, HeadMode, Parts};
 pub use code::{Code, Mode};

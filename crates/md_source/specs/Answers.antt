@@ -6,7 +6,8 @@ use Rattle.byte_edge.specs.Fetched.{Grows}
 use Rattle.lisp_read.specs.Reading.{ReadsAs, Trees, Syntax, Depth}
 use Rattle.md_source.specs.declared.refusal.SourceRefusal.{SourceRefusal}
 use Rattle.md_source.specs.declared.refusal.SourceRefusal.TheVariants as refusal
-use Rattle.md_source.specs.Source.{Source, Outcome, most_bytes, shipped_name, text_of}
+use Rattle.rtx_tree.specs.Limit.{most_bytes}
+use Rattle.md_source.specs.Source.{Source, Outcome, shipped_name, text_of}
 
 -- what is known of the files is so: each name holds the bytes that are known of it
 abbrev pub Agrees : Source → (List ℕ → List ℕ → Type 0) → Type 0

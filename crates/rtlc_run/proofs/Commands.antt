@@ -16,7 +16,8 @@ use Rattle.md_list.specs.declared.refusal.ListRefusal.{ListRefusal}
 use Rattle.md_list.specs.declared.refusal.ListRefusal.TheVariants as listing
 use Rattle.md_list.specs.Listing.{ListComes}
 use Rattle.md_list.specs.Answers.{GivesList}
-use Rattle.func_input.specs.Input.{most_bytes, InputComesTo}
+use Rattle.rtx_tree.specs.Limit.{most_bytes}
+use Rattle.func_input.specs.Input.{InputComesTo}
 use Rattle.func_input.specs.Outcome.{Outcome}
 use Rattle.func_input.specs.Outcome.{Tells}
 use Rattle.asm_text.specs.Compile.{InputComes}

@@ -12,7 +12,7 @@ use Rattle.run_refusal.specs.declared.refusal.Refusal.{Refusal}
 use Rattle.run_refusal.specs.declared.refusal.Refusal.TheVariants as refusal
 use Rattle.rtx_tree.specs.Limit.{most_bytes}
 use Rattle.func_input.specs.Input.{IsRead, ReadingComesTo, InputComesTo, AreThemselves, InputGives, RefusesWith, Reads}
-use Rattle.func_input.specs.Steps.{IsOrMemory, Parses}
+use Rattle.func_input.specs.machine.Steps.{IsOrMemory, Parses}
 use Rattle.func_input.proofs.Refusing.{refuses_map, made_refuses}
 use Rattle.func_input.proofs.Unread.{no_functions}
 

@@ -3,7 +3,8 @@ ghost use Rattle.std.specs.Prelude.{◌≡◌, ◌≢◌, ◌≤◌, ◌+◌, �
 ghost use Rattle.byte_edge.specs.Causes.{Rose};
 ghost use Rattle.rtx_tree.specs.Limit.{most_bytes};
 ghost use Rattle.md_source.specs.Source.{Source, shipped_name};
-ghost use Rattle.md_source.specs.Answers.{Agrees, Gives, TextReads, FileReads, AsksFor, AsksName, Fetched, IsSyntax};
+ghost use Rattle.md_source.specs.Answers.{Agrees, Gives};
+ghost use Rattle.md_source.specs.machine.Steps.{TextReads, FileReads, AsksFor, AsksName, Fetched, IsSyntax};
 
 use crate::refusal::SourceRefusal;
 use crate::trees::Gathered;

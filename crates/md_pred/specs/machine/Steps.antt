@@ -12,7 +12,7 @@ use Rattle.md_forms.specs.declared.form.Entry.{Entry}
 use Rattle.md_forms.specs.Tables.{defines_predicate}
 use Rattle.pred_rows.specs.declared.node.Node.{Node}
 use Rattle.pred_rows.specs.Tests.{Accepts}
-use Rattle.pred_rows.specs.Rows.{answer_at, answers, holds_at, node_answer}
+use Rattle.pred_rows.specs.machine.Rows.{answer_at, answers, holds_at, node_answer}
 use Rattle.md_pred.specs.declared.definitions.Definition.{Definition}
 use Rattle.md_pred.specs.declared.definitions.Definitions.{Definitions}
 use Rattle.md_pred.specs.declared.step.At.{At}
@@ -20,7 +20,7 @@ use Rattle.md_pred.specs.declared.step.Step.{Step}
 use Rattle.md_pred.specs.declared.step.Step.TheVariants as step
 use Rattle.md_pred.specs.declared.table.PredTable.{PredTable}
 use Rattle.md_pred.specs.Holds.{defines, form_holds, tested, within}
-use Rattle.md_pred.specs.Table.{definition_in, kept, kept_holds, root_holds}
+use Rattle.md_pred.specs.machine.Table.{definition_in, kept, kept_holds, root_holds}
 
 -- ---- making it
 

@@ -6,7 +6,7 @@ use Rattle.pred_expr.specs.declared.question.Question.{Question}
 use Rattle.pred_expr.specs.declared.question.Test.{Test}
 use Rattle.pred_rows.specs.declared.node.Node.{Node}
 use Rattle.pred_rows.specs.Tests.{Accepts, answer, test_holds}
-use Rattle.pred_rows.specs.Rows.{answer_at, node_answer, answers}
+use Rattle.pred_rows.specs.machine.Rows.{answer_at, node_answer, answers}
 
 -- the node asks this question, of the nodes at these places
 abbrev pub Asks : Question → List ℕ → Node → Type 0

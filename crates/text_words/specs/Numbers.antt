@@ -1,4 +1,4 @@
--- The numbers of C that stand in conditions: "Integer constants" of the C standard, in decimal with no needless zero or
+-- The numbers of C that stand in conditions and constants: "Integer constants" of the C standard, in decimal with no needless zero or
 -- in hexadecimal, of no more than 64 bits and with no suffix. Octal ones are left out.
 use Rattle.std.specs.Prelude.{ℕ, ◌+◌, ◌-◌, ◌*◌, ◌^◌, ◌==◌, nat_le, nat_lt, ◌&&◌, ◌||◌, List, [], ◌∷◌, Option, Some, None, if◌then◌else◌, option_and_then}
 
@@ -28,6 +28,6 @@ behind_zero (x ∷ []) = None
 behind_zero (x ∷ d ∷ ds) = if x == 120 || x == 88 then read_digits 16 0 (d ∷ ds) else None
 
 -- the number that a text writes
-abbrev pub number_in : List ℕ → Option ℕ
-number_in [] = None
-number_in (b ∷ bs) = if b == 48 then behind_zero bs else read_digits 10 0 (b ∷ bs)
+abbrev pub c_number_in : List ℕ → Option ℕ
+c_number_in [] = None
+c_number_in (b ∷ bs) = if b == 48 then behind_zero bs else read_digits 10 0 (b ∷ bs)

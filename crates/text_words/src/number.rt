@@ -1,6 +1,6 @@
-//! Numbers of C: in decimal with no needless zero, or in hexadecimal.
+//! Numbers of C.
 ghost use Rattle.std.specs.Prelude.{◌≡◌, ◌<◌, ◌≤◌};
-ghost use Rattle.c_words.specs.Numbers as spec;
+ghost use Rattle.text_words.specs.Numbers as spec;
 
 /// The number that a digit of this base stands for.
 fn digit_in(base: u64, byte: u8) -> Option<u64>
@@ -45,9 +45,10 @@ fn read_digits(base: u64, digits: &[u8]) -> Option<u64>
     Some(value)
 }
 
-/// The number of 64 bits that a text writes, or `None` where it writes none.
-pub fn number_in(text: &[u8]) -> Option<u64>
-    ensures { result ≡ spec.number_in text.now }
+/// The number of 64 bits that a text writes as C does, in decimal with no needless zero or in hexadecimal, or `None` where it
+/// writes none.
+pub fn c_number_in(text: &[u8]) -> Option<u64>
+    ensures { result ≡ spec.c_number_in text.now }
 {
     match text {
         [] => None,

@@ -1,6 +1,6 @@
 use Rattle.std.proofs.Common.{◌≡◌, drop}
-use Rattle.md_text.specs.Lists.{behind_blanks}
-use Rattle.md_draft.proofs.condition.behind_blanks.Given as goal
+use Rattle.text_words.specs.Blanks.{behind_blanks}
+use Rattle.text_words.proofs.blanks.behind_blanks.Given as goal
 
 abbrev pub invariant-loop-at : goal.invariant-loop-at
 invariant-loop-at l = behind_blanks (drop l.at l.text) ≡ behind_blanks l.text

@@ -8,11 +8,12 @@ ghost use Rattle.md_attr.specs.machine.Tables as tables;
 ghost use Rattle.md_attr.specs.Values as spec;
 
 use crate::defaults::{Defaults, defaults_of};
-use crate::settings::{FormSettings, all_settings, given_by, same, value_at};
+use crate::settings::{FormSettings, all_settings, given_by, value_at};
 use md_forms::Forms;
 use plain_data::{Items, Memory};
 use rtx_tree::Name;
 use std::alloc::Global;
+use text_words::same;
 
 /// The attributes of a description's forms.
 #[derive(Drop)]

@@ -8,7 +8,7 @@ ghost use Rattle.md_forms.specs.Names as names;
 use crate::definitions::Definitions;
 use crate::form::{Form, OperandConstraint};
 use crate::names::{assigns, predicates_named, push_all_dups, push_all_operands};
-use crate::predicates::{all_known, same};
+use crate::predicates::all_known;
 use crate::tables::{AttributeDraft, ConstraintDraft, Tables, is_among, is_constraint};
 use c_cond::Head as CondHead;
 use md_draft::{Attribute, Defined, Draft, Head, Made, Matched, Output, Printed};
@@ -17,6 +17,7 @@ use md_text::{Alternative, Member, Template, constraint_of};
 use plain_data::{Items, Memory};
 use rtx_tree::{Kids, Name, Rtx};
 use std::alloc::Global;
+use text_words::same;
 
 /// The greatest number of operands, and of alternatives.
 const MOST: usize = 30;

@@ -6,12 +6,13 @@ ghost use Rattle.md_forms.specs.Tables as spec;
 
 use crate::definitions::{Definitions, Named};
 use crate::names::predicates_named;
-use crate::predicates::{accepted_within, all_known, same};
+use crate::predicates::{accepted_within, all_known};
 use md_draft::{Draft, DraftEntry, Head};
 use md_pattern::Judged;
 use plain_data::{Items, Memory};
 use rtx_tree::Name;
 use std::alloc::Global;
+use text_words::same;
 
 /// A definition of a predicate.
 #[derive(Drop)]

@@ -1,5 +1,5 @@
 //! The heads of forms, and the classes of registers, by their names.
-ghost use Rattle.std.specs.Prelude.{◌≡◌};
+ghost use Rattle.std.specs.Prelude.{◌≡◌, find};
 ghost use Rattle.std.specs.Str.{bytes_eq};
 ghost use Rattle.md_draft.specs.Head as spec;
 
@@ -144,13 +144,20 @@ impl Head {
     pub fn named(text: &[u8]) -> Option<Head>
         ensures { result ≡ spec.head_named text.now }
     {
-        for head in all_heads() {
-            if head.is_named(text) {
-                return Some(*head);
-            }
-        }
-        None
+        first_named(all_heads(), text)
     }
+}
+
+/// The first of some heads that has this text.
+fn first_named(heads: &[Head], text: &[u8]) -> Option<Head>
+    ensures { result ≡ find (λ head. bytes_eq (spec.head_name head) text.now) heads.now }
+{
+    for head in heads {
+        if head.is_named(text) {
+            return Some(*head);
+        }
+    }
+    None
 }
 
 /// The name of each class, in the order of the classes.

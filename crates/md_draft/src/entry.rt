@@ -223,7 +223,7 @@ fn draft_in(
 ) -> Result<Judged<Draft>, Memory>
     ensures { IfOk result (λ draft. draft ≡ spec.draft_in constants.now values.now head items.now) }
 {
-    if is_whole(layout_of(head), items) {
+    if is_whole(&layout_of(head), items) {
         whole_draft(alloc, constants, values, head, items)
     } else {
         Ok(Err(Reason::Parts))

@@ -149,10 +149,10 @@ static LAYOUTS: [Layout; 19] = [
 ];
 
 /// Where the parts of a form with this head stand.
-pub fn layout_of(head: Head) -> &'static Layout
-    ensures { result.now ≡ spec.layout_of head }
+pub fn layout_of(head: Head) -> Layout
+    ensures { result ≡ spec.layout_of head }
 {
-    &LAYOUTS[head as usize]
+    LAYOUTS[head as usize]
 }
 
 /// The tree at a place, if there is one.

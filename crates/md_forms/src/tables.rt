@@ -350,6 +350,29 @@ fn constraint_table(
     Ok((names, Definitions::of(alloc, constraints)?))
 }
 
+/// The constraints as above, and the attributes.
+fn constraints_and_attributes(
+    alloc: Global,
+    predicates: &Definitions<PredicateDraft>,
+    accepted: &[bool],
+    entries: &[DraftEntry],
+) -> Result<
+    (
+        Items<Name>,
+        Definitions<ConstraintDraft>,
+        Definitions<AttributeDraft>,
+    ),
+    Memory,
+>
+    ensures names { IfOk result (λ table. table.0 ≡ map (λ k. k.name) (spec.constraints_of (is_known predicates.now accepted.now) entries.now)) }
+    ensures constraints { IfOk result (λ table. table.1 ≡ spec.constraints_of (is_known predicates.now accepted.now) entries.now) }
+    ensures attributes { IfOk result (λ table. table.2 ≡ spec.attributes_of entries.now) }
+{
+    let attributes = attribute_table(alloc, entries)?;
+    let (names, constraints) = constraint_table(alloc, predicates, accepted, entries)?;
+    Ok((names, constraints, attributes))
+}
+
 /// What the forms define, where it is known which of the predicates are accepted.
 fn tables_with(
     alloc: Global,
@@ -359,13 +382,12 @@ fn tables_with(
 ) -> Result<Tables, Memory>
     ensures { IfOk result (λ tables. tables ≡ spec.tables_with entries.now predicates accepted (spec.constraints_of (is_known predicates accepted) entries.now)) }
 {
-    let (constraint_names, constraints) = constraint_table(
+    let (constraint_names, constraints, attributes) = constraints_and_attributes(
         alloc,
         &predicates,
         accepted.as_slice(),
         entries,
     )?;
-    let attributes = attribute_table(alloc, entries)?;
     Ok(Tables {
         predicates,
         accepted,

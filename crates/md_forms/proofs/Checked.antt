@@ -1,5 +1,5 @@
 -- A form has the smallest of its reasons.
-use Rattle.std.proofs.Common.{◌≡◌, ◌≤◌, ◌⊎◌, inl, inr, ⊎_elim, ℕ, Bool, true, false, true≢false, not, if◌then◌else◌, List, [], ◌∷◌, Option, Some, None, Result, Ok, Err, refl, sym, ap, subst, ◌∙◌, arith, unwrap_or, cond}
+use Rattle.std.proofs.Common.{◌≡◌, ◌≤◌, ◌⊎◌, inl, inr, ⊎_elim, ℕ, Bool, true, false, true≢false, if◌then◌else◌, List, [], ◌∷◌, Option, Some, None, Result, Ok, Err, refl, sym, ap, subst, ◌∙◌, arith}
 use Rattle.std.specs.List.{find}
 use Rattle.rtx_tree.specs.declared.constants.Constant.{Constant}
 use Rattle.md_iter.specs.declared.substitution.Instance.{Instance}
@@ -11,8 +11,6 @@ use Rattle.md_draft.specs.Reasons as draft
 use Rattle.md_draft.specs.Reasons.{IsSmallest}
 use Rattle.md_draft.proofs.Smallest.{change}
 use Rattle.md_draft.proofs.Reasons.{of_entry}
-use Rattle.md_forms.specs.declared.form.Form.{Form}
-use Rattle.md_forms.specs.declared.form.OperandConstraint.{OperandConstraint}
 use Rattle.md_forms.specs.declared.tables.Tables.{Tables}
 use Rattle.md_forms.specs.Checks.{constraints_of, has_reason, later_reasons, reason_of, form_with, unless, checked, form_of}
 use Rattle.md_forms.specs.Forms.{draft_entry, judged_form}

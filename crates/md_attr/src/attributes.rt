@@ -3,8 +3,8 @@ ghost use Rattle.std.specs.Prelude.{◌≡◌, ◌↔◌, List, ℕ, IfOk, IsTru
 ghost use Rattle.std.specs.Option.{option_copied};
 ghost use Rattle.md_forms.specs.declared.form.Entry.{Entry};
 ghost use Rattle.md_attr.specs.Alternatives.{IsAlternative};
-ghost use Rattle.md_attr.specs.Tables.{AreAttributesOf};
-ghost use Rattle.md_attr.specs.Tables as tables;
+ghost use Rattle.md_attr.specs.machine.Tables.{AreAttributesOf};
+ghost use Rattle.md_attr.specs.machine.Tables as tables;
 ghost use Rattle.md_attr.specs.Values as spec;
 
 use crate::defaults::{Defaults, defaults_of};

@@ -2,7 +2,7 @@
 ghost use Rattle.std.specs.Prelude.{◌≡◌, IfOk, map};
 ghost use Rattle.std.specs.Option.{option_copied};
 ghost use Rattle.md_forms.specs.Checks as checks;
-ghost use Rattle.md_attr.specs.Tables as tables;
+ghost use Rattle.md_attr.specs.machine.Tables as tables;
 ghost use Rattle.md_attr.specs.Values as spec;
 
 use md_forms::{Attribute, Entry, OperandConstraint};

@@ -7,8 +7,8 @@ use Rattle.rtx_tree.specs.declared.code.Code.TheVariants as code
 use Rattle.rtx_tree.specs.declared.code.Mode.TheVariants as mode
 use Rattle.rtx_tree.specs.declared.tree.Rtx.{Rtx}
 use Rattle.rtx_tree.specs.Tree.{node_of}
-use Rattle.lisp_read.specs.declared.class.Kind.{Kind}
-use Rattle.lisp_read.specs.declared.class.Kind.TheVariants.{Round, Square}
+use Rattle.lisp_read.specs.declared.class.Bracket.{Bracket}
+use Rattle.lisp_read.specs.declared.class.Bracket.TheVariants.{Round, Square}
 use Rattle.rtx_tree.specs.declared.class.Class.{Class}
 use Rattle.rtx_tree.specs.declared.class.Class.TheVariants as class
 use Rattle.lisp_read.specs.declared.head.Head.{Head}
@@ -46,7 +46,7 @@ unfolding Admitted
 all_admitted [] all = tt
 all_admitted (t ∷ ts) all = subst AreAdmitted (sym (flat_map-cons parts_of t ts)) (appended (parts_of t) (parts_of_all ts) all.0 (all_admitted ts all.1))
 
-nested_admitted : (k : Kind) (ts : List Tree) → AllByRecursion Admitted ts → Admitted (nested k nowhere ts)
+nested_admitted : (k : Bracket) (ts : List Tree) → AllByRecursion Admitted ts → Admitted (nested k nowhere ts)
 unfolding Admitted
 nested_admitted k ts all = subst AreAdmitted (sym (parts_of_nested k nowhere ts)) (tt, appended (parts_of_all ts) (Close k ∷ []) (all_admitted ts all) (tt, tt))
 

@@ -5,7 +5,7 @@ use Rattle.rtx_tree.specs.declared.code.Mode.TheVariants as mode
 use Rattle.rtx_tree.specs.declared.place.Place.{Place}
 use Rattle.rtx_tree.specs.declared.tree.Rtx.{Rtx}
 use Rattle.rtx_tree.specs.Tree.{node_of}
-use Rattle.lisp_read.specs.declared.class.Kind.TheVariants.{Round, Square}
+use Rattle.lisp_read.specs.declared.class.Bracket.TheVariants.{Round, Square}
 use Rattle.rtx_tree.specs.declared.class.Class.{Class}
 use Rattle.rtx_tree.specs.declared.class.Class.TheVariants as class
 use Rattle.lisp_read.specs.declared.head.Head.{Head}

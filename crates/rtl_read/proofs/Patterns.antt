@@ -17,7 +17,7 @@ use Rattle.lisp_read.specs.Parsed.{Parsed, outside}
 use Rattle.lisp_read.specs.Expression.{Meaning, meaning_of, expression_by, list_by, read_at, rtx_in, head_of_items, placed}
 use Rattle.lisp_read.proofs.Meanings.{read_at_out}
 use Rattle.rtl_read.specs.Word.{head_word, head_of_list}
-use Rattle.rtl_read.specs.Head.{is_pattern_code, names_pattern}
+use Rattle.rtl_read.specs.machine.Head.{is_pattern_code, names_pattern}
 
 -- what a pattern is does not hang on the position
 list_same : (k : Class) (h : Head) (t : Tree) (inside : List Meaning) → is_pattern k ≡ true → list_by k Pattern h t inside ≡ list_by k Top h t inside

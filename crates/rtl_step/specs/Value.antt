@@ -149,12 +149,16 @@ value_of_two Shift code a b w = of_two (shifted code w) (a.value w) (b.value (co
 value_of_two Comparison code a b w = of_compared code a b
 value_of_two _ code a b w = None
 
+-- an expression of more parts
+abbrev pub value_of_parts : Class → Code → List Reading → Width → Option ℕ
+value_of_parts class code (a ∷ b ∷ []) w = value_of_two class code a b w
+value_of_parts class code _ w = None
+
 -- an expression of a class, code, number, name and parts, in a width
 abbrev pub value_by : List SymbolAt → Regs → List MemByte → Class → Code → ℤ → List ℕ → List Reading → Width → Option ℕ
 value_by symbols regs memory class code number name [] w = value_of_none symbols regs class number name w
 value_by symbols regs memory class code number name (a ∷ []) w = value_of_one memory class code a w
-value_by symbols regs memory class code number name (a ∷ b ∷ []) w = value_of_two class code a b w
-value_by symbols regs memory class code number name _ w = None
+value_by symbols regs memory class code number name parts w = value_of_parts class code parts w
 
 abbrev pub reading_step : List SymbolAt → Regs → List MemByte → Rtx-F Reading → Reading
 reading_step symbols regs memory x = record { width = width_of x.mode; value = value_by symbols regs memory (class_of_code x.code) x.code x.number x.name x.kids }

@@ -1,5 +1,5 @@
 //! The value of an expression.
-ghost use Rattle.std.specs.Prelude.{◌≡◌, ◌↔◌, IsTrue, IfSome, ◌<◌, ◌^◌};
+ghost use Rattle.std.specs.Prelude.{◌≡◌, map, ◌↔◌, IsTrue, IfSome, ◌<◌, ◌^◌};
 ghost use Rattle.rtx_tree.specs.Code.{class_of_code};
 ghost use Rattle.rtl_step.specs.Value as spec;
 
@@ -181,39 +181,22 @@ fn value_of_one(
     }
 }
 
-/// The value of a comparison, whose operands have one mode.
+/// The value of an expression of two parts; one of more has none.
 #[cycle(value)]
 #[tactic(auto, using(crate::proofs::Values::width_in))]
-fn of_compared(
+fn value_of_parts(
     symbols: &Symbols,
     regs: &Regs,
     memory: &Memories,
     code: Code,
-    a: &Rtx,
-    b: &Rtx,
-) -> Option<u64>
-    ensures { result ≡ spec.of_compared code (spec.reading_of symbols.now regs.now memory.now a.now) (spec.reading_of symbols.now regs.now memory.now b.now) }
-{
-    let own = first_width(width_of(a.mode), width_of(b.mode))?;
-    let first = value(symbols, regs, memory, a, own)?;
-    let second = value(symbols, regs, memory, b, own)?;
-    compared(code, own, first, second)
-}
-
-/// The value of an expression of two parts.
-#[cycle(value)]
-#[tactic(auto, using(crate::proofs::Values::width_in))]
-fn value_of_two(
-    symbols: &Symbols,
-    regs: &Regs,
-    memory: &Memories,
-    code: Code,
-    a: &Rtx,
-    b: &Rtx,
+    parts: &[Rtx],
     w: Width,
 ) -> Option<u64>
-    ensures { result ≡ spec.value_of_two (class_of_code code) code (spec.reading_of symbols.now regs.now memory.now a.now) (spec.reading_of symbols.now regs.now memory.now b.now) w }
+    ensures { result ≡ spec.value_of_parts (class_of_code code) code (map (spec.reading_of symbols.now regs.now memory.now) parts.now) w }
 {
+    let [a, b] = parts else {
+        return None;
+    };
     match code.class() {
         Class::Binary => {
             let first = value(symbols, regs, memory, a, w)?;
@@ -225,7 +208,12 @@ fn value_of_two(
             let count = value(symbols, regs, memory, b, count_width(b.mode))?;
             shifted(code, w, first, count)
         }
-        Class::Comparison => of_compared(symbols, regs, memory, code, a, b),
+        Class::Comparison => {
+            let own = first_width(width_of(a.mode), width_of(b.mode))?;
+            let first = value(symbols, regs, memory, a, own)?;
+            let second = value(symbols, regs, memory, b, own)?;
+            compared(code, own, first, second)
+        }
         _ => None,
     }
 }
@@ -239,7 +227,6 @@ pub fn value(symbols: &Symbols, regs: &Regs, memory: &Memories, x: &Rtx, w: Widt
     match x.kids.as_slice() {
         [] => value_of_none(symbols, regs, x.code.class(), x.number, x.name.bytes(), w),
         [a] => value_of_one(symbols, regs, memory, x.code, a, w),
-        [a, b] => value_of_two(symbols, regs, memory, x.code, a, b, w),
-        _ => None,
+        parts => value_of_parts(symbols, regs, memory, x.code, parts, w),
     }
 }

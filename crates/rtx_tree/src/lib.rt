@@ -29,7 +29,7 @@ pub use class::{Class, HeadMode, Parts};
 pub use code::{Code, Mode};
 pub use constants::{Constant, Constants};
 pub use function::{ArgUse, ArgUses, Function, Functions, Insn, Insns, Kind, label_place};
-pub use limit::Limit;
+pub use limit::{Limit, MOST_BYTES};
 pub use machine::{ByteWrites, RangeAt, Ranges, Replies, Reply, Start, SymbolAt, Symbols, World};
 pub use memories::{MemByte, Memories};
 pub use name::Name;

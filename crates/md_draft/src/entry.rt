@@ -100,7 +100,8 @@ fn test_and_class(
     head: Head,
     items: &[Tree],
 ) -> Result<Judged<(Option<Test>, Option<RegisterClass>)>, Memory>
-    ensures { IfOk result (λ parts. parts ≡ both (spec.test_in constants.now head items.now) (spec.class_in head items.now)) }
+    ensures { IfOk result (λ parts. parts ≡ both (spec.test_in constants.now head items.now)
+        (spec.class_in head items.now)) }
 {
     let places = layout_of(head);
     let test = test_in(alloc, constants, part_at(items, places.test))?;
@@ -112,7 +113,8 @@ fn values_and_default(
     head: Head,
     items: &[Tree],
 ) -> Result<Judged<(Items<Name>, Name)>, Memory>
-    ensures { IfOk result (λ parts. parts ≡ both (spec.values_in head items.now) (spec.default_in head items.now)) }
+    ensures { IfOk result (λ parts. parts ≡ both (spec.values_in head items.now)
+        (spec.default_in head items.now)) }
 {
     let places = layout_of(head);
     let values = values_in(alloc, part_at(items, places.values))?;
@@ -157,7 +159,8 @@ fn matched_and_made(
     head: Head,
     items: &[Tree],
 ) -> Result<Judged<(Matched, Made)>, Memory>
-    ensures { IfOk result (λ parts. parts ≡ both (spec.matched_in constants.now values.now head items.now) (spec.made_in constants.now values.now head items.now)) }
+    ensures { IfOk result (λ parts. parts ≡ both (spec.matched_in constants.now values.now head items.now)
+        (spec.made_in constants.now values.now head items.now)) }
 {
     let matched = matched_in(alloc, constants, values, head, items)?;
     let made = made_in(alloc, constants, values, head, items)?;
@@ -170,7 +173,8 @@ fn printed_and_defined(
     head: Head,
     items: &[Tree],
 ) -> Result<Judged<(Printed, Defined)>, Memory>
-    ensures { IfOk result (λ parts. parts ≡ both (spec.printed_in head items.now) (spec.defined_in constants.now head items.now)) }
+    ensures { IfOk result (λ parts. parts ≡ both (spec.printed_in head items.now)
+        (spec.defined_in constants.now head items.now)) }
 {
     let printed = printed_in(alloc, head, items)?;
     let defined = defined_in(alloc, constants, head, items)?;

@@ -19,7 +19,8 @@ use Rattle.md_forms.specs.Reasons.{Applies, tables_in, judged_in}
 -- ---- the code's steps
 
 -- what is made of a thing that some reason may keep from being made
-made_unless : {A B : Type 0} (f : A → B) (o : Option Reason) (x : A) → judged_map f (unless o x) ≡ unless o (f x)
+made_unless : {A B : Type 0} (f : A → B) (o : Option Reason) (x : A) →
+    judged_map f (unless o x) ≡ unless o (f x)
 made_unless f None x = refl
 made_unless f (Some r) x = refl
 

@@ -412,7 +412,8 @@ fn reason_with(
     constraints: &[OperandConstraint],
     numbers: &Numbers,
 ) -> Result<Option<Reason>, Memory>
-    requires constraints { spec.constraints_in tables.now.constraint_names draft.now ≡ Some constraints.now }
+    requires constraints { spec.constraints_in tables.now.constraint_names draft.now
+        ≡ Some constraints.now }
     requires numbers { spec.AreNumbers numbers.now draft.now }
     ensures { IfOk result (λ reason. reason ≡ spec.reason_behind tables.now draft.now) }
 {
@@ -432,7 +433,8 @@ fn reason_with(
     Ok(None)
 }
 
-/// The smallest reason that applies to a draft of which the predicates are known, and these are the constraints.
+/// The smallest reason that applies to a draft of which the predicates are known, and these are
+/// the constraints.
 fn reason_behind(
     alloc: Global,
     tables: &Tables,

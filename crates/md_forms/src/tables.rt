@@ -343,8 +343,10 @@ fn constraint_table(
     accepted: &[bool],
     entries: &[DraftEntry],
 ) -> Result<(Items<Name>, Definitions<ConstraintDraft>), Memory>
-    ensures names { IfOk result (λ table. table.0 ≡ map (λ k. k.name) (spec.constraints_of (is_known predicates.now accepted.now) entries.now)) }
-    ensures constraints { IfOk result (λ table. table.1 ≡ spec.constraints_of (is_known predicates.now accepted.now) entries.now) }
+    ensures names { IfOk result (λ table. table.0 ≡ map (λ k. k.name)
+        (spec.constraints_of (is_known predicates.now accepted.now) entries.now)) }
+    ensures constraints { IfOk result (λ table. table.1 ≡ spec.constraints_of
+        (is_known predicates.now accepted.now) entries.now) }
 {
     let constraints = constraints_of(alloc, predicates, accepted, entries)?;
     let names = names_of(alloc, constraints.as_slice())?;
@@ -365,8 +367,10 @@ fn constraints_and_attributes(
     ),
     Memory,
 >
-    ensures names { IfOk result (λ table. table.0 ≡ map (λ k. k.name) (spec.constraints_of (is_known predicates.now accepted.now) entries.now)) }
-    ensures constraints { IfOk result (λ table. table.1 ≡ spec.constraints_of (is_known predicates.now accepted.now) entries.now) }
+    ensures names { IfOk result (λ table. table.0 ≡ map (λ k. k.name)
+        (spec.constraints_of (is_known predicates.now accepted.now) entries.now)) }
+    ensures constraints { IfOk result (λ table. table.1 ≡ spec.constraints_of
+        (is_known predicates.now accepted.now) entries.now) }
     ensures attributes { IfOk result (λ table. table.2 ≡ spec.attributes_of entries.now) }
 {
     let attributes = attribute_table(alloc, entries)?;
@@ -381,7 +385,8 @@ fn tables_with(
     predicates: Definitions<PredicateDraft>,
     accepted: Items<bool>,
 ) -> Result<Tables, Memory>
-    ensures { IfOk result (λ tables. tables ≡ spec.tables_with entries.now predicates accepted (spec.constraints_of (is_known predicates accepted) entries.now)) }
+    ensures { IfOk result (λ tables. tables ≡ spec.tables_with entries.now predicates accepted
+        (spec.constraints_of (is_known predicates accepted) entries.now)) }
 {
     let (constraint_names, constraints, attributes) = constraints_and_attributes(
         alloc,

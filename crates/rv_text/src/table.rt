@@ -183,7 +183,8 @@ static ROWS: [Row; 86] = [
     row!("slliw", RD_RS_COUNT32, compute!(Sll, W32, First, Immediate)),
     row!("srliw", RD_RS_COUNT32, compute!(Srl, W32, First, Immediate)),
     row!("sraiw", RD_RS_COUNT32, compute!(Sra, W32, First, Immediate)),
-    // RV64I "Integer Register-Immediate Instructions": the 20-bit immediate, 12 zeros below it, sign-extended from 32 bits
+    // RV64I "Integer Register-Immediate Instructions": the 20-bit immediate, 12 zeros below it,
+    // sign-extended from 32 bits
     row!("lui", RD_UPPER, compute!(Sll, W32, Immediate, TWELVE)),
     // RV32I and RV64I "Load and Store Instructions"
     row!("lb", RD_MEMORY, load!(W8, Sign)),
@@ -197,7 +198,8 @@ static ROWS: [Row; 86] = [
     row!("sh", RT_MEMORY, Store { width: W16 }),
     row!("sw", RT_MEMORY, Store { width: W32 }),
     row!("sd", RT_MEMORY, Store { width: W64 }),
-    // RV32I "Conditional Branches", and the assembly manual's branches with their registers exchanged
+    // RV32I "Conditional Branches", and the assembly manual's branches with their registers
+    // exchanged
     row!("beq", RS_RT_LABEL, branch!(Equal, First, Second)),
     row!("bne", RS_RT_LABEL, branch!(NotEqual, First, Second)),
     row!("blt", RS_RT_LABEL, branch!(Less, First, Second)),

@@ -7,27 +7,16 @@ ghost use Rattle.md_forms.specs.machine.Depths.{is_below, below, IsNext};
 use crate::definitions::Definitions;
 use crate::tables::PredicateDraft;
 use crate::walk::first_depths;
+use md_operand::Own;
 use plain_data::{Items, Memory};
 use rtx_tree::Name;
 use std::alloc::Global;
-use text_words::same;
 
 /// Whether a predicate is there without a definition. That without a name accepts anything.
 pub fn is_own(name: &[u8]) -> bool
     ensures { result ≡ spec.is_own name.now }
 {
-    same(name, b"")
-        || same(name, b"register_operand")
-        || same(name, b"const_int_operand")
-        || same(name, b"immediate_operand")
-        || same(name, b"memory_operand")
-        || same(name, b"nonimmediate_operand")
-        || same(name, b"nonmemory_operand")
-        || same(name, b"general_operand")
-        || same(name, b"address_operand")
-        || same(name, b"comparison_operator")
-        || same(name, b"ordered_comparison_operator")
-        || same(name, b"frame_operand")
+    Own::named(name).is_some()
 }
 
 fn is_accepted(predicates: &Definitions<PredicateDraft>, accepted: &[bool], name: &[u8]) -> bool

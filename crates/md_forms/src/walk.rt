@@ -66,11 +66,7 @@ impl Walk {
     }
 
     /// Puts the definition of a name on the stack, where it was not met.
-    fn ask(
-        &mut self,
-        predicates: &Definitions<PredicateDraft>,
-        name: &[u8],
-    ) -> Result<(), Memory> {
+    fn ask(&mut self, predicates: &Definitions<PredicateDraft>, name: &[u8]) -> Result<(), Memory> {
         if is_own(name) {
             return Ok(());
         }

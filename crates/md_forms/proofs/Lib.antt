@@ -1,6 +1,6 @@
 pub mod Lists
 pub mod NameLaws
-pub mod Rounds
+pub mod DepthLaws
 pub mod TextKeys
 pub mod FirstNames
 pub mod CountLaws

@@ -6,3 +6,4 @@ pub mod Forms
 pub mod Reasons
 pub mod Places
 pub mod Counts
+pub mod machine

@@ -1,19 +1,15 @@
 -- Which predicates of a description hold: GCC Internals, "Machine-Independent Predicates" and "Defining Machine-Specific
 -- Predicates". A predicate that reaches itself is accepted within no number of rounds.
-use Rattle.std.specs.Prelude.{ℕ, zero, suc, Bool, true, false, ◌&&◌, ◌||◌, List, [], ◌∷◌, map, codes, option_and_then, position, slice_get, unwrap_or}
-use Rattle.std.specs.List.{list_all, list_any}
+use Rattle.std.specs.Prelude.{ℕ, zero, suc, Bool, true, false, ◌&&◌, ◌||◌, List, [], ◌∷◌, map, option_and_then, position, slice_get, unwrap_or}
+use Rattle.std.specs.List.{list_all}
+use Rattle.std.specs.Option.{is_some}
 use Rattle.std.specs.Str.{bytes_eq}
+use Rattle.md_operand.specs.Operand.{own_named}
 use Rattle.md_forms.specs.declared.tables.PredicateDraft.{PredicateDraft}
 
--- the predicates that are there without a definition; that without a name accepts anything
-abbrev pub own_predicates : List (List ℕ)
-own_predicates =
-    [] ∷ codes "register_operand" ∷ codes "const_int_operand" ∷ codes "immediate_operand" ∷ codes "memory_operand" ∷
-    codes "nonimmediate_operand" ∷ codes "nonmemory_operand" ∷ codes "general_operand" ∷ codes "address_operand" ∷
-    codes "comparison_operator" ∷ codes "ordered_comparison_operator" ∷ codes "frame_operand" ∷ []
-
+-- a predicate that is there without a definition; that without a name accepts anything
 abbrev pub is_own : List ℕ → Bool
-is_own name = list_any (bytes_eq name) own_predicates
+is_own name = is_some (own_named name)
 
 -- the first definition of a name is one of the accepted
 abbrev pub is_accepted : List PredicateDraft → List Bool → List ℕ → Bool

@@ -15,6 +15,7 @@ mod places;
 mod predicates;
 mod shown;
 mod tables;
+mod walk;
 
 pub use form::{Entry, Form, Forms, OperandConstraint};
 pub use forms::forms_of;

@@ -1,31 +1,22 @@
 //! Which predicates of a description hold.
-ghost use Rattle.std.specs.Prelude.{◌≡◌, ◌↔◌, IfOk, IsTrue, map};
+ghost use Rattle.std.specs.Prelude.{◌≡◌, ◌↔◌, ◌&&◌, ◌+◌, ◌<◌, ℕ, false, nat_lt, IfOk, IsTrue, option_and_then, slice_get, unwrap_or, map, length};
 ghost use Rattle.std.specs.List.{list_all};
 ghost use Rattle.md_forms.specs.Predicates as spec;
+ghost use Rattle.md_forms.specs.machine.Depths.{is_below, below, IsNext};
 
 use crate::definitions::Definitions;
 use crate::tables::PredicateDraft;
+use crate::walk::first_depths;
+use md_operand::Own;
 use plain_data::{Items, Memory};
 use rtx_tree::Name;
 use std::alloc::Global;
-use text_words::same;
 
 /// Whether a predicate is there without a definition. That without a name accepts anything.
-fn is_own(name: &[u8]) -> bool
+pub fn is_own(name: &[u8]) -> bool
     ensures { result ≡ spec.is_own name.now }
 {
-    same(name, b"")
-        || same(name, b"register_operand")
-        || same(name, b"const_int_operand")
-        || same(name, b"immediate_operand")
-        || same(name, b"memory_operand")
-        || same(name, b"nonimmediate_operand")
-        || same(name, b"nonmemory_operand")
-        || same(name, b"general_operand")
-        || same(name, b"address_operand")
-        || same(name, b"comparison_operator")
-        || same(name, b"ordered_comparison_operator")
-        || same(name, b"frame_operand")
+    Own::named(name).is_some()
 }
 
 fn is_accepted(predicates: &Definitions<PredicateDraft>, accepted: &[bool], name: &[u8]) -> bool
@@ -60,46 +51,127 @@ pub fn all_known(
         .all(|name| is_known(predicates, accepted, name.bytes()))
 }
 
-/// Whether a definition's own parts are in order, and it names known predicates alone.
-fn is_sound(predicates: &Definitions<PredicateDraft>, accepted: &[bool], d: &PredicateDraft) -> bool
-    ensures { result ≡ spec.is_sound predicates.now accepted.now d.now }
-{
-    d.whole && all_known(predicates, accepted, d.uses.as_slice())
-}
+// ---- depths
 
-fn none_accepted(alloc: Global, predicates: &[PredicateDraft]) -> Result<Items<bool>, Memory>
-    ensures { IfOk result (λ accepted. accepted ≡ spec.accepted_within 0 predicates.now) }
+/// The depth at a place, if there is one.
+fn depth_at(depths: &[Option<usize>], place: Option<usize>) -> Option<usize>
+    ensures { (n : ℕ) → is_below n result ≡ unwrap_or (option_and_then (slice_get (below n depths.now)) place) false }
 {
-    let mut accepted = Items::new(alloc);
-    for _d in predicates {
-        accepted.push(false)?;
+    match depths.get(place?) {
+        Some(depth) => *depth,
+        None => None,
     }
-    Ok(accepted)
 }
 
-/// One round more.
+/// One deeper than a depth, where so many rounds tell it.
+fn one_deeper(depth: Option<usize>, rounds: usize) -> Option<usize>
+    ensures { (n : ℕ) → n < rounds → is_below (n + 1) result ≡ is_below n depth }
+{
+    match depth {
+        Some(depth) if depth < rounds => Some(depth + 1),
+        _ => None,
+    }
+}
+
+/// How deep a definition goes that names this predicate alone.
+fn depth_below(
+    predicates: &Definitions<PredicateDraft>,
+    depths: &[Option<usize>],
+    rounds: usize,
+    name: &[u8],
+) -> Option<usize>
+    ensures { (n : ℕ) → n < rounds → is_below (n + 1) result ≡ spec.is_known predicates.now (below n depths.now) name.now }
+{
+    if is_own(name) {
+        Some(0)
+    } else {
+        one_deeper(depth_at(depths, predicates.place_of(name)), rounds)
+    }
+}
+
+/// How deep a definition goes that names these predicates.
+fn depth_below_all(
+    predicates: &Definitions<PredicateDraft>,
+    depths: &[Option<usize>],
+    rounds: usize,
+    names: &[Name],
+) -> Option<usize>
+    ensures { (n : ℕ) → n < rounds → is_below (n + 1) result ≡ list_all (spec.is_known predicates.now (below n depths.now)) names.now }
+{
+    let mut deepest = 0;
+    for name in names {
+        match depth_below(predicates, depths, rounds, name.bytes()) {
+            Some(depth) => deepest = deepest.max(depth),
+            None => return None,
+        }
+    }
+    Some(deepest)
+}
+
+/// How deep a definition goes. One that is not accepted has no depth.
+pub fn depth_of(
+    predicates: &Definitions<PredicateDraft>,
+    depths: &[Option<usize>],
+    rounds: usize,
+    d: &PredicateDraft,
+) -> Option<usize>
+    ensures { (n : ℕ) → n < rounds → is_below (n + 1) result ≡ spec.is_sound predicates.now (below n depths.now) d.now }
+{
+    if d.whole {
+        depth_below_all(predicates, depths, rounds, d.uses.as_slice())
+    } else {
+        None
+    }
+}
+
+/// One round: the depths of all definitions, where what they name is as deep as is told.
 fn round(
     alloc: Global,
     predicates: &Definitions<PredicateDraft>,
-    accepted: &[bool],
-) -> Result<Items<bool>, Memory>
-    ensures { IfOk result (λ next. next ≡ map (spec.is_sound predicates.now accepted.now) predicates.now) }
+    depths: &[Option<usize>],
+    rounds: usize,
+) -> Result<Items<Option<usize>>, Memory>
+    ensures { IfOk result (λ next. IsNext rounds predicates.now depths.now next) }
 {
     let mut next = Items::new(alloc);
     for d in predicates.as_slice() {
-        next.push(is_sound(predicates, accepted, d))?;
+        next.push(depth_of(predicates, depths, rounds, d))?;
     }
     Ok(next)
 }
 
 /// Whether a round changed nothing.
-fn is_last(next: &[bool], accepted: &[bool]) -> bool
-    ensures { IsTrue result ↔ (next.now ≡ accepted.now) }
+fn is_last(next: &[Option<usize>], depths: &[Option<usize>]) -> bool
+    ensures { IsTrue result ↔ (next.now ≡ depths.now) }
 {
-    next == accepted
+    next == depths
 }
 
-/// Which definitions are accepted within so many rounds. A round that changes nothing is the last that is made.
+/// Whether there is a depth, and it is less than so many rounds.
+fn is_less(depth: Option<usize>, rounds: usize) -> bool
+    ensures { result ≡ is_below rounds depth }
+{
+    match depth {
+        Some(depth) => depth < rounds,
+        None => false,
+    }
+}
+
+/// Which depths are less than so many rounds.
+fn all_less(alloc: Global, depths: &[Option<usize>], rounds: usize) -> Result<Items<bool>, Memory>
+    ensures { IfOk result (λ flags. flags ≡ below rounds depths.now) }
+{
+    let mut flags = Items::new(alloc);
+    for depth in depths {
+        flags.push(is_less(*depth, rounds))?;
+    }
+    Ok(flags)
+}
+
+/// Which definitions are accepted within so many rounds.
+///
+/// Rounds come to the right depths whatever they begin with, and one that changes nothing is the
+/// last. Those of the walk are right, so the first round changes nothing.
 pub fn accepted_within(
     alloc: Global,
     predicates: &Definitions<PredicateDraft>,
@@ -107,13 +179,14 @@ pub fn accepted_within(
 ) -> Result<Items<bool>, Memory>
     ensures { IfOk result (λ accepted. accepted ≡ spec.accepted_within rounds predicates.now) }
 {
-    let mut accepted = none_accepted(alloc, predicates.as_slice())?;
+    let found = first_depths(alloc, predicates, rounds)?;
+    let mut depths = round(alloc, predicates, found.as_slice(), rounds)?;
     for _done in 0..rounds {
-        let next = round(alloc, predicates, accepted.as_slice())?;
-        if is_last(next.as_slice(), accepted.as_slice()) {
-            return Ok(accepted);
+        let next = round(alloc, predicates, depths.as_slice(), rounds)?;
+        if is_last(next.as_slice(), depths.as_slice()) {
+            return all_less(alloc, depths.as_slice(), rounds);
         }
-        accepted = next;
+        depths = next;
     }
-    Ok(accepted)
+    all_less(alloc, depths.as_slice(), rounds)
 }

@@ -1,8 +1,7 @@
 -- What a form that is accepted asks for.
-use Rattle.std.proofs.Common.{◌≡◌, ℕ, Bool, true, false, cond, not, ◌||◌, List, [], Option, Some, None, Result, Ok, Err, refl, sym, ap}
+use Rattle.std.proofs.Common.{◌≡◌, ℕ, Bool, true, false, cond, not, ◌||◌, List, [], Option, Some, None, Result, Ok, Err, refl, sym, ap, ◌∙◌}
 use Rattle.std.specs.List.{flat_map, list_all}
-use Rattle.std.specs.Str.{bytes_eq}
-use Rattle.std.specs.Prelude.{codes}
+use Rattle.std.specs.Option.{is_some}
 use Rattle.md_pattern.specs.declared.reason.Reason.{Reason}
 use Rattle.md_pattern.specs.declared.reason.Reason.TheVariants as reason
 use Rattle.md_draft.specs.declared.draft.Draft.{Draft}
@@ -11,8 +10,6 @@ use Rattle.md_forms.specs.declared.tables.Tables.{Tables}
 use Rattle.md_forms.specs.Names.{predicates_in, predicates_called, predicates_tested, predicates_named}
 use Rattle.md_forms.specs.Predicates.{is_own}
 use Rattle.md_forms.specs.Checks.{predicates_known, reason_of, constraints_of, form_with, unless, form_of}
-use Rattle.md_operand.specs.declared.own.Own.{Own}
-use Rattle.md_operand.specs.declared.own.Own.TheVariants as own
 use Rattle.md_operand.specs.Operand.{own_named}
 use Rattle.md_pred.proofs.Agreeing.{both_parts}
 
@@ -64,26 +61,8 @@ tested_named p d all =
 
 -- ---- the predicates that every description has
 
--- one of them, or one of the others
-one_of : (b others : Bool) (o : Own) (rest : Option Own) → (rest ≡ None → others ≡ true → ⊥) → cond b (Some o) rest ≡ None → (b || others) ≡ true → ⊥
-one_of true others o rest none e h = cc
-one_of false others o rest none e h = none e h
-
 pub own_is_named : (name : List ℕ) → own_named name ≡ None → is_own name ≡ true → ⊥
-own_is_named name =
-    one_of (bytes_eq name []) _ own.Anything _
-    (one_of (bytes_eq name (codes "register_operand")) _ own.Register _
-    (one_of (bytes_eq name (codes "const_int_operand")) _ own.ConstInt _
-    (one_of (bytes_eq name (codes "immediate_operand")) _ own.Immediate _
-    (one_of (bytes_eq name (codes "memory_operand")) _ own.Memory _
-    (one_of (bytes_eq name (codes "nonimmediate_operand")) _ own.Nonimmediate _
-    (one_of (bytes_eq name (codes "nonmemory_operand")) _ own.Nonmemory _
-    (one_of (bytes_eq name (codes "general_operand")) _ own.General _
-    (one_of (bytes_eq name (codes "address_operand")) _ own.Address _
-    (one_of (bytes_eq name (codes "comparison_operator")) _ own.Comparison _
-    (one_of (bytes_eq name (codes "ordered_comparison_operator")) _ own.OrderedComparison _
-    (one_of (bytes_eq name (codes "frame_operand")) _ own.Frame _
-    (λ none h. false_true h))))))))))))
+own_is_named name none own = false_true (ap is_some (sym none) ∙ own)
   where
     false_true : false ≡ true → ⊥
     false_true e = cc

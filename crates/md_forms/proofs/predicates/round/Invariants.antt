@@ -1,6 +1,10 @@
-use Rattle.std.proofs.Common.{◌≡◌, map, take}
+use Rattle.std.proofs.Common.{◌≡◌, ◌+◌, ◌<◌, ℕ, map, take, length}
 use Rattle.md_forms.specs.Predicates as spec
+use Rattle.md_forms.specs.machine.Depths.{below}
 use Rattle.md_forms.proofs.predicates.round.Given as goal
 
 abbrev pub invariant-loop-d : goal.invariant-loop-d
-invariant-loop-d l = l.next ≡ map (spec.is_sound l.predicates l.accepted) (take l.d-index l.predicates)
+invariant-loop-d l = record {
+  count : length l.next ≡ l.d-index;
+  sound : (n : ℕ) → n < l.rounds → below (n + 1) l.next ≡ map (spec.is_sound l.predicates (below n l.depths)) (take l.d-index l.predicates);
+}

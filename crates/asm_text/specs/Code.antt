@@ -1,22 +1,12 @@
 -- A function of an input with its code: the lines and labels that its part of the input's assembly spells.
-use Rattle.std.specs.Prelude.{◌≡◌, ◌<◌, ◌^◌, ℕ, ◌+◌, Bool, true, false, List, [], ◌∷◌, ◌++◌, Option, Some, None, Result, Ok, Err, if◌then◌else◌}
+use Rattle.std.specs.Prelude.{◌≡◌, ℕ, Bool, true, false, List, ◌∷◌, Option, Some, None, Result, Ok, Err, if◌then◌else◌}
 use Rattle.std.specs.List.{list_any}
 use Rattle.std.specs.Str.{bytes_eq}
-use Rattle.rtx_tree.specs.declared.function.Kind.TheVariants.{Label, Barrier}
-use Rattle.rtx_tree.specs.declared.function.Insn.{Insn}
 use Rattle.rtx_tree.specs.declared.function.Function.{Function}
-use Rattle.rtl_step.specs.Step.{is_mark}
-use Rattle.rv_text.specs.Text.{IsTextOf}
-use Rattle.rv_text.specs.declared.line.Line.{Line}
 use Rattle.rv_text.specs.declared.line.CodeItem.{CodeItem}
-use Rattle.rv_text.specs.declared.line.CodeItem.TheVariants as item
-use Rattle.asm_table.specs.declared.forms.Match.{Match}
-use Rattle.asm_table.specs.Forms.{first_match}
-use Rattle.asm_table.specs.Template.{filled_line}
 use Rattle.run_refusal.specs.declared.refusal.Refusal.{Refusal}
 use Rattle.run_refusal.specs.declared.refusal.Refusal.TheVariants as refusal
 use Rattle.func_input.specs.Input.{IsRead, IsInput}
-use Rattle.rtl_chain.specs.End.{IsFinished}
 use Rattle.asm_text.specs.Compile.{FunctionsCome, InputComes}
 use Rattle.asm_text.specs.Lines.{IsAssembly}
 use Rattle.asm_text.specs.Same.{AreParts}
@@ -37,6 +27,13 @@ coded_named _ _ name = None
 -- a function with its code, or a refusal
 abbrev pub Answer : Type 0
 Answer = Result Coded Refusal
+
+-- a call gave an answer with a property; want of memory is free, and it tells no fault
+abbrev pub Answers : Answer → (Answer → Type 0) → Type 0
+Answers (Err refusal.Memory) P = Unit {0}
+Answers (Err refusal.ReadFault) P = ⊥
+Answers (Err refusal.WriteFault) P = ⊥
+Answers answer P = P answer
 
 -- What a name among functions comes to. What refuses the functions refuses it, but whether one of them has the name is looked at first.
 pub data NameComes (functions : List Function) (name : List ℕ) : Answer → Type 0 where

@@ -9,8 +9,9 @@ ghost use Rattle.rtl_chain.specs.End.{return_insn};
 ghost use Rattle.rtx_tree.specs.Limit.{most_bytes};
 ghost use Rattle.asm_text.specs.Lines.{IsMatched, AreMatched, AllMatched};
 ghost use Rattle.asm_text.specs.Code as codes;
-ghost use Rattle.asm_text.specs.Code.{Answer, NameComes, CodeComes, IsUnnamed};
-ghost use Rattle.asm_text.specs.machine.Steps.{Answers, IsLineText, IsItemOf, IsLineIn, AreItems, AreItemsOf, IsCodedFrom};
+ghost use Rattle.asm_text.specs.Code.{Answer, Answers, NameComes, CodeComes, IsUnnamed};
+ghost use Rattle.asm_text.specs.machine.Steps.{IsLineText, IsItemOf, IsLineIn, AreItems, AreItemsOf};
+ghost use Rattle.asm_text.specs.machine.Steps.{IsCodedFrom};
 
 use crate::compile::compile;
 use asm_table::{Match, first_match, print_line};

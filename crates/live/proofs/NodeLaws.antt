@@ -10,7 +10,7 @@ use Rattle.live_rows.specs.declared.node.Node.{Node}
 use Rattle.reg_rows.specs.Table.{has_at}
 use Rattle.live_rows.specs.Paths.{Reaches, Here, Along, IsLiveRows}
 use Rattle.live.specs.Live.{IsLive, AtEnd, AtUse, Passing, IsLiveness, live_has}
-use Rattle.live.specs.Nodes.{IsNodeOf, IsEndOf, AreNodes}
+use Rattle.live.specs.machine.Nodes.{IsNodeOf, IsEndOf, AreNodes}
 
 -- a node stands for an instruction or for the end
 node_cases : (f : Function) (nodes : List Node) → AreNodes f nodes → (p : ℕ) (node : Node) → slice_get nodes p ≡ Some node → ((i : Insn) × (slice_get f.insns p ≡ Some i) × IsNodeOf f p i node) ⊎ ((length f.insns ≡ p) × IsEndOf f node)

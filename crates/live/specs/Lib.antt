@@ -1,2 +1,2 @@
 pub mod Live
-pub mod Nodes
+pub mod machine

@@ -2,7 +2,7 @@
 ghost use Rattle.std.specs.Prelude.{◌≡◌, ℕ, ◌<◌, ◌^◌, ◌||◌, ◌&&◌, IfOk, OnOk, Some, length, slice_get};
 ghost use Rattle.rtx_tree.specs.RegSet.{has_reg};
 ghost use Rattle.reg_uses.specs.Uses as uses;
-ghost use Rattle.live.specs.Nodes.{IsNodeOf, IsEndOf, AreNodes};
+ghost use Rattle.live.specs.machine.Nodes.{IsNodeOf, IsEndOf, AreNodes};
 
 use live_rows::Node;
 use plain_data::{Items, Memory};

@@ -6,8 +6,8 @@ use Rattle.std.proofs.lemmas.Option.{same_Some, slice_get_past}
 use Rattle.reg_rows.specs.Table.{at_row, has_at}
 use Rattle.live_rows.specs.declared.node.Node.{Node}
 use Rattle.live_rows.specs.Paths.{defines, is_place, leads_to}
-use Rattle.live_rows.specs.Rows.{at_place, after, passes, IsClosedAt}
-use Rattle.live_rows.specs.Flags.{is_set, flag, place_flag, is_touched, IsPending, IsMidway}
+use Rattle.live_rows.specs.machine.Rows.{at_place, after, passes, IsClosedAt}
+use Rattle.live_rows.specs.machine.Flags.{is_set, flag, place_flag, is_touched, IsPending, IsMidway}
 use Rattle.live_rows.proofs.SetLaws.{slice_get-set_same, slice_get-set_other}
 use Rattle.live_rows.proofs.PathLaws.{IsVisit, visit_keeps}
 

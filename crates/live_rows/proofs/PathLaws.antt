@@ -5,7 +5,7 @@ use Rattle.std.proofs.lemmas.Bool.{or_cases, or_left, or_right, and_parts, and_f
 use Rattle.reg_rows.specs.Table.{has_at}
 use Rattle.live_rows.specs.declared.node.Node.{Node}
 use Rattle.live_rows.specs.Paths.{defines, is_place, leads_to, Reaches, Here, Along}
-use Rattle.live_rows.specs.Rows.{at_place, after, passes, uses_by, uses_at, HasUses, IsSound, IsClosedAt}
+use Rattle.live_rows.specs.machine.Rows.{at_place, after, passes, uses_by, uses_at, HasUses, IsSound, IsClosedAt}
 
 -- the rows of a table with what a node passes added to one of them
 abbrev pub IsVisit : ℕ → Node → List (List ℕ) → List (List ℕ) → Type 0

@@ -5,7 +5,7 @@ use Rattle.reg_rows.specs.Row.{has}
 use Rattle.reg_rows.specs.Table.{has_at, IsTable}
 use Rattle.live_rows.specs.declared.node.Node.{Node}
 use Rattle.live_rows.specs.Paths.{uses}
-use Rattle.live_rows.specs.Rows.{uses_at}
+use Rattle.live_rows.specs.machine.Rows.{uses_at}
 
 pub uses_push : (rows : List (List ℕ)) (nodes : List Node) (row : List ℕ) (node : Node) → length rows ≡ length nodes → ((at reg : ℕ) → has_at rows at reg ≡ uses_at nodes at reg) → ((reg : ℕ) → has row reg ≡ uses node reg) → (at reg : ℕ) → has_at (rows ++ row ∷ []) at reg ≡ uses_at (nodes ++ node ∷ []) at reg
 uses_push [] [] row node long each here zero reg = here reg

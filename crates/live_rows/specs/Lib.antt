@@ -1,3 +1,2 @@
-pub mod Flags
 pub mod Paths
-pub mod Rows
+pub mod machine

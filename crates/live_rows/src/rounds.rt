@@ -1,8 +1,8 @@
 //! Rounds over the places of a graph.
 ghost use Rattle.std.specs.Prelude.{◌≡◌, ℕ, ◌<◌, ◌||◌, true, false, length};
 ghost use Rattle.reg_rows.specs.Table.{total, IsTable};
-ghost use Rattle.live_rows.specs.Rows.{HasUses, IsSound};
-ghost use Rattle.live_rows.specs.Flags.{flag, place_flag, is_touched, IsPending};
+ghost use Rattle.live_rows.specs.machine.Rows.{HasUses, IsSound};
+ghost use Rattle.live_rows.specs.machine.Flags.{flag, place_flag, is_touched, IsPending};
 
 use crate::node::Node;
 use crate::visit::visit;

@@ -2,8 +2,8 @@
 ghost use Rattle.std.specs.Prelude.{◌≡◌, ℕ, ◌-◌, ◌*◌, ◌^◌, ◌<◌, ◌≤◌, false, length, vec_len, sum, All, IfOk};
 ghost use Rattle.reg_rows.specs.Table.{has_at, IsTable};
 ghost use Rattle.live_rows.specs.Paths.{fits, IsLiveRows};
-ghost use Rattle.live_rows.specs.Rows.{uses_at, HasUses, IsSound};
-ghost use Rattle.live_rows.specs.Flags.{flag, IsPending};
+ghost use Rattle.live_rows.specs.machine.Rows.{uses_at, HasUses, IsSound};
+ghost use Rattle.live_rows.specs.machine.Flags.{flag, IsPending};
 
 use crate::node::Node;
 use crate::rounds::round;

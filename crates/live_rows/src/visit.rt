@@ -2,7 +2,7 @@
 ghost use Rattle.std.specs.Prelude.{◌≡◌, ℕ, ◌<◌, ◌≤◌, ◌==◌, ◌||◌, ◌&&◌, not, true, false, length, All};
 ghost use Rattle.reg_rows.specs.Row.{has, lists};
 ghost use Rattle.reg_rows.specs.Table.{has_at, total, IsTable};
-ghost use Rattle.live_rows.specs.Rows.{at_place, after, passes};
+ghost use Rattle.live_rows.specs.machine.Rows.{at_place, after, passes};
 
 use crate::node::Node;
 use reg_rows::{RegRow, join_row};

@@ -1,2 +1,2 @@
--- What the contracts of private functions alone cite.
+-- What the contracts of private functions cite, and those of tables that a room hands to the next.
 pub mod Tables

@@ -12,7 +12,8 @@ use Rattle.md_draft.specs.Reasons.{IsSmallest}
 use Rattle.md_draft.proofs.Smallest.{change}
 use Rattle.md_draft.proofs.Reasons.{of_entry}
 use Rattle.md_forms.specs.declared.tables.Tables.{Tables}
-use Rattle.md_forms.specs.Checks.{constraints_of, has_reason, later_reasons, reason_of, form_with, unless, checked, form_of}
+use Rattle.md_forms.specs.Checks.{constraints_of, has_reason, later_reasons, reason_of, form_with, unless, form_of}
+use Rattle.md_forms.specs.machine.Steps.{checked}
 use Rattle.md_forms.specs.Forms.{draft_entry, judged_form}
 use Rattle.md_forms.specs.Reasons.{Applies, tables_in, judged_in}
 

@@ -6,7 +6,7 @@ use Rattle.std.proofs.lemmas.List.Sums.{count_by_more_yes, count_by_more_no, cou
 use Rattle.md_forms.specs.declared.form.Entry.{Entry}
 use Rattle.md_forms.specs.declared.shown.HeadCounts.{HeadCounts}
 use Rattle.md_forms.specs.Forms.{has_head, count_of}
-use Rattle.md_forms.specs.Counts.{count_in, Counts, CountsOneMore}
+use Rattle.md_forms.specs.machine.Counts.{count_in, Counts, CountsOneMore}
 use Rattle.md_forms.proofs.TextKeys.{same_text}
 
 -- a form more was counted

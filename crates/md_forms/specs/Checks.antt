@@ -220,13 +220,3 @@ unless (Some r) x = Err r
 -- a form, or the smallest reason that applies to a draft
 unfoldable pub form_of : Tables → Draft → Result Form Reason
 form_of tables d = unless (reason_of tables d) (form_with d (constraints_of tables d))
-
--- ---- steps of the code
-
--- the smallest reason behind those of predicates, where the constraints are known
-abbrev pub reason_behind : Tables → Draft → Option Reason
-reason_behind tables d = find (has_reason tables d) (reason.Constraint ∷ reason.Attribute ∷ reason.Operands ∷ reason.Template ∷ [])
-
--- the constraints, or the smallest reason
-unfoldable pub checked : Tables → Draft → Result (List OperandConstraint) Reason
-checked tables d = unless (reason_of tables d) (constraints_of tables d)

@@ -4,6 +4,4 @@ pub mod Tables
 pub mod Checks
 pub mod Forms
 pub mod Reasons
-pub mod Places
-pub mod Counts
 pub mod machine

@@ -1,1 +1,4 @@
 pub mod Depths
+pub mod Places
+pub mod Counts
+pub mod Steps

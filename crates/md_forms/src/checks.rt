@@ -4,6 +4,7 @@ ghost use Rattle.std.specs.List.{flat_map, list_all};
 ghost use Rattle.md_pattern.specs.Reason.{judged_map};
 ghost use Rattle.md_text.specs.Lists as lists;
 ghost use Rattle.md_forms.specs.Checks as spec;
+ghost use Rattle.md_forms.specs.machine.Steps as steps;
 ghost use Rattle.md_forms.specs.Names as names;
 
 use crate::definitions::Definitions;
@@ -415,7 +416,7 @@ fn reason_with(
     requires constraints { spec.constraints_in tables.now.constraint_names draft.now
         ≡ Some constraints.now }
     requires numbers { spec.AreNumbers numbers.now draft.now }
-    ensures { IfOk result (λ reason. reason ≡ spec.reason_behind tables.now draft.now) }
+    ensures { IfOk result (λ reason. reason ≡ steps.reason_behind tables.now draft.now) }
 {
     if !constraints_stand(numbers.matched.as_slice(), &tables.constraints, constraints) {
         return Ok(Some(Reason::Constraint));
@@ -442,20 +443,20 @@ fn reason_behind(
     constraints: &[OperandConstraint],
 ) -> Result<Option<Reason>, Memory>
     requires { spec.constraints_in tables.now.constraint_names draft.now ≡ Some constraints.now }
-    ensures { IfOk result (λ reason. reason ≡ spec.reason_behind tables.now draft.now) }
+    ensures { IfOk result (λ reason. reason ≡ steps.reason_behind tables.now draft.now) }
 {
     let numbers = numbers_of(alloc, draft)?;
     reason_with(alloc, tables, draft, constraints, &numbers)
 }
 
 /// The constraints of a draft, or the smallest reason that applies to it.
-#[tactic(auto, unfolding(crate::specs::Checks::checked))]
+#[tactic(auto, unfolding(crate::specs::machine::Steps::checked))]
 fn checked(
     alloc: Global,
     tables: &Tables,
     draft: &Draft,
 ) -> Result<Judged<Items<OperandConstraint>>, Memory>
-    ensures { IfOk result (λ constraints. constraints ≡ spec.checked tables.now draft.now) }
+    ensures { IfOk result (λ constraints. constraints ≡ steps.checked tables.now draft.now) }
 {
     if !predicates_known(alloc, tables, draft)? {
         return Ok(Err(Reason::Predicate));

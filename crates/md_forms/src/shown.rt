@@ -1,6 +1,6 @@
 //! The names under which the forms of a description are shown.
 ghost use Rattle.std.specs.Prelude.{◌≡◌, ◌<◌, List, ℕ, IfOk, OnOk, length};
-ghost use Rattle.md_forms.specs.Counts.{count_in, CountsOneMore};
+ghost use Rattle.md_forms.specs.machine.Counts.{count_in, CountsOneMore};
 ghost use Rattle.md_forms.specs.Forms as spec;
 
 use crate::form::Entry;

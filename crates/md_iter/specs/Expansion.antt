@@ -42,18 +42,3 @@ abbrev pub Gives : List Tree → Result Expanded IterRefusal → Type 0
 Gives trees (Ok e) = (e.forms ≡ forms_of trees) × (e.constants ≡ all_constants_in trees) × (length (forms_of trees) ≤ most_forms)
 Gives trees (Err (refusal.Limit at)) = PassesAt (definitions_in trees) trees at
 Gives trees (Err refusal.Memory) = Unit {0}
-
--- ---- the steps of the code
-
-abbrev pub GivesForms : Definitions → List Tree → Result (List Instance) IterRefusal → Type 0
-GivesForms definitions trees (Ok forms) = (forms ≡ forms_with definitions trees) × (length (forms_with definitions trees) ≤ most_forms)
-GivesForms definitions trees (Err (refusal.Limit at)) = PassesAt definitions trees at
-GivesForms definitions trees (Err refusal.Memory) = Unit {0}
-
-abbrev pub IsTooMany : TreeRefusal → List Instance → List Instance → Type 0
-IsTooMany tree_refusal.Limit before more = most_forms < length before + length more
-IsTooMany tree_refusal.Memory before more = Unit {0}
-
-abbrev pub IsLimitAt : ℕ → IterRefusal → Type 0
-IsLimitAt at (refusal.Limit form) = form ≡ at
-IsLimitAt at refusal.Memory = Unit {0}

@@ -5,3 +5,4 @@ pub mod Attribute
 pub mod Angles
 pub mod Substitution
 pub mod Expansion
+pub mod machine

@@ -1,6 +1,7 @@
 //! All forms of a description.
 ghost use Rattle.std.specs.Prelude.{◌≡◌, ◌++◌, ◌≤◌, OnOk, IfErr, length};
 ghost use Rattle.md_iter.specs.Expansion as spec;
+ghost use Rattle.md_iter.specs.machine.Steps as steps;
 
 use crate::choice::{choice_at, choice_count, iterators_of};
 use crate::definition::{Definitions, definitions_in, is_form};
@@ -51,7 +52,7 @@ fn expand_form(
     requires { length forms.old ≤ spec.most_forms }
     ensures ok { OnOk result (forms.new ≡ forms.old ++ spec.forms_of_form definitions.now form.now) }
     ensures bound { OnOk result (length forms.new ≤ spec.most_forms) }
-    ensures limit { IfErr result (λ e. spec.IsTooMany e forms.old (spec.forms_of_form definitions.now form.now)) }
+    ensures limit { IfErr result (λ e. steps.IsTooMany e forms.old (spec.forms_of_form definitions.now form.now)) }
 {
     let used = iterators_of(alloc, definitions.iterators.as_slice(), form)?;
     let count = choice_count(used.as_slice());
@@ -75,7 +76,7 @@ fn expand_tree(
     requires { length forms.old ≤ spec.most_forms }
     ensures ok { OnOk result (forms.new ≡ forms.old ++ spec.forms_of_tree definitions.now tree.now) }
     ensures bound { OnOk result (length forms.new ≤ spec.most_forms) }
-    ensures limit { IfErr result (λ e. spec.IsTooMany e forms.old (spec.forms_of_tree definitions.now tree.now)) }
+    ensures limit { IfErr result (λ e. steps.IsTooMany e forms.old (spec.forms_of_tree definitions.now tree.now)) }
 {
     if is_form(alloc, tree)? {
         expand_form(alloc, definitions, tree, forms)
@@ -86,7 +87,7 @@ fn expand_tree(
 
 /// The refusal at a tree. One whose place can't be told is want of memory.
 fn limit_at(at: usize) -> IterRefusal
-    ensures { spec.IsLimitAt at result }
+    ensures { steps.IsLimitAt at result }
 {
     match u32::try_from(at) {
         Ok(form) => IterRefusal::Limit { form },
@@ -99,7 +100,7 @@ fn expand_trees(
     definitions: &Definitions,
     trees: &[Tree],
 ) -> Result<Items<Instance>, IterRefusal>
-    ensures { spec.GivesForms definitions.now trees.now result }
+    ensures { steps.GivesForms definitions.now trees.now result }
 {
     let mut forms = Items::new(alloc);
     for at in 0..trees.len() {

@@ -1,9 +1,6 @@
 -- What an answer says of the description.
-use Rattle.std.specs.Prelude.{◌≡◌, ◌≤◌, ◌<◌, List, length, Result, Ok, Err}
-use Rattle.rtx_tree.specs.declared.limit.Limit.TheVariants as limit
-use Rattle.lisp_read.specs.declared.tree.Tree.{Tree}
+use Rattle.std.specs.Prelude.{List, Result, Ok, Err}
 use Rattle.md_forms.specs.declared.form.Entry.{Entry}
-use Rattle.tree_forms.specs.Trees.{expanded, forms_of, most_forms}
 use Rattle.run_refusal.specs.declared.refusal.Refusal.{Refusal}
 use Rattle.run_refusal.specs.declared.refusal.Refusal.TheVariants as refusal
 

@@ -1,13 +1,8 @@
 -- What an answer says of the files.
-use Rattle.std.specs.Prelude.{◌≡◌, ◌≢◌, ℕ, ◌+◌, ◌<◌, ◌≤◌, ◌⊎◌, List, length, Option, Some, Result, Ok, Err, Vec}
-use Rattle.std.specs.declared.alloc.Global.{Global}
-use Rattle.rtx_tree.specs.declared.place.Place.{Place}
-use Rattle.byte_edge.specs.Fetched.{Grows}
-use Rattle.lisp_read.specs.Reading.{ReadsAs, Trees, Syntax, Depth}
+use Rattle.std.specs.Prelude.{◌≡◌, ℕ, List, Some, Result, Ok, Err}
 use Rattle.md_source.specs.declared.refusal.SourceRefusal.{SourceRefusal}
 use Rattle.md_source.specs.declared.refusal.SourceRefusal.TheVariants as refusal
-use Rattle.rtx_tree.specs.Limit.{most_bytes}
-use Rattle.md_source.specs.Source.{Source, Outcome, shipped_name, text_of}
+use Rattle.md_source.specs.Source.{Source}
 
 -- what is known of the files is so: each name holds the bytes that are known of it
 abbrev pub Agrees : Source → (List ℕ → List ℕ → Type 0) → Type 0

@@ -13,7 +13,7 @@ use Rattle.reg_rows.specs.Table.{has_at}
 use Rattle.reg_uses.specs.Uses.{insn_defines}
 use Rattle.live.specs.Live.{IsLiveness, IsLiveAfter, live_has}
 use Rattle.reg_conflicts.specs.Conflicts.{DefinesBeside, AreConflicts}
-use Rattle.reg_conflicts.specs.Rows.{place_has, after_has}
+use Rattle.reg_conflicts.specs.machine.Rows.{place_has, after_has}
 
 or_nil : (b : Bool) → (b || false) ≡ b
 or_nil true = refl

@@ -5,7 +5,7 @@ ghost use Rattle.reg_rows.specs.Table.{has_at, IsTable};
 ghost use Rattle.reg_uses.specs.Uses.{insn_defines};
 ghost use Rattle.live.specs.Live.{IsLiveness};
 ghost use Rattle.reg_conflicts.specs.Conflicts.{AreConflicts, has_conflict};
-ghost use Rattle.reg_conflicts.specs.Rows.{after_has};
+ghost use Rattle.reg_conflicts.specs.machine.Rows.{after_has};
 
 use crate::mark::{collect, mark};
 use live::Live;

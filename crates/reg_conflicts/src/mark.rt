@@ -3,7 +3,7 @@ ghost use Rattle.std.specs.Prelude.{◌≡◌, ℕ, ◌*◌, ◌<◌, ◌^◌, �
 ghost use Rattle.rtx_tree.specs.RegSet.{has_reg};
 ghost use Rattle.reg_rows.specs.Row.{has};
 ghost use Rattle.reg_rows.specs.Table.{has_at, IsTable};
-ghost use Rattle.reg_conflicts.specs.Rows.{place_has, after_has};
+ghost use Rattle.reg_conflicts.specs.machine.Rows.{place_has, after_has};
 
 use reg_rows::{RegRow, join_row};
 use rtl_func::successors;

@@ -21,8 +21,7 @@ use Rattle.func_input.specs.Input.{InputComesTo}
 use Rattle.func_input.specs.Outcome.{Outcome}
 use Rattle.func_input.specs.Outcome.{Tells}
 use Rattle.asm_text.specs.Compile.{InputComes}
-use Rattle.asm_text.specs.Code.{IsUnnamed, CodeComes}
-use Rattle.asm_text.specs.machine.Steps.{Answers as Told}
+use Rattle.asm_text.specs.Code.{IsUnnamed, CodeComes, Answers as Told}
 use Rattle.rtlc_words.specs.declared.command.Command.{Command}
 use Rattle.rtlc_words.specs.declared.command.Command.TheVariants as commands
 use Rattle.rtlc_words.specs.Words.{command_of}

@@ -6,7 +6,8 @@ use Rattle.std.proofs.lemmas.List.{append-nil}
 use Rattle.text_words.specs.Words.{is_symbol, is_symbol_byte}
 use Rattle.rv_text.specs.Table.{Row, table, row_named}
 use Rattle.rv_text.specs.Lines.{number_text, register_text, operand_text}
-use Rattle.rv_text.specs.Text.{is_blank, AreBlanks, IsListed, IsListedFrom, IsRestOf, IsTextOf, behind_blanks, word}
+use Rattle.rv_text.specs.Text.{is_blank, AreBlanks, IsListed, IsListedFrom, IsRestOf, IsTextOf}
+use Rattle.rv_text.specs.machine.Cuts.{behind_blanks, word}
 use Rattle.rv_text.specs.declared.line.Line.{Line}
 use Rattle.rv_text.specs.declared.operand.Operand.{Operand}
 use Rattle.rv_text.specs.declared.operand.Operand.TheVariants.{Rd, Rs, Rt, Number, Place, Target, Ra}

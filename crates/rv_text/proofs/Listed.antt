@@ -11,7 +11,8 @@ use lib.Signed.{mag}
 use Rattle.rtx_tree.specs.Registers.{reg_names}
 use Rattle.text_words.specs.Words.{is_symbol, is_symbol_byte}
 use Rattle.rv_text.specs.Lines.{number_text, register_text, operand_text}
-use Rattle.rv_text.specs.Text.{is_word_byte, behind_blanks, word, behind_word, behind_comma, Finds, Sets, IsListedFrom}
+use Rattle.rv_text.specs.Text.{Finds, Sets, IsListedFrom}
+use Rattle.rv_text.specs.machine.Cuts.{is_word_byte, behind_blanks, word, behind_word, behind_comma}
 use Rattle.rv_text.specs.declared.line.Line.{Line}
 use Rattle.rv_text.specs.declared.operand.Operand.{Operand}
 use Rattle.rv_text.specs.declared.operand.Operand.TheVariants.{Rd, Rs, Rt, Number, Place, Target, Ra}

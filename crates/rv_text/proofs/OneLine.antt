@@ -5,7 +5,8 @@ use Rattle.rtx_tree.proofs.Distinct.{one_register}
 use Rattle.text_words.specs.Words.{is_symbol}
 use Rattle.rv_text.specs.Table.{Row, row_named}
 use Rattle.rv_text.specs.Lines.{register_text, number_text, place_text, bare}
-use Rattle.rv_text.specs.Text.{Sets, IsListed, IsListedFrom, IsRestOf, IsTextOf, behind_blanks, word, behind_word, place_parts}
+use Rattle.rv_text.specs.Text.{Sets, IsListed, IsListedFrom, IsRestOf, IsTextOf}
+use Rattle.rv_text.specs.machine.Cuts.{behind_blanks, word, behind_word, place_parts}
 use Rattle.rv_text.specs.declared.line.Line.{Line}
 use Rattle.rv_text.specs.declared.operand.Operand.{Operand}
 use Rattle.rv_text.specs.declared.operand.Operand.TheVariants.{Rd, Rs, Rt, Number, Place, Target, Ra}

@@ -3,7 +3,8 @@ use Rattle.std.proofs.Common.{◌≡◌, ℕ, ℤ, Bool, true, false, cond, nat_
 use Rattle.std.specs.List.{list_all}
 use Rattle.std.proofs.lemmas.Bool.Decides.{nat_tests}
 use Rattle.rv_text.specs.Lines.{register_text, number_text, place_text}
-use Rattle.rv_text.specs.Text.{Finds, parts_at, place_parts, pair}
+use Rattle.rv_text.specs.Text.{Finds}
+use Rattle.rv_text.specs.machine.Cuts.{parts_at, place_parts, pair}
 use Rattle.rv_text.proofs.Numbers.{and_true}
 use Rattle.rv_text.proofs.Plain.{is_plain, plain_is_not, number_is_plain, register_is_plain}
 

@@ -9,7 +9,7 @@ use Rattle.std.proofs.lemmas.List.Folds.{list_all-append}
 use lib.Signed.{mag}
 use Rattle.rtx_tree.specs.Registers.{reg_names}
 use Rattle.rv_text.specs.Lines.{number_text, register_text}
-use Rattle.rv_text.specs.Text.{is_word_byte}
+use Rattle.rv_text.specs.machine.Cuts.{is_word_byte}
 use Rattle.rv_text.proofs.Numbers.{number_text_says, both_true, and_true, mag_i64}
 
 -- behind the parentheses, and neither a comma nor a colon

@@ -6,7 +6,8 @@ use Rattle.std.proofs.lemmas.Slice.Eq.{bytes_eq-Decides}
 use Rattle.std.proofs.lemmas.List.{length-append}
 use Rattle.rv_text.specs.Table.{Row, table, find_row, row_named}
 use Rattle.rv_text.specs.Lines.{put, bare}
-use Rattle.rv_text.specs.Text.{is_blank, AreBlanks, Finds, Sets, IsListed, IsListedFrom, IsRestOf, IsTextOf, behind_blanks, word, behind_word}
+use Rattle.rv_text.specs.Text.{is_blank, AreBlanks, Finds, Sets, IsListed, IsListedFrom, IsRestOf, IsTextOf}
+use Rattle.rv_text.specs.machine.Cuts.{behind_blanks, word, behind_word}
 use Rattle.rv_text.specs.declared.line.Line.{Line}
 use Rattle.rv_text.specs.declared.operand.Operand.{Operand}
 use Rattle.rv_text.specs.declared.operand.Operand.TheVariants.{Rd, Rs, Rt, Number, Place, Target, Ra}

@@ -2,7 +2,8 @@
 use Rattle.std.proofs.Common.{◌≡◌, ℕ, Bool, true, false, cond, not, nat_eq, List, [], ◌∷◌, ◌++◌, Some, None, refl, sym, ◌∙◌, ap, arith}
 use Rattle.std.specs.List.{list_all}
 use Rattle.std.proofs.lemmas.Bool.Decides.{nat_tests}
-use Rattle.rv_text.specs.Text.{is_blank, is_word_byte, AreBlanks, behind_blanks, word, behind_word, behind_comma, IsParted}
+use Rattle.rv_text.specs.Text.{is_blank, AreBlanks, IsParted}
+use Rattle.rv_text.specs.machine.Cuts.{is_word_byte, behind_blanks, word, behind_word, behind_comma}
 use Rattle.rv_text.proofs.Numbers.{and_true, both_true}
 
 -- one or more bytes of a word

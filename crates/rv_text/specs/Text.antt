@@ -1,5 +1,5 @@
 -- Which texts are lines: blanks, a mnemonic, blanks, and operands with commas, round which blanks may stand.
-use Rattle.std.specs.Prelude.{◌≡◌, ◌≢◌, ℕ, ℤ, Bool, true, ◌&&◌, ◌||◌, not, nat_eq, List, [], ◌∷◌, ◌++◌, length, Option, Some, None, if◌then◌else◌, option_map, option_and_then}
+use Rattle.std.specs.Prelude.{◌≡◌, ◌≢◌, ℕ, Bool, true, ◌||◌, nat_eq, List, [], ◌∷◌, ◌++◌, Option, Some, None}
 use Rattle.std.specs.List.{list_all}
 use Rattle.rv_text.specs.Table.{Row, row_named}
 use Rattle.rv_text.specs.Lines.{operand_text, bare, put}
@@ -63,43 +63,3 @@ pub record IsTextOf (bytes : List ℕ) (line : Line) : Type 0 where
 abbrev pub Finds : {X : Type 0} → (X → Type 0) → Option X → Type 0
 Finds {X} P None = (x : X) → P x → ⊥
 Finds {X} P (Some x) = P x × ((y : X) → P y → y ≡ x)
-
--- ---- how bytes are cut; the grammar above does not rest on this
-
-abbrev pub is_word_byte : ℕ → Bool
-is_word_byte byte = not (is_blank byte) && not (nat_eq byte 44)
-
--- what stands behind the blanks at the front
-abbrev pub behind_blanks : List ℕ → List ℕ
-behind_blanks [] = []
-behind_blanks (byte ∷ bytes) = if is_blank byte then behind_blanks bytes else byte ∷ bytes
-
--- what stands before the first blank or comma, and from there on
-abbrev pub word : List ℕ → List ℕ
-word [] = []
-word (byte ∷ bytes) = if is_word_byte byte then byte ∷ word bytes else []
-
-abbrev pub behind_word : List ℕ → List ℕ
-behind_word [] = []
-behind_word (byte ∷ bytes) = if is_word_byte byte then behind_word bytes else byte ∷ bytes
-
-abbrev comma_first : List ℕ → Option (List ℕ)
-comma_first [] = None
-comma_first (byte ∷ bytes) = if nat_eq byte 44 then Some (behind_blanks bytes) else None
-
--- what stands behind a comma and blanks round it
-abbrev pub behind_comma : List ℕ → Option (List ℕ)
-behind_comma bytes = comma_first (behind_blanks bytes)
-
--- what stands before and behind the first of a byte
-abbrev pub parts_at : ℕ → List ℕ → Option (List ℕ × List ℕ)
-parts_at mark [] = None
-parts_at mark (byte ∷ bytes) = if nat_eq byte mark then Some ([], bytes) else option_map (λ parts. (byte ∷ parts.0, parts.1)) (parts_at mark bytes)
-
--- the texts of a number and of a register in parentheses behind it
-abbrev pub place_parts : List ℕ → Option (List ℕ × List ℕ)
-place_parts text =
-    option_and_then (λ front. option_and_then (λ back. if nat_eq (length back.1) 0 then Some (front.0, back.0) else None) (parts_at 41 front.1)) (parts_at 40 text)
-
-abbrev pub pair : Option ℤ → Option ℕ → Option (ℤ × ℕ)
-pair number reg = option_and_then (λ n. option_map (λ r. (n, r)) reg) number

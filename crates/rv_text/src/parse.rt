@@ -7,6 +7,7 @@ ghost use Rattle.rv_text.specs.Lines.{parts_view};
 ghost use Rattle.rv_text.specs.Text as spec;
 ghost use Rattle.rv_text.specs.Text.{Finds, Sets, IsListed, IsListedFrom, IsRestOf, IsTextOf};
 ghost use Rattle.rv_text.specs.Table.{HasEvery, row_view};
+ghost use Rattle.rv_text.specs.machine.Cuts as cuts;
 
 use crate::line::{Line, Parts, is_within};
 use crate::operand::Operand;
@@ -24,14 +25,14 @@ fn is_blank(byte: u8) -> bool
 }
 
 fn is_word_byte(byte: u8) -> bool
-    ensures { result ≡ spec.is_word_byte byte }
+    ensures { result ≡ cuts.is_word_byte byte }
 {
     !is_blank(byte) && byte != b','
 }
 
 /// What stands behind the blanks at the front.
 fn behind_blanks(bytes: &[u8]) -> &[u8]
-    ensures { result.now ≡ spec.behind_blanks bytes.entry.now }
+    ensures { result.now ≡ cuts.behind_blanks bytes.entry.now }
 {
     for (at, byte) in bytes.iter().enumerate() {
         if !is_blank(*byte) {
@@ -43,8 +44,8 @@ fn behind_blanks(bytes: &[u8]) -> &[u8]
 
 /// What stands before the first blank or comma, and the rest.
 fn split_word(bytes: &[u8]) -> (&[u8], &[u8])
-    ensures word { result.0.now ≡ spec.word bytes.entry.now }
-    ensures rest { result.1.now ≡ spec.behind_word bytes.entry.now }
+    ensures word { result.0.now ≡ cuts.word bytes.entry.now }
+    ensures rest { result.1.now ≡ cuts.behind_word bytes.entry.now }
 {
     for (at, byte) in bytes.iter().enumerate() {
         if !is_word_byte(*byte) {
@@ -56,7 +57,7 @@ fn split_word(bytes: &[u8]) -> (&[u8], &[u8])
 
 /// What stands behind a comma and the blanks round it, or `None` where there is no comma.
 fn behind_comma(bytes: &[u8]) -> Option<&[u8]>
-    ensures { option_map (λ rest. rest.now) result ≡ spec.behind_comma bytes.entry.now }
+    ensures { option_map (λ rest. rest.now) result ≡ cuts.behind_comma bytes.entry.now }
 {
     match behind_blanks(bytes) {
         [b',', rest @ ..] => Some(behind_blanks(rest)),
@@ -66,7 +67,7 @@ fn behind_comma(bytes: &[u8]) -> Option<&[u8]>
 
 /// What stands before and behind the first of a byte.
 fn split_at_byte(bytes: &[u8], mark: u8) -> Option<(&[u8], &[u8])>
-    ensures { option_map (λ parts. (parts.0.now, parts.1.now)) result ≡ spec.parts_at mark bytes.entry.now }
+    ensures { option_map (λ parts. (parts.0.now, parts.1.now)) result ≡ cuts.parts_at mark bytes.entry.now }
 {
     for (at, byte) in bytes.iter().enumerate() {
         if *byte == mark {
@@ -119,7 +120,7 @@ fn read_register(text: &[u8]) -> Option<u8>
 
 /// The texts of a number and of a register in parentheses behind it.
 fn split_place(text: &[u8]) -> Option<(&[u8], &[u8])>
-    ensures { option_map (λ parts. (parts.0.now, parts.1.now)) result ≡ spec.place_parts text.entry.now }
+    ensures { option_map (λ parts. (parts.0.now, parts.1.now)) result ≡ cuts.place_parts text.entry.now }
 {
     let (number, rest) = split_at_byte(text, b'(')?;
     let (reg, end) = split_at_byte(rest, b')')?;
@@ -131,7 +132,7 @@ fn split_place(text: &[u8]) -> Option<(&[u8], &[u8])>
 }
 
 fn pair(number: Option<i64>, reg: Option<u8>) -> Option<(i64, u8)>
-    ensures { result ≡ spec.pair number reg }
+    ensures { result ≡ cuts.pair number reg }
 {
     match (number, reg) {
         (Some(number), Some(reg)) => Some((number, reg)),

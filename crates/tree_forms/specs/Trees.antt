@@ -3,7 +3,6 @@ use Rattle.std.specs.Prelude.{◌≡◌, ◌≤◌, ◌<◌, ℕ, List, length, 
 use Rattle.rtx_tree.specs.declared.limit.Limit.TheVariants as limit
 use Rattle.lisp_read.specs.declared.tree.Tree.{Tree}
 use Rattle.md_iter.specs.declared.substitution.Instance.{Instance}
-use Rattle.md_iter.specs.declared.expand.Expanded.{Expanded}
 use Rattle.md_iter.specs.Definition.{all_constants_in}
 use Rattle.md_iter.specs.Expansion as expansion
 use Rattle.md_forms.specs.declared.form.Entry.{Entry}

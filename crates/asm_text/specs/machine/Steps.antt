@@ -1,5 +1,5 @@
 -- The steps of the code, for the contracts of private functions alone.
-use Rattle.std.specs.Prelude.{◌≡◌, ◌<◌, ◌^◌, ℕ, ◌+◌, true, false, List, [], ◌∷◌, ◌++◌, Option, Some, None, Err}
+use Rattle.std.specs.Prelude.{◌≡◌, ◌<◌, ◌^◌, ℕ, ◌+◌, true, false, List, [], ◌∷◌, ◌++◌, Option, Some, None}
 use Rattle.rtx_tree.specs.declared.function.Kind.TheVariants.{Label, Barrier}
 use Rattle.rtx_tree.specs.declared.function.Insn.{Insn}
 use Rattle.rtx_tree.specs.declared.function.Function.{Function}
@@ -11,17 +11,9 @@ use Rattle.rv_text.specs.declared.line.CodeItem.TheVariants as item
 use Rattle.asm_table.specs.declared.forms.Match.{Match}
 use Rattle.asm_table.specs.Forms.{first_match}
 use Rattle.asm_table.specs.Template.{filled_line}
-use Rattle.run_refusal.specs.declared.refusal.Refusal.TheVariants as refusal
 use Rattle.rtl_chain.specs.End.{IsFinished}
 use Rattle.asm_text.specs.declared.code.Coded.{Coded}
-use Rattle.asm_text.specs.Code.{is_named, Answer}
-
--- a call gave an answer with a property; want of memory is free, and it tells no fault
-abbrev pub Answers : Answer → (Answer → Type 0) → Type 0
-Answers (Err refusal.Memory) P = Unit {0}
-Answers (Err refusal.ReadFault) P = ⊥
-Answers (Err refusal.WriteFault) P = ⊥
-Answers answer P = P answer
+use Rattle.asm_text.specs.Code.{is_named}
 
 -- bytes are a text of a line with its end
 abbrev pub IsLineText : List ℕ → Line → Type 0

@@ -3,7 +3,7 @@ use Rattle.std.specs.Prelude.{slice_get}
 use Rattle.std.proofs.lemmas.List.{length_push}
 use Rattle.std.proofs.lemmas.Option.{slice_get_read}
 use Rattle.rtx_tree.specs.declared.function.Insn.{Insn}
-use Rattle.live.specs.Nodes.{AreNodes}
+use Rattle.live.specs.machine.Nodes.{AreNodes}
 use Rattle.live.proofs.NodeLaws.{AreSome, AreSome-push, AreNodes-push}
 use Rattle.live.proofs.nodes.nodes_of.Goals as goal
 

@@ -2,7 +2,7 @@ use Rattle.std.proofs.Common.{◌≡◌, ℕ, length}
 use Rattle.std.specs.Prelude.{Some, slice_get}
 use Rattle.rtx_tree.specs.declared.function.Insn.{Insn}
 use Rattle.live_rows.specs.declared.node.Node.{Node}
-use Rattle.live.specs.Nodes.{IsNodeOf}
+use Rattle.live.specs.machine.Nodes.{IsNodeOf}
 use Rattle.live.proofs.nodes.nodes_of.Given as goal
 
 abbrev pub invariant-loop-at : goal.invariant-loop-at

@@ -2,7 +2,7 @@ use Rattle.std.proofs.Common.{◌≡◌, ℕ, ◌+◌, ◌-◌, Some, arith, rul
 use Rattle.std.specs.Prelude.{slice_get}
 use Rattle.std.proofs.lemmas.Bool.{true≢false, or_parts}
 use Rattle.std.proofs.lemmas.Option.{slice_get_read}
-use Rattle.live_rows.specs.Flags.{IsMidway, is_touched}
+use Rattle.live_rows.specs.machine.Flags.{IsMidway, is_touched}
 use Rattle.live_rows.proofs.PathLaws.{IsSound-visit, HasUses-visit}
 use Rattle.live_rows.proofs.FlagLaws.{IsMidway-grew, IsMidway-same, IsMidway-skip}
 use Rattle.live_rows.proofs.rounds.round.Goals as goal

@@ -1,7 +1,7 @@
 use Rattle.std.proofs.Common.{◌≡◌, ℕ, ◌<◌, ◌≤◌, true, false, length}
 use Rattle.reg_rows.specs.Table.{IsTable, total}
-use Rattle.live_rows.specs.Rows.{HasUses, IsSound}
-use Rattle.live_rows.specs.Flags.{flag, IsMidway}
+use Rattle.live_rows.specs.machine.Rows.{HasUses, IsSound}
+use Rattle.live_rows.specs.machine.Flags.{flag, IsMidway}
 use Rattle.live_rows.proofs.rounds.round.Given as goal
 
 abbrev pub invariant-places : goal.invariant-places

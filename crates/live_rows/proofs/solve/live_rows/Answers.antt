@@ -1,6 +1,6 @@
 use Rattle.std.proofs.Common.{◌≡◌, ℕ, true, List, length, replicate, ap, sym, subst, ◌∙◌, arith, rules}
-use Rattle.live_rows.specs.Rows.{IsSound}
-use Rattle.live_rows.specs.Flags.{flag}
+use Rattle.live_rows.specs.machine.Rows.{IsSound}
+use Rattle.live_rows.specs.machine.Flags.{flag}
 use Rattle.live_rows.proofs.PathLaws.{IsSound-uses}
 use Rattle.live_rows.proofs.FlagLaws.{IsPending-all, flag-replicate}
 use Rattle.live_rows.proofs.solve.live_rows.Goals as goal

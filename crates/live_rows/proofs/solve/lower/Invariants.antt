@@ -1,5 +1,5 @@
 use Rattle.std.proofs.Common.{◌≡◌, ℕ, ◌<◌, false}
-use Rattle.live_rows.specs.Flags.{flag}
+use Rattle.live_rows.specs.machine.Flags.{flag}
 use Rattle.live_rows.proofs.solve.lower.Given as goal
 
 abbrev pub invariant-loop-flag : goal.invariant-loop-flag

@@ -3,7 +3,7 @@ use Rattle.std.proofs.lemmas.List.{take_more}
 use Rattle.reg_rows.specs.Row.{has, lists}
 use Rattle.reg_rows.specs.Table.{has_at, IsTable}
 use Rattle.live_rows.specs.declared.node.Node.{Node}
-use Rattle.live_rows.specs.Rows.{uses_at}
+use Rattle.live_rows.specs.machine.Rows.{uses_at}
 use Rattle.live_rows.proofs.TableLaws.{uses_push, IsTable-push}
 use Rattle.live_rows.proofs.solve.rows_of_uses.Goals as goal
 

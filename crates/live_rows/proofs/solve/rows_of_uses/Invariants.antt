@@ -1,6 +1,6 @@
 use Rattle.std.proofs.Common.{◌≡◌, ℕ, vec_len, take}
 use Rattle.reg_rows.specs.Table.{has_at, IsTable}
-use Rattle.live_rows.specs.Rows.{uses_at}
+use Rattle.live_rows.specs.machine.Rows.{uses_at}
 use Rattle.live_rows.proofs.solve.rows_of_uses.Given as goal
 
 abbrev pub invariant-loop-node : goal.invariant-loop-node

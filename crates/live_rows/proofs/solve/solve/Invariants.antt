@@ -1,7 +1,7 @@
 use Rattle.std.proofs.Common.{◌≡◌, ◌-◌, ◌*◌, ◌^◌, length}
 use Rattle.reg_rows.specs.Table.{IsTable, total}
-use Rattle.live_rows.specs.Rows.{HasUses, IsSound}
-use Rattle.live_rows.specs.Flags.{IsPending}
+use Rattle.live_rows.specs.machine.Rows.{HasUses, IsSound}
+use Rattle.live_rows.specs.machine.Flags.{IsPending}
 use Rattle.live_rows.proofs.solve.solve.Given as goal
 
 abbrev pub invariant-rounds : goal.invariant-rounds

@@ -1,6 +1,6 @@
 use Rattle.std.proofs.Common.{◌≡◌, List, ℕ, position, take}
 use Rattle.std.specs.Str.{bytes_eq}
-use Rattle.md_forms.specs.Places.{place_in}
+use Rattle.md_forms.specs.machine.Places.{place_in}
 use Rattle.md_forms.proofs.definitions.places_of.Given as goal
 
 abbrev pub invariant-loop-at : goal.invariant-loop-at

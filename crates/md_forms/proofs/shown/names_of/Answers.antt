@@ -1,5 +1,5 @@
 use Rattle.std.proofs.Common.{◌≡◌, ◌++◌, ◌∷◌, [], refl, ap, subst, ◌∙◌, take}
-use Rattle.md_forms.specs.Counts.{count_in, CountsOneMore}
+use Rattle.md_forms.specs.machine.Counts.{count_in, CountsOneMore}
 use Rattle.md_forms.specs.Forms as spec
 use Rattle.md_forms.proofs.CountLaws.{counts_next, counts_none}
 use Rattle.md_forms.proofs.ShownNames.{named_next, named_ends, as_many}

@@ -1,6 +1,6 @@
 use Rattle.std.proofs.Common.{◌≡◌, ◌++◌, drop, take}
 use Rattle.md_forms.specs.Forms as spec
-use Rattle.md_forms.specs.Counts.{Counts}
+use Rattle.md_forms.specs.machine.Counts.{Counts}
 use Rattle.md_forms.proofs.shown.names_of.Given as goal
 
 abbrev pub invariant-loop-form : goal.invariant-loop-form

@@ -4,7 +4,7 @@ use Rattle.std.proofs.lemmas.Option.{slice_get_read}
 use Rattle.rtx_tree.specs.declared.function.Insn.{Insn}
 use Rattle.reg_rows.specs.Table.{has_at, IsTable}
 use Rattle.reg_uses.specs.Uses.{insn_defines}
-use Rattle.reg_conflicts.specs.Rows.{after_has}
+use Rattle.reg_conflicts.specs.machine.Rows.{after_has}
 use Rattle.reg_conflicts.proofs.FillLaws.{AreFound-insn, AreConflicts-found}
 use Rattle.reg_conflicts.proofs.fill.fill.Goals as goal
 

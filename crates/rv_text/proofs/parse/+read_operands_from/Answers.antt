@@ -1,6 +1,6 @@
 use Rattle.std.proofs.Common.{sym, ◌∙◌, ap}
 use Rattle.rv_text.specs.Lines.{parts_view}
-use Rattle.rv_text.specs.Text.{behind_comma}
+use Rattle.rv_text.specs.machine.Cuts.{behind_comma}
 use Rattle.rv_text.proofs.Listed.{none_at_first, none_at_comma, goes_on_at}
 use Rattle.rv_text.proofs.parse.+read_operands_from.Goals as goal
 

@@ -1,6 +1,6 @@
 use Rattle.std.proofs.Common.{sym, ◌∙◌, ap}
 use Rattle.rv_text.specs.Table.{row_view}
-use Rattle.rv_text.specs.Text.{word, behind_word}
+use Rattle.rv_text.specs.machine.Cuts.{word, behind_word}
 use Rattle.rv_text.proofs.Reading.{no_row, text_finds}
 use Rattle.rv_text.proofs.parse.read_parts.Goals as goal
 

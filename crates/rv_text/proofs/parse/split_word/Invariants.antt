@@ -1,6 +1,6 @@
 -- All bytes that were passed are of the word.
 use Rattle.std.proofs.Common.{◌≡◌, ◌++◌, drop, take}
-use Rattle.rv_text.specs.Text.{word, behind_word}
+use Rattle.rv_text.specs.machine.Cuts.{word, behind_word}
 use Rattle.rv_text.proofs.parse.split_word.Given as goal
 
 abbrev pub invariant-loop-at : goal.invariant-loop-at

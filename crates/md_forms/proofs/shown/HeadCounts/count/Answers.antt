@@ -1,7 +1,7 @@
 use Rattle.std.proofs.Common.{◌≡◌, ◌+◌, ap, ◌∙◌, rules, unwrap_or}
 use Rattle.std.specs.Map.{lookup}
 use Rattle.std.specs.Str.{bytes_eq}
-use Rattle.md_forms.specs.Counts.{count_in}
+use Rattle.md_forms.specs.machine.Counts.{count_in}
 use Rattle.md_forms.proofs.TextKeys.{found_apart, found_itself}
 use Rattle.md_forms.proofs.shown.HeadCounts.count.Goals as goal
 

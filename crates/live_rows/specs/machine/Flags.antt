@@ -1,7 +1,7 @@
 -- Which rows grew lately.
 use Rattle.std.specs.Prelude.{◌≡◌, ℕ, ◌<◌, ◌≤◌, Bool, false, ◌||◌, List, Option, Some, None, slice_get}
 use Rattle.live_rows.specs.declared.node.Node.{Node}
-use Rattle.live_rows.specs.Rows.{IsClosedAt}
+use Rattle.live_rows.specs.machine.Rows.{IsClosedAt}
 
 abbrev pub is_set : Option Bool → Bool
 is_set None = false

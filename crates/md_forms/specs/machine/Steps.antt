@@ -1,0 +1,17 @@
+-- Steps of the code, for the contracts of private functions alone.
+use Rattle.std.specs.Prelude.{List, [], ◌∷◌, Option, Result}
+use Rattle.std.specs.List.{find}
+use Rattle.md_pattern.specs.declared.reason.Reason.{Reason}
+use Rattle.md_pattern.specs.declared.reason.Reason.TheVariants as reason
+use Rattle.md_forms.specs.declared.form.OperandConstraint.{OperandConstraint}
+use Rattle.md_draft.specs.declared.draft.Draft.{Draft}
+use Rattle.md_forms.specs.declared.tables.Tables.{Tables}
+use Rattle.md_forms.specs.Checks.{constraints_of, has_reason, reason_of, unless}
+
+-- the smallest reason behind those of predicates, where the constraints are known
+abbrev pub reason_behind : Tables → Draft → Option Reason
+reason_behind tables d = find (has_reason tables d) (reason.Constraint ∷ reason.Attribute ∷ reason.Operands ∷ reason.Template ∷ [])
+
+-- the constraints, or the smallest reason
+unfoldable pub checked : Tables → Draft → Result (List OperandConstraint) Reason
+checked tables d = unless (reason_of tables d) (constraints_of tables d)

@@ -106,6 +106,7 @@ too_many bytes function steps args count is long = (
   CodeComes.unread (refusal.Limit limit.Text count) (λ functions read. let within = read.within in omega (arith, long, within))
       (subst (λ (n : ℕ). InputComes bytes (Err (refusal.Limit limit.Text n))) (sym is) (InputComesTo.too_long long)),
   refl,
+  tt,
 )
 
 too_many_left : (left : Option (List ℕ)) (function : List ℕ) (steps : ℕ) (args : List ℕ) (count : ℕ) → InputRefused left (refusal.Limit limit.Text count) →
@@ -130,12 +131,12 @@ pub code_refused : (bytes function : List ℕ) (steps : ℕ) (args : List ℕ) (
 code_refused bytes function steps args refusal.Memory h = tt
 code_refused bytes function steps args refusal.ReadFault h = absurd h
 code_refused bytes function steps args refusal.WriteFault h = absurd h
-code_refused bytes function steps args refusal.Usage h = (Err refusal.Usage, h, refl)
-code_refused bytes function steps args (refusal.Syntax file place) h = (Err (refusal.Syntax file place), h, refl)
-code_refused bytes function steps args (refusal.Construct place name) h = (Err (refusal.Construct place name), h, refl)
-code_refused bytes function steps args (refusal.IllFormed name uid rule) h = (Err (refusal.IllFormed name uid rule), h, refl)
-code_refused bytes function steps args (refusal.Limit which count) h = (Err (refusal.Limit which count), h, refl)
-code_refused bytes function steps args (refusal.Unmatched name uid stage insn) h = (Err (refusal.Unmatched name uid stage insn), h, refl)
+code_refused bytes function steps args refusal.Usage h = (Err refusal.Usage, h, refl, tt)
+code_refused bytes function steps args (refusal.Syntax file place) h = (Err (refusal.Syntax file place), h, refl, tt)
+code_refused bytes function steps args (refusal.Construct place name) h = (Err (refusal.Construct place name), h, refl, tt)
+code_refused bytes function steps args (refusal.IllFormed name uid rule) h = (Err (refusal.IllFormed name uid rule), h, refl, tt)
+code_refused bytes function steps args (refusal.Limit which count) h = (Err (refusal.Limit which count), h, refl, tt)
+code_refused bytes function steps args (refusal.Unmatched name uid stage insn) h = (Err (refusal.Unmatched name uid stage insn), h, refl, tt)
 
 -- the function that has no name is missing from the input
 pub misused : (left left' : Option (List ℕ)) (bytes function : List ℕ) (steps : ℕ) (args : List ℕ) → Consumes left left' bytes × IsAtEnd left' → IsUnnamed bytes function → IsMisused (Some (commands.Eval function steps args)) left

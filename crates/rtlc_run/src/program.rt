@@ -3,6 +3,7 @@ ghost use Rattle.std.specs.Prelude.{◌≡◌, ◌≢◌, ◌⊎◌, ℕ, Ok, Li
 ghost use Rattle.std.specs.Io.KnownBytes.{Appends, Consumes, IsAtEnd};
 ghost use Rattle.byte_edge.specs.Causes.{Rose};
 ghost use Rattle.rtx_tree.specs.declared.function.Function.{Function};
+ghost use Rattle.func_mean.specs.Run.{TakesEnough};
 ghost use Rattle.rv_text.specs.Body.{Spells};
 ghost use Rattle.rv_text.specs.declared.line.CodeItem.{CodeItem};
 ghost use Rattle.run_refusal.specs.Refusals.{has_values, line_of};
@@ -346,8 +347,12 @@ pub fn run<F: Files, S: Source, K: Sink, E: Sink>(
     ensures spelled { (text : List ℕ) (a b : List CodeItem) → Spells text a → Spells text b → a ≡ b }
     ensures parts { (functions : List Function) (text : List ℕ) (a b : List (List CodeItem)) → AreParts functions text a → AreParts functions text b → a ≡ b }
 
-    // `eval`: the text of status 0 has the outcomes that are defined for a function, over the lines and labels that its part of the assembly of
-    // the input spells; and a function of an input of which a form matches each instruction has them.
+    // An endless run takes jumps or makes calls without end, and so asks an endless run of the lines.
+    ensures endless { TakesEnough }
+
+    // `eval`: the text of status 0 has the outcomes that are defined for a function, over the lines and labels that its part of the
+    // assembly of the input spells; it is tried fairly, so that where its outcome has a value its lines come to the same one. And a
+    // function of an input of which a form matches each instruction has them.
     ensures evaluates { (function : List ℕ) (steps : ℕ) (args : List ℕ) →
         spoken.command_of (words_of words.now) ≡ Some (commands.Eval function steps args) → result ≡ 0 →
         WritesOutcomes (S.left input.old) function steps args (K.taken output.old) (K.taken output.new) }

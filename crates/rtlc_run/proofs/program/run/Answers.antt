@@ -1,6 +1,7 @@
 use Rattle.std.proofs.Common.{◌≡◌, ◌⊎◌, ⊎_elim, sym, ap, Err}
 use Rattle.run_refusal.specs.declared.refusal.Refusal.{Refusal}
 use Rattle.run_refusal.specs.declared.refusal.Refusal.TheVariants as refusal
+use Rattle.func_mean.proofs.Law.{takes_enough}
 use Rattle.rv_text.proofs.SpelledOnce.{spells_one}
 use Rattle.asm_text.proofs.Parts.{one_cut}
 use Rattle.rtlc_words.specs.Words.{words_of}
@@ -30,6 +31,12 @@ returns-in-Ok-clause-parts g c = λ functions text a b p q. one_cut functions te
 
 pub returns-in-Err-clause-parts : goal.returns-in-Err-clause-parts
 returns-in-Err-clause-parts g c = λ functions text a b p q. one_cut functions text a b p q
+
+pub returns-in-Ok-clause-endless : goal.returns-in-Ok-clause-endless
+returns-in-Ok-clause-endless g c = takes_enough
+
+pub returns-in-Err-clause-endless : goal.returns-in-Err-clause-endless
+returns-in-Err-clause-endless g c = takes_enough
 
 pub returns-in-Ok-clause-lines : goal.returns-in-Ok-clause-lines
 returns-in-Ok-clause-lines g c = λ is zero.

@@ -25,7 +25,7 @@ use Rattle.asm_text.specs.Code.{Answers as Told}
 use Rattle.rtlc_words.specs.declared.command.Command.{Command}
 use Rattle.rtlc_words.specs.declared.command.Command.TheVariants as commands
 use Rattle.rtlc_words.specs.Words.{command_of}
-use Rattle.rtlc_run.specs.Answer.{described, list_refused, EvalComes, CommandComes, Answers, Produces, InputRefused, IsOwn, IsMisused, MayBeAsked, IsRefused}
+use Rattle.rtlc_run.specs.Answer.{described, list_refused, EvalComes, CommandComes, Answers, Produces, InputRefused, HasForms, IsOwn, IsMisused, MayBeAsked, IsRefused}
 
 -- what was produced has any property that follows
 pub produces_map : (r : Result (Vec ℕ Global) Refusal) (P Q : Outcome → Type 0) → ((o : Outcome) → P o → Q o) → Produces r P → Produces r Q
@@ -223,6 +223,12 @@ may_ask_nothing known (Some (commands.Eval function steps args)) = refl
 pub nothing_asked : (known : Source) (c : Option Command) (asked : Option (List (List ℕ))) → GrewBy (MayBeAsked known c) asked asked
 nothing_asked known c None = tt
 nothing_asked known c (Some names) = ([], sym (append-nil names), may_ask_nothing known c)
+
+-- ---- before the input is read
+
+-- what a command has, its words have
+pub words_have_forms : (words : List (List ℕ)) (known : Source) (c : Command) → command_of words ≡ Some c → HasForms known (Some c) → HasForms known (command_of words)
+words_have_forms words known c is h = subst (HasForms known) (sym is) h
 
 -- ---- what is known of files
 

@@ -100,6 +100,11 @@ IsMisused None input = Unit {0}
 IsMisused (Some (commands.Eval function steps args)) input = IfSome input (λ bytes. IsUnnamed bytes function)
 IsMisused (Some _) input = ⊥
 
+-- what is known of the description before the input is read: it has come to its forms
+abbrev pub HasForms : Source → Option Command → Type 0
+HasForms files (Some (commands.Recog name)) = (forms : List Entry) × FormsCome files (described name) (Ok forms)
+HasForms files _ = Unit {0}
+
 -- the names that files may be asked for
 abbrev pub MayBeAsked : Source → Option Command → List (List ℕ) → Type 0
 MayBeAsked files (Some (commands.List name)) names = AreNamed files (described name) names

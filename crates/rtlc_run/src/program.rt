@@ -253,7 +253,6 @@ fn attempt<F: Files, S: Source, K: Sink>(
     ensures asked { (known : Known) → Agrees known (F.holds files.old) → GrewBy (MayBeAsked known (spoken.command_of (words_of words.now))) (F.asked files.old) (F.asked files.new) }
     ensures files { reads_files (spoken.command_of (words_of words.now)) ≡ false → files.new ≡ files.old }
     ensures input { reads_input (spoken.command_of (words_of words.now)) ≡ false → input.new ≡ input.old }
-
     ensures fault { result ≡ Err Refusal.ReadFault → Rose (S.fault_count input.old) (S.fault_count input.new) ⊎ Rose (F.fault_count files.old) (F.fault_count files.new) }
     ensures quiet { result ≢ Err Refusal.ReadFault → S.fault_count input.new ≡ S.fault_count input.old }
     ensures calm { result ≢ Err Refusal.ReadFault → F.fault_count files.new ≡ F.fault_count files.old }

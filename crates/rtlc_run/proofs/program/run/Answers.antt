@@ -124,6 +124,9 @@ pub returns-in-Err-clause-quiet : goal.returns-in-Err-clause-quiet
 returns-in-Err-clause-quiet g c = λ other. c.in-Err.ensures.quiet (λ is. other (
     read_status c.in-Err.refusal c.report.ensures.told c.report.result c.report.ensures.status_is c.report.ensures.which (err_of c.in-Err.refusal refusal.ReadFault is)))
 
+pub returns-in-Ok-clause-behind : goal.returns-in-Ok-clause-behind
+returns-in-Ok-clause-behind g c = λ six. absurd (let none : ⊥ = cc in none)
+
 pub returns-in-Err-clause-behind : goal.returns-in-Err-clause-behind
 returns-in-Err-clause-behind g c = λ six. c.in-Err.ensures.behind (
     ap (λ (e : Refusal). Err e) (read_told c.in-Err.refusal c.report.ensures.told c.report.result c.report.ensures.status_is c.report.ensures.which six))

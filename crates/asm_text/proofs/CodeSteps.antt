@@ -5,7 +5,8 @@ use Rattle.run_refusal.specs.declared.refusal.Refusal.{Refusal}
 use Rattle.run_refusal.specs.declared.refusal.Refusal.TheVariants as refusal
 use Rattle.func_input.specs.Input.{IsRead, RefusesWith}
 use Rattle.asm_text.specs.Compile.{FunctionsCome, InputComes}
-use Rattle.asm_text.specs.Code.{Answer, Answers, has_named, NameComes, CodeComes}
+use Rattle.asm_text.specs.Code.{Answer, has_named, NameComes, CodeComes}
+use Rattle.asm_text.specs.machine.Steps.{Answers}
 
 -- what refuses the functions refuses the name
 pub name_refused : (functions : List Function) (name : List ℕ) (e : Refusal) → has_named functions name ≡ true → RefusesWith e (FunctionsCome functions) → Answers (Err e) (NameComes functions name)

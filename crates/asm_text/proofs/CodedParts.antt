@@ -10,7 +10,8 @@ use Rattle.func_input.specs.Outcome.{Outcome}
 use Rattle.asm_text.specs.Compile.{FunctionsCome}
 use Rattle.asm_text.specs.Lines.{IsAssembly, AreLines, AllMatched}
 use Rattle.asm_text.specs.Same.{AreParts}
-use Rattle.asm_text.specs.Code.{is_named, coded_named, NameComes, IsCodedFrom}
+use Rattle.asm_text.specs.Code.{is_named, coded_named, NameComes}
+use Rattle.asm_text.specs.machine.Steps.{IsCodedFrom}
 use Rattle.asm_text.proofs.Uids.{AllUids, all_uids}
 use Rattle.asm_text.proofs.LinesLaws.{is_assembly}
 use Rattle.asm_text.proofs.SameLaws.{does_same, finished_code}

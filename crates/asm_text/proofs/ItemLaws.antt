@@ -14,7 +14,7 @@ use Rattle.asm_table.specs.Forms.{first_match}
 use Rattle.asm_table.specs.Template.{filled_line}
 use Rattle.rtl_chain.specs.End.{IsFinished}
 use Rattle.asm_text.specs.Lines.{AreLines, IsAssembly, AreMatched, AllMatched}
-use Rattle.asm_text.specs.Code.{AreItems}
+use Rattle.asm_text.specs.machine.Steps.{AreItems}
 use Rattle.asm_text.proofs.SameLaws.{ended}
 
 pub items_append : (number : ℕ) (a b : List Insn) (x y : List CodeItem) → AreItems number a x → AreItems number b y → AreItems number (a ++ b) (x ++ y)

@@ -19,7 +19,7 @@ use Rattle.asm_table.specs.Template.{filled_line}
 use Rattle.asm_table.proofs.InsnLines.{matched_has_line}
 use Rattle.rtl_chain.specs.End.{IsFinished}
 use Rattle.asm_text.specs.Lines.{IsMatched, AreMatched}
-use Rattle.asm_text.specs.Code.{IsLineText, IsLineIn, AreItems, AreItemsOf, IsItemOf}
+use Rattle.asm_text.specs.machine.Steps.{IsLineText, IsLineIn, AreItems, AreItemsOf, IsItemOf}
 use Rattle.asm_text.proofs.ItemLaws.{items_append}
 use Rattle.func_input.proofs.Firsts.{drop_at}
 

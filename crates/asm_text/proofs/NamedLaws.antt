@@ -4,7 +4,8 @@ use Rattle.rtx_tree.specs.declared.function.Function.{Function}
 use Rattle.rv_text.specs.declared.line.CodeItem.{CodeItem}
 use Rattle.asm_text.specs.declared.code.Coded.{Coded}
 use Rattle.asm_text.specs.Lines.{AreMatched, AllMatched}
-use Rattle.asm_text.specs.Code.{is_named, has_named, AreItemsOf, IsCodedFrom}
+use Rattle.asm_text.specs.Code.{is_named, has_named}
+use Rattle.asm_text.specs.machine.Steps.{AreItemsOf, IsCodedFrom}
 
 -- what is found from here on is found from the first on
 abbrev pub Leads : List ℕ → List Function → ℕ → List Function → Type 0

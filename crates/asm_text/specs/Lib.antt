@@ -3,3 +3,4 @@ pub mod Compile
 pub mod Lines
 pub mod Same
 pub mod Code
+pub mod machine

@@ -6,10 +6,11 @@ ghost use Rattle.asm_table.specs.declared.forms.Match.{Match};
 ghost use Rattle.asm_table.specs.Forms as forms;
 ghost use Rattle.asm_table.specs.Template.{filled_line};
 ghost use Rattle.rtl_chain.specs.End.{return_insn};
-ghost use Rattle.func_input.specs.Input.{most_bytes};
+ghost use Rattle.rtx_tree.specs.Limit.{most_bytes};
 ghost use Rattle.asm_text.specs.Lines.{IsMatched, AreMatched, AllMatched};
 ghost use Rattle.asm_text.specs.Code as codes;
-ghost use Rattle.asm_text.specs.Code.{Answer, Answers, IsLineText, IsItemOf, IsLineIn, AreItems, AreItemsOf, IsCodedFrom, NameComes, CodeComes, IsUnnamed};
+ghost use Rattle.asm_text.specs.Code.{Answer, NameComes, CodeComes, IsUnnamed};
+ghost use Rattle.asm_text.specs.machine.Steps.{Answers, IsLineText, IsItemOf, IsLineIn, AreItems, AreItemsOf, IsCodedFrom};
 
 use crate::compile::compile;
 use asm_table::{Match, first_match, print_line};

@@ -1,6 +1,6 @@
 //! What the bytes of an input come to: the assembly of its functions, or the first refusal.
 ghost use Rattle.std.specs.Prelude.{◌≡◌, ℕ, List, ◌≤◌, length};
-ghost use Rattle.func_input.specs.Input.{most_bytes};
+ghost use Rattle.rtx_tree.specs.Limit.{most_bytes};
 ghost use Rattle.func_input.specs.Outcome.{Outcome};
 ghost use Rattle.asm_text.specs.Assembly.{AreTexts};
 ghost use Rattle.func_input.specs.Outcome.{Tells};

@@ -14,7 +14,7 @@ use Rattle.reg_rows.specs.Table.{has_at}
 use Rattle.assign.specs.declared.home.Home.TheVariants.{Hard, Slot}
 use Rattle.assign.specs.declared.home.HomeOf.{HomeOf}
 use Rattle.assign.specs.Homes.{register, pseudos, names, IsValid, IsTaken, IsMaximal, IsFirst, AreHomes}
-use Rattle.assign.specs.Picked.{IsPicked, IsRefused}
+use Rattle.assign.specs.machine.Picked.{IsPicked, IsRefused}
 use Rattle.assign.proofs.PickLaws.{slot_refused, hard_first, own_free, shared_free}
 
 all_below : (xs : List ℕ) (n i x : ℕ) → list_all (λ y. ltb y n) xs ≡ true → slice_get xs i ≡ Some x → x < n

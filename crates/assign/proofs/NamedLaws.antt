@@ -14,7 +14,7 @@ use Rattle.rtx_tree.specs.Tree.{mentions_reg}
 use Rattle.rtx_tree.proofs.Increasing.{increasing-append}
 use Rattle.reg_rows.specs.Row.{has}
 use Rattle.reg_rows.proofs.WordLaws.{has_past}
-use Rattle.assign.specs.Named.{stands_in}
+use Rattle.assign.specs.machine.Named.{stands_in}
 
 -- the list has the pseudos of the row below k, in increasing order
 pub record IsListed (named : List ℕ) (k : ℕ) (pseudos : List ℕ) : Type 0 where

@@ -8,7 +8,7 @@ use Rattle.assign.specs.declared.home.Home.{Home}
 use Rattle.assign.specs.declared.home.Home.TheVariants.{Hard, Slot}
 use Rattle.assign.specs.declared.home.HomeOf.{HomeOf}
 use Rattle.assign.specs.Homes.{register}
-use Rattle.assign.specs.Picked.{is_hard, clashes, is_free, home_from, IsPicked, IsRefused}
+use Rattle.assign.specs.machine.Picked.{is_hard, clashes, is_free, home_from, IsPicked, IsRefused}
 use Rattle.assign.proofs.FindLaws.{some_of, none_of, find_first, find_none, find_same, slice_get-push}
 
 is_hard-true : (home : Home) (h : ℕ) → is_hard home h ≡ true → home ≡ Hard h

@@ -1,4 +1,3 @@
 pub mod Frame
 pub mod Homes
-pub mod Named
-pub mod Picked
+pub mod machine

@@ -7,8 +7,8 @@ ghost use Rattle.reg_conflicts.specs.Conflicts.{has_conflict};
 ghost use Rattle.live.specs.Live.{IsLiveness};
 ghost use Rattle.assign.specs.declared.home.HomeOf.{HomeOf};
 ghost use Rattle.assign.specs.Homes.{AreHomes};
-ghost use Rattle.assign.specs.Named.{stands_in};
-ghost use Rattle.assign.specs.Picked.{IsPicked};
+ghost use Rattle.assign.specs.machine.Named.{stands_in};
+ghost use Rattle.assign.specs.machine.Picked.{IsPicked};
 
 use crate::home::Homes;
 use crate::named::{pseudos_of, registers_of};

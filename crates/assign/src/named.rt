@@ -4,7 +4,7 @@ ghost use Rattle.std.specs.List.Sorted.{IsStrictlyIncreasing};
 ghost use Rattle.rtx_tree.specs.RegSet.{has_reg};
 ghost use Rattle.rtx_tree.specs.Registers.{pseudo};
 ghost use Rattle.reg_rows.specs.Row.{has};
-ghost use Rattle.assign.specs.Named.{stands_in};
+ghost use Rattle.assign.specs.machine.Named.{stands_in};
 
 use plain_data::Memory;
 use reg_rows::RegRow;

@@ -4,7 +4,7 @@ ghost use Rattle.std.specs.List.{list_any, find};
 ghost use Rattle.rtx_tree.specs.Registers as registers;
 ghost use Rattle.reg_rows.specs.Row.{has};
 ghost use Rattle.reg_conflicts.specs.Conflicts.{has_conflict};
-ghost use Rattle.assign.specs.Picked.{clashes, is_free, home_from, IsPicked};
+ghost use Rattle.assign.specs.machine.Picked.{clashes, is_free, home_from, IsPicked};
 
 use crate::home::{Home, HomeOf, Homes};
 use plain_data::Memory;

@@ -32,7 +32,7 @@ use Rattle.c_words.proofs.Codes.{none_that}
 use Rattle.c_words.proofs.Listed.{Known, both, known_code, known_constant, known_keyword, known_mode, known_target, or_first, or_second, same_bytes}
 use Rattle.c_words.specs.Words.{call_name, keyword_name, all_keywords, keyword_named, mode_named, small, is_small, code_of_name, code_with_name, code_named, is_target, constant_named}
 use Rattle.c_words.specs.Atoms.{atom_of, atom_of_name, predicate_or_nothing, target_number}
-use Rattle.c_words.specs.Numbers.{number_in}
+use Rattle.text_words.specs.Numbers.{c_number_in}
 use Rattle.c_words.specs.Tokens.{in_word, is_no_word, operator_with_equals, operator_of_two, token_of_byte, number_or_bad, token_of_run}
 use Rattle.c_cond.specs.machine.Steps.{by_atom, operand_by, takes_expression, takes, passed}
 use Rattle.c_cond.specs.machine.Front.{is_taken, run_taken, word_taken, run_goes_on, second_bytes, operator_taken, byte_goes_on}
@@ -285,10 +285,10 @@ no_word_zero : (run more : List ℕ) → is_no_word (run ++ more) ≡ true → i
 no_word_zero [] more e = refl
 no_word_zero (b ∷ bs) more e = e
 
-number_token : (run : List ℕ) (n : ℕ) → is_no_word run ≡ true → number_in run ≡ Some n → token.Number n ≡ token_of_run run
+number_token : (run : List ℕ) (n : ℕ) → is_no_word run ≡ true → c_number_in run ≡ Some n → token.Number n ≡ token_of_run run
 number_token run n w e = rw (w, e) refl
 
-number_goes : (d : Dialect) (cs : List Constant) (gs : List Goal) (run more : List ℕ) (o : Option ℕ) → number_in (run ++ more) ≡ o → is_no_word (run ++ more) ≡ true → is_taken d cs (number_or_bad o) gs ≡ true → Goes d cs gs run
+number_goes : (d : Dialect) (cs : List Constant) (gs : List Goal) (run more : List ℕ) (o : Option ℕ) → c_number_in (run ++ more) ≡ o → is_no_word (run ++ more) ≡ true → is_taken d cs (number_or_bad o) gs ≡ true → Goes d cs gs run
 number_goes d cs gs run more None e w t = as_it_is d cs gs run (taken_as d cs token.Bad (token_of_run run) (bad_as d cs (token_of_run run)) gs t)
 number_goes d cs gs run more (Some n) e w t = by_run (shorter run more n e)
   where
@@ -371,8 +371,8 @@ word_goes d cs gs run more w n t whole = by_keyword (keyword_named (run ++ more)
 pub run_goes : (d : Dialect) (cs : List Constant) (gs : List Goal) (run more : List ℕ) → list_all in_word more ≡ true → is_taken d cs (token_of_run (run ++ more)) gs ≡ true → Goes d cs gs run
 run_goes d cs gs run more w t = by_test (is_no_word (run ++ more)) refl t
   where
-    by_test : (b : Bool) → is_no_word (run ++ more) ≡ b → is_taken d cs (cond b (number_or_bad (number_in (run ++ more))) (token.Word (run ++ more))) gs ≡ true → Goes d cs gs run
-    by_test true e f = number_goes d cs gs run more (number_in (run ++ more)) refl e f
+    by_test : (b : Bool) → is_no_word (run ++ more) ≡ b → is_taken d cs (cond b (number_or_bad (c_number_in (run ++ more))) (token.Word (run ++ more))) gs ≡ true → Goes d cs gs run
+    by_test true e f = number_goes d cs gs run more (c_number_in (run ++ more)) refl e f
     by_test false e f = word_goes d cs gs run more w e f t
 
 -- ---- operators

@@ -1,7 +1,7 @@
 -- What begins a number is a number that is no greater, or 0x.
 use Rattle.std.proofs.Common.{◌≡◌, ℕ, ◌+◌, ◌*◌, ◌^◌, ◌≤◌, ◌==◌, nat_lt, Bool, true, false, cond, List, [], ◌∷◌, ◌++◌, Option, Some, None, refl, arith, ◌⊎◌, inl, inr, ◌||◌}
 use Rattle.std.specs.Prelude.{option_and_then}
-use Rattle.c_words.specs.Numbers.{digit_in, with_digit, read_digits, behind_zero, number_in}
+use Rattle.text_words.specs.Numbers.{digit_in, with_digit, read_digits, behind_zero, c_number_in}
 
 some_is : {A : Type 0} {x y : A} → Some x ≡ Some y → x ≡ y
 some_is e = cc
@@ -49,7 +49,7 @@ read_prefix base h (b ∷ bs) more v n e = by_digit (digit_in base b) e (read_pr
 
 -- a run that is a number no greater than this, or is one with a zero behind it
 abbrev pub Shorter : List ℕ → ℕ → Type 0
-Shorter run n = NoGreater (number_in run) n ⊎ (number_in (run ++ 48 ∷ []) ≡ Some 0)
+Shorter run n = NoGreater (c_number_in run) n ⊎ (c_number_in (run ++ 48 ∷ []) ≡ Some 0)
 
 -- behind a zero and an x
 behind_x : (x n : ℕ) (more : List ℕ) → behind_zero (x ∷ more) ≡ Some n → behind_zero (x ∷ 48 ∷ []) ≡ Some 0
@@ -72,7 +72,7 @@ zero_shorter [] more n e = inl (0, refl, omega arith)
 zero_shorter (x ∷ []) more n e = inr (behind_x x n more e)
 zero_shorter (x ∷ d ∷ ds) more n e = inl (behind_digits x d n ds more e)
 
-shorter_cons : (b : ℕ) (bs more : List ℕ) (n : ℕ) → number_in (b ∷ (bs ++ more)) ≡ Some n → Shorter (b ∷ bs) n
+shorter_cons : (b : ℕ) (bs more : List ℕ) (n : ℕ) → c_number_in (b ∷ (bs ++ more)) ≡ Some n → Shorter (b ∷ bs) n
 shorter_cons b bs more n e = by_test (b == 48) e
   where
     by_test : (t : Bool) → cond t (behind_zero (bs ++ more)) (read_digits 10 0 (b ∷ (bs ++ more))) ≡ Some n →
@@ -80,6 +80,6 @@ shorter_cons b bs more n e = by_test (b == 48) e
     by_test true e = zero_shorter bs more n e
     by_test false e = inl (read_prefix 10 (λ v. omega arith) (b ∷ bs) more 0 n e)
 
-pub shorter : (run more : List ℕ) (n : ℕ) → number_in (run ++ more) ≡ Some n → Shorter run n
+pub shorter : (run more : List ℕ) (n : ℕ) → c_number_in (run ++ more) ≡ Some n → Shorter run n
 shorter [] more n e = inr refl
 shorter (b ∷ bs) more n e = shorter_cons b bs more n e

@@ -2,7 +2,7 @@
 use Rattle.std.proofs.Common.{◌≡◌, ℕ, ◌+◌, ◌-◌, ◌<◌, ◌≤◌, ◌⊎◌, inl, inr, List, length, ap, arith, length-drop}
 use Rattle.std.proofs.lemmas.Bool.{cases_lt}
 use Rattle.c_words.specs.declared.head.Head.{Head}
-use Rattle.c_eval.specs.Places.{trees_at, count_at, MoreUpTo, IsStart, IsParent, EndsPart}
+use Rattle.c_eval.specs.machine.Places.{trees_at, count_at, MoreUpTo, IsStart, IsParent, EndsPart}
 use Rattle.c_eval.proofs.Stacks.{some_trees}
 
 -- there is one tree more behind a tree than before it

@@ -5,7 +5,7 @@ use Rattle.std.proofs.Math.Nat.{pow-succ'}
 use Rattle.c_words.specs.declared.head.Head.{Head}
 use Rattle.c_eval.specs.declared.reading.Reading.{Reading}
 use Rattle.c_eval.specs.declared.walk.Part.{Part}
-use Rattle.c_eval.specs.Places.{MoreUpTo, IsStart, IsPart, IsParent, EndsPart}
+use Rattle.c_eval.specs.machine.Places.{MoreUpTo, IsStart, IsPart, IsParent, EndsPart}
 use Rattle.c_eval.proofs.Bounds.{starts_early, within_tree, behind_path, before_path, starts_within, starts_before}
 
 -- On both sides of the middle stand fewer heads than half.

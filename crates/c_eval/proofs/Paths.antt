@@ -4,7 +4,7 @@ use Rattle.std.proofs.lemmas.Bool.Decides.{Decides-eqb}
 use Rattle.c_words.specs.declared.head.Head.{Head}
 use Rattle.c_eval.specs.declared.reading.Reading.{Reading}
 use Rattle.c_eval.specs.declared.walk.Part.{Part}
-use Rattle.c_eval.specs.Places.{IsPart, IsPath, ending_at, IsOff}
+use Rattle.c_eval.specs.machine.Places.{IsPart, IsPath, ending_at, IsOff}
 
 by_test : (read : Head → List Reading → Reading) (heads : List Head) (other : Part) (end : ℕ) (part : Part) (test : Bool) → (other.end == end) ≡ test → IsPart read heads other → (if test then Some other else None) ≡ Some part → IsPart read heads part × (part.end ≡ end)
 by_test read heads other end part true same is here =

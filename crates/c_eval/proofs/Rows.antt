@@ -5,7 +5,7 @@ use Rattle.c_words.specs.declared.head.Head.{Head}
 use Rattle.c_cond.specs.Tree.{size_of}
 use Rattle.c_eval.specs.declared.reading.Reading.{Reading}
 use Rattle.c_eval.specs.declared.walk.Part.{Part}
-use Rattle.c_eval.specs.Places.{IsPart, EndsPart}
+use Rattle.c_eval.specs.machine.Places.{IsPart, EndsPart}
 use Rattle.c_eval.proofs.Gathered.{Gathers, gathers_more, gathers_ends, gathers_all}
 
 -- with one part more

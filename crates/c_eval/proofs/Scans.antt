@@ -4,7 +4,7 @@ use Rattle.std.proofs.lemmas.Bool.{cases_lt}
 use Rattle.c_words.specs.declared.head.Head.{Head}
 use Rattle.c_cond.specs.declared.tree.Tree.{Tree}
 use Rattle.c_cond.specs.Tree.{size_of}
-use Rattle.c_eval.specs.Places.{trees_at, count_at, MoreUpTo, IsStart, IsParent}
+use Rattle.c_eval.specs.machine.Places.{trees_at, count_at, MoreUpTo, IsStart, IsParent}
 use Rattle.c_eval.proofs.Stacks.{count_more, some_trees, drop_more}
 
 -- ---- backwards, to where a tree starts

@@ -5,7 +5,7 @@ use Rattle.std.proofs.lemmas.List.{take_more, drop-drop, get_or_default}
 use Rattle.c_words.specs.declared.head.Head.{Head}
 use Rattle.c_cond.specs.declared.tree.Tree.{Tree}
 use Rattle.c_cond.specs.Tree.{node, size_of, grown}
-use Rattle.c_eval.specs.Places.{trees_at, count_at}
+use Rattle.c_eval.specs.machine.Places.{trees_at, count_at}
 
 -- the trees with one head more
 abbrev pub with_head : Head → List Tree → List Tree

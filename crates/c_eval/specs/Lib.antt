@@ -1,5 +1,4 @@
 pub mod Numbers
 pub mod Fold
 pub mod Value
-pub mod Given
-pub mod Places
+pub mod machine

@@ -3,7 +3,7 @@ ghost use Rattle.std.specs.Prelude.{◌≡◌};
 ghost use Rattle.std.specs.Option.{option_copied};
 ghost use Rattle.rtx_tree.specs.Operands.{operand_at};
 ghost use Rattle.c_eval.specs.Value as spec;
-ghost use Rattle.c_eval.specs.Given.{operands_given};
+ghost use Rattle.c_eval.specs.machine.Given.{operands_given};
 
 use crate::preds::Preds;
 use crate::reading::Reading;

@@ -1,7 +1,7 @@
 //! The values of heads by their parts.
 ghost use Rattle.std.specs.Prelude.{◌≡◌};
 ghost use Rattle.c_eval.specs.Value as spec;
-ghost use Rattle.c_eval.specs.Given.{operands_given, facts_given};
+ghost use Rattle.c_eval.specs.machine.Given.{operands_given, facts_given};
 
 use crate::accessor::{asked, code_is, equal, is_dead, mode_is, number_in};
 use crate::known::{Given, Known};

@@ -8,7 +8,7 @@ ghost use Rattle.std.specs.Prelude.{◌≡◌, ℕ, ◌+◌, ◌<◌, ◌≤◌,
 ghost use Rattle.c_words.specs.declared.head.Head.TheVariants as Head;
 ghost use Rattle.c_cond.specs.Tree as tree;
 ghost use Rattle.c_eval.specs.Fold.{fold_by};
-ghost use Rattle.c_eval.specs.Places as places;
+ghost use Rattle.c_eval.specs.machine.Places as places;
 
 use crate::reading::Reading;
 use crate::reads::Reads;

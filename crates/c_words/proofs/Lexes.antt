@@ -5,7 +5,8 @@ use Rattle.c_words.specs.declared.token.Token.{Token}
 use Rattle.c_words.specs.declared.token.Token.TheVariants as token
 use Rattle.c_words.specs.declared.lexer.Pending.{Pending}
 use Rattle.c_words.specs.declared.lexer.Pending.TheVariants as pending
-use Rattle.c_words.specs.Tokens.{Piece, Blank, Run, Byte, run_before, pieces, tokens_of, tokens_in, in_word, is_blank, token_of_run, token_of_byte, operator_of_two}
+use Rattle.text_words.specs.Blanks.{is_blank}
+use Rattle.c_words.specs.Tokens.{Piece, Blank, Run, Byte, run_before, pieces, tokens_of, tokens_in, in_word, token_of_run, token_of_byte, operator_of_two}
 use Rattle.c_words.specs.machine.Lexing.{at, behind_two, read_all}
 
 true≢false : true ≡ false → ⊥

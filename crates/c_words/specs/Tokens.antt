@@ -5,11 +5,8 @@ use Rattle.c_words.specs.declared.head.Binary.{Binary}
 use Rattle.c_words.specs.declared.head.Binary.TheVariants as binary
 use Rattle.c_words.specs.declared.token.Token.{Token}
 use Rattle.c_words.specs.declared.token.Token.TheVariants as token
-use Rattle.c_words.specs.Numbers.{number_in}
-
--- a space, a tab, a newline, a carriage return or a form feed
-abbrev pub is_blank : ℕ → Bool
-is_blank b = b == 32 || (b == 9 || (b == 10 || (b == 13 || b == 12)))
+use Rattle.text_words.specs.Blanks.{is_blank}
+use Rattle.text_words.specs.Numbers.{c_number_in}
 
 abbrev pub is_digit : ℕ → Bool
 is_digit b = nat_le 48 b && nat_le b 57
@@ -73,7 +70,7 @@ is_no_word (b ∷ bs) = is_digit b
 
 -- the token that a run is: what begins with a digit is a number, or bad
 abbrev pub token_of_run : List ℕ → Token
-token_of_run run = if is_no_word run then number_or_bad (number_in run) else token.Word run
+token_of_run run = if is_no_word run then number_or_bad (c_number_in run) else token.Word run
 
 -- the tokens of two bytes that stand side by side, before the tokens that follow both and those that follow the first
 abbrev pub side_by_side : Option Binary → ℕ → List Token → List Token → List Token

@@ -10,64 +10,6 @@ use plain_data::{Items, Memory};
 use rtx_tree::{Code, Constant, Name};
 use std::alloc::Global;
 
-/// Every code, once.
-const CODES: [Code; 48] = [
-    Code::Reg,
-    Code::ConstInt,
-    Code::SymbolRef,
-    Code::Mem,
-    Code::Subreg,
-    Code::Plus,
-    Code::Minus,
-    Code::Mult,
-    Code::Div,
-    Code::Udiv,
-    Code::Mod,
-    Code::Umod,
-    Code::And,
-    Code::Ior,
-    Code::Xor,
-    Code::Neg,
-    Code::Not,
-    Code::Ashift,
-    Code::Ashiftrt,
-    Code::Lshiftrt,
-    Code::SignExtend,
-    Code::ZeroExtend,
-    Code::Truncate,
-    Code::Eq,
-    Code::Ne,
-    Code::Lt,
-    Code::Le,
-    Code::Gt,
-    Code::Ge,
-    Code::Ltu,
-    Code::Leu,
-    Code::Gtu,
-    Code::Geu,
-    Code::Set,
-    Code::Use,
-    Code::Clobber,
-    Code::Parallel,
-    Code::Call,
-    Code::Return,
-    Code::Pc,
-    Code::LabelRef,
-    Code::IfThenElse,
-    Code::Scratch,
-    Code::MatchOperand,
-    Code::MatchDup,
-    Code::MatchScratch,
-    Code::MatchOperator,
-    Code::MatchOpDup,
-];
-
-fn all_codes() -> &'static [Code]
-    ensures { result.now ≡ all_codes }
-{
-    &CODES
-}
-
 fn capital(byte: u8) -> u8
     ensures { result ≡ spec.capital byte }
 {
@@ -111,7 +53,7 @@ fn push_keywords(alloc: Global, words: &mut Items<Name>) -> Result<(), Memory>
 fn push_codes(alloc: Global, words: &mut Items<Name>) -> Result<(), Memory>
     ensures { OnOk result (words.new ≡ words.old ++ map spec.code_word all_codes) }
 {
-    for code in all_codes() {
+    for code in Code::all() {
         words.push(code_word(alloc, *code)?)?;
     }
     Ok(())

@@ -1,16 +1,16 @@
 //! Cuts a text into its tokens.
 ghost use Rattle.std.specs.Prelude.{◌≡◌, ◌++◌, ◌∷◌, [], List, ℕ, IfOk, OnOk};
 ghost use Rattle.c_words.specs.Tokens as spec;
-ghost use Rattle.c_words.specs.Numbers.{number_in};
+ghost use Rattle.text_words.specs.Numbers.{c_number_in};
 ghost use Rattle.c_words.specs.declared.lexer.Pending.TheVariants as Pending;
 ghost use Rattle.c_words.specs.machine.Lexing.{at, begun, behind_run, behind_two, read_byte, last_token, read_all};
 
-use crate::number::number_in;
 use crate::token::{Token, operator_of_two, token_of_byte};
 use plain_data::{Items, Memory};
 use rtx_tree::Name;
 use std::alloc::Global;
 use std::mem;
+use text_words::{c_number_in, is_blank};
 
 /// What may go on with the next byte.
 #[derive(Drop)]
@@ -20,12 +20,6 @@ pub enum Pending {
     Run(Items<u8>),
     /// A byte that may be the first of an operator.
     Byte(u8),
-}
-
-fn is_blank(byte: u8) -> bool
-    ensures { result ≡ spec.is_blank byte }
-{
-    matches!(byte, b' ' | b'\t' | b'\n' | b'\r' | 12)
 }
 
 fn is_digit(byte: u8) -> bool
@@ -43,9 +37,9 @@ pub fn in_word(byte: u8) -> bool
 }
 
 fn number_token(run: &[u8]) -> Token
-    ensures { result ≡ spec.number_or_bad (number_in run.now) }
+    ensures { result ≡ spec.number_or_bad (c_number_in run.now) }
 {
-    match number_in(run) {
+    match c_number_in(run) {
         Some(number) => Token::Number(number),
         None => Token::Bad,
     }

@@ -10,7 +10,6 @@ mod head;
 mod keyword;
 mod known;
 mod lexer;
-mod number;
 mod token;
 mod word;
 

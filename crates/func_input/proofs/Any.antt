@@ -7,7 +7,8 @@ use Rattle.lisp_read.specs.Parsed.{stands}
 use Rattle.rtl_read.specs.Syntax.{functions_in}
 use Rattle.run_refusal.specs.declared.refusal.Refusal.{Refusal}
 use Rattle.func_input.specs.Refused.{first_refused}
-use Rattle.func_input.specs.Input.{most_bytes, IsRead, IsInput, FunctionsComeTo, ReadingComesTo, InputComesTo, AreThemselves, FunctionsGive, InputGives, RefusesWith}
+use Rattle.rtx_tree.specs.Limit.{most_bytes}
+use Rattle.func_input.specs.Input.{IsRead, IsInput, FunctionsComeTo, ReadingComesTo, InputComesTo, AreThemselves, FunctionsGive, InputGives, RefusesWith}
 use Rattle.func_input.proofs.Refusing.{refuses_map}
 
 -- what functions of which none is refused come to

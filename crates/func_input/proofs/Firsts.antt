@@ -8,7 +8,7 @@ use Rattle.rtx_tree.specs.declared.function.Function.{Function}
 use Rattle.run_refusal.specs.declared.refusal.Refusal.{Refusal}
 use Rattle.func_input.specs.Refused.{or_later, limit_passed, refused_at, refused_behind, refused_from, rule_broken, first_refused}
 use Rattle.func_input.specs.Input.{FunctionsComeTo, FunctionsGive, RefusesWith}
-use Rattle.func_input.specs.Steps.{TellsOf}
+use Rattle.func_input.specs.machine.Steps.{TellsOf}
 use Rattle.func_input.proofs.Refusing.{refuses_map}
 
 -- what is left of a list at a place, where a thing stands there

@@ -8,7 +8,8 @@ use Rattle.lisp_read.proofs.Unique.{one_reading}
 use Rattle.rtl_read.specs.Syntax.{functions_in}
 use Rattle.run_refusal.specs.declared.refusal.Refusal.{Refusal}
 use Rattle.func_input.specs.Refused.{first_refused}
-use Rattle.func_input.specs.Input.{most_bytes, IsInput, FunctionsComeTo, ReadingComesTo, InputComesTo}
+use Rattle.rtx_tree.specs.Limit.{most_bytes}
+use Rattle.func_input.specs.Input.{IsInput, FunctionsComeTo, ReadingComesTo, InputComesTo}
 use Rattle.func_input.proofs.Any.{Last}
 use Rattle.func_input.proofs.One.{apart, same_functions, not_both}
 

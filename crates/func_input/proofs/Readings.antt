@@ -10,8 +10,9 @@ use Rattle.lisp_read.specs.Parsed.{stands}
 use Rattle.rtl_read.specs.Syntax.{functions_in}
 use Rattle.run_refusal.specs.declared.refusal.Refusal.{Refusal}
 use Rattle.run_refusal.specs.declared.refusal.Refusal.TheVariants as refusal
-use Rattle.func_input.specs.Input.{most_bytes, IsRead, ReadingComesTo, InputComesTo, AreThemselves, InputGives, RefusesWith, Reads}
-use Rattle.func_input.specs.Steps.{IsOrMemory, Parses}
+use Rattle.rtx_tree.specs.Limit.{most_bytes}
+use Rattle.func_input.specs.Input.{IsRead, ReadingComesTo, InputComesTo, AreThemselves, InputGives, RefusesWith, Reads}
+use Rattle.func_input.specs.machine.Steps.{IsOrMemory, Parses}
 use Rattle.func_input.proofs.Refusing.{refuses_map, made_refuses}
 use Rattle.func_input.proofs.Unread.{no_functions}
 

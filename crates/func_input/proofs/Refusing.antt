@@ -3,7 +3,7 @@ use Rattle.std.proofs.Common.{Result, Err, sym, subst}
 use Rattle.run_refusal.specs.declared.refusal.Refusal.{Refusal}
 use Rattle.run_refusal.specs.declared.refusal.Refusal.TheVariants as refusal
 use Rattle.func_input.specs.Input.{RefusesWith}
-use Rattle.func_input.specs.Steps.{IsOrMemory}
+use Rattle.func_input.specs.machine.Steps.{IsOrMemory}
 
 -- a refusal with a property has any property that follows from it
 pub refuses_map : {A B : Type 0} (e : Refusal) (P : Result A Refusal → Type 0) (Q : Result B Refusal → Type 0) → ((e : Refusal) → P (Err e) → Q (Err e)) → RefusesWith e P → RefusesWith e Q

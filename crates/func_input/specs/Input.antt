@@ -1,5 +1,6 @@
 -- The functions of an input, and what its bytes come to by a last step over its functions.
 use Rattle.std.specs.Prelude.{◌≡◌, ◌<◌, ◌≤◌, ℕ, List, length, codes, Some, None, Result, Ok, Err}
+use Rattle.rtx_tree.specs.Limit.{most_bytes}
 use Rattle.rtx_tree.specs.declared.place.Place.{Place}
 use Rattle.rtx_tree.specs.declared.function.Function.{Function}
 use Rattle.rtx_tree.specs.declared.limit.Limit.TheVariants as limit
@@ -10,10 +11,6 @@ use Rattle.rtl_read.specs.Syntax.{functions_in}
 use Rattle.run_refusal.specs.declared.refusal.Refusal.{Refusal}
 use Rattle.run_refusal.specs.declared.refusal.Refusal.TheVariants as refusal
 use Rattle.func_input.specs.Refused.{first_refused}
-
--- the most bytes that an input may have
-abbrev pub most_bytes : ℕ
-most_bytes = 16777216
 
 -- the bytes are read as functions
 pub record IsRead (bytes : List ℕ) (functions : List Function) : Type 0 where

@@ -1,4 +1,4 @@
 pub mod Refused
 pub mod Input
-pub mod Steps
 pub mod Outcome
+pub mod machine

@@ -6,7 +6,7 @@ ghost use Rattle.rtl_func.specs.Rules.{faults_of};
 ghost use Rattle.rtx_tree.specs.declared.function.Function.{Function};
 ghost use Rattle.func_input.specs.Refused.{rule_broken, over, limit_passed, refused_behind};
 ghost use Rattle.func_input.specs.Input.{Checks};
-ghost use Rattle.func_input.specs.Steps.{IsOrMemory, Checked};
+ghost use Rattle.func_input.specs.machine.Steps.{IsOrMemory, Checked};
 ghost use Rattle.run_refusal.specs.declared.refusal.Refusal.TheVariants as refused;
 
 use plain_data::Memory;

@@ -5,8 +5,9 @@ ghost use Rattle.lisp_read.specs.declared.tree.Tree.{Tree};
 ghost use Rattle.lisp_read.specs.Reading.{ReadsAs, Trees};
 ghost use Rattle.lisp_read.specs.Parsed.{stands};
 ghost use Rattle.rtl_read.specs.Syntax.{functions_in};
-ghost use Rattle.func_input.specs.Input.{most_bytes, IsRead, IsInput, Given, InputGives, RefusesWith, Reads};
-ghost use Rattle.func_input.specs.Steps.{IsOrMemory, Parses};
+ghost use Rattle.rtx_tree.specs.Limit.{most_bytes};
+ghost use Rattle.func_input.specs.Input.{IsRead, IsInput, Given, InputGives, RefusesWith, Reads};
+ghost use Rattle.func_input.specs.machine.Steps.{IsOrMemory, Parses};
 ghost use Rattle.run_refusal.specs.declared.refusal.Refusal.TheVariants as refused;
 
 use lisp_read::{ReadRefusal, Trees, read_trees};

@@ -2,10 +2,10 @@
 use Rattle.std.proofs.Common.{◌≡◌, ℕ, Bool, true, false, cond, List, [], ◌∷◌, ◌++◌, Option, Some, None, refl, sym, ap, ◌∙◌}
 use Rattle.std.proofs.lemmas.List.{append-nil}
 use Rattle.rtx_tree.specs.declared.place.Place.{Place}
-use Rattle.lisp_read.specs.declared.class.Kind.{Kind}
-use Rattle.lisp_read.specs.declared.class.Kind.TheVariants.{Round, Square}
-use Rattle.lisp_read.specs.declared.class.Class.{Class}
-use Rattle.lisp_read.specs.declared.class.Class.TheVariants as class
+use Rattle.lisp_read.specs.declared.class.Bracket.{Bracket}
+use Rattle.lisp_read.specs.declared.class.Bracket.TheVariants.{Round, Square}
+use Rattle.lisp_read.specs.declared.class.ByteClass.{ByteClass}
+use Rattle.lisp_read.specs.declared.class.ByteClass.TheVariants as class
 use Rattle.lisp_read.specs.declared.mode.Mode.TheVariants as mode
 use Rattle.lisp_read.specs.declared.tree.Tree.{Tree}
 use Rattle.lisp_read.specs.Class.{class_of, open_byte, close_byte, is_blank}
@@ -20,7 +20,7 @@ use Rattle.lisp_read.proofs.Leads.{run_step, Leads-cons, Leads-push, Leads-line,
 use Rattle.lisp_read.proofs.Settles.{st, fr, settled, after, after_part, run_finishes}
 use Rattle.lisp_read.proofs.AcceptsAtom.{then_settled, accept_atom}
 
-begin_blank : (here : Place) (f : Front) (b : ℕ) (c : Class) → is_blank c ≡ true → begin here f b c ≡ at f mode.Between
+begin_blank : (here : Place) (f : Front) (b : ℕ) (c : ByteClass) → is_blank c ≡ true → begin here f b c ≡ at f mode.Between
 begin_blank here f b class.Blank h = refl
 begin_blank here f b class.Newline h = refl
 begin_blank here f b _ h = cc
@@ -34,16 +34,16 @@ regroup : (f : Front) (part : Part) (ps : List Part) (here : Place) (bytes : Lis
     (run here (st (with_part f part) mode.Between) bytes >>= settled) ≡ (still_open f.within ps >>= λ w. Some (fr w (f.parts ++ part ∷ ps)))
 regroup f part ps here bytes h = h ∙ after_part f.within f.parts ps part
 
-pub begin_open : (here : Place) (f : Front) (k : Kind) → next here (st f mode.Between) (open_byte k) ≡ at (opened f k here) mode.Between
+pub begin_open : (here : Place) (f : Front) (k : Bracket) → next here (st f mode.Between) (open_byte k) ≡ at (opened f k here) mode.Between
 begin_open here f Round = refl
 begin_open here f Square = refl
 
-pub begin_close : (here : Place) (k : Kind) (within : List Kind) (parts : List Part) → next here (st (fr within parts) mode.Between) (close_byte k) ≡ closed_in within parts k
+pub begin_close : (here : Place) (k : Bracket) (within : List Bracket) (parts : List Part) → next here (st (fr within parts) mode.Between) (close_byte k) ≡ closed_in within parts k
 begin_close here Round within parts = refl
 begin_close here Square within parts = refl
 
-closing : (here : Place) (k : Kind) (within : List Kind) (parts ps : List Part) (rest : List ℕ) →
-    ((w : List Kind) → Accepts (advance here (close_byte k)) (fr w (parts ++ Close k ∷ [])) ps rest) → Accepts here (fr within parts) (Close k ∷ ps) (close_byte k ∷ rest)
+closing : (here : Place) (k : Bracket) (within : List Bracket) (parts ps : List Part) (rest : List ℕ) →
+    ((w : List Bracket) → Accepts (advance here (close_byte k)) (fr w (parts ++ Close k ∷ [])) ps rest) → Accepts here (fr within parts) (Close k ∷ ps) (close_byte k ∷ rest)
 unfolding run
 closing here k [] parts ps rest ih = ap (λ (o : Option State). (o >>= λ t. run (advance here (close_byte k)) t rest) >>= settled) (begin_close here k [] parts)
 closing here k (j ∷ within) parts ps rest ih =
@@ -104,4 +104,4 @@ accepts _ _ _ f (text.Spells.closes here ps k rest q) =
 pub accepts_text : (trees : List Tree) (bytes : List ℕ) → IsText trees bytes → parts_in bytes ≡ Some (parts_of_all trees)
 accepts_text trees bytes h =
     run_finishes (run start empty bytes) (fr [] (parts_of_all trees))
-    (accepts start (parts_of_all trees) bytes (fr [] []) h.spelled ∙ ap (λ (o : Option (List Kind)). o >>= λ w. Some (fr w (parts_of_all trees))) h.nested) refl
+    (accepts start (parts_of_all trees) bytes (fr [] []) h.spelled ∙ ap (λ (o : Option (List Bracket)). o >>= λ w. Some (fr w (parts_of_all trees))) h.nested) refl

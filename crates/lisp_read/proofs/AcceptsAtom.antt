@@ -1,8 +1,8 @@
 -- What the grammar has is read: atoms.
 use Rattle.std.proofs.Common.{◌≡◌, ℕ, Bool, true, false, List, [], ◌∷◌, ◌++◌, Option, refl, sym, ap, subst, ◌∙◌}
 use Rattle.rtx_tree.specs.declared.place.Place.{Place}
-use Rattle.lisp_read.specs.declared.class.Class.{Class}
-use Rattle.lisp_read.specs.declared.class.Class.TheVariants as class
+use Rattle.lisp_read.specs.declared.class.ByteClass.{ByteClass}
+use Rattle.lisp_read.specs.declared.class.ByteClass.TheVariants as class
 use Rattle.lisp_read.specs.declared.mode.Mode.TheVariants as mode
 use Rattle.lisp_read.specs.Class.{class_of, is_atom_class}
 use Rattle.lisp_read.specs.Places.{advance, place_after}
@@ -14,14 +14,14 @@ use Rattle.lisp_read.proofs.Classes.{is_slash_class, slash_from, not_slash_from,
 use Rattle.lisp_read.proofs.Leads.{Leads, Leads-none, Leads-cons, Leads-atom}
 use Rattle.lisp_read.proofs.Settles.{st, settled}
 
-slash_byte : (here : Place) (f : Front) (b : ℕ) (c : Class) (p : Place) → is_atom_class c ≡ true → (c ≡ class.Star → ⊥) → in_slash here f b c p ≡ at f (mode.Atom p (47 ∷ b ∷ []))
+slash_byte : (here : Place) (f : Front) (b : ℕ) (c : ByteClass) (p : Place) → is_atom_class c ≡ true → (c ≡ class.Star → ⊥) → in_slash here f b c p ≡ at f (mode.Atom p (47 ∷ b ∷ []))
 slash_byte here f b class.Star p h n = absurd (n refl)
 slash_byte here f b class.Slash p h n = refl
 slash_byte here f b class.Backslash p h n = refl
 slash_byte here f b class.Plain p h n = refl
 slash_byte here f b _ p h n = cc
 
-not_slash : (here : Place) (f : Front) (b : ℕ) (c : Class) → is_atom_class c ≡ true → (c ≡ class.Slash → ⊥) → begin here f b c ≡ at f (mode.Atom here (b ∷ []))
+not_slash : (here : Place) (f : Front) (b : ℕ) (c : ByteClass) → is_atom_class c ≡ true → (c ≡ class.Slash → ⊥) → begin here f b c ≡ at f (mode.Atom here (b ∷ []))
 not_slash here f b class.Slash h n = absurd (n refl)
 not_slash here f b class.Star h n = refl
 not_slash here f b class.Backslash h n = refl
@@ -34,7 +34,7 @@ unfolding run
 after_atom here p f t [] h = refl
 after_atom here p f t (b ∷ bs) h = rw h refl
 
-slash_ends : (here : Place) (f : Front) (b : ℕ) (c : Class) (p : Place) → is_atom_class c ≡ false → in_slash here f b c p ≡ begin here (with_part f (Atom p (47 ∷ []))) b c
+slash_ends : (here : Place) (f : Front) (b : ℕ) (c : ByteClass) (p : Place) → is_atom_class c ≡ false → in_slash here f b c p ≡ begin here (with_part f (Atom p (47 ∷ []))) b c
 slash_ends here f b class.Slash p h = cc
 slash_ends here f b class.Star p h = cc
 slash_ends here f b class.Backslash p h = cc

@@ -3,8 +3,8 @@ use Rattle.std.proofs.Common.{◌≡◌, Bool, true, false, cond, List, [], ◌�
 use Rattle.std.proofs.lemmas.List.{append-nil}
 use Rattle.std.proofs.lemmas.List.Concat.{flat_map-append}
 use Rattle.rtx_tree.specs.declared.place.Place.{Place}
-use Rattle.lisp_read.specs.declared.class.Kind.{Kind}
-use Rattle.lisp_read.specs.declared.class.Kind.TheVariants.{Round, Square}
+use Rattle.lisp_read.specs.declared.class.Bracket.{Bracket}
+use Rattle.lisp_read.specs.declared.class.Bracket.TheVariants.{Round, Square}
 use Rattle.lisp_read.specs.declared.stack.Frame.{Frame}
 use Rattle.lisp_read.specs.declared.tree.Tree.{Tree}
 use Rattle.lisp_read.specs.declared.tree.Tree.TheVariants as tree
@@ -14,13 +14,13 @@ use Rattle.lisp_read.specs.machine.Reader.{parts_before}
 use Rattle.lisp_read.proofs.PartLemmas.{parts_of-Atom, parts_of-Str, parts_of-Block, parts_of-List, parts_of-Vector}
 use Rattle.lisp_read.proofs.Decodes.{nested, frame}
 
-abbrev kinds : List Frame → List Kind
+abbrev kinds : List Frame → List Bracket
 kinds fs = map (λ (f : Frame). f.kind) fs
 
 abbrev Built : List Part → Type 0
 Built all = (ts : List Tree) × (parts_of_all ts ≡ all)
 
-parts_of_nested : (k : Kind) (p : Place) (ts : List Tree) → parts_of (nested k p ts) ≡ enclosed k p (parts_of_all ts)
+parts_of_nested : (k : Bracket) (p : Place) (ts : List Tree) → parts_of (nested k p ts) ≡ enclosed k p (parts_of_all ts)
 parts_of_nested Round p ts = parts_of-List p ts
 parts_of_nested Square p ts = parts_of-Vector p ts
 
@@ -34,7 +34,7 @@ leaf before ps its items t e =
     ∙ ap (λ (x : List Part). x ++ ps) (sym (append_assoc before (parts_of_all items) its))
     ∙ append_assoc (before ++ parts_of_all items) its ps
 
-same_kind_is : (j k : Kind) → same_kind j k ≡ true → j ≡ k
+same_kind_is : (j k : Bracket) → same_kind j k ≡ true → j ≡ k
 same_kind_is Round Round h = refl
 same_kind_is Square Square h = refl
 same_kind_is _ _ h = cc
@@ -59,7 +59,7 @@ built (Close k ∷ ps) (f ∷ fs) items h = by_test (same_kind f.kind k) refl h 
     closes e =
         leaf (parts_before fs) ps (enclosed f.kind f.place (parts_of_all items)) f.before (nested f.kind f.place items) (parts_of_nested f.kind f.place items)
         ∙ ap (λ (x : List Part). (parts_before fs ++ parts_of_all f.before) ++ (Open f.kind f.place ∷ x)) (append_assoc (parts_of_all items) (Close f.kind ∷ []) ps)
-        ∙ ap (λ (j : Kind). (parts_before fs ++ parts_of_all f.before) ++ (Open f.kind f.place ∷ (parts_of_all items ++ Close j ∷ ps))) e
+        ∙ ap (λ (j : Bracket). (parts_before fs ++ parts_of_all f.before) ++ (Open f.kind f.place ∷ (parts_of_all items ++ Close j ∷ ps))) e
         ∙ sym (append_assoc (parts_before fs ++ parts_of_all f.before) (Open f.kind f.place ∷ []) (parts_of_all items ++ Close k ∷ ps))
         ∙ sym (append_assoc ((parts_before fs ++ parts_of_all f.before) ++ Open f.kind f.place ∷ []) (parts_of_all items) (Close k ∷ ps))
 

@@ -1,12 +1,12 @@
 -- Which bytes have a class.
 use Rattle.std.proofs.Common.{◌≡◌, ℕ, ◌||◌, eqb, ltb, Bool, true, false, cond, refl}
 use Rattle.std.proofs.lemmas.Bool.{eqb-true}
-use Rattle.lisp_read.specs.declared.class.Class.{Class}
-use Rattle.lisp_read.specs.declared.class.Class.TheVariants as class
+use Rattle.lisp_read.specs.declared.class.ByteClass.{ByteClass}
+use Rattle.lisp_read.specs.declared.class.ByteClass.TheVariants as class
 use Rattle.lisp_read.specs.Class.{class_of, open_byte, close_byte}
 
 -- the one byte of a class that has only one
-abbrev pub IsByteOf : Class → ℕ → Type 0
+abbrev pub IsByteOf : ByteClass → ℕ → Type 0
 IsByteOf class.Zero b = b ≡ 0
 IsByteOf class.Newline b = b ≡ 10
 IsByteOf class.Semicolon b = b ≡ 59
@@ -21,7 +21,7 @@ IsByteOf (class.Close k) b = b ≡ close_byte k
 IsByteOf _ b = Unit {0}
 
 -- a choice by a test of the byte
-chosen : (t : Bool) (x y : Class) (b : ℕ) → (t ≡ true → IsByteOf x b) → IsByteOf y b → IsByteOf (cond t x y) b
+chosen : (t : Bool) (x y : ByteClass) (b : ℕ) → (t ≡ true → IsByteOf x b) → IsByteOf y b → IsByteOf (cond t x y) b
 chosen true x y b h k = h refl
 chosen false x y b h k = k
 
@@ -44,15 +44,15 @@ byte_of_class b =
     (chosen (ltb b 33) _ _ b (λ _. tt)
     (chosen (ltb b 127) _ _ b (λ _. tt) tt)))))))))))))))
 
-abbrev pub is_slash_class : Class → Bool
+abbrev pub is_slash_class : ByteClass → Bool
 is_slash_class class.Slash = true
 is_slash_class _ = false
 
-pub slash_from : (c : Class) → is_slash_class c ≡ true → c ≡ class.Slash
+pub slash_from : (c : ByteClass) → is_slash_class c ≡ true → c ≡ class.Slash
 slash_from class.Slash h = refl
 slash_from _ h = cc
 
-pub not_slash_from : (c : Class) → is_slash_class c ≡ false → c ≡ class.Slash → ⊥
+pub not_slash_from : (c : ByteClass) → is_slash_class c ≡ false → c ≡ class.Slash → ⊥
 not_slash_from class.Slash h e = cc
 not_slash_from _ h e = cc
 

@@ -3,8 +3,8 @@ use Rattle.std.proofs.Common.{◌≡◌, ℕ, zero, suc, ◌<◌, List, [], ◌�
 use Rattle.std.specs.List.{All}
 use Rattle.std.proofs.lemmas.List.Elements.{All-nil, All-cons, All-append}
 use Rattle.rtx_tree.specs.declared.place.Place.{Place}
-use Rattle.lisp_read.specs.declared.class.Kind.{Kind}
-use Rattle.lisp_read.specs.declared.class.Kind.TheVariants.{Round, Square}
+use Rattle.lisp_read.specs.declared.class.Bracket.{Bracket}
+use Rattle.lisp_read.specs.declared.class.Bracket.TheVariants.{Round, Square}
 use Rattle.lisp_read.specs.declared.mode.Mode.{Mode}
 use Rattle.lisp_read.specs.declared.mode.Mode.TheVariants as mode
 use Rattle.lisp_read.specs.declared.tree.Tree.{Tree}
@@ -39,15 +39,15 @@ record Ends (here : Place) (s : State) : Type 0 where
   all : List Part
   ends : (run here s more >>= finish) ≡ Some all
 
-closes_own : (here : Place) (k : Kind) (within : List Kind) (parts : List Part) → next here (st (fr (k ∷ within) parts) mode.Between) (close_byte k) ≡ at (fr within (parts ++ Close k ∷ [])) mode.Between
+closes_own : (here : Place) (k : Bracket) (within : List Bracket) (parts : List Part) → next here (st (fr (k ∷ within) parts) mode.Between) (close_byte k) ≡ at (fr within (parts ++ Close k ∷ [])) mode.Between
 closes_own here Round within parts = refl
 closes_own here Square within parts = refl
 
-close_byte_is : (k : Kind) → close_byte k < 256
+close_byte_is : (k : Bracket) → close_byte k < 256
 close_byte_is Round = lit< tt
 close_byte_is Square = lit< tt
 
-close_up : (here : Place) (within : List Kind) (parts : List Part) → Ends here (st (fr within parts) mode.Between)
+close_up : (here : Place) (within : List Bracket) (parts : List Part) → Ends here (st (fr within parts) mode.Between)
 unfolding run
 close_up here [] parts = record { more = []; are_bytes = no_bytes; all = parts; ends = refl }
 close_up here (k ∷ within) parts =

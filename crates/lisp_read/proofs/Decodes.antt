@@ -3,8 +3,8 @@ use Rattle.std.proofs.Common.{◌≡◌, List, [], ◌∷◌, ◌++◌, Option, 
 use Rattle.std.specs.List.{AllByRecursion}
 use Rattle.std.proofs.lemmas.List.{append-nil}
 use Rattle.rtx_tree.specs.declared.place.Place.{Place}
-use Rattle.lisp_read.specs.declared.class.Kind.{Kind}
-use Rattle.lisp_read.specs.declared.class.Kind.TheVariants.{Round, Square}
+use Rattle.lisp_read.specs.declared.class.Bracket.{Bracket}
+use Rattle.lisp_read.specs.declared.class.Bracket.TheVariants.{Round, Square}
 use Rattle.lisp_read.specs.declared.stack.Frame.{Frame}
 use Rattle.lisp_read.specs.declared.tree.Tree.{Tree}
 use Rattle.lisp_read.specs.declared.tree.Tree.TheVariants as tree
@@ -13,11 +13,11 @@ use Rattle.lisp_read.proofs.PartLemmas.{parts_of-Atom, parts_of-Str, parts_of-Bl
 use Rattle.lisp_read.proofs.Settles.{some_is}
 use Rattle.lisp_read.proofs.TreeInduction.{Steps, each}
 
-abbrev pub nested : Kind → Place → List Tree → Tree
+abbrev pub nested : Bracket → Place → List Tree → Tree
 nested Round p items = tree.List p items
 nested Square p items = tree.Vector p items
 
-abbrev pub frame : Kind → Place → List Tree → Frame
+abbrev pub frame : Bracket → Place → List Tree → Frame
 frame k p items = record { kind = k; place = p; before = items }
 
 -- the trees of the parts, where these lists and vectors are open and these trees stand in the innermost
@@ -42,7 +42,7 @@ decode_all (t ∷ ts) h ps fs items =
     ∙ decode_all ts h.1 ps fs (items ++ t ∷ [])
     ∙ ap (decode ps fs) (append_assoc items (t ∷ []) ts)
 
-decode_enclosed : (k : Kind) (p : Place) (ts : List Tree) → parts_of (nested k p ts) ≡ enclosed k p (parts_of_all ts) → AllByRecursion Decodes ts → Decodes (nested k p ts)
+decode_enclosed : (k : Bracket) (p : Place) (ts : List Tree) → parts_of (nested k p ts) ≡ enclosed k p (parts_of_all ts) → AllByRecursion Decodes ts → Decodes (nested k p ts)
 unfolding decode
 decode_enclosed k p ts e h ps fs items =
     ap (λ (x : List Part). decode (x ++ ps) fs items) e

@@ -2,7 +2,7 @@
 use Rattle.std.proofs.Common.{◌≡◌, ℕ, ◌+◌, ◌<◌, ◌≤◌, List, [], ◌∷◌, ◌++◌, length, take, get_or, Option, Some, None, sym, ap, subst, ◌∙◌, ◌⊎◌, inl, inr, arith}
 use Rattle.std.proofs.lemmas.Bool.{cases_lt}
 use Rattle.rtx_tree.specs.declared.place.Place.{Place}
-use Rattle.lisp_read.specs.declared.class.Kind.{Kind}
+use Rattle.lisp_read.specs.declared.class.Bracket.{Bracket}
 use Rattle.lisp_read.specs.Class.{class_of}
 use Rattle.lisp_read.specs.Places.{start, place_after}
 use Rattle.lisp_read.specs.Part.{Part, Open}
@@ -30,14 +30,14 @@ deep_is_reached : (bytes : List ℕ) (k : ℕ) → IsTooDeepAt bytes k → Deep 
 deep_is_reached bytes k h = record {
   state = s.0;
   reached = s.1;
-  deep = subst (λ (w : List Kind). most_open < length w) (sym (settled_within s.0 (fr h.within parts) s.2)) h.deep;
+  deep = subst (λ (w : List Bracket). most_open < length w) (sym (settled_within s.0 (fr h.within parts) s.2)) h.deep;
 }
   where
     parts : List Part
     parts = h.before ++ Open h.kind (place_after start (take k bytes)) ∷ []
 
     ran : (run start empty (take (k + 1) bytes) >>= settled) ≡ Some (fr h.within parts)
-    ran = accepts start parts (take (k + 1) bytes) (fr [] []) h.spelled ∙ ap (λ (o : Option (List Kind)). o >>= λ w. Some (fr w parts)) h.are_open
+    ran = accepts start parts (take (k + 1) bytes) (fr [] []) h.spelled ∙ ap (λ (o : Option (List Bracket)). o >>= λ w. Some (fr w parts)) h.are_open
 
     s : (s : State) × (run start empty (take (k + 1) bytes) ≡ Some s) × (settled s ≡ Some (fr h.within parts))
     s = run_settled (run start empty (take (k + 1) bytes)) (fr h.within parts) ran

@@ -2,8 +2,8 @@
 use Rattle.std.proofs.Common.{◌≡◌, ℕ, suc, true, List, [], ◌∷◌, ◌++◌, Some, refl, sym, ap, ◌∙◌, append_assoc, add-one}
 use Rattle.std.proofs.lemmas.List.{append-nil}
 use Rattle.rtx_tree.specs.declared.place.Place.{Place}
-use Rattle.lisp_read.specs.declared.class.Class.{Class}
-use Rattle.lisp_read.specs.declared.class.Class.TheVariants as class
+use Rattle.lisp_read.specs.declared.class.ByteClass.{ByteClass}
+use Rattle.lisp_read.specs.declared.class.ByteClass.TheVariants as class
 use Rattle.lisp_read.specs.declared.mode.Mode.{Mode}
 use Rattle.lisp_read.specs.declared.mode.Mode.TheVariants as mode
 use Rattle.lisp_read.specs.Class.{class_of, is_atom_class, not_zero, in_line_comment, in_quotes, in_braces}
@@ -39,29 +39,29 @@ Leads-push here s t u a b p e = Leads-append here s t u a (b ∷ []) p (Leads-co
 
 -- ---- one byte, by its class
 
-line_byte : (f : Front) (c : Class) → in_line_comment c ≡ true → in_line f c ≡ at f mode.Line
+line_byte : (f : Front) (c : ByteClass) → in_line_comment c ≡ true → in_line f c ≡ at f mode.Line
 line_byte f class.Zero h = cc
 line_byte f class.Newline h = cc
 line_byte f _ h = refl
 
-string_byte : (f : Front) (b : ℕ) (c : Class) (p : Place) (t : List ℕ) → in_quotes c ≡ true → in_string f b c p t ≡ at f (mode.Str p (t ++ b ∷ []))
+string_byte : (f : Front) (b : ℕ) (c : ByteClass) (p : Place) (t : List ℕ) → in_quotes c ≡ true → in_string f b c p t ≡ at f (mode.Str p (t ++ b ∷ []))
 string_byte f b class.Zero p t h = cc
 string_byte f b class.Quote p t h = cc
 string_byte f b class.Backslash p t h = cc
 string_byte f b _ p t h = refl
 
-string_escaped : (f : Front) (b : ℕ) (c : Class) (p : Place) (t : List ℕ) → not_zero c ≡ true → in_string_escape f b c p t ≡ at f (mode.Str p (t ++ b ∷ []))
+string_escaped : (f : Front) (b : ℕ) (c : ByteClass) (p : Place) (t : List ℕ) → not_zero c ≡ true → in_string_escape f b c p t ≡ at f (mode.Str p (t ++ b ∷ []))
 string_escaped f b class.Zero p t h = cc
 string_escaped f b _ p t h = refl
 
-block_byte : (f : Front) (b : ℕ) (c : Class) (p : Place) (d : ℕ) (t : List ℕ) → in_braces c ≡ true → in_block f b c p d t ≡ at f (mode.Block p d (t ++ b ∷ []))
+block_byte : (f : Front) (b : ℕ) (c : ByteClass) (p : Place) (d : ℕ) (t : List ℕ) → in_braces c ≡ true → in_block f b c p d t ≡ at f (mode.Block p d (t ++ b ∷ []))
 block_byte f b class.Zero p d t h = cc
 block_byte f b class.OpenBrace p d t h = cc
 block_byte f b class.CloseBrace p d t h = cc
 block_byte f b class.Backslash p d t h = cc
 block_byte f b _ p d t h = refl
 
-block_escaped : (f : Front) (b : ℕ) (c : Class) (p : Place) (d : ℕ) (t : List ℕ) → not_zero c ≡ true → in_block_escape f b c p d t ≡ at f (mode.Block p d (t ++ b ∷ []))
+block_escaped : (f : Front) (b : ℕ) (c : ByteClass) (p : Place) (d : ℕ) (t : List ℕ) → not_zero c ≡ true → in_block_escape f b c p d t ≡ at f (mode.Block p d (t ++ b ∷ []))
 block_escaped f b class.Zero p d t h = cc
 block_escaped f b _ p d t h = refl
 
@@ -107,22 +107,22 @@ Leads-braced here f p _ t u _ (text.IsBraced.closes d b bs h q) e =
 
 -- ---- comments
 
-comment_byte : (f : Front) (c : Class) → not_zero c ≡ true → (c ≡ class.Star → ⊥) → in_comment f c ≡ at f mode.Comment
+comment_byte : (f : Front) (c : ByteClass) → not_zero c ≡ true → (c ≡ class.Star → ⊥) → in_comment f c ≡ at f mode.Comment
 comment_byte f class.Zero h n = cc
 comment_byte f class.Star h n = absurd (n refl)
 comment_byte f _ h n = refl
 
 -- the mode behind a byte of a comment
-abbrev pub behind : Class → Mode
+abbrev pub behind : ByteClass → Mode
 behind class.Star = mode.CommentStar
 behind _ = mode.Comment
 
-in_comment_is : (f : Front) (c : Class) → not_zero c ≡ true → in_comment f c ≡ at f (behind c)
+in_comment_is : (f : Front) (c : ByteClass) → not_zero c ≡ true → in_comment f c ≡ at f (behind c)
 in_comment_is f class.Zero h = cc
 in_comment_is f class.Star h = refl
 in_comment_is f _ h = refl
 
-in_comment_star_is : (f : Front) (c : Class) → not_zero c ≡ true → (c ≡ class.Slash → ⊥) → in_comment_star f c ≡ at f (behind c)
+in_comment_star_is : (f : Front) (c : ByteClass) → not_zero c ≡ true → (c ≡ class.Slash → ⊥) → in_comment_star f c ≡ at f (behind c)
 in_comment_star_is f class.Zero h n = cc
 in_comment_star_is f class.Slash h n = absurd (n refl)
 in_comment_star_is f class.Star h n = refl
@@ -134,15 +134,15 @@ closing_star here f m e =
     Leads-cons here (st f m) (st f mode.CommentStar) (st f mode.Between) 42 (47 ∷ []) e
     (Leads-cons (advance here 42) (st f mode.CommentStar) (st f mode.Between) (st f mode.Between) 47 [] refl (Leads-none _ _ _ refl))
 
-behind_star : (here : Place) (f : Front) (c : Class) → next here (st f (behind c)) 42 ≡ at f mode.CommentStar
+behind_star : (here : Place) (f : Front) (c : ByteClass) → next here (st f (behind c)) 42 ≡ at f mode.CommentStar
 behind_star here f class.Star = refl
 behind_star here f _ = refl
 
-behind_next : (here : Place) (f : Front) (c : Class) (b : ℕ) (bs : List ℕ) → NotClosing c (b ∷ bs) → not_zero (class_of b) ≡ true → next here (st f (behind c)) b ≡ at f (behind (class_of b))
+behind_next : (here : Place) (f : Front) (c : ByteClass) (b : ℕ) (bs : List ℕ) → NotClosing c (b ∷ bs) → not_zero (class_of b) ≡ true → next here (st f (behind c)) b ≡ at f (behind (class_of b))
 behind_next here f class.Star b bs n z = in_comment_star_is f (class_of b) z n
 behind_next here f _ b bs n z = in_comment_is f (class_of b) z
 
-pub Leads-comment : (here : Place) (f : Front) (c : Class) (body : List ℕ) → NotClosing c body → IsCommentBody body → Leads here (st f (behind c)) (body ++ 42 ∷ 47 ∷ []) (st f mode.Between)
+pub Leads-comment : (here : Place) (f : Front) (c : ByteClass) (body : List ℕ) → NotClosing c body → IsCommentBody body → Leads here (st f (behind c)) (body ++ 42 ∷ 47 ∷ []) (st f mode.Between)
 Leads-comment here f c [] n h = closing_star here f (behind c) (behind_star here f c)
 Leads-comment here f c (b ∷ bs) n h =
     Leads-cons here (st f (behind c)) (st f (behind (class_of b))) (st f mode.Between) b (bs ++ 42 ∷ 47 ∷ []) (behind_next here f c b bs n h.0)
@@ -150,7 +150,7 @@ Leads-comment here f c (b ∷ bs) n h =
 
 -- ---- atoms
 
-atom_byte : (here : Place) (f : Front) (b : ℕ) (c : Class) (p : Place) (t : List ℕ) → is_atom_class c ≡ true → in_atom here f b c p t ≡ at f (mode.Atom p (t ++ b ∷ []))
+atom_byte : (here : Place) (f : Front) (b : ℕ) (c : ByteClass) (p : Place) (t : List ℕ) → is_atom_class c ≡ true → in_atom here f b c p t ≡ at f (mode.Atom p (t ++ b ∷ []))
 atom_byte here f b c p t h = rw h refl
 
 same_atom : (f : Front) (p : Place) (t u : List ℕ) → t ++ [] ≡ u → st f (mode.Atom p t) ≡ st f (mode.Atom p u)

@@ -2,7 +2,7 @@
 use Rattle.std.proofs.Common.{◌≡◌, ℕ, List, [], ◌∷◌, sym, ap, ◌∙◌}
 use Rattle.std.proofs.lemmas.List.Folds.{flat_map-map}
 use Rattle.rtx_tree.specs.declared.place.Place.{Place}
-use Rattle.lisp_read.specs.declared.class.Kind.TheVariants.{Round, Square}
+use Rattle.lisp_read.specs.declared.class.Bracket.TheVariants.{Round, Square}
 use Rattle.lisp_read.specs.declared.tree.Tree.{Tree}
 use Rattle.lisp_read.specs.declared.tree.Tree.TheFolds.{fold-roll-Tree}
 use Rattle.lisp_read.specs.declared.tree.Tree.TheOpen.{Tree-F}

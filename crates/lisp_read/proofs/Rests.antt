@@ -2,8 +2,8 @@
 use Rattle.std.proofs.Common.{◌≡◌, ℕ, true, List, [], ◌∷◌, ◌++◌, Option, Some, refl, sym, ap, ◌∙◌, append_assoc}
 use Rattle.std.proofs.lemmas.List.{append-nil}
 use Rattle.rtx_tree.specs.declared.place.Place.{Place}
-use Rattle.lisp_read.specs.declared.class.Kind.{Kind}
-use Rattle.lisp_read.specs.declared.class.Class.TheVariants as class
+use Rattle.lisp_read.specs.declared.class.Bracket.{Bracket}
+use Rattle.lisp_read.specs.declared.class.ByteClass.TheVariants as class
 use Rattle.lisp_read.specs.declared.mode.Mode.{Mode}
 use Rattle.lisp_read.specs.declared.mode.Mode.TheVariants as mode
 use Rattle.lisp_read.specs.Class.{class_of, is_atom_class, not_zero, in_line_comment}
@@ -105,7 +105,7 @@ pub lift : (R S : Place → List Part → List ℕ → Type 0) (here : Place) (b
 lift R S here b bs f g more s = record { ps = s.ps; whole = s.whole; nested = s.nested; spelled = more s.ps s.spelled }
 
 -- a byte that ends a part
-pub lift_part : (R S : Place → List Part → List ℕ → Type 0) (here : Place) (b : ℕ) (bs : List ℕ) (f g : Front) (within : List Kind) (part : Part) →
+pub lift_part : (R S : Place → List Part → List ℕ → Type 0) (here : Place) (b : ℕ) (bs : List ℕ) (f g : Front) (within : List Bracket) (part : Part) →
     ((ps : List Part) → R (advance here b) ps bs → S here (part ∷ ps) (b ∷ bs)) → ((ps : List Part) → still_open f.within (part ∷ ps) ≡ still_open within ps) →
     Sounds R (advance here b) (fr within (f.parts ++ part ∷ [])) g bs → Sounds S here f g (b ∷ bs)
 lift_part R S here b bs f g within part more kept s =

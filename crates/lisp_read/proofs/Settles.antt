@@ -1,6 +1,6 @@
 -- What a state leaves where the bytes end: its front, with the atom in which they end.
 use Rattle.std.proofs.Common.{◌≡◌, List, [], ◌∷◌, ◌++◌, Option, Some, None, refl, ap, ◌∙◌, append_assoc}
-use Rattle.lisp_read.specs.declared.class.Kind.{Kind}
+use Rattle.lisp_read.specs.declared.class.Bracket.{Bracket}
 use Rattle.lisp_read.specs.declared.mode.Mode.{Mode}
 use Rattle.lisp_read.specs.Part.{Part}
 use Rattle.lisp_read.specs.Nesting.{still_open}
@@ -10,7 +10,7 @@ use Rattle.lisp_read.specs.machine.Runs.{◌>>=◌, ended, ended_in, finish}
 abbrev pub st : Front → Mode → State
 st f m = record { front = f; mode = m }
 
-abbrev pub fr : List Kind → List Part → Front
+abbrev pub fr : List Bracket → List Part → Front
 fr within parts = record { within = within; parts = parts }
 
 abbrev pub settled : State → Option Front
@@ -21,7 +21,7 @@ abbrev pub after : Front → List Part → Option Front
 after f ps = still_open f.within ps >>= λ w. Some (fr w (f.parts ++ ps))
 
 -- one part more
-pub after_part : (within : List Kind) (parts ps : List Part) (part : Part) → after (fr within (parts ++ part ∷ [])) ps ≡ (still_open within ps >>= λ w. Some (fr w (parts ++ part ∷ ps)))
+pub after_part : (within : List Bracket) (parts ps : List Part) (part : Part) → after (fr within (parts ++ part ∷ [])) ps ≡ (still_open within ps >>= λ w. Some (fr w (parts ++ part ∷ ps)))
 after_part within parts ps part = ap (λ (x : List Part). still_open within ps >>= λ w. Some (fr w x)) (append_assoc parts (part ∷ []) ps)
 
 pub some_is : {A : Type 0} (x y : A) → Some x ≡ Some y → x ≡ y
@@ -32,11 +32,11 @@ some_is x y e = cc
 pub settled_of_finish : (s : State) (all : List Part) → finish s ≡ Some all → settled s ≡ Some (fr [] all)
 settled_of_finish s all h = by_open s.front.within s.front.parts s.mode h
   where
-    by_open : (within : List Kind) (parts : List Part) (m : Mode) → ended_in within parts m ≡ Some all → settled (st (fr within parts) m) ≡ Some (fr [] all)
+    by_open : (within : List Bracket) (parts : List Part) (m : Mode) → ended_in within parts m ≡ Some all → settled (st (fr within parts) m) ≡ Some (fr [] all)
     by_open [] parts m h = rw h refl
     by_open (k ∷ within) parts m h = cc
 
-made : (within : List Kind) (g : Front) (o : Option (List Part)) → (o >>= λ ps. Some (fr within ps)) ≡ Some g → (o ≡ Some g.parts) × (within ≡ g.within)
+made : (within : List Bracket) (g : Front) (o : Option (List Part)) → (o >>= λ ps. Some (fr within ps)) ≡ Some g → (o ≡ Some g.parts) × (within ≡ g.within)
 made within g None h = cc
 made within g (Some ps) h = (ap (λ (f : Front). Some f.parts) (some_is (fr within ps) g h), ap (λ (f : Front). f.within) (some_is (fr within ps) g h))
 
@@ -45,7 +45,7 @@ finish_of_settled s g h n =
     let m = made s.front.within g (ended s.front.parts s.mode) h in
     by_open s.front.within (m.1 ∙ n) m.0
   where
-    by_open : (within : List Kind) → within ≡ [] → ended s.front.parts s.mode ≡ Some g.parts → ended_in within s.front.parts s.mode ≡ Some g.parts
+    by_open : (within : List Bracket) → within ≡ [] → ended s.front.parts s.mode ≡ Some g.parts → ended_in within s.front.parts s.mode ≡ Some g.parts
     by_open [] e h = h
     by_open (k ∷ within) e h = cc
 

@@ -2,8 +2,8 @@
 use Rattle.std.proofs.Common.{◌≡◌, ℕ, Bool, true, false, cond, List, [], ◌∷◌, ◌++◌, refl, sym, ap, subst, ◌∙◌, append_assoc}
 use Rattle.std.proofs.lemmas.List.{append-nil}
 use Rattle.rtx_tree.specs.declared.place.Place.{Place}
-use Rattle.lisp_read.specs.declared.class.Class.{Class}
-use Rattle.lisp_read.specs.declared.class.Class.TheVariants as class
+use Rattle.lisp_read.specs.declared.class.ByteClass.{ByteClass}
+use Rattle.lisp_read.specs.declared.class.ByteClass.TheVariants as class
 use Rattle.lisp_read.specs.declared.mode.Mode.TheVariants as mode
 use Rattle.lisp_read.specs.Class.{class_of, is_atom_class}
 use Rattle.lisp_read.specs.Places.{advance}
@@ -27,7 +27,7 @@ atom_more here b p t ps bs h a = record {
 }
 
 module _ (here : Place) (b : ℕ) (bs : List ℕ) (ih : AllSound bs) (f g : Front) where
-  pub sound_atom : (p : Place) (t : List ℕ) (c : Class) → class_of b ≡ c → Outcome here b bs (in_atom here f b c p t) g → Sounds (AtomParts p t) here f g (b ∷ bs)
+  pub sound_atom : (p : Place) (t : List ℕ) (c : ByteClass) → class_of b ≡ c → Outcome here b bs (in_atom here f b c p t) g → Sounds (AtomParts p t) here f g (b ∷ bs)
   sound_atom p t c e h = by_test (is_atom_class c) refl h
     where
       by_test : (q : Bool) → is_atom_class c ≡ q → Outcome here b bs (cond q (at f (mode.Atom p (t ++ b ∷ []))) (begin here (with_part f (Atom p t)) b c)) g → Sounds (AtomParts p t) here f g (b ∷ bs)
@@ -64,7 +64,7 @@ module _ (here : Place) (b : ℕ) (bs : List ℕ) (ih : AllSound bs) (f g : Fron
   slash_from_atom : (p : Place) → (class_of b ≡ class.Star → ⊥) → Sounds (AtomParts p (47 ∷ [])) here f g (b ∷ bs) → Sounds (SlashRest p) here f g (b ∷ bs)
   slash_from_atom p n s = record { ps = s.ps; whole = s.whole; nested = s.nested; spelled = SlashRest.atom p here s.ps (b ∷ bs) s.spelled (no_star s.spelled.body s.spelled.rest n s.spelled.cut) }
 
-  pub sound_slash : (p : Place) (c : Class) → class_of b ≡ c → Outcome here b bs (in_slash here f b c p) g → Sounds (SlashRest p) here f g (b ∷ bs)
+  pub sound_slash : (p : Place) (c : ByteClass) → class_of b ≡ c → Outcome here b bs (in_slash here f b c p) g → Sounds (SlashRest p) here f g (b ∷ bs)
   sound_slash p class.Star e h =
       let byte : b ≡ 42 = rw e at (byte_of_class b) in
       lift CommentRest (SlashRest p) here b bs f g (λ ps q. star_begins p ps byte q) (ih mode.Comment (advance here b) f g h)

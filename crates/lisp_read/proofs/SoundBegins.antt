@@ -1,9 +1,9 @@
 -- What is read where a tree may begin is in the grammar. In each lemma ih is what is known of the bytes behind the first.
 use Rattle.std.proofs.Common.{◌≡◌, ℕ, Bool, true, false, cond, List, [], ◌∷◌, ◌++◌, None, refl, sym, ap, subst, ◌∙◌}
 use Rattle.rtx_tree.specs.declared.place.Place.{Place}
-use Rattle.lisp_read.specs.declared.class.Kind.{Kind}
-use Rattle.lisp_read.specs.declared.class.Class.{Class}
-use Rattle.lisp_read.specs.declared.class.Class.TheVariants as class
+use Rattle.lisp_read.specs.declared.class.Bracket.{Bracket}
+use Rattle.lisp_read.specs.declared.class.ByteClass.{ByteClass}
+use Rattle.lisp_read.specs.declared.class.ByteClass.TheVariants as class
 use Rattle.lisp_read.specs.declared.mode.Mode.TheVariants as mode
 use Rattle.lisp_read.specs.Class.{class_of, open_byte, close_byte, is_atom_class, is_blank}
 use Rattle.lisp_read.specs.Places.{advance}
@@ -58,18 +58,18 @@ brace_begins here b ps bs e q = subst (λ (x : ℕ). BlockParts here 0 [] (advan
         (subst (λ (x : List ℕ). Spells here (Block here a.body ∷ a.others) (123 ∷ x)) (sym a.cut)
         (text.Spells.block here a.others a.body a.rest a.braced a.spelled))
 
-open_begins : (here : Place) (b : ℕ) (k : Kind) (ps : List Part) (bs : List ℕ) → b ≡ open_byte k → Spells (advance here b) ps bs → Spells here (Open k here ∷ ps) (b ∷ bs)
+open_begins : (here : Place) (b : ℕ) (k : Bracket) (ps : List Part) (bs : List ℕ) → b ≡ open_byte k → Spells (advance here b) ps bs → Spells here (Open k here ∷ ps) (b ∷ bs)
 open_begins here b k ps bs e q = subst (λ (x : ℕ). Spells (advance here x) ps bs → Spells here (Open k here ∷ ps) (x ∷ bs)) (sym e) (λ s. text.Spells.opens here ps k bs s) q
 
-close_begins : (here : Place) (b : ℕ) (k : Kind) (ps : List Part) (bs : List ℕ) → b ≡ close_byte k → Spells (advance here b) ps bs → Spells here (Close k ∷ ps) (b ∷ bs)
+close_begins : (here : Place) (b : ℕ) (k : Bracket) (ps : List Part) (bs : List ℕ) → b ≡ close_byte k → Spells (advance here b) ps bs → Spells here (Close k ∷ ps) (b ∷ bs)
 close_begins here b k ps bs e q = subst (λ (x : ℕ). Spells (advance here x) ps bs → Spells here (Close k ∷ ps) (x ∷ bs)) (sym e) (λ s. text.Spells.closes here ps k bs s) q
 
 -- what a byte that closes leaves open
-closed_is : (j k : Kind) (within : List Kind) (ps : List Part) → same_kind j k ≡ true → still_open (j ∷ within) (Close k ∷ ps) ≡ still_open within ps
+closed_is : (j k : Bracket) (within : List Bracket) (ps : List Part) → same_kind j k ≡ true → still_open (j ∷ within) (Close k ∷ ps) ≡ still_open within ps
 closed_is j k within ps h = rw h refl
 
 module _ (here : Place) (b : ℕ) (bs : List ℕ) (ih : AllSound bs) (g : Front) where
-  sound_close : (within : List Kind) (parts : List Part) (k : Kind) → b ≡ close_byte k → Outcome here b bs (closed_in within parts k) g → Sounds Spells here (fr within parts) g (b ∷ bs)
+  sound_close : (within : List Bracket) (parts : List Part) (k : Bracket) → b ≡ close_byte k → Outcome here b bs (closed_in within parts k) g → Sounds Spells here (fr within parts) g (b ∷ bs)
   sound_close [] parts k e h = cc
   sound_close (j ∷ within) parts k e h = by_test (same_kind j k) refl h
     where
@@ -79,7 +79,7 @@ module _ (here : Place) (b : ℕ) (bs : List ℕ) (ih : AllSound bs) (g : Front)
           (ih mode.Between (advance here b) (fr within (parts ++ Close k ∷ [])) g h)
       by_test false same h = cc
 
-  pub sound_begin : (f : Front) (c : Class) → class_of b ≡ c → Outcome here b bs (begin here f b c) g → Sounds Spells here f g (b ∷ bs)
+  pub sound_begin : (f : Front) (c : ByteClass) → class_of b ≡ c → Outcome here b bs (begin here f b c) g → Sounds Spells here f g (b ∷ bs)
   sound_begin f class.Zero e h = cc
   sound_begin f class.CloseBrace e h = cc
   sound_begin f class.Other e h = cc

@@ -1,8 +1,8 @@
 -- What is read of comments is in the grammar. In each lemma ih is what is known of the bytes behind the first.
 use Rattle.std.proofs.Common.{◌≡◌, ℕ, true, List, [], ◌∷◌, ◌++◌, refl, sym, ap, subst, ◌∙◌}
 use Rattle.rtx_tree.specs.declared.place.Place.{Place}
-use Rattle.lisp_read.specs.declared.class.Class.{Class}
-use Rattle.lisp_read.specs.declared.class.Class.TheVariants as class
+use Rattle.lisp_read.specs.declared.class.ByteClass.{ByteClass}
+use Rattle.lisp_read.specs.declared.class.ByteClass.TheVariants as class
 use Rattle.lisp_read.specs.declared.mode.Mode.TheVariants as mode
 use Rattle.lisp_read.specs.Class.{class_of, not_zero, in_line_comment}
 use Rattle.lisp_read.specs.Places.{advance}
@@ -20,7 +20,7 @@ newline_ends : (here : Place) (b : ℕ) (ps : List Part) (bs : List ℕ) → b �
 newline_ends here b ps bs e q = subst (λ (x : ℕ). Spells (advance here x) ps bs → LineRest here ps (x ∷ bs)) (sym e) (λ r. LineRest.closed_line here ps [] bs tt r) q
 
 module _ (here : Place) (b : ℕ) (bs : List ℕ) (ih : AllSound bs) (f g : Front) where
-  pub sound_line : (c : Class) → class_of b ≡ c → Outcome here b bs (in_line f c) g → Sounds LineRest here f g (b ∷ bs)
+  pub sound_line : (c : ByteClass) → class_of b ≡ c → Outcome here b bs (in_line f c) g → Sounds LineRest here f g (b ∷ bs)
   sound_line class.Zero e h = cc
   sound_line class.Newline e h =
       let byte : b ≡ 10 = rw e at (byte_of_class b) in
@@ -31,10 +31,10 @@ module _ (here : Place) (b : ℕ) (bs : List ℕ) (ih : AllSound bs) (f g : Fron
 comment_more : (here : Place) (b : ℕ) (ps : List Part) (bs : List ℕ) → not_zero (class_of b) ≡ true → ((rest : List ℕ) → NotClosing (class_of b) rest) → CommentRest (advance here b) ps bs → CommentRest here ps (b ∷ bs)
 comment_more here b ps _ h n (CommentRest.body_then _ _ body rest q s) = CommentRest.body_then here ps (b ∷ body) rest (h, n body, q) s
 
-plain_goes_on : (b : ℕ) (c : Class) → class_of b ≡ c → ((rest : List ℕ) → NotClosing c rest) → (rest : List ℕ) → NotClosing (class_of b) rest
-plain_goes_on b c e n rest = subst (λ (x : Class). NotClosing x rest) (sym e) (n rest)
+plain_goes_on : (b : ℕ) (c : ByteClass) → class_of b ≡ c → ((rest : List ℕ) → NotClosing c rest) → (rest : List ℕ) → NotClosing (class_of b) rest
+plain_goes_on b c e n rest = subst (λ (x : ByteClass). NotClosing x rest) (sym e) (n rest)
 
-not_closing : (c : Class) (body : List ℕ) → NotSlash body → NotClosing c body
+not_closing : (c : ByteClass) (body : List ℕ) → NotSlash body → NotClosing c body
 not_closing class.Star [] n = tt
 not_closing class.Star (b ∷ bs) n = n
 not_closing _ body n = tt
@@ -64,7 +64,7 @@ star_from_comment here b ps bs n q = of_text ps (b ∷ bs) q (λ c cs e. subst (
     of_text ps _ (CommentRest.body_then _ _ body rest q s) n = StarRest.goes_on here ps body rest q (not_slash body rest n) s
 
 module _ (here : Place) (b : ℕ) (bs : List ℕ) (ih : AllSound bs) (f g : Front) where
-  pub sound_comment : (c : Class) → class_of b ≡ c → Outcome here b bs (in_comment f c) g → Sounds CommentRest here f g (b ∷ bs)
+  pub sound_comment : (c : ByteClass) → class_of b ≡ c → Outcome here b bs (in_comment f c) g → Sounds CommentRest here f g (b ∷ bs)
   sound_comment class.Zero e h = cc
   sound_comment class.Star e h =
       let byte : b ≡ 42 = rw e at (byte_of_class b) in
@@ -72,7 +72,7 @@ module _ (here : Place) (b : ℕ) (bs : List ℕ) (ih : AllSound bs) (f g : Fron
   sound_comment c e h =
       lift CommentRest CommentRest here b bs f g (λ ps q. comment_more here b ps bs (ap not_zero e) (plain_goes_on b c e (λ rest. tt)) q) (ih mode.Comment (advance here b) f g h)
 
-  pub sound_star : (c : Class) → class_of b ≡ c → Outcome here b bs (in_comment_star f c) g → Sounds StarRest here f g (b ∷ bs)
+  pub sound_star : (c : ByteClass) → class_of b ≡ c → Outcome here b bs (in_comment_star f c) g → Sounds StarRest here f g (b ∷ bs)
   sound_star class.Zero e h = cc
   sound_star class.Star e h =
       let byte : b ≡ 42 = rw e at (byte_of_class b) in

@@ -2,8 +2,8 @@
 use Rattle.std.proofs.Common.{◌≡◌, ℕ, zero, suc, ◌+◌, true, List, [], ◌∷◌, ◌++◌, refl, sym, ap, subst, ◌∙◌, append_assoc, add-one}
 use Rattle.std.proofs.lemmas.List.{append-nil}
 use Rattle.rtx_tree.specs.declared.place.Place.{Place}
-use Rattle.lisp_read.specs.declared.class.Class.{Class}
-use Rattle.lisp_read.specs.declared.class.Class.TheVariants as class
+use Rattle.lisp_read.specs.declared.class.ByteClass.{ByteClass}
+use Rattle.lisp_read.specs.declared.class.ByteClass.TheVariants as class
 use Rattle.lisp_read.specs.declared.mode.Mode.TheVariants as mode
 use Rattle.lisp_read.specs.Class.{class_of, not_zero, in_quotes, in_braces}
 use Rattle.lisp_read.specs.Places.{advance}
@@ -80,7 +80,7 @@ block_ends here b p t ps bs e q = subst (λ (x : ℕ). Spells (advance here x) p
     by_brace s = record { body = []; rest = bs; others = ps; braced = text.IsBraced.nothing; parts = ap (λ (x : List ℕ). Block p x ∷ ps) (sym (append-nil t)); cut = refl; spelled = s }
 
 module _ (here : Place) (b : ℕ) (bs : List ℕ) (ih : AllSound bs) (f g : Front) where
-  pub sound_string : (p : Place) (t : List ℕ) (c : Class) → class_of b ≡ c → Outcome here b bs (in_string f b c p t) g → Sounds (StrParts p t) here f g (b ∷ bs)
+  pub sound_string : (p : Place) (t : List ℕ) (c : ByteClass) → class_of b ≡ c → Outcome here b bs (in_string f b c p t) g → Sounds (StrParts p t) here f g (b ∷ bs)
   sound_string p t class.Zero e h = cc
   sound_string p t class.Quote e h =
       let byte : b ≡ 34 = rw e at (byte_of_class b) in
@@ -90,12 +90,12 @@ module _ (here : Place) (b : ℕ) (bs : List ℕ) (ih : AllSound bs) (f g : Fron
   sound_string p t c e h =
       lift (StrParts p (t ++ b ∷ [])) (StrParts p t) here b bs f g (λ ps q. str_more here b p t ps bs (ap in_quotes e) q) (ih (mode.Str p (t ++ b ∷ [])) (advance here b) f g h)
 
-  pub sound_string_escape : (p : Place) (t : List ℕ) (c : Class) → class_of b ≡ c → Outcome here b bs (in_string_escape f b c p t) g → Sounds (Escaped (StrParts p) t) here f g (b ∷ bs)
+  pub sound_string_escape : (p : Place) (t : List ℕ) (c : ByteClass) → class_of b ≡ c → Outcome here b bs (in_string_escape f b c p t) g → Sounds (Escaped (StrParts p) t) here f g (b ∷ bs)
   sound_string_escape p t class.Zero e h = cc
   sound_string_escape p t c e h =
       lift (StrParts p (t ++ b ∷ [])) (Escaped (StrParts p) t) here b bs f g (λ ps q. record { byte = b; rest = bs; passes = ap not_zero e; cut = refl; goes_on = q }) (ih (mode.Str p (t ++ b ∷ [])) (advance here b) f g h)
 
-  pub sound_block_escape : (p : Place) (d : ℕ) (t : List ℕ) (c : Class) → class_of b ≡ c → Outcome here b bs (in_block_escape f b c p d t) g → Sounds (Escaped (BlockParts p d) t) here f g (b ∷ bs)
+  pub sound_block_escape : (p : Place) (d : ℕ) (t : List ℕ) (c : ByteClass) → class_of b ≡ c → Outcome here b bs (in_block_escape f b c p d t) g → Sounds (Escaped (BlockParts p d) t) here f g (b ∷ bs)
   sound_block_escape p d t class.Zero e h = cc
   sound_block_escape p d t c e h =
       lift (BlockParts p d (t ++ b ∷ [])) (Escaped (BlockParts p d) t) here b bs f g (λ ps q. record { byte = b; rest = bs; passes = ap not_zero e; cut = refl; goes_on = q }) (ih (mode.Block p d (t ++ b ∷ [])) (advance here b) f g h)
@@ -107,7 +107,7 @@ module _ (here : Place) (b : ℕ) (bs : List ℕ) (ih : AllSound bs) (f g : Fron
   sound_block_close p (suc d) t e h =
       lift (BlockParts p d (t ++ b ∷ [])) (BlockParts p (suc d) t) here b bs f g (λ ps q. block_more here b p (suc d) d t ps bs (λ body z. text.IsBraced.closes d b body e z) q) (ih (mode.Block p d (t ++ b ∷ [])) (advance here b) f g h)
 
-  pub sound_block : (p : Place) (d : ℕ) (t : List ℕ) (c : Class) → class_of b ≡ c → Outcome here b bs (in_block f b c p d t) g → Sounds (BlockParts p d t) here f g (b ∷ bs)
+  pub sound_block : (p : Place) (d : ℕ) (t : List ℕ) (c : ByteClass) → class_of b ≡ c → Outcome here b bs (in_block f b c p d t) g → Sounds (BlockParts p d t) here f g (b ∷ bs)
   sound_block p d t class.Zero e h = cc
   sound_block p d t class.Backslash e h =
       lift (Escaped (BlockParts p d) (t ++ b ∷ [])) (BlockParts p d t) here b bs f g (λ ps q. block_escape here b p d t ps bs e q) (ih (mode.BlockEscape p d (t ++ b ∷ [])) (advance here b) f g h)

@@ -1,22 +1,22 @@
 -- The kinds of bytes that the text format tells apart, and which of them may stand where.
 use Rattle.std.specs.Prelude.{ℕ, ◌==◌, nat_lt, Bool, true, false, ◌||◌, if◌then◌else◌}
-use Rattle.lisp_read.specs.declared.class.Kind.{Kind}
-use Rattle.lisp_read.specs.declared.class.Kind.TheVariants.{Round, Square}
-use Rattle.lisp_read.specs.declared.class.Class.{Class}
-use Rattle.lisp_read.specs.declared.class.Class.TheVariants.{Zero, Blank, Newline, Semicolon, Slash, Star, Quote, Backslash, OpenBrace, CloseBrace, Open, Close, Plain, Other}
+use Rattle.lisp_read.specs.declared.class.Bracket.{Bracket}
+use Rattle.lisp_read.specs.declared.class.Bracket.TheVariants.{Round, Square}
+use Rattle.lisp_read.specs.declared.class.ByteClass.{ByteClass}
+use Rattle.lisp_read.specs.declared.class.ByteClass.TheVariants.{Zero, Blank, Newline, Semicolon, Slash, Star, Quote, Backslash, OpenBrace, CloseBrace, Open, Close, Plain, Other}
 use Rattle.lisp_read.specs.Bytes.{newline, quote, star, slash, semicolon, backslash, open_brace, close_brace}
 
 -- parentheses stand round a list, square brackets round a vector
-abbrev pub open_byte : Kind → ℕ
+abbrev pub open_byte : Bracket → ℕ
 open_byte Round = 40
 open_byte Square = 91
 
-abbrev pub close_byte : Kind → ℕ
+abbrev pub close_byte : Bracket → ℕ
 close_byte Round = 41
 close_byte Square = 93
 
 -- Blank is a space, a tab, a carriage return or a form feed; Plain is any other byte that prints in ASCII, from 33 to 126.
-abbrev pub class_of : ℕ → Class
+abbrev pub class_of : ℕ → ByteClass
 class_of b =
     if b == 0 then Zero else
     (if b == 32 || b == 9 || b == 13 || b == 12 then Blank else
@@ -36,7 +36,7 @@ class_of b =
     (if nat_lt b 127 then Plain else Other)))))))))))))))
 
 -- what may stand in an atom: the bytes from 33 to 126 other than ( ) [ ] { } " ;
-abbrev pub is_atom_class : Class → Bool
+abbrev pub is_atom_class : ByteClass → Bool
 is_atom_class Slash = true
 is_atom_class Star = true
 is_atom_class Backslash = true
@@ -44,31 +44,31 @@ is_atom_class Plain = true
 is_atom_class _ = false
 
 -- a space, a tab, a carriage return, a form feed or a newline
-abbrev pub is_blank : Class → Bool
+abbrev pub is_blank : ByteClass → Bool
 is_blank Blank = true
 is_blank Newline = true
 is_blank _ = false
 
 -- any byte but 0
-abbrev pub not_zero : Class → Bool
+abbrev pub not_zero : ByteClass → Bool
 not_zero Zero = false
 not_zero _ = true
 
 -- what may stand in a comment up to the end of the line
-abbrev pub in_line_comment : Class → Bool
+abbrev pub in_line_comment : ByteClass → Bool
 in_line_comment Zero = false
 in_line_comment Newline = false
 in_line_comment _ = true
 
 -- what stands for itself in a string
-abbrev pub in_quotes : Class → Bool
+abbrev pub in_quotes : ByteClass → Bool
 in_quotes Zero = false
 in_quotes Quote = false
 in_quotes Backslash = false
 in_quotes _ = true
 
 -- what stands for itself in a block; quotes have no meaning there
-abbrev pub in_braces : Class → Bool
+abbrev pub in_braces : ByteClass → Bool
 in_braces Zero = false
 in_braces OpenBrace = false
 in_braces CloseBrace = false

@@ -10,13 +10,13 @@ use Rattle.lisp_read.specs.declared.tree.Tree.{Tree, out-Tree}
 use Rattle.lisp_read.specs.declared.tree.Tree.TheOpen.{Tree-F}
 use Rattle.lisp_read.specs.declared.tree.Tree.TheFolds.{fold-Tree}
 use Rattle.lisp_read.specs.declared.head.Head.{Head}
-use Rattle.lisp_read.specs.declared.code_class.CodeClass.{CodeClass}
-use Rattle.lisp_read.specs.declared.code_class.CodeClass.TheVariants as class
+use Rattle.rtx_tree.specs.declared.class.Class.{Class}
+use Rattle.rtx_tree.specs.declared.class.Class.TheVariants as class
 use Rattle.lisp_read.specs.declared.position.Position.{Position}
 use Rattle.lisp_read.specs.declared.position.Position.TheVariants.{Top, Value, Place, Clobbered, Source, Pattern, Pc, Jump, Test, Target, Callee, Words, Inner}
 use Rattle.lisp_read.specs.Shape.{atom_of, items_of, vector_of, is_vector, is_nested, is_word}
 use Rattle.lisp_read.specs.Parsed.{Parsed, stands, outside, parsed_map, parsed_then}
-use Rattle.lisp_read.specs.CodeClass.{class_of_code}
+use Rattle.rtx_tree.specs.Code.{class_of_code}
 use Rattle.lisp_read.specs.Positions.{admits, mode_at}
 use Rattle.lisp_read.specs.Head.{head_in}
 use Rattle.lisp_read.specs.Leaf.{word_with, symbol_with}
@@ -31,7 +31,7 @@ head_of_items [] = None
 abbrev pub head_of : Tree → Option Head
 head_of t = head_of_items (items_of t)
 
-abbrev pub class_of : Head → CodeClass
+abbrev pub class_of : Head → Class
 class_of h = class_of_code h.code
 
 -- a head with the mode that it has at a position, if it may stand there
@@ -43,15 +43,15 @@ head_at p t = option_and_then (placed p) (head_of t)
 
 -- ---- the parts
 
-abbrev pub is_class_counter : CodeClass → Bool
+abbrev pub is_class_counter : Class → Bool
 is_class_counter class.Counter = true
 is_class_counter _ = false
 
-abbrev pub is_class_number : CodeClass → Bool
-is_class_number class.Number = true
+abbrev pub is_class_number : Class → Bool
+is_class_number class.Constant = true
 is_class_number _ = false
 
-abbrev pub head_is : (CodeClass → Bool) → Option Head → Bool
+abbrev pub head_is : (Class → Bool) → Option Head → Bool
 head_is test None = false
 head_is test (Some h) = test (class_of h)
 
@@ -86,11 +86,14 @@ setting_parts (h ∷ a ∷ b ∷ []) = if is_counter a then Some (Pc ∷ Jump �
 setting_parts _ = None
 
 -- the positions of the expressions behind the head, by the items of the list
-abbrev pub positions_of : CodeClass → List Tree → Option (List Position)
+abbrev pub positions_of : Class → List Tree → Option (List Position)
 positions_of class.Memory items = at_least (Value ∷ []) items
 positions_of class.Lowpart items = lowpart_parts items
 positions_of class.Unary items = exactly (Value ∷ []) items
+positions_of class.Extension items = exactly (Value ∷ []) items
+positions_of class.Truncation items = exactly (Value ∷ []) items
 positions_of class.Binary items = exactly (Value ∷ Value ∷ []) items
+positions_of class.Shift items = exactly (Value ∷ Value ∷ []) items
 positions_of class.Comparison items = comparison_parts items
 positions_of class.Setting items = setting_parts items
 positions_of class.Use items = exactly (Value ∷ []) items
@@ -106,7 +109,7 @@ positions_of _ items = None
 abbrev pub if_nested : List Tree → List Position → Option (List Position)
 if_nested items ps = if list_all is_nested (take (length ps) (drop 1 items)) then Some ps else None
 
-abbrev pub parts_of_class : CodeClass → List Tree → Option (List Position)
+abbrev pub parts_of_class : Class → List Tree → Option (List Position)
 parts_of_class c items = option_and_then (if_nested items) (positions_of c items)
 
 -- ---- reading
@@ -135,9 +138,9 @@ parallel_by t (h ∷ v ∷ []) (x ∷ y ∷ []) = if is_nested v then parsed_map
 parallel_by t _ _ = outside t
 
 -- the list t with a head, by what its items stand for
-abbrev pub list_by : CodeClass → Position → Head → Tree → List Meaning → Parsed Rtx
+abbrev pub list_by : Class → Position → Head → Tree → List Meaning → Parsed Rtx
 list_by class.Register p h t inside = word_with t (class_of h) p h.mode (items_of t)
-list_by class.Number p h t inside = word_with t (class_of h) p h.mode (items_of t)
+list_by class.Constant p h t inside = word_with t (class_of h) p h.mode (items_of t)
 list_by class.Label p h t inside = word_with t (class_of h) p h.mode (items_of t)
 list_by class.Symbol p h t inside = symbol_with t h.mode (items_of t)
 list_by class.Parallel p h t inside = parallel_by t (items_of t) inside

@@ -11,8 +11,8 @@ use Rattle.rtx_tree.specs.Tree.{reg_of, const_of, named_of}
 use Rattle.rtx_tree.specs.Patterns.{label_rtx}
 use Rattle.text_words.specs.Words.{number_in, is_symbol}
 use Rattle.lisp_read.specs.declared.tree.Tree.{Tree}
-use Rattle.lisp_read.specs.declared.code_class.CodeClass.{CodeClass}
-use Rattle.lisp_read.specs.declared.code_class.CodeClass.TheVariants.{Register, Number, Label}
+use Rattle.rtx_tree.specs.declared.class.Class.{Class}
+use Rattle.rtx_tree.specs.declared.class.Class.TheVariants.{Register, Constant, Label}
 use Rattle.lisp_read.specs.declared.position.Position.{Position}
 use Rattle.lisp_read.specs.Positions.{admits_register}
 use Rattle.lisp_read.specs.Shape.{atom_of, string_of, items_of, is_nested}
@@ -61,9 +61,9 @@ abbrev pub label_in : List ℕ → Option Rtx
 label_in text = option_map label_rtx (uid_in text)
 
 -- what the word behind the head says
-abbrev pub word_at : CodeClass → Position → Mode → List ℕ → Option Rtx
+abbrev pub word_at : Class → Position → Mode → List ℕ → Option Rtx
 word_at Register p m text = register_at p m text
-word_at Number p m text = constant_in text
+word_at Constant p m text = constant_in text
 word_at Label p m text = label_in text
 word_at _ p m text = None
 
@@ -88,6 +88,6 @@ abbrev pub symbol_with : Tree → Mode → List Tree → Parsed Rtx
 symbol_with t m (h ∷ l ∷ more) = if is_nested l then symbol_at m l else outside t
 symbol_with t m _ = outside t
 
-abbrev pub word_with : Tree → CodeClass → Position → Mode → List Tree → Parsed Rtx
+abbrev pub word_with : Tree → Class → Position → Mode → List Tree → Parsed Rtx
 word_with t c p m (h ∷ w ∷ more) = or_outside t (option_and_then (word_at c p m) (atom_of w))
 word_with t c p m _ = outside t

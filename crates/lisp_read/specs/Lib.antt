@@ -8,7 +8,6 @@ pub mod Reading
 pub mod Answers
 pub mod Shape
 pub mod Parsed
-pub mod CodeClass
 pub mod Positions
 pub mod Head
 pub mod Leaf

@@ -3,8 +3,8 @@
 use Rattle.std.specs.Prelude.{ℕ, List, [], ◌∷◌, ◌++◌}
 use Rattle.std.specs.List.{flat_map}
 use Rattle.rtx_tree.specs.declared.place.Place.{Place}
-use Rattle.lisp_read.specs.declared.class.Kind.{Kind}
-use Rattle.lisp_read.specs.declared.class.Kind.TheVariants.{Round, Square}
+use Rattle.lisp_read.specs.declared.class.Bracket.{Bracket}
+use Rattle.lisp_read.specs.declared.class.Bracket.TheVariants.{Round, Square}
 use Rattle.lisp_read.specs.declared.tree.Tree.{Tree}
 use Rattle.lisp_read.specs.declared.tree.Tree.TheOpen.{Tree-F}
 use Rattle.lisp_read.specs.declared.tree.Tree.TheFolds.{fold-Tree}
@@ -15,11 +15,11 @@ pub data Part : Type 0 where
   Atom : (place : Place) (text : List ℕ) → Part
   Str : (place : Place) (text : List ℕ) → Part
   Block : (place : Place) (text : List ℕ) → Part
-  Open : (kind : Kind) (place : Place) → Part
-  Close : (kind : Kind) → Part
+  Open : (kind : Bracket) (place : Place) → Part
+  Close : (kind : Bracket) → Part
 
 -- an opening byte, what stands between, and the closing byte
-abbrev pub enclosed : Kind → Place → List Part → List Part
+abbrev pub enclosed : Bracket → Place → List Part → List Part
 enclosed kind place inner = Open kind place ∷ (inner ++ Close kind ∷ [])
 
 -- the parts of a tree, from those of the trees in it

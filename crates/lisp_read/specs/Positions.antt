@@ -4,32 +4,38 @@ use Rattle.std.specs.Prelude.{ℕ, Bool, true, false, not, ◌==◌, Option, Som
 use Rattle.rtx_tree.specs.declared.code.Mode.{Mode}
 use Rattle.rtx_tree.specs.declared.code.Mode.TheVariants.{Void, SI}
 use Rattle.rtx_tree.specs.Registers.{virtual_stack_vars}
-use Rattle.lisp_read.specs.declared.code_class.CodeClass.{CodeClass}
-use Rattle.lisp_read.specs.declared.code_class.CodeClass.TheVariants.{Register, Number, Symbol, Memory, Lowpart, Unary, Binary, Comparison, Setting, Use, Clobber, Parallel, Call, Return, Counter, Label, Branch, Scratch, Matching}
+use Rattle.rtx_tree.specs.declared.class.Class.{Class}
+use Rattle.rtx_tree.specs.declared.class.Class.TheVariants.{Register, Constant, Symbol, Memory, Lowpart, Unary, Binary, Shift, Extension, Truncation, Comparison, Setting, Use, Clobber, Parallel, Call, Return, Counter, Label, Branch, Scratch, Operand, OperandAgain, OperandScratch, Operator, OperatorAgain}
+use Rattle.rtx_tree.specs.declared.class.HeadMode.{HeadMode}
+use Rattle.rtx_tree.specs.declared.class.HeadMode.TheVariants.{Needed, Optional, Ignored, Absent}
+use Rattle.rtx_tree.specs.Code.{head_mode_of}
 use Rattle.lisp_read.specs.declared.position.Position.{Position}
 use Rattle.lisp_read.specs.declared.position.Position.TheVariants as position
 
 -- what has a value, also as an address or a shift count
-abbrev pub is_value : CodeClass → Bool
+abbrev pub is_value : Class → Bool
 is_value Register = true
-is_value Number = true
+is_value Constant = true
 is_value Symbol = true
 is_value Memory = true
 is_value Lowpart = true
 is_value Unary = true
 is_value Binary = true
+is_value Shift = true
+is_value Extension = true
+is_value Truncation = true
 is_value Comparison = true
 is_value _ = false
 
 -- what may be set
-abbrev pub is_place : CodeClass → Bool
+abbrev pub is_place : Class → Bool
 is_place Register = true
 is_place Lowpart = true
 is_place Memory = true
 is_place _ = false
 
 -- what an instruction or an element of a `parallel` may be
-abbrev pub is_pattern : CodeClass → Bool
+abbrev pub is_pattern : Class → Bool
 is_pattern Setting = true
 is_pattern Use = true
 is_pattern Clobber = true
@@ -38,10 +44,18 @@ is_pattern Call = true
 is_pattern Return = true
 is_pattern _ = false
 
+-- what stands in a description's patterns alone
+abbrev pub is_of_pattern : Class → Bool
+is_of_pattern Operand = true
+is_of_pattern OperandAgain = true
+is_of_pattern OperandScratch = true
+is_of_pattern Operator = true
+is_of_pattern OperatorAgain = true
+is_of_pattern _ = false
+
 -- which classes may stand at a position
-abbrev pub admits : Position → CodeClass → Bool
-admits position.Top Matching = false
-admits position.Top _ = true
+abbrev pub admits : Position → Class → Bool
+admits position.Top c = not (is_of_pattern c)
 admits position.Value c = is_value c
 admits position.Place c = is_place c
 admits position.Clobbered Scratch = true
@@ -55,7 +69,7 @@ admits position.Jump Branch = true
 admits position.Test Comparison = true
 admits position.Target Label = true
 admits position.Callee Memory = true
-admits position.Words Number = true
+admits position.Words Constant = true
 admits position.Inner Register = true
 admits _ _ = false
 
@@ -69,22 +83,18 @@ abbrev pub unwanted : Mode → Option Mode
 unwanted Void = Some Void
 unwanted m = None
 
--- The mode of an expression by the mode that is written, Void standing for none. A comparison may do without, and that of a
--- label is passed over.
-abbrev pub mode_of_class : CodeClass → Mode → Option Mode
-mode_of_class Register m = needed m
-mode_of_class Symbol m = needed m
-mode_of_class Memory m = needed m
-mode_of_class Lowpart m = needed m
-mode_of_class Unary m = needed m
-mode_of_class Binary m = needed m
-mode_of_class Scratch m = needed m
-mode_of_class Comparison m = Some m
-mode_of_class Label m = Some Void
-mode_of_class _ m = unwanted m
+-- The mode of an expression by the mode that is written, Void standing for none.
+abbrev pub mode_by : HeadMode → Mode → Option Mode
+mode_by Needed m = needed m
+mode_by Optional m = Some m
+mode_by Ignored m = Some Void
+mode_by Absent m = unwanted m
+
+abbrev pub mode_of_class : Class → Mode → Option Mode
+mode_of_class c m = mode_by (head_mode_of c) m
 
 -- the memory that a call names is read in SImode, whatever its mode
-abbrev pub mode_at : Position → CodeClass → Mode → Option Mode
+abbrev pub mode_at : Position → Class → Mode → Option Mode
 mode_at position.Callee c m = option_map (λ written. SI) (mode_of_class c m)
 mode_at _ c m = mode_of_class c m
 

@@ -1,7 +1,7 @@
 -- What it is to read a text: its trees, or where it stops being one, or where it goes too deep.
 use Rattle.std.specs.Prelude.{◌≡◌, ◌<◌, ◌≤◌, ◌+◌, ℕ, length, take, All, List, [], ◌∷◌, ◌++◌, Some}
 use Rattle.rtx_tree.specs.declared.place.Place.{Place}
-use Rattle.lisp_read.specs.declared.class.Kind.{Kind}
+use Rattle.lisp_read.specs.declared.class.Bracket.{Bracket}
 use Rattle.lisp_read.specs.declared.tree.Tree.{Tree}
 use Rattle.lisp_read.specs.Places.{start, place_after}
 use Rattle.lisp_read.specs.Part.{Part, Open}
@@ -24,9 +24,9 @@ pub record Begins (bytes : List ℕ) : Type 0 where
 pub record IsTooDeepAt (bytes : List ℕ) (k : ℕ) : Type 0 where
   pub in_text : k < length bytes
   pub before : List Part
-  pub kind : Kind
+  pub kind : Bracket
   pub spelled : Spells start (before ++ Open kind (place_after start (take k bytes)) ∷ []) (take (k + 1) bytes)
-  pub within : List Kind
+  pub within : List Bracket
   pub are_open : still_open [] (before ++ Open kind (place_after start (take k bytes)) ∷ []) ≡ Some within
   pub deep : most_open < length within
 

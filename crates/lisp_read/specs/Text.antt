@@ -7,9 +7,9 @@
 -- the places and what is no text, is the profile of this project.
 use Rattle.std.specs.Prelude.{◌≡◌, ℕ, suc, Bool, true, false, List, [], ◌∷◌, ◌++◌}
 use Rattle.rtx_tree.specs.declared.place.Place.{Place}
-use Rattle.lisp_read.specs.declared.class.Kind.{Kind}
-use Rattle.lisp_read.specs.declared.class.Class.{Class}
-use Rattle.lisp_read.specs.declared.class.Class.TheVariants as class
+use Rattle.lisp_read.specs.declared.class.Bracket.{Bracket}
+use Rattle.lisp_read.specs.declared.class.ByteClass.{ByteClass}
+use Rattle.lisp_read.specs.declared.class.ByteClass.TheVariants as class
 use Rattle.lisp_read.specs.declared.tree.Tree.{Tree}
 use Rattle.lisp_read.specs.Bytes.{newline, quote, star, slash, semicolon, open_brace, close_brace}
 use Rattle.lisp_read.specs.Class.{class_of, open_byte, close_byte, is_atom_class, is_blank, not_zero, in_line_comment, in_quotes, in_braces}
@@ -18,12 +18,12 @@ use Rattle.lisp_read.specs.Part.{Part, Atom, Str, Block, Open, Close, parts_of_a
 use Rattle.lisp_read.specs.Nesting.{IsNested}
 
 -- each byte is of a class that passes
-abbrev pub Each : (Class → Bool) → List ℕ → Type 0
+abbrev pub Each : (ByteClass → Bool) → List ℕ → Type 0
 Each passes [] = Unit {0}
 Each passes (b ∷ bs) = (passes (class_of b) ≡ true) × Each passes bs
 
 -- a byte of this class and the bytes behind it do not begin with */, the end of a comment
-abbrev pub NotClosing : Class → List ℕ → Type 0
+abbrev pub NotClosing : ByteClass → List ℕ → Type 0
 NotClosing class.Star (b ∷ bs) = class_of b ≡ class.Slash → ⊥
 NotClosing _ _ = Unit {0}
 
@@ -80,9 +80,9 @@ pub data Spells : Place → List Part → List ℕ → Type 0 where
       Spells (place_after here (quote ∷ text ++ quote ∷ [])) parts rest → Spells here (Str here text ∷ parts) ((quote ∷ text ++ quote ∷ []) ++ rest)
   block : (here : Place) (parts : List Part) (text rest : List ℕ) → IsBraced 0 text →
       Spells (place_after here (open_brace ∷ text ++ close_brace ∷ [])) parts rest → Spells here (Block here text ∷ parts) ((open_brace ∷ text ++ close_brace ∷ []) ++ rest)
-  opens : (here : Place) (parts : List Part) (kind : Kind) (rest : List ℕ) →
+  opens : (here : Place) (parts : List Part) (kind : Bracket) (rest : List ℕ) →
       Spells (advance here (open_byte kind)) parts rest → Spells here (Open kind here ∷ parts) (open_byte kind ∷ rest)
-  closes : (here : Place) (parts : List Part) (kind : Kind) (rest : List ℕ) →
+  closes : (here : Place) (parts : List Part) (kind : Bracket) (rest : List ℕ) →
       Spells (advance here (close_byte kind)) parts rest → Spells here (Close kind ∷ parts) (close_byte kind ∷ rest)
 
 -- the bytes are a text of the trees, whose places in it are right

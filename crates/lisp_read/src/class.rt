@@ -4,7 +4,7 @@ ghost use Rattle.lisp_read.specs.Class.{class_of, is_atom_class};
 
 /// A list in parentheses or a vector in brackets.
 #[derive(Clone, Copy, Debug, PartialEq, Eq)]
-pub enum Kind {
+pub enum Bracket {
     /// A list, in parentheses.
     Round,
     /// A vector, in square brackets.
@@ -13,7 +13,7 @@ pub enum Kind {
 
 /// The kind of a byte. Bytes of one class may stand in the same places.
 #[derive(Clone, Copy, Debug, PartialEq, Eq)]
-pub enum Class {
+pub enum ByteClass {
     Zero,
     /// A space, a tab, a carriage return or a form feed.
     Blank,
@@ -25,8 +25,8 @@ pub enum Class {
     Backslash,
     OpenBrace,
     CloseBrace,
-    Open(Kind),
-    Close(Kind),
+    Open(Bracket),
+    Close(Bracket),
     /// Any other byte from 33 to 126.
     Plain,
     /// Any other byte: a control byte, or one from 127 on.
@@ -34,36 +34,36 @@ pub enum Class {
 }
 
 /// The class of a byte.
-pub fn classify(byte: u8) -> Class
+pub fn classify(byte: u8) -> ByteClass
     ensures { result ≡ class_of byte }
 {
     match byte {
-        0 => Class::Zero,
-        b' ' | b'\t' | b'\r' | 12 => Class::Blank,
-        b'\n' => Class::Newline,
-        b';' => Class::Semicolon,
-        b'/' => Class::Slash,
-        b'*' => Class::Star,
-        b'"' => Class::Quote,
-        b'\\' => Class::Backslash,
-        b'{' => Class::OpenBrace,
-        b'}' => Class::CloseBrace,
-        b'(' => Class::Open(Kind::Round),
-        b'[' => Class::Open(Kind::Square),
-        b')' => Class::Close(Kind::Round),
-        b']' => Class::Close(Kind::Square),
-        33..=126 => Class::Plain,
-        _ => Class::Other,
+        0 => ByteClass::Zero,
+        b' ' | b'\t' | b'\r' | 12 => ByteClass::Blank,
+        b'\n' => ByteClass::Newline,
+        b';' => ByteClass::Semicolon,
+        b'/' => ByteClass::Slash,
+        b'*' => ByteClass::Star,
+        b'"' => ByteClass::Quote,
+        b'\\' => ByteClass::Backslash,
+        b'{' => ByteClass::OpenBrace,
+        b'}' => ByteClass::CloseBrace,
+        b'(' => ByteClass::Open(Bracket::Round),
+        b'[' => ByteClass::Open(Bracket::Square),
+        b')' => ByteClass::Close(Bracket::Round),
+        b']' => ByteClass::Close(Bracket::Square),
+        33..=126 => ByteClass::Plain,
+        _ => ByteClass::Other,
     }
 }
 
-impl Class {
+impl ByteClass {
     /// Whether the byte may stand in an atom.
     pub fn is_atom(self) -> bool
         ensures { result ≡ is_atom_class self }
     {
         match self {
-            Class::Slash | Class::Star | Class::Backslash | Class::Plain => true,
+            ByteClass::Slash | ByteClass::Star | ByteClass::Backslash | ByteClass::Plain => true,
             _ => false,
         }
     }

@@ -7,7 +7,6 @@ ghost use Rattle.lisp_read.specs.Parsed.{Gives, each_parsed};
 ghost use Rattle.lisp_read.specs.declared.position.Position.TheVariants as position;
 ghost use Rattle.lisp_read.specs.Shape as shape;
 
-use crate::code_class::{CodeClass, class_of_code};
 use crate::head::{Head, head_in};
 use crate::leaf::{symbol, word};
 use crate::position::Position;
@@ -15,7 +14,7 @@ use crate::refusal::RtlRefusal;
 use crate::shape::{atom, is_nested, is_vector, is_word, items, outside, vector};
 use crate::tree::Tree;
 use plain_data::Items;
-use rtx_tree::{Code, Kids, Mode, Rtx};
+use rtx_tree::{Class, Code, Kids, Mode, Rtx};
 use std::alloc::Global;
 
 /// The head that a list begins with.
@@ -32,7 +31,7 @@ fn head_of(tree: &Tree) -> Option<Head>
 fn placed(position: Position, head: Head) -> Option<Head>
     ensures { result ≡ spec.placed position head }
 {
-    let class = class_of_code(head.code);
+    let class = head.code.class();
     if !position.admits(class) {
         return None;
     }
@@ -54,7 +53,7 @@ fn is_counter(tree: &Tree) -> bool
     ensures { result ≡ spec.is_counter tree.now }
 {
     match head_of(tree) {
-        Some(head) => matches!(class_of_code(head.code), CodeClass::Counter),
+        Some(head) => matches!(head.code.class(), Class::Counter),
         None => false,
     }
 }
@@ -64,7 +63,7 @@ fn is_constant(tree: &Tree) -> bool
     ensures { result ≡ spec.is_constant tree.now }
 {
     match head_of(tree) {
-        Some(head) => matches!(class_of_code(head.code), CodeClass::Number),
+        Some(head) => matches!(head.code.class(), Class::Constant),
         None => false,
     }
 }
@@ -136,26 +135,29 @@ fn setting_parts(items: &[Tree]) -> Option<&'static [Position]>
 }
 
 /// The positions of the expressions behind the head, by the items of the list.
-fn positions_of(class: CodeClass, items: &[Tree]) -> Option<&'static [Position]>
+fn positions_of(class: Class, items: &[Tree]) -> Option<&'static [Position]>
     ensures { option_copied result ≡ spec.positions_of class items.now }
 {
     match class {
-        CodeClass::Memory => at_least(&[Position::Value], items),
-        CodeClass::Lowpart => lowpart_parts(items),
-        CodeClass::Unary | CodeClass::Use => exactly(&[Position::Value], items),
-        CodeClass::Binary => exactly(&[Position::Value, Position::Value], items),
-        CodeClass::Comparison => comparison_parts(items),
-        CodeClass::Setting => setting_parts(items),
-        CodeClass::Clobber => exactly(&[Position::Clobbered], items),
-        CodeClass::Call => exactly(&[Position::Callee, Position::Words], items),
-        CodeClass::Branch => exactly(&[Position::Test, Position::Target, Position::Pc], items),
-        CodeClass::Return | CodeClass::Counter | CodeClass::Scratch => exactly(&[], items),
+        Class::Memory => at_least(&[Position::Value], items),
+        Class::Lowpart => lowpart_parts(items),
+        Class::Unary | Class::Extension | Class::Truncation | Class::Use => exactly(
+            &[Position::Value],
+            items,
+        ),
+        Class::Binary | Class::Shift => exactly(&[Position::Value, Position::Value], items),
+        Class::Comparison => comparison_parts(items),
+        Class::Setting => setting_parts(items),
+        Class::Clobber => exactly(&[Position::Clobbered], items),
+        Class::Call => exactly(&[Position::Callee, Position::Words], items),
+        Class::Branch => exactly(&[Position::Test, Position::Target, Position::Pc], items),
+        Class::Return | Class::Counter | Class::Scratch => exactly(&[], items),
         _ => None,
     }
 }
 
 /// The positions of an expression's parts, which are lists and vectors.
-fn parts_of(class: CodeClass, items: &[Tree]) -> Option<&'static [Position]>
+fn parts_of(class: Class, items: &[Tree]) -> Option<&'static [Position]>
     ensures parts { option_copied result ≡ spec.parts_of_class class items.now }
     ensures within { MatchOption (spec.parts_of_class class items.now) (Unit {0}) (λ ps. length ps < length items.now) }
 {
@@ -228,7 +230,7 @@ fn node(alloc: Global, head: Head, tree: &Tree) -> Result<Rtx, RtlRefusal>
     ensures { Gives result (spec.node_by tree.now head (spec.parts_of_class (spec.class_of head) (shape.items_of tree.now)) (map spec.meaning_of (shape.items_of tree.now))) }
 {
     let items = items(tree);
-    match parts_of(class_of_code(head.code), items) {
+    match parts_of(head.code.class(), items) {
         Some(positions) => {
             let kids = each_at(alloc, positions, items)?;
             Ok(Rtx::of_kids(alloc, head.code, head.mode, kids))
@@ -242,13 +244,13 @@ fn node(alloc: Global, head: Head, tree: &Tree) -> Result<Rtx, RtlRefusal>
 fn list(alloc: Global, position: Position, head: Head, tree: &Tree) -> Result<Rtx, RtlRefusal>
     ensures { Gives result (spec.list_by (spec.class_of head) position head tree.now (map spec.meaning_of (shape.items_of tree.now))) }
 {
-    let class = class_of_code(head.code);
+    let class = head.code.class();
     match class {
-        CodeClass::Register | CodeClass::Number | CodeClass::Label => word(
+        Class::Register | Class::Constant | Class::Label => word(
             alloc, class, position, head.mode, tree,
         ),
-        CodeClass::Symbol => symbol(alloc, head.mode, tree),
-        CodeClass::Parallel => parallel(alloc, tree),
+        Class::Symbol => symbol(alloc, head.mode, tree),
+        Class::Parallel => parallel(alloc, tree),
         _ => node(alloc, head, tree),
     }
 }

@@ -6,13 +6,12 @@ ghost use Rattle.lisp_read.specs.Leaf as spec;
 ghost use Rattle.lisp_read.specs.Parsed.{Gives};
 ghost use Rattle.lisp_read.specs.Shape.{atom_of, items_of};
 
-use crate::code_class::CodeClass;
 use crate::position::Position;
 use crate::refusal::RtlRefusal;
 use crate::shape::{atom, is_nested, items, outside, string};
 use crate::tree::Tree;
 use plain_data::Memory;
-use rtx_tree::{Code, Mode, Name, Rtx, VIRTUAL_STACK_VARS, pseudo, reg_number};
+use rtx_tree::{Class, Code, Mode, Name, Rtx, VIRTUAL_STACK_VARS, pseudo, reg_number};
 use std::alloc::Global;
 use text_words::{is_symbol, number_in};
 
@@ -124,7 +123,7 @@ fn label_in(alloc: Global, text: &[u8]) -> Result<Option<Rtx>, Memory>
 /// What the word behind the head says.
 fn word_at(
     alloc: Global,
-    class: CodeClass,
+    class: Class,
     position: Position,
     mode: Mode,
     text: &[u8],
@@ -132,16 +131,16 @@ fn word_at(
     ensures { IfOk result (λ x. x ≡ spec.word_at class position mode text.now) }
 {
     match class {
-        CodeClass::Register => Ok(register_at(alloc, position, mode, text)),
-        CodeClass::Number => Ok(constant_in(alloc, text)),
-        CodeClass::Label => label_in(alloc, text),
+        Class::Register => Ok(register_at(alloc, position, mode, text)),
+        Class::Constant => Ok(constant_in(alloc, text)),
+        Class::Label => label_in(alloc, text),
         _ => Ok(None),
     }
 }
 
 fn word_of(
     alloc: Global,
-    class: CodeClass,
+    class: Class,
     position: Position,
     mode: Mode,
     word: &Tree,
@@ -157,7 +156,7 @@ fn word_of(
 /// The expression of a list whose head a word follows.
 pub fn word(
     alloc: Global,
-    class: CodeClass,
+    class: Class,
     position: Position,
     mode: Mode,
     tree: &Tree,

@@ -14,7 +14,6 @@
 #![tactic(auto)]
 
 mod class;
-mod code_class;
 mod expression;
 mod head;
 mod leaf;

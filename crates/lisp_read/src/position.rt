@@ -2,8 +2,7 @@
 ghost use Rattle.std.specs.Prelude.{◌≡◌};
 ghost use Rattle.lisp_read.specs.Positions as spec;
 
-use crate::code_class::CodeClass;
-use rtx_tree::{Mode, VIRTUAL_STACK_VARS};
+use rtx_tree::{Class, HeadMode, Mode, VIRTUAL_STACK_VARS};
 
 /// Where an expression stands.
 #[derive(Clone, Copy, Debug, PartialEq, Eq)]
@@ -36,42 +35,51 @@ pub enum Position {
     Inner,
 }
 
-fn is_value(class: CodeClass) -> bool
+fn is_value(class: Class) -> bool
     ensures { result ≡ spec.is_value class }
 {
     matches!(
         class,
-        CodeClass::Register
-            | CodeClass::Number
-            | CodeClass::Symbol
-            | CodeClass::Memory
-            | CodeClass::Lowpart
-            | CodeClass::Unary
-            | CodeClass::Binary
-            | CodeClass::Comparison
+        Class::Register
+            | Class::Constant
+            | Class::Symbol
+            | Class::Memory
+            | Class::Lowpart
+            | Class::Unary
+            | Class::Binary
+            | Class::Shift
+            | Class::Extension
+            | Class::Truncation
+            | Class::Comparison
     )
 }
 
-fn is_place(class: CodeClass) -> bool
+fn is_place(class: Class) -> bool
     ensures { result ≡ spec.is_place class }
 {
-    matches!(
-        class,
-        CodeClass::Register | CodeClass::Lowpart | CodeClass::Memory
-    )
+    matches!(class, Class::Register | Class::Lowpart | Class::Memory)
 }
 
-fn is_pattern(class: CodeClass) -> bool
+fn is_pattern(class: Class) -> bool
     ensures { result ≡ spec.is_pattern class }
 {
     matches!(
         class,
-        CodeClass::Setting
-            | CodeClass::Use
-            | CodeClass::Clobber
-            | CodeClass::Parallel
-            | CodeClass::Call
-            | CodeClass::Return
+        Class::Setting | Class::Use | Class::Clobber | Class::Parallel | Class::Call | Class::Return
+    )
+}
+
+/// Whether an expression of this class stands in a description's patterns alone.
+fn is_of_pattern(class: Class) -> bool
+    ensures { result ≡ spec.is_of_pattern class }
+{
+    matches!(
+        class,
+        Class::Operand
+            | Class::OperandAgain
+            | Class::OperandScratch
+            | Class::Operator
+            | Class::OperatorAgain
     )
 }
 
@@ -96,47 +104,41 @@ fn unwanted(mode: Mode) -> Option<Mode>
 }
 
 /// The mode of an expression by the mode that is written.
-fn mode_of_class(class: CodeClass, mode: Mode) -> Option<Mode>
+fn mode_of_class(class: Class, mode: Mode) -> Option<Mode>
     ensures { result ≡ spec.mode_of_class class mode }
 {
-    match class {
-        CodeClass::Register
-        | CodeClass::Symbol
-        | CodeClass::Memory
-        | CodeClass::Lowpart
-        | CodeClass::Unary
-        | CodeClass::Binary
-        | CodeClass::Scratch => needed(mode),
-        CodeClass::Comparison => Some(mode),
-        CodeClass::Label => Some(Mode::Void),
-        _ => unwanted(mode),
+    match class.head_mode() {
+        HeadMode::Needed => needed(mode),
+        HeadMode::Optional => Some(mode),
+        HeadMode::Ignored => Some(Mode::Void),
+        HeadMode::Absent => unwanted(mode),
     }
 }
 
 impl Position {
     /// Whether an expression of this class may stand here.
-    pub fn admits(self, class: CodeClass) -> bool
+    pub fn admits(self, class: Class) -> bool
         ensures { result ≡ spec.admits self class }
     {
         match self {
-            Position::Top => !matches!(class, CodeClass::Matching),
+            Position::Top => !is_of_pattern(class),
             Position::Value => is_value(class),
             Position::Place => is_place(class),
-            Position::Clobbered => matches!(class, CodeClass::Scratch) || is_place(class),
-            Position::Source => matches!(class, CodeClass::Call) || is_value(class),
+            Position::Clobbered => matches!(class, Class::Scratch) || is_place(class),
+            Position::Source => matches!(class, Class::Call) || is_value(class),
             Position::Pattern => is_pattern(class),
-            Position::Pc => matches!(class, CodeClass::Counter),
-            Position::Jump => matches!(class, CodeClass::Label | CodeClass::Branch),
-            Position::Test => matches!(class, CodeClass::Comparison),
-            Position::Target => matches!(class, CodeClass::Label),
-            Position::Callee => matches!(class, CodeClass::Memory),
-            Position::Words => matches!(class, CodeClass::Number),
-            Position::Inner => matches!(class, CodeClass::Register),
+            Position::Pc => matches!(class, Class::Counter),
+            Position::Jump => matches!(class, Class::Label | Class::Branch),
+            Position::Test => matches!(class, Class::Comparison),
+            Position::Target => matches!(class, Class::Label),
+            Position::Callee => matches!(class, Class::Memory),
+            Position::Words => matches!(class, Class::Constant),
+            Position::Inner => matches!(class, Class::Register),
         }
     }
 
     /// The mode of an expression that stands here, by the mode that is written.
-    pub fn mode_at(self, class: CodeClass, mode: Mode) -> Option<Mode>
+    pub fn mode_at(self, class: Class, mode: Mode) -> Option<Mode>
         ensures { result ≡ spec.mode_at self class mode }
     {
         let mode = mode_of_class(class, mode)?;

@@ -5,7 +5,7 @@ ghost use Rattle.lisp_read.specs.machine.Runs.{empty};
 ghost use Rattle.lisp_read.specs.machine.Steps.{at, opened, closed, begin, next, in_atom, in_line, in_slash, in_string, in_block, in_comment, in_comment_star, in_string_escape, in_block_escape};
 ghost use Rattle.lisp_read.specs.machine.Reader.{front_of, state_of, Gives, block_depth};
 
-use crate::class::{Class, Kind, classify};
+use crate::class::{Bracket, ByteClass, classify};
 use crate::mode::Mode;
 use crate::stack::{Frame, Stack};
 use crate::tree::{Tree, Trees};
@@ -63,7 +63,7 @@ impl Reader {
     }
 
     /// Opens a list or vector.
-    fn open(&mut self, alloc: Global, here: Place, kind: Kind) -> Result<(), StepError>
+    fn open(&mut self, alloc: Global, here: Place, kind: Bracket) -> Result<(), StepError>
         ensures { Gives result (state_of self.new) (at (opened (front_of self.old) kind here) Mode.Between) }
     {
         let before = mem::replace(&mut self.items, Items::new(alloc));
@@ -77,7 +77,7 @@ impl Reader {
     }
 
     /// Closes a list or vector.
-    fn close(&mut self, kind: Kind) -> Result<(), StepError>
+    fn close(&mut self, kind: Bracket) -> Result<(), StepError>
         ensures { Gives result (state_of self.new) (closed (front_of self.old) kind) }
     {
         let Some(
@@ -100,30 +100,38 @@ impl Reader {
     }
 
     /// A byte where a tree may begin. The mode is `Between` before.
-    fn begin(&mut self, alloc: Global, here: Place, byte: u8, class: Class) -> Result<(), StepError>
+    fn begin(
+        &mut self,
+        alloc: Global,
+        here: Place,
+        byte: u8,
+        class: ByteClass,
+    ) -> Result<(), StepError>
         ensures { Gives result (state_of self.new) (begin here (front_of self.old) byte class) }
     {
         match class {
-            Class::Zero | Class::CloseBrace | Class::Other => return Err(StepError::Syntax),
-            Class::Blank | Class::Newline => self.mode = Mode::Between,
-            Class::Semicolon => self.mode = Mode::Line,
-            Class::Slash => self.mode = Mode::Slash { place: here },
-            Class::Star | Class::Backslash | Class::Plain => {
+            ByteClass::Zero | ByteClass::CloseBrace | ByteClass::Other => return Err(
+                StepError::Syntax,
+            ),
+            ByteClass::Blank | ByteClass::Newline => self.mode = Mode::Between,
+            ByteClass::Semicolon => self.mode = Mode::Line,
+            ByteClass::Slash => self.mode = Mode::Slash { place: here },
+            ByteClass::Star | ByteClass::Backslash | ByteClass::Plain => {
                 let mut text = Items::new(alloc);
                 text.push(byte)?;
                 self.mode = Mode::Atom { place: here, text };
             }
-            Class::Quote => self.mode = Mode::Str {
+            ByteClass::Quote => self.mode = Mode::Str {
                 place: here,
                 text: Items::new(alloc),
             },
-            Class::OpenBrace => self.mode = Mode::Block {
+            ByteClass::OpenBrace => self.mode = Mode::Block {
                 place: here,
                 depth: 0,
                 text: Items::new(alloc),
             },
-            Class::Open(kind) => self.open(alloc, here, kind)?,
-            Class::Close(kind) => self.close(kind)?,
+            ByteClass::Open(kind) => self.open(alloc, here, kind)?,
+            ByteClass::Close(kind) => self.close(kind)?,
         }
         Ok(())
     }
@@ -134,7 +142,7 @@ impl Reader {
         alloc: Global,
         here: Place,
         byte: u8,
-        class: Class,
+        class: ByteClass,
         place: Place,
         mut text: Items<u8>,
     ) -> Result<(), StepError>
@@ -157,22 +165,22 @@ impl Reader {
     fn string(
         &mut self,
         byte: u8,
-        class: Class,
+        class: ByteClass,
         place: Place,
         mut text: Items<u8>,
     ) -> Result<(), StepError>
         ensures { Gives result (state_of self.new) (in_string (front_of self.old) byte class place text) }
     {
         match class {
-            Class::Zero => return Err(StepError::Syntax),
-            Class::Quote => {
+            ByteClass::Zero => return Err(StepError::Syntax),
+            ByteClass::Quote => {
                 self.items.push(Tree::Str {
                     place,
                     text: Name::from_vec(text.into_vec()),
                 })?;
                 self.mode = Mode::Between;
             }
-            Class::Backslash => {
+            ByteClass::Backslash => {
                 text.push(byte)?;
                 self.mode = Mode::StrEscape { place, text };
             }
@@ -188,7 +196,7 @@ impl Reader {
     fn block(
         &mut self,
         byte: u8,
-        class: Class,
+        class: ByteClass,
         place: Place,
         depth: u64,
         mut text: Items<u8>,
@@ -198,12 +206,12 @@ impl Reader {
         ensures depth { OnOk result (block_depth self.new.mode ≤ depth + 1) }
     {
         match class {
-            Class::Zero => return Err(StepError::Syntax),
-            Class::Backslash => {
+            ByteClass::Zero => return Err(StepError::Syntax),
+            ByteClass::Backslash => {
                 text.push(byte)?;
                 self.mode = Mode::BlockEscape { place, depth, text };
             }
-            Class::CloseBrace if depth == 0 => {
+            ByteClass::CloseBrace if depth == 0 => {
                 self.items.push(Tree::Block {
                     place,
                     text: Name::from_vec(text.into_vec()),
@@ -212,8 +220,8 @@ impl Reader {
             }
             _ => {
                 let depth = match class {
-                    Class::OpenBrace => depth + 1,
-                    Class::CloseBrace => depth - 1,
+                    ByteClass::OpenBrace => depth + 1,
+                    ByteClass::CloseBrace => depth - 1,
                     _ => depth,
                 };
                 text.push(byte)?;
@@ -229,12 +237,12 @@ impl Reader {
         alloc: Global,
         here: Place,
         byte: u8,
-        class: Class,
+        class: ByteClass,
         place: Place,
     ) -> Result<(), StepError>
         ensures { Gives result (state_of self.new) (in_slash here (front_of self.old) byte class place) }
     {
-        if class == Class::Star {
+        if class == ByteClass::Star {
             self.mode = Mode::Comment;
             return Ok(());
         }
@@ -244,26 +252,26 @@ impl Reader {
     }
 
     /// A byte in a comment that ends with the line.
-    fn line(&mut self, class: Class) -> Result<(), StepError>
+    fn line(&mut self, class: ByteClass) -> Result<(), StepError>
         ensures { Gives result (state_of self.new) (in_line (front_of self.old) class) }
     {
         self.mode = match class {
-            Class::Zero => return Err(StepError::Syntax),
-            Class::Newline => Mode::Between,
+            ByteClass::Zero => return Err(StepError::Syntax),
+            ByteClass::Newline => Mode::Between,
             _ => Mode::Line,
         };
         Ok(())
     }
 
     /// A byte in a comment, maybe behind a `*`.
-    fn comment(&mut self, class: Class, star: bool) -> Result<(), StepError>
+    fn comment(&mut self, class: ByteClass, star: bool) -> Result<(), StepError>
         ensures { Gives result (state_of self.new)
             (if star then in_comment_star (front_of self.old) class else in_comment (front_of self.old) class) }
     {
         self.mode = match class {
-            Class::Zero => return Err(StepError::Syntax),
-            Class::Slash if star => Mode::Between,
-            Class::Star => Mode::CommentStar,
+            ByteClass::Zero => return Err(StepError::Syntax),
+            ByteClass::Slash if star => Mode::Between,
+            ByteClass::Star => Mode::CommentStar,
             _ => Mode::Comment,
         };
         Ok(())
@@ -273,13 +281,13 @@ impl Reader {
     fn string_escape(
         &mut self,
         byte: u8,
-        class: Class,
+        class: ByteClass,
         place: Place,
         mut text: Items<u8>,
     ) -> Result<(), StepError>
         ensures { Gives result (state_of self.new) (in_string_escape (front_of self.old) byte class place text) }
     {
-        if class == Class::Zero {
+        if class == ByteClass::Zero {
             return Err(StepError::Syntax);
         }
         text.push(byte)?;
@@ -291,7 +299,7 @@ impl Reader {
     fn block_escape(
         &mut self,
         byte: u8,
-        class: Class,
+        class: ByteClass,
         place: Place,
         depth: u64,
         mut text: Items<u8>,
@@ -299,7 +307,7 @@ impl Reader {
         ensures gives { Gives result (state_of self.new) (in_block_escape (front_of self.old) byte class place depth text) }
         ensures depth { OnOk result (block_depth self.new.mode ≤ depth + 1) }
     {
-        if class == Class::Zero {
+        if class == ByteClass::Zero {
             return Err(StepError::Syntax);
         }
         text.push(byte)?;

@@ -1,7 +1,7 @@
 //! The lists and vectors that are open, which contracts see with the innermost first.
 ghost use Rattle.std.specs.Prelude.{◌≡◌, List, ℕ, [], ◌∷◌, ◌++◌, OnOk, MatchOption, length};
 
-use crate::class::Kind;
+use crate::class::Bracket;
 use crate::tree::Trees;
 use plain_data::Memory;
 use rtx_tree::Place;
@@ -12,7 +12,7 @@ use std::marker::Model;
 #[derive(Drop)]
 pub struct Frame {
     /// Which of the two it is.
-    pub kind: Kind,
+    pub kind: Bracket,
     /// Where its opening byte stands.
     pub place: Place,
     /// The trees before it in the list or vector that holds it.

@@ -1,7 +1,7 @@
 //! Trees of a text.
 ghost use Rattle.std.specs.Prelude.{◌≡◌};
 
-use crate::class::Kind;
+use crate::class::Bracket;
 use plain_data::Items;
 use rtx_tree::{Name, Place};
 
@@ -28,12 +28,12 @@ impl Tree {
     ghost use Rattle.lisp_read.specs.Part.{parts_of, parts_of_all, enclosed};
 
     /// A list or a vector.
-    pub(crate) fn nested(kind: Kind, place: Place, items: Trees) -> Tree
+    pub(crate) fn nested(kind: Bracket, place: Place, items: Trees) -> Tree
         ensures { parts_of result ≡ enclosed kind place (parts_of_all items) }
     {
         match kind {
-            Kind::Round => Tree::List { place, items },
-            Kind::Square => Tree::Vector { place, items },
+            Bracket::Round => Tree::List { place, items },
+            Bracket::Square => Tree::Vector { place, items },
         }
     }
 }

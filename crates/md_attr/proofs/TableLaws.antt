@@ -12,7 +12,7 @@ use Rattle.md_attr.specs.declared.attributes.Attributes.{Attributes}
 use Rattle.md_attr.specs.declared.settings.FormSettings.{FormSettings}
 use Rattle.md_attr.specs.Alternatives.{accepted, accepted_of, alternatives_of}
 use Rattle.md_attr.specs.Values.{given_by, value_at, given_of, or_default, value_of, is_enabled}
-use Rattle.md_attr.specs.Tables.{default_in, value_in, is_enabled_in, settings_by, settings_of, AreAttributesOf}
+use Rattle.md_attr.specs.machine.Tables.{default_in, value_in, is_enabled_in, settings_by, settings_of, AreAttributesOf}
 
 given_here : (name : List ℕ) (r : Result Form Reason) → given_by name (settings_by r).settings ≡ option_and_then (λ f. given_by name f.attributes) (accepted_of r)
 given_here name (Ok f) = refl

@@ -1,3 +1,3 @@
 pub mod Alternatives
 pub mod Values
-pub mod Tables
+pub mod machine

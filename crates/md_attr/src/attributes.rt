@@ -3,16 +3,17 @@ ghost use Rattle.std.specs.Prelude.{◌≡◌, ◌↔◌, List, ℕ, IfOk, IsTru
 ghost use Rattle.std.specs.Option.{option_copied};
 ghost use Rattle.md_forms.specs.declared.form.Entry.{Entry};
 ghost use Rattle.md_attr.specs.Alternatives.{IsAlternative};
-ghost use Rattle.md_attr.specs.Tables.{AreAttributesOf};
-ghost use Rattle.md_attr.specs.Tables as tables;
+ghost use Rattle.md_attr.specs.machine.Tables.{AreAttributesOf};
+ghost use Rattle.md_attr.specs.machine.Tables as tables;
 ghost use Rattle.md_attr.specs.Values as spec;
 
 use crate::defaults::{Defaults, defaults_of};
-use crate::settings::{FormSettings, all_settings, given_by, same, value_at};
+use crate::settings::{FormSettings, all_settings, given_by, value_at};
 use md_forms::Forms;
 use plain_data::{Items, Memory};
 use rtx_tree::Name;
 use std::alloc::Global;
+use text_words::same;
 
 /// The attributes of a description's forms.
 #[derive(Drop)]

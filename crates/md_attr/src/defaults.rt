@@ -5,7 +5,7 @@ ghost use Rattle.std.specs.Str.{bytes_eq};
 ghost use Rattle.md_draft.specs.Head.{head_named};
 ghost use Rattle.md_forms.specs.Tables.{defines_attribute};
 ghost use Rattle.md_attr.specs.Alternatives.{defined, defines};
-ghost use Rattle.md_attr.specs.Tables.{definition_in, default_in};
+ghost use Rattle.md_attr.specs.machine.Tables.{definition_in, default_in};
 ghost use Rattle.md_attr.specs.Values as spec;
 
 use indexmap::IndexMap;

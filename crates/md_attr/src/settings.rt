@@ -1,15 +1,15 @@
 //! What forms give attributes.
 ghost use Rattle.std.specs.Prelude.{◌≡◌, IfOk, map};
 ghost use Rattle.std.specs.Option.{option_copied};
-ghost use Rattle.std.specs.Str.{bytes_eq};
 ghost use Rattle.md_forms.specs.Checks as checks;
-ghost use Rattle.md_attr.specs.Tables as tables;
+ghost use Rattle.md_attr.specs.machine.Tables as tables;
 ghost use Rattle.md_attr.specs.Values as spec;
 
 use md_forms::{Attribute, Entry, OperandConstraint};
 use plain_data::{Items, Memory};
 use rtx_tree::Name;
 use std::alloc::Global;
+use text_words::same;
 
 /// What a form gives attributes.
 #[derive(Drop)]
@@ -18,13 +18,6 @@ pub struct FormSettings {
     pub settings: Items<Attribute>,
     /// How many alternatives the form has, which is 0 where it is set aside.
     pub alternatives: usize,
-}
-
-/// Whether two texts are the same.
-pub fn same(text: &[u8], word: &[u8]) -> bool
-    ensures { result ≡ bytes_eq text.now word.now }
-{
-    text == word
 }
 
 /// How many alternatives a form has.

@@ -8,7 +8,7 @@ use Rattle.md_forms.specs.declared.form.Entry.{Entry}
 use Rattle.md_attr.specs.Alternatives.{accepted}
 use Rattle.md_constr.specs.declared.meaning.Meaning.{Meaning}
 use Rattle.md_constr.specs.Admits.{form_admits}
-use Rattle.md_constr.specs.Tables.{definition_admits, entry_admits}
+use Rattle.md_constr.specs.machine.Tables.{definition_admits, entry_admits}
 
 -- which operands are admitted, whatever predicates accept
 abbrev pub Admitted : Type 0

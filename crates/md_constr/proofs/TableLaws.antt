@@ -16,7 +16,7 @@ use Rattle.md_constr.specs.declared.table.Constraints.{Constraints}
 use Rattle.md_constr.specs.Admits.{name_admits}
 use Rattle.md_constr.specs.Inputs.{inputs_of, changed_of}
 use Rattle.md_constr.specs.Fits.{Named, each_of, operand_fits, constraint_admits, all_fit, fits, number_fits, number_admits}
-use Rattle.md_constr.specs.Tables.{constraints_in, none_asked, constraints_by, constraints_of, found_number_fits, number_fits_in, found_number_admits, number_admits_in, name_admits_in, found_fits, fits_in, alternatives_in, AreConstraintsOf}
+use Rattle.md_constr.specs.machine.Tables.{constraints_in, none_asked, constraints_by, constraints_of, found_number_fits, number_fits_in, found_number_admits, number_admits_in, name_admits_in, found_fits, fits_in, alternatives_in, AreConstraintsOf}
 
 -- ---- operands that fit
 

@@ -1,4 +1,4 @@
 pub mod Inputs
 pub mod Admits
 pub mod Fits
-pub mod Tables
+pub mod machine

@@ -3,7 +3,7 @@ ghost use Rattle.std.specs.Prelude.{◌≡◌, ◌==◌};
 ghost use Rattle.std.specs.List.{list_any};
 ghost use Rattle.c_eval.specs.Value.{same_tree};
 ghost use Rattle.md_constr.specs.Fits as spec;
-ghost use Rattle.md_constr.specs.Tables as tables;
+ghost use Rattle.md_constr.specs.machine.Tables as tables;
 
 use crate::admits::{letter_admits, register_of};
 use crate::meanings::Meanings;

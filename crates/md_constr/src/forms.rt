@@ -1,7 +1,7 @@
 //! What forms ask of their operands.
 ghost use Rattle.std.specs.Prelude.{◌≡◌, IfOk, map};
 ghost use Rattle.md_forms.specs.Checks as checks;
-ghost use Rattle.md_constr.specs.Tables as tables;
+ghost use Rattle.md_constr.specs.machine.Tables as tables;
 
 use crate::copies::constraints_copy;
 use crate::inputs::{changed_of, inputs_of};

@@ -3,7 +3,7 @@ ghost use Rattle.std.specs.Prelude.{◌≡◌, IfOk};
 ghost use Rattle.rtx_tree.specs.declared.tree.Rtx.{Rtx};
 ghost use Rattle.pred_rows.specs.Tests.{Accepts};
 ghost use Rattle.md_constr.specs.Admits as spec;
-ghost use Rattle.md_constr.specs.Tables as tables;
+ghost use Rattle.md_constr.specs.machine.Tables as tables;
 
 use crate::admits::class_admits;
 use c_eval::Preds;

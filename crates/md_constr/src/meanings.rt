@@ -8,7 +8,7 @@ ghost use Rattle.md_draft.specs.Head.{head_named};
 ghost use Rattle.md_forms.specs.Tables.{defines_constraint};
 ghost use Rattle.md_attr.specs.Alternatives.{defined, defines};
 ghost use Rattle.md_constr.specs.Admits as spec;
-ghost use Rattle.md_constr.specs.Tables as tables;
+ghost use Rattle.md_constr.specs.machine.Tables as tables;
 
 use crate::meaning::Meaning;
 use c_eval::Preds;

@@ -4,7 +4,7 @@ ghost use Rattle.std.specs.Option.{option_copied};
 ghost use Rattle.md_forms.specs.declared.form.Entry.{Entry};
 ghost use Rattle.md_attr.specs.Alternatives.{alternatives_of};
 ghost use Rattle.md_constr.specs.Fits as spec;
-ghost use Rattle.md_constr.specs.Tables as tables;
+ghost use Rattle.md_constr.specs.machine.Tables as tables;
 
 use crate::asked::Asked;
 use crate::forms::{FormConstraints, all_constraints};

@@ -6,7 +6,8 @@ use Rattle.md_forms.specs.declared.form.Entry.{Entry}
 use Rattle.md_attr.specs.Alternatives.{IsAlternative}
 use Rattle.md_recog.specs.declared.recog.FormMatch.{FormMatch}
 use Rattle.md_desc.specs.declared.output.Chosen.{Chosen}
-use Rattle.md_desc.specs.Recog.{is_usable, is_printed, IsLowest, Counts}
+use Rattle.md_desc.specs.Recog.{is_usable, is_printed, IsLowest}
+use Rattle.md_desc.specs.machine.Steps.{Counts}
 
 -- no alternative below one can be used
 abbrev pub NoneBelow : List Entry → ℕ → Ops → ℕ → Type 0

@@ -10,9 +10,9 @@ use Rattle.tree_forms.specs.Trees.{most_forms}
 use Rattle.md_forms.specs.declared.form.Entry.{Entry}
 use Rattle.md_pred.specs.declared.table.PredTable.{PredTable}
 use Rattle.md_pred.specs.Holds.{holds}
-use Rattle.md_pred.specs.Table.{accepted_by}
+use Rattle.md_pred.specs.machine.Table.{accepted_by}
 use Rattle.md_constr.specs.declared.table.Constraints.{Constraints}
-use Rattle.md_constr.specs.Tables.{AreConstraintsOf}
+use Rattle.md_constr.specs.machine.Tables.{AreConstraintsOf}
 use Rattle.md_constr.specs.Fits.{fits, number_fits, number_admits}
 use Rattle.md_recog.specs.declared.half.Half.TheVariants as half
 use Rattle.md_recog.specs.Recog as recog

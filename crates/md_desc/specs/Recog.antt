@@ -80,12 +80,3 @@ pub record IsChosen (forms : List Entry) (facts : Facts) (insn : Rtx) (c : Chose
 -- no form counts at output
 abbrev pub NoneMatchesOut : List Entry → Facts → Rtx → Type 0
 NoneMatchesOut forms facts insn = (form : ℕ) (operands : Ops) (alternative : ℕ) → MatchesOut forms facts insn form operands alternative → ⊥
-
--- ---- a step of the code
-
--- a match counts at output, with the lowest alternative that can be used
-pub record Counts (forms : List Entry) (m : FormMatch) (c : Chosen) : Type 0 where
-  pub form_is : c.form ≡ m.form
-  pub operands_are : c.operands ≡ m.operands
-  pub printed : is_printed forms m.form ≡ true
-  pub lowest : IsLowest forms m.form m.operands c.alternative

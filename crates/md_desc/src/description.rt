@@ -1,12 +1,12 @@
 //! A description with its tables.
 ghost use Rattle.std.specs.Prelude.{◌≡◌, ◌↔◌, ◌≤◌, ◌<◌, Some, None, IfOk, IfSome, IsTrue, length};
 ghost use Rattle.md_attr.specs.Alternatives.{IsAlternative};
-ghost use Rattle.md_attr.specs.Tables.{AreAttributesOf};
+ghost use Rattle.md_attr.specs.machine.Tables.{AreAttributesOf};
 ghost use Rattle.md_attr.specs.Values.{is_enabled};
-ghost use Rattle.md_constr.specs.Tables.{AreConstraintsOf};
+ghost use Rattle.md_constr.specs.machine.Tables.{AreConstraintsOf};
 ghost use Rattle.md_constr.specs.Fits as constraints;
 ghost use Rattle.md_pred.specs.Holds.{holds};
-ghost use Rattle.md_pred.specs.Table.{accepted_by};
+ghost use Rattle.md_pred.specs.machine.Table.{accepted_by};
 ghost use Rattle.tree_forms.specs.Trees.{most_forms};
 ghost use Rattle.md_desc.specs.Recog as spec;
 ghost use Rattle.md_recog.specs.declared.recog.FormMatch.{FormMatch};
@@ -37,7 +37,7 @@ impl Model for Description {
     ghost use Rattle.std.specs.Coded.{coded_list};
     ghost use Rattle.md_forms.specs.declared.form.Entry.{Entry};
     ghost use Rattle.md_forms.specs.contracts.form.Entry as entry;
-    ghost use Rattle.md_desc.specs.Tables.{AreTablesOf};
+    ghost use Rattle.md_desc.specs.machine.Tables.{AreTablesOf};
 
     ghost Value = { List Entry };
 

@@ -2,6 +2,7 @@
 ghost use Rattle.std.specs.Prelude.{◌≡◌, ◌↔◌, ◌<◌, ℕ, Some, None, IfOk};
 ghost use Rattle.md_attr.specs.Alternatives.{alternatives_of};
 ghost use Rattle.md_desc.specs.Recog as spec;
+ghost use Rattle.md_desc.specs.machine.Steps as steps;
 ghost use Rattle.md_desc.specs.declared.output.Chosen.{Chosen};
 
 use crate::description::Description;
@@ -77,7 +78,7 @@ impl Description {
     /// A match, with the lowest alternative that can be used, if it counts at output.
     #[tactic(auto, using(crate::proofs::Lowest::unprinted, crate::proofs::Lowest::unused, crate::proofs::Lowest::counts))]
     fn counted(&self, found: FormMatch) -> Result<Option<Chosen>, Memory>
-        ensures { IfOk result (λ r. (c : Chosen) → (r ≡ Some c) ↔ spec.Counts self.now found c) }
+        ensures { IfOk result (λ r. (c : Chosen) → (r ≡ Some c) ↔ steps.Counts self.now found c) }
     {
         if !self.is_printed(found.form) {
             return Ok(None);

@@ -9,7 +9,7 @@ use Rattle.lisp_read.specs.declared.tree.Tree.TheOpen.{Tree-F}
 use Rattle.lisp_read.specs.Shape.{string_of}
 use Rattle.c_cond.specs.declared.tree.Tree as cond
 use Rattle.c_cond.specs.Tree as cond_tree
-use Rattle.md_text.specs.Lists.{is_blank, behind_blanks}
+use Rattle.text_words.specs.Blanks.{is_blank, behind_blanks}
 use Rattle.md_pattern.specs.declared.reason.Reason.TheVariants as reason
 use Rattle.md_pattern.specs.Reason.{judged_with}
 use Rattle.pred_expr.specs.Texts.{condition_of, statements_of, always, nothing}

@@ -6,7 +6,7 @@ use Rattle.lisp_read.specs.declared.tree.Tree.TheOpen.{Tree-F}
 use Rattle.md_text.specs.declared.template.Template.TheVariants as template
 use Rattle.md_text.specs.declared.template.Reading.{Reading}
 use Rattle.md_text.specs.declared.template.Reading.TheVariants as reading
-use Rattle.md_text.specs.Lists.{behind_blanks}
+use Rattle.text_words.specs.Blanks.{behind_blanks}
 use Rattle.md_text.specs.Template.{template_of}
 use Rattle.md_pattern.specs.declared.reason.Reason.TheVariants as reason
 use Rattle.md_draft.specs.declared.draft.Output.{Output}

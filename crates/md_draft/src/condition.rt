@@ -12,30 +12,7 @@ use plain_data::Memory;
 use pred_expr::{condition, no_condition, no_statements, statements};
 use rtx_tree::{Constants, Name};
 use std::alloc::Global;
-
-fn is_blank(byte: u8) -> bool
-    ensures { result ≡ lists.is_blank byte }
-{
-    matches!(byte, b' ' | b'\t' | b'\n' | 12 | b'\r')
-}
-
-fn all_blank(text: &[u8]) -> bool
-    ensures { result ≡ list_all lists.is_blank text.now }
-{
-    text.iter().all(|byte| is_blank(*byte))
-}
-
-/// What stands behind the blanks at the front.
-pub fn behind_blanks(text: &[u8]) -> &[u8]
-    ensures { result.now ≡ lists.behind_blanks text.entry.now }
-{
-    for (at, byte) in text.iter().enumerate() {
-        if !is_blank(*byte) {
-            return &text[at..];
-        }
-    }
-    &[]
-}
+use text_words::{all_blank, behind_blanks};
 
 /// Both conditions, each of which is one by itself.
 fn both_hold(a: Judged<Cond>, b: Judged<Cond>) -> Result<Judged<Cond>, Memory>

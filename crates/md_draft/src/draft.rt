@@ -8,7 +8,7 @@ use pred_expr::Test;
 use rtx_tree::Name;
 
 /// What a form gives an attribute: `(set_attr "NAME" "VALUES")`.
-#[derive(Debug, Drop)]
+#[derive(Drop)]
 pub struct Attribute {
     /// The attribute's name.
     pub name: Name,

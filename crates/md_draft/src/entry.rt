@@ -1,13 +1,14 @@
 //! Reads a form from its tree, as far as its own text tells.
 ghost use Rattle.std.specs.Prelude.{◌≡◌, IfOk};
 ghost use Rattle.std.specs.Option.{option_copied};
+ghost use Rattle.md_pattern.specs.Reason.{both, judged_with};
 ghost use Rattle.md_draft.specs.Draft as spec;
 ghost use Rattle.md_draft.specs.Head.{head_named};
 ghost use Rattle.md_draft.specs.Reasons.{Applies, IsSmallest};
 
 use crate::condition::{condition_in, split_condition_in, statements_in};
 use crate::draft::{Defined, Draft, DraftEntry, Made, Matched, Printed};
-use crate::head::Head;
+use crate::head::{Head, RegisterClass};
 use crate::layout::{is_whole, layout_of, part_at};
 use crate::output::output_in;
 use crate::pattern::{patterns_in, sequence_in};
@@ -15,7 +16,8 @@ use crate::text::{attributes_in, class_in, default_in, test_in, values_in};
 use c_cond::{Cond, Prep};
 use lisp_read::{Tree, atom, items, string};
 use md_pattern::{Judged, Patterns, Reason, both};
-use plain_data::Memory;
+use plain_data::{Items, Memory};
+use pred_expr::Test;
 use rtx_tree::{Constants, Name};
 use std::alloc::Global;
 
@@ -92,6 +94,50 @@ fn printed_in(alloc: Global, head: Head, items: &[Tree]) -> Result<Judged<Printe
     }
 }
 
+fn test_and_class(
+    alloc: Global,
+    constants: &Constants,
+    head: Head,
+    items: &[Tree],
+) -> Result<Judged<(Option<Test>, Option<RegisterClass>)>, Memory>
+    ensures { IfOk result (λ parts. parts ≡ both (spec.test_in constants.now head items.now)
+        (spec.class_in head items.now)) }
+{
+    let places = layout_of(head);
+    let test = test_in(alloc, constants, part_at(items, places.test))?;
+    Ok(both(test, class_in(part_at(items, places.class))))
+}
+
+fn values_and_default(
+    alloc: Global,
+    head: Head,
+    items: &[Tree],
+) -> Result<Judged<(Items<Name>, Name)>, Memory>
+    ensures { IfOk result (λ parts. parts ≡ both (spec.values_in head items.now)
+        (spec.default_in head items.now)) }
+{
+    let places = layout_of(head);
+    let values = values_in(alloc, part_at(items, places.values))?;
+    Ok(both(values, default_in(alloc, part_at(items, places.default))?))
+}
+
+fn defined_by(
+    test_and_class: Judged<(Option<Test>, Option<RegisterClass>)>,
+    values_and_default: Judged<(Items<Name>, Name)>,
+) -> Judged<Defined>
+    ensures { result ≡ judged_with spec.defined_with test_and_class values_and_default }
+{
+    match both(test_and_class, values_and_default) {
+        Ok(((test, class), (values, default))) => Ok(Defined {
+            test,
+            class,
+            values,
+            default,
+        }),
+        Err(reason) => Err(reason),
+    }
+}
+
 #[tactic(auto, unfolding(crate::specs::Draft::defined_in))]
 fn defined_in(
     alloc: Global,
@@ -101,32 +147,48 @@ fn defined_in(
 ) -> Result<Judged<Defined>, Memory>
     ensures { IfOk result (λ defined. defined ≡ spec.defined_in constants.now head items.now) }
 {
-    let places = layout_of(head);
-    let test = test_in(alloc, constants, part_at(items, places.test))?;
-    let class = class_in(part_at(items, places.class));
-    let values = values_in(alloc, part_at(items, places.values))?;
-    let default = default_in(alloc, part_at(items, places.default))?;
-    match both(both(test, class), both(values, default)) {
-        Ok(((test, class), (values, default))) => Ok(Ok(Defined {
-            test,
-            class,
-            values,
-            default,
-        })),
-        Err(reason) => Ok(Err(reason)),
-    }
+    let test_and_class = test_and_class(alloc, constants, head, items)?;
+    let values_and_default = values_and_default(alloc, head, items)?;
+    Ok(defined_by(test_and_class, values_and_default))
+}
+
+fn matched_and_made(
+    alloc: Global,
+    constants: &Constants,
+    values: &[Name],
+    head: Head,
+    items: &[Tree],
+) -> Result<Judged<(Matched, Made)>, Memory>
+    ensures { IfOk result (λ parts. parts ≡ both (spec.matched_in constants.now values.now head items.now)
+        (spec.made_in constants.now values.now head items.now)) }
+{
+    let matched = matched_in(alloc, constants, values, head, items)?;
+    let made = made_in(alloc, constants, values, head, items)?;
+    Ok(both(matched, made))
+}
+
+fn printed_and_defined(
+    alloc: Global,
+    constants: &Constants,
+    head: Head,
+    items: &[Tree],
+) -> Result<Judged<(Printed, Defined)>, Memory>
+    ensures { IfOk result (λ parts. parts ≡ both (spec.printed_in head items.now)
+        (spec.defined_in constants.now head items.now)) }
+{
+    let printed = printed_in(alloc, head, items)?;
+    let defined = defined_in(alloc, constants, head, items)?;
+    Ok(both(printed, defined))
 }
 
 fn together(
     head: Head,
-    matched: Judged<Matched>,
-    made: Judged<Made>,
-    printed: Judged<Printed>,
-    defined: Judged<Defined>,
+    matched_and_made: Judged<(Matched, Made)>,
+    printed_and_defined: Judged<(Printed, Defined)>,
 ) -> Judged<Draft>
-    ensures { result ≡ spec.together head matched made printed defined }
+    ensures { result ≡ judged_with (spec.draft_with head) matched_and_made printed_and_defined }
 {
-    match both(both(matched, made), both(printed, defined)) {
+    match both(matched_and_made, printed_and_defined) {
         Ok(((matched, made), (printed, defined))) => Ok(Draft {
             head,
             matched,
@@ -149,11 +211,9 @@ fn whole_draft(
 ) -> Result<Judged<Draft>, Memory>
     ensures { IfOk result (λ draft. draft ≡ spec.whole_draft constants.now values.now head items.now) }
 {
-    let matched = matched_in(alloc, constants, values, head, items)?;
-    let made = made_in(alloc, constants, values, head, items)?;
-    let printed = printed_in(alloc, head, items)?;
-    let defined = defined_in(alloc, constants, head, items)?;
-    Ok(together(head, matched, made, printed, defined))
+    let matched_and_made = matched_and_made(alloc, constants, values, head, items)?;
+    let printed_and_defined = printed_and_defined(alloc, constants, head, items)?;
+    Ok(together(head, matched_and_made, printed_and_defined))
 }
 
 /// The draft of a form with a head.

@@ -1,10 +1,10 @@
 //! The heads of forms, and the classes of registers, by their names.
-ghost use Rattle.std.specs.Prelude.{◌≡◌};
+ghost use Rattle.std.specs.Prelude.{◌≡◌, find};
 ghost use Rattle.std.specs.Str.{bytes_eq};
 ghost use Rattle.md_draft.specs.Head as spec;
 
 /// What a form defines.
-#[derive(Clone, Copy, Debug, PartialEq, Eq)]
+#[derive(Clone, Copy)]
 pub enum Head {
     /// An instruction: what it matches and how it is printed.
     Insn,
@@ -47,7 +47,7 @@ pub enum Head {
 }
 
 /// A class of registers.
-#[derive(Clone, Copy, Debug, PartialEq, Eq)]
+#[derive(Clone, Copy)]
 pub enum RegisterClass {
     /// All of them.
     General,
@@ -102,32 +102,35 @@ fn all_classes() -> &'static [RegisterClass]
     &CLASSES
 }
 
+/// The text of each head, in the order of the heads.
+static HEAD_NAMES: [&str; 19] = [
+    "define_insn",
+    "define_expand",
+    "define_split",
+    "define_insn_and_split",
+    "define_peephole2",
+    "define_predicate",
+    "define_special_predicate",
+    "define_constraint",
+    "define_register_constraint",
+    "define_memory_constraint",
+    "define_attr",
+    "include",
+    "define_constants",
+    "define_mode_iterator",
+    "define_mode_attr",
+    "define_code_iterator",
+    "define_code_attr",
+    "define_int_iterator",
+    "define_int_attr",
+];
+
 impl Head {
     /// The head's text, as `define_insn`.
     pub fn name(self) -> &'static str
         ensures { result.now ≡ spec.head_name self }
     {
-        match self {
-            Head::Insn => "define_insn",
-            Head::Expand => "define_expand",
-            Head::Split => "define_split",
-            Head::InsnAndSplit => "define_insn_and_split",
-            Head::Peephole2 => "define_peephole2",
-            Head::Predicate => "define_predicate",
-            Head::SpecialPredicate => "define_special_predicate",
-            Head::Constraint => "define_constraint",
-            Head::RegisterConstraint => "define_register_constraint",
-            Head::MemoryConstraint => "define_memory_constraint",
-            Head::Attr => "define_attr",
-            Head::Include => "include",
-            Head::Constants => "define_constants",
-            Head::ModeIterator => "define_mode_iterator",
-            Head::ModeAttr => "define_mode_attr",
-            Head::CodeIterator => "define_code_iterator",
-            Head::CodeAttr => "define_code_attr",
-            Head::IntIterator => "define_int_iterator",
-            Head::IntAttr => "define_int_attr",
-        }
+        HEAD_NAMES[self as usize]
     }
 
     fn is_named(self, text: &[u8]) -> bool
@@ -141,26 +144,31 @@ impl Head {
     pub fn named(text: &[u8]) -> Option<Head>
         ensures { result ≡ spec.head_named text.now }
     {
-        for head in all_heads() {
-            if head.is_named(text) {
-                return Some(*head);
-            }
-        }
-        None
+        first_named(all_heads(), text)
     }
 }
+
+/// The first of some heads that has this text.
+fn first_named(heads: &[Head], text: &[u8]) -> Option<Head>
+    ensures { result ≡ find (λ head. bytes_eq (spec.head_name head) text.now) heads.now }
+{
+    for head in heads {
+        if head.is_named(text) {
+            return Some(*head);
+        }
+    }
+    None
+}
+
+/// The name of each class, in the order of the classes.
+static CLASS_NAMES: [&str; 4] = ["GR_REGS", "ARG_REGS", "SAVED_REGS", "NO_REGS"];
 
 impl RegisterClass {
     /// The class's name, as `GR_REGS`.
     pub fn name(self) -> &'static str
         ensures { result.now ≡ spec.class_name self }
     {
-        match self {
-            RegisterClass::General => "GR_REGS",
-            RegisterClass::Args => "ARG_REGS",
-            RegisterClass::Saved => "SAVED_REGS",
-            RegisterClass::Nothing => "NO_REGS",
-        }
+        CLASS_NAMES[self as usize]
     }
 
     fn is_named(self, text: &[u8]) -> bool

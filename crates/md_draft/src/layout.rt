@@ -26,140 +26,133 @@ pub struct Layout {
     pub default: Option<usize>,
 }
 
-fn no_parts(least: usize, most: usize) -> Layout
-    ensures { result ≡ spec.no_parts least most }
-{
-    Layout {
-        least,
-        most,
-        name: None,
-        documentation: None,
-        patterns: None,
-        condition: None,
-        output: None,
-        split_condition: None,
-        sequence: None,
-        statements: None,
-        attributes: None,
-        test: None,
-        class: None,
-        values: None,
-        default: None,
-    }
-}
+const NO_PARTS: Layout = Layout {
+    least: 1,
+    most: 0,
+    name: None,
+    documentation: None,
+    patterns: None,
+    condition: None,
+    output: None,
+    split_condition: None,
+    sequence: None,
+    statements: None,
+    attributes: None,
+    test: None,
+    class: None,
+    values: None,
+    default: None,
+};
 
-fn insn() -> Layout
-    ensures { result ≡ spec.insn }
-{
-    Layout {
-        name: Some(1),
-        patterns: Some(2),
-        condition: Some(3),
-        output: Some(4),
-        attributes: Some(5),
-        ..no_parts(5, 6)
-    }
-}
+const INSN: Layout = Layout {
+    least: 5,
+    most: 6,
+    name: Some(1),
+    patterns: Some(2),
+    condition: Some(3),
+    output: Some(4),
+    attributes: Some(5),
+    ..NO_PARTS
+};
 
-fn expand() -> Layout
-    ensures { result ≡ spec.expand }
-{
-    Layout {
-        name: Some(1),
-        patterns: Some(2),
-        condition: Some(3),
-        statements: Some(4),
-        attributes: Some(5),
-        ..no_parts(4, 6)
-    }
-}
+const EXPAND: Layout = Layout {
+    least: 4,
+    most: 6,
+    name: Some(1),
+    patterns: Some(2),
+    condition: Some(3),
+    statements: Some(4),
+    attributes: Some(5),
+    ..NO_PARTS
+};
 
-fn rewriting() -> Layout
-    ensures { result ≡ spec.rewriting }
-{
-    Layout {
-        patterns: Some(1),
-        condition: Some(2),
-        sequence: Some(3),
-        statements: Some(4),
-        ..no_parts(4, 5)
-    }
-}
+const REWRITING: Layout = Layout {
+    least: 4,
+    most: 5,
+    patterns: Some(1),
+    condition: Some(2),
+    sequence: Some(3),
+    statements: Some(4),
+    ..NO_PARTS
+};
 
-fn insn_and_split() -> Layout
-    ensures { result ≡ spec.insn_and_split }
-{
-    Layout {
-        name: Some(1),
-        patterns: Some(2),
-        condition: Some(3),
-        output: Some(4),
-        split_condition: Some(5),
-        sequence: Some(6),
-        statements: Some(7),
-        attributes: Some(8),
-        ..no_parts(7, 9)
-    }
-}
+const INSN_AND_SPLIT: Layout = Layout {
+    least: 7,
+    most: 9,
+    name: Some(1),
+    patterns: Some(2),
+    condition: Some(3),
+    output: Some(4),
+    split_condition: Some(5),
+    sequence: Some(6),
+    statements: Some(7),
+    attributes: Some(8),
+    ..NO_PARTS
+};
 
-fn predicate() -> Layout
-    ensures { result ≡ spec.predicate }
-{
-    Layout {
-        name: Some(1),
-        test: Some(2),
-        ..no_parts(3, 3)
-    }
-}
+const PREDICATE: Layout = Layout {
+    least: 3,
+    most: 3,
+    name: Some(1),
+    test: Some(2),
+    ..NO_PARTS
+};
 
-fn constraint() -> Layout
-    ensures { result ≡ spec.constraint }
-{
-    Layout {
-        name: Some(1),
-        documentation: Some(2),
-        test: Some(3),
-        ..no_parts(4, 4)
-    }
-}
+const CONSTRAINT: Layout = Layout {
+    least: 4,
+    most: 4,
+    name: Some(1),
+    documentation: Some(2),
+    test: Some(3),
+    ..NO_PARTS
+};
 
-fn registers() -> Layout
-    ensures { result ≡ spec.registers }
-{
-    Layout {
-        name: Some(1),
-        class: Some(2),
-        documentation: Some(3),
-        ..no_parts(4, 4)
-    }
-}
+const REGISTERS: Layout = Layout {
+    least: 4,
+    most: 4,
+    name: Some(1),
+    documentation: Some(3),
+    class: Some(2),
+    ..NO_PARTS
+};
 
-fn attr() -> Layout
-    ensures { result ≡ spec.attr }
-{
-    Layout {
-        name: Some(1),
-        values: Some(2),
-        default: Some(3),
-        ..no_parts(4, 4)
-    }
-}
+const ATTR: Layout = Layout {
+    least: 4,
+    most: 4,
+    name: Some(1),
+    values: Some(2),
+    default: Some(3),
+    ..NO_PARTS
+};
+
+/// The layout of each head, in the order of the heads.
+static LAYOUTS: [Layout; 19] = [
+    INSN,
+    EXPAND,
+    REWRITING,
+    INSN_AND_SPLIT,
+    REWRITING,
+    PREDICATE,
+    PREDICATE,
+    CONSTRAINT,
+    REGISTERS,
+    CONSTRAINT,
+    ATTR,
+    NO_PARTS,
+    NO_PARTS,
+    NO_PARTS,
+    NO_PARTS,
+    NO_PARTS,
+    NO_PARTS,
+    NO_PARTS,
+    NO_PARTS,
+];
 
 /// Where the parts of a form with this head stand.
 pub fn layout_of(head: Head) -> Layout
     ensures { result ≡ spec.layout_of head }
 {
-    match head {
-        Head::Insn => insn(),
-        Head::Expand => expand(),
-        Head::Split | Head::Peephole2 => rewriting(),
-        Head::InsnAndSplit => insn_and_split(),
-        Head::Predicate | Head::SpecialPredicate => predicate(),
-        Head::Constraint | Head::MemoryConstraint => constraint(),
-        Head::RegisterConstraint => registers(),
-        Head::Attr => attr(),
-        _ => no_parts(1, 0),
-    }
+    LAYOUTS[head as usize]
 }
 
 /// The tree at a place, if there is one.

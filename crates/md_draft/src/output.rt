@@ -4,7 +4,6 @@ ghost use Rattle.std.specs.Option.{option_copied};
 ghost use Rattle.md_text.specs.Template.{template_of};
 ghost use Rattle.md_draft.specs.Outputs as spec;
 
-use crate::condition::behind_blanks;
 use crate::draft::Output;
 use lisp_read::Tree;
 use md_pattern::{Judged, Reason};
@@ -12,6 +11,7 @@ use md_text::{Reading, Template, template_of};
 use plain_data::{Items, Memory};
 use rtx_tree::Name;
 use std::alloc::Global;
+use text_words::behind_blanks;
 
 /// The greatest number of bytes of a template.
 const MOST_TEMPLATE: usize = 4096;

@@ -1,18 +1,16 @@
 -- A form has the smallest of its reasons.
-use Rattle.std.proofs.Common.{◌≡◌, ◌≤◌, ◌⊎◌, inl, inr, ⊎_elim, ℕ, Bool, true, false, true≢false, not, if◌then◌else◌, List, [], ◌∷◌, Option, Some, None, Result, Ok, Err, refl, sym, ap, subst, ◌∙◌, arith, unwrap_or, cond}
+use Rattle.std.proofs.Common.{◌≡◌, ◌≤◌, ◌⊎◌, inl, inr, ⊎_elim, ℕ, Bool, true, false, true≢false, if◌then◌else◌, List, [], ◌∷◌, Option, Some, None, Result, Ok, Err, refl, sym, ap, subst, ◌∙◌, arith}
 use Rattle.std.specs.List.{find}
 use Rattle.rtx_tree.specs.declared.constants.Constant.{Constant}
 use Rattle.md_iter.specs.declared.substitution.Instance.{Instance}
 use Rattle.md_pattern.specs.declared.reason.Reason.{Reason}
 use Rattle.md_pattern.specs.declared.reason.Reason.TheVariants as reason
-use Rattle.md_pattern.specs.Reason.{number_of}
+use Rattle.md_pattern.specs.Reason.{number_of, judged_map}
 use Rattle.md_draft.specs.declared.draft.Draft.{Draft}
 use Rattle.md_draft.specs.Reasons as draft
 use Rattle.md_draft.specs.Reasons.{IsSmallest}
 use Rattle.md_draft.proofs.Smallest.{change}
 use Rattle.md_draft.proofs.Reasons.{of_entry}
-use Rattle.md_forms.specs.declared.form.Form.{Form}
-use Rattle.md_forms.specs.declared.form.OperandConstraint.{OperandConstraint}
 use Rattle.md_forms.specs.declared.tables.Tables.{Tables}
 use Rattle.md_forms.specs.Checks.{constraints_of, has_reason, later_reasons, reason_of, form_with, unless, checked, form_of}
 use Rattle.md_forms.specs.Forms.{draft_entry, judged_form}
@@ -20,31 +18,16 @@ use Rattle.md_forms.specs.Reasons.{Applies, tables_in, judged_in}
 
 -- ---- the code's steps
 
-err_ok : (r : Reason) (ks : List OperandConstraint) → ◌≡◌ {A = Result (List OperandConstraint) Reason} (Err r) (Ok ks) → ⊥
-err_ok r ks e = cc
-
-ok_same : (ks ls : List OperandConstraint) → ◌≡◌ {A = Result (List OperandConstraint) Reason} (Ok ks) (Ok ls) → ks ≡ ls
-ok_same ks ls e = cc
-
-err_same : (r s : Reason) → ◌≡◌ {A = Result (List OperandConstraint) Reason} (Err r) (Err s) → r ≡ s
-err_same r s e = cc
+-- what is made of a thing that some reason may keep from being made
+made_unless : {A B : Type 0} (f : A → B) (o : Option Reason) (x : A) →
+    judged_map f (unless o x) ≡ unless o (f x)
+made_unless f None x = refl
+made_unless f (Some r) x = refl
 
 module _ (tables : Tables) (d : Draft) where
-  by_reason : (o : Option Reason) (ks : List OperandConstraint) (form : Form) → unless o (constraints_of tables d) ≡ Ok ks → form ≡ form_with d ks → Ok form ≡ unless o (form_with d (constraints_of tables d))
-  by_reason None ks form e is = let same : constraints_of tables d ≡ ks = ok_same (constraints_of tables d) ks e in ap (λ (f : Form). Ok f) (is ∙ ap (form_with d) (sym same))
-  by_reason (Some r) ks form e is = absurd (err_ok r ks e)
-
-  pub form_made : (ks : List OperandConstraint) (form : Form) → Ok ks ≡ checked tables d → form ≡ form_with d ks → Ok form ≡ form_of tables d
+  pub form_made : judged_map (form_with d) (checked tables d) ≡ form_of tables d
   unfolding checked form_of
-  form_made ks form e is = by_reason (reason_of tables d) ks form (sym e) is
-
-  by_refusal : (o : Option Reason) (r : Reason) → ◌≡◌ {A = Result (List OperandConstraint) Reason} (unless o (constraints_of tables d)) (Err r) → ◌≡◌ {A = Result Form Reason} (Err r) (unless o (form_with d (constraints_of tables d)))
-  by_refusal None r e = absurd (err_ok r (constraints_of tables d) (sym e))
-  by_refusal (Some s) r e = let same : s ≡ r = err_same s r e in ap (λ (x : Reason). Err x) (sym same)
-
-  pub form_refused : (r : Reason) → ◌≡◌ {A = Result (List OperandConstraint) Reason} (Err r) (checked tables d) → ◌≡◌ {A = Result Form Reason} (Err r) (form_of tables d)
-  unfolding checked form_of
-  form_refused r e = by_refusal (reason_of tables d) r (sym e)
+  form_made = made_unless (form_with d) (reason_of tables d) (constraints_of tables d)
 
 -- ---- the smallest of the later reasons
 

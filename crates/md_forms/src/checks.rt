@@ -1,6 +1,7 @@
 //! What is asked of a form whose own text is in order.
 ghost use Rattle.std.specs.Prelude.{◌≡◌, ◌==◌, ◌||◌, ◌++◌, nat_le, IfOk, Some};
 ghost use Rattle.std.specs.List.{flat_map, list_all};
+ghost use Rattle.md_pattern.specs.Reason.{judged_map};
 ghost use Rattle.md_text.specs.Lists as lists;
 ghost use Rattle.md_forms.specs.Checks as spec;
 ghost use Rattle.md_forms.specs.Names as names;
@@ -8,7 +9,7 @@ ghost use Rattle.md_forms.specs.Names as names;
 use crate::definitions::Definitions;
 use crate::form::{Form, OperandConstraint};
 use crate::names::{assigns, predicates_named, push_all_dups, push_all_operands};
-use crate::predicates::{all_known, same};
+use crate::predicates::all_known;
 use crate::tables::{AttributeDraft, ConstraintDraft, Tables, is_among, is_constraint};
 use c_cond::Head as CondHead;
 use md_draft::{Attribute, Defined, Draft, Head, Made, Matched, Output, Printed};
@@ -17,6 +18,7 @@ use md_text::{Alternative, Member, Template, constraint_of};
 use plain_data::{Items, Memory};
 use rtx_tree::{Kids, Name, Rtx};
 use std::alloc::Global;
+use text_words::same;
 
 /// The greatest number of operands, and of alternatives.
 const MOST: usize = 30;
@@ -402,7 +404,37 @@ fn output_stands(alternatives: usize, output: &Output) -> bool
 
 // ---- all in the order of the reasons
 
-/// The smallest reason that applies to a draft of which the predicates are known, and these are the constraints.
+/// The smallest reason behind those of predicates, where the numbers of the operands are known.
+fn reason_with(
+    alloc: Global,
+    tables: &Tables,
+    draft: &Draft,
+    constraints: &[OperandConstraint],
+    numbers: &Numbers,
+) -> Result<Option<Reason>, Memory>
+    requires constraints { spec.constraints_in tables.now.constraint_names draft.now
+        ≡ Some constraints.now }
+    requires numbers { spec.AreNumbers numbers.now draft.now }
+    ensures { IfOk result (λ reason. reason ≡ spec.reason_behind tables.now draft.now) }
+{
+    if !constraints_stand(numbers.matched.as_slice(), &tables.constraints, constraints) {
+        return Ok(Some(Reason::Constraint));
+    }
+    let count = alternatives(constraints);
+    if !attributes_stand(&tables.attributes, draft, count) {
+        return Ok(Some(Reason::Attribute));
+    }
+    if !operands_stand(alloc, draft, numbers, count)? {
+        return Ok(Some(Reason::Operands));
+    }
+    if !output_stands(count, &draft.printed.output) {
+        return Ok(Some(Reason::Template));
+    }
+    Ok(None)
+}
+
+/// The smallest reason that applies to a draft of which the predicates are known, and these are
+/// the constraints.
 fn reason_behind(
     alloc: Global,
     tables: &Tables,
@@ -413,20 +445,7 @@ fn reason_behind(
     ensures { IfOk result (λ reason. reason ≡ spec.reason_behind tables.now draft.now) }
 {
     let numbers = numbers_of(alloc, draft)?;
-    if !constraints_stand(numbers.matched.as_slice(), &tables.constraints, constraints) {
-        return Ok(Some(Reason::Constraint));
-    }
-    let count = alternatives(constraints);
-    if !attributes_stand(&tables.attributes, draft, count) {
-        return Ok(Some(Reason::Attribute));
-    }
-    if !operands_stand(alloc, draft, &numbers, count)? {
-        return Ok(Some(Reason::Operands));
-    }
-    if !output_stands(count, &draft.printed.output) {
-        return Ok(Some(Reason::Template));
-    }
-    Ok(None)
+    reason_with(alloc, tables, draft, constraints, &numbers)
 }
 
 /// The constraints of a draft, or the smallest reason that applies to it.
@@ -510,12 +529,25 @@ fn form_with(alloc: Global, draft: Draft, constraints: Items<OperandConstraint>)
     }
 }
 
+/// The form with these constraints, or the reason why there are none.
+fn judged_form(
+    alloc: Global,
+    draft: Draft,
+    constraints: Judged<Items<OperandConstraint>>,
+) -> Judged<Form>
+    ensures { result ≡ judged_map (spec.form_with draft) constraints }
+{
+    match constraints {
+        Ok(constraints) => Ok(form_with(alloc, draft, constraints)),
+        Err(reason) => Err(reason),
+    }
+}
+
 /// A form, or the smallest reason that applies to a draft.
+#[tactic(auto, using(crate::proofs::Checked::form_made))]
 pub fn form_of(alloc: Global, tables: &Tables, draft: Draft) -> Result<Judged<Form>, Memory>
     ensures { IfOk result (λ form. form ≡ spec.form_of tables.now draft) }
 {
-    match checked(alloc, tables, &draft)? {
-        Ok(constraints) => Ok(Ok(form_with(alloc, draft, constraints))),
-        Err(reason) => Ok(Err(reason)),
-    }
+    let constraints = checked(alloc, tables, &draft)?;
+    Ok(judged_form(alloc, draft, constraints))
 }

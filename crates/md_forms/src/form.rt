@@ -8,7 +8,7 @@ use pred_expr::Test;
 use rtx_tree::{Kids, Name};
 
 /// The constraint of an operand.
-#[derive(Debug, Drop)]
+#[derive(Drop)]
 pub struct OperandConstraint {
     /// The operand's number.
     pub operand: u32,

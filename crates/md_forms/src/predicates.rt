@@ -1,7 +1,6 @@
 //! Which predicates of a description hold.
 ghost use Rattle.std.specs.Prelude.{◌≡◌, ◌↔◌, IfOk, IsTrue, map};
 ghost use Rattle.std.specs.List.{list_all};
-ghost use Rattle.std.specs.Str.{bytes_eq};
 ghost use Rattle.md_forms.specs.Predicates as spec;
 
 use crate::definitions::Definitions;
@@ -9,13 +8,7 @@ use crate::tables::PredicateDraft;
 use plain_data::{Items, Memory};
 use rtx_tree::Name;
 use std::alloc::Global;
-
-/// Whether two texts are the same.
-pub fn same(text: &[u8], word: &[u8]) -> bool
-    ensures { result ≡ bytes_eq text.now word.now }
-{
-    text == word
-}
+use text_words::same;
 
 /// Whether a predicate is there without a definition. That without a name accepts anything.
 fn is_own(name: &[u8]) -> bool

@@ -6,12 +6,13 @@ ghost use Rattle.md_forms.specs.Tables as spec;
 
 use crate::definitions::{Definitions, Named};
 use crate::names::predicates_named;
-use crate::predicates::{accepted_within, all_known, same};
+use crate::predicates::{accepted_within, all_known};
 use md_draft::{Draft, DraftEntry, Head};
 use md_pattern::Judged;
 use plain_data::{Items, Memory};
 use rtx_tree::Name;
 use std::alloc::Global;
+use text_words::same;
 
 /// A definition of a predicate.
 #[derive(Drop)]
@@ -315,19 +316,99 @@ fn attributes_of(alloc: Global, entries: &[DraftEntry]) -> Result<Items<Attribut
     Ok(found)
 }
 
+// ---- all of them
+
+fn predicate_table(
+    alloc: Global,
+    entries: &[DraftEntry],
+) -> Result<Definitions<PredicateDraft>, Memory>
+    ensures { IfOk result (λ ds. ds ≡ spec.predicates_of entries.now) }
+{
+    Definitions::of(alloc, predicates_of(alloc, entries)?)
+}
+
+fn attribute_table(
+    alloc: Global,
+    entries: &[DraftEntry],
+) -> Result<Definitions<AttributeDraft>, Memory>
+    ensures { IfOk result (λ ds. ds ≡ spec.attributes_of entries.now) }
+{
+    Definitions::of(alloc, attributes_of(alloc, entries)?)
+}
+
+/// The names of the constraints, and the constraints.
+fn constraint_table(
+    alloc: Global,
+    predicates: &Definitions<PredicateDraft>,
+    accepted: &[bool],
+    entries: &[DraftEntry],
+) -> Result<(Items<Name>, Definitions<ConstraintDraft>), Memory>
+    ensures names { IfOk result (λ table. table.0 ≡ map (λ k. k.name)
+        (spec.constraints_of (is_known predicates.now accepted.now) entries.now)) }
+    ensures constraints { IfOk result (λ table. table.1 ≡ spec.constraints_of
+        (is_known predicates.now accepted.now) entries.now) }
+{
+    let constraints = constraints_of(alloc, predicates, accepted, entries)?;
+    let names = names_of(alloc, constraints.as_slice())?;
+    Ok((names, Definitions::of(alloc, constraints)?))
+}
+
+/// The constraints as above, and the attributes.
+fn constraints_and_attributes(
+    alloc: Global,
+    predicates: &Definitions<PredicateDraft>,
+    accepted: &[bool],
+    entries: &[DraftEntry],
+) -> Result<
+    (
+        Items<Name>,
+        Definitions<ConstraintDraft>,
+        Definitions<AttributeDraft>,
+    ),
+    Memory,
+>
+    ensures names { IfOk result (λ table. table.0 ≡ map (λ k. k.name)
+        (spec.constraints_of (is_known predicates.now accepted.now) entries.now)) }
+    ensures constraints { IfOk result (λ table. table.1 ≡ spec.constraints_of
+        (is_known predicates.now accepted.now) entries.now) }
+    ensures attributes { IfOk result (λ table. table.2 ≡ spec.attributes_of entries.now) }
+{
+    let attributes = attribute_table(alloc, entries)?;
+    let (names, constraints) = constraint_table(alloc, predicates, accepted, entries)?;
+    Ok((names, constraints, attributes))
+}
+
+/// What the forms define, where it is known which of the predicates are accepted.
+fn tables_with(
+    alloc: Global,
+    entries: &[DraftEntry],
+    predicates: Definitions<PredicateDraft>,
+    accepted: Items<bool>,
+) -> Result<Tables, Memory>
+    ensures { IfOk result (λ tables. tables ≡ spec.tables_with entries.now predicates accepted
+        (spec.constraints_of (is_known predicates accepted) entries.now)) }
+{
+    let (constraint_names, constraints, attributes) = constraints_and_attributes(
+        alloc,
+        &predicates,
+        accepted.as_slice(),
+        entries,
+    )?;
+    Ok(Tables {
+        predicates,
+        accepted,
+        constraint_names,
+        constraints,
+        attributes,
+    })
+}
+
 /// What the forms of a description define for one another.
 #[tactic(auto, unfolding(crate::specs::Tables::tables_of))]
 pub fn tables_of(alloc: Global, entries: &[DraftEntry]) -> Result<Tables, Memory>
     ensures { IfOk result (λ tables. tables ≡ spec.tables_of entries.now) }
 {
-    let predicates = Definitions::of(alloc, predicates_of(alloc, entries)?)?;
+    let predicates = predicate_table(alloc, entries)?;
     let accepted = accepted_within(alloc, &predicates, entries.len())?;
-    let constraints = constraints_of(alloc, &predicates, accepted.as_slice(), entries)?;
-    Ok(Tables {
-        constraint_names: names_of(alloc, constraints.as_slice())?,
-        constraints: Definitions::of(alloc, constraints)?,
-        attributes: Definitions::of(alloc, attributes_of(alloc, entries)?)?,
-        predicates,
-        accepted,
-    })
+    tables_with(alloc, entries, predicates, accepted)
 }

@@ -1,8 +1,9 @@
 -- The definitions of iterators, of their attributes and of constants: GCC Internals, "Iterators" ("Mode Iterators", "Code
 -- Iterators", "Int Iterators") and "Constants". Each is a list of just its parts; any other tree is a form.
-use Rattle.std.specs.Prelude.{ℕ, ℤ, Bool, true, false, ◌&&◌, not, List, [], ◌∷◌, Option, Some, None, if◌then◌else◌, option_map, option_and_then, codes}
+use Rattle.std.specs.Prelude.{ℕ, ℤ, ◌==◌, Bool, true, false, ◌&&◌, not, List, [], ◌∷◌, Option, Some, None, if◌then◌else◌, option_map, option_and_then, codes}
 use Rattle.std.specs.List.{filter_map, flat_map}
 use Rattle.std.specs.Option.{is_some, unwrap_or}
+use Rattle.std.specs.Int.{w64, cast_signed, int_wrapping_neg}
 use Rattle.std.specs.Str.{bytes_eq}
 use Rattle.rtx_tree.specs.declared.constants.Constant.{Constant}
 use Rattle.lisp_read.specs.declared.tree.Tree.{Tree}
@@ -14,7 +15,14 @@ use Rattle.md_iter.specs.declared.definition.Entry.{Entry}
 use Rattle.md_iter.specs.declared.definition.IteratorAttribute.{IteratorAttribute}
 use Rattle.md_iter.specs.declared.definition.Definitions.{Definitions}
 use Rattle.md_iter.specs.Shape.{atom_of, string_of, items_of, vector_of}
-use Rattle.md_iter.specs.Number.{number_in}
+use Rattle.text_words.specs.Numbers.{c_number_in}
+
+-- the number that a constant is defined as: one of C, with a minus in front or none, in 64 bits that are read as signed
+abbrev pub number_in : List ℕ → Option ℤ
+number_in [] = None
+number_in (b ∷ bs) =
+    if b == 45 then option_map (λ n. int_wrapping_neg w64 (cast_signed w64 n)) (c_number_in bs)
+    else option_map (cast_signed w64) (c_number_in (b ∷ bs))
 
 abbrev pub same_kind : Kind → Kind → Bool
 same_kind Mode Mode = true

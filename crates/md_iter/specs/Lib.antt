@@ -1,5 +1,4 @@
 pub mod Shape
-pub mod Number
 pub mod Definition
 pub mod Choice
 pub mod Attribute

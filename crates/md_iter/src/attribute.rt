@@ -7,9 +7,10 @@ ghost use Rattle.md_iter.specs.Choice.{chosen_of};
 
 use crate::choice::Choice;
 use crate::definition::{Definitions, Entry, IteratorAttribute, Kind};
-use crate::shape::{cut, same};
+use crate::shape::cut;
 use plain_data::Memory;
 use rtx_tree::Name;
+use text_words::same;
 
 /// A text that stands for `<..>`.
 #[derive(Clone, Copy)]

@@ -6,10 +6,11 @@ ghost use Rattle.md_iter.specs.Choice as spec;
 ghost use Rattle.md_iter.specs.Choice.{chosen_of, lent};
 
 use crate::definition::{FormIterator, Kind, Value};
-use crate::shape::{cut, same};
+use crate::shape::cut;
 use lisp_read::Tree;
 use plain_data::Memory;
 use std::alloc::Global;
+use text_words::same;
 
 /// An iterator with the value that it has in a substitution.
 #[derive(Clone, Copy)]

@@ -3,11 +3,12 @@ ghost use Rattle.std.specs.Prelude.{◌≡◌, IfOk, option_map};
 ghost use Rattle.md_iter.specs.Definition as spec;
 
 use crate::number::number_in;
-use crate::shape::{atom, items, same, string, vector};
+use crate::shape::{atom, items, string, vector};
 use lisp_read::Tree;
 use plain_data::{Items, Memory};
 use rtx_tree::{Constant, Constants, Name};
 use std::alloc::Global;
+use text_words::same;
 
 /// What an iterator stands for.
 #[derive(Clone, Copy)]

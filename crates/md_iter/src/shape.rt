@@ -1,7 +1,6 @@
 //! What a tree of a description is, looked at from outside.
 ghost use Rattle.std.specs.Prelude.{◌≡◌, option_map};
 ghost use Rattle.std.specs.Option.{option_copied};
-ghost use Rattle.std.specs.Str.{bytes_eq};
 ghost use Rattle.md_iter.specs.Shape as spec;
 
 use lisp_read::Tree;
@@ -57,11 +56,4 @@ pub fn cut(text: &[u8], byte: u8) -> Option<(&[u8], &[u8])>
         }
     }
     None
-}
-
-/// Whether two texts are the same.
-pub fn same(text: &[u8], word: &[u8]) -> bool
-    ensures { result ≡ bytes_eq text.now word.now }
-{
-    text == word
 }

@@ -8,12 +8,13 @@ ghost use Rattle.md_iter.specs.Substitution as spec;
 use crate::angles::filled;
 use crate::choice::Choice;
 use crate::definition::{Definitions, Kind};
-use crate::shape::{cut, same};
+use crate::shape::cut;
 use itoa::Buffer;
 use lisp_read::{Tree, Trees};
 use plain_data::{Items, Memory};
 use rtx_tree::{Constant, Name};
 use std::alloc::Global;
+use text_words::same;
 
 /// A form with values in the places of its iterators.
 #[derive(Drop)]

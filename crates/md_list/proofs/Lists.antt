@@ -12,7 +12,8 @@ use Rattle.tree_forms.specs.Trees.{expanded, most_forms}
 use Rattle.md_list.specs.declared.refusal.ListRefusal.{ListRefusal}
 use Rattle.md_list.specs.declared.refusal.ListRefusal.TheVariants as refusal
 use Rattle.md_list.specs.Listing.{ListComes, list_of_trees}
-use Rattle.md_list.specs.Answers.{GivesList, ListsTrees}
+use Rattle.md_list.specs.Answers.{GivesList}
+use Rattle.md_list.specs.machine.Steps.{ListsTrees}
 
 -- the trees of a description were listed
 pub of_trees : (source : Source) (name : List ℕ) (trees : List Tree) (r : Result (Vec ℕ Global) ListRefusal) → DescriptionComes source name (Ok trees) → ListsTrees trees r → GivesList (ListComes source name) r

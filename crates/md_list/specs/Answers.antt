@@ -15,12 +15,3 @@ GivesList P (Err refusal.Memory) = Unit {0}
 GivesList P (Err (refusal.Source source.ReadFault)) = Unit {0}
 GivesList P (Err (refusal.Source source.Memory)) = Unit {0}
 GivesList P (Err e) = P (Err e)
-
--- ---- the steps of the code
-
--- trees were listed, or there are too many forms of them
-abbrev pub ListsTrees : List Tree → Result (Vec ℕ Global) ListRefusal → Type 0
-ListsTrees trees (Ok text) = (text.items ≡ list_of_trees trees) × (length (expanded trees) ≤ most_forms)
-ListsTrees trees (Err refusal.Forms) = most_forms < length (expanded trees)
-ListsTrees trees (Err refusal.Memory) = Unit {0}
-ListsTrees trees (Err (refusal.Source e)) = ⊥

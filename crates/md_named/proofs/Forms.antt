@@ -14,7 +14,8 @@ use Rattle.tree_forms.specs.Trees.{expanded, forms_of, most_forms}
 use Rattle.run_refusal.specs.declared.refusal.Refusal.{Refusal}
 use Rattle.run_refusal.specs.declared.refusal.Refusal.TheVariants as refusal
 use Rattle.md_named.specs.Named.{source_refused, FormsCome}
-use Rattle.md_named.specs.Answers.{RefusesForms, GivesForms, DescribesRun}
+use Rattle.md_named.specs.Answers.{RefusesForms, GivesForms}
+use Rattle.md_named.specs.machine.Steps.{DescribesRun}
 
 -- the trees of a description were described
 pub of_trees : (source : Source) (name : List ℕ) (trees : List Tree) (r : Result (List Entry) Refusal) → DescriptionComes source name (Ok trees) → DescribesRun trees r → GivesForms r (FormsCome source name)

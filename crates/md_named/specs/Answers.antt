@@ -19,12 +19,3 @@ RefusesForms e P = P (Err e)
 abbrev pub GivesForms : Result (List Entry) Refusal → (Result (List Entry) Refusal → Type 0) → Type 0
 GivesForms (Ok forms) P = P (Ok forms)
 GivesForms (Err e) P = RefusesForms e P
-
--- ---- a step of the code
-
--- trees were described, or there are too many forms of them
-abbrev pub DescribesRun : List Tree → Result (List Entry) Refusal → Type 0
-DescribesRun trees (Ok d) = (d ≡ forms_of trees) × (length (expanded trees) ≤ most_forms)
-DescribesRun trees (Err refusal.Memory) = Unit {0}
-DescribesRun trees (Err (refusal.Limit which count)) = (which ≡ limit.Forms) × (count ≡ 20001) × (most_forms < length (expanded trees))
-DescribesRun trees (Err e) = ⊥

@@ -7,7 +7,8 @@ ghost use Rattle.md_source.specs.Answers.{Agrees};
 ghost use Rattle.md_forms.specs.declared.form.Entry.{Entry};
 ghost use Rattle.run_refusal.specs.declared.refusal.Refusal.{Refusal};
 ghost use Rattle.md_named.specs.Named as spec;
-ghost use Rattle.md_named.specs.Answers.{GivesForms, DescribesRun};
+ghost use Rattle.md_named.specs.Answers.{GivesForms};
+ghost use Rattle.md_named.specs.machine.Steps.{DescribesRun};
 
 use byte_edge::Files;
 use lisp_read::Tree;

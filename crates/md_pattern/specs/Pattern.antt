@@ -17,13 +17,15 @@ use Rattle.lisp_read.specs.Leaf.{quoted_name}
 use Rattle.lisp_read.specs.Expression.{inside_at, inside_of}
 use Rattle.md_pattern.specs.declared.reason.Reason.{Reason}
 use Rattle.md_pattern.specs.declared.reason.Reason.TheVariants as reason
-use Rattle.md_pattern.specs.declared.parts.Parts.{Parts}
-use Rattle.md_pattern.specs.declared.parts.Parts.TheVariants as parts
+use Rattle.rtx_tree.specs.declared.class.HeadMode.{HeadMode}
+use Rattle.rtx_tree.specs.declared.class.HeadMode.TheVariants.{Needed, Optional}
+use Rattle.rtx_tree.specs.declared.class.Parts.{Parts}
+use Rattle.rtx_tree.specs.declared.class.Parts.TheVariants as parts
 use Rattle.md_pattern.specs.declared.operand.Operand.{Operand}
 use Rattle.md_pattern.specs.declared.pattern.Pattern.{Pattern}
 use Rattle.md_pattern.specs.declared.pattern.Patterns.{Patterns}
 use Rattle.md_pattern.specs.Reason.{judged_with, judged_map}
-use Rattle.md_pattern.specs.Parts.{parts_of_code, has_mode}
+use Rattle.rtx_tree.specs.Code.{class_of_code, parts_of, head_mode_of}
 use Rattle.md_pattern.specs.Word.{number_of, register_of}
 use Rattle.md_pattern.specs.Operand.{numbered, predicated, operand_in, scratch_in, dup_in}
 
@@ -59,6 +61,15 @@ bare x = record { tree = x; texts = [] }
 abbrev pub or_aside : {A : Type 0} → Reason → Option A → Result A Reason
 or_aside r (Some x) = Ok x
 or_aside r None = Err r
+
+-- an expression of a code has a mode where one may be written that is not passed over
+abbrev is_moded : HeadMode → Bool
+is_moded Needed = true
+is_moded Optional = true
+is_moded _ = false
+
+abbrev pub has_mode : Code → Bool
+has_mode c = is_moded (head_mode_of (class_of_code c))
 
 -- a mode outside is looked at before the mode of a code that has none is dropped
 abbrev pub mode_for : Code → Option Mode → Result Mode Reason
@@ -141,7 +152,7 @@ behind constants c m parts.OperatorDup ts ms = operator_dup_by c m ts ms
 -- what stands behind an unknown code isn't looked at
 abbrev pub of_code : List Constant → Option Code → Option Mode → List Tree → List Meaning → Result Pattern Reason
 of_code constants None m ts ms = Err reason.Code
-of_code constants (Some c) m ts ms = behind constants c (mode_for c m) (parts_of_code c) ts ms
+of_code constants (Some c) m ts ms = behind constants c (mode_for c m) (parts_of (class_of_code c)) ts ms
 
 -- a list with an atom at its head; any other tree is no expression
 abbrev pub of_head : List Constant → Option (List ℕ) → List Tree → List Meaning → Result Pattern Reason

@@ -1,20 +1,19 @@
 //! Reads a pattern from its tree.
 ghost use Rattle.std.specs.Prelude.{◌≡◌, ◌==◌, ◌++◌, IfOk, Ok, map, take, length, option_and_then};
 ghost use Rattle.std.specs.Option.{option_copied};
+ghost use Rattle.rtx_tree.specs.Code.{class_of_code, parts_of};
 ghost use Rattle.lisp_read.specs.Head.{code_of_head, mode_of_head};
 ghost use Rattle.md_pattern.specs.declared.reason.Reason.TheVariants as reason;
-ghost use Rattle.md_pattern.specs.Parts.{parts_of_code};
 ghost use Rattle.md_pattern.specs.Pattern as spec;
 ghost use Rattle.md_pattern.specs.Reason.{judged_with};
 ghost use Rattle.md_pattern.specs.Word as word;
 
 use crate::operand::{Operand, OperandTexts, dup_in, numbered, operand_in, predicated, scratch_in};
-use crate::parts::{Parts, has_mode, parts_of_code};
 use crate::reason::{Judged, Reason, both};
 use crate::word::{number_of, register_of};
 use lisp_read::{Tree, atom, head_words, is_vector, is_word, items, quoted_name, vector};
 use plain_data::{Items, Memory};
-use rtx_tree::{Code, Constant, Constants, Kids, Mode, Name, Rtx};
+use rtx_tree::{Code, Constant, Constants, HeadMode, Kids, Mode, Name, Parts, Rtx};
 use std::alloc::Global;
 
 /// An expression of a description.
@@ -100,6 +99,16 @@ fn bare(alloc: Global, tree: Rtx) -> Pattern
         tree,
         texts: Items::new(alloc),
     }
+}
+
+/// Whether an expression of this code has a mode.
+fn has_mode(code: Code) -> bool
+    ensures { result ≡ spec.has_mode code }
+{
+    matches!(
+        code.class().head_mode(),
+        HeadMode::Needed | HeadMode::Optional
+    )
 }
 
 /// The mode of an expression, where one is written that is a mode.
@@ -402,9 +411,9 @@ fn behind(
     mode: Judged<Mode>,
     parts: &[Tree],
 ) -> Result<Judged<Pattern>, Memory>
-    ensures { IfOk result (λ pattern. pattern ≡ spec.behind constants.now code mode (parts_of_code code) parts.now (map (spec.meaning_of constants.now) parts.now)) }
+    ensures { IfOk result (λ pattern. pattern ≡ spec.behind constants.now code mode (parts_of (class_of_code code)) parts.now (map (spec.meaning_of constants.now) parts.now)) }
 {
-    match parts_of_code(code) {
+    match code.class().parts() {
         Parts::Register => Ok(register(alloc, constants, mode, parts)),
         Parts::Number => Ok(number(alloc, constants, mode, parts)),
         Parts::Symbol => symbol(alloc, mode, parts),

@@ -6,7 +6,7 @@ use Rattle.md_operand.specs.Operand.{own_named}
 use Rattle.md_pred.specs.declared.definitions.Definition.{Definition}
 use Rattle.md_pred.specs.declared.definitions.Definitions.{Definitions}
 use Rattle.md_pred.specs.Holds.{within}
-use Rattle.md_pred.specs.Table.{definition_in, kept, kept_holds}
+use Rattle.md_pred.specs.machine.Table.{definition_in, kept, kept_holds}
 
 pub asked_again : (ds : Definitions) (rounds : ℕ) (name : List ℕ) (x : Rtx) (m : Mode) (d : Option Definition) → own_named name ≡ None → (rounds ≡ 0 → ⊥) → d ≡ definition_in ds name
     → kept_holds (within (kept ds) (rounds - 1)) x m ds.rows d ≡ within (kept ds) rounds name x m

@@ -7,7 +7,7 @@ use Rattle.md_draft.specs.Head.{head_named}
 use Rattle.md_forms.specs.declared.form.Entry.{Entry}
 use Rattle.md_forms.specs.Tables.{defines_predicate}
 use Rattle.md_pred.specs.Holds.{is_named, defines}
-use Rattle.md_pred.specs.Steps.{predicate_name}
+use Rattle.md_pred.specs.machine.Steps.{predicate_name}
 
 -- a form defines the name that it gives a predicate
 pub defines_named : (name : List ℕ) (e : Entry) → defines name e ≡ is_named (predicate_name e) name

@@ -20,8 +20,8 @@ use Rattle.pred_rows.proofs.Answering.{holds_still}
 use Rattle.md_pred.specs.declared.definitions.Definition.{Definition}
 use Rattle.md_pred.specs.declared.definitions.Definitions.{Definitions}
 use Rattle.md_pred.specs.Holds.{mode_fits, defines}
-use Rattle.md_pred.specs.Table.{definition_in, root_holds}
-use Rattle.md_pred.specs.Steps.{predicate_name, Keeps, KeepsFirst, AreKept, HasNow, Defines}
+use Rattle.md_pred.specs.machine.Table.{definition_in, root_holds}
+use Rattle.md_pred.specs.machine.Steps.{predicate_name, Keeps, KeepsFirst, AreKept, HasNow, Defines}
 use Rattle.md_pred.proofs.Finding.{find_more}
 
 or_none : {X : Type 0} (o : Option X) → option_or o None ≡ o

@@ -5,7 +5,7 @@ use Rattle.rtx_tree.specs.declared.code.Mode.{Mode}
 use Rattle.rtx_tree.specs.declared.tree.Rtx.{Rtx}
 use Rattle.pred_rows.specs.declared.node.Node.{Node}
 use Rattle.pred_rows.specs.Tests.{Accepts}
-use Rattle.pred_rows.specs.Rows.{answer_at, answers, holds_at, node_answer}
+use Rattle.pred_rows.specs.machine.Rows.{answer_at, answers, holds_at, node_answer}
 use Rattle.pred_rows.proofs.Answering.{holds_still, holds_here, holds_nowhere}
 
 module _ (other : Accepts) (x : Rtx) (m : Mode) (rows : List Node) where

@@ -10,8 +10,8 @@ use Rattle.pred_rows.specs.Tests.{Accepts}
 use Rattle.md_pred.specs.declared.definitions.Definition.{Definition}
 use Rattle.md_pred.specs.declared.definitions.Definitions.{Definitions}
 use Rattle.md_pred.specs.Holds.{defines, definition_holds, defined, within, holds}
-use Rattle.md_pred.specs.Table.{definition_in, kept, kept_holds}
-use Rattle.md_pred.specs.Steps.{KeepsFirst, AreKept}
+use Rattle.md_pred.specs.machine.Table.{definition_in, kept, kept_holds}
+use Rattle.md_pred.specs.machine.Steps.{KeepsFirst, AreKept}
 
 first_same : (nodes : List Node) (d : Option Definition) (e : Option Entry) → KeepsFirst nodes d e → (other : Accepts) (x : Rtx) (m : Mode) → kept_holds other x m nodes d ≡ definition_holds other x m e
 first_same nodes None None is other x m = refl

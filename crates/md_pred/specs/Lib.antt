@@ -1,3 +1,2 @@
 pub mod Holds
-pub mod Table
-pub mod Steps
+pub mod machine

@@ -5,9 +5,9 @@
 ghost use Rattle.std.specs.Prelude.{◌≡◌, ℕ, ◌+◌, ◌*◌, ◌<◌, ◌≤◌, ◌&&◌, ◌||◌, length, slice_get, Some, if◌then◌else◌};
 ghost use Rattle.md_operand.specs.Operand as operands;
 ghost use Rattle.md_pred.specs.Holds as spec;
-ghost use Rattle.md_pred.specs.Steps as steps;
-ghost use Rattle.md_pred.specs.Table as tables;
-ghost use Rattle.pred_rows.specs.Rows as rows;
+ghost use Rattle.md_pred.specs.machine.Steps as steps;
+ghost use Rattle.md_pred.specs.machine.Table as tables;
+ghost use Rattle.pred_rows.specs.machine.Rows as rows;
 
 use crate::definitions::Definition;
 use crate::step::{At, Step};

@@ -4,8 +4,8 @@ ghost use Rattle.std.specs.Option.{option_copied, option_or};
 ghost use Rattle.std.specs.Str.{bytes_eq};
 ghost use Rattle.md_forms.specs.declared.form.Entry.{Entry};
 ghost use Rattle.md_forms.specs.Tables.{defines_predicate};
-ghost use Rattle.md_pred.specs.Steps as steps;
-ghost use Rattle.md_pred.specs.Table as table;
+ghost use Rattle.md_pred.specs.machine.Steps as steps;
+ghost use Rattle.md_pred.specs.machine.Table as table;
 
 use indexmap::IndexMap;
 use md_forms::{Entry, Form, Head, Judged};

@@ -29,7 +29,7 @@ impl Step {
     ghost use Rattle.std.specs.Prelude.{ℕ, not};
     ghost use Rattle.rtx_tree.specs.declared.tree.Rtx.{Rtx};
     ghost use Rattle.md_pred.specs.declared.table.PredTable.{PredTable};
-    ghost use Rattle.md_pred.specs.Steps as steps;
+    ghost use Rattle.md_pred.specs.machine.Steps as steps;
 
     /// What gives the other answer.
     pub fn turned(self) -> Step

@@ -25,7 +25,7 @@ impl PredTable {
     ghost use Rattle.md_draft.specs.declared.draft.DraftEntry.{DraftEntry};
     ghost use Rattle.md_forms.specs.Forms.{forms_in};
     ghost use Rattle.md_pred.specs.Holds.{holds, IsTold};
-    ghost use Rattle.md_pred.specs.Table.{accepted_by};
+    ghost use Rattle.md_pred.specs.machine.Table.{accepted_by};
 
     /// The table of the predicates that some forms define. Of a name the first definition counts, and one that is set aside accepts
     /// nothing. For the forms of a description the definitions tell what predicates accept.
@@ -44,7 +44,7 @@ impl PredTable {
 }
 
 impl Preds for PredTable {
-    ghost use Rattle.md_pred.specs.Table.{accepted_by};
+    ghost use Rattle.md_pred.specs.machine.Table.{accepted_by};
 
     ghost accepts = { λ table. accepted_by table };
 

@@ -6,7 +6,8 @@ use Rattle.md_source.specs.declared.refusal.SourceRefusal.{SourceRefusal}
 use Rattle.md_source.specs.declared.refusal.SourceRefusal.TheVariants as refusal
 use Rattle.md_source.specs.Include.{included_name}
 use Rattle.md_source.specs.Source.{Source, Outcome, FileComes, TreesCome, DescriptionComes, in_front, text_of, most_within}
-use Rattle.md_source.specs.Answers.{Refuses, FileReads}
+use Rattle.md_source.specs.Answers.{Refuses}
+use Rattle.md_source.specs.machine.Steps.{FileReads}
 
 -- whatever the rest of the trees comes to, the file comes to it with some trees in front
 abbrev pub ComesOn : Source → (within used : ℕ) → List ℕ → List Tree → ℕ → List Tree → Type 0

@@ -4,7 +4,8 @@ use Rattle.std.specs.Str.{bytes_eq}
 use Rattle.rv_target.specs.Shipped.{shipped_text}
 use Rattle.md_source.specs.declared.refusal.SourceRefusal.TheVariants as refusal
 use Rattle.md_source.specs.Source.{Source, Outcome, shipped_name, text_of}
-use Rattle.md_source.specs.Answers.{Agrees, Gives, TextReads, FileReads}
+use Rattle.md_source.specs.Answers.{Agrees, Gives}
+use Rattle.md_source.specs.machine.Steps.{TextReads, FileReads}
 
 same_text : (a b : List ℕ) → ◌≡◌ {A = Option (List ℕ)} (Some a) (Some b) → a ≡ b
 same_text a b e = cc

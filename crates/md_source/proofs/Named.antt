@@ -7,7 +7,8 @@ use Rattle.md_source.specs.declared.trees.Gathered.{Gathered}
 use Rattle.md_source.specs.Include.{included_name}
 use Rattle.md_source.specs.Source.{Source, shipped_name, text_of}
 use Rattle.md_source.specs.Asked.{MayInclude, WasRead, MayAsk, AreNamed, GrewBy}
-use Rattle.md_source.specs.Answers.{Agrees, FileReads, AsksFile}
+use Rattle.md_source.specs.Answers.{Agrees}
+use Rattle.md_source.specs.machine.Steps.{FileReads, AsksFile}
 
 -- names that may be asked for, and the file's own is read already
 abbrev pub IsRead : Source → List ℕ → List (List ℕ) → Type 0

@@ -9,7 +9,8 @@ use Rattle.md_source.specs.declared.trees.Gathered.{Gathered}
 use Rattle.md_source.specs.declared.refusal.SourceRefusal.{SourceRefusal}
 use Rattle.md_source.specs.declared.refusal.SourceRefusal.TheVariants as refusal
 use Rattle.md_source.specs.Include.{included_name}
-use Rattle.md_source.specs.Source.{Source, Outcome, FileComes, TreesCome, DescriptionComes, in_front, text_of, most_bytes}
+use Rattle.rtx_tree.specs.Limit.{most_bytes}
+use Rattle.md_source.specs.Source.{Source, Outcome, FileComes, TreesCome, DescriptionComes, in_front, text_of}
 use Rattle.md_source.specs.Asked.{IsNamed, IsKnown}
 
 same_some : (a b : List ℕ) → ◌≡◌ {A = Option (List ℕ)} (Some a) (Some b) → a ≡ b

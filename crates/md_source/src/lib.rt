@@ -14,5 +14,6 @@ mod read;
 mod refusal;
 mod trees;
 
+pub use read::SHIPPED;
 pub use refusal::SourceRefusal;
 pub use trees::gather;

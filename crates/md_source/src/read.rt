@@ -1,22 +1,21 @@
 //! The text of one file, by itself.
 ghost use Rattle.std.specs.Prelude.{◌≡◌, ◌≢◌, ◌≤◌, ◌+◌, ℕ, List, length, IfOk, IsTrue, ◌↔◌};
 ghost use Rattle.byte_edge.specs.Causes.{Rose};
-ghost use Rattle.md_source.specs.Source.{Source, most_bytes, shipped_name};
-ghost use Rattle.md_source.specs.Answers.{Agrees, Gives, TextReads, FileReads, AsksFor, AsksName, Fetched, IsSyntax};
+ghost use Rattle.rtx_tree.specs.Limit.{most_bytes};
+ghost use Rattle.md_source.specs.Source.{Source, shipped_name};
+ghost use Rattle.md_source.specs.Answers.{Agrees, Gives};
+ghost use Rattle.md_source.specs.machine.Steps.{TextReads, FileReads, AsksFor, AsksName, Fetched, IsSyntax};
 
 use crate::refusal::SourceRefusal;
 use crate::trees::Gathered;
 use byte_edge::{FetchFault, Files};
 use lisp_read::{ReadRefusal, read_trees};
-use rtx_tree::{Name, Place};
+use rtx_tree::{MOST_BYTES, Name, Place};
 use rv_target::shipped;
 use std::alloc::Global;
 
-/// How many bytes a description may have, with all its includes.
-const MOST_BYTES: usize = 16_777_216;
-
 /// The name of the shipped description.
-const SHIPPED: &[u8] = b"rv64im";
+pub const SHIPPED: &[u8] = b"rv64im";
 
 /// The refusal of a file that is no text.
 fn syntax(alloc: Global, file: &[u8], place: Place) -> SourceRefusal

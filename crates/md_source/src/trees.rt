@@ -2,7 +2,8 @@
 ghost use Rattle.std.specs.Prelude.{◌≡◌, ◌≢◌, ◌≤◌, ◌+◌, ◌++◌, ℕ, List, IfOk, OnOk, ◌↔◌, Result};
 ghost use Rattle.byte_edge.specs.Causes.{Rose};
 ghost use Rattle.lisp_read.specs.declared.tree.Tree.{Tree};
-ghost use Rattle.md_source.specs.Source.{Source, FileComes, DescriptionComes, most_bytes, most_within};
+ghost use Rattle.rtx_tree.specs.Limit.{most_bytes};
+ghost use Rattle.md_source.specs.Source.{Source, FileComes, DescriptionComes, most_within};
 ghost use Rattle.md_source.specs.Asked.{AreNamed, GrewBy, IsKnown};
 ghost use Rattle.md_source.specs.Answers.{Agrees, Gives};
 ghost use Rattle.md_source.specs.declared.refusal.SourceRefusal.{SourceRefusal};

@@ -1,7 +1,8 @@
 -- The blanks at the end of a text.
 use Rattle.std.proofs.Common.{◌≡◌, ℕ, ◌+◌, ◌-◌, ◌≤◌, true, false, List, [], ◌∷◌, ◌++◌, length, take, get_or, refl, sym, ap, ◌∙◌, arith}
 use Rattle.std.proofs.lemmas.List.{take_more, take_all}
-use Rattle.md_text.specs.Lists.{is_blank, ended, before_blanks}
+use Rattle.text_words.specs.Blanks.{is_blank}
+use Rattle.md_text.specs.Lists.{ended, before_blanks}
 
 -- a blank more at the end
 pub one_blank : (text : List ℕ) (b : ℕ) → is_blank b ≡ true → before_blanks (text ++ b ∷ []) ≡ before_blanks text

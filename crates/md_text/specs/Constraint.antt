@@ -11,7 +11,8 @@ use Rattle.md_text.specs.declared.constraint.Direction.TheVariants as direction
 use Rattle.md_text.specs.declared.constraint.Alternative.{Alternative}
 use Rattle.md_text.specs.declared.sign.Sign.{Sign}
 use Rattle.md_text.specs.declared.sign.Sign.TheVariants as sign
-use Rattle.md_text.specs.Lists.{is_blank, parts, each}
+use Rattle.text_words.specs.Blanks.{is_blank}
+use Rattle.md_text.specs.Lists.{parts, each}
 use Rattle.md_text.specs.Pieces.{pieces}
 
 -- ---- letters

@@ -1,10 +1,7 @@
 -- The members of a text with commas between them, as a define_attr, a set_attr or a match_code has them: GCC Internals,
 -- "Defining Attributes and their Values" and "Defining Machine-Specific Predicates".
 use Rattle.std.specs.Prelude.{ℕ, ◌==◌, Bool, ◌||◌, List, [], ◌∷◌, ◌++◌, Option, Some, if◌then◌else◌, map, option_map, option_and_then}
-
--- a space, a tab, a newline, a form feed or a carriage return
-abbrev pub is_blank : ℕ → Bool
-is_blank b = b == 32 || b == 9 || b == 10 || b == 12 || b == 13
+use Rattle.text_words.specs.Blanks.{is_blank, behind_blanks}
 
 -- bytes in front of the first of some parts
 abbrev pub prefixed : List ℕ → List (List ℕ) → List (List ℕ)
@@ -15,11 +12,6 @@ prefixed front (part ∷ more) = (front ++ part) ∷ more
 abbrev pub parts : ℕ → List ℕ → List (List ℕ)
 parts mark [] = [] ∷ []
 parts mark (b ∷ rest) = if b == mark then [] ∷ parts mark rest else prefixed (b ∷ []) (parts mark rest)
-
--- without the blanks at the front
-abbrev pub behind_blanks : List ℕ → List ℕ
-behind_blanks [] = []
-behind_blanks (b ∷ rest) = if is_blank b then behind_blanks rest else b ∷ rest
 
 -- a byte before a text that has no blanks at its end
 abbrev pub ended : ℕ → List ℕ → List ℕ

@@ -2,13 +2,14 @@
 ghost use Rattle.std.specs.Prelude.{◌≡◌, IfOk, option_map};
 ghost use Rattle.std.specs.List.{list_all};
 ghost use Rattle.md_text.specs.Constraint as spec;
-ghost use Rattle.md_text.specs.Lists.{is_blank as blank};
+ghost use Rattle.text_words.specs.Blanks.{is_blank};
 
-use crate::lists::{behind, is_blank, parts_of};
+use crate::lists::{behind, parts_of};
 use crate::sign::{sign_at, signed};
 use plain_data::{Items, Memory};
 use rtx_tree::Name;
 use std::alloc::Global;
+use text_words::all_blank;
 
 /// What a letter of the manual admits.
 #[derive(Clone, Copy, Debug, PartialEq, Eq)]
@@ -72,17 +73,6 @@ pub struct Alternative {
 /// The alternatives of an operand, in order. None at all, from an empty text, is no list of alternatives
 /// and accepts anything.
 pub type Constraint = Items<Alternative>;
-
-fn all_blank(text: &[u8]) -> bool
-    ensures { result ≡ list_all blank text.now }
-{
-    for byte in text {
-        if !is_blank(*byte) {
-            return false;
-        }
-    }
-    true
-}
 
 /// The alternative that a text without commas is.
 fn alternative_of(alloc: Global, names: &[Name], text: &[u8]) -> Result<Option<Alternative>, Memory>

@@ -5,13 +5,7 @@ ghost use Rattle.md_text.specs.Lists as spec;
 use plain_data::{Items, Memory};
 use rtx_tree::Name;
 use std::alloc::Global;
-
-/// Whether a byte is a space, a tab, a newline, a form feed or a carriage return.
-pub fn is_blank(byte: u8) -> bool
-    ensures { result ≡ spec.is_blank byte }
-{
-    matches!(byte, b' ' | b'\t' | b'\n' | 12 | b'\r')
-}
+use text_words::{behind_blanks, is_blank};
 
 /// What stands from a place on.
 pub fn behind(text: &[u8], at: usize) -> &[u8]
@@ -38,17 +32,6 @@ pub fn parts_of(alloc: Global, text: &[u8], mark: u8) -> Result<Items<Name>, Mem
     }
     parts.push(Name::from_vec(part))?;
     Ok(parts)
-}
-
-fn behind_blanks(text: &[u8]) -> &[u8]
-    ensures { result.now ≡ spec.behind_blanks text.entry.now }
-{
-    for (at, byte) in text.iter().enumerate() {
-        if !is_blank(*byte) {
-            return &text[at..];
-        }
-    }
-    &[]
 }
 
 #[tactic(auto, using(crate::proofs::Blanks::last_blank, crate::proofs::Blanks::last_other))]

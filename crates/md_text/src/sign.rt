@@ -3,10 +3,10 @@ ghost use Rattle.std.specs.Prelude.{◌≡◌, ◌+◌, ◌<◌, ◌≤◌, ◌^
 ghost use Rattle.md_text.specs.Constraint as spec;
 
 use crate::constraint::{Alternative, Direction, Letter, Member};
-use crate::lists::is_blank;
 use plain_data::Memory;
 use rtx_tree::Name;
 use std::alloc::Global;
+use text_words::is_blank;
 
 /// A mark or a member in the text of an alternative.
 #[derive(Drop)]

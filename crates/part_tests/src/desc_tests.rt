@@ -4,7 +4,7 @@ use md_pred::PredTable;
 use plain_data::Items;
 use pred_expr::{Question, Test};
 use pred_rows::TestRows;
-use rtx_tree::{Mode, Operands, Rtx};
+use rtx_tree::{Code, Mode, Operands, Rtx};
 use std::test::Fail;
 
 #[test]
@@ -25,7 +25,13 @@ fn forms_that_are_none(rt: HostRuntime) -> Result<(), Fail> {
 fn parts_that_lack(rt: HostRuntime) -> Result<(), Fail> {
     let alloc = rt.alloc();
     let preds = PredTable::of(alloc, &Items::new(alloc))?;
-    let operands = [Rtx::reg(alloc, Mode::DI, 10), Rtx::const_int(alloc, 5)];
+    let base = Rtx::reg(alloc, Mode::DI, 11);
+    let operands = [
+        Rtx::reg(alloc, Mode::DI, 10),
+        Rtx::const_int(alloc, 5),
+        Rtx::const_int(alloc, -1),
+        Rtx::of_one(alloc, Code::Mem, Mode::DI, base)?,
+    ];
     let mut rows = TestRows::new(alloc);
     for question in [
         Question::And,

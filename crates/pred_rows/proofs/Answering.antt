@@ -7,7 +7,7 @@ use Rattle.rtx_tree.specs.declared.code.Mode.{Mode}
 use Rattle.rtx_tree.specs.declared.tree.Rtx.{Rtx}
 use Rattle.pred_rows.specs.declared.node.Node.{Node}
 use Rattle.pred_rows.specs.Tests.{Accepts}
-use Rattle.pred_rows.specs.Rows.{answer_at, node_answer, answers_behind, answers, holds_at}
+use Rattle.pred_rows.specs.machine.Rows.{answer_at, node_answer, answers_behind, answers, holds_at}
 
 module _ (accepts : Accepts) (x : Rtx) (m : Mode) where
   behind_both : (before : List Bool) (ns ms : List Node) → answers_behind accepts x m before (ns ++ ms) ≡ answers_behind accepts x m (answers_behind accepts x m before ns) ms

@@ -12,8 +12,8 @@ use Rattle.pred_expr.specs.declared.question.Test.{Test, out-Test}
 use Rattle.pred_expr.specs.declared.question.Test.TheFolds.{fold_out-Test}
 use Rattle.pred_rows.specs.declared.node.Node.{Node}
 use Rattle.pred_rows.specs.Tests.{Accepts, answer, test_step, test_holds}
-use Rattle.pred_rows.specs.Rows.{answer_at, answers, holds_at, IsRoot}
-use Rattle.pred_rows.specs.Steps.{Asks, AreRoots}
+use Rattle.pred_rows.specs.machine.Rows.{answer_at, answers, holds_at, IsRoot}
+use Rattle.pred_rows.specs.machine.Steps.{Asks, AreRoots}
 use Rattle.pred_rows.proofs.Answering.{holds_last, holds_still}
 
 -- a row that begins with another is that one with more behind it

@@ -1,3 +1,2 @@
 pub mod Tests
-pub mod Rows
-pub mod Steps
+pub mod machine

@@ -2,7 +2,7 @@
 ghost use Rattle.std.specs.Prelude.{◌≡◌};
 ghost use Rattle.c_cond.specs.Tree.{tree_of};
 ghost use Rattle.c_eval.specs.Value.{is_a};
-ghost use Rattle.pred_rows.specs.Rows as rows;
+ghost use Rattle.pred_rows.specs.machine.Rows as rows;
 ghost use Rattle.pred_rows.specs.Tests as spec;
 
 use crate::node::Node;

@@ -1,7 +1,7 @@
 //! Tests in a row.
 ghost use Rattle.std.specs.Prelude.{◌≡◌, ◌<◌, [], ◌∷◌, ◌++◌, length, take, IfOk, OnErr, OnOk};
-ghost use Rattle.pred_rows.specs.Rows as spec;
-ghost use Rattle.pred_rows.specs.Steps as steps;
+ghost use Rattle.pred_rows.specs.machine.Rows as spec;
+ghost use Rattle.pred_rows.specs.machine.Steps as steps;
 
 use crate::asked::holds_at;
 use crate::copy::{codes_copy, heads_copy};

@@ -11,7 +11,7 @@ use Rattle.func_input.specs.Input.{RefusesWith}
 use Rattle.func_input.specs.Outcome.{Outcome, AppendedSome}
 use Rattle.func_input.proofs.Refusing.{refuses_map}
 use Rattle.recog_text.specs.Each.{EachComes}
-use Rattle.recog_text.specs.Steps.{added}
+use Rattle.recog_text.specs.machine.Steps.{added}
 use Rattle.recog_text.specs.Recog.{unmatched_at, LowerComes, OutputComes, FunctionComes}
 use Rattle.recog_text.proofs.Each.{refused_map, each_last}
 

@@ -1,3 +1,3 @@
 pub mod Each
 pub mod Recog
-pub mod Steps
+pub mod machine

@@ -3,10 +3,11 @@ ghost use Rattle.std.specs.Prelude.{◌≡◌, ◌≤◌, ◌++◌, [], ℕ, Lis
 ghost use Rattle.rtx_tree.specs.declared.function.Function.{Function};
 ghost use Rattle.md_forms.specs.declared.form.Entry.{Entry};
 ghost use Rattle.md_forms.specs.Forms.{names_of};
-ghost use Rattle.func_input.specs.Input.{most_bytes, FunctionsComeTo, InputComesTo};
+ghost use Rattle.rtx_tree.specs.Limit.{most_bytes};
+ghost use Rattle.func_input.specs.Input.{FunctionsComeTo, InputComesTo};
 ghost use Rattle.func_input.specs.Outcome.{Outcome, AppendedSome, Tells};
 ghost use Rattle.recog_text.specs.Each.{EachComes};
-ghost use Rattle.recog_text.specs.Steps.{added};
+ghost use Rattle.recog_text.specs.machine.Steps.{added};
 ghost use Rattle.recog_text.specs.Recog.{LowerComes, OutputComes, FunctionComes, FunctionsCome};
 
 use crate::stages::{lower_insn, lower_insns, print_insn, print_insns};

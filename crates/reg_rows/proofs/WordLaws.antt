@@ -1,9 +1,10 @@
 -- What a set of words has after a write to one of them.
-use Rattle.std.proofs.Common.{◌≡◌, ℕ, ◌+◌, ◌-◌, ◌*◌, ◌/◌, ◌%◌, ◌^◌, ◌<◌, ◌≤◌, ◌≢◌, Bool, true, false, not, ◌&&◌, ◌||◌, eqb, List, length, get_or, set, max, refl, sym, ap, below_more, sum, replicate, ◌∙◌, inl, inr, arith}
+use Rattle.std.proofs.Common.{◌≡◌, ℕ, ◌+◌, ◌-◌, ◌*◌, ◌/◌, ◌%◌, ◌^◌, ◌<◌, ◌≤◌, ◌≢◌, Bool, true, false, not, ◌&&◌, ◌||◌, eqb, List, [], ◌∷◌, ◌++◌, length, get_or, set, max, refl, sym, ap, below_more, sum, replicate, ◌∙◌, inl, inr, arith}
 use Rattle.std.specs.Int.{bit_at, w64}
 use Rattle.std.specs.Int.RustNames.{bit_or, bit_and}
 use Rattle.std.proofs.lemmas.Nat.Bits.{bit_at-lt, bit_at_or, bit_at_set_same, bit_at_set_other, bit_at_clear_same, bit_at_clear_other, bit_at-zero, shr_and_one}
-use Rattle.std.proofs.lemmas.List.{get_or-set_same, get_or-set_other, get_or_past, get_or-replicate, length-replicate, length-set}
+use Rattle.std.proofs.lemmas.List.{get_or-set_same, get_or-set_other, get_or_past, get_or-replicate, length-replicate, length-set, get_or_append_left, length-append}
+use Rattle.std.proofs.Math.Seq.{get_or-append_seam}
 use Rattle.std.proofs.lemmas.Nat.{le_or_l}
 use Rattle.std.proofs.lemmas.Bool.{cases_eq, cases_lt, eq-eqb, ne_eqb, true≢false}
 use Rattle.std.proofs.lemmas.Bool.Decides.{nat_tests}
@@ -180,3 +181,18 @@ set_fits words i v within all small = sum_fits (set words i v) each
           | inl e ↦ let h : get_or (set words i v) k 0 ≡ v = ap (λ j. get_or (set words i v) j 0) e ∙ get_or-set_same words i v 0 within in omega arith
           | inr ne ↦ let h : get_or (set words i v) k 0 ≡ get_or words k 0 = get_or-set_other words i k v 0 ne in let b = all k (omega (arith, length-set words i v)) in omega arith
         ]
+
+zero_at_end : (words : List ℕ) (w : ℕ) → get_or (words ++ 0 ∷ []) w 0 ≡ get_or words w 0
+zero_at_end words w =
+    elim (cases_lt w (length words)) [
+      | inl less ↦ get_or_append_left words (0 ∷ []) 0 w less
+      | inr past ↦ elim (cases_eq w (length words)) [
+        | inl end ↦ ap (λ i. get_or (words ++ 0 ∷ []) i 0) end ∙ get_or-append_seam words 0 [] 0 ∙ sym (get_or_past words w 0 past)
+        | inr other ↦ get_or_past (words ++ 0 ∷ []) w 0 (let len = length-append words (0 ∷ []) in omega arith) ∙ sym (get_or_past words w 0 past)
+      ]
+    ]
+
+-- a word of no bits more changes nothing
+pub has_more : (words : List ℕ) (q : ℕ) → has (words ++ 0 ∷ []) q ≡ has words q
+unfolding has
+has_more words q = ap (λ v. eqb (bit_at v (q % 64)) 1) (zero_at_end words (q / 64))

@@ -1,5 +1,5 @@
-//! A set of registers with a fixed room.
-ghost use Rattle.std.specs.Prelude.{◌≡◌, ℕ, ◌-◌, ◌*◌, ◌^◌, ◌<◌, ◌≤◌, ◌==◌, ◌||◌, ◌&&◌, not, true, false, length, sum, slice_index, All, IfOk};
+//! A set of registers with room for those below a number.
+ghost use Rattle.std.specs.Prelude.{◌≡◌, ℕ, ◌-◌, ◌*◌, ◌^◌, ◌<◌, ◌≤◌, ◌==◌, ◌||◌, ◌&&◌, not, true, false, length, sum, slice_index, [], All, IfOk, OnOk};
 ghost use Rattle.reg_rows.specs.Row.{has, lists};
 
 use crate::words;
@@ -46,6 +46,24 @@ impl RegRow {
         Ok(RegRow { words })
     }
 
+    /// No register, with room for none. It takes no memory.
+    pub fn empty(alloc: Global) -> RegRow
+        ensures { result ≡ [] }
+    {
+        RegRow {
+            words: Vec::new(alloc),
+        }
+    }
+
+    /// The same set once more, with the same room.
+    pub fn copy(&self, alloc: Global) -> Result<RegRow, Memory>
+        ensures { IfOk result (λ row. row ≡ self.now) }
+    {
+        Ok(RegRow {
+            words: Vec::from_slice(alloc, self.words.as_slice())?,
+        })
+    }
+
     /// The listed registers, with room for 64 in each of `width` words.
     pub fn listed(alloc: Global, regs: &[u32], width: usize) -> Result<RegRow, Memory>
         requires { All (λ reg. reg < 64 * width) regs.now }
@@ -90,6 +108,14 @@ impl RegRow {
         ensures fits { sum self.new ≤ length self.new * (2 ^ 64 - 1) }
     {
         words::insert(self.words.as_mut_slice(), reg);
+    }
+
+    /// Adds words until there is room for register `reg`. The set is as before, after `Memory` too.
+    pub fn make_room(&mut self, reg: u32) -> Result<(), Memory>
+        ensures same { (other : ℕ) → has self.new other ≡ has self.old other }
+        ensures room { OnOk result (reg < 64 * length self.new) }
+    {
+        words::make_room(&mut self.words, reg)
     }
 
     /// Takes register `reg` out of the set.

@@ -1,6 +1,8 @@
 //! Sets of registers as words of 64 bits: a register is in the set where its bit is 1.
-ghost use Rattle.std.specs.Prelude.{◌≡◌, ℕ, ◌-◌, ◌*◌, ◌^◌, ◌<◌, ◌≤◌, ◌==◌, ◌||◌, ◌&&◌, not, true, false, length, sum};
+ghost use Rattle.std.specs.Prelude.{◌≡◌, ℕ, ◌-◌, ◌*◌, ◌^◌, ◌<◌, ◌≤◌, ◌==◌, ◌||◌, ◌&&◌, not, true, false, length, sum, OnOk};
 ghost use Rattle.reg_rows.specs.Row.{has};
+
+use plain_data::Memory;
 
 const WORD: u32 = u64::BITS;
 
@@ -27,6 +29,19 @@ pub fn remove(words: &mut [u64], reg: u32)
     if word < words.len() {
         words[word] &= !(1 << (reg % WORD));
     }
+}
+
+/// Adds words until there is a bit for the register.
+#[tactic(auto, using(crate::proofs::WordLaws::has_more))]
+pub fn make_room(words: &mut Vec<u64>, reg: u32) -> Result<(), Memory>
+    ensures same { (other : ℕ) → has words.new.items other ≡ has words.old.items other }
+    ensures room { OnOk result (reg < 64 * length words.new.items) }
+{
+    let word = (reg / WORD) as usize;
+    while words.len() <= word {
+        words.push(0)?;
+    }
+    Ok(())
 }
 
 pub fn clear(words: &mut [u64])

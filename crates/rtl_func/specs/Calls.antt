@@ -7,11 +7,11 @@ use Rattle.rtx_tree.specs.declared.function.ArgUse.{ArgUse}
 use Rattle.rtx_tree.specs.declared.function.Kind.{Kind}
 use Rattle.rtx_tree.specs.declared.function.Kind.TheVariants.{Call}
 use Rattle.rtx_tree.specs.declared.tree.Rtx.{Rtx, out-Rtx}
-use Rattle.rtl_func.specs.declared.form.Form.{Form}
-use Rattle.rtl_func.specs.declared.form.Form.TheVariants as form
+use Rattle.rtx_tree.specs.declared.class.Class.{Class}
+use Rattle.rtx_tree.specs.declared.class.Class.TheVariants as class
 use Rattle.rtl_func.specs.Nodes.{nodes_of}
 use Rattle.rtl_func.specs.Paths.{has_place}
-use Rattle.rtl_func.specs.Table.{form_at, mode_at, number_at, same_mode}
+use Rattle.rtl_func.specs.Shapes.{class_at, mode_at, number_at, same_mode}
 use Rattle.rtl_func.specs.Modes.{register_at}
 
 -- a0 to a7
@@ -36,51 +36,51 @@ argument_registers pattern uses = list_all has_argument (nodes_of pattern) && li
 -- ---- calls: a call's target is a symbol or a register of mode DI, its result is set to a0, and its uses are different ones of
 -- a0 to a7
 
-abbrev pub is_target_form : Form → Bool
-is_target_form form.Symbol = true
-is_target_form form.Register = true
-is_target_form _ = false
+abbrev pub is_target_class : Class → Bool
+is_target_class class.Symbol = true
+is_target_class class.Register = true
+is_target_class _ = false
 
 abbrev pub is_target_address : Rtx → Bool
-is_target_address x = is_target_form (form_at x) && same_mode (mode_at x) DI
+is_target_address x = is_target_class (class_at x) && same_mode (mode_at x) DI
 
-abbrev pub is_target_by : Form → List Rtx → Bool
-is_target_by form.Memory (address ∷ []) = is_target_address address
+abbrev pub is_target_by : Class → List Rtx → Bool
+is_target_by class.Memory (address ∷ []) = is_target_address address
 is_target_by _ parts = false
 
 abbrev pub is_target : Rtx → Bool
-is_target x = is_target_by (form_at x) (out-Rtx x).kids
+is_target x = is_target_by (class_at x) (out-Rtx x).kids
 
-abbrev pub calls_target_by : Form → List Rtx → Bool
-calls_target_by form.Calling (place ∷ parts) = is_target place
+abbrev pub calls_target_by : Class → List Rtx → Bool
+calls_target_by class.Call (place ∷ parts) = is_target place
 calls_target_by _ parts = false
 
 -- (call (mem TARGET) SIZE)
 abbrev pub calls_target : Rtx → Bool
-calls_target x = calls_target_by (form_at x) (out-Rtx x).kids
+calls_target x = calls_target_by (class_at x) (out-Rtx x).kids
 
-abbrev pub is_result_by : Form → ℕ → Bool
-is_result_by form.Register reg = reg == 10
+abbrev pub is_result_by : Class → ℕ → Bool
+is_result_by class.Register reg = reg == 10
 is_result_by _ reg = false
 
 abbrev pub is_result : Rtx → Bool
-is_result x = is_result_by (form_at x) (number_at x)
+is_result x = is_result_by (class_at x) (number_at x)
 
-abbrev pub has_result_by : Form → List Rtx → Bool
-has_result_by form.Setting (target ∷ source ∷ []) = is_result target
+abbrev pub has_result_by : Class → List Rtx → Bool
+has_result_by class.Setting (target ∷ source ∷ []) = is_result target
 has_result_by _ parts = true
 
 -- what is set to a call is a0
 abbrev pub has_result : Rtx → Bool
-has_result x = has_result_by (form_at x) (out-Rtx x).kids
+has_result x = has_result_by (class_at x) (out-Rtx x).kids
 
-abbrev pub has_target_by : Form → List Rtx → Rtx → Bool
-has_target_by form.Setting (target ∷ source ∷ []) x = calls_target source
+abbrev pub has_target_by : Class → List Rtx → Rtx → Bool
+has_target_by class.Setting (target ∷ source ∷ []) x = calls_target source
 has_target_by _ parts x = calls_target x
 
 -- a call, or a set of one, calls a symbol or a register of mode DI
 abbrev pub has_target : Rtx → Bool
-has_target x = has_target_by (form_at x) (out-Rtx x).kids x
+has_target x = has_target_by (class_at x) (out-Rtx x).kids x
 
 -- no number stands twice
 abbrev pub are_distinct : List ℕ → Bool

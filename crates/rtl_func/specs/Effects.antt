@@ -5,57 +5,57 @@ use Rattle.std.specs.List.{list_all, filter_map}
 use Rattle.rtx_tree.specs.declared.code.Code.{Code}
 use Rattle.rtx_tree.specs.declared.code.Code.TheVariants.{Plus}
 use Rattle.rtx_tree.specs.declared.tree.Rtx.{Rtx, out-Rtx}
-use Rattle.rtl_func.specs.declared.form.Form.{Form}
-use Rattle.rtl_func.specs.declared.form.Form.TheVariants as form
+use Rattle.rtx_tree.specs.declared.class.Class.{Class}
+use Rattle.rtx_tree.specs.declared.class.Class.TheVariants as class
 use Rattle.rtl_func.specs.Nodes.{nodes_of}
-use Rattle.rtl_func.specs.Table.{form_at, is_constant}
+use Rattle.rtl_func.specs.Shapes.{class_at, is_constant}
 use Rattle.rtl_func.specs.Calls.{are_distinct}
 use Rattle.rtl_func.specs.Modes.{register_at}
 
 -- ---- parallels: one holds set, use and clobber alone, and changes no register twice
 
-abbrev pub place_register_by : Form → List Rtx → Rtx → Option ℕ
-place_register_by form.Lowpart (whole ∷ []) x = register_at whole
+abbrev pub place_register_by : Class → List Rtx → Rtx → Option ℕ
+place_register_by class.Lowpart (whole ∷ []) x = register_at whole
 place_register_by _ parts x = register_at x
 
 -- the register of a place: itself, or that of which it is the low part
 abbrev pub place_register : Rtx → Option ℕ
-place_register x = place_register_by (form_at x) (out-Rtx x).kids x
+place_register x = place_register_by (class_at x) (out-Rtx x).kids x
 
-abbrev pub changed_by : Form → List Rtx → Option ℕ
-changed_by form.Setting (target ∷ parts) = place_register target
-changed_by form.Clobbering (target ∷ parts) = place_register target
+abbrev pub changed_by : Class → List Rtx → Option ℕ
+changed_by class.Setting (target ∷ parts) = place_register target
+changed_by class.Clobber (target ∷ parts) = place_register target
 changed_by _ parts = None
 
 -- the register that a set or a clobber changes
 abbrev pub changed_register : Rtx → Option ℕ
-changed_register x = changed_by (form_at x) (out-Rtx x).kids
+changed_register x = changed_by (class_at x) (out-Rtx x).kids
 
-abbrev pub is_simple_form : Form → Bool
-is_simple_form form.Setting = true
-is_simple_form form.Needing = true
-is_simple_form form.Clobbering = true
-is_simple_form _ = false
+abbrev pub is_simple_class : Class → Bool
+is_simple_class class.Setting = true
+is_simple_class class.Use = true
+is_simple_class class.Clobber = true
+is_simple_class _ = false
 
 -- a set, a use or a clobber
 abbrev pub is_simple_effect : Rtx → Bool
-is_simple_effect x = is_simple_form (form_at x)
+is_simple_effect x = is_simple_class (class_at x)
 
-abbrev pub holds_simple_by : Form → List Rtx → Bool
-holds_simple_by form.Together parts = list_all is_simple_effect parts
+abbrev pub holds_simple_by : Class → List Rtx → Bool
+holds_simple_by class.Parallel parts = list_all is_simple_effect parts
 holds_simple_by _ parts = true
 
 -- a parallel holds set, use and clobber alone
 abbrev pub holds_simple : Rtx → Bool
-holds_simple x = holds_simple_by (form_at x) (out-Rtx x).kids
+holds_simple x = holds_simple_by (class_at x) (out-Rtx x).kids
 
-abbrev pub changes_once_by : Form → List Rtx → Bool
-changes_once_by form.Together parts = are_distinct (filter_map changed_register parts)
+abbrev pub changes_once_by : Class → List Rtx → Bool
+changes_once_by class.Parallel parts = are_distinct (filter_map changed_register parts)
 changes_once_by _ parts = true
 
 -- a parallel changes no register twice
 abbrev pub changes_once : Rtx → Bool
-changes_once x = changes_once_by (form_at x) (out-Rtx x).kids
+changes_once x = changes_once_by (class_at x) (out-Rtx x).kids
 
 -- each parallel of a pattern holds set, use and clobber alone
 abbrev pub parallels_hold_simple : Rtx → Bool

@@ -6,10 +6,10 @@ use Rattle.rtx_tree.specs.declared.function.Kind.TheVariants.{Plain, Jump, Call,
 use Rattle.rtx_tree.specs.declared.function.Insn.{Insn}
 use Rattle.rtx_tree.specs.declared.tree.Rtx.{Rtx, out-Rtx}
 use Rattle.rtx_tree.specs.Patterns.{is_pc, label_of, place_of}
-use Rattle.rtl_func.specs.declared.form.Form.{Form}
-use Rattle.rtl_func.specs.declared.form.Form.TheVariants as form
+use Rattle.rtx_tree.specs.declared.class.Class.{Class}
+use Rattle.rtx_tree.specs.declared.class.Class.TheVariants as class
 use Rattle.rtl_func.specs.Nodes.{nodes_of}
-use Rattle.rtl_func.specs.Table.{form_at, is_call_form}
+use Rattle.rtl_func.specs.Shapes.{class_at, is_call_class}
 
 -- ---- labels stand: each label_ref names a label of the chain
 
@@ -26,34 +26,34 @@ labels_stand insns pattern = list_all (label_stands insns) (nodes_of pattern)
 -- ---- kinds agree: a jump holds a jump or a return, a call holds a call or a set of one, an instruction holds none of these at
 -- any depth, and a label holds nothing
 
-abbrev pub is_jump_by : Form → List Rtx → Bool
-is_jump_by form.Returning parts = true
-is_jump_by form.Setting (target ∷ parts) = is_pc target
+abbrev pub is_jump_by : Class → List Rtx → Bool
+is_jump_by class.Return parts = true
+is_jump_by class.Setting (target ∷ parts) = is_pc target
 is_jump_by _ parts = false
 
 -- a return, or a set of the pc
 abbrev pub is_jump_tree : Rtx → Bool
-is_jump_tree x = is_jump_by (form_at x) (out-Rtx x).kids
+is_jump_tree x = is_jump_by (class_at x) (out-Rtx x).kids
 
-abbrev pub is_call_by : Form → List Rtx → Bool
-is_call_by form.Calling parts = true
-is_call_by form.Setting (target ∷ source ∷ []) = is_call_form (form_at source)
+abbrev pub is_call_by : Class → List Rtx → Bool
+is_call_by class.Call parts = true
+is_call_by class.Setting (target ∷ source ∷ []) = is_call_class (class_at source)
 is_call_by _ parts = false
 
 -- a call, or a set of one
 abbrev pub is_call_tree : Rtx → Bool
-is_call_tree x = is_call_by (form_at x) (out-Rtx x).kids
+is_call_tree x = is_call_by (class_at x) (out-Rtx x).kids
 
 abbrev pub is_plain_tree : Rtx → Bool
-is_plain_tree x = not (is_jump_tree x || is_call_form (form_at x))
+is_plain_tree x = not (is_jump_tree x || is_call_class (class_at x))
 
-abbrev pub is_nothing_by : Form → List Rtx → Bool
-is_nothing_by form.Together [] = true
+abbrev pub is_nothing_by : Class → List Rtx → Bool
+is_nothing_by class.Parallel [] = true
 is_nothing_by _ parts = false
 
 -- (parallel [])
 abbrev pub is_nothing : Rtx → Bool
-is_nothing x = is_nothing_by (form_at x) (out-Rtx x).kids
+is_nothing x = is_nothing_by (class_at x) (out-Rtx x).kids
 
 abbrev pub kinds_agree : Kind → Rtx → Bool
 kinds_agree Plain pattern = list_all is_plain_tree (nodes_of pattern)

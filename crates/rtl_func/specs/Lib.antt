@@ -9,6 +9,6 @@ pub mod Nodes
 pub mod Paths
 pub mod Rules
 pub mod Successors
-pub mod Table
+pub mod Shapes
 pub mod Uids
 pub mod machine

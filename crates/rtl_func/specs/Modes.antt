@@ -4,10 +4,10 @@ use Rattle.std.specs.List.{list_all, find, filter_map, flat_map}
 use Rattle.rtx_tree.specs.declared.code.Mode.{Mode}
 use Rattle.rtx_tree.specs.declared.function.Insn.{Insn}
 use Rattle.rtx_tree.specs.declared.tree.Rtx.{Rtx}
-use Rattle.rtl_func.specs.declared.form.Form.{Form}
-use Rattle.rtl_func.specs.declared.form.Form.TheVariants as form
+use Rattle.rtx_tree.specs.declared.class.Class.{Class}
+use Rattle.rtx_tree.specs.declared.class.Class.TheVariants as class
 use Rattle.rtl_func.specs.Nodes.{nodes_of}
-use Rattle.rtl_func.specs.Table.{form_at, mode_at, number_at, same_mode, is_effect, is_shaped, has_call_mode}
+use Rattle.rtl_func.specs.Shapes.{class_at, mode_at, number_at, same_mode, is_effect, is_shaped, has_call_mode}
 use Rattle.rtl_func.specs.Uids.{is_ruled}
 
 -- ---- modes agree: a pattern is an effect, each tree in it has the parts of its row, and a call's memory has mode SI
@@ -25,13 +25,13 @@ modes_agree pattern = shapes_agree pattern && call_modes_agree pattern
 
 -- ---- one mode a pseudo: it has throughout the mode of its first mention, in the order of the chain and of each tree
 
-abbrev pub register_by : Form → ℕ → Option ℕ
-register_by form.Register number = Some number
+abbrev pub register_by : Class → ℕ → Option ℕ
+register_by class.Register number = Some number
 register_by _ number = None
 
 -- the register that a tree is
 abbrev pub register_at : Rtx → Option ℕ
-register_at x = register_by (form_at x) (number_at x)
+register_at x = register_by (class_at x) (number_at x)
 
 -- a register in a mode
 pub record Mention : Type 0 where

@@ -4,9 +4,9 @@ ghost use Rattle.std.specs.List.{list_all};
 ghost use Rattle.rtl_func.specs.Calls as spec;
 ghost use Rattle.rtl_func.specs.Paths.{has_place};
 
-use crate::form::{Form, form_at, same_mode};
+use crate::shape::{class_at, same_mode};
 use crate::tables::register_at;
-use rtx_tree::{ArgUse, Kind, Mode, Rtx};
+use rtx_tree::{ArgUse, Class, Kind, Mode, Rtx};
 
 fn is_argument(reg: u64) -> bool
     ensures { result ≡ spec.is_argument reg }
@@ -40,14 +40,14 @@ pub fn uses_are_arguments(uses: &[ArgUse]) -> bool
 fn is_target_address(x: &Rtx) -> bool
     ensures { result ≡ spec.is_target_address x.now }
 {
-    matches!(form_at(x), Form::Symbol | Form::Register) && same_mode(x.mode, Mode::DI)
+    matches!(class_at(x), Class::Symbol | Class::Register) && same_mode(x.mode, Mode::DI)
 }
 
 fn is_target(x: &Rtx) -> bool
     ensures { result ≡ spec.is_target x.now }
 {
-    match (form_at(x), x.kids.as_slice()) {
-        (Form::Memory, [address]) => is_target_address(address),
+    match (class_at(x), x.kids.as_slice()) {
+        (Class::Memory, [address]) => is_target_address(address),
         _ => false,
     }
 }
@@ -55,8 +55,8 @@ fn is_target(x: &Rtx) -> bool
 fn calls_target(x: &Rtx) -> bool
     ensures { result ≡ spec.calls_target x.now }
 {
-    match (form_at(x), x.kids.as_slice()) {
-        (Form::Calling, [place, ..]) => is_target(place),
+    match (class_at(x), x.kids.as_slice()) {
+        (Class::Call, [place, ..]) => is_target(place),
         _ => false,
     }
 }
@@ -64,14 +64,14 @@ fn calls_target(x: &Rtx) -> bool
 fn is_result(x: &Rtx) -> bool
     ensures { result ≡ spec.is_result x.now }
 {
-    matches!(form_at(x), Form::Register) && x.number.cast_unsigned() == 10
+    matches!(class_at(x), Class::Register) && x.number.cast_unsigned() == 10
 }
 
 fn has_result(x: &Rtx) -> bool
     ensures { result ≡ spec.has_result x.now }
 {
-    match (form_at(x), x.kids.as_slice()) {
-        (Form::Setting, [target, _]) => is_result(target),
+    match (class_at(x), x.kids.as_slice()) {
+        (Class::Setting, [target, _]) => is_result(target),
         _ => true,
     }
 }
@@ -79,8 +79,8 @@ fn has_result(x: &Rtx) -> bool
 fn has_target(x: &Rtx) -> bool
     ensures { result ≡ spec.has_target x.now }
 {
-    match (form_at(x), x.kids.as_slice()) {
-        (Form::Setting, [_, source]) => calls_target(source),
+    match (class_at(x), x.kids.as_slice()) {
+        (Class::Setting, [_, source]) => calls_target(source),
         _ => calls_target(x),
     }
 }

@@ -6,20 +6,20 @@ ghost use Rattle.std.specs.BTreeSet as set;
 ghost use Rattle.rtl_func.specs.Calls.{are_distinct};
 ghost use Rattle.rtl_func.specs.Effects as spec;
 ghost use Rattle.rtl_func.specs.machine.Changes as changes;
-ghost use Rattle.rtl_func.specs.Table.{is_constant};
+ghost use Rattle.rtl_func.specs.Shapes.{is_constant};
 
-use crate::form::{Form, form_at};
+use crate::shape::class_at;
 use crate::tables::register_at;
 use plain_data::Memory;
-use rtx_tree::{Code, Rtx};
+use rtx_tree::{Class, Code, Rtx};
 use std::alloc::Global;
 use std::collections::BTreeSet;
 
 fn place_register(x: &Rtx) -> Option<u64>
     ensures { result ≡ spec.place_register x.now }
 {
-    match (form_at(x), x.kids.as_slice()) {
-        (Form::Lowpart, [whole]) => register_at(whole),
+    match (class_at(x), x.kids.as_slice()) {
+        (Class::Lowpart, [whole]) => register_at(whole),
         _ => register_at(x),
     }
 }
@@ -27,9 +27,9 @@ fn place_register(x: &Rtx) -> Option<u64>
 fn changed_register(x: &Rtx) -> Option<u64>
     ensures { result ≡ spec.changed_register x.now }
 {
-    match (form_at(x), x.kids.as_slice()) {
-        (Form::Setting, [target, ..]) => place_register(target),
-        (Form::Clobbering, [target, ..]) => place_register(target),
+    match (class_at(x), x.kids.as_slice()) {
+        (Class::Setting, [target, ..]) => place_register(target),
+        (Class::Clobber, [target, ..]) => place_register(target),
         _ => None,
     }
 }
@@ -37,7 +37,7 @@ fn changed_register(x: &Rtx) -> Option<u64>
 fn is_simple_effect(x: &Rtx) -> bool
     ensures { result ≡ spec.is_simple_effect x.now }
 {
-    matches!(form_at(x), Form::Setting | Form::Needing | Form::Clobbering)
+    matches!(class_at(x), Class::Setting | Class::Use | Class::Clobber)
 }
 
 fn are_simple(parts: &[Rtx]) -> bool
@@ -76,8 +76,8 @@ fn changes_differ(alloc: Global, parts: &[Rtx]) -> Result<bool, Memory>
 pub fn holds_simple(x: &Rtx) -> bool
     ensures { result ≡ spec.holds_simple x.now }
 {
-    match form_at(x) {
-        Form::Together => are_simple(x.kids.as_slice()),
+    match class_at(x) {
+        Class::Parallel => are_simple(x.kids.as_slice()),
         _ => true,
     }
 }
@@ -86,8 +86,8 @@ pub fn holds_simple(x: &Rtx) -> bool
 fn changes_once(alloc: Global, x: &Rtx) -> Result<bool, Memory>
     ensures { IfOk result (λ once. once ≡ spec.changes_once x.now) }
 {
-    match form_at(x) {
-        Form::Together => changes_differ(alloc, x.kids.as_slice()),
+    match class_at(x) {
+        Class::Parallel => changes_differ(alloc, x.kids.as_slice()),
         _ => Ok(true),
     }
 }
@@ -132,7 +132,7 @@ fn is_local_offset(locals: u32, offset: i64) -> bool
 fn is_constant(x: &Rtx) -> bool
     ensures { result ≡ is_constant x.now }
 {
-    matches!(form_at(x), Form::Constant)
+    matches!(class_at(x), Class::Constant)
 }
 
 fn is_lawful_sum(locals: u32, a: &Rtx, b: &Rtx) -> bool

@@ -1,24 +1,24 @@
 //! Kinds of instructions.
 ghost use Rattle.std.specs.Prelude.{◌≡◌};
 ghost use Rattle.rtl_func.specs.Kinds as spec;
-ghost use Rattle.rtl_func.specs.Table.{form_at, is_call_form};
+ghost use Rattle.rtl_func.specs.Shapes.{class_at, is_call_class};
 
-use crate::form::{Form, form_at};
-use rtx_tree::Rtx;
+use crate::shape::class_at;
+use rtx_tree::{Class, Rtx};
 
 fn is_calling(x: &Rtx) -> bool
-    ensures { result ≡ is_call_form (form_at x.now) }
+    ensures { result ≡ is_call_class (class_at x.now) }
 {
-    matches!(form_at(x), Form::Calling)
+    matches!(class_at(x), Class::Call)
 }
 
 /// Whether a tree is a return or a set of the pc.
 pub fn is_jump_tree(x: &Rtx) -> bool
     ensures { result ≡ spec.is_jump_tree x.now }
 {
-    match (form_at(x), x.kids.as_slice()) {
-        (Form::Returning, _) => true,
-        (Form::Setting, [target, ..]) => target.is_pc(),
+    match (class_at(x), x.kids.as_slice()) {
+        (Class::Return, _) => true,
+        (Class::Setting, [target, ..]) => target.is_pc(),
         _ => false,
     }
 }
@@ -27,9 +27,9 @@ pub fn is_jump_tree(x: &Rtx) -> bool
 pub fn is_call_tree(x: &Rtx) -> bool
     ensures { result ≡ spec.is_call_tree x.now }
 {
-    match (form_at(x), x.kids.as_slice()) {
-        (Form::Calling, _) => true,
-        (Form::Setting, [_, source]) => is_calling(source),
+    match (class_at(x), x.kids.as_slice()) {
+        (Class::Call, _) => true,
+        (Class::Setting, [_, source]) => is_calling(source),
         _ => false,
     }
 }
@@ -45,8 +45,8 @@ pub fn is_plain_tree(x: &Rtx) -> bool
 pub fn is_nothing(x: &Rtx) -> bool
     ensures { result ≡ spec.is_nothing x.now }
 {
-    match (form_at(x), x.kids.as_slice()) {
-        (Form::Together, []) => true,
+    match (class_at(x), x.kids.as_slice()) {
+        (Class::Parallel, []) => true,
         _ => false,
     }
 }

@@ -6,7 +6,7 @@ ghost use Rattle.rtl_func.specs.machine.NodeRules as spec;
 ghost use Rattle.rtl_func.specs.machine.Tables.{AreTables};
 
 use crate::effects::has_stack_variables;
-use crate::form::same_mode;
+use crate::shape::same_mode;
 use crate::tables::{Tables, register_at};
 use rtx_tree::{FIRST_PSEUDO, Function, Rtx};
 

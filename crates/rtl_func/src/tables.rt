@@ -7,10 +7,10 @@ ghost use Rattle.rtl_func.specs.Modes as spec;
 ghost use Rattle.rtl_func.specs.machine.Tables.{AreTables};
 ghost use Rattle.rtl_func.specs.Uids.{is_ruled};
 
-use crate::form::{Form, form_at};
 use crate::labels::{Labels, labels_of};
+use crate::shape::class_at;
 use plain_data::Memory;
-use rtx_tree::{FIRST_PSEUDO, Function, Insn, Kind, Mode, Rtx};
+use rtx_tree::{Class, FIRST_PSEUDO, Function, Insn, Kind, Mode, Rtx};
 use std::alloc::Global;
 use std::collections::BTreeMap;
 
@@ -37,8 +37,8 @@ pub fn is_ruled(insn: &Insn) -> bool
 pub fn register_at(x: &Rtx) -> Option<u64>
     ensures { result ≡ spec.register_at x.now }
 {
-    match form_at(x) {
-        Form::Register => Some(x.number.cast_unsigned()),
+    match class_at(x) {
+        Class::Register => Some(x.number.cast_unsigned()),
         _ => None,
     }
 }

@@ -8,8 +8,8 @@ ghost use Rattle.rtl_func.specs.machine.TreeRules as spec;
 
 use crate::calls::{has_argument, uses_are_arguments};
 use crate::effects::holds_simple;
-use crate::form::{has_call_mode, is_effect, is_shaped};
 use crate::kinds::{is_call_tree, is_jump_tree, is_nothing, is_plain_tree};
+use crate::shape::{has_call_mode, is_effect, is_shaped};
 use rtx_tree::{ArgUse, Kind, Rtx};
 
 /// What a rule asks of each tree within a pattern.

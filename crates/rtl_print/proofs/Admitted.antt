@@ -7,14 +7,14 @@ use Rattle.rtx_tree.specs.declared.code.Code.TheVariants as code
 use Rattle.rtx_tree.specs.declared.code.Mode.TheVariants as mode
 use Rattle.rtx_tree.specs.declared.tree.Rtx.{Rtx}
 use Rattle.rtx_tree.specs.Tree.{node_of}
-use Rattle.lisp_read.specs.declared.class.Kind.{Kind}
-use Rattle.lisp_read.specs.declared.class.Kind.TheVariants.{Round, Square}
-use Rattle.lisp_read.specs.declared.code_class.CodeClass.{CodeClass}
-use Rattle.lisp_read.specs.declared.code_class.CodeClass.TheVariants as class
+use Rattle.lisp_read.specs.declared.class.Bracket.{Bracket}
+use Rattle.lisp_read.specs.declared.class.Bracket.TheVariants.{Round, Square}
+use Rattle.rtx_tree.specs.declared.class.Class.{Class}
+use Rattle.rtx_tree.specs.declared.class.Class.TheVariants as class
 use Rattle.lisp_read.specs.declared.head.Head.{Head}
 use Rattle.lisp_read.specs.declared.position.Position.{Position}
 use Rattle.lisp_read.specs.declared.tree.Tree.{Tree}
-use Rattle.lisp_read.specs.CodeClass.{class_of_code}
+use Rattle.rtx_tree.specs.Code.{class_of_code}
 use Rattle.lisp_read.specs.Expression.{class_of, read_at, positions_of, parts_of_class}
 use Rattle.lisp_read.specs.Parsed.{stands}
 use Rattle.lisp_read.specs.Part.{Part, Open, Close, enclosed, parts_of, parts_of_all}
@@ -46,7 +46,7 @@ unfolding Admitted
 all_admitted [] all = tt
 all_admitted (t ∷ ts) all = subst AreAdmitted (sym (flat_map-cons parts_of t ts)) (appended (parts_of t) (parts_of_all ts) all.0 (all_admitted ts all.1))
 
-nested_admitted : (k : Kind) (ts : List Tree) → AllByRecursion Admitted ts → Admitted (nested k nowhere ts)
+nested_admitted : (k : Bracket) (ts : List Tree) → AllByRecursion Admitted ts → Admitted (nested k nowhere ts)
 unfolding Admitted
 nested_admitted k ts all = subst AreAdmitted (sym (parts_of_nested k nowhere ts)) (tt, appended (parts_of_all ts) (Close k ∷ []) (all_admitted ts all) (tt, tt))
 
@@ -110,9 +110,9 @@ each (p ∷ ps) [] kids all = absurd all
 each (p ∷ ps) (t ∷ ts) [] all = absurd all
 
 -- the parts of a code that has expressions
-by_class : (c : CodeClass) (items : List Tree) (ps : List Position) (kids labels : List Tree) → positions_of c items ≡ Some ps → AllByRecursion Admitted kids → AllByRecursion Admitted (parts_by c (pos 0) [] kids labels)
+by_class : (c : Class) (items : List Tree) (ps : List Position) (kids labels : List Tree) → positions_of c items ≡ Some ps → AllByRecursion Admitted kids → AllByRecursion Admitted (parts_by c (pos 0) [] kids labels)
 by_class class.Register items ps kids labels e all = absurd (let none : ⊥ = cc in none)
-by_class class.Number items ps kids labels e all = absurd (let none : ⊥ = cc in none)
+by_class class.Constant items ps kids labels e all = absurd (let none : ⊥ = cc in none)
 by_class class.Symbol items ps kids labels e all = absurd (let none : ⊥ = cc in none)
 by_class class.Label items ps kids labels e all = absurd (let none : ⊥ = cc in none)
 by_class class.Parallel items ps kids labels e all = absurd (let none : ⊥ = cc in none)

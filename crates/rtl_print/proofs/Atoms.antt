@@ -11,9 +11,9 @@ use Rattle.rtx_tree.specs.declared.code.Code.TheVariants as code
 use Rattle.rtx_tree.specs.declared.code.Mode.{Mode}
 use Rattle.rtx_tree.specs.declared.code.Mode.TheVariants as mode
 use Rattle.text_words.specs.Words.{fits_i64, is_symbol, is_symbol_byte}
-use Rattle.lisp_read.specs.declared.class.Class.{Class}
-use Rattle.lisp_read.specs.declared.class.Class.TheVariants as class
-use Rattle.lisp_read.specs.declared.class.Kind.TheVariants.{Round, Square}
+use Rattle.lisp_read.specs.declared.class.ByteClass.{ByteClass}
+use Rattle.lisp_read.specs.declared.class.ByteClass.TheVariants as class
+use Rattle.lisp_read.specs.declared.class.Bracket.TheVariants.{Round, Square}
 use Rattle.lisp_read.specs.Class.{class_of, is_atom_class, in_quotes}
 use Rattle.lisp_read.specs.Text.{Each, IsAtom, IsQuoted, NotStar}
 use Rattle.rtl_print.specs.Print.{head_text, printed_reg_at, starred}
@@ -26,7 +26,7 @@ abbrev is_atom_byte : ℕ → Bool
 is_atom_byte b = is_atom_class (class_of b)
 
 -- what an atom may begin with, whatever follows
-abbrev starts : Class → Bool
+abbrev starts : ByteClass → Bool
 starts class.Star = true
 starts class.Backslash = true
 starts class.Plain = true
@@ -40,13 +40,13 @@ each_byte : (bs : List ℕ) → list_all is_atom_byte bs ≡ true → Each is_at
 each_byte [] h = tt
 each_byte (b ∷ bs) h = let parts = and_true (is_atom_byte b) (list_all is_atom_byte bs) h in (parts.0, each_byte bs parts.1)
 
-start_is_atom : (c : Class) → starts c ≡ true → is_atom_class c ≡ true
+start_is_atom : (c : ByteClass) → starts c ≡ true → is_atom_class c ≡ true
 start_is_atom class.Star h = refl
 start_is_atom class.Backslash h = refl
 start_is_atom class.Plain h = refl
 start_is_atom _ h = cc
 
-no_slash : (c : Class) → starts c ≡ true → c ≡ class.Slash → ⊥
+no_slash : (c : ByteClass) → starts c ≡ true → c ≡ class.Slash → ⊥
 no_slash c h e = let wrong : starts class.Slash ≡ true = sym (ap starts e) ∙ h in let none : ⊥ = cc in none
 
 pub word_is_atom : (w : List ℕ) → is_plain_word w ≡ true → IsAtom w

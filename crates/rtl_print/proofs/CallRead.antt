@@ -9,7 +9,7 @@ use Rattle.rtx_tree.specs.declared.tree.Rtx.{Rtx, out-Rtx, out-roll-Rtx}
 use Rattle.rtx_tree.specs.declared.tree.Rtx.TheOpen.{Rtx-F}
 use Rattle.lisp_read.specs.declared.position.Position.TheVariants.{Pattern}
 use Rattle.lisp_read.specs.declared.tree.Tree.{Tree}
-use Rattle.lisp_read.specs.CodeClass.{class_of_code}
+use Rattle.rtx_tree.specs.Code.{class_of_code}
 use Rattle.lisp_read.specs.Expression.{read_at}
 use Rattle.lisp_read.specs.Parsed.{Parsed, stands, parsed_map, each_parsed}
 use Rattle.lisp_read.specs.Shape.{items_of, vector_of, is_vector, is_nested}

@@ -12,7 +12,7 @@ use Rattle.rtx_tree.specs.Tree.{node_of}
 use Rattle.lisp_read.specs.declared.head.Head.{Head}
 use Rattle.lisp_read.specs.declared.position.Position.TheVariants.{Pattern}
 use Rattle.lisp_read.specs.declared.tree.Tree.{Tree}
-use Rattle.lisp_read.specs.CodeClass.{class_of_code}
+use Rattle.rtx_tree.specs.Code.{class_of_code}
 use Rattle.lisp_read.specs.Expression.{class_of, head_is, placed, head_of, head_at, read_at}
 use Rattle.lisp_read.specs.Head.{code_named, code_in}
 use Rattle.lisp_read.specs.Parsed.{Parsed, stands, parsed_map, parsed_then, each_parsed}

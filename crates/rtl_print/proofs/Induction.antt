@@ -8,8 +8,8 @@ use Rattle.rtx_tree.specs.declared.place.Place.{Place}
 use Rattle.rtx_tree.specs.declared.tree.Rtx.{Rtx}
 use Rattle.rtx_tree.specs.Tree.{node_of}
 use Rattle.lisp_read.specs.declared.head.Head.{Head}
-use Rattle.lisp_read.specs.declared.code_class.CodeClass.{CodeClass}
-use Rattle.lisp_read.specs.declared.code_class.CodeClass.TheVariants as class
+use Rattle.rtx_tree.specs.declared.class.Class.{Class}
+use Rattle.rtx_tree.specs.declared.class.Class.TheVariants as class
 use Rattle.lisp_read.specs.declared.position.Position.{Position}
 use Rattle.lisp_read.specs.declared.position.Position.TheVariants.{Pattern}
 use Rattle.lisp_read.specs.declared.tree.Tree.{Tree, out-Tree}

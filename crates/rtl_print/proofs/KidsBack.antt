@@ -9,12 +9,12 @@ use Rattle.rtx_tree.specs.declared.code.Mode.TheVariants as mode
 use Rattle.rtx_tree.specs.declared.tree.Rtx.{Rtx}
 use Rattle.rtx_tree.specs.Tree.{node_of}
 use Rattle.lisp_read.specs.declared.head.Head.{Head}
-use Rattle.lisp_read.specs.declared.code_class.CodeClass.{CodeClass}
-use Rattle.lisp_read.specs.declared.code_class.CodeClass.TheVariants as class
+use Rattle.rtx_tree.specs.declared.class.Class.{Class}
+use Rattle.rtx_tree.specs.declared.class.Class.TheVariants as class
 use Rattle.lisp_read.specs.declared.position.Position.{Position}
 use Rattle.lisp_read.specs.declared.position.Position.TheVariants.{Value, Clobbered, Callee, Words, Test, Target, Pc, Pattern}
 use Rattle.lisp_read.specs.declared.tree.Tree.{Tree}
-use Rattle.lisp_read.specs.CodeClass.{class_of_code}
+use Rattle.rtx_tree.specs.Code.{class_of_code}
 use Rattle.lisp_read.specs.Shape.{items_of, vector_at, vector_of, is_nested_at, is_nested, is_vector_at, is_vector}
 use Rattle.lisp_read.specs.Parsed.{Parsed, stands, parsed_map, parsed_then, each_parsed}
 use Rattle.lisp_read.specs.Expression.{Meaning, meaning_of, elements_of, class_of, read_at, list_by, node_by, parallel_by, positions_of, parts_of_class, if_nested, each_at}
@@ -36,25 +36,28 @@ Q p t x = Back p x
 
 -- ---- nodes
 
-abbrev Node : CodeClass → Position → Head → Tree → Tree → List Tree → List Rtx → Type 0
+abbrev Node : Class → Position → Head → Tree → Tree → List Tree → List Rtx → Type 0
 Node c p h t head us kids = list_by c p h t (map meaning_of (head ∷ us)) ≡ stands (node_of h.code h.mode kids)
 
-finish : (c : CodeClass) (h : Head) (t head : Tree) (us : List Tree) (ps : List Position) (kids : List Rtx) → items_of t ≡ head ∷ us → Again c head us ps kids →
+finish : (c : Class) (h : Head) (t head : Tree) (us : List Tree) (ps : List Position) (kids : List Rtx) → items_of t ≡ head ∷ us → Again c head us ps kids →
     node_by t h (parts_of_class c (items_of t)) (map meaning_of (head ∷ us)) ≡ stands (node_of h.code h.mode kids)
 finish c h t head us ps kids is a =
     ap (λ (items : List Tree). node_by t h (parts_of_class c items) (map meaning_of (head ∷ us))) is
     ∙ (ap (λ (o : Option (List Position)). node_by t h (option_and_then (if_nested (head ∷ us)) o) (map meaning_of (head ∷ us))) a.positions
     ∙ rw a.nested (ap (parsed_map (node_of h.code h.mode)) a.each))
 
-abbrev Stood : CodeClass → Tree → List Tree → List Position → List Rtx → Type 0
+abbrev Stood : Class → Tree → List Tree → List Position → List Rtx → Type 0
 Stood c a ts ps kids = (positions_of c (a ∷ ts) ≡ Some ps) × EachAt Q ps ts kids
 
-by_class : (c : CodeClass) (p : Position) (h : Head) (t a head : Tree) (ts us : List Tree) (ps : List Position) (kids : List Rtx) (labels : List Tree) → Stood c a ts ps kids →
+by_class : (c : Class) (p : Position) (h : Head) (t a head : Tree) (ts us : List Tree) (ps : List Position) (kids : List Rtx) (labels : List Tree) → Stood c a ts ps kids →
     AllSame us (parts_by c (pos 0) [] (map written kids) labels) → items_of t ≡ head ∷ us → Node c p h t head us kids
 by_class class.Memory p h t a head ts us ps kids labels s same is = finish class.Memory h t head us ps kids is (plain class.Memory head ts us ps kids s.1 same (λ len. at_least_again (Value ∷ []) (a ∷ ts) ps head us s.0 len))
 by_class class.Lowpart p h t a head ts us ps kids labels s same is = finish class.Lowpart h t head us ps kids is (lowpart_again a head ts us ps kids s.0 s.1 same)
 by_class class.Unary p h t a head ts us ps kids labels s same is = finish class.Unary h t head us ps kids is (plain class.Unary head ts us ps kids s.1 same (λ len. exactly_again (Value ∷ []) (a ∷ ts) ps head us s.0 len))
+by_class class.Extension p h t a head ts us ps kids labels s same is = finish class.Extension h t head us ps kids is (plain class.Extension head ts us ps kids s.1 same (λ len. exactly_again (Value ∷ []) (a ∷ ts) ps head us s.0 len))
+by_class class.Truncation p h t a head ts us ps kids labels s same is = finish class.Truncation h t head us ps kids is (plain class.Truncation head ts us ps kids s.1 same (λ len. exactly_again (Value ∷ []) (a ∷ ts) ps head us s.0 len))
 by_class class.Binary p h t a head ts us ps kids labels s same is = finish class.Binary h t head us ps kids is (plain class.Binary head ts us ps kids s.1 same (λ len. exactly_again (Value ∷ Value ∷ []) (a ∷ ts) ps head us s.0 len))
+by_class class.Shift p h t a head ts us ps kids labels s same is = finish class.Shift h t head us ps kids is (plain class.Shift head ts us ps kids s.1 same (λ len. exactly_again (Value ∷ Value ∷ []) (a ∷ ts) ps head us s.0 len))
 by_class class.Comparison p h t a head ts us ps kids labels s same is = finish class.Comparison h t head us ps kids is (plain class.Comparison head ts us ps kids s.1 same (λ len. comparison_again a head ts us ps kids s.0 s.1 same))
 by_class class.Setting p h t a head ts us ps kids labels s same is = finish class.Setting h t head us ps kids is (plain class.Setting head ts us ps kids s.1 same (λ len. setting_again a head ts us ps kids s.0 s.1 same))
 by_class class.Use p h t a head ts us ps kids labels s same is = finish class.Use h t head us ps kids is (plain class.Use head ts us ps kids s.1 same (λ len. exactly_again (Value ∷ []) (a ∷ ts) ps head us s.0 len))
@@ -106,6 +109,6 @@ parallel_back p h ts kids s c all t same =
     let us : List Tree = vector (map written kids) ∷ [] in
     let o : Opened t (head_text code.Parallel mode.Void) us = opened t (head_text code.Parallel mode.Void) us (subst (Same t) (written_of (record { code = code.Parallel; mode = mode.Void; number = pos 0; name = [] }) kids) same) in
     read_opened p t code.Parallel mode.Void us o h (placed_as p h code.Parallel mode.Void s (parallel_code h.code c) (placed_bare p h (rw c refl) s))
-    ∙ (ap (λ (k : CodeClass). list_by k p h t (map meaning_of (o.head ∷ o.parts))) c
+    ∙ (ap (λ (k : Class). list_by k p h t (map meaning_of (o.head ∷ o.parts))) c
     ∙ (ap (λ (items : List Tree). parallel_by t items (map meaning_of (o.head ∷ o.parts))) o.items
     ∙ parallel_again t o.head ts o.parts kids all o.same))

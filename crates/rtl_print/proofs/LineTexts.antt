@@ -17,6 +17,7 @@ use Rattle.lisp_read.specs.declared.tree.Tree.{Tree}
 use Rattle.lisp_read.specs.Part.{Part, parts_of, parts_of_all}
 use Rattle.tree_print.proofs.SpellsPrinted.{SpellsAs}
 use Rattle.rtl_print.specs.Canonical.{printed_register, printed_link, printed_uses, numbered, doing, calling, insn_body, printed_insn}
+use Rattle.rtx_tree.specs.Code.{class_of_code}
 use Rattle.rtl_print.specs.Print.{head_text, printed, printed_reg_at, spaced, printed_body, spaced_text, spaced_number, body_of}
 use Rattle.rtl_print.proofs.FunctionTree.{use_rtx, uses_tree, parts_of_insn, insn_tree}
 use Rattle.rtl_print.proofs.Pieces.{Piece, join, nothing, blank, space, newline, listed, first, next, last, word, quoted, retold}
@@ -27,7 +28,7 @@ use Rattle.rtl_print.proofs.Written.{atom, list, written}
 -- ---- registers and uses
 
 abbrev layer : Rtx-F Rtx → List ℕ
-layer o = codes "(" ++ (head_text o.code o.mode ++ (printed_body o.code o.number o.name (flat_map spaced_text o.kids) (flat_map spaced_number o.kids) ++ codes ")"))
+layer o = codes "(" ++ (head_text o.code o.mode ++ (printed_body (class_of_code o.code) o.number o.name (flat_map spaced_text o.kids) (flat_map spaced_number o.kids) ++ codes ")"))
 
 pub register_text : (m : Mode) (r : ℕ) → printed (reg_of m r) ≡ printed_register m r
 unfolding printed_register

@@ -4,11 +4,14 @@ use Rattle.std.specs.Prelude.{option_map, if◌then◌else◌}
 use Rattle.rtx_tree.specs.declared.code.Mode.{Mode}
 use Rattle.rtx_tree.specs.declared.code.Mode.TheVariants as mode
 use Rattle.lisp_read.specs.declared.head.Head.{Head}
-use Rattle.lisp_read.specs.declared.code_class.CodeClass.{CodeClass}
-use Rattle.lisp_read.specs.declared.code_class.CodeClass.TheVariants as class
+use Rattle.rtx_tree.specs.declared.class.Class.{Class}
+use Rattle.rtx_tree.specs.declared.class.Class.TheVariants as class
 use Rattle.lisp_read.specs.declared.position.Position.{Position}
 use Rattle.lisp_read.specs.declared.position.Position.TheVariants as position
-use Rattle.lisp_read.specs.Positions.{admits, needed, unwanted, mode_of_class, mode_at}
+use Rattle.rtx_tree.specs.declared.class.HeadMode.{HeadMode}
+use Rattle.rtx_tree.specs.declared.class.HeadMode.TheVariants.{Needed, Optional, Ignored, Absent}
+use Rattle.rtx_tree.specs.Code.{head_mode_of}
+use Rattle.lisp_read.specs.Positions.{admits, needed, unwanted, mode_by, mode_of_class, mode_at}
 use Rattle.lisp_read.specs.Expression.{class_of, placed}
 use Rattle.rtl_print.proofs.Heads.{head_with}
 use Rattle.rtl_print.proofs.Numbers.{if_some, map_some}
@@ -27,44 +30,41 @@ unwanted_is _ b e = cc
 unwanted_again : (a b : Mode) → unwanted a ≡ Some b → unwanted b ≡ Some b
 unwanted_again a b e = subst (λ (m : Mode). unwanted m ≡ Some m) (sym (unwanted_is a b e)) refl
 
-of_class_again : (c : CodeClass) (a b : Mode) → mode_of_class c a ≡ Some b → mode_of_class c b ≡ Some b
-of_class_again class.Register a b e = needed_again a b e
-of_class_again class.Symbol a b e = needed_again a b e
-of_class_again class.Memory a b e = needed_again a b e
-of_class_again class.Lowpart a b e = needed_again a b e
-of_class_again class.Unary a b e = needed_again a b e
-of_class_again class.Binary a b e = needed_again a b e
-of_class_again class.Scratch a b e = needed_again a b e
-of_class_again class.Comparison a b e = refl
-of_class_again class.Label a b e = e
-of_class_again _ a b e = unwanted_again a b e
+mode_again : (k : HeadMode) (a b : Mode) → mode_by k a ≡ Some b → mode_by k b ≡ Some b
+mode_again Needed a b e = needed_again a b e
+mode_again Optional a b e = refl
+mode_again Ignored a b e = e
+mode_again Absent a b e = unwanted_again a b e
+
+of_class_again : (c : Class) (a b : Mode) → mode_of_class c a ≡ Some b → mode_of_class c b ≡ Some b
+of_class_again c a b e = mode_again (head_mode_of c) a b e
 
 called_again : (a b : Mode) → option_map (λ (written : Mode). mode.SI) (needed a) ≡ Some b → option_map (λ (written : Mode). mode.SI) (needed b) ≡ Some b
 called_again a b e =
     let says = map_some (needed a) (λ (written : Mode). mode.SI) b e in
     subst (λ (m : Mode). option_map (λ (written : Mode). mode.SI) (needed m) ≡ Some m) says.2 refl
 
-at_again : (p : Position) (c : CodeClass) (a b : Mode) → admits p c ≡ true → mode_at p c a ≡ Some b → mode_at p c b ≡ Some b
+at_again : (p : Position) (c : Class) (a b : Mode) → admits p c ≡ true → mode_at p c a ≡ Some b → mode_at p c b ≡ Some b
 at_again position.Callee class.Memory a b h e = called_again a b e
 at_again position.Callee _ a b h e = cc
 at_again _ c a b h e = of_class_again c a b e
 
 -- classes whose mode is not written, or passed over
-abbrev has_none : CodeClass → Bool
-has_none class.Number = true
+abbrev has_none : Class → Bool
+has_none class.Constant = true
 has_none class.Label = true
 has_none class.Parallel = true
 has_none class.Use = true
 has_none _ = false
 
-none_of_class : (c : CodeClass) (a b : Mode) → has_none c ≡ true → mode_of_class c a ≡ Some b → b ≡ mode.Void
-none_of_class class.Number a b h e = unwanted_is a b e
+none_of_class : (c : Class) (a b : Mode) → has_none c ≡ true → mode_of_class c a ≡ Some b → b ≡ mode.Void
+none_of_class class.Constant a b h e = unwanted_is a b e
 none_of_class class.Parallel a b h e = unwanted_is a b e
 none_of_class class.Use a b h e = unwanted_is a b e
 none_of_class class.Label a b h e = cc
 none_of_class _ a b h e = cc
 
-none_at : (p : Position) (c : CodeClass) (a b : Mode) → has_none c ≡ true → admits p c ≡ true → mode_at p c a ≡ Some b → b ≡ mode.Void
+none_at : (p : Position) (c : Class) (a b : Mode) → has_none c ≡ true → admits p c ≡ true → mode_at p c a ≡ Some b → b ≡ mode.Void
 none_at position.Callee class.Memory a b n h e = cc
 none_at position.Callee _ a b n h e = cc
 none_at _ c a b n h e = none_of_class c a b n e
@@ -73,7 +73,7 @@ none_at _ c a b n h e = none_of_class c a b n e
 
 pub record Placed (p : Position) (h : Head) : Type 0 where
   pub written : Head
-  pub same_behaviour : written.code ≡ h.code
+  pub same_code : written.code ≡ h.code
   pub admitted : admits p (class_of h) ≡ true
   pub moded : mode_at p (class_of h) written.mode ≡ Some h.mode
 
@@ -90,7 +90,7 @@ placed_says p w h e =
     let same : w.code ≡ h.code = ap (λ (k : Head). k.code) m.2 in
     record {
       written = w;
-      same_behaviour = same;
+      same_code = same;
       admitted = subst (λ (k : Head). admits p (class_of k) ≡ true) m.2 (first (admits p (class_of w)) e).0;
       moded = subst (λ (k : Head). mode_at p (class_of k) w.mode ≡ Some k.mode) m.2 m.1;
     }

@@ -7,8 +7,8 @@ use Rattle.std.specs.List.{list_all}
 use Rattle.rtx_tree.specs.declared.tree.Rtx.{Rtx, out-Rtx}
 use Rattle.rtx_tree.specs.Tree.{node_of}
 use Rattle.lisp_read.specs.declared.head.Head.{Head}
-use Rattle.lisp_read.specs.declared.code_class.CodeClass.{CodeClass}
-use Rattle.lisp_read.specs.declared.code_class.CodeClass.TheVariants as class
+use Rattle.rtx_tree.specs.declared.class.Class.{Class}
+use Rattle.rtx_tree.specs.declared.class.Class.TheVariants as class
 use Rattle.lisp_read.specs.declared.position.Position.{Position}
 use Rattle.lisp_read.specs.declared.position.Position.TheVariants.{Value, Place, Source, Pc, Jump, Inner, Clobbered, Callee, Words, Test, Target}
 use Rattle.lisp_read.specs.declared.tree.Tree.{Tree}
@@ -31,7 +31,7 @@ abbrev Q : Position → Tree → Rtx → Type 0
 Q p t x = Back p x
 
 -- how the trees behind a head stand there
-pub record Again (c : CodeClass) (head : Tree) (us : List Tree) (ps : List Position) (kids : List Rtx) : Type 0 where
+pub record Again (c : Class) (head : Tree) (us : List Tree) (ps : List Position) (kids : List Rtx) : Type 0 where
   pub positions : positions_of c (head ∷ us) ≡ Some ps
   pub nested : list_all is_nested (take (length ps) us) ≡ true
   pub each : each_at ps (map meaning_of us) ≡ stands kids
@@ -43,7 +43,7 @@ take_whole n us e = subst (λ (k : ℕ). take k us ≡ us) e (whole us)
     whole [] = refl
     whole (t ∷ ts) = ap (λ (x : List Tree). t ∷ x) (whole ts)
 
-pub plain : (c : CodeClass) (head : Tree) (ts us : List Tree) (ps : List Position) (kids : List Rtx) → EachAt Q ps ts kids → AllSame us (map written kids) →
+pub plain : (c : Class) (head : Tree) (ts us : List Tree) (ps : List Position) (kids : List Rtx) → EachAt Q ps ts kids → AllSame us (map written kids) →
     (length us ≡ length ps → positions_of c (head ∷ us) ≡ Some ps) → Again c head us ps kids
 plain c head ts us ps kids each same positions =
     let len : length us ≡ length ps = same_length us kids same ∙ kids_length ps ts kids each in

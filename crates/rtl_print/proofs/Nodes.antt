@@ -10,12 +10,12 @@ use Rattle.rtx_tree.specs.declared.tree.Rtx.{Rtx, out-Rtx, out-roll-Rtx}
 use Rattle.rtx_tree.specs.declared.tree.Rtx.TheOpen.{Rtx-F}
 use Rattle.rtx_tree.specs.Tree.{node_of}
 use Rattle.lisp_read.specs.declared.head.Head.{Head}
-use Rattle.lisp_read.specs.declared.code_class.CodeClass.{CodeClass}
-use Rattle.lisp_read.specs.declared.code_class.CodeClass.TheVariants as class
+use Rattle.rtx_tree.specs.declared.class.Class.{Class}
+use Rattle.rtx_tree.specs.declared.class.Class.TheVariants as class
 use Rattle.lisp_read.specs.declared.position.Position.{Position}
 use Rattle.lisp_read.specs.declared.position.Position.TheVariants.{Value, Place, Source, Pc, Jump, Inner, Clobbered, Callee, Words, Test, Target}
 use Rattle.lisp_read.specs.declared.tree.Tree.{Tree}
-use Rattle.lisp_read.specs.CodeClass.{class_of_code}
+use Rattle.rtx_tree.specs.Code.{class_of_code}
 use Rattle.lisp_read.specs.Shape.{items_of, is_nested, is_word, is_text, atom_at, atom_of}
 use Rattle.lisp_read.specs.Parsed.{Parsed, stands, parsed_map, parsed_then}
 use Rattle.lisp_read.specs.Expression.{Meaning, meaning_of, class_of, placed, head_of, head_at, head_is, read_at, list_by, expression_by, exactly, at_least, lowpart_parts, comparison_parts, setting_parts, positions_of, is_class_number, is_class_counter, is_constant, is_counter, each_at}
@@ -49,7 +49,7 @@ case_class p h t x (Reads.parallel a v kids c is e same) = ap (λ (y : Rtx). cla
 case_class p h t x (Reads.node ps kids parts e same) = ap (λ (y : Rtx). class_of_code (out-Rtx y).code) same ∙ node_class h.code h.mode kids
 
 -- a tree that stands for an expression begins as it does
-pub head_of_read : (test : CodeClass → Bool) (p : Position) (t : Tree) (x : Rtx) → read_at p t ≡ stands x → head_is test (head_of t) ≡ test (class_of_code (out-Rtx x).code)
+pub head_of_read : (test : Class → Bool) (p : Position) (t : Tree) (x : Rtx) → read_at p t ≡ stands x → head_is test (head_of t) ≡ test (class_of_code (out-Rtx x).code)
 head_of_read test p t x e = by_head (head_at p t) refl (sym (read_at_out p t) ∙ e)
   where
     by_head : (o : Option Head) → head_at p t ≡ o → expression_by p o t (map meaning_of (items_of t)) ≡ stands x → head_is test (head_of t) ≡ test (class_of_code (out-Rtx x).code)
@@ -58,13 +58,13 @@ head_of_read test p t x e = by_head (head_at p t) refl (sym (read_at_out p t) �
         let w = then_some (head_of t) (placed p) h is in
         ap (head_is test) w.1 ∙ (ap test (ap class_of_code (placed_code p w.0 h w.2)) ∙ ap test (sym (case_class p h t x (reads p h t x e))))
 
-pub head_of_written : (test : CodeClass → Bool) (t : Tree) (x : Rtx) → Same t (written x) → head_is test (head_of t) ≡ test (class_of_code (out-Rtx x).code)
+pub head_of_written : (test : Class → Bool) (t : Tree) (x : Rtx) → Same t (written x) → head_is test (head_of t) ≡ test (class_of_code (out-Rtx x).code)
 head_of_written test t x same =
     let o : Rtx-F Rtx = out-Rtx x in
     let ps : List Tree = parts_by (class_of_code o.code) o.number o.name (map written o.kids) (map label_tree o.kids) in
     ap (head_is test) (head_of_opened t o.code o.mode ps (opened t (head_text o.code o.mode) ps (subst (Same t) (written_out x) same)))
 
-pub same_head : (test : CodeClass → Bool) (p : Position) (t u : Tree) (x : Rtx) → read_at p t ≡ stands x → Same u (written x) → head_is test (head_of u) ≡ head_is test (head_of t)
+pub same_head : (test : Class → Bool) (p : Position) (t u : Tree) (x : Rtx) → read_at p t ≡ stands x → Same u (written x) → head_is test (head_of u) ≡ head_is test (head_of t)
 same_head test p t u x e same = head_of_written test u x same ∙ sym (head_of_read test p t x e)
 
 pub nested_written : (t : Tree) (x : Rtx) → Same t (written x) → is_nested t ≡ true

@@ -4,8 +4,8 @@ use Rattle.std.specs.List.{AllByRecursion}
 use Rattle.std.proofs.lemmas.List.{append-nil}
 use Rattle.std.proofs.lemmas.List.Concat.{flat_map-cons}
 use Rattle.rtx_tree.specs.declared.place.Place.{Place}
-use Rattle.lisp_read.specs.declared.class.Kind.{Kind}
-use Rattle.lisp_read.specs.declared.class.Kind.TheVariants.{Round, Square}
+use Rattle.lisp_read.specs.declared.class.Bracket.{Bracket}
+use Rattle.lisp_read.specs.declared.class.Bracket.TheVariants.{Round, Square}
 use Rattle.lisp_read.specs.declared.tree.Tree.{Tree}
 use Rattle.lisp_read.specs.declared.tree.Tree.TheVariants as tree
 use Rattle.lisp_read.specs.Nesting.{still_open}
@@ -49,7 +49,7 @@ all_peaks (t ∷ ts) h most more le below =
     right : (c a b most : ℕ) → c + max a b ≤ most → c + b ≤ most
     right c a b most h = grind (arith)
 
-nested_peaks : (k : Kind) (p : Place) (ts : List Tree) → AllByRecursion OfTree ts → OfTree (nested k p ts)
+nested_peaks : (k : Bracket) (p : Place) (ts : List Tree) → AllByRecursion OfTree ts → OfTree (nested k p ts)
 unfolding OfTree
 nested_peaks k p ts h most more le below =
     let depth : depth_of (nested k p ts) ≡ suc (greatest (map depth_of ts)) = depth-nested k p ts in

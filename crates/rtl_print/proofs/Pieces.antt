@@ -3,9 +3,9 @@ use Rattle.std.proofs.Common.{◌≡◌, ℕ, Bool, true, false, List, [], ◌�
 use Rattle.std.proofs.lemmas.List.{map-append, append-nil}
 use Rattle.std.proofs.lemmas.List.Concat.{flat_map-cons}
 use Rattle.rtx_tree.specs.declared.place.Place.{Place}
-use Rattle.lisp_read.specs.declared.class.Class.{Class}
-use Rattle.lisp_read.specs.declared.class.Class.TheVariants as class
-use Rattle.lisp_read.specs.declared.class.Kind.TheVariants.{Round}
+use Rattle.lisp_read.specs.declared.class.ByteClass.{ByteClass}
+use Rattle.lisp_read.specs.declared.class.ByteClass.TheVariants as class
+use Rattle.lisp_read.specs.declared.class.Bracket.TheVariants.{Round}
 use Rattle.lisp_read.specs.declared.tree.Tree.{Tree}
 use Rattle.lisp_read.specs.Class.{class_of, is_atom_class, is_blank}
 use Rattle.lisp_read.specs.Part.{Part, Open, Close, enclosed, parts_of, parts_of_all}
@@ -58,7 +58,7 @@ nothing = record {
   apart = λ rest ends. ends;
 }
 
-blank_ends : (c : Class) → is_blank c ≡ true → is_atom_class c ≡ false
+blank_ends : (c : ByteClass) → is_blank c ≡ true → is_atom_class c ≡ false
 blank_ends class.Blank h = refl
 blank_ends class.Newline h = refl
 blank_ends _ h = cc

@@ -3,8 +3,8 @@ use Rattle.std.proofs.Common.{◌≡◌, ◌<◌, ◌≤◌, ◌+◌, ◌==◌, 
 use Rattle.std.proofs.lemmas.Bool.Decides.{nat_tests}
 use Rattle.std.specs.Prelude.{nat_lt, option_and_then, if◌then◌else◌, codes}
 use Rattle.std.specs.List.{list_all}
-use Rattle.lisp_read.specs.declared.code_class.CodeClass.{CodeClass}
-use Rattle.lisp_read.specs.declared.code_class.CodeClass.TheVariants as class
+use Rattle.rtx_tree.specs.declared.class.Class.{Class}
+use Rattle.rtx_tree.specs.declared.class.Class.TheVariants as class
 use Rattle.lisp_read.specs.declared.position.Position.{Position}
 use Rattle.lisp_read.specs.declared.position.Position.TheVariants.{Value, Place, Source, Pc, Jump, Inner, Clobbered, Callee, Words, Test, Target}
 use Rattle.lisp_read.specs.declared.tree.Tree.{Tree}
@@ -12,7 +12,7 @@ use Rattle.lisp_read.specs.Shape.{is_nested, is_word}
 use Rattle.lisp_read.specs.Expression.{exactly, at_least, lowpart_parts, comparison_parts, setting_parts, positions_of, if_nested, parts_of_class, is_constant, is_counter}
 use Rattle.rtl_print.proofs.Numbers.{if_some, then_some}
 
-pub parts_positions : (c : CodeClass) (items : List Tree) (ps : List Position) → parts_of_class c items ≡ Some ps → (positions_of c items ≡ Some ps) × (list_all is_nested (take (length ps) (drop 1 items)) ≡ true)
+pub parts_positions : (c : Class) (items : List Tree) (ps : List Position) → parts_of_class c items ≡ Some ps → (positions_of c items ≡ Some ps) × (list_all is_nested (take (length ps) (drop 1 items)) ≡ true)
 parts_positions c items ps e =
     let q = then_some (positions_of c items) (if_nested items) ps e in
     let says = if_some (list_all is_nested (take (length q.0) (drop 1 items))) q.0 ps q.2 in
@@ -53,11 +53,14 @@ setting_fits (h ∷ a ∷ b ∷ []) ps e = by_test (is_counter a) e
     by_test false e = let same : Place ∷ Source ∷ [] ≡ ps = cc in subst (λ (x : List Position). Fits x (h ∷ a ∷ b ∷ [])) same (omega arith)
 setting_fits _ ps e = cc
 
-pub fits : (c : CodeClass) (items : List Tree) (ps : List Position) → positions_of c items ≡ Some ps → length ps < length items
+pub fits : (c : Class) (items : List Tree) (ps : List Position) → positions_of c items ≡ Some ps → length ps < length items
 fits class.Memory items ps e = at_least_fits (Value ∷ []) items ps e
 fits class.Lowpart items ps e = lowpart_fits items ps e
 fits class.Unary items ps e = exactly_fits (Value ∷ []) items ps e
+fits class.Extension items ps e = exactly_fits (Value ∷ []) items ps e
+fits class.Truncation items ps e = exactly_fits (Value ∷ []) items ps e
 fits class.Binary items ps e = exactly_fits (Value ∷ Value ∷ []) items ps e
+fits class.Shift items ps e = exactly_fits (Value ∷ Value ∷ []) items ps e
 fits class.Comparison items ps e = comparison_fits items ps e
 fits class.Setting items ps e = setting_fits items ps e
 fits class.Use items ps e = exactly_fits (Value ∷ []) items ps e

@@ -5,9 +5,9 @@ use Rattle.rtx_tree.specs.declared.code.Mode.TheVariants as mode
 use Rattle.rtx_tree.specs.declared.place.Place.{Place}
 use Rattle.rtx_tree.specs.declared.tree.Rtx.{Rtx}
 use Rattle.rtx_tree.specs.Tree.{node_of}
-use Rattle.lisp_read.specs.declared.class.Kind.TheVariants.{Round, Square}
-use Rattle.lisp_read.specs.declared.code_class.CodeClass.{CodeClass}
-use Rattle.lisp_read.specs.declared.code_class.CodeClass.TheVariants as class
+use Rattle.lisp_read.specs.declared.class.Bracket.TheVariants.{Round, Square}
+use Rattle.rtx_tree.specs.declared.class.Class.{Class}
+use Rattle.rtx_tree.specs.declared.class.Class.TheVariants as class
 use Rattle.lisp_read.specs.declared.head.Head.{Head}
 use Rattle.lisp_read.specs.declared.position.Position.{Position}
 use Rattle.lisp_read.specs.declared.tree.Tree.{Tree, out-Tree}
@@ -150,9 +150,9 @@ behind most text [] low = atom_within most text [] (omega arith)
 behind most text (u ∷ us) low =
     first_within most u (us ++ atom text ∷ []) (omega (arith, low, left_less (depth_of u) (deepest us))) (behind most text us (omega (arith, low, right_less (depth_of u) (deepest us))))
 
-by_class : (c : CodeClass) (items : List Tree) (ps : List Position) (most : ℕ) (kids labels : List Tree) → positions_of c items ≡ Some ps → Within most kids → Within most (parts_by c (pos 0) [] kids labels)
+by_class : (c : Class) (items : List Tree) (ps : List Position) (most : ℕ) (kids labels : List Tree) → positions_of c items ≡ Some ps → Within most kids → Within most (parts_by c (pos 0) [] kids labels)
 by_class class.Register items ps most kids labels e low = absurd (let none : ⊥ = cc in none)
-by_class class.Number items ps most kids labels e low = absurd (let none : ⊥ = cc in none)
+by_class class.Constant items ps most kids labels e low = absurd (let none : ⊥ = cc in none)
 by_class class.Symbol items ps most kids labels e low = absurd (let none : ⊥ = cc in none)
 by_class class.Label items ps most kids labels e low = absurd (let none : ⊥ = cc in none)
 by_class class.Parallel items ps most kids labels e low = absurd (let none : ⊥ = cc in none)

@@ -4,6 +4,7 @@ use Rattle.std.specs.Fmt.{signed_decimal}
 use Rattle.std.proofs.lemmas.List.Concat.{flat_map-cons}
 use Rattle.rtx_tree.specs.declared.tree.Rtx.{Rtx, out-Rtx}
 use Rattle.rtx_tree.specs.declared.tree.Rtx.TheFolds.{fold_out-Rtx}
+use Rattle.rtx_tree.specs.Code.{class_of_code}
 use Rattle.rtl_print.specs.Print.{head_text, Printed, printed_step, printed_body, text_of, spaced, spaced_text, spaced_number, body_of}
 
 bare_of : (x : Rtx) → (text_of x).bare ≡ signed_decimal (out-Rtx x).number
@@ -26,5 +27,5 @@ pub printed_out : (x : Rtx) → (text_of x).whole ≡ codes "(" ++ (head_text (o
 printed_out x =
     let o = out-Rtx x in
     ap (λ (p : Printed). p.whole) (fold_out-Rtx Printed printed_step x)
-    ∙ ap (λ (kids : List ℕ). codes "(" ++ (head_text o.code o.mode ++ (printed_body o.code o.number o.name kids (flat_map (λ (k : Printed). spaced k.bare) (map text_of o.kids)) ++ codes ")"))) (wholes o.kids)
-    ∙ ap (λ (labels : List ℕ). codes "(" ++ (head_text o.code o.mode ++ (printed_body o.code o.number o.name (flat_map spaced_text o.kids) labels ++ codes ")"))) (bares o.kids)
+    ∙ ap (λ (kids : List ℕ). codes "(" ++ (head_text o.code o.mode ++ (printed_body (class_of_code o.code) o.number o.name kids (flat_map (λ (k : Printed). spaced k.bare) (map text_of o.kids)) ++ codes ")"))) (wholes o.kids)
+    ∙ ap (λ (labels : List ℕ). codes "(" ++ (head_text o.code o.mode ++ (printed_body (class_of_code o.code) o.number o.name (flat_map spaced_text o.kids) labels ++ codes ")"))) (bares o.kids)

@@ -4,13 +4,13 @@ use Rattle.std.specs.List.{AllByRecursion}
 use Rattle.std.specs.Fmt.{signed_decimal}
 use Rattle.std.proofs.lemmas.List.{append-nil}
 use Rattle.std.proofs.lemmas.List.Concat.{flat_map-cons}
-use Rattle.rtx_tree.specs.declared.code.Code.{Code}
-use Rattle.rtx_tree.specs.declared.code.Code.TheVariants as code
+use Rattle.rtx_tree.specs.declared.class.Class.{Class}
+use Rattle.rtx_tree.specs.declared.class.Class.TheVariants as class
 use Rattle.rtx_tree.specs.declared.tree.Rtx.{Rtx, out-Rtx, roll-Rtx, out-roll-Rtx}
 use Rattle.rtx_tree.specs.declared.tree.Rtx.TheOpen.{Rtx-F}
 use Rattle.rtx_tree.specs.declared.tree.Rtx.TheFolds.{ind-Rtx}
 use Rattle.lisp_read.specs.declared.tree.Tree.{Tree}
-use Rattle.lisp_read.specs.CodeClass.{class_of_code}
+use Rattle.rtx_tree.specs.Code.{class_of_code}
 use Rattle.tree_print.specs.Print.{nowhere, printed_tree, spaced_tree}
 use Rattle.tree_print.proofs.Printed.{printed_atom, printed_string, printed_list, printed_vector}
 use Rattle.rtl_print.specs.Print.{head_text, printed, printed_reg, starred, printed_body, spaced, spaced_text, spaced_number, body_of, text_of}
@@ -91,17 +91,17 @@ labels (x ∷ xs) =
     ∙ (ap (λ (t : List ℕ). 32 ∷ (printed_tree (label_tree x) ++ t)) (labels xs)
     ∙ sym (spaced_cons (label_tree x) (map label_tree xs))))
 
-by_code : (c : Code) (n : ℤ) (name : List ℕ) (kids : List Rtx) → AllByRecursion IsText kids →
-    printed_body c n name (flat_map spaced_text kids) (flat_map spaced_number kids) ≡ spaced_all (parts_by (class_of_code c) n name (map written kids) (map label_tree kids))
-by_code code.Reg n name kids all = sym (spaced_one (atom (printed_reg n)) (printed_reg n) (printed_atom nowhere (printed_reg n)))
-by_code code.ConstInt n name kids all = sym (spaced_one (atom (signed_decimal n)) (signed_decimal n) (printed_atom nowhere (signed_decimal n)))
-by_code code.SymbolRef n name kids all = sym (spaced_one (list (string (starred name) ∷ [])) (40 ∷ 34 ∷ (starred name ++ 34 ∷ 41 ∷ [])) (quoted (starred name)))
-by_code code.LabelRef n name kids all = labels kids
-by_code code.Subreg n name kids all =
+by_class : (c : Class) (n : ℤ) (name : List ℕ) (kids : List Rtx) → AllByRecursion IsText kids →
+    printed_body c n name (flat_map spaced_text kids) (flat_map spaced_number kids) ≡ spaced_all (parts_by c n name (map written kids) (map label_tree kids))
+by_class class.Register n name kids all = sym (spaced_one (atom (printed_reg n)) (printed_reg n) (printed_atom nowhere (printed_reg n)))
+by_class class.Constant n name kids all = sym (spaced_one (atom (signed_decimal n)) (signed_decimal n) (printed_atom nowhere (signed_decimal n)))
+by_class class.Symbol n name kids all = sym (spaced_one (list (string (starred name) ∷ [])) (40 ∷ 34 ∷ (starred name ++ 34 ∷ 41 ∷ [])) (quoted (starred name)))
+by_class class.Label n name kids all = labels kids
+by_class class.Lowpart n name kids all =
     ap (λ (t : List ℕ). t ++ codes " 0") (texts kids all) ∙ sym (spaced_behind (map written kids) (atom (codes "0")) (codes "0") (printed_atom nowhere (codes "0")))
-by_code code.Parallel n name kids all =
+by_class class.Parallel n name kids all =
     ap (λ (t : List ℕ). codes " [" ++ (drop 1 t ++ codes "]")) (texts kids all) ∙ sym (spaced_one (vector (map written kids)) _ (bracketed (map written kids)))
-by_code _ n name kids all = texts kids all
+by_class _ n name kids all = texts kids all
 
 text_step : (x : Rtx) → AllByRecursion IsText (out-Rtx x).kids → IsText x
 unfolding IsText
@@ -109,7 +109,7 @@ text_step x all =
     let o : Rtx-F Rtx = out-Rtx x in
     let us : List Tree = parts_by (class_of_code o.code) o.number o.name (map written o.kids) (map label_tree o.kids) in
     printed_out x
-    ∙ (ap (λ (body : List ℕ). 40 ∷ (head_text o.code o.mode ++ (body ++ 41 ∷ []))) (by_code o.code o.number o.name o.kids all)
+    ∙ (ap (λ (body : List ℕ). 40 ∷ (head_text o.code o.mode ++ (body ++ 41 ∷ []))) (by_class (class_of_code o.code) o.number o.name o.kids all)
     ∙ (sym (listed (head_text o.code o.mode) us)
     ∙ ap printed_tree (sym (written_out x))))
 

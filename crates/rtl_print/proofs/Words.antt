@@ -12,11 +12,11 @@ use Rattle.rtx_tree.specs.Tree.{reg_of, const_of, named_of}
 use Rattle.rtx_tree.specs.Patterns.{label_rtx}
 use Rattle.text_words.specs.Words.{fits_i64, is_symbol}
 use Rattle.lisp_read.specs.declared.head.Head.{Head}
-use Rattle.lisp_read.specs.declared.code_class.CodeClass.{CodeClass}
-use Rattle.lisp_read.specs.declared.code_class.CodeClass.TheVariants as class
+use Rattle.rtx_tree.specs.declared.class.Class.{Class}
+use Rattle.rtx_tree.specs.declared.class.Class.TheVariants as class
 use Rattle.lisp_read.specs.declared.position.Position.{Position}
 use Rattle.lisp_read.specs.declared.tree.Tree.{Tree}
-use Rattle.lisp_read.specs.CodeClass.{class_of_code}
+use Rattle.rtx_tree.specs.Code.{class_of_code}
 use Rattle.lisp_read.specs.Leaf.{allowed, word_at, word_with, symbol_with, symbol_at, quoted_name, symbol_of, unstarred}
 use Rattle.lisp_read.specs.Shape.{atom_at, atom_of, items_at, items_of, string_at, string_of, is_nested_at, is_nested}
 use Rattle.lisp_read.specs.Parsed.{Parsed, stands, or_outside}
@@ -42,7 +42,7 @@ pub register_code : (c : Code) → class_of_code c ≡ class.Register → c ≡ 
 register_code code.Reg e = refl
 register_code _ e = cc
 
-number_code : (c : Code) → class_of_code c ≡ class.Number → c ≡ code.ConstInt
+number_code : (c : Code) → class_of_code c ≡ class.Constant → c ≡ code.ConstInt
 number_code code.ConstInt e = refl
 number_code _ e = cc
 
@@ -60,26 +60,26 @@ placed_as p h c m s is_code is_mode = ap (λ (k : Code). placed p (head_with k m
 
 -- ---- words
 
-word_again : (t : Tree) (c : CodeClass) (p : Position) (m : Mode) (head : Tree) (parts : List Tree) (text : List ℕ) (x : Rtx) →
+word_again : (t : Tree) (c : Class) (p : Position) (m : Mode) (head : Tree) (parts : List Tree) (text : List ℕ) (x : Rtx) →
     AllSame parts (atom text ∷ []) → word_at c p m text ≡ Some x → word_with t c p m (head ∷ parts) ≡ stands x
 word_again t c p m head [] text x same e = absurd same
 word_again t c p m head (w ∷ more) text x same e =
     ap (λ (o : Option (List ℕ)). or_outside t (option_and_then (word_at c p m) o)) (ap atom_at (as_atom w nowhere text same.0).is) ∙ ap (or_outside t) e
 
 -- a class of words: its lists are read as words
-abbrev IsWordClass : CodeClass → Type 0
+abbrev IsWordClass : Class → Type 0
 IsWordClass c = (p : Position) (h : Head) (t : Tree) (inside : List Meaning) → list_by c p h t inside ≡ word_with t (class_of h) p h.mode (items_of t)
 
-word_back : (k : CodeClass) → IsWordClass k → (p : Position) (h : Head) (c : Code) (m : Mode) (text : List ℕ) (x : Rtx) → Placed p h → class_of h ≡ k → h.code ≡ c → h.mode ≡ m →
+word_back : (k : Class) → IsWordClass k → (p : Position) (h : Head) (c : Code) (m : Mode) (text : List ℕ) (x : Rtx) → Placed p h → class_of h ≡ k → h.code ≡ c → h.mode ≡ m →
     word_at k p m text ≡ Some x → written x ≡ list (atom (head_text c m) ∷ atom text ∷ []) → Back p x
 unfolding Back
 word_back k words p h c m text x s is_class is_code is_mode e w t same =
     let o : Opened t (head_text c m) (atom text ∷ []) = opened t (head_text c m) (atom text ∷ []) (subst (Same t) w same) in
     let inner : List Meaning = map meaning_of (o.head ∷ o.parts) in
     read_opened p t c m (atom text ∷ []) o h (placed_as p h c m s is_code is_mode)
-    ∙ (ap (λ (j : CodeClass). list_by j p h t inner) is_class
+    ∙ (ap (λ (j : Class). list_by j p h t inner) is_class
     ∙ (words p h t inner
-    ∙ (ap (λ (j : CodeClass). word_with t j p h.mode (items_of t)) is_class
+    ∙ (ap (λ (j : Class). word_with t j p h.mode (items_of t)) is_class
     ∙ (ap (λ (j : Mode). word_with t k p j (items_of t)) is_mode
     ∙ (ap (word_with t k p m) o.items
     ∙ word_again t k p m o.head o.parts text x o.same e)))))
@@ -117,7 +117,7 @@ symbol_back p h name s is_class is t same =
     let ps : List Tree = list (string (starred name) ∷ []) ∷ [] in
     let o : Opened t (head_text code.SymbolRef m) ps = opened t (head_text code.SymbolRef m) ps (subst (Same t) (written_of (record { code = code.SymbolRef; mode = m; number = pos 0; name = name }) []) same) in
     read_opened p t code.SymbolRef m ps o h (placed_as p h code.SymbolRef m s (symbol_code h.code is_class) refl)
-    ∙ (ap (λ (j : CodeClass). list_by j p h t (map meaning_of (o.head ∷ o.parts))) is_class
+    ∙ (ap (λ (j : Class). list_by j p h t (map meaning_of (o.head ∷ o.parts))) is_class
     ∙ (ap (symbol_with t m) o.items ∙ symbol_again t m o.head o.parts name is o.same))
 
 -- ---- all of them
@@ -135,7 +135,7 @@ leaf_back p h t x s (Leaf.register r c is fits same) =
     (written_of (record { code = code.Reg; mode = h.mode; number = pos r; name = [] }) []))
 leaf_back p h t x s (Leaf.number n c fits same) =
     subst (Back p) (sym same)
-    (word_back class.Number (λ _ _ _ _. refl) p h code.ConstInt mode.Void (signed_decimal n) (const_of n) s c (number_code h.code c) (placed_bare p h (rw c refl) s)
+    (word_back class.Constant (λ _ _ _ _. refl) p h code.ConstInt mode.Void (signed_decimal n) (const_of n) s c (number_code h.code c) (placed_bare p h (rw c refl) s)
     (ap (option_map const_of) (number_again n fits))
     (written_of (record { code = code.ConstInt; mode = mode.Void; number = n; name = [] }) []))
 leaf_back p h t x s (Leaf.label uid c fits same) =

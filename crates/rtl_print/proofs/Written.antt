@@ -8,9 +8,9 @@ use Rattle.rtx_tree.specs.declared.tree.Rtx.TheFolds.{fold-Rtx, fold_out-Rtx}
 use Rattle.rtx_tree.specs.Tree.{Head, tree_of}
 use Rattle.lisp_read.specs.declared.tree.Tree.{Tree}
 use Rattle.lisp_read.specs.declared.tree.Tree.TheVariants as tree
-use Rattle.lisp_read.specs.declared.code_class.CodeClass.{CodeClass}
-use Rattle.lisp_read.specs.declared.code_class.CodeClass.TheVariants as class
-use Rattle.lisp_read.specs.CodeClass.{class_of_code}
+use Rattle.rtx_tree.specs.declared.class.Class.{Class}
+use Rattle.rtx_tree.specs.declared.class.Class.TheVariants as class
+use Rattle.rtx_tree.specs.Code.{class_of_code}
 use Rattle.tree_print.specs.Print.{nowhere}
 use Rattle.rtl_print.specs.Print.{head_text, printed_reg, starred}
 
@@ -27,9 +27,9 @@ abbrev pub vector : List Tree → Tree
 vector items = tree.Vector nowhere items
 
 -- what stands behind the head of an expression, by its kids' trees, and by those of its kids' numbers alone
-abbrev pub parts_by : CodeClass → ℤ → List ℕ → List Tree → List Tree → List Tree
+abbrev pub parts_by : Class → ℤ → List ℕ → List Tree → List Tree → List Tree
 parts_by class.Register n name kids labels = atom (printed_reg n) ∷ []
-parts_by class.Number n name kids labels = atom (signed_decimal n) ∷ []
+parts_by class.Constant n name kids labels = atom (signed_decimal n) ∷ []
 parts_by class.Symbol n name kids labels = list (string (starred name) ∷ []) ∷ []
 parts_by class.Label n name kids labels = labels
 parts_by class.Lowpart n name kids labels = kids ++ atom (codes "0") ∷ []

@@ -2,13 +2,14 @@
 use Rattle.std.specs.Prelude.{ℕ, ◌-◌, ℤ, pos, negsuc, nat_lt, ◌==◌, List, [], ◌∷◌, ◌++◌, flat_map, drop, codes, if◌then◌else◌}
 use Rattle.std.specs.Fmt.{decimal, signed_decimal}
 use Rattle.rtx_tree.specs.declared.code.Code.{Code}
-use Rattle.rtx_tree.specs.declared.code.Code.TheVariants.{Reg, ConstInt, SymbolRef, LabelRef, Subreg, Parallel}
+use Rattle.rtx_tree.specs.declared.class.Class.{Class}
+use Rattle.rtx_tree.specs.declared.class.Class.TheVariants.{Register, Constant, Symbol, Label, Lowpart, Parallel}
 use Rattle.rtx_tree.specs.declared.code.Mode.{Mode}
 use Rattle.rtx_tree.specs.declared.code.Mode.TheVariants.{Void}
 use Rattle.rtx_tree.specs.declared.tree.Rtx.{Rtx, out-Rtx}
 use Rattle.rtx_tree.specs.declared.tree.Rtx.TheOpen.{Rtx-F}
 use Rattle.rtx_tree.specs.declared.tree.Rtx.TheFolds.{fold-Rtx}
-use Rattle.rtx_tree.specs.Code.{code_name, mode_name}
+use Rattle.rtx_tree.specs.Code.{class_of_code, code_name, mode_name}
 use Rattle.rtx_tree.specs.Registers.{reg_text}
 
 -- the atom at the head of an expression: the code's name, and behind a colon that of the mode, if there is one
@@ -38,12 +39,12 @@ spaced text = 32 ∷ text
 
 -- what stands between the head of an expression and its closing parenthesis, by its kids' texts, each with a space in front;
 -- a label is shown by its bare number
-abbrev pub printed_body : Code → ℤ → List ℕ → List ℕ → List ℕ → List ℕ
-printed_body Reg n name kids labels = spaced (printed_reg n)
-printed_body ConstInt n name kids labels = spaced (signed_decimal n)
-printed_body SymbolRef n name kids labels = codes " (\"" ++ (starred name ++ codes "\")")
-printed_body LabelRef n name kids labels = labels
-printed_body Subreg n name kids labels = kids ++ codes " 0"
+abbrev pub printed_body : Class → ℤ → List ℕ → List ℕ → List ℕ → List ℕ
+printed_body Register n name kids labels = spaced (printed_reg n)
+printed_body Constant n name kids labels = spaced (signed_decimal n)
+printed_body Symbol n name kids labels = codes " (\"" ++ (starred name ++ codes "\")")
+printed_body Label n name kids labels = labels
+printed_body Lowpart n name kids labels = kids ++ codes " 0"
 printed_body Parallel n name kids labels = codes " [" ++ (drop 1 kids ++ codes "]")
 printed_body _ n name kids labels = kids
 
@@ -54,7 +55,7 @@ pub record Printed : Type 0 where
 
 abbrev pub printed_step : Rtx-F Printed → Printed
 printed_step x = record {
-  whole = codes "(" ++ (head_text x.code x.mode ++ (printed_body x.code x.number x.name (flat_map (λ k. spaced k.whole) x.kids) (flat_map (λ k. spaced k.bare) x.kids) ++ codes ")"));
+  whole = codes "(" ++ (head_text x.code x.mode ++ (printed_body (class_of_code x.code) x.number x.name (flat_map (λ k. spaced k.whole) x.kids) (flat_map (λ k. spaced k.bare) x.kids) ++ codes ")"));
   bare = signed_decimal x.number;
 }
 
@@ -78,4 +79,4 @@ separated kids = drop 1 (flat_map spaced_text kids)
 
 -- what stands behind the head of an expression
 abbrev pub body_of : Rtx → List ℕ
-body_of x = let o = out-Rtx x in printed_body o.code o.number o.name (flat_map spaced_text o.kids) (flat_map spaced_number o.kids)
+body_of x = let o = out-Rtx x in printed_body (class_of_code o.code) o.number o.name (flat_map spaced_text o.kids) (flat_map spaced_number o.kids)

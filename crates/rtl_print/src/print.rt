@@ -8,7 +8,7 @@ ghost use Rattle.rtl_print.specs.Print as spec;
 
 use itoa::Buffer;
 use plain_data::Memory;
-use rtx_tree::{Code, Mode, Rtx, reg_name};
+use rtx_tree::{Class, Code, Mode, Rtx, reg_name};
 
 /// Appends a number in decimal.
 pub fn print_number(number: i64, out: &mut Vec<u8>) -> Result<(), Memory>
@@ -137,23 +137,23 @@ fn print_body(x: &Rtx, out: &mut Vec<u8>) -> Result<(), Memory>
     ensures { OnOk result (out.new.items ≡ out.old.items ++ spec.body_of x.now) }
 {
     let kids = x.kids.as_slice();
-    match x.code {
-        Code::Reg => {
+    match x.code.class() {
+        Class::Register => {
             out.push(b' ')?;
             print_reg(x.number, out)
         }
-        Code::ConstInt => {
+        Class::Constant => {
             out.push(b' ')?;
             print_number(x.number, out)
         }
-        Code::SymbolRef => print_symbol(x.name.bytes(), out),
-        Code::LabelRef => print_bare(kids, out),
-        Code::Subreg => {
+        Class::Symbol => print_symbol(x.name.bytes(), out),
+        Class::Label => print_bare(kids, out),
+        Class::Lowpart => {
             print_kids(kids, out)?;
             out.extend_from_slice(b" 0")?;
             Ok(())
         }
-        Code::Parallel => {
+        Class::Parallel => {
             out.extend_from_slice(b" [")?;
             print_separated(kids, out)?;
             out.push(b']')?;

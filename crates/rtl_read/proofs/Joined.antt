@@ -6,7 +6,7 @@ use Rattle.rtx_tree.specs.declared.place.Place.{Place}
 use Rattle.lisp_read.specs.declared.tree.Tree.{Tree}
 use Rattle.lisp_read.specs.Parsed.{Parsed, stands, construct, parsed_map, parsed_then}
 use Rattle.rtl_read.specs.Chain.{each_joined}
-use Rattle.rtl_read.specs.Adding.{behind}
+use Rattle.rtl_read.specs.machine.Adding.{behind}
 
 pub first_left : (trees : List Tree) (i : ℕ) (t : Tree) → i < length trees → t ≡ get_or trees i t → drop i trees ≡ t ∷ drop (i + 1) trees
 first_left trees i t within is =

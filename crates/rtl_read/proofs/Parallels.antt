@@ -11,13 +11,13 @@ use Rattle.lisp_read.specs.declared.tree.Tree.{Tree}
 use Rattle.lisp_read.specs.declared.head.Head.{Head}
 use Rattle.lisp_read.specs.declared.position.Position.TheVariants.{Pattern}
 use Rattle.lisp_read.specs.Shape.{atom_of, items_of}
-use Rattle.lisp_read.specs.CodeClass.{class_of_code}
+use Rattle.rtx_tree.specs.Code.{class_of_code}
 use Rattle.lisp_read.specs.Positions.{unwanted, admits, mode_at}
 use Rattle.lisp_read.specs.Head as head
 use Rattle.lisp_read.specs.Expression.{head_is, placed, head_of_items}
 use Rattle.rtl_read.specs.Word.{head_of_list}
 use Rattle.rtl_read.specs.Call.{is_class_parallel, is_parallel}
-use Rattle.rtl_read.specs.Head.{flags_pass, is_parallel_code, is_parallel_text}
+use Rattle.rtl_read.specs.machine.Head.{flags_pass, is_parallel_code, is_parallel_text}
 
 abbrev with_mode : Code → Mode → Head
 with_mode c m = record { code = c; mode = m }

@@ -6,23 +6,23 @@ use Rattle.rtx_tree.specs.declared.code.Mode.{Mode}
 use Rattle.rtx_tree.specs.declared.tree.Rtx.{Rtx}
 use Rattle.lisp_read.specs.declared.tree.Tree.{Tree}
 use Rattle.lisp_read.specs.declared.head.Head.{Head}
-use Rattle.lisp_read.specs.declared.code_class.CodeClass.{CodeClass}
-use Rattle.lisp_read.specs.declared.code_class.CodeClass.TheVariants as class
+use Rattle.rtx_tree.specs.declared.class.Class.{Class}
+use Rattle.rtx_tree.specs.declared.class.Class.TheVariants as class
 use Rattle.lisp_read.specs.declared.position.Position.TheVariants.{Top, Pattern}
 use Rattle.lisp_read.specs.Shape.{atom_of, items_of}
-use Rattle.lisp_read.specs.CodeClass.{class_of_code}
+use Rattle.rtx_tree.specs.Code.{class_of_code}
 use Rattle.lisp_read.specs.Positions.{is_pattern, admits, mode_of_class}
 use Rattle.lisp_read.specs.Head.{cut, code_in, head_in, head_with, mode_in, flagged, flags_pass}
 use Rattle.lisp_read.specs.Parsed.{Parsed, outside}
 use Rattle.lisp_read.specs.Expression.{Meaning, meaning_of, expression_by, list_by, read_at, rtx_in, head_of_items, placed}
 use Rattle.lisp_read.proofs.Meanings.{read_at_out}
 use Rattle.rtl_read.specs.Word.{head_word, head_of_list}
-use Rattle.rtl_read.specs.Head.{is_pattern_code, names_pattern}
+use Rattle.rtl_read.specs.machine.Head.{is_pattern_code, names_pattern}
 
 -- what a pattern is does not hang on the position
-list_same : (k : CodeClass) (h : Head) (t : Tree) (inside : List Meaning) → is_pattern k ≡ true → list_by k Pattern h t inside ≡ list_by k Top h t inside
+list_same : (k : Class) (h : Head) (t : Tree) (inside : List Meaning) → is_pattern k ≡ true → list_by k Pattern h t inside ≡ list_by k Top h t inside
 list_same class.Register h t inside e = absurd (grind arith)
-list_same class.Number h t inside e = absurd (grind arith)
+list_same class.Constant h t inside e = absurd (grind arith)
 list_same class.Label h t inside e = absurd (grind arith)
 list_same _ h t inside e = refl
 
@@ -34,8 +34,12 @@ moded_same : (c : Code) (m : Option Mode) (t : Tree) (inside : List Meaning) →
 moded_same c None t inside e = refl
 moded_same c (Some m) t inside e = list_same (class_of_code c) (record { code = c; mode = m }) t inside e
 
-top_admits : (k : CodeClass) → is_pattern k ≡ true → admits Top k ≡ true
-top_admits class.Matching e = absurd (grind arith)
+top_admits : (k : Class) → is_pattern k ≡ true → admits Top k ≡ true
+top_admits class.Operand e = absurd (grind arith)
+top_admits class.OperandAgain e = absurd (grind arith)
+top_admits class.OperandScratch e = absurd (grind arith)
+top_admits class.Operator e = absurd (grind arith)
+top_admits class.OperatorAgain e = absurd (grind arith)
 top_admits _ e = refl
 
 by_pattern : (b : Bool) (c : Code) (m : Mode) (t : Tree) (inside : List Meaning) → is_pattern (class_of_code c) ≡ b →

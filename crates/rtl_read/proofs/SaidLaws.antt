@@ -9,7 +9,7 @@ use Rattle.lisp_read.specs.Parsed.{Parsed, stands, construct, parsed_map, parsed
 use Rattle.rtl_read.specs.declared.parts.Returned.{Returned}
 use Rattle.rtl_read.specs.declared.parts.Said.{Said}
 use Rattle.rtl_read.specs.Function.{said_too, says_nothing, said_by, all_said}
-use Rattle.rtl_read.specs.Adding.{said_behind}
+use Rattle.rtl_read.specs.machine.Adding.{said_behind}
 use Rattle.rtl_read.proofs.Joined.{first_left}
 
 or_assoc : {A : Type 0} (a b c : Option A) → option_or c (option_or b a) ≡ option_or (option_or c b) a

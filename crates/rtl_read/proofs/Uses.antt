@@ -11,7 +11,7 @@ use Rattle.lisp_read.specs.Shape.{items_at, items_of}
 use Rattle.lisp_read.specs.Parsed.{Parsed, stands, construct, outside, parsed_map, Refuses}
 use Rattle.rtl_read.specs.Call.{uses_in, uses_by, use_of, is_whole_link, chain_step, readers_at, each_chain}
 use Rattle.rtl_read.specs.Word.{is_alone}
-use Rattle.rtl_read.specs.Adding.{behind, Adds}
+use Rattle.rtl_read.specs.machine.Adding.{behind, Adds}
 
 reading : Tree → Tree → Parsed (List ArgUse)
 reading = fold-Tree (Tree → Parsed (List ArgUse)) chain_step

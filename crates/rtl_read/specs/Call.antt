@@ -13,8 +13,8 @@ use Rattle.rtx_tree.specs.Tree.{node_of}
 use Rattle.lisp_read.specs.declared.tree.Tree.{Tree}
 use Rattle.lisp_read.specs.declared.tree.Tree.TheOpen.{Tree-F}
 use Rattle.lisp_read.specs.declared.tree.Tree.TheFolds.{fold-Tree}
-use Rattle.lisp_read.specs.declared.code_class.CodeClass.{CodeClass}
-use Rattle.lisp_read.specs.declared.code_class.CodeClass.TheVariants as class
+use Rattle.rtx_tree.specs.declared.class.Class.{Class}
+use Rattle.rtx_tree.specs.declared.class.Class.TheVariants as class
 use Rattle.lisp_read.specs.declared.position.Position.TheVariants.{Pattern}
 use Rattle.lisp_read.specs.Leaf.{below}
 use Rattle.lisp_read.specs.Parsed.{Parsed, stands, outside, or_outside, parsed_map, parsed_then, each_parsed}
@@ -24,7 +24,7 @@ use Rattle.rtl_read.specs.Word.{head_word, head_of_list, named_code, is_alone, e
 
 -- ---- what a call does
 
-abbrev pub is_class_parallel : CodeClass → Bool
+abbrev pub is_class_parallel : Class → Bool
 is_class_parallel class.Parallel = true
 is_class_parallel _ = false
 

@@ -5,7 +5,7 @@ ghost use Rattle.lisp_read.specs.declared.position.Position.TheVariants.{Pattern
 ghost use Rattle.lisp_read.specs.Expression.{read_at};
 ghost use Rattle.lisp_read.specs.Parsed.{Gives, each_parsed};
 ghost use Rattle.lisp_read.specs.Shape as shape;
-ghost use Rattle.rtl_read.specs.Adding.{Adds};
+ghost use Rattle.rtl_read.specs.machine.Adding.{Adds};
 ghost use Rattle.rtl_read.specs.Call as spec;
 
 use crate::head::{head_of_list, head_word, is_parallel_head, named_code};

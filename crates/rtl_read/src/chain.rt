@@ -2,7 +2,7 @@
 ghost use Rattle.std.specs.Prelude.{◌≡◌};
 ghost use Rattle.std.specs.Option.{option_copied};
 ghost use Rattle.rtx_tree.specs.Patterns.{nothing_rtx};
-ghost use Rattle.rtl_read.specs.Adding.{Adds};
+ghost use Rattle.rtl_read.specs.machine.Adding.{Adds};
 ghost use Rattle.rtl_read.specs.Chain as spec;
 ghost use Rattle.lisp_read.specs.Shape as shape;
 

@@ -3,7 +3,7 @@ ghost use Rattle.std.specs.Prelude.{◌≡◌, count_by};
 ghost use Rattle.std.specs.Option.{option_copied};
 ghost use Rattle.lisp_read.specs.Parsed.{Gives, stands};
 ghost use Rattle.lisp_read.specs.Shape as shape;
-ghost use Rattle.rtl_read.specs.Adding.{AddsSaid};
+ghost use Rattle.rtl_read.specs.machine.Adding.{AddsSaid};
 ghost use Rattle.rtl_read.specs.Function as spec;
 ghost use Rattle.rtl_read.specs.Syntax as syntax;
 ghost use Rattle.rtl_read.specs.Word.{is_headed};

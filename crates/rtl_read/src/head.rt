@@ -4,7 +4,7 @@ ghost use Rattle.std.specs.Option.{option_copied};
 ghost use Rattle.lisp_read.specs.Head as head;
 ghost use Rattle.lisp_read.specs.Shape.{items_of};
 ghost use Rattle.rtl_read.specs.Word as spec;
-ghost use Rattle.rtl_read.specs.Head as own;
+ghost use Rattle.rtl_read.specs.machine.Head as own;
 
 use lisp_read::{Tree, atom, items};
 use rtx_tree::{Code, Name};

@@ -4,7 +4,7 @@ ghost use Rattle.lisp_read.specs.declared.position.Position.TheVariants.{Pattern
 ghost use Rattle.lisp_read.specs.Expression.{read_at};
 ghost use Rattle.lisp_read.specs.Parsed.{Gives};
 ghost use Rattle.rtl_read.specs.Word as spec;
-ghost use Rattle.rtl_read.specs.Head as head;
+ghost use Rattle.rtl_read.specs.machine.Head as head;
 
 use crate::head::named_code;
 use lisp_read::{RtlRefusal, Tree, outside, rtx_of_tree};

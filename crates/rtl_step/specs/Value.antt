@@ -5,7 +5,7 @@ use Rattle.bits64.specs.declared.Width.{Width}
 use Rattle.bits64.specs.declared.Width.TheVariants.{W8, W16, W32, W64}
 use Rattle.bits64.specs.Words.{bits_of, low, sign_extended, zero_extended, sum_of, difference_of, product_of, quotient_signed, quotient_unsigned, remainder_signed, remainder_unsigned, shifted_left, shifted_right, shifted_arithmetic, less_signed, less_unsigned}
 use Rattle.rtx_tree.specs.declared.code.Code.{Code}
-use Rattle.rtx_tree.specs.declared.code.Code.TheVariants.{Reg, ConstInt, SymbolRef, Mem, Subreg, Plus, Minus, Mult, Div, Udiv, Mod, Umod, And, Ior, Xor, Neg, Not, Ashift, Ashiftrt, Lshiftrt, SignExtend, ZeroExtend, Truncate, Eq, Ne, Lt, Le, Gt, Ge, Ltu, Leu, Gtu, Geu}
+use Rattle.rtx_tree.specs.declared.code.Code.TheVariants.{Plus, Minus, Mult, Div, Udiv, Mod, Umod, And, Ior, Xor, Neg, Not, Ashift, Ashiftrt, Lshiftrt, SignExtend, ZeroExtend, Truncate, Eq, Ne, Lt, Le, Gt, Ge, Ltu, Leu, Gtu, Geu}
 use Rattle.rtx_tree.specs.declared.code.Mode.{Mode}
 use Rattle.rtx_tree.specs.declared.code.Mode.TheVariants.{Void, QI, HI, SI, DI}
 use Rattle.rtx_tree.specs.declared.memories.MemByte.{MemByte}
@@ -16,8 +16,9 @@ use Rattle.rtx_tree.specs.declared.tree.Rtx.TheFolds.{fold-Rtx}
 use Rattle.run_memory.specs.Symbols.{symbol_address}
 use Rattle.run_memory.specs.RunMemory.{load}
 use Rattle.rtl_step.specs.Regs.{Regs, reg_value}
-use Rattle.rtl_step.specs.declared.expression.Class.{Class}
-use Rattle.rtl_step.specs.declared.expression.Class.TheVariants.{Register, Constant, Symbol, Memory, Lowpart, Unary, Binary, Shift, Comparison, Conversion, Other}
+use Rattle.rtx_tree.specs.declared.class.Class.{Class}
+use Rattle.rtx_tree.specs.declared.class.Class.TheVariants.{Register, Constant, Symbol, Memory, Lowpart, Unary, Binary, Shift, Extension, Truncation, Comparison}
+use Rattle.rtx_tree.specs.Code.{class_of_code}
 
 -- the width of a mode ("Machine Modes"); no mode has none
 abbrev pub width_of : Mode → Option Width
@@ -90,43 +91,6 @@ converted _ from to a = None
 
 -- ---- expressions
 
--- how an expression of each code has its value
-abbrev pub class_of : Code → Class
-class_of Reg = Register
-class_of ConstInt = Constant
-class_of SymbolRef = Symbol
-class_of Mem = Memory
-class_of Subreg = Lowpart
-class_of Neg = Unary
-class_of Not = Unary
-class_of Plus = Binary
-class_of Minus = Binary
-class_of Mult = Binary
-class_of Div = Binary
-class_of Udiv = Binary
-class_of Mod = Binary
-class_of Umod = Binary
-class_of And = Binary
-class_of Ior = Binary
-class_of Xor = Binary
-class_of Ashift = Shift
-class_of Ashiftrt = Shift
-class_of Lshiftrt = Shift
-class_of Eq = Comparison
-class_of Ne = Comparison
-class_of Lt = Comparison
-class_of Le = Comparison
-class_of Gt = Comparison
-class_of Ge = Comparison
-class_of Ltu = Comparison
-class_of Leu = Comparison
-class_of Gtu = Comparison
-class_of Geu = Comparison
-class_of SignExtend = Conversion
-class_of ZeroExtend = Conversion
-class_of Truncate = Conversion
-class_of _ = Other
-
 -- an expression as its outside reads it: the width of its own mode, and its value in each width
 pub record Reading : Type 0 where
   pub width : Option Width
@@ -150,27 +114,54 @@ abbrev pub count_width : Option Width → Width
 count_width None = W64
 count_width (Some w) = w
 
+-- an expression without parts, in a width
+abbrev pub value_of_none : List SymbolAt → Regs → Class → ℤ → List ℕ → Width → Option ℕ
+-- "Registers and Memory": more bits than are known have no value
+value_of_none symbols regs Register number name w = reg_value regs (cast_unsigned w64 number) w
+-- "Constant Expression Types": a `const_int` has no mode, its low bits count; a `symbol_ref` is an address
+value_of_none symbols regs Constant number name w = Some (low w (cast_unsigned w64 number))
+value_of_none symbols regs Symbol number name w = option_map (low w) (symbol_address symbols name)
+value_of_none symbols regs _ number name w = None
+
+-- "Conversions": the operand is read in its own mode
+abbrev pub of_converted : Code → Reading → Width → Option ℕ
+of_converted code a w = option_and_then (λ own. of_one (converted code own w) (a.value own)) a.width
+
+-- an expression of one part
+abbrev pub value_of_one : List MemByte → Class → Code → Reading → Width → Option ℕ
+-- "Registers and Memory": the address of a `mem` has mode DI; a lowpart `subreg` reads the low bits alone
+value_of_one memory Memory code a w = of_one (load w memory) (a.value W64)
+value_of_one memory Lowpart code a w = a.value w
+value_of_one memory Unary code a w = of_one (unary code w) (a.value w)
+value_of_one memory Extension code a w = of_converted code a w
+value_of_one memory Truncation code a w = of_converted code a w
+value_of_one memory _ code a w = None
+
+-- "Comparison Operations": the operands have one mode, which one of them may leave to the other
+abbrev pub of_compared : Code → Reading → Reading → Option ℕ
+of_compared code a b =
+    option_and_then (λ own. of_two (compared code own) (a.value own) (b.value own)) (first_width a.width b.width)
+
+-- an expression of two parts
+abbrev pub value_of_two : Class → Code → Reading → Reading → Width → Option ℕ
+value_of_two Binary code a b w = of_two (binary code w) (a.value w) (b.value w)
+value_of_two Shift code a b w = of_two (shifted code w) (a.value w) (b.value (count_width b.width))
+value_of_two Comparison code a b w = of_compared code a b
+value_of_two _ code a b w = None
+
+-- an expression of more parts
+abbrev pub value_of_parts : Class → Code → List Reading → Width → Option ℕ
+value_of_parts class code (a ∷ b ∷ []) w = value_of_two class code a b w
+value_of_parts class code _ w = None
+
 -- an expression of a class, code, number, name and parts, in a width
 abbrev pub value_by : List SymbolAt → Regs → List MemByte → Class → Code → ℤ → List ℕ → List Reading → Width → Option ℕ
--- "Registers and Memory": more bits than are known have no value
-value_by symbols regs memory Register code number name parts w = reg_value regs (cast_unsigned w64 number) w
--- "Constant Expression Types": a `const_int` has no mode, its low bits count; a `symbol_ref` is an address
-value_by symbols regs memory Constant code number name parts w = Some (low w (cast_unsigned w64 number))
-value_by symbols regs memory Symbol code number name parts w = option_map (low w) (symbol_address symbols name)
--- "Registers and Memory": the address of a `mem` has mode DI; a lowpart `subreg` reads the low bits alone
-value_by symbols regs memory Memory code number name (a ∷ []) w = of_one (load w memory) (a.value W64)
-value_by symbols regs memory Lowpart code number name (a ∷ []) w = a.value w
-value_by symbols regs memory Unary code number name (a ∷ []) w = of_one (unary code w) (a.value w)
-value_by symbols regs memory Binary code number name (a ∷ b ∷ []) w = of_two (binary code w) (a.value w) (b.value w)
-value_by symbols regs memory Shift code number name (a ∷ b ∷ []) w = of_two (shifted code w) (a.value w) (b.value (count_width b.width))
--- "Comparison Operations": the operands have one mode, which one of them may leave to the other
-value_by symbols regs memory Comparison code number name (a ∷ b ∷ []) w =
-    option_and_then (λ own. of_two (compared code own) (a.value own) (b.value own)) (first_width a.width b.width)
-value_by symbols regs memory Conversion code number name (a ∷ []) w = option_and_then (λ own. of_one (converted code own w) (a.value own)) a.width
-value_by symbols regs memory _ code number name parts w = None
+value_by symbols regs memory class code number name [] w = value_of_none symbols regs class number name w
+value_by symbols regs memory class code number name (a ∷ []) w = value_of_one memory class code a w
+value_by symbols regs memory class code number name parts w = value_of_parts class code parts w
 
 abbrev pub reading_step : List SymbolAt → Regs → List MemByte → Rtx-F Reading → Reading
-reading_step symbols regs memory x = record { width = width_of x.mode; value = value_by symbols regs memory (class_of x.code) x.code x.number x.name x.kids }
+reading_step symbols regs memory x = record { width = width_of x.mode; value = value_by symbols regs memory (class_of_code x.code) x.code x.number x.name x.kids }
 
 abbrev pub reading_of : List SymbolAt → Regs → List MemByte → Rtx → Reading
 reading_of symbols regs memory = fold-Rtx Reading (reading_step symbols regs memory)

@@ -1,40 +1,14 @@
 //! The value of an expression.
-ghost use Rattle.std.specs.Prelude.{◌≡◌, ◌↔◌, IsTrue, IfSome, ◌<◌, ◌^◌};
+ghost use Rattle.std.specs.Prelude.{◌≡◌, map, ◌↔◌, IsTrue, IfSome, ◌<◌, ◌^◌};
+ghost use Rattle.rtx_tree.specs.Code.{class_of_code};
 ghost use Rattle.rtl_step.specs.Value as spec;
 
 use crate::regs::Regs;
 use bits64::{
     Width, add, div, lt, ltu, mul, rem, sar, sext, shl, shr, sub, trunc, udiv, urem, zext,
 };
-use rtx_tree::{Code, Memories, Mode, Rtx, Symbols};
+use rtx_tree::{Class, Code, Memories, Mode, Rtx, Symbols};
 use run_memory::{load, symbol_address};
-
-/// How an expression has its value.
-#[derive(Clone, Copy)]
-pub enum Class {
-    /// What is known of a register.
-    Register,
-    /// A number.
-    Constant,
-    /// An address by a name.
-    Symbol,
-    /// What stands in memory.
-    Memory,
-    /// The low bits of a part.
-    Lowpart,
-    /// An operation on one part in the same mode.
-    Unary,
-    /// An operation on two parts in the same mode.
-    Binary,
-    /// An operation on a part in the same mode and one of any mode.
-    Shift,
-    /// 1 or 0, by two parts of a mode of their own.
-    Comparison,
-    /// A part of another mode.
-    Conversion,
-    /// None.
-    Other,
-}
 
 /// The width of a mode; `Void` has none.
 pub fn width_of(mode: Mode) -> Option<Width>
@@ -46,28 +20,6 @@ pub fn width_of(mode: Mode) -> Option<Width>
         Mode::HI => Some(Width::W16),
         Mode::SI => Some(Width::W32),
         Mode::DI => Some(Width::W64),
-    }
-}
-
-fn class_of(code: Code) -> Class
-    ensures { result ≡ spec.class_of code }
-{
-    match code {
-        Code::Reg => Class::Register,
-        Code::ConstInt => Class::Constant,
-        Code::SymbolRef => Class::Symbol,
-        Code::Mem => Class::Memory,
-        Code::Subreg => Class::Lowpart,
-        Code::Neg | Code::Not => Class::Unary,
-        Code::Plus | Code::Minus | Code::Mult | Code::Div | Code::Udiv | Code::Mod | Code::Umod => {
-            Class::Binary
-        }
-        Code::And | Code::Ior | Code::Xor => Class::Binary,
-        Code::Ashift | Code::Ashiftrt | Code::Lshiftrt => Class::Shift,
-        Code::Eq | Code::Ne | Code::Lt | Code::Le | Code::Gt | Code::Ge => Class::Comparison,
-        Code::Ltu | Code::Leu | Code::Gtu | Code::Geu => Class::Comparison,
-        Code::SignExtend | Code::ZeroExtend | Code::Truncate => Class::Conversion,
-        _ => Class::Other,
     }
 }
 
@@ -172,38 +124,109 @@ fn count_width(mode: Mode) -> Width
     width_of(mode).unwrap_or(Width::W64)
 }
 
+/// The value of an expression without parts.
+fn value_of_none(
+    symbols: &Symbols,
+    regs: &Regs,
+    class: Class,
+    number: i64,
+    name: &[u8],
+    w: Width,
+) -> Option<u64>
+    ensures { result ≡ spec.value_of_none symbols.now regs.now class number name.now w }
+{
+    match class {
+        Class::Register => regs.value(number.cast_unsigned(), w),
+        Class::Constant => Some(trunc(number.cast_unsigned(), w)),
+        Class::Symbol => Some(trunc(symbol_address(symbols, name)?, w)),
+        _ => None,
+    }
+}
+
+/// The value of an extension or a truncation, whose operand is read in its own mode.
+#[cycle(value)]
+#[tactic(auto, using(crate::proofs::Values::width_in))]
+fn of_converted(
+    symbols: &Symbols,
+    regs: &Regs,
+    memory: &Memories,
+    code: Code,
+    a: &Rtx,
+    w: Width,
+) -> Option<u64>
+    ensures { result ≡ spec.of_converted code (spec.reading_of symbols.now regs.now memory.now a.now) w }
+{
+    let own = width_of(a.mode)?;
+    converted(code, own, w, value(symbols, regs, memory, a, own)?)
+}
+
+/// The value of an expression of one part.
+#[cycle(value)]
+fn value_of_one(
+    symbols: &Symbols,
+    regs: &Regs,
+    memory: &Memories,
+    code: Code,
+    a: &Rtx,
+    w: Width,
+) -> Option<u64>
+    ensures { result ≡ spec.value_of_one memory.now (class_of_code code) code (spec.reading_of symbols.now regs.now memory.now a.now) w }
+{
+    match code.class() {
+        Class::Memory => load(memory, w, value(symbols, regs, memory, a, Width::W64)?),
+        Class::Lowpart => value(symbols, regs, memory, a, w),
+        Class::Unary => unary(code, w, value(symbols, regs, memory, a, w)?),
+        Class::Extension | Class::Truncation => of_converted(symbols, regs, memory, code, a, w),
+        _ => None,
+    }
+}
+
+/// The value of an expression of two parts; one of more has none.
+#[cycle(value)]
+#[tactic(auto, using(crate::proofs::Values::width_in))]
+fn value_of_parts(
+    symbols: &Symbols,
+    regs: &Regs,
+    memory: &Memories,
+    code: Code,
+    parts: &[Rtx],
+    w: Width,
+) -> Option<u64>
+    ensures { result ≡ spec.value_of_parts (class_of_code code) code (map (spec.reading_of symbols.now regs.now memory.now) parts.now) w }
+{
+    let [a, b] = parts else {
+        return None;
+    };
+    match code.class() {
+        Class::Binary => {
+            let first = value(symbols, regs, memory, a, w)?;
+            let second = value(symbols, regs, memory, b, w)?;
+            binary(code, w, first, second)
+        }
+        Class::Shift => {
+            let first = value(symbols, regs, memory, a, w)?;
+            let count = value(symbols, regs, memory, b, count_width(b.mode))?;
+            shifted(code, w, first, count)
+        }
+        Class::Comparison => {
+            let own = first_width(width_of(a.mode), width_of(b.mode))?;
+            let first = value(symbols, regs, memory, a, own)?;
+            let second = value(symbols, regs, memory, b, own)?;
+            compared(code, own, first, second)
+        }
+        _ => None,
+    }
+}
+
 /// The value of an expression in a width, or `None` where it has none.
+#[cycle(value)]
 #[tactic(auto, using(crate::proofs::Values::value_in))]
 pub fn value(symbols: &Symbols, regs: &Regs, memory: &Memories, x: &Rtx, w: Width) -> Option<u64>
     ensures { result ≡ spec.value_of symbols.now regs.now memory.now x.now w }
 {
-    match (class_of(x.code), x.kids.as_slice()) {
-        (Class::Register, _) => regs.value(x.number.cast_unsigned(), w),
-        (Class::Constant, _) => Some(trunc(x.number.cast_unsigned(), w)),
-        (Class::Symbol, _) => Some(trunc(symbol_address(symbols, x.name.bytes())?, w)),
-        (Class::Memory, [a]) => load(memory, w, value(symbols, regs, memory, a, Width::W64)?),
-        (Class::Lowpart, [a]) => value(symbols, regs, memory, a, w),
-        (Class::Unary, [a]) => unary(x.code, w, value(symbols, regs, memory, a, w)?),
-        (Class::Binary, [a, b]) => {
-            let first = value(symbols, regs, memory, a, w)?;
-            let second = value(symbols, regs, memory, b, w)?;
-            binary(x.code, w, first, second)
-        }
-        (Class::Shift, [a, b]) => {
-            let first = value(symbols, regs, memory, a, w)?;
-            let count = value(symbols, regs, memory, b, count_width(b.mode))?;
-            shifted(x.code, w, first, count)
-        }
-        (Class::Comparison, [a, b]) => {
-            let own = first_width(width_of(a.mode), width_of(b.mode))?;
-            let first = value(symbols, regs, memory, a, own)?;
-            let second = value(symbols, regs, memory, b, own)?;
-            compared(x.code, own, first, second)
-        }
-        (Class::Conversion, [a]) => {
-            let own = width_of(a.mode)?;
-            converted(x.code, own, w, value(symbols, regs, memory, a, own)?)
-        }
-        _ => None,
+    match x.kids.as_slice() {
+        [] => value_of_none(symbols, regs, x.code.class(), x.number, x.name.bytes(), w),
+        [a] => value_of_one(symbols, regs, memory, x.code, a, w),
+        parts => value_of_parts(symbols, regs, memory, x.code, parts, w),
     }
 }

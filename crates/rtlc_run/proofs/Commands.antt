@@ -16,12 +16,13 @@ use Rattle.md_list.specs.declared.refusal.ListRefusal.{ListRefusal}
 use Rattle.md_list.specs.declared.refusal.ListRefusal.TheVariants as listing
 use Rattle.md_list.specs.Listing.{ListComes}
 use Rattle.md_list.specs.Answers.{GivesList}
-use Rattle.func_input.specs.Input.{most_bytes, InputComesTo}
+use Rattle.rtx_tree.specs.Limit.{most_bytes}
+use Rattle.func_input.specs.Input.{InputComesTo}
 use Rattle.func_input.specs.Outcome.{Outcome}
 use Rattle.func_input.specs.Outcome.{Tells}
 use Rattle.asm_text.specs.Compile.{InputComes}
 use Rattle.asm_text.specs.Code.{IsUnnamed, CodeComes}
-use Rattle.asm_text.specs.Code.{Answers as Told}
+use Rattle.asm_text.specs.machine.Steps.{Answers as Told}
 use Rattle.rtlc_words.specs.declared.command.Command.{Command}
 use Rattle.rtlc_words.specs.declared.command.Command.TheVariants as commands
 use Rattle.rtlc_words.specs.Words.{command_of}

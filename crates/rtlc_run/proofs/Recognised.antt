@@ -15,7 +15,8 @@ use Rattle.md_forms.specs.declared.form.Entry.{Entry}
 use Rattle.md_named.specs.Named.{FormsCome}
 use Rattle.md_named.specs.Answers.{RefusesForms}
 use Rattle.md_named.proofs.Forms.{one_answer as one_forms}
-use Rattle.func_input.specs.Input.{most_bytes, IsInput, FunctionsComeTo, ReadingComesTo, InputComesTo}
+use Rattle.rtx_tree.specs.Limit.{most_bytes}
+use Rattle.func_input.specs.Input.{IsInput, FunctionsComeTo, ReadingComesTo, InputComesTo}
 use Rattle.func_input.specs.Outcome.{Outcome, Tells}
 use Rattle.func_input.proofs.Inputs.{input_reached}
 use Rattle.func_input.proofs.One.{one_coming_to}

@@ -15,7 +15,8 @@ use Rattle.md_list.specs.declared.refusal.ListRefusal.TheVariants as listing
 use Rattle.md_list.specs.Listing.{ListComes}
 use Rattle.md_forms.specs.declared.form.Entry.{Entry}
 use Rattle.md_named.specs.Named.{source_refused, FormsCome}
-use Rattle.func_input.specs.Input.{most_bytes, InputComesTo}
+use Rattle.rtx_tree.specs.Limit.{most_bytes}
+use Rattle.func_input.specs.Input.{InputComesTo}
 use Rattle.func_input.specs.Outcome.{Outcome}
 use Rattle.asm_text.specs.Compile.{InputComes}
 use Rattle.asm_text.specs.Code.{IsUnnamed, CodeComes}

@@ -8,7 +8,7 @@ ghost use Rattle.rv_text.specs.Body.{Spells};
 ghost use Rattle.rv_text.specs.declared.line.CodeItem.{CodeItem};
 ghost use Rattle.run_refusal.specs.Refusals.{has_values, line_of};
 ghost use Rattle.run_refusal.specs.declared.refusal.Refusal.TheVariants as refusal;
-ghost use Rattle.func_input.specs.Input.{most_bytes};
+ghost use Rattle.rtx_tree.specs.Limit.{most_bytes};
 ghost use Rattle.func_input.specs.Outcome.{Outcome};
 ghost use Rattle.asm_text.specs.Same.{AreParts};
 ghost use Rattle.asm_text.specs.Code.{IsUnnamed};
@@ -30,17 +30,12 @@ use code_eval::eval_text;
 use md_desc::Description;
 use md_list::{ListRefusal, list};
 use md_named::{description_of, source_refused};
+use md_source::SHIPPED;
 use recog_text::recog_of;
 use rtlc_words::{Command, command_of};
-use rtx_tree::{Limit, Name};
+use rtx_tree::{Limit, MOST_BYTES, Name};
 use run_refusal::{MEMORY_LINE, Refusal, fixed_line, line, status};
 use std::alloc::Global;
-
-/// The name of the shipped description.
-const SHIPPED: &[u8] = b"rv64im";
-
-/// How many bytes an input may have.
-const MOST_BYTES: usize = 16_777_216;
 
 /// The bytes of the input, to its end.
 fn input_bytes<S: Source>(alloc: Global, input: &mut S) -> Result<Vec<u8>, Refusal>

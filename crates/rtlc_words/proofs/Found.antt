@@ -15,7 +15,7 @@ use Rattle.clap.specs.declared.error.kind.ErrorKind.TheVariants.{OutOfMemory}
 use Rattle.clap.specs.declared.parser.matches.ArgMatches.TheViews.{out-SubCommand}
 use Rattle.clap.specs.declared.parser.matches.SubCommand.{SubCommand}
 use Rattle.rtlc_words.specs.Words.{words_of}
-use Rattle.rtlc_words.specs.Grammar.{found_in, program, where_none}
+use Rattle.rtlc_words.specs.machine.Grammar.{found_in, program, where_none}
 use Rattle.rtlc_words.proofs.Shapes.{program_is_simple}
 
 pub some_range : (o : Option ValueRange) (r : ValueRange) → IsSomeAnd o (λ s. s ≡ r) → o ≡ Some r

@@ -9,7 +9,7 @@ use Rattle.clap.specs.Faults.{check_fault, defaults_fault, entered_fault, fault_
 use Rattle.clap.specs.Simple.{App, Shape, built, entered, label_of, names_of, rows_at, subcommand_of}
 use Rattle.clap.proofs.WalkLemmas.{walk_stopped}
 use Rattle.rtlc_words.specs.Words.{arguments, command_named}
-use Rattle.rtlc_words.specs.Grammar.{command_found, found_in, program, where_none}
+use Rattle.rtlc_words.specs.machine.Grammar.{command_found, found_in, program, where_none}
 use Rattle.rtlc_words.proofs.Shapes.{ready, rules}
 use Rattle.rtlc_words.proofs.Steps.{ended}
 use Rattle.rtlc_words.proofs.Level.{level_arguments, or_else_none}

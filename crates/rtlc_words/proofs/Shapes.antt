@@ -3,7 +3,7 @@ use Rattle.std.proofs.Common.{◌≡◌, refl, true, List, [], ◌∷◌, map}
 use Rattle.clap.specs.Walk.{Rule, Text}
 use Rattle.clap.specs.Simple.{Shape, built, filled, with_index}
 use Rattle.clap.specs.Faults.{is_simple_and_free}
-use Rattle.rtlc_words.specs.Grammar.{command_names, leaf, md_rule, program, words_rule}
+use Rattle.rtlc_words.specs.machine.Grammar.{command_names, leaf, md_rule, program, words_rule}
 
 -- the two arguments of each command
 abbrev pub md : Rule

@@ -5,7 +5,7 @@ use Rattle.clap.specs.Walk.{Held, Row, Step, Text, Waiting, Walk, arg_by_long, a
 use Rattle.clap.specs.Kinds.{Kinds, or_else}
 use Rattle.clap.specs.Faults.{settle_fault, step_fault, turn_fault, use_fault}
 use Rattle.rtlc_words.specs.Words.{Arguments}
-use Rattle.rtlc_words.specs.Grammar.{arguments_of}
+use Rattle.rtlc_words.specs.machine.Grammar.{arguments_of}
 use Rattle.rtlc_words.proofs.Shapes.{md, ready, rules}
 use Rattle.rtlc_words.proofs.WordKinds.{IsRefused}
 use Rattle.rtlc_words.proofs.Turns.{Pending, held, refused_fails}

@@ -7,7 +7,7 @@ use Rattle.clap.specs.Walk.{Names, Text, answers_to, idle, subcommand_met}
 use Rattle.clap.specs.Faults.{defaults_fault, walk_fault}
 use Rattle.clap.specs.Simple.{Shape, label_of}
 use Rattle.rtlc_words.specs.Words.{Arguments, arguments, command_named, command_of, table}
-use Rattle.rtlc_words.specs.Grammar.{command_found, command_names, found_in}
+use Rattle.rtlc_words.specs.machine.Grammar.{command_found, command_names, found_in}
 use Rattle.rtlc_words.proofs.Texts.{other_text, same_text}
 use Rattle.rtlc_words.proofs.Shapes.{ready}
 use Rattle.rtlc_words.proofs.Program.{known_command}

@@ -1,7 +1,7 @@
 //! The commands.
 ghost use Rattle.std.specs.Prelude.{◌≡◌, IfOk, None, Some, option_map};
 ghost use Rattle.clap.specs.Words.{found_of, rows_of, subcommand_rows_of};
-ghost use Rattle.rtlc_words.specs.Grammar.{arguments_of, command_found};
+ghost use Rattle.rtlc_words.specs.machine.Grammar.{arguments_of, command_found};
 ghost use Rattle.rtlc_words.specs.Words as spec;
 ghost use Rattle.rtlc_words.specs.Words.{words_of};
 

@@ -2,7 +2,7 @@
 ghost use Rattle.std.specs.Prelude.{◌≡◌, ◌≢◌, IfOk, OnOk, false, option_and_then};
 ghost use Rattle.clap.specs.Words.{app_of, kind_of, subcommand_rows_of};
 ghost use Rattle.clap.specs.declared.builder.command.Command.TheViews.{out-Command};
-ghost use Rattle.rtlc_words.specs.Grammar as spec;
+ghost use Rattle.rtlc_words.specs.machine.Grammar as spec;
 ghost use Rattle.rtlc_words.specs.Words.{words_of};
 
 use clap::error::ErrorKind;

@@ -9,4 +9,3 @@ pub mod MemoryWrites
 pub mod OperandLaws
 pub mod Results
 pub mod Trees
-pub mod WordLaws

@@ -1,10 +1,10 @@
--- The list of a set of words has what the words have, in increasing order.
+-- The list of a set of row has what the row have, in increasing order.
 use Rattle.std.proofs.Common.{◌≡◌, ℕ, zero, suc, ◌*◌, ◌≢◌, Bool, true, false, ◌||◌, ◌&&◌, eqb, ltb, cond, List, [], ◌∷◌, length, refl, sym, ap, subst, ◌∙◌, inl, inr, arith}
 use Rattle.std.proofs.lemmas.Bool.{cases_eq, cases_lt, eq-eqb, ne_eqb, lt-ltb, le-ltb}
 use Rattle.std.proofs.lemmas.List.Folds.{list_any-append}
-use Rattle.rtx_tree.specs.Words.{has_bit, members_below, members}
-use Rattle.rtx_tree.specs.RegSet.{has_reg}
-use Rattle.rtx_tree.proofs.WordLaws.{has_bit-past}
+use Rattle.reg_rows.specs.Row.{has}
+use Rattle.reg_rows.proofs.WordLaws.{has_past}
+use Rattle.rtx_tree.specs.RegSet.{has_reg, members_below, members}
 
 or_nil : (b : Bool) → (b || false) ≡ b
 or_nil true = refl
@@ -36,28 +36,28 @@ ltb_suc q n ne =
       | inr g ↦ le-ltb q n g ∙ sym (le-ltb q (suc n) (omega arith))
     ]
 
-one_more : (words : List ℕ) (n q : ℕ) → ((ltb q n && has_bit words q) || (has_bit words n && eqb n q)) ≡ (ltb q (suc n) && has_bit words q)
-one_more words n q =
+one_more : (row : List ℕ) (n q : ℕ) → ((ltb q n && has row q) || (has row n && eqb n q)) ≡ (ltb q (suc n) && has row q)
+one_more row n q =
     elim (cases_eq q n) [
-      | inl e ↦ subst (λ (x : ℕ). ((ltb x n && has_bit words x) || (has_bit words n && eqb n x)) ≡ (ltb x (suc n) && has_bit words x)) (sym e) (at_same (ltb n n) (has_bit words n) (eqb n n) (ltb n (suc n)) (le-ltb n n (omega arith)) (eq-eqb n n refl) (lt-ltb n (suc n) (omega arith)))
-      | inr ne ↦ at_other (ltb q n) (has_bit words q) (eqb n q) (ltb q (suc n)) (has_bit words n) (ne_eqb n q (λ s. ne (sym s))) (ltb_suc q n ne)
+      | inl e ↦ subst (λ (x : ℕ). ((ltb x n && has row x) || (has row n && eqb n x)) ≡ (ltb x (suc n) && has row x)) (sym e) (at_same (ltb n n) (has row n) (eqb n n) (ltb n (suc n)) (le-ltb n n (omega arith)) (eq-eqb n n refl) (lt-ltb n (suc n) (omega arith)))
+      | inr ne ↦ at_other (ltb q n) (has row q) (eqb n q) (ltb q (suc n)) (has row n) (ne_eqb n q (λ s. ne (sym s))) (ltb_suc q n ne)
     ]
 
-below : (words : List ℕ) (n q : ℕ) → has_reg (members_below words n) q ≡ (ltb q n && has_bit words q)
+below : (row : List ℕ) (n q : ℕ) → has_reg (members_below row n) q ≡ (ltb q n && has row q)
 unfolding members_below
-below words zero q = sym (ap (λ b. b && has_bit words q) (le-ltb q 0 (omega arith)))
-below words (suc n) q =
-    list_any-append (λ x. eqb x q) (members_below words n) (cond (has_bit words n) (n ∷ []) []) ∙ (ap (λ b. b || has_reg (cond (has_bit words n) (n ∷ []) []) q) (below words n q) ∙ (ap (λ b. (ltb q n && has_bit words q) || b) (one_listed n q (has_bit words n)) ∙ one_more words n q))
+below row zero q = sym (ap (λ b. b && has row q) (le-ltb q 0 (omega arith)))
+below row (suc n) q =
+    list_any-append (λ x. eqb x q) (members_below row n) (cond (has row n) (n ∷ []) []) ∙ (ap (λ b. b || has_reg (cond (has row n) (n ∷ []) []) q) (below row n q) ∙ (ap (λ b. (ltb q n && has row q) || b) (one_listed n q (has row n)) ∙ one_more row n q))
 
--- the list has what the words have
-pub has_reg-members : (words : List ℕ) (q : ℕ) → has_reg (members words) q ≡ has_bit words q
+-- the list has what the row have
+pub has_reg-members : (row : List ℕ) (q : ℕ) → has_reg (members row) q ≡ has row q
 unfolding members
-has_reg-members words q =
-    below words (64 * length words) q ∙ elim (cases_lt q (64 * length words)) [
-      | inl l ↦ ap (λ b. b && has_bit words q) (lt-ltb q (64 * length words) l)
-      | inr g ↦ ap (λ b. b && has_bit words q) (le-ltb q (64 * length words) g) ∙ sym (has_bit-past words q (omega arith))
+has_reg-members row q =
+    below row (64 * length row) q ∙ elim (cases_lt q (64 * length row)) [
+      | inl l ↦ ap (λ b. b && has row q) (lt-ltb q (64 * length row) l)
+      | inr g ↦ ap (λ b. b && has row q) (le-ltb q (64 * length row) g) ∙ sym (has_past row q (omega arith))
     ]
 
--- a set that is seen as a list has what its words have
-pub has_reg-view : (words regs : List ℕ) (q : ℕ) → members words ≡ regs → has_bit words q ≡ has_reg regs q
-has_reg-view words regs q view = sym (has_reg-members words q) ∙ ap (λ rs. has_reg rs q) view
+-- a set that is seen as a list has what its row have
+pub has_reg-view : (row regs : List ℕ) (q : ℕ) → members row ≡ regs → has row q ≡ has_reg regs q
+has_reg-view row regs q view = sym (has_reg-members row q) ∙ ap (λ rs. has_reg rs q) view

@@ -1,60 +1,158 @@
--- The names of RTL's codes and machine modes in text: GCC Internals, "RTL Expressions" and "Machine Modes".
-use Rattle.std.specs.Prelude.{ℕ, List, [], ◌∷◌, codes}
+-- The table of RTL's codes, and the machine modes: GCC Internals, "RTL Expressions", "RTL Classes" and "Machine Modes". Each code has
+-- its name and its class; a class says what stands behind the code in its list, whether a mode is written there, and, by its name,
+-- what an expression of the code is.
+use Rattle.std.specs.Prelude.{◌≡◌, ℕ, List, [], ◌∷◌, Some, slice_get, codes}
 use Rattle.rtx_tree.specs.declared.code.Code.{Code}
-use Rattle.rtx_tree.specs.declared.code.Code.TheVariants.{Reg, ConstInt, SymbolRef, Mem, Subreg, Plus, Minus, Mult, Div, Udiv, Mod, Umod, And, Ior, Xor, Neg, Not, Ashift, Ashiftrt, Lshiftrt, SignExtend, ZeroExtend, Truncate, Eq, Ne, Lt, Le, Gt, Ge, Ltu, Leu, Gtu, Geu, Set, Use, Clobber, Parallel, Call, Return, Pc, LabelRef, IfThenElse, Scratch, MatchOperand, MatchDup, MatchScratch, MatchOperator, MatchOpDup}
+use Rattle.rtx_tree.specs.declared.code.Code.TheVariants as code
 use Rattle.rtx_tree.specs.declared.code.Mode.{Mode}
 use Rattle.rtx_tree.specs.declared.code.Mode.TheVariants.{Void, QI, HI, SI, DI}
+use Rattle.rtx_tree.specs.declared.class.Class.{Class}
+use Rattle.rtx_tree.specs.declared.class.Class.TheVariants as class
+use Rattle.rtx_tree.specs.declared.class.Parts.{Parts}
+use Rattle.rtx_tree.specs.declared.class.Parts.TheVariants.{Register, Number, Symbol, Lowpart, Expressions, Vector, Operand, Scratch, Dup, Operator, OperatorDup}
+use Rattle.rtx_tree.specs.declared.class.HeadMode.{HeadMode}
+use Rattle.rtx_tree.specs.declared.class.HeadMode.TheVariants.{Needed, Optional, Ignored, Absent}
 
--- the name of a code
+-- ---- the codes
+
+pub record Row : Type 0 where
+  pub name : List ℕ
+  pub class : Class
+
+abbrev row : List ℕ → Class → Row
+row name class = record { name = name; class = class }
+
+-- the row of each code
+abbrev pub row_of : Code → Row
+-- "Registers and Memory", "Constant Expression Types"
+row_of code.Reg = row (codes "reg") class.Register
+row_of code.ConstInt = row (codes "const_int") class.Constant
+row_of code.SymbolRef = row (codes "symbol_ref") class.Symbol
+row_of code.Mem = row (codes "mem") class.Memory
+row_of code.Subreg = row (codes "subreg") class.Lowpart
+-- "RTL Expressions for Arithmetic"
+row_of code.Plus = row (codes "plus") class.Binary
+row_of code.Minus = row (codes "minus") class.Binary
+row_of code.Mult = row (codes "mult") class.Binary
+row_of code.Div = row (codes "div") class.Binary
+row_of code.Udiv = row (codes "udiv") class.Binary
+row_of code.Mod = row (codes "mod") class.Binary
+row_of code.Umod = row (codes "umod") class.Binary
+row_of code.And = row (codes "and") class.Binary
+row_of code.Ior = row (codes "ior") class.Binary
+row_of code.Xor = row (codes "xor") class.Binary
+row_of code.Neg = row (codes "neg") class.Unary
+row_of code.Not = row (codes "not") class.Unary
+row_of code.Ashift = row (codes "ashift") class.Shift
+row_of code.Ashiftrt = row (codes "ashiftrt") class.Shift
+row_of code.Lshiftrt = row (codes "lshiftrt") class.Shift
+-- "Conversions"
+row_of code.SignExtend = row (codes "sign_extend") class.Extension
+row_of code.ZeroExtend = row (codes "zero_extend") class.Extension
+row_of code.Truncate = row (codes "truncate") class.Truncation
+-- "Comparison Operations"
+row_of code.Eq = row (codes "eq") class.Comparison
+row_of code.Ne = row (codes "ne") class.Comparison
+row_of code.Lt = row (codes "lt") class.Comparison
+row_of code.Le = row (codes "le") class.Comparison
+row_of code.Gt = row (codes "gt") class.Comparison
+row_of code.Ge = row (codes "ge") class.Comparison
+row_of code.Ltu = row (codes "ltu") class.Comparison
+row_of code.Leu = row (codes "leu") class.Comparison
+row_of code.Gtu = row (codes "gtu") class.Comparison
+row_of code.Geu = row (codes "geu") class.Comparison
+-- "Side Effect Expressions"
+row_of code.Set = row (codes "set") class.Setting
+row_of code.Use = row (codes "use") class.Use
+row_of code.Clobber = row (codes "clobber") class.Clobber
+row_of code.Parallel = row (codes "parallel") class.Parallel
+row_of code.Call = row (codes "call") class.Call
+row_of code.Return = row (codes "return") class.Return
+-- "Registers and Memory", "Constant Expression Types", "Comparison Operations"
+row_of code.Pc = row (codes "pc") class.Counter
+row_of code.LabelRef = row (codes "label_ref") class.Label
+row_of code.IfThenElse = row (codes "if_then_else") class.Branch
+row_of code.Scratch = row (codes "scratch") class.Scratch
+-- "RTL Template"
+row_of code.MatchOperand = row (codes "match_operand") class.Operand
+row_of code.MatchDup = row (codes "match_dup") class.OperandAgain
+row_of code.MatchScratch = row (codes "match_scratch") class.OperandScratch
+row_of code.MatchOperator = row (codes "match_operator") class.Operator
+row_of code.MatchOpDup = row (codes "match_op_dup") class.OperatorAgain
+
 abbrev pub code_name : Code → List ℕ
-code_name Reg = codes "reg"
-code_name ConstInt = codes "const_int"
-code_name SymbolRef = codes "symbol_ref"
-code_name Mem = codes "mem"
-code_name Subreg = codes "subreg"
-code_name Plus = codes "plus"
-code_name Minus = codes "minus"
-code_name Mult = codes "mult"
-code_name Div = codes "div"
-code_name Udiv = codes "udiv"
-code_name Mod = codes "mod"
-code_name Umod = codes "umod"
-code_name And = codes "and"
-code_name Ior = codes "ior"
-code_name Xor = codes "xor"
-code_name Neg = codes "neg"
-code_name Not = codes "not"
-code_name Ashift = codes "ashift"
-code_name Ashiftrt = codes "ashiftrt"
-code_name Lshiftrt = codes "lshiftrt"
-code_name SignExtend = codes "sign_extend"
-code_name ZeroExtend = codes "zero_extend"
-code_name Truncate = codes "truncate"
-code_name Eq = codes "eq"
-code_name Ne = codes "ne"
-code_name Lt = codes "lt"
-code_name Le = codes "le"
-code_name Gt = codes "gt"
-code_name Ge = codes "ge"
-code_name Ltu = codes "ltu"
-code_name Leu = codes "leu"
-code_name Gtu = codes "gtu"
-code_name Geu = codes "geu"
-code_name Set = codes "set"
-code_name Use = codes "use"
-code_name Clobber = codes "clobber"
-code_name Parallel = codes "parallel"
-code_name Call = codes "call"
-code_name Return = codes "return"
-code_name Pc = codes "pc"
-code_name LabelRef = codes "label_ref"
-code_name IfThenElse = codes "if_then_else"
-code_name Scratch = codes "scratch"
-code_name MatchOperand = codes "match_operand"
-code_name MatchDup = codes "match_dup"
-code_name MatchScratch = codes "match_scratch"
-code_name MatchOperator = codes "match_operator"
-code_name MatchOpDup = codes "match_op_dup"
+code_name c = (row_of c).name
+
+abbrev pub class_of_code : Code → Class
+class_of_code c = (row_of c).class
+
+-- every code, once
+abbrev pub all_codes : List Code
+all_codes =
+    code.Reg ∷ code.ConstInt ∷ code.SymbolRef ∷ code.Mem ∷ code.Subreg ∷ code.Plus ∷
+    code.Minus ∷ code.Mult ∷ code.Div ∷ code.Udiv ∷ code.Mod ∷ code.Umod ∷
+    code.And ∷ code.Ior ∷ code.Xor ∷ code.Neg ∷ code.Not ∷ code.Ashift ∷
+    code.Ashiftrt ∷ code.Lshiftrt ∷ code.SignExtend ∷ code.ZeroExtend ∷ code.Truncate ∷ code.Eq ∷
+    code.Ne ∷ code.Lt ∷ code.Le ∷ code.Gt ∷ code.Ge ∷ code.Ltu ∷
+    code.Leu ∷ code.Gtu ∷ code.Geu ∷ code.Set ∷ code.Use ∷ code.Clobber ∷
+    code.Parallel ∷ code.Call ∷ code.Return ∷ code.Pc ∷ code.LabelRef ∷ code.IfThenElse ∷
+    code.Scratch ∷ code.MatchOperand ∷ code.MatchDup ∷ code.MatchScratch ∷ code.MatchOperator ∷ code.MatchOpDup ∷ []
+
+-- the list leaves no code out
+abbrev pub HasEvery : Type 0
+HasEvery = (c : Code) → (place : ℕ) × (slice_get all_codes place ≡ Some c)
+
+-- ---- the classes
+
+-- what stands behind a code in its list ("RTL Template"). In a function a label is its uid alone
+abbrev pub parts_of : Class → Parts
+parts_of class.Register = Register
+parts_of class.Constant = Number
+parts_of class.Symbol = Symbol
+parts_of class.Memory = Expressions 1
+parts_of class.Lowpart = Lowpart
+parts_of class.Unary = Expressions 1
+parts_of class.Binary = Expressions 2
+parts_of class.Shift = Expressions 2
+parts_of class.Extension = Expressions 1
+parts_of class.Truncation = Expressions 1
+parts_of class.Comparison = Expressions 2
+parts_of class.Setting = Expressions 2
+parts_of class.Use = Expressions 1
+parts_of class.Clobber = Expressions 1
+parts_of class.Parallel = Vector
+parts_of class.Call = Expressions 2
+parts_of class.Return = Expressions 0
+parts_of class.Counter = Expressions 0
+parts_of class.Label = Expressions 1
+parts_of class.Branch = Expressions 3
+parts_of class.Scratch = Expressions 0
+parts_of class.Operand = Operand
+parts_of class.OperandAgain = Dup
+parts_of class.OperandScratch = Scratch
+parts_of class.Operator = Operator
+parts_of class.OperatorAgain = OperatorDup
+
+-- whether a mode is written behind the code
+abbrev pub head_mode_of : Class → HeadMode
+head_mode_of class.Register = Needed
+head_mode_of class.Symbol = Needed
+head_mode_of class.Memory = Needed
+head_mode_of class.Lowpart = Needed
+head_mode_of class.Unary = Needed
+head_mode_of class.Binary = Needed
+head_mode_of class.Shift = Needed
+head_mode_of class.Extension = Needed
+head_mode_of class.Truncation = Needed
+head_mode_of class.Scratch = Needed
+head_mode_of class.Operand = Needed
+head_mode_of class.OperandScratch = Needed
+head_mode_of class.Operator = Needed
+head_mode_of class.Comparison = Optional
+head_mode_of class.Label = Ignored
+head_mode_of _ = Absent
+
+-- ---- the modes
 
 -- the name of a mode, which stands behind the code and a colon; no mode has no name
 abbrev pub mode_name : Mode → List ℕ
@@ -63,16 +161,6 @@ mode_name QI = codes "QI"
 mode_name HI = codes "HI"
 mode_name SI = codes "SI"
 mode_name DI = codes "DI"
-
--- every code, once
-abbrev pub all_codes : List Code
-all_codes =
-    Reg ∷ ConstInt ∷ SymbolRef ∷ Mem ∷ Subreg ∷ Plus ∷ Minus ∷ Mult ∷
-    Div ∷ Udiv ∷ Mod ∷ Umod ∷ And ∷ Ior ∷ Xor ∷ Neg ∷
-    Not ∷ Ashift ∷ Ashiftrt ∷ Lshiftrt ∷ SignExtend ∷ ZeroExtend ∷ Truncate ∷ Eq ∷
-    Ne ∷ Lt ∷ Le ∷ Gt ∷ Ge ∷ Ltu ∷ Leu ∷ Gtu ∷
-    Geu ∷ Set ∷ Use ∷ Clobber ∷ Parallel ∷ Call ∷ Return ∷ Pc ∷
-    LabelRef ∷ IfThenElse ∷ Scratch ∷ MatchOperand ∷ MatchDup ∷ MatchScratch ∷ MatchOperator ∷ MatchOpDup ∷ []
 
 -- the modes that have a name
 abbrev pub named_modes : List Mode

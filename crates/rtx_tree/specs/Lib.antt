@@ -7,5 +7,4 @@ pub mod RegSet
 pub mod Registers
 pub mod Stage
 pub mod Tree
-pub mod Words
 pub mod machine

@@ -1,4 +1,4 @@
--- The names of the limits, as messages write them.
+-- The limits: their names, as messages write them, and how many bytes a text may have.
 use Rattle.std.specs.Prelude.{ℕ, List, codes}
 use Rattle.rtx_tree.specs.declared.limit.Limit.{Limit}
 use Rattle.rtx_tree.specs.declared.limit.Limit.TheVariants.{Text, Depth, Include, Forms, Instructions, Pseudos, SplitDepth, TermSize, Frame, Output}
@@ -15,3 +15,7 @@ limit_name SplitDepth = codes "SplitDepth"
 limit_name TermSize = codes "TermSize"
 limit_name Frame = codes "Frame"
 limit_name Output = codes "Output"
+
+-- how many bytes an input may have, and the texts of a description together: 16 MiB
+abbrev pub most_bytes : ℕ
+most_bytes = 16777216

@@ -8,6 +8,7 @@ use Rattle.rtx_tree.specs.declared.code.Mode.TheVariants.{Void, DI}
 use Rattle.rtx_tree.specs.declared.function.Kind.{Kind}
 use Rattle.rtx_tree.specs.declared.function.Kind.TheVariants.{Label}
 use Rattle.rtx_tree.specs.declared.function.Insn.{Insn}
+use Rattle.rtx_tree.specs.declared.function.Function.{Function}
 use Rattle.rtx_tree.specs.declared.tree.Rtx.{Rtx, out-Rtx}
 use Rattle.rtx_tree.specs.Tree.{leaf_of, node_of, const_of}
 
@@ -75,3 +76,11 @@ place_of uid insns = position_from (is_label uid) 0 insns
 -- (parallel []), the pattern of labels and barriers, which do nothing
 abbrev pub nothing_rtx : Rtx
 nothing_rtx = node_of Parallel Void []
+
+-- the instruction with another pattern
+abbrev pub with_pattern : Insn → Rtx → Insn
+with_pattern i pattern = record { uid = i.uid; kind = i.kind; pattern = pattern; uses = i.uses }
+
+-- a function without a name, instructions, locals and a result
+abbrev pub empty_function : Function
+empty_function = record { name = []; insns = []; locals = 0; result = None; result_reg = 10 }

@@ -1,5 +1,5 @@
 -- Expressions of RTL as trees: GCC Internals, "RTL Objects" and "RTL Expressions".
-use Rattle.std.specs.Prelude.{ℕ, suc, ℤ, pos, Bool, false, ◌||◌, List, [], ◌∷◌, sum, Option, Some, option_and_then, slice_get}
+use Rattle.std.specs.Prelude.{ℕ, suc, ℤ, pos, Bool, false, ◌||◌, List, [], ◌∷◌, sum, Option, Some, None, option_map, option_and_then, slice_get, slice_set}
 use Rattle.std.specs.Ordering.{int_eq}
 use Rattle.std.specs.List.{list_any}
 use Rattle.rtx_tree.specs.declared.code.Code.{Code}
@@ -59,6 +59,17 @@ size_of = fold-Rtx ℕ size_step
 abbrev pub part_at : Rtx → List ℕ → Option Rtx
 part_at x [] = Some x
 part_at x (k ∷ path) = option_and_then (λ kid. part_at kid path) (slice_get (kids_of x) k)
+
+-- a list with another item at a place, where there is one
+abbrev pub changed_at : {A : Type 0} → List A → ℕ → Option A → List A
+changed_at items place None = items
+changed_at items place (Some item) = slice_set items place item
+
+-- the tree with another part at a path of kid indices that exists
+abbrev pub replaced_at : List ℕ → Rtx → Rtx → Rtx
+replaced_at [] new x = new
+replaced_at (k ∷ path) new x =
+    tree_of (head_of x) (changed_at (kids_of x) k (option_map (replaced_at path new) (slice_get (kids_of x) k)))
 
 -- a register of this number
 abbrev pub is_reg_numbered : Code → ℤ → ℕ → Bool

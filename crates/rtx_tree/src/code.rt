@@ -1,7 +1,10 @@
 //! The codes and machine modes of RTL, with their names.
 ghost use Rattle.std.specs.Prelude.{◌≡◌, ◌≢◌, ◌↔◌, IsTrue, MatchOption};
 ghost use Rattle.rtx_tree.specs.Code as spec;
-ghost use Rattle.rtx_tree.specs.Code.{code_name, mode_name};
+ghost use Rattle.rtx_tree.specs.Code.{HasEvery, class_of_code, code_name, mode_name};
+ghost use Rattle.rtx_tree.specs.machine.Row.{row_view};
+
+use crate::class::Class;
 
 /// A machine mode: the width of a value. `Void` stands where an expression has none.
 #[derive(Clone, Copy, Debug, PartialEq, Eq)]
@@ -119,6 +122,22 @@ pub enum Code {
     MatchOpDup,
 }
 
+/// A row of the table of codes.
+#[derive(Clone, Copy)]
+struct Row {
+    name: &'static str,
+    class: Class,
+}
+
+macro_rules! listed {
+    ($name:expr, $class:ident) => {
+        Row {
+            name: $name,
+            class: Class::$class,
+        }
+    };
+}
+
 /// Every code, once.
 const CODES: [Code; 48] = [
     Code::Reg,
@@ -171,14 +190,60 @@ const CODES: [Code; 48] = [
     Code::MatchOpDup,
 ];
 
+/// The row of each code, in the order of the codes.
+static ROWS: [Row; 48] = [
+    listed!("reg", Register),
+    listed!("const_int", Constant),
+    listed!("symbol_ref", Symbol),
+    listed!("mem", Memory),
+    listed!("subreg", Lowpart),
+    listed!("plus", Binary),
+    listed!("minus", Binary),
+    listed!("mult", Binary),
+    listed!("div", Binary),
+    listed!("udiv", Binary),
+    listed!("mod", Binary),
+    listed!("umod", Binary),
+    listed!("and", Binary),
+    listed!("ior", Binary),
+    listed!("xor", Binary),
+    listed!("neg", Unary),
+    listed!("not", Unary),
+    listed!("ashift", Shift),
+    listed!("ashiftrt", Shift),
+    listed!("lshiftrt", Shift),
+    listed!("sign_extend", Extension),
+    listed!("zero_extend", Extension),
+    listed!("truncate", Truncation),
+    listed!("eq", Comparison),
+    listed!("ne", Comparison),
+    listed!("lt", Comparison),
+    listed!("le", Comparison),
+    listed!("gt", Comparison),
+    listed!("ge", Comparison),
+    listed!("ltu", Comparison),
+    listed!("leu", Comparison),
+    listed!("gtu", Comparison),
+    listed!("geu", Comparison),
+    listed!("set", Setting),
+    listed!("use", Use),
+    listed!("clobber", Clobber),
+    listed!("parallel", Parallel),
+    listed!("call", Call),
+    listed!("return", Return),
+    listed!("pc", Counter),
+    listed!("label_ref", Label),
+    listed!("if_then_else", Branch),
+    listed!("scratch", Scratch),
+    listed!("match_operand", Operand),
+    listed!("match_dup", OperandAgain),
+    listed!("match_scratch", OperandScratch),
+    listed!("match_operator", Operator),
+    listed!("match_op_dup", OperatorAgain),
+];
+
 /// The modes that have a name.
 const NAMED_MODES: [Mode; 4] = [Mode::QI, Mode::HI, Mode::SI, Mode::DI];
-
-fn all_codes() -> &'static [Code]
-    ensures { result.now ≡ spec.all_codes }
-{
-    &CODES
-}
 
 fn named_modes() -> &'static [Mode]
     ensures { result.now ≡ spec.named_modes }
@@ -189,61 +254,35 @@ fn named_modes() -> &'static [Mode]
 impl Code {
     ghost use Rattle.rtx_tree.specs.declared.code.Code.{Code};
 
+    /// Every code, once.
+    #[tactic(auto, using(crate::proofs::Codes::has_every))]
+    pub fn all() -> &'static [Code]
+        ensures all { result.now ≡ spec.all_codes }
+        ensures every { HasEvery }
+    {
+        &CODES
+    }
+
+    /// The row of a code: its name, and what its expressions are.
+    fn row(self) -> Row
+        ensures { row_view result ≡ spec.row_of self }
+    {
+        ROWS[self as usize]
+    }
+
+    /// What an expression of this code is.
+    pub fn class(self) -> Class
+        ensures { result ≡ class_of_code self }
+    {
+        self.row().class
+    }
+
     /// The code's name in text, as `const_int`. Different codes have different names.
     pub fn name(self) -> &'static str
         ensures name { result.now ≡ code_name self }
         ensures distinct { (other : Code) → code_name other ≡ code_name self → other ≡ self }
     {
-        match self {
-            Code::Reg => "reg",
-            Code::ConstInt => "const_int",
-            Code::SymbolRef => "symbol_ref",
-            Code::Mem => "mem",
-            Code::Subreg => "subreg",
-            Code::Plus => "plus",
-            Code::Minus => "minus",
-            Code::Mult => "mult",
-            Code::Div => "div",
-            Code::Udiv => "udiv",
-            Code::Mod => "mod",
-            Code::Umod => "umod",
-            Code::And => "and",
-            Code::Ior => "ior",
-            Code::Xor => "xor",
-            Code::Neg => "neg",
-            Code::Not => "not",
-            Code::Ashift => "ashift",
-            Code::Ashiftrt => "ashiftrt",
-            Code::Lshiftrt => "lshiftrt",
-            Code::SignExtend => "sign_extend",
-            Code::ZeroExtend => "zero_extend",
-            Code::Truncate => "truncate",
-            Code::Eq => "eq",
-            Code::Ne => "ne",
-            Code::Lt => "lt",
-            Code::Le => "le",
-            Code::Gt => "gt",
-            Code::Ge => "ge",
-            Code::Ltu => "ltu",
-            Code::Leu => "leu",
-            Code::Gtu => "gtu",
-            Code::Geu => "geu",
-            Code::Set => "set",
-            Code::Use => "use",
-            Code::Clobber => "clobber",
-            Code::Parallel => "parallel",
-            Code::Call => "call",
-            Code::Return => "return",
-            Code::Pc => "pc",
-            Code::LabelRef => "label_ref",
-            Code::IfThenElse => "if_then_else",
-            Code::Scratch => "scratch",
-            Code::MatchOperand => "match_operand",
-            Code::MatchDup => "match_dup",
-            Code::MatchScratch => "match_scratch",
-            Code::MatchOperator => "match_operator",
-            Code::MatchOpDup => "match_op_dup",
-        }
+        self.row().name
     }
 
     fn is_named(self, name: &[u8]) -> bool
@@ -256,7 +295,7 @@ impl Code {
     pub fn named(name: &[u8]) -> Option<Code>
         ensures { MatchOption result ((code : Code) → code_name code ≢ name.now) (λ code. code_name code ≡ name.now) }
     {
-        for code in all_codes() {
+        for code in Code::all() {
             if code.is_named(name) {
                 return Some(*code);
             }

@@ -6,6 +6,7 @@ use crate::code::Mode;
 use crate::name::Name;
 use crate::tree::Rtx;
 use plain_data::Items;
+use std::alloc::Global;
 
 /// What stands in a place of a function's chain.
 #[derive(Clone, Copy, Debug, PartialEq, Eq)]
@@ -63,6 +64,30 @@ pub struct Function {
     pub result: Option<Mode>,
     /// The register that its text names for the result; 10 where there is none.
     pub result_reg: u32,
+}
+
+impl Insn {
+    /// Puts another pattern in the place of the instruction's. It takes no memory.
+    pub fn set_pattern(&mut self, pattern: Rtx)
+        ensures { self.new ≡ spec.with_pattern self.old pattern }
+    {
+        self.pattern = pattern;
+    }
+}
+
+impl Function {
+    /// A function without a name, instructions, locals and a result. It takes no memory.
+    pub fn empty(alloc: Global) -> Function
+        ensures { result ≡ spec.empty_function }
+    {
+        Function {
+            name: Name::from_vec(Vec::new(alloc)),
+            insns: Items::new(alloc),
+            locals: 0,
+            result: None,
+            result_reg: 10,
+        }
+    }
 }
 
 /// Functions, in order.

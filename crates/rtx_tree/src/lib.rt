@@ -10,6 +10,7 @@
 //! its registers, and [`Memories`] has each address once, in increasing order.
 #![tactic(auto)]
 
+mod class;
 mod code;
 mod constants;
 mod function;
@@ -23,12 +24,12 @@ mod reg_set;
 mod registers;
 mod stage;
 mod tree;
-mod words;
 
+pub use class::{Class, HeadMode, Parts};
 pub use code::{Code, Mode};
 pub use constants::{Constant, Constants};
 pub use function::{ArgUse, ArgUses, Function, Functions, Insn, Insns, Kind, label_place};
-pub use limit::Limit;
+pub use limit::{Limit, MOST_BYTES};
 pub use machine::{ByteWrites, RangeAt, Ranges, Replies, Reply, Start, SymbolAt, Symbols, World};
 pub use memories::{MemByte, Memories};
 pub use name::Name;

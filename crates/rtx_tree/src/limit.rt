@@ -2,6 +2,9 @@
 ghost use Rattle.std.specs.Prelude.{◌≡◌, ◌↔◌, IsTrue};
 ghost use Rattle.rtx_tree.specs.Limit.{limit_name};
 
+/// How many bytes an input may have, and the texts of a description together: 16 MiB.
+pub const MOST_BYTES: usize = 16_777_216;
+
 /// A quantity that has a limit.
 #[derive(Clone, Copy, Debug, PartialEq, Eq)]
 pub enum Limit {

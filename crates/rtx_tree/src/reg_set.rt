@@ -1,29 +1,30 @@
 //! Sets of registers.
-ghost use Rattle.std.specs.Prelude.{◌≡◌, ℕ, ◌==◌, ◌||◌, ◌&&◌, not, [], OnOk, OnErr};
+ghost use Rattle.std.specs.Prelude.{◌≡◌, ℕ, ◌==◌, ◌||◌, ◌&&◌, not, [], IfOk, OnOk, OnErr};
 ghost use Rattle.std.specs.List.Sorted.{IsStrictlyIncreasing};
+ghost use Rattle.reg_rows.specs.Row.{has};
 ghost use Rattle.rtx_tree.specs.RegSet.{has_reg};
 
-use crate::words;
-use plain_data::{Items, Memory};
+use plain_data::Memory;
+use reg_rows::RegRow;
 use std::alloc::Global;
 use std::marker::Model;
 
 /// A set of registers by their numbers. Contracts see the list of the numbers in increasing order.
 #[derive(Drop)]
 pub struct RegSet {
-    words: Items<u64>,
+    row: RegRow,
 }
 
 impl Model for RegSet {
     ghost use Rattle.std.specs.Prelude.{List, ℕ};
     ghost use Rattle.std.specs.List.Sorted.{IsStrictlyIncreasing};
-    ghost use Rattle.rtx_tree.specs.Words.{members};
+    ghost use Rattle.rtx_tree.specs.RegSet.{members};
 
     ghost Value = { List ℕ };
 
-    ghost view = { λ regs. members regs.words };
+    ghost view = { λ regs. members regs.row };
 
-    ghost invariant = { λ regs. IsStrictlyIncreasing (members regs.words) };
+    ghost invariant = { λ regs. IsStrictlyIncreasing (members regs.row) };
 }
 
 impl RegSet {
@@ -32,8 +33,17 @@ impl RegSet {
         ensures { result ≡ [] }
     {
         RegSet {
-            words: Items::new(alloc),
+            row: RegRow::empty(alloc),
         }
+    }
+
+    /// The registers of a row.
+    pub fn of_row(alloc: Global, row: &RegRow) -> Result<RegSet, Memory>
+        ensures { IfOk result (λ regs. (reg : ℕ) → has_reg regs reg ≡ has row.now reg) }
+    {
+        Ok(RegSet {
+            row: row.copy(alloc)?,
+        })
     }
 
     /// Whether the set has register `reg`.
@@ -41,7 +51,7 @@ impl RegSet {
         ensures has { result ≡ has_reg self.now reg }
         ensures ordered { IsStrictlyIncreasing self.now }
     {
-        words::contains(self.words.as_slice(), reg)
+        self.row.contains(reg)
     }
 
     /// Puts register `reg` into the set. After `Memory` the set is as before.
@@ -49,8 +59,8 @@ impl RegSet {
         ensures ok { OnOk result ((other : ℕ) → has_reg self.new other ≡ (has_reg self.old other || other == reg)) }
         ensures err { OnErr result (self.new ≡ self.old) }
     {
-        words::make_room(&mut self.words, reg)?;
-        words::insert(&mut self.words, reg);
+        self.row.make_room(reg)?;
+        self.row.insert(reg);
         Ok(())
     }
 
@@ -58,6 +68,6 @@ impl RegSet {
     pub fn remove(&mut self, reg: u32)
         ensures { (other : ℕ) → has_reg self.new other ≡ (has_reg self.old other && not (other == reg)) }
     {
-        words::remove(&mut self.words, reg);
+        self.row.remove(reg);
     }
 }

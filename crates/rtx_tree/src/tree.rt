@@ -1,14 +1,14 @@
 //! Expressions of RTL.
-ghost use Rattle.std.specs.Prelude.{◌≡◌, ◌-◌, ◌^◌, ◌↔◌, [], ◌∷◌, min, slice_get, IfOk, IsTrue};
+ghost use Rattle.std.specs.Prelude.{◌≡◌, ◌-◌, ◌^◌, ◌↔◌, [], ◌∷◌, min, slice_get, Some, IfOk, IsSome, IsTrue};
 ghost use Rattle.rtx_tree.specs.Patterns.{is_pc, label_of};
-ghost use Rattle.rtx_tree.specs.Tree.{head_of, kids_of, size_of, leaf_of, named_of, node_of, reg_of, const_of, is_reg_numbered, part_at, mentions_reg};
+ghost use Rattle.rtx_tree.specs.Tree.{head_of, kids_of, size_of, leaf_of, named_of, node_of, reg_of, const_of, is_reg_numbered, part_at, replaced_at, mentions_reg};
 ghost use Rattle.std.specs.Option.{option_copied};
 
 use crate::code::{Code, Mode};
 use crate::name::Name;
 use plain_data::{Items, Memory};
 use std::alloc::Global;
-use std::fmt;
+use std::{fmt, mem};
 
 /// The kids of an expression, in order.
 pub type Kids = Items<Rtx>;
@@ -204,6 +204,18 @@ impl Rtx {
             part = part.kid(*index)?;
         }
         Some(part)
+    }
+
+    /// Puts another expression in the place of the part at a path that exists, and gives that part. It takes no memory.
+    pub fn replace_at(&mut self, path: &[u32], new: Rtx) -> Rtx
+        requires { IsSome (part_at self.old path.now) }
+        ensures tree { self.new ≡ replaced_at path.now new self.old }
+        ensures part { part_at self.old path.now ≡ Some result }
+    {
+        match path {
+            [] => mem::replace(self, new),
+            [place, rest @ ..] => self.kids.item_mut(*place as usize).replace_at(rest, new),
+        }
     }
 
     fn is_register(&self, reg: u32) -> bool

@@ -136,115 +136,120 @@ macro_rules! branch {
     };
 }
 
+/// The row of each mnemonic, in the order of the mnemonics.
+static ROWS: [Row; 86] = [
+    // RV32I "Integer Register-Register Operations"
+    row!("add", RD_RS_RT, compute!(Add, W64, First, Second)),
+    row!("sub", RD_RS_RT, compute!(Sub, W64, First, Second)),
+    row!("and", RD_RS_RT, compute!(And, W64, First, Second)),
+    row!("or", RD_RS_RT, compute!(Or, W64, First, Second)),
+    row!("xor", RD_RS_RT, compute!(Xor, W64, First, Second)),
+    row!("sll", RD_RS_RT, compute!(Sll, W64, First, Second)),
+    row!("srl", RD_RS_RT, compute!(Srl, W64, First, Second)),
+    row!("sra", RD_RS_RT, compute!(Sra, W64, First, Second)),
+    row!("slt", RD_RS_RT, compute!(Slt, W64, First, Second)),
+    row!("sltu", RD_RS_RT, compute!(Sltu, W64, First, Second)),
+    // RV64I "Integer Register-Register Operations": the same on 32 bits
+    row!("addw", RD_RS_RT, compute!(Add, W32, First, Second)),
+    row!("subw", RD_RS_RT, compute!(Sub, W32, First, Second)),
+    row!("sllw", RD_RS_RT, compute!(Sll, W32, First, Second)),
+    row!("srlw", RD_RS_RT, compute!(Srl, W32, First, Second)),
+    row!("sraw", RD_RS_RT, compute!(Sra, W32, First, Second)),
+    // M "Multiplication Operations" and "Division Operations"
+    row!("mul", RD_RS_RT, compute!(Mul, W64, First, Second)),
+    row!("mulh", RD_RS_RT, compute!(Mulh, W64, First, Second)),
+    row!("mulhsu", RD_RS_RT, compute!(Mulhsu, W64, First, Second)),
+    row!("mulhu", RD_RS_RT, compute!(Mulhu, W64, First, Second)),
+    row!("div", RD_RS_RT, compute!(Div, W64, First, Second)),
+    row!("divu", RD_RS_RT, compute!(Divu, W64, First, Second)),
+    row!("rem", RD_RS_RT, compute!(Rem, W64, First, Second)),
+    row!("remu", RD_RS_RT, compute!(Remu, W64, First, Second)),
+    row!("mulw", RD_RS_RT, compute!(Mul, W32, First, Second)),
+    row!("divw", RD_RS_RT, compute!(Div, W32, First, Second)),
+    row!("divuw", RD_RS_RT, compute!(Divu, W32, First, Second)),
+    row!("remw", RD_RS_RT, compute!(Rem, W32, First, Second)),
+    row!("remuw", RD_RS_RT, compute!(Remu, W32, First, Second)),
+    // RV32I and RV64I "Integer Register-Immediate Instructions"
+    row!("addi", RD_RS_SHORT, compute!(Add, W64, First, Immediate)),
+    row!("andi", RD_RS_SHORT, compute!(And, W64, First, Immediate)),
+    row!("ori", RD_RS_SHORT, compute!(Or, W64, First, Immediate)),
+    row!("xori", RD_RS_SHORT, compute!(Xor, W64, First, Immediate)),
+    row!("slti", RD_RS_SHORT, compute!(Slt, W64, First, Immediate)),
+    row!("sltiu", RD_RS_SHORT, compute!(Sltu, W64, First, Immediate)),
+    row!("addiw", RD_RS_SHORT, compute!(Add, W32, First, Immediate)),
+    row!("slli", RD_RS_COUNT64, compute!(Sll, W64, First, Immediate)),
+    row!("srli", RD_RS_COUNT64, compute!(Srl, W64, First, Immediate)),
+    row!("srai", RD_RS_COUNT64, compute!(Sra, W64, First, Immediate)),
+    row!("slliw", RD_RS_COUNT32, compute!(Sll, W32, First, Immediate)),
+    row!("srliw", RD_RS_COUNT32, compute!(Srl, W32, First, Immediate)),
+    row!("sraiw", RD_RS_COUNT32, compute!(Sra, W32, First, Immediate)),
+    // RV64I "Integer Register-Immediate Instructions": the 20-bit immediate, 12 zeros below it,
+    // sign-extended from 32 bits
+    row!("lui", RD_UPPER, compute!(Sll, W32, Immediate, TWELVE)),
+    // RV32I and RV64I "Load and Store Instructions"
+    row!("lb", RD_MEMORY, load!(W8, Sign)),
+    row!("lbu", RD_MEMORY, load!(W8, Zero)),
+    row!("lh", RD_MEMORY, load!(W16, Sign)),
+    row!("lhu", RD_MEMORY, load!(W16, Zero)),
+    row!("lw", RD_MEMORY, load!(W32, Sign)),
+    row!("lwu", RD_MEMORY, load!(W32, Zero)),
+    row!("ld", RD_MEMORY, load!(W64, Sign)),
+    row!("sb", RT_MEMORY, Store { width: W8 }),
+    row!("sh", RT_MEMORY, Store { width: W16 }),
+    row!("sw", RT_MEMORY, Store { width: W32 }),
+    row!("sd", RT_MEMORY, Store { width: W64 }),
+    // RV32I "Conditional Branches", and the assembly manual's branches with their registers
+    // exchanged
+    row!("beq", RS_RT_LABEL, branch!(Equal, First, Second)),
+    row!("bne", RS_RT_LABEL, branch!(NotEqual, First, Second)),
+    row!("blt", RS_RT_LABEL, branch!(Less, First, Second)),
+    row!("bge", RS_RT_LABEL, branch!(NotLess, First, Second)),
+    row!("bltu", RS_RT_LABEL, branch!(LessUnsigned, First, Second)),
+    row!("bgeu", RS_RT_LABEL, branch!(NotLessUnsigned, First, Second)),
+    row!("bgt", RS_RT_LABEL, branch!(Less, Second, First)),
+    row!("ble", RS_RT_LABEL, branch!(NotLess, Second, First)),
+    row!("bgtu", RS_RT_LABEL, branch!(LessUnsigned, Second, First)),
+    row!("bleu", RS_RT_LABEL, branch!(NotLessUnsigned, Second, First)),
+    row!("beqz", RS_LABEL, branch!(Equal, First, ZERO)),
+    row!("bnez", RS_LABEL, branch!(NotEqual, First, ZERO)),
+    row!("blez", RS_LABEL, branch!(NotLess, ZERO, First)),
+    row!("bgez", RS_LABEL, branch!(NotLess, First, ZERO)),
+    row!("bltz", RS_LABEL, branch!(Less, First, ZERO)),
+    row!("bgtz", RS_LABEL, branch!(Less, ZERO, First)),
+    // pseudo-instructions of the assembly manual that set a register
+    row!("li", RD_LONG, compute!(Add, W64, Immediate, ZERO)),
+    row!("la", RD_SYMBOL, SymbolAddress),
+    row!("mv", RD_RS, compute!(Add, W64, First, ZERO)),
+    row!("not", RD_RS, compute!(Xor, W64, First, MINUS_ONE)),
+    row!("neg", RD_RS, compute!(Sub, W64, ZERO, First)),
+    row!("negw", RD_RS, compute!(Sub, W32, ZERO, First)),
+    row!("sext.w", RD_RS, compute!(Add, W32, First, ZERO)),
+    row!("seqz", RD_RS, compute!(Sltu, W64, First, ONE)),
+    row!("snez", RD_RS, compute!(Sltu, W64, ZERO, First)),
+    row!("sltz", RD_RS, compute!(Slt, W64, First, ZERO)),
+    row!("sgtz", RD_RS, compute!(Slt, W64, ZERO, First)),
+    // RV32I "Unconditional Jumps", and pseudo-instructions made of them
+    row!("j", LABEL, Jump),
+    row!("call", LABEL, Call),
+    row!("jalr", RA_RS, CallRegister),
+    row!("jr", RS, Return { through: First }),
+    row!(
+        "ret",
+        NOTHING,
+        Return {
+            through: ReturnAddress
+        }
+    ),
+    // RV32I "NOP Instruction": a sum into register zero
+    row!("nop", NOTHING, compute!(Add, W64, ZERO, ZERO)),
+];
+
 impl Mnemonic {
     /// The mnemonic's row of the table.
     pub fn row(self) -> Row
         ensures { row_view result ≡ spec.row_of self }
     {
-        match self {
-            // RV32I "Integer Register-Register Operations"
-            Mnemonic::Add => row!("add", RD_RS_RT, compute!(Add, W64, First, Second)),
-            Mnemonic::Sub => row!("sub", RD_RS_RT, compute!(Sub, W64, First, Second)),
-            Mnemonic::And => row!("and", RD_RS_RT, compute!(And, W64, First, Second)),
-            Mnemonic::Or => row!("or", RD_RS_RT, compute!(Or, W64, First, Second)),
-            Mnemonic::Xor => row!("xor", RD_RS_RT, compute!(Xor, W64, First, Second)),
-            Mnemonic::Sll => row!("sll", RD_RS_RT, compute!(Sll, W64, First, Second)),
-            Mnemonic::Srl => row!("srl", RD_RS_RT, compute!(Srl, W64, First, Second)),
-            Mnemonic::Sra => row!("sra", RD_RS_RT, compute!(Sra, W64, First, Second)),
-            Mnemonic::Slt => row!("slt", RD_RS_RT, compute!(Slt, W64, First, Second)),
-            Mnemonic::Sltu => row!("sltu", RD_RS_RT, compute!(Sltu, W64, First, Second)),
-            // RV64I "Integer Register-Register Operations": the same on 32 bits
-            Mnemonic::Addw => row!("addw", RD_RS_RT, compute!(Add, W32, First, Second)),
-            Mnemonic::Subw => row!("subw", RD_RS_RT, compute!(Sub, W32, First, Second)),
-            Mnemonic::Sllw => row!("sllw", RD_RS_RT, compute!(Sll, W32, First, Second)),
-            Mnemonic::Srlw => row!("srlw", RD_RS_RT, compute!(Srl, W32, First, Second)),
-            Mnemonic::Sraw => row!("sraw", RD_RS_RT, compute!(Sra, W32, First, Second)),
-            // M "Multiplication Operations" and "Division Operations"
-            Mnemonic::Mul => row!("mul", RD_RS_RT, compute!(Mul, W64, First, Second)),
-            Mnemonic::Mulh => row!("mulh", RD_RS_RT, compute!(Mulh, W64, First, Second)),
-            Mnemonic::Mulhsu => row!("mulhsu", RD_RS_RT, compute!(Mulhsu, W64, First, Second)),
-            Mnemonic::Mulhu => row!("mulhu", RD_RS_RT, compute!(Mulhu, W64, First, Second)),
-            Mnemonic::Div => row!("div", RD_RS_RT, compute!(Div, W64, First, Second)),
-            Mnemonic::Divu => row!("divu", RD_RS_RT, compute!(Divu, W64, First, Second)),
-            Mnemonic::Rem => row!("rem", RD_RS_RT, compute!(Rem, W64, First, Second)),
-            Mnemonic::Remu => row!("remu", RD_RS_RT, compute!(Remu, W64, First, Second)),
-            Mnemonic::Mulw => row!("mulw", RD_RS_RT, compute!(Mul, W32, First, Second)),
-            Mnemonic::Divw => row!("divw", RD_RS_RT, compute!(Div, W32, First, Second)),
-            Mnemonic::Divuw => row!("divuw", RD_RS_RT, compute!(Divu, W32, First, Second)),
-            Mnemonic::Remw => row!("remw", RD_RS_RT, compute!(Rem, W32, First, Second)),
-            Mnemonic::Remuw => row!("remuw", RD_RS_RT, compute!(Remu, W32, First, Second)),
-            // RV32I and RV64I "Integer Register-Immediate Instructions"
-            Mnemonic::Addi => row!("addi", RD_RS_SHORT, compute!(Add, W64, First, Immediate)),
-            Mnemonic::Andi => row!("andi", RD_RS_SHORT, compute!(And, W64, First, Immediate)),
-            Mnemonic::Ori => row!("ori", RD_RS_SHORT, compute!(Or, W64, First, Immediate)),
-            Mnemonic::Xori => row!("xori", RD_RS_SHORT, compute!(Xor, W64, First, Immediate)),
-            Mnemonic::Slti => row!("slti", RD_RS_SHORT, compute!(Slt, W64, First, Immediate)),
-            Mnemonic::Sltiu => row!("sltiu", RD_RS_SHORT, compute!(Sltu, W64, First, Immediate)),
-            Mnemonic::Addiw => row!("addiw", RD_RS_SHORT, compute!(Add, W32, First, Immediate)),
-            Mnemonic::Slli => row!("slli", RD_RS_COUNT64, compute!(Sll, W64, First, Immediate)),
-            Mnemonic::Srli => row!("srli", RD_RS_COUNT64, compute!(Srl, W64, First, Immediate)),
-            Mnemonic::Srai => row!("srai", RD_RS_COUNT64, compute!(Sra, W64, First, Immediate)),
-            Mnemonic::Slliw => row!("slliw", RD_RS_COUNT32, compute!(Sll, W32, First, Immediate)),
-            Mnemonic::Srliw => row!("srliw", RD_RS_COUNT32, compute!(Srl, W32, First, Immediate)),
-            Mnemonic::Sraiw => row!("sraiw", RD_RS_COUNT32, compute!(Sra, W32, First, Immediate)),
-            // RV64I "Integer Register-Immediate Instructions": the 20-bit immediate, 12 zeros below it, sign-extended from 32 bits
-            Mnemonic::Lui => row!("lui", RD_UPPER, compute!(Sll, W32, Immediate, TWELVE)),
-            // RV32I and RV64I "Load and Store Instructions"
-            Mnemonic::Lb => row!("lb", RD_MEMORY, load!(W8, Sign)),
-            Mnemonic::Lbu => row!("lbu", RD_MEMORY, load!(W8, Zero)),
-            Mnemonic::Lh => row!("lh", RD_MEMORY, load!(W16, Sign)),
-            Mnemonic::Lhu => row!("lhu", RD_MEMORY, load!(W16, Zero)),
-            Mnemonic::Lw => row!("lw", RD_MEMORY, load!(W32, Sign)),
-            Mnemonic::Lwu => row!("lwu", RD_MEMORY, load!(W32, Zero)),
-            Mnemonic::Ld => row!("ld", RD_MEMORY, load!(W64, Sign)),
-            Mnemonic::Sb => row!("sb", RT_MEMORY, Store { width: W8 }),
-            Mnemonic::Sh => row!("sh", RT_MEMORY, Store { width: W16 }),
-            Mnemonic::Sw => row!("sw", RT_MEMORY, Store { width: W32 }),
-            Mnemonic::Sd => row!("sd", RT_MEMORY, Store { width: W64 }),
-            // RV32I "Conditional Branches", and the assembly manual's branches with their registers exchanged
-            Mnemonic::Beq => row!("beq", RS_RT_LABEL, branch!(Equal, First, Second)),
-            Mnemonic::Bne => row!("bne", RS_RT_LABEL, branch!(NotEqual, First, Second)),
-            Mnemonic::Blt => row!("blt", RS_RT_LABEL, branch!(Less, First, Second)),
-            Mnemonic::Bge => row!("bge", RS_RT_LABEL, branch!(NotLess, First, Second)),
-            Mnemonic::Bltu => row!("bltu", RS_RT_LABEL, branch!(LessUnsigned, First, Second)),
-            Mnemonic::Bgeu => row!("bgeu", RS_RT_LABEL, branch!(NotLessUnsigned, First, Second)),
-            Mnemonic::Bgt => row!("bgt", RS_RT_LABEL, branch!(Less, Second, First)),
-            Mnemonic::Ble => row!("ble", RS_RT_LABEL, branch!(NotLess, Second, First)),
-            Mnemonic::Bgtu => row!("bgtu", RS_RT_LABEL, branch!(LessUnsigned, Second, First)),
-            Mnemonic::Bleu => row!("bleu", RS_RT_LABEL, branch!(NotLessUnsigned, Second, First)),
-            Mnemonic::Beqz => row!("beqz", RS_LABEL, branch!(Equal, First, ZERO)),
-            Mnemonic::Bnez => row!("bnez", RS_LABEL, branch!(NotEqual, First, ZERO)),
-            Mnemonic::Blez => row!("blez", RS_LABEL, branch!(NotLess, ZERO, First)),
-            Mnemonic::Bgez => row!("bgez", RS_LABEL, branch!(NotLess, First, ZERO)),
-            Mnemonic::Bltz => row!("bltz", RS_LABEL, branch!(Less, First, ZERO)),
-            Mnemonic::Bgtz => row!("bgtz", RS_LABEL, branch!(Less, ZERO, First)),
-            // pseudo-instructions of the assembly manual that set a register
-            Mnemonic::Li => row!("li", RD_LONG, compute!(Add, W64, Immediate, ZERO)),
-            Mnemonic::La => row!("la", RD_SYMBOL, SymbolAddress),
-            Mnemonic::Mv => row!("mv", RD_RS, compute!(Add, W64, First, ZERO)),
-            Mnemonic::Not => row!("not", RD_RS, compute!(Xor, W64, First, MINUS_ONE)),
-            Mnemonic::Neg => row!("neg", RD_RS, compute!(Sub, W64, ZERO, First)),
-            Mnemonic::Negw => row!("negw", RD_RS, compute!(Sub, W32, ZERO, First)),
-            Mnemonic::SextW => row!("sext.w", RD_RS, compute!(Add, W32, First, ZERO)),
-            Mnemonic::Seqz => row!("seqz", RD_RS, compute!(Sltu, W64, First, ONE)),
-            Mnemonic::Snez => row!("snez", RD_RS, compute!(Sltu, W64, ZERO, First)),
-            Mnemonic::Sltz => row!("sltz", RD_RS, compute!(Slt, W64, First, ZERO)),
-            Mnemonic::Sgtz => row!("sgtz", RD_RS, compute!(Slt, W64, ZERO, First)),
-            // RV32I "Unconditional Jumps", and pseudo-instructions made of them
-            Mnemonic::J => row!("j", LABEL, Jump),
-            Mnemonic::Call => row!("call", LABEL, Call),
-            Mnemonic::Jalr => row!("jalr", RA_RS, CallRegister),
-            Mnemonic::Jr => row!("jr", RS, Return { through: First }),
-            Mnemonic::Ret => row!(
-                "ret",
-                NOTHING,
-                Return {
-                    through: ReturnAddress
-                }
-            ),
-            // RV32I "NOP Instruction": a sum into register zero
-            Mnemonic::Nop => row!("nop", NOTHING, compute!(Add, W64, ZERO, ZERO)),
-        }
+        ROWS[self as usize]
     }
 }
 

@@ -12,10 +12,11 @@ use Rattle.rtx_tree.specs.declared.machine.World.{World}
 use Rattle.rtx_tree.specs.declared.tree.Rtx.{Rtx, out-Rtx, out-roll-Rtx}
 use Rattle.rtx_tree.specs.declared.tree.Rtx.TheOpen.{Rtx-F}
 use Rattle.rtl_step.specs.Regs.{Regs, known_of, reg_value}
-use Rattle.rtl_step.specs.Value.{Reading, class_of, width_of, value_by, value_of, of_two}
+use Rattle.rtx_tree.specs.Code.{class_of_code}
+use Rattle.rtl_step.specs.Value.{Reading, width_of, value_by, value_of, of_two}
 use Rattle.rtl_step.specs.Effect.{effects_of, effects_by, effect_by, address_part, set_place, register_by}
 use Rattle.rtl_step.specs.declared.effect.Effect.TheVariants.{Sets}
-use Rattle.rtl_step.proofs.Values.{value_in}
+use Rattle.rtl_step.proofs.Values.{value_read}
 use Rattle.rv_text.specs.declared.line.Line.{Line}
 use Rattle.rv_line.specs.Step.{register, with_register, step, step_as, set_rd, of_both, source_value, computed}
 use Rattle.rv_line.specs.declared.state.RvState.{RvState}
@@ -32,8 +33,8 @@ module _ (symbols : List SymbolAt) (regs : Regs) (memory : List MemByte) where
   as_read kid = record { width = width_of (out-Rtx kid).mode; value = value_of symbols regs memory kid }
 
   -- the value of an expression, by its code, number, name and parts
-  pub value_open : (x : Rtx) (o : Rtx-F Rtx) → out-Rtx x ≡ o → value_of symbols regs memory x W64 ≡ value_by symbols regs memory (class_of o.code) o.code o.number o.name (map as_read o.kids) W64
-  value_open x o is = value_in symbols regs memory x W64 ∙ ap (λ (o : Rtx-F Rtx). value_by symbols regs memory (class_of o.code) o.code o.number o.name (map as_read o.kids) W64) is
+  pub value_open : (x : Rtx) (o : Rtx-F Rtx) → out-Rtx x ≡ o → value_of symbols regs memory x W64 ≡ value_by symbols regs memory (class_of_code o.code) o.code o.number o.name (map as_read o.kids) W64
+  value_open x o is = value_read symbols regs memory x W64 ∙ ap (λ (o : Rtx-F Rtx). value_by symbols regs memory (class_of_code o.code) o.code o.number o.name (map as_read o.kids) W64) is
 
   -- the value of a register, a constant and a sum
   pub value_reg : (a : ℕ) → value_of symbols regs memory (reg_of DI a) W64 ≡ reg_value regs a W64

@@ -14,8 +14,9 @@ use Rattle.rtx_tree.specs.declared.machine.SymbolAt.{SymbolAt}
 use Rattle.rtx_tree.specs.declared.tree.Rtx.{Rtx, out-Rtx, out-roll-Rtx}
 use Rattle.rtx_tree.specs.declared.tree.Rtx.TheOpen.{Rtx-F}
 use Rattle.rtl_step.specs.Regs.{Regs}
-use Rattle.rtl_step.specs.Value.{class_of, width_of, value_by, value_of, of_two, truth, compared, first_width}
-use Rattle.rtl_step.specs.declared.expression.Class.TheVariants.{Comparison}
+use Rattle.rtx_tree.specs.Code.{class_of_code}
+use Rattle.rtl_step.specs.Value.{width_of, value_by, value_of, of_two, truth, compared, first_width}
+use Rattle.rtx_tree.specs.declared.class.Class.TheVariants.{Comparison}
 use Rattle.rtl_step.specs.Jump as jump
 use Rattle.rtl_step.specs.declared.jump.Way.TheVariants.{Falls, Goes, Leaves}
 use Rattle.rv_text.specs.declared.action.Comparison as action
@@ -68,14 +69,14 @@ module _ (symbols : List SymbolAt) (regs : Regs) (memory : List MemByte) where
 
   -- ---- the value of a test
 
-  test_by : (code : Code) (a : ℕ) (y : Rtx) → class_of code ≡ Comparison →
+  test_by : (code : Code) (a : ℕ) (y : Rtx) → class_of_code code ≡ Comparison →
       value_of symbols regs memory (test_rtx code (reg_of DI a) y) W64 ≡ of_two (compared code W64) (value_of symbols regs memory (reg_of DI a) W64) (value_of symbols regs memory y W64)
   test_by code a y is =
       value_open symbols regs memory (test_rtx code (reg_of DI a) y) _ (out-roll-Rtx _) ∙
       ap (λ c. value_by symbols regs memory c code (pos 0) [] (as_read symbols regs memory (reg_of DI a) ∷ as_read symbols regs memory y ∷ []) W64) is ∙
       ap (λ (o : Rtx-F Rtx). option_and_then (λ own. of_two (compared code own) (value_of symbols regs memory (reg_of DI a) own) (value_of symbols regs memory y own)) (first_width (width_of o.mode) (width_of (out-Rtx y).mode))) (out-roll-Rtx _)
 
-  is_comparison : (code : Code) (comparison : action.Comparison) (left right : Source) → IsTest code comparison left right → class_of code ≡ Comparison
+  is_comparison : (code : Code) (comparison : action.Comparison) (left right : Source) → IsTest code comparison left right → class_of_code code ≡ Comparison
   is_comparison _ _ _ _ direct.equal = refl
   is_comparison _ _ _ _ direct.not_equal = refl
   is_comparison _ _ _ _ direct.less = refl

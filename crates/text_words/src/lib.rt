@@ -1,12 +1,18 @@
-//! The words that several texts share, read and printed: decimal numbers, and the symbols of the assembler.
+//! The words that several texts share, read and printed: decimal numbers, numbers of C, blanks, and the symbols of the assembler.
 //!
-//! Promised: [`number_in`] gives the number of 64 signed bits whose decimal text the bytes are, and `None` exactly where they are the text
-//! of none; [`is_symbol`] tells exactly the symbols. Neither takes memory. [`print_text`], [`print_count`] and [`print_number`] append
-//! bytes, a count and a signed number to a text.
+//! Promised: [`number_in`] gives the number of 64 signed bits whose decimal text the bytes are, and `None` exactly where
+//! they are the text of none; [`c_number_in`] gives the number that a text writes as C does; [`is_symbol`] tells exactly
+//! the symbols, [`same`] whether two texts are equal, and [`behind_blanks`] gives what stands behind the blanks of a text.
+//! None of them takes memory. [`print_text`], [`print_count`] and [`print_number`] append bytes, a count and a signed number
+//! to a text.
 #![tactic(auto)]
 
+mod blanks;
+mod number;
 mod print;
 mod words;
 
+pub use blanks::{all_blank, behind_blanks, is_blank};
+pub use number::c_number_in;
 pub use print::{print_count, print_number, print_text};
-pub use words::{is_symbol, is_symbol_byte, number_in};
+pub use words::{is_symbol, is_symbol_byte, number_in, same};

@@ -1,10 +1,18 @@
 //! Decimal numbers and symbols.
 ghost use Rattle.std.specs.Prelude.{◌≡◌};
 ghost use Rattle.std.specs.List.{list_all};
+ghost use Rattle.std.specs.Str.{bytes_eq};
 ghost use Rattle.text_words.specs.Words as spec;
 
 use itoa::Buffer;
 use std::str;
+
+/// Whether two texts are the same.
+pub fn same(text: &[u8], word: &[u8]) -> bool
+    ensures { result ≡ bytes_eq text.now word.now }
+{
+    text == word
+}
 
 /// The number of 64 signed bits that a text writes in decimal, with no needless zero and no plus.
 #[tactic(auto, using(crate::proofs::Numbers::number_if_printed))]

@@ -34,10 +34,3 @@ IsTooMany trees refusal.Memory = Unit {0}
 abbrev pub Describes : List Tree → Result (List Entry) DescRefusal → Type 0
 Describes trees (Ok d) = (d ≡ forms_of trees) × (length (expanded trees) ≤ most_forms)
 Describes trees (Err e) = IsTooMany trees e
-
--- ---- a step of the code
-
--- the trees were expanded
-abbrev pub Expands : List Tree → Result Expanded DescRefusal → Type 0
-Expands trees (Ok e) = (e.forms ≡ expanded trees) × (e.constants ≡ all_constants_in trees) × (length (expanded trees) ≤ most_forms)
-Expands trees (Err e) = IsTooMany trees e

@@ -1,5 +1,6 @@
 //! The forms of trees.
-ghost use Rattle.tree_forms.specs.Trees.{Describes, Expands};
+ghost use Rattle.tree_forms.specs.Trees.{Describes};
+ghost use Rattle.tree_forms.specs.machine.Steps.{Expands};
 
 use crate::refusal::DescRefusal;
 use lisp_read::Tree;

@@ -3,8 +3,8 @@ use Rattle.std.proofs.Common.{◌≡◌, ◌≤◌, ℕ, suc, ◌+◌, ◌-◌, 
 use Rattle.std.specs.List.{AllByRecursion}
 use Rattle.std.proofs.lemmas.List.Concat.{flat_map-cons}
 use Rattle.rtx_tree.specs.declared.place.Place.{Place}
-use Rattle.lisp_read.specs.declared.class.Kind.{Kind}
-use Rattle.lisp_read.specs.declared.class.Kind.TheVariants.{Round, Square}
+use Rattle.lisp_read.specs.declared.class.Bracket.{Bracket}
+use Rattle.lisp_read.specs.declared.class.Bracket.TheVariants.{Round, Square}
 use Rattle.lisp_read.specs.declared.tree.Tree.{Tree}
 use Rattle.lisp_read.specs.declared.tree.Tree.TheVariants as tree
 use Rattle.lisp_read.specs.Part.{Part, Atom, Str, Block, Open, Close, enclosed, parts_of, parts_of_all}
@@ -19,9 +19,9 @@ use Rattle.tree_print.proofs.Printed.{depth-nested}
 -- ---- what a tree opens it closes
 
 Balanced : Tree → Type 0
-Balanced t = (w : List Kind) (more : List Part) → still_open w (parts_of t ++ more) ≡ still_open w more
+Balanced t = (w : List Bracket) (more : List Part) → still_open w (parts_of t ++ more) ≡ still_open w more
 
-all_balanced : (ts : List Tree) → AllByRecursion Balanced ts → (w : List Kind) (more : List Part) → still_open w (parts_of_all ts ++ more) ≡ still_open w more
+all_balanced : (ts : List Tree) → AllByRecursion Balanced ts → (w : List Bracket) (more : List Part) → still_open w (parts_of_all ts ++ more) ≡ still_open w more
 unfolding Balanced
 all_balanced [] h w more = refl
 all_balanced (t ∷ ts) h w more =
@@ -30,11 +30,11 @@ all_balanced (t ∷ ts) h w more =
     ∙ h.0 w (parts_of_all ts ++ more)
     ∙ all_balanced ts h.1 w more
 
-same_again : (k : Kind) → same_kind k k ≡ true
+same_again : (k : Bracket) → same_kind k k ≡ true
 same_again Round = refl
 same_again Square = refl
 
-nested_balanced : (k : Kind) (p : Place) (ts : List Tree) → AllByRecursion Balanced ts → Balanced (nested k p ts)
+nested_balanced : (k : Bracket) (p : Place) (ts : List Tree) → AllByRecursion Balanced ts → Balanced (nested k p ts)
 unfolding Balanced
 nested_balanced k p ts h w more =
     ap (λ (ps : List Part). still_open w (ps ++ more)) (parts_of_nested k p ts)
@@ -52,7 +52,7 @@ balances = record {
   vector = λ p ts h. nested_balanced Square p ts h;
 }
 
-pub balanced : (t : Tree) (w : List Kind) (more : List Part) → still_open w (parts_of t ++ more) ≡ still_open w more
+pub balanced : (t : Tree) (w : List Bracket) (more : List Part) → still_open w (parts_of t ++ more) ≡ still_open w more
 unfolding Balanced
 balanced t = induction Balanced balances t
 
@@ -67,7 +67,7 @@ closings (Str p t ∷ ps) = closings ps
 closings (Block p t ∷ ps) = closings ps
 
 -- so many are open where the parts close all of them
-pub open_is_closed : (w : List Kind) (ps : List Part) → still_open w ps ≡ Some [] → length w ≡ closings ps
+pub open_is_closed : (w : List Bracket) (ps : List Part) → still_open w ps ≡ Some [] → length w ≡ closings ps
 open_is_closed [] [] h = refl
 open_is_closed (k ∷ w) [] h = cc
 open_is_closed w (Open k p ∷ ps) h = let e : length (k ∷ w) ≡ closings ps = open_is_closed (k ∷ w) ps h in omega arith
@@ -117,7 +117,7 @@ all_peaks (t ∷ ts) h most more le below =
     fits_right : (c a b most : ℕ) → c + max a b ≤ most → c + b ≤ most
     fits_right c a b most h = grind (arith)
 
-nested_peaks : (k : Kind) (p : Place) (ts : List Tree) → AllByRecursion PeaksTree ts → PeaksTree (nested k p ts)
+nested_peaks : (k : Bracket) (p : Place) (ts : List Tree) → AllByRecursion PeaksTree ts → PeaksTree (nested k p ts)
 unfolding PeaksTree
 nested_peaks k p ts h most more le below =
     let depth : depth_of (nested k p ts) ≡ suc (greatest (map depth_of ts)) = depth-nested k p ts in

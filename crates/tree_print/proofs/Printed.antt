@@ -2,8 +2,8 @@
 use Rattle.std.proofs.Common.{◌≡◌, ℕ, suc, List, [], ◌∷◌, ◌++◌, map, flat_map, drop, refl, sym, ap, ◌∙◌}
 use Rattle.std.proofs.lemmas.List.Folds.{flat_map-map}
 use Rattle.rtx_tree.specs.declared.place.Place.{Place}
-use Rattle.lisp_read.specs.declared.class.Kind.{Kind}
-use Rattle.lisp_read.specs.declared.class.Kind.TheVariants.{Round, Square}
+use Rattle.lisp_read.specs.declared.class.Bracket.{Bracket}
+use Rattle.lisp_read.specs.declared.class.Bracket.TheVariants.{Round, Square}
 use Rattle.lisp_read.specs.declared.tree.Tree.{Tree}
 use Rattle.lisp_read.specs.declared.tree.Tree.TheFolds.{fold-roll-Tree}
 use Rattle.lisp_read.specs.declared.tree.Tree.TheOpen.{Tree-F}
@@ -26,7 +26,7 @@ pub printed_block : (p : Place) (t : List ℕ) → printed_tree (tree.Block p t)
 unfolding printed_tree
 printed_block p t = ap printed_tree (sym (rolls-Block p t)) ∙ fold-roll-Tree (List ℕ) printed_step (Tree-F.Block p t)
 
-in_brackets : (k : Kind) (ts : List Tree) → bracketed k (map printed_tree ts) ≡ bracketed_trees k ts
+in_brackets : (k : Bracket) (ts : List Tree) → bracketed k (map printed_tree ts) ≡ bracketed_trees k ts
 in_brackets k ts = ap (λ (inner : List ℕ). open_byte k ∷ (drop 1 inner ++ close_byte k ∷ [])) (flat_map-map spaced printed_tree ts)
 
 pub printed_list : (p : Place) (ts : List Tree) → printed_tree (tree.List p ts) ≡ bracketed_trees Round ts
@@ -37,7 +37,7 @@ pub printed_vector : (p : Place) (ts : List Tree) → printed_tree (tree.Vector 
 unfolding printed_tree
 printed_vector p ts = ap printed_tree (sym (rolls-Vector p ts)) ∙ (fold-roll-Tree (List ℕ) printed_step (Tree-F.Vector p ts) ∙ in_brackets Square ts)
 
-pub printed_nested : (k : Kind) (p : Place) (ts : List Tree) → printed_tree (nested k p ts) ≡ bracketed_trees k ts
+pub printed_nested : (k : Bracket) (p : Place) (ts : List Tree) → printed_tree (nested k p ts) ≡ bracketed_trees k ts
 printed_nested Round p ts = printed_list p ts
 printed_nested Square p ts = printed_vector p ts
 
@@ -53,12 +53,12 @@ pub unplaced-Block : (p : Place) (t : List ℕ) → unplaced (tree.Block p t) �
 unfolding unplaced
 unplaced-Block p t = ap unplaced (sym (rolls-Block p t)) ∙ fold-roll-Tree Tree unplaced_step (Tree-F.Block p t)
 
-pub unplaced-nested : (k : Kind) (p : Place) (ts : List Tree) → unplaced (nested k p ts) ≡ nested k nowhere (map unplaced ts)
+pub unplaced-nested : (k : Bracket) (p : Place) (ts : List Tree) → unplaced (nested k p ts) ≡ nested k nowhere (map unplaced ts)
 unfolding unplaced
 unplaced-nested Round p ts = ap unplaced (sym (rolls-List p ts)) ∙ fold-roll-Tree Tree unplaced_step (Tree-F.List p ts)
 unplaced-nested Square p ts = ap unplaced (sym (rolls-Vector p ts)) ∙ fold-roll-Tree Tree unplaced_step (Tree-F.Vector p ts)
 
-pub depth-nested : (k : Kind) (p : Place) (ts : List Tree) → depth_of (nested k p ts) ≡ suc (greatest (map depth_of ts))
+pub depth-nested : (k : Bracket) (p : Place) (ts : List Tree) → depth_of (nested k p ts) ≡ suc (greatest (map depth_of ts))
 unfolding depth_of
 depth-nested Round p ts = ap depth_of (sym (rolls-List p ts)) ∙ fold-roll-Tree ℕ depth_step (Tree-F.List p ts)
 depth-nested Square p ts = ap depth_of (sym (rolls-Vector p ts)) ∙ fold-roll-Tree ℕ depth_step (Tree-F.Vector p ts)

@@ -2,7 +2,7 @@
 use Rattle.std.proofs.Common.{◌≡◌, ◌≤◌, ℕ, List, [], ◌∷◌, ◌++◌, length, map, take, drop, Option, Some, None, refl, sym, ap, subst, ◌∙◌}
 use Rattle.std.proofs.lemmas.List.{append-nil, take-append-drop}
 use Rattle.rtx_tree.specs.declared.place.Place.{Place}
-use Rattle.lisp_read.specs.declared.class.Kind.{Kind}
+use Rattle.lisp_read.specs.declared.class.Bracket.{Bracket}
 use Rattle.lisp_read.specs.declared.tree.Tree.{Tree}
 use Rattle.lisp_read.specs.Places.{start, place_after}
 use Rattle.lisp_read.specs.Part.{Part, Atom, Str, Block, Open, Close, parts_of, parts_of_all}
@@ -26,7 +26,7 @@ use Rattle.tree_print.proofs.SpellsPrinted.{SpelledAs, spells_printed}
 
 -- ---- what is open does not depend on places
 
-still_open_bare : (w : List Kind) (ps : List Part) → still_open w (map bare ps) ≡ still_open w ps
+still_open_bare : (w : List Bracket) (ps : List Part) → still_open w (map bare ps) ≡ still_open w ps
 still_open_bare w [] = refl
 still_open_bare w (Open k p ∷ ps) = still_open_bare (k ∷ w) ps
 still_open_bare [] (Close k ∷ ps) = refl

@@ -5,8 +5,8 @@ use Rattle.std.proofs.lemmas.List.{map-append, append-nil}
 use Rattle.std.proofs.lemmas.List.Concat.{flat_map-cons}
 use Rattle.std.proofs.lemmas.List.Folds.{flat_map-map}
 use Rattle.rtx_tree.specs.declared.place.Place.{Place}
-use Rattle.lisp_read.specs.declared.class.Kind.{Kind}
-use Rattle.lisp_read.specs.declared.class.Kind.TheVariants.{Round, Square}
+use Rattle.lisp_read.specs.declared.class.Bracket.{Bracket}
+use Rattle.lisp_read.specs.declared.class.Bracket.TheVariants.{Round, Square}
 use Rattle.lisp_read.specs.declared.tree.Tree.{Tree}
 use Rattle.lisp_read.specs.declared.tree.Tree.TheVariants as tree
 use Rattle.lisp_read.specs.Bytes.{quote, open_brace, close_brace}
@@ -98,11 +98,11 @@ separated_spell (t ∷ ts) h =
 
 -- ---- brackets
 
-ends_close : (k : Kind) (rest : List ℕ) → EndsAtom (close_byte k ∷ rest)
+ends_close : (k : Bracket) (rest : List ℕ) → EndsAtom (close_byte k ∷ rest)
 ends_close Round rest = refl
 ends_close Square rest = refl
 
-enclosed_spells : (k : Kind) (p : Place) (ps : List Part) (bytes : List ℕ) → SpellsAs ps bytes → SpellsAs (enclosed k p ps) (open_byte k ∷ (bytes ++ close_byte k ∷ []))
+enclosed_spells : (k : Bracket) (p : Place) (ps : List Part) (bytes : List ℕ) → SpellsAs ps bytes → SpellsAs (enclosed k p ps) (open_byte k ∷ (bytes ++ close_byte k ∷ []))
 enclosed_spells k p ps bytes h here qs rest admitted ends spelled =
     let inside : Place = advance here (open_byte k) in
     let closed : Spells (place_after inside bytes) (Close k ∷ qs) (close_byte k ∷ rest) =
@@ -117,7 +117,7 @@ enclosed_spells k p ps bytes h here qs rest admitted ends spelled =
       spelled = subst (λ (x : List ℕ). Spells here (enclosed k here s.parts ++ qs) (open_byte k ∷ x)) (sym (append_assoc bytes (close_byte k ∷ []) rest)) grouped;
     }
 
-nested_spells : (k : Kind) (p : Place) (ts : List Tree) → AllByRecursion SpellsTree ts → SpellsTree (nested k p ts)
+nested_spells : (k : Bracket) (p : Place) (ts : List Tree) → AllByRecursion SpellsTree ts → SpellsTree (nested k p ts)
 unfolding SpellsTree
 nested_spells k p ts h =
     subst (λ (bytes : List ℕ). SpellsAs (parts_of (nested k p ts)) bytes) (sym (printed_nested k p ts))

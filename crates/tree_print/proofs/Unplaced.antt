@@ -4,8 +4,8 @@ use Rattle.std.specs.List.{AllByRecursion}
 use Rattle.std.proofs.lemmas.List.{map-append}
 use Rattle.std.proofs.lemmas.List.Concat.{flat_map-cons}
 use Rattle.rtx_tree.specs.declared.place.Place.{Place}
-use Rattle.lisp_read.specs.declared.class.Kind.{Kind}
-use Rattle.lisp_read.specs.declared.class.Kind.TheVariants.{Round, Square}
+use Rattle.lisp_read.specs.declared.class.Bracket.{Bracket}
+use Rattle.lisp_read.specs.declared.class.Bracket.TheVariants.{Round, Square}
 use Rattle.lisp_read.specs.declared.tree.Tree.{Tree}
 use Rattle.lisp_read.specs.declared.tree.Tree.TheVariants as tree
 use Rattle.lisp_read.specs.Part.{Part, Atom, Str, Block, Open, Close, enclosed, parts_of, parts_of_all}
@@ -36,7 +36,7 @@ all_bare (t ∷ ts) h =
     ∙ sym (map-append bare (parts_of t) (parts_of_all ts))
     ∙ ap (map bare) (sym (flat_map-cons parts_of t ts))
 
-nested_bare : (k : Kind) (p : Place) (ts : List Tree) → AllByRecursion Bares ts → Bares (nested k p ts)
+nested_bare : (k : Bracket) (p : Place) (ts : List Tree) → AllByRecursion Bares ts → Bares (nested k p ts)
 unfolding Bares
 nested_bare k p ts h =
     ap parts_of (unplaced-nested k p ts)

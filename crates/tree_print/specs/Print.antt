@@ -1,8 +1,8 @@
 -- The text of a tree on one line, and when it is read back as that tree.
 use Rattle.std.specs.Prelude.{◌≡◌, ◌≤◌, ℕ, suc, max, List, [], ◌∷◌, ◌++◌, map, flat_map, drop}
 use Rattle.rtx_tree.specs.declared.place.Place.{Place}
-use Rattle.lisp_read.specs.declared.class.Kind.{Kind}
-use Rattle.lisp_read.specs.declared.class.Kind.TheVariants.{Round, Square}
+use Rattle.lisp_read.specs.declared.class.Bracket.{Bracket}
+use Rattle.lisp_read.specs.declared.class.Bracket.TheVariants.{Round, Square}
 use Rattle.lisp_read.specs.declared.tree.Tree.{Tree}
 use Rattle.lisp_read.specs.declared.tree.Tree.TheOpen.{Tree-F}
 use Rattle.lisp_read.specs.declared.tree.Tree.TheFolds.{fold-Tree}
@@ -20,7 +20,7 @@ abbrev pub spaced : List ℕ → List ℕ
 spaced text = 32 ∷ text
 
 -- texts in brackets of a kind, with a space between each two
-abbrev pub bracketed : Kind → List (List ℕ) → List ℕ
+abbrev pub bracketed : Bracket → List (List ℕ) → List ℕ
 bracketed kind texts = open_byte kind ∷ (drop 1 (flat_map spaced texts) ++ close_byte kind ∷ [])
 
 abbrev pub printed_step : Tree-F (List ℕ) → List ℕ
@@ -40,7 +40,7 @@ spaced_tree t = spaced (printed_tree t)
 abbrev pub separated : List Tree → List ℕ
 separated ts = drop 1 (flat_map spaced_tree ts)
 
-abbrev pub bracketed_trees : Kind → List Tree → List ℕ
+abbrev pub bracketed_trees : Bracket → List Tree → List ℕ
 bracketed_trees kind ts = open_byte kind ∷ (separated ts ++ close_byte kind ∷ [])
 
 -- ---- what is read back

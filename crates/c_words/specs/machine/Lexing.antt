@@ -7,7 +7,8 @@ use Rattle.c_words.specs.declared.token.Token.TheVariants as token
 use Rattle.c_words.specs.declared.lexer.Pending.{Pending}
 use Rattle.c_words.specs.declared.lexer.Pending.TheVariants as pending
 use Rattle.c_words.specs.declared.lexer.Lexer.{Lexer}
-use Rattle.c_words.specs.Tokens.{in_word, is_blank, token_of_run, token_of_byte, operator_of_two}
+use Rattle.text_words.specs.Blanks.{is_blank}
+use Rattle.c_words.specs.Tokens.{in_word, token_of_run, token_of_byte, operator_of_two}
 
 abbrev pub at : List Token → Pending → Lexer
 at tokens p = record { tokens = tokens; pending = p }

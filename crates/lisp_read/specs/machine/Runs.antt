@@ -1,7 +1,7 @@
 -- Whole runs of the reader's steps. Only private clauses and proofs speak of them.
 use Rattle.std.specs.Prelude.{◌≡◌, ◌<◌, ◌≤◌, length, take, slice_index, ℕ, List, [], ◌∷◌, ◌++◌, Option, Some, None, Result, Ok, Err}
 use Rattle.rtx_tree.specs.declared.place.Place.{Place}
-use Rattle.lisp_read.specs.declared.class.Kind.{Kind}
+use Rattle.lisp_read.specs.declared.class.Bracket.{Bracket}
 use Rattle.lisp_read.specs.declared.mode.Mode.{Mode}
 use Rattle.lisp_read.specs.declared.mode.Mode.TheVariants as mode
 use Rattle.lisp_read.specs.declared.tree.Tree.{Tree}
@@ -35,7 +35,7 @@ ended parts (mode.Slash p) = Some (parts ++ Atom p (slash ∷ []) ∷ [])
 ended parts (mode.Atom p t) = Some (parts ++ Atom p t ∷ [])
 ended parts _ = None
 
-abbrev pub ended_in : List Kind → List Part → Mode → Option (List Part)
+abbrev pub ended_in : List Bracket → List Part → Mode → Option (List Part)
 ended_in [] parts m = ended parts m
 ended_in (k ∷ within) parts m = None
 

@@ -5,7 +5,7 @@ use Rattle.rtx_tree.specs.declared.tree.Rtx.{Rtx}
 use Rattle.rtl_func.specs.declared.trees.TreeRule.{TreeRule}
 use Rattle.rtl_func.specs.declared.trees.TreeRule.TheVariants.{IsPlain, IsShaped, HasCallMode, IsArgument, HoldsSimple}
 use Rattle.rtl_func.specs.Nodes.{nodes_of}
-use Rattle.rtl_func.specs.Table.{is_shaped, has_call_mode}
+use Rattle.rtl_func.specs.Shapes.{is_shaped, has_call_mode}
 use Rattle.rtl_func.specs.Kinds.{is_plain_tree}
 use Rattle.rtl_func.specs.Calls.{has_argument}
 use Rattle.rtl_func.specs.Effects.{holds_simple}

@@ -2,7 +2,8 @@ use Rattle.std.proofs.Common.{◌≡◌, true, length}
 use Rattle.std.specs.Vec.Iter.{into_iter_items, into_iter_len}
 use Rattle.asm_text.specs.declared.code.Coded.{Coded}
 use Rattle.asm_text.specs.Lines.{AllMatched}
-use Rattle.asm_text.specs.Code.{has_named, IsCodedFrom}
+use Rattle.asm_text.specs.Code.{has_named}
+use Rattle.asm_text.specs.machine.Steps.{IsCodedFrom}
 use Rattle.asm_text.proofs.code.coded_named.Given as goal
 
 abbrev pub invariant-loop-f : goal.invariant-loop-f

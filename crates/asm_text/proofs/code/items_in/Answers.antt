@@ -1,5 +1,5 @@
 use Rattle.std.proofs.Common.{[], ◌∙◌, sym, subst, arith}
-use Rattle.asm_text.specs.Code.{AreItems}
+use Rattle.asm_text.specs.machine.Steps.{AreItems}
 use Rattle.asm_text.proofs.LineTexts.{matched_in, items_next, items_same}
 use Rattle.asm_text.proofs.code.items_in.Goals.{in-Some+in_ok-push, in_default}
 use Rattle.asm_text.proofs.code.items_in.Goals as goal

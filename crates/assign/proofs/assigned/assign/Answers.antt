@@ -7,8 +7,8 @@ use Rattle.rtx_tree.specs.Registers.{pseudo}
 use Rattle.rv_regs.specs.Registers.{allocation_order}
 use Rattle.reg_conflicts.specs.Conflicts.{AreConflicts, has_conflict}
 use Rattle.assign.specs.Homes.{pseudos}
-use Rattle.assign.specs.Named.{stands_in}
-use Rattle.assign.specs.Picked.{IsPicked}
+use Rattle.assign.specs.machine.Named.{stands_in}
+use Rattle.assign.specs.machine.Picked.{IsPicked}
 use Rattle.assign.proofs.HomeLaws.{AreHomes-picked}
 use Rattle.assign.proofs.NamedLaws.{stands_in-pseudo}
 use Rattle.assign.proofs.OneLaws.{only}

@@ -1,6 +1,6 @@
 use Rattle.std.proofs.Common.{ℕ, List, subst, ◌∙◌}
 use Rattle.reg_conflicts.specs.Conflicts.{has_conflict}
-use Rattle.assign.specs.Picked.{IsPicked}
+use Rattle.assign.specs.machine.Picked.{IsPicked}
 use Rattle.assign.proofs.assigned.pick_in_order.Goals as goal
 
 pub returns-clause-picked : goal.returns-clause-picked

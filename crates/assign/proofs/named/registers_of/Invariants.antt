@@ -1,6 +1,6 @@
 use Rattle.std.proofs.Common.{◌≡◌, ℕ, ◌||◌, drop}
 use Rattle.rtx_tree.specs.RegSet.{has_reg}
-use Rattle.assign.specs.Named.{stands_in}
+use Rattle.assign.specs.machine.Named.{stands_in}
 use Rattle.assign.proofs.named.registers_of.Given as goal
 
 abbrev pub invariant-loop-insn : goal.invariant-loop-insn

@@ -2,7 +2,7 @@ use Rattle.std.proofs.Common.{◌≡◌, ℕ, length, take}
 use Rattle.std.specs.List.{list_any}
 use Rattle.reg_rows.specs.Row.{has}
 use Rattle.reg_conflicts.specs.Conflicts.{has_conflict}
-use Rattle.assign.specs.Picked.{clashes}
+use Rattle.assign.specs.machine.Picked.{clashes}
 use Rattle.assign.proofs.pick.block.Given as goal
 
 abbrev pub invariant-loop-x : goal.invariant-loop-x

@@ -1,7 +1,7 @@
 use Rattle.std.proofs.Common.{ap, ◌∙◌}
 use Rattle.reg_rows.specs.Row.{has}
 use Rattle.reg_conflicts.specs.Conflicts.{has_conflict}
-use Rattle.assign.specs.Picked.{home_from}
+use Rattle.assign.specs.machine.Picked.{home_from}
 use Rattle.assign.proofs.PickLaws.{first_unmarked}
 use Rattle.assign.proofs.pick.home_for.Goals as goal
 

@@ -6,7 +6,7 @@ use Rattle.std.proofs.lemmas.List.Elements.{All-push}
 use Rattle.reg_conflicts.specs.Conflicts.{has_conflict}
 use Rattle.assign.specs.declared.home.HomeOf.{HomeOf}
 use Rattle.assign.specs.Homes.{register}
-use Rattle.assign.specs.Picked.{IsPicked, is_free, home_from}
+use Rattle.assign.specs.machine.Picked.{IsPicked, is_free, home_from}
 use Rattle.assign.proofs.PickLaws.{IsPicked-push}
 use Rattle.assign.proofs.pick.pick.Goals as goal
 

@@ -2,7 +2,7 @@ use Rattle.std.proofs.Common.{◌≡◌, ◌<◌, ◌^◌, take, length}
 use Rattle.std.specs.Prelude.{All}
 use Rattle.reg_conflicts.specs.Conflicts.{has_conflict}
 use Rattle.assign.specs.Homes.{register, pseudos}
-use Rattle.assign.specs.Picked.{IsPicked}
+use Rattle.assign.specs.machine.Picked.{IsPicked}
 use Rattle.assign.proofs.pick.pick.Given as goal
 
 abbrev pub invariant-loop-pseudo : goal.invariant-loop-pseudo

@@ -1,5 +1,5 @@
 use Rattle.std.proofs.Common.{◌≡◌, map, take}
-use Rattle.md_attr.specs.Tables.{settings_of}
+use Rattle.md_attr.specs.machine.Tables.{settings_of}
 use Rattle.md_attr.proofs.settings.all_settings.Given as goal
 
 abbrev pub invariant-loop-entry : goal.invariant-loop-entry

@@ -1,5 +1,5 @@
 use Rattle.std.proofs.Common.{◌≡◌, map, take}
-use Rattle.md_constr.specs.Tables.{constraints_of}
+use Rattle.md_constr.specs.machine.Tables.{constraints_of}
 use Rattle.md_constr.proofs.forms.all_constraints.Given as goal
 
 abbrev pub invariant-loop-entry : goal.invariant-loop-entry

@@ -5,7 +5,7 @@ use Rattle.std.proofs.lemmas.List.{take_all}
 use Rattle.md_forms.specs.Tables.{defines_constraint}
 use Rattle.md_attr.specs.Alternatives.{defines}
 use Rattle.md_attr.proofs.FirstLaws.{given_next}
-use Rattle.md_constr.specs.Tables.{meaning_in, entry_admits}
+use Rattle.md_constr.specs.machine.Tables.{meaning_in, entry_admits}
 use Rattle.md_constr.proofs.NameLaws.{admits_found}
 use Rattle.md_constr.proofs.meanings.meanings_of.Goals as goal
 

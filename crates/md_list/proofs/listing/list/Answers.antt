@@ -1,5 +1,5 @@
 use Rattle.std.proofs.Common.{subst}
-use Rattle.md_list.specs.Answers.{ListsTrees}
+use Rattle.md_list.specs.machine.Steps.{ListsTrees}
 use Rattle.md_list.proofs.Lists.{of_trees, of_refusal, one_list}
 use Rattle.md_list.proofs.listing.list.Goals as goal
 

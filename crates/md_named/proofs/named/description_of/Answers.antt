@@ -1,5 +1,5 @@
 use Rattle.std.proofs.Common.{subst}
-use Rattle.md_named.specs.Answers.{DescribesRun}
+use Rattle.md_named.specs.machine.Steps.{DescribesRun}
 use Rattle.md_named.proofs.Forms.{of_trees, of_refusal, one_answer}
 use Rattle.md_named.proofs.named.description_of.Goals as goal
 

@@ -1,5 +1,5 @@
 use Rattle.std.proofs.Common.{◌≡◌, length, take}
-use Rattle.pred_rows.specs.Steps.{AreRoots}
+use Rattle.pred_rows.specs.machine.Steps.{AreRoots}
 use Rattle.pred_rows.proofs.row.+push.Given as goal
 
 abbrev pub invariant-push_all-loop-test : goal.invariant-push_all-loop-test

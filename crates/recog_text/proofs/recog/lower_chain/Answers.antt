@@ -2,7 +2,7 @@ use Rattle.std.proofs.Common.{[], ◌++◌, sym, subst}
 use Rattle.std.proofs.lemmas.Result.{err_from_is_err_and}
 use Rattle.func_input.specs.Outcome.{AppendedSome}
 use Rattle.recog_text.specs.Each.{EachComes}
-use Rattle.recog_text.specs.Steps.{added}
+use Rattle.recog_text.specs.machine.Steps.{added}
 use Rattle.recog_text.specs.Recog.{LowerComes}
 use Rattle.recog_text.proofs.Told.{first_refuses, with_last}
 use Rattle.recog_text.proofs.recog.lower_chain.Goals as goal

@@ -1,5 +1,5 @@
 use Rattle.std.proofs.Common.{◌≡◌, drop}
-use Rattle.rtl_read.specs.Adding.{behind}
+use Rattle.rtl_read.specs.machine.Adding.{behind}
 use Rattle.rtl_read.specs.Chain.{entries_of}
 use Rattle.rtl_read.proofs.chain.add_entries.Given as goal
 

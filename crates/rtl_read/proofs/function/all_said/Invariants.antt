@@ -1,5 +1,5 @@
 use Rattle.std.proofs.Common.{◌≡◌, drop}
-use Rattle.rtl_read.specs.Adding.{said_behind}
+use Rattle.rtl_read.specs.machine.Adding.{said_behind}
 use Rattle.rtl_read.specs.Function.{all_said}
 use Rattle.rtl_read.proofs.function.all_said.Given as goal
 

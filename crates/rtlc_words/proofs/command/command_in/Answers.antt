@@ -1,7 +1,7 @@
 use Rattle.std.proofs.Common.{◌∙◌, ap, sym}
 use Rattle.std.proofs.lemmas.Result.{IfOk-weaker}
 use Rattle.clap.specs.Words.{found_of, rows_of}
-use Rattle.rtlc_words.specs.Grammar.{command_found}
+use Rattle.rtlc_words.specs.machine.Grammar.{command_found}
 use Rattle.rtlc_words.proofs.Found.{name_and_rows}
 use Rattle.rtlc_words.proofs.command.command_in.Goals as goal
 

@@ -6,7 +6,7 @@ use Rattle.clap.specs.Lexer.{usize_max}
 use Rattle.clap.specs.Words.{subcommand_rows_of}
 use Rattle.clap.specs.declared.parser.matches.ArgMatches.{ArgMatches}
 use Rattle.rtlc_words.specs.Words.{words_of}
-use Rattle.rtlc_words.specs.Grammar.{command_found}
+use Rattle.rtlc_words.specs.machine.Grammar.{command_found}
 use Rattle.rtlc_words.proofs.Whole.{command_read}
 use Rattle.rtlc_words.proofs.command.command_of.Goals as goal
 

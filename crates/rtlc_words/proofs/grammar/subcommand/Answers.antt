@@ -5,7 +5,7 @@ use Rattle.clap.specs.Walk.{Rule, rule_of}
 use Rattle.clap.specs.Simple.{new_rule, with_rule}
 use Rattle.clap.specs.declared.builder.action.ArgAction.TheVariants.{Append}
 use Rattle.clap.specs.declared.builder.range.ValueRange.{ValueRange}
-use Rattle.rtlc_words.specs.Grammar.{md_rule, words_rule}
+use Rattle.rtlc_words.specs.machine.Grammar.{md_rule, words_rule}
 use Rattle.rtlc_words.proofs.Found.{some_range}
 use Rattle.rtlc_words.proofs.grammar.subcommand.Goals as goal
 

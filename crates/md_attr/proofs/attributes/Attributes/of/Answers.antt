@@ -1,5 +1,5 @@
 use Rattle.std.proofs.Common.{◌≡◌, map, rules}
-use Rattle.md_attr.specs.Tables.{settings_of}
+use Rattle.md_attr.specs.machine.Tables.{settings_of}
 use Rattle.md_attr.proofs.TableLaws.{given_same, counted_same}
 use Rattle.md_attr.proofs.attributes.Attributes.of.Goals as goal
 

@@ -2,7 +2,7 @@ use Rattle.std.proofs.Common.{◌≡◌, ap, ◌∙◌, rules, None}
 use Rattle.std.specs.Map.{lookup}
 use Rattle.std.specs.Str.{bytes_eq}
 use Rattle.md_forms.proofs.TextKeys.{found_last}
-use Rattle.md_constr.specs.Tables.{meaning_in}
+use Rattle.md_constr.specs.machine.Tables.{meaning_in}
 use Rattle.md_constr.proofs.meanings.Meanings.put.Goals as goal
 
 pub returns-in_ok-insert : goal.returns-in_ok-insert

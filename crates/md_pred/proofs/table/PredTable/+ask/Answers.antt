@@ -2,7 +2,7 @@ use Rattle.std.proofs.Common.{◌≡◌, List, ap, ◌∙◌}
 use Rattle.c_words.specs.declared.head.Head.{Head}
 use Rattle.c_cond.specs.Tree.{tree_of}
 use Rattle.pred_rows.specs.Tests.{condition_holds}
-use Rattle.md_pred.specs.Steps.{asked_within}
+use Rattle.md_pred.specs.machine.Steps.{asked_within}
 use Rattle.md_pred.proofs.Parts.{question_there, none_there}
 use Rattle.md_pred.proofs.table.PredTable.+ask.Goals as goal
 

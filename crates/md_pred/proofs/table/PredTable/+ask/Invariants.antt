@@ -1,5 +1,5 @@
 use Rattle.std.proofs.Common.{◌≡◌, ◌+◌, ◌*◌, ◌≤◌}
-use Rattle.md_pred.specs.Steps.{size_at, step_holds, step_size}
+use Rattle.md_pred.specs.machine.Steps.{size_at, step_holds, step_size}
 use Rattle.md_pred.proofs.table.PredTable.+ask.Given as goal
 
 -- From a question its parts are asked, which have less before them; what calls what on the way is told by the last term.

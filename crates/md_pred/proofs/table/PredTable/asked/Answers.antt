@@ -1,6 +1,6 @@
 use Rattle.std.proofs.Common.{◌≡◌, None, sym, ap, ◌∙◌}
 use Rattle.md_operand.specs.Operand.{own_named}
-use Rattle.md_pred.specs.Table.{definition_in}
+use Rattle.md_pred.specs.machine.Table.{definition_in}
 use Rattle.md_pred.proofs.Asking.{asked_again}
 use Rattle.md_pred.proofs.table.PredTable.asked.Goals as goal
 

@@ -1,5 +1,5 @@
 use Rattle.std.proofs.Common.{◌≤◌, length, arith}
-use Rattle.md_pred.specs.Steps.{asked_within}
+use Rattle.md_pred.specs.machine.Steps.{asked_within}
 use Rattle.md_pred.proofs.Parts.{no_part, part_before}
 use Rattle.md_pred.proofs.table.PredTable.part.Goals as goal
 

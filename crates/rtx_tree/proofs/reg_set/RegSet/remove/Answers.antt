@@ -4,8 +4,8 @@ use Rattle.rtx_tree.proofs.MemberOrder.{members-increasing}
 use Rattle.rtx_tree.proofs.reg_set.RegSet.remove.Goals as goal
 
 pub invariant_of-self : goal.invariant_of-self
-invariant_of-self c = members-increasing c.remove.new.words
+invariant_of-self c = members-increasing c.remove.new.self
 
 pub returns : goal.returns
 returns c other =
-    has_reg-members c.remove.new.words other ∙ (c.remove.ensures other ∙ ap (λ b. b && not (eqb other c.args.reg)) (has_reg-view _ _ _ c.self.view_is))
+    has_reg-members c.remove.new.self other ∙ (c.remove.ensures.each other ∙ ap (λ b. b && not (eqb other c.args.reg)) (has_reg-view _ _ _ c.self.view_is))

@@ -1,6 +1,0 @@
-use Rattle.std.proofs.Common.{◌≡◌, drop}
-use Rattle.c_words.specs.Numbers.{read_digits}
-use Rattle.c_words.proofs.number.read_digits.Given as goal
-
-abbrev pub invariant-loop-byte : goal.invariant-loop-byte
-invariant-loop-byte l = read_digits l.base l.value (drop l.byte-index l.digits) ≡ read_digits l.base 0 l.digits

@@ -1,0 +1,18 @@
+-- When tables are those of a description's forms.
+use Rattle.std.specs.Prelude.{◌≡◌, ◌≤◌, List, length}
+use Rattle.tree_forms.specs.Trees.{most_forms}
+use Rattle.md_forms.specs.declared.form.Entry.{Entry}
+use Rattle.md_attr.specs.declared.attributes.Attributes.{Attributes}
+use Rattle.md_attr.specs.machine.Tables.{AreAttributesOf}
+use Rattle.md_pred.specs.declared.table.PredTable.{PredTable}
+use Rattle.md_pred.specs.Holds.{holds}
+use Rattle.md_pred.specs.machine.Table.{accepted_by}
+use Rattle.md_constr.specs.declared.table.Constraints.{Constraints}
+use Rattle.md_constr.specs.machine.Tables.{AreConstraintsOf}
+
+-- there are no more forms than a description may have, and each table is that of the forms
+pub record AreTablesOf (forms : List Entry) (preds : PredTable) (constraints : Constraints) (attributes : Attributes) : Type 0 where
+  pub short : length forms ≤ most_forms
+  pub accepts : accepted_by preds ≡ holds forms
+  pub asks : AreConstraintsOf constraints forms
+  pub gives : AreAttributesOf attributes forms

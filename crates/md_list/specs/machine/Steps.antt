@@ -1,0 +1,15 @@
+-- The steps of the code, for the contracts of private functions alone.
+use Rattle.std.specs.Prelude.{◌≡◌, ◌≤◌, ◌<◌, ℕ, List, length, Result, Ok, Err, Vec}
+use Rattle.std.specs.declared.alloc.Global.{Global}
+use Rattle.lisp_read.specs.declared.tree.Tree.{Tree}
+use Rattle.tree_forms.specs.Trees.{expanded, most_forms}
+use Rattle.md_list.specs.Listing.{list_of_trees}
+use Rattle.md_list.specs.declared.refusal.ListRefusal.{ListRefusal}
+use Rattle.md_list.specs.declared.refusal.ListRefusal.TheVariants as refusal
+
+-- trees were listed, or there are too many forms of them
+abbrev pub ListsTrees : List Tree → Result (Vec ℕ Global) ListRefusal → Type 0
+ListsTrees trees (Ok text) = (text.items ≡ list_of_trees trees) × (length (expanded trees) ≤ most_forms)
+ListsTrees trees (Err refusal.Forms) = most_forms < length (expanded trees)
+ListsTrees trees (Err refusal.Memory) = Unit {0}
+ListsTrees trees (Err (refusal.Source e)) = ⊥

@@ -1,0 +1,11 @@
+-- Blanks: "White-space characters" of the C standard, without the vertical tab, which are also those of the text of RTL.
+use Rattle.std.specs.Prelude.{ℕ, ◌==◌, Bool, ◌||◌, List, [], ◌∷◌, if◌then◌else◌}
+
+-- a space, a tab, a newline, a carriage return or a form feed
+abbrev pub is_blank : ℕ → Bool
+is_blank b = b == 32 || (b == 9 || (b == 10 || (b == 13 || b == 12)))
+
+-- without the blanks at the front
+abbrev pub behind_blanks : List ℕ → List ℕ
+behind_blanks [] = []
+behind_blanks (b ∷ rest) = if is_blank b then behind_blanks rest else b ∷ rest

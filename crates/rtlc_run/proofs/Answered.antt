@@ -64,3 +64,27 @@ no_values h = cc
 pub read_status : (e told : Refusal) (status : ℕ) → status ≡ status_of told → (told ≡ e) ⊎ ((told ≡ refusal.Memory) × (has_values e ≡ true)) → e ≡ refusal.ReadFault → status ≡ 6
 read_status e told status is which read =
     ⊎_elim (λ same. is ∙ ap status_of (same ∙ read)) (λ memory. absurd (no_values (sym (ap has_values read) ∙ memory.1))) which
+
+-- what an error was that is handed on
+pub err_back : {T : Type 0} (r : Result T Refusal) (d e f : Refusal) → r ≡ Err d → d ≡ e → r ≡ Err f → e ≡ f
+err_back r d e f p q is = let same : d ≡ f = cc in sym q ∙ same
+
+read_of : (e : Refusal) → status_of e ≡ 6 → e ≡ refusal.ReadFault
+read_of refusal.ReadFault is = refl
+read_of refusal.WriteFault is = cc
+read_of refusal.Memory is = cc
+read_of refusal.Usage is = cc
+read_of (refusal.Syntax file place) is = cc
+read_of (refusal.Construct place name) is = cc
+read_of (refusal.IllFormed function uid rule) is = cc
+read_of (refusal.Limit which count) is = cc
+read_of (refusal.Unmatched function uid stage insn) is = cc
+
+-- a status 6 was that of a fault of a read
+pub read_told : (e told : Refusal) (status : ℕ) → status ≡ status_of told → (told ≡ e) ⊎ ((told ≡ refusal.Memory) × (has_values e ≡ true)) → status ≡ 6 → e ≡ refusal.ReadFault
+read_told e told status is which six =
+    let read : told ≡ refusal.ReadFault = read_of told (sym is ∙ six) in
+    ⊎_elim (λ same. sym same ∙ read) (λ memory. absurd (not_memory (sym read ∙ memory.0))) which
+  where
+    not_memory : refusal.ReadFault ≡ refusal.Memory → ⊥
+    not_memory same = cc

@@ -25,7 +25,7 @@ use Rattle.asm_text.specs.Code.{IsUnnamed, CodeComes, Answers as Told}
 use Rattle.rtlc_words.specs.declared.command.Command.{Command}
 use Rattle.rtlc_words.specs.declared.command.Command.TheVariants as commands
 use Rattle.rtlc_words.specs.Words.{command_of}
-use Rattle.rtlc_run.specs.Answer.{described, list_refused, EvalComes, CommandComes, Answers, Produces, InputRefused, IsOwn, IsMisused, MayBeAsked, IsRefused}
+use Rattle.rtlc_run.specs.Answer.{described, list_refused, EvalComes, CommandComes, Answers, Produces, InputRefused, HasForms, IsOwn, IsMisused, MayBeAsked, IsRefused}
 
 -- what was produced has any property that follows
 pub produces_map : (r : Result (Vec ℕ Global) Refusal) (P Q : Outcome → Type 0) → ((o : Outcome) → P o → Q o) → Produces r P → Produces r Q
@@ -106,6 +106,7 @@ too_many bytes function steps args count is long = (
   CodeComes.unread (refusal.Limit limit.Text count) (λ functions read. let within = read.within in omega (arith, long, within))
       (subst (λ (n : ℕ). InputComes bytes (Err (refusal.Limit limit.Text n))) (sym is) (InputComesTo.too_long long)),
   refl,
+  tt,
 )
 
 too_many_left : (left : Option (List ℕ)) (function : List ℕ) (steps : ℕ) (args : List ℕ) (count : ℕ) → InputRefused left (refusal.Limit limit.Text count) →
@@ -130,12 +131,12 @@ pub code_refused : (bytes function : List ℕ) (steps : ℕ) (args : List ℕ) (
 code_refused bytes function steps args refusal.Memory h = tt
 code_refused bytes function steps args refusal.ReadFault h = absurd h
 code_refused bytes function steps args refusal.WriteFault h = absurd h
-code_refused bytes function steps args refusal.Usage h = (Err refusal.Usage, h, refl)
-code_refused bytes function steps args (refusal.Syntax file place) h = (Err (refusal.Syntax file place), h, refl)
-code_refused bytes function steps args (refusal.Construct place name) h = (Err (refusal.Construct place name), h, refl)
-code_refused bytes function steps args (refusal.IllFormed name uid rule) h = (Err (refusal.IllFormed name uid rule), h, refl)
-code_refused bytes function steps args (refusal.Limit which count) h = (Err (refusal.Limit which count), h, refl)
-code_refused bytes function steps args (refusal.Unmatched name uid stage insn) h = (Err (refusal.Unmatched name uid stage insn), h, refl)
+code_refused bytes function steps args refusal.Usage h = (Err refusal.Usage, h, refl, tt)
+code_refused bytes function steps args (refusal.Syntax file place) h = (Err (refusal.Syntax file place), h, refl, tt)
+code_refused bytes function steps args (refusal.Construct place name) h = (Err (refusal.Construct place name), h, refl, tt)
+code_refused bytes function steps args (refusal.IllFormed name uid rule) h = (Err (refusal.IllFormed name uid rule), h, refl, tt)
+code_refused bytes function steps args (refusal.Limit which count) h = (Err (refusal.Limit which count), h, refl, tt)
+code_refused bytes function steps args (refusal.Unmatched name uid stage insn) h = (Err (refusal.Unmatched name uid stage insn), h, refl, tt)
 
 -- the function that has no name is missing from the input
 pub misused : (left left' : Option (List ℕ)) (bytes function : List ℕ) (steps : ℕ) (args : List ℕ) → Consumes left left' bytes × IsAtEnd left' → IsUnnamed bytes function → IsMisused (Some (commands.Eval function steps args)) left
@@ -222,6 +223,12 @@ may_ask_nothing known (Some (commands.Eval function steps args)) = refl
 pub nothing_asked : (known : Source) (c : Option Command) (asked : Option (List (List ℕ))) → GrewBy (MayBeAsked known c) asked asked
 nothing_asked known c None = tt
 nothing_asked known c (Some names) = ([], sym (append-nil names), may_ask_nothing known c)
+
+-- ---- before the input is read
+
+-- what a command has, its words have
+pub words_have_forms : (words : List (List ℕ)) (known : Source) (c : Command) → command_of words ≡ Some c → HasForms known (Some c) → HasForms known (command_of words)
+words_have_forms words known c is h = subst (HasForms known) (sym is) h
 
 -- ---- what is known of files
 

@@ -1,6 +1,6 @@
 -- There is one answer, and what it says of a text that was written.
-use Rattle.std.proofs.Common.{◌≡◌, ◌⊎◌, ℕ, List, [], ◌++◌, eqb, Bool, true, false, Result, Ok, Err, Option, Some, None, refl, sym, ap, subst, ◌∙◌, inl, inr, arith}
-use Rattle.std.specs.Prelude.{IfSome, IsSome}
+use Rattle.std.proofs.Common.{◌≡◌, ◌⊎◌, ℕ, ◌≤◌, List, [], ◌++◌, eqb, Bool, true, false, Result, Ok, Err, Option, Some, None, refl, sym, ap, subst, ◌∙◌, inl, inr, arith}
+use Rattle.std.specs.Prelude.{IfSome, IfOk, IsSome}
 use Rattle.std.proofs.lemmas.Bool.{eqb-true}
 use Rattle.std.specs.Io.KnownBytes.{Appends}
 use Rattle.rtx_tree.specs.declared.function.Function.{Function}
@@ -18,10 +18,14 @@ use Rattle.asm_text.specs.Lines.{AllMatched}
 use Rattle.asm_text.specs.declared.code.Coded.{Coded}
 use Rattle.asm_text.specs.Code.{CodeComes}
 use Rattle.asm_text.proofs.CodeLaws.{one_code, code_coded, code_has}
-use Rattle.code_eval.specs.Eval.{eval_text}
+use Rattle.asm_text.specs.Same.{frame_size}
+use Rattle.code_eval.specs.Start.{stack_room}
+use Rattle.code_eval.specs.Eval.{eval_text, IsFair}
+use Rattle.code_eval.proofs.Lawful.{agree}
 use Rattle.asm_text.proofs.OneText.{one_coming_of}
 use Rattle.asm_text.proofs.LinesLaws.{input_of}
 use Rattle.asm_text.proofs.SameLaws.{input_does_same}
+use Rattle.asm_text.proofs.CodedSame.{coded_is_same}
 use Rattle.asm_text.proofs.Completes.{HasText, input_has}
 use Rattle.rtlc_words.specs.declared.command.Command.{Command}
 use Rattle.rtlc_words.specs.declared.command.Command.TheVariants as commands
@@ -118,6 +122,10 @@ one_answer words known input _ _ enough (Answers.spoken c o is comes) (Answers.s
 
 -- ---- what was written
 
+-- a frame fits in the stack where the locals do
+room_fits : (locals : ℕ) → locals ≤ stack_room → frame_size locals ≤ stack_room
+room_fits locals holds = omega (arith, holds)
+
 pub writes_lines : (words : List (List ℕ)) (input old new : Option (List ℕ)) → command_of words ≡ Some commands.Asm → Writes words nothing_known input old new → WritesLines input old new
 writes_lines words None old new is h = tt
 writes_lines words (Some bytes) old new is h =
@@ -127,16 +135,24 @@ pub writes_same : (input old new : Option (List ℕ)) → WritesLines input old 
 writes_same None old new h = tt
 writes_same (Some bytes) old new h = (h.0, h.1, h.2, input_does_same bytes h.2 h.0 h.1 h.3, h.4)
 
-told_outcomes : (bytes function : List ℕ) (steps : ℕ) (args text : List ℕ) (old new : Option (List ℕ)) (r : Result Coded Refusal) → CodeComes bytes function r → Ok text ≡ evaluated steps args r → Appends old new text →
-    WritesOutcomes (Some bytes) function steps args old new
-told_outcomes bytes function steps args text old new (Ok c) comes is appends = (c, code_coded bytes function c (Ok c) refl comes, subst (Appends old new) (let same : text ≡ eval_text c.function c.items steps args = cc in same) appends)
-told_outcomes bytes function steps args text old new (Err e) comes is appends = cc
+told_outcomes : (bytes function : List ℕ) (steps : ℕ) (args text : List ℕ) (old new : Option (List ℕ)) (r : Result Coded Refusal) → CodeComes bytes function r →
+    Ok text ≡ evaluated steps args r → IfOk r (λ c. IsFair c.function steps args) → Appends old new text → WritesOutcomes (Some bytes) function steps args old new
+told_outcomes bytes function steps args text old new (Ok c) comes is fair appends = let coded = code_coded bytes function c (Ok c) refl comes in (
+  c,
+  coded,
+  record {
+    fair = fair;
+    same = λ holds. agree c.function c.items steps args fair (frame_size c.function.locals) (coded_is_same bytes function c coded) (room_fits c.function.locals holds) holds;
+  },
+  subst (Appends old new) (let same : text ≡ eval_text c.function c.items steps args = cc in same) appends,
+)
+told_outcomes bytes function steps args text old new (Err e) comes is fair appends = cc
 
 pub writes_outcomes : (words : List (List ℕ)) (input old new : Option (List ℕ)) (function : List ℕ) (steps : ℕ) (args : List ℕ) → command_of words ≡ Some (commands.Eval function steps args) → Writes words nothing_known input old new →
     WritesOutcomes input function steps args old new
 writes_outcomes words None old new function steps args is h = tt
 writes_outcomes words (Some bytes) old new function steps args is h =
-    let x = eval_answer words nothing_known (Some bytes) function steps args (Ok h.0) is h.1 in told_outcomes bytes function steps args h.0 old new x.0 x.1 x.2 h.2
+    let x = eval_answer words nothing_known (Some bytes) function steps args (Ok h.0) is h.1 in told_outcomes bytes function steps args h.0 old new x.0 x.1 x.2 x.3 h.2
 
 told_text : (r : Result (List ℕ) ListRefusal) (text : List ℕ) → Ok text ≡ list_told r → r ≡ Ok text
 told_text (Ok other) text is = let same : other ≡ text = cc in ap (λ (t : List ℕ). Ok t) same

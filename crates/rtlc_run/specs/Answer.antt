@@ -1,5 +1,5 @@
 -- What the program answers. It is one answer for the words, the files and the bytes of the input: a text, or a refusal with its values.
-use Rattle.std.specs.Prelude.{◌≡◌, ◌≢◌, ◌<◌, ◌⊎◌, ℕ, length, List, [], ◌∷◌, codes, unwrap_or, Some, None, IsSome, Result, Ok, Err, IfSome, Bool, true, false, Vec}
+use Rattle.std.specs.Prelude.{◌≡◌, ◌≢◌, ◌<◌, ◌⊎◌, ℕ, length, List, [], ◌∷◌, codes, unwrap_or, Some, None, IsSome, Result, Ok, Err, IfSome, IfOk, Bool, true, false, Vec}
 use Rattle.std.specs.declared.option.Option.{Option}
 use Rattle.std.specs.declared.alloc.Global.{Global}
 use Rattle.std.specs.Io.KnownBytes.{Appends}
@@ -21,7 +21,7 @@ use Rattle.func_input.specs.Outcome.{Outcome}
 use Rattle.asm_text.specs.Compile.{InputComes}
 use Rattle.asm_text.specs.Code.{IsUnnamed, CodeComes}
 use Rattle.asm_text.specs.declared.code.Coded.{Coded}
-use Rattle.code_eval.specs.Eval.{eval_text}
+use Rattle.code_eval.specs.Eval.{eval_text, IsFair}
 use Rattle.recog_text.specs.Recog.{FunctionsCome}
 use Rattle.rtlc_words.specs.declared.command.Command.{Command}
 use Rattle.rtlc_words.specs.declared.command.Command.TheVariants as commands
@@ -48,9 +48,11 @@ abbrev pub evaluated : ℕ → List ℕ → Result Coded Refusal → Outcome
 evaluated steps args (Ok c) = Ok (eval_text c.function c.items steps args)
 evaluated steps args (Err e) = Err e
 
--- `eval` over the bytes of an input: the outcomes of the function with a name, and of its code
+-- `eval` over the bytes of an input: the outcomes of the function with a name, and of its code, where they are tried fairly
 abbrev pub EvalComes : List ℕ → List ℕ → ℕ → List ℕ → Outcome → Type 0
-EvalComes bytes function steps args outcome = (answer : Result Coded Refusal) × CodeComes bytes function answer × (outcome ≡ evaluated steps args answer)
+EvalComes bytes function steps args outcome =
+    (answer : Result Coded Refusal) × CodeComes bytes function answer × (outcome ≡ evaluated steps args answer) ×
+    IfOk answer (λ c. IsFair c.function steps args)
 
 -- `recog` over what is known of the files and of the input: the description first, and then what the functions of the input come to by its forms
 pub data RecogComes (files : Source) (input : Option (List ℕ)) (name : List ℕ) : Outcome → Type 0 where
@@ -98,6 +100,11 @@ abbrev pub IsMisused : Option Command → Option (List ℕ) → Type 0
 IsMisused None input = Unit {0}
 IsMisused (Some (commands.Eval function steps args)) input = IfSome input (λ bytes. IsUnnamed bytes function)
 IsMisused (Some _) input = ⊥
+
+-- what is known of the description before the input is read: it has come to its forms
+abbrev pub HasForms : Source → Option Command → Type 0
+HasForms files (Some (commands.Recog name)) = (forms : List Entry) × FormsCome files (described name) (Ok forms)
+HasForms files _ = Unit {0}
 
 -- the names that files may be asked for
 abbrev pub MayBeAsked : Source → Option Command → List (List ℕ) → Type 0

@@ -1,5 +1,5 @@
 -- What a run has written, said of the input and of the description.
-use Rattle.std.specs.Prelude.{◌≡◌, ◌⊎◌, ℕ, true, List, Ok, IfSome}
+use Rattle.std.specs.Prelude.{◌≡◌, ◌⊎◌, ◌≤◌, ℕ, true, List, Ok, IfSome}
 use Rattle.std.specs.declared.option.Option.{Option}
 use Rattle.std.specs.Io.KnownBytes.{Appends}
 use Rattle.rtx_tree.specs.declared.function.Function.{Function}
@@ -13,7 +13,8 @@ use Rattle.asm_text.specs.Lines.{IsAssembly, AllMatched}
 use Rattle.asm_text.specs.Same.{DoesSame}
 use Rattle.asm_text.specs.Code.{IsCoded, has_named}
 use Rattle.asm_text.specs.declared.code.Coded.{Coded}
-use Rattle.code_eval.specs.Eval.{eval_text}
+use Rattle.code_eval.specs.Start.{stack_room}
+use Rattle.code_eval.specs.Eval.{eval_text, IsFair, ComesToSame}
 
 -- the assembly of the input was written, and nothing else
 abbrev pub WritesLines : Option (List ℕ) → Option (List ℕ) → Option (List ℕ) → Type 0
@@ -23,10 +24,17 @@ WritesLines input old new = IfSome input (λ bytes. (functions : List Function) 
 abbrev pub WritesSame : Option (List ℕ) → Option (List ℕ) → Option (List ℕ) → Type 0
 WritesSame input old new = IfSome input (λ bytes. (functions : List Function) × IsInput bytes functions × (text : List ℕ) × DoesSame functions text × Appends old new text)
 
--- the outcomes of the function of the input with a name, and of the lines and labels that its part of the assembly spells, were written, and
--- nothing else
+-- The trial of a function and its code is fair, and where the locals fit in the stack and the function's outcome has a value, its lines
+-- and labels come to the same one.
+pub record IsTried (c : Coded) (steps : ℕ) (args : List ℕ) : Type 0 where
+  pub fair : IsFair c.function steps args
+  pub same : c.function.locals ≤ stack_room → ComesToSame c.function c.items steps args
+
+-- the outcomes of the function of the input with a name, and of the lines and labels that its part of the assembly spells, were
+-- written, and nothing else
 abbrev pub WritesOutcomes : Option (List ℕ) → List ℕ → ℕ → List ℕ → Option (List ℕ) → Option (List ℕ) → Type 0
-WritesOutcomes input function steps args old new = IfSome input (λ bytes. (c : Coded) × IsCoded bytes function c × Appends old new (eval_text c.function c.items steps args))
+WritesOutcomes input function steps args old new =
+    IfSome input (λ bytes. (c : Coded) × IsCoded bytes function c × IsTried c steps args × Appends old new (eval_text c.function c.items steps args))
 
 -- the list of a description was written, and nothing else
 abbrev pub WritesList : Source → List ℕ → Option (List ℕ) → Option (List ℕ) → Type 0

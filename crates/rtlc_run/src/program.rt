@@ -3,6 +3,7 @@ ghost use Rattle.std.specs.Prelude.{◌≡◌, ◌≢◌, ◌⊎◌, ℕ, Ok, Li
 ghost use Rattle.std.specs.Io.KnownBytes.{Appends, Consumes, IsAtEnd};
 ghost use Rattle.byte_edge.specs.Causes.{Rose};
 ghost use Rattle.rtx_tree.specs.declared.function.Function.{Function};
+ghost use Rattle.func_mean.specs.Run.{TakesEnough};
 ghost use Rattle.rv_text.specs.Body.{Spells};
 ghost use Rattle.rv_text.specs.declared.line.CodeItem.{CodeItem};
 ghost use Rattle.run_refusal.specs.Refusals.{has_values, line_of};
@@ -21,7 +22,7 @@ ghost use Rattle.rtlc_words.specs.Words as spoken;
 ghost use Rattle.rtlc_words.specs.Words.{words_of};
 ghost use Rattle.rtlc_run.specs.Answer as spec;
 ghost use Rattle.rtlc_run.specs.Written.{WritesLines, WritesSame, WritesList, WritesForms, WritesOutcomes, Completes, CompletesFor, CompletesBy, IsDone};
-ghost use Rattle.rtlc_run.specs.Answer.{EvalComes, CommandComes, Answers, InputRefused, IsOwn, IsMisused, reads_input, reads_files, Produces, IsKnownFor, MayBeAsked, Writes, WritesFront, IsRefused, Reports, HasCause, TellsCause, IsAnswered};
+ghost use Rattle.rtlc_run.specs.Answer.{EvalComes, CommandComes, Answers, InputRefused, HasForms, IsOwn, IsMisused, reads_input, reads_files, Produces, IsKnownFor, MayBeAsked, Writes, WritesFront, IsRefused, Reports, HasCause, TellsCause, IsAnswered};
 
 use asm_text::{assembly_of, code_of};
 use byte_edge::{Files, ReadAll, Sink, Source, read_all, write_all_of};
@@ -163,6 +164,8 @@ fn recognised<F: Files, S: Source>(
     ensures gives { (known : Known) → Agrees known (F.holds files.old) → Produces result (CommandComes known (S.left input.old) (commands.Recog name.now)) }
     ensures asked { (known : Known) → Agrees known (F.holds files.old) → GrewBy (AreNamed known (spec.described name.now)) (F.asked files.old) (F.asked files.new) }
     ensures own { IsOwn result }
+    ensures behind { result ≡ Err Refusal.ReadFault → ¬ Rose (F.fault_count files.old) (F.fault_count files.new) →
+        (known : Known) → Agrees known (F.holds files.old) → HasForms known (Some (commands.Recog name.now)) }
     ensures fault { result ≡ Err Refusal.ReadFault → Rose (S.fault_count input.old) (S.fault_count input.new) ⊎ Rose (F.fault_count files.old) (F.fault_count files.new) }
     ensures quiet { result ≢ Err Refusal.ReadFault → S.fault_count input.new ≡ S.fault_count input.old }
     ensures calm { result ≢ Err Refusal.ReadFault → F.fault_count files.new ≡ F.fault_count files.old }
@@ -182,6 +185,8 @@ fn produced<F: Files, S: Source>(
     ensures asked { (known : Known) → Agrees known (F.holds files.old) → GrewBy (MayBeAsked known (Some command)) (F.asked files.old) (F.asked files.new) }
     ensures unwritten { result ≢ Err Refusal.WriteFault }
     ensures usage { result ≡ Err Refusal.Usage → IsMisused (Some command) (S.left input.old) }
+    ensures behind { result ≡ Err Refusal.ReadFault → ¬ Rose (F.fault_count files.old) (F.fault_count files.new) →
+        (known : Known) → Agrees known (F.holds files.old) → HasForms known (Some command) }
     ensures fault { result ≡ Err Refusal.ReadFault → Rose (S.fault_count input.old) (S.fault_count input.new) ⊎ Rose (F.fault_count files.old) (F.fault_count files.new) }
     ensures quiet { result ≢ Err Refusal.ReadFault → S.fault_count input.new ≡ S.fault_count input.old }
     ensures calm { result ≢ Err Refusal.ReadFault → F.fault_count files.new ≡ F.fault_count files.old }
@@ -210,6 +215,8 @@ fn answered<F: Files, S: Source>(
     ensures gives { (known : Known) → Agrees known (F.holds files.old) → Produces result (Answers (words_of words.now) known (S.left input.old)) }
     ensures usage { result ≡ Err Refusal.Usage → IsMisused (spoken.command_of (words_of words.now)) (S.left input.old) }
     ensures unwritten { result ≢ Err Refusal.WriteFault }
+    ensures behind { result ≡ Err Refusal.ReadFault → ¬ Rose (F.fault_count files.old) (F.fault_count files.new) →
+        (known : Known) → Agrees known (F.holds files.old) → HasForms known (spoken.command_of (words_of words.now)) }
     ensures asked { (known : Known) → Agrees known (F.holds files.old) → GrewBy (MayBeAsked known (spoken.command_of (words_of words.now))) (F.asked files.old) (F.asked files.new) }
     ensures fault { result ≡ Err Refusal.ReadFault → Rose (S.fault_count input.old) (S.fault_count input.new) ⊎ Rose (F.fault_count files.old) (F.fault_count files.new) }
     ensures quiet { result ≢ Err Refusal.ReadFault → S.fault_count input.new ≡ S.fault_count input.old }
@@ -236,10 +243,11 @@ fn attempt<F: Files, S: Source, K: Sink>(
     ensures front { result ≡ Err Refusal.WriteFault → (known : Known) → Agrees known (F.holds files.old) → WritesFront (words_of words.now) known (S.left input.old) (K.taken output.old) (K.taken output.new) }
     ensures usage { result ≡ Err Refusal.Usage → IsMisused (spoken.command_of (words_of words.now)) (S.left input.old) }
     ensures nothing { OnErr result (result ≢ Err Refusal.WriteFault → K.taken output.new ≡ K.taken output.old) }
+    ensures behind { result ≡ Err Refusal.ReadFault → ¬ Rose (F.fault_count files.old) (F.fault_count files.new) →
+        (known : Known) → Agrees known (F.holds files.old) → HasForms known (spoken.command_of (words_of words.now)) }
     ensures asked { (known : Known) → Agrees known (F.holds files.old) → GrewBy (MayBeAsked known (spoken.command_of (words_of words.now))) (F.asked files.old) (F.asked files.new) }
     ensures files { reads_files (spoken.command_of (words_of words.now)) ≡ false → files.new ≡ files.old }
     ensures input { reads_input (spoken.command_of (words_of words.now)) ≡ false → input.new ≡ input.old }
-
     ensures fault { result ≡ Err Refusal.ReadFault → Rose (S.fault_count input.old) (S.fault_count input.new) ⊎ Rose (F.fault_count files.old) (F.fault_count files.new) }
     ensures quiet { result ≢ Err Refusal.ReadFault → S.fault_count input.new ≡ S.fault_count input.old }
     ensures calm { result ≢ Err Refusal.ReadFault → F.fault_count files.new ≡ F.fault_count files.old }
@@ -341,8 +349,12 @@ pub fn run<F: Files, S: Source, K: Sink, E: Sink>(
     ensures spelled { (text : List ℕ) (a b : List CodeItem) → Spells text a → Spells text b → a ≡ b }
     ensures parts { (functions : List Function) (text : List ℕ) (a b : List (List CodeItem)) → AreParts functions text a → AreParts functions text b → a ≡ b }
 
-    // `eval`: the text of status 0 has the outcomes that are defined for a function, over the lines and labels that its part of the assembly of
-    // the input spells; and a function of an input of which a form matches each instruction has them.
+    // An endless run takes jumps or makes calls without end, and so asks an endless run of the lines.
+    ensures endless { TakesEnough }
+
+    // `eval`: the text of status 0 has the outcomes that are defined for a function, over the lines and labels that its part of the
+    // assembly of the input spells; it is tried fairly, so that where its outcome has a value its lines come to the same one. And a
+    // function of an input of which a form matches each instruction has them.
     ensures evaluates { (function : List ℕ) (steps : ℕ) (args : List ℕ) →
         spoken.command_of (words_of words.now) ≡ Some (commands.Eval function steps args) → result ≡ 0 →
         WritesOutcomes (S.left input.old) function steps args (K.taken output.old) (K.taken output.new) }
@@ -383,6 +395,9 @@ pub fn run<F: Files, S: Source, K: Sink, E: Sink>(
     ensures cause { result ≢ 0 → (known : Known) → Agrees known (F.holds files.old) → HasCause (words_of words.now) known (S.left input.old) result }
     ensures read { result ≡ 6 → Rose (S.fault_count input.old) (S.fault_count input.new) ⊎ Rose (F.fault_count files.old) (F.fault_count files.new) }
     ensures write { result ≡ 7 → Rose (K.fault_count output.old) (K.fault_count output.new) }
+    // A fault of the input comes behind all that refuses a description.
+    ensures behind { result ≡ 6 → ¬ Rose (F.fault_count files.old) (F.fault_count files.new) →
+        (known : Known) → Agrees known (F.holds files.old) → HasForms known (spoken.command_of (words_of words.now)) }
 
     // What is written: the text, a front of it after a write fault, and else nothing.
     ensures front { result ≡ 7 → (known : Known) → Agrees known (F.holds files.old) → WritesFront (words_of words.now) known (S.left input.old) (K.taken output.old) (K.taken output.new) }

@@ -1,7 +1,9 @@
+use Rattle.std.proofs.Common.{ap, Err}
 use Rattle.std.proofs.lemmas.Result.{err_from_is_err_and}
 use Rattle.rtlc_words.specs.Words.{words_of}
+use Rattle.run_refusal.specs.declared.refusal.Refusal.{Refusal}
 use Rattle.run_refusal.specs.declared.refusal.Refusal.TheVariants as refusal
-use Rattle.rtlc_run.proofs.Answered.{err_on}
+use Rattle.rtlc_run.proofs.Answered.{err_on, err_back}
 use Rattle.rtlc_run.proofs.Commands.{refused_has_cause}
 use Rattle.rtlc_run.proofs.program.attempt.Goals as goal
 
@@ -25,3 +27,8 @@ pub returns-in_err-text-clause-quiet : goal.returns-in_err-text-clause-quiet
 returns-in_err-text-clause-quiet g c =
     let p = err_from_is_err_and c.from_residual.result c.from_residual.ensures.1 in
     λ other. c.in_err-text.ensures.quiet (λ is. other (err_on c.from_residual.result p.0 c.in_err-text.field-0.0 refusal.ReadFault p.1 p.2 is))
+
+pub returns-in_err-text-clause-behind : goal.returns-in_err-text-clause-behind
+returns-in_err-text-clause-behind g c =
+    let p = err_from_is_err_and c.from_residual.result c.from_residual.ensures.1 in
+    λ read. c.in_err-text.ensures.behind (ap (λ (e : Refusal). Err e) (err_back c.from_residual.result p.0 c.in_err-text.field-0.0 refusal.ReadFault p.1 p.2 read))

@@ -1,5 +1,8 @@
-use Rattle.std.proofs.Common.{inl, inr}
+use Rattle.std.proofs.Common.{ap, Err}
 use Rattle.std.proofs.lemmas.Result.{err_from_is_err_and}
+use Rattle.run_refusal.specs.declared.refusal.Refusal.{Refusal}
+use Rattle.run_refusal.specs.declared.refusal.Refusal.TheVariants as refusal
+use Rattle.rtlc_run.proofs.Answered.{err_back}
 use Rattle.rtlc_run.proofs.Commands.{nothing_known, nothing_agrees}
 use Rattle.rtlc_run.proofs.Recognised.{forms_refuse, forms_are_own}
 use Rattle.rtlc_run.proofs.program.recognised.Goals as goal
@@ -16,3 +19,11 @@ returns-in_err-description-clause-own g c =
 
 pub returns-clause-gives : goal.returns-clause-gives
 returns-clause-gives g c = λ known agrees. c.recognised_by.ensures.gives known c.args.name.now (rw c.described.ensures at (c.in_ok-description.ensures.gives known agrees))
+
+pub returns-in_err-description-clause-behind : goal.returns-in_err-description-clause-behind
+returns-in_err-description-clause-behind g c =
+    let p = err_from_is_err_and c.from_residual.result c.from_residual.ensures.1 in
+    λ read calm known agrees. absurd (calm (c.in_err-description.ensures.fault (ap (λ (e : Refusal). Err e) (err_back c.from_residual.result p.0 c.in_err-description.field-0.0 refusal.ReadFault p.1 p.2 read))))
+
+pub returns-clause-behind : goal.returns-clause-behind
+returns-clause-behind g c = λ read calm known agrees. (c.in_ok-description.description, rw c.described.ensures at (c.in_ok-description.ensures.gives known agrees))

@@ -1,10 +1,11 @@
 use Rattle.std.proofs.Common.{◌≡◌, ◌⊎◌, ⊎_elim, sym, ap, Err}
 use Rattle.run_refusal.specs.declared.refusal.Refusal.{Refusal}
 use Rattle.run_refusal.specs.declared.refusal.Refusal.TheVariants as refusal
+use Rattle.func_mean.proofs.Law.{takes_enough}
 use Rattle.rv_text.proofs.SpelledOnce.{spells_one}
 use Rattle.asm_text.proofs.Parts.{one_cut}
 use Rattle.rtlc_words.specs.Words.{words_of}
-use Rattle.rtlc_run.proofs.Answered.{answered_err, err_of, told_cause, read_status}
+use Rattle.rtlc_run.proofs.Answered.{answered_err, err_of, told_cause, read_status, read_told}
 use Rattle.rtlc_run.proofs.Commands.{nothing_known, nothing_agrees}
 use Rattle.rtlc_run.proofs.Runs.{one_answer, writes_lines, writes_same, writes_outcomes, writes_list, writes_forms_of, completes, tried, listed, recognised}
 use Rattle.rtlc_run.proofs.Statuses.{status_is}
@@ -30,6 +31,12 @@ returns-in-Ok-clause-parts g c = λ functions text a b p q. one_cut functions te
 
 pub returns-in-Err-clause-parts : goal.returns-in-Err-clause-parts
 returns-in-Err-clause-parts g c = λ functions text a b p q. one_cut functions text a b p q
+
+pub returns-in-Ok-clause-endless : goal.returns-in-Ok-clause-endless
+returns-in-Ok-clause-endless g c = takes_enough
+
+pub returns-in-Err-clause-endless : goal.returns-in-Err-clause-endless
+returns-in-Err-clause-endless g c = takes_enough
 
 pub returns-in-Ok-clause-lines : goal.returns-in-Ok-clause-lines
 returns-in-Ok-clause-lines g c = λ is zero.
@@ -116,3 +123,10 @@ returns-in-Err-clause-answer g c = λ known agrees calm_files calm_in calm_out o
 pub returns-in-Err-clause-quiet : goal.returns-in-Err-clause-quiet
 returns-in-Err-clause-quiet g c = λ other. c.in-Err.ensures.quiet (λ is. other (
     read_status c.in-Err.refusal c.report.ensures.told c.report.result c.report.ensures.status_is c.report.ensures.which (err_of c.in-Err.refusal refusal.ReadFault is)))
+
+pub returns-in-Ok-clause-behind : goal.returns-in-Ok-clause-behind
+returns-in-Ok-clause-behind g c = λ six. absurd (let none : ⊥ = cc in none)
+
+pub returns-in-Err-clause-behind : goal.returns-in-Err-clause-behind
+returns-in-Err-clause-behind g c = λ six. c.in-Err.ensures.behind (
+    ap (λ (e : Refusal). Err e) (read_told c.in-Err.refusal c.report.ensures.told c.report.result c.report.ensures.status_is c.report.ensures.which six))

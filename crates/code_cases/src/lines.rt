@@ -4,7 +4,7 @@ use crate::parts::{halves, numbers};
 use anyhow::{Result, bail};
 use plain_data::Items;
 use rtx_tree::{Name, SymbolAt, World};
-use rv_line::{RvState, step_line};
+use rv_line::{LineEnd, RvState, step_line};
 use rv_text::{Line, parse_line, print_line};
 use std::alloc::Global;
 use text_cases::push_shown;
@@ -72,10 +72,11 @@ fn machine(alloc: Global, values: &[u64]) -> Result<RvState> {
         pairs.push(address)?;
         pairs.push(0x81)?;
     }
+    let memory = memory_of(alloc, pairs.as_slice())?;
     let mut state = RvState {
         regs: [None; 32],
         entry_ra: 64,
-        memory: memory_of(alloc, pairs.as_slice())?,
+        memory,
     };
     state.set_register(1, 64);
     state.set_register(2, 4096);
@@ -86,18 +87,20 @@ fn machine(alloc: Global, values: &[u64]) -> Result<RvState> {
     Ok(state)
 }
 
-/// Appends how a line ends, and what `a0` holds then, as a signed number.
-pub fn tell_step(alloc: Global, input: &[u8], out: &mut Vec<u8>) -> Result<()> {
-    let (text, values) = halves(input)?;
-    let mut state = machine(alloc, numbers(alloc, values)?.as_slice())?;
-    let end = step_line(
-        &line_in(alloc, text.as_bytes())?,
-        &mut state,
-        &world(alloc)?,
-    );
-    let shown = match state.register(10) {
+fn show_step(alloc: Global, end: LineEnd, a0: Option<u64>, out: &mut Vec<u8>) -> Result<()> {
+    let shown = match a0 {
         Some(value) => format!(in alloc; "{end:?} {}", value.cast_signed())?,
         None => format!(in alloc; "{end:?} -")?,
     };
     push_shown(shown.as_str(), out)
+}
+
+/// Appends how a line ends, and what `a0` holds then, as a signed number.
+pub fn tell_step(alloc: Global, input: &[u8], out: &mut Vec<u8>) -> Result<()> {
+    let (text, values) = halves(input)?;
+    let line = line_in(alloc, text.as_bytes())?;
+    let world = world(alloc)?;
+    let mut state = machine(alloc, numbers(alloc, values)?.as_slice())?;
+    let end = step_line(&line, &mut state, &world);
+    show_step(alloc, end, state.register(10), out)
 }

@@ -1,14 +1,15 @@
 //! Registers: uses, liveness, conflicts, homes and layouts.
 use crate::parts::{function_in, halves, numbers};
 use anyhow::{Result, bail};
-use assign::{Home, assign, layout};
+use assign::{Home, Homes, Layout, assign, layout};
 use lisp_read::{Tree, atom, items};
 use live::liveness;
 use live_rows::{Node, live_rows};
 use plain_data::Items;
 use reg_conflicts::{conflict, conflict_rows};
-use reg_rows::has;
+use reg_rows::{RegRow, has};
 use reg_uses::{insn_defines, insn_uses, is_return, return_uses};
+use rtx_tree::{Insn, RegSet};
 use rv_regs::{allocation_order, kept_registers, saved_registers};
 use std::alloc::Global;
 use std::str;
@@ -36,22 +37,26 @@ fn show(alloc: Global, regs: &[u32], out: &mut Vec<u8>) -> Result<()> {
     Ok(())
 }
 
+fn show_insn(alloc: Global, insn: &Insn, out: &mut Vec<u8>) -> Result<()> {
+    push_apart(
+        if is_return(insn) {
+            "return uses"
+        } else {
+            "uses"
+        },
+        out,
+    )?;
+    show(alloc, insn_uses(alloc, insn)?.as_slice(), out)?;
+    push_apart("defines", out)?;
+    show(alloc, insn_defines(alloc, insn)?.as_slice(), out)?;
+    push_shown(";", out)
+}
+
 /// Appends the registers that each instruction of a chain uses and defines, and what a return uses.
 fn tell_uses(alloc: Global, input: &[u8], out: &mut Vec<u8>) -> Result<()> {
     let f = function_in(alloc, input)?;
     for insn in f.insns.as_slice() {
-        push_apart(
-            if is_return(insn) {
-                "return uses"
-            } else {
-                "uses"
-            },
-            out,
-        )?;
-        show(alloc, insn_uses(alloc, insn)?.as_slice(), out)?;
-        push_apart("defines", out)?;
-        show(alloc, insn_defines(alloc, insn)?.as_slice(), out)?;
-        push_shown(";", out)?;
+        show_insn(alloc, insn, out)?;
     }
     push_apart("at the end", out)?;
     show(alloc, return_uses(alloc, &f)?.as_slice(), out)
@@ -61,15 +66,19 @@ fn tell_uses(alloc: Global, input: &[u8], out: &mut Vec<u8>) -> Result<()> {
 fn tell_live(alloc: Global, input: &[u8], out: &mut Vec<u8>) -> Result<()> {
     let f = function_in(alloc, input)?;
     for set in liveness(alloc, &f)?.as_slice() {
-        push_apart("live", out)?;
-        for reg in 0..96 {
-            if set.contains(reg) {
-                show(alloc, &[reg], out)?;
-            }
-        }
-        push_shown(";", out)?;
+        show_set(alloc, set, out)?;
     }
     Ok(())
+}
+
+fn show_set(alloc: Global, set: &RegSet, out: &mut Vec<u8>) -> Result<()> {
+    push_apart("live", out)?;
+    for reg in 0..96 {
+        if set.contains(reg) {
+            show(alloc, &[reg], out)?;
+        }
+    }
+    push_shown(";", out)
 }
 
 /// The numbers of some atoms.
@@ -113,15 +122,19 @@ fn tell_rows(alloc: Global, input: &[u8], out: &mut Vec<u8>) -> Result<()> {
     }
     let rows = live_rows(alloc, nodes.as_slice())?;
     for at in 0..nodes.len() {
-        push_apart("live", out)?;
-        for reg in 0..96 {
-            if has(rows.as_slice(), at, reg) {
-                show(alloc, &[reg], out)?;
-            }
-        }
-        push_shown(";", out)?;
+        show_row(alloc, rows.as_slice(), at, out)?;
     }
     Ok(())
+}
+
+fn show_row(alloc: Global, rows: &[RegRow], at: usize, out: &mut Vec<u8>) -> Result<()> {
+    push_apart("live", out)?;
+    for reg in 0..96 {
+        if has(rows, at, reg) {
+            show(alloc, &[reg], out)?;
+        }
+    }
+    push_shown(";", out)
 }
 
 /// Appends whether the registers of each pair conflict in a function.
@@ -130,12 +143,15 @@ fn tell_conflicts(alloc: Global, input: &[u8], out: &mut Vec<u8>) -> Result<()> 
     let f = function_in(alloc, chain.as_bytes())?;
     let live = liveness(alloc, &f)?;
     let rows = conflict_rows(alloc, &f, &live, 2)?;
-    let pairs = numbers(alloc, pairs)?;
+    show_pairs(rows.as_slice(), numbers(alloc, pairs)?.as_slice(), out)
+}
+
+fn show_pairs(rows: &[RegRow], pairs: &[u64], out: &mut Vec<u8>) -> Result<()> {
     for pair in pairs.chunks(2) {
         let [x, y] = pair else {
             break;
         };
-        let is = conflict(rows.as_slice(), u32::try_from(*x)?, u32::try_from(*y)?);
+        let is = conflict(rows, u32::try_from(*x)?, u32::try_from(*y)?);
         push_apart(if is { "yes" } else { "no" }, out)?;
     }
     Ok(())
@@ -147,13 +163,22 @@ fn tell_homes(alloc: Global, input: &[u8], out: &mut Vec<u8>) -> Result<()> {
     let f = function_in(alloc, input)?;
     let live = liveness(alloc, &f)?;
     let homes = assign(alloc, &f, &live)?;
+    show_homes(alloc, &homes, out)?;
+    let frame = layout(alloc, &f, &homes)?;
+    show_frame(alloc, &frame, out)
+}
+
+fn show_homes(alloc: Global, homes: &Homes, out: &mut Vec<u8>) -> Result<()> {
     for home in homes.as_slice() {
         match home.home {
             Home::Hard { reg } => push_apart(format!(in alloc; "{reg}")?.as_str(), out)?,
             Home::Slot => push_apart("slot", out)?,
         }
     }
-    let frame = layout(alloc, &f, &homes)?;
+    Ok(())
+}
+
+fn show_frame(alloc: Global, frame: &Layout, out: &mut Vec<u8>) -> Result<()> {
     push_shown(format!(in alloc; "; {} bytes;", frame.size)?.as_str(), out)?;
     for place in frame.saved.as_slice() {
         push_shown(

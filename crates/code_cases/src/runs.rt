@@ -39,13 +39,14 @@ fn start(alloc: Global) -> Result<Start> {
         pairs.push(address)?;
         pairs.push(0)?;
     }
+    let memory = memory_of(alloc, pairs.as_slice())?;
     Ok(Start {
         args: [5, 0, 0, 0, 0, 0, 0, 0],
         sp: 4112,
         vars: 4112,
         ra: 64,
         saved: [0; 12],
-        memory: memory_of(alloc, pairs.as_slice())?,
+        memory,
         visible,
     })
 }
@@ -73,27 +74,23 @@ fn show_calls(alloc: Global, calls: &CodeCalls, out: &mut Vec<u8>) -> Result<()>
     Ok(())
 }
 
-/// Appends what a run of so many lines comes to: what it returned, what it kept and the memory then, and each call with its first
-/// argument and the memory then.
-pub fn tell_run(alloc: Global, input: &[u8], out: &mut Vec<u8>) -> Result<()> {
-    let (steps, text) = halves(input)?;
-    let items = items(alloc, text)?;
+/// What a run of so many lines comes to.
+fn outcome_of(alloc: Global, items: &[CodeItem], steps: u64) -> Result<CodeOutcome> {
+    let start = start(alloc)?;
     let world = answering_world(alloc)?;
-    match run_lines(
-        alloc,
-        items.as_slice(),
-        &start(alloc)?,
-        &world,
-        number(steps)?,
-    )? {
+    Ok(run_lines(alloc, items, &start, &world, steps)?)
+}
+
+fn show_outcome(alloc: Global, outcome: &CodeOutcome, out: &mut Vec<u8>) -> Result<()> {
+    match outcome {
         CodeOutcome::Stuck => push_shown("stuck", out),
         CodeOutcome::Running { calls } => {
             push_shown("running", out)?;
-            show_calls(alloc, &calls, out)
+            show_calls(alloc, calls, out)
         }
         CodeOutcome::Asked { calls } => {
             push_shown("asked", out)?;
-            show_calls(alloc, &calls, out)
+            show_calls(alloc, calls, out)
         }
         CodeOutcome::Returned {
             value,
@@ -104,8 +101,17 @@ pub fn tell_run(alloc: Global, input: &[u8], out: &mut Vec<u8>) -> Result<()> {
             let saved = kept.saved == [Some(0); 12];
             let shown = format!(in alloc; "{value:?} {:?} {saved}", kept.sp)?;
             push_shown(shown.as_str(), out)?;
-            show_memory(alloc, &memory, out)?;
-            show_calls(alloc, &calls, out)
+            show_memory(alloc, memory, out)?;
+            show_calls(alloc, calls, out)
         }
     }
+}
+
+/// Appends what a run of so many lines comes to: what it returned, what it kept and the memory then, and each call with its first
+/// argument and the memory then.
+pub fn tell_run(alloc: Global, input: &[u8], out: &mut Vec<u8>) -> Result<()> {
+    let (steps, text) = halves(input)?;
+    let items = items(alloc, text)?;
+    let outcome = outcome_of(alloc, items.as_slice(), number(steps)?)?;
+    show_outcome(alloc, &outcome, out)
 }

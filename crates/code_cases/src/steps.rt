@@ -1,4 +1,6 @@
 //! Values of expressions, and steps and runs of functions.
+ghost use Rattle.std.specs.Prelude.{◌<◌, ◌^◌, length};
+
 use crate::memory::memory_of;
 use crate::parts::{function_in, halves, number, numbers};
 use anyhow::{Result, bail};
@@ -6,8 +8,8 @@ use bits64::Width;
 use func_mean::{Outcome, run_function};
 use lisp_read::rtx_of_tree;
 use plain_data::Items;
-use rtl_step::{Known, Regs, State, step_insn, value, width_of};
-use rtx_tree::{Memories, Mode, Name, Reply, Start, SymbolAt, World};
+use rtl_step::{Known, Regs, State, StepEnd, step_insn, value, width_of};
+use rtx_tree::{Function, Memories, Mode, Name, Reply, Start, SymbolAt, World};
 use std::alloc::Global;
 use std::str;
 use text_cases::{push_shown, tree_in};
@@ -60,30 +62,53 @@ fn world(alloc: Global, values: &[u64]) -> Result<World> {
     Ok(World { symbols, replies })
 }
 
-/// Appends how one step of an instruction behind a label and a barrier ends, what is next, and what a0, a1 and a2 are then. Before it
-/// a1 is 3 and a2 is 4, and four bytes of memory stand from 8 on; the function returns SI.
-pub fn tell_step(alloc: Global, input: &[u8], out: &mut Vec<u8>) -> Result<()> {
+/// The text of a function with an instruction behind a label and a barrier, which returns SI.
+fn text_of(alloc: Global, insn: &[u8]) -> Result<Vec<u8>> {
     let mut text = Vec::from_slice(
         alloc,
         b"(function \"f\" (crtl (return_rtx (reg:SI a0))) (insn-chain (clabel 9) (cbarrier) ",
     )?;
-    text.extend_from_slice(input)?;
+    text.extend_from_slice(insn)?;
     text.extend_from_slice(b"))")?;
-    let f = function_in(alloc, text.as_slice())?;
-    let mut state = State {
+    Ok(text)
+}
+
+/// A state in which a1 is 3 and a2 is 4, and four bytes of memory stand from 8 on.
+fn fresh_state(alloc: Global) -> Result<State> {
+    let regs = registers(alloc, "3 4")?;
+    let memory = memory_of(alloc, [8, 1, 9, 1, 10, 1, 11, 1].as_slice())?;
+    Ok(State {
         next: 0,
-        regs: registers(alloc, "3 4")?,
-        memory: memory_of(alloc, [8, 1, 9, 1, 10, 1, 11, 1].as_slice())?,
+        regs,
+        memory,
         visible: Items::new(alloc),
         calls: Items::new(alloc),
-    };
-    let end = step_insn(alloc, &f, &mut state, &world(alloc, &[7])?)?;
-    push_shown(format!(in alloc; "{end:?} {}", state.next)?.as_str(), out)?;
+    })
+}
+
+/// How a step of a function ends where a call is answered by 7.
+fn stepped(alloc: Global, f: &Function, state: &mut State) -> Result<StepEnd>
+    requires { length f.now.insns < 2 ^ 32 }
+{
+    let world = world(alloc, &[7])?;
+    Ok(step_insn(alloc, f, state, &world)?)
+}
+
+fn show_registers(alloc: Global, regs: &Regs, out: &mut Vec<u8>) -> Result<()> {
     for reg in 10..13 {
-        let value = state.regs.value(reg, Width::W64);
+        let value = regs.value(reg, Width::W64);
         push_shown(format!(in alloc; " {value:?}")?.as_str(), out)?;
     }
     Ok(())
+}
+
+/// Appends how one step of an instruction behind a label and a barrier ends, what is next, and what a0, a1 and a2 are then.
+pub fn tell_step(alloc: Global, input: &[u8], out: &mut Vec<u8>) -> Result<()> {
+    let f = function_in(alloc, text_of(alloc, input)?.as_slice())?;
+    let mut state = fresh_state(alloc)?;
+    let end = stepped(alloc, &f, &mut state)?;
+    push_shown(format!(in alloc; "{end:?} {}", state.next)?.as_str(), out)?;
+    show_registers(alloc, &state.regs, out)
 }
 
 fn start(alloc: Global) -> Start {
@@ -96,6 +121,15 @@ fn start(alloc: Global) -> Start {
         memory: Memories::new(alloc),
         visible: Items::new(alloc),
     }
+}
+
+/// What so many steps of a function come to, by these replies.
+fn outcome_of(alloc: Global, f: &Function, replies: &[u64], steps: u64) -> Result<Outcome>
+    requires { length f.now.insns < 2 ^ 32 }
+{
+    let world = world(alloc, replies)?;
+    let start = start(alloc);
+    Ok(run_function(alloc, f, &start, &world, steps)?)
 }
 
 fn outcome_text(alloc: Global, outcome: &Outcome) -> Result<String> {
@@ -115,8 +149,6 @@ pub fn tell_run(alloc: Global, given: &[u8], input: &[u8], out: &mut Vec<u8>) ->
     let [steps, replies @ ..] = words.as_slice() else {
         bail!("no number of steps");
     };
-    let world = world(alloc, replies)?;
-    let start = start(alloc);
-    let outcome = run_function(alloc, &f, &start, &world, *steps)?;
+    let outcome = outcome_of(alloc, &f, replies, *steps)?;
     push_shown(outcome_text(alloc, &outcome)?.as_str(), out)
 }

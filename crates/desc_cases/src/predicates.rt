@@ -74,12 +74,25 @@ pub fn tell_held(alloc: Global, given: &[u8], input: &[u8], out: &mut Vec<u8>) -
     let mut rows = TestRows::new(alloc);
     rows.push(alloc, &test)?;
     let root = rows.push(alloc, &test)?;
+    let operands = operands(alloc)?;
     for mode in MODES {
-        push_shown("/", out)?;
-        for (letter, operand) in operands(alloc)?.iter() {
-            if rows.holds(root, &preds, operand, mode) {
-                push_shown(letter, out)?;
-            }
+        show_held(&rows, root, &preds, operands.as_slice(), mode, out)?;
+    }
+    Ok(())
+}
+
+fn show_held(
+    rows: &TestRows,
+    root: usize,
+    preds: &PredTable,
+    operands: &[(&'static str, Rtx)],
+    mode: Mode,
+    out: &mut Vec<u8>,
+) -> Result<()> {
+    push_shown("/", out)?;
+    for (letter, operand) in operands {
+        if rows.holds(root, preds, operand, mode) {
+            push_shown(letter, out)?;
         }
     }
     Ok(())
@@ -89,12 +102,24 @@ pub fn tell_held(alloc: Global, given: &[u8], input: &[u8], out: &mut Vec<u8>) -
 pub fn tell_accepted(alloc: Global, given: &[u8], input: &[u8], out: &mut Vec<u8>) -> Result<()> {
     let preds = PredTable::of(alloc, &forms_in(alloc, given)?)?;
     let name = Name::of(alloc, input)?;
+    let operands = operands(alloc)?;
     for mode in MODES {
-        push_shown("/", out)?;
-        for (letter, operand) in operands(alloc)?.iter() {
-            if preds.holds(&name, operand, mode) {
-                push_shown(letter, out)?;
-            }
+        show_accepted(&preds, &name, operands.as_slice(), mode, out)?;
+    }
+    Ok(())
+}
+
+fn show_accepted(
+    preds: &PredTable,
+    name: &Name,
+    operands: &[(&'static str, Rtx)],
+    mode: Mode,
+    out: &mut Vec<u8>,
+) -> Result<()> {
+    push_shown("/", out)?;
+    for (letter, operand) in operands {
+        if preds.holds(name, operand, mode) {
+            push_shown(letter, out)?;
         }
     }
     Ok(())

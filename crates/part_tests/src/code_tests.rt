@@ -100,7 +100,7 @@ fn sources_that_no_text_writes(rt: HostRuntime) -> Result<(), Fail> {
     sources.push(Rtx::of_one(alloc, Code::MatchOperand, Mode::DI, reg(alloc, 65))?)?;
     sources.push(reg(alloc, 33))?;
     sources.push(empty)?;
-    while let Some(source) = sources.pop() {
+    for source in sources.into_vec() {
         assert_eq!(rt; rule(alloc, Kind::Plain, set(alloc, source)?)?, 4);
     }
     Ok(())

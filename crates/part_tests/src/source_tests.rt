@@ -1,7 +1,17 @@
 //! Files that fail, and one that is too long.
 use byte_edge::{ByteFiles, Files};
+use lisp_read::Trees;
 use md_source::{SourceRefusal, gather};
 use std::test::Fail;
+
+/// How many trees there are; none after a fault, and 0 for any other refusal.
+fn count_of(gathered: &Result<Trees, SourceRefusal>) -> Option<usize> {
+    match gathered {
+        Ok(trees) => Some(trees.len()),
+        Err(SourceRefusal::ReadFault) => None,
+        Err(_) => Some(0),
+    }
+}
 
 #[test]
 fn files_that_fail(rt: HostRuntime) -> Result<(), Fail> {
@@ -11,12 +21,8 @@ fn files_that_fail(rt: HostRuntime) -> Result<(), Fail> {
         let mut files = ByteFiles::new(alloc, &[failing])?;
         files.put_file(b"a", b"(x) (include \"b\") (z)")?;
         files.put_file(b"b", b"(y)")?;
-        let count = match gather(alloc, &mut files, b"a") {
-            Ok(trees) => Some(trees.len()),
-            Err(SourceRefusal::ReadFault) => None,
-            Err(_) => Some(0),
-        };
-        assert_eq!(rt; count, want);
+        let gathered = gather(alloc, &mut files, b"a");
+        assert_eq!(rt; count_of(&gathered), want);
         assert_eq!(rt; files.faults(), faults);
     }
     Ok(())

@@ -2,32 +2,32 @@
 use crate::iterators::constants_in;
 use anyhow::{Result, bail};
 use c_cond::{CondRefusal, parse_cond, parse_prep, parse_test};
-use c_words::Head;
+use c_words::CondHead;
 use std::alloc::Global;
 use std::str;
 use text_cases::{push_apart, push_shown};
 
 /// A head in few letters.
-fn label(alloc: Global, head: &Head) -> Result<String> {
+fn label(alloc: Global, head: &CondHead) -> Result<String> {
     let text = match head {
-        Head::Number(number) => format!(in alloc; "{number}")?,
-        Head::Operand(number) => format!(in alloc; "%{number}")?,
-        Head::Window(number) => format!(in alloc; "@{number}")?,
-        Head::Mode(mode) => format!(in alloc; "{mode:?}")?,
-        Head::CodeIs { code, equal } => format!(in alloc; "{code:?}:{equal}")?,
-        Head::ModeIs { mode, equal } => format!(in alloc; "{mode:?}:{equal}")?,
-        Head::Unary(operator) => format!(in alloc; "{operator:?}")?,
-        Head::Binary(operator) => format!(in alloc; "{operator:?}")?,
-        Head::Call(call) => format!(in alloc; "{call:?}")?,
-        Head::Predicate(name) => format!(in alloc; "'{}'", str::from_utf8(name.bytes())?)?,
-        Head::Assign(number) => format!(in alloc; "%{number}=")?,
+        CondHead::Number(number) => format!(in alloc; "{number}")?,
+        CondHead::Operand(number) => format!(in alloc; "%{number}")?,
+        CondHead::Window(number) => format!(in alloc; "@{number}")?,
+        CondHead::Mode(mode) => format!(in alloc; "{mode:?}")?,
+        CondHead::CodeIs { code, equal } => format!(in alloc; "{code:?}:{equal}")?,
+        CondHead::ModeIs { mode, equal } => format!(in alloc; "{mode:?}:{equal}")?,
+        CondHead::Unary(operator) => format!(in alloc; "{operator:?}")?,
+        CondHead::Binary(operator) => format!(in alloc; "{operator:?}")?,
+        CondHead::Call(call) => format!(in alloc; "{call:?}")?,
+        CondHead::Predicate(name) => format!(in alloc; "'{}'", str::from_utf8(name.bytes())?)?,
+        CondHead::Assign(number) => format!(in alloc; "%{number}=")?,
         _ => format!(in alloc; "{head:?}")?,
     };
     Ok(text)
 }
 
 /// Appends the heads of a tree, each behind its parts.
-fn show(alloc: Global, heads: &[Head], out: &mut Vec<u8>) -> Result<()> {
+fn show(alloc: Global, heads: &[CondHead], out: &mut Vec<u8>) -> Result<()> {
     for head in heads {
         push_apart(label(alloc, head)?.as_str(), out)?;
     }

@@ -1,5 +1,5 @@
 //! Rows of heads that no text is parsed to.
-use c_cond::{Head, Unary, parse_cond};
+use c_cond::{CondHead, Unary, parse_cond};
 use c_eval::{Facts, Reading, eval, read};
 use md_pred::PredTable;
 use plain_data::Items;
@@ -22,16 +22,20 @@ fn the_last_tree_of_heads(rt: HostRuntime) -> Result<(), Fail> {
     let operands = Operands::new(alloc);
     let facts = facts(alloc);
     let preds = PredTable::of(alloc, &Items::new(alloc))?;
-    let nothing: [Head; 0] = [];
+    let nothing: [CondHead; 0] = [];
     assert_eq!(rt; read(&nothing, &facts, &operands, &preds), Reading::Nothing);
-    let mut heads = [Head::Number(1), Head::Number(0), Head::Unary(Unary::Not)];
+    let mut heads = [
+        CondHead::Number(1),
+        CondHead::Number(0),
+        CondHead::Unary(Unary::Not),
+    ];
     assert_eq!(rt; read(&heads, &facts, &operands, &preds), Reading::Number(1));
     for (head, want) in [
-        (Head::Operand(3), Reading::Operand(3)),
-        (Head::Mode(Mode::SI), Reading::Mode(Mode::SI)),
-        (Head::Window(2), Reading::Window(2)),
-        (Head::Done, Reading::Nothing),
-        (Head::Choose, Reading::Nothing),
+        (CondHead::Operand(3), Reading::Operand(3)),
+        (CondHead::Mode(Mode::SI), Reading::Mode(Mode::SI)),
+        (CondHead::Window(2), Reading::Window(2)),
+        (CondHead::Done, Reading::Nothing),
+        (CondHead::Choose, Reading::Nothing),
     ] {
         heads[2] = head;
         assert_eq!(rt; read(&heads, &facts, &operands, &preds), want);

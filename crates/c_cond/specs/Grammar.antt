@@ -193,12 +193,14 @@ pub data Sort : Type 0 where
 -- parentheses that binds less tightly than p.
 pub data Is (d : Dialect) (constants : List Constant) : Sort → List Tree → List Token → Type 0 where
   number : (p n : ℕ) → Is d constants (One (part.Expression p)) (leaf (head.Number (signed W64 n)) ∷ []) (token.Number n ∷ [])
-  fact : (p : ℕ) (word : List ℕ) (h : CondHead) → atom_of d constants word ≡ atom.Leaf h → Is d constants (One (part.Expression p)) (leaf h ∷ []) (token.Word word ∷ [])
+  fact : (p : ℕ) (word : List ℕ) (h : CondHead) → atom_of d constants word ≡ atom.Leaf h →
+      Is d constants (One (part.Expression p)) (leaf h ∷ []) (token.Word word ∷ [])
   asked : (p : ℕ) (word : List ℕ) (c : Call) (parts : List Tree) (ts : List Token) → atom_of d constants word ≡ atom.Call c → Is d constants (Parts (signature_of c)) parts ts →
       Is d constants (One (part.Expression p)) (node (head.Call c) parts ∷ []) (token.Word word ∷ token.Mark open_round ∷ (ts ++ token.Mark close_round ∷ []))
   predicate : (p : ℕ) (word : List ℕ) (parts : List Tree) (ts : List Token) → atom_of d constants word ≡ atom.Predicate → Is d constants (Parts predicate_parts) parts ts →
       Is d constants (One (part.Expression p)) (node (head.Predicate word) parts ∷ []) (token.Word word ∷ token.Mark open_round ∷ (ts ++ token.Mark close_round ∷ []))
-  compare : (p : ℕ) (word name : List ℕ) (property : Property) (sign : Token) (equal : Bool) (h : CondHead) (operand : Tree) (ts : List Token) →
+  compare : (p : ℕ) (word name : List ℕ) (property : Property) (sign : Token) (equal : Bool)
+      (h : CondHead) (operand : Tree) (ts : List Token) →
       p ≤ equality → atom_of d constants word ≡ atom.Compare property → Is d constants (One part.Operand) (operand ∷ []) ts →
       comparison_of sign ≡ Some equal → comparison_with property equal name ≡ Some h →
       Is d constants (One (part.Expression p)) (node h (operand ∷ []) ∷ []) (token.Word word ∷ token.Mark open_round ∷ (ts ++ token.Mark close_round ∷ sign ∷ token.Word name ∷ []))

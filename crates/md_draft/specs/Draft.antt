@@ -35,7 +35,8 @@ patterns_in constants h ts = patterns.patterns_in constants h (part_at ts (layou
 abbrev pub condition_in : List Constant → List (List ℕ) → FormHead → List Tree → Judged cond.Tree
 condition_in constants values h ts = conditions.condition_in constants values (part_at ts (layout_of h).condition)
 
-abbrev pub split_condition_in : List Constant → List (List ℕ) → FormHead → List Tree → Judged cond.Tree
+abbrev pub split_condition_in : List Constant → List (List ℕ) → FormHead → List Tree →
+    Judged cond.Tree
 split_condition_in constants values h ts =
     conditions.split_condition_in constants values (part_at ts (layout_of h).condition) (part_at ts (layout_of h).split_condition)
 
@@ -97,7 +98,8 @@ defined_in constants h ts =
 abbrev pub draft_with : FormHead → Matched × Made → Printed × Defined → Draft
 draft_with h x y = record { head = h; matched = x.0; made = x.1; printed = y.0; defined = y.1 }
 
-abbrev pub together : FormHead → Judged Matched → Judged Made → Judged Printed → Judged Defined → Judged Draft
+abbrev pub together : FormHead → Judged Matched → Judged Made → Judged Printed → Judged Defined →
+    Judged Draft
 together h m k p d = judged_with (draft_with h) (both m k) (both p d)
 
 unfoldable pub whole_draft : List Constant → List (List ℕ) → FormHead → List Tree → Judged Draft

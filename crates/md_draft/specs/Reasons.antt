@@ -35,7 +35,8 @@ pub data Gives (constants : List Constant) (values : List (List ℕ)) (h : FormH
 -- the reasons that a tree has as a form, by its own text
 pub data Applies (constants : List Constant) (values : List (List ℕ)) (t : Tree) : Reason → Type 0 where
   headless : head_of t ≡ None → Applies constants values t reason.Head
-  of_head : (h : FormHead) (r : Reason) → head_of t ≡ Some h → Gives constants values h (items_of t) r → Applies constants values t r
+  of_head : (h : FormHead) (r : Reason) → head_of t ≡ Some h →
+      Gives constants values h (items_of t) r → Applies constants values t r
 
 -- what has no reason was made, and what was not has the smallest of its reasons
 abbrev pub IsSmallest : {A : Type 0} → (Reason → Type 0) → Result A Reason → Type 0

@@ -42,7 +42,8 @@ abbrev pub entry_for : List ℕ → List Entry → Option (List ℕ)
 entry_for value entries = option_map (λ e. e.text) (find (λ e. bytes_eq e.value value) entries)
 
 -- the first attribute of a kind and a name
-abbrev pub attribute_named : DefinitionKind → List ℕ → List IteratorAttribute → Option IteratorAttribute
+abbrev pub attribute_named : DefinitionKind → List ℕ → List IteratorAttribute →
+    Option IteratorAttribute
 attribute_named kind name attributes = find (λ a. same_kind a.kind kind && bytes_eq a.name name) attributes
 
 abbrev pub defined : Definitions → DefinitionKind → List ℕ → List ℕ → Option (List ℕ)

@@ -99,7 +99,8 @@ joined q count inside = if length inside == count then judged_map (test_with q) 
 
 -- ---- a tree
 
-abbrev pub behind : List Constant → TestKind → Option Mode → List Tree → List (Result Test Reason) → Result Test Reason
+abbrev pub behind : List Constant → TestKind → Option Mode → List Tree → List (Result Test Reason) →
+    Result Test Reason
 behind constants kind.Codes m ts inside = codes_by (text_in ts)
 behind constants kind.Condition m ts inside = condition_by constants (text_in ts)
 behind constants kind.Predicate m ts inside = predicate_by m (predicate_in ts)
@@ -108,7 +109,8 @@ behind constants kind.Ior m ts inside = joined question.Ior 2 inside
 behind constants kind.Not m ts inside = joined question.Not 1 inside
 behind constants kind.IfThenElse m ts inside = joined question.IfThenElse 3 inside
 
-abbrev pub of_kind : List Constant → Option TestKind → Option Mode → List Tree → List (Result Test Reason) → Result Test Reason
+abbrev pub of_kind : List Constant → Option TestKind → Option Mode → List Tree →
+    List (Result Test Reason) → Result Test Reason
 of_kind constants None m ts inside = Err reason.Parts
 of_kind constants (Some k) m ts inside = behind constants k m ts inside
 

@@ -26,7 +26,8 @@ pub record IsStart (heads : List CondHead) (end start : ℕ) : Type 0 where
   pub inside : MoreUpTo heads start end
 
 -- It is the last tree of the heads before its end, and is read so.
-pub record IsPart (read : CondHead → List Reading → Reading) (heads : List CondHead) (part : Part) : Type 0 where
+pub record IsPart (read : CondHead → List Reading → Reading) (heads : List CondHead) (part : Part) :
+    Type 0 where
   pub within : part.end ≤ length heads
   pub some : part.start < part.end
   pub starts : IsStart heads part.end part.start

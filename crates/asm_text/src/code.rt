@@ -9,7 +9,7 @@ ghost use Rattle.rtl_chain.specs.End.{return_insn};
 ghost use Rattle.rtx_tree.specs.Limit.{most_bytes};
 ghost use Rattle.asm_text.specs.Lines.{IsMatched, AreMatched, AllMatched};
 ghost use Rattle.asm_text.specs.Code as codes;
-ghost use Rattle.asm_text.specs.Code.{Answer, Answers, NameComes, CodeComes, IsUnnamed};
+ghost use Rattle.asm_text.specs.Code.{Answer, Gives, NameComes, CodeComes, IsUnnamed};
 ghost use Rattle.asm_text.specs.machine.Steps.{IsLineText, IsItemOf, IsLineIn, AreItems, AreItemsOf};
 ghost use Rattle.asm_text.specs.machine.Steps.{IsCodedFrom};
 
@@ -163,7 +163,7 @@ fn coded_named(alloc: Global, functions: Functions, name: &[u8]) -> Result<Coded
 
 /// What a name among functions comes to.
 fn name_comes(alloc: Global, functions: Functions, name: &[u8]) -> Result<Coded, Refusal>
-    ensures comes { Answers result (NameComes functions name.now) }
+    ensures comes { Gives result (NameComes functions name.now) }
     ensures unnamed { result ≡ Err Refusal.Usage → codes.has_named functions name.now ≡ false }
 {
     if !has_named(functions.as_slice(), name) {
@@ -182,7 +182,7 @@ fn name_comes(alloc: Global, functions: Functions, name: &[u8]) -> Result<Coded,
 /// `Usage` where no function has the name; `Syntax`, `Limit`, `Construct`, `IllFormed`, `Unmatched`, or `Memory` where memory ran out.
 pub fn code_of(alloc: Global, bytes: &[u8], name: &[u8]) -> Result<Coded, Refusal>
     requires { length bytes.now ≤ most_bytes }
-    ensures gives { Answers result (CodeComes bytes.now name.now) }
+    ensures gives { Gives result (CodeComes bytes.now name.now) }
     ensures unnamed { result ≡ Err Refusal.Usage → IsUnnamed bytes.now name.now }
     ensures one { (bytes name : List ℕ) (a b : Answer) → CodeComes bytes name a → CodeComes bytes name b → a ≡ b }
 {

@@ -5,7 +5,7 @@ ghost use Rattle.lisp_read.specs.Head as spec;
 
 use rtx_tree::{Code, Mode};
 
-/// The head of an expression.
+/// The code and the mode that open the list of an expression.
 #[derive(Clone, Copy, Debug, PartialEq, Eq)]
 pub struct Opening {
     /// What the expression is.

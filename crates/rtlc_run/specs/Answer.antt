@@ -1,5 +1,5 @@
 -- What the program answers. It is one answer for the words, the files and the bytes of the input: a text, or a refusal with its values.
-use Rattle.std.specs.Prelude.{◌≡◌, ◌⊎◌, ℕ, List, [], ◌∷◌, codes, unwrap_or, Some, None, IsSome, Result, Ok, Err, IfSome, IfOk, Bool, true, false}
+use Rattle.std.specs.Prelude.{◌≡◌, ◌⊎◌, ℕ, List, [], unwrap_or, Some, None, IsSome, Result, Ok, Err, IfSome, IfOk, Bool, true, false}
 use Rattle.std.specs.declared.option.Option.{Option}
 use Rattle.std.specs.Io.KnownBytes.{Appends}
 use Rattle.byte_edge.specs.Causes.{Rose, TakesFront}

@@ -47,7 +47,8 @@ fn inner_register(x: &Rtx) -> Option<u64>
     }
 }
 
-fn register_of(x: &Rtx) -> Option<u64>
+/// The register that is a place to be set: itself, or that of which it is a lowpart; `None` where it is no such place.
+pub fn register_of(x: &Rtx) -> Option<u64>
     ensures { result ≡ spec.register_of x.now }
 {
     match (x.code, x.kids.as_slice()) {

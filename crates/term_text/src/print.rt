@@ -62,7 +62,7 @@ fn print_pseudo(pseudo: u64, out: &mut Vec<u8>) -> Result<(), Memory>
     Ok(())
 }
 
-fn print_register(reg: u64, out: &mut Vec<u8>) -> Result<(), Memory>
+pub(crate) fn print_register(reg: u64, out: &mut Vec<u8>) -> Result<(), Memory>
     ensures { OnOk result (out.new.items ≡ out.old.items ++ spec.register_text reg) }
 {
     if reg < 32 {

@@ -1,0 +1,5 @@
+pub mod Side
+pub mod Verdict
+pub mod Registers
+pub mod Compared
+pub mod Equated

@@ -1,0 +1,37 @@
+-- Which instructions can be compared: GCC Internals, "Insns", "Calls" and "Side Effect Expressions".
+use Rattle.std.specs.Prelude.{ℕ, ◌+◌, ◌&&◌, not, Bool, true, false, if◌then◌else◌, List, [], ◌∷◌, Option, Some, None}
+use Rattle.rtx_tree.specs.declared.function.Insn.{Insn}
+use Rattle.rtx_tree.specs.declared.function.Kind.{Kind}
+use Rattle.rtx_tree.specs.declared.function.Kind.TheVariants.{Plain, Jump, Call, Label, Barrier}
+use Rattle.rtl_func.specs.Kinds.{kinds_agree}
+use Rattle.rtl_func.specs.Modes.{shapes_agree}
+use Rattle.rtl_func.specs.Calls.{call_result_agrees}
+use Rattle.rtl_func.specs.Effects.{parallels_hold_simple}
+use Rattle.reg_uses.specs.Uses.{is_return}
+
+-- it has the parts of its code, the kind of its pattern and the modes of its parts; a call has its
+-- result in a0 and different arguments; a parallel holds set, use and clobber alone
+abbrev pub is_shaped : Insn → Bool
+is_shaped i =
+    kinds_agree i.kind i.pattern && (shapes_agree i.pattern &&
+    (call_result_agrees i.kind i.pattern i.uses && parallels_hold_simple i.pattern))
+
+abbrev pub is_end : List Insn → Bool
+is_end [] = true
+is_end (i ∷ insns) = false
+
+-- a jump and a call are the last; a return, and a label, can't be compared; a barrier is passed over
+abbrev pub fits_kind : Kind → Insn → List Insn → Bool
+fits_kind Plain i rest = is_shaped i
+fits_kind Jump i rest = is_shaped i && (not (is_return i) && is_end rest)
+fits_kind Call i rest = is_shaped i && is_end rest
+fits_kind Label i rest = false
+fits_kind Barrier i rest = true
+
+-- the place of the first instruction that can't be compared
+abbrev pub bad_from : ℕ → List Insn → Option ℕ
+bad_from index [] = None
+bad_from index (i ∷ insns) = if fits_kind i.kind i insns then bad_from (index + 1) insns else Some index
+
+abbrev pub bad_insn : List Insn → Option ℕ
+bad_insn insns = bad_from 0 insns

@@ -1,0 +1,228 @@
+-- The value of an expression as a term, and what it needs: GCC Internals, chapter "RTL
+-- Representation", whose sections the comments name. It is the value of an expression over terms in
+-- place of numbers: each term is made, by the rules of the normal form, of terms in normal form.
+use Rattle.std.specs.Prelude.{ℕ, ◌-◌, ◌^◌, ◌==◌, ◌&&◌, not, ℤ, Bool, true, false, if◌then◌else◌, List, [], ◌∷◌, ◌++◌, length, Option, Some, None}
+use Rattle.std.specs.Int.{cast_unsigned, w64}
+use Rattle.bits64.specs.declared.Width.{Width}
+use Rattle.bits64.specs.declared.Width.TheVariants.{W8, W64}
+use Rattle.bits64.specs.Words.{bits_of}
+use Rattle.rtx_tree.specs.Code.{class_of_code}
+use Rattle.rtx_tree.specs.declared.code.Code.{Code}
+use Rattle.rtx_tree.specs.declared.code.Code.TheVariants.{Plus, Minus, Mult, Div, Udiv, Mod, Umod, And, Ior, Xor, Neg, Not, Ashift, Ashiftrt, Lshiftrt, SignExtend, ZeroExtend, Truncate, Eq, Ne, Lt, Le, Gt, Ge, Ltu, Leu, Gtu, Geu}
+use Rattle.rtx_tree.specs.declared.class.Class.{Class}
+use Rattle.rtx_tree.specs.declared.class.Class.TheVariants.{Register, Constant, Symbol, Memory, Lowpart, Unary, Binary, Shift, Extension, Truncation, Comparison}
+use Rattle.rtx_tree.specs.declared.tree.Rtx.{Rtx}
+use Rattle.rtx_tree.specs.declared.tree.Rtx.TheOpen.{Rtx-F}
+use Rattle.rtx_tree.specs.declared.tree.Rtx.TheFolds.{fold-Rtx}
+use Rattle.rtl_step.specs.Value.{width_of, first_width, count_width}
+use Rattle.term_tree.specs.declared.head.Head.{Head}
+use Rattle.term_tree.specs.declared.head.Head.TheVariants as heads
+use Rattle.term_tree.specs.declared.head.Relation.{Relation}
+use Rattle.term_tree.specs.declared.head.Relation.TheVariants as relation
+use Rattle.term_tree.specs.Tree.{Tree}
+use Rattle.term_tree.specs.Form.{same_width}
+use Rattle.term_mean.specs.Stores.{Store}
+use Rattle.term_mean.specs.Sums.{constant, constant_in, summed}
+use Rattle.term_mean.specs.Normal.{built}
+use Rattle.term_mean.specs.Compared.{compared, low_bits}
+use Rattle.sym_state.specs.State as state
+use Rattle.sym_state.specs.State.{Changed, Need, Lost, Access, Divisor, own_symbol}
+use Rattle.sym_state.specs.Registers.{read, read_needs}
+
+-- a term, and what it needs, in the order in which it is met
+pub record Made : Type 0 where
+  pub term : Tree
+  pub needs : List Need
+
+-- what has no value needs what nothing meets
+abbrev pub no_value : Width → Made
+no_value w = record { term = constant w 0; needs = Lost 0 w ∷ [] }
+
+-- an expression as its outside reads it: the width of its own mode, and what is made of it in each
+-- width
+pub record Reading : Type 0 where
+  pub width : Option Width
+  pub made : Width → Made
+
+-- ---- operations on terms of a width. Each has a case for each code of its class, and a last one that
+-- no code of the class comes to
+
+-- so many ones, as a coefficient -1
+abbrev pub minus_one : Width → ℕ
+minus_one w = 2 ^ bits_of w - 1
+
+-- an operator of one part, and of two
+abbrev pub one : List Store → Head → Width → Tree → Tree
+one stores h w a = built stores h w 0 [] (a ∷ [])
+
+abbrev pub two : List Store → Head → Width → Tree → Tree → Tree
+two stores h w a b = built stores h w 0 [] (a ∷ b ∷ [])
+
+-- ("RTL Expressions for Arithmetic": `neg`, `not`) -a, and -1 - a
+abbrev pub unary : Code → Width → Tree → Tree
+unary Neg w a = summed w 0 ((minus_one w, a) ∷ [])
+unary Not w a = summed w (minus_one w) ((minus_one w, a) ∷ [])
+unary _ w a = a
+
+-- the operator of a code with two operands, but for sums and differences
+abbrev pub head_of : Code → Option Head
+head_of Mult = Some heads.Mul
+head_of Div = Some heads.Div
+head_of Udiv = Some heads.Udiv
+head_of Mod = Some heads.Rem
+head_of Umod = Some heads.Urem
+head_of And = Some heads.And
+head_of Ior = Some heads.Ior
+head_of Xor = Some heads.Xor
+head_of Ashift = Some heads.Shl
+head_of Lshiftrt = Some heads.Shr
+head_of Ashiftrt = Some heads.Sar
+head_of _ = None
+
+abbrev pub with_head : List Store → Option Head → Width → Tree → Tree → Tree
+with_head stores None w a b = a
+with_head stores (Some h) w a b = two stores h w a b
+
+-- ("RTL Expressions for Arithmetic") two operands of the same mode, and shifts
+abbrev pub binary : List Store → Code → Width → Tree → Tree → Tree
+binary stores Plus w a b = summed w 0 ((1, a) ∷ (1, b) ∷ [])
+binary stores Minus w a b = summed w 0 ((1, a) ∷ (minus_one w, b) ∷ [])
+binary stores code w a b = with_head stores (head_of code) w a b
+
+abbrev pub divides : Code → Bool
+divides Div = true
+divides Udiv = true
+divides Mod = true
+divides Umod = true
+divides _ = false
+
+-- a constant other than 0
+abbrev pub is_nonzero : Option ℕ → Bool
+is_nonzero None = false
+is_nonzero (Some c) = not (c == 0)
+
+-- a divisor has not to be 0; a constant that is not needs nothing
+abbrev pub divisor_needs : Code → Tree → List Need
+divisor_needs code b = if divides code && not (is_nonzero (constant_in b)) then Divisor b ∷ [] else []
+
+-- ("Conversions")
+abbrev pub converted : List Store → Code → Width → Tree → Tree
+converted stores SignExtend w a = one stores heads.Sext w a
+converted stores ZeroExtend w a = one stores heads.Zext w a
+converted stores Truncate w a = one stores heads.Trunc w a
+converted stores _ w a = a
+
+-- ("Comparison Operations")
+abbrev pub relation_of : Code → Option Relation
+relation_of Eq = Some relation.Eq
+relation_of Ne = Some relation.Ne
+relation_of Lt = Some relation.Lt
+relation_of Le = Some relation.Le
+relation_of Gt = Some relation.Gt
+relation_of Ge = Some relation.Ge
+relation_of Ltu = Some relation.Ltu
+relation_of Leu = Some relation.Leu
+relation_of Gtu = Some relation.Gtu
+relation_of Geu = Some relation.Geu
+relation_of _ = None
+
+-- a truth has 8 bits; in a wider mode it is extended by zeros
+abbrev pub truth_in : List Store → Width → Tree → Tree
+truth_in stores w t = if same_width w W8 then t else one stores heads.Zext w t
+
+-- a comparison of operands of so many bits, in a width
+abbrev pub related : List Store → Option Relation → Width → Width → Tree → Tree → Tree
+related stores None own w a b = a
+related stores (Some r) own w a b = truth_in stores w (compared r own a b)
+
+-- ---- terms with what they need
+
+abbrev pub of_one : (Tree → Tree) → Made → Made
+of_one f a = record { term = f a.term; needs = a.needs }
+
+abbrev pub of_two : (Tree → Tree → Tree) → Made → Made → Made
+of_two f a b = record { term = f a.term b.term; needs = a.needs ++ b.needs }
+
+-- two operands, the second of which may be a divisor
+abbrev pub of_operands : List Store → Code → Width → Made → Made → Made
+of_operands stores code w a b = record {
+  term = binary stores code w a.term b.term;
+  needs = (a.needs ++ b.needs) ++ divisor_needs code b.term;
+}
+
+-- ---- expressions
+
+-- ("Registers and Memory") the low bits of a register
+abbrev pub of_register : List Changed → ℕ → Width → Made
+of_register regs reg w = record { term = read regs reg w; needs = read_needs regs reg w }
+
+-- ("Constant Expression Types") the address of a symbol
+abbrev pub of_symbol : List ℕ → Width → Made
+of_symbol name w = record { term = low_bits w (own_symbol name); needs = state.Symbol name ∷ [] }
+
+-- what stands at an address of 64 bits in the memory behind all stores so far
+abbrev pub load_at : List Store → Width → Tree → Tree
+load_at stores w at = built stores heads.Load w (length stores) [] (at ∷ [])
+
+-- ("Registers and Memory")
+abbrev pub loaded : List Store → Width → Made → Made
+loaded stores w a = record { term = load_at stores w a.term; needs = a.needs ++ Access a.term w ∷ [] }
+
+-- an expression without parts, in a width
+abbrev pub made_of_none : List Changed → Class → ℤ → List ℕ → Width → Made
+made_of_none regs Register number name w = of_register regs (cast_unsigned w64 number) w
+-- "Constant Expression Types"
+made_of_none regs Constant number name w = record { term = constant w (cast_unsigned w64 number); needs = [] }
+made_of_none regs Symbol number name w = of_symbol name w
+made_of_none regs _ number name w = no_value w
+
+-- "Conversions": the operand is read in its own mode
+abbrev pub of_converted : List Store → Option Width → Code → Reading → Width → Made
+of_converted stores None code a w = no_value w
+of_converted stores (Some own) code a w = of_one (converted stores code w) (a.made own)
+
+-- an expression of one part
+abbrev pub made_of_one : List Store → Class → Code → Reading → Width → Made
+-- "Registers and Memory": an address has mode DI; a lowpart `subreg` reads the low bits alone
+made_of_one stores Memory code a w = loaded stores w (a.made W64)
+made_of_one stores Lowpart code a w = a.made w
+made_of_one stores Unary code a w = of_one (unary code w) (a.made w)
+made_of_one stores Extension code a w = of_converted stores a.width code a w
+made_of_one stores Truncation code a w = of_converted stores a.width code a w
+made_of_one stores _ code a w = no_value w
+
+-- "Comparison Operations": the operands have one mode, which one of them may leave to the other
+abbrev pub of_compared : List Store → Option Width → Code → Reading → Reading → Width → Made
+of_compared stores None code a b w = no_value w
+of_compared stores (Some own) code a b w = of_two (related stores (relation_of code) own w) (a.made own) (b.made own)
+
+-- an expression of two parts
+abbrev pub made_of_two : List Store → Class → Code → Reading → Reading → Width → Made
+made_of_two stores Binary code a b w = of_operands stores code w (a.made w) (b.made w)
+made_of_two stores Shift code a b w = of_two (binary stores code w) (a.made w) (b.made (count_width b.width))
+made_of_two stores Comparison code a b w = of_compared stores (first_width a.width b.width) code a b w
+made_of_two stores _ code a b w = no_value w
+
+-- an expression of more parts
+abbrev pub made_of_parts : List Store → Class → Code → List Reading → Width → Made
+made_of_parts stores class code (a ∷ b ∷ []) w = made_of_two stores class code a b w
+made_of_parts stores class code _ w = no_value w
+
+-- an expression of a class, code, number, name and parts, in a width
+abbrev pub made_by : List Changed → List Store → Class → Code → ℤ → List ℕ → List Reading → Width → Made
+made_by regs stores class code number name [] w = made_of_none regs class number name w
+made_by regs stores class code number name (a ∷ []) w = made_of_one stores class code a w
+made_by regs stores class code number name parts w = made_of_parts stores class code parts w
+
+abbrev pub reading_step : List Changed → List Store → Rtx-F Reading → Reading
+reading_step regs stores x = record {
+  width = width_of x.mode;
+  made = made_by regs stores (class_of_code x.code) x.code x.number x.name x.kids;
+}
+
+abbrev pub reading_of : List Changed → List Store → Rtx → Reading
+reading_of regs stores = fold-Rtx Reading (reading_step regs stores)
+
+-- what is made of an expression in a width, by registers and stores
+abbrev pub made_of : List Changed → List Store → Rtx → Width → Made
+made_of regs stores x = (reading_of regs stores x).made

@@ -1,0 +1,163 @@
+//! The value of an expression as a term.
+ghost use Rattle.std.specs.Prelude.{◌≡◌, ◌++◌, map, option_map, IfOk, OnOk};
+ghost use Rattle.rtx_tree.specs.Code.{class_of_code};
+ghost use Rattle.term_tree.specs.View.{tree_of};
+ghost use Rattle.sym_term.specs.Views.{store_of};
+ghost use Rattle.sym_state.specs.Views.{changed_of, need_of};
+ghost use Rattle.sym_insns.specs.Value as spec;
+ghost use Rattle.sym_insns.specs.machine.Making.{IsMade};
+
+use crate::operation::{Needs, binary, compared, converted, need_divisor, unary};
+use bits64::Width;
+use plain_data::{Items, Memory};
+use rtl_step::width_of;
+use rtx_tree::{Class, Code, Mode, Name, Rtx};
+use std::alloc::Global;
+use sym_state::{NeedOf, SymRegs, own_symbol, read, read_need};
+use sym_term::{SymStores, TermMaker};
+use term_sums::constant_term;
+use term_tree::{Head, Term};
+
+/// What has no value: it needs what nothing meets.
+pub fn no_value(alloc: Global, w: Width, needs: &mut Needs) -> Result<Term, Memory>
+    ensures { IfOk result (λ r. IsMade needs.old needs.new (tree_of r) (spec.no_value w)) }
+{
+    needs.push(NeedOf::Lost { reg: 0, width: w })?;
+    Ok(constant_term(alloc, w, 0))
+}
+
+/// Notes a need, if there is one.
+fn note(need: Option<NeedOf>, needs: &mut Needs) -> Result<(), Memory>
+    ensures { OnOk result (map need_of needs.new ≡ map need_of needs.old ++ listed (option_map need_of need)) }
+{
+    if let Some(need) = need {
+        needs.push(need)?;
+    }
+    Ok(())
+}
+
+/// The low bits of a register.
+pub fn read_register(
+    maker: &mut TermMaker,
+    alloc: Global,
+    regs: &SymRegs,
+    reg: u64,
+    w: Width,
+    needs: &mut Needs,
+) -> Result<Term, Memory>
+    ensures { IfOk result (λ r. IsMade needs.old needs.new (tree_of r) (spec.of_register (map changed_of regs.now) reg w)) }
+{
+    note(read_need(regs, reg, w), needs)?;
+    read(maker, alloc, regs, reg, w)
+}
+
+/// The address of a symbol.
+fn symbol(
+    maker: &mut TermMaker,
+    alloc: Global,
+    name: &Name,
+    w: Width,
+    needs: &mut Needs,
+) -> Result<Term, Memory>
+    ensures { IfOk result (λ r. IsMade needs.old needs.new (tree_of r) (spec.of_symbol name.now w)) }
+{
+    needs.push(NeedOf::Symbol {
+        name: name.copy(alloc)?,
+    })?;
+    let address = own_symbol(alloc, name)?;
+    maker.cut(w, &address)
+}
+
+/// An expression without parts.
+fn made_of_none(
+    maker: &mut TermMaker,
+    alloc: Global,
+    regs: &SymRegs,
+    x: &Rtx,
+    w: Width,
+    needs: &mut Needs,
+) -> Result<Term, Memory>
+    ensures { IfOk result (λ r. IsMade needs.old needs.new (tree_of r) (spec.made_of_none (map changed_of regs.now) (class_of_code (out-Rtx x.now).code) (out-Rtx x.now).number (out-Rtx x.now).name w)) }
+{
+    match x.code.class() {
+        Class::Register => read_register(maker, alloc, regs, x.number.cast_unsigned(), w, needs),
+        Class::Constant => Ok(constant_term(alloc, w, x.number.cast_unsigned())),
+        Class::Symbol => symbol(maker, alloc, &x.name, w, needs),
+        _ => no_value(alloc, w, needs),
+    }
+}
+
+/// What stands at an address, behind all stores so far.
+fn load(
+    maker: &mut TermMaker,
+    alloc: Global,
+    stores: &SymStores,
+    w: Width,
+    address: Term,
+    needs: &mut Needs,
+) -> Result<Term, Memory>
+    ensures { IfOk result (λ r. IsMade needs.old needs.new (tree_of r) (record { term = spec.load_at (map store_of stores.now) w (tree_of address); needs = Access (tree_of address) w ∷ [] })) }
+{
+    needs.push(NeedOf::Access {
+        address: address.copy(alloc)?,
+        width: w,
+    })?;
+    let mut parts = Vec::new(alloc);
+    parts.push(address)?;
+    let count = stores.len() as u64;
+    maker.built(stores, Head::Load, w, count, Name::empty(alloc), parts)
+}
+
+/// An extension or a truncation, whose operand is read in its own mode.
+#[cycle(make)]
+fn of_converted(
+    maker: &mut TermMaker,
+    alloc: Global,
+    regs: &SymRegs,
+    stores: &SymStores,
+    code: Code,
+    a: &Rtx,
+    w: Width,
+    needs: &mut Needs,
+) -> Result<Term, Memory>
+    ensures { IfOk result (λ r. IsMade needs.old needs.new (tree_of r) (spec.of_converted (map store_of stores.now) (spec.reading_of (map changed_of regs.now) (map store_of stores.now) a.now).width code (spec.reading_of (map changed_of regs.now) (map store_of stores.now) a.now) w)) }
+{
+    match width_of(a.mode) {
+        None => no_value(alloc, w, needs),
+        Some(own) => {
+            let term = make(maker, alloc, regs, stores, a, own, needs)?;
+            converted(maker, alloc, stores, code, w, term)
+        }
+    }
+}
+
+/// An expression of one part.
+#[cycle(make)]
+fn made_of_one(
+    maker: &mut TermMaker,
+    alloc: Global,
+    regs: &SymRegs,
+    stores: &SymStores,
+    code: Code,
+    a: &Rtx,
+    w: Width,
+    needs: &mut Needs,
+) -> Result<Term, Memory>
+    ensures { IfOk result (λ r. IsMade needs.old needs.new (tree_of r) (spec.made_of_one (map store_of stores.now) (class_of_code code) code (spec.reading_of (map changed_of regs.now) (map store_of stores.now) a.now) w)) }
+{
+    match code.class() {
+        Class::Memory => {
+            let address = make(maker, alloc, regs, stores, a, Width::W64, needs)?;
+            load(maker, alloc, stores, w, address, needs)
+        }
+        Class::Lowpart => make(maker, alloc, regs, stores, a, w, needs),
+        Class::Unary => {
+            let term = make(maker, alloc, regs, stores, a, w, needs)?;
+            unary(maker, alloc, code, w, term)
+        }
+        Class::Extension | Class::Truncation => {
+            of_converted(maker, alloc, regs, stores, code, a, w, needs)
+        }
+        _ => no_value(alloc, w, needs),
+    }
+}

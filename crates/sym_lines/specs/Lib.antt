@@ -1,0 +1,3 @@
+pub mod Compute
+pub mod Step
+pub mod Run

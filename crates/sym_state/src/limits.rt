@@ -1,0 +1,94 @@
+//! Whether the terms of a state are within the limit.
+ghost use Rattle.std.specs.Prelude.{◌≡◌, map, option_map};
+ghost use Rattle.std.specs.List.{list_all};
+ghost use Rattle.term_tree.specs.View.{tree_of};
+ghost use Rattle.sym_term.specs.Views.{store_of};
+ghost use Rattle.sym_state.specs.State as spec;
+ghost use Rattle.sym_state.specs.Views as views;
+
+use crate::state::{NeedOf, SymArg, SymCall, SymNeed, SymReg, SymState};
+use sym_term::SymStore;
+use term_tree::{LIMIT, Term, size};
+
+fn is_small(term: &Term) -> bool
+    ensures { result ≡ spec.is_small (tree_of term.now) }
+{
+    size(term) <= LIMIT
+}
+
+fn is_small_register(changed: &SymReg) -> bool
+    ensures { result ≡ spec.is_small_value (views.changed_of changed.now).value }
+{
+    match &changed.value {
+        None => true,
+        Some(term) => is_small(term),
+    }
+}
+
+fn is_small_store(store: &SymStore) -> bool
+    ensures { result ≡ spec.is_small_store (store_of store.now) }
+{
+    is_small(&store.address) && is_small(&store.value)
+}
+
+fn is_small_arg(arg: &SymArg) -> bool
+    ensures { result ≡ spec.is_small (views.arg_of arg.now).value }
+{
+    is_small(&arg.value)
+}
+
+fn are_small_args(args: &[SymArg]) -> bool
+    ensures { result ≡ list_all (λ a. spec.is_small a.value) (map views.arg_of args.now) }
+{
+    args.iter().all(is_small_arg)
+}
+
+fn is_small_call(call: &Option<SymCall>) -> bool
+    ensures { result ≡ spec.is_small_call (option_map views.call_of call.now) }
+{
+    match call {
+        None => true,
+        Some(call) => is_small(&call.target) && are_small_args(call.args.as_slice()),
+    }
+}
+
+fn is_small_need(need: &SymNeed) -> bool
+    ensures { result ≡ spec.is_small_need (views.need_at_of need.now).what }
+{
+    match &need.what {
+        NeedOf::Access { address, .. } => is_small(address),
+        NeedOf::Divisor { term } => is_small(term),
+        _ => true,
+    }
+}
+
+fn are_small_registers(regs: &[SymReg]) -> bool
+    ensures { result ≡ list_all (λ c. spec.is_small_value c.value) (map views.changed_of regs.now) }
+{
+    regs.iter().all(is_small_register)
+}
+
+fn are_small_stores(stores: &[SymStore]) -> bool
+    ensures { result ≡ list_all spec.is_small_store (map store_of stores.now) }
+{
+    stores.iter().all(is_small_store)
+}
+
+fn are_small_needs(needs: &[SymNeed]) -> bool
+    ensures { result ≡ list_all (λ n. spec.is_small_need n.what) (map views.need_at_of needs.now) }
+{
+    needs.iter().all(is_small_need)
+}
+
+impl SymState {
+    /// Whether each term of the state has at most 1,048,576 nodes.
+    pub fn is_within(&self) -> bool
+        ensures { result ≡ spec.is_within (views.state_of self.now) }
+    {
+        are_small_registers(self.regs.as_slice())
+            && are_small_stores(self.stores.as_slice())
+            && is_small(&self.jump.condition)
+            && is_small_call(&self.call)
+            && are_small_needs(self.needs.as_slice())
+    }
+}

@@ -1,0 +1,61 @@
+//! The items in which two sides of a comparison can differ.
+ghost use Rattle.std.specs.Prelude.{◌≡◌, ◌++◌, codes, OnOk};
+ghost use Rattle.std.specs.Fmt.{decimal};
+ghost use Rattle.term_text.specs.Item as spec;
+ghost use Rattle.term_text.specs.Text.{register_text};
+
+use crate::print::print_register;
+use itoa::Buffer;
+use plain_data::Memory;
+
+/// An item in which two sides of a comparison can differ.
+#[derive(Clone, Copy)]
+pub enum Item {
+    /// A register.
+    Register {
+        /// Its number.
+        reg: u64,
+    },
+    /// A store.
+    Store {
+        /// Its place among the stores, counted from 0.
+        index: u32,
+    },
+    /// Where it leads.
+    Jump,
+    /// What is called.
+    Call,
+    /// What has to be there.
+    Need,
+    /// An instruction or a line that can't be compared.
+    Shape {
+        /// Its place, counted from 0.
+        index: u32,
+    },
+}
+
+/// Appends a word and a number.
+fn print_numbered(word: &[u8], index: u32, out: &mut Vec<u8>) -> Result<(), Memory>
+    ensures { OnOk result (out.new.items ≡ out.old.items ++ (word.now ++ decimal index)) }
+{
+    out.extend_from_slice(word)?;
+    out.extend_from_slice(Buffer::new().format(index).as_bytes())?;
+    Ok(())
+}
+
+/// Appends an item's text, as `register a0` or `store 1`.
+pub fn print_item(item: Item, out: &mut Vec<u8>) -> Result<(), Memory>
+    ensures { OnOk result (out.new.items ≡ out.old.items ++ spec.item_text item) }
+{
+    match item {
+        Item::Register { reg } => {
+            out.extend_from_slice(b"register ")?;
+            print_register(reg, out)
+        }
+        Item::Store { index } => print_numbered(b"store ", index, out),
+        Item::Jump => Ok(out.extend_from_slice(b"jump")?),
+        Item::Call => Ok(out.extend_from_slice(b"call")?),
+        Item::Need => Ok(out.extend_from_slice(b"need")?),
+        Item::Shape { index } => print_numbered(b"shape ", index, out),
+    }
+}

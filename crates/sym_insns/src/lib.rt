@@ -12,4 +12,4 @@ mod run;
 mod shape;
 mod value;
 
-pub use run::{SymRefusal, run_rtl};
+pub use run::run_rtl;

@@ -1,3 +1,4 @@
+pub mod Changes
 pub mod Numbers
 pub mod Operations
 pub mod Parts

@@ -1,4 +1,5 @@
 pub mod Changes
+pub mod Effects
 pub mod Numbers
 pub mod Operations
 pub mod Parts

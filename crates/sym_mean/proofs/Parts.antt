@@ -103,7 +103,7 @@ has_number memory other same address (suc count) =
     ∙ (ap (λ b. is_some (byte_at other address) && b) (has_number memory other same (address + 1) count)
     ∙ sym (both_has (byte_at other address) (number_at other (address + 1) count))))
 
-has_load : (w : Width) (memory other : List MemByte) (address : ℕ) → ((q : ℕ) → is_some (byte_at memory q) ≡ is_some (byte_at other q)) →
+pub has_load : (w : Width) (memory other : List MemByte) (address : ℕ) → ((q : ℕ) → is_some (byte_at memory q) ≡ is_some (byte_at other q)) →
     is_some (load w memory address) ≡ is_some (load w other address)
 has_load w memory other address same = by (is_aligned w address)
   where

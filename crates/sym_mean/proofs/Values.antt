@@ -55,7 +55,7 @@ module _ (v : Valuation) (f : First) where
       by true = is
       by false = refl
 
-  both_met : (xs ys : List Need) → are_met v f (xs ++ ys) ≡ (are_met v f xs && are_met v f ys)
+  pub both_met : (xs ys : List Need) → are_met v f (xs ++ ys) ≡ (are_met v f xs && are_met v f ys)
   both_met xs ys = list_all-append (is_met v f) xs ys
 
   worth_two : (g : ℕ → ℕ → Option ℕ) (h : Tree → Tree → Tree) (a b : Made) → g (mean v a.term) (mean v b.term) ≡ Some (mean v (h a.term b.term)) →

@@ -28,7 +28,7 @@ pub ruleset changes_seen = (map-set, map-insert)
 pub ruleset puts = (placed-put)
 
 -- one register more is left
-left_step : (reg : ℕ) (regs : List Changed) → reg < 32 → left_from (32 - reg) reg regs ≡ left_from (32 - (reg + 1)) (reg + 1) (left_at reg regs)
+pub left_step : (reg : ℕ) (regs : List Changed) → reg < 32 → left_from (32 - reg) reg regs ≡ left_from (32 - (reg + 1)) (reg + 1) (left_at reg regs)
 left_step reg regs less =
     let more : 32 - reg ≡ suc (32 - (reg + 1)) = omega arith in
     ap (λ n. left_from n reg regs) more

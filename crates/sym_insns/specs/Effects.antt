@@ -162,13 +162,17 @@ result_by _ parts = None
 abbrev pub result_mode : Rtx → Option Mode
 result_mode x = result_by (out-Rtx x).code (out-Rtx x).kids
 
+-- what there is not needs what nothing meets
+abbrev pub missing : Made
+missing = record { term = nothing; needs = Lost 0 W64 ∷ [] }
+
 abbrev pub made_target : List Changed → List Store → Option Rtx → Made
-made_target regs stores None = record { term = nothing; needs = Lost 0 W64 ∷ [] }
+made_target regs stores None = missing
 made_target regs stores (Some x) = made_of regs stores x W64
 
 -- an argument in its mode, without which it has no value
 abbrev pub arg_in : Option Width → List Changed → ℕ → Made
-arg_in None regs reg = record { term = nothing; needs = Lost 0 W64 ∷ [] }
+arg_in None regs reg = missing
 arg_in (Some w) regs reg = record { term = read regs reg w; needs = read_needs regs reg w }
 
 abbrev pub made_arg : List Changed → ArgUse → Made

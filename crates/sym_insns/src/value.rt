@@ -1,9 +1,14 @@
 //! The value of an expression as a term.
-ghost use Rattle.std.specs.Prelude.{◌≡◌, ◌++◌, map, option_map, IfOk, OnOk};
+ghost use Rattle.std.specs.Prelude.{◌≡◌, ◌++◌, [], ◌∷◌, map, option_map, IfOk, OnOk};
 ghost use Rattle.rtx_tree.specs.Code.{class_of_code};
+ghost use Rattle.rtx_tree.specs.declared.tree.Rtx.{out-Rtx};
+ghost use Rattle.rtl_step.specs.Value as step;
+ghost use Rattle.rtl_step.specs.Value.{first_width, count_width};
 ghost use Rattle.term_tree.specs.View.{tree_of};
 ghost use Rattle.sym_term.specs.Views.{store_of};
+ghost use Rattle.sym_state.specs.State.{Access};
 ghost use Rattle.sym_state.specs.Views.{changed_of, need_of};
+ghost use Rattle.sym_state.specs.machine.Places.{listed};
 ghost use Rattle.sym_insns.specs.Value as spec;
 ghost use Rattle.sym_insns.specs.machine.Making.{IsMade};
 
@@ -110,6 +115,7 @@ fn load(
 
 /// An extension or a truncation, whose operand is read in its own mode.
 #[cycle(make)]
+#[tactic(auto, using(crate::proofs::Values::width_in))]
 fn of_converted(
     maker: &mut TermMaker,
     alloc: Global,
@@ -159,5 +165,134 @@ fn made_of_one(
             of_converted(maker, alloc, regs, stores, code, a, w, needs)
         }
         _ => no_value(alloc, w, needs),
+    }
+}
+
+/// The width in which the operands of a comparison are read: that of the first mode, or else of the second.
+fn own_width(a: &Rtx, b: &Rtx) -> Option<Width>
+    ensures { result ≡ first_width (step.width_of (out-Rtx a.now).mode) (step.width_of (out-Rtx b.now).mode) }
+{
+    match width_of(a.mode) {
+        None => width_of(b.mode),
+        Some(w) => Some(w),
+    }
+}
+
+/// The width in which a count is read: that of its mode, or 64 bits.
+fn count_width_of(b: &Rtx) -> Width
+    ensures { result ≡ count_width (step.width_of (out-Rtx b.now).mode) }
+{
+    width_of(b.mode).unwrap_or(Width::W64)
+}
+
+/// Two operands of one mode, the second of which may be a divisor.
+#[cycle(make)]
+fn of_operands(
+    maker: &mut TermMaker,
+    alloc: Global,
+    regs: &SymRegs,
+    stores: &SymStores,
+    code: Code,
+    a: &Rtx,
+    b: &Rtx,
+    w: Width,
+    needs: &mut Needs,
+) -> Result<Term, Memory>
+    ensures { IfOk result (λ r. IsMade needs.old needs.new (tree_of r) (spec.of_operands (map store_of stores.now) code w ((spec.reading_of (map changed_of regs.now) (map store_of stores.now) a.now).made w) ((spec.reading_of (map changed_of regs.now) (map store_of stores.now) b.now).made w))) }
+{
+    let first = make(maker, alloc, regs, stores, a, w, needs)?;
+    let second = make(maker, alloc, regs, stores, b, w, needs)?;
+    need_divisor(alloc, code, &second, needs)?;
+    binary(maker, alloc, stores, code, w, first, second)
+}
+
+/// A shift.
+#[cycle(make)]
+#[tactic(auto, using(crate::proofs::Values::width_in))]
+fn of_shift(
+    maker: &mut TermMaker,
+    alloc: Global,
+    regs: &SymRegs,
+    stores: &SymStores,
+    code: Code,
+    a: &Rtx,
+    b: &Rtx,
+    w: Width,
+    needs: &mut Needs,
+) -> Result<Term, Memory>
+    ensures { IfOk result (λ r. IsMade needs.old needs.new (tree_of r) (spec.of_two (spec.binary (map store_of stores.now) code w) ((spec.reading_of (map changed_of regs.now) (map store_of stores.now) a.now).made w) ((spec.reading_of (map changed_of regs.now) (map store_of stores.now) b.now).made (count_width (spec.reading_of (map changed_of regs.now) (map store_of stores.now) b.now).width)))) }
+{
+    let first = make(maker, alloc, regs, stores, a, w, needs)?;
+    let count = make(maker, alloc, regs, stores, b, count_width_of(b), needs)?;
+    binary(maker, alloc, stores, code, w, first, count)
+}
+
+/// A comparison.
+#[cycle(make)]
+#[tactic(auto, using(crate::proofs::Values::width_in))]
+fn of_compared(
+    maker: &mut TermMaker,
+    alloc: Global,
+    regs: &SymRegs,
+    stores: &SymStores,
+    code: Code,
+    a: &Rtx,
+    b: &Rtx,
+    w: Width,
+    needs: &mut Needs,
+) -> Result<Term, Memory>
+    ensures { IfOk result (λ r. IsMade needs.old needs.new (tree_of r) (spec.of_compared (map store_of stores.now) (first_width (spec.reading_of (map changed_of regs.now) (map store_of stores.now) a.now).width (spec.reading_of (map changed_of regs.now) (map store_of stores.now) b.now).width) code (spec.reading_of (map changed_of regs.now) (map store_of stores.now) a.now) (spec.reading_of (map changed_of regs.now) (map store_of stores.now) b.now) w)) }
+{
+    let Some(own) = own_width(a, b) else {
+        return no_value(alloc, w, needs);
+    };
+    let first = make(maker, alloc, regs, stores, a, own, needs)?;
+    let second = make(maker, alloc, regs, stores, b, own, needs)?;
+    compared(maker, alloc, stores, code, own, w, first, second)
+}
+
+/// An expression of two parts; one of more has no value.
+#[cycle(make)]
+fn made_of_parts(
+    maker: &mut TermMaker,
+    alloc: Global,
+    regs: &SymRegs,
+    stores: &SymStores,
+    code: Code,
+    parts: &[Rtx],
+    w: Width,
+    needs: &mut Needs,
+) -> Result<Term, Memory>
+    ensures { IfOk result (λ r. IsMade needs.old needs.new (tree_of r) (spec.made_of_parts (map store_of stores.now) (class_of_code code) code (map (spec.reading_of (map changed_of regs.now) (map store_of stores.now)) parts.now) w)) }
+{
+    let [a, b] = parts else {
+        return no_value(alloc, w, needs);
+    };
+    match code.class() {
+        Class::Binary => of_operands(maker, alloc, regs, stores, code, a, b, w, needs),
+        Class::Shift => of_shift(maker, alloc, regs, stores, code, a, b, w, needs),
+        Class::Comparison => of_compared(maker, alloc, regs, stores, code, a, b, w, needs),
+        _ => no_value(alloc, w, needs),
+    }
+}
+
+/// What is made of an expression in a width; its needs are put behind those that were met before.
+#[cycle(make)]
+#[tactic(auto, using(crate::proofs::Values::made_in))]
+pub fn make(
+    maker: &mut TermMaker,
+    alloc: Global,
+    regs: &SymRegs,
+    stores: &SymStores,
+    x: &Rtx,
+    w: Width,
+    needs: &mut Needs,
+) -> Result<Term, Memory>
+    ensures { IfOk result (λ r. IsMade needs.old needs.new (tree_of r) (spec.made_of (map changed_of regs.now) (map store_of stores.now) x.now w)) }
+{
+    match x.kids.as_slice() {
+        [] => made_of_none(maker, alloc, regs, x, w, needs),
+        [a] => made_of_one(maker, alloc, regs, stores, x.code, a, w, needs),
+        parts => made_of_parts(maker, alloc, regs, stores, x.code, parts, w, needs),
     }
 }

@@ -228,7 +228,7 @@ fn effects_of(
 }
 
 /// Puts needs of an instruction at a place behind those that were met before.
-#[tactic(auto, using(crate::proofs::Steps::needs_more))]
+#[tactic(auto, using(crate::proofs::Steps::needs_step))]
 pub fn add_needs(all: &mut SymNeeds, index: u32, needs: Needs) -> Result<(), Memory>
     ensures { OnOk result (map need_at_of all.new ≡ map need_at_of all.old ++ needs_at index (map need_of needs)) }
 {

@@ -10,7 +10,7 @@ ghost use Rattle.sym_state.specs.State.{Access};
 ghost use Rattle.sym_state.specs.Views.{changed_of, need_of};
 ghost use Rattle.sym_state.specs.machine.Places.{listed};
 ghost use Rattle.sym_insns.specs.Value as spec;
-ghost use Rattle.sym_insns.specs.machine.Making.{IsMade};
+ghost use Rattle.sym_insns.specs.machine.Making.{IsMade, reading_by_mode};
 
 use crate::operation::{Needs, binary, compared, converted, need_divisor, unary};
 use bits64::Width;
@@ -115,7 +115,6 @@ fn load(
 
 /// An extension or a truncation, whose operand is read in its own mode.
 #[cycle(make)]
-#[tactic(auto, using(crate::proofs::Values::width_in))]
 fn of_converted(
     maker: &mut TermMaker,
     alloc: Global,
@@ -126,7 +125,7 @@ fn of_converted(
     w: Width,
     needs: &mut Needs,
 ) -> Result<Term, Memory>
-    ensures { IfOk result (λ r. IsMade needs.old needs.new (tree_of r) (spec.of_converted (map store_of stores.now) (spec.reading_of (map changed_of regs.now) (map store_of stores.now) a.now).width code (spec.reading_of (map changed_of regs.now) (map store_of stores.now) a.now) w)) }
+    ensures { IfOk result (λ r. IsMade needs.old needs.new (tree_of r) (spec.of_converted (map store_of stores.now) (reading_by_mode (map changed_of regs.now) (map store_of stores.now) a.now).width code (reading_by_mode (map changed_of regs.now) (map store_of stores.now) a.now) w)) }
 {
     match width_of(a.mode) {
         None => no_value(alloc, w, needs),
@@ -149,7 +148,7 @@ fn made_of_one(
     w: Width,
     needs: &mut Needs,
 ) -> Result<Term, Memory>
-    ensures { IfOk result (λ r. IsMade needs.old needs.new (tree_of r) (spec.made_of_one (map store_of stores.now) (class_of_code code) code (spec.reading_of (map changed_of regs.now) (map store_of stores.now) a.now) w)) }
+    ensures { IfOk result (λ r. IsMade needs.old needs.new (tree_of r) (spec.made_of_one (map store_of stores.now) (class_of_code code) code (reading_by_mode (map changed_of regs.now) (map store_of stores.now) a.now) w)) }
 {
     match code.class() {
         Class::Memory => {
@@ -185,70 +184,21 @@ fn count_width_of(b: &Rtx) -> Width
     width_of(b.mode).unwrap_or(Width::W64)
 }
 
-/// Two operands of one mode, the second of which may be a divisor.
-#[cycle(make)]
+/// An operation on two terms, the second of which may be a divisor.
 fn of_operands(
     maker: &mut TermMaker,
     alloc: Global,
-    regs: &SymRegs,
     stores: &SymStores,
     code: Code,
-    a: &Rtx,
-    b: &Rtx,
     w: Width,
+    a: Term,
+    b: Term,
     needs: &mut Needs,
 ) -> Result<Term, Memory>
-    ensures { IfOk result (λ r. IsMade needs.old needs.new (tree_of r) (spec.of_operands (map store_of stores.now) code w ((spec.reading_of (map changed_of regs.now) (map store_of stores.now) a.now).made w) ((spec.reading_of (map changed_of regs.now) (map store_of stores.now) b.now).made w))) }
+    ensures { IfOk result (λ r. IsMade needs.old needs.new (tree_of r) (record { term = spec.binary (map store_of stores.now) code w (tree_of a) (tree_of b); needs = spec.divisor_needs code (tree_of b) })) }
 {
-    let first = make(maker, alloc, regs, stores, a, w, needs)?;
-    let second = make(maker, alloc, regs, stores, b, w, needs)?;
-    need_divisor(alloc, code, &second, needs)?;
-    binary(maker, alloc, stores, code, w, first, second)
-}
-
-/// A shift.
-#[cycle(make)]
-#[tactic(auto, using(crate::proofs::Values::width_in))]
-fn of_shift(
-    maker: &mut TermMaker,
-    alloc: Global,
-    regs: &SymRegs,
-    stores: &SymStores,
-    code: Code,
-    a: &Rtx,
-    b: &Rtx,
-    w: Width,
-    needs: &mut Needs,
-) -> Result<Term, Memory>
-    ensures { IfOk result (λ r. IsMade needs.old needs.new (tree_of r) (spec.of_two (spec.binary (map store_of stores.now) code w) ((spec.reading_of (map changed_of regs.now) (map store_of stores.now) a.now).made w) ((spec.reading_of (map changed_of regs.now) (map store_of stores.now) b.now).made (count_width (spec.reading_of (map changed_of regs.now) (map store_of stores.now) b.now).width)))) }
-{
-    let first = make(maker, alloc, regs, stores, a, w, needs)?;
-    let count = make(maker, alloc, regs, stores, b, count_width_of(b), needs)?;
-    binary(maker, alloc, stores, code, w, first, count)
-}
-
-/// A comparison.
-#[cycle(make)]
-#[tactic(auto, using(crate::proofs::Values::width_in))]
-fn of_compared(
-    maker: &mut TermMaker,
-    alloc: Global,
-    regs: &SymRegs,
-    stores: &SymStores,
-    code: Code,
-    a: &Rtx,
-    b: &Rtx,
-    w: Width,
-    needs: &mut Needs,
-) -> Result<Term, Memory>
-    ensures { IfOk result (λ r. IsMade needs.old needs.new (tree_of r) (spec.of_compared (map store_of stores.now) (first_width (spec.reading_of (map changed_of regs.now) (map store_of stores.now) a.now).width (spec.reading_of (map changed_of regs.now) (map store_of stores.now) b.now).width) code (spec.reading_of (map changed_of regs.now) (map store_of stores.now) a.now) (spec.reading_of (map changed_of regs.now) (map store_of stores.now) b.now) w)) }
-{
-    let Some(own) = own_width(a, b) else {
-        return no_value(alloc, w, needs);
-    };
-    let first = make(maker, alloc, regs, stores, a, own, needs)?;
-    let second = make(maker, alloc, regs, stores, b, own, needs)?;
-    compared(maker, alloc, stores, code, own, w, first, second)
+    need_divisor(alloc, code, &b, needs)?;
+    binary(maker, alloc, stores, code, w, a, b)
 }
 
 /// An expression of two parts; one of more has no value.
@@ -263,22 +213,39 @@ fn made_of_parts(
     w: Width,
     needs: &mut Needs,
 ) -> Result<Term, Memory>
-    ensures { IfOk result (λ r. IsMade needs.old needs.new (tree_of r) (spec.made_of_parts (map store_of stores.now) (class_of_code code) code (map (spec.reading_of (map changed_of regs.now) (map store_of stores.now)) parts.now) w)) }
+    ensures { IfOk result (λ r. IsMade needs.old needs.new (tree_of r) (spec.made_of_parts (map store_of stores.now) (class_of_code code) code (map (reading_by_mode (map changed_of regs.now) (map store_of stores.now)) parts.now) w)) }
 {
-    let [a, b] = parts else {
-        return no_value(alloc, w, needs);
-    };
-    match code.class() {
-        Class::Binary => of_operands(maker, alloc, regs, stores, code, a, b, w, needs),
-        Class::Shift => of_shift(maker, alloc, regs, stores, code, a, b, w, needs),
-        Class::Comparison => of_compared(maker, alloc, regs, stores, code, a, b, w, needs),
-        _ => no_value(alloc, w, needs),
+    match parts {
+        [a, b] => match code.class() {
+            Class::Binary => {
+                let first = make(maker, alloc, regs, stores, a, w, needs)?;
+                let second = make(maker, alloc, regs, stores, b, w, needs)?;
+                of_operands(maker, alloc, stores, code, w, first, second, needs)
+            }
+            Class::Shift => {
+                let first = make(maker, alloc, regs, stores, a, w, needs)?;
+                let count = make(maker, alloc, regs, stores, b, count_width_of(b), needs)?;
+                binary(maker, alloc, stores, code, w, first, count)
+            }
+            Class::Comparison => {
+                let Some(own) = own_width(a, b) else {
+                    return no_value(alloc, w, needs);
+                };
+                let first = make(maker, alloc, regs, stores, a, own, needs)?;
+                let second = make(maker, alloc, regs, stores, b, own, needs)?;
+                compared(maker, alloc, stores, code, own, w, first, second)
+            }
+            _ => no_value(alloc, w, needs),
+        },
+        [] => no_value(alloc, w, needs),
+        [_a] => no_value(alloc, w, needs),
+        [_a, _b, _c, ..] => no_value(alloc, w, needs),
     }
 }
 
 /// What is made of an expression in a width; its needs are put behind those that were met before.
 #[cycle(make)]
-#[tactic(auto, using(crate::proofs::Values::made_in))]
+#[tactic(auto, using(crate::proofs::Values::made_read))]
 pub fn make(
     maker: &mut TermMaker,
     alloc: Global,

@@ -2,15 +2,17 @@
 -- of the definitions.
 use Rattle.std.specs.Prelude.{◌≡◌, List, ◌++◌, map, Option}
 use Rattle.rtx_tree.specs.declared.code.Mode.{Mode}
-use Rattle.rtx_tree.specs.declared.tree.Rtx.{Rtx}
+use Rattle.rtx_tree.specs.declared.tree.Rtx.{Rtx, out-Rtx}
+use Rattle.rtl_step.specs.Value.{width_of}
 use Rattle.term_tree.specs.Tree.{Tree}
 use Rattle.term_tree.specs.View.{tree_of}
-use Rattle.sym_state.specs.State.{State, Need, Arg}
+use Rattle.term_mean.specs.Stores.{Store}
+use Rattle.sym_state.specs.State.{Changed, State, Need, Arg}
 use Rattle.sym_state.specs.Views.{arg_of, call_of, need_of}
 use Rattle.sym_state.specs.declared.state.NeedOf.{NeedOf}
 use Rattle.sym_state.specs.declared.state.SymArg.{SymArg}
 use Rattle.sym_state.specs.declared.state.SymCall.{SymCall}
-use Rattle.sym_insns.specs.Value.{Made}
+use Rattle.sym_insns.specs.Value.{Made, Reading, made_of}
 use Rattle.sym_insns.specs.Effects as spec
 use Rattle.sym_insns.specs.declared.effect.EffectOf.{EffectOf}
 use Rattle.sym_insns.specs.declared.effect.EffectOf.TheVariants.{Nothing, Sets, Unsets, Stores}
@@ -20,6 +22,10 @@ use Rattle.sym_insns.specs.declared.effect.EffectedOf.{EffectedOf}
 pub record IsMade (before after : List NeedOf) (term : Tree) (made : Made) : Type 0 where
   pub term_is : term ≡ made.term
   pub needs_are : map need_of after ≡ map need_of before ++ made.needs
+
+-- an expression as its outside reads it, by its own mode and what is made of it
+abbrev pub reading_by_mode : List Changed → List Store → Rtx → Reading
+reading_by_mode regs stores x = record { width = width_of (out-Rtx x).mode; made = made_of regs stores x }
 
 abbrev pub effect_view : EffectOf → spec.Effect
 effect_view Nothing = spec.Nothing

@@ -162,25 +162,29 @@ result_by _ parts = None
 abbrev pub result_mode : Rtx → Option Mode
 result_mode x = result_by (out-Rtx x).code (out-Rtx x).kids
 
+-- what there is not needs what nothing meets
+abbrev pub missing : Made
+missing = record { term = nothing; needs = Lost 0 W64 ∷ [] }
+
 abbrev pub made_target : List Changed → List Store → Option Rtx → Made
-made_target regs stores None = record { term = nothing; needs = Lost 0 W64 ∷ [] }
+made_target regs stores None = missing
 made_target regs stores (Some x) = made_of regs stores x W64
 
 -- an argument in its mode, without which it has no value
 abbrev pub arg_in : Option Width → List Changed → ℕ → Made
-arg_in None regs reg = record { term = nothing; needs = Lost 0 W64 ∷ [] }
+arg_in None regs reg = missing
 arg_in (Some w) regs reg = record { term = read regs reg w; needs = read_needs regs reg w }
 
 abbrev pub made_arg : List Changed → ArgUse → Made
-made_arg regs use = arg_in (width_of use.mode) regs use.reg
+made_arg regs arg = arg_in (width_of arg.mode) regs arg.reg
 
 abbrev pub args_of : List Changed → List ArgUse → List Arg
 args_of regs [] = []
-args_of regs (use ∷ uses) = record { reg = use.reg; value = (made_arg regs use).term } ∷ args_of regs uses
+args_of regs (arg ∷ uses) = record { reg = arg.reg; value = (made_arg regs arg).term } ∷ args_of regs uses
 
 abbrev pub args_needs : List Changed → List ArgUse → List Need
 args_needs regs [] = []
-args_needs regs (use ∷ uses) = (made_arg regs use).needs ++ args_needs regs uses
+args_needs regs (arg ∷ uses) = (made_arg regs arg).needs ++ args_needs regs uses
 
 abbrev pub calls : ℕ → Made → Option Mode → List ArgUse → State → State
 calls index target mode uses s = record s {

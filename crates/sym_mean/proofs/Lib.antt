@@ -4,4 +4,5 @@ pub mod Memories
 pub mod Numbers
 pub mod Operations
 pub mod Parts
+pub mod States
 pub mod Values

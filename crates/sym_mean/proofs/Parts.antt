@@ -84,7 +84,7 @@ module _ (v : Valuation) (f : First) (of : IsOf v f) where
 
 -- ---- loads
 
-both_bytes : Option ℕ → Option ℕ → Option ℕ
+unfoldable pub both_bytes : Option ℕ → Option ℕ → Option ℕ
 both_bytes byte rest = option_and_then (λ b. option_map (λ r. b + 256 * r) rest) byte
 
 both_has : (byte rest : Option ℕ) → is_some (both_bytes byte rest) ≡ (is_some byte && is_some rest)

@@ -31,7 +31,8 @@ fits_kind Barrier i last = true
 -- the place of the first instruction that can't be compared
 abbrev pub bad_from : ℕ → List Insn → Option ℕ
 bad_from index [] = None
-bad_from index (i ∷ insns) = if fits_kind i.kind i (is_end insns) then bad_from (index + 1) insns else Some index
+bad_from index (i ∷ insns) =
+    if fits_kind i.kind i (is_end insns) then bad_from (index + 1) insns else Some index
 
 abbrev pub bad_insn : List Insn → Option ℕ
 bad_insn insns = bad_from 0 insns

@@ -50,7 +50,9 @@ fn make_target(
     target: Option<&Rtx>,
     needs: &mut Needs,
 ) -> Result<Term, Memory>
-    ensures { IfOk result (λ r. IsMade needs.old needs.new (tree_of r) (spec.made_target (map changed_of regs.now) (map store_of stores.now) (option_copied target.entry))) }
+    ensures { IfOk result (λ r. IsMade needs.old needs.new (tree_of r)
+        (spec.made_target (map changed_of regs.now) (map store_of stores.now)
+        (option_copied target.entry))) }
 {
     match target {
         None => nothing(alloc, needs),
@@ -66,7 +68,8 @@ fn make_arg(
     arg: ArgUse,
     needs: &mut Needs,
 ) -> Result<Term, Memory>
-    ensures { IfOk result (λ r. IsMade needs.old needs.new (tree_of r) (spec.made_arg (map changed_of regs.now) arg)) }
+    ensures { IfOk result (λ r. IsMade needs.old needs.new (tree_of r)
+        (spec.made_arg (map changed_of regs.now) arg)) }
 {
     match width_of(arg.mode) {
         None => nothing(alloc, needs),
@@ -82,7 +85,9 @@ fn make_args(
     uses: &[ArgUse],
     needs: &mut Needs,
 ) -> Result<SymArgs, Memory>
-    ensures { IfOk result (λ args. AreArgs needs.old needs.new args (spec.args_of (map changed_of regs.now) uses.now) (spec.args_needs (map changed_of regs.now) uses.now)) }
+    ensures { IfOk result (λ args. AreArgs needs.old needs.new args
+        (spec.args_of (map changed_of regs.now) uses.now)
+        (spec.args_needs (map changed_of regs.now) uses.now)) }
 {
     let mut args = SymArgs::new(alloc);
     for arg in uses {
@@ -105,7 +110,11 @@ fn make_call(
     uses: &[ArgUse],
     needs: &mut Needs,
 ) -> Result<SymCall, Memory>
-    ensures { IfOk result (λ call. IsCall needs.old needs.new call (spec.made_target (map changed_of regs.now) (map store_of stores.now) (calls.target_of (calls.call_part x.now))) (spec.result_mode x.now) (spec.args_of (map changed_of regs.now) uses.now) (spec.args_needs (map changed_of regs.now) uses.now)) }
+    ensures { IfOk result (λ call. IsCall needs.old needs.new call
+        (spec.made_target (map changed_of regs.now) (map store_of stores.now)
+        (calls.target_of (calls.call_part x.now))) (spec.result_mode x.now)
+        (spec.args_of (map changed_of regs.now) uses.now)
+        (spec.args_needs (map changed_of regs.now) uses.now)) }
 {
     let target = make_target(maker, alloc, regs, stores, target_of(call_part(x)), needs)?;
     let args = make_args(maker, alloc, regs, uses, needs)?;
@@ -125,10 +134,19 @@ pub fn run_call(
     x: &Rtx,
     uses: &[ArgUse],
 ) -> Result<(), Memory>
-    ensures { OnOk result (state_of state.new ≡ spec.after_call index x.now uses.now (state_of state.old)) }
+    ensures { OnOk result (state_of state.new
+        ≡ spec.after_call index x.now uses.now (state_of state.old)) }
 {
     let mut needs = Needs::new(alloc);
-    let call = make_call(maker, alloc, &state.regs, &state.stores, x, uses, &mut needs)?;
+    let call = make_call(
+        maker,
+        alloc,
+        &state.regs,
+        &state.stores,
+        x,
+        uses,
+        &mut needs,
+    )?;
     leave_by_call(&mut state.regs)?;
     state.call = Some(call);
     add_needs(&mut state.needs, index, needs)

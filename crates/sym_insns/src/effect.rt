@@ -88,7 +88,9 @@ fn set_register(
     source: &Rtx,
     w: Width,
 ) -> Result<EffectedOf, Memory>
-    ensures { IfOk result (λ e. effected_view e ≡ spec.set_register (register_spec place.now) (made_of (map changed_of regs.now) (map store_of stores.now) source.now w)) }
+    ensures { IfOk result (λ e. effected_view e
+        ≡ spec.set_register (register_spec place.now)
+        (made_of (map changed_of regs.now) (map store_of stores.now) source.now w)) }
 {
     let Some(reg) = register_of(place) else {
         return no_effect(alloc);
@@ -110,7 +112,10 @@ fn set_memory(
     source: &Rtx,
     w: Width,
 ) -> Result<EffectedOf, Memory>
-    ensures { IfOk result (λ e. effected_view e ≡ spec.set_memory (made_of (map changed_of regs.now) (map store_of stores.now) address.now Width.W64) (made_of (map changed_of regs.now) (map store_of stores.now) source.now w) w) }
+    ensures { IfOk result (λ e. effected_view e
+        ≡ spec.set_memory
+        (made_of (map changed_of regs.now) (map store_of stores.now) address.now Width.W64)
+        (made_of (map changed_of regs.now) (map store_of stores.now) source.now w) w) }
 {
     let mut needs = Needs::new(alloc);
     let value = make(maker, alloc, regs, stores, source, w, &mut needs)?;
@@ -133,7 +138,9 @@ fn set_effect(
     place: &Rtx,
     source: &Rtx,
 ) -> Result<EffectedOf, Memory>
-    ensures { IfOk result (λ e. effected_view e ≡ spec.set_effect (map changed_of regs.now) (map store_of stores.now) place.now source.now) }
+    ensures { IfOk result (λ e. effected_view e
+        ≡ spec.set_effect (map changed_of regs.now) (map store_of stores.now)
+        place.now source.now) }
 {
     let Some(w) = width_of(place.mode) else {
         return no_effect(alloc);
@@ -170,7 +177,8 @@ fn effect_of(
     stores: &SymStores,
     x: &Rtx,
 ) -> Result<EffectedOf, Memory>
-    ensures { IfOk result (λ e. effected_view e ≡ spec.effect_of (map changed_of regs.now) (map store_of stores.now) x.now) }
+    ensures { IfOk result (λ e. effected_view e
+        ≡ spec.effect_of (map changed_of regs.now) (map store_of stores.now) x.now) }
 {
     match (x.code, x.kids.as_slice()) {
         (Code::Set, [place, source]) => set_effect(maker, alloc, regs, stores, place, source),
@@ -188,7 +196,8 @@ fn all_effects(
     stores: &SymStores,
     parts: &[Rtx],
 ) -> Result<Items<EffectedOf>, Memory>
-    ensures { IfOk result (λ effects. map effected_view effects ≡ map (spec.effect_of (map changed_of regs.now) (map store_of stores.now)) parts.now) }
+    ensures { IfOk result (λ effects. map effected_view effects
+        ≡ map (spec.effect_of (map changed_of regs.now) (map store_of stores.now)) parts.now) }
 {
     let mut effects = Items::new(alloc);
     for part in parts {
@@ -204,7 +213,8 @@ fn one_effect(
     stores: &SymStores,
     x: &Rtx,
 ) -> Result<Items<EffectedOf>, Memory>
-    ensures { IfOk result (λ effects. map effected_view effects ≡ spec.effect_of (map changed_of regs.now) (map store_of stores.now) x.now ∷ []) }
+    ensures { IfOk result (λ effects. map effected_view effects
+        ≡ spec.effect_of (map changed_of regs.now) (map store_of stores.now) x.now ∷ []) }
 {
     let mut effects = Items::new(alloc);
     effects.push(effect_of(maker, alloc, regs, stores, x)?)?;
@@ -219,7 +229,8 @@ fn effects_of(
     stores: &SymStores,
     x: &Rtx,
 ) -> Result<Items<EffectedOf>, Memory>
-    ensures { IfOk result (λ effects. map effected_view effects ≡ spec.effects_of (map changed_of regs.now) (map store_of stores.now) x.now) }
+    ensures { IfOk result (λ effects. map effected_view effects
+        ≡ spec.effects_of (map changed_of regs.now) (map store_of stores.now) x.now) }
 {
     match x.code {
         Code::Parallel => all_effects(maker, alloc, regs, stores, x.kids.as_slice()),
@@ -230,7 +241,8 @@ fn effects_of(
 /// Puts needs of an instruction at a place behind those that were met before.
 #[tactic(auto, using(crate::proofs::Steps::needs_step))]
 pub fn add_needs(all: &mut SymNeeds, index: u32, needs: Needs) -> Result<(), Memory>
-    ensures { OnOk result (map need_at_of all.new ≡ map need_at_of all.old ++ needs_at index (map need_of needs)) }
+    ensures { OnOk result (map need_at_of all.new
+        ≡ map need_at_of all.old ++ needs_at index (map need_of needs)) }
 {
     for what in needs.into_vec() {
         all.push(SymNeed { index, what })?;
@@ -240,7 +252,8 @@ pub fn add_needs(all: &mut SymNeeds, index: u32, needs: Needs) -> Result<(), Mem
 
 /// Makes an effect.
 fn change(state: &mut SymState, effect: EffectOf) -> Result<(), Memory>
-    ensures { OnOk result (state_of state.new ≡ with_effect (effect_view effect) (state_of state.old)) }
+    ensures { OnOk result (state_of state.new
+        ≡ with_effect (effect_view effect) (state_of state.old)) }
 {
     match effect {
         EffectOf::Nothing => Ok(()),
@@ -252,7 +265,8 @@ fn change(state: &mut SymState, effect: EffectOf) -> Result<(), Memory>
 
 /// Makes an effect, with its needs at a place.
 fn make_effect(state: &mut SymState, index: u32, effected: EffectedOf) -> Result<(), Memory>
-    ensures { OnOk result (state_of state.new ≡ spec.make index (effected_view effected) (state_of state.old)) }
+    ensures { OnOk result (state_of state.new
+        ≡ spec.make index (effected_view effected) (state_of state.old)) }
 {
     let EffectedOf { effect, needs } = effected;
     change(state, effect)?;
@@ -261,12 +275,9 @@ fn make_effect(state: &mut SymState, index: u32, effected: EffectedOf) -> Result
 
 /// Makes all effects, in order.
 #[tactic(auto, using(crate::proofs::Steps::make_more))]
-fn make_effects(
-    state: &mut SymState,
-    index: u32,
-    effects: Items<EffectedOf>,
-) -> Result<(), Memory>
-    ensures { OnOk result (state_of state.new ≡ spec.make_all index (map effected_view effects) (state_of state.old)) }
+fn make_effects(state: &mut SymState, index: u32, effects: Items<EffectedOf>) -> Result<(), Memory>
+    ensures { OnOk result (state_of state.new
+        ≡ spec.make_all index (map effected_view effects) (state_of state.old)) }
 {
     for effect in effects.into_vec() {
         make_effect(state, index, effect)?;

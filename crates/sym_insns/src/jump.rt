@@ -45,10 +45,21 @@ fn branch(
     test: &Rtx,
     label: &Rtx,
 ) -> Result<(), Memory>
-    ensures { OnOk result (state_of state.new ≡ spec.jumps index (made_of (state_of state.old).regs (state_of state.old).stores test.now Width.W8) label.now (state_of state.old)) }
+    ensures { OnOk result (state_of state.new
+        ≡ spec.jumps index
+        (made_of (state_of state.old).regs (state_of state.old).stores test.now Width.W8)
+        label.now (state_of state.old)) }
 {
     let mut needs = Needs::new(alloc);
-    let condition = make(maker, alloc, &state.regs, &state.stores, test, Width::W8, &mut needs)?;
+    let condition = make(
+        maker,
+        alloc,
+        &state.regs,
+        &state.stores,
+        test,
+        Width::W8,
+        &mut needs,
+    )?;
     lead(state, condition, label);
     add_needs(&mut state.needs, index, needs)
 }
@@ -71,7 +82,9 @@ fn run_source(
     index: u32,
     source: &Rtx,
 ) -> Result<(), Memory>
-    ensures { OnOk result (state_of state.new ≡ spec.jump_by (out-Rtx source.now).code (out-Rtx source.now).kids source.now index (state_of state.old)) }
+    ensures { OnOk result (state_of state.new
+        ≡ spec.jump_by (out-Rtx source.now).code (out-Rtx source.now).kids source.now index
+        (state_of state.old)) }
 {
     match (source.code, source.kids.as_slice()) {
         (Code::IfThenElse, [test, label, _other]) => {

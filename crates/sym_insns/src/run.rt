@@ -29,7 +29,14 @@ pub fn run_on(
     match insn.kind {
         Kind::Plain => run_plain(maker, alloc, state, index, &insn.pattern),
         Kind::Jump => run_jump(maker, alloc, state, index, &insn.pattern),
-        Kind::Call => run_call(maker, alloc, state, index, &insn.pattern, insn.uses.as_slice()),
+        Kind::Call => run_call(
+            maker,
+            alloc,
+            state,
+            index,
+            &insn.pattern,
+            insn.uses.as_slice(),
+        ),
         Kind::Label | Kind::Barrier => Ok(()),
     }
 }

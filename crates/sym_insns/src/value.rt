@@ -33,7 +33,8 @@ pub fn no_value(alloc: Global, w: Width, needs: &mut Needs) -> Result<Term, Memo
 
 /// Notes a need, if there is one.
 fn note(need: Option<NeedOf>, needs: &mut Needs) -> Result<(), Memory>
-    ensures { OnOk result (map need_of needs.new ≡ map need_of needs.old ++ listed (option_map need_of need)) }
+    ensures { OnOk result (map need_of needs.new
+        ≡ map need_of needs.old ++ listed (option_map need_of need)) }
 {
     if let Some(need) = need {
         needs.push(need)?;
@@ -50,7 +51,8 @@ pub fn read_register(
     w: Width,
     needs: &mut Needs,
 ) -> Result<Term, Memory>
-    ensures { IfOk result (λ r. IsMade needs.old needs.new (tree_of r) (spec.of_register (map changed_of regs.now) reg w)) }
+    ensures { IfOk result (λ r. IsMade needs.old needs.new (tree_of r)
+        (spec.of_register (map changed_of regs.now) reg w)) }
 {
     note(read_need(regs, reg, w), needs)?;
     read(maker, alloc, regs, reg, w)
@@ -64,7 +66,8 @@ fn symbol(
     w: Width,
     needs: &mut Needs,
 ) -> Result<Term, Memory>
-    ensures { IfOk result (λ r. IsMade needs.old needs.new (tree_of r) (spec.of_symbol name.now w)) }
+    ensures { IfOk result (λ r. IsMade needs.old needs.new (tree_of r)
+        (spec.of_symbol name.now w)) }
 {
     needs.push(NeedOf::Symbol {
         name: name.copy(alloc)?,
@@ -82,7 +85,9 @@ fn made_of_none(
     w: Width,
     needs: &mut Needs,
 ) -> Result<Term, Memory>
-    ensures { IfOk result (λ r. IsMade needs.old needs.new (tree_of r) (spec.made_of_none (map changed_of regs.now) (class_of_code (out-Rtx x.now).code) (out-Rtx x.now).number (out-Rtx x.now).name w)) }
+    ensures { IfOk result (λ r. IsMade needs.old needs.new (tree_of r)
+        (spec.made_of_none (map changed_of regs.now) (class_of_code (out-Rtx x.now).code)
+        (out-Rtx x.now).number (out-Rtx x.now).name w)) }
 {
     match x.code.class() {
         Class::Register => read_register(maker, alloc, regs, x.number.cast_unsigned(), w, needs),
@@ -101,7 +106,11 @@ fn load(
     address: Term,
     needs: &mut Needs,
 ) -> Result<Term, Memory>
-    ensures { IfOk result (λ r. IsMade needs.old needs.new (tree_of r) (record { term = spec.load_at (map store_of stores.now) w (tree_of address); needs = Access (tree_of address) w ∷ [] })) }
+    ensures { IfOk result (λ r. IsMade needs.old needs.new (tree_of r)
+        (record {
+          term = spec.load_at (map store_of stores.now) w (tree_of address);
+          needs = Access (tree_of address) w ∷ [];
+        })) }
 {
     needs.push(NeedOf::Access {
         address: address.copy(alloc)?,
@@ -125,7 +134,10 @@ fn of_converted(
     w: Width,
     needs: &mut Needs,
 ) -> Result<Term, Memory>
-    ensures { IfOk result (λ r. IsMade needs.old needs.new (tree_of r) (spec.of_converted (map store_of stores.now) (reading_by_mode (map changed_of regs.now) (map store_of stores.now) a.now).width code (reading_by_mode (map changed_of regs.now) (map store_of stores.now) a.now) w)) }
+    ensures { IfOk result (λ r. IsMade needs.old needs.new (tree_of r)
+        (spec.of_converted (map store_of stores.now)
+        (reading_by_mode (map changed_of regs.now) (map store_of stores.now) a.now).width code
+        (reading_by_mode (map changed_of regs.now) (map store_of stores.now) a.now) w)) }
 {
     match width_of(a.mode) {
         None => no_value(alloc, w, needs),
@@ -148,7 +160,9 @@ fn made_of_one(
     w: Width,
     needs: &mut Needs,
 ) -> Result<Term, Memory>
-    ensures { IfOk result (λ r. IsMade needs.old needs.new (tree_of r) (spec.made_of_one (map store_of stores.now) (class_of_code code) code (reading_by_mode (map changed_of regs.now) (map store_of stores.now) a.now) w)) }
+    ensures { IfOk result (λ r. IsMade needs.old needs.new (tree_of r)
+        (spec.made_of_one (map store_of stores.now) (class_of_code code) code
+        (reading_by_mode (map changed_of regs.now) (map store_of stores.now) a.now) w)) }
 {
     match code.class() {
         Class::Memory => {
@@ -169,7 +183,8 @@ fn made_of_one(
 
 /// The width in which the operands of a comparison are read: that of the first mode, or else of the second.
 fn own_width(a: &Rtx, b: &Rtx) -> Option<Width>
-    ensures { result ≡ first_width (step.width_of (out-Rtx a.now).mode) (step.width_of (out-Rtx b.now).mode) }
+    ensures { result ≡ first_width (step.width_of (out-Rtx a.now).mode)
+        (step.width_of (out-Rtx b.now).mode) }
 {
     match width_of(a.mode) {
         None => width_of(b.mode),
@@ -195,7 +210,11 @@ fn of_operands(
     b: Term,
     needs: &mut Needs,
 ) -> Result<Term, Memory>
-    ensures { IfOk result (λ r. IsMade needs.old needs.new (tree_of r) (record { term = spec.binary (map store_of stores.now) code w (tree_of a) (tree_of b); needs = spec.divisor_needs code (tree_of b) })) }
+    ensures { IfOk result (λ r. IsMade needs.old needs.new (tree_of r)
+        (record {
+          term = spec.binary (map store_of stores.now) code w (tree_of a) (tree_of b);
+          needs = spec.divisor_needs code (tree_of b);
+        })) }
 {
     need_divisor(alloc, code, &b, needs)?;
     binary(maker, alloc, stores, code, w, a, b)
@@ -213,7 +232,9 @@ fn made_of_parts(
     w: Width,
     needs: &mut Needs,
 ) -> Result<Term, Memory>
-    ensures { IfOk result (λ r. IsMade needs.old needs.new (tree_of r) (spec.made_of_parts (map store_of stores.now) (class_of_code code) code (map (reading_by_mode (map changed_of regs.now) (map store_of stores.now)) parts.now) w)) }
+    ensures { IfOk result (λ r. IsMade needs.old needs.new (tree_of r)
+        (spec.made_of_parts (map store_of stores.now) (class_of_code code) code
+        (map (reading_by_mode (map changed_of regs.now) (map store_of stores.now)) parts.now) w)) }
 {
     match parts {
         [a, b] => match code.class() {
@@ -255,7 +276,8 @@ pub fn make(
     w: Width,
     needs: &mut Needs,
 ) -> Result<Term, Memory>
-    ensures { IfOk result (λ r. IsMade needs.old needs.new (tree_of r) (spec.made_of (map changed_of regs.now) (map store_of stores.now) x.now w)) }
+    ensures { IfOk result (λ r. IsMade needs.old needs.new (tree_of r)
+        (spec.made_of (map changed_of regs.now) (map store_of stores.now) x.now w)) }
 {
     match x.kids.as_slice() {
         [] => made_of_none(maker, alloc, regs, x, w, needs),

@@ -25,7 +25,8 @@ pub record IsMade (before after : List NeedOf) (term : Tree) (made : Made) : Typ
 
 -- an expression as its outside reads it, by its own mode and what is made of it
 abbrev pub reading_by_mode : List Changed → List Store → Rtx → Reading
-reading_by_mode regs stores x = record { width = width_of (out-Rtx x).mode; made = made_of regs stores x }
+reading_by_mode regs stores x =
+    record { width = width_of (out-Rtx x).mode; made = made_of regs stores x }
 
 abbrev pub effect_view : EffectOf → spec.Effect
 effect_view Nothing = spec.Nothing
@@ -42,14 +43,17 @@ with_effect e s = record s { regs = spec.reg_after e s.regs; stores = spec.store
 
 -- where it leads noted, without its needs
 abbrev pub with_jump : Tree → Rtx → State → State
-with_jump condition label s = record s { jump = record { condition = condition; target = spec.target_uid label } }
+with_jump condition label s =
+    record s { jump = record { condition = condition; target = spec.target_uid label } }
 
 -- arguments with what they need
-pub record AreArgs (before after : List NeedOf) (args : List SymArg) (made : List Arg) (needs : List Need) : Type 0 where
+pub record AreArgs (before after : List NeedOf) (args : List SymArg) (made : List Arg)
+    (needs : List Need) : Type 0 where
   pub args_are : map arg_of args ≡ made
   pub needs_are : map need_of after ≡ map need_of before ++ needs
 
 -- a call with what it needs
-pub record IsCall (before after : List NeedOf) (call : SymCall) (target : Made) (result : Option Mode) (args : List Arg) (needs : List Need) : Type 0 where
+pub record IsCall (before after : List NeedOf) (call : SymCall) (target : Made)
+    (result : Option Mode) (args : List Arg) (needs : List Need) : Type 0 where
   pub call_is : call_of call ≡ record { target = target.term; result = result; args = args }
   pub needs_are : map need_of after ≡ map need_of before ++ (target.needs ++ needs)

@@ -6,4 +6,6 @@ use Rattle.sym_insns.specs.machine.Making.{effected_view}
 use Rattle.sym_insns.proofs.effect.all_effects.Given as goal
 
 abbrev pub invariant-loop-part : goal.invariant-loop-part
-invariant-loop-part l = map effected_view l.effects ++ map (effect_of (map changed_of l.regs) (map store_of l.stores)) (drop l.part-index l.parts) ≡ map (effect_of (map changed_of l.regs) (map store_of l.stores)) l.parts
+invariant-loop-part l =
+    let effects = map (effect_of (map changed_of l.regs) (map store_of l.stores)) in
+    map effected_view l.effects ++ effects (drop l.part-index l.parts) ≡ effects l.parts

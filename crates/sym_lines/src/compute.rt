@@ -1,6 +1,8 @@
 //! What an operation of a line makes of two terms.
 ghost use Rattle.std.specs.Prelude.{◌≡◌, [], ◌∷◌, IfOk};
 ghost use Rattle.bits64.specs.declared.Width.TheVariants.{W64};
+ghost use Rattle.rv_text.specs.declared.action.Source.TheVariants.{Constant};
+ghost use Rattle.rv_text.specs.declared.action.Extension.TheVariants.{Zero};
 ghost use Rattle.term_tree.specs.View.{tree_of};
 ghost use Rattle.term_mean.specs.Sums as sums;
 ghost use Rattle.term_mean.specs.Compared as comparisons;

@@ -53,7 +53,8 @@ fn sum(
     coefficient: u64,
     b: Term,
 ) -> Result<Term, Memory>
-    ensures { IfOk result (λ r. tree_of r ≡ sums.summed w 0 ((1, tree_of a) ∷ (coefficient, tree_of b) ∷ [])) }
+    ensures { IfOk result (λ r. tree_of r
+        ≡ sums.summed w 0 ((1, tree_of a) ∷ (coefficient, tree_of b) ∷ [])) }
 {
     let mut atoms = Vec::new(alloc);
     atoms.push(Atom {
@@ -87,7 +88,8 @@ fn related(
     a: Term,
     b: Term,
 ) -> Result<Term, Memory>
-    ensures { IfOk result (λ r. tree_of r ≡ spec.truth_in w (comparisons.compared relation w (tree_of a) (tree_of b))) }
+    ensures { IfOk result (λ r. tree_of r
+        ≡ spec.truth_in w (comparisons.compared relation w (tree_of a) (tree_of b))) }
 {
     let truth = maker.compared(relation, w, a, b)?;
     truth_in(maker, alloc, w, truth)
@@ -147,7 +149,8 @@ fn exclusive_or_constant(
     a: Term,
     b: Term,
 ) -> Result<Term, Memory>
-    ensures { IfOk result (λ r. tree_of r ≡ spec.exclusive_or (Constant number) w (tree_of a) (tree_of b)) }
+    ensures { IfOk result (λ r. tree_of r
+        ≡ spec.exclusive_or (Constant number) w (tree_of a) (tree_of b)) }
 {
     if number == -1 {
         complement(maker, alloc, w, a)
@@ -184,7 +187,8 @@ fn operated(
     a: Term,
     b: Term,
 ) -> Result<Term, Memory>
-    ensures { IfOk result (λ r. tree_of r ≡ spec.operated operation right w (tree_of a) (tree_of b)) }
+    ensures { IfOk result (λ r. tree_of r
+        ≡ spec.operated operation right w (tree_of a) (tree_of b)) }
 {
     match operation {
         Operation::Xor => exclusive_or(maker, alloc, right, w, a, b),
@@ -256,7 +260,8 @@ pub(crate) fn computed(
     a: &Term,
     b: &Term,
 ) -> Result<Term, Memory>
-    ensures { IfOk result (λ r. tree_of r ≡ spec.computed operation right w (tree_of a.now) (tree_of b.now)) }
+    ensures { IfOk result (λ r. tree_of r
+        ≡ spec.computed operation right w (tree_of a.now) (tree_of b.now)) }
 {
     let low_a = maker.cut(w, a)?;
     let low_b = maker.cut(w, b)?;
@@ -284,7 +289,8 @@ pub(crate) fn compared(
     a: Term,
     b: Term,
 ) -> Result<Term, Memory>
-    ensures { IfOk result (λ r. tree_of r ≡ comparisons.compared (spec.relation_of comparison) W64 (tree_of a) (tree_of b)) }
+    ensures { IfOk result (λ r. tree_of r
+        ≡ comparisons.compared (spec.relation_of comparison) W64 (tree_of a) (tree_of b)) }
 {
     maker.compared(relation_of(comparison), Width::W64, a, b)
 }

@@ -28,7 +28,8 @@ fn behind_decimal<'a>(text: &'a [u8], number: u32) -> Option<&'a [u8]>
 /// What stands in a label's text behind the function's number.
 #[tactic(auto, using(crate::proofs::Labels::front_means))]
 fn behind_function<'a>(text: &'a [u8], function: u32) -> Option<&'a [u8]>
-    ensures { option_map (λ rest. rest.now) result ≡ spec.behind (codes ".L" ++ (decimal function ++ codes "_")) text.entry.now }
+    ensures { option_map (λ rest. rest.now) result
+        ≡ spec.behind (codes ".L" ++ (decimal function ++ codes "_")) text.entry.now }
 {
     let rest = behind(text, b".L")?;
     let rest = behind_decimal(rest, function)?;
@@ -52,7 +53,8 @@ fn uid_in(function: u32, symbol: &[u8]) -> Option<u32>
 /// The uid for which a symbol stands in a function: it is the text of that uid's label.
 pub fn label_uid(function: u32, symbol: &[u8]) -> Option<u32>
     ensures uid { result ≡ spec.label_uid function symbol.now }
-    ensures label { (uid : ℕ) → (result ≡ Some uid) ↔ ((symbol.now ≡ label_text function uid) × (uid < 2 ^ 32)) }
+    ensures label { (uid : ℕ) →
+        (result ≡ Some uid) ↔ ((symbol.now ≡ label_text function uid) × (uid < 2 ^ 32)) }
 {
     uid_in(function, symbol)
 }

@@ -3,7 +3,7 @@ ghost use Rattle.std.specs.Prelude.{◌≡◌, ◌<◌, ◌^◌, length, Some, N
 ghost use Rattle.rv_text.specs.Lines.{action_of};
 ghost use Rattle.sym_state.specs.Views.{state_of};
 ghost use Rattle.sym_state.specs.Answers.{Gives};
-ghost use Rattle.sym_state.specs.State as state_spec;
+ghost use Rattle.sym_state.specs.State.{ran, start};
 ghost use Rattle.sym_lines.specs.Run as spec;
 
 use crate::label::label_uid;
@@ -68,7 +68,8 @@ pub fn run_line_on(
     index: u32,
     line: &Line,
 ) -> Result<(), Memory>
-    ensures { OnOk result (state_of state.new ≡ spec.after function index line.now (state_of state.old)) }
+    ensures { OnOk result (state_of state.new
+        ≡ spec.after function index line.now (state_of state.old)) }
 {
     match line.action() {
         Some(action) => {
@@ -88,7 +89,8 @@ fn run_on(
     lines: &[Line],
 ) -> Result<bool, Memory>
     requires { length lines.now < 2 ^ 32 }
-    ensures { IfOk result (λ small. spec.run_from function 0 lines.now (state_of state.old) ≡ (if small then Some (state_of state.new) else None)) }
+    ensures { IfOk result (λ small. spec.run_from function 0 lines.now (state_of state.old)
+        ≡ (if small then Some (state_of state.new) else None)) }
 {
     for (at, line) in lines.iter().enumerate() {
         run_line_on(maker, alloc, state, function, at as u32, line)?;
@@ -102,7 +104,7 @@ fn run_on(
 /// Runs lines from the start.
 fn run_all(alloc: Global, function: u32, lines: &[Line]) -> Result<SymState, SymRefusal>
     requires { length lines.now < 2 ^ 32 }
-    ensures { Gives result (state_spec.ran None (spec.run_from function 0 lines.now state_spec.start)) }
+    ensures { Gives result (ran None (spec.run_from function 0 lines.now start)) }
 {
     let mut maker = TermMaker::new(alloc);
     let mut state = SymState::new(alloc);
@@ -113,7 +115,7 @@ fn run_all(alloc: Global, function: u32, lines: &[Line]) -> Result<SymState, Sym
     }
 }
 
-/// The symbolic state after the lines of a function. Whether they can be compared is looked at first.
+/// The symbolic state after lines of a function. Whether they can be compared is looked at first.
 pub fn run_sym_lines(alloc: Global, function: u32, lines: &[Line]) -> Result<SymState, SymRefusal>
     requires { length lines.now < 2 ^ 32 }
     ensures { Gives result (spec.run function lines.now) }

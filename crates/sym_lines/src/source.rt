@@ -5,11 +5,12 @@ ghost use Rattle.bits64.specs.declared.Width.TheVariants.{W64};
 ghost use Rattle.term_tree.specs.View.{tree_of};
 ghost use Rattle.term_mean.specs.Sums as sums;
 ghost use Rattle.term_mean.specs.Compared as comparisons;
-ghost use Rattle.sym_state.specs.State as state;
-ghost use Rattle.sym_state.specs.State.{needs_at};
-ghost use Rattle.sym_state.specs.Views.{changed_of, need_of, need_at_of};
+ghost use Rattle.sym_state.specs.State.{Symbol};
+ghost use Rattle.sym_state.specs.Views.{changed_of, need_of};
 ghost use Rattle.sym_state.specs.machine.Places.{listed};
 ghost use Rattle.sym_lines.specs.Step as spec;
+ghost use Rattle.sym_lines.specs.machine.Parts as parts;
+ghost use Rattle.sym_lines.specs.machine.Parts.{AreNoted};
 
 use bits64::Width;
 use plain_data::Memory;
@@ -84,7 +85,8 @@ pub(crate) fn stored(
     line: &Line,
     w: Width,
 ) -> Result<Term, Memory>
-    ensures { IfOk result (λ r. tree_of r ≡ comparisons.low_bits w (spec.register (map changed_of regs.now) line.now.rt)) }
+    ensures { IfOk result (λ r. tree_of r
+        ≡ comparisons.low_bits w (spec.register (map changed_of regs.now) line.now.rt)) }
 {
     let value = register(maker, alloc, regs, line.rt)?;
     maker.cut(w, &value)
@@ -92,14 +94,16 @@ pub(crate) fn stored(
 
 /// That a register is set, where that is not known.
 fn register_need(regs: &SymRegs, reg: u8) -> Option<NeedOf>
-    ensures { listed (option_map need_of result) ≡ spec.register_needs (map changed_of regs.now) reg }
+    ensures { listed (option_map need_of result)
+        ≡ spec.register_needs (map changed_of regs.now) reg }
 {
     read_need(regs, u64::from(reg), Width::W8)
 }
 
 /// What reading a source needs.
 fn source_need(regs: &SymRegs, line: &Line, source: Source) -> Option<NeedOf>
-    ensures { listed (option_map need_of result) ≡ spec.source_needs (map changed_of regs.now) line.now source }
+    ensures { listed (option_map need_of result)
+        ≡ spec.source_needs (map changed_of regs.now) line.now source }
 {
     match source {
         Source::First => register_need(regs, line.rs),
@@ -111,14 +115,14 @@ fn source_need(regs: &SymRegs, line: &Line, source: Source) -> Option<NeedOf>
 
 /// Notes a need of the line at a place.
 pub(crate) fn note(needs: &mut SymNeeds, index: u32, what: NeedOf) -> Result<(), Memory>
-    ensures { OnOk result (map need_at_of needs.new ≡ map need_at_of needs.old ++ needs_at index (need_of what ∷ [])) }
+    ensures { OnOk result (AreNoted needs.old needs.new index (need_of what ∷ [])) }
 {
     needs.push(SymNeed { index, what })
 }
 
 /// Notes a need, if there is one.
 fn note_any(needs: &mut SymNeeds, index: u32, need: Option<NeedOf>) -> Result<(), Memory>
-    ensures { OnOk result (map need_at_of needs.new ≡ map need_at_of needs.old ++ needs_at index (listed (option_map need_of need))) }
+    ensures { OnOk result (AreNoted needs.old needs.new index (listed (option_map need_of need))) }
 {
     match need {
         Some(what) => note(needs, index, what),
@@ -133,7 +137,8 @@ pub(crate) fn need_register(
     regs: &SymRegs,
     reg: u8,
 ) -> Result<(), Memory>
-    ensures { OnOk result (map need_at_of needs.new ≡ map need_at_of needs.old ++ needs_at index (spec.register_needs (map changed_of regs.now) reg)) }
+    ensures { OnOk result (AreNoted needs.old needs.new index
+        (spec.register_needs (map changed_of regs.now) reg)) }
 {
     note_any(needs, index, register_need(regs, reg))
 }
@@ -145,7 +150,8 @@ fn need_source(
     line: &Line,
     source: Source,
 ) -> Result<(), Memory>
-    ensures { OnOk result (map need_at_of needs.new ≡ map need_at_of needs.old ++ needs_at index (spec.source_needs (map changed_of regs.now) line.now source)) }
+    ensures { OnOk result (AreNoted needs.old needs.new index
+        (spec.source_needs (map changed_of regs.now) line.now source)) }
 {
     note_any(needs, index, source_need(regs, line, source))
 }
@@ -160,7 +166,8 @@ pub(crate) fn need_sources(
     left: Source,
     right: Source,
 ) -> Result<(), Memory>
-    ensures { OnOk result (map need_at_of needs.new ≡ map need_at_of needs.old ++ needs_at index (spec.source_needs (map changed_of regs.now) line.now left ++ spec.source_needs (map changed_of regs.now) line.now right)) }
+    ensures { OnOk result (AreNoted needs.old needs.new index
+        (parts.both_needs (map changed_of regs.now) line.now left right)) }
 {
     need_source(needs, index, regs, line, left)?;
     need_source(needs, index, regs, line, right)
@@ -176,7 +183,8 @@ pub(crate) fn need_access(
     at: Term,
     w: Width,
 ) -> Result<(), Memory>
-    ensures { OnOk result (map need_at_of needs.new ≡ map need_at_of needs.old ++ needs_at index (spec.register_needs (map changed_of regs.now) line.now.rs ++ state.Access (tree_of at) w ∷ [])) }
+    ensures { OnOk result (AreNoted needs.old needs.new index
+        (parts.access_needs (map changed_of regs.now) line.now (tree_of at) w)) }
 {
     need_register(needs, index, regs, line.rs)?;
     note(
@@ -199,7 +207,9 @@ pub(crate) fn need_store(
     at: Term,
     w: Width,
 ) -> Result<(), Memory>
-    ensures { OnOk result (map need_at_of needs.new ≡ map need_at_of needs.old ++ needs_at index (spec.register_needs (map changed_of regs.now) line.now.rt ++ (spec.register_needs (map changed_of regs.now) line.now.rs ++ state.Access (tree_of at) w ∷ []))) }
+    ensures { OnOk result (AreNoted needs.old needs.new index
+        (spec.register_needs (map changed_of regs.now) line.now.rt
+        ++ parts.access_needs (map changed_of regs.now) line.now (tree_of at) w)) }
 {
     need_register(needs, index, regs, line.rt)?;
     need_access(needs, index, regs, line, at, w)
@@ -212,7 +222,7 @@ pub(crate) fn need_symbol(
     index: u32,
     line: &Line,
 ) -> Result<(), Memory>
-    ensures { OnOk result (map need_at_of needs.new ≡ map need_at_of needs.old ++ needs_at index (state.Symbol line.now.target ∷ [])) }
+    ensures { OnOk result (AreNoted needs.old needs.new index (Symbol line.now.target ∷ [])) }
 {
     let name = line.target.copy(alloc)?;
     note(needs, index, NeedOf::Symbol { name })

@@ -1,15 +1,15 @@
 //! What a line does to a symbolic state.
-ghost use Rattle.std.specs.Prelude.{ℕ, ◌≡◌, ◌+◌, ◌++◌, ◌≤◌, [], ◌∷◌, map, length, Some, None, IfOk, OnOk};
+ghost use Rattle.std.specs.Prelude.{◌≡◌, ◌+◌, ◌++◌, ◌≤◌, [], ◌∷◌, map, None, IfOk, OnOk};
 ghost use Rattle.bits64.specs.declared.Width.TheVariants.{W8, W64};
+ghost use Rattle.rv_text.specs.declared.action.Action.TheVariants as actions;
 ghost use Rattle.term_tree.specs.View.{tree_of};
 ghost use Rattle.term_mean.specs.Sums as sums;
 ghost use Rattle.term_mean.specs.Compared as comparisons;
 ghost use Rattle.sym_term.specs.Views.{store_of};
-ghost use Rattle.sym_state.specs.State as state_spec;
-ghost use Rattle.sym_state.specs.Registers.{left_by_call};
 ghost use Rattle.sym_state.specs.Views.{changed_of, arg_of, state_of};
 ghost use Rattle.sym_lines.specs.Compute as operations;
 ghost use Rattle.sym_lines.specs.Step as spec;
+ghost use Rattle.sym_lines.specs.machine.Parts as parts;
 
 use crate::compute::{compared, computed, extended};
 use crate::source::{
@@ -39,7 +39,9 @@ fn value_of(
     left: Source,
     right: Source,
 ) -> Result<Term, Memory>
-    ensures { IfOk result (λ r. tree_of r ≡ operations.computed operation right w (spec.source (map changed_of regs.now) line.now left) (spec.source (map changed_of regs.now) line.now right)) }
+    ensures { IfOk result (λ r. tree_of r ≡ operations.computed operation right w
+        (spec.source (map changed_of regs.now) line.now left)
+        (spec.source (map changed_of regs.now) line.now right)) }
 {
     let a = source(maker, alloc, regs, line, left)?;
     let b = source(maker, alloc, regs, line, right)?;
@@ -58,7 +60,8 @@ fn compute(
     left: Source,
     right: Source,
 ) -> Result<(), Memory>
-    ensures { OnOk result (state_of state.new ≡ spec.sets index line.now (operations.computed operation right w (spec.source (state_of state.old).regs line.now left) (spec.source (state_of state.old).regs line.now right)) (spec.source_needs (state_of state.old).regs line.now left ++ spec.source_needs (state_of state.old).regs line.now right) (state_of state.old)) }
+    ensures { OnOk result (state_of state.new
+        ≡ spec.act (actions.Compute operation w left right) index None line.now (state_of state.old)) }
 {
     let term = value_of(maker, alloc, &state.regs, line, operation, w, left, right)?;
     need_sources(&mut state.needs, index, &state.regs, line, left, right)?;
@@ -91,7 +94,8 @@ fn loaded_in_64(
     extension: Extension,
     at: &Term,
 ) -> Result<Term, Memory>
-    ensures { IfOk result (λ r. tree_of r ≡ spec.extended extension w (spec.loaded (map store_of stores.now) w (tree_of at.now))) }
+    ensures { IfOk result (λ r. tree_of r
+        ≡ spec.extended extension w (spec.loaded (map store_of stores.now) w (tree_of at.now))) }
 {
     let term = loaded(maker, alloc, stores, w, at.copy(alloc)?)?;
     extended(maker, alloc, extension, w, term)
@@ -107,7 +111,8 @@ fn load(
     w: Width,
     extension: Extension,
 ) -> Result<(), Memory>
-    ensures { OnOk result (state_of state.new ≡ spec.sets index line.now (spec.extended extension w (spec.loaded (state_of state.old).stores w (spec.address (state_of state.old).regs line.now))) (spec.register_needs (state_of state.old).regs line.now.rs ++ state_spec.Access (spec.address (state_of state.old).regs line.now) w ∷ []) (state_of state.old)) }
+    ensures { OnOk result (state_of state.new
+        ≡ spec.act (actions.Load w extension) index None line.now (state_of state.old)) }
 {
     let at = address(maker, alloc, &state.regs, line)?;
     let term = loaded_in_64(maker, alloc, &state.stores, w, extension, &at)?;
@@ -118,7 +123,8 @@ fn load(
 /// Puts a store behind those so far.
 #[tactic(auto, using(crate::proofs::Needs::stores_more))]
 fn push_store(stores: &mut SymStores, address: Term, value: Term) -> Result<(), Memory>
-    ensures { OnOk result (map store_of stores.new ≡ map store_of stores.old ++ (tree_of address, tree_of value) ∷ []) }
+    ensures { OnOk result (map store_of stores.new
+        ≡ map store_of stores.old ++ (tree_of address, tree_of value) ∷ []) }
 {
     stores.push(SymStore { address, value })
 }
@@ -132,7 +138,8 @@ fn store(
     line: &Line,
     w: Width,
 ) -> Result<(), Memory>
-    ensures { OnOk result (state_of state.new ≡ spec.stores index w (spec.address (state_of state.old).regs line.now) line.now (state_of state.old)) }
+    ensures { OnOk result (state_of state.new
+        ≡ spec.act (actions.Store w) index None line.now (state_of state.old)) }
 {
     let at = address(maker, alloc, &state.regs, line)?;
     let value = stored(maker, alloc, &state.regs, line, w)?;
@@ -154,7 +161,8 @@ fn set_symbol_address(
     index: u32,
     line: &Line,
 ) -> Result<(), Memory>
-    ensures { OnOk result (state_of state.new ≡ spec.sets index line.now (state_spec.own_symbol line.now.target) (state_spec.Symbol line.now.target ∷ []) (state_of state.old)) }
+    ensures { OnOk result (state_of state.new
+        ≡ spec.act actions.SymbolAddress index None line.now (state_of state.old)) }
 {
     let term = own_symbol(alloc, &line.target)?;
     need_symbol(alloc, &mut state.needs, index, line)?;
@@ -171,7 +179,10 @@ fn condition(
     left: Source,
     right: Source,
 ) -> Result<Term, Memory>
-    ensures { IfOk result (λ r. tree_of r ≡ comparisons.compared (operations.relation_of comparison) W64 (spec.source (map changed_of regs.now) line.now left) (spec.source (map changed_of regs.now) line.now right)) }
+    ensures { IfOk result (λ r. tree_of r
+        ≡ comparisons.compared (operations.relation_of comparison) W64
+        (spec.source (map changed_of regs.now) line.now left)
+        (spec.source (map changed_of regs.now) line.now right)) }
 {
     let a = source(maker, alloc, regs, line, left)?;
     let b = source(maker, alloc, regs, line, right)?;
@@ -190,7 +201,8 @@ fn branch(
     left: Source,
     right: Source,
 ) -> Result<(), Memory>
-    ensures { OnOk result (state_of state.new ≡ spec.jumps index uid (comparisons.compared (operations.relation_of comparison) W64 (spec.source (state_of state.old).regs line.now left) (spec.source (state_of state.old).regs line.now right)) (spec.source_needs (state_of state.old).regs line.now left ++ spec.source_needs (state_of state.old).regs line.now right) (state_of state.old)) }
+    ensures { OnOk result (state_of state.new
+        ≡ spec.act (actions.Branch comparison left right) index uid line.now (state_of state.old)) }
 {
     let condition = condition(maker, alloc, &state.regs, line, comparison, left, right)?;
     need_sources(&mut state.needs, index, &state.regs, line, left, right)?;
@@ -204,7 +216,8 @@ fn branch(
 /// Jumps.
 #[tactic(auto, using(crate::proofs::Needs::nothing_more))]
 fn jump(alloc: Global, state: &mut SymState, index: u32, uid: Option<u32>)
-    ensures { state_of state.new ≡ spec.jumps index uid (sums.constant W8 1) [] (state_of state.old) }
+    ensures { state_of state.new
+        ≡ spec.jumps index uid (sums.constant W8 1) [] (state_of state.old) }
 {
     state.jump = SymJump {
         condition: constant_term(alloc, Width::W8, 1),
@@ -213,7 +226,8 @@ fn jump(alloc: Global, state: &mut SymState, index: u32, uid: Option<u32>)
 }
 
 fn arg(maker: &mut TermMaker, alloc: Global, regs: &SymRegs, reg: u8) -> Result<SymArg, Memory>
-    ensures { IfOk result (λ a. arg_of a ≡ record { reg = reg; value = spec.register (map changed_of regs.now) reg }) }
+    ensures { IfOk result (λ a. arg_of a
+        ≡ record { reg = reg; value = spec.register (map changed_of regs.now) reg }) }
 {
     Ok(SymArg {
         reg,
@@ -230,7 +244,8 @@ fn args_from(
     first: u8,
 ) -> Result<SymArgs, Memory>
     requires { first + count ≤ 255 }
-    ensures { IfOk result (λ args. map arg_of args ≡ spec.args_from count first (map changed_of regs.now)) }
+    ensures { IfOk result (λ args. map arg_of args
+        ≡ spec.args_from count first (map changed_of regs.now)) }
 {
     let mut args = Items::new(alloc);
     for reg in first..first + count {
@@ -246,7 +261,7 @@ fn call(
     state: &mut SymState,
     target: Term,
 ) -> Result<(), Memory>
-    ensures { OnOk result (state_of state.new ≡ record (state_of state.old) { regs = left_by_call (state_of state.old).regs; call = Some (record { target = tree_of target; result = None; args = spec.args_from 8 10 (state_of state.old).regs }) }) }
+    ensures { OnOk result (state_of state.new ≡ parts.called (tree_of target) (state_of state.old)) }
 {
     let args = args_from(maker, alloc, &state.regs, 8, 10)?;
     leave_by_call(&mut state.regs)?;
@@ -266,7 +281,8 @@ fn call_symbol(
     index: u32,
     line: &Line,
 ) -> Result<(), Memory>
-    ensures { OnOk result (state_of state.new ≡ spec.calls index (state_spec.own_symbol line.now.target) (state_spec.Symbol line.now.target ∷ []) (state_of state.old)) }
+    ensures { OnOk result (state_of state.new
+        ≡ spec.act actions.Call index None line.now (state_of state.old)) }
 {
     let target = own_symbol(alloc, &line.target)?;
     need_symbol(alloc, &mut state.needs, index, line)?;
@@ -281,7 +297,8 @@ fn call_register(
     index: u32,
     line: &Line,
 ) -> Result<(), Memory>
-    ensures { OnOk result (state_of state.new ≡ spec.calls index (spec.register (state_of state.old).regs line.now.rs) (spec.register_needs (state_of state.old).regs line.now.rs) (state_of state.old)) }
+    ensures { OnOk result (state_of state.new
+        ≡ spec.act actions.CallRegister index None line.now (state_of state.old)) }
 {
     let target = register(maker, alloc, &state.regs, line.rs)?;
     need_register(&mut state.needs, index, &state.regs, line.rs)?;
@@ -298,7 +315,8 @@ pub(crate) fn act(
     uid: Option<u32>,
     line: &Line,
 ) -> Result<(), Memory>
-    ensures { OnOk result (state_of state.new ≡ spec.act action index uid line.now (state_of state.old)) }
+    ensures { OnOk result (state_of state.new
+        ≡ spec.act action index uid line.now (state_of state.old)) }
 {
     match action {
         Action::Compute {

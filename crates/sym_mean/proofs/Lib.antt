@@ -4,5 +4,6 @@ pub mod Memories
 pub mod Numbers
 pub mod Operations
 pub mod Parts
+pub mod Plain
 pub mod States
 pub mod Values

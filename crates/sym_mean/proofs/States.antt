@@ -22,6 +22,7 @@ use Rattle.sym_mean.specs.Meant.{meant}
 use Rattle.sym_mean.specs.Shows.{IsOf, ShowsRegister, ShowsMemory, Shows}
 use Rattle.sym_mean.proofs.Changes.{same_number, held_placed, held_kept}
 use Rattle.sym_mean.proofs.Memories.{IsNext, stored_more, shows_stored}
+use Rattle.sym_mean.proofs.Parts.{has_load}
 
 is_here : (t : ℕ) → eq_by_cmp nat_cmp t t ≡ true
 is_here t = search (rules, nat_cmp_total, gets)
@@ -85,10 +86,14 @@ module _ (v : Valuation) (f : First) where
 
   -- ---- effects
 
-  -- what an effect asks besides its needs: memory at the address of a store, and that the valuation's next memory is the one behind it
-  abbrev pub IsReady : List Store → List MemByte → spec.Effect → Type 0
-  IsReady stores memory (spec.Stores address value) = (is_some (load (width_of value) memory (mean v address)) ≡ true) × IsNext v (length stores) (address, value)
-  IsReady stores memory _ = Unit {0}
+  -- what an effect asks: of a store, that memory is there at first, and that the valuation's next memory is the one behind it
+  abbrev pub HasAccess : spec.Effect → Type 0
+  HasAccess (spec.Stores address value) = is_some (load (width_of value) f.memory (mean v address)) ≡ true
+  HasAccess _ = Unit {0}
+
+  abbrev pub LeadsOn : List Store → spec.Effect → Type 0
+  LeadsOn stores (spec.Stores address value) = IsNext v (length stores) (address, value)
+  LeadsOn stores _ = Unit {0}
 
   has_number : (w : Width) (memory : List MemByte) (address : ℕ) → is_some (load w memory address) ≡ true → is_some (number_at memory address (bytes_of w)) ≡ true
   has_number w memory address is = by (is_aligned w address) is
@@ -106,23 +111,24 @@ module _ (v : Valuation) (f : First) where
   one_more [] s = refl
   one_more (t ∷ stores) s = ap suc (one_more stores s)
 
-  pub made_shows : (index : ℕ) (e : spec.Effected) (s : State) (regs : Regs) (memory : List MemByte) → Shows v f s regs memory → IsReady s.stores memory e.effect →
+  pub made_shows : (index : ℕ) (e : spec.Effected) (s : State) (regs : Regs) (memory : List MemByte) → Shows v f s regs memory → HasAccess e.effect → LeadsOn s.stores e.effect →
       Shows v f (spec.make index e s) (effect.reg_after (meant v e.effect) regs) (effect.bytes_after (meant v e.effect) memory)
-  made_shows index e s regs memory shows ready = by e.effect ready
+  made_shows index e s regs memory shows has leads = by e.effect has leads
     where
-      by : (x : spec.Effect) → IsReady s.stores memory x →
+      by : (x : spec.Effect) → HasAccess x → LeadsOn s.stores x →
           Shows v f (spec.make index (record e { effect = x }) s) (effect.reg_after (meant v x) regs) (effect.bytes_after (meant v x) memory)
-      by spec.Nothing ready = record { registers = shows.registers; memory_is = shows.memory_is; stored = shows.stored }
-      by (spec.Sets reg t) ready = record { registers = set_shows s.regs regs reg t shows.registers; memory_is = shows.memory_is; stored = shows.stored }
-      by (spec.Unsets reg) ready = record { registers = unset_shows s.regs regs reg shows.registers; memory_is = shows.memory_is; stored = shows.stored }
-      by (spec.Stores address value) ready =
+      by spec.Nothing has leads = record { registers = shows.registers; memory_is = shows.memory_is; stored = shows.stored }
+      by (spec.Sets reg t) has leads = record { registers = set_shows s.regs regs reg t shows.registers; memory_is = shows.memory_is; stored = shows.stored }
+      by (spec.Unsets reg) has leads = record { registers = unset_shows s.regs regs reg shows.registers; memory_is = shows.memory_is; stored = shows.stored }
+      by (spec.Stores address value) has leads =
           let w : Width = width_of value in
           let at : ℕ = mean v address in
-          let after : unwrap_or (store w memory at (mean v value)) memory ≡ with_number memory at (bytes_of w) (mean v value) = store_is w memory at (mean v value) (load w memory at) refl ready.0 in
+          let here : is_some (load w memory at) ≡ true = has_load w memory f.memory at shows.memory_is.addresses ∙ has in
+          let after : unwrap_or (store w memory at (mean v value)) memory ≡ with_number memory at (bytes_of w) (mean v value) = store_is w memory at (mean v value) (load w memory at) refl here in
           record {
             registers = shows.registers;
             memory_is = subst (λ n. ShowsMemory v f (unwrap_or (store w memory at (mean v value)) memory) n) (sym (one_more s.stores (address, value)))
                 (subst (λ m. ShowsMemory v f m (suc (length s.stores))) (sym after)
-                (shows_stored v f memory (length s.stores) shows.memory_is w at (mean v value) (has_number w memory at ready.0) ready.1));
-            stored = stored_more v s.stores (address, value) shows.stored ready.1;
+                (shows_stored v f memory (length s.stores) shows.memory_is w at (mean v value) (has_number w memory at here) leads));
+            stored = stored_more v s.stores (address, value) shows.stored leads;
           }

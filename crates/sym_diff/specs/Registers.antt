@@ -10,7 +10,7 @@ use Rattle.term_mean.specs.Compared.{low_bits}
 use Rattle.term_text.specs.declared.item.Item.TheVariants.{Register}
 use Rattle.sym_state.specs.State.{Changed, State, own_register}
 use Rattle.sym_state.specs.Registers.{held}
-use Rattle.equate.specs.Verdict.{Difference, Differ, shown, or_else}
+use Rattle.sym_diff.specs.Difference.{Difference, Differ, shown, or_else}
 
 abbrev pub same_tree : Tree → Tree → Bool
 same_tree a b = is_eq (tree_cmp a b)

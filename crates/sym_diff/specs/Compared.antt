@@ -15,8 +15,8 @@ use Rattle.term_mean.specs.Compared.{low_bits}
 use Rattle.term_text.specs.declared.item.Item.{Item}
 use Rattle.term_text.specs.declared.item.Item.TheVariants as item
 use Rattle.sym_state.specs.State.{Jump, Arg, Call, Need, NeedAt, Register, Lost, Access, Divisor, Symbol, nothing, own_register, own_symbol}
-use Rattle.equate.specs.Verdict.{Difference, Differ, Lacks, shown, or_else}
-use Rattle.equate.specs.Registers.{same_tree, put_number, cut_beside}
+use Rattle.sym_diff.specs.Difference.{Difference, Differ, Lacks, shown, or_else}
+use Rattle.sym_diff.specs.Registers.{same_tree, put_number, cut_beside}
 
 -- two terms of an item
 abbrev pub compared_terms : Item → Tree → Tree → Option Difference

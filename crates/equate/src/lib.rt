@@ -1,0 +1,2 @@
+//! Stub of this clone.
+#![tactic(auto)]

@@ -1,0 +1,6 @@
+pub mod Difference
+pub mod Registers
+pub mod Compared
+pub mod States
+pub mod Views
+pub mod machine

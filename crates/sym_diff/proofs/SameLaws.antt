@@ -9,8 +9,8 @@ use Rattle.sym_diff.specs.Registers.{same_tree}
 both-flags : (r s : Bool) → (IsTrue r → IsTrue s) → (IsTrue s → IsTrue r) → r ≡ s
 both-flags true true on back = refl
 both-flags false false on back = refl
-both-flags true false on back = absurd (cc (on refl))
-both-flags false true on back = absurd (cc (back refl))
+both-flags true false on back = let h : false ≡ true = on refl in cc
+both-flags false true on back = let h : false ≡ true = back refl in cc
 
 pub same-flag : (t u : Tree) (r : Bool) → IsTrue r ↔ (t ≡ u) → r ≡ same_tree t u
 same-flag t u r told = both-flags r (same_tree t u) (λ h. (same-is t u).1 (told.0 h)) (λ h. told.1 ((same-is t u).0 h))

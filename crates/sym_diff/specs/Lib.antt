@@ -4,3 +4,4 @@ pub mod Compared
 pub mod States
 pub mod Views
 pub mod machine
+pub mod Agree

@@ -1,6 +1,5 @@
 //! What the states call.
 ghost use Rattle.std.specs.Prelude.{◌≡◌, map, option_map, Some, IfOk};
-ghost use Rattle.rtl_func.specs.Shapes.{mode_bits as mode_bits_spec};
 ghost use Rattle.bits64.specs.declared.Width.TheVariants.{W64};
 ghost use Rattle.term_tree.specs.View.{tree_of};
 ghost use Rattle.term_mean.specs.Sums.{constant};
@@ -117,7 +116,7 @@ fn compared_args(
 }
 
 fn mode_bits(mode: Mode) -> u64
-    ensures { result ≡ mode_bits_spec mode }
+    ensures { result ≡ spec.mode_bits mode }
 {
     match mode {
         Mode::Void => 0,

@@ -1,5 +1,5 @@
 -- The item that a comparison finds is the first in which the states do not agree; and where it finds none, they agree.
-use Rattle.std.proofs.Common.{◌≡◌, ◌≢◌, ¬, ℕ, suc, ◌+◌, ◌<◌, ◌==◌, ◌&&◌, ◌||◌, not, nat_le, Bool, true, false, cond, List, [], ◌∷◌, take, slice_get, Option, Some, None, refl, sym, ◌∙◌, ap, subst, arith}
+use Rattle.std.proofs.Common.{◌≡◌, ◌≢◌, ℕ, suc, ◌+◌, ◌<◌, ◌==◌, ◌&&◌, ◌||◌, not, nat_le, Bool, true, false, cond, List, [], ◌∷◌, take, slice_get, Option, Some, None, refl, sym, ◌∙◌, ap, subst, arith}
 use Rattle.std.specs.Prelude.{is_some}
 use Rattle.std.proofs.lemmas.Bool.Decides.{nat_tests}
 use Rattle.bits64.specs.declared.Width.TheVariants.{W64}
@@ -174,7 +174,7 @@ registers_first of_lines live a b d h =
 -- ---- stores
 
 same_store : (x y : Store) → x.0 ≡ y.0 → x.1 ≡ y.1 → x ≡ y
-same_store x y h k = cc
+same_store x y h k = ap (λ p. (p, x.1)) h ∙ ap (λ q. (y.0, q)) k
 
 store_none : (index : ℕ) (x y : Store) → compared_store index x y ≡ None → x ≡ y
 store_none index x y h =
@@ -248,7 +248,7 @@ found_arg of_lines a b reg = compared_arg of_lines (arg_at a reg) (arg_at b reg)
 args_item : (of_lines : Bool) (a b : List Arg) (regs : List ℕ) → InItem item.Call (compared_args of_lines a b regs)
 args_item of_lines a b [] = none_item item.Call
 args_item of_lines a b (reg ∷ regs) =
-    or_item item.Call (found_arg of_lines a b reg) (compared_args of_lines a b regs) (terms_item item.Call _ _) (args_item of_lines a b regs)
+    or_item item.Call (found_arg of_lines a b reg) (compared_args of_lines a b regs) (terms_item item.Call (shown (arg_at a reg)) (shown (arg_beside of_lines (arg_at a reg) (arg_at b reg)))) (args_item of_lines a b regs)
 
 args_none : (of_lines : Bool) (a b : List Arg) (regs : List ℕ) → compared_args of_lines a b regs ≡ None → (reg : ℕ) → has_reg regs reg ≡ true → found_arg of_lines a b reg ≡ None
 args_none of_lines a b [] h reg has = cc
@@ -269,15 +269,15 @@ none_args of_lines a b (r ∷ regs) h =
 
 results_item : (of_lines : Bool) (a b : Call) → InItem item.Call (compared_results of_lines a b)
 results_item true a b = none_item item.Call
-results_item false a b = terms_item item.Call _ _
+results_item false a b = terms_item item.Call (constant W64 (result_bits a.result)) (constant W64 (result_bits b.result))
 
 results_none : (of_lines : Bool) (a b : Call) → compared_results of_lines a b ≡ None → of_lines ≡ false → constant W64 (result_bits a.result) ≡ constant W64 (result_bits b.result)
 results_none true a b h is = cc
-results_none false a b h is = terms_none item.Call _ _ h
+results_none false a b h is = terms_none item.Call (constant W64 (result_bits a.result)) (constant W64 (result_bits b.result)) h
 
 none_results : (of_lines : Bool) (a b : Call) → (of_lines ≡ false → constant W64 (result_bits a.result) ≡ constant W64 (result_bits b.result)) → compared_results of_lines a b ≡ None
 none_results true a b h = refl
-none_results false a b h = none_terms item.Call _ _ (h refl)
+none_results false a b h = none_terms item.Call (constant W64 (result_bits a.result)) (constant W64 (result_bits b.result)) (h refl)
 
 -- the arguments that are looked at
 first_args : (of_lines : Bool) (a b : List Arg) (reg : ℕ) (t : Tree) → arg_at a reg ≡ Some t → has_reg (compared_numbers of_lines a b) reg ≡ true
@@ -401,7 +401,7 @@ needs_first : (of_lines : Bool) (live : List ℕ) (a b : State) (d : Difference)
     compared_needs a.needs b.needs ≡ Some d → FirstFails of_lines live a b d
 needs_first of_lines live a b d r s j c h =
     let l = needs_lack a.needs b.needs d h in
-    subst (λ d. FirstFails of_lines live a b d) (sym l.is) (r, (s, (j, (c, λ agree. never (compared_needs a.needs b.needs) d h (none_needs a.needs b.needs agree)))))
+    subst (λ d. FirstFails of_lines live a b d) (sym l.is) (r, s, j, c, λ agree. never (compared_needs a.needs b.needs) d h (none_needs a.needs b.needs agree))
 
 calls_first : (of_lines : Bool) (live : List ℕ) (a b : State) (d : Difference) → RegistersAgree live a b → a.stores ≡ b.stores → JumpsAgree a.jump b.jump →
     or_else (compared_calls of_lines a.call b.call) (compared_needs a.needs b.needs) ≡ Some d → FirstFails of_lines live a b d
@@ -410,7 +410,7 @@ calls_first of_lines live a b d r s j h = go (compared_calls of_lines a.call b.c
     go : (x : Option Difference) → compared_calls of_lines a.call b.call ≡ x → or_else x (compared_needs a.needs b.needs) ≡ Some d → FirstFails of_lines live a b d
     go (Some e) is h =
         let i = calls_item of_lines a.call b.call d (is ∙ h) in
-        subst (λ d. FirstFails of_lines live a b d) (sym i.is) (r, (s, (j, λ agree. never (compared_calls of_lines a.call b.call) d (is ∙ h) (none_calls of_lines a.call b.call agree))))
+        subst (λ d. FirstFails of_lines live a b d) (sym i.is) (r, s, j, λ agree. never (compared_calls of_lines a.call b.call) d (is ∙ h) (none_calls of_lines a.call b.call agree))
     go None is h = needs_first of_lines live a b d r s j (calls_none of_lines a.call b.call is) h
 
 jump_first : (of_lines : Bool) (live : List ℕ) (a b : State) (d : Difference) → RegistersAgree live a b → a.stores ≡ b.stores →
@@ -420,7 +420,7 @@ jump_first of_lines live a b d r s h = go (compared_jump a.jump b.jump) refl h
     go : (x : Option Difference) → compared_jump a.jump b.jump ≡ x → or_else x (or_else (compared_calls of_lines a.call b.call) (compared_needs a.needs b.needs)) ≡ Some d → FirstFails of_lines live a b d
     go (Some e) is h =
         let i = jump_item a.jump b.jump d (is ∙ h) in
-        subst (λ d. FirstFails of_lines live a b d) (sym i.is) (r, (s, λ agree. never (compared_jump a.jump b.jump) d (is ∙ h) (none_jump a.jump b.jump agree)))
+        subst (λ d. FirstFails of_lines live a b d) (sym i.is) (r, s, λ agree. never (compared_jump a.jump b.jump) d (is ∙ h) (none_jump a.jump b.jump agree))
     go None is h = calls_first of_lines live a b d r s (jump_none a.jump b.jump is) h
 
 abbrev behind_stores : Bool → State → State → Option Difference
@@ -432,7 +432,7 @@ stores_fail of_lines live a b d r h =
     let i = f.of_store in
     let at_place : f.place ≡ f.at = (let e : f.at ≡ 0 + f.place = f.at_is in omega arith) in
     subst (λ d. FirstFails of_lines live a b d) (sym i.is)
-      (subst (λ n. RegistersAgree live a b × (take n a.stores ≡ take n b.stores) × (slice_get a.stores n ≢ slice_get b.stores n)) at_place (r, (f.before, f.differ)))
+      (subst (λ n. RegistersAgree live a b × (take n a.stores ≡ take n b.stores) × (slice_get a.stores n ≢ slice_get b.stores n)) at_place (r, f.before, f.differ))
 
 stores_then : (of_lines : Bool) (live : List ℕ) (a b : State) (d : Difference) → RegistersAgree live a b →
     or_else (compared_stores 0 a.stores b.stores) (behind_stores of_lines a b) ≡ Some d → FirstFails of_lines live a b d

@@ -1,6 +1,6 @@
 -- When two symbolic states agree, item by item, over the registers that are live behind; and which
 -- item is the first in which they do not.
-use Rattle.std.specs.Prelude.{◌≡◌, ◌≢◌, ¬, ℕ, ◌<◌, ◌≤◌, ◌||◌, Bool, true, false, List, take, slice_get, Option, Some, None, is_some}
+use Rattle.std.specs.Prelude.{◌≡◌, ◌≢◌, ℕ, ◌<◌, ◌≤◌, ◌||◌, Bool, true, false, List, take, slice_get, Option, Some, None, is_some}
 use Rattle.std.specs.List.{list_all}
 use Rattle.bits64.specs.declared.Width.TheVariants.{W64}
 use Rattle.rtx_tree.specs.Registers.{virtual_stack_vars}

@@ -14,5 +14,7 @@ mod terms;
 
 pub use refusal::SymRefusal;
 pub use registers::{leave_by_call, put, read, read_need};
-pub use state::{NeedOf, SymArg, SymArgs, SymCall, SymJump, SymNeed, SymNeeds, SymReg, SymRegs, SymState};
+pub use state::{
+    NeedOf, SymArg, SymArgs, SymCall, SymJump, SymNeed, SymNeeds, SymReg, SymRegs, SymState,
+};
 pub use terms::{own_register, own_symbol};

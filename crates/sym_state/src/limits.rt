@@ -40,7 +40,12 @@ fn is_small_arg(arg: &SymArg) -> bool
 fn are_small_args(args: &[SymArg]) -> bool
     ensures { result ≡ list_all (λ a. spec.is_small a.value) (map views.arg_of args.now) }
 {
-    args.iter().all(is_small_arg)
+    for item in args {
+        if !is_small_arg(item) {
+            return false;
+        }
+    }
+    true
 }
 
 fn is_small_call(call: &Option<SymCall>) -> bool
@@ -65,19 +70,34 @@ fn is_small_need(need: &SymNeed) -> bool
 fn are_small_registers(regs: &[SymReg]) -> bool
     ensures { result ≡ list_all (λ c. spec.is_small_value c.value) (map views.changed_of regs.now) }
 {
-    regs.iter().all(is_small_register)
+    for item in regs {
+        if !is_small_register(item) {
+            return false;
+        }
+    }
+    true
 }
 
 fn are_small_stores(stores: &[SymStore]) -> bool
     ensures { result ≡ list_all spec.is_small_store (map store_of stores.now) }
 {
-    stores.iter().all(is_small_store)
+    for item in stores {
+        if !is_small_store(item) {
+            return false;
+        }
+    }
+    true
 }
 
 fn are_small_needs(needs: &[SymNeed]) -> bool
     ensures { result ≡ list_all (λ n. spec.is_small_need n.what) (map views.need_at_of needs.now) }
 {
-    needs.iter().all(is_small_need)
+    for item in needs {
+        if !is_small_need(item) {
+            return false;
+        }
+    }
+    true
 }
 
 impl SymState {

@@ -137,6 +137,7 @@ fn is_at(regs: &[SymReg], at: usize, reg: u64) -> bool
 }
 
 /// Puts a register at a place, in place of itself where it stands there.
+#[tactic(auto, using(crate::proofs::Placing::changes_seen))]
 fn put_at(regs: &mut SymRegs, at: usize, reg: u64, value: Option<Term>) -> Result<(), Memory>
     requires { at ≤ length regs.old }
     ensures { OnOk result (map changed_of regs.new ≡ places.put_at (map changed_of regs.old) at reg (option_map tree_of value)) }
@@ -150,6 +151,7 @@ fn put_at(regs: &mut SymRegs, at: usize, reg: u64, value: Option<Term>) -> Resul
 }
 
 /// Sets a register to the known bits of a term, or unsets it. Register zero keeps nothing.
+#[tactic(auto, using(crate::proofs::Placing::puts))]
 pub fn put(regs: &mut SymRegs, reg: u64, value: Option<Term>) -> Result<(), Memory>
     ensures { OnOk result (map changed_of regs.new ≡ spec.put (map changed_of regs.old) reg (option_map tree_of value)) }
 {
@@ -160,14 +162,24 @@ pub fn put(regs: &mut SymRegs, reg: u64, value: Option<Term>) -> Result<(), Memo
     put_at(regs, at, reg, value)
 }
 
+/// Unsets a register that a call need not preserve; any other stays.
+fn leave(regs: &mut SymRegs, reg: u8) -> Result<(), Memory>
+    ensures { OnOk result (map changed_of regs.new ≡ places.left_at reg (map changed_of regs.old)) }
+{
+    if reg_call_used(reg) {
+        put(regs, u64::from(reg), None)
+    } else {
+        Ok(())
+    }
+}
+
 /// Unsets the registers that a call need not preserve.
+#[tactic(auto, using(crate::proofs::Placing::leaves))]
 pub fn leave_by_call(regs: &mut SymRegs) -> Result<(), Memory>
     ensures { OnOk result (map changed_of regs.new ≡ spec.left_by_call (map changed_of regs.old)) }
 {
     for reg in 0..HARD_REGS {
-        if reg_call_used(reg) {
-            put(regs, u64::from(reg), None)?;
-        }
+        leave(regs, reg)?;
     }
     Ok(())
 }

@@ -1,17 +1,18 @@
 -- The place of a register among the changed ones, and the steps by which it is put there.
-use Rattle.std.specs.Prelude.{ℕ, ◌+◌, ◌==◌, nat_lt, Bool, false, if◌then◌else◌, List, [], ◌∷◌, Option, Some, None, slice_get, slice_set}
+use Rattle.std.specs.Prelude.{ℕ, suc, ◌==◌, nat_lt, Bool, false, if◌then◌else◌, List, [], ◌∷◌, Option, Some, None, slice_get, slice_set}
 use Rattle.std.specs.List.{insert}
 use Rattle.bits64.specs.declared.Width.{Width}
+use Rattle.rtx_tree.specs.Registers.{is_call_used}
 use Rattle.term_tree.specs.Tree.{Tree, width_of}
 use Rattle.term_tree.specs.Form.{narrower}
 use Rattle.term_mean.specs.Compared.{low_bits}
 use Rattle.sym_state.specs.State.{Changed, own_register}
-use Rattle.sym_state.specs.Registers.{changed}
+use Rattle.sym_state.specs.Registers.{changed, put}
 
 -- the place of the first register that is not below one, or the end
 abbrev pub place_of : List Changed → ℕ → ℕ
 place_of [] reg = 0
-place_of (c ∷ regs) reg = if nat_lt c.reg reg then 1 + place_of regs reg else 0
+place_of (c ∷ regs) reg = if nat_lt c.reg reg then suc (place_of regs reg) else 0
 
 abbrev pub is_register : Option Changed → ℕ → Bool
 is_register None reg = false
@@ -31,3 +32,7 @@ term_left (Some t) reg w = if narrower (width_of t) w then low_bits w (own_regis
 abbrev pub listed : {X : Type 0} → Option X → List X
 listed None = []
 listed (Some x) = x ∷ []
+
+-- one register left by a call
+abbrev pub left_at : ℕ → List Changed → List Changed
+left_at reg regs = if is_call_used reg then put regs reg None else regs

@@ -1,0 +1,52 @@
+-- Registers that are changed: what a register holds after one was set or unset, and that a symbolic state shows the state of a run
+-- after each of these, and after a store.
+use Rattle.std.proofs.lemmas.Bool.Decides.{nat_tests}
+use Rattle.std.proofs.Common.{◌≡◌, ◌≢◌, ℕ, zero, suc, ◌+◌, ◌<◌, ◌==◌, nat_lt, Bool, true, false, cond, List, [], ◌∷◌, ◌++◌, length, Option, Some, None, refl, sym, ◌∙◌, ap, subst, arith, tests}
+use Rattle.std.specs.Prelude.{if◌then◌else◌, option_and_then, is_some}
+use Rattle.std.specs.FinMap.{FinMap, get, insert, remove}
+use Rattle.std.specs.Ordering.{nat_cmp}
+use Rattle.bits64.specs.declared.Width.{Width}
+use Rattle.rtl_step.specs.Regs.{Regs, known_in, known_of, reg_value, with_reg, without_reg}
+use Rattle.rtl_step.specs.declared.regs.Known.{Known}
+use Rattle.term_tree.specs.Tree.{Tree, width_of}
+use Rattle.term_mean.specs.Meaning.{Valuation, mean}
+use Rattle.sym_state.specs.State.{Changed}
+use Rattle.sym_state.specs.Registers.{changed, held, placed, put}
+
+-- ---- what is held after a register is placed
+
+same_number : (a b : ℕ) → (a == b) ≡ true → a ≡ b
+same_number a b is = grind (arith, nat_tests, is)
+
+other_number : (a b : ℕ) → a ≢ b → (a == b) ≡ false
+other_number a b differ = grind (arith, nat_tests, differ)
+
+held_here : (reg : ℕ) (value : Option Tree) (regs : List Changed) → held (changed reg value ∷ regs) reg ≡ Some value
+held_here reg value regs = let e : (reg == reg) ≡ true = grind (arith, nat_tests) in ap (λ b. if b then Some value else held regs reg) e
+
+pub held_placed : (regs : List Changed) (reg : ℕ) (value : Option Tree) → held (placed regs reg value) reg ≡ Some value
+held_placed [] reg value = held_here reg value []
+held_placed (c ∷ regs) reg value = by (nat_lt c.reg reg) (c.reg == reg) refl (held_placed regs reg value)
+  where
+    by : (less same : Bool) → nat_lt c.reg reg ≡ less → held (placed regs reg value) reg ≡ Some value →
+        held (cond less (c ∷ placed regs reg value) (cond same (changed reg value ∷ regs) (changed reg value ∷ c ∷ regs))) reg ≡ Some value
+    by true same is ih =
+        let e : (c.reg == reg) ≡ false = grind (arith, nat_tests, tests, is) in
+        ap (λ b. if b then Some c.value else held (placed regs reg value) reg) e ∙ ih
+    by false true is ih = held_here reg value regs
+    by false false is ih = held_here reg value (c ∷ regs)
+
+held_other : (reg other : ℕ) (value : Option Tree) (regs : List Changed) → reg ≢ other → held (changed reg value ∷ regs) other ≡ held regs other
+held_other reg other value regs differ = ap (λ b. if b then Some value else held regs other) (other_number reg other differ)
+
+pub held_kept : (regs : List Changed) (reg other : ℕ) (value : Option Tree) → reg ≢ other → held (placed regs reg value) other ≡ held regs other
+held_kept [] reg other value differ = held_other reg other value [] differ
+held_kept (c ∷ regs) reg other value differ = by (nat_lt c.reg reg) (c.reg == reg) refl (held_kept regs reg other value differ)
+  where
+    by : (less same : Bool) → (c.reg == reg) ≡ same → held (placed regs reg value) other ≡ held regs other →
+        held (cond less (c ∷ placed regs reg value) (cond same (changed reg value ∷ regs) (changed reg value ∷ c ∷ regs))) other ≡ held (c ∷ regs) other
+    by true same is ih = ap (λ o. if c.reg == other then Some c.value else o) ih
+    by false true is ih =
+        let e : (c.reg == other) ≡ false = other_number c.reg other (λ same. differ (sym (same_number c.reg reg is) ∙ same)) in
+        held_other reg other value regs differ ∙ sym (ap (λ b. if b then Some c.value else held regs other) e)
+    by false false is ih = held_other reg other value (c ∷ regs) differ

@@ -1,0 +1,4 @@
+pub mod Insns
+pub mod Lines
+pub mod Beside
+pub mod Does

@@ -3,3 +3,4 @@ pub mod Verdict
 pub mod Equated
 pub mod Views
 pub mod Answers
+pub mod Told

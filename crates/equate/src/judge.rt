@@ -10,6 +10,7 @@ ghost use Rattle.equate.specs.Side as sides;
 ghost use Rattle.equate.specs.Equated as spec;
 ghost use Rattle.equate.specs.Views.{side_of};
 ghost use Rattle.equate.specs.Answers.{Gives};
+ghost use Rattle.equate.specs.Told.{Tells};
 
 use crate::returns::both_return;
 use crate::verdict::{Side, Verdict};
@@ -127,9 +128,8 @@ fn judged(
     }
 }
 
-/// Whether instructions are equated with what stands in their place, over the registers that are live behind: the first item that
-/// fails, where one does. `Size` comes where a term that is met has too many nodes and no part is one that can't be compared.
-pub fn equate(
+/// The verdict.
+fn decided(
     alloc: Global,
     before: &[Insn],
     after: &Side,
@@ -144,4 +144,21 @@ pub fn equate(
     } else {
         judged(alloc, before, after, live)
     }
+}
+
+/// Whether instructions are equated with what stands in their place, over the registers that are live behind: the first item that
+/// fails, where one does. `Size` comes where a term that is met has too many nodes and no part is one that can't be compared.
+#[tactic(auto, using(crate::proofs::VerdictLaws::telling))]
+pub fn equate(
+    alloc: Global,
+    before: &[Insn],
+    after: &Side,
+    live: &RegSet,
+) -> Result<Verdict, TermRefusal>
+    requires before { length before.now < 2 ^ 32 }
+    requires after { sides.side_length (side_of after.now) < 2 ^ 32 }
+    ensures gives { Gives result (spec.verdict before.now (side_of after.now) live.now) }
+    ensures tells { Tells result before.now (side_of after.now) live.now }
+{
+    decided(alloc, before, after, live)
 }

@@ -119,9 +119,9 @@ agrees_in live a b reg h =
 in_agrees : (live : List ℕ) (a b : State) (reg : ℕ) → AgreesIn live a b reg → fails live (held a.regs reg) (held b.regs reg) reg ≡ false
 in_agrees live a b reg h =
     or_false (changes_alone live (held a.regs reg) (held b.regs reg) reg) _
-      (not_alone (nat_le reg virtual_stack_vars) (is_some (held a.regs reg)) (is_some (held b.regs reg)) (is_free reg) (is_live live reg)
-        (λ low left changed. h.kept (grind (arith, nat_tests, low)) (is_none (held a.regs reg) left) changed))
-      (known_live (is_live live reg) _ (λ is. known (value_behind (held a.regs reg) reg) (value_behind (held b.regs reg) reg) (h.known is)))
+    (not_alone (nat_le reg virtual_stack_vars) (is_some (held a.regs reg)) (is_some (held b.regs reg)) (is_free reg) (is_live live reg)
+    (λ low left changed. h.kept (grind (arith, nat_tests, low)) (is_none (held a.regs reg) left) changed))
+    (known_live (is_live live reg) _ (λ is. known (value_behind (held a.regs reg) reg) (value_behind (held b.regs reg) reg) (h.known is)))
   where
     or_false : (p q : Bool) → p ≡ false → q ≡ false → (p || q) ≡ false
     or_false true q hp hq = cc

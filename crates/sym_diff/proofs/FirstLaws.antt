@@ -17,7 +17,7 @@ use Rattle.sym_diff.specs.Difference.{Difference, Differ, Lacks, shown, or_else}
 use Rattle.sym_diff.specs.Registers.{same_tree, is_live, compared_register, compared_all, compared_registers, changed_in, fails, is_passed_over, register_difference}
 use Rattle.sym_diff.specs.Compared.{compared_terms, compared_store, compared_stores, compared_jump, compared_calls, compared_arg, compared_args, compared_numbers, compared_results, compared_needs, target_term, arg_at, arg_beside, args_in, result_bits, need_term, is_covered}
 use Rattle.sym_diff.specs.States.{difference}
-use Rattle.sym_diff.specs.Agree.{RegisterAgrees, RegistersAgree, JumpsAgree, SameCall, CallsAgree, NeedsAgree, Agree, FirstFails}
+use Rattle.sym_diff.specs.Agree.{RegisterAgrees, RegistersAgree, JumpsAgree, SameCall, CallsAgree, NeedsAgree, Agree, FirstFails, Tells}
 use Rattle.sym_diff.proofs.AgreeLaws.{or_none, none_or, terms_none, none_terms, register_none, none_register, needs_none, none_needs}
 use Rattle.sym_diff.proofs.NumberLaws.{same_number, itself, or_left, or_right, args_from, changed_keeps, changed_has, args_keep, args_have, Over, Increasing, changed_increasing, has_over}
 
@@ -107,12 +107,14 @@ found_first live a b d (r ∷ regs) rises h = go (found_in live a b r) refl h (f
         by : (here : Bool) → (r == s) ≡ here → (here || has_reg regs s) ≡ true → ⊥
         by true is has = let e : r ≡ s = same_number r s is in omega arith
         by false is has = let over : r < s = has_over r s regs rises.0 has in omega arith
+
     later : (f : FoundAt live a b regs d) → found_in live a b r ≡ None → (s : ℕ) → s < f.reg → has_reg (r ∷ regs) s ≡ true → found_in live a b s ≡ None
     later f first s less has = by (r == s) refl has
       where
         by : (here : Bool) → (r == s) ≡ here → (here || has_reg regs s) ≡ true → found_in live a b s ≡ None
         by true is has = subst (λ n. found_in live a b n ≡ None) (same_number r s is) first
         by false is has = f.before s less has
+
     go : (x : Option Difference) → found_in live a b r ≡ x → or_else x (found_among live a b regs) ≡ Some d → (found_among live a b regs ≡ Some d → FoundAt live a b regs d) →
         FoundAt live a b (r ∷ regs) d
     go (Some e) is h ih = record { reg = r; found = is ∙ h; before = below }
@@ -164,9 +166,10 @@ registers_first : (of_lines : Bool) (live : List ℕ) (a b : State) (d : Differe
 registers_first of_lines live a b d h =
     let f = found_first live a b d (numbers a b) (changed_increasing b.regs (changed_in a.regs []) (changed_increasing a.regs [] tt)) h in
     let i = register_item (calls a b) live (held a.regs f.reg) (held b.regs f.reg) f.reg d f.found in
-    subst (λ d. FirstFails of_lines live a b d) (sym i.is)
-      ( λ r less. register_none live a b r (each_none live a b r (f.before r less))
-      , λ agree. never (found_in live a b f.reg) f.found (none_register live a b f.reg agree) )
+    subst (λ d. FirstFails of_lines live a b d) (sym i.is) (
+      λ r less. register_none live a b r (each_none live a b r (f.before r less)),
+      λ agree. never (found_in live a b f.reg) f.found (none_register live a b f.reg agree),
+    )
   where
     never : (x : Option Difference) → x ≡ Some d → x ≡ None → ⊥
     never x some none = cc
@@ -184,7 +187,7 @@ store_none index x y h =
 none_store : (index : ℕ) (x y : Store) → x ≡ y → compared_store index x y ≡ None
 none_store index x y h =
     none_or (compared_terms (item.Store index) x.0 y.0) (compared_terms (item.Store index) x.1 y.1)
-      (none_terms (item.Store index) x.0 y.0 (ap (λ s. s.0) h)) (none_terms (item.Store index) x.1 y.1 (ap (λ s. s.1) h))
+    (none_terms (item.Store index) x.0 y.0 (ap (λ s. s.0) h)) (none_terms (item.Store index) x.1 y.1 (ap (λ s. s.1) h))
 
 store_item : (index : ℕ) (x y : Store) → InItem (item.Store index) (compared_store index x y)
 store_item index x y = or_item (item.Store index) _ _ (terms_item (item.Store index) x.0 y.0) (terms_item (item.Store index) x.1 y.1)
@@ -216,8 +219,10 @@ stores_first index (x ∷ a) (y ∷ b) d h = go (compared_store index x y) refl 
   where
     not_same : compared_store index x y ≡ Some d → Some x ≡ Some y → ⊥
     not_same found e = let same : x ≡ y = cc in let none = none_store index x y same in cc
+
     joined : (p q : List Store) → x ≡ y → p ≡ q → x ∷ p ≡ y ∷ q
     joined p q h k = cc
+
     go : (o : Option Difference) → compared_store index x y ≡ o → or_else o (compared_stores (index + 1) a b) ≡ Some d → (compared_stores (index + 1) a b ≡ Some d → StoreAt (index + 1) a b d) →
         StoreAt index (x ∷ a) (y ∷ b) d
     go (Some e) is h ih = record { at = index; place = 0; at_is = omega arith; of_store = store_item index x y d (is ∙ h); before = refl; differ = not_same (is ∙ h) }
@@ -237,7 +242,7 @@ jump_none a b h =
 none_jump : (a b : Jump) → JumpsAgree a b → compared_jump a b ≡ None
 none_jump a b h =
     none_or (compared_terms item.Jump a.condition b.condition) (compared_terms item.Jump (target_term a.target) (target_term b.target))
-      (none_terms item.Jump a.condition b.condition h.0) (none_terms item.Jump (target_term a.target) (target_term b.target) h.1)
+    (none_terms item.Jump a.condition b.condition h.0) (none_terms item.Jump (target_term a.target) (target_term b.target) h.1)
 
 -- ---- the call
 
@@ -265,7 +270,7 @@ none_args : (of_lines : Bool) (a b : List Arg) (regs : List ℕ) → ((reg : ℕ
 none_args of_lines a b [] h = refl
 none_args of_lines a b (r ∷ regs) h =
     none_or (found_arg of_lines a b r) (compared_args of_lines a b regs) (h r (or_left (r == r) (has_reg regs r) (itself r)))
-      (none_args of_lines a b regs (λ reg has. h reg (or_right (r == reg) (has_reg regs reg) has)))
+    (none_args of_lines a b regs (λ reg has. h reg (or_right (r == reg) (has_reg regs reg) has)))
 
 results_item : (of_lines : Bool) (a b : Call) → InItem item.Call (compared_results of_lines a b)
 results_item true a b = none_item item.Call
@@ -316,6 +321,7 @@ both_none of_lines a b h =
     first_shown : (reg : ℕ) (t : Tree) → arg_at a.args reg ≡ Some t → shown (arg_at a.args reg) ≡ shown (arg_beside of_lines (arg_at a.args reg) (arg_at b.args reg)) →
         t ≡ shown (arg_beside of_lines (Some t) (arg_at b.args reg))
     first_shown reg t is h = subst (λ x. shown x ≡ shown (arg_beside of_lines x (arg_at b.args reg))) is h
+
     second_shown : (reg : ℕ) (u : Tree) → of_lines ≡ false → arg_at b.args reg ≡ Some u → shown (arg_at a.args reg) ≡ shown (arg_beside of_lines (arg_at a.args reg) (arg_at b.args reg)) →
         shown (arg_at a.args reg) ≡ u
     second_shown reg u of_insns is h =
@@ -332,11 +338,11 @@ arg_same false a b s reg has None (Some u) is is_y = subst (λ x. shown x ≡ u)
 none_both : (of_lines : Bool) (a b : Call) → SameCall of_lines a b → compared_calls of_lines (Some a) (Some b) ≡ None
 none_both of_lines a b s =
     none_or (compared_terms item.Call a.target b.target) (or_else (calls_found of_lines a b) (compared_results of_lines a b))
-      (none_terms item.Call a.target b.target s.target)
-      (none_or (calls_found of_lines a b) (compared_results of_lines a b)
-        (none_args of_lines a.args b.args (compared_numbers of_lines a.args b.args)
-          (λ reg has. none_arg of_lines (arg_at a.args reg) (arg_at b.args reg) (arg_same of_lines a b s reg has (arg_at a.args reg) (arg_at b.args reg) refl refl)))
-        (none_results of_lines a b s.result))
+    (none_terms item.Call a.target b.target s.target)
+    (none_or (calls_found of_lines a b) (compared_results of_lines a b)
+    (none_args of_lines a.args b.args (compared_numbers of_lines a.args b.args)
+    (λ reg has. none_arg of_lines (arg_at a.args reg) (arg_at b.args reg) (arg_same of_lines a b s reg has (arg_at a.args reg) (arg_at b.args reg) refl refl)))
+    (none_results of_lines a b s.result))
 
 calls_item : (of_lines : Bool) (a b : Option Call) → InItem item.Call (compared_calls of_lines a b)
 calls_item of_lines None None = none_item item.Call
@@ -344,7 +350,7 @@ calls_item of_lines (Some a) None = some_item item.Call a.target nothing
 calls_item of_lines None (Some b) = some_item item.Call nothing b.target
 calls_item of_lines (Some a) (Some b) =
     or_item item.Call _ _ (terms_item item.Call a.target b.target)
-      (or_item item.Call _ _ (args_item of_lines a.args b.args (compared_numbers of_lines a.args b.args)) (results_item of_lines a b))
+    (or_item item.Call _ _ (args_item of_lines a.args b.args (compared_numbers of_lines a.args b.args)) (results_item of_lines a b))
 
 calls_none : (of_lines : Bool) (a b : Option Call) → compared_calls of_lines a b ≡ None → CallsAgree of_lines a b
 calls_none of_lines None None h = tt
@@ -432,7 +438,7 @@ stores_fail of_lines live a b d r h =
     let i = f.of_store in
     let at_place : f.place ≡ f.at = (let e : f.at ≡ 0 + f.place = f.at_is in omega arith) in
     subst (λ d. FirstFails of_lines live a b d) (sym i.is)
-      (subst (λ n. RegistersAgree live a b × (take n a.stores ≡ take n b.stores) × (slice_get a.stores n ≢ slice_get b.stores n)) at_place (r, f.before, f.differ))
+    (subst (λ n. RegistersAgree live a b × (take n a.stores ≡ take n b.stores) × (slice_get a.stores n ≢ slice_get b.stores n)) at_place (r, f.before, f.differ))
 
 stores_then : (of_lines : Bool) (live : List ℕ) (a b : State) (d : Difference) → RegistersAgree live a b →
     or_else (compared_stores 0 a.stores b.stores) (behind_stores of_lines a b) ≡ Some d → FirstFails of_lines live a b d
@@ -448,3 +454,9 @@ first_found of_lines live a b d h = go (compared_registers live a b) refl h
     go : (x : Option Difference) → compared_registers live a b ≡ x → or_else x (or_else (compared_stores 0 a.stores b.stores) (behind_stores of_lines a b)) ≡ Some d → FirstFails of_lines live a b d
     go (Some e) is h = registers_first of_lines live a b d (is ∙ h)
     go None is h = stores_then of_lines live a b d (registers_none live a b is) h
+
+pub difference_tells : (of_lines : Bool) (live : List ℕ) (a b : State) (found : Option Difference) → found ≡ difference of_lines live a b → Tells of_lines live a b found
+difference_tells of_lines live a b None h = nothing_found of_lines live a b (sym h)
+difference_tells of_lines live a b (Some d) h = first_found of_lines live a b d (sym h)
+
+pub ruleset telling = (difference_tells)

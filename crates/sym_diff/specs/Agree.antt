@@ -79,3 +79,8 @@ FirstFails of_lines live a b (Differ item.Need left right) = ⊥
 FirstFails of_lines live a b (Differ (item.Shape index) left right) = ⊥
 FirstFails of_lines live a b (Lacks term) =
     RegistersAgree live a b × (a.stores ≡ b.stores) × JumpsAgree a.jump b.jump × CallsAgree of_lines a.call b.call × ¬ NeedsAgree a.needs b.needs
+
+-- nothing is found where the states agree; what is found is the first that fails
+abbrev pub Tells : Bool → List ℕ → State → State → Option Difference → Type 0
+Tells of_lines live a b None = Agree of_lines live a b
+Tells of_lines live a b (Some d) = FirstFails of_lines live a b d

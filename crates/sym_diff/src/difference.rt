@@ -65,7 +65,6 @@ pub fn shown(alloc: Global, value: &Option<Term>) -> Result<Term, Memory>
 }
 
 /// Whether two terms are the same.
-#[tactic(auto, using(crate::proofs::SameLaws::same_seen))]
 pub fn same_terms(maker: &mut TermMaker, a: &Term, b: &Term) -> Result<bool, Memory>
     ensures { IfOk result (λ same. same ≡ terms.same_tree (tree_of a.now) (tree_of b.now)) }
 {

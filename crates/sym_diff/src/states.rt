@@ -3,6 +3,7 @@ ghost use Rattle.std.specs.Prelude.{◌≡◌, option_map, IfOk};
 ghost use Rattle.sym_state.specs.Views.{state_of};
 ghost use Rattle.sym_diff.specs.Registers as registers;
 ghost use Rattle.sym_diff.specs.States as spec;
+ghost use Rattle.sym_diff.specs.Agree.{Tells};
 ghost use Rattle.sym_diff.specs.Views.{difference_of};
 
 use crate::call::compared_calls;
@@ -37,16 +38,15 @@ fn in_registers(
     )
 }
 
-/// The first item in which two states differ, over the registers that are live behind. The second state is one of lines, or else one of
-/// instructions.
-pub fn difference_between(
+/// The first item that fails.
+fn compared(
     maker: &mut TermMaker,
     alloc: Global,
     of_lines: bool,
     live: &RegSet,
     a: &SymState,
     b: &SymState,
-) -> Result<Option<SymDifference>, Memory>
+) -> Result<Found, Memory>
     ensures { IfOk result (λ found. option_map difference_of found ≡ spec.difference of_lines live.now (state_of a.now) (state_of b.now)) }
 {
     if let Some(found) = in_registers(maker, alloc, live, a, b)? {
@@ -62,4 +62,21 @@ pub fn difference_between(
         Some(found) => Ok(Some(found)),
         None => compared_needs(maker, alloc, a.needs.as_slice(), b.needs.as_slice()),
     }
+}
+
+/// The first item in which two states differ, over the registers that are live behind. The second state is one of lines, or else one of
+/// instructions.
+#[tactic(auto, using(crate::proofs::FirstLaws::telling))]
+pub fn difference_between(
+    maker: &mut TermMaker,
+    alloc: Global,
+    of_lines: bool,
+    live: &RegSet,
+    a: &SymState,
+    b: &SymState,
+) -> Result<Option<SymDifference>, Memory>
+    ensures first { IfOk result (λ found. option_map difference_of found ≡ spec.difference of_lines live.now (state_of a.now) (state_of b.now)) }
+    ensures tells { IfOk result (λ found. Tells of_lines live.now (state_of a.now) (state_of b.now) (option_map difference_of found)) }
+{
+    compared(maker, alloc, of_lines, live, a, b)
 }

@@ -1,17 +1,14 @@
 -- The stores, the jumps, the calls and the needs of two symbolic states compared.
-use Rattle.std.specs.Prelude.{ℕ, ◌+◌, ◌==◌, ◌&&◌, not, nat_le, Bool, true, false, if◌then◌else◌, List, [], ◌∷◌, Option, Some, None, option_map}
+use Rattle.std.specs.Prelude.{ℕ, ◌+◌, ◌==◌, ◌&&◌, nat_le, Bool, false, if◌then◌else◌, List, [], ◌∷◌, Option, Some, None}
 use Rattle.std.specs.List.{list_any}
 use Rattle.std.specs.Str.{bytes_eq}
-use Rattle.bits64.specs.declared.Width.{Width}
 use Rattle.bits64.specs.declared.Width.TheVariants.{W64}
 use Rattle.bits64.specs.Words.{bits_of}
 use Rattle.rtx_tree.specs.declared.code.Mode.{Mode}
 use Rattle.rtx_tree.specs.declared.code.Mode.TheVariants.{Void, QI, HI, SI, DI}
-use Rattle.term_tree.specs.Tree.{Tree, width_of}
-use Rattle.term_tree.specs.Form.{narrower}
+use Rattle.term_tree.specs.Tree.{Tree}
 use Rattle.term_mean.specs.Stores.{Store}
 use Rattle.term_mean.specs.Sums.{constant}
-use Rattle.term_mean.specs.Compared.{low_bits}
 use Rattle.term_text.specs.declared.item.Item.{Item}
 use Rattle.term_text.specs.declared.item.Item.TheVariants as item
 use Rattle.sym_state.specs.State.{Jump, Arg, Call, Need, NeedAt, Register, Lost, Access, Divisor, Symbol, nothing, own_register, own_symbol}

@@ -15,7 +15,8 @@ use Rattle.equate.specs.declared.verdict.Verdict.TheVariants as verdict
 -- want of memory is free
 abbrev pub Gives : Result Verdict TermRefusal → spec.Verdict → Type 0
 Gives (Ok verdict.Same) v = v ≡ Same
-Gives (Ok (verdict.Differ item left right)) v = v ≡ Different (Differ item (tree_of left) (tree_of right))
+Gives (Ok (verdict.Differ item left right)) v =
+    v ≡ Different (Differ item (tree_of left) (tree_of right))
 Gives (Ok (verdict.Needs item term)) v = (v ≡ Different (Lacks (tree_of term))) × (item ≡ Need)
 Gives (Ok (verdict.Shape index)) v = v ≡ BadShape index
 Gives (Err (refusal.Size size)) v = (v ≡ TooLarge) × (size ≡ most_nodes + 1)

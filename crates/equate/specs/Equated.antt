@@ -26,7 +26,8 @@ judged of_lines live (Runs a) (Runs b) = told (difference of_lines live a b)
 -- the verdict on instructions and what stands in their place
 abbrev pub verdict : List Insn → Side → List ℕ → Verdict
 verdict before after live =
-    if both_return before after then Same else judged (is_lines after) live (insns.run before) (run_side after)
+    if both_return before after then Same else
+    judged (is_lines after) live (insns.run before) (run_side after)
 
 -- they are equated
 abbrev pub Equated : List Insn → Side → List ℕ → Type 0

@@ -21,7 +21,8 @@ pub record Alike (before : List Insn) (after : Side) (live : List ℕ) : Type 0 
   pub agree : Agree (is_lines after) live first second
 
 -- both sides come to states, and a difference tells the first item in which these do not agree
-pub record FailsFirst (before : List Insn) (after : Side) (live : List ℕ) (d : Difference) : Type 0 where
+pub record FailsFirst (before : List Insn) (after : Side) (live : List ℕ) (d : Difference) :
+    Type 0 where
   pub first : State
   pub second : State
   pub runs_first : insns.run before ≡ Runs first
@@ -29,8 +30,11 @@ pub record FailsFirst (before : List Insn) (after : Side) (live : List ℕ) (d :
   pub fails : FirstFails (is_lines after) live first second d
 
 abbrev pub Tells : Result Verdict TermRefusal → List Insn → Side → List ℕ → Type 0
-Tells (Ok verdict.Same) before after live = both_return before after ≡ false → Alike before after live
-Tells (Ok (verdict.Differ item left right)) before after live = FailsFirst before after live (Differ item (tree_of left) (tree_of right))
-Tells (Ok (verdict.Needs item term)) before after live = FailsFirst before after live (Lacks (tree_of term))
+Tells (Ok verdict.Same) before after live =
+    both_return before after ≡ false → Alike before after live
+Tells (Ok (verdict.Differ item left right)) before after live =
+    FailsFirst before after live (Differ item (tree_of left) (tree_of right))
+Tells (Ok (verdict.Needs item term)) before after live =
+    FailsFirst before after live (Lacks (tree_of term))
 Tells (Ok (verdict.Shape index)) before after live = Unit {0}
 Tells (Err refusal) before after live = Unit {0}

@@ -45,7 +45,8 @@ fn compared(
     a: &SymState,
     b: &SymState,
 ) -> Result<Verdict, TermRefusal>
-    ensures { Gives result (spec.told (difference of_lines live.now (state_of a.now) (state_of b.now))) }
+    ensures { Gives result (spec.told (difference of_lines live.now (state_of a.now)
+        (state_of b.now))) }
 {
     let mut maker = TermMaker::new(alloc);
     let found = difference_between(&mut maker, alloc, of_lines, live, a, b)?;
@@ -72,7 +73,8 @@ fn after_large(
 ) -> Result<Verdict, TermRefusal>
     requires short { sides.side_length (side_of after.now) < 2 ^ 32 }
     requires size { size ≡ states.most_nodes + 1 }
-    ensures { Gives result (spec.judged (sides.is_lines (side_of after.now)) live.now states.TooLarge (sides.run_side (side_of after.now))) }
+    ensures { Gives result (spec.judged (sides.is_lines (side_of after.now)) live.now
+        states.TooLarge (sides.run_side (side_of after.now))) }
 {
     match run_side(alloc, after) {
         Ok(_state) => Err(TermRefusal::Size { size }),
@@ -99,7 +101,8 @@ fn after_state(
     live: &RegSet,
 ) -> Result<Verdict, TermRefusal>
     requires { sides.side_length (side_of after.now) < 2 ^ 32 }
-    ensures { Gives result (spec.judged (sides.is_lines (side_of after.now)) live.now (states.Runs (state_of a.now)) (sides.run_side (side_of after.now))) }
+    ensures { Gives result (spec.judged (sides.is_lines (side_of after.now)) live.now
+        (states.Runs (state_of a.now)) (sides.run_side (side_of after.now))) }
 {
     match run_side(alloc, after) {
         Ok(b) => compared(alloc, is_lines(after), live, a, &b),
@@ -118,7 +121,8 @@ fn judged(
 ) -> Result<Verdict, TermRefusal>
     requires before { length before.now < 2 ^ 32 }
     requires after { sides.side_length (side_of after.now) < 2 ^ 32 }
-    ensures { Gives result (spec.judged (sides.is_lines (side_of after.now)) live.now (insns.run before.now) (sides.run_side (side_of after.now))) }
+    ensures { Gives result (spec.judged (sides.is_lines (side_of after.now)) live.now
+        (insns.run before.now) (sides.run_side (side_of after.now))) }
 {
     match run_rtl(alloc, before) {
         Ok(a) => after_state(alloc, &a, after, live),

@@ -22,13 +22,15 @@ compared_terms i a b = if same_tree a b then None else Some (Differ i a b)
 -- ---- stores, by their places: the addresses where they differ, else the values
 
 abbrev pub compared_store : ℕ → Store → Store → Option Difference
-compared_store index a b = or_else (compared_terms (item.Store index) a.0 b.0) (compared_terms (item.Store index) a.1 b.1)
+compared_store index a b =
+    or_else (compared_terms (item.Store index) a.0 b.0) (compared_terms (item.Store index) a.1 b.1)
 
 abbrev pub compared_stores : ℕ → List Store → List Store → Option Difference
 compared_stores index [] [] = None
 compared_stores index (a ∷ as_) [] = Some (Differ (item.Store index) a.0 nothing)
 compared_stores index [] (b ∷ bs) = Some (Differ (item.Store index) nothing b.0)
-compared_stores index (a ∷ as_) (b ∷ bs) = or_else (compared_store index a b) (compared_stores (index + 1) as_ bs)
+compared_stores index (a ∷ as_) (b ∷ bs) =
+    or_else (compared_store index a b) (compared_stores (index + 1) as_ bs)
 
 -- ---- the jump: the conditions where they differ, else the labels' uids
 
@@ -84,7 +86,8 @@ result_bits (Some mode) = mode_bits mode
 
 abbrev pub compared_results : Bool → Call → Call → Option Difference
 compared_results of_lines a b =
-    if of_lines then None else compared_terms item.Call (constant W64 (result_bits a.result)) (constant W64 (result_bits b.result))
+    if of_lines then None else
+    compared_terms item.Call (constant W64 (result_bits a.result)) (constant W64 (result_bits b.result))
 
 abbrev pub compared_calls : Bool → Option Call → Option Call → Option Difference
 compared_calls of_lines None None = None
@@ -92,14 +95,16 @@ compared_calls of_lines (Some a) None = Some (Differ item.Call a.target nothing)
 compared_calls of_lines None (Some b) = Some (Differ item.Call nothing b.target)
 compared_calls of_lines (Some a) (Some b) =
     or_else (compared_terms item.Call a.target b.target)
-    (or_else (compared_args of_lines a.args b.args (compared_numbers of_lines a.args b.args)) (compared_results of_lines a b))
+    (or_else (compared_args of_lines a.args b.args (compared_numbers of_lines a.args b.args))
+    (compared_results of_lines a b))
 
--- ---- the needs: each of the second is one of the first. Fewer bits of a register are had where more
--- are
+-- ---- the needs: each of the second is one of the first. Fewer bits of a register are had where
+-- more are
 
 abbrev pub covers : Need → Need → Bool
 covers (Register reg w) (Register reg' w') = (reg == reg') && nat_le (bits_of w') (bits_of w)
-covers (Access address w) (Access address' w') = (bits_of w == bits_of w') && same_tree address address'
+covers (Access address w) (Access address' w') =
+    (bits_of w == bits_of w') && same_tree address address'
 covers (Divisor term) (Divisor term') = same_tree term term'
 covers (Symbol name) (Symbol name') = bytes_eq name name'
 covers _ _ = false
@@ -118,4 +123,5 @@ need_term (Symbol name) = own_symbol name
 -- the first that the first side has not
 abbrev pub compared_needs : List NeedAt → List NeedAt → Option Difference
 compared_needs had [] = None
-compared_needs had (n ∷ needs) = if is_covered had n.what then compared_needs had needs else Some (Lacks (need_term n.what))
+compared_needs had (n ∷ needs) =
+    if is_covered had n.what then compared_needs had needs else Some (Lacks (need_term n.what))

@@ -22,7 +22,8 @@ use term_tree::Term;
 
 /// What is handed over in a register, where something is.
 fn arg_at(alloc: Global, args: &[SymArg], reg: u64) -> Result<Option<Term>, Memory>
-    ensures { IfOk result (λ value. option_map tree_of value ≡ spec.arg_at (map arg_of args.now) reg) }
+    ensures { IfOk result (λ value. option_map tree_of value ≡
+        spec.arg_at (map arg_of args.now) reg) }
 {
     for arg in args {
         if u64::from(arg.reg) == reg {
@@ -39,7 +40,8 @@ fn compared_numbers(
     a: &[SymArg],
     b: &[SymArg],
 ) -> Result<Numbers, Memory>
-    ensures { IfOk result (λ numbers. numbers ≡ spec.compared_numbers of_lines (map arg_of a.now) (map arg_of b.now)) }
+    ensures { IfOk result (λ numbers. numbers ≡
+        spec.compared_numbers of_lines (map arg_of a.now) (map arg_of b.now)) }
 {
     let mut numbers = Items::new(alloc);
     put_args(a, &mut numbers)?;
@@ -57,7 +59,8 @@ fn arg_beside(
     a: &Option<Term>,
     b: &Option<Term>,
 ) -> Result<Option<Term>, Memory>
-    ensures { IfOk result (λ value. option_map tree_of value ≡ spec.arg_beside of_lines (option_map tree_of a.now) (option_map tree_of b.now)) }
+    ensures { IfOk result (λ value. option_map tree_of value ≡
+        spec.arg_beside of_lines (option_map tree_of a.now) (option_map tree_of b.now)) }
 {
     if of_lines {
         cut_beside(maker, alloc, a, b)
@@ -73,7 +76,8 @@ fn compared_arg(
     a: &Option<Term>,
     b: &Option<Term>,
 ) -> Result<Found, Memory>
-    ensures { IfOk result (λ found. option_map difference_of found ≡ spec.compared_arg of_lines (option_map tree_of a.now) (option_map tree_of b.now)) }
+    ensures { IfOk result (λ found. option_map difference_of found ≡
+        spec.compared_arg of_lines (option_map tree_of a.now) (option_map tree_of b.now)) }
 {
     let beside = arg_beside(maker, alloc, of_lines, a, b)?;
     let left = shown(alloc, a)?;
@@ -90,7 +94,9 @@ fn compared_at(
     b: &[SymArg],
     reg: u64,
 ) -> Result<Found, Memory>
-    ensures { IfOk result (λ found. option_map difference_of found ≡ spec.compared_arg of_lines (spec.arg_at (map arg_of a.now) reg) (spec.arg_at (map arg_of b.now) reg)) }
+    ensures { IfOk result (λ found. option_map difference_of found ≡
+        spec.compared_arg of_lines (spec.arg_at (map arg_of a.now) reg)
+        (spec.arg_at (map arg_of b.now) reg)) }
 {
     let left = arg_at(alloc, a, reg)?;
     let right = arg_at(alloc, b, reg)?;
@@ -105,7 +111,8 @@ fn compared_args(
     b: &[SymArg],
     numbers: &[u64],
 ) -> Result<Found, Memory>
-    ensures { IfOk result (λ found. option_map difference_of found ≡ spec.compared_args of_lines (map arg_of a.now) (map arg_of b.now) numbers.now) }
+    ensures { IfOk result (λ found. option_map difference_of found ≡
+        spec.compared_args of_lines (map arg_of a.now) (map arg_of b.now) numbers.now) }
 {
     for reg in numbers {
         if let Some(found) = compared_at(maker, alloc, of_lines, a, b, *reg)? {
@@ -145,7 +152,8 @@ fn compared_results(
     a: &SymCall,
     b: &SymCall,
 ) -> Result<Found, Memory>
-    ensures { IfOk result (λ found. option_map difference_of found ≡ spec.compared_results of_lines (call_of a.now) (call_of b.now)) }
+    ensures { IfOk result (λ found. option_map difference_of found ≡
+        spec.compared_results of_lines (call_of a.now) (call_of b.now)) }
 {
     if of_lines {
         Ok(None)
@@ -168,7 +176,9 @@ fn compared_all(
     a: &[SymArg],
     b: &[SymArg],
 ) -> Result<Found, Memory>
-    ensures { IfOk result (λ found. option_map difference_of found ≡ spec.compared_args of_lines (map arg_of a.now) (map arg_of b.now) (spec.compared_numbers of_lines (map arg_of a.now) (map arg_of b.now))) }
+    ensures { IfOk result (λ found. option_map difference_of found ≡
+        spec.compared_args of_lines (map arg_of a.now) (map arg_of b.now)
+        (spec.compared_numbers of_lines (map arg_of a.now) (map arg_of b.now))) }
 {
     let numbers = compared_numbers(alloc, of_lines, a, b)?;
     compared_args(maker, alloc, of_lines, a, b, numbers.as_slice())
@@ -182,7 +192,8 @@ fn compared_both(
     a: &SymCall,
     b: &SymCall,
 ) -> Result<Found, Memory>
-    ensures { IfOk result (λ found. option_map difference_of found ≡ spec.compared_calls of_lines (Some (call_of a.now)) (Some (call_of b.now))) }
+    ensures { IfOk result (λ found. option_map difference_of found ≡
+        spec.compared_calls of_lines (Some (call_of a.now)) (Some (call_of b.now))) }
 {
     if let Some(found) = compared_terms(maker, alloc, Item::Call, &a.target, &b.target)? {
         return Ok(Some(found));
@@ -201,7 +212,8 @@ pub fn compared_calls(
     a: &Option<SymCall>,
     b: &Option<SymCall>,
 ) -> Result<Found, Memory>
-    ensures { IfOk result (λ found. option_map difference_of found ≡ spec.compared_calls of_lines (option_map call_of a.now) (option_map call_of b.now)) }
+    ensures { IfOk result (λ found. option_map difference_of found ≡
+        spec.compared_calls of_lines (option_map call_of a.now) (option_map call_of b.now)) }
 {
     match a {
         None => match b {

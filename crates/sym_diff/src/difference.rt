@@ -73,7 +73,8 @@ pub fn same_terms(maker: &mut TermMaker, a: &Term, b: &Term) -> Result<bool, Mem
 
 /// An item with its terms on both sides.
 pub fn differ(alloc: Global, item: Item, left: &Term, right: &Term) -> Result<Found, Memory>
-    ensures { IfOk result (λ found. option_map difference_of found ≡ Some (spec.Differ item (tree_of left.now) (tree_of right.now))) }
+    ensures { IfOk result (λ found. option_map difference_of found ≡
+        Some (spec.Differ item (tree_of left.now) (tree_of right.now))) }
 {
     Ok(Some(SymDifference::Differ {
         item,
@@ -90,7 +91,8 @@ pub fn compared_terms(
     a: &Term,
     b: &Term,
 ) -> Result<Found, Memory>
-    ensures { IfOk result (λ found. option_map difference_of found ≡ compared.compared_terms item (tree_of a.now) (tree_of b.now)) }
+    ensures { IfOk result (λ found. option_map difference_of found ≡
+        compared.compared_terms item (tree_of a.now) (tree_of b.now)) }
 {
     if same_terms(maker, a, b)? {
         Ok(None)

@@ -32,7 +32,8 @@ pub fn compared_jump(
     a: &SymJump,
     b: &SymJump,
 ) -> Result<Found, Memory>
-    ensures { IfOk result (λ found. option_map difference_of found ≡ spec.compared_jump (jump_of a.now) (jump_of b.now)) }
+    ensures { IfOk result (λ found. option_map difference_of found ≡
+        spec.compared_jump (jump_of a.now) (jump_of b.now)) }
 {
     match compared_terms(maker, alloc, Item::Jump, &a.condition, &b.condition)? {
         Some(found) => Ok(Some(found)),

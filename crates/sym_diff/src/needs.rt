@@ -36,7 +36,8 @@ fn covers_access(
     w: Width,
     need: &NeedOf,
 ) -> Result<bool, Memory>
-    ensures { IfOk result (λ covered. covered ≡ spec.covers (needs.Access (tree_of address.now) w) (need_of need.now)) }
+    ensures { IfOk result (λ covered. covered ≡
+        spec.covers (needs.Access (tree_of address.now) w) (need_of need.now)) }
 {
     match need {
         NeedOf::Register { .. } => Ok(false),
@@ -58,7 +59,8 @@ fn covers_access(
 
 /// Whether a divisor covers a need.
 fn covers_divisor(maker: &mut TermMaker, term: &Term, need: &NeedOf) -> Result<bool, Memory>
-    ensures { IfOk result (λ covered. covered ≡ spec.covers (needs.Divisor (tree_of term.now)) (need_of need.now)) }
+    ensures { IfOk result (λ covered. covered ≡
+        spec.covers (needs.Divisor (tree_of term.now)) (need_of need.now)) }
 {
     match need {
         NeedOf::Register { .. } => Ok(false),
@@ -96,7 +98,8 @@ fn covers(maker: &mut TermMaker, had: &NeedOf, need: &NeedOf) -> Result<bool, Me
 }
 
 fn is_covered(maker: &mut TermMaker, had: &[SymNeed], need: &NeedOf) -> Result<bool, Memory>
-    ensures { IfOk result (λ covered. covered ≡ spec.is_covered (map need_at_of had.now) (need_of need.now)) }
+    ensures { IfOk result (λ covered. covered ≡
+        spec.is_covered (map need_at_of had.now) (need_of need.now)) }
 {
     for one in had {
         if covers(maker, &one.what, need)? {
@@ -121,7 +124,8 @@ fn need_term(alloc: Global, need: &NeedOf) -> Result<Term, Memory>
 
 /// A need that the first side has not.
 fn lacks(alloc: Global, need: &NeedOf) -> Result<Found, Memory>
-    ensures { IfOk result (λ found. option_map difference_of found ≡ Some (difference.Lacks (spec.need_term (need_of need.now)))) }
+    ensures { IfOk result (λ found. option_map difference_of found ≡
+        Some (difference.Lacks (spec.need_term (need_of need.now)))) }
 {
     Ok(Some(SymDifference::Lacks {
         term: need_term(alloc, need)?,
@@ -135,7 +139,8 @@ pub fn compared_needs(
     had: &[SymNeed],
     asked: &[SymNeed],
 ) -> Result<Found, Memory>
-    ensures { IfOk result (λ found. option_map difference_of found ≡ spec.compared_needs (map need_at_of had.now) (map need_at_of asked.now)) }
+    ensures { IfOk result (λ found. option_map difference_of found ≡
+        spec.compared_needs (map need_at_of had.now) (map need_at_of asked.now)) }
 {
     for need in asked {
         if !is_covered(maker, had, &need.what)? {

@@ -19,7 +19,8 @@ use term_tree::{Term, is_narrower};
 
 /// The register among those that were changed, where it is one of them.
 fn held(regs: &[SymReg], reg: u64) -> Option<&SymReg>
-    ensures { option_map (λ r. (changed_of r.now).value) result ≡ held_spec (map changed_of regs.entry.now) reg }
+    ensures { option_map (λ r. (changed_of r.now).value) result ≡
+        held_spec (map changed_of regs.entry.now) reg }
 {
     for changed in regs {
         if changed.reg == reg {
@@ -38,7 +39,8 @@ fn is_changed(regs: &[SymReg], reg: u64) -> bool
 
 /// What a register holds.
 fn value_behind(alloc: Global, regs: &[SymReg], reg: u64) -> Result<Option<Term>, Memory>
-    ensures { IfOk result (λ value. option_map tree_of value ≡ spec.value_behind (held_spec (map changed_of regs.now) reg) reg) }
+    ensures { IfOk result (λ value. option_map tree_of value ≡
+        spec.value_behind (held_spec (map changed_of regs.now) reg) reg) }
 {
     match held(regs, reg) {
         None => Ok(Some(own_register(alloc, reg))),
@@ -48,7 +50,8 @@ fn value_behind(alloc: Global, regs: &[SymReg], reg: u64) -> Result<Option<Term>
 
 /// The low bits of a term that are known of another.
 fn cut_term(maker: &mut TermMaker, alloc: Global, a: &Term, b: &Term) -> Result<Term, Memory>
-    ensures { IfOk result (λ term. Some (tree_of term) ≡ spec.cut_beside (Some (tree_of a.now)) (Some (tree_of b.now))) }
+    ensures { IfOk result (λ term. Some (tree_of term) ≡
+        spec.cut_beside (Some (tree_of a.now)) (Some (tree_of b.now))) }
 {
     if is_narrower(a.width(), b.width()) {
         maker.cut(a.width(), b)
@@ -64,7 +67,8 @@ pub fn cut_beside(
     a: &Option<Term>,
     b: &Option<Term>,
 ) -> Result<Option<Term>, Memory>
-    ensures { IfOk result (λ value. option_map tree_of value ≡ spec.cut_beside (option_map tree_of a.now) (option_map tree_of b.now)) }
+    ensures { IfOk result (λ value. option_map tree_of value ≡
+        spec.cut_beside (option_map tree_of a.now) (option_map tree_of b.now)) }
 {
     match b {
         None => Ok(None),
@@ -77,7 +81,8 @@ pub fn cut_beside(
 
 /// Whether the second of two terms has as many bits as the first, and the same ones.
 fn agree_terms(maker: &mut TermMaker, a: &Term, b: &Term) -> Result<bool, Memory>
-    ensures { IfOk result (λ agree. agree ≡ spec.agrees (Some (tree_of a.now)) (Some (tree_of b.now))) }
+    ensures { IfOk result (λ agree. agree ≡
+        spec.agrees (Some (tree_of a.now)) (Some (tree_of b.now))) }
 {
     if is_narrower(b.width(), a.width()) {
         Ok(false)
@@ -89,7 +94,8 @@ fn agree_terms(maker: &mut TermMaker, a: &Term, b: &Term) -> Result<bool, Memory
 
 /// Whether the second knows as many bits as the first, and the same ones.
 fn agrees(maker: &mut TermMaker, a: &Option<Term>, b: &Option<Term>) -> Result<bool, Memory>
-    ensures { IfOk result (λ agree. agree ≡ spec.agrees (option_map tree_of a.now) (option_map tree_of b.now)) }
+    ensures { IfOk result (λ agree. agree ≡
+        spec.agrees (option_map tree_of a.now) (option_map tree_of b.now)) }
 {
     match a {
         None => Ok(true),
@@ -129,7 +135,8 @@ fn is_free(reg: u64) -> bool
 
 /// Whether the second changes a hard register, or `virtual-stack-vars`, that the first leaves alone.
 fn changes_alone(live: &RegSet, a: &[SymReg], b: &[SymReg], reg: u64) -> bool
-    ensures { result ≡ spec.changes_alone live.now (held_spec (map changed_of a.now) reg) (held_spec (map changed_of b.now) reg) reg }
+    ensures { result ≡ spec.changes_alone live.now (held_spec (map changed_of a.now) reg)
+        (held_spec (map changed_of b.now) reg) reg }
 {
     reg <= u64::from(VIRTUAL_STACK_VARS)
         && !is_changed(a, reg)
@@ -145,7 +152,9 @@ fn agree_behind(
     b: &[SymReg],
     reg: u64,
 ) -> Result<bool, Memory>
-    ensures { IfOk result (λ agree. agree ≡ spec.agrees (spec.value_behind (held_spec (map changed_of a.now) reg) reg) (spec.value_behind (held_spec (map changed_of b.now) reg) reg)) }
+    ensures { IfOk result (λ agree. agree ≡
+        spec.agrees (spec.value_behind (held_spec (map changed_of a.now) reg) reg)
+        (spec.value_behind (held_spec (map changed_of b.now) reg) reg)) }
 {
     let left = value_behind(alloc, a, reg)?;
     let right = value_behind(alloc, b, reg)?;
@@ -160,7 +169,9 @@ fn fails(
     b: &[SymReg],
     reg: u64,
 ) -> Result<bool, Memory>
-    ensures { IfOk result (λ bad. bad ≡ spec.fails live.now (held_spec (map changed_of a.now) reg) (held_spec (map changed_of b.now) reg) reg) }
+    ensures { IfOk result (λ bad.
+        bad ≡ spec.fails live.now (held_spec (map changed_of a.now) reg)
+        (held_spec (map changed_of b.now) reg) reg) }
 {
     if changes_alone(live, a, b, reg) {
         Ok(true)
@@ -179,7 +190,9 @@ fn register_difference(
     b: &[SymReg],
     reg: u64,
 ) -> Result<SymDifference, Memory>
-    ensures { IfOk result (λ found. difference_of found ≡ spec.register_difference (held_spec (map changed_of a.now) reg) (held_spec (map changed_of b.now) reg) reg) }
+    ensures { IfOk result (λ found. difference_of found ≡
+        spec.register_difference (held_spec (map changed_of a.now) reg)
+        (held_spec (map changed_of b.now) reg) reg) }
 {
     let left = value_behind(alloc, a, reg)?;
     let behind = value_behind(alloc, b, reg)?;
@@ -207,7 +220,9 @@ fn compared_register(
     b: &[SymReg],
     reg: u64,
 ) -> Result<Found, Memory>
-    ensures { IfOk result (λ found. option_map difference_of found ≡ spec.compared_register calls live.now (held_spec (map changed_of a.now) reg) (held_spec (map changed_of b.now) reg) reg) }
+    ensures { IfOk result (λ found. option_map difference_of found ≡
+        spec.compared_register calls live.now (held_spec (map changed_of a.now) reg)
+        (held_spec (map changed_of b.now) reg) reg) }
 {
     if is_passed_over(calls, reg) {
         Ok(None)
@@ -227,7 +242,9 @@ fn compared_all(
     b: &[SymReg],
     numbers: &[u64],
 ) -> Result<Found, Memory>
-    ensures { IfOk result (λ found. option_map difference_of found ≡ spec.compared_all calls live.now (map changed_of a.now) (map changed_of b.now) numbers.now) }
+    ensures { IfOk result (λ found. option_map difference_of found ≡
+        spec.compared_all calls live.now (map changed_of a.now) (map changed_of b.now)
+        numbers.now) }
 {
     for reg in numbers {
         if let Some(found) = compared_register(maker, alloc, calls, live, a, b, *reg)? {
@@ -239,7 +256,8 @@ fn compared_all(
 
 /// The numbers of the registers that a side changes.
 fn numbers_of(alloc: Global, a: &[SymReg], b: &[SymReg]) -> Result<Numbers, Memory>
-    ensures { IfOk result (λ numbers. numbers ≡ spec.changed_in (map changed_of b.now) (spec.changed_in (map changed_of a.now) [])) }
+    ensures { IfOk result (λ numbers. numbers ≡
+        spec.changed_in (map changed_of b.now) (spec.changed_in (map changed_of a.now) [])) }
 {
     let mut numbers = Items::new(alloc);
     put_changed(a, &mut numbers)?;
@@ -256,7 +274,9 @@ pub fn compared_registers(
     a: &[SymReg],
     b: &[SymReg],
 ) -> Result<Found, Memory>
-    ensures { IfOk result (λ found. option_map difference_of found ≡ spec.compared_all calls live.now (map changed_of a.now) (map changed_of b.now) (spec.changed_in (map changed_of b.now) (spec.changed_in (map changed_of a.now) []))) }
+    ensures { IfOk result (λ found. option_map difference_of found ≡
+        spec.compared_all calls live.now (map changed_of a.now) (map changed_of b.now)
+        (spec.changed_in (map changed_of b.now) (spec.changed_in (map changed_of a.now) []))) }
 {
     let numbers = numbers_of(alloc, a, b)?;
     compared_all(maker, alloc, calls, live, a, b, numbers.as_slice())

@@ -25,7 +25,8 @@ fn in_registers(
     a: &SymState,
     b: &SymState,
 ) -> Result<Found, Memory>
-    ensures { IfOk result (λ found. option_map difference_of found ≡ registers.compared_registers live.now (state_of a.now) (state_of b.now)) }
+    ensures { IfOk result (λ found. option_map difference_of found ≡
+        registers.compared_registers live.now (state_of a.now) (state_of b.now)) }
 {
     let calls = a.call.is_some() || b.call.is_some();
     compared_registers(
@@ -47,7 +48,8 @@ fn compared(
     a: &SymState,
     b: &SymState,
 ) -> Result<Found, Memory>
-    ensures { IfOk result (λ found. option_map difference_of found ≡ spec.difference of_lines live.now (state_of a.now) (state_of b.now)) }
+    ensures { IfOk result (λ found. option_map difference_of found ≡
+        spec.difference of_lines live.now (state_of a.now) (state_of b.now)) }
 {
     if let Some(found) = in_registers(maker, alloc, live, a, b)? {
         return Ok(Some(found));
@@ -75,8 +77,10 @@ pub fn difference_between(
     a: &SymState,
     b: &SymState,
 ) -> Result<Option<SymDifference>, Memory>
-    ensures first { IfOk result (λ found. option_map difference_of found ≡ spec.difference of_lines live.now (state_of a.now) (state_of b.now)) }
-    ensures tells { IfOk result (λ found. Tells of_lines live.now (state_of a.now) (state_of b.now) (option_map difference_of found)) }
+    ensures first { IfOk result (λ found. option_map difference_of found ≡
+        spec.difference of_lines live.now (state_of a.now) (state_of b.now)) }
+    ensures tells { IfOk result (λ found.
+        Tells of_lines live.now (state_of a.now) (state_of b.now) (option_map difference_of found)) }
 {
     compared(maker, alloc, of_lines, live, a, b)
 }

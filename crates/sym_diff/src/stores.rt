@@ -19,7 +19,8 @@ fn compared_store(
     a: &SymStore,
     b: &SymStore,
 ) -> Result<Found, Memory>
-    ensures { IfOk result (λ found. option_map difference_of found ≡ spec.compared_store index (store_of a.now) (store_of b.now)) }
+    ensures { IfOk result (λ found. option_map difference_of found ≡
+        spec.compared_store index (store_of a.now) (store_of b.now)) }
 {
     let item = Item::Store { index };
     match compared_terms(maker, alloc, item, &a.address, &b.address)? {
@@ -30,14 +31,16 @@ fn compared_store(
 
 /// A store that the second side has not.
 fn missing_right(alloc: Global, index: u32, a: &SymStore) -> Result<Found, Memory>
-    ensures { IfOk result (λ found. option_map difference_of found ≡ places.compared_at index (Some (store_of a.now)) None) }
+    ensures { IfOk result (λ found. option_map difference_of found ≡
+        places.compared_at index (Some (store_of a.now)) None) }
 {
     differ(alloc, Item::Store { index }, &a.address, &nothing(alloc))
 }
 
 /// A store that the first side has not.
 fn missing_left(alloc: Global, index: u32, b: &SymStore) -> Result<Found, Memory>
-    ensures { IfOk result (λ found. option_map difference_of found ≡ places.compared_at index None (Some (store_of b.now))) }
+    ensures { IfOk result (λ found. option_map difference_of found ≡
+        places.compared_at index None (Some (store_of b.now))) }
 {
     differ(alloc, Item::Store { index }, &nothing(alloc), &b.address)
 }
@@ -51,7 +54,9 @@ fn compared_at(
     a: &[SymStore],
     b: &[SymStore],
 ) -> Result<Found, Memory>
-    ensures { IfOk result (λ found. option_map difference_of found ≡ places.compared_at at (slice_get (map store_of a.now) at) (slice_get (map store_of b.now) at)) }
+    ensures { IfOk result (λ found. option_map difference_of found ≡
+        places.compared_at at (slice_get (map store_of a.now) at)
+        (slice_get (map store_of b.now) at)) }
 {
     let Ok(index) = u32::try_from(at) else {
         return Err(Memory);
@@ -76,7 +81,8 @@ pub fn compared_stores(
     a: &[SymStore],
     b: &[SymStore],
 ) -> Result<Found, Memory>
-    ensures { IfOk result (λ found. option_map difference_of found ≡ spec.compared_stores 0 (map store_of a.now) (map store_of b.now)) }
+    ensures { IfOk result (λ found. option_map difference_of found ≡
+        spec.compared_stores 0 (map store_of a.now) (map store_of b.now)) }
 {
     for at in 0..a.len().max(b.len()) {
         if let Some(found) = compared_at(maker, alloc, at, a, b)? {

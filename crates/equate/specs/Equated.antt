@@ -3,21 +3,13 @@
 -- they differ is told. What is equated does the same; what does the same may be missed.
 use Rattle.std.specs.Prelude.{◌≡◌, ℕ, Bool, if◌then◌else◌, List, Option, Some, None}
 use Rattle.rtx_tree.specs.declared.function.Insn.{Insn}
-use Rattle.sym_state.specs.State.{State, Ran, Runs}
+use Rattle.sym_state.specs.State.{Ran, Runs}
 use Rattle.sym_state.specs.State as state
 use Rattle.sym_insns.specs.Run as insns
 use Rattle.equate.specs.Side.{Side, run_side, is_lines, both_return}
-use Rattle.equate.specs.Verdict.{Difference, Verdict, Same, Different, BadShape, TooLarge, or_else}
-use Rattle.equate.specs.Registers.{compared_registers}
-use Rattle.equate.specs.Compared.{compared_stores, compared_jump, compared_calls, compared_needs}
-
--- the first item that fails: registers, stores, the jump, the call, needs
-abbrev pub difference : Bool → List ℕ → State → State → Option Difference
-difference of_lines live a b =
-    or_else (compared_registers live a b) (
-    or_else (compared_stores 0 a.stores b.stores) (
-    or_else (compared_jump a.jump b.jump) (
-    or_else (compared_calls of_lines a.call b.call) (compared_needs a.needs b.needs))))
+use Rattle.sym_diff.specs.Difference.{Difference}
+use Rattle.sym_diff.specs.States.{difference}
+use Rattle.equate.specs.Verdict.{Verdict, Same, Different, BadShape, TooLarge}
 
 abbrev pub told : Option Difference → Verdict
 told None = Same
@@ -34,7 +26,8 @@ judged of_lines live (Runs a) (Runs b) = told (difference of_lines live a b)
 -- the verdict on instructions and what stands in their place
 abbrev pub verdict : List Insn → Side → List ℕ → Verdict
 verdict before after live =
-    if both_return before after then Same else judged (is_lines after) live (insns.run before) (run_side after)
+    if both_return before after then Same else
+    judged (is_lines after) live (insns.run before) (run_side after)
 
 -- they are equated
 abbrev pub Equated : List Insn → Side → List ℕ → Type 0

@@ -1,5 +1,6 @@
 pub mod Side
 pub mod Verdict
-pub mod Registers
-pub mod Compared
 pub mod Equated
+pub mod Views
+pub mod Answers
+pub mod Told

@@ -1,6 +1,6 @@
 -- What is compared with instructions: instructions, or the lines of a function that has a number.
 -- And the one window that leads back to the caller on both sides.
-use Rattle.std.specs.Prelude.{ℕ, ◌&&◌, ◌==◌, Bool, true, false, List, [], ◌∷◌, Option, Some, None}
+use Rattle.std.specs.Prelude.{ℕ, ◌&&◌, ◌==◌, Bool, true, false, List, [], ◌∷◌, length, Option, Some, None}
 use Rattle.rtx_tree.specs.declared.function.Insn.{Insn}
 use Rattle.rtx_tree.specs.declared.function.Kind.{Kind}
 use Rattle.rtx_tree.specs.declared.function.Kind.TheVariants.{Jump}
@@ -23,6 +23,10 @@ pub data Side : Type 0 where
 abbrev pub run_side : Side → Ran
 run_side (Insns side) = insns.run side
 run_side (Lines function side) = lines.run function side
+
+abbrev pub side_length : Side → ℕ
+side_length (Insns side) = length side
+side_length (Lines function side) = length side
 
 -- whether a call of the side hands over all of a0 to a7, and takes its result in no mode
 abbrev pub is_lines : Side → Bool

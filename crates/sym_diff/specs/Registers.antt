@@ -10,7 +10,7 @@ use Rattle.term_mean.specs.Compared.{low_bits}
 use Rattle.term_text.specs.declared.item.Item.TheVariants.{Register}
 use Rattle.sym_state.specs.State.{Changed, State, own_register}
 use Rattle.sym_state.specs.Registers.{held}
-use Rattle.equate.specs.Verdict.{Difference, Differ, shown, or_else}
+use Rattle.sym_diff.specs.Difference.{Difference, Differ, shown, or_else}
 
 abbrev pub same_tree : Tree → Tree → Bool
 same_tree a b = is_eq (tree_cmp a b)
@@ -20,7 +20,8 @@ same_tree a b = is_eq (tree_cmp a b)
 abbrev pub put_number : ℕ → List ℕ → List ℕ
 put_number reg [] = reg ∷ []
 put_number reg (r ∷ regs) =
-    if nat_lt r reg then r ∷ put_number reg regs else (if r == reg then r ∷ regs else reg ∷ r ∷ regs)
+    if nat_lt r reg then r ∷ put_number reg regs else (
+    if r == reg then r ∷ regs else reg ∷ r ∷ regs)
 
 abbrev pub changed_in : List Changed → List ℕ → List ℕ
 changed_in [] regs = regs
@@ -35,14 +36,16 @@ value_behind (Some value) reg = value
 
 -- the low bits that the other side knows
 abbrev pub cut_beside : Option Tree → Option Tree → Option Tree
-cut_beside (Some a) (Some b) = Some (if narrower (width_of a) (width_of b) then low_bits (width_of a) b else b)
+cut_beside (Some a) (Some b) =
+    Some (if narrower (width_of a) (width_of b) then low_bits (width_of a) b else b)
 cut_beside a b = b
 
 -- the second knows as many bits as the first, and the same ones
 abbrev pub agrees : Option Tree → Option Tree → Bool
 agrees None b = true
 agrees (Some a) None = false
-agrees (Some a) (Some b) = not (narrower (width_of b) (width_of a)) && same_tree (low_bits (width_of a) b) a
+agrees (Some a) (Some b) =
+    not (narrower (width_of b) (width_of a)) && same_tree (low_bits (width_of a) b) a
 
 abbrev pub is_live : List ℕ → ℕ → Bool
 is_live live reg = nat_lt reg (2 ^ 32) && has_reg live reg
@@ -54,11 +57,16 @@ is_free reg = is_call_used reg && not (reg == 1)
 -- the second changes a hard register, or virtual-stack-vars, that the first leaves alone
 abbrev pub changes_alone : List ℕ → Option (Option Tree) → Option (Option Tree) → ℕ → Bool
 changes_alone live a b reg =
-    nat_le reg virtual_stack_vars && (not (is_some a) && (is_some b && not (is_free reg && not (is_live live reg))))
+    nat_le reg virtual_stack_vars &&
+    (not (is_some a) && (is_some b && not (is_free reg && not (is_live live reg))))
 
 abbrev pub fails : List ℕ → Option (Option Tree) → Option (Option Tree) → ℕ → Bool
 fails live a b reg =
-    changes_alone live a b reg || (is_live live reg && not (agrees (value_behind a reg) (value_behind b reg)))
+    changes_alone live a b reg ||
+    (is_live live reg && not (agrees (value_behind a reg) (value_behind b reg)))
+
+abbrev pub one_calls : State → State → Bool
+one_calls a b = is_some a.call || is_some b.call
 
 -- behind a call the registers that it may change are not compared
 abbrev pub is_passed_over : Bool → ℕ → Bool
@@ -68,18 +76,21 @@ abbrev pub register_difference : Option (Option Tree) → Option (Option Tree) �
 register_difference a b reg = let left = value_behind a reg in
     Differ (Register reg) (shown left) (shown (cut_beside left (value_behind b reg)))
 
-abbrev pub compared_register : Bool → List ℕ → Option (Option Tree) → Option (Option Tree) → ℕ → Option Difference
+abbrev pub compared_register :
+    Bool → List ℕ → Option (Option Tree) → Option (Option Tree) → ℕ → Option Difference
 compared_register calls live a b reg =
-    if not (is_passed_over calls reg) && fails live a b reg then Some (register_difference a b reg) else None
+    if not (is_passed_over calls reg) && fails live a b reg then Some (register_difference a b reg)
+    else None
 
 -- ---- all of them
 
 abbrev pub compared_all : Bool → List ℕ → List Changed → List Changed → List ℕ → Option Difference
 compared_all calls live a b [] = None
 compared_all calls live a b (reg ∷ regs) =
-    or_else (compared_register calls live (held a reg) (held b reg) reg) (compared_all calls live a b regs)
+    or_else (compared_register calls live (held a reg) (held b reg) reg)
+    (compared_all calls live a b regs)
 
 -- the first register that fails
 abbrev pub compared_registers : List ℕ → State → State → Option Difference
 compared_registers live a b =
-    compared_all (is_some a.call || is_some b.call) live a.regs b.regs (changed_in b.regs (changed_in a.regs []))
+    compared_all (one_calls a b) live a.regs b.regs (changed_in b.regs (changed_in a.regs []))

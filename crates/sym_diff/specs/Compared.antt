@@ -1,22 +1,19 @@
 -- The stores, the jumps, the calls and the needs of two symbolic states compared.
-use Rattle.std.specs.Prelude.{ℕ, ◌+◌, ◌==◌, ◌&&◌, not, nat_le, Bool, true, false, if◌then◌else◌, List, [], ◌∷◌, Option, Some, None, option_map}
+use Rattle.std.specs.Prelude.{ℕ, ◌+◌, ◌==◌, ◌&&◌, nat_le, Bool, false, if◌then◌else◌, List, [], ◌∷◌, Option, Some, None}
 use Rattle.std.specs.List.{list_any}
 use Rattle.std.specs.Str.{bytes_eq}
-use Rattle.bits64.specs.declared.Width.{Width}
 use Rattle.bits64.specs.declared.Width.TheVariants.{W64}
 use Rattle.bits64.specs.Words.{bits_of}
-use Rattle.rtl_func.specs.Shapes.{mode_bits}
 use Rattle.rtx_tree.specs.declared.code.Mode.{Mode}
-use Rattle.term_tree.specs.Tree.{Tree, width_of}
-use Rattle.term_tree.specs.Form.{narrower}
+use Rattle.rtx_tree.specs.declared.code.Mode.TheVariants.{Void, QI, HI, SI, DI}
+use Rattle.term_tree.specs.Tree.{Tree}
 use Rattle.term_mean.specs.Stores.{Store}
 use Rattle.term_mean.specs.Sums.{constant}
-use Rattle.term_mean.specs.Compared.{low_bits}
 use Rattle.term_text.specs.declared.item.Item.{Item}
 use Rattle.term_text.specs.declared.item.Item.TheVariants as item
 use Rattle.sym_state.specs.State.{Jump, Arg, Call, Need, NeedAt, Register, Lost, Access, Divisor, Symbol, nothing, own_register, own_symbol}
-use Rattle.equate.specs.Verdict.{Difference, Differ, Lacks, shown, or_else}
-use Rattle.equate.specs.Registers.{same_tree, put_number, cut_beside}
+use Rattle.sym_diff.specs.Difference.{Difference, Differ, Lacks, shown, or_else}
+use Rattle.sym_diff.specs.Registers.{same_tree, put_number, cut_beside}
 
 -- two terms of an item
 abbrev pub compared_terms : Item → Tree → Tree → Option Difference
@@ -25,13 +22,15 @@ compared_terms i a b = if same_tree a b then None else Some (Differ i a b)
 -- ---- stores, by their places: the addresses where they differ, else the values
 
 abbrev pub compared_store : ℕ → Store → Store → Option Difference
-compared_store index a b = or_else (compared_terms (item.Store index) a.0 b.0) (compared_terms (item.Store index) a.1 b.1)
+compared_store index a b =
+    or_else (compared_terms (item.Store index) a.0 b.0) (compared_terms (item.Store index) a.1 b.1)
 
 abbrev pub compared_stores : ℕ → List Store → List Store → Option Difference
 compared_stores index [] [] = None
 compared_stores index (a ∷ as_) [] = Some (Differ (item.Store index) a.0 nothing)
 compared_stores index [] (b ∷ bs) = Some (Differ (item.Store index) nothing b.0)
-compared_stores index (a ∷ as_) (b ∷ bs) = or_else (compared_store index a b) (compared_stores (index + 1) as_ bs)
+compared_stores index (a ∷ as_) (b ∷ bs) =
+    or_else (compared_store index a b) (compared_stores (index + 1) as_ bs)
 
 -- ---- the jump: the conditions where they differ, else the labels' uids
 
@@ -72,6 +71,14 @@ compared_args of_lines a b [] = None
 compared_args of_lines a b (reg ∷ regs) =
     or_else (compared_arg of_lines (arg_at a reg) (arg_at b reg)) (compared_args of_lines a b regs)
 
+-- GCC Internals, "Machine Modes"
+abbrev pub mode_bits : Mode → ℕ
+mode_bits Void = 0
+mode_bits QI = 8
+mode_bits HI = 16
+mode_bits SI = 32
+mode_bits DI = 64
+
 -- the width in which a result is taken, 0 for none
 abbrev pub result_bits : Option Mode → ℕ
 result_bits None = 0
@@ -79,7 +86,8 @@ result_bits (Some mode) = mode_bits mode
 
 abbrev pub compared_results : Bool → Call → Call → Option Difference
 compared_results of_lines a b =
-    if of_lines then None else compared_terms item.Call (constant W64 (result_bits a.result)) (constant W64 (result_bits b.result))
+    if of_lines then None else
+    compared_terms item.Call (constant W64 (result_bits a.result)) (constant W64 (result_bits b.result))
 
 abbrev pub compared_calls : Bool → Option Call → Option Call → Option Difference
 compared_calls of_lines None None = None
@@ -87,14 +95,16 @@ compared_calls of_lines (Some a) None = Some (Differ item.Call a.target nothing)
 compared_calls of_lines None (Some b) = Some (Differ item.Call nothing b.target)
 compared_calls of_lines (Some a) (Some b) =
     or_else (compared_terms item.Call a.target b.target)
-    (or_else (compared_args of_lines a.args b.args (compared_numbers of_lines a.args b.args)) (compared_results of_lines a b))
+    (or_else (compared_args of_lines a.args b.args (compared_numbers of_lines a.args b.args))
+    (compared_results of_lines a b))
 
--- ---- the needs: each of the second is one of the first. Fewer bits of a register are had where more
--- are
+-- ---- the needs: each of the second is one of the first. Fewer bits of a register are had where
+-- more are
 
 abbrev pub covers : Need → Need → Bool
 covers (Register reg w) (Register reg' w') = (reg == reg') && nat_le (bits_of w') (bits_of w)
-covers (Access address w) (Access address' w') = (bits_of w == bits_of w') && same_tree address address'
+covers (Access address w) (Access address' w') =
+    (bits_of w == bits_of w') && same_tree address address'
 covers (Divisor term) (Divisor term') = same_tree term term'
 covers (Symbol name) (Symbol name') = bytes_eq name name'
 covers _ _ = false
@@ -113,4 +123,5 @@ need_term (Symbol name) = own_symbol name
 -- the first that the first side has not
 abbrev pub compared_needs : List NeedAt → List NeedAt → Option Difference
 compared_needs had [] = None
-compared_needs had (n ∷ needs) = if is_covered had n.what then compared_needs had needs else Some (Lacks (need_term n.what))
+compared_needs had (n ∷ needs) =
+    if is_covered had n.what then compared_needs had needs else Some (Lacks (need_term n.what))

@@ -1,0 +1,7 @@
+pub mod Difference
+pub mod Registers
+pub mod Compared
+pub mod States
+pub mod Views
+pub mod machine
+pub mod Agree

@@ -1,23 +1,25 @@
--- What an operand is printed as by itself: GCC Internals, "Output Templates and Operand Substitution", with the names of
--- registers and the addresses of the RISC-V assembler.
-use Rattle.std.specs.Prelude.{ℕ, ℤ, pos, nat_lt, List, [], ◌∷◌, ◌++◌, Option, Some, None, codes, option_map, option_and_then, if◌then◌else◌}
+-- What an operand is printed as by itself: GCC Internals, "Output Templates and Operand
+-- Substitution", with the names of registers and the addresses of the RISC-V assembler.
+use Rattle.std.specs.Prelude.{ℕ, ℤ, pos, nat_lt, List, [], ◌∷◌, ◌++◌, codes, if◌then◌else◌}
+use Rattle.std.specs.Prelude.{Option, Some, None, option_map, option_and_then}
 use Rattle.std.specs.Fmt.{signed_decimal}
 use Rattle.rtx_tree.specs.declared.code.Code.{Code}
 use Rattle.rtx_tree.specs.declared.code.Code.TheVariants.{Reg, ConstInt, SymbolRef, Mem, Plus}
 use Rattle.rtx_tree.specs.declared.tree.Rtx.{Rtx, out-Rtx}
 use Rattle.rtx_tree.specs.Registers.{reg_text}
 
--- what is printed of an operand of which nothing is said: a double quote, which no line of the assembler has
+-- what is printed of an operand of which nothing is said: a double quote, which no line of the
+-- assembler has
 abbrev pub quote : List ℕ
 quote = codes "\""
 
 -- ---- registers and numbers
 
--- the number of a hard register, one of 0 to 31
 abbrev pub hard_at : Code → ℤ → Option ℕ
 hard_at Reg (pos n) = if nat_lt n 32 then Some n else None
 hard_at _ n = None
 
+-- the number of a hard register, one of 0 to 31
 abbrev pub hard_number : Rtx → Option ℕ
 hard_number x = hard_at (out-Rtx x).code (out-Rtx x).number
 
@@ -35,15 +37,15 @@ constant x = constant_at (out-Rtx x).code (out-Rtx x).number
 
 -- ---- memory
 
--- the sum of a base and an offset
-abbrev pub sum_of : Option ℕ → Option ℤ → Option (ℕ × ℤ)
-sum_of base offset = option_and_then (λ b. option_map (λ o. (b, o)) offset) base
+-- a base and an offset, where both are there
+abbrev pub place_of : Option ℕ → Option ℤ → Option (ℕ × ℤ)
+place_of base offset = option_and_then (λ b. option_map (λ o. (b, o)) offset) base
 
 abbrev pub address_at : Code → ℤ → List Rtx → Option (ℕ × ℤ)
-address_at Plus n (base ∷ offset ∷ []) = sum_of (hard_number base) (constant offset)
-address_at code n kids = sum_of (hard_at code n) (Some (pos 0))
+address_at Plus n (base ∷ offset ∷ []) = place_of (hard_number base) (constant offset)
+address_at code n kids = place_of (hard_at code n) (Some (pos 0))
 
--- the base and the offset of an address: the sum of a hard register and a constant, or a hard register
+-- the base and the offset of an address: a hard register, or the sum of one and a constant
 abbrev pub address : Rtx → Option (ℕ × ℤ)
 address x = address_at (out-Rtx x).code (out-Rtx x).number (out-Rtx x).kids
 

@@ -1,12 +1,15 @@
--- What a sequence prints of its operand: GCC Internals, "Output Templates and Operand Substitution" for the letters c, l and n, and
--- "Output of Assembler Instructions" for z, i, C and N, which are the target's own.
+-- What a sequence prints of its operand: GCC Internals, "Output Templates and Operand Substitution"
+-- for the letters c, l and n, and "Output of Assembler Instructions" for z, i, C and N, which are
+-- the target's own.
 use Rattle.std.specs.Prelude.{ℕ, zero, ℤ, pos, List, [], ◌∷◌, Option, Some, None, codes}
 use Rattle.std.specs.Fmt.{signed_decimal}
 use Rattle.std.specs.Int.{int_wrapping_neg, w64}
 use Rattle.rtx_tree.specs.declared.class.Class.{Class}
 use Rattle.rtx_tree.specs.declared.class.Class.TheVariants.{Comparison}
 use Rattle.rtx_tree.specs.declared.code.Code.{Code}
-use Rattle.rtx_tree.specs.declared.code.Code.TheVariants.{Reg, ConstInt, SymbolRef, LabelRef, Eq, Ne, Lt, Ge, Gt, Le, Ltu, Geu, Gtu, Leu}
+use Rattle.rtx_tree.specs.declared.code.Code.TheVariants.{Reg, ConstInt, SymbolRef, LabelRef}
+use Rattle.rtx_tree.specs.declared.code.Code.TheVariants.{Eq, Ne, Lt, Ge, Gt, Le}
+use Rattle.rtx_tree.specs.declared.code.Code.TheVariants.{Ltu, Geu, Gtu, Leu}
 use Rattle.rtx_tree.specs.declared.tree.Rtx.{Rtx, out-Rtx}
 use Rattle.rtx_tree.specs.Code.{class_of_code, code_name}
 use Rattle.rv_text.specs.Body.{label_text}

@@ -44,7 +44,8 @@ fn address(x: &Rtx) -> Option<(u8, i64)>
 }
 
 fn print_register(x: &Rtx, out: &mut Vec<u8>) -> Result<(), Memory>
-    ensures { OnOk result (out.new.items ≡ out.old.items ++ spec.register_text (spec.hard_number x.now)) }
+    ensures { OnOk result (out.new.items ≡ out.old.items
+        ++ spec.register_text (spec.hard_number x.now)) }
 {
     match hard_number(x) {
         Some(reg) => print_text(reg_name(reg).as_bytes(), out),

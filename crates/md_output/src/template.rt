@@ -62,8 +62,9 @@ fn pieces_in(template: &Template, alternative: u32) -> &[Piece]
     }
 }
 
-/// Appends the text that a template gives in an alternative, counted from 0, for the operands of an instruction with a uid, in a
-/// function with a number. Where memory runs out `out` holds what it held.
+/// Appends the text that a template gives in an alternative, counted from 0, for the operands of an
+/// instruction with a uid, in a function with a number. Where memory runs out `out` holds what it
+/// held.
 pub fn fill(
     template: &Template,
     alternative: u32,

@@ -1,4 +1,5 @@
-//! What is told of small cases of descriptions: patterns, forms, predicates, constraints, attributes, sources and lists.
+//! What is told of small cases of descriptions: patterns, forms, predicates, constraints, attributes, sources, lists and filled
+//! templates.
 //!
 //! A case is an input of a table; [`answer`] gives what is told of it, which the case compares with what it wants.
 #![tactic(auto)]
@@ -6,6 +7,7 @@
 mod forms;
 mod matches;
 mod operands;
+mod outputs;
 mod parts;
 mod predicates;
 mod shelf;
@@ -32,6 +34,8 @@ pub fn answer(alloc: Global, table: &str, given: &[u8], input: &[u8]) -> Result<
         "worth of tests" => worth::tell_test(alloc, given, input, &mut out)?,
         "sources" => sources::tell_source(alloc, given, input, &mut out)?,
         "lists" => sources::tell_list(alloc, input, &mut out)?,
+        "filled templates" => outputs::tell_filled(alloc, input, &mut out)?,
+        "lines of texts" => outputs::tell_lines(alloc, input, &mut out)?,
         _ => return operands::answer(alloc, table, input),
     }
     Ok(Some(out))

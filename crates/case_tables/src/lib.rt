@@ -1,29 +1,15 @@
 //! The tables of cases, by their names.
 #![tactic(auto)]
 
-use anyhow::{Result, bail};
+use case_text::Told;
 use std::alloc::Global;
 
-/// What the table of that name answers to the input, with what was given to it.
-///
-/// # Errors
-///
-/// There is no such table, or the input or what was given can't be read.
-pub fn answer(alloc: Global, table: &str, given: &[u8], input: &[u8]) -> Result<Vec<u8>> {
-    if let Some(told) = text_cases::answer(alloc, table, input)? {
-        return Ok(told);
-    }
-    if let Some(told) = cond_cases::answer(alloc, table, given, input)? {
-        return Ok(told);
-    }
-    if let Some(told) = desc_cases::answer(alloc, table, given, input)? {
-        return Ok(told);
-    }
-    if let Some(told) = code_cases::answer(alloc, table, given, input)? {
-        return Ok(told);
-    }
-    match term_cases::answer(alloc, table, given, input)? {
-        Some(told) => Ok(told),
-        None => bail!("no table {table}"),
-    }
+/// Tells what comes of an input of the table of that name, with what was given to it. Whether there is such a table. What is told is not
+/// whole where the input or what was given can't be read.
+pub fn answer(alloc: Global, table: &str, given: &[u8], input: &[u8], told: &mut Told) -> bool {
+    text_cases::answer(alloc, table, input, told)
+        || cond_cases::answer(alloc, table, given, input, told)
+        || desc_cases::answer(alloc, table, given, input, told)
+        || code_cases::answer(alloc, table, given, input, told)
+        || term_cases::answer(alloc, table, given, input, told)
 }

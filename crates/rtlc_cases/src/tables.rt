@@ -1,36 +1,32 @@
 //! Tables of cases.
-use anyhow::{Result, bail};
-use case_text::{Report, Table, push_bytes, push_shown, push_word};
-use std::alloc::Global;
+use case_text::{Report, Table, Told, push_bytes, push_shown, push_word};
+use std::alloc::{AllocError, Global};
 
-/// The reason for which a row is refused whose text has a backquote that begins no escape.
-const UNREAD: &str = "a backquote that begins no escape";
-
-/// What the table answers to an input, as it is shown.
-fn shown_answer(alloc: Global, table: &Table, input: &str) -> Result<Vec<u8>> {
-    let mut given = Vec::new(alloc);
-    let mut bytes = Vec::new(alloc);
-    if !push_bytes(table.given(), &mut given)? || !push_word(input, &mut bytes)? {
-        bail!("{UNREAD}")
-    }
-    let came = match base_cases::answer(alloc, table.name(), &bytes)? {
-        Some(came) => came,
-        None => case_tables::answer(alloc, table.name(), &given, &bytes)?,
-    };
-    let mut shown = Vec::new(alloc);
-    push_shown(&came, false, &mut shown)?;
-    Ok(shown)
+/// The bytes that a row stands for.
+#[derive(Drop)]
+struct Row {
+    /// What is given to its table.
+    given: Vec<u8>,
+    input: Vec<u8>,
+    wanted: Vec<u8>,
 }
 
-/// What is wanted, as it is shown.
-fn shown_wanted(alloc: Global, wanted: &str) -> Result<Vec<u8>> {
-    let mut bytes = Vec::new(alloc);
-    if !push_word(wanted, &mut bytes)? {
-        bail!("{UNREAD}")
-    }
-    let mut shown = Vec::new(alloc);
-    push_shown(&bytes, false, &mut shown)?;
-    Ok(shown)
+/// The bytes of a row, unless it has a backquote that begins no escape.
+fn row_of(
+    alloc: Global,
+    table: &Table,
+    input: &str,
+    wanted: &str,
+) -> Result<Option<Row>, AllocError> {
+    let mut row = Row {
+        given: Vec::new(alloc),
+        input: Vec::new(alloc),
+        wanted: Vec::new(alloc),
+    };
+    let is_read = push_word(wanted, &mut row.wanted)?
+        && push_bytes(table.given(), &mut row.given)?
+        && push_word(input, &mut row.input)?;
+    Ok(if is_read { Some(row) } else { None })
 }
 
 /// The input and what is wanted, of which either may be empty.
@@ -47,29 +43,72 @@ fn sides_of(row: &str) -> Option<(&str, &str)> {
     }
 }
 
-/// Tries a row.
-fn try_row(alloc: Global, table: &Table, report: &mut Report) -> Result<()> {
-    let row = table.row();
-    let Some((input, wanted)) = sides_of(row) else {
-        bail!("no row of a table")
+/// Bytes as they are shown.
+fn shown(alloc: Global, bytes: &[u8]) -> Result<Vec<u8>, AllocError> {
+    let mut text = Vec::new(alloc);
+    push_shown(bytes, false, &mut text)?;
+    Ok(text)
+}
+
+/// Counts a row, which is right where what is told is what is wanted.
+fn judge_told(
+    alloc: Global,
+    title: &[u8],
+    wanted: &[u8],
+    told: Told,
+    report: &mut Report,
+) -> Result<(), AllocError> {
+    let Some(came) = told.whole() else {
+        return report.refuse(title, b"what is given or the input can't be read");
     };
-    let wanted = shown_wanted(alloc, wanted.trim())?;
-    let came = shown_answer(alloc, table, input.trim())?;
-    let title = format!(in alloc; "{}: {}", table.name(), input.trim())?;
-    Ok(report.judge(title.as_bytes(), &wanted, &came)?)
+    let wanted = shown(alloc, wanted)?;
+    let came = shown(alloc, &came)?;
+    report.judge(title, &wanted, &came)
+}
+
+/// The text of two texts.
+fn joined(alloc: Global, first: &str, second: &str) -> Told {
+    let mut text = Told::new(alloc);
+    text.text(first);
+    text.text(second);
+    text
+}
+
+/// Tries a row whose bytes are read.
+fn try_row(
+    alloc: Global,
+    table: &Table,
+    title: &[u8],
+    row: &Row,
+    report: &mut Report,
+) -> Result<(), AllocError> {
+    let name = table.name();
+    let mut told = Told::new(alloc);
+    if base_cases::answer(alloc, name, &row.input, &mut told)
+        || case_tables::answer(alloc, name, &row.given, &row.input, &mut told)
+    {
+        return judge_told(alloc, title, &row.wanted, told, report);
+    }
+    let reason = joined(alloc, "no table ", name);
+    report.refuse(table.row().as_bytes(), &reason.out)
 }
 
 /// Tries a row, and counts it where it can't be tried as well.
-fn judge_row(alloc: Global, table: &Table, report: &mut Report) -> Result<()> {
-    if let Err(error) = try_row(alloc, table, report) {
-        let reason = format!(in alloc; "{error}")?;
-        report.refuse(table.row().as_bytes(), reason.as_bytes())?;
-    }
-    Ok(())
+fn judge_row(alloc: Global, table: &Table, report: &mut Report) -> Result<(), AllocError> {
+    let Some((input, wanted)) = sides_of(table.row()) else {
+        return report.refuse(table.row().as_bytes(), b"no row of a table");
+    };
+    let input = input.trim();
+    let Some(row) = row_of(alloc, table, input, wanted.trim())? else {
+        return report.refuse(table.row().as_bytes(), b"a backquote that begins no escape");
+    };
+    let mut title = joined(alloc, table.name(), ": ");
+    title.text(input);
+    try_row(alloc, table, &title.out, &row, report)
 }
 
 /// Tries each row of a file of tables, and puts it to the report.
-pub fn judge_tables(alloc: Global, text: &str, report: &mut Report) -> Result<()> {
+pub fn judge_tables(alloc: Global, text: &str, report: &mut Report) -> Result<(), AllocError> {
     let mut table = Table::new(alloc);
     for line in text.lines() {
         if table.read_line(line)? {

@@ -1,5 +1,4 @@
 //! The term that a tree writes.
-use anyhow::{Result, bail};
 use bits64::{Width, trunc};
 use lisp_read::{Tree, atom, items};
 use plain_data::Items;
@@ -45,68 +44,126 @@ fn name_and_width(word: &[u8]) -> (&[u8], Width) {
     }
 }
 
-fn word_of(tree: &Tree) -> Result<&[u8]> {
+/// The text of an atom, and of another tree the empty one.
+fn word_of(tree: &Tree) -> &[u8] {
     match atom(tree) {
-        Some(word) => Ok(word.bytes()),
-        None => bail!("no word"),
+        Some(word) => word.bytes(),
+        None => b"",
     }
 }
 
-fn number_of(tree: &Tree) -> Result<u64> {
-    match number_in(word_of(tree)?) {
-        Some(number) => Ok(number.cast_unsigned()),
-        None => bail!("no number"),
+fn number_of(tree: &Tree) -> Option<u64> {
+    match number_in(word_of(tree)) {
+        Some(number) => Some(number.cast_unsigned()),
+        None => None,
     }
 }
 
 /// The register of a word, as `a0` or `<1>`.
 fn register(word: &[u8]) -> Option<u64> {
-    match word {
-        [b'<', digits @ .., b'>'] => Some(number_in(digits)?.cast_unsigned().wrapping_add(64)),
-        _ => Some(u64::from(reg_number(word)?)),
+    if let [b'<', digits @ .., b'>'] = word {
+        return match number_in(digits) {
+            Some(number) => Some(number.cast_unsigned().wrapping_add(64)),
+            None => None,
+        };
+    }
+    match reg_number(word) {
+        Some(number) => Some(u64::from(number)),
+        None => None,
+    }
+}
+
+/// A coefficient and its term.
+#[cycle(term)]
+fn atom_of(alloc: Global, width: Width, part: &Tree) -> Option<Atom> {
+    if let [coefficient, term] = items(part)
+        && let Some(coefficient) = number_of(coefficient)
+        && let Some(term) = term_of(alloc, term)
+    {
+        Some(Atom {
+            coefficient: trunc(coefficient, width),
+            term,
+        })
+    } else {
+        None
     }
 }
 
 /// A sum: a constant, and lists of a coefficient and a term.
 #[cycle(term)]
-fn sum(alloc: Global, width: Width, parts: &[Tree]) -> Result<Term> {
+fn sum(alloc: Global, width: Width, parts: &[Tree]) -> Option<Term> {
     let [constant, rest @ ..] = parts else {
-        bail!("no constant");
+        return None;
+    };
+    let Some(constant) = number_of(constant) else {
+        return None;
     };
     let mut atoms = Items::new(alloc);
     for part in rest {
-        let [coefficient, term] = items(part) else {
-            bail!("no coefficient and term");
+        let Some(atom) = atom_of(alloc, width, part) else {
+            return None;
         };
-        atoms.push(Atom {
-            coefficient: trunc(number_of(coefficient)?, width),
-            term: term_of(alloc, term)?,
-        })?;
+        if atoms.push(atom).is_err() {
+            return None;
+        }
     }
-    Ok(Term::Sum {
+    Some(Term::Sum {
         width,
-        constant: trunc(number_of(constant)?, width),
+        constant: trunc(constant, width),
         atoms,
     })
 }
 
+/// What an operator stands over: its parts, and a number or a name of its own.
+#[derive(Drop)]
+struct Operands {
+    number: u64,
+    name: Name,
+    parts: Items<Term>,
+}
+
+/// Puts what a tree writes to the operands. Whether it writes anything.
+#[cycle(term)]
+fn put_operand(alloc: Global, tree: &Tree, operands: &mut Operands) -> bool {
+    let word = word_of(tree);
+    if let Some(number) = number_in(word) {
+        operands.number = number.cast_unsigned();
+        return true;
+    }
+    if word.is_empty() || register(word).is_some() {
+        return match term_of(alloc, tree) {
+            Some(term) => operands.parts.push(term).is_ok(),
+            None => false,
+        };
+    }
+    match Name::of(alloc, word) {
+        Ok(name) => {
+            operands.name = name;
+            true
+        }
+        Err(_) => false,
+    }
+}
+
 /// An operator over parts; a number or a name among them is its own.
 #[cycle(term)]
-fn node(alloc: Global, head: Head, width: Width, trees: &[Tree]) -> Result<Term> {
-    let mut number = 0;
-    let mut name = Name::empty(alloc);
-    let mut parts = Items::new(alloc);
+fn node(alloc: Global, head: Head, width: Width, trees: &[Tree]) -> Option<Term> {
+    let mut operands = Operands {
+        number: 0,
+        name: Name::empty(alloc),
+        parts: Items::new(alloc),
+    };
     for tree in trees {
-        let word = atom(tree).map_or(b"".as_slice(), |word| word.bytes());
-        if number_in(word).is_some() {
-            number = number_of(tree)?;
-        } else if word.is_empty() || register(word).is_some() {
-            parts.push(term_of(alloc, tree)?)?;
-        } else {
-            name = Name::of(alloc, word)?;
+        if !put_operand(alloc, tree, &mut operands) {
+            return None;
         }
     }
-    Ok(Term::Node {
+    let Operands {
+        number,
+        name,
+        parts,
+    } = operands;
+    Some(Term::Node {
         head,
         width,
         number,
@@ -115,25 +172,33 @@ fn node(alloc: Global, head: Head, width: Width, trees: &[Tree]) -> Result<Term>
     })
 }
 
+/// The operator of a name.
+fn head_of(name: &[u8]) -> Option<Head> {
+    for (known, head) in HEADS {
+        if known.as_bytes() == name {
+            return Some(head);
+        }
+    }
+    None
+}
+
 /// The term of a tree: `a0`, or an operator with its width and its parts, as `(sum64 5 (1 a0) (-1 a1))`.
 #[cycle(term)]
-pub fn term_of(alloc: Global, tree: &Tree) -> Result<Term> {
+pub fn term_of(alloc: Global, tree: &Tree) -> Option<Term> {
     let [head, parts @ ..] = items(tree) else {
-        return match register(word_of(tree)?) {
-            Some(number) => Ok(register_term(alloc, number)),
-            None => bail!("no register"),
+        return match register(word_of(tree)) {
+            Some(number) => Some(register_term(alloc, number)),
+            None => None,
         };
     };
-    let (name, width) = name_and_width(word_of(head)?);
+    let (name, width) = name_and_width(word_of(head));
     if name == b"sum".as_slice() {
         return sum(alloc, width, parts);
     }
-    for (known, head) in HEADS {
-        if known.as_bytes() == name {
-            return node(alloc, head, width, parts);
-        }
+    match head_of(name) {
+        Some(head) => node(alloc, head, width, parts),
+        None => None,
     }
-    bail!("no operator");
 }
 
 /// A register.

@@ -2,10 +2,9 @@
 use c_cond::{Head, Unary, parse_cond};
 use c_eval::{Facts, Reading, eval, read};
 use md_pred::PredTable;
-use plain_data::Items;
+use plain_data::{Items, Memory};
 use rtx_tree::{Code, Mode, Operands, RegSet, Rtx};
 use std::alloc::Global;
-use std::test::Fail;
 
 fn facts(alloc: Global) -> Facts {
     Facts {
@@ -15,44 +14,65 @@ fn facts(alloc: Global) -> Facts {
     }
 }
 
+/// What is read of a row of heads, where no operand and no predicate is known.
+fn reading(alloc: Global, heads: &[Head]) -> Result<Reading, Memory> {
+    let preds = PredTable::of(alloc, &Items::new(alloc))?;
+    Ok(read(heads, &facts(alloc), &Operands::new(alloc), &preds))
+}
+
+/// What is read of a row of two numbers and a head.
+fn last(alloc: Global, head: Head) -> Result<Reading, Memory> {
+    reading(alloc, &[Head::Number(1), Head::Number(0), head])
+}
+
 /// The last tree of a row is read.
 #[test]
-fn the_last_tree_of_heads(rt: HostRuntime) -> Result<(), Fail> {
+fn the_last_tree_of_heads(rt: HostRuntime) {
     let alloc = rt.alloc();
-    let operands = Operands::new(alloc);
-    let facts = facts(alloc);
-    let preds = PredTable::of(alloc, &Items::new(alloc))?;
-    let nothing: [Head; 0] = [];
-    assert_eq!(rt; read(&nothing, &facts, &operands, &preds), Reading::Nothing);
-    let mut heads = [Head::Number(1), Head::Number(0), Head::Unary(Unary::Not)];
-    assert_eq!(rt; read(&heads, &facts, &operands, &preds), Reading::Number(1));
-    for (head, want) in [
-        (Head::Operand(3), Reading::Operand(3)),
-        (Head::Mode(Mode::SI), Reading::Mode(Mode::SI)),
-        (Head::Window(2), Reading::Window(2)),
-        (Head::Done, Reading::Nothing),
-        (Head::Choose, Reading::Nothing),
-    ] {
-        heads[2] = head;
-        assert_eq!(rt; read(&heads, &facts, &operands, &preds), want);
+    assert!(rt; matches!(reading(alloc, &[]), Ok(Reading::Nothing)));
+    assert!(rt; matches!(last(alloc, Head::Unary(Unary::Not)), Ok(Reading::Number(1))));
+    assert!(rt; matches!(last(alloc, Head::Operand(3)), Ok(Reading::Operand(3))));
+    assert!(rt;
+        matches!(
+            last(alloc, Head::Mode(Mode::SI)),
+            Ok(Reading::Mode(Mode::SI))
+        )
+    );
+    assert!(rt; matches!(last(alloc, Head::Window(2)), Ok(Reading::Window(2))));
+    assert!(rt; matches!(last(alloc, Head::Done), Ok(Reading::Nothing)));
+    assert!(rt; matches!(last(alloc, Head::Choose), Ok(Reading::Nothing)));
+}
+
+/// An operand that is a register without a number of one.
+fn no_register(alloc: Global) -> Result<Operands, Memory> {
+    let mut operands = Operands::new(alloc);
+    operands.put(0, Rtx::leaf(alloc, Code::Reg, Mode::DI, 4_294_967_306))?;
+    Ok(operands)
+}
+
+/// A window with one place, at which nothing is dead.
+fn window(alloc: Global) -> Result<Facts, Memory> {
+    let mut facts = facts(alloc);
+    facts.dead.push(RegSet::new(alloc))?;
+    Ok(facts)
+}
+
+/// What it is worth that an operand that is a register without a number of one is not dead.
+fn worth(alloc: Global) -> Option<i64> {
+    let constants = Items::new(alloc);
+    if let Ok(cond) = parse_cond(alloc, b"!peep2_reg_dead_p (0, operands[0])", &constants)
+        && let Ok(preds) = PredTable::of(alloc, &Items::new(alloc))
+        && let Ok(operands) = no_register(alloc)
+        && let Ok(facts) = window(alloc)
+    {
+        Some(eval(&cond, &facts, &operands, &preds))
+    } else {
+        None
     }
-    Ok(())
 }
 
 /// An operand that is a register without a number of one is not known to be dead.
 #[test]
-fn registers_that_are_none(rt: HostRuntime) -> Result<(), Fail> {
-    let alloc = rt.alloc();
-    let mut operands = Operands::new(alloc);
-    operands.put(0, Rtx::leaf(alloc, Code::Reg, Mode::DI, 4_294_967_306))?;
-    let mut facts = facts(alloc);
-    facts.dead.push(RegSet::new(alloc))?;
-    let preds = PredTable::of(alloc, &Items::new(alloc))?;
-    let cond = parse_cond(
-        alloc,
-        b"!peep2_reg_dead_p (0, operands[0])",
-        &Items::new(alloc),
-    )?;
-    assert_eq!(rt; eval(&cond, &facts, &operands, &preds), 0);
-    Ok(())
+fn registers_that_are_none(rt: HostRuntime) {
+    assert!(rt; matches!(worth(rt.alloc()), Some(0)));
 }

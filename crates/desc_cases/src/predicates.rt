@@ -73,7 +73,7 @@ fn operands(alloc: Global) -> Result<[Rtx; 7], Memory> {
 }
 
 /// The letters of these operands.
-const LETTERS: [&str; 7] = ["r", "s", "5", "h", "n", "m", "y"];
+const LETTERS: &[u8] = b"rs5hnmy";
 
 /// The modes in which operands are asked for: none, QI, SI and DI.
 const MODES: [Mode; 4] = [Mode::Void, Mode::QI, Mode::SI, Mode::DI];
@@ -98,9 +98,10 @@ fn show_test(alloc: Global, given: &[u8], test: &Test, told: &mut Told) {
     {
         for mode in MODES {
             told.text("/");
-            for (letter, operand) in LETTERS.into_iter().zip(&operands) {
-                let is_held = rows.holds(root, &preds, operand, mode);
-                told.text(if is_held { letter } else { "" });
+            for (letter, operand) in LETTERS.iter().zip(&operands) {
+                if rows.holds(root, &preds, operand, mode) {
+                    told.push(&[*letter]);
+                }
             }
         }
     } else {
@@ -124,9 +125,10 @@ pub fn tell_accepted(alloc: Global, given: &[u8], input: &[u8], told: &mut Told)
     {
         for mode in MODES {
             told.text("/");
-            for (letter, operand) in LETTERS.into_iter().zip(&operands) {
-                let is_accepted = preds.holds(&name, operand, mode);
-                told.text(if is_accepted { letter } else { "" });
+            for (letter, operand) in LETTERS.iter().zip(&operands) {
+                if preds.holds(&name, operand, mode) {
+                    told.push(&[*letter]);
+                }
             }
         }
     } else {

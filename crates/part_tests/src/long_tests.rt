@@ -139,26 +139,26 @@ fn accepts(alloc: Global, backwards: bool, before: &str, after: &str, want: &str
 
 /// What stands before and behind the name of the next predicate, and what the last predicate accepts then: p0 accepts registers of
 /// the mode, and each of the others what comes of the one before it.
-const CHAINS: [[&str; 3]; 6] = [
-    ["", "", "/rs//s/r"],
-    ["(not ", ")", "/5hnmy/rs5hnmy/r5hnmy/s5hnmy"],
-    ["(and ", " (match_code \"reg\"))", "/rs//s/r"],
-    ["(ior (match_code \"mem\") ", ")", "/rsm/m/sm/rm"],
-    [
+const CHAINS: [(&str, &str, &str); 6] = [
+    ("", "", "/rs//s/r"),
+    ("(not ", ")", "/5hnmy/rs5hnmy/r5hnmy/s5hnmy"),
+    ("(and ", " (match_code \"reg\"))", "/rs//s/r"),
+    ("(ior (match_code \"mem\") ", ")", "/rsm/m/sm/rm"),
+    (
         "(if_then_else ",
         " (match_code \"reg\") (match_code \"mem\"))",
         "/rsm/m/sm/rm",
-    ],
-    [
+    ),
+    (
         "(if_then_else (match_code \"mem\") (match_test \"0\") ",
         ")",
         "/rs//s/r",
-    ],
+    ),
 ];
 
 #[test]
 fn chains_of_predicates(rt: HostRuntime) {
-    for [before, after, want] in CHAINS {
+    for (before, after, want) in CHAINS {
         assert!(rt; accepts(rt.alloc(), false, before, after, want));
         assert!(rt; accepts(rt.alloc(), true, before, after, want));
     }

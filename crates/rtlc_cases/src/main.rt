@@ -4,7 +4,7 @@
 
 mod tables;
 
-use anyhow::Result;
+use anyhow::{Result, ensure};
 use byte_edge::{DiskFiles, Files, Sink, StdSink, write_all_of};
 use case_runs::judge_runs;
 use case_text::{Report, Told, is_table};
@@ -23,14 +23,14 @@ struct Counts {
 }
 
 /// The report on a file of cases.
-fn judged(alloc: Global, text: &str) -> Result<Report> {
+fn judged(alloc: Global, text: &str) -> Report {
     let mut report = Report::new(alloc);
     if is_table(text) {
-        judge_tables(alloc, text, &mut report)?;
+        judge_tables(alloc, text, &mut report);
     } else {
-        judge_runs(alloc, text, &mut report)?;
+        judge_runs(alloc, text, &mut report);
     }
-    Ok(report)
+    report
 }
 
 /// Appends how many cases are right, behind a name.
@@ -52,7 +52,7 @@ fn judge_file<F: Files>(
 ) -> Result<Told> {
     let mut bytes = Vec::new(alloc);
     files.fetch(name.as_bytes(), ROOM, &mut bytes)?;
-    let report = judged(alloc, str::from_utf8(&bytes)?)?;
+    let report = judged(alloc, str::from_utf8(&bytes)?);
     let found = Counts {
         cases: report.cases(),
         right: report.right(),
@@ -61,7 +61,10 @@ fn judge_file<F: Files>(
     counts.cases = counts.cases.saturating_add(found.cases);
     let mut told = Told::new(alloc);
     show_counts(name, &found, &mut told);
-    told.push(report.wrong());
+    match report.wrong() {
+        Some(wrong) => told.push(&wrong),
+        None => told.fail(),
+    }
     Ok(told)
 }
 
@@ -72,6 +75,7 @@ fn main(rt: HostRuntime) -> Result<()> {
     let mut counts = Counts { cases: 0, right: 0 };
     for name in env::args(&rt)?.skip(1) {
         let told = judge_file(alloc, &mut files, &name, &mut counts)?;
+        ensure!(told.is_whole(), "out of memory");
         write_all_of(&mut output, &told.out)?;
     }
     let mut told = Told::new(alloc);

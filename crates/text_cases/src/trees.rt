@@ -87,10 +87,10 @@ pub fn show_tree(tree: &Tree, told: &mut Told) {
 
 /// Appends some trees, with a blank between each two.
 pub fn show_trees(trees: &[Tree], told: &mut Told) {
-    let mut gap = "";
+    let mut gap = b"".as_slice();
     for tree in trees {
-        told.text(gap);
+        told.push(gap);
         show_tree(tree, told);
-        gap = " ";
+        gap = b" ";
     }
 }

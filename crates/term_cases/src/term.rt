@@ -73,40 +73,27 @@ fn register(word: &[u8]) -> Option<u64> {
     }
 }
 
-/// A coefficient and its term.
-#[cycle(term)]
-fn atom_of(alloc: Global, width: Width, part: &Tree) -> Option<Atom> {
-    if let [coefficient, term] = items(part)
-        && let Some(coefficient) = number_of(coefficient)
-        && let Some(term) = term_of(alloc, term)
-    {
-        Some(Atom {
-            coefficient: trunc(coefficient, width),
-            term,
-        })
-    } else {
-        None
-    }
-}
-
 /// A sum: a constant, and lists of a coefficient and a term.
 #[cycle(term)]
 fn sum(alloc: Global, width: Width, parts: &[Tree]) -> Option<Term> {
     let [constant, rest @ ..] = parts else {
         return None;
     };
-    let Some(constant) = number_of(constant) else {
-        return None;
-    };
     let mut atoms = Items::new(alloc);
     for part in rest {
-        let Some(atom) = atom_of(alloc, width, part) else {
+        let [coefficient, term] = items(part) else {
             return None;
         };
-        if atoms.push(atom).is_err() {
+        let Some(term) = term_of(alloc, term) else {
+            return None;
+        };
+        if !push_atom(width, coefficient, term, &mut atoms) {
             return None;
         }
     }
+    let Some(constant) = number_of(constant) else {
+        return None;
+    };
     Some(Term::Sum {
         width,
         constant: trunc(constant, width),
@@ -114,31 +101,39 @@ fn sum(alloc: Global, width: Width, parts: &[Tree]) -> Option<Term> {
     })
 }
 
-/// What an operator stands over: its parts, and a number or a name of its own.
-#[derive(Drop)]
-struct Operands {
-    number: u64,
-    name: Name,
-    parts: Items<Term>,
+/// Appends a term with the coefficient that a tree writes. Whether it writes one.
+fn push_atom(width: Width, coefficient: &Tree, term: Term, atoms: &mut Items<Atom>) -> bool {
+    match number_of(coefficient) {
+        Some(coefficient) => {
+            let coefficient = trunc(coefficient, width);
+            atoms.push(Atom { coefficient, term }).is_ok()
+        }
+        None => false,
+    }
 }
 
-/// Puts what a tree writes to the operands. Whether it writes anything.
-#[cycle(term)]
-fn put_operand(alloc: Global, tree: &Tree, operands: &mut Operands) -> bool {
+/// A number and a name of an operator's own.
+#[derive(Drop)]
+struct Own {
+    number: u64,
+    name: Name,
+}
+
+/// Whether a tree is a part of an operator, and no number or name of its own.
+fn is_part(tree: &Tree) -> bool {
     let word = word_of(tree);
+    word.is_empty() || number_in(word).is_none() && register(word).is_some()
+}
+
+/// Keeps a number or a name.
+fn put_own(alloc: Global, word: &[u8], own: &mut Own) -> bool {
     if let Some(number) = number_in(word) {
-        operands.number = number.cast_unsigned();
+        own.number = number.cast_unsigned();
         return true;
-    }
-    if word.is_empty() || register(word).is_some() {
-        return match term_of(alloc, tree) {
-            Some(term) => operands.parts.push(term).is_ok(),
-            None => false,
-        };
     }
     match Name::of(alloc, word) {
         Ok(name) => {
-            operands.name = name;
+            own.name = name;
             true
         }
         Err(_) => false,
@@ -148,21 +143,24 @@ fn put_operand(alloc: Global, tree: &Tree, operands: &mut Operands) -> bool {
 /// An operator over parts; a number or a name among them is its own.
 #[cycle(term)]
 fn node(alloc: Global, head: Head, width: Width, trees: &[Tree]) -> Option<Term> {
-    let mut operands = Operands {
+    let mut own = Own {
         number: 0,
         name: Name::empty(alloc),
-        parts: Items::new(alloc),
     };
+    let mut parts = Items::new(alloc);
     for tree in trees {
-        if !put_operand(alloc, tree, &mut operands) {
+        if is_part(tree) {
+            let Some(term) = term_of(alloc, tree) else {
+                return None;
+            };
+            if parts.push(term).is_err() {
+                return None;
+            }
+        } else if !put_own(alloc, word_of(tree), &mut own) {
             return None;
         }
     }
-    let Operands {
-        number,
-        name,
-        parts,
-    } = operands;
+    let Own { number, name } = own;
     Some(Term::Node {
         head,
         width,

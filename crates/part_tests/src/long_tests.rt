@@ -1,16 +1,14 @@
 //! Long and deep inputs, which are generated.
-use case_tables::answer;
 use case_text::Told;
 use std::alloc::Global;
 
-/// What a table tells of an input, if it is told whole.
+/// What a table of texts, of conditions or of descriptions tells of an input, if it is told whole.
 fn told(alloc: Global, table: &str, given: &[u8], input: &[u8]) -> Option<Vec<u8>> {
     let mut told = Told::new(alloc);
-    if answer(alloc, table, given, input, &mut told) {
-        told.whole()
-    } else {
-        None
-    }
+    let is_there = text_cases::answer(alloc, table, input, &mut told)
+        || cond_cases::answer(alloc, table, given, input, &mut told)
+        || desc_cases::answer(alloc, table, given, input, &mut told);
+    if is_there { told.whole() } else { None }
 }
 
 /// A text that begins so many times, and ends as often.

@@ -69,13 +69,21 @@ fn joined(alloc: Global, first: &str, second: &str) -> Told {
     text
 }
 
+/// Tells what comes of an input of the table of that name, with what was given to it. Whether there is such a table.
+fn answer(alloc: Global, table: &str, given: &[u8], input: &[u8], told: &mut Told) -> bool {
+    base_cases::answer(alloc, table, input, told)
+        || text_cases::answer(alloc, table, input, told)
+        || cond_cases::answer(alloc, table, given, input, told)
+        || desc_cases::answer(alloc, table, given, input, told)
+        || code_cases::answer(alloc, table, given, input, told)
+        || term_cases::answer(alloc, table, given, input, told)
+}
+
 /// Tries a row whose bytes are read.
 fn try_row(alloc: Global, table: &Table, title: &[u8], row: &Row, report: &mut Report) {
     let name = table.name();
     let mut told = Told::new(alloc);
-    if base_cases::answer(alloc, name, &row.input.out, &mut told)
-        || case_tables::answer(alloc, name, &row.given.out, &row.input.out, &mut told)
-    {
+    if answer(alloc, name, &row.given.out, &row.input.out, &mut told) {
         told.need(is_whole(row));
         judge_told(alloc, title, &row.wanted.out, &told, report);
     } else {

@@ -18,7 +18,7 @@ use Rattle.rv_text.specs.declared.action.Source.TheVariants.{ReturnAddress}
 use Rattle.rv_text.specs.declared.line.Line.{Line}
 use Rattle.same_behaviour.specs.Direct.{IsArgument, IsUid, IsTest, IsOperandIn, IsLineOf}
 use Rattle.same_behaviour.specs.Direct as direct
-use Rattle.asm_table.specs.declared.forms.Match.{Match}
+use Rattle.asm_table.specs.declared.forms.TableMatch.{TableMatch}
 use Rattle.asm_table.specs.Forms.{table, first_of, first_match}
 use Rattle.asm_table.specs.Template.{filled_line}
 use Rattle.asm_table.proofs.FormLines as lines
@@ -30,7 +30,7 @@ use Rattle.asm_table.proofs.JumpLines.{j_line, branch_line, j_form, branch_form}
 -- ---- lines
 
 -- a line of the table that does what the instruction does, and the text of its match
-pub record HasLine (number : ℕ) (i : Insn) (m : Match) : Type 0 where
+pub record HasLine (number : ℕ) (i : Insn) (m : TableMatch) : Type 0 where
   pub line : Line
   pub line_of : IsLineOf number i line
   pub is_line : IsSome (action_of line)
@@ -39,7 +39,7 @@ pub record HasLine (number : ℕ) (i : Insn) (m : Match) : Type 0 where
 some_action : (line : Line) (a : Action) → action_of line ≡ Some a → IsSome (action_of line)
 some_action line a is = subst IsSome (sym is) refl
 
-setting_has : (number : ℕ) (i : Insn) (m : Match) → i.kind ≡ kind.Plain → IsSetting i.pattern m → HasLine number i m
+setting_has : (number : ℕ) (i : Insn) (m : TableMatch) → i.kind ≡ kind.Plain → IsSetting i.pattern m → HasLine number i m
 setting_has number i _ plain (IsSetting.add t a b is_t is_a is_b pattern) =
     let acts = does (add_line t a b) add_form lines.add_row (lines.add_is_row t a b is_t is_a is_b) in
     record {
@@ -74,7 +74,7 @@ ret_does = does ret_line (record { name = codes "ret"; operands = []; action = a
 return_text : (number : ℕ) → filled_line number return_match ≡ line_text ret_line ++ 10 ∷ []
 return_text number = sym (ap (λ t. t ++ 10 ∷ []) (text_is ret_line (record { name = codes "ret"; operands = []; action = action.Return ReturnAddress }) lines.ret_row refl))
 
-going_has : (number : ℕ) (i : Insn) (m : Match) → number < 2 ^ 32 → i.kind ≡ kind.Jump → IsGoing i.pattern m → HasLine number i m
+going_has : (number : ℕ) (i : Insn) (m : TableMatch) → number < 2 ^ 32 → i.kind ≡ kind.Jump → IsGoing i.pattern m → HasLine number i m
 going_has number i _ small is_jump (IsGoing.returns pattern) =
     record { line = ret_line; line_of = direct.returns is_jump pattern ret_does; is_line = some_action ret_line _ ret_does; text = return_text number }
 going_has number i _ small is_jump (IsGoing.jump uid small' pattern) =
@@ -99,18 +99,18 @@ going_has number i _ small is_jump (IsGoing.branch code comparison left right a 
 
 -- ---- the line of an instruction that a form matches
 
-by_kind : (number : ℕ) (i : Insn) (m : Match) (k : Kind) → number < 2 ^ 32 → i.kind ≡ k → first_of (table k) i.pattern ≡ Some m → HasLine number i m
+by_kind : (number : ℕ) (i : Insn) (m : TableMatch) (k : Kind) → number < 2 ^ 32 → i.kind ≡ k → first_of (table k) i.pattern ≡ Some m → HasLine number i m
 by_kind number i m kind.Plain small is found = setting_has number i m is (setting i.pattern m found)
 by_kind number i m kind.Jump small is found = going_has number i m small is (going i.pattern m found)
 by_kind number i m kind.Call small is found = absurd (let none : ⊥ = cc in none)
 by_kind number i m kind.Label small is found = absurd (let none : ⊥ = cc in none)
 by_kind number i m kind.Barrier small is found = absurd (let none : ⊥ = cc in none)
 
-pub matched_has_line : (number : ℕ) (i : Insn) (m : Match) → number < 2 ^ 32 → first_match i ≡ Some m → HasLine number i m
+pub matched_has_line : (number : ℕ) (i : Insn) (m : TableMatch) → number < 2 ^ 32 → first_match i ≡ Some m → HasLine number i m
 matched_has_line number i m small found = by_kind number i m i.kind small refl found
 
 -- the line that returns, and its text
-pub record ReturnLine (number : ℕ) (m : Match) : Type 0 where
+pub record ReturnLine (number : ℕ) (m : TableMatch) : Type 0 where
   pub line : Line
   pub acts : action_of line ≡ Some (action.Return ReturnAddress)
   pub is_line : IsSome (action_of line)
@@ -123,12 +123,12 @@ sets_not target source is =
     let none : ⊥ = cc in none
 
 -- what a return matches
-returning : (x : Rtx) (m : Match) → x ≡ return_rtx → IsGoing x m → return_match ≡ m
+returning : (x : Rtx) (m : TableMatch) → x ≡ return_rtx → IsGoing x m → return_match ≡ m
 returning x _ is (IsGoing.returns pattern) = refl
 returning x _ is (IsGoing.jump uid small pattern) = absurd (sets_not _ _ (sym is ∙ pattern))
 returning x _ is (IsGoing.branch code comparison left right a b y uid small is_a is_b test pattern) = absurd (sets_not _ _ (sym is ∙ pattern))
 
-pub return_line : (number : ℕ) (i : Insn) (m : Match) → i.kind ≡ kind.Jump → i.pattern ≡ return_rtx → first_match i ≡ Some m → ReturnLine number m
+pub return_line : (number : ℕ) (i : Insn) (m : TableMatch) → i.kind ≡ kind.Jump → i.pattern ≡ return_rtx → first_match i ≡ Some m → ReturnLine number m
 return_line number i m jump pattern found =
     let same = returning i.pattern m pattern (going i.pattern m (sym (ap (λ k. first_of (table k) i.pattern) jump) ∙ found)) in
     subst (ReturnLine number) same (record { line = ret_line; acts = ret_does; is_line = some_action ret_line _ ret_does; text = return_text number })

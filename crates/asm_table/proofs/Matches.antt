@@ -14,9 +14,9 @@ use Rattle.rv_text.specs.declared.action.Comparison.{Comparison}
 use Rattle.rv_text.specs.declared.action.Source.{Source}
 use Rattle.same_behaviour.specs.Direct.{IsArgument, IsUid, IsTest, IsOperandIn}
 use Rattle.same_behaviour.specs.Direct as direct
-use Rattle.asm_table.specs.declared.forms.Match.{Match}
-use Rattle.asm_table.specs.declared.forms.Form.{Form}
-use Rattle.asm_table.specs.declared.forms.Form.TheVariants as form
+use Rattle.asm_table.specs.declared.forms.TableMatch.{TableMatch}
+use Rattle.asm_table.specs.declared.forms.TableForm.{TableForm}
+use Rattle.asm_table.specs.declared.forms.TableForm.TheVariants as form
 use Rattle.asm_table.specs.Forms as forms
 use Rattle.asm_table.specs.Forms.{Ops, operands_of}
 
@@ -196,32 +196,32 @@ sum_kids x a b _ _ holds kids is = absurd (let none : ⊥ = cc in none)
 
 -- ---- matches
 
-abbrev pub add_match : ℕ → ℕ → ℕ → Match
+abbrev pub add_match : ℕ → ℕ → ℕ → TableMatch
 add_match t a b = record { form = form.Add; operands = Some (reg_of DI t) ∷ Some (reg_of DI a) ∷ Some (reg_of DI b) ∷ [] }
 
-abbrev pub addi_match : ℕ → ℕ → ℤ → Match
+abbrev pub addi_match : ℕ → ℕ → ℤ → TableMatch
 addi_match t a n = record { form = form.Addi; operands = Some (reg_of DI t) ∷ Some (reg_of DI a) ∷ Some (const_of n) ∷ [] }
 
-abbrev pub mv_match : ℕ → ℕ → Match
+abbrev pub mv_match : ℕ → ℕ → TableMatch
 mv_match t a = record { form = form.Mv; operands = Some (reg_of DI t) ∷ Some (reg_of DI a) ∷ [] }
 
-abbrev pub jump_match : ℕ → Match
+abbrev pub jump_match : ℕ → TableMatch
 jump_match uid = record { form = form.Jump; operands = Some (const_of (pos uid)) ∷ [] }
 
-abbrev pub branch_match : Code → ℕ → Rtx → ℕ → Match
+abbrev pub branch_match : Code → ℕ → Rtx → ℕ → TableMatch
 branch_match code a y uid = record { form = form.Branch; operands = Some (test_rtx code (reg_of DI a) y) ∷ Some (reg_of DI a) ∷ Some y ∷ Some (const_of (pos uid)) ∷ [] }
 
-abbrev pub return_match : Match
+abbrev pub return_match : TableMatch
 return_match = record { form = form.Return; operands = [] }
 
 -- what a form for plain instructions matches
-pub data IsSetting (x : Rtx) : Match → Type 0 where
+pub data IsSetting (x : Rtx) : TableMatch → Type 0 where
   add : (t a b : ℕ) → IsArgument t → IsArgument a → IsArgument b → x ≡ set_rtx (reg_of DI t) (sum_rtx (reg_of DI a) (reg_of DI b)) → IsSetting x (add_match t a b)
   addi : (t a : ℕ) (n : ℤ) → IsArgument t → IsArgument a → forms.is_small_number n ≡ true → x ≡ set_rtx (reg_of DI t) (sum_rtx (reg_of DI a) (const_of n)) → IsSetting x (addi_match t a n)
   mv : (t a : ℕ) → IsArgument t → IsArgument a → x ≡ set_rtx (reg_of DI t) (reg_of DI a) → IsSetting x (mv_match t a)
 
 -- what a form for jumps matches
-pub data IsGoing (x : Rtx) : Match → Type 0 where
+pub data IsGoing (x : Rtx) : TableMatch → Type 0 where
   jump : (uid : ℕ) → IsUid uid → x ≡ jump_rtx uid → IsGoing x (jump_match uid)
   branch : (code : Code) (comparison : Comparison) (left right : Source) (a b : ℕ) (y : Rtx) (uid : ℕ) → IsUid uid → IsArgument a → IsOperandIn y b → IsTest code comparison left right →
       x ≡ branch_rtx (test_rtx code (reg_of DI a) y) uid → IsGoing x (branch_match code a y uid)
@@ -231,12 +231,12 @@ pub data IsGoing (x : Rtx) : Match → Type 0 where
 pub record IsSet (x target source : Rtx) : Type 0 where
   pub tree_is : x ≡ set_rtx target source
 
-set_kids : (f : Form) (x : Rtx) (ops : Ops) (P : Type 0) (b : Bool) (kids : List Rtx) → (forms.has_head forms.is_set_head x && forms.is_node x) ≡ b → (out-Rtx x).kids ≡ kids → forms.set_by f b kids ≡ Some ops →
+set_kids : (f : TableForm) (x : Rtx) (ops : Ops) (P : Type 0) (b : Bool) (kids : List Rtx) → (forms.has_head forms.is_set_head x && forms.is_node x) ≡ b → (out-Rtx x).kids ≡ kids → forms.set_by f b kids ≡ Some ops →
     ((target source : Rtx) → x ≡ set_rtx target source → forms.set_operands f target source ≡ Some ops → P) → P
 set_kids f x ops P true (target ∷ source ∷ []) holds kids is gives = let parts = both _ _ holds in gives target source (node x Set Void (target ∷ source ∷ []) (set_head _ _ parts.0) parts.1 kids) is
 set_kids f x ops P _ _ holds kids is gives = absurd (let none : ⊥ = cc in none)
 
-same_ops : (f : Form) (ops ops' : Ops) → ◌≡◌ {A = Option Ops} (Some ops) (Some ops') → ◌≡◌ {A = Match} (record { form = f; operands = ops }) (record { form = f; operands = ops' })
+same_ops : (f : TableForm) (ops ops' : Ops) → ◌≡◌ {A = Option Ops} (Some ops) (Some ops') → ◌≡◌ {A = TableMatch} (record { form = f; operands = ops }) (record { form = f; operands = ops' })
 same_ops f ops ops' is = cc
 
 two_equal : (x y x' y' : Rtx) → x ≡ x' → y ≡ y' → set_rtx x y ≡ set_rtx x' y'
@@ -399,18 +399,18 @@ return_found x ops is =
 
 -- ---- the first form that matches
 
-or_found : (P : Match → Type 0) (f : Form) (o : Option Ops) (later : Option Match) (m : Match) → ((ops : Ops) → o ≡ Some ops → P (record { form = f; operands = ops })) → (later ≡ Some m → P m) → forms.or_later f o later ≡ Some m → P m
-or_found P f (Some ops) later m here rest is = let same : ◌≡◌ {A = Match} (record { form = f; operands = ops }) m = cc in subst P same (here ops refl)
+or_found : (P : TableMatch → Type 0) (f : TableForm) (o : Option Ops) (later : Option TableMatch) (m : TableMatch) → ((ops : Ops) → o ≡ Some ops → P (record { form = f; operands = ops })) → (later ≡ Some m → P m) → forms.or_later f o later ≡ Some m → P m
+or_found P f (Some ops) later m here rest is = let same : ◌≡◌ {A = TableMatch} (record { form = f; operands = ops }) m = cc in subst P same (here ops refl)
 or_found P f None later m here rest is = rest is
 
-pub setting : (x : Rtx) (m : Match) → forms.first_of (form.Add ∷ form.Addi ∷ form.Mv ∷ []) x ≡ Some m → IsSetting x m
+pub setting : (x : Rtx) (m : TableMatch) → forms.first_of (form.Add ∷ form.Addi ∷ form.Mv ∷ []) x ≡ Some m → IsSetting x m
 setting x m is =
     or_found (IsSetting x) form.Add _ _ m (λ ops at. set_kids form.Add x ops _ _ _ refl refl at (λ target source tree got. add_found x target source ops _ refl tree got))
     (or_found (IsSetting x) form.Addi _ _ m (λ ops at. set_kids form.Addi x ops _ _ _ refl refl at (λ target source tree got. addi_found x target source ops _ refl tree got))
     (or_found (IsSetting x) form.Mv _ _ m (λ ops at. set_kids form.Mv x ops _ _ _ refl refl at (λ target source tree got. mv_found x target source ops tree got)) (λ never. absurd (let none : ⊥ = cc in none))))
     is
 
-pub going : (x : Rtx) (m : Match) → forms.first_of (form.Jump ∷ form.Branch ∷ form.Return ∷ []) x ≡ Some m → IsGoing x m
+pub going : (x : Rtx) (m : TableMatch) → forms.first_of (form.Jump ∷ form.Branch ∷ form.Return ∷ []) x ≡ Some m → IsGoing x m
 going x m is =
     or_found (IsGoing x) form.Jump _ _ m (λ ops at. set_kids form.Jump x ops _ _ _ refl refl at (λ target source tree got. jump_found x target source ops _ refl tree got))
     (or_found (IsGoing x) form.Branch _ _ m (λ ops at. set_kids form.Branch x ops _ _ _ refl refl at (λ target source tree got. branch_found x target source ops tree got))
@@ -419,7 +419,7 @@ going x m is =
 
 -- ---- a return is matched
 
-no_set : (f : Form) → forms.set_in f return_rtx ≡ None
+no_set : (f : TableForm) → forms.set_in f return_rtx ≡ None
 no_set f = ap (λ (o : Rtx-F Rtx). forms.set_by f (forms.is_set_head o.code o.mode && (forms.is_zero_number o.number && forms.is_nameless o.name)) o.kids) (out-roll-Rtx _)
 
 is_return : forms.is_return return_rtx ≡ true

@@ -9,9 +9,9 @@ use Rattle.rtx_tree.specs.declared.tree.Rtx.{Rtx, out-Rtx}
 use Rattle.rtx_tree.specs.declared.function.Kind.{Kind}
 use Rattle.rtx_tree.specs.declared.function.Kind.TheVariants.{Plain, Jump}
 use Rattle.rtx_tree.specs.declared.function.Insn.{Insn}
-use Rattle.asm_table.specs.declared.forms.Form.{Form}
-use Rattle.asm_table.specs.declared.forms.Form.TheVariants as form
-use Rattle.asm_table.specs.declared.forms.Match.{Match}
+use Rattle.asm_table.specs.declared.forms.TableForm.{TableForm}
+use Rattle.asm_table.specs.declared.forms.TableForm.TheVariants as form
+use Rattle.asm_table.specs.declared.forms.TableMatch.{TableMatch}
 
 -- ---- looking at an expression
 
@@ -168,7 +168,7 @@ abbrev pub reg_operands : Rtx → Rtx → Option Ops
 reg_operands target source = if is_argument target && is_argument source then Some (two target source) else None
 
 -- what the second operand of a form's sum has to be
-abbrev pub second_passes : Form → Rtx → Bool
+abbrev pub second_passes : TableForm → Rtx → Bool
 second_passes form.Add x = is_argument x
 second_passes form.Addi x = is_small x
 second_passes _ x = false
@@ -204,7 +204,7 @@ choice_operands source = choice_by (has_head is_choice_head source && is_node so
 abbrev pub branch_operands : Rtx → Rtx → Option Ops
 branch_operands target source = if is_counter target then choice_operands source else None
 
-abbrev pub set_operands : Form → Rtx → Rtx → Option Ops
+abbrev pub set_operands : TableForm → Rtx → Rtx → Option Ops
 set_operands form.Add target source = sum_operands (second_passes form.Add) target (sum_parts source)
 set_operands form.Addi target source = sum_operands (second_passes form.Addi) target (sum_parts source)
 set_operands form.Mv target source = reg_operands target source
@@ -212,12 +212,12 @@ set_operands form.Jump target source = jump_operands target source
 set_operands form.Branch target source = branch_operands target source
 set_operands form.Return target source = None
 
-abbrev pub set_by : Form → Bool → List Rtx → Option Ops
+abbrev pub set_by : TableForm → Bool → List Rtx → Option Ops
 set_by f true (target ∷ source ∷ []) = set_operands f target source
 set_by f _ _ = None
 
 -- (set TARGET SOURCE), by its two parts
-abbrev pub set_in : Form → Rtx → Option Ops
+abbrev pub set_in : TableForm → Rtx → Option Ops
 set_in f x = set_by f (has_head is_set_head x && is_node x) (out-Rtx x).kids
 
 -- (return)
@@ -228,24 +228,24 @@ is_return x = has_head is_return_head x && is_leaf x && is_zero_number (out-Rtx 
 -- and a small constant, `mv` an argument register, each set into an argument register, and all in DImode; `jump` takes a label, and
 -- `cbranchdi4` a comparison of an argument register and an argument register or the constant 0 with a label, set into the program
 -- counter; `return` takes the return.
-abbrev pub operands_of : Form → Rtx → Option Ops
+abbrev pub operands_of : TableForm → Rtx → Option Ops
 operands_of form.Return x = if is_return x then Some [] else None
 operands_of f x = set_in f x
 
 -- the forms for an instruction of a kind, in the order in which they are tried
-abbrev pub table : Kind → List Form
+abbrev pub table : Kind → List TableForm
 table Plain = form.Add ∷ form.Addi ∷ form.Mv ∷ []
 table Jump = form.Jump ∷ form.Branch ∷ form.Return ∷ []
 table _ = []
 
-abbrev pub or_later : Form → Option Ops → Option Match → Option Match
+abbrev pub or_later : TableForm → Option Ops → Option TableMatch → Option TableMatch
 or_later f (Some ops) later = Some (record { form = f; operands = ops })
 or_later f None later = later
 
-abbrev pub first_of : List Form → Rtx → Option Match
+abbrev pub first_of : List TableForm → Rtx → Option TableMatch
 first_of [] x = None
 first_of (f ∷ fs) x = or_later f (operands_of f x) (first_of fs x)
 
 -- the first form that matches an instruction
-abbrev pub first_match : Insn → Option Match
+abbrev pub first_match : Insn → Option TableMatch
 first_match i = first_of (table i.kind) i.pattern

@@ -8,12 +8,12 @@ use Rattle.rtx_tree.specs.Code.{code_name}
 use Rattle.rtx_tree.specs.Operands.{operand_at}
 use Rattle.rtl_print.specs.Print.{printed_reg}
 use Rattle.rv_text.specs.Body.{label_text}
-use Rattle.asm_table.specs.declared.forms.Form.{Form}
-use Rattle.asm_table.specs.declared.forms.Form.TheVariants as form
-use Rattle.asm_table.specs.declared.forms.Match.{Match}
+use Rattle.asm_table.specs.declared.forms.TableForm.{TableForm}
+use Rattle.asm_table.specs.declared.forms.TableForm.TheVariants as form
+use Rattle.asm_table.specs.declared.forms.TableMatch.{TableMatch}
 use Rattle.asm_table.specs.Forms.{Ops, is_comparison, is_zero}
 
-abbrev pub template_of : Form → List ℕ
+abbrev pub template_of : TableForm → List ℕ
 template_of form.Add = codes "add\t%0,%1,%2"
 template_of form.Addi = codes "addi\t%0,%1,%2"
 template_of form.Mv = codes "mv\t%0,%1"
@@ -93,7 +93,7 @@ abbrev mutual
 -- ---- lines
 
 -- a tab, and the form's template with the operands put in
-abbrev pub filled_line : ℕ → Match → List ℕ
+abbrev pub filled_line : ℕ → TableMatch → List ℕ
 filled_line number m = codes "\t" ++ (filled number m.operands (template_of m.form) ++ codes "\n")
 
 -- the line of a label of a function with a number

@@ -9,7 +9,7 @@ use std::alloc::Global;
 
 /// A form of the table.
 #[derive(Clone, Copy)]
-pub enum Form {
+pub enum TableForm {
     /// A register set to the sum of two registers.
     Add,
     /// A register set to the sum of a register and a constant from -2048 to 2047.
@@ -172,19 +172,19 @@ fn four(alloc: Global, a: &Rtx, b: &Rtx, c: &Rtx, d: &Rtx) -> Result<Operands, M
     Ok(operands)
 }
 
-fn passes(form: Form, x: &Rtx) -> bool
+fn passes(form: TableForm, x: &Rtx) -> bool
     ensures { result ≡ spec.second_passes form x.now }
 {
     match form {
-        Form::Add => is_argument(x),
-        Form::Addi => is_small(x),
+        TableForm::Add => is_argument(x),
+        TableForm::Addi => is_small(x),
         _ => false,
     }
 }
 
 fn sum_operands(
     alloc: Global,
-    form: Form,
+    form: TableForm,
     target: &Rtx,
     source: &Rtx,
 ) -> Result<Option<Operands>, Memory>
@@ -251,22 +251,22 @@ fn branch_operands(alloc: Global, target: &Rtx, source: &Rtx) -> Result<Option<O
 
 fn set_operands(
     alloc: Global,
-    form: Form,
+    form: TableForm,
     target: &Rtx,
     source: &Rtx,
 ) -> Result<Option<Operands>, Memory>
     ensures { IfOk result (λ ops. ops ≡ spec.set_operands form target.now source.now) }
 {
     match form {
-        Form::Add | Form::Addi => sum_operands(alloc, form, target, source),
-        Form::Mv => reg_operands(alloc, target, source),
-        Form::Jump => jump_operands(alloc, target, source),
-        Form::Branch => branch_operands(alloc, target, source),
-        Form::Return => Ok(None),
+        TableForm::Add | TableForm::Addi => sum_operands(alloc, form, target, source),
+        TableForm::Mv => reg_operands(alloc, target, source),
+        TableForm::Jump => jump_operands(alloc, target, source),
+        TableForm::Branch => branch_operands(alloc, target, source),
+        TableForm::Return => Ok(None),
     }
 }
 
-fn set_of(alloc: Global, form: Form, pattern: &Rtx) -> Result<Option<Operands>, Memory>
+fn set_of(alloc: Global, form: TableForm, pattern: &Rtx) -> Result<Option<Operands>, Memory>
     ensures { IfOk result (λ ops. ops ≡ spec.set_in form pattern.now) }
 {
     match pattern.kids.as_slice() {
@@ -276,29 +276,29 @@ fn set_of(alloc: Global, form: Form, pattern: &Rtx) -> Result<Option<Operands>, 
 }
 
 /// The operands of a form in a pattern, or `None` where it doesn't match.
-fn operands(alloc: Global, form: Form, pattern: &Rtx) -> Result<Option<Operands>, Memory>
+fn operands(alloc: Global, form: TableForm, pattern: &Rtx) -> Result<Option<Operands>, Memory>
     ensures { IfOk result (λ ops. ops ≡ spec.operands_of form pattern.now) }
 {
     match form {
-        Form::Return if is_return(pattern) => Ok(Some(Operands::new(alloc))),
-        Form::Return => Ok(None),
+        TableForm::Return if is_return(pattern) => Ok(Some(Operands::new(alloc))),
+        TableForm::Return => Ok(None),
         _ => set_of(alloc, form, pattern),
     }
 }
 
 /// A form that matches, with its operands.
 #[derive(Drop)]
-pub struct Match {
-    pub form: Form,
+pub struct TableMatch {
+    pub form: TableForm,
     pub operands: Operands,
 }
 
-fn first_of(alloc: Global, forms: &[Form], pattern: &Rtx) -> Result<Option<Match>, Memory>
+fn first_of(alloc: Global, forms: &[TableForm], pattern: &Rtx) -> Result<Option<TableMatch>, Memory>
     ensures { IfOk result (λ found. found ≡ spec.first_of forms.now pattern.now) }
 {
     for form in forms {
         if let Some(operands) = operands(alloc, *form, pattern)? {
-            return Ok(Some(Match {
+            return Ok(Some(TableMatch {
                 form: *form,
                 operands,
             }));
@@ -308,18 +308,18 @@ fn first_of(alloc: Global, forms: &[Form], pattern: &Rtx) -> Result<Option<Match
 }
 
 /// The forms for an instruction of a kind, in the order in which they are tried.
-fn table(kind: Kind) -> &'static [Form]
+fn table(kind: Kind) -> &'static [TableForm]
     ensures { result.now ≡ spec.table kind }
 {
     match kind {
-        Kind::Plain => &[Form::Add, Form::Addi, Form::Mv],
-        Kind::Jump => &[Form::Jump, Form::Branch, Form::Return],
+        Kind::Plain => &[TableForm::Add, TableForm::Addi, TableForm::Mv],
+        Kind::Jump => &[TableForm::Jump, TableForm::Branch, TableForm::Return],
         _ => &[],
     }
 }
 
 /// The first form that matches an instruction.
-pub fn first_match(alloc: Global, insn: &Insn) -> Result<Option<Match>, Memory>
+pub fn first_match(alloc: Global, insn: &Insn) -> Result<Option<TableMatch>, Memory>
     ensures { IfOk result (λ found. found ≡ spec.first_match insn.now) }
 {
     first_of(alloc, table(insn.kind), &insn.pattern)

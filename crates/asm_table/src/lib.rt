@@ -10,5 +10,5 @@ mod forms;
 mod line;
 mod template;
 
-pub use forms::{Form, Match, first_match};
+pub use forms::{TableForm, TableMatch, first_match};
 pub use line::{print_label_line, print_line};

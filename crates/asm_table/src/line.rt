@@ -2,14 +2,14 @@
 ghost use Rattle.std.specs.Prelude.{◌≡◌, ◌++◌, OnOk};
 ghost use Rattle.asm_table.specs.Template as spec;
 
-use crate::forms::Match;
+use crate::forms::TableMatch;
 use crate::template::{print_filled, print_label, template};
 use plain_data::Memory;
 use text_words::print_text;
 
 /// Appends the line of an instruction of a function by the form that matches it: a tab, the form's template with the
 /// operands put in, and a newline. `function` is the function's number.
-pub fn print_line(function: u32, found: &Match, out: &mut Vec<u8>) -> Result<(), Memory>
+pub fn print_line(function: u32, found: &TableMatch, out: &mut Vec<u8>) -> Result<(), Memory>
     ensures { OnOk result (out.new.items ≡ out.old.items ++ spec.filled_line function found.now) }
 {
     print_text(b"\t", out)?;

@@ -4,23 +4,23 @@ ghost use Rattle.std.specs.Option.{option_copied};
 ghost use Rattle.rv_text.specs.Body.{label_text};
 ghost use Rattle.asm_table.specs.Template as spec;
 
-use crate::forms::{Form, is_comparison, is_zero};
+use crate::forms::{TableForm, is_comparison, is_zero};
 use plain_data::Memory;
 use rtl_print::{print_number, print_reg};
 use rtx_tree::{Code, Operands, Rtx};
 use text_words::{print_count, print_text};
 
 /// The template of a form's instruction line.
-pub fn template(form: Form) -> &'static [u8]
+pub fn template(form: TableForm) -> &'static [u8]
     ensures { result.now ≡ spec.template_of form }
 {
     match form {
-        Form::Add => b"add\t%0,%1,%2",
-        Form::Addi => b"addi\t%0,%1,%2",
-        Form::Mv => b"mv\t%0,%1",
-        Form::Jump => b"j\t%l0",
-        Form::Branch => b"b%C0\t%1,%z2,%l3",
-        Form::Return => b"ret",
+        TableForm::Add => b"add\t%0,%1,%2",
+        TableForm::Addi => b"addi\t%0,%1,%2",
+        TableForm::Mv => b"mv\t%0,%1",
+        TableForm::Jump => b"j\t%l0",
+        TableForm::Branch => b"b%C0\t%1,%z2,%l3",
+        TableForm::Return => b"ret",
     }
 }
 

@@ -5,10 +5,10 @@ use Rattle.run_refusal.specs.declared.refusal.Refusal.{Refusal}
 use Rattle.run_refusal.specs.declared.refusal.Refusal.TheVariants as refusal
 use Rattle.func_input.specs.Input.{IsRead, RefusesWith}
 use Rattle.asm_text.specs.Compile.{FunctionsCome, InputComes}
-use Rattle.asm_text.specs.Code.{Answer, Answers, has_named, NameComes, CodeComes}
+use Rattle.asm_text.specs.Code.{Answer, Gives, has_named, NameComes, CodeComes}
 
 -- what refuses the functions refuses the name
-pub name_refused : (functions : List Function) (name : List ℕ) (e : Refusal) → has_named functions name ≡ true → RefusesWith e (FunctionsCome functions) → Answers (Err e) (NameComes functions name)
+pub name_refused : (functions : List Function) (name : List ℕ) (e : Refusal) → has_named functions name ≡ true → RefusesWith e (FunctionsCome functions) → Gives (Err e) (NameComes functions name)
 name_refused functions name refusal.Memory named h = tt
 name_refused functions name refusal.Usage named h = absurd h
 name_refused functions name refusal.ReadFault named h = absurd h
@@ -20,7 +20,7 @@ name_refused functions name (refusal.Limit which count) named h = NameComes.refu
 name_refused functions name (refusal.Unmatched function uid stage insn) named h = NameComes.refused (refusal.Unmatched function uid stage insn) named h
 
 -- what refuses the bytes before they are functions refuses the name
-pub unread_refused : (bytes name : List ℕ) (e : Refusal) → ((e ≡ refusal.Memory → ⊥) → (functions : List Function) → IsRead bytes functions → ⊥) → RefusesWith e (InputComes bytes) → Answers (Err e) (CodeComes bytes name)
+pub unread_refused : (bytes name : List ℕ) (e : Refusal) → ((e ≡ refusal.Memory → ⊥) → (functions : List Function) → IsRead bytes functions → ⊥) → RefusesWith e (InputComes bytes) → Gives (Err e) (CodeComes bytes name)
 unread_refused bytes name refusal.Memory never h = tt
 unread_refused bytes name refusal.Usage never h = absurd h
 unread_refused bytes name refusal.ReadFault never h = absurd h
@@ -32,14 +32,14 @@ unread_refused bytes name (refusal.Limit which count) never h = CodeComes.unread
 unread_refused bytes name (refusal.Unmatched function uid stage insn) never h = CodeComes.unread (refusal.Unmatched function uid stage insn) (never (λ is. cc)) h
 
 -- what a name came to among the functions, it comes to in the bytes
-pub answers_map : (answer : Answer) (P Q : Answer → Type 0) → ((a : Answer) → P a → Q a) → Answers answer P → Answers answer Q
-answers_map (Ok c) P Q follows h = follows (Ok c) h
-answers_map (Err refusal.Memory) P Q follows h = tt
-answers_map (Err refusal.ReadFault) P Q follows h = absurd h
-answers_map (Err refusal.WriteFault) P Q follows h = absurd h
-answers_map (Err refusal.Usage) P Q follows h = follows (Err refusal.Usage) h
-answers_map (Err (refusal.Syntax file place)) P Q follows h = follows (Err (refusal.Syntax file place)) h
-answers_map (Err (refusal.Construct place name)) P Q follows h = follows (Err (refusal.Construct place name)) h
-answers_map (Err (refusal.IllFormed function uid rule)) P Q follows h = follows (Err (refusal.IllFormed function uid rule)) h
-answers_map (Err (refusal.Limit which count)) P Q follows h = follows (Err (refusal.Limit which count)) h
-answers_map (Err (refusal.Unmatched function uid stage insn)) P Q follows h = follows (Err (refusal.Unmatched function uid stage insn)) h
+pub gives_map : (answer : Answer) (P Q : Answer → Type 0) → ((a : Answer) → P a → Q a) → Gives answer P → Gives answer Q
+gives_map (Ok c) P Q follows h = follows (Ok c) h
+gives_map (Err refusal.Memory) P Q follows h = tt
+gives_map (Err refusal.ReadFault) P Q follows h = absurd h
+gives_map (Err refusal.WriteFault) P Q follows h = absurd h
+gives_map (Err refusal.Usage) P Q follows h = follows (Err refusal.Usage) h
+gives_map (Err (refusal.Syntax file place)) P Q follows h = follows (Err (refusal.Syntax file place)) h
+gives_map (Err (refusal.Construct place name)) P Q follows h = follows (Err (refusal.Construct place name)) h
+gives_map (Err (refusal.IllFormed function uid rule)) P Q follows h = follows (Err (refusal.IllFormed function uid rule)) h
+gives_map (Err (refusal.Limit which count)) P Q follows h = follows (Err (refusal.Limit which count)) h
+gives_map (Err (refusal.Unmatched function uid stage insn)) P Q follows h = follows (Err (refusal.Unmatched function uid stage insn)) h

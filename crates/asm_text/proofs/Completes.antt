@@ -6,7 +6,7 @@ use Rattle.rtx_tree.specs.declared.function.Insn.{Insn}
 use Rattle.rtx_tree.specs.declared.function.Function.{Function}
 use Rattle.rtl_step.specs.Step.{is_mark}
 use Rattle.run_refusal.specs.declared.refusal.Refusal.{Refusal}
-use Rattle.asm_table.specs.declared.forms.Match.{Match}
+use Rattle.asm_table.specs.declared.forms.TableMatch.{TableMatch}
 use Rattle.asm_table.specs.Forms.{first_match}
 use Rattle.func_input.specs.Refused.{first_refused}
 use Rattle.func_input.specs.Input.{IsInput}
@@ -28,7 +28,7 @@ then_text a b p q = (p.0 ++ q.0, rw (p.1, q.1) refl)
 map_text : (f : List ℕ → List ℕ) (o : Outcome) → HasText o → HasText (outcome_map f o)
 map_text f o p = (f p.0, rw p.1 refl)
 
-found_line : (number : ℕ) (name : List ℕ) (i : Insn) (found : Option Match) → IsSome found → HasText (line_by number name i found)
+found_line : (number : ℕ) (name : List ℕ) (i : Insn) (found : Option TableMatch) → IsSome found → HasText (line_by number name i found)
 found_line number name i (Some m) h = (_, refl)
 found_line number name i None h = cc
 

@@ -9,7 +9,7 @@ use Rattle.rtl_step.specs.Step.{is_mark}
 use Rattle.rv_text.specs.Body.{Spells, label_text}
 use Rattle.rv_text.specs.declared.line.CodeItem.{CodeItem}
 use Rattle.rv_text.specs.declared.line.CodeItem.TheVariants as item
-use Rattle.asm_table.specs.declared.forms.Match.{Match}
+use Rattle.asm_table.specs.declared.forms.TableMatch.{TableMatch}
 use Rattle.asm_table.specs.Forms.{first_match}
 use Rattle.asm_table.specs.Template.{filled_line}
 use Rattle.rtl_chain.specs.End.{IsFinished}
@@ -23,7 +23,7 @@ items_append number _ b _ y (AreItems.line i insns m line items plain found text
 items_append number _ b _ y (AreItems.label i insns items label small own) more = AreItems.label i (insns ++ b) (items ++ y) label small (items_append number insns b items y own more)
 items_append number _ b _ y (AreItems.barrier i insns items barrier own) more = AreItems.barrier i (insns ++ b) (items ++ y) barrier (items_append number insns b items y own more)
 
-same_match : (i : Insn) (m m' : Match) → first_match i ≡ Some m → first_match i ≡ Some m' → m ≡ m'
+same_match : (i : Insn) (m m' : TableMatch) → first_match i ≡ Some m → first_match i ≡ Some m' → m ≡ m'
 same_match i m m' is is' = cc
 
 no_mark : (k : Kind) (j : Kind) → is_mark j ≡ true → k ≡ j → is_mark k ≡ false → ⊥

@@ -13,7 +13,7 @@ use Rattle.rv_text.specs.declared.line.Line.{Line}
 use Rattle.rv_text.specs.declared.line.CodeItem.{CodeItem}
 use Rattle.rv_text.specs.declared.line.CodeItem.TheVariants as item
 use Rattle.rv_text.proofs.Printing.{reads_back}
-use Rattle.asm_table.specs.declared.forms.Match.{Match}
+use Rattle.asm_table.specs.declared.forms.TableMatch.{TableMatch}
 use Rattle.asm_table.specs.Forms.{first_match}
 use Rattle.asm_table.specs.Template.{filled_line}
 use Rattle.asm_table.proofs.InsnLines.{matched_has_line}
@@ -40,7 +40,7 @@ pub line_missing : (text : List ℕ) → IsLineIn text → ((x : Line) → IsTex
 line_missing text h none = none h.0 (subst (λ (t : List ℕ). IsTextOf t h.0) (sym (front_is text h.1.0 h.1.1)) h.1.2)
 
 -- the filled template of a form that matches is one
-pub match_has_line : (number : ℕ) (i : Insn) (m : Match) (text front : List ℕ) → number < 2 ^ 32 → first_match i ≡ Some m → front ≡ [] → text ≡ front ++ filled_line number m → IsLineIn text
+pub match_has_line : (number : ℕ) (i : Insn) (m : TableMatch) (text front : List ℕ) → number < 2 ^ 32 → first_match i ≡ Some m → front ≡ [] → text ≡ front ++ filled_line number m → IsLineIn text
 match_has_line number i m text front small found empty is =
     let has = matched_has_line number i m small found in
     let whole : text ≡ filled_line number m = is ∙ ap (λ (t : List ℕ). t ++ filled_line number m) empty in
@@ -54,7 +54,7 @@ label_is number i own label is small = subst (λ (o : CodeItem). IsItemOf number
 pub barrier_is : (number : ℕ) (i : Insn) → i.kind ≡ kind.Barrier → IsItemOf number i None
 barrier_is number i barrier = AreItems.barrier i [] [] barrier AreItems.none
 
-pub line_is : (number : ℕ) (i : Insn) (line : Line) → is_mark i.kind ≡ false → ((m : Match) × (first_match i ≡ Some m) × IsLineText (filled_line number m) line) → IsItemOf number i (Some (item.Code line))
+pub line_is : (number : ℕ) (i : Insn) (line : Line) → is_mark i.kind ≡ false → ((m : TableMatch) × (first_match i ≡ Some m) × IsLineText (filled_line number m) line) → IsItemOf number i (Some (item.Code line))
 line_is number i line plain h = AreItems.line i [] h.0 line [] plain h.1 h.2 AreItems.none
 
 -- an instruction is no mark
@@ -97,12 +97,12 @@ items_same number insns at i items within is nothing h =
     (subst (AreItems number (take at insns ++ i ∷ [])) (append-nil items) (items_append number (take at insns) (i ∷ []) items [] h nothing))
 
 -- the line of the last instruction was put behind those of the others
-pub items_last : (number : ℕ) (insns : List Insn) (i end : Insn) (items more : List CodeItem) (line : Line) → end ≡ i → is_mark i.kind ≡ false → ((m : Match) × (first_match end ≡ Some m) × IsLineText (filled_line number m) line) →
+pub items_last : (number : ℕ) (insns : List Insn) (i end : Insn) (items more : List CodeItem) (line : Line) → end ≡ i → is_mark i.kind ≡ false → ((m : TableMatch) × (first_match end ≡ Some m) × IsLineText (filled_line number m) line) →
     more ≡ items ++ item.Code line ∷ [] → AreItems number insns items → AreItems number (insns ++ i ∷ []) more
 items_last number insns i end items more line is plain h made before =
     subst (AreItems number (insns ++ i ∷ [])) (sym made)
     (items_append number insns (i ∷ []) items (item.Code line ∷ []) before
-    (line_is number i line plain (subst (λ (j : Insn). (m : Match) × (first_match j ≡ Some m) × IsLineText (filled_line number m) line) is h)))
+    (line_is number i line plain (subst (λ (j : Insn). (m : TableMatch) × (first_match j ≡ Some m) × IsLineText (filled_line number m) line) is h)))
 
 -- the items of a chain that is finished are those of its function
 pub items_finished : {E : Type 0} (number : ℕ) (f : Function) (finished : List Insn) (result : Result (List CodeItem) E) → IsFinished f.insns finished → IfOk result (AreItems number finished) → IfOk result (AreItemsOf number f)

@@ -5,7 +5,7 @@ use Rattle.rtx_tree.specs.declared.function.Kind.TheVariants as kind
 use Rattle.rtx_tree.specs.declared.function.Insn.{Insn}
 use Rattle.rtx_tree.specs.declared.function.Function.{Function}
 use Rattle.rtl_step.specs.Step.{is_mark}
-use Rattle.asm_table.specs.declared.forms.Match.{Match}
+use Rattle.asm_table.specs.declared.forms.TableMatch.{TableMatch}
 use Rattle.asm_table.specs.Forms.{first_match}
 use Rattle.asm_table.specs.Template.{filled_line, label_item}
 use Rattle.func_input.specs.Input.{IsInput}
@@ -30,7 +30,7 @@ Texted a b = let x : Outcome = Ok a in let y : Outcome = Ok b in x ≡ y
 ok_of : (a b : List ℕ) → Texted a b → a ≡ b
 ok_of a b e = cc
 
-insn_lines : (number : ℕ) (name : List ℕ) (i : Insn) (insns : List Insn) (found : Option Match) (front back : List ℕ) → first_match i ≡ found → is_mark i.kind ≡ false → line_by number name i found ≡ Ok front →
+insn_lines : (number : ℕ) (name : List ℕ) (i : Insn) (insns : List Insn) (found : Option TableMatch) (front back : List ℕ) → first_match i ≡ found → is_mark i.kind ≡ false → line_by number name i found ≡ Ok front →
     AreLines number insns back → AreLines number (i ∷ insns) (front ++ back)
 insn_lines number name i insns (Some m) front back is plain e more = subst (λ (t : List ℕ). AreLines number (i ∷ insns) (t ++ back)) (ok_of (filled_line number m) front e) (AreLines.line i insns m back plain is more)
 insn_lines number name i insns None front back is plain e more = cc

@@ -12,7 +12,7 @@ use Rattle.rv_text.proofs.Printing.{reads_back}
 use Rattle.same_behaviour.specs.Direct.{AreItemsOf, IsEnding, IsCodeOf}
 use Rattle.same_behaviour.specs.Direct as direct
 use Rattle.same_behaviour.proofs.Reached.{direct_code_is_same}
-use Rattle.asm_table.specs.declared.forms.Match.{Match}
+use Rattle.asm_table.specs.declared.forms.TableMatch.{TableMatch}
 use Rattle.asm_table.specs.Template.{filled_line, label_item}
 use Rattle.func_input.specs.Input.{IsInput}
 use Rattle.rtl_chain.specs.End.{return_insn, IsFinished}
@@ -33,7 +33,7 @@ pub record Coded (number : ℕ) (Reached : Type 0) (insns : List Insn) (text : L
 pub ended : (m : List ℕ) (text rest : List ℕ) → m ≡ text ++ 10 ∷ [] → m ++ rest ≡ text ++ 10 ∷ rest
 ended m text rest is = ap (λ t. t ++ rest) is ∙ append_assoc text (10 ∷ []) rest
 
-coded_line : (number : ℕ) (Reached : Type 0) (i : Insn) (insns : List Insn) (m : Match) (rest : List ℕ) → HasLine number i m → Coded number Reached insns rest → Coded number Reached (i ∷ insns) (filled_line number m ++ rest)
+coded_line : (number : ℕ) (Reached : Type 0) (i : Insn) (insns : List Insn) (m : TableMatch) (rest : List ℕ) → HasLine number i m → Coded number Reached insns rest → Coded number Reached (i ∷ insns) (filled_line number m ++ rest)
 coded_line number Reached i insns m rest has more = record {
   ending = more.ending;
   ends = more.ends;

@@ -8,7 +8,8 @@ use Rattle.rtl_func.specs.Paths.{ReachesExit}
 use Rattle.func_input.specs.Input.{RefusesWith}
 use Rattle.func_input.proofs.Refusing.{refuses_map}
 use Rattle.func_input.proofs.Firsts.{drop_at}
-use Rattle.func_input.specs.Outcome.{Outcome, outcome_map, outcome_then, AppendedSome}
+use Rattle.func_input.specs.Outcome.{Outcome, outcome_map, outcome_then}
+use Rattle.func_input.specs.machine.Steps.{AppendedSome}
 use Rattle.rtl_chain.specs.End.{return_insn, IsFinished}
 use Rattle.asm_text.specs.Assembly.{each_text, Refuses, Appended, opening_lines, closing_line, framed, IsBodyText, IsFunctionText, AreTexts}
 

@@ -5,7 +5,7 @@ use Rattle.rtx_tree.specs.declared.function.Kind.TheVariants.{Label, Barrier}
 use Rattle.rtx_tree.specs.declared.function.Insn.{Insn}
 use Rattle.rtx_tree.specs.declared.function.Function.{Function}
 use Rattle.rtx_tree.specs.declared.stage.Stage.TheVariants.{Lower}
-use Rattle.asm_table.specs.declared.forms.Match.{Match}
+use Rattle.asm_table.specs.declared.forms.TableMatch.{TableMatch}
 use Rattle.run_refusal.specs.declared.refusal.Refusal.{Refusal}
 use Rattle.run_refusal.specs.declared.refusal.Refusal.TheVariants as refusal
 use Rattle.func_input.specs.Input.{RefusesWith}
@@ -24,7 +24,7 @@ each_text text (x ∷ xs) = outcome_then (text x) (each_text text xs)
 abbrev pub unmatched : List ℕ → Insn → Refusal
 unmatched function i = refusal.Unmatched function i.uid Lower i.pattern
 
-abbrev pub line_by : ℕ → List ℕ → Insn → Option Match → Outcome
+abbrev pub line_by : ℕ → List ℕ → Insn → Option TableMatch → Outcome
 line_by number function i None = Err (unmatched function i)
 line_by number function i (Some m) = Ok (filled_line number m)
 

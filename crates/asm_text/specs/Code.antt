@@ -28,12 +28,13 @@ coded_named _ _ name = None
 abbrev pub Answer : Type 0
 Answer = Result Coded Refusal
 
--- a call gave an answer with a property; want of memory is free, and it tells no fault
-abbrev pub Answers : Answer → (Answer → Type 0) → Type 0
-Answers (Err refusal.Memory) P = Unit {0}
-Answers (Err refusal.ReadFault) P = ⊥
-Answers (Err refusal.WriteFault) P = ⊥
-Answers answer P = P answer
+-- what is told is given; a refusal is the one that is told; want of memory is free,
+-- and no fault is told
+abbrev pub Gives : Answer → (Answer → Type 0) → Type 0
+Gives (Err refusal.Memory) P = Unit {0}
+Gives (Err refusal.ReadFault) P = ⊥
+Gives (Err refusal.WriteFault) P = ⊥
+Gives answer P = P answer
 
 -- What a name among functions comes to. What refuses the functions refuses it, but whether one of them has the name is looked at first.
 pub data NameComes (functions : List Function) (name : List ℕ) : Answer → Type 0 where

@@ -5,7 +5,7 @@ use Rattle.rtx_tree.specs.declared.function.Kind.TheVariants.{Label, Barrier}
 use Rattle.rtx_tree.specs.declared.function.Insn.{Insn}
 use Rattle.rtx_tree.specs.declared.function.Function.{Function}
 use Rattle.rtl_step.specs.Step.{is_mark}
-use Rattle.asm_table.specs.declared.forms.Match.{Match}
+use Rattle.asm_table.specs.declared.forms.TableMatch.{TableMatch}
 use Rattle.asm_table.specs.Forms.{first_match}
 use Rattle.asm_table.specs.Template.{filled_line, label_item}
 use Rattle.rtl_chain.specs.End.{IsFinished}
@@ -14,7 +14,9 @@ use Rattle.asm_text.specs.Assembly.{framed}
 -- the lines of a chain of a function with a number: of each instruction that of the first form that matches it, of each label its own
 pub data AreLines (number : ℕ) : List Insn → List ℕ → Type 0 where
   none : AreLines number [] []
-  line : (i : Insn) (insns : List Insn) (m : Match) (rest : List ℕ) → is_mark i.kind ≡ false → first_match i ≡ Some m → AreLines number insns rest → AreLines number (i ∷ insns) (filled_line number m ++ rest)
+  line : (i : Insn) (insns : List Insn) (m : TableMatch) (rest : List ℕ) → is_mark i.kind ≡ false →
+      first_match i ≡ Some m → AreLines number insns rest →
+      AreLines number (i ∷ insns) (filled_line number m ++ rest)
   label : (i : Insn) (insns : List Insn) (rest : List ℕ) → i.kind ≡ Label → AreLines number insns rest → AreLines number (i ∷ insns) (label_item number i.uid ++ rest)
   barrier : (i : Insn) (insns : List Insn) (rest : List ℕ) → i.kind ≡ Barrier → AreLines number insns rest → AreLines number (i ∷ insns) rest
 

@@ -4,7 +4,8 @@ ghost use Rattle.asm_text.specs.Assembly as spec;
 ghost use Rattle.rtl_func.specs.Paths.{ReachesExit};
 ghost use Rattle.asm_table.specs.Forms as forms;
 ghost use Rattle.rtl_chain.specs.End.{return_insn};
-ghost use Rattle.func_input.specs.Outcome.{AppendedSome, outcome_then};
+ghost use Rattle.func_input.specs.Outcome.{outcome_then};
+ghost use Rattle.func_input.specs.machine.Steps.{AppendedSome};
 ghost use Rattle.asm_text.specs.Assembly.{Appended, IsBodyText, IsFunctionText, AreTexts};
 
 use asm_table::{first_match, print_label_line, print_line};

@@ -2,19 +2,19 @@
 ghost use Rattle.std.specs.Prelude.{◌≡◌, ◌≤◌, ◌<◌, ◌^◌, ◌∷◌, [], ◌++◌, ◌↔◌, ℕ, List, IfOk, IsTrue, IsSome, Some, Err, true, false, length};
 ghost use Rattle.rtl_func.specs.Paths.{ReachesExit};
 ghost use Rattle.rv_text.specs.declared.line.CodeItem.TheVariants as code_item;
-ghost use Rattle.asm_table.specs.declared.forms.Match.{Match};
+ghost use Rattle.asm_table.specs.declared.forms.TableMatch.{TableMatch};
 ghost use Rattle.asm_table.specs.Forms as forms;
 ghost use Rattle.asm_table.specs.Template.{filled_line};
 ghost use Rattle.rtl_chain.specs.End.{return_insn};
 ghost use Rattle.rtx_tree.specs.Limit.{most_bytes};
 ghost use Rattle.asm_text.specs.Lines.{IsMatched, AreMatched, AllMatched};
 ghost use Rattle.asm_text.specs.Code as codes;
-ghost use Rattle.asm_text.specs.Code.{Answer, Answers, NameComes, CodeComes, IsUnnamed};
+ghost use Rattle.asm_text.specs.Code.{Answer, Gives, NameComes, CodeComes, IsUnnamed};
 ghost use Rattle.asm_text.specs.machine.Steps.{IsLineText, IsItemOf, IsLineIn, AreItems, AreItemsOf};
 ghost use Rattle.asm_text.specs.machine.Steps.{IsCodedFrom};
 
 use crate::compile::compile;
-use asm_table::{Match, first_match, print_line};
+use asm_table::{TableMatch, first_match, print_line};
 use func_input::{next_number, read_functions};
 use plain_data::{Items, Memory};
 use rtl_chain::{is_ended, return_insn};
@@ -36,7 +36,7 @@ pub struct Coded {
 }
 
 /// The first form that matches an instruction.
-fn match_of(alloc: Global, insn: &Insn) -> Result<Match, Memory>
+fn match_of(alloc: Global, insn: &Insn) -> Result<TableMatch, Memory>
     requires { IsSome (forms.first_match insn.now) }
     ensures { IfOk result (λ found. forms.first_match insn.now ≡ Some found) }
 {
@@ -60,7 +60,7 @@ fn line_in(alloc: Global, text: &[u8]) -> Result<Line, Memory>
 /// The line of an instruction of a function with a number.
 fn line_of(alloc: Global, number: u32, insn: &Insn) -> Result<Line, Memory>
     requires { IsSome (forms.first_match insn.now) }
-    ensures { IfOk result (λ line. (m : Match) × (forms.first_match insn.now ≡ Some m) × IsLineText (filled_line number m) line) }
+    ensures { IfOk result (λ line. (m : TableMatch) × (forms.first_match insn.now ≡ Some m) × IsLineText (filled_line number m) line) }
 {
     let found = match_of(alloc, insn)?;
     let mut text = Vec::new(alloc);
@@ -163,7 +163,7 @@ fn coded_named(alloc: Global, functions: Functions, name: &[u8]) -> Result<Coded
 
 /// What a name among functions comes to.
 fn name_comes(alloc: Global, functions: Functions, name: &[u8]) -> Result<Coded, Refusal>
-    ensures comes { Answers result (NameComes functions name.now) }
+    ensures comes { Gives result (NameComes functions name.now) }
     ensures unnamed { result ≡ Err Refusal.Usage → codes.has_named functions name.now ≡ false }
 {
     if !has_named(functions.as_slice(), name) {
@@ -182,7 +182,7 @@ fn name_comes(alloc: Global, functions: Functions, name: &[u8]) -> Result<Coded,
 /// `Usage` where no function has the name; `Syntax`, `Limit`, `Construct`, `IllFormed`, `Unmatched`, or `Memory` where memory ran out.
 pub fn code_of(alloc: Global, bytes: &[u8], name: &[u8]) -> Result<Coded, Refusal>
     requires { length bytes.now ≤ most_bytes }
-    ensures gives { Answers result (CodeComes bytes.now name.now) }
+    ensures gives { Gives result (CodeComes bytes.now name.now) }
     ensures unnamed { result ≡ Err Refusal.Usage → IsUnnamed bytes.now name.now }
     ensures one { (bytes name : List ℕ) (a b : Answer) → CodeComes bytes name a → CodeComes bytes name b → a ≡ b }
 {

@@ -1,9 +1,8 @@
 //! What the bytes of an input come to: the assembly of its functions, or the first refusal.
 ghost use Rattle.std.specs.Prelude.{◌≡◌, ℕ, List, ◌≤◌, length};
 ghost use Rattle.rtx_tree.specs.Limit.{most_bytes};
-ghost use Rattle.func_input.specs.Outcome.{Outcome};
+ghost use Rattle.func_input.specs.Outcome.{Outcome, Gives};
 ghost use Rattle.asm_text.specs.Assembly.{AreTexts};
-ghost use Rattle.func_input.specs.Outcome.{Tells};
 ghost use Rattle.asm_text.specs.Compile.{FunctionsCome, InputComes};
 
 use crate::assembly::print_program;
@@ -14,7 +13,7 @@ use std::alloc::Global;
 
 /// The assembly of some functions.
 fn assemble(alloc: Global, functions: &[Function]) -> Result<Vec<u8>, Refusal>
-    ensures { Tells result (AreTexts 0 functions.now) }
+    ensures { Gives result (AreTexts 0 functions.now) }
 {
     let mut text = Vec::new(alloc);
     print_program(alloc, functions, &mut text)?;
@@ -23,7 +22,7 @@ fn assemble(alloc: Global, functions: &[Function]) -> Result<Vec<u8>, Refusal>
 
 /// The assembly of functions, or what refuses one of them.
 pub(crate) fn compile(alloc: Global, functions: &[Function]) -> Result<Vec<u8>, Refusal>
-    ensures { Tells result (FunctionsCome functions.now) }
+    ensures { Gives result (FunctionsCome functions.now) }
 {
     check_functions(alloc, functions)?;
     assemble(alloc, functions)
@@ -38,7 +37,7 @@ pub(crate) fn compile(alloc: Global, functions: &[Function]) -> Result<Vec<u8>, 
 /// `Syntax`, `Limit`, `Construct`, `IllFormed`, `Unmatched`, or `Memory` where memory ran out.
 pub fn assembly_of(alloc: Global, bytes: &[u8]) -> Result<Vec<u8>, Refusal>
     requires { length bytes.now ≤ most_bytes }
-    ensures gives { Tells result (InputComes bytes.now) }
+    ensures gives { Gives result (InputComes bytes.now) }
     ensures one { (bytes : List ℕ) (a b : Outcome) → InputComes bytes a → InputComes bytes b → a ≡ b }
 {
     let functions = read_functions(alloc, bytes)?;

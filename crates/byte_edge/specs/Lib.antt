@@ -7,3 +7,4 @@ pub mod InMemory
 pub mod Quiet
 pub mod Reading
 pub mod Stored
+pub mod machine

@@ -1,7 +1,7 @@
--- What is read to the end, and what a refused reading has taken.
-use Rattle.std.specs.Prelude.{◌≡◌, ℕ, ◌<◌, ◌≤◌, List, ◌++◌, length}
+-- What a refused reading has taken.
+use Rattle.std.specs.Prelude.{ℕ, ◌<◌, ◌≤◌, List, length}
 use Rattle.std.specs.declared.option.Option.{Option}
-use Rattle.std.specs.Io.KnownBytes.{Consumes, IsAtEnd}
+use Rattle.std.specs.Io.KnownBytes.{Consumes}
 use Rattle.byte_edge.specs.declared.source.ReadAll.{ReadAll}
 use Rattle.byte_edge.specs.declared.source.ReadAll.TheVariants as read_all
 
@@ -10,7 +10,3 @@ abbrev pub StopsWithin : Option (List ℕ) → Option (List ℕ) → ℕ → Rea
 StopsWithin old new limit read_all.TooLong = (front : List ℕ) × Consumes old new front × (limit < length front)
 StopsWithin old new limit read_all.Fault = (front : List ℕ) × Consumes old new front × (length front ≤ limit)
 StopsWithin old new limit read_all.Memory = (front : List ℕ) × Consumes old new front × (length front ≤ limit)
-
--- all bytes that were left stand behind those that were there
-abbrev pub AppendsRest : Option (List ℕ) → Option (List ℕ) → List ℕ → List ℕ → Type 0
-AppendsRest old new before after = (bytes : List ℕ) × (after ≡ before ++ bytes) × Consumes old new bytes × IsAtEnd new

@@ -1,6 +1,6 @@
 //! The system's files.
 ghost use Rattle.std.specs.Prelude.{◌≡◌, ◌≤◌, OnOk, vec_len};
-ghost use Rattle.byte_edge.specs.Reading.{AppendsRest};
+ghost use Rattle.byte_edge.specs.machine.Steps.{AppendsRest};
 
 use crate::files::{FetchFault, Files};
 use crate::source::Failed;

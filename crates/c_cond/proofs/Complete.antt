@@ -4,8 +4,8 @@ use Rattle.std.proofs.lemmas.List.{append-nil}
 use Rattle.std.proofs.lemmas.Bool.{le-leb, lt-ltb}
 use Rattle.rtx_tree.specs.declared.constants.Constant.{Constant}
 use Rattle.c_words.specs.declared.head.Binary.{Binary}
-use Rattle.c_words.specs.declared.head.Head.{Head}
-use Rattle.c_words.specs.declared.head.Head.TheVariants as head
+use Rattle.c_words.specs.declared.head.CondHead.{CondHead}
+use Rattle.c_words.specs.declared.head.CondHead.TheVariants as head
 use Rattle.c_words.specs.declared.keyword.Keyword.TheVariants as keyword
 use Rattle.c_words.specs.declared.atom.Dialect.{Dialect}
 use Rattle.c_words.specs.declared.atom.Dialect.TheVariants as dialect
@@ -41,7 +41,7 @@ mark_none b p q gs n = rw n refl
 -- ---- parts
 
 -- a part before a mark that is no question mark
-pub part_then : (d : Dialect) (cs : List Constant) (x : Part) (a : List Head) (ts : List Token) → PartReads d cs x a ts → (code : List Head) (gs : List Goal) (b : ℕ) (us : List Token) → (b == question) ≡ false →
+pub part_then : (d : Dialect) (cs : List Constant) (x : Part) (a : List CondHead) (ts : List Token) → PartReads d cs x a ts → (code : List CondHead) (gs : List Goal) (b : ℕ) (us : List Token) → (b == question) ≡ false →
     R d cs code (goal.Part x ∷ gs) (ts ++ token.Mark b ∷ us) ≡ R d cs (code ++ a) gs (token.Mark b ∷ us)
 part_then d cs (part.Expression l) a ts h code gs b us n =
     h l (omega arith) (goal.Part (part.Expression l)) gs gs (λ t. refl) code (token.Mark b ∷ us) (mark_allowed b l n)
@@ -55,14 +55,14 @@ part_then d cs part.Value a ts h code gs b us n = h code gs (token.Mark b ∷ us
 pub no_parts : (d : Dialect) (cs : List Constant) → Reads d cs (Parts signature.None) [] []
 no_parts d cs code gs us = take d cs code (goal.Mark close_round) gs gs (token.Mark close_round) us refl ∙ recode d cs code (code ++ []) gs us (sym (append-nil code))
 
-pub one_part : (d : Dialect) (cs : List Constant) (x : Part) (a : List Head) (ts : List Token) → PartReads d cs x a ts → Reads d cs (Parts (signature.One x)) a ts
+pub one_part : (d : Dialect) (cs : List Constant) (x : Part) (a : List CondHead) (ts : List Token) → PartReads d cs x a ts → Reads d cs (Parts (signature.One x)) a ts
 one_part d cs x a ts h code gs us =
     part_then d cs x a ts h code (goal.Mark close_round ∷ gs) close_round us refl ∙ take d cs (code ++ a) (goal.Mark close_round) gs gs (token.Mark close_round) us refl
 
 -- a part, a comma, and parts
-then_parts : (d : Dialect) (cs : List Constant) (x : Part) (a b : List Head) (ts us : List Token) (behind : List Goal → List Goal) → PartReads d cs x a ts →
-    ((code : List Head) (gs : List Goal) (vs : List Token) → R d cs code (behind gs) (us ++ token.Mark close_round ∷ vs) ≡ R d cs (code ++ b) gs vs) →
-    (code : List Head) (gs : List Goal) (vs : List Token) → R d cs code (goal.Part x ∷ goal.Mark comma ∷ behind gs) ((ts ++ token.Mark comma ∷ us) ++ token.Mark close_round ∷ vs) ≡ R d cs (code ++ (a ++ b)) gs vs
+then_parts : (d : Dialect) (cs : List Constant) (x : Part) (a b : List CondHead) (ts us : List Token) (behind : List Goal → List Goal) → PartReads d cs x a ts →
+    ((code : List CondHead) (gs : List Goal) (vs : List Token) → R d cs code (behind gs) (us ++ token.Mark close_round ∷ vs) ≡ R d cs (code ++ b) gs vs) →
+    (code : List CondHead) (gs : List Goal) (vs : List Token) → R d cs code (goal.Part x ∷ goal.Mark comma ∷ behind gs) ((ts ++ token.Mark comma ∷ us) ++ token.Mark close_round ∷ vs) ≡ R d cs (code ++ (a ++ b)) gs vs
 then_parts d cs x a b ts us behind h k code gs vs =
     retoken d cs code _ _ _ (append_assoc ts (token.Mark comma ∷ us) (token.Mark close_round ∷ vs))
     ∙ part_then d cs x a ts h code (goal.Mark comma ∷ behind gs) comma (us ++ token.Mark close_round ∷ vs) refl
@@ -70,15 +70,15 @@ then_parts d cs x a b ts us behind h k code gs vs =
     ∙ k (code ++ a) gs vs
     ∙ recode d cs ((code ++ a) ++ b) (code ++ (a ++ b)) gs vs (append_assoc code a b)
 
-pub two_parts : (d : Dialect) (cs : List Constant) (x y : Part) (a b : List Head) (ts us : List Token) → PartReads d cs x a ts → PartReads d cs y b us → Reads d cs (Parts (signature.Two x y)) (a ++ b) (ts ++ token.Mark comma ∷ us)
+pub two_parts : (d : Dialect) (cs : List Constant) (x y : Part) (a b : List CondHead) (ts us : List Token) → PartReads d cs x a ts → PartReads d cs y b us → Reads d cs (Parts (signature.Two x y)) (a ++ b) (ts ++ token.Mark comma ∷ us)
 two_parts d cs x y a b ts us h k = then_parts d cs x a b ts us (λ gs. parts_then (signature.One y) (goal.Mark close_round ∷ gs)) h (one_part d cs y b us k)
 
-pub three_parts : (d : Dialect) (cs : List Constant) (x y z : Part) (a b c : List Head) (ts us vs : List Token) → PartReads d cs x a ts → PartReads d cs y b us → PartReads d cs z c vs →
+pub three_parts : (d : Dialect) (cs : List Constant) (x y z : Part) (a b c : List CondHead) (ts us vs : List Token) → PartReads d cs x a ts → PartReads d cs y b us → PartReads d cs z c vs →
     Reads d cs (Parts (signature.Three x y z)) (a ++ (b ++ c)) (ts ++ (token.Mark comma ∷ us ++ token.Mark comma ∷ vs))
 three_parts d cs x y z a b c ts us vs h k l = then_parts d cs x a (b ++ c) ts (us ++ token.Mark comma ∷ vs) (λ gs. parts_then (signature.Two y z) (goal.Mark close_round ∷ gs)) h (two_parts d cs y z b c us vs k l)
 
 -- parts in parentheses, and what they are parts of
-pub call_reads : (d : Dialect) (cs : List Constant) (parts : Signature) (h : Head) (a : List Head) (ts : List Token) → Reads d cs (Parts parts) a ts → (code : List Head) (gs : List Goal) (us : List Token) →
+pub call_reads : (d : Dialect) (cs : List Constant) (parts : Signature) (h : CondHead) (a : List CondHead) (ts : List Token) → Reads d cs (Parts parts) a ts → (code : List CondHead) (gs : List Goal) (us : List Token) →
     R d cs code (call_then parts h gs) (token.Mark open_round ∷ (ts ++ token.Mark close_round ∷ us)) ≡ R d cs (code ++ (a ++ h ∷ [])) gs us
 call_reads d cs parts h a ts k code gs us =
     take d cs code (goal.Mark open_round) (parts_then parts (goal.Mark close_round ∷ goal.Yield h ∷ gs)) _ (token.Mark open_round) (ts ++ token.Mark close_round ∷ us) refl
@@ -87,7 +87,7 @@ call_reads d cs parts h a ts k code gs us =
     ∙ recode d cs ((code ++ a) ++ h ∷ []) (code ++ (a ++ h ∷ [])) gs us (append_assoc code a (h ∷ []))
 
 -- a token that is a part by itself
-pub token_reads : (d : Dialect) (cs : List Constant) (x : Part) (h : Head) (t : Token) (gs : List Goal) → takes d cs (goal.Part x) t gs ≡ Some (goal.Yield h ∷ gs) → (code : List Head) (us : List Token) →
+pub token_reads : (d : Dialect) (cs : List Constant) (x : Part) (h : CondHead) (t : Token) (gs : List Goal) → takes d cs (goal.Part x) t gs ≡ Some (goal.Yield h ∷ gs) → (code : List CondHead) (us : List Token) →
     R d cs code (goal.Part x ∷ gs) (t ∷ us) ≡ R d cs (code ++ h ∷ []) gs us
 token_reads d cs x h t gs e code us = take d cs code (goal.Part x) gs (goal.Yield h ∷ gs) t us e ∙ yield d cs code h gs us
 
@@ -122,27 +122,27 @@ operand_reads d cs word k e f small v code gs us =
 -- ---- expressions
 
 -- what may go on an expression of level p may go on one of level l, where the token is allowed
-narrow : (d : Dialect) (cs : List Constant) (code : List Head) (p q l : ℕ) (gs : List Goal) (us : List Token) → l ≤ q → First (Allowed l) us → R d cs code (goal.More p q ∷ gs) us ≡ R d cs code (goal.More p l ∷ gs) us
+narrow : (d : Dialect) (cs : List Constant) (code : List CondHead) (p q l : ℕ) (gs : List Goal) (us : List Token) → l ≤ q → First (Allowed l) us → R d cs code (goal.More p q ∷ gs) us ≡ R d cs code (goal.More p l ∷ gs) us
 narrow d cs code p q l gs us le ok = same_more d cs code p q l gs us (first_map (Allowed l) (λ t. takes_more p q t gs ≡ takes_more p l t gs) (λ t a. allowed_same p q l t gs (allowed_up l q t le a) a) us ok)
 
-narrow_all : (d : Dialect) (cs : List Constant) (code : List Head) (p l : ℕ) (gs : List Goal) (us : List Token) → First (Allowed l) us → R d cs code (more p gs) us ≡ R d cs code (goal.More p l ∷ gs) us
+narrow_all : (d : Dialect) (cs : List Constant) (code : List CondHead) (p l : ℕ) (gs : List Goal) (us : List Token) → First (Allowed l) us → R d cs code (more p gs) us ≡ R d cs code (goal.More p l ∷ gs) us
 narrow_all d cs code p l gs us ok = same_more d cs code p unary_level l gs us (first_map (Allowed l) (λ t. takes_more p unary_level t gs ≡ takes_more p l t gs) (λ t a. allowed_same p unary_level l t gs (allowed_all t) a) us ok)
 
-pub leaf_reads : (d : Dialect) (cs : List Constant) (p l : ℕ) (h : Head) (t : Token) (g : Goal) (from gs : List Goal) → takes d cs g t from ≡ Some (goal.Yield h ∷ more p gs) →
-    (code : List Head) (us : List Token) → First (Allowed l) us → R d cs code (g ∷ from) (t ∷ us) ≡ R d cs (code ++ h ∷ []) (goal.More p l ∷ gs) us
+pub leaf_reads : (d : Dialect) (cs : List Constant) (p l : ℕ) (h : CondHead) (t : Token) (g : Goal) (from gs : List Goal) → takes d cs g t from ≡ Some (goal.Yield h ∷ more p gs) →
+    (code : List CondHead) (us : List Token) → First (Allowed l) us → R d cs code (g ∷ from) (t ∷ us) ≡ R d cs (code ++ h ∷ []) (goal.More p l ∷ gs) us
 leaf_reads d cs p l h t g from gs e code us ok =
     take d cs code g from (goal.Yield h ∷ more p gs) t us e ∙ yield d cs code h (more p gs) us ∙ narrow_all d cs (code ++ h ∷ []) p l gs us ok
 
-pub asked_reads : (d : Dialect) (cs : List Constant) (p l : ℕ) (word : List ℕ) (parts : Signature) (h : Head) (a : List Head) (ts : List Token) (g : Goal) (from gs : List Goal) →
+pub asked_reads : (d : Dialect) (cs : List Constant) (p l : ℕ) (word : List ℕ) (parts : Signature) (h : CondHead) (a : List CondHead) (ts : List Token) (g : Goal) (from gs : List Goal) →
     takes d cs g (token.Word word) from ≡ Some (call_then parts h (more p gs)) → Reads d cs (Parts parts) a ts →
-    (code : List Head) (us : List Token) → First (Allowed l) us → R d cs code (g ∷ from) (token.Word word ∷ token.Mark open_round ∷ ((ts ++ token.Mark close_round ∷ []) ++ us)) ≡ R d cs (code ++ (a ++ h ∷ [])) (goal.More p l ∷ gs) us
+    (code : List CondHead) (us : List Token) → First (Allowed l) us → R d cs code (g ∷ from) (token.Word word ∷ token.Mark open_round ∷ ((ts ++ token.Mark close_round ∷ []) ++ us)) ≡ R d cs (code ++ (a ++ h ∷ [])) (goal.More p l ∷ gs) us
 asked_reads d cs p l word parts h a ts g from gs e k code us ok =
     take d cs code g from (call_then parts h (more p gs)) (token.Word word) _ e
     ∙ retoken d cs code _ _ _ (ap (λ (x : List Token). token.Mark open_round ∷ x) (append_assoc ts (token.Mark close_round ∷ []) us))
     ∙ call_reads d cs parts h a ts k code (more p gs) us
     ∙ narrow_all d cs (code ++ (a ++ h ∷ [])) p l gs us ok
 
-pub compare_reads : (d : Dialect) (cs : List Constant) (l : ℕ) (word name : List ℕ) (property : Property) (sign : Token) (equal : Bool) (h : Head) (a : List Head) (ts : List Token) →
+pub compare_reads : (d : Dialect) (cs : List Constant) (l : ℕ) (word name : List ℕ) (property : Property) (sign : Token) (equal : Bool) (h : CondHead) (a : List CondHead) (ts : List Token) →
     l ≤ equality → atom_of d cs word ≡ atom.Compare property → PartReads d cs part.Operand a ts → comparison_of sign ≡ Some equal → comparison_with property equal name ≡ Some h →
     PartReads d cs (part.Expression l) (a ++ h ∷ []) (token.Word word ∷ token.Mark open_round ∷ (ts ++ token.Mark close_round ∷ sign ∷ token.Word name ∷ []))
 compare_reads d cs l word name property sign equal h a ts small e k s n p le g from gs like code us ok =
@@ -161,7 +161,7 @@ compare_reads d cs l word name property sign equal h a ts small e k s n p le g f
     ∙ recode d cs ((code ++ a) ++ h ∷ []) (code ++ (a ++ h ∷ [])) (goal.More p equality ∷ gs) us (append_assoc code a (h ∷ []))
     ∙ narrow d cs (code ++ (a ++ h ∷ [])) p equality l gs us small ok
 
-pub parens_reads : (d : Dialect) (cs : List Constant) (l : ℕ) (a : List Head) (ts : List Token) → PartReads d cs expression a ts → PartReads d cs (part.Expression l) a (token.Mark open_round ∷ (ts ++ token.Mark close_round ∷ []))
+pub parens_reads : (d : Dialect) (cs : List Constant) (l : ℕ) (a : List CondHead) (ts : List Token) → PartReads d cs expression a ts → PartReads d cs (part.Expression l) a (token.Mark open_round ∷ (ts ++ token.Mark close_round ∷ []))
 parens_reads d cs l a ts k p le g from gs like code us ok =
     take d cs code g from (goal.Part expression ∷ goal.Mark close_round ∷ more p gs) (token.Mark open_round) _ (like (token.Mark open_round))
     ∙ retoken d cs code _ _ _ (append_assoc ts (token.Mark close_round ∷ []) us)
@@ -169,7 +169,7 @@ parens_reads d cs l a ts k p le g from gs like code us ok =
     ∙ take d cs (code ++ a) (goal.Mark close_round) (more p gs) (more p gs) (token.Mark close_round) us refl
     ∙ narrow_all d cs (code ++ a) p l gs us ok
 
-pub before_reads : (d : Dialect) (cs : List Constant) (l : ℕ) (sign : Token) (u : Unary) (a : List Head) (ts : List Token) → unary_of sign ≡ Some u → PartReads d cs (part.Expression unary_level) a ts →
+pub before_reads : (d : Dialect) (cs : List Constant) (l : ℕ) (sign : Token) (u : Unary) (a : List CondHead) (ts : List Token) → unary_of sign ≡ Some u → PartReads d cs (part.Expression unary_level) a ts →
     PartReads d cs (part.Expression l) (a ++ head.Unary u ∷ []) (sign ∷ ts)
 before_reads d cs l sign u a ts e k p le g from gs like code us ok =
     let next_goals : List Goal = goal.Yield (head.Unary u) ∷ more p gs in
@@ -197,7 +197,7 @@ takes_operator_is p op gs le =
     let f : nat_le (level op) (level op) ≡ true = le-leb (level op) (level op) (omega arith) in
     rw (e, f) refl
 
-pub between_reads : (d : Dialect) (cs : List Constant) (l : ℕ) (op : Binary) (a b : List Head) (ts us : List Token) → l ≤ level op → PartReads d cs (part.Expression (level op)) a ts → PartReads d cs (part.Expression (level op + 1)) b us →
+pub between_reads : (d : Dialect) (cs : List Constant) (l : ℕ) (op : Binary) (a b : List CondHead) (ts us : List Token) → l ≤ level op → PartReads d cs (part.Expression (level op)) a ts → PartReads d cs (part.Expression (level op + 1)) b us →
     PartReads d cs (part.Expression l) (a ++ (b ++ head.Binary op ∷ [])) (ts ++ token.Operator op ∷ us)
 between_reads d cs l op a b ts us lo h k p le g from gs like code vs ok =
     let low : p ≤ level op = omega arith in
@@ -211,7 +211,7 @@ between_reads d cs l op a b ts us lo h k p le g from gs like code vs ok =
     ∙ recode d cs (((code ++ a) ++ b) ++ head.Binary op ∷ []) (code ++ (a ++ (b ++ head.Binary op ∷ []))) (goal.More p (level op) ∷ gs) vs (append_assoc (code ++ a) b (head.Binary op ∷ []) ∙ append_assoc code a (b ++ head.Binary op ∷ []))
     ∙ narrow d cs (code ++ (a ++ (b ++ head.Binary op ∷ []))) p (level op) l gs vs lo ok
 
-pub choice_reads : (d : Dialect) (cs : List Constant) (a b c : List Head) (ts us vs : List Token) → PartReads d cs (part.Expression 1) a ts → PartReads d cs expression b us → PartReads d cs expression c vs →
+pub choice_reads : (d : Dialect) (cs : List Constant) (a b c : List CondHead) (ts us vs : List Token) → PartReads d cs (part.Expression 1) a ts → PartReads d cs expression b us → PartReads d cs expression c vs →
     PartReads d cs expression (a ++ (b ++ (c ++ head.Choose ∷ []))) (ts ++ (token.Mark question ∷ us ++ token.Mark colon ∷ vs))
 choice_reads d cs a b c ts us vs h k m p le g from gs like code ws ok =
     let low : nat_le p 0 ≡ true = le-leb p 0 le in

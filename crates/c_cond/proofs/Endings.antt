@@ -12,8 +12,8 @@ use Rattle.rtx_tree.specs.declared.constants.Constant.{Constant}
 use Rattle.rtx_tree.specs.declared.code.Code.TheVariants as code
 use Rattle.rtx_tree.specs.declared.code.Mode.TheVariants as mode
 use Rattle.c_words.specs.declared.head.Binary.TheVariants as binary
-use Rattle.c_words.specs.declared.head.Head.{Head}
-use Rattle.c_words.specs.declared.head.Head.TheVariants as head
+use Rattle.c_words.specs.declared.head.CondHead.{CondHead}
+use Rattle.c_words.specs.declared.head.CondHead.TheVariants as head
 use Rattle.c_words.specs.declared.head.Call.TheVariants as call
 use Rattle.c_words.specs.declared.atom.Dialect.{Dialect}
 use Rattle.c_words.specs.declared.atom.Dialect.TheVariants as dialect
@@ -72,7 +72,7 @@ pub record IsClosing (t : Token) : Type 0 where
   pub closes : is_closing byte ≡ true
 
 -- no goal that may be passed over takes such a mark
-left : (d : Dialect) (cs : List Constant) (g : Goal) (heads : List Head) (gs : List Goal) (t : Token) → passed g ≡ Some heads → IsClosing t → takes d cs g t gs ≡ None
+left : (d : Dialect) (cs : List Constant) (g : Goal) (heads : List CondHead) (gs : List Goal) (t : Token) → passed g ≡ Some heads → IsClosing t → takes d cs g t gs ≡ None
 left d cs g heads gs t e m = subst (λ (x : Token). takes d cs g x gs ≡ None) (sym m.is) (by_goal g heads e)
   where
     none_some : {A : Type 0} {x : A} → None ≡ Some x → ⊥
@@ -81,7 +81,7 @@ left d cs g heads gs t e m = subst (λ (x : Token). takes d cs g x gs ≡ None) 
     not_mark : (k : ℕ) → is_closing k ≡ false → (m.byte == k) ≡ false
     not_mark k e = different is_closing m.byte k m.closes e
 
-    by_goal : (g : Goal) (heads : List Head) → passed g ≡ Some heads → takes d cs g (token.Mark m.byte) gs ≡ None
+    by_goal : (g : Goal) (heads : List CondHead) → passed g ≡ Some heads → takes d cs g (token.Mark m.byte) gs ≡ None
     by_goal (goal.Yield h) heads e = refl
     by_goal (goal.More p q) heads e = rw (not_mark question refl) refl
     by_goal goal.Else heads e = refl
@@ -104,7 +104,7 @@ pub record Ending (d : Dialect) (cs : List Constant) (gs : List Goal) : Type 0 w
   pub tokens : List Token
   pub spelled : (before : List Token) → read_all (lexing.at before pending.Nothing) bytes ≡ before ++ tokens
   pub closes : calm gs ≡ true → First IsClosing tokens
-  pub reads : (code : List Head) → (out : List Head) × (R d cs code gs tokens ≡ Some out)
+  pub reads : (code : List CondHead) → (out : List CondHead) × (R d cs code gs tokens ≡ Some out)
 
 -- the bytes are a token, whatever stands behind them
 abbrev Spells : List ℕ → Token → Type 0
@@ -115,14 +115,14 @@ unfolding run
 nothing d cs = record { bytes = []; are_bytes = no_bytes; tokens = []; spelled = λ before. refl; closes = λ e. tt; reads = λ code. (code, refl) }
 
 -- a goal that is passed over
-over : (d : Dialect) (cs : List Constant) (g : Goal) (gs : List Goal) (heads : List Head) → passed g ≡ Some heads → calm (g ∷ gs) ≡ calm gs → calm gs ≡ true → Ending d cs gs → Ending d cs (g ∷ gs)
+over : (d : Dialect) (cs : List Constant) (g : Goal) (gs : List Goal) (heads : List CondHead) → passed g ≡ Some heads → calm (g ∷ gs) ≡ calm gs → calm gs ≡ true → Ending d cs gs → Ending d cs (g ∷ gs)
 over d cs g gs heads p same c e = record {
   bytes = e.bytes;
   are_bytes = e.are_bytes;
   tokens = e.tokens;
   spelled = e.spelled;
   closes = λ _. e.closes c;
-  reads = λ code. let x : (out : List Head) × (R d cs (code ++ heads) gs e.tokens ≡ Some out) = e.reads (code ++ heads) in
+  reads = λ code. let x : (out : List CondHead) × (R d cs (code ++ heads) gs e.tokens ≡ Some out) = e.reads (code ++ heads) in
       (x.0, pass_over d cs code g gs heads e.tokens p (first_map IsClosing (λ t. takes d cs g t gs ≡ None) (λ t m. left d cs g heads gs t p m) e.tokens (e.closes c)) ∙ x.1);
 }
 
@@ -135,7 +135,7 @@ by d cs g gs new bs t s are c f e = record {
   tokens = t ∷ e.tokens;
   spelled = λ before. s before e.bytes ∙ e.spelled (before ++ t ∷ []) ∙ append_assoc before (t ∷ []) e.tokens;
   closes = c;
-  reads = λ code. let x : (out : List Head) × (R d cs code new e.tokens ≡ Some out) = e.reads code in (x.0, take d cs code g gs new t e.tokens f ∙ x.1);
+  reads = λ code. let x : (out : List CondHead) × (R d cs code new e.tokens ≡ Some out) = e.reads code in (x.0, take d cs code g gs new t e.tokens f ∙ x.1);
 }
 
 not_calm : {t : Token} → false ≡ true → IsClosing t
@@ -151,20 +151,20 @@ mark d cs b gs w e =
     let are : list_all (λ b. nat_lt b 256) (b ∷ 32 ∷ []) ≡ true = each (λ b. list_all (λ b. nat_lt b 256) (b ∷ 32 ∷ []) ≡ true) b marks w (refl, (refl, (refl, (refl, (refl, (refl, (refl, (refl, (refl, tt))))))))) in
     by d cs (goal.Mark b) gs gs (b ∷ 32 ∷ []) (token.Mark b) (spelled_mark b w) are (λ c. record { byte = b; is = refl; closes = c }) (rw same refl) e
 
-yield : (d : Dialect) (cs : List Constant) (h : Head) (gs : List Goal) → calm gs ≡ true → Ending d cs gs → Ending d cs (goal.Yield h ∷ gs)
+yield : (d : Dialect) (cs : List Constant) (h : CondHead) (gs : List Goal) → calm gs ≡ true → Ending d cs gs → Ending d cs (goal.Yield h ∷ gs)
 yield d cs h gs c e = over d cs (goal.Yield h) gs (h ∷ []) refl refl c e
 
 more : (d : Dialect) (cs : List Constant) (p q : ℕ) (gs : List Goal) → calm gs ≡ true → Ending d cs gs → Ending d cs (goal.More p q ∷ gs)
 more d cs p q gs c e = over d cs (goal.More p q) gs [] refl refl c e
 
 -- a word that is a goal by itself
-word_then : (d : Dialect) (cs : List Constant) (g : Goal) (h : Head) (gs : List Goal) (bs : List ℕ) (t : Token) → Spells bs t → list_all (λ b. nat_lt b 256) bs ≡ true → (calm (g ∷ gs) ≡ true → IsClosing t) →
+word_then : (d : Dialect) (cs : List Constant) (g : Goal) (h : CondHead) (gs : List Goal) (bs : List ℕ) (t : Token) → Spells bs t → list_all (λ b. nat_lt b 256) bs ≡ true → (calm (g ∷ gs) ≡ true → IsClosing t) →
     takes d cs g t gs ≡ Some (goal.Yield h ∷ gs) → calm gs ≡ true → Ending d cs gs → Ending d cs (g ∷ gs)
 word_then d cs g h gs bs t s are n f c e = by d cs g gs (goal.Yield h ∷ gs) bs t s are n f (yield d cs h gs c e)
 
 expression : (d : Dialect) (cs : List Constant) (p : ℕ) (gs : List Goal) → calm gs ≡ true → Ending d cs gs → Ending d cs (goal.Part (part.Expression p) ∷ gs)
 expression d cs p gs c e =
-    let one : Head = head.Number (signed W64 1) in
+    let one : CondHead = head.Number (signed W64 1) in
     by d cs (goal.Part (part.Expression p)) gs (goal.Yield one ∷ goal.More p 11 ∷ gs) (codes "1 ") (token.Number 1) (λ before rest. refl) refl not_calm refl
     (yield d cs one (goal.More p 11 ∷ gs) c (more d cs p 11 gs c e))
 
@@ -190,7 +190,7 @@ window d cs gs c e = word_then d cs (goal.Part part.Window) (head.Window 0) gs (
 
 value : (d : Dialect) (cs : List Constant) (gs : List Goal) → calm gs ≡ true → Ending d cs gs → Ending d cs (goal.Part part.Value ∷ gs)
 value d cs gs c e =
-    let h : Head = head.Call call.GenReg in
+    let h : CondHead = head.Call call.GenReg in
     by d cs (goal.Part part.Value) gs (goal.Mark 40 ∷ goal.Part part.ValueMode ∷ goal.Mark 41 ∷ goal.Yield h ∷ gs) (codes "gen_reg_rtx ") (token.Word (codes "gen_reg_rtx")) (λ before rest. refl) refl not_calm refl
     (mark d cs 40 (goal.Part part.ValueMode ∷ goal.Mark 41 ∷ goal.Yield h ∷ gs) refl (value_mode d cs (goal.Mark 41 ∷ goal.Yield h ∷ gs) refl (mark d cs 41 (goal.Yield h ∷ gs) refl (yield d cs h gs c e))))
 
@@ -204,7 +204,7 @@ part_ending d cs part.Value gs c e = value d cs gs c e
 
 target : (d : Dialect) (cs : List Constant) (gs : List Goal) → calm gs ≡ true → Ending d cs gs → Ending d cs (goal.Target ∷ gs)
 target d cs gs c e =
-    let h : Head = head.Assign 0 in
+    let h : CondHead = head.Assign 0 in
     by d cs goal.Target gs (goal.Mark 93 ∷ goal.Mark 61 ∷ goal.Part part.Value ∷ goal.Mark 59 ∷ goal.Yield h ∷ gs) (codes "0 ") (token.Number 0) (λ before rest. refl) refl not_calm refl
     (mark d cs 93 (goal.Mark 61 ∷ goal.Part part.Value ∷ goal.Mark 59 ∷ goal.Yield h ∷ gs) refl (mark d cs 61 (goal.Part part.Value ∷ goal.Mark 59 ∷ goal.Yield h ∷ gs) refl
     (value d cs (goal.Mark 59 ∷ goal.Yield h ∷ gs) refl (mark d cs 59 (goal.Yield h ∷ gs) refl (yield d cs h gs c e)))))

@@ -4,8 +4,8 @@ use Rattle.std.specs.Prelude.{option_map, option_and_then}
 use Rattle.std.specs.List.{list_any}
 use Rattle.rtx_tree.specs.declared.constants.Constant.{Constant}
 use Rattle.c_words.specs.declared.head.Unary.{Unary}
-use Rattle.c_words.specs.declared.head.Head.{Head}
-use Rattle.c_words.specs.declared.head.Head.TheVariants as head
+use Rattle.c_words.specs.declared.head.CondHead.{CondHead}
+use Rattle.c_words.specs.declared.head.CondHead.TheVariants as head
 use Rattle.c_words.specs.declared.head.Call.TheVariants as call
 use Rattle.c_words.specs.declared.keyword.Keyword.{Keyword}
 use Rattle.c_words.specs.declared.keyword.Keyword.TheVariants as keyword
@@ -77,7 +77,7 @@ map_stays : {A : Type 0} (f : A → List Goal) (o : Option A) → ((x : A) → f
 map_stays f None h = tt
 map_stays f (Some x) h = h x
 
-call_fits : (parts : Signature) (h : Head) (gs : List Goal) → calm gs ≡ true → fit gs ≡ true → fit (call_then parts h gs) ≡ true
+call_fits : (parts : Signature) (h : CondHead) (gs : List Goal) → calm gs ≡ true → fit gs ≡ true → fit (call_then parts h gs) ≡ true
 call_fits signature.None h gs c f = rw (c, f) refl
 call_fits (signature.One x) h gs c f = rw (c, f) refl
 call_fits (signature.Two x y) h gs c f = rw (c, f) refl
@@ -128,7 +128,7 @@ value_stays : (d : Dialect) (t : Token) (gs : List Goal) → calm gs ≡ true �
 value_stays d (token.Word word) gs c f = value_by_stays d (keyword_named word) gs c f
 value_stays d _ gs c f = tt
 
-yield_fits : (h : Head) (gs : List Goal) → calm gs ≡ true → fit gs ≡ true → fit (goal.Yield h ∷ gs) ≡ true
+yield_fits : (h : CondHead) (gs : List Goal) → calm gs ≡ true → fit gs ≡ true → fit (goal.Yield h ∷ gs) ≡ true
 yield_fits h gs c f = rw (c, f) refl
 
 any_mode_stays : (t : Token) (gs : List Goal) → calm gs ≡ true → fit gs ≡ true → Stays (takes_any_mode t gs)
@@ -218,12 +218,12 @@ some_is e = cc
 none_some : {A : Type 0} {x : A} → None ≡ Some x → ⊥
 none_some e = cc
 
-pub next_fits : (d : Dialect) (cs : List Constant) (t : Token) (code : List Head) (gs : List Goal) (p : Parser) → fit gs ≡ true → next d cs t code gs ≡ Some p → fit p.goals ≡ true
+pub next_fits : (d : Dialect) (cs : List Constant) (t : Token) (code : List CondHead) (gs : List Goal) (p : Parser) → fit gs ≡ true → next d cs t code gs ≡ Some p → fit p.goals ≡ true
 next_fits d cs t code [] p f e = absurd (none_some e)
 next_fits d cs t code (g ∷ gs) p f e = by_answer (takes d cs g t gs) (takes_stays d cs g t gs f) (passed g) e (λ heads. next_fits d cs t (code ++ heads) gs p (rest_fits g gs f))
   where
-    by_answer : (o : Option (List Goal)) → Stays o → (h : Option (List Head)) → taken_or code o (option_and_then (λ heads. next d cs t (code ++ heads) gs) h) ≡ Some p →
-        ((heads : List Head) → next d cs t (code ++ heads) gs ≡ Some p → fit p.goals ≡ true) → fit p.goals ≡ true
+    by_answer : (o : Option (List Goal)) → Stays o → (h : Option (List CondHead)) → taken_or code o (option_and_then (λ heads. next d cs t (code ++ heads) gs) h) ≡ Some p →
+        ((heads : List CondHead) → next d cs t (code ++ heads) gs ≡ Some p → fit p.goals ≡ true) → fit p.goals ≡ true
     by_answer (Some new) s h e ih = subst (λ (x : Parser). fit x.goals ≡ true) (some_is e) s
     by_answer None s (Some heads) e ih = ih heads e
     by_answer None s None e ih = absurd (none_some e)

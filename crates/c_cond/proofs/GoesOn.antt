@@ -13,7 +13,7 @@ use Rattle.rtx_tree.specs.declared.code.Code.TheVariants as code
 use Rattle.rtx_tree.specs.declared.code.Mode.{Mode}
 use Rattle.rtx_tree.specs.declared.constants.Constant.{Constant}
 use Rattle.rtx_tree.specs.Code.{code_name, all_codes}
-use Rattle.c_words.specs.declared.head.Head.{Head}
+use Rattle.c_words.specs.declared.head.CondHead.{CondHead}
 use Rattle.c_words.specs.declared.keyword.Keyword.{Keyword}
 use Rattle.c_words.specs.declared.atom.Atom.TheVariants as atom
 use Rattle.c_words.specs.declared.atom.Dialect.{Dialect}
@@ -26,7 +26,7 @@ use Rattle.c_cond.specs.declared.goal.Goal.{Goal}
 use Rattle.c_cond.specs.declared.goal.Goal.TheVariants as goal
 use Rattle.c_words.specs.declared.head.Call.{Call}
 use Rattle.c_words.specs.declared.head.Call.TheVariants as call
-use Rattle.c_words.specs.declared.head.Head.TheVariants as head
+use Rattle.c_words.specs.declared.head.CondHead.TheVariants as head
 use Rattle.c_words.specs.declared.keyword.Keyword.TheVariants as keyword
 use Rattle.c_words.proofs.Codes.{none_that}
 use Rattle.c_words.proofs.Listed.{Known, both, known_code, known_constant, known_keyword, known_mode, known_target, or_first, or_second, same_bytes}
@@ -143,7 +143,7 @@ plain_as d cs word u w h goal.Statement e = false_true (rw w.no_keyword at e)
 plain_as d cs word u w h goal.Else e = false_true (rw w.no_keyword at e)
 plain_as d cs word u w h goal.Statements e = false_true (rw w.no_keyword at e)
 
-leaf_taken : (d : Dialect) (cs : List Constant) (p : ℕ) (word : List ℕ) (h : Head) → atom_of d cs word ≡ atom.Leaf h → is_some (takes_expression d cs p (token.Word word) []) ≡ true
+leaf_taken : (d : Dialect) (cs : List Constant) (p : ℕ) (word : List ℕ) (h : CondHead) → atom_of d cs word ≡ atom.Leaf h → is_some (takes_expression d cs p (token.Word word) []) ≡ true
 leaf_taken d cs p word h e = rw e refl
 
 predicate_taken : (d : Dialect) (cs : List Constant) (p : ℕ) (word : List ℕ) → atom_of d cs word ≡ atom.Predicate → is_some (takes_expression d cs p (token.Word word) []) ≡ true

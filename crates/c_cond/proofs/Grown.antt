@@ -6,8 +6,8 @@ use Rattle.bits64.specs.Words.{signed}
 use Rattle.bits64.specs.declared.Width.TheVariants.{W64}
 use Rattle.rtx_tree.specs.declared.constants.Constant.{Constant}
 use Rattle.c_words.specs.declared.head.Call.TheVariants as call
-use Rattle.c_words.specs.declared.head.Head.{Head}
-use Rattle.c_words.specs.declared.head.Head.TheVariants as head
+use Rattle.c_words.specs.declared.head.CondHead.{CondHead}
+use Rattle.c_words.specs.declared.head.CondHead.TheVariants as head
 use Rattle.c_words.specs.declared.atom.Dialect.{Dialect}
 use Rattle.c_words.specs.declared.token.Token.{Token}
 use Rattle.c_cond.specs.declared.part.Part.TheVariants as part
@@ -20,22 +20,22 @@ use Rattle.c_cond.proofs.Growth.{heads_of-node, one_head, heads_1, heads_2, head
 
 -- ---- from trees to heads
 
-reheaded : (d : Dialect) (cs : List Constant) (sort : Sort) (a b : List Head) (ts : List Token) → a ≡ b → flat.Is d cs sort a ts → flat.Is d cs sort b ts
-reheaded d cs sort a b ts e i = subst (λ (x : List Head). flat.Is d cs sort x ts) e i
+reheaded : (d : Dialect) (cs : List Constant) (sort : Sort) (a b : List CondHead) (ts : List Token) → a ≡ b → flat.Is d cs sort a ts → flat.Is d cs sort b ts
+reheaded d cs sort a b ts e i = subst (λ (x : List CondHead). flat.Is d cs sort x ts) e i
 
 -- what one tree is, its heads are
 single : (d : Dialect) (cs : List Constant) (sort : Sort) (t : Tree) (ts : List Token) → flat.Is d cs sort (heads_of_all (t ∷ [])) ts → flat.Is d cs sort (heads_of t) ts
 single d cs sort t ts i = reheaded d cs sort _ _ ts (all_1 t) i
 
 -- heads that are those of one tree
-as_tree : (d : Dialect) (cs : List Constant) (sort : Sort) (t : Tree) (c : List Head) (ts : List Token) → heads_of t ≡ c → flat.Is d cs sort c ts → flat.Is d cs sort (heads_of_all (t ∷ [])) ts
+as_tree : (d : Dialect) (cs : List Constant) (sort : Sort) (t : Tree) (c : List CondHead) (ts : List Token) → heads_of t ≡ c → flat.Is d cs sort c ts → flat.Is d cs sort (heads_of_all (t ∷ [])) ts
 as_tree d cs sort t c ts e i = reheaded d cs sort _ _ ts (sym e ∙ sym (all_1 t)) i
 
 all_2 : (a b : Tree) → heads_of a ++ heads_of b ≡ heads_of_all (a ∷ b ∷ [])
-all_2 a b = ap (λ (x : List Head). heads_of a ++ x) (sym (append-nil (heads_of b)))
+all_2 a b = ap (λ (x : List CondHead). heads_of a ++ x) (sym (append-nil (heads_of b)))
 
 all_3 : (a b c : Tree) → heads_of a ++ (heads_of b ++ heads_of c) ≡ heads_of_all (a ∷ b ∷ c ∷ [])
-all_3 a b c = ap (λ (x : List Head). heads_of a ++ (heads_of b ++ x)) (sym (append-nil (heads_of c)))
+all_3 a b c = ap (λ (x : List CondHead). heads_of a ++ (heads_of b ++ x)) (sym (append-nil (heads_of c)))
 
 pub flattened : (d : Dialect) (cs : List Constant) (sort : Sort) (trees : List Tree) (ts : List Token) → grammar.Is d cs sort trees ts → flat.Is d cs sort (heads_of_all trees) ts
 flattened d cs _ _ _ (grammar.Is.number p n) = as_tree d cs _ _ _ _ (one_head (head.Number (signed W64 n))) (flat.Is.number p n)
@@ -81,29 +81,29 @@ flattened d cs _ _ _ (grammar.Is.whole a ts i) = flat.Is.whole _ ts (flattened d
 -- ---- from heads to trees
 
 -- a tree with these heads
-abbrev GrownOne : Dialect → List Constant → Sort → List Head → List Token → Type 0
+abbrev GrownOne : Dialect → List Constant → Sort → List CondHead → List Token → Type 0
 GrownOne d cs sort c ts = (t : Tree) × (heads_of t ≡ c) × grammar.Is d cs sort (t ∷ []) ts
 
-abbrev Grown : Dialect → List Constant → Sort → List Head → List Token → Type 0
+abbrev Grown : Dialect → List Constant → Sort → List CondHead → List Token → Type 0
 Grown d cs (Parts parts) c ts = (trees : List Tree) × (heads_of_all trees ≡ c) × grammar.Is d cs (Parts parts) trees ts
 Grown d cs sort c ts = GrownOne d cs sort c ts
 
-plus_head : (a b : List Head) (h : Head) → a ≡ b → a ++ h ∷ [] ≡ b ++ h ∷ []
-plus_head a b h e = ap (λ (x : List Head). x ++ h ∷ []) e
+plus_head : (a b : List CondHead) (h : CondHead) → a ≡ b → a ++ h ∷ [] ≡ b ++ h ∷ []
+plus_head a b h e = ap (λ (x : List CondHead). x ++ h ∷ []) e
 
-plus_two : (a b c e : List Head) (h : Head) → a ≡ c → b ≡ e → a ++ (b ++ h ∷ []) ≡ c ++ (e ++ h ∷ [])
+plus_two : (a b c e : List CondHead) (h : CondHead) → a ≡ c → b ≡ e → a ++ (b ++ h ∷ []) ≡ c ++ (e ++ h ∷ [])
 plus_two a b c e h p q = rw (p, q) refl
 
-plus_three : (a b c x y z : List Head) (h : Head) → a ≡ x → b ≡ y → c ≡ z → a ++ (b ++ (c ++ h ∷ [])) ≡ x ++ (y ++ (z ++ h ∷ []))
+plus_three : (a b c x y z : List CondHead) (h : CondHead) → a ≡ x → b ≡ y → c ≡ z → a ++ (b ++ (c ++ h ∷ [])) ≡ x ++ (y ++ (z ++ h ∷ []))
 plus_three a b c x y z h p q r = rw (p, q, r) refl
 
-both_same : (a b c e : List Head) → a ≡ c → b ≡ e → a ++ b ≡ c ++ e
+both_same : (a b c e : List CondHead) → a ≡ c → b ≡ e → a ++ b ≡ c ++ e
 both_same a b c e p q = rw (p, q) refl
 
-three_same : (a b c x y z : List Head) → a ≡ x → b ≡ y → c ≡ z → a ++ (b ++ c) ≡ x ++ (y ++ z)
+three_same : (a b c x y z : List CondHead) → a ≡ x → b ≡ y → c ≡ z → a ++ (b ++ c) ≡ x ++ (y ++ z)
 three_same a b c x y z p q r = rw (p, q, r) refl
 
-pub grow : (d : Dialect) (cs : List Constant) (sort : Sort) (c : List Head) (ts : List Token) → flat.Is d cs sort c ts → Grown d cs sort c ts
+pub grow : (d : Dialect) (cs : List Constant) (sort : Sort) (c : List CondHead) (ts : List Token) → flat.Is d cs sort c ts → Grown d cs sort c ts
 grow d cs _ _ _ (flat.Is.number p n) = (leaf (head.Number (signed W64 n)), one_head (head.Number (signed W64 n)), grammar.Is.number p n)
 grow d cs _ _ _ (flat.Is.leaf p word h e) = (leaf h, one_head h, grammar.Is.fact p word h e)
 grow d cs _ _ _ (flat.Is.asked p word c parts ts e i) =

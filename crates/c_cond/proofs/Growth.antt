@@ -9,8 +9,8 @@ use Rattle.rtx_tree.specs.declared.constants.Constant.{Constant}
 use Rattle.rtx_tree.specs.declared.code.Mode.{Mode}
 use Rattle.c_words.specs.declared.head.Call.{Call}
 use Rattle.c_words.specs.declared.head.Call.TheVariants as call
-use Rattle.c_words.specs.declared.head.Head.{Head}
-use Rattle.c_words.specs.declared.head.Head.TheVariants as head
+use Rattle.c_words.specs.declared.head.CondHead.{CondHead}
+use Rattle.c_words.specs.declared.head.CondHead.TheVariants as head
 use Rattle.c_words.specs.declared.keyword.Keyword.{Keyword}
 use Rattle.c_words.specs.declared.keyword.Keyword.TheVariants as keyword
 use Rattle.c_words.specs.declared.atom.Dialect.{Dialect}
@@ -36,25 +36,25 @@ use Rattle.c_cond.specs.Grammar.{Sort, One, Parts, Statement, Statements, Condit
 
 -- ---- the heads of trees
 
-pub heads_of-node : (h : Head) (parts : List Tree) → heads_of (node h parts) ≡ heads_of_all parts ++ h ∷ []
+pub heads_of-node : (h : CondHead) (parts : List Tree) → heads_of (node h parts) ≡ heads_of_all parts ++ h ∷ []
 heads_of-node h parts =
-    fold-roll-Tree (List Head) heads_step (record { head = h; parts = parts })
-    ∙ ap (λ (x : List Head). x ++ h ∷ []) (flat_map-map (λ (hs : List Head). hs) heads_of parts)
+    fold-roll-Tree (List CondHead) heads_step (record { head = h; parts = parts })
+    ∙ ap (λ (x : List CondHead). x ++ h ∷ []) (flat_map-map (λ (hs : List CondHead). hs) heads_of parts)
 
-pub one_head : (h : Head) → heads_of (leaf h) ≡ h ∷ []
+pub one_head : (h : CondHead) → heads_of (leaf h) ≡ h ∷ []
 one_head h = heads_of-node h []
 
-pub heads_1 : (h : Head) (a : Tree) → heads_of (node h (a ∷ [])) ≡ heads_of a ++ h ∷ []
-heads_1 h a = heads_of-node h (a ∷ []) ∙ ap (λ (x : List Head). x ++ h ∷ []) (append-nil (heads_of a))
+pub heads_1 : (h : CondHead) (a : Tree) → heads_of (node h (a ∷ [])) ≡ heads_of a ++ h ∷ []
+heads_1 h a = heads_of-node h (a ∷ []) ∙ ap (λ (x : List CondHead). x ++ h ∷ []) (append-nil (heads_of a))
 
-pub heads_2 : (h : Head) (a b : Tree) → heads_of (node h (a ∷ b ∷ [])) ≡ heads_of a ++ (heads_of b ++ h ∷ [])
+pub heads_2 : (h : CondHead) (a b : Tree) → heads_of (node h (a ∷ b ∷ [])) ≡ heads_of a ++ (heads_of b ++ h ∷ [])
 heads_2 h a b =
-    heads_of-node h (a ∷ b ∷ []) ∙ ap (λ (x : List Head). (heads_of a ++ x) ++ h ∷ []) (append-nil (heads_of b)) ∙ append_assoc (heads_of a) (heads_of b) (h ∷ [])
+    heads_of-node h (a ∷ b ∷ []) ∙ ap (λ (x : List CondHead). (heads_of a ++ x) ++ h ∷ []) (append-nil (heads_of b)) ∙ append_assoc (heads_of a) (heads_of b) (h ∷ [])
 
-pub heads_3 : (h : Head) (a b c : Tree) → heads_of (node h (a ∷ b ∷ c ∷ [])) ≡ heads_of a ++ (heads_of b ++ (heads_of c ++ h ∷ []))
+pub heads_3 : (h : CondHead) (a b c : Tree) → heads_of (node h (a ∷ b ∷ c ∷ [])) ≡ heads_of a ++ (heads_of b ++ (heads_of c ++ h ∷ []))
 heads_3 h a b c =
-    heads_of-node h (a ∷ b ∷ c ∷ []) ∙ ap (λ (x : List Head). (heads_of a ++ (heads_of b ++ x)) ++ h ∷ []) (append-nil (heads_of c))
-    ∙ append_assoc (heads_of a) (heads_of b ++ heads_of c) (h ∷ []) ∙ ap (λ (x : List Head). heads_of a ++ x) (append_assoc (heads_of b) (heads_of c) (h ∷ []))
+    heads_of-node h (a ∷ b ∷ c ∷ []) ∙ ap (λ (x : List CondHead). (heads_of a ++ (heads_of b ++ x)) ++ h ∷ []) (append-nil (heads_of c))
+    ∙ append_assoc (heads_of a) (heads_of b ++ heads_of c) (h ∷ []) ∙ ap (λ (x : List CondHead). heads_of a ++ x) (append_assoc (heads_of b) (heads_of c) (h ∷ []))
 
 pub all_1 : (a : Tree) → heads_of_all (a ∷ []) ≡ heads_of a
 all_1 a = append-nil (heads_of a)
@@ -63,38 +63,38 @@ all_1 a = append-nil (heads_of a)
 
 -- from the heads of these trees grow these trees
 abbrev pub Grows : List Tree → Type 0
-Grows trees = (before : List Tree) (hs : List Head) → grown before (heads_of_all trees ++ hs) ≡ grown (reverse trees ++ before) hs
+Grows trees = (before : List Tree) (hs : List CondHead) → grown before (heads_of_all trees ++ hs) ≡ grown (reverse trees ++ before) hs
 
 -- a tree grows from its heads
 abbrev pub GrowsOne : Tree → Type 0
-GrowsOne t = (before : List Tree) (hs : List Head) → grown before (heads_of t ++ hs) ≡ grown (t ∷ before) hs
+GrowsOne t = (before : List Tree) (hs : List CondHead) → grown before (heads_of t ++ hs) ≡ grown (t ∷ before) hs
 
-step : (h : Head) (n : ℕ) (before : List Tree) (hs : List Head) → size_of h ≡ n → grown before (h ∷ hs) ≡ grown (node h (reverse (take n before)) ∷ drop n before) hs
+step : (h : CondHead) (n : ℕ) (before : List Tree) (hs : List CondHead) → size_of h ≡ n → grown before (h ∷ hs) ≡ grown (node h (reverse (take n before)) ∷ drop n before) hs
 step h n before hs e = ap (λ (k : ℕ). grown (node h (reverse (take k before)) ∷ drop k before) hs) e
 
 pub grows_one : (t : Tree) → Grows (t ∷ []) → GrowsOne t
-grows_one t g before hs = ap (λ (x : List Head). grown before (x ++ hs)) (sym (all_1 t)) ∙ g before hs
+grows_one t g before hs = ap (λ (x : List CondHead). grown before (x ++ hs)) (sym (all_1 t)) ∙ g before hs
 
 one_grows : (t : Tree) → GrowsOne t → Grows (t ∷ [])
-one_grows t g before hs = ap (λ (x : List Head). grown before (x ++ hs)) (all_1 t) ∙ g before hs
+one_grows t g before hs = ap (λ (x : List CondHead). grown before (x ++ hs)) (all_1 t) ∙ g before hs
 
-grows_0 : (h : Head) → size_of h ≡ 0 → Grows (leaf h ∷ [])
-grows_0 h e = one_grows (leaf h) (λ before hs. ap (λ (x : List Head). grown before (x ++ hs)) (one_head h) ∙ step h 0 before hs e)
+grows_0 : (h : CondHead) → size_of h ≡ 0 → Grows (leaf h ∷ [])
+grows_0 h e = one_grows (leaf h) (λ before hs. ap (λ (x : List CondHead). grown before (x ++ hs)) (one_head h) ∙ step h 0 before hs e)
 
-grows_1 : (h : Head) (a : Tree) → size_of h ≡ 1 → Grows (a ∷ []) → Grows (node h (a ∷ []) ∷ [])
+grows_1 : (h : CondHead) (a : Tree) → size_of h ≡ 1 → Grows (a ∷ []) → Grows (node h (a ∷ []) ∷ [])
 grows_1 h a e g = one_grows (node h (a ∷ [])) (λ before hs.
-    ap (λ (x : List Head). grown before (x ++ hs)) (heads_1 h a) ∙ ap (grown before) (append_assoc (heads_of a) (h ∷ []) hs) ∙ grows_one a g before (h ∷ hs) ∙ step h 1 (a ∷ before) hs e)
+    ap (λ (x : List CondHead). grown before (x ++ hs)) (heads_1 h a) ∙ ap (grown before) (append_assoc (heads_of a) (h ∷ []) hs) ∙ grows_one a g before (h ∷ hs) ∙ step h 1 (a ∷ before) hs e)
 
-grows_2 : (h : Head) (a b : Tree) → size_of h ≡ 2 → Grows (a ∷ []) → Grows (b ∷ []) → Grows (node h (a ∷ b ∷ []) ∷ [])
+grows_2 : (h : CondHead) (a b : Tree) → size_of h ≡ 2 → Grows (a ∷ []) → Grows (b ∷ []) → Grows (node h (a ∷ b ∷ []) ∷ [])
 grows_2 h a b e f g = one_grows (node h (a ∷ b ∷ [])) (λ before hs.
-    ap (λ (x : List Head). grown before (x ++ hs)) (heads_2 h a b)
-    ∙ ap (grown before) (append_assoc (heads_of a) (heads_of b ++ h ∷ []) hs ∙ ap (λ (x : List Head). heads_of a ++ x) (append_assoc (heads_of b) (h ∷ []) hs))
+    ap (λ (x : List CondHead). grown before (x ++ hs)) (heads_2 h a b)
+    ∙ ap (grown before) (append_assoc (heads_of a) (heads_of b ++ h ∷ []) hs ∙ ap (λ (x : List CondHead). heads_of a ++ x) (append_assoc (heads_of b) (h ∷ []) hs))
     ∙ grows_one a f before (heads_of b ++ h ∷ hs) ∙ grows_one b g (a ∷ before) (h ∷ hs) ∙ step h 2 (b ∷ a ∷ before) hs e)
 
-grows_3 : (h : Head) (a b c : Tree) → size_of h ≡ 3 → Grows (a ∷ []) → Grows (b ∷ []) → Grows (c ∷ []) → Grows (node h (a ∷ b ∷ c ∷ []) ∷ [])
+grows_3 : (h : CondHead) (a b c : Tree) → size_of h ≡ 3 → Grows (a ∷ []) → Grows (b ∷ []) → Grows (c ∷ []) → Grows (node h (a ∷ b ∷ c ∷ []) ∷ [])
 grows_3 h a b c e f g k = one_grows (node h (a ∷ b ∷ c ∷ [])) (λ before hs.
-    ap (λ (x : List Head). grown before (x ++ hs)) (heads_3 h a b c)
-    ∙ ap (grown before) (append_assoc (heads_of a) (heads_of b ++ (heads_of c ++ h ∷ [])) hs ∙ ap (λ (x : List Head). heads_of a ++ x) (append_assoc (heads_of b) (heads_of c ++ h ∷ []) hs ∙ ap (λ (x : List Head). heads_of b ++ x) (append_assoc (heads_of c) (h ∷ []) hs)))
+    ap (λ (x : List CondHead). grown before (x ++ hs)) (heads_3 h a b c)
+    ∙ ap (grown before) (append_assoc (heads_of a) (heads_of b ++ (heads_of c ++ h ∷ [])) hs ∙ ap (λ (x : List CondHead). heads_of a ++ x) (append_assoc (heads_of b) (heads_of c ++ h ∷ []) hs ∙ ap (λ (x : List CondHead). heads_of b ++ x) (append_assoc (heads_of c) (h ∷ []) hs)))
     ∙ grows_one a f before (heads_of b ++ (heads_of c ++ h ∷ hs)) ∙ grows_one b g (a ∷ before) (heads_of c ++ h ∷ hs) ∙ grows_one c k (b ∷ a ∷ before) (h ∷ hs) ∙ step h 3 (c ∷ b ∷ a ∷ before) hs e)
 
 -- how many parts there are
@@ -123,10 +123,10 @@ call_size_is call.ForceReg = refl
 call_size_is call.GenLowpart = refl
 call_size_is call.EmitMove = refl
 
-compared_size : (kind : Property) (equal : Bool) (name : List ℕ) (h : Head) → comparison_with kind equal name ≡ Some h → size_of h ≡ 1
+compared_size : (kind : Property) (equal : Bool) (name : List ℕ) (h : CondHead) → comparison_with kind equal name ≡ Some h → size_of h ≡ 1
 compared_size kind equal name h e = ap size_by (sym e) ∙ one_anyway kind
   where
-    size_by : Option Head → ℕ
+    size_by : Option CondHead → ℕ
     size_by (Some x) = size_of x
     size_by None = 1
 
@@ -173,12 +173,12 @@ any_size d cs word None = by_test (is_target word)
     by_test true = refl
     by_test false = name_size d word (constant_named cs word)
 
-fact_size : (d : Dialect) (cs : List Constant) (word : List ℕ) (h : Head) → atom_of d cs word ≡ atom.Leaf h → size_of h ≡ 0
+fact_size : (d : Dialect) (cs : List Constant) (word : List ℕ) (h : CondHead) → atom_of d cs word ≡ atom.Leaf h → size_of h ≡ 0
 fact_size d cs word h e = sym (ap atom_size e) ∙ any_size d cs word (keyword_named word)
 
 -- parts that a signature has: so many, each of which grows
 abbrev PartsGrow : Signature → List Tree → Type 0
-PartsGrow parts trees = (h : Head) → size_of h ≡ count parts → Grows (node h trees ∷ [])
+PartsGrow parts trees = (h : CondHead) → size_of h ≡ count parts → Grows (node h trees ∷ [])
 
 -- what is proved of trees of a sort
 abbrev Good : Sort → List Tree → Type 0

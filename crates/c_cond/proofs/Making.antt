@@ -4,7 +4,7 @@ use Rattle.std.proofs.lemmas.List.{append-nil}
 use Rattle.std.proofs.lemmas.Bool.{le-leb, leb-true}
 use Rattle.rtx_tree.specs.declared.constants.Constant.{Constant}
 use Rattle.c_words.specs.declared.head.Binary.{Binary}
-use Rattle.c_words.specs.declared.head.Head.{Head}
+use Rattle.c_words.specs.declared.head.CondHead.{CondHead}
 use Rattle.c_words.specs.declared.atom.Dialect.{Dialect}
 use Rattle.c_words.specs.declared.token.Token.{Token}
 use Rattle.c_words.specs.declared.token.Token.TheVariants as token
@@ -17,7 +17,7 @@ use Rattle.c_cond.specs.machine.Steps.{takes, passed, at, run, result_of, takes_
 use Rattle.c_cond.proofs.Meets.{is_else_token}
 
 -- what is made of tokens, where so much was made before and these goals are left
-abbrev pub R : Dialect → List Constant → List Head → List Goal → List Token → Option (List Head)
+abbrev pub R : Dialect → List Constant → List CondHead → List Goal → List Token → Option (List CondHead)
 R d cs code gs ts = result_of d cs (at code gs) ts
 
 -- the first token, where there is one
@@ -33,32 +33,32 @@ pub first_all : (B : Token → Type 0) → ((t : Token) → B t) → (ts : List 
 first_all B f [] = tt
 first_all B f (t ∷ ts) = f t
 
-pub take : (d : Dialect) (cs : List Constant) (code : List Head) (g : Goal) (gs new : List Goal) (t : Token) (ts : List Token) → takes d cs g t gs ≡ Some new → R d cs code (g ∷ gs) (t ∷ ts) ≡ R d cs code new ts
+pub take : (d : Dialect) (cs : List Constant) (code : List CondHead) (g : Goal) (gs new : List Goal) (t : Token) (ts : List Token) → takes d cs g t gs ≡ Some new → R d cs code (g ∷ gs) (t ∷ ts) ≡ R d cs code new ts
 unfolding run
 take d cs code g gs new t ts e = rw e refl
 
-pub pass_over : (d : Dialect) (cs : List Constant) (code : List Head) (g : Goal) (gs : List Goal) (heads : List Head) (ts : List Token) → passed g ≡ Some heads →
+pub pass_over : (d : Dialect) (cs : List Constant) (code : List CondHead) (g : Goal) (gs : List Goal) (heads : List CondHead) (ts : List Token) → passed g ≡ Some heads →
     First (λ t. takes d cs g t gs ≡ None) ts → R d cs code (g ∷ gs) ts ≡ R d cs (code ++ heads) gs ts
 unfolding run
 pass_over d cs code g gs heads [] e n = rw e refl
 pass_over d cs code g gs heads (t ∷ ts) e n = rw (n, e) refl
 
-pub same_more : (d : Dialect) (cs : List Constant) (code : List Head) (p q l : ℕ) (gs : List Goal) (ts : List Token) → First (λ t. takes_more p q t gs ≡ takes_more p l t gs) ts →
+pub same_more : (d : Dialect) (cs : List Constant) (code : List CondHead) (p q l : ℕ) (gs : List Goal) (ts : List Token) → First (λ t. takes_more p q t gs ≡ takes_more p l t gs) ts →
     R d cs code (goal.More p q ∷ gs) ts ≡ R d cs code (goal.More p l ∷ gs) ts
 unfolding run
 same_more d cs code p q l gs [] e = refl
 same_more d cs code p q l gs (t ∷ ts) e = rw e refl
 
-pub recode : (d : Dialect) (cs : List Constant) (a b : List Head) (gs : List Goal) (ts : List Token) → a ≡ b → R d cs a gs ts ≡ R d cs b gs ts
-recode d cs a b gs ts e = ap (λ (x : List Head). R d cs x gs ts) e
+pub recode : (d : Dialect) (cs : List Constant) (a b : List CondHead) (gs : List Goal) (ts : List Token) → a ≡ b → R d cs a gs ts ≡ R d cs b gs ts
+recode d cs a b gs ts e = ap (λ (x : List CondHead). R d cs x gs ts) e
 
-pub retoken : (d : Dialect) (cs : List Constant) (code : List Head) (gs : List Goal) (ts us : List Token) → ts ≡ us → R d cs code gs ts ≡ R d cs code gs us
+pub retoken : (d : Dialect) (cs : List Constant) (code : List CondHead) (gs : List Goal) (ts us : List Token) → ts ≡ us → R d cs code gs ts ≡ R d cs code gs us
 retoken d cs code gs ts us e = ap (R d cs code gs) e
 
-pub yield : (d : Dialect) (cs : List Constant) (code : List Head) (h : Head) (gs : List Goal) (ts : List Token) → R d cs code (goal.Yield h ∷ gs) ts ≡ R d cs (code ++ h ∷ []) gs ts
+pub yield : (d : Dialect) (cs : List Constant) (code : List CondHead) (h : CondHead) (gs : List Goal) (ts : List Token) → R d cs code (goal.Yield h ∷ gs) ts ≡ R d cs (code ++ h ∷ []) gs ts
 yield d cs code h gs ts = pass_over d cs code (goal.Yield h) gs (h ∷ []) ts refl (first_all (λ t. takes d cs (goal.Yield h) t gs ≡ None) (λ t. refl) ts)
 
-pub more_over : (d : Dialect) (cs : List Constant) (code : List Head) (p q : ℕ) (gs : List Goal) (ts : List Token) → First (λ t. takes_more p q t gs ≡ None) ts → R d cs code (goal.More p q ∷ gs) ts ≡ R d cs code gs ts
+pub more_over : (d : Dialect) (cs : List Constant) (code : List CondHead) (p q : ℕ) (gs : List Goal) (ts : List Token) → First (λ t. takes_more p q t gs ≡ None) ts → R d cs code (goal.More p q ∷ gs) ts ≡ R d cs code gs ts
 more_over d cs code p q gs ts n = pass_over d cs code (goal.More p q) gs [] ts refl n ∙ recode d cs (code ++ []) code gs ts (append-nil code)
 
 -- ---- which tokens may stand behind an expression of level l that is not to go on by a tighter operator
@@ -151,17 +151,17 @@ EndsStatements t = t ≡ token.Mark 125
 abbrev pub Like : Dialect → List Constant → Goal → List Goal → (Token → Option (List Goal)) → Type 0
 Like d cs g gs answer = (t : Token) → takes d cs g t gs ≡ answer t
 
-abbrev pub PartReads : Dialect → List Constant → Part → List Head → List Token → Type 0
+abbrev pub PartReads : Dialect → List Constant → Part → List CondHead → List Token → Type 0
 PartReads d cs (part.Expression l) c ts = (p : ℕ) → p ≤ l → (g : Goal) (from gs : List Goal) → Like d cs g from (λ t. takes_expression d cs p t gs) →
-    (code : List Head) (us : List Token) → First (Allowed l) us → R d cs code (g ∷ from) (ts ++ us) ≡ R d cs (code ++ c) (goal.More p l ∷ gs) us
-PartReads d cs part.Operand c ts = (v : Bool) (code : List Head) (gs : List Goal) (us : List Token) → R d cs code (goal.Part (place v) ∷ gs) (ts ++ us) ≡ R d cs (code ++ c) gs us
-PartReads d cs x c ts = (code : List Head) (gs : List Goal) (us : List Token) → R d cs code (goal.Part x ∷ gs) (ts ++ us) ≡ R d cs (code ++ c) gs us
+    (code : List CondHead) (us : List Token) → First (Allowed l) us → R d cs code (g ∷ from) (ts ++ us) ≡ R d cs (code ++ c) (goal.More p l ∷ gs) us
+PartReads d cs part.Operand c ts = (v : Bool) (code : List CondHead) (gs : List Goal) (us : List Token) → R d cs code (goal.Part (place v) ∷ gs) (ts ++ us) ≡ R d cs (code ++ c) gs us
+PartReads d cs x c ts = (code : List CondHead) (gs : List Goal) (us : List Token) → R d cs code (goal.Part x ∷ gs) (ts ++ us) ≡ R d cs (code ++ c) gs us
 
-abbrev pub Reads : Dialect → List Constant → Sort → List Head → List Token → Type 0
+abbrev pub Reads : Dialect → List Constant → Sort → List CondHead → List Token → Type 0
 Reads d cs (One x) c ts = PartReads d cs x c ts
-Reads d cs (Parts parts) c ts = (code : List Head) (gs : List Goal) (us : List Token) →
+Reads d cs (Parts parts) c ts = (code : List CondHead) (gs : List Goal) (us : List Token) →
     R d cs code (parts_then parts (goal.Mark close_round ∷ gs)) (ts ++ token.Mark close_round ∷ us) ≡ R d cs (code ++ c) gs us
 Reads d cs (Statement closed) c ts = (g : Goal) (from gs : List Goal) → Like d cs g from (λ t. takes_statement t gs) →
-    (code : List Head) (us : List Token) → First (NotElse closed) us → R d cs code (g ∷ from) (ts ++ us) ≡ R d cs (code ++ c) gs us
-Reads d cs Statements c ts = (code : List Head) (gs : List Goal) (us : List Token) → First EndsStatements us → R d cs code (goal.Statements ∷ gs) (ts ++ us) ≡ R d cs (code ++ c) gs us
+    (code : List CondHead) (us : List Token) → First (NotElse closed) us → R d cs code (g ∷ from) (ts ++ us) ≡ R d cs (code ++ c) gs us
+Reads d cs Statements c ts = (code : List CondHead) (gs : List Goal) (us : List Token) → First EndsStatements us → R d cs code (goal.Statements ∷ gs) (ts ++ us) ≡ R d cs (code ++ c) gs us
 Reads d cs Condition c ts = R d cs [] (goal.Condition ∷ []) ts ≡ Some c

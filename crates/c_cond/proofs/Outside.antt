@@ -4,7 +4,7 @@ use Rattle.std.specs.Prelude.{option_and_then}
 use Rattle.std.proofs.lemmas.List.Elements.{All-append}
 use Rattle.std.proofs.lemmas.Bool.{cases_order}
 use Rattle.rtx_tree.specs.declared.constants.Constant.{Constant}
-use Rattle.c_words.specs.declared.head.Head.{Head}
+use Rattle.c_words.specs.declared.head.CondHead.{CondHead}
 use Rattle.c_words.specs.declared.atom.Dialect.{Dialect}
 use Rattle.c_words.specs.declared.token.Token.{Token}
 use Rattle.c_cond.specs.declared.goal.Goal.{Goal}
@@ -75,7 +75,7 @@ kept_some d cs words p q l e = by_run (run d cs p l.tokens) refl e
 
 -- what was not kept is no text, whatever stands behind it
 kept_none : (d : Dialect) (cs : List Constant) (p : Parser) (l : Lexer) → kept d cs (known_words cs) p l ≡ None →
-    (rest : List ℕ) (out : List Head) → result_of d cs p (l.tokens ++ read_all (lexing.at [] l.pending) rest) ≡ Some out → ⊥
+    (rest : List ℕ) (out : List CondHead) → result_of d cs p (l.tokens ++ read_all (lexing.at [] l.pending) rest) ≡ Some out → ⊥
 kept_none d cs p l e rest out f = by_run (run d cs p l.tokens) refl e
   where
     some_none : {A : Type 0} {x : A} → Some x ≡ None → ⊥
@@ -95,7 +95,7 @@ kept_none d cs p l e rest out f = by_run (run d cs p l.tokens) refl e
 pub record Front (d : Dialect) (cs : List Constant) (p : Parser) (w : Pending) (bytes : List ℕ) : Type 0 where
   pub more : List ℕ
   pub are_bytes : AreBytes more
-  pub out : List Head
+  pub out : List CondHead
   pub made : result_of d cs p (read_all (lexing.at [] w) (bytes ++ more)) ≡ Some out
 
 here : (d : Dialect) (cs : List Constant) (words : List (List ℕ)) (p : Parser) (w : Pending) → fit p.goals ≡ true → goes_on d cs words p.goals w ≡ true → Front d cs p w []
@@ -103,7 +103,7 @@ here d cs words p w f g =
     let s : Settled d cs p.goals w = settles d cs words p.goals w g in
     let x : (q : Parser) × (run d cs (at p.code p.goals) s.tokens ≡ Some q) = s.taken p.code in
     let e : Ending d cs (x.0).goals = ending d cs (x.0).goals (run_fits d cs s.tokens p x.0 f x.1) in
-    let r : (out : List Head) × (result_of d cs x.0 e.tokens ≡ Some out) = e.reads (x.0).code in
+    let r : (out : List CondHead) × (result_of d cs x.0 e.tokens ≡ Some out) = e.reads (x.0).code in
     record {
       more = s.bytes ++ e.bytes;
       are_bytes = All-append (λ b. b < 256) s.bytes e.bytes s.are_bytes e.are_bytes;
@@ -133,7 +133,7 @@ reach_begins d cs words (b ∷ bs) p w f g = by_kept (kept d cs words p (read_in
         }
 
 reach_longest : (d : Dialect) (cs : List Constant) (bs : List ℕ) (p : Parser) (w : Pending) (j : ℕ) → reach d cs (known_words cs) p w bs < j → j ≤ length bs →
-    (more : List ℕ) (out : List Head) → result_of d cs p (read_all (lexing.at [] w) (take j bs ++ more)) ≡ Some out → ⊥
+    (more : List ℕ) (out : List CondHead) → result_of d cs p (read_all (lexing.at [] w) (take j bs ++ more)) ≡ Some out → ⊥
 unfolding reach
 reach_longest d cs [] p w j lt le more out e = absurd (omega (arith, lt, le))
 reach_longest d cs (b ∷ bs) p w zero lt le more out e = absurd (omega (arith, lt))
@@ -147,7 +147,7 @@ reach_longest d cs (b ∷ bs) p w (suc j) lt le more out e = by_kept (kept d cs 
 
     by_kept : (o : Option Parser) → kept d cs (known_words cs) p (read_in [] w b) ≡ o → one_more o (λ q. reach d cs (known_words cs) q (read_in [] w b).pending bs) < suc j →
         ((q : Parser) → reach d cs (known_words cs) q (read_in [] w b).pending bs < j → j ≤ length bs →
-        (more : List ℕ) (out : List Head) → result_of d cs q (read_all (lexing.at [] (read_in [] w b).pending) (take j bs ++ more)) ≡ Some out → ⊥) → ⊥
+        (more : List ℕ) (out : List CondHead) → result_of d cs q (read_all (lexing.at [] (read_in [] w b).pending) (take j bs ++ more)) ≡ Some out → ⊥) → ⊥
     by_kept None k lt ih = kept_none d cs p (read_in [] w b) k (take j bs ++ more) out behind
     by_kept (Some q) k lt ih =
         ih q (omega (arith, lt)) (omega (arith, le)) more out
@@ -170,15 +170,15 @@ start g = at [] (g ∷ [])
 
 -- The place where a text stops, for a sort of which the parser makes the trees.
 place : (d : Dialect) (cs : List Constant) (sort : Sort) (g : Goal) → fit (g ∷ []) ≡ true →
-    ((ts : List Token) (out : List Head) → result_of d cs (start g) ts ≡ Some out → (t : Tree) × Is d cs sort (t ∷ []) ts) →
-    ((ts : List Token) (t : Tree) → Is d cs sort (t ∷ []) ts → (out : List Head) × (result_of d cs (start g) ts ≡ Some out)) →
+    ((ts : List Token) (out : List CondHead) → result_of d cs (start g) ts ≡ Some out → (t : Tree) × Is d cs sort (t ∷ []) ts) →
+    ((ts : List Token) (t : Tree) → Is d cs sort (t ∷ []) ts → (out : List CondHead) × (result_of d cs (start g) ts ≡ Some out)) →
     (text : List ℕ) (offset : ℕ) → offset ≡ reach d cs (known_words cs) (start g) pending.Nothing text → result_of d cs (start g) (tokens_in text) ≡ None → IsOutside (IsText d cs sort) text offset
 place d cs sort g f sound complete text offset e none = subst (λ (k : ℕ). IsOutside (IsText d cs sort) text k) (sym e) (record {
   in_text = reach_within d cs (known_words cs) text (start g) pending.Nothing;
   begins = begun (reach_begins d cs (known_words cs) text (start g) pending.Nothing f refl);
-  longest = λ j lt le b. let x : (out : List Head) × (result_of d cs (start g) (tokens_in (take j text ++ b.more)) ≡ Some out) = complete (tokens_in (take j text ++ b.more)) b.tree b.text in
+  longest = λ j lt le b. let x : (out : List CondHead) × (result_of d cs (start g) (tokens_in (take j text ++ b.more)) ≡ Some out) = complete (tokens_in (take j text ++ b.more)) b.tree b.text in
       reach_longest d cs text (start g) pending.Nothing j lt le b.more x.0 (ap (result_of d cs (start g)) (lexes (take j text ++ b.more)) ∙ x.1);
-  no_text = λ t i. let x : (out : List Head) × (result_of d cs (start g) (tokens_in text) ≡ Some out) = complete (tokens_in text) t i in none_some (sym none ∙ x.1);
+  no_text = λ t i. let x : (out : List CondHead) × (result_of d cs (start g) (tokens_in text) ≡ Some out) = complete (tokens_in text) t i in none_some (sym none ∙ x.1);
 })
   where
     begun : {bytes : List ℕ} → Front d cs (start g) pending.Nothing bytes → Begins (IsText d cs sort) bytes

@@ -7,7 +7,7 @@ use Rattle.std.proofs.lemmas.List.Elements.{All-append}
 use Rattle.std.proofs.lemmas.Bool.{leb-true}
 use Rattle.rtx_tree.specs.declared.constants.Constant.{Constant}
 use Rattle.c_words.specs.declared.head.Binary.{Binary}
-use Rattle.c_words.specs.declared.head.Head.{Head}
+use Rattle.c_words.specs.declared.head.CondHead.{CondHead}
 use Rattle.c_words.specs.declared.atom.Dialect.{Dialect}
 use Rattle.c_words.specs.declared.token.Token.{Token}
 use Rattle.c_words.specs.declared.token.Token.TheVariants as token
@@ -83,9 +83,9 @@ pub record Settled (d : Dialect) (cs : List Constant) (gs : List Goal) (p : Pend
   pub are_bytes : AreBytes bytes
   pub tokens : List Token
   pub reads : (rest : List ℕ) → read_all (lexing.at [] p) (bytes ++ rest) ≡ tokens ++ read_all (lexing.at [] pending.Nothing) rest
-  pub taken : (code : List Head) → (q : Parser) × (run d cs (at code gs) tokens ≡ Some q)
+  pub taken : (code : List CondHead) → (q : Parser) × (run d cs (at code gs) tokens ≡ Some q)
 
-one_taken : (d : Dialect) (cs : List Constant) (gs : List Goal) (t : Token) → is_taken d cs t gs ≡ true → (code : List Head) → (q : Parser) × (run d cs (at code gs) (t ∷ []) ≡ Some q)
+one_taken : (d : Dialect) (cs : List Constant) (gs : List Goal) (t : Token) → is_taken d cs t gs ≡ true → (code : List CondHead) → (q : Parser) × (run d cs (at code gs) (t ∷ []) ≡ Some q)
 unfolding run
 one_taken d cs gs t e code = let x : (q : Parser) × (next d cs t code gs ≡ Some q) = goes d cs t code gs e in (x.0, rw x.1 refl)
 
@@ -219,7 +219,7 @@ longer (b ∷ bs) run = by_test (in_word b) refl (longer bs (run ++ b ∷ []))
 none_some : {A : Type 0} {x : A} → None ≡ Some x → ⊥
 none_some e = cc
 
-not_taken : (d : Dialect) (cs : List Constant) (q : Parser) (t : Token) (ts : List Token) (out : List Head) → is_taken d cs t q.goals ≡ false → result_of d cs q (t ∷ ts) ≡ Some out → ⊥
+not_taken : (d : Dialect) (cs : List Constant) (q : Parser) (t : Token) (ts : List Token) (out : List CondHead) → is_taken d cs t q.goals ≡ false → result_of d cs q (t ∷ ts) ≡ Some out → ⊥
 unfolding run
 not_taken d cs q t ts out e f = none_some (sym (rw (stops d cs t q.code q.goals e) refl) ∙ f)
 
@@ -230,12 +230,12 @@ not_true : {b : Bool} → (b ≡ true → ⊥) → b ≡ false
 not_true {b = true} h = absurd (h refl)
 not_true {b = false} h = refl
 
-run_never : (d : Dialect) (cs : List Constant) (q : Parser) (run rest : List ℕ) (out : List Head) → run_goes_on d cs (known_words cs) q.goals run ≡ false → result_of d cs q (read_all (lexing.at [] (pending.Run run)) rest) ≡ Some out → ⊥
+run_never : (d : Dialect) (cs : List Constant) (q : Parser) (run rest : List ℕ) (out : List CondHead) → run_goes_on d cs (known_words cs) q.goals run ≡ false → result_of d cs q (read_all (lexing.at [] (pending.Run run)) rest) ≡ Some out → ⊥
 run_never d cs q run rest out e f =
     let l : Longer run rest = longer rest run in
     not_taken d cs q (token_of_run (run ++ l.more)) l.behind out (not_true (λ t. true_false (sym (run_goes d cs q.goals run l.more l.in_words t) ∙ e))) (ap (result_of d cs q) (sym l.reads) ∙ f)
 
-byte_never : (d : Dialect) (cs : List Constant) (q : Parser) (a : ℕ) (rest : List ℕ) (out : List Head) → byte_goes_on d cs q.goals a ≡ false → result_of d cs q (read_all (lexing.at [] (pending.Byte a)) rest) ≡ Some out → ⊥
+byte_never : (d : Dialect) (cs : List Constant) (q : Parser) (a : ℕ) (rest : List ℕ) (out : List CondHead) → byte_goes_on d cs q.goals a ≡ false → result_of d cs q (read_all (lexing.at [] (pending.Byte a)) rest) ≡ Some out → ⊥
 byte_never d cs q a rest out e f = by_rest rest f
   where
     alone : is_taken d cs (token_of_byte a) q.goals ≡ false
@@ -253,7 +253,7 @@ byte_never d cs q a rest out e f = by_rest rest f
     by_rest [] f = not_taken d cs q (token_of_byte a) [] out alone f
     by_rest (b ∷ bs) f = by_operator b bs (operator_of_two a b) refl f
 
-pub never : (d : Dialect) (cs : List Constant) (q : Parser) (p : Pending) (rest : List ℕ) (out : List Head) → goes_on d cs (known_words cs) q.goals p ≡ false → result_of d cs q (read_all (lexing.at [] p) rest) ≡ Some out → ⊥
+pub never : (d : Dialect) (cs : List Constant) (q : Parser) (p : Pending) (rest : List ℕ) (out : List CondHead) → goes_on d cs (known_words cs) q.goals p ≡ false → result_of d cs q (read_all (lexing.at [] p) rest) ≡ Some out → ⊥
 never d cs q pending.Nothing rest out e f = true_false e
 never d cs q (pending.Run run) rest out e f = run_never d cs q run rest out e f
 never d cs q (pending.Byte a) rest out e f = byte_never d cs q a rest out e f

@@ -3,8 +3,8 @@ use Rattle.std.proofs.Common.{◌≡◌, ℕ, false, List, [], ◌∷◌, ◌++�
 use Rattle.std.specs.Prelude.{option_and_then, pos}
 use Rattle.std.proofs.lemmas.List.{append-nil}
 use Rattle.rtx_tree.specs.declared.constants.Constant.{Constant}
-use Rattle.c_words.specs.declared.head.Head.{Head}
-use Rattle.c_words.specs.declared.head.Head.TheVariants as head
+use Rattle.c_words.specs.declared.head.CondHead.{CondHead}
+use Rattle.c_words.specs.declared.head.CondHead.TheVariants as head
 use Rattle.c_words.specs.declared.keyword.Keyword.{Keyword}
 use Rattle.c_words.specs.declared.keyword.Keyword.TheVariants as keyword
 use Rattle.c_words.specs.declared.atom.Dialect.{Dialect}
@@ -50,7 +50,7 @@ some_is e = cc
 none_some : {A : Type 0} {x : A} → None ≡ Some x → ⊥
 none_some e = cc
 
-pub first_of_no_tokens : (d : Dialect) (cs : List Constant) (g : Goal) (gs : List Goal) (h : Head) (c : List Head) (ts : List Token) → Fits d cs g (h ∷ []) [] ts → Meets d cs gs c ts → Meets d cs (g ∷ gs) (h ∷ c) ts
+pub first_of_no_tokens : (d : Dialect) (cs : List Constant) (g : Goal) (gs : List Goal) (h : CondHead) (c : List CondHead) (ts : List Token) → Fits d cs g (h ∷ []) [] ts → Meets d cs gs c ts → Meets d cs (g ∷ gs) (h ∷ c) ts
 first_of_no_tokens d cs g gs h c ts f m = Meets.first g gs (h ∷ []) c [] ts f m
 
 -- an expression may end where it may go on
@@ -62,12 +62,12 @@ abbrev Passable : Goal → List Token → Type 0
 Passable goal.Else ts = begins_else ts ≡ false
 Passable _ ts = Unit {0}
 
-pass : (d : Dialect) (cs : List Constant) (g : Goal) (gs : List Goal) (heads c : List Head) (ts : List Token) → passed g ≡ Some heads → Passable g ts → Meets d cs gs c ts → Meets d cs (g ∷ gs) (heads ++ c) ts
-pass d cs (goal.Yield h) gs heads c ts e p m = subst (λ (x : List Head). Meets d cs (goal.Yield h ∷ gs) (x ++ c) ts) (some_is e) (Meets.first (goal.Yield h) gs (h ∷ []) c [] ts (refl, refl) m)
-pass d cs (goal.More k q) gs heads c ts e p m = subst (λ (x : List Head). Meets d cs (goal.More k q ∷ gs) (x ++ c) ts) (some_is e) (Meets.first (goal.More k q) gs [] c [] ts (ends d cs k q) m)
-pass d cs goal.Else gs heads c ts e p m = subst (λ (x : List Head). Meets d cs (goal.Else ∷ gs) (x ++ c) ts) (some_is e) (Meets.first goal.Else gs (head.If ∷ []) c [] ts (inl (record { unclosed = p; tree = refl; tokens = refl })) m)
-pass d cs goal.Statements gs heads c ts e p m = subst (λ (x : List Head). Meets d cs (goal.Statements ∷ gs) (x ++ c) ts) (some_is e) (Meets.first goal.Statements gs (head.Nothing ∷ []) c [] ts Is.nothing m)
-pass d cs goal.Condition gs heads c ts e p m = subst (λ (x : List Head). Meets d cs (goal.Condition ∷ gs) (x ++ c) ts) (some_is e) (Meets.first goal.Condition gs (head.Number (pos 1) ∷ []) c [] ts Is.empty m)
+pass : (d : Dialect) (cs : List Constant) (g : Goal) (gs : List Goal) (heads c : List CondHead) (ts : List Token) → passed g ≡ Some heads → Passable g ts → Meets d cs gs c ts → Meets d cs (g ∷ gs) (heads ++ c) ts
+pass d cs (goal.Yield h) gs heads c ts e p m = subst (λ (x : List CondHead). Meets d cs (goal.Yield h ∷ gs) (x ++ c) ts) (some_is e) (Meets.first (goal.Yield h) gs (h ∷ []) c [] ts (refl, refl) m)
+pass d cs (goal.More k q) gs heads c ts e p m = subst (λ (x : List CondHead). Meets d cs (goal.More k q ∷ gs) (x ++ c) ts) (some_is e) (Meets.first (goal.More k q) gs [] c [] ts (ends d cs k q) m)
+pass d cs goal.Else gs heads c ts e p m = subst (λ (x : List CondHead). Meets d cs (goal.Else ∷ gs) (x ++ c) ts) (some_is e) (Meets.first goal.Else gs (head.If ∷ []) c [] ts (inl (record { unclosed = p; tree = refl; tokens = refl })) m)
+pass d cs goal.Statements gs heads c ts e p m = subst (λ (x : List CondHead). Meets d cs (goal.Statements ∷ gs) (x ++ c) ts) (some_is e) (Meets.first goal.Statements gs (head.Nothing ∷ []) c [] ts Is.nothing m)
+pass d cs goal.Condition gs heads c ts e p m = subst (λ (x : List CondHead). Meets d cs (goal.Condition ∷ gs) (x ++ c) ts) (some_is e) (Meets.first goal.Condition gs (head.Number (pos 1) ∷ []) c [] ts Is.empty m)
 pass d cs (goal.Mark b) gs heads c ts e p m = absurd (none_some e)
 pass d cs (goal.Part x) gs heads c ts e p m = absurd (none_some e)
 pass d cs (goal.Comparison x) gs heads c ts e p m = absurd (none_some e)
@@ -94,17 +94,17 @@ passable d cs _ t gs ts e = tt
 -- ---- steps and runs
 
 -- what meets the goals behind makes, with what was made before, what meets the goals before
-abbrev Back : Dialect → List Constant → List Head → List Goal → List Head → List Token → Type 0
-Back d cs code gs all ts = (c : List Head) × (all ≡ code ++ c) × Meets d cs gs c ts
+abbrev Back : Dialect → List Constant → List CondHead → List Goal → List CondHead → List Token → Type 0
+Back d cs code gs all ts = (c : List CondHead) × (all ≡ code ++ c) × Meets d cs gs c ts
 
-sound_next : (d : Dialect) (cs : List Constant) (t : Token) (gs : List Goal) (code : List Head) (p : Parser) → next d cs t code gs ≡ Some p →
-    (c : List Head) (ts : List Token) → Meets d cs p.goals c ts → Back d cs code gs (p.code ++ c) (t ∷ ts)
+sound_next : (d : Dialect) (cs : List Constant) (t : Token) (gs : List Goal) (code : List CondHead) (p : Parser) → next d cs t code gs ≡ Some p →
+    (c : List CondHead) (ts : List Token) → Meets d cs p.goals c ts → Back d cs code gs (p.code ++ c) (t ∷ ts)
 sound_next d cs t [] code p e c ts m = absurd (none_some e)
 sound_next d cs t (g ∷ gs) code p e c ts m = by_answer (takes d cs g t gs) refl (sound_takes d cs g t gs) (passed g) refl e (sound_next d cs t gs)
   where
-    by_answer : (o : Option (List Goal)) → takes d cs g t gs ≡ o → Sound d cs g t gs o → (h : Option (List Head)) → passed g ≡ h →
+    by_answer : (o : Option (List Goal)) → takes d cs g t gs ≡ o → Sound d cs g t gs o → (h : Option (List CondHead)) → passed g ≡ h →
         taken_or code o (option_and_then (λ heads. next d cs t (code ++ heads) gs) h) ≡ Some p →
-        ((code : List Head) (p : Parser) → next d cs t code gs ≡ Some p → (c : List Head) (ts : List Token) → Meets d cs p.goals c ts → Back d cs code gs (p.code ++ c) (t ∷ ts)) →
+        ((code : List CondHead) (p : Parser) → next d cs t code gs ≡ Some p → (c : List CondHead) (ts : List Token) → Meets d cs p.goals c ts → Back d cs code gs (p.code ++ c) (t ∷ ts)) →
         Back d cs code (g ∷ gs) (p.code ++ c) (t ∷ ts)
     by_answer (Some new) f s h k e ih =
         let same : at code new ≡ p = some_is e in
@@ -118,24 +118,24 @@ nothing_follows : (g : Goal) → Passable g []
 nothing_follows goal.Else = refl
 nothing_follows _ = tt
 
-sound_finish : (d : Dialect) (cs : List Constant) (gs : List Goal) (code out : List Head) → finish code gs ≡ Some out → Back d cs code gs out []
+sound_finish : (d : Dialect) (cs : List Constant) (gs : List Goal) (code out : List CondHead) → finish code gs ≡ Some out → Back d cs code gs out []
 sound_finish d cs [] code out e = ([], sym (some_is e) ∙ sym (append-nil code), Meets.end)
 sound_finish d cs (g ∷ gs) code out e = by_answer (passed g) refl e (sound_finish d cs gs)
   where
-    by_answer : (h : Option (List Head)) → passed g ≡ h → option_and_then (λ heads. finish (code ++ heads) gs) h ≡ Some out →
-        ((code out : List Head) → finish code gs ≡ Some out → Back d cs code gs out []) → Back d cs code (g ∷ gs) out []
+    by_answer : (h : Option (List CondHead)) → passed g ≡ h → option_and_then (λ heads. finish (code ++ heads) gs) h ≡ Some out →
+        ((code out : List CondHead) → finish code gs ≡ Some out → Back d cs code gs out []) → Back d cs code (g ∷ gs) out []
     by_answer None k e ih = absurd (none_some e)
     by_answer (Some heads) k e ih =
         let b : Back d cs (code ++ heads) gs out [] = ih (code ++ heads) out e in
         (heads ++ b.0, b.1 ∙ append_assoc code heads b.0, pass d cs g gs heads b.0 [] k (nothing_follows g) b.2)
 
-pub sound_run : (d : Dialect) (cs : List Constant) (ts : List Token) (p : Parser) (out : List Head) → result_of d cs p ts ≡ Some out → Back d cs p.code p.goals out ts
+pub sound_run : (d : Dialect) (cs : List Constant) (ts : List Token) (p : Parser) (out : List CondHead) → result_of d cs p ts ≡ Some out → Back d cs p.code p.goals out ts
 unfolding run
 sound_run d cs [] p out e = sound_finish d cs p.goals p.code out e
 sound_run d cs (t ∷ ts) p out e = by_step (next d cs t p.code p.goals) refl e (sound_run d cs ts)
   where
     by_step : (o : Option Parser) → next d cs t p.code p.goals ≡ o → option_and_then (λ r. finish r.code r.goals) (option_and_then (λ q. run d cs q ts) o) ≡ Some out →
-        ((p : Parser) (out : List Head) → result_of d cs p ts ≡ Some out → Back d cs p.code p.goals out ts) → Back d cs p.code p.goals out (t ∷ ts)
+        ((p : Parser) (out : List CondHead) → result_of d cs p ts ≡ Some out → Back d cs p.code p.goals out ts) → Back d cs p.code p.goals out (t ∷ ts)
     by_step None k e ih = absurd (none_some e)
     by_step (Some q) k e ih =
         let b : Back d cs q.code q.goals out ts = ih q out e in
@@ -143,16 +143,16 @@ sound_run d cs (t ∷ ts) p out e = by_step (next d cs t p.code p.goals) refl e 
         (n.0, b.1 ∙ n.1, n.2)
 
 -- what is made of one goal
-pub sound_goal : (d : Dialect) (cs : List Constant) (g : Goal) (ts : List Token) (out : List Head) → result_of d cs (at [] (g ∷ [])) ts ≡ Some out → Fits d cs g out ts []
+pub sound_goal : (d : Dialect) (cs : List Constant) (g : Goal) (ts : List Token) (out : List CondHead) → result_of d cs (at [] (g ∷ [])) ts ≡ Some out → Fits d cs g out ts []
 sound_goal d cs g ts out e =
     let b : Back d cs [] (g ∷ []) out ts = sound_run d cs ts (at [] (g ∷ [])) out e in
-    subst (λ (x : List Head). Fits d cs g x ts []) (sym b.1) (alone b.0 ts b.2)
+    subst (λ (x : List CondHead). Fits d cs g x ts []) (sym b.1) (alone b.0 ts b.2)
   where
-    ended : (c : List Head) (ts : List Token) → Meets d cs [] c ts → (c ≡ []) × (ts ≡ [])
+    ended : (c : List CondHead) (ts : List Token) → Meets d cs [] c ts → (c ≡ []) × (ts ≡ [])
     ended _ _ Meets.end = (refl, refl)
 
-    alone : (c : List Head) (ts : List Token) → Meets d cs (g ∷ []) c ts → Fits d cs g c ts []
+    alone : (c : List CondHead) (ts : List Token) → Meets d cs (g ∷ []) c ts → Fits d cs g c ts []
     alone c ts m = use_first d cs g [] (λ c ts. Fits d cs g c ts []) (λ a c xs us f n.
         let x = ended c us n in
-        moved (λ c ts. Fits d cs g c ts []) a (a ++ c) xs (xs ++ us) (sym (append-nil a) ∙ ap (λ (y : List Head). a ++ y) (sym x.0)) (sym (append-nil xs) ∙ ap (λ (y : List Token). xs ++ y) (sym x.1))
+        moved (λ c ts. Fits d cs g c ts []) a (a ++ c) xs (xs ++ us) (sym (append-nil a) ∙ ap (λ (y : List CondHead). a ++ y) (sym x.0)) (sym (append-nil xs) ∙ ap (λ (y : List Token). xs ++ y) (sym x.1))
         (subst (λ (y : List Token). Fits d cs g a xs y) x.1 f)) c ts m

@@ -5,8 +5,8 @@ use Rattle.rtx_tree.specs.declared.constants.Constant.{Constant}
 use Rattle.bits64.specs.Words.{signed}
 use Rattle.bits64.specs.declared.Width.TheVariants.{W64}
 use Rattle.c_words.specs.declared.head.Unary.{Unary}
-use Rattle.c_words.specs.declared.head.Head.{Head}
-use Rattle.c_words.specs.declared.head.Head.TheVariants as head
+use Rattle.c_words.specs.declared.head.CondHead.{CondHead}
+use Rattle.c_words.specs.declared.head.CondHead.TheVariants as head
 use Rattle.c_words.specs.declared.atom.Atom.{Atom}
 use Rattle.c_words.specs.declared.atom.Atom.TheVariants as atom
 use Rattle.c_words.specs.declared.atom.Dialect.{Dialect}
@@ -25,25 +25,25 @@ use Rattle.c_cond.proofs.Meets.{Meets, moved, use_first, use_yield, use_mark, us
 -- what meets the goals behind a token meets, with the token before it, the goals before it
 abbrev pub Sound : Dialect → List Constant → Goal → Token → List Goal → Option (List Goal) → Type 0
 Sound d cs g t gs None = Unit {0}
-Sound d cs g t gs (Some new) = (c : List Head) (ts : List Token) → Meets d cs new c ts → Meets d cs (g ∷ gs) c (t ∷ ts)
+Sound d cs g t gs (Some new) = (c : List CondHead) (ts : List Token) → Meets d cs new c ts → Meets d cs (g ∷ gs) c (t ∷ ts)
 
 abbrev wants : ℕ → Goal
 wants p = goal.Part (part.Expression p)
 
 -- behind what is an expression of any level up to q, the rest of the expression follows
-behind : (d : Dialect) (cs : List Constant) (p q m : ℕ) (gs : List Goal) (a : List Head) (xs : List Token) → p ≤ m → q ≤ m → Is d cs (One (part.Expression m)) a xs →
-    (e : List Head) (us : List Token) → Meets d cs (goal.More p q ∷ gs) e us → Meets d cs (wants p ∷ gs) (a ++ e) (xs ++ us)
+behind : (d : Dialect) (cs : List Constant) (p q m : ℕ) (gs : List Goal) (a : List CondHead) (xs : List Token) → p ≤ m → q ≤ m → Is d cs (One (part.Expression m)) a xs →
+    (e : List CondHead) (us : List Token) → Meets d cs (goal.More p q ∷ gs) e us → Meets d cs (wants p ∷ gs) (a ++ e) (xs ++ us)
 behind d cs p q m gs a xs le lq i =
     use_first d cs (goal.More p q) gs (λ e us. Meets d cs (wants p ∷ gs) (a ++ e) (xs ++ us)) (λ c e ts us f n.
     moved (Meets d cs (wants p ∷ gs)) ((a ++ c) ++ e) (a ++ (c ++ e)) ((xs ++ ts) ++ us) (xs ++ (ts ++ us)) (append_assoc a c e) (append_assoc xs ts us)
     (Meets.first (wants p) gs (a ++ c) e (xs ++ ts) us (f a xs m le lq i) n))
 
 -- behind what is an expression of any level
-after : (d : Dialect) (cs : List Constant) (p : ℕ) (gs : List Goal) (a : List Head) (xs : List Token) → ((m : ℕ) → Is d cs (One (part.Expression m)) a xs) →
-    (e : List Head) (us : List Token) → Meets d cs (more p gs) e us → Meets d cs (wants p ∷ gs) (a ++ e) (xs ++ us)
+after : (d : Dialect) (cs : List Constant) (p : ℕ) (gs : List Goal) (a : List CondHead) (xs : List Token) → ((m : ℕ) → Is d cs (One (part.Expression m)) a xs) →
+    (e : List CondHead) (us : List Token) → Meets d cs (more p gs) e us → Meets d cs (wants p ∷ gs) (a ++ e) (xs ++ us)
 after d cs p gs a xs i = behind d cs p unary_level (p + unary_level) gs a xs (omega arith) (omega arith) (i (p + unary_level))
 
-same_head : (a : List Head) (h : Head) (b c : List Head) → b ≡ h ∷ [] → (a ++ h ∷ []) ++ c ≡ a ++ (b ++ c)
+same_head : (a : List CondHead) (h : CondHead) (b c : List CondHead) → b ≡ h ∷ [] → (a ++ h ∷ []) ++ c ≡ a ++ (b ++ c)
 same_head a h b c e = rw e (append_assoc a (h ∷ []) c)
 
 same_tokens : (word name : List ℕ) (xs : List Token) (sign : Token) (ys rest ts : List Token) → ys ≡ sign ∷ rest → rest ≡ token.Word name ∷ [] →

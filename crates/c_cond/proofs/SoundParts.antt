@@ -5,8 +5,8 @@ use Rattle.rtx_tree.specs.declared.constants.Constant.{Constant}
 use Rattle.rtx_tree.specs.declared.code.Mode.{Mode}
 use Rattle.c_words.specs.declared.head.Binary.{Binary}
 use Rattle.c_words.specs.declared.head.Call.{Call}
-use Rattle.c_words.specs.declared.head.Head.{Head}
-use Rattle.c_words.specs.declared.head.Head.TheVariants as head
+use Rattle.c_words.specs.declared.head.CondHead.{CondHead}
+use Rattle.c_words.specs.declared.head.CondHead.TheVariants as head
 use Rattle.c_words.specs.declared.keyword.Keyword.{Keyword}
 use Rattle.c_words.specs.declared.keyword.Keyword.TheVariants as keyword
 use Rattle.c_words.specs.declared.atom.Dialect.{Dialect}
@@ -27,11 +27,11 @@ use Rattle.c_cond.proofs.SoundExpressions.{Sound, sound_expression}
 
 -- ---- operators behind an operand
 
-goes_on : (d : Dialect) (cs : List Constant) (p q : ℕ) (op : Binary) (b c : List Head) (xs ts : List Token) → p ≤ level op → level op ≤ q →
+goes_on : (d : Dialect) (cs : List Constant) (p q : ℕ) (op : Binary) (b c : List CondHead) (xs ts : List Token) → p ≤ level op → level op ≤ q →
     Is d cs (One (part.Expression (level op + 1))) b xs → Continues d cs p (level op) c ts → Continues d cs p q (b ++ head.Binary op ∷ c) (token.Operator op ∷ (xs ++ ts))
 goes_on d cs p q op b c xs ts le lq i f a ys m lm qm j =
     moved (Is d cs (One (part.Expression p))) ((a ++ (b ++ head.Binary op ∷ [])) ++ c) (a ++ (b ++ head.Binary op ∷ c)) ((ys ++ token.Operator op ∷ xs) ++ ts) (ys ++ token.Operator op ∷ (xs ++ ts))
-    (append_assoc a (b ++ head.Binary op ∷ []) c ∙ ap (λ (x : List Head). a ++ x) (append_assoc b (head.Binary op ∷ []) c)) (append_assoc ys (token.Operator op ∷ xs) ts)
+    (append_assoc a (b ++ head.Binary op ∷ []) c ∙ ap (λ (x : List CondHead). a ++ x) (append_assoc b (head.Binary op ∷ []) c)) (append_assoc ys (token.Operator op ∷ xs) ts)
     (f (a ++ (b ++ head.Binary op ∷ [])) (ys ++ token.Operator op ∷ xs) (level op) le (omega arith) (Is.between (level op) op a b ys xs (omega arith) (looser d cs (level op) m a ys (omega arith) j) i))
 
 sound_operator : (d : Dialect) (cs : List Constant) (p q : ℕ) (op : Binary) (gs : List Goal) (s t : Bool) → nat_le p (level op) ≡ s → nat_le (level op) q ≡ t →
@@ -46,7 +46,7 @@ sound_operator d cs p q op gs true true lp lq =
     (append_assoc b (head.Binary op ∷ c) e) (ap (λ (x : List Token). token.Operator op ∷ x) (append_assoc xs ts us))
     (Meets.first (goal.More p q) gs (b ++ head.Binary op ∷ c) e (token.Operator op ∷ (xs ++ ts)) us (goes_on d cs p q op b c xs ts (leb-true p (level op) lp) (leb-true (level op) q lq) i k) m)) c ts m) c ts m)
 
-chooses : (d : Dialect) (cs : List Constant) (p q : ℕ) (b c : List Head) (xs ts : List Token) → p ≤ 0 → 1 ≤ q → Is d cs (One expression) b xs → Is d cs (One expression) c ts →
+chooses : (d : Dialect) (cs : List Constant) (p q : ℕ) (b c : List CondHead) (xs ts : List Token) → p ≤ 0 → 1 ≤ q → Is d cs (One expression) b xs → Is d cs (One expression) c ts →
     Continues d cs p q (b ++ (c ++ head.Choose ∷ [])) (token.Mark question ∷ (xs ++ token.Mark colon ∷ ts))
 chooses d cs p q b c xs ts le lq i j a ys m lm qm k = looser d cs p 0 _ _ le (Is.choice a b c ys xs ts (looser d cs 1 m a ys (omega arith) k) i j)
 
@@ -60,7 +60,7 @@ sound_question d cs p q gs true true lp lq =
     use_first d cs (goal.Part expression) (goal.Yield head.Choose ∷ gs) (λ c ts. Meets d cs (goal.More p q ∷ gs) (b ++ c) (token.Mark question ∷ (xs ++ token.Mark colon ∷ ts))) (λ c e ts us j m.
     use_yield d cs head.Choose gs (λ e us. Meets d cs (goal.More p q ∷ gs) (b ++ (c ++ e)) (token.Mark question ∷ (xs ++ token.Mark colon ∷ (ts ++ us)))) (λ e us m.
     moved (Meets d cs (goal.More p q ∷ gs)) ((b ++ (c ++ head.Choose ∷ [])) ++ e) (b ++ (c ++ head.Choose ∷ e)) (token.Mark question ∷ ((xs ++ token.Mark colon ∷ ts) ++ us)) (token.Mark question ∷ (xs ++ token.Mark colon ∷ (ts ++ us)))
-    (append_assoc b (c ++ head.Choose ∷ []) e ∙ ap (λ (x : List Head). b ++ x) (append_assoc c (head.Choose ∷ []) e)) (ap (λ (x : List Token). token.Mark question ∷ x) (append_assoc xs (token.Mark colon ∷ ts) us))
+    (append_assoc b (c ++ head.Choose ∷ []) e ∙ ap (λ (x : List CondHead). b ++ x) (append_assoc c (head.Choose ∷ []) e)) (ap (λ (x : List Token). token.Mark question ∷ x) (append_assoc xs (token.Mark colon ∷ ts) us))
     (Meets.first (goal.More p q) gs (b ++ (c ++ head.Choose ∷ [])) e (token.Mark question ∷ (xs ++ token.Mark colon ∷ ts)) us (chooses d cs p q b c xs ts (leb-true p 0 lp) (leb-true 1 q lq) i j) m)) e us m) c ts m) c ts m)
 
 sound_mark_more : (d : Dialect) (cs : List Constant) (p q b : ℕ) (gs : List Goal) (t : Bool) → (b == question) ≡ t → Sound d cs (goal.More p q) (token.Mark b) gs (cond t (takes_question p q gs) None)
@@ -90,7 +90,7 @@ sound_mark d cs b token.Bad gs = tt
 -- ---- what is one token
 
 -- a part that one token is
-one_token : (d : Dialect) (cs : List Constant) (x : Part) (h : Head) (t : Token) (gs : List Goal) → Is d cs (One x) (h ∷ []) (t ∷ []) → Sound d cs (goal.Part x) t gs (Some (goal.Yield h ∷ gs))
+one_token : (d : Dialect) (cs : List Constant) (x : Part) (h : CondHead) (t : Token) (gs : List Goal) → Is d cs (One x) (h ∷ []) (t ∷ []) → Sound d cs (goal.Part x) t gs (Some (goal.Yield h ∷ gs))
 one_token d cs x h t gs i = use_yield d cs h gs (λ c ts. Meets d cs (goal.Part x ∷ gs) c (t ∷ ts)) (λ e us m. Meets.first (goal.Part x) gs (h ∷ []) e (t ∷ []) us i m)
 
 sound_mode : (d : Dialect) (cs : List Constant) (x : Part) (word : List ℕ) (gs : List Goal) (m : Option Mode) →
@@ -123,7 +123,7 @@ sound_window d cs token.Bad gs = tt
 
 -- a part that an operand may be
 abbrev MayBe : Dialect → List Constant → Part → Type 0
-MayBe d cs x = (a : List Head) (ts : List Token) → Is d cs (One part.Operand) a ts → Is d cs (One x) a ts
+MayBe d cs x = (a : List CondHead) (ts : List Token) → Is d cs (One part.Operand) a ts → Is d cs (One x) a ts
 
 indexed : (cs : List Constant) (x : Part) (word : List ℕ) (gs : List Goal) → MayBe dialect.Condition cs x → keyword_named word ≡ Some keyword.Operands →
     Sound dialect.Condition cs (goal.Part x) (token.Word word) gs (Some (goal.Mark open_square ∷ goal.Index ∷ gs))

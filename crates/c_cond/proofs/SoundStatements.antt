@@ -4,8 +4,8 @@ use Rattle.std.specs.Prelude.{option_map}
 use Rattle.std.proofs.lemmas.Bool.{ltb-true, eqb-true}
 use Rattle.rtx_tree.specs.declared.constants.Constant.{Constant}
 use Rattle.c_words.specs.declared.head.Call.TheVariants as call
-use Rattle.c_words.specs.declared.head.Head.{Head}
-use Rattle.c_words.specs.declared.head.Head.TheVariants as head
+use Rattle.c_words.specs.declared.head.CondHead.{CondHead}
+use Rattle.c_words.specs.declared.head.CondHead.TheVariants as head
 use Rattle.c_words.specs.declared.keyword.Keyword.{Keyword}
 use Rattle.c_words.specs.declared.keyword.Keyword.TheVariants as keyword
 use Rattle.c_words.specs.declared.atom.Dialect.{Dialect}
@@ -25,7 +25,7 @@ use Rattle.c_cond.proofs.SoundExpressions.{Sound}
 
 -- ---- comparisons of a code or mode
 
-sound_compared_by : (d : Dialect) (cs : List Constant) (property : Property) (equal : Bool) (word : List ℕ) (gs : List Goal) (h : Option Head) → comparison_with property equal word ≡ h →
+sound_compared_by : (d : Dialect) (cs : List Constant) (property : Property) (equal : Bool) (word : List ℕ) (gs : List Goal) (h : Option CondHead) → comparison_with property equal word ≡ h →
     Sound d cs (goal.Compared property equal) (token.Word word) gs (option_map (λ h. goal.Yield h ∷ gs) h)
 sound_compared_by d cs property equal word gs None e = tt
 sound_compared_by d cs property equal word gs (Some h) e =
@@ -89,10 +89,10 @@ sound_target d cs token.Bad gs = tt
 -- ---- statements
 
 -- a statement that stands here, however it goes on
-stands : (d : Dialect) (cs : List Constant) (gs : List Goal) (a c : List Head) (ts us : List Token) → ((z : Bool) → Is d cs (Statement z) a ts) → Meets d cs gs c us → Meets d cs (goal.Statement ∷ gs) (a ++ c) (ts ++ us)
+stands : (d : Dialect) (cs : List Constant) (gs : List Goal) (a c : List CondHead) (ts us : List Token) → ((z : Bool) → Is d cs (Statement z) a ts) → Meets d cs gs c us → Meets d cs (goal.Statement ∷ gs) (a ++ c) (ts ++ us)
 stands d cs gs a c ts us i m = Meets.first goal.Statement gs a c ts us (i (begins_else us)) m
 
-sound_ended : (d : Dialect) (cs : List Constant) (h : Head) (t : Token) (gs : List Goal) → ((z : Bool) → Is d cs (Statement z) (h ∷ []) (t ∷ token.Mark semicolon ∷ [])) → Sound d cs goal.Statement t gs (ended h gs)
+sound_ended : (d : Dialect) (cs : List Constant) (h : CondHead) (t : Token) (gs : List Goal) → ((z : Bool) → Is d cs (Statement z) (h ∷ []) (t ∷ token.Mark semicolon ∷ [])) → Sound d cs goal.Statement t gs (ended h gs)
 sound_ended d cs h t gs i =
     use_mark d cs semicolon (goal.Yield h ∷ gs) (λ c ts. Meets d cs (goal.Statement ∷ gs) c (t ∷ ts)) (λ c us m.
     use_yield d cs h gs (λ c us. Meets d cs (goal.Statement ∷ gs) c (t ∷ token.Mark semicolon ∷ us)) (λ c us m. stands d cs gs (h ∷ []) c (t ∷ token.Mark semicolon ∷ []) us i m) c us m)
@@ -123,21 +123,21 @@ sound_block d cs gs =
     (stands d cs gs a c _ us (λ z. Is.block z a xs i) m)) c us m)
 
 -- a condition and a statement, and what stands then
-abbrev Within : Dialect → List Constant → List Goal → List ℕ → List Head → List Head → List Token → List Token → List Head → List Token → Type 0
+abbrev Within : Dialect → List Constant → List Goal → List ℕ → List CondHead → List CondHead → List Token → List Token → List CondHead → List Token → Type 0
 Within d cs gs word a b xs ys c us = Is d cs (Statement (begins_else us)) b ys → Meets d cs (goal.Statement ∷ gs) (a ++ (b ++ c)) (token.Word word ∷ token.Mark open_round ∷ (xs ++ token.Mark close_round ∷ (ys ++ us)))
 
-without_else : (d : Dialect) (cs : List Constant) (word : List ℕ) (gs : List Goal) (a b f c : List Head) (xs ys zs us : List Token) → keyword_named word ≡ Some keyword.If →
+without_else : (d : Dialect) (cs : List Constant) (word : List ℕ) (gs : List Goal) (a b f c : List CondHead) (xs ys zs us : List Token) → keyword_named word ≡ Some keyword.If →
     Is d cs (One expression) a xs → IsNoElse (begins_else us) f zs → Meets d cs gs c us → Within d cs gs word a b xs ys (f ++ c) (zs ++ us)
 without_else d cs word gs a b f c xs ys zs us e i n m j =
     let k = subst (λ (x : List Token). Is d cs (Statement (begins_else (x ++ us))) b ys) n.tokens j in
     let s = Is.when word a b xs ys e i (subst (λ (z : Bool). Is d cs (Statement z) b ys) n.unclosed k) in
     moved (Meets d cs (goal.Statement ∷ gs)) ((a ++ (b ++ head.If ∷ [])) ++ c) (a ++ (b ++ (f ++ c)))
     ((token.Word word ∷ token.Mark open_round ∷ (xs ++ token.Mark close_round ∷ ys)) ++ us) (token.Word word ∷ token.Mark open_round ∷ (xs ++ token.Mark close_round ∷ (ys ++ (zs ++ us))))
-    (append_assoc a (b ++ head.If ∷ []) c ∙ ap (λ (x : List Head). a ++ x) (append_assoc b (head.If ∷ []) c) ∙ ap (λ (x : List Head). a ++ (b ++ (x ++ c))) (sym n.tree))
+    (append_assoc a (b ++ head.If ∷ []) c ∙ ap (λ (x : List CondHead). a ++ x) (append_assoc b (head.If ∷ []) c) ∙ ap (λ (x : List CondHead). a ++ (b ++ (x ++ c))) (sym n.tree))
     (ap (λ (x : List Token). token.Word word ∷ token.Mark open_round ∷ x) (append_assoc xs (token.Mark close_round ∷ ys) us) ∙ ap (λ (x : List Token). token.Word word ∷ token.Mark open_round ∷ (xs ++ token.Mark close_round ∷ (ys ++ (x ++ us)))) (sym n.tokens))
     (Meets.first goal.Statement gs (a ++ (b ++ head.If ∷ [])) c _ us (subst (λ (z : Bool). Is d cs (Statement z) (a ++ (b ++ head.If ∷ [])) (token.Word word ∷ token.Mark open_round ∷ (xs ++ token.Mark close_round ∷ ys))) (sym n.unclosed) s) m)
 
-with_else : (d : Dialect) (cs : List Constant) (word : List ℕ) (gs : List Goal) (a b f c : List Head) (xs ys zs us : List Token) → keyword_named word ≡ Some keyword.If →
+with_else : (d : Dialect) (cs : List Constant) (word : List ℕ) (gs : List Goal) (a b f c : List CondHead) (xs ys zs us : List Token) → keyword_named word ≡ Some keyword.If →
     Is d cs (One expression) a xs → IsElse d cs (begins_else us) f zs → Meets d cs gs c us → Within d cs gs word a b xs ys (f ++ c) (zs ++ us)
 with_else d cs word gs a b f c xs ys zs us e i n m j =
     let k = subst (λ (x : List Token). Is d cs (Statement (begins_else (x ++ us))) b ys) n.tokens j in
@@ -145,12 +145,12 @@ with_else d cs word gs a b f c xs ys zs us e i n m j =
     let s = Is.when_else (begins_else us) word n.word a b n.statement xs ys n.text e n.named i l n.is in
     moved (Meets d cs (goal.Statement ∷ gs)) ((a ++ (b ++ (n.statement ++ head.IfElse ∷ []))) ++ c) (a ++ (b ++ (f ++ c)))
     ((token.Word word ∷ token.Mark open_round ∷ (xs ++ token.Mark close_round ∷ (ys ++ token.Word n.word ∷ n.text))) ++ us) (token.Word word ∷ token.Mark open_round ∷ (xs ++ token.Mark close_round ∷ (ys ++ (zs ++ us))))
-    (append_assoc a (b ++ (n.statement ++ head.IfElse ∷ [])) c ∙ ap (λ (x : List Head). a ++ x) (append_assoc b (n.statement ++ head.IfElse ∷ []) c) ∙ ap (λ (x : List Head). a ++ (b ++ (x ++ c))) (sym n.tree))
+    (append_assoc a (b ++ (n.statement ++ head.IfElse ∷ [])) c ∙ ap (λ (x : List CondHead). a ++ x) (append_assoc b (n.statement ++ head.IfElse ∷ []) c) ∙ ap (λ (x : List CondHead). a ++ (b ++ (x ++ c))) (sym n.tree))
     (ap (λ (x : List Token). token.Word word ∷ token.Mark open_round ∷ x) (append_assoc xs (token.Mark close_round ∷ (ys ++ token.Word n.word ∷ n.text)) us ∙ ap (λ (x : List Token). xs ++ token.Mark close_round ∷ x) (append_assoc ys (token.Word n.word ∷ n.text) us))
     ∙ ap (λ (x : List Token). token.Word word ∷ token.Mark open_round ∷ (xs ++ token.Mark close_round ∷ (ys ++ (x ++ us)))) (sym n.tokens))
     (Meets.first goal.Statement gs (a ++ (b ++ (n.statement ++ head.IfElse ∷ []))) c _ us s m)
 
-either_way : (d : Dialect) (cs : List Constant) (word : List ℕ) (gs : List Goal) (a b f c : List Head) (xs ys zs us : List Token) → keyword_named word ≡ Some keyword.If →
+either_way : (d : Dialect) (cs : List Constant) (word : List ℕ) (gs : List Goal) (a b f c : List CondHead) (xs ys zs us : List Token) → keyword_named word ≡ Some keyword.If →
     Is d cs (One expression) a xs → IsNoElse (begins_else us) f zs ⊎ IsElse d cs (begins_else us) f zs → Meets d cs gs c us → Within d cs gs word a b xs ys (f ++ c) (zs ++ us)
 either_way d cs word gs a b f c xs ys zs us e i (inl n) m = without_else d cs word gs a b f c xs ys zs us e i n m
 either_way d cs word gs a b f c xs ys zs us e i (inr n) m = with_else d cs word gs a b f c xs ys zs us e i n m
@@ -183,13 +183,13 @@ sound_statement d cs (token.Operator op) gs = tt
 sound_statement d cs token.Bad gs = tt
 
 -- one statement, and those behind it
-more_statements : (d : Dialect) (cs : List Constant) (gs : List Goal) (c : List Head) (ts : List Token) → Meets d cs (goal.Statement ∷ goal.Statements ∷ goal.Yield head.Then ∷ gs) c ts → Meets d cs (goal.Statements ∷ gs) c ts
+more_statements : (d : Dialect) (cs : List Constant) (gs : List Goal) (c : List CondHead) (ts : List Token) → Meets d cs (goal.Statement ∷ goal.Statements ∷ goal.Yield head.Then ∷ gs) c ts → Meets d cs (goal.Statements ∷ gs) c ts
 more_statements d cs gs =
     use_first d cs goal.Statement (goal.Statements ∷ goal.Yield head.Then ∷ gs) (Meets d cs (goal.Statements ∷ gs)) (λ a c xs us i m.
     use_first d cs goal.Statements (goal.Yield head.Then ∷ gs) (λ c us. Meets d cs (goal.Statements ∷ gs) (a ++ c) (xs ++ us)) (λ b c ys vs j m.
     use_yield d cs head.Then gs (λ c vs. Meets d cs (goal.Statements ∷ gs) (a ++ (b ++ c)) (xs ++ (ys ++ vs))) (λ c vs m.
     moved (Meets d cs (goal.Statements ∷ gs)) ((a ++ (b ++ head.Then ∷ [])) ++ c) (a ++ (b ++ head.Then ∷ c)) ((xs ++ ys) ++ vs) (xs ++ (ys ++ vs))
-    (append_assoc a (b ++ head.Then ∷ []) c ∙ ap (λ (x : List Head). a ++ x) (append_assoc b (head.Then ∷ []) c)) (append_assoc xs ys vs)
+    (append_assoc a (b ++ head.Then ∷ []) c ∙ ap (λ (x : List CondHead). a ++ x) (append_assoc b (head.Then ∷ []) c)) (append_assoc xs ys vs)
     (Meets.first goal.Statements gs (a ++ (b ++ head.Then ∷ [])) c (xs ++ ys) vs (Is.then a b xs ys (any_statement d cs (begins_else us) a xs i) j) m)) c vs m) c us m)
 
 sound_more_statements : (d : Dialect) (cs : List Constant) (t : Token) (gs : List Goal) (o : Option (List Goal)) → Sound d cs goal.Statement t (goal.Statements ∷ goal.Yield head.Then ∷ gs) o → Sound d cs goal.Statements t gs o

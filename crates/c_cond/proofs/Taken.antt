@@ -4,8 +4,8 @@ use Rattle.std.specs.Prelude.{option_map, option_and_then}
 use Rattle.std.specs.Option.{is_some}
 use Rattle.rtx_tree.specs.declared.constants.Constant.{Constant}
 use Rattle.c_words.specs.declared.head.Unary.{Unary}
-use Rattle.c_words.specs.declared.head.Head.{Head}
-use Rattle.c_words.specs.declared.head.Head.TheVariants as head
+use Rattle.c_words.specs.declared.head.CondHead.{CondHead}
+use Rattle.c_words.specs.declared.head.CondHead.TheVariants as head
 use Rattle.c_words.specs.declared.head.Call.TheVariants as call
 use Rattle.c_words.specs.declared.keyword.Keyword.{Keyword}
 use Rattle.c_words.specs.declared.keyword.Keyword.TheVariants as keyword
@@ -156,19 +156,19 @@ same_takes d cs goal.Condition t gs hs = same_unary d cs 0 t gs hs (unary_of t)
 
 -- ---- the parser goes on
 
-step_some : (code : List Head) (o : Option (List Goal)) (h : Option (List Head)) (rest : List Head → Option Parser) (b : Bool) → ((heads : List Head) → is_some (rest heads) ≡ b) →
+step_some : (code : List CondHead) (o : Option (List Goal)) (h : Option (List CondHead)) (rest : List CondHead → Option Parser) (b : Bool) → ((heads : List CondHead) → is_some (rest heads) ≡ b) →
     is_some (taken_or code o (option_and_then rest h)) ≡ (is_some o || (is_some h && b))
 step_some code (Some new) h rest b e = refl
 step_some code None (Some heads) rest b e = e heads
 step_some code None None rest b e = refl
 
-pub next_some : (d : Dialect) (cs : List Constant) (t : Token) (code : List Head) (gs : List Goal) → is_some (next d cs t code gs) ≡ is_taken d cs t gs
+pub next_some : (d : Dialect) (cs : List Constant) (t : Token) (code : List CondHead) (gs : List Goal) → is_some (next d cs t code gs) ≡ is_taken d cs t gs
 next_some d cs t code [] = refl
 next_some d cs t code (g ∷ gs) =
     step_some code (takes d cs g t gs) (passed g) (λ heads. next d cs t (code ++ heads) gs) (is_taken d cs t gs) (λ heads. next_some d cs t (code ++ heads) gs)
     ∙ ap (λ (b : Bool). b || (is_some (passed g) && is_taken d cs t gs)) (same_takes d cs g t gs [])
 
-pub goes : (d : Dialect) (cs : List Constant) (t : Token) (code : List Head) (gs : List Goal) → is_taken d cs t gs ≡ true → (p : Parser) × (next d cs t code gs ≡ Some p)
+pub goes : (d : Dialect) (cs : List Constant) (t : Token) (code : List CondHead) (gs : List Goal) → is_taken d cs t gs ≡ true → (p : Parser) × (next d cs t code gs ≡ Some p)
 goes d cs t code gs e = by_answer (next d cs t code gs) refl
   where
     apart : false ≡ true → ⊥
@@ -178,7 +178,7 @@ goes d cs t code gs e = by_answer (next d cs t code gs) refl
     by_answer (Some p) f = (p, f)
     by_answer None f = absurd (apart (ap is_some (sym f) ∙ next_some d cs t code gs ∙ e))
 
-pub stops : (d : Dialect) (cs : List Constant) (t : Token) (code : List Head) (gs : List Goal) → is_taken d cs t gs ≡ false → next d cs t code gs ≡ None
+pub stops : (d : Dialect) (cs : List Constant) (t : Token) (code : List CondHead) (gs : List Goal) → is_taken d cs t gs ≡ false → next d cs t code gs ≡ None
 stops d cs t code gs e = by_answer (next d cs t code gs) refl
   where
     apart : true ≡ false → ⊥

@@ -16,10 +16,10 @@ use Rattle.c_words.specs.declared.head.Unary.{Unary}
 use Rattle.c_words.specs.declared.head.Unary.TheVariants as unary
 use Rattle.c_words.specs.declared.head.Call.{Call}
 use Rattle.c_words.specs.declared.head.Call.TheVariants as call
-use Rattle.c_words.specs.declared.head.Head.{Head}
+use Rattle.c_words.specs.declared.head.CondHead.{CondHead}
 use Rattle.c_cond.specs.declared.tree.Tree.{Tree}
 use Rattle.c_cond.specs.Tree.{node, leaf}
-use Rattle.c_words.specs.declared.head.Head.TheVariants as head
+use Rattle.c_words.specs.declared.head.CondHead.TheVariants as head
 use Rattle.c_words.specs.declared.keyword.Keyword.TheVariants as keyword
 use Rattle.c_words.specs.declared.atom.Atom.TheVariants as atom
 use Rattle.c_words.specs.declared.atom.Dialect.{Dialect}
@@ -162,7 +162,7 @@ comparison_of (token.Operator binary.Unequal) = Some false
 comparison_of _ = None
 
 -- the comparison of an operand's code or mode with the one that a word names
-abbrev pub comparison_with : Property → Bool → List ℕ → Option Head
+abbrev pub comparison_with : Property → Bool → List ℕ → Option CondHead
 comparison_with property.Code equal word = option_map (λ c. head.CodeIs c equal) (code_named word)
 comparison_with property.Mode equal word = option_map (λ m. head.ModeIs m equal) (mode_named word)
 
@@ -193,12 +193,14 @@ pub data Sort : Type 0 where
 -- parentheses that binds less tightly than p.
 pub data Is (d : Dialect) (constants : List Constant) : Sort → List Tree → List Token → Type 0 where
   number : (p n : ℕ) → Is d constants (One (part.Expression p)) (leaf (head.Number (signed W64 n)) ∷ []) (token.Number n ∷ [])
-  fact : (p : ℕ) (word : List ℕ) (h : Head) → atom_of d constants word ≡ atom.Leaf h → Is d constants (One (part.Expression p)) (leaf h ∷ []) (token.Word word ∷ [])
+  fact : (p : ℕ) (word : List ℕ) (h : CondHead) → atom_of d constants word ≡ atom.Leaf h →
+      Is d constants (One (part.Expression p)) (leaf h ∷ []) (token.Word word ∷ [])
   asked : (p : ℕ) (word : List ℕ) (c : Call) (parts : List Tree) (ts : List Token) → atom_of d constants word ≡ atom.Call c → Is d constants (Parts (signature_of c)) parts ts →
       Is d constants (One (part.Expression p)) (node (head.Call c) parts ∷ []) (token.Word word ∷ token.Mark open_round ∷ (ts ++ token.Mark close_round ∷ []))
   predicate : (p : ℕ) (word : List ℕ) (parts : List Tree) (ts : List Token) → atom_of d constants word ≡ atom.Predicate → Is d constants (Parts predicate_parts) parts ts →
       Is d constants (One (part.Expression p)) (node (head.Predicate word) parts ∷ []) (token.Word word ∷ token.Mark open_round ∷ (ts ++ token.Mark close_round ∷ []))
-  compare : (p : ℕ) (word name : List ℕ) (property : Property) (sign : Token) (equal : Bool) (h : Head) (operand : Tree) (ts : List Token) →
+  compare : (p : ℕ) (word name : List ℕ) (property : Property) (sign : Token) (equal : Bool)
+      (h : CondHead) (operand : Tree) (ts : List Token) →
       p ≤ equality → atom_of d constants word ≡ atom.Compare property → Is d constants (One part.Operand) (operand ∷ []) ts →
       comparison_of sign ≡ Some equal → comparison_with property equal name ≡ Some h →
       Is d constants (One (part.Expression p)) (node h (operand ∷ []) ∷ []) (token.Word word ∷ token.Mark open_round ∷ (ts ++ token.Mark close_round ∷ sign ∷ token.Word name ∷ []))

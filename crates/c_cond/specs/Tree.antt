@@ -1,8 +1,8 @@
 -- Conditions and statements as trees, and their heads in a row.
 use Rattle.std.specs.Prelude.{◌≡◌, ℕ, List, [], ◌∷◌, ◌++◌, take, drop, reverse}
 use Rattle.std.specs.List.{flat_map}
-use Rattle.c_words.specs.declared.head.Head.{Head}
-use Rattle.c_words.specs.declared.head.Head.TheVariants as head
+use Rattle.c_words.specs.declared.head.CondHead.{CondHead}
+use Rattle.c_words.specs.declared.head.CondHead.TheVariants as head
 use Rattle.c_words.specs.declared.head.Binary.TheVariants as binary
 use Rattle.c_words.specs.declared.head.Call.{Call}
 use Rattle.c_words.specs.declared.head.Call.TheVariants as call
@@ -11,21 +11,21 @@ use Rattle.c_cond.specs.declared.tree.Tree.TheOpen.{Tree-F}
 use Rattle.c_cond.specs.declared.tree.Tree.TheFolds.{fold-Tree}
 
 -- a head with its parts
-abbrev pub node : Head → List Tree → Tree
+abbrev pub node : CondHead → List Tree → Tree
 node h parts = roll-Tree (record { head = h; parts = parts })
 
 -- a head without parts
-abbrev pub leaf : Head → Tree
+abbrev pub leaf : CondHead → Tree
 leaf h = node h []
 
-abbrev pub heads_step : Tree-F (List Head) → List Head
+abbrev pub heads_step : Tree-F (List CondHead) → List CondHead
 heads_step x = flat_map (λ heads. heads) x.parts ++ x.head ∷ []
 
 -- the heads of a tree, each behind its parts
-abbrev pub heads_of : Tree → List Head
-heads_of = fold-Tree (List Head) heads_step
+abbrev pub heads_of : Tree → List CondHead
+heads_of = fold-Tree (List CondHead) heads_step
 
-abbrev pub heads_of_all : List Tree → List Head
+abbrev pub heads_of_all : List Tree → List CondHead
 heads_of_all trees = flat_map heads_of trees
 
 -- how many parts a call has
@@ -41,7 +41,7 @@ call_size call.EmitMove = 2
 call_size _ = 1
 
 -- how many parts a head has
-abbrev pub size_of : Head → ℕ
+abbrev pub size_of : CondHead → ℕ
 size_of (head.CodeIs c equal) = 1
 size_of (head.ModeIs m equal) = 1
 size_of (head.Unary u) = 1
@@ -56,7 +56,7 @@ size_of head.Then = 2
 size_of _ = 0
 
 -- The trees that heads are, each behind its parts, the last tree first, where these trees stood before.
-abbrev pub grown : List Tree → List Head → List Tree
+abbrev pub grown : List Tree → List CondHead → List Tree
 grown trees [] = trees
 grown trees (h ∷ hs) = grown (node h (reverse (take (size_of h) trees)) ∷ drop (size_of h) trees) hs
 
@@ -65,13 +65,13 @@ first_or_nothing [] = leaf head.Nothing
 first_or_nothing (t ∷ ts) = t
 
 -- the tree whose heads these are
-abbrev pub tree_of : List Head → Tree
+abbrev pub tree_of : List CondHead → Tree
 tree_of heads = first_or_nothing (grown [] heads)
 
 -- Heads are those of one whole tree: it has them, and it grows from them whatever stands before and behind.
-pub record IsWhole (heads : List Head) : Type 0 where
+pub record IsWhole (heads : List CondHead) : Type 0 where
   pub heads_are : heads_of (tree_of heads) ≡ heads
-  pub grows : (before : List Tree) (more : List Head) →
+  pub grows : (before : List Tree) (more : List CondHead) →
       grown before (heads ++ more) ≡ grown (tree_of heads ∷ before) more
 
 -- both conditions hold: C's &&

@@ -4,7 +4,7 @@ ghost use Rattle.std.specs.Option.{is_some};
 ghost use Rattle.c_cond.specs.machine.Steps.{passed};
 
 use crate::part::Part;
-use c_words::{Head, Property};
+use c_words::{CondHead, Property};
 use plain_data::Memory;
 use std::alloc::Global;
 use std::marker::Model;
@@ -15,7 +15,7 @@ pub enum Goal {
     /// This byte must come.
     Mark(u8),
     /// Nothing: all parts of this head have come.
-    Yield(Head),
+    Yield(CondHead),
     /// Such a part must come.
     Part(Part),
     /// An expression may go on by an operator of these levels.

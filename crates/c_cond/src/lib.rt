@@ -17,6 +17,6 @@ mod part;
 mod takes;
 mod tree;
 
-pub use c_words::{Binary, Call, Head, Unary};
+pub use c_words::{Binary, Call, CondHead, Unary};
 pub use parse::{Cond, CondRefusal, Prep, parse_cond, parse_prep, parse_test};
 pub use tree::Tree;

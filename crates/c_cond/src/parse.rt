@@ -17,7 +17,7 @@ ghost use Rattle.c_cond.specs.machine.Steps.{Gives};
 use crate::front::reach;
 use crate::goal::Goal;
 use crate::parser::{Parser, StepError};
-use c_words::{Binary, Dialect, Head, Token, tokens_in};
+use c_words::{Binary, CondHead, Dialect, Token, tokens_in};
 use plain_data::{Items, Memory};
 use rtx_tree::{Constant, Constants};
 use std::alloc::Global;
@@ -28,7 +28,7 @@ use thiserror::Error;
 /// that no depth of nesting takes more than memory.
 #[derive(Drop)]
 pub struct Cond {
-    heads: Items<Head>,
+    heads: Items<CondHead>,
 }
 
 impl Model for Cond {
@@ -46,7 +46,7 @@ impl Model for Cond {
 }
 
 /// The same heads once more.
-fn heads_copy(alloc: Global, heads: &[Head]) -> Result<Items<Head>, Memory>
+fn heads_copy(alloc: Global, heads: &[CondHead]) -> Result<Items<CondHead>, Memory>
     ensures { IfOk result (λ copy. copy ≡ heads.now) }
 {
     let mut copy = Items::new(alloc);
@@ -66,7 +66,7 @@ impl Cond {
     }
 
     /// The heads of the tree, each behind its parts.
-    pub fn heads(&self) -> &[Head]
+    pub fn heads(&self) -> &[CondHead]
         ensures heads { result.now ≡ heads_of self.now }
         ensures tree { tree_of result.now ≡ self.now }
     {
@@ -81,7 +81,7 @@ impl Cond {
     {
         let mut heads = self.heads.into_vec();
         heads.append(&mut other.heads.into_vec())?;
-        heads.push(Head::Binary(Binary::And))?;
+        heads.push(CondHead::Binary(Binary::And))?;
         Ok(Cond {
             heads: Items::from_vec(heads),
         })
@@ -92,7 +92,7 @@ impl Cond {
 /// its parts.
 #[derive(Drop)]
 pub struct Prep {
-    heads: Items<Head>,
+    heads: Items<CondHead>,
 }
 
 impl Model for Prep {
@@ -112,7 +112,7 @@ impl Model for Prep {
 
 impl Prep {
     /// The heads of the tree, each behind its parts.
-    pub fn heads(&self) -> &[Head]
+    pub fn heads(&self) -> &[CondHead]
         ensures heads { result.now ≡ heads_of self.now }
         ensures tree { tree_of result.now ≡ self.now }
     {
@@ -140,7 +140,7 @@ fn parse_tokens(
     constants: &[Constant],
     goal: Goal,
     tokens: &[Token],
-) -> Result<Items<Head>, StepError>
+) -> Result<Items<CondHead>, StepError>
     ensures { Gives result (spec.result_of dialect constants.now (spec.at [] (goal ∷ [])) tokens.now) }
 {
     let mut parser = Parser::new(alloc, goal)?;
@@ -157,7 +157,7 @@ fn parse(
     constants: &Constants,
     goal: Goal,
     text: &[u8],
-) -> Result<Items<Head>, StepError>
+) -> Result<Items<CondHead>, StepError>
     ensures { Gives result (spec.result_of dialect constants.now (spec.at [] (goal ∷ [])) (tokens_in text.now)) }
 {
     let tokens = tokens_in(alloc, text)?;

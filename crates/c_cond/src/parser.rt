@@ -4,7 +4,7 @@ ghost use Rattle.c_cond.specs.machine.Steps as spec;
 ghost use Rattle.c_cond.specs.machine.Steps.{Steps, Gives};
 
 use crate::goal::{Goal, Goals};
-use c_words::{Dialect, Head, Token};
+use c_words::{CondHead, Dialect, Token};
 use plain_data::{Items, Memory};
 use rtx_tree::Constant;
 use std::alloc::Global;
@@ -33,7 +33,7 @@ impl From<Memory> for StepError {
 #[derive(Drop)]
 pub struct Parser {
     /// The tree so far: each part before the whole that it belongs to.
-    pub code: Items<Head>,
+    pub code: Items<CondHead>,
     pub goals: Goals,
 }
 
@@ -58,9 +58,9 @@ impl Parser {
         match goal {
             Goal::Yield(head) => self.code.push(head)?,
             Goal::More { from: _, to: _ } => {}
-            Goal::Else => self.code.push(Head::If)?,
-            Goal::Statements => self.code.push(Head::Nothing)?,
-            Goal::Condition => self.code.push(Head::Number(1))?,
+            Goal::Else => self.code.push(CondHead::If)?,
+            Goal::Statements => self.code.push(CondHead::Nothing)?,
+            Goal::Condition => self.code.push(CondHead::Number(1))?,
             _ => return Ok(false),
         }
         Ok(true)
@@ -90,7 +90,7 @@ impl Parser {
     }
 
     /// The tree, where the text ends here.
-    pub fn finish(mut self) -> Result<Items<Head>, StepError>
+    pub fn finish(mut self) -> Result<Items<CondHead>, StepError>
         ensures { Gives result (spec.finish self.code self.goals) }
     {
         loop {

@@ -13,7 +13,7 @@ ghost use Rattle.std.specs.Option.{is_some};
 use crate::goal::{Goal, Goals};
 use crate::part::{Part, Signature, is_maker, level, signature_of, unary_of};
 use c_words::{
-    Atom, Binary, Call, Dialect, Head, Keyword, Property, Token, Unary, atom_of, code_named,
+    Atom, Binary, Call, CondHead, Dialect, Keyword, Property, Token, Unary, atom_of, code_named,
     mode_named,
 };
 use plain_data::Memory;
@@ -52,7 +52,7 @@ impl Goals {
         Ok(())
     }
 
-    fn push_call(&mut self, parts: Signature, head: Head) -> Result<(), Memory>
+    fn push_call(&mut self, parts: Signature, head: CondHead) -> Result<(), Memory>
         ensures { OnOk result (self.new ≡ spec.call_then parts head self.old) }
     {
         self.push(Goal::Yield(head))?;
@@ -89,7 +89,7 @@ impl Goals {
             }
             Atom::Call(call) => {
                 self.push_more(from)?;
-                self.push_call(signature_of(call), Head::Call(call))?;
+                self.push_call(signature_of(call), CondHead::Call(call))?;
                 Ok(true)
             }
             Atom::Compare(property) => {
@@ -104,7 +104,7 @@ impl Goals {
                 self.push_more(from)?;
                 self.push_call(
                     Signature::Two(Part::Operand, Part::AnyMode),
-                    Head::Predicate(name),
+                    CondHead::Predicate(name),
                 )?;
                 Ok(true)
             }
@@ -125,7 +125,7 @@ impl Goals {
         match token {
             Token::Number(number) => {
                 self.push_more(from)?;
-                self.push(Goal::Yield(Head::Number(wrapped(*number))))?;
+                self.push(Goal::Yield(CondHead::Number(wrapped(*number))))?;
                 Ok(true)
             }
             Token::Word(word) => {
@@ -156,7 +156,7 @@ impl Goals {
         match unary_of(token) {
             Some(operator) => {
                 self.push_more(from)?;
-                self.push(Goal::Yield(Head::Unary(operator)))?;
+                self.push(Goal::Yield(CondHead::Unary(operator)))?;
                 self.push(Goal::Part(Part::Expression { level: UNARY }))?;
                 Ok(true)
             }
@@ -172,7 +172,7 @@ impl Goals {
             return Ok(false);
         }
         self.push(Goal::More { from, to: level })?;
-        self.push(Goal::Yield(Head::Binary(operator)))?;
+        self.push(Goal::Yield(CondHead::Binary(operator)))?;
         self.push(Goal::Part(Part::Expression { level: level + 1 }))?;
         Ok(true)
     }
@@ -183,7 +183,7 @@ impl Goals {
         if from > 0 || to < 1 {
             return Ok(false);
         }
-        self.push(Goal::Yield(Head::Choose))?;
+        self.push(Goal::Yield(CondHead::Choose))?;
         self.push(Goal::Part(EXPRESSION))?;
         self.push(Goal::Mark(b':'))?;
         self.push(Goal::Part(EXPRESSION))?;
@@ -220,7 +220,7 @@ impl Goals {
         match dialect {
             Dialect::Condition => Ok(false),
             Dialect::Test => {
-                self.push(Goal::Yield(Head::Operand(0)))?;
+                self.push(Goal::Yield(CondHead::Operand(0)))?;
                 Ok(true)
             }
         }
@@ -251,7 +251,7 @@ impl Goals {
         if !is_maker(call) {
             return Ok(false);
         }
-        self.push_call(signature_of(call), Head::Call(call))?;
+        self.push_call(signature_of(call), CondHead::Call(call))?;
         Ok(true)
     }
 
@@ -272,7 +272,7 @@ impl Goals {
     {
         match mode {
             Some(mode) => {
-                self.push(Goal::Yield(Head::Mode(mode)))?;
+                self.push(Goal::Yield(CondHead::Mode(mode)))?;
                 Ok(true)
             }
             None => Ok(false),
@@ -302,7 +302,7 @@ impl Goals {
     {
         match token {
             Token::Number(number) => {
-                self.push(Goal::Yield(Head::Window(*number)))?;
+                self.push(Goal::Yield(CondHead::Window(*number)))?;
                 Ok(true)
             }
             _ => Ok(false),
@@ -340,7 +340,7 @@ impl Goals {
         Ok(true)
     }
 
-    fn ended(&mut self, head: Head) -> Result<bool, Memory>
+    fn ended(&mut self, head: CondHead) -> Result<bool, Memory>
         ensures { Takes result self.old self.new (spec.ended head self.old) }
     {
         self.push(Goal::Yield(head))?;
@@ -358,11 +358,11 @@ impl Goals {
                 Ok(true)
             }
             Keyword::If => self.condition_of_if(),
-            Keyword::Done => self.ended(Head::Done),
-            Keyword::Fail => self.ended(Head::Fail),
+            Keyword::Done => self.ended(CondHead::Done),
+            Keyword::Fail => self.ended(CondHead::Fail),
             Keyword::Call(Call::EmitMove) => {
                 self.push(Goal::Mark(b';'))?;
-                self.push_call(signature_of(Call::EmitMove), Head::Call(Call::EmitMove))?;
+                self.push_call(signature_of(Call::EmitMove), CondHead::Call(Call::EmitMove))?;
                 Ok(true)
             }
             _ => Ok(false),
@@ -420,16 +420,16 @@ fn comparison_with(
     property: Property,
     equal: bool,
     word: &[u8],
-) -> Result<Option<Head>, Memory>
+) -> Result<Option<CondHead>, Memory>
     ensures { IfOk result (λ head. head ≡ comparison_with property equal word.now) }
 {
     match property {
         Property::Code => match code_named(alloc, word)? {
-            Some(code) => Ok(Some(Head::CodeIs { code, equal })),
+            Some(code) => Ok(Some(CondHead::CodeIs { code, equal })),
             None => Ok(None),
         },
         Property::Mode => match mode_named(word) {
-            Some(mode) => Ok(Some(Head::ModeIs { mode, equal })),
+            Some(mode) => Ok(Some(CondHead::ModeIs { mode, equal })),
             None => Ok(None),
         },
     }
@@ -442,7 +442,7 @@ impl Goals {
         match token {
             Token::Word(word) => match Keyword::named(word.bytes()) {
                 Some(Keyword::Else) => {
-                    self.push(Goal::Yield(Head::IfElse))?;
+                    self.push(Goal::Yield(CondHead::IfElse))?;
                     self.push(Goal::Statement)?;
                     Ok(true)
                 }
@@ -455,7 +455,7 @@ impl Goals {
     fn statements(&mut self, token: &Token) -> Result<bool, Memory>
         ensures { Takes result self.old self.new (spec.takes_statements token.now self.old) }
     {
-        self.push(Goal::Yield(Head::Then))?;
+        self.push(Goal::Yield(CondHead::Then))?;
         self.push(Goal::Statements)?;
         if self.statement(token)? {
             return Ok(true);
@@ -504,7 +504,7 @@ impl Goals {
         match token {
             Token::Number(number) if *number < 4_294_967_296 => {
                 self.push(Goal::Mark(b']'))?;
-                self.push(Goal::Yield(Head::Operand(*number as u32)))?;
+                self.push(Goal::Yield(CondHead::Operand(*number as u32)))?;
                 Ok(true)
             }
             _ => Ok(false),
@@ -516,7 +516,7 @@ impl Goals {
     {
         match token {
             Token::Number(number) if *number < 4_294_967_296 => {
-                self.push(Goal::Yield(Head::Assign(*number as u32)))?;
+                self.push(Goal::Yield(CondHead::Assign(*number as u32)))?;
                 self.push(Goal::Mark(b';'))?;
                 self.push(Goal::Part(Part::Value))?;
                 self.push(Goal::Mark(b'='))?;

@@ -1,5 +1,5 @@
 //! Conditions and statements as trees.
-use c_words::Head;
+use c_words::CondHead;
 use plain_data::Items;
 
 /// A condition or statements as contracts see them: a head with its parts. The code keeps no such tree,
@@ -7,7 +7,7 @@ use plain_data::Items;
 #[derive(Drop)]
 pub struct Tree {
     /// What it is.
-    pub head: Head,
+    pub head: CondHead,
     /// What it is made of.
     pub parts: Items<Tree>,
 }

@@ -3,7 +3,7 @@ use Rattle.std.proofs.Common.{◌≡◌, ℕ, ◌+◌, ◌-◌, ◌<◌, ◌≤�
 use Rattle.std.specs.Prelude.{reverse}
 use Rattle.std.proofs.lemmas.Bool.{cases_lt}
 use Rattle.std.proofs.lemmas.List.{drop-drop}
-use Rattle.c_words.specs.declared.head.Head.{Head}
+use Rattle.c_words.specs.declared.head.CondHead.{CondHead}
 use Rattle.c_cond.specs.declared.tree.Tree.{Tree}
 use Rattle.c_cond.specs.declared.tree.Tree.TheFolds.{fold-roll-Tree}
 use Rattle.c_cond.specs.Tree.{size_of, first_or_nothing}
@@ -15,14 +15,14 @@ use Rattle.c_eval.proofs.Stacks.{with_head, trees_more, count_more, some_trees}
 use Rattle.c_eval.proofs.Lists.{readings_of, reads_one_more, map_reverse, takes_all}
 
 -- The last parts of the head at this place, from `start` on, are so many, and are read so.
-pub record Gathers (read : Head → List Reading → Reading) (heads : List Head) (at size start n : ℕ) (parts : List Reading) : Type 0 where
+pub record Gathers (read : CondHead → List Reading → Reading) (heads : List CondHead) (at size start n : ℕ) (parts : List Reading) : Type 0 where
   pub few : n ≤ size
   pub before : start ≤ at
   pub trees : trees_at heads start ≡ drop n (trees_at heads at)
   pub reads : parts ≡ readings_of read n (trees_at heads at)
   pub inside : MoreUpTo heads start at
 
-pub gathers_none : (read : Head → List Reading → Reading) (heads : List Head) (at size : ℕ) → Gathers read heads at size at 0 []
+pub gathers_none : (read : CondHead → List Reading → Reading) (heads : List CondHead) (at size : ℕ) → Gathers read heads at size at 0 []
 gathers_none read heads at size = record { few = omega arith; before = omega arith; trees = refl; reads = refl; inside = λ x past within. absurd (omega arith) }
 
 -- the first tree, and the others
@@ -30,7 +30,7 @@ opened : (trees : List Tree) → 0 < length trees → trees ≡ first_or_nothing
 opened [] some = absurd (omega arith)
 opened (t ∷ ts) some = refl
 
-pub gathers_more : (read : Head → List Reading → Reading) (heads : List Head) (at size n : ℕ) (parts : List Reading) (part : Part) → at < length heads → n < size → Gathers read heads at size part.end n parts → IsPart read heads part → Gathers read heads at size part.start (n + 1) (part.reading ∷ parts)
+pub gathers_more : (read : CondHead → List Reading → Reading) (heads : List CondHead) (at size n : ℕ) (parts : List Reading) (part : Part) → at < length heads → n < size → Gathers read heads at size part.end n parts → IsPart read heads part → Gathers read heads at size part.start (n + 1) (part.reading ∷ parts)
 gathers_more read heads at size n parts part within more gathers is = record {
   few = omega arith;
   before = omega (arith, is.some, gathers.before);
@@ -62,7 +62,7 @@ gathers_more read heads at size n parts part within more gathers is = record {
     by_place x past upto (inr inside) = is.starts.inside x past inside
 
 -- another part ends where the parts start
-pub gathers_ends : (read : Head → List Reading → Reading) (heads : List Head) (at start n : ℕ) (parts : List Reading) (h : Head) → at < length heads → h ≡ get_or heads at h → 0 < start → n < size_of h → Gathers read heads at (size_of h) start n parts → EndsPart heads at start
+pub gathers_ends : (read : CondHead → List Reading → Reading) (heads : List CondHead) (at start n : ℕ) (parts : List Reading) (h : CondHead) → at < length heads → h ≡ get_or heads at h → 0 < start → n < size_of h → Gathers read heads at (size_of h) start n parts → EndsPart heads at start
 gathers_ends read heads at start n parts h within is some more gathers = record {
   some = some;
   before = gathers.before;
@@ -71,7 +71,7 @@ gathers_ends read heads at start n parts h within is some more gathers = record 
 }
 
 -- where no part is left, the head is read with all
-pub gathers_all : (read : Head → List Reading → Reading) (heads : List Head) (at start n : ℕ) (parts : List Reading) (h : Head) → at < length heads → h ≡ get_or heads at h → (n ≡ size_of h) ⊎ (start ≡ 0) → Gathers read heads at (size_of h) start n parts → IsPart read heads (record { start = start; end = at + 1; reading = read h parts })
+pub gathers_all : (read : CondHead → List Reading → Reading) (heads : List CondHead) (at start n : ℕ) (parts : List Reading) (h : CondHead) → at < length heads → h ≡ get_or heads at h → (n ≡ size_of h) ⊎ (start ≡ 0) → Gathers read heads at (size_of h) start n parts → IsPart read heads (record { start = start; end = at + 1; reading = read h parts })
 gathers_all read heads at start n parts h within is over gathers = record {
   within = omega arith;
   some = omega (arith, gathers.before);

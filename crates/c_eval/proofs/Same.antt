@@ -14,7 +14,7 @@ use Rattle.rtx_tree.specs.declared.tree.Rtx.{Rtx, roll-Rtx}
 use Rattle.rtx_tree.specs.declared.tree.Rtx.TheOpen.{Rtx-F}
 use Rattle.rtx_tree.specs.declared.tree.Rtx.TheFolds.{fold-roll-Rtx, ind-Rtx}
 use Rattle.rtx_tree.specs.Code.{code_name, mode_name}
-use Rattle.rtx_tree.specs.Tree.{Head, head_of, kids_of}
+use Rattle.rtx_tree.specs.Tree.{RtxHead, head_of, kids_of}
 use Rattle.rtx_tree.proofs.Trees.{same_parts, head_of-tree, kids_of-tree}
 use Rattle.c_words.specs.Words.{code_of_name}
 use Rattle.c_words.proofs.Codes.{named_is}
@@ -74,16 +74,16 @@ Whole x = same_tree x x ≡ true
 abbrev compared_kids : Rtx-F Rtx → Rtx-F (Rtx → Bool)
 compared_kids x = record { code = x.code; mode = x.mode; number = x.number; name = x.name; kids = map same_tree x.kids }
 
-abbrev layer_head : Rtx-F Rtx → Head
+abbrev layer_head : Rtx-F Rtx → RtxHead
 layer_head x = record { code = x.code; mode = x.mode; number = x.number; name = x.name }
 
 same_out : (x : Rtx-F Rtx) (y : Rtx) → same_tree (roll-Rtx x) y ≡ same_step (compared_kids x) y
 same_out x y = ap (λ (test : Rtx → Bool). test y) (fold-roll-Rtx (Rtx → Bool) same_step x)
 
-abbrev head_with : Code → Mode → ℤ → List ℕ → Head
+abbrev head_with : Code → Mode → ℤ → List ℕ → RtxHead
 head_with c m number name = record { code = c; mode = m; number = number; name = name }
 
-same_heads : (h i : Head) → h.code ≡ i.code → h.mode ≡ i.mode → h.number ≡ i.number → h.name ≡ i.name → h ≡ i
+same_heads : (h i : RtxHead) → h.code ≡ i.code → h.mode ≡ i.mode → h.number ≡ i.number → h.name ≡ i.name → h ≡ i
 same_heads h i c m number name =
     ap (λ (x : Code). head_with x h.mode h.number h.name) c
     ∙ (ap (λ (x : Mode). head_with i.code x h.number h.name) m
@@ -122,10 +122,10 @@ whole_layer x kids =
     let h : head_of (roll-Rtx x) ≡ layer_head x = head_of-tree (layer_head x) x.kids in
     let ks : kids_of (roll-Rtx x) ≡ x.kids = kids_of-tree (layer_head x) x.kids in
     same_out x (roll-Rtx x)
-    ∙ and_from _ _ ((code_decides x.code (head_of (roll-Rtx x)).code).1 (sym (ap (λ (i : Head). i.code) h)))
-    (and_from _ _ ((mode_decides x.mode (head_of (roll-Rtx x)).mode).1 (sym (ap (λ (i : Head). i.mode) h)))
-    (and_from _ _ ((Decides-int_eq x.number (head_of (roll-Rtx x)).number).1 (sym (ap (λ (i : Head). i.number) h)))
-    (and_from _ _ ((bytes_eq-Decides x.name (head_of (roll-Rtx x)).name).1 (sym (ap (λ (i : Head). i.name) h)))
+    ∙ and_from _ _ ((code_decides x.code (head_of (roll-Rtx x)).code).1 (sym (ap (λ (i : RtxHead). i.code) h)))
+    (and_from _ _ ((mode_decides x.mode (head_of (roll-Rtx x)).mode).1 (sym (ap (λ (i : RtxHead). i.mode) h)))
+    (and_from _ _ ((Decides-int_eq x.number (head_of (roll-Rtx x)).number).1 (sym (ap (λ (i : RtxHead). i.number) h)))
+    (and_from _ _ ((bytes_eq-Decides x.name (head_of (roll-Rtx x)).name).1 (sym (ap (λ (i : RtxHead). i.name) h)))
     (subst (λ (ys : List Rtx). all_same (map same_tree x.kids) ys ≡ true) (sym ks) kids))))
 
 whole : (x : Rtx) → Whole x

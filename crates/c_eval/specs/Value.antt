@@ -15,8 +15,8 @@ use Rattle.rtx_tree.specs.Operands.{operand_at}
 use Rattle.rtx_tree.specs.RegSet.{has_reg}
 use Rattle.c_words.specs.declared.head.Call.{Call}
 use Rattle.c_words.specs.declared.head.Call.TheVariants as call
-use Rattle.c_words.specs.declared.head.Head.{Head}
-use Rattle.c_words.specs.declared.head.Head.TheVariants as head
+use Rattle.c_words.specs.declared.head.CondHead.{CondHead}
+use Rattle.c_words.specs.declared.head.CondHead.TheVariants as head
 use Rattle.c_cond.specs.declared.tree.Tree.{Tree}
 use Rattle.c_eval.specs.declared.facts.Facts.{Facts}
 use Rattle.c_eval.specs.declared.reading.Reading.{Reading}
@@ -166,7 +166,7 @@ abbrev pub accepted_of : (List ℕ → Rtx → Mode → Bool) → List (Option R
 accepted_of accepts operands name x mode = option_and_then (λ tree. option_map (λ m. truth (accepts name tree m)) (mode_of mode)) (operand_of operands x)
 
 -- The value of an expression by its parts. Other heads have none.
-abbrev pub value_by : Setting → Head → List Reading → Option ℤ
+abbrev pub value_by : Setting → CondHead → List Reading → Option ℤ
 value_by s (head.Number n) [] = Some n
 value_by s head.ReloadCompleted [] = Some (truth s.facts.reloaded)
 value_by s head.Ival [] = option_and_then (number_in code.ConstInt) (operand_at s.operands 0)
@@ -185,7 +185,7 @@ as_reading (Some n) = reading.Number n
 as_reading None = reading.Nothing
 
 -- what a head is read as by its parts
-abbrev pub read_by : Setting → Head → List Reading → Reading
+abbrev pub read_by : Setting → CondHead → List Reading → Reading
 read_by s (head.Operand k) [] = reading.Operand k
 read_by s (head.Mode m) [] = reading.Mode m
 read_by s (head.Window n) [] = reading.Window n

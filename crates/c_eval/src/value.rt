@@ -9,7 +9,7 @@ use crate::number::{chosen, in_range, joined, truth, unary_of};
 use crate::preds::Preds;
 use crate::reading::Reading;
 use crate::reads::Reads;
-use c_cond::{Call, Head};
+use c_cond::{Call, CondHead};
 use rtx_tree::{Code, Name};
 
 /// Whether two operands are the same.
@@ -79,28 +79,28 @@ impl<P: Preds> Known<'_, P> {
     }
 
     /// The value of an expression by its parts. Other heads have none.
-    fn value_by(&self, head: &Head, parts: &[Reading]) -> Option<i64>
+    fn value_by(&self, head: &CondHead, parts: &[Reading]) -> Option<i64>
         ensures { result ≡ spec.value_by (spec.setting (facts_given self.now.reloaded self.now.new_pseudos self.now.dead.now) (operands_given self.now.operands) (P.accepts self.now.preds.now)) head.now parts.now }
     {
         match (head, parts) {
-            (Head::Number(number), []) => Some(*number),
-            (Head::ReloadCompleted, []) => Some(truth(self.reloaded)),
-            (Head::Ival, []) => number_in(Code::ConstInt, self.operands.at(0)?),
-            (Head::CodeIs { code, equal }, [x]) => Some(code_is(
+            (CondHead::Number(number), []) => Some(*number),
+            (CondHead::ReloadCompleted, []) => Some(truth(self.reloaded)),
+            (CondHead::Ival, []) => number_in(Code::ConstInt, self.operands.at(0)?),
+            (CondHead::CodeIs { code, equal }, [x]) => Some(code_is(
                 *code,
                 *equal,
                 self.operands.of(*x)?,
             )),
-            (Head::ModeIs { mode, equal }, [x]) => Some(mode_is(
+            (CondHead::ModeIs { mode, equal }, [x]) => Some(mode_is(
                 *mode,
                 *equal,
                 self.operands.of(*x)?,
             )),
-            (Head::Unary(operator), [a]) => Some(unary_of(*operator, a.number()?)),
-            (Head::Binary(operator), [a, b]) => joined(*operator, a.number(), b.number()),
-            (Head::Choose, [a, b, c]) => chosen(a.number(), b.number(), c.number()),
-            (Head::Call(call), _) => self.call_value(*call, parts),
-            (Head::Predicate(name), [x, mode]) => self.accepted_of(name, *x, *mode),
+            (CondHead::Unary(operator), [a]) => Some(unary_of(*operator, a.number()?)),
+            (CondHead::Binary(operator), [a, b]) => joined(*operator, a.number(), b.number()),
+            (CondHead::Choose, [a, b, c]) => chosen(a.number(), b.number(), c.number()),
+            (CondHead::Call(call), _) => self.call_value(*call, parts),
+            (CondHead::Predicate(name), [x, mode]) => self.accepted_of(name, *x, *mode),
             _ => None,
         }
     }
@@ -109,11 +109,11 @@ impl<P: Preds> Known<'_, P> {
 impl<P: Preds> Reads for Known<'_, P> {
     ghost read_by = { λ known. spec.read_by (spec.setting (facts_given known.reloaded known.new_pseudos known.dead.now) (operands_given known.operands) (P.accepts known.preds.now)) };
 
-    fn read(&self, head: &Head, parts: &[Reading]) -> Reading {
+    fn read(&self, head: &CondHead, parts: &[Reading]) -> Reading {
         match (head, parts) {
-            (Head::Operand(number), []) => Reading::Operand(*number),
-            (Head::Mode(mode), []) => Reading::Mode(*mode),
-            (Head::Window(place), []) => Reading::Window(*place),
+            (CondHead::Operand(number), []) => Reading::Operand(*number),
+            (CondHead::Mode(mode), []) => Reading::Mode(*mode),
+            (CondHead::Window(place), []) => Reading::Window(*place),
             _ => Reading::of_value(self.value_by(head, parts)),
         }
     }

@@ -5,14 +5,14 @@
 //! many heads. So calls are nested no deeper than a number has bits, however deep the tree is; and no
 //! memory is taken.
 ghost use Rattle.std.specs.Prelude.{◌≡◌, ℕ, ◌+◌, ◌<◌, ◌≤◌, ◌^◌, length};
-ghost use Rattle.c_words.specs.declared.head.Head.TheVariants as Head;
+ghost use Rattle.c_words.specs.declared.head.CondHead.TheVariants as CondHead;
 ghost use Rattle.c_cond.specs.Tree as tree;
 ghost use Rattle.c_eval.specs.Fold.{fold_by};
 ghost use Rattle.c_eval.specs.machine.Places as places;
 
 use crate::reading::Reading;
 use crate::reads::Reads;
-use c_cond::{Call, Head};
+use c_cond::{Call, CondHead};
 
 /// A part of a tree.
 #[derive(Clone, Copy)]
@@ -27,7 +27,7 @@ pub struct Part {
 
 /// How many parts a call has.
 fn call_size(call: Call) -> usize
-    ensures { result ≡ tree.size_of (Head.Call call) }
+    ensures { result ≡ tree.size_of (CondHead.Call call) }
 {
     match call {
         Call::CanCreatePseudo => 0,
@@ -43,21 +43,24 @@ fn call_size(call: Call) -> usize
 }
 
 /// How many parts a head has.
-fn size_of(head: &Head) -> usize
+fn size_of(head: &CondHead) -> usize
     ensures value { result ≡ tree.size_of head.now }
     ensures bound { result ≤ 3 }
 {
     match head {
-        Head::CodeIs { .. } | Head::ModeIs { .. } | Head::Unary(_) | Head::Assign(_) => 1,
-        Head::Binary(_) | Head::Predicate(_) | Head::If | Head::Then => 2,
-        Head::Choose | Head::IfElse => 3,
-        Head::Call(call) => call_size(*call),
+        CondHead::CodeIs { .. }
+        | CondHead::ModeIs { .. }
+        | CondHead::Unary(_)
+        | CondHead::Assign(_) => 1,
+        CondHead::Binary(_) | CondHead::Predicate(_) | CondHead::If | CondHead::Then => 2,
+        CondHead::Choose | CondHead::IfElse => 3,
+        CondHead::Call(call) => call_size(*call),
         _ => 0,
     }
 }
 
 /// Where the last tree of the heads before `end` starts.
-fn start_of(heads: &[Head], end: usize) -> usize
+fn start_of(heads: &[CondHead], end: usize) -> usize
     requires { end ≤ length heads.now }
     ensures { places.IsStart heads.now end result }
 {
@@ -71,7 +74,7 @@ fn start_of(heads: &[Head], end: usize) -> usize
 }
 
 /// The place of the head that has the tree before `from` as a part.
-fn parent_of(heads: &[Head], from: usize, end: usize) -> usize
+fn parent_of(heads: &[CondHead], from: usize, end: usize) -> usize
     requires within { end ≤ length heads.now }
     requires some { from < end }
     requires taken { places.count_at heads.now end ≤ places.count_at heads.now from }
@@ -97,7 +100,13 @@ fn ending_at(path: Option<Part>, end: usize) -> Option<Part>
 
 /// The part whose last head stands at this place. Of its parts, one may be known: the part on the path.
 #[cycle(walk)]
-fn part_at<R: Reads>(reads: &R, heads: &[Head], at: usize, path: Option<Part>, levels: u32) -> Part
+fn part_at<R: Reads>(
+    reads: &R,
+    heads: &[CondHead],
+    at: usize,
+    path: Option<Part>,
+    levels: u32,
+) -> Part
     requires within { at < length heads.now }
     requires path { places.IsPath (R.read_by reads.now) heads.now path }
     requires small { (e s : ℕ) → places.EndsPart heads.now at e → places.IsStart heads.now e s → places.IsOff path e → e < s + 2 ^ levels }
@@ -126,7 +135,7 @@ fn part_at<R: Reads>(reads: &R, heads: &[Head], at: usize, path: Option<Part>, l
 #[cycle(walk)]
 fn part_before<R: Reads>(
     reads: &R,
-    heads: &[Head],
+    heads: &[CondHead],
     end: usize,
     path: Option<Part>,
     levels: u32,
@@ -146,7 +155,7 @@ fn part_before<R: Reads>(
 
 /// The last tree of the heads before `end`. It has fewer heads than a number of so many bits can say.
 #[cycle(walk)]
-fn last_part<R: Reads>(reads: &R, heads: &[Head], end: usize, levels: u32) -> Part
+fn last_part<R: Reads>(reads: &R, heads: &[CondHead], end: usize, levels: u32) -> Part
     requires within { end ≤ length heads.now }
     requires some { 0 < end }
     requires small { (s : ℕ) → places.IsStart heads.now end s → end < s + 2 ^ levels }
@@ -164,11 +173,11 @@ fn last_part<R: Reads>(reads: &R, heads: &[Head], end: usize, levels: u32) -> Pa
 }
 
 /// What the last tree of heads is read as.
-pub fn read_last<R: Reads>(reads: &R, heads: &[Head]) -> Reading
+pub fn read_last<R: Reads>(reads: &R, heads: &[CondHead]) -> Reading
     ensures { result ≡ fold_by (R.read_by reads.now) (tree.tree_of heads.now) }
 {
     if heads.is_empty() {
-        return reads.read(&Head::Nothing, &[]);
+        return reads.read(&CondHead::Nothing, &[]);
     }
     last_part(reads, heads, heads.len(), usize::BITS).reading
 }

@@ -8,11 +8,11 @@ use crate::known::{Given, Known};
 use crate::preds::{NoPreds, Preds};
 use crate::reading::Reading;
 use crate::walk::read_last;
-use c_cond::{Cond, Head};
+use c_cond::{Cond, CondHead};
 use rtx_tree::{Operands, Rtx};
 
 /// What the last tree of a row of heads is read as. No memory is taken, and nesting has no limit.
-pub fn read<P: Preds>(heads: &[Head], facts: &Facts, operands: &Operands, preds: &P) -> Reading
+pub fn read<P: Preds>(heads: &[CondHead], facts: &Facts, operands: &Operands, preds: &P) -> Reading
     ensures { result ≡ spec.reading_of (spec.setting facts.now operands.now (P.accepts preds.now)) (tree_of heads.now) }
 {
     let known = Known {
@@ -36,7 +36,7 @@ pub fn eval<P: Preds>(cond: &Cond, facts: &Facts, operands: &Operands, preds: &P
 }
 
 /// What the test of a predicate, given by its heads, is worth for an operand. No memory is taken, and nesting has no limit.
-pub fn test_worth(heads: &[Head], x: &Rtx) -> i64
+pub fn test_worth(heads: &[CondHead], x: &Rtx) -> i64
     ensures { result ≡ spec.worth (spec.under_test x.now) (tree_of heads.now) }
 {
     let known = Known {

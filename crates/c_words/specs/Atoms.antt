@@ -6,7 +6,7 @@ use Rattle.rtx_tree.specs.declared.code.Mode.{Mode}
 use Rattle.rtx_tree.specs.declared.constants.Constant.{Constant}
 use Rattle.c_words.specs.declared.head.Call.{Call}
 use Rattle.c_words.specs.declared.head.Call.TheVariants as call
-use Rattle.c_words.specs.declared.head.Head.TheVariants as head
+use Rattle.c_words.specs.declared.head.CondHead.TheVariants as head
 use Rattle.c_words.specs.declared.keyword.Keyword.{Keyword}
 use Rattle.c_words.specs.declared.keyword.Keyword.TheVariants as keyword
 use Rattle.c_words.specs.declared.atom.Atom.{Atom}

@@ -3,7 +3,7 @@ ghost use Rattle.std.specs.Prelude.{◌≡◌, IfOk, ℕ, List, OnOk};
 ghost use Rattle.c_words.specs.Words as words;
 ghost use Rattle.c_words.specs.Atoms as spec;
 
-use crate::head::{Call, Head};
+use crate::head::{Call, CondHead};
 use crate::keyword::Keyword;
 use crate::word::{code_named, constant_named, is_target, mode_named, target_holds};
 use plain_data::Memory;
@@ -32,7 +32,7 @@ pub enum Property {
 #[derive(Debug, Drop)]
 pub enum Atom {
     /// It is an expression by itself.
-    Leaf(Head),
+    Leaf(CondHead),
     /// Its parts follow in parentheses.
     Call(Call),
     /// An operand follows in parentheses, and a comparison.
@@ -64,10 +64,10 @@ fn atom_of_keyword(dialect: Dialect, keyword: Keyword) -> Atom
         Keyword::Call(call) if is_question(call) => Atom::Call(call),
         Keyword::GetCode => Atom::Compare(Property::Code),
         Keyword::GetMode => Atom::Compare(Property::Mode),
-        Keyword::ReloadCompleted => Atom::Leaf(Head::ReloadCompleted),
+        Keyword::ReloadCompleted => Atom::Leaf(CondHead::ReloadCompleted),
         Keyword::Ival => match dialect {
             Dialect::Condition => Atom::Nothing,
-            Dialect::Test => Atom::Leaf(Head::Ival),
+            Dialect::Test => Atom::Leaf(CondHead::Ival),
         },
         _ => Atom::Nothing,
     }
@@ -100,7 +100,7 @@ fn atom_of_name(
     ensures { IfOk result (λ atom. atom ≡ spec.atom_of_name dialect word.now (words.constant_named constants.now word.now)) }
 {
     match constant_named(constants, word) {
-        Some(number) => Ok(Atom::Leaf(Head::Number(number))),
+        Some(number) => Ok(Atom::Leaf(CondHead::Number(number))),
         None => {
             let code = code_named(alloc, word)?;
             Ok(predicate_or_nothing(dialect, code, mode_named(word)))
@@ -119,7 +119,7 @@ pub fn atom_of(
 {
     match Keyword::named(word) {
         Some(keyword) => Ok(atom_of_keyword(dialect, keyword)),
-        None if is_target(word) => Ok(Atom::Leaf(Head::Number(target_number(word)))),
+        None if is_target(word) => Ok(Atom::Leaf(CondHead::Number(target_number(word)))),
         None => atom_of_name(alloc, dialect, constants, word),
     }
 }

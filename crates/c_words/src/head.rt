@@ -94,7 +94,7 @@ pub enum Call {
 
 /// One part of a condition or of statements. It stands behind the parts that it is made of.
 #[derive(Debug, Drop)]
-pub enum Head {
+pub enum CondHead {
     /// A number.
     Number(i64),
     /// `reload_completed`
@@ -137,38 +137,38 @@ pub enum Head {
     Then,
 }
 
-impl Head {
+impl CondHead {
     /// The same head once more.
-    pub fn copy(&self, alloc: Global) -> Result<Head, Memory>
+    pub fn copy(&self, alloc: Global) -> Result<CondHead, Memory>
         ensures { IfOk result (λ head. head ≡ self.now) }
     {
         match self {
-            Head::Predicate(name) => Ok(Head::Predicate(name.copy(alloc)?)),
-            Head::Number(number) => Ok(Head::Number(*number)),
-            Head::ReloadCompleted => Ok(Head::ReloadCompleted),
-            Head::Ival => Ok(Head::Ival),
-            Head::Operand(number) => Ok(Head::Operand(*number)),
-            Head::Mode(mode) => Ok(Head::Mode(*mode)),
-            Head::Window(place) => Ok(Head::Window(*place)),
-            Head::CodeIs { code, equal } => Ok(Head::CodeIs {
+            CondHead::Predicate(name) => Ok(CondHead::Predicate(name.copy(alloc)?)),
+            CondHead::Number(number) => Ok(CondHead::Number(*number)),
+            CondHead::ReloadCompleted => Ok(CondHead::ReloadCompleted),
+            CondHead::Ival => Ok(CondHead::Ival),
+            CondHead::Operand(number) => Ok(CondHead::Operand(*number)),
+            CondHead::Mode(mode) => Ok(CondHead::Mode(*mode)),
+            CondHead::Window(place) => Ok(CondHead::Window(*place)),
+            CondHead::CodeIs { code, equal } => Ok(CondHead::CodeIs {
                 code: *code,
                 equal: *equal,
             }),
-            Head::ModeIs { mode, equal } => Ok(Head::ModeIs {
+            CondHead::ModeIs { mode, equal } => Ok(CondHead::ModeIs {
                 mode: *mode,
                 equal: *equal,
             }),
-            Head::Unary(operator) => Ok(Head::Unary(*operator)),
-            Head::Binary(operator) => Ok(Head::Binary(*operator)),
-            Head::Choose => Ok(Head::Choose),
-            Head::Call(call) => Ok(Head::Call(*call)),
-            Head::Assign(number) => Ok(Head::Assign(*number)),
-            Head::Done => Ok(Head::Done),
-            Head::Fail => Ok(Head::Fail),
-            Head::If => Ok(Head::If),
-            Head::IfElse => Ok(Head::IfElse),
-            Head::Nothing => Ok(Head::Nothing),
-            Head::Then => Ok(Head::Then),
+            CondHead::Unary(operator) => Ok(CondHead::Unary(*operator)),
+            CondHead::Binary(operator) => Ok(CondHead::Binary(*operator)),
+            CondHead::Choose => Ok(CondHead::Choose),
+            CondHead::Call(call) => Ok(CondHead::Call(*call)),
+            CondHead::Assign(number) => Ok(CondHead::Assign(*number)),
+            CondHead::Done => Ok(CondHead::Done),
+            CondHead::Fail => Ok(CondHead::Fail),
+            CondHead::If => Ok(CondHead::If),
+            CondHead::IfElse => Ok(CondHead::IfElse),
+            CondHead::Nothing => Ok(CondHead::Nothing),
+            CondHead::Then => Ok(CondHead::Then),
         }
     }
 }

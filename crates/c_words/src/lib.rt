@@ -1,7 +1,7 @@
 //! The words and the tokens of the C conditions and preparation statements of machine descriptions.
 //!
 //! [`tokens_in`] cuts a text into its tokens (`specs/Tokens.antt`); a [`Lexer`] does so byte by byte.
-//! [`atom_of`] says what a word means where an expression may begin (`specs/Atoms.antt`). [`Head`] is
+//! [`atom_of`] says what a word means where an expression may begin (`specs/Atoms.antt`). [`CondHead`] is
 //! what conditions and statements are made of.
 #![tactic(auto)]
 
@@ -14,7 +14,7 @@ mod token;
 mod word;
 
 pub use atom::{Atom, Dialect, Property, atom_of};
-pub use head::{Binary, Call, Head, Unary};
+pub use head::{Binary, Call, CondHead, Unary};
 pub use keyword::Keyword;
 pub use known::known_words;
 pub use lexer::{Lexer, Pending, in_word, token_of_run, tokens_in};

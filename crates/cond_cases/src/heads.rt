@@ -1,37 +1,37 @@
 //! The heads of conditions and statements.
 use crate::iterators::constants_in;
 use c_cond::{CondRefusal, parse_cond, parse_prep, parse_test};
-use c_words::Head;
+use c_words::CondHead;
 use case_text::Told;
 use std::alloc::Global;
 
 /// Appends a head in few letters.
-fn show_head(head: &Head, told: &mut Told) {
+fn show_head(head: &CondHead, told: &mut Told) {
     match head {
-        Head::Number(number) => told.show(*number),
-        Head::Operand(number) => show_operand(*number, told),
-        Head::Window(number) => {
+        CondHead::Number(number) => told.show(*number),
+        CondHead::Operand(number) => show_operand(*number, told),
+        CondHead::Window(number) => {
             told.text("@");
             told.show(*number);
         }
-        Head::Mode(mode) => told.debug(mode),
-        Head::CodeIs { code, equal } => {
+        CondHead::Mode(mode) => told.debug(mode),
+        CondHead::CodeIs { code, equal } => {
             told.debug(code);
             show_equal(*equal, told);
         }
-        Head::ModeIs { mode, equal } => {
+        CondHead::ModeIs { mode, equal } => {
             told.debug(mode);
             show_equal(*equal, told);
         }
-        Head::Unary(operator) => told.debug(operator),
-        Head::Binary(operator) => told.debug(operator),
-        Head::Call(call) => told.debug(call),
-        Head::Predicate(name) => {
+        CondHead::Unary(operator) => told.debug(operator),
+        CondHead::Binary(operator) => told.debug(operator),
+        CondHead::Call(call) => told.debug(call),
+        CondHead::Predicate(name) => {
             told.text("'");
             told.push(name.bytes());
             told.text("'");
         }
-        Head::Assign(number) => {
+        CondHead::Assign(number) => {
             show_operand(*number, told);
             told.text("=");
         }
@@ -49,7 +49,7 @@ fn show_equal(equal: bool, told: &mut Told) {
 }
 
 /// Appends the heads of a tree, each behind its parts.
-fn show(heads: &[Head], told: &mut Told) {
+fn show(heads: &[CondHead], told: &mut Told) {
     for head in heads {
         told.gap();
         show_head(head, told);

@@ -79,7 +79,8 @@ abbrev pub Reads : List ℕ → Given → Type 0
 Reads bytes (Ok functions) = IsRead bytes functions
 Reads bytes (Err e) = RefusesWith e (InputGives bytes)
 
--- it found that none of the functions is refused, or it told the first that is
-abbrev pub Checks : Result (Unit {0}) Refusal → List Function → Type 0
-Checks (Ok done) functions = first_refused functions ≡ None
-Checks (Err e) functions = RefusesWith e (FunctionsGive functions)
+-- what is told is given; a refusal is the one that is told; want of memory is free;
+-- nothing is given where none of the functions is refused
+abbrev pub GivesNothing : Result (Unit {0}) Refusal → List Function → Type 0
+GivesNothing (Ok done) functions = first_refused functions ≡ None
+GivesNothing (Err e) functions = RefusesWith e (FunctionsGive functions)

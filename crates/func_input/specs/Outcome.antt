@@ -1,5 +1,5 @@
 -- What a command over the functions of an input comes to: a text, or a refusal.
-use Rattle.std.specs.Prelude.{◌≡◌, ℕ, List, ◌++◌, Result, Ok, Err, Vec}
+use Rattle.std.specs.Prelude.{ℕ, List, ◌++◌, Result, Ok, Err, Vec}
 use Rattle.std.specs.declared.alloc.Global.{Global}
 use Rattle.run_refusal.specs.declared.refusal.Refusal.{Refusal}
 use Rattle.func_input.specs.Input.{RefusesWith}
@@ -19,12 +19,7 @@ outcome_then (Err e) rest = Err e
 
 -- ---- what a call has done
 
--- it gave a text with a property, or a refusal with it; want of memory is free
-abbrev pub Tells : Result (Vec ℕ Global) Refusal → (Outcome → Type 0) → Type 0
-Tells (Ok text) P = P (Ok text.items)
-Tells (Err e) P = RefusesWith e P
-
--- it appended a text that has a property, or it refused
-abbrev pub AppendedSome : {A : Type 0} → List ℕ → List ℕ → Result A Refusal → (Outcome → Type 0) → Type 0
-AppendedSome old new (Ok x) P = (text : List ℕ) × P (Ok text) × (new ≡ old ++ text)
-AppendedSome old new (Err e) P = RefusesWith e P
+-- what is told is given; a refusal is the one that is told; want of memory is free
+abbrev pub Gives : Result (Vec ℕ Global) Refusal → (Outcome → Type 0) → Type 0
+Gives (Ok text) P = P (Ok text.items)
+Gives (Err e) P = RefusesWith e P

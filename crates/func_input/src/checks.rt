@@ -5,7 +5,7 @@ ghost use Rattle.rtl_func.specs.Names.{AreNames};
 ghost use Rattle.rtl_func.specs.Rules.{faults_of};
 ghost use Rattle.rtx_tree.specs.declared.function.Function.{Function};
 ghost use Rattle.func_input.specs.Refused.{rule_broken, over, limit_passed, refused_behind};
-ghost use Rattle.func_input.specs.Input.{Checks};
+ghost use Rattle.func_input.specs.Input.{GivesNothing};
 ghost use Rattle.func_input.specs.machine.Steps.{IsOrMemory, Checked};
 ghost use Rattle.run_refusal.specs.declared.refusal.Refusal.TheVariants as refused;
 
@@ -87,7 +87,7 @@ pub fn next_number(number: u32) -> Result<u32, Memory>
 /// Checks functions whose places have numbers of 32 bits, in order.
 fn check_each(alloc: Global, functions: &[Function]) -> Result<(), Refusal>
     requires { All (λ f. length f.insns < 2 ^ 32) functions.now }
-    ensures { Checks result functions.now }
+    ensures { GivesNothing result functions.now }
 {
     let mut names = Names::new(alloc);
     for f in functions {
@@ -109,7 +109,7 @@ fn are_short(functions: &[Function]) -> bool
 ///
 /// `IllFormed` or `Limit` for the first function that is refused, or `Memory` where memory ran out.
 pub fn check_functions(alloc: Global, functions: &[Function]) -> Result<(), Refusal>
-    ensures { Checks result functions.now }
+    ensures { GivesNothing result functions.now }
 {
     if are_short(functions) {
         check_each(alloc, functions)

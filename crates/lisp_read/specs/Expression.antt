@@ -9,7 +9,7 @@ use Rattle.rtx_tree.specs.Tree.{node_of}
 use Rattle.lisp_read.specs.declared.tree.Tree.{Tree, out-Tree}
 use Rattle.lisp_read.specs.declared.tree.Tree.TheOpen.{Tree-F}
 use Rattle.lisp_read.specs.declared.tree.Tree.TheFolds.{fold-Tree}
-use Rattle.lisp_read.specs.declared.head.Head.{Head}
+use Rattle.lisp_read.specs.declared.head.Opening.{Opening}
 use Rattle.rtx_tree.specs.declared.class.Class.{Class}
 use Rattle.rtx_tree.specs.declared.class.Class.TheVariants as class
 use Rattle.lisp_read.specs.declared.position.Position.{Position}
@@ -24,21 +24,21 @@ use Rattle.lisp_read.specs.Leaf.{word_with, symbol_with}
 -- ---- the head
 
 -- the head that a list begins with
-abbrev pub head_of_items : List Tree → Option Head
+abbrev pub head_of_items : List Tree → Option Opening
 head_of_items (h ∷ rest) = option_and_then head_in (atom_of h)
 head_of_items [] = None
 
-abbrev pub head_of : Tree → Option Head
+abbrev pub head_of : Tree → Option Opening
 head_of t = head_of_items (items_of t)
 
-abbrev pub class_of : Head → Class
+abbrev pub class_of : Opening → Class
 class_of h = class_of_code h.code
 
 -- a head with the mode that it has at a position, if it may stand there
-abbrev pub placed : Position → Head → Option Head
+abbrev pub placed : Position → Opening → Option Opening
 placed p h = if admits p (class_of h) then option_map (λ m. record { code = h.code; mode = m }) (mode_at p (class_of h) h.mode) else None
 
-abbrev pub head_at : Position → Tree → Option Head
+abbrev pub head_at : Position → Tree → Option Opening
 head_at p t = option_and_then (placed p) (head_of t)
 
 -- ---- the parts
@@ -51,7 +51,7 @@ abbrev pub is_class_number : Class → Bool
 is_class_number class.Constant = true
 is_class_number _ = false
 
-abbrev pub head_is : (Class → Bool) → Option Head → Bool
+abbrev pub head_is : (Class → Bool) → Option Opening → Bool
 head_is test None = false
 head_is test (Some h) = test (class_of h)
 
@@ -128,7 +128,7 @@ abbrev pub patterns : List Meaning → Parsed (List Rtx)
 patterns [] = stands []
 patterns (x ∷ xs) = parsed_then (x.at Pattern) (λ y. parsed_map (λ ys. y ∷ ys) (patterns xs))
 
-abbrev pub node_by : Tree → Head → Option (List Position) → List Meaning → Parsed Rtx
+abbrev pub node_by : Tree → Opening → Option (List Position) → List Meaning → Parsed Rtx
 node_by t h None inside = outside t
 node_by t h (Some ps) inside = parsed_map (node_of h.code h.mode) (each_at ps (drop 1 inside))
 
@@ -138,7 +138,7 @@ parallel_by t (h ∷ v ∷ []) (x ∷ y ∷ []) = if is_nested v then parsed_map
 parallel_by t _ _ = outside t
 
 -- the list t with a head, by what its items stand for
-abbrev pub list_by : Class → Position → Head → Tree → List Meaning → Parsed Rtx
+abbrev pub list_by : Class → Position → Opening → Tree → List Meaning → Parsed Rtx
 list_by class.Register p h t inside = word_with t (class_of h) p h.mode (items_of t)
 list_by class.Constant p h t inside = word_with t (class_of h) p h.mode (items_of t)
 list_by class.Label p h t inside = word_with t (class_of h) p h.mode (items_of t)
@@ -146,7 +146,7 @@ list_by class.Symbol p h t inside = symbol_with t h.mode (items_of t)
 list_by class.Parallel p h t inside = parallel_by t (items_of t) inside
 list_by c p h t inside = node_by t h (parts_of_class c (items_of t)) inside
 
-abbrev pub expression_by : Position → Option Head → Tree → List Meaning → Parsed Rtx
+abbrev pub expression_by : Position → Option Opening → Tree → List Meaning → Parsed Rtx
 expression_by p None t inside = outside t
 expression_by p (Some h) t inside = list_by (class_of h) p h t inside
 

@@ -8,7 +8,7 @@ use Rattle.rtx_tree.specs.declared.code.Code.TheVariants.{Mem, Return}
 use Rattle.rtx_tree.specs.declared.code.Mode.{Mode}
 use Rattle.rtx_tree.specs.declared.code.Mode.TheVariants.{Void}
 use Rattle.rtx_tree.specs.Code.{code_name, mode_name, all_codes, named_modes}
-use Rattle.lisp_read.specs.declared.head.Head.{Head}
+use Rattle.lisp_read.specs.declared.head.Opening.{Opening}
 
 -- where the first byte of a kind stands in a text
 abbrev pub first_of : ℕ → List ℕ → Option ℕ
@@ -73,9 +73,9 @@ code_of_head text = flagged_code_in (cut 58 text).0
 abbrev pub mode_of_head : List ℕ → Option Mode
 mode_of_head text = mode_in (cut 58 text).1
 
-abbrev pub head_with : Option Mode → Code → Option Head
+abbrev pub head_with : Option Mode → Code → Option Opening
 head_with m c = option_map (λ mode. record { code = c; mode = mode }) m
 
 -- a code, its flags and its mode
-abbrev pub head_in : List ℕ → Option Head
+abbrev pub head_in : List ℕ → Option Opening
 head_in text = let parts = cut 58 text in option_and_then (head_with (mode_in parts.1)) (flagged_code_in parts.0)

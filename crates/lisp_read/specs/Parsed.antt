@@ -34,11 +34,12 @@ abbrev pub each_parsed : {A : Type 0} → (Tree → Parsed A) → List Tree → 
 each_parsed read [] = stands []
 each_parsed read (t ∷ ts) = parsed_then (read t) (λ x. parsed_map (λ xs. x ∷ xs) (each_parsed read ts))
 
--- a call gave the meaning, or it told the construct; want of memory is free
+-- a refusal tells the construct; want of memory is free
 abbrev pub Refuses : {A : Type 0} → RtlRefusal → Parsed A → Type 0
 Refuses (refusal.Construct place name) p = p ≡ construct place name
 Refuses refusal.Memory p = Unit {0}
 
+-- what is told is given; a refusal is the one that is told; want of memory is free
 abbrev pub Gives : {A : Type 0} → Result A RtlRefusal → Parsed A → Type 0
 Gives (Ok x) p = p ≡ stands x
 Gives (Err e) p = Refuses e p

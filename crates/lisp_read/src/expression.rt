@@ -7,7 +7,7 @@ ghost use Rattle.lisp_read.specs.Parsed.{Gives, each_parsed};
 ghost use Rattle.lisp_read.specs.declared.position.Position.TheVariants as position;
 ghost use Rattle.lisp_read.specs.Shape as shape;
 
-use crate::head::{Head, head_in};
+use crate::head::{Opening, head_in};
 use crate::leaf::{symbol, word};
 use crate::position::Position;
 use crate::refusal::RtlRefusal;
@@ -18,7 +18,7 @@ use rtx_tree::{Class, Code, Kids, Mode, Rtx};
 use std::alloc::Global;
 
 /// The head that a list begins with.
-fn head_of(tree: &Tree) -> Option<Head>
+fn head_of(tree: &Tree) -> Option<Opening>
     ensures { result ≡ spec.head_of tree.now }
 {
     match items(tree) {
@@ -28,7 +28,7 @@ fn head_of(tree: &Tree) -> Option<Head>
 }
 
 /// A head with the mode that it has at a position, if it may stand there.
-fn placed(position: Position, head: Head) -> Option<Head>
+fn placed(position: Position, head: Opening) -> Option<Opening>
     ensures { result ≡ spec.placed position head }
 {
     let class = head.code.class();
@@ -36,13 +36,13 @@ fn placed(position: Position, head: Head) -> Option<Head>
         return None;
     }
     let mode = position.mode_at(class, head.mode)?;
-    Some(Head {
+    Some(Opening {
         code: head.code,
         mode,
     })
 }
 
-fn head_at(position: Position, tree: &Tree) -> Option<Head>
+fn head_at(position: Position, tree: &Tree) -> Option<Opening>
     ensures { result ≡ spec.head_at position tree.now }
 {
     placed(position, head_of(tree)?)
@@ -226,7 +226,7 @@ fn each_at(alloc: Global, positions: &[Position], items: &[Tree]) -> Result<Kids
 
 /// An expression that is made of others.
 #[cycle(read)]
-fn node(alloc: Global, head: Head, tree: &Tree) -> Result<Rtx, RtlRefusal>
+fn node(alloc: Global, head: Opening, tree: &Tree) -> Result<Rtx, RtlRefusal>
     ensures { Gives result (spec.node_by tree.now head (spec.parts_of_class (spec.class_of head) (shape.items_of tree.now)) (map spec.meaning_of (shape.items_of tree.now))) }
 {
     let items = items(tree);
@@ -241,7 +241,7 @@ fn node(alloc: Global, head: Head, tree: &Tree) -> Result<Rtx, RtlRefusal>
 
 /// The expression of a list with a head.
 #[cycle(read)]
-fn list(alloc: Global, position: Position, head: Head, tree: &Tree) -> Result<Rtx, RtlRefusal>
+fn list(alloc: Global, position: Position, head: Opening, tree: &Tree) -> Result<Rtx, RtlRefusal>
     ensures { Gives result (spec.list_by (spec.class_of head) position head tree.now (map spec.meaning_of (shape.items_of tree.now))) }
 {
     let class = head.code.class();

@@ -5,9 +5,9 @@ ghost use Rattle.lisp_read.specs.Head as spec;
 
 use rtx_tree::{Code, Mode};
 
-/// The head of an expression.
+/// The code and the mode that open the list of an expression.
 #[derive(Clone, Copy, Debug, PartialEq, Eq)]
-pub struct Head {
+pub struct Opening {
     /// What the expression is.
     pub code: Code,
     /// Its mode, or `Void`.
@@ -142,11 +142,11 @@ pub fn head_words(text: &[u8]) -> (Option<Code>, Option<Mode>)
 }
 
 /// The head that an atom writes.
-pub fn head_in(text: &[u8]) -> Option<Head>
+pub fn head_in(text: &[u8]) -> Option<Opening>
     ensures { result ≡ spec.head_in text.now }
 {
     let (front, name) = cut(text, b':');
     let code = flagged_code_in(front)?;
     let mode = mode_in(name)?;
-    Some(Head { code, mode })
+    Some(Opening { code, mode })
 }

@@ -5,7 +5,7 @@ use Rattle.std.specs.Prelude.{ℕ, ◌<◌, Bool, false, List, Option, Some, Non
 use Rattle.std.specs.Option.{option_map_or}
 use Rattle.std.specs.Str.{bytes_eq}
 use Rattle.md_pattern.specs.declared.reason.Reason.{Reason}
-use Rattle.md_draft.specs.declared.head.Head.{Head}
+use Rattle.md_draft.specs.declared.head.FormHead.{FormHead}
 use Rattle.md_draft.specs.Head.{head_named}
 use Rattle.md_forms.specs.declared.form.Form.{Form}
 use Rattle.md_forms.specs.declared.form.Entry.{Entry}
@@ -26,14 +26,14 @@ has_name name None = false
 has_name name (Some n) = bytes_eq n name
 
 -- the name that a form defines, be it accepted or set aside, if its head defines what is asked for
-abbrev pub defined : (Option Head → Bool) → Entry → Option (List ℕ)
+abbrev pub defined : (Option FormHead → Bool) → Entry → Option (List ℕ)
 defined kind e = if kind (head_named e.head) then e.name else None
 
-abbrev pub defines : (Option Head → Bool) → List ℕ → Entry → Bool
+abbrev pub defines : (Option FormHead → Bool) → List ℕ → Entry → Bool
 defines kind name e = has_name name (defined kind e)
 
 -- the first definition of a name
-abbrev pub definition_of : (Option Head → Bool) → List Entry → List ℕ → Option Entry
+abbrev pub definition_of : (Option FormHead → Bool) → List Entry → List ℕ → Option Entry
 definition_of kind forms name = find (defines kind name) forms
 
 -- ---- by their numbers

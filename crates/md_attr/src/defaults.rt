@@ -9,7 +9,7 @@ ghost use Rattle.md_attr.specs.machine.Tables.{definition_in, default_in};
 ghost use Rattle.md_attr.specs.Values as spec;
 
 use indexmap::IndexMap;
-use md_forms::{Entry, Head};
+use md_forms::{Entry, FormHead};
 use plain_data::Memory;
 use rtx_tree::Name;
 use std::alloc::Global;
@@ -71,7 +71,7 @@ impl Defaults {
 fn is_definition(entry: &Entry) -> bool
     ensures { result ≡ defines_attribute (head_named entry.now.head) }
 {
-    matches!(Head::named(entry.head.bytes()), Some(Head::Attr))
+    matches!(FormHead::named(entry.head.bytes()), Some(FormHead::Attr))
 }
 
 /// The name of the attribute that a form defines.

@@ -13,7 +13,7 @@ ghost use Rattle.md_constr.specs.machine.Tables as tables;
 use crate::meaning::Meaning;
 use c_eval::Preds;
 use indexmap::IndexMap;
-use md_forms::{Entry, Head};
+use md_forms::{Entry, FormHead};
 use plain_data::Memory;
 use rtx_tree::{Name, Rtx};
 use std::alloc::Global;
@@ -76,8 +76,8 @@ fn is_definition(entry: &Entry) -> bool
     ensures { result ≡ defines_constraint (head_named entry.now.head) }
 {
     matches!(
-        Head::named(entry.head.bytes()),
-        Some(Head::Constraint | Head::RegisterConstraint | Head::MemoryConstraint)
+        FormHead::named(entry.head.bytes()),
+        Some(FormHead::Constraint | FormHead::RegisterConstraint | FormHead::MemoryConstraint)
     )
 }
 

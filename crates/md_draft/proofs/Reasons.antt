@@ -6,7 +6,7 @@ use Rattle.lisp_read.specs.Shape.{items_of}
 use Rattle.md_pattern.specs.declared.reason.Reason.{Reason}
 use Rattle.md_pattern.specs.declared.reason.Reason.TheVariants as reason
 use Rattle.md_pattern.specs.Reason.{number_of, both}
-use Rattle.md_draft.specs.declared.head.Head.{Head}
+use Rattle.md_draft.specs.declared.head.FormHead.{FormHead}
 use Rattle.md_draft.specs.declared.draft.Draft.{Draft}
 use Rattle.md_draft.specs.Head.{head_named}
 use Rattle.md_draft.specs.Layout.{layout_of, is_whole}
@@ -15,7 +15,7 @@ use Rattle.md_draft.specs.Draft.{draft_in, draft_by, whole_draft, matched_in, ma
 use Rattle.md_draft.specs.Reasons.{Gives, Applies, IsSmallest, head_of}
 use Rattle.md_draft.proofs.Smallest.{Of, Or, alone, change, pair, with}
 
-module _ (constants : List Constant) (values : List (List ℕ)) (h : Head) (ts : List Tree) where
+module _ (constants : List Constant) (values : List (List ℕ)) (h : FormHead) (ts : List Tree) where
   abbrev OfMatched : Reason → Type 0
   OfMatched = Or (Of (draft.patterns_in constants h ts)) (Of (draft.condition_in constants values h ts))
 
@@ -129,20 +129,20 @@ module _ (constants : List Constant) (values : List (List ℕ)) (t : Tree) where
   without_head : head_of t ≡ None → IsSmallest {A = Draft} (Applies constants values t) (Err reason.Head)
   without_head none = (Applies.headless none, λ s has. one_le s)
 
-  with_head : (h : Head) → head_of t ≡ Some h → IsSmallest (Applies constants values t) (draft_in constants values h (items_of t))
+  with_head : (h : FormHead) → head_of t ≡ Some h → IsSmallest (Applies constants values t) (draft_in constants values h (items_of t))
   with_head h is = change (Gives constants values h (items_of t)) (Applies constants values t) (draft_in constants values h (items_of t)) (λ r gives. Applies.of_head h r is gives) back (of_head constants values h (items_of t))
     where
-      some_is : (g k : Head) → Some g ≡ Some k → g ≡ k
+      some_is : (g k : FormHead) → Some g ≡ Some k → g ≡ k
       some_is g k e = cc
 
-      none_some : (k : Head) → ◌≡◌ {A = Option Head} None (Some k) → ⊥
+      none_some : (k : FormHead) → ◌≡◌ {A = Option FormHead} None (Some k) → ⊥
       none_some k e = cc
 
       back : (r : Reason) → Applies constants values t r → Gives constants values h (items_of t) r
       back _ (Applies.headless none) = absurd (none_some h (sym none ∙ is))
-      back r (Applies.of_head k _ other gives) = subst (λ (x : Head). Gives constants values x (items_of t) r) (some_is k h (sym other ∙ is)) gives
+      back r (Applies.of_head k _ other gives) = subst (λ (x : FormHead). Gives constants values x (items_of t) r) (some_is k h (sym other ∙ is)) gives
 
-  by_named : (o : Option Head) → head_of t ≡ o → IsSmallest (Applies constants values t) (draft_by constants values o (items_of t))
+  by_named : (o : Option FormHead) → head_of t ≡ o → IsSmallest (Applies constants values t) (draft_by constants values o (items_of t))
   by_named None none = without_head none
   by_named (Some h) is = with_head h is
 

@@ -9,7 +9,7 @@ use Rattle.md_pattern.specs.declared.reason.Reason.TheVariants as reason
 use Rattle.md_pattern.specs.declared.pattern.Patterns.{Patterns}
 use Rattle.md_pattern.specs.Reason.{both, judged_with}
 use Rattle.pred_expr.specs.declared.question.Test as test
-use Rattle.md_draft.specs.declared.head.Head.{Head}
+use Rattle.md_draft.specs.declared.head.FormHead.{FormHead}
 use Rattle.md_draft.specs.declared.head.RegisterClass.{RegisterClass}
 use Rattle.md_draft.specs.declared.draft.Attribute.{Attribute}
 use Rattle.md_draft.specs.declared.draft.Output.{Output}
@@ -29,38 +29,39 @@ use Rattle.md_draft.specs.Parts as parts
 
 -- ---- each part of a form, by its head and its trees
 
-abbrev pub patterns_in : List Constant → Head → List Tree → Judged Patterns
+abbrev pub patterns_in : List Constant → FormHead → List Tree → Judged Patterns
 patterns_in constants h ts = patterns.patterns_in constants h (part_at ts (layout_of h).patterns)
 
-abbrev pub condition_in : List Constant → List (List ℕ) → Head → List Tree → Judged cond.Tree
+abbrev pub condition_in : List Constant → List (List ℕ) → FormHead → List Tree → Judged cond.Tree
 condition_in constants values h ts = conditions.condition_in constants values (part_at ts (layout_of h).condition)
 
-abbrev pub split_condition_in : List Constant → List (List ℕ) → Head → List Tree → Judged cond.Tree
+abbrev pub split_condition_in : List Constant → List (List ℕ) → FormHead → List Tree →
+    Judged cond.Tree
 split_condition_in constants values h ts =
     conditions.split_condition_in constants values (part_at ts (layout_of h).condition) (part_at ts (layout_of h).split_condition)
 
-abbrev pub sequence_in : List Constant → Head → List Tree → Judged Patterns
+abbrev pub sequence_in : List Constant → FormHead → List Tree → Judged Patterns
 sequence_in constants h ts = patterns.sequence_in constants (part_at ts (layout_of h).sequence)
 
-abbrev pub statements_in : List Constant → Head → List Tree → Judged cond.Tree
+abbrev pub statements_in : List Constant → FormHead → List Tree → Judged cond.Tree
 statements_in constants h ts = conditions.statements_in constants (part_at ts (layout_of h).statements)
 
-abbrev pub output_in : Head → List Tree → Judged Output
+abbrev pub output_in : FormHead → List Tree → Judged Output
 output_in h ts = outputs.output_in (part_at ts (layout_of h).output)
 
-abbrev pub attributes_in : Head → List Tree → Judged (List Attribute)
+abbrev pub attributes_in : FormHead → List Tree → Judged (List Attribute)
 attributes_in h ts = parts.attributes_in (part_at ts (layout_of h).attributes)
 
-abbrev pub test_in : List Constant → Head → List Tree → Judged (Option test.Test)
+abbrev pub test_in : List Constant → FormHead → List Tree → Judged (Option test.Test)
 test_in constants h ts = parts.test_in constants (part_at ts (layout_of h).test)
 
-abbrev pub class_in : Head → List Tree → Judged (Option RegisterClass)
+abbrev pub class_in : FormHead → List Tree → Judged (Option RegisterClass)
 class_in h ts = parts.class_in (part_at ts (layout_of h).class)
 
-abbrev pub values_in : Head → List Tree → Judged (List (List ℕ))
+abbrev pub values_in : FormHead → List Tree → Judged (List (List ℕ))
 values_in h ts = parts.values_in (part_at ts (layout_of h).values)
 
-abbrev pub default_in : Head → List Tree → Judged (List ℕ)
+abbrev pub default_in : FormHead → List Tree → Judged (List ℕ)
 default_in h ts = parts.default_in (part_at ts (layout_of h).default)
 
 -- ---- all of them
@@ -68,7 +69,7 @@ default_in h ts = parts.default_in (part_at ts (layout_of h).default)
 abbrev pub matched_with : Patterns → cond.Tree → Matched
 matched_with ps c = record { patterns = ps; condition = c }
 
-unfoldable pub matched_in : List Constant → List (List ℕ) → Head → List Tree → Judged Matched
+unfoldable pub matched_in : List Constant → List (List ℕ) → FormHead → List Tree → Judged Matched
 matched_in constants values h ts = judged_with matched_with (patterns_in constants h ts) (condition_in constants values h ts)
 
 abbrev pub made_with : cond.Tree → Patterns × cond.Tree → Made
@@ -77,38 +78,39 @@ made_with c more = record { split_condition = c; sequence = more.0; statements =
 abbrev pub made_by : Judged cond.Tree → Judged Patterns → Judged cond.Tree → Judged Made
 made_by c ps statements = judged_with made_with c (both ps statements)
 
-unfoldable pub made_in : List Constant → List (List ℕ) → Head → List Tree → Judged Made
+unfoldable pub made_in : List Constant → List (List ℕ) → FormHead → List Tree → Judged Made
 made_in constants values h ts =
     made_by (split_condition_in constants values h ts) (sequence_in constants h ts) (statements_in constants h ts)
 
 abbrev pub printed_with : Output → List Attribute → Printed
 printed_with o given = record { output = o; attributes = given }
 
-unfoldable pub printed_in : Head → List Tree → Judged Printed
+unfoldable pub printed_in : FormHead → List Tree → Judged Printed
 printed_in h ts = judged_with printed_with (output_in h ts) (attributes_in h ts)
 
 abbrev pub defined_with : Option test.Test × Option RegisterClass → List (List ℕ) × List ℕ → Defined
 defined_with x y = record { test = x.0; class = x.1; values = y.0; default = y.1 }
 
-unfoldable pub defined_in : List Constant → Head → List Tree → Judged Defined
+unfoldable pub defined_in : List Constant → FormHead → List Tree → Judged Defined
 defined_in constants h ts =
     judged_with defined_with (both (test_in constants h ts) (class_in h ts)) (both (values_in h ts) (default_in h ts))
 
-abbrev pub draft_with : Head → Matched × Made → Printed × Defined → Draft
+abbrev pub draft_with : FormHead → Matched × Made → Printed × Defined → Draft
 draft_with h x y = record { head = h; matched = x.0; made = x.1; printed = y.0; defined = y.1 }
 
-abbrev pub together : Head → Judged Matched → Judged Made → Judged Printed → Judged Defined → Judged Draft
+abbrev pub together : FormHead → Judged Matched → Judged Made → Judged Printed → Judged Defined →
+    Judged Draft
 together h m k p d = judged_with (draft_with h) (both m k) (both p d)
 
-unfoldable pub whole_draft : List Constant → List (List ℕ) → Head → List Tree → Judged Draft
+unfoldable pub whole_draft : List Constant → List (List ℕ) → FormHead → List Tree → Judged Draft
 whole_draft constants values h ts =
     together h (matched_in constants values h ts) (made_in constants values h ts) (printed_in h ts) (defined_in constants h ts)
 
 -- the draft of a form with a head
-unfoldable pub draft_in : List Constant → List (List ℕ) → Head → List Tree → Judged Draft
+unfoldable pub draft_in : List Constant → List (List ℕ) → FormHead → List Tree → Judged Draft
 draft_in constants values h ts = if is_whole (layout_of h) ts then whole_draft constants values h ts else Err reason.Parts
 
-abbrev pub draft_by : List Constant → List (List ℕ) → Option Head → List Tree → Judged Draft
+abbrev pub draft_by : List Constant → List (List ℕ) → Option FormHead → List Tree → Judged Draft
 draft_by constants values None ts = Err reason.Head
 draft_by constants values (Some h) ts = draft_in constants values h ts
 

@@ -2,12 +2,12 @@
 -- project's profile of "Register Classes".
 use Rattle.std.specs.Prelude.{ℕ, List, [], ◌∷◌, Option, codes, find}
 use Rattle.std.specs.Str.{bytes_eq}
-use Rattle.md_draft.specs.declared.head.Head.{Head}
-use Rattle.md_draft.specs.declared.head.Head.TheVariants.{Insn, Expand, Split, InsnAndSplit, Peephole2, Predicate, SpecialPredicate, Constraint, RegisterConstraint, MemoryConstraint, Attr, Include, Constants, ModeIterator, ModeAttr, CodeIterator, CodeAttr, IntIterator, IntAttr}
+use Rattle.md_draft.specs.declared.head.FormHead.{FormHead}
+use Rattle.md_draft.specs.declared.head.FormHead.TheVariants.{Insn, Expand, Split, InsnAndSplit, Peephole2, Predicate, SpecialPredicate, Constraint, RegisterConstraint, MemoryConstraint, Attr, Include, Constants, ModeIterator, ModeAttr, CodeIterator, CodeAttr, IntIterator, IntAttr}
 use Rattle.md_draft.specs.declared.head.RegisterClass.{RegisterClass}
 use Rattle.md_draft.specs.declared.head.RegisterClass.TheVariants as class
 
-abbrev pub head_name : Head → List ℕ
+abbrev pub head_name : FormHead → List ℕ
 head_name Insn = codes "define_insn"
 head_name Expand = codes "define_expand"
 head_name Split = codes "define_split"
@@ -28,13 +28,13 @@ head_name CodeAttr = codes "define_code_attr"
 head_name IntIterator = codes "define_int_iterator"
 head_name IntAttr = codes "define_int_attr"
 
-abbrev pub all_heads : List Head
+abbrev pub all_heads : List FormHead
 all_heads =
     Insn ∷ Expand ∷ Split ∷ InsnAndSplit ∷ Peephole2 ∷ Predicate ∷ SpecialPredicate ∷ Constraint ∷ RegisterConstraint ∷ MemoryConstraint ∷ Attr ∷
     Include ∷ Constants ∷ ModeIterator ∷ ModeAttr ∷ CodeIterator ∷ CodeAttr ∷ IntIterator ∷ IntAttr ∷ []
 
 -- the head with a name
-unfoldable pub head_named : List ℕ → Option Head
+unfoldable pub head_named : List ℕ → Option FormHead
 head_named text = find (λ h. bytes_eq (head_name h) text) all_heads
 
 abbrev pub class_name : RegisterClass → List ℕ

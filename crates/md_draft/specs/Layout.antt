@@ -6,8 +6,8 @@ use Rattle.std.specs.Prelude.{ℕ, nat_le, Bool, true, ◌&&◌, List, Option, S
 use Rattle.std.specs.Option.{is_some}
 use Rattle.lisp_read.specs.declared.tree.Tree.{Tree}
 use Rattle.lisp_read.specs.Shape.{string_of}
-use Rattle.md_draft.specs.declared.head.Head.{Head}
-use Rattle.md_draft.specs.declared.head.Head.TheVariants as head
+use Rattle.md_draft.specs.declared.head.FormHead.{FormHead}
+use Rattle.md_draft.specs.declared.head.FormHead.TheVariants as head
 use Rattle.md_draft.specs.declared.layout.Layout.{Layout}
 
 -- no part at all, and so many trees at least and at most
@@ -73,7 +73,7 @@ abbrev pub attr : Layout
 attr = record (no_parts 4 4) { name = Some 1; values = Some 2; default = Some 3 }
 
 -- A definition that was applied is no form: as a form it has wrong parts, whatever their number.
-abbrev pub layout_of : Head → Layout
+abbrev pub layout_of : FormHead → Layout
 layout_of head.Insn = insn
 layout_of head.Expand = expand
 layout_of head.Split = rewriting

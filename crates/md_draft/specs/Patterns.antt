@@ -16,8 +16,8 @@ use Rattle.md_pattern.specs.declared.pattern.Patterns.{Patterns}
 use Rattle.md_pattern.specs.Reason.{judged_map}
 use Rattle.md_pattern.specs.Pattern as pattern
 use Rattle.md_pattern.specs.Pattern.{patterns_of}
-use Rattle.md_draft.specs.declared.head.Head.{Head}
-use Rattle.md_draft.specs.declared.head.Head.TheVariants as head
+use Rattle.md_draft.specs.declared.head.FormHead.{FormHead}
+use Rattle.md_draft.specs.declared.head.FormHead.TheVariants as head
 
 abbrev pub Judged : Type 0 → Type 0
 Judged A = Result A Reason
@@ -84,7 +84,7 @@ window_patterns constants t = if is_window (vector_of t) then patterns_of consta
 -- ---- the patterns of a form
 
 -- an expander makes its patterns, a peephole optimization matches a window of them, any other form one instruction
-abbrev pub patterns_by : List Constant → Head → Tree → Judged Patterns
+abbrev pub patterns_by : List Constant → FormHead → Tree → Judged Patterns
 patterns_by constants head.Expand t = patterns_of constants t
 patterns_by constants head.Peephole2 t = window_patterns constants t
 patterns_by constants _ t = insn_patterns constants t
@@ -94,7 +94,7 @@ abbrev pub if_there : {A : Type 0} → A → (Tree → Judged A) → Option Tree
 if_there none read None = Ok none
 if_there none read (Some t) = read t
 
-unfoldable pub patterns_in : List Constant → Head → Option Tree → Judged Patterns
+unfoldable pub patterns_in : List Constant → FormHead → Option Tree → Judged Patterns
 patterns_in constants h t = if_there no_patterns (patterns_by constants h) t
 
 unfoldable pub sequence_in : List Constant → Option Tree → Judged Patterns

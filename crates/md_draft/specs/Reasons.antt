@@ -7,18 +7,18 @@ use Rattle.lisp_read.specs.Shape.{items_of}
 use Rattle.md_pattern.specs.declared.reason.Reason.{Reason}
 use Rattle.md_pattern.specs.declared.reason.Reason.TheVariants as reason
 use Rattle.md_pattern.specs.Reason.{number_of}
-use Rattle.md_draft.specs.declared.head.Head.{Head}
+use Rattle.md_draft.specs.declared.head.FormHead.{FormHead}
 use Rattle.md_draft.specs.Head.{head_named}
 use Rattle.md_draft.specs.Layout.{layout_of, is_whole}
 use Rattle.md_draft.specs.Draft as draft
 use Rattle.md_draft.specs.Draft.{head_in}
 
 -- the head of a tree, if it is one of those that are taken
-abbrev pub head_of : Tree → Option Head
+abbrev pub head_of : Tree → Option FormHead
 head_of t = option_and_then head_named (head_in (items_of t))
 
 -- the reasons that a form with a head has; its parts are looked at where there are as many as the head takes
-pub data Gives (constants : List Constant) (values : List (List ℕ)) (h : Head) (ts : List Tree) : Reason → Type 0 where
+pub data Gives (constants : List Constant) (values : List (List ℕ)) (h : FormHead) (ts : List Tree) : Reason → Type 0 where
   count : is_whole (layout_of h) ts ≡ false → Gives constants values h ts reason.Parts
   patterns : (r : Reason) → is_whole (layout_of h) ts ≡ true → draft.patterns_in constants h ts ≡ Err r → Gives constants values h ts r
   condition : (r : Reason) → is_whole (layout_of h) ts ≡ true → draft.condition_in constants values h ts ≡ Err r → Gives constants values h ts r
@@ -35,7 +35,8 @@ pub data Gives (constants : List Constant) (values : List (List ℕ)) (h : Head)
 -- the reasons that a tree has as a form, by its own text
 pub data Applies (constants : List Constant) (values : List (List ℕ)) (t : Tree) : Reason → Type 0 where
   headless : head_of t ≡ None → Applies constants values t reason.Head
-  of_head : (h : Head) (r : Reason) → head_of t ≡ Some h → Gives constants values h (items_of t) r → Applies constants values t r
+  of_head : (h : FormHead) (r : Reason) → head_of t ≡ Some h →
+      Gives constants values h (items_of t) r → Applies constants values t r
 
 -- what has no reason was made, and what was not has the smallest of its reasons
 abbrev pub IsSmallest : {A : Type 0} → (Reason → Type 0) → Result A Reason → Type 0

@@ -1,5 +1,5 @@
 //! A form as far as its own text tells.
-use crate::head::{Head, RegisterClass};
+use crate::head::{FormHead, RegisterClass};
 use c_cond::{Cond, Prep};
 use md_pattern::{Judged, Patterns};
 use md_text::Template;
@@ -73,7 +73,7 @@ pub struct Defined {
 #[derive(Drop)]
 pub struct Draft {
     /// What it is.
-    pub head: Head,
+    pub head: FormHead,
     /// What it matches.
     pub matched: Matched,
     /// What it makes.

@@ -8,7 +8,7 @@ ghost use Rattle.md_draft.specs.Reasons.{Applies, IsSmallest};
 
 use crate::condition::{condition_in, split_condition_in, statements_in};
 use crate::draft::{Defined, Draft, DraftEntry, Made, Matched, Printed};
-use crate::head::{Head, RegisterClass};
+use crate::head::{FormHead, RegisterClass};
 use crate::layout::{is_whole, layout_of, part_at};
 use crate::output::output_in;
 use crate::pattern::{patterns_in, sequence_in};
@@ -28,7 +28,7 @@ fn matched_in(
     alloc: Global,
     constants: &Constants,
     values: &[Name],
-    head: Head,
+    head: FormHead,
     items: &[Tree],
 ) -> Result<Judged<Matched>, Memory>
     ensures { IfOk result (λ matched. matched ≡ spec.matched_in constants.now values.now head items.now) }
@@ -67,7 +67,7 @@ fn made_in(
     alloc: Global,
     constants: &Constants,
     values: &[Name],
-    head: Head,
+    head: FormHead,
     items: &[Tree],
 ) -> Result<Judged<Made>, Memory>
     ensures { IfOk result (λ made. made ≡ spec.made_in constants.now values.now head items.now) }
@@ -82,7 +82,7 @@ fn made_in(
 }
 
 #[tactic(auto, unfolding(crate::specs::Draft::printed_in))]
-fn printed_in(alloc: Global, head: Head, items: &[Tree]) -> Result<Judged<Printed>, Memory>
+fn printed_in(alloc: Global, head: FormHead, items: &[Tree]) -> Result<Judged<Printed>, Memory>
     ensures { IfOk result (λ printed. printed ≡ spec.printed_in head items.now) }
 {
     let places = layout_of(head);
@@ -97,7 +97,7 @@ fn printed_in(alloc: Global, head: Head, items: &[Tree]) -> Result<Judged<Printe
 fn test_and_class(
     alloc: Global,
     constants: &Constants,
-    head: Head,
+    head: FormHead,
     items: &[Tree],
 ) -> Result<Judged<(Option<Test>, Option<RegisterClass>)>, Memory>
     ensures { IfOk result (λ parts. parts ≡ both (spec.test_in constants.now head items.now)
@@ -110,7 +110,7 @@ fn test_and_class(
 
 fn values_and_default(
     alloc: Global,
-    head: Head,
+    head: FormHead,
     items: &[Tree],
 ) -> Result<Judged<(Items<Name>, Name)>, Memory>
     ensures { IfOk result (λ parts. parts ≡ both (spec.values_in head items.now)
@@ -142,7 +142,7 @@ fn defined_by(
 fn defined_in(
     alloc: Global,
     constants: &Constants,
-    head: Head,
+    head: FormHead,
     items: &[Tree],
 ) -> Result<Judged<Defined>, Memory>
     ensures { IfOk result (λ defined. defined ≡ spec.defined_in constants.now head items.now) }
@@ -156,7 +156,7 @@ fn matched_and_made(
     alloc: Global,
     constants: &Constants,
     values: &[Name],
-    head: Head,
+    head: FormHead,
     items: &[Tree],
 ) -> Result<Judged<(Matched, Made)>, Memory>
     ensures { IfOk result (λ parts. parts ≡ both (spec.matched_in constants.now values.now head items.now)
@@ -170,7 +170,7 @@ fn matched_and_made(
 fn printed_and_defined(
     alloc: Global,
     constants: &Constants,
-    head: Head,
+    head: FormHead,
     items: &[Tree],
 ) -> Result<Judged<(Printed, Defined)>, Memory>
     ensures { IfOk result (λ parts. parts ≡ both (spec.printed_in head items.now)
@@ -182,7 +182,7 @@ fn printed_and_defined(
 }
 
 fn together(
-    head: Head,
+    head: FormHead,
     matched_and_made: Judged<(Matched, Made)>,
     printed_and_defined: Judged<(Printed, Defined)>,
 ) -> Judged<Draft>
@@ -206,7 +206,7 @@ fn whole_draft(
     alloc: Global,
     constants: &Constants,
     values: &[Name],
-    head: Head,
+    head: FormHead,
     items: &[Tree],
 ) -> Result<Judged<Draft>, Memory>
     ensures { IfOk result (λ draft. draft ≡ spec.whole_draft constants.now values.now head items.now) }
@@ -222,7 +222,7 @@ fn draft_in(
     alloc: Global,
     constants: &Constants,
     values: &[Name],
-    head: Head,
+    head: FormHead,
     items: &[Tree],
 ) -> Result<Judged<Draft>, Memory>
     ensures { IfOk result (λ draft. draft ≡ spec.draft_in constants.now values.now head items.now) }
@@ -243,7 +243,7 @@ fn draft_by(
 ) -> Result<Judged<Draft>, Memory>
     ensures { IfOk result (λ draft. draft ≡ spec.draft_by constants.now values.now (head_named head.now) items.now) }
 {
-    match Head::named(head) {
+    match FormHead::named(head) {
         Some(head) => draft_in(alloc, constants, values, head, items),
         None => Ok(Err(Reason::Head)),
     }

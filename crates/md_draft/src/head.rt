@@ -5,7 +5,7 @@ ghost use Rattle.md_draft.specs.Head as spec;
 
 /// What a form defines.
 #[derive(Clone, Copy)]
-pub enum Head {
+pub enum FormHead {
     /// An instruction: what it matches and how it is printed.
     Insn,
     /// The instructions for a standard name.
@@ -60,26 +60,26 @@ pub enum RegisterClass {
 }
 
 /// Every head, once.
-const HEADS: [Head; 19] = [
-    Head::Insn,
-    Head::Expand,
-    Head::Split,
-    Head::InsnAndSplit,
-    Head::Peephole2,
-    Head::Predicate,
-    Head::SpecialPredicate,
-    Head::Constraint,
-    Head::RegisterConstraint,
-    Head::MemoryConstraint,
-    Head::Attr,
-    Head::Include,
-    Head::Constants,
-    Head::ModeIterator,
-    Head::ModeAttr,
-    Head::CodeIterator,
-    Head::CodeAttr,
-    Head::IntIterator,
-    Head::IntAttr,
+const HEADS: [FormHead; 19] = [
+    FormHead::Insn,
+    FormHead::Expand,
+    FormHead::Split,
+    FormHead::InsnAndSplit,
+    FormHead::Peephole2,
+    FormHead::Predicate,
+    FormHead::SpecialPredicate,
+    FormHead::Constraint,
+    FormHead::RegisterConstraint,
+    FormHead::MemoryConstraint,
+    FormHead::Attr,
+    FormHead::Include,
+    FormHead::Constants,
+    FormHead::ModeIterator,
+    FormHead::ModeAttr,
+    FormHead::CodeIterator,
+    FormHead::CodeAttr,
+    FormHead::IntIterator,
+    FormHead::IntAttr,
 ];
 
 /// Every class, once.
@@ -90,7 +90,7 @@ const CLASSES: [RegisterClass; 4] = [
     RegisterClass::Nothing,
 ];
 
-fn all_heads() -> &'static [Head]
+fn all_heads() -> &'static [FormHead]
     ensures { result.now ≡ spec.all_heads }
 {
     &HEADS
@@ -125,7 +125,7 @@ static HEAD_NAMES: [&str; 19] = [
     "define_int_attr",
 ];
 
-impl Head {
+impl FormHead {
     /// The head's text, as `define_insn`.
     pub fn name(self) -> &'static str
         ensures { result.now ≡ spec.head_name self }
@@ -141,7 +141,7 @@ impl Head {
 
     /// The head with this text, or `None` where it isn't taken.
     #[tactic(auto, unfolding(crate::specs::Head::head_named))]
-    pub fn named(text: &[u8]) -> Option<Head>
+    pub fn named(text: &[u8]) -> Option<FormHead>
         ensures { result ≡ spec.head_named text.now }
     {
         first_named(all_heads(), text)
@@ -149,7 +149,7 @@ impl Head {
 }
 
 /// The first of some heads that has this text.
-fn first_named(heads: &[Head], text: &[u8]) -> Option<Head>
+fn first_named(heads: &[FormHead], text: &[u8]) -> Option<FormHead>
     ensures { result ≡ find (λ head. bytes_eq (spec.head_name head) text.now) heads.now }
 {
     for head in heads {

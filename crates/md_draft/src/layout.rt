@@ -3,7 +3,7 @@ ghost use Rattle.std.specs.Prelude.{◌≡◌, option_and_then, slice_get};
 ghost use Rattle.std.specs.Option.{option_copied};
 ghost use Rattle.md_draft.specs.Layout as spec;
 
-use crate::head::Head;
+use crate::head::FormHead;
 use lisp_read::{Tree, string};
 
 /// How many trees a form has, its head among them, and at which place of them each part stands that there may be.
@@ -149,7 +149,7 @@ static LAYOUTS: [Layout; 19] = [
 ];
 
 /// Where the parts of a form with this head stand.
-pub fn layout_of(head: Head) -> Layout
+pub fn layout_of(head: FormHead) -> Layout
     ensures { result ≡ spec.layout_of head }
 {
     LAYOUTS[head as usize]

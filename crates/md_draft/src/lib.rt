@@ -17,5 +17,5 @@ mod text;
 
 pub use draft::{Attribute, Defined, Draft, DraftEntry, Made, Matched, Output, Printed};
 pub use entry::entry_of;
-pub use head::{Head, RegisterClass};
+pub use head::{FormHead, RegisterClass};
 pub use md_pattern::{Judged, Reason};

@@ -4,7 +4,7 @@ ghost use Rattle.std.specs.List.{count_by, list_any};
 ghost use Rattle.std.specs.Option.{option_copied};
 ghost use Rattle.md_draft.specs.Patterns as spec;
 
-use crate::head::Head;
+use crate::head::FormHead;
 use lisp_read::{Tree, atom, head_words, items, vector};
 use md_pattern::{Judged, Patterns, Reason, patterns_of};
 use plain_data::{Items, Memory};
@@ -137,7 +137,7 @@ fn window_patterns(
 pub fn patterns_in(
     alloc: Global,
     constants: &Constants,
-    head: Head,
+    head: FormHead,
     tree: Option<&Tree>,
 ) -> Result<Judged<Patterns>, Memory>
     ensures { IfOk result (λ patterns. patterns ≡ spec.patterns_in constants.now head (option_copied tree.entry)) }
@@ -146,8 +146,8 @@ pub fn patterns_in(
         return Ok(Ok(no_patterns(alloc)));
     };
     match head {
-        Head::Expand => patterns_of(alloc, tree, constants),
-        Head::Peephole2 => window_patterns(alloc, constants, tree),
+        FormHead::Expand => patterns_of(alloc, tree, constants),
+        FormHead::Peephole2 => window_patterns(alloc, constants, tree),
         _ => insn_patterns(alloc, constants, tree),
     }
 }

@@ -5,7 +5,7 @@ use Rattle.std.specs.Prelude.{◌≡◌, ℕ, ◌==◌, nat_le, Bool, true, fals
 use Rattle.std.specs.Option.{unwrap_or}
 use Rattle.std.specs.List.{find, flat_map, list_all, list_any}
 use Rattle.rtx_tree.specs.declared.tree.Rtx.{Rtx}
-use Rattle.c_words.specs.declared.head.Head as c
+use Rattle.c_words.specs.declared.head.CondHead as c
 use Rattle.c_cond.specs.Tree.{heads_of}
 use Rattle.md_text.specs.declared.constraint.Member.{Member}
 use Rattle.md_text.specs.declared.constraint.Member.TheVariants as member
@@ -17,8 +17,8 @@ use Rattle.md_text.specs.Constraint as text
 use Rattle.md_pattern.specs.declared.reason.Reason.{Reason}
 use Rattle.md_pattern.specs.declared.reason.Reason.TheVariants as reason
 use Rattle.md_pattern.specs.declared.operand.OperandText.{OperandText}
-use Rattle.md_draft.specs.declared.head.Head.{Head}
-use Rattle.md_draft.specs.declared.head.Head.TheVariants as head
+use Rattle.md_draft.specs.declared.head.FormHead.{FormHead}
+use Rattle.md_draft.specs.declared.head.FormHead.TheVariants as head
 use Rattle.md_draft.specs.declared.draft.Attribute.{Attribute}
 use Rattle.md_draft.specs.declared.draft.Output.{Output}
 use Rattle.md_draft.specs.declared.draft.Output.TheVariants as output
@@ -59,12 +59,12 @@ abbrev pub are_distinct : List ℕ → Bool
 are_distinct [] = true
 are_distinct (n ∷ ns) = not (has ns n) && are_distinct ns
 
-abbrev pub is_expander : Head → Bool
+abbrev pub is_expander : FormHead → Bool
 is_expander head.Expand = true
 is_expander _ = false
 
 -- an operand once more: one that is matched, or where statements may set it one that they set
-abbrev pub dup_by : Bool → List ℕ → List c.Head → ℕ → Bool
+abbrev pub dup_by : Bool → List ℕ → List c.CondHead → ℕ → Bool
 dup_by settable numbers statements n = has numbers n || (settable && list_any (is_assigned n) statements)
 
 -- statements may set an operand of a new sequence, and of the pattern of an expander
@@ -122,7 +122,7 @@ values_stand n given (Some a) = a.accepted && (list_all (is_value a) given.value
 abbrev pub attribute_stands : List AttributeDraft → ℕ → Attribute → Bool
 attribute_stands known n given = values_stand n given (attribute_named known given.name)
 
-abbrev pub is_attr : Head → Bool
+abbrev pub is_attr : FormHead → Bool
 is_attr head.Attr = true
 is_attr _ = false
 

@@ -7,8 +7,8 @@ use Rattle.rtx_tree.specs.declared.code.Code.TheVariants.{MatchOperand, MatchDup
 use Rattle.rtx_tree.specs.declared.tree.Rtx.{Rtx}
 use Rattle.rtx_tree.specs.declared.tree.Rtx.TheOpen.{Rtx-F}
 use Rattle.rtx_tree.specs.declared.tree.Rtx.TheFolds.{fold-Rtx}
-use Rattle.c_words.specs.declared.head.Head.{Head}
-use Rattle.c_words.specs.declared.head.Head.TheVariants.{Predicate, Assign}
+use Rattle.c_words.specs.declared.head.CondHead.{CondHead}
+use Rattle.c_words.specs.declared.head.CondHead.TheVariants.{Predicate, Assign}
 use Rattle.c_cond.specs.declared.tree.Tree.{Tree}
 use Rattle.c_cond.specs.Tree.{heads_of}
 use Rattle.pred_expr.specs.declared.question.Test.{Test}
@@ -29,7 +29,7 @@ predicates_step x = predicate_here x.code x.name ++ flat_map (λ names. names) x
 abbrev pub predicates_in : Rtx → List (List ℕ)
 predicates_in = fold-Rtx (List (List ℕ)) predicates_step
 
-abbrev pub predicate_of_head : Head → List (List ℕ)
+abbrev pub predicate_of_head : CondHead → List (List ℕ)
 predicate_of_head (Predicate name) = name ∷ []
 predicate_of_head _ = []
 
@@ -76,6 +76,6 @@ abbrev pub dups_in : Rtx → List ℕ
 dups_in = fold-Rtx (List ℕ) dups_step
 
 -- the statement sets the operand
-abbrev pub is_assigned : ℕ → Head → Bool
+abbrev pub is_assigned : ℕ → CondHead → Bool
 is_assigned k (Assign n) = n == k
 is_assigned k _ = false

@@ -5,8 +5,8 @@ use Rattle.std.specs.List.{filter_map, find, list_all, list_any}
 use Rattle.std.specs.Option.{unwrap_or}
 use Rattle.std.specs.Str.{bytes_eq}
 use Rattle.md_pattern.specs.declared.reason.Reason.{Reason}
-use Rattle.md_draft.specs.declared.head.Head.{Head}
-use Rattle.md_draft.specs.declared.head.Head.TheVariants as head
+use Rattle.md_draft.specs.declared.head.FormHead.{FormHead}
+use Rattle.md_draft.specs.declared.head.FormHead.TheVariants as head
 use Rattle.md_draft.specs.declared.draft.Draft.{Draft}
 use Rattle.md_draft.specs.declared.draft.DraftEntry.{DraftEntry}
 use Rattle.md_forms.specs.declared.tables.PredicateDraft.{PredicateDraft}
@@ -19,23 +19,23 @@ use Rattle.md_forms.specs.Predicates.{is_known, accepted_within}
 
 -- ---- what a head defines
 
-abbrev pub defines_predicate : Option Head → Bool
+abbrev pub defines_predicate : Option FormHead → Bool
 defines_predicate (Some head.Predicate) = true
 defines_predicate (Some head.SpecialPredicate) = true
 defines_predicate _ = false
 
-abbrev pub defines_constraint : Option Head → Bool
+abbrev pub defines_constraint : Option FormHead → Bool
 defines_constraint (Some head.Constraint) = true
 defines_constraint (Some head.RegisterConstraint) = true
 defines_constraint (Some head.MemoryConstraint) = true
 defines_constraint _ = false
 
-abbrev pub defines_attribute : Option Head → Bool
+abbrev pub defines_attribute : Option FormHead → Bool
 defines_attribute (Some head.Attr) = true
 defines_attribute _ = false
 
 -- the name that an entry defines, if its head is such a one
-abbrev pub defined : (Option Head → Bool) → DraftEntry → Option (List ℕ)
+abbrev pub defined : (Option FormHead → Bool) → DraftEntry → Option (List ℕ)
 defined test e = if test (head_named e.head) then e.name else None
 
 -- ---- predicates

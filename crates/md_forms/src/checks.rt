@@ -12,8 +12,8 @@ use crate::form::{Form, OperandConstraint};
 use crate::names::{assigns, predicates_named, push_all_dups, push_all_operands};
 use crate::predicates::all_known;
 use crate::tables::{AttributeDraft, ConstraintDraft, Tables, is_among, is_constraint};
-use c_cond::Head as CondHead;
-use md_draft::{Attribute, Defined, Draft, Head, Made, Matched, Output, Printed};
+use c_cond::CondHead;
+use md_draft::{Attribute, Defined, Draft, FormHead, Made, Matched, Output, Printed};
 use md_pattern::{Judged, OperandText, Patterns, Reason};
 use md_text::{Alternative, Member, Template, constraint_of};
 use plain_data::{Items, Memory};
@@ -92,10 +92,10 @@ fn are_distinct(numbers: &[u64]) -> bool
     true
 }
 
-fn is_expander(head: Head) -> bool
+fn is_expander(head: FormHead) -> bool
     ensures { result ≡ spec.is_expander head }
 {
-    matches!(head, Head::Expand)
+    matches!(head, FormHead::Expand)
 }
 
 /// Whether an operand may stand once more in a pattern.
@@ -331,10 +331,10 @@ fn all_attributes_stand(
         .all(|given| attribute_stands(known, alternatives, given))
 }
 
-fn is_attr(head: Head) -> bool
+fn is_attr(head: FormHead) -> bool
     ensures { result ≡ spec.is_attr head }
 {
-    matches!(head, Head::Attr)
+    matches!(head, FormHead::Attr)
 }
 
 fn default_stands(draft: &Draft) -> bool

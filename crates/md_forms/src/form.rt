@@ -1,6 +1,6 @@
 //! Forms as what they say.
 use c_cond::{Cond, Prep};
-use md_draft::{Attribute, Head, RegisterClass};
+use md_draft::{Attribute, FormHead, RegisterClass};
 use md_pattern::Judged;
 use md_text::{Constraint, Template};
 use plain_data::Items;
@@ -20,7 +20,7 @@ pub struct OperandConstraint {
 #[derive(Drop)]
 pub struct Form {
     /// What it defines.
-    pub head: Head,
+    pub head: FormHead,
     /// The instructions that it matches, or, for an expander, those that it makes. Several elements of one instruction are a
     /// `parallel`.
     pub patterns: Kids,

@@ -19,6 +19,6 @@ mod walk;
 
 pub use form::{Entry, Form, Forms, OperandConstraint};
 pub use forms::forms_of;
-pub use md_draft::{Attribute, Head, RegisterClass};
+pub use md_draft::{Attribute, FormHead, RegisterClass};
 pub use md_pattern::{Judged, Reason};
 pub use shown::names_of;

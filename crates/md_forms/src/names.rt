@@ -4,7 +4,7 @@ ghost use Rattle.std.specs.List.{flat_map, list_any};
 ghost use Rattle.rtx_tree.specs.Tree.{head_of};
 ghost use Rattle.md_forms.specs.Names as spec;
 
-use c_cond::Head;
+use c_cond::CondHead;
 use md_draft::Draft;
 use plain_data::{Items, Memory};
 use pred_expr::Test;
@@ -45,18 +45,18 @@ fn push_all_predicates(alloc: Global, trees: &[Rtx], names: &mut Items<Name>) ->
     Ok(())
 }
 
-fn push_predicate_of(alloc: Global, head: &Head, names: &mut Items<Name>) -> Result<(), Memory>
+fn push_predicate_of(alloc: Global, head: &CondHead, names: &mut Items<Name>) -> Result<(), Memory>
     ensures { OnOk result (names.new ≡ names.old ++ spec.predicate_of_head head.now) }
 {
     match head {
-        Head::Predicate(name) => names.push(name.copy(alloc)?),
+        CondHead::Predicate(name) => names.push(name.copy(alloc)?),
         _ => Ok(()),
     }
 }
 
 /// Appends the predicates that a condition or statements call.
 #[tactic(auto, using(pred_expr::proofs::Each::pushed_next, pred_expr::proofs::Each::pushed_ends))]
-fn push_called(alloc: Global, heads: &[Head], names: &mut Items<Name>) -> Result<(), Memory>
+fn push_called(alloc: Global, heads: &[CondHead], names: &mut Items<Name>) -> Result<(), Memory>
     ensures { OnOk result (names.new ≡ names.old ++ flat_map spec.predicate_of_head heads.now) }
 {
     for head in heads {
@@ -157,17 +157,17 @@ pub fn push_all_dups(trees: &[Rtx], numbers: &mut Items<u64>) -> Result<(), Memo
     Ok(())
 }
 
-fn is_assigned(number: u64, head: &Head) -> bool
+fn is_assigned(number: u64, head: &CondHead) -> bool
     ensures { result ≡ spec.is_assigned number head.now }
 {
     match head {
-        Head::Assign(operand) => u64::from(*operand) == number,
+        CondHead::Assign(operand) => u64::from(*operand) == number,
         _ => false,
     }
 }
 
 /// Whether one of some statements sets the operand.
-pub fn assigns(heads: &[Head], number: u64) -> bool
+pub fn assigns(heads: &[CondHead], number: u64) -> bool
     ensures { result ≡ list_any (spec.is_assigned number) heads.now }
 {
     heads.iter().any(|head| is_assigned(number, head))

@@ -7,7 +7,7 @@ ghost use Rattle.md_forms.specs.Tables as spec;
 use crate::definitions::{Definitions, Named};
 use crate::names::predicates_named;
 use crate::predicates::{accepted_within, all_known};
-use md_draft::{Draft, DraftEntry, Head};
+use md_draft::{Draft, DraftEntry, FormHead};
 use md_pattern::Judged;
 use plain_data::{Items, Memory};
 use rtx_tree::Name;
@@ -77,32 +77,32 @@ pub struct Tables {
 
 // ---- what a head defines
 
-fn defines_predicate(head: Option<Head>) -> bool
+fn defines_predicate(head: Option<FormHead>) -> bool
     ensures { result ≡ spec.defines_predicate head }
 {
-    matches!(head, Some(Head::Predicate | Head::SpecialPredicate))
+    matches!(head, Some(FormHead::Predicate | FormHead::SpecialPredicate))
 }
 
-fn defines_constraint(head: Option<Head>) -> bool
+fn defines_constraint(head: Option<FormHead>) -> bool
     ensures { result ≡ spec.defines_constraint head }
 {
     matches!(
         head,
-        Some(Head::Constraint | Head::RegisterConstraint | Head::MemoryConstraint)
+        Some(FormHead::Constraint | FormHead::RegisterConstraint | FormHead::MemoryConstraint)
     )
 }
 
-fn defines_attribute(head: Option<Head>) -> bool
+fn defines_attribute(head: Option<FormHead>) -> bool
     ensures { result ≡ spec.defines_attribute head }
 {
-    matches!(head, Some(Head::Attr))
+    matches!(head, Some(FormHead::Attr))
 }
 
 /// The name of the predicate that an entry defines.
 fn predicate_name(entry: &DraftEntry) -> Option<&Name>
     ensures { option_copied result ≡ spec.defined spec.defines_predicate entry.now }
 {
-    if defines_predicate(Head::named(entry.head.bytes())) {
+    if defines_predicate(FormHead::named(entry.head.bytes())) {
         entry.name.as_ref()
     } else {
         None
@@ -112,7 +112,7 @@ fn predicate_name(entry: &DraftEntry) -> Option<&Name>
 fn constraint_name(entry: &DraftEntry) -> Option<&Name>
     ensures { option_copied result ≡ spec.defined spec.defines_constraint entry.now }
 {
-    if defines_constraint(Head::named(entry.head.bytes())) {
+    if defines_constraint(FormHead::named(entry.head.bytes())) {
         entry.name.as_ref()
     } else {
         None
@@ -122,7 +122,7 @@ fn constraint_name(entry: &DraftEntry) -> Option<&Name>
 fn attribute_name(entry: &DraftEntry) -> Option<&Name>
     ensures { option_copied result ≡ spec.defined spec.defines_attribute entry.now }
 {
-    if defines_attribute(Head::named(entry.head.bytes())) {
+    if defines_attribute(FormHead::named(entry.head.bytes())) {
         entry.name.as_ref()
     } else {
         None

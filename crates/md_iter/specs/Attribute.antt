@@ -5,8 +5,8 @@ use Rattle.std.specs.Char.{to_ascii_lowercase, to_ascii_uppercase}
 use Rattle.std.specs.Str.{bytes_eq}
 use Rattle.md_iter.specs.declared.attribute.Filling.{Filling}
 use Rattle.md_iter.specs.declared.attribute.Filling.TheVariants.{Written, Capitals, Small}
-use Rattle.md_iter.specs.declared.definition.Kind.{Kind}
-use Rattle.md_iter.specs.declared.definition.Kind.TheVariants.{Mode, Code, Int}
+use Rattle.md_iter.specs.declared.definition.DefinitionKind.{DefinitionKind}
+use Rattle.md_iter.specs.declared.definition.DefinitionKind.TheVariants.{Mode, Code, Int}
 use Rattle.md_iter.specs.declared.definition.Entry.{Entry}
 use Rattle.md_iter.specs.declared.definition.IteratorAttribute.{IteratorAttribute}
 use Rattle.md_iter.specs.declared.definition.Definitions.{Definitions}
@@ -32,7 +32,7 @@ cased name in_capitals in_small value = if bytes_eq name in_capitals then Some (
     else None
 
 -- MODE and mode, or CODE and code, are the value's name in capitals and in small letters
-abbrev pub built_in : Kind → List ℕ → List ℕ → Option (List ℕ)
+abbrev pub built_in : DefinitionKind → List ℕ → List ℕ → Option (List ℕ)
 built_in Mode name value = cased name (codes "MODE") (codes "mode") value
 built_in Code name value = cased name (codes "CODE") (codes "code") value
 built_in Int name value = None
@@ -42,10 +42,11 @@ abbrev pub entry_for : List ℕ → List Entry → Option (List ℕ)
 entry_for value entries = option_map (λ e. e.text) (find (λ e. bytes_eq e.value value) entries)
 
 -- the first attribute of a kind and a name
-abbrev pub attribute_named : Kind → List ℕ → List IteratorAttribute → Option IteratorAttribute
+abbrev pub attribute_named : DefinitionKind → List ℕ → List IteratorAttribute →
+    Option IteratorAttribute
 attribute_named kind name attributes = find (λ a. same_kind a.kind kind && bytes_eq a.name name) attributes
 
-abbrev pub defined : Definitions → Kind → List ℕ → List ℕ → Option (List ℕ)
+abbrev pub defined : Definitions → DefinitionKind → List ℕ → List ℕ → Option (List ℕ)
 defined definitions kind name value = option_and_then (λ a. entry_for value a.entries) (attribute_named kind name definitions.attributes)
 
 -- what an attribute is at the value of one iterator

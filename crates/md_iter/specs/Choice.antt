@@ -7,8 +7,8 @@ use Rattle.lisp_read.specs.declared.tree.Tree.{Tree}
 use Rattle.lisp_read.specs.declared.tree.Tree.TheOpen.{Tree-F}
 use Rattle.lisp_read.specs.declared.tree.Tree.TheFolds.{fold-Tree}
 use Rattle.md_iter.specs.declared.choice.Choice.{Choice}
-use Rattle.md_iter.specs.declared.definition.Kind.{Kind}
-use Rattle.md_iter.specs.declared.definition.Kind.TheVariants.{Mode, Code, Int}
+use Rattle.md_iter.specs.declared.definition.DefinitionKind.{DefinitionKind}
+use Rattle.md_iter.specs.declared.definition.DefinitionKind.TheVariants.{Mode, Code, Int}
 use Rattle.md_iter.specs.declared.definition.Value.{Value}
 use Rattle.md_iter.specs.declared.definition.FormIterator.{FormIterator}
 use Rattle.md_iter.specs.Shape.{cut}
@@ -21,11 +21,11 @@ pub record Chosen : Type 0 where
 
 -- ---- the iterators of a form
 
-abbrev pub is_iterator : Kind → List ℕ → FormIterator → Bool
+abbrev pub is_iterator : DefinitionKind → List ℕ → FormIterator → Bool
 is_iterator kind name i = same_kind i.kind kind && bytes_eq i.name name
 
 -- the first definition of an iterator
-abbrev pub iterator_named : Kind → List ℕ → List FormIterator → Option FormIterator
+abbrev pub iterator_named : DefinitionKind → List ℕ → List FormIterator → Option FormIterator
 iterator_named kind name iterators = find (is_iterator kind name) iterators
 
 -- the iterator, unless it is there already

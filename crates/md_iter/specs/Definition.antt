@@ -7,8 +7,8 @@ use Rattle.std.specs.Int.{w64, cast_signed, int_wrapping_neg}
 use Rattle.std.specs.Str.{bytes_eq}
 use Rattle.rtx_tree.specs.declared.constants.Constant.{Constant}
 use Rattle.lisp_read.specs.declared.tree.Tree.{Tree}
-use Rattle.md_iter.specs.declared.definition.Kind.{Kind}
-use Rattle.md_iter.specs.declared.definition.Kind.TheVariants.{Mode, Code, Int}
+use Rattle.md_iter.specs.declared.definition.DefinitionKind.{DefinitionKind}
+use Rattle.md_iter.specs.declared.definition.DefinitionKind.TheVariants.{Mode, Code, Int}
 use Rattle.md_iter.specs.declared.definition.Value.{Value}
 use Rattle.md_iter.specs.declared.definition.FormIterator.{FormIterator}
 use Rattle.md_iter.specs.declared.definition.Entry.{Entry}
@@ -24,7 +24,7 @@ number_in (b ∷ bs) =
     if b == 45 then option_map (λ n. int_wrapping_neg w64 (cast_signed w64 n)) (c_number_in bs)
     else option_map (cast_signed w64) (c_number_in (b ∷ bs))
 
-abbrev pub same_kind : Kind → Kind → Bool
+abbrev pub same_kind : DefinitionKind → DefinitionKind → Bool
 same_kind Mode Mode = true
 same_kind Code Code = true
 same_kind Int Int = true
@@ -79,13 +79,13 @@ constant_of t = option_map constant_from (named_number (items_of t))
 
 -- ---- the definitions
 
-abbrev pub iterator_kind : List ℕ → Option Kind
+abbrev pub iterator_kind : List ℕ → Option DefinitionKind
 iterator_kind head = if bytes_eq head (codes "define_mode_iterator") then Some Mode
     else if bytes_eq head (codes "define_code_iterator") then Some Code
     else if bytes_eq head (codes "define_int_iterator") then Some Int
     else None
 
-abbrev pub attribute_kind : List ℕ → Option Kind
+abbrev pub attribute_kind : List ℕ → Option DefinitionKind
 attribute_kind head = if bytes_eq head (codes "define_mode_attr") then Some Mode
     else if bytes_eq head (codes "define_code_attr") then Some Code
     else if bytes_eq head (codes "define_int_attr") then Some Int

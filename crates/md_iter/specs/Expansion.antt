@@ -37,7 +37,7 @@ pub record PassesAt (definitions : Definitions) (trees : List Tree) (at : ℕ) :
   pub before : length (forms_with definitions (take at trees)) ≤ most_forms
   pub after : most_forms < length (forms_with definitions (take (at + 1) trees))
 
--- what a call answers on some trees; want of memory is free
+-- what is told is given; a refusal is the one that is told; want of memory is free
 abbrev pub Gives : List Tree → Result Expanded IterRefusal → Type 0
 Gives trees (Ok e) = (e.forms ≡ forms_of trees) × (e.constants ≡ all_constants_in trees) × (length (forms_of trees) ≤ most_forms)
 Gives trees (Err (refusal.Limit at)) = PassesAt (definitions_in trees) trees at

@@ -8,8 +8,8 @@ use Rattle.rtx_tree.specs.declared.constants.Constant.{Constant}
 use Rattle.lisp_read.specs.declared.tree.Tree.{Tree, roll-Tree}
 use Rattle.lisp_read.specs.declared.tree.Tree.TheOpen.{Tree-F}
 use Rattle.lisp_read.specs.declared.tree.Tree.TheFolds.{fold-Tree}
-use Rattle.md_iter.specs.declared.definition.Kind.{Kind}
-use Rattle.md_iter.specs.declared.definition.Kind.TheVariants.{Mode, Code, Int}
+use Rattle.md_iter.specs.declared.definition.DefinitionKind.{DefinitionKind}
+use Rattle.md_iter.specs.declared.definition.DefinitionKind.TheVariants.{Mode, Code, Int}
 use Rattle.md_iter.specs.declared.definition.Definitions.{Definitions}
 use Rattle.md_iter.specs.declared.substitution.Instance.{Instance}
 use Rattle.md_iter.specs.Shape.{cut}
@@ -20,11 +20,11 @@ use Rattle.md_iter.specs.Angles.{filled}
 -- ---- texts
 
 -- the value of the iterator of a kind and a name
-abbrev pub value_named : List Chosen → Kind → List ℕ → Option (List ℕ)
+abbrev pub value_named : List Chosen → DefinitionKind → List ℕ → Option (List ℕ)
 value_named choice kind name = option_map (λ c. c.value.name) (find (λ c. is_iterator kind name c.iterator) choice)
 
 -- that value, or the name as it stands
-abbrev pub value_or_name : List Chosen → Kind → List ℕ → List ℕ
+abbrev pub value_or_name : List Chosen → DefinitionKind → List ℕ → List ℕ
 value_or_name choice kind name = unwrap_or (value_named choice kind name) name
 
 -- what stands before a colon, which is the code of a list's head

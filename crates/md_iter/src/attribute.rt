@@ -6,7 +6,7 @@ ghost use Rattle.md_iter.specs.Attribute as spec;
 ghost use Rattle.md_iter.specs.Choice.{chosen_of};
 
 use crate::choice::Choice;
-use crate::definition::{Definitions, Entry, IteratorAttribute, Kind};
+use crate::definition::{DefinitionKind, Definitions, Entry, IteratorAttribute};
 use crate::shape::cut;
 use plain_data::Memory;
 use rtx_tree::Name;
@@ -70,13 +70,13 @@ fn cased<'a>(name: &[u8], capitals: &[u8], small: &[u8], value: &'a [u8]) -> Opt
 }
 
 /// The attributes that modes and codes have without a definition.
-fn built_in<'a>(kind: Kind, name: &[u8], value: &'a [u8]) -> Option<Filling<'a>>
+fn built_in<'a>(kind: DefinitionKind, name: &[u8], value: &'a [u8]) -> Option<Filling<'a>>
     ensures { option_map spec.filled_with result ≡ spec.built_in kind name.now value.entry.now }
 {
     match kind {
-        Kind::Mode => cased(name, b"MODE", b"mode", value),
-        Kind::Code => cased(name, b"CODE", b"code", value),
-        Kind::Int => None,
+        DefinitionKind::Mode => cased(name, b"MODE", b"mode", value),
+        DefinitionKind::Code => cased(name, b"CODE", b"code", value),
+        DefinitionKind::Int => None,
     }
 }
 
@@ -95,7 +95,7 @@ fn entry_for<'a>(entries: &'a [Entry], value: &[u8]) -> Option<&'a Name>
 /// The first attribute of a kind and a name.
 fn attribute_named<'a>(
     attributes: &'a [IteratorAttribute],
-    kind: Kind,
+    kind: DefinitionKind,
     name: &[u8],
 ) -> Option<&'a IteratorAttribute>
     ensures { option_copied result ≡ spec.attribute_named kind name.now attributes.entry.now }
@@ -110,7 +110,7 @@ fn attribute_named<'a>(
 
 fn defined<'a>(
     definitions: &'a Definitions,
-    kind: Kind,
+    kind: DefinitionKind,
     name: &[u8],
     value: &[u8],
 ) -> Option<Filling<'a>>

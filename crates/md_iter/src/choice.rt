@@ -5,7 +5,7 @@ ghost use Rattle.std.specs.Option.{option_copied};
 ghost use Rattle.md_iter.specs.Choice as spec;
 ghost use Rattle.md_iter.specs.Choice.{chosen_of, lent};
 
-use crate::definition::{FormIterator, Kind, Value};
+use crate::definition::{DefinitionKind, FormIterator, Value};
 use crate::shape::cut;
 use lisp_read::Tree;
 use plain_data::Memory;
@@ -19,7 +19,7 @@ pub struct Choice<'a> {
     pub value: &'a Value,
 }
 
-fn is_iterator(iterator: &FormIterator, kind: Kind, name: &[u8]) -> bool
+fn is_iterator(iterator: &FormIterator, kind: DefinitionKind, name: &[u8]) -> bool
     ensures { result ≡ spec.is_iterator kind name.now iterator.now }
 {
     iterator.kind.same(kind) && same(iterator.name.bytes(), name)
@@ -28,7 +28,7 @@ fn is_iterator(iterator: &FormIterator, kind: Kind, name: &[u8]) -> bool
 /// The first iterator of a kind and a name.
 fn iterator_named<'a>(
     iterators: &'a [FormIterator],
-    kind: Kind,
+    kind: DefinitionKind,
     name: &[u8],
 ) -> Option<&'a FormIterator>
     ensures { option_copied result ≡ spec.iterator_named kind name.now iterators.entry.now }
@@ -41,7 +41,7 @@ fn iterator_named<'a>(
     None
 }
 
-fn has(used: &[&FormIterator], kind: Kind, name: &[u8]) -> bool
+fn has(used: &[&FormIterator], kind: DefinitionKind, name: &[u8]) -> bool
     ensures { result ≡ list_any (spec.is_iterator kind name.now) (lent used.now) }
 {
     for iterator in used {
@@ -79,12 +79,12 @@ fn add_of_atom<'a>(
     match cut(text, b':') {
         Some((code, mode)) => {
             if is_head {
-                add(iterator_named(iterators, Kind::Code, code), used)?;
+                add(iterator_named(iterators, DefinitionKind::Code, code), used)?;
             }
-            add(iterator_named(iterators, Kind::Mode, mode), used)
+            add(iterator_named(iterators, DefinitionKind::Mode, mode), used)
         }
-        None if is_head => add(iterator_named(iterators, Kind::Code, text), used),
-        None => add(iterator_named(iterators, Kind::Int, text), used),
+        None if is_head => add(iterator_named(iterators, DefinitionKind::Code, text), used),
+        None => add(iterator_named(iterators, DefinitionKind::Int, text), used),
     }
 }
 

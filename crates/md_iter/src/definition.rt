@@ -12,19 +12,21 @@ use text_words::same;
 
 /// What an iterator stands for.
 #[derive(Clone, Copy)]
-pub enum Kind {
+pub enum DefinitionKind {
     Mode,
     Code,
     Int,
 }
 
-impl Kind {
+impl DefinitionKind {
     /// Whether two kinds are the same.
-    pub fn same(self, other: Kind) -> bool
+    pub fn same(self, other: DefinitionKind) -> bool
         ensures { result ≡ spec.same_kind self other }
     {
         match (self, other) {
-            (Kind::Mode, Kind::Mode) | (Kind::Code, Kind::Code) | (Kind::Int, Kind::Int) => true,
+            (DefinitionKind::Mode, DefinitionKind::Mode)
+            | (DefinitionKind::Code, DefinitionKind::Code)
+            | (DefinitionKind::Int, DefinitionKind::Int) => true,
             _ => false,
         }
     }
@@ -42,7 +44,7 @@ pub struct Value {
 /// A name that stands for each of some values.
 #[derive(Drop)]
 pub struct FormIterator {
-    pub kind: Kind,
+    pub kind: DefinitionKind,
     pub name: Name,
     /// The values, in order.
     pub values: Items<Value>,
@@ -58,7 +60,7 @@ pub struct Entry {
 /// An attribute of the iterators of a kind: a text for some of their values.
 #[derive(Drop)]
 pub struct IteratorAttribute {
-    pub kind: Kind,
+    pub kind: DefinitionKind,
     pub name: Name,
     pub entries: Items<Entry>,
 }
@@ -178,30 +180,30 @@ fn constants(alloc: Global, trees: &[Tree]) -> Result<Option<Constants>, Memory>
 }
 
 /// The kind of iterator that a head defines.
-fn iterator_kind(head: &[u8]) -> Option<Kind>
+fn iterator_kind(head: &[u8]) -> Option<DefinitionKind>
     ensures { result ≡ spec.iterator_kind head.now }
 {
     if same(head, b"define_mode_iterator") {
-        Some(Kind::Mode)
+        Some(DefinitionKind::Mode)
     } else if same(head, b"define_code_iterator") {
-        Some(Kind::Code)
+        Some(DefinitionKind::Code)
     } else if same(head, b"define_int_iterator") {
-        Some(Kind::Int)
+        Some(DefinitionKind::Int)
     } else {
         None
     }
 }
 
 /// The kind of iterators that a head defines an attribute of.
-fn attribute_kind(head: &[u8]) -> Option<Kind>
+fn attribute_kind(head: &[u8]) -> Option<DefinitionKind>
     ensures { result ≡ spec.attribute_kind head.now }
 {
     if same(head, b"define_mode_attr") {
-        Some(Kind::Mode)
+        Some(DefinitionKind::Mode)
     } else if same(head, b"define_code_attr") {
-        Some(Kind::Code)
+        Some(DefinitionKind::Code)
     } else if same(head, b"define_int_attr") {
-        Some(Kind::Int)
+        Some(DefinitionKind::Int)
     } else {
         None
     }

@@ -7,7 +7,7 @@ ghost use Rattle.md_iter.specs.Substitution as spec;
 
 use crate::angles::filled;
 use crate::choice::Choice;
-use crate::definition::{Definitions, Kind};
+use crate::definition::{DefinitionKind, Definitions};
 use crate::shape::cut;
 use itoa::Buffer;
 use lisp_read::{Tree, Trees};
@@ -27,7 +27,7 @@ pub struct Instance {
 }
 
 /// The value of the iterator of a kind and a name.
-fn value_named<'a>(choices: &[Choice<'a>], kind: Kind, name: &[u8]) -> Option<&'a Name>
+fn value_named<'a>(choices: &[Choice<'a>], kind: DefinitionKind, name: &[u8]) -> Option<&'a Name>
     ensures { option_copied result ≡ spec.value_named (map chosen_of choices.now) kind name.now }
 {
     for choice in choices {
@@ -39,7 +39,12 @@ fn value_named<'a>(choices: &[Choice<'a>], kind: Kind, name: &[u8]) -> Option<&'
 }
 
 /// Appends the value of the iterator of a kind and a name, or the name as it stands.
-fn push_value(choices: &[Choice], kind: Kind, name: &[u8], out: &mut Vec<u8>) -> Result<(), Memory>
+fn push_value(
+    choices: &[Choice],
+    kind: DefinitionKind,
+    name: &[u8],
+    out: &mut Vec<u8>,
+) -> Result<(), Memory>
     ensures { OnOk result (out.new.items ≡ out.old.items ++ spec.value_or_name (map chosen_of choices.now) kind name.now) }
 {
     match value_named(choices, kind, name) {
@@ -58,7 +63,7 @@ fn push_code(
     ensures { OnOk result (out.new.items ≡ out.old.items ++ spec.code_under (map chosen_of choices.now) is_head code.now) }
 {
     if is_head {
-        push_value(choices, Kind::Code, code, out)
+        push_value(choices, DefinitionKind::Code, code, out)
     } else {
         out.extend_from_slice(code)?;
         Ok(())
@@ -76,7 +81,7 @@ fn push_with_mode(
 {
     push_code(choices, is_head, code, out)?;
     out.push(b':')?;
-    push_value(choices, Kind::Mode, mode, out)
+    push_value(choices, DefinitionKind::Mode, mode, out)
 }
 
 fn push_without_mode(
@@ -88,9 +93,9 @@ fn push_without_mode(
     ensures { OnOk result (out.new.items ≡ out.old.items ++ spec.without_mode (map chosen_of choices.now) is_head text.now) }
 {
     if is_head {
-        push_value(choices, Kind::Code, text, out)
+        push_value(choices, DefinitionKind::Code, text, out)
     } else {
-        push_value(choices, Kind::Int, text, out)
+        push_value(choices, DefinitionKind::Int, text, out)
     }
 }
 

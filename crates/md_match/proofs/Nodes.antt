@@ -5,7 +5,7 @@ use Rattle.std.specs.List.{AllByRecursion}
 use Rattle.rtx_tree.specs.declared.code.Code.{Code}
 use Rattle.rtx_tree.specs.declared.code.Code.TheVariants.{MatchOperator, MatchScratch}
 use Rattle.rtx_tree.specs.declared.tree.Rtx.{Rtx}
-use Rattle.rtx_tree.specs.Tree.{Head, head_of, kids_of, tree_of}
+use Rattle.rtx_tree.specs.Tree.{RtxHead, head_of, kids_of, tree_of}
 use Rattle.rtx_tree.proofs.Trees.{head_of-tree, kids_of-tree, tree_of-parts}
 use Rattle.md_match.specs.declared.role.Role.{Role}
 use Rattle.md_match.specs.declared.role.Role.TheVariants.{Operand, Operator, Itself}
@@ -21,13 +21,13 @@ inside_as p r e = placeholders_out p ∙ ap (λ (r : Role). placeholders_as r p 
 -- ---- a tree of a head and parts
 
 -- what a tree of a head and parts has
-parts_are : (h : Head) (parts : Option (List Rtx)) (x : Rtx) → option_map (tree_of h) parts ≡ Some x → (h ≡ head_of x) × (parts ≡ Some (kids_of x))
+parts_are : (h : RtxHead) (parts : Option (List Rtx)) (x : Rtx) → option_map (tree_of h) parts ≡ Some x → (h ≡ head_of x) × (parts ≡ Some (kids_of x))
 parts_are h None x e = absurd (let none : ⊥ = cc in none)
 parts_are h (Some ks) x e =
     let same : tree_of h ks ≡ x = cc in
     (sym (head_of-tree h ks) ∙ ap head_of same, ap Some (sym (kids_of-tree h ks) ∙ ap kids_of same))
 
-of_parts : (h : Head) (parts : Option (List Rtx)) (x : Rtx) → h ≡ head_of x → parts ≡ Some (kids_of x) → option_map (tree_of h) parts ≡ Some x
+of_parts : (h : RtxHead) (parts : Option (List Rtx)) (x : Rtx) → h ≡ head_of x → parts ≡ Some (kids_of x) → option_map (tree_of h) parts ≡ Some x
 of_parts h parts x e f = ap (option_map (tree_of h)) f ∙ (ap (λ h. Some (tree_of h (kids_of x))) e ∙ ap Some (tree_of-parts x))
 
 -- ---- an expression that stands for itself

@@ -9,7 +9,7 @@ use Rattle.rtx_tree.specs.declared.code.Code.TheVariants.{MatchOperand, MatchDup
 use Rattle.rtx_tree.specs.declared.tree.Rtx.{Rtx}
 use Rattle.rtx_tree.specs.declared.tree.Rtx.TheOpen.{Rtx-F}
 use Rattle.rtx_tree.specs.declared.tree.Rtx.TheFolds.{fold-Rtx}
-use Rattle.rtx_tree.specs.Tree.{Head, head_of, tree_of}
+use Rattle.rtx_tree.specs.Tree.{RtxHead, head_of, tree_of}
 use Rattle.rtx_tree.specs.Operands.{operand_at}
 use Rattle.md_match.specs.declared.role.Role.{Role}
 use Rattle.md_match.specs.declared.role.Role.TheVariants.{Operand, Operator, Itself}
@@ -30,7 +30,7 @@ role_of MatchOpDup = Operator
 role_of _ = Itself
 
 -- the head of an expression whose kids are seen as something else
-abbrev pub layer_head : {A : Type 0} → Rtx-F A → Head
+abbrev pub layer_head : {A : Type 0} → Rtx-F A → RtxHead
 layer_head x = record { code = x.code; mode = x.mode; number = x.number; name = x.name }
 
 -- an expression, and the placeholders in it
@@ -88,7 +88,7 @@ all_some [] = Some []
 all_some (o ∷ os) = option_and_then (λ x. option_map (λ xs. x ∷ xs) (all_some os)) o
 
 -- An operand is put in whole. For an operator stands the operand's head with the parts that the pattern has there.
-abbrev pub instantiated_as : Role → Ops → Head → Option (List Rtx) → Option Rtx
+abbrev pub instantiated_as : Role → Ops → RtxHead → Option (List Rtx) → Option Rtx
 instantiated_as Operand operands h parts = operand_numbered operands h.number
 instantiated_as Operator operands h parts = option_and_then (λ x. option_map (tree_of (head_of x)) parts) (operand_numbered operands h.number)
 instantiated_as Itself operands h parts = option_map (tree_of h) parts

@@ -14,11 +14,11 @@ use Rattle.tree_forms.specs.Trees.{expanded, forms_of, most_forms}
 use Rattle.run_refusal.specs.declared.refusal.Refusal.{Refusal}
 use Rattle.run_refusal.specs.declared.refusal.Refusal.TheVariants as refusal
 use Rattle.md_named.specs.Named.{source_refused, FormsCome}
-use Rattle.md_named.specs.Answers.{RefusesForms, GivesForms}
+use Rattle.md_named.specs.Answers.{RefusesForms, Gives}
 use Rattle.md_named.specs.machine.Steps.{DescribesRun}
 
 -- the trees of a description were described
-pub of_trees : (source : Source) (name : List ℕ) (trees : List Tree) (r : Result (List Entry) Refusal) → DescriptionComes source name (Ok trees) → DescribesRun trees r → GivesForms r (FormsCome source name)
+pub of_trees : (source : Source) (name : List ℕ) (trees : List Tree) (r : Result (List Entry) Refusal) → DescriptionComes source name (Ok trees) → DescribesRun trees r → Gives r (FormsCome source name)
 of_trees source name trees (Ok d) come is = subst (λ (t : List Entry). FormsCome source name (Ok t)) (sym is.0) (FormsCome.described trees come is.1)
 of_trees source name trees (Err refusal.Memory) come free = tt
 of_trees source name trees (Err (refusal.Limit which count)) come is =
@@ -32,7 +32,7 @@ of_trees source name trees (Err (refusal.IllFormed function uid rule)) come none
 of_trees source name trees (Err (refusal.Unmatched function uid stage insn)) come none = absurd none
 
 -- its files were refused
-pub of_refusal : (source : Source) (name : List ℕ) (e : SourceRefusal) (r : Refusal) → r ≡ source_refused e → Refuses e (DescriptionComes source name) → GivesForms (Err r) (FormsCome source name)
+pub of_refusal : (source : Source) (name : List ℕ) (e : SourceRefusal) (r : Refusal) → r ≡ source_refused e → Refuses e (DescriptionComes source name) → Gives (Err r) (FormsCome source name)
 of_refusal source name e r is come = subst (λ (r : Refusal). RefusesForms r (FormsCome source name)) (sym is) (go e come)
   where
     go : (e : SourceRefusal) → Refuses e (DescriptionComes source name) → RefusesForms (source_refused e) (FormsCome source name)

@@ -12,7 +12,8 @@ RefusesForms refusal.Usage P = ⊥
 RefusesForms refusal.WriteFault P = ⊥
 RefusesForms e P = P (Err e)
 
--- so does an answer
-abbrev pub GivesForms : Result (List Entry) Refusal → (Result (List Entry) Refusal → Type 0) → Type 0
-GivesForms (Ok forms) P = P (Ok forms)
-GivesForms (Err e) P = RefusesForms e P
+-- what is told is given; a refusal is the one that is told; want of memory is free,
+-- and so is a fault
+abbrev pub Gives : Result (List Entry) Refusal → (Result (List Entry) Refusal → Type 0) → Type 0
+Gives (Ok forms) P = P (Ok forms)
+Gives (Err e) P = RefusesForms e P

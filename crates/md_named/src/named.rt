@@ -7,7 +7,7 @@ ghost use Rattle.md_source.specs.Answers.{Agrees};
 ghost use Rattle.md_forms.specs.declared.form.Entry.{Entry};
 ghost use Rattle.run_refusal.specs.declared.refusal.Refusal.{Refusal};
 ghost use Rattle.md_named.specs.Named as spec;
-ghost use Rattle.md_named.specs.Answers.{GivesForms};
+ghost use Rattle.md_named.specs.Answers.{Gives};
 ghost use Rattle.md_named.specs.machine.Steps.{DescribesRun};
 
 use byte_edge::Files;
@@ -65,7 +65,7 @@ pub fn description_of<F: Files>(
     name: &[u8],
 ) -> Result<Description, Refusal>
     // The answer is what the description comes to, by all that is known of the files, unless memory ran out or they failed.
-    ensures gives { (source : Source) → Agrees source (F.holds files.old) → GivesForms result (spec.FormsCome source name.now) }
+    ensures gives { (source : Source) → Agrees source (F.holds files.old) → Gives result (spec.FormsCome source name.now) }
 
     // By files of which all that the description is made of is known, it comes to one answer.
     ensures one { (source : Source) → IsKnown source name.now → (a b : Result (List Entry) Refusal) →

@@ -10,7 +10,7 @@ use Rattle.plain_data.specs.declared.memory.Memory.{Memory}
 use Rattle.rtx_tree.specs.declared.code.Mode.{Mode}
 use Rattle.rtx_tree.specs.declared.tree.Rtx.{Rtx}
 use Rattle.md_pattern.specs.declared.reason.Reason.{Reason}
-use Rattle.md_draft.specs.declared.head.Head.TheVariants as head
+use Rattle.md_draft.specs.declared.head.FormHead.TheVariants as head
 use Rattle.md_forms.specs.declared.form.Form.{Form}
 use Rattle.md_forms.specs.declared.form.Entry.{Entry}
 use Rattle.md_forms.proofs.TextKeys.{same_text}

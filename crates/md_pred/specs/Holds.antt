@@ -7,8 +7,8 @@ use Rattle.rtx_tree.specs.declared.code.Mode.{Mode}
 use Rattle.rtx_tree.specs.declared.tree.Rtx.{Rtx}
 use Rattle.pred_expr.specs.declared.question.Test.{Test}
 use Rattle.md_pattern.specs.declared.reason.Reason.{Reason}
-use Rattle.md_draft.specs.declared.head.Head.{Head}
-use Rattle.md_draft.specs.declared.head.Head.TheVariants as head
+use Rattle.md_draft.specs.declared.head.FormHead.{FormHead}
+use Rattle.md_draft.specs.declared.head.FormHead.TheVariants as head
 use Rattle.md_draft.specs.Head.{head_named}
 use Rattle.md_forms.specs.declared.form.Form.{Form}
 use Rattle.md_forms.specs.declared.form.Entry.{Entry}
@@ -24,7 +24,7 @@ abbrev pub is_of_mode : Mode → Rtx → Bool
 is_of_mode m x = has_mode m x || is_constant x
 
 -- a predicate looks at the mode besides its test; a special one in its test alone
-abbrev pub mode_fits : Head → Mode → Rtx → Bool
+abbrev pub mode_fits : FormHead → Mode → Rtx → Bool
 mode_fits head.Predicate m x = is_of_mode m x
 mode_fits _ m x = true
 

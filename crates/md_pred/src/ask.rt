@@ -12,7 +12,7 @@ ghost use Rattle.pred_rows.specs.machine.Rows as rows;
 use crate::definitions::Definition;
 use crate::step::{At, Step};
 use crate::table::PredTable;
-use md_forms::Head;
+use md_forms::FormHead;
 use md_operand::{Own, is_constant};
 use pred_rows::{Node, condition_holds, has_code, mode_or};
 use rtx_tree::{Mode, Name, Rtx};
@@ -35,11 +35,11 @@ fn is_of_mode(mode: Mode, x: &Rtx) -> bool
 }
 
 /// Whether a definition's head lets a tree through in a mode.
-fn mode_fits(head: Head, mode: Mode, x: &Rtx) -> bool
+fn mode_fits(head: FormHead, mode: Mode, x: &Rtx) -> bool
     ensures { result ≡ spec.mode_fits head mode x.now }
 {
     match head {
-        Head::Predicate => is_of_mode(mode, x),
+        FormHead::Predicate => is_of_mode(mode, x),
         _ => true,
     }
 }

@@ -8,7 +8,7 @@ ghost use Rattle.md_pred.specs.machine.Steps as steps;
 ghost use Rattle.md_pred.specs.machine.Table as table;
 
 use indexmap::IndexMap;
-use md_forms::{Entry, Form, Head, Judged};
+use md_forms::{Entry, Form, FormHead, Judged};
 use plain_data::Memory;
 use pred_expr::Test;
 use pred_rows::TestRows;
@@ -19,7 +19,7 @@ use std::alloc::Global;
 #[derive(Clone, Copy)]
 pub struct Definition {
     /// Its head.
-    pub head: Head,
+    pub head: FormHead,
     /// The root of its test; none where it accepts nothing.
     pub root: Option<usize>,
 }
@@ -34,17 +34,17 @@ pub struct Definitions {
 }
 
 /// Whether a head defines a predicate.
-fn is_predicate(head: Option<Head>) -> bool
+fn is_predicate(head: Option<FormHead>) -> bool
     ensures { result ≡ defines_predicate head }
 {
-    matches!(head, Some(Head::Predicate | Head::SpecialPredicate))
+    matches!(head, Some(FormHead::Predicate | FormHead::SpecialPredicate))
 }
 
 /// The name of the predicate that a form defines.
 fn predicate_name(entry: &Entry) -> Option<&Name>
     ensures { option_copied result ≡ steps.predicate_name entry.now }
 {
-    if is_predicate(Head::named(entry.head.bytes())) {
+    if is_predicate(FormHead::named(entry.head.bytes())) {
         entry.name.as_ref()
     } else {
         None
@@ -77,7 +77,7 @@ fn definition_of(
             root: root_of(alloc, rows, form.test.as_ref())?,
         }),
         Err(_) => Ok(Definition {
-            head: Head::Predicate,
+            head: FormHead::Predicate,
             root: None,
         }),
     }

@@ -5,8 +5,8 @@ use Rattle.rtx_tree.specs.declared.tree.Rtx.{Rtx}
 use Rattle.c_eval.specs.declared.facts.Facts.{Facts}
 use Rattle.md_match.specs.Pattern.{Ops}
 use Rattle.md_recog.specs.Match.{Accepts, IsMatch}
-use Rattle.md_draft.specs.declared.head.Head.{Head}
-use Rattle.md_draft.specs.declared.head.Head.TheVariants as head
+use Rattle.md_draft.specs.declared.head.FormHead.{FormHead}
+use Rattle.md_draft.specs.declared.head.FormHead.TheVariants as head
 use Rattle.md_forms.specs.declared.form.Form.{Form}
 use Rattle.md_forms.specs.declared.form.Entry.{Entry}
 use Rattle.c_cond.specs.declared.tree.Tree.{Tree}
@@ -15,13 +15,13 @@ use Rattle.md_recog.specs.declared.half.Half.TheVariants as half
 use Rattle.md_recog.specs.declared.recog.FormMatch.{FormMatch}
 
 -- whether a head defines an instruction
-abbrev pub is_instruction : Head → Bool
+abbrev pub is_instruction : FormHead → Bool
 is_instruction head.Insn = true
 is_instruction head.InsnAndSplit = true
 is_instruction _ = false
 
 -- whether a head defines a split
-abbrev pub is_split : Head → Bool
+abbrev pub is_split : FormHead → Bool
 is_split head.Split = true
 is_split head.InsnAndSplit = true
 is_split _ = false
@@ -29,12 +29,12 @@ is_split _ = false
 -- ---- the half of a form that is asked for
 
 -- whether a form has a half, by its head
-abbrev pub has_half : Half → Head → Bool
+abbrev pub has_half : Half → FormHead → Bool
 has_half half.Insn h = is_instruction h
 has_half half.Split h = is_split h
 
 -- the condition of a split is that of the split half, where there are two
-abbrev pub split_condition : Head → Form → Tree
+abbrev pub split_condition : FormHead → Form → Tree
 split_condition head.InsnAndSplit f = f.split_condition
 split_condition _ f = f.condition
 

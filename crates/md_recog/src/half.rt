@@ -3,7 +3,7 @@ ghost use Rattle.std.specs.Prelude.{◌≡◌};
 ghost use Rattle.md_recog.specs.Recog as spec;
 
 use c_cond::Cond;
-use md_forms::{Form, Head};
+use md_forms::{Form, FormHead};
 
 /// The half of a form that is asked for.
 #[derive(Clone, Copy)]
@@ -15,30 +15,30 @@ pub enum Half {
 }
 
 /// Whether a head defines an instruction.
-pub fn is_instruction(head: Head) -> bool
+pub fn is_instruction(head: FormHead) -> bool
     ensures { result ≡ spec.is_instruction head }
 {
-    matches!(head, Head::Insn | Head::InsnAndSplit)
+    matches!(head, FormHead::Insn | FormHead::InsnAndSplit)
 }
 
-fn is_split(head: Head) -> bool
+fn is_split(head: FormHead) -> bool
     ensures { result ≡ spec.is_split head }
 {
-    matches!(head, Head::Split | Head::InsnAndSplit)
+    matches!(head, FormHead::Split | FormHead::InsnAndSplit)
 }
 
 fn split_condition(form: &Form) -> &Cond
     ensures { result.now ≡ spec.split_condition form.now.head form.now }
 {
     match form.head {
-        Head::InsnAndSplit => &form.split_condition,
+        FormHead::InsnAndSplit => &form.split_condition,
         _ => &form.condition,
     }
 }
 
 impl Half {
     /// Whether a form has the half, by its head.
-    pub fn is_of(self, head: Head) -> bool
+    pub fn is_of(self, head: FormHead) -> bool
         ensures { result ≡ spec.has_half self head }
     {
         match self {

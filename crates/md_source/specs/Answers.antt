@@ -14,7 +14,8 @@ Refuses refusal.ReadFault P = Unit {0}
 Refuses refusal.Memory P = Unit {0}
 Refuses e P = P (Err e)
 
--- so does an answer
+-- what is told is given; a refusal is the one that is told; want of memory is free,
+-- and so is a fault
 abbrev pub Gives : {A : Type 0} → Result A SourceRefusal → (Result A SourceRefusal → Type 0) → Type 0
 Gives (Ok x) P = P (Ok x)
 Gives (Err e) P = Refuses e P

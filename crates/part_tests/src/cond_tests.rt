@@ -1,5 +1,5 @@
 //! Rows of heads that no text is parsed to.
-use c_cond::{Head, Unary, parse_cond};
+use c_cond::{CondHead, Unary, parse_cond};
 use c_eval::{Facts, Reading, eval, read};
 use md_pred::PredTable;
 use plain_data::{Items, Memory};
@@ -15,14 +15,14 @@ fn facts(alloc: Global) -> Facts {
 }
 
 /// What is read of a row of heads, where no operand and no predicate is known.
-fn reading(alloc: Global, heads: &[Head]) -> Result<Reading, Memory> {
+fn reading(alloc: Global, heads: &[CondHead]) -> Result<Reading, Memory> {
     let preds = PredTable::of(alloc, &Items::new(alloc))?;
     Ok(read(heads, &facts(alloc), &Operands::new(alloc), &preds))
 }
 
 /// What is read of a row of two numbers and a head.
-fn last(alloc: Global, head: Head) -> Result<Reading, Memory> {
-    reading(alloc, &[Head::Number(1), Head::Number(0), head])
+fn last(alloc: Global, head: CondHead) -> Result<Reading, Memory> {
+    reading(alloc, &[CondHead::Number(1), CondHead::Number(0), head])
 }
 
 /// The last tree of a row is read.
@@ -30,17 +30,22 @@ fn last(alloc: Global, head: Head) -> Result<Reading, Memory> {
 fn the_last_tree_of_heads(rt: HostRuntime) {
     let alloc = rt.alloc();
     assert!(rt; matches!(reading(alloc, &[]), Ok(Reading::Nothing)));
-    assert!(rt; matches!(last(alloc, Head::Unary(Unary::Not)), Ok(Reading::Number(1))));
-    assert!(rt; matches!(last(alloc, Head::Operand(3)), Ok(Reading::Operand(3))));
     assert!(rt;
         matches!(
-            last(alloc, Head::Mode(Mode::SI)),
+            last(alloc, CondHead::Unary(Unary::Not)),
+            Ok(Reading::Number(1))
+        )
+    );
+    assert!(rt; matches!(last(alloc, CondHead::Operand(3)), Ok(Reading::Operand(3))));
+    assert!(rt;
+        matches!(
+            last(alloc, CondHead::Mode(Mode::SI)),
             Ok(Reading::Mode(Mode::SI))
         )
     );
-    assert!(rt; matches!(last(alloc, Head::Window(2)), Ok(Reading::Window(2))));
-    assert!(rt; matches!(last(alloc, Head::Done), Ok(Reading::Nothing)));
-    assert!(rt; matches!(last(alloc, Head::Choose), Ok(Reading::Nothing)));
+    assert!(rt; matches!(last(alloc, CondHead::Window(2)), Ok(Reading::Window(2))));
+    assert!(rt; matches!(last(alloc, CondHead::Done), Ok(Reading::Nothing)));
+    assert!(rt; matches!(last(alloc, CondHead::Choose), Ok(Reading::Nothing)));
 }
 
 /// An operand that is a register without a number of one.

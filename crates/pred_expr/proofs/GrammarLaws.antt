@@ -4,7 +4,7 @@ use Rattle.rtx_tree.specs.declared.constants.Constant.{Constant}
 use Rattle.c_words.specs.declared.atom.Dialect.{Dialect}
 use Rattle.c_words.specs.declared.atom.Dialect.TheVariants as dialect
 use Rattle.c_cond.specs.declared.goal.Goal.TheVariants as goal
-use Rattle.c_words.specs.declared.head.Head.{Head}
+use Rattle.c_words.specs.declared.head.CondHead.{CondHead}
 use Rattle.c_cond.specs.declared.tree.Tree.{Tree}
 use Rattle.c_words.specs.Tokens.{tokens_in}
 use Rattle.c_cond.specs.Tree.{tree_of}
@@ -39,11 +39,11 @@ is_none : (o : Option Tree) (P : Tree → Type 0) → Reads o P → ((t : Tree) 
 is_none None P is none = refl
 is_none (Some u) P is none = absurd (none u is)
 
-condition_by : (d : Dialect) (cs : List Constant) (text : List ℕ) (r : Option (List Head)) → result_of d cs (at [] (goal.Condition ∷ [])) (tokens_in text) ≡ r → Reads (option_map tree_of r) (IsText d cs Condition text)
+condition_by : (d : Dialect) (cs : List Constant) (text : List ℕ) (r : Option (List CondHead)) → result_of d cs (at [] (goal.Condition ∷ [])) (tokens_in text) ≡ r → Reads (option_map tree_of r) (IsText d cs Condition text)
 condition_by d cs text None e = no_condition d cs (tokens_in text) e
 condition_by d cs text (Some heads) e = (is_condition d cs heads (tokens_in text) e).is
 
-statements_by : (d : Dialect) (cs : List Constant) (text : List ℕ) (r : Option (List Head)) → result_of d cs (at [] (goal.Statements ∷ [])) (tokens_in text) ≡ r → Reads (option_map tree_of r) (IsText d cs Statements text)
+statements_by : (d : Dialect) (cs : List Constant) (text : List ℕ) (r : Option (List CondHead)) → result_of d cs (at [] (goal.Statements ∷ [])) (tokens_in text) ≡ r → Reads (option_map tree_of r) (IsText d cs Statements text)
 statements_by d cs text None e = no_statements d cs (tokens_in text) e
 statements_by d cs text (Some heads) e = (is_statements d cs heads (tokens_in text) e).is
 

@@ -20,8 +20,8 @@ use Rattle.md_pattern.specs.Pattern.{or_aside}
 use Rattle.pred_expr.specs.declared.question.Question.{Question}
 use Rattle.pred_expr.specs.declared.question.Question.TheVariants as question
 use Rattle.pred_expr.specs.declared.question.Test.{Test}
-use Rattle.pred_expr.specs.declared.test.Kind.{Kind}
-use Rattle.pred_expr.specs.declared.test.Kind.TheVariants as kind
+use Rattle.pred_expr.specs.declared.test.TestKind.{TestKind}
+use Rattle.pred_expr.specs.declared.test.TestKind.TheVariants as kind
 use Rattle.pred_expr.specs.Texts.{test_condition_of}
 use Rattle.pred_expr.specs.Test.{test_with, alone, kind_of, text_in, codes_in, codes_by, condition_by, predicate_in, predicate_by, each, joined, behind, of_kind, of_head, test_of, IsList, IsTest}
 use Rattle.pred_expr.proofs.GrammarLaws.{test_condition_says}
@@ -42,7 +42,7 @@ module _ (cs : List Constant) where
 
   -- ---- what is a test is read as it
 
-  listed : (t : Tree) (word : List ℕ) (ts : List Tree) (k : Kind) → IsList t word ts → kind_of word ≡ Some k → read t ≡ behind cs k (mode_of_head word) ts (map read ts)
+  listed : (t : Tree) (word : List ℕ) (ts : List Tree) (k : TestKind) → IsList t word ts → kind_of word ≡ Some k → read t ≡ behind cs k (mode_of_head word) ts (map read ts)
   listed t word ts k is known =
       test_out cs t ∙ rw is.items (rw is.word_is (rw known refl))
 
@@ -195,7 +195,7 @@ module _ (cs : List Constant) where
       (IsTest.of_choice t word a.0 b.0 c.0 first.first second.first third.first is known (a.1 first.first first.first_is) (b.1 second.first second.first_is) (c.1 third.first third.first_is))
   choice_sound t word (a ∷ b ∷ c ∷ d ∷ ks) x is known r = absurd (omega (arith, r.many))
 
-  kind_sound : (t : Tree) (word : List ℕ) (ks : List ((u : Tree) × Sound u)) (x : Test) → IsList t word (map (λ k. k.0) ks) → (k : Kind) → kind_of word ≡ Some k →
+  kind_sound : (t : Tree) (word : List ℕ) (ks : List ((u : Tree) × Sound u)) (x : Test) → IsList t word (map (λ k. k.0) ks) → (k : TestKind) → kind_of word ≡ Some k →
       behind cs k (mode_of_head word) (map (λ k. k.0) ks) (map read (map (λ k. k.0) ks)) ≡ Ok x → made t x
   kind_sound t word ks x is kind.Codes known e = codes_sound t word (map (λ k. k.0) ks) x is known e
   kind_sound t word ks x is kind.Condition known e = condition_sound t word (map (λ k. k.0) ks) x is known e
@@ -209,7 +209,7 @@ module _ (cs : List Constant) where
   list_sound t [] are x e = absurd (aside reason.Parts x (sym (test_out cs t ∙ rw are refl) ∙ e))
   list_sound t (h ∷ ks) are x e = by_word (atom_of h.0) refl (sym (test_out cs t ∙ rw are refl) ∙ e)
     where
-      by_kind : (word : List ℕ) (o : Option Kind) → atom_of h.0 ≡ Some word → kind_of word ≡ o →
+      by_kind : (word : List ℕ) (o : Option TestKind) → atom_of h.0 ≡ Some word → kind_of word ≡ o →
           of_kind cs o (mode_of_head word) (map (λ k. k.0) ks) (map read (map (λ k. k.0) ks)) ≡ Ok x → made t x
       by_kind word None is known f = absurd (aside reason.Parts x f)
       by_kind word (Some k) is known f = kind_sound t word ks x (record { head = h.0; items = are; word_is = is }) k known f

@@ -28,8 +28,8 @@ use Rattle.pred_expr.specs.declared.question.Question.TheVariants as question
 use Rattle.pred_expr.specs.declared.question.Test.{Test, roll-Test}
 use Rattle.pred_expr.specs.declared.question.Test.TheOpen.{Test-F}
 use Rattle.pred_expr.specs.declared.question.Test.TheFolds.{fold-Test}
-use Rattle.pred_expr.specs.declared.test.Kind.{Kind}
-use Rattle.pred_expr.specs.declared.test.Kind.TheVariants as kind
+use Rattle.pred_expr.specs.declared.test.TestKind.{TestKind}
+use Rattle.pred_expr.specs.declared.test.TestKind.TheVariants as kind
 use Rattle.pred_expr.specs.Texts.{test_condition_of}
 
 abbrev pub test_with : Question → List Test → Test
@@ -41,12 +41,12 @@ alone q = test_with q []
 
 -- ---- heads
 
-abbrev pub is_operand : Code → Option Kind
+abbrev pub is_operand : Code → Option TestKind
 is_operand MatchOperand = Some kind.Predicate
 is_operand _ = None
 
 -- `match_operand` may have a mode
-abbrev pub kind_of : List ℕ → Option Kind
+abbrev pub kind_of : List ℕ → Option TestKind
 kind_of text = if bytes_eq text (codes "match_code") then Some kind.Codes
     else if bytes_eq text (codes "match_test") then Some kind.Condition
     else if bytes_eq text (codes "and") then Some kind.And
@@ -99,7 +99,8 @@ joined q count inside = if length inside == count then judged_map (test_with q) 
 
 -- ---- a tree
 
-abbrev pub behind : List Constant → Kind → Option Mode → List Tree → List (Result Test Reason) → Result Test Reason
+abbrev pub behind : List Constant → TestKind → Option Mode → List Tree → List (Result Test Reason) →
+    Result Test Reason
 behind constants kind.Codes m ts inside = codes_by (text_in ts)
 behind constants kind.Condition m ts inside = condition_by constants (text_in ts)
 behind constants kind.Predicate m ts inside = predicate_by m (predicate_in ts)
@@ -108,7 +109,8 @@ behind constants kind.Ior m ts inside = joined question.Ior 2 inside
 behind constants kind.Not m ts inside = joined question.Not 1 inside
 behind constants kind.IfThenElse m ts inside = joined question.IfThenElse 3 inside
 
-abbrev pub of_kind : List Constant → Option Kind → Option Mode → List Tree → List (Result Test Reason) → Result Test Reason
+abbrev pub of_kind : List Constant → Option TestKind → Option Mode → List Tree →
+    List (Result Test Reason) → Result Test Reason
 of_kind constants None m ts inside = Err reason.Parts
 of_kind constants (Some k) m ts inside = behind constants k m ts inside
 

@@ -24,7 +24,7 @@ use std::alloc::Global;
 
 /// What stands at the head of a test.
 #[derive(Clone, Copy)]
-pub enum Kind {
+pub enum TestKind {
     /// `match_code`
     Codes,
     /// `match_test`
@@ -42,24 +42,24 @@ pub enum Kind {
 }
 
 /// The kind of the test that this atom stands at the head of.
-fn kind_of(head: &[u8]) -> Option<Kind>
+fn kind_of(head: &[u8]) -> Option<TestKind>
     ensures { result ≡ spec.kind_of head.now }
 {
     if head == b"match_code".as_slice() {
-        Some(Kind::Codes)
+        Some(TestKind::Codes)
     } else if head == b"match_test".as_slice() {
-        Some(Kind::Condition)
+        Some(TestKind::Condition)
     } else if head == b"and".as_slice() {
-        Some(Kind::And)
+        Some(TestKind::And)
     } else if head == b"ior".as_slice() {
-        Some(Kind::Ior)
+        Some(TestKind::Ior)
     } else if head == b"not".as_slice() {
-        Some(Kind::Not)
+        Some(TestKind::Not)
     } else if head == b"if_then_else".as_slice() {
-        Some(Kind::IfThenElse)
+        Some(TestKind::IfThenElse)
     } else {
         match head_words(head).0 {
-            Some(Code::MatchOperand) => Some(Kind::Predicate),
+            Some(Code::MatchOperand) => Some(TestKind::Predicate),
             _ => None,
         }
     }
@@ -233,20 +233,20 @@ fn joined(
 fn behind(
     alloc: Global,
     constants: &Constants,
-    kind: Kind,
+    kind: TestKind,
     mode: Option<Mode>,
     parts: &[Tree],
 ) -> Result<Judged<Test>, Memory>
     ensures { IfOk result (λ test. test ≡ spec.behind constants.now kind mode parts.now (map (spec.test_of constants.now) parts.now)) }
 {
     match kind {
-        Kind::Codes => codes(alloc, parts),
-        Kind::Condition => condition(alloc, constants, parts),
-        Kind::Predicate => predicate(alloc, mode, parts),
-        Kind::And => joined(alloc, constants, Question::And, 2, parts),
-        Kind::Ior => joined(alloc, constants, Question::Ior, 2, parts),
-        Kind::Not => joined(alloc, constants, Question::Not, 1, parts),
-        Kind::IfThenElse => joined(alloc, constants, Question::IfThenElse, 3, parts),
+        TestKind::Codes => codes(alloc, parts),
+        TestKind::Condition => condition(alloc, constants, parts),
+        TestKind::Predicate => predicate(alloc, mode, parts),
+        TestKind::And => joined(alloc, constants, Question::And, 2, parts),
+        TestKind::Ior => joined(alloc, constants, Question::Ior, 2, parts),
+        TestKind::Not => joined(alloc, constants, Question::Not, 1, parts),
+        TestKind::IfThenElse => joined(alloc, constants, Question::IfThenElse, 3, parts),
     }
 }
 

@@ -6,7 +6,7 @@ ghost use Rattle.pred_rows.specs.machine.Rows as rows;
 ghost use Rattle.pred_rows.specs.Tests as spec;
 
 use crate::node::Node;
-use c_cond::Head;
+use c_cond::CondHead;
 use c_eval::{Preds, test_worth};
 use rtx_tree::{Code, Mode, Rtx};
 
@@ -26,7 +26,7 @@ pub fn has_code(codes: &[Code], x: &Rtx) -> bool
 }
 
 /// Whether a condition, given by its heads, isn't 0 for an operand.
-pub fn condition_holds(heads: &[Head], x: &Rtx) -> bool
+pub fn condition_holds(heads: &[CondHead], x: &Rtx) -> bool
     ensures { result ≡ spec.condition_holds (tree_of heads.now) x.now }
 {
     test_worth(heads, x) != 0

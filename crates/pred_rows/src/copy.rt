@@ -2,14 +2,14 @@
 ghost use Rattle.std.specs.Prelude.{◌≡◌, IfOk};
 
 use crate::node::Heads;
-use c_cond::Head;
+use c_cond::CondHead;
 use plain_data::{Items, Memory};
 use pred_expr::Codes;
 use rtx_tree::Code;
 use std::alloc::Global;
 
 /// The same heads once more.
-pub fn heads_copy(alloc: Global, heads: &[Head]) -> Result<Heads, Memory>
+pub fn heads_copy(alloc: Global, heads: &[CondHead]) -> Result<Heads, Memory>
     ensures { IfOk result (λ copy. copy ≡ heads.now) }
 {
     let mut copy = Items::new(alloc);

@@ -1,7 +1,7 @@
 //! Questions of tests in a row.
 ghost use Rattle.std.specs.Prelude.{◌≡◌, [], ◌∷◌, ◌++◌, length, take, IfOk, OnErr, OnOk};
 
-use c_cond::Head;
+use c_cond::CondHead;
 use plain_data::{Items, Memory};
 use pred_expr::Codes;
 use rtx_tree::{Mode, Name};
@@ -9,7 +9,7 @@ use std::alloc::Global;
 use std::marker::Model;
 
 /// The heads of a condition, each behind its parts.
-pub type Heads = Items<Head>;
+pub type Heads = Items<CondHead>;
 
 /// A question of a test. The questions that it is made of stand before it in the row, and are given by their places there.
 #[derive(Drop)]

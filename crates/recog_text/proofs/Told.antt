@@ -8,7 +8,8 @@ use Rattle.run_refusal.specs.declared.refusal.Refusal.{Refusal}
 use Rattle.md_forms.specs.declared.form.Entry.{Entry}
 use Rattle.rtl_chain.specs.End.{IsEnd, IsFinished}
 use Rattle.func_input.specs.Input.{RefusesWith}
-use Rattle.func_input.specs.Outcome.{Outcome, AppendedSome}
+use Rattle.func_input.specs.Outcome.{Outcome}
+use Rattle.func_input.specs.machine.Steps.{AppendedSome}
 use Rattle.func_input.proofs.Refusing.{refuses_map}
 use Rattle.recog_text.specs.Each.{EachComes}
 use Rattle.recog_text.specs.machine.Steps.{added}

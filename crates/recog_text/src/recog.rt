@@ -5,7 +5,8 @@ ghost use Rattle.md_forms.specs.declared.form.Entry.{Entry};
 ghost use Rattle.md_forms.specs.Forms.{names_of};
 ghost use Rattle.rtx_tree.specs.Limit.{most_bytes};
 ghost use Rattle.func_input.specs.Input.{FunctionsComeTo, InputComesTo};
-ghost use Rattle.func_input.specs.Outcome.{Outcome, AppendedSome, Tells};
+ghost use Rattle.func_input.specs.Outcome.{Outcome, Gives};
+ghost use Rattle.func_input.specs.machine.Steps.{AppendedSome};
 ghost use Rattle.recog_text.specs.Each.{EachComes};
 ghost use Rattle.recog_text.specs.machine.Steps.{added};
 ghost use Rattle.recog_text.specs.Recog.{LowerComes, OutputComes, FunctionComes, FunctionsCome};
@@ -93,7 +94,7 @@ fn print_functions(
 
 /// The lines of the instructions of some functions.
 fn recog_text(alloc: Global, desc: &Description, functions: &[Function]) -> Result<Vec<u8>, Refusal>
-    ensures { Tells result (FunctionsCome desc.now functions.now) }
+    ensures { Gives result (FunctionsCome desc.now functions.now) }
 {
     let names = names_of(alloc, desc.forms().as_slice())?;
     let mut text = Vec::new(alloc);
@@ -103,7 +104,7 @@ fn recog_text(alloc: Global, desc: &Description, functions: &[Function]) -> Resu
 
 /// The lines of the functions that were read, where none is refused.
 fn recog_read(alloc: Global, desc: &Description, functions: &[Function]) -> Result<Vec<u8>, Refusal>
-    ensures { Tells result (FunctionsComeTo (FunctionsCome desc.now) functions.now) }
+    ensures { Gives result (FunctionsComeTo (FunctionsCome desc.now) functions.now) }
 {
     check_functions(alloc, functions)?;
     recog_text(alloc, desc, functions)
@@ -119,7 +120,7 @@ fn recog_read(alloc: Global, desc: &Description, functions: &[Function]) -> Resu
 /// that match counts; `Memory` where memory ran out.
 pub fn recog_of(alloc: Global, desc: &Description, bytes: &[u8]) -> Result<Vec<u8>, Refusal>
     requires { length bytes.now ≤ most_bytes }
-    ensures gives { Tells result (InputComesTo (FunctionsCome desc.now) bytes.now) }
+    ensures gives { Gives result (InputComesTo (FunctionsCome desc.now) bytes.now) }
     ensures one { (forms : List Entry) (bytes : List ℕ) (a b : Outcome) → InputComesTo (FunctionsCome forms) bytes a → InputComesTo (FunctionsCome forms) bytes b → a ≡ b }
 {
     let functions = read_functions(alloc, bytes)?;

@@ -2,7 +2,7 @@
 ghost use Rattle.std.specs.Prelude.{◌≡◌, ◌++◌, ◌∷◌, [], IfOk, OnOk};
 ghost use Rattle.std.specs.Fmt.{decimal};
 ghost use Rattle.md_forms.specs.Forms.{names_of};
-ghost use Rattle.func_input.specs.Outcome.{AppendedSome};
+ghost use Rattle.func_input.specs.machine.Steps.{AppendedSome};
 ghost use Rattle.recog_text.specs.Each.{EachComes};
 ghost use Rattle.recog_text.specs.Recog as spec;
 ghost use Rattle.recog_text.specs.Recog.{LowerComes, OutputComes};

@@ -87,8 +87,8 @@ faults_by functions index (Some f) = faults_of (take index functions) f
 abbrev pub faults : List Function → ℕ → List Fault
 faults functions index = faults_by functions index (slice_get functions index)
 
--- what is answered to the first fault; want of memory may be answered to any
-abbrev pub IsVerdict : Result (Unit {0}) CheckRefusal → Option Fault → Type 0
-IsVerdict (Ok done) first = first ≡ None
-IsVerdict (Err (IllFormed uid rule)) first = first ≡ Some (fault rule uid)
-IsVerdict (Err Memory) first = Unit {0}
+-- what is told is given; a refusal is the one that is told; want of memory is free
+abbrev pub Gives : Result (Unit {0}) CheckRefusal → Option Fault → Type 0
+Gives (Ok done) first = first ≡ None
+Gives (Err (IllFormed uid rule)) first = first ≡ Some (fault rule uid)
+Gives (Err Memory) first = Unit {0}

@@ -68,7 +68,7 @@ fn first_of_function(alloc: Global, names: &Names, f: &Function) -> Result<Optio
 /// the refusal tells the lowest uid at which a rule fails, and the lowest rule that fails there.
 pub fn check_behind(alloc: Global, names: &Names, f: &Function) -> Result<(), CheckRefusal>
     requires { length f.now.insns < 2 ^ 32 }
-    ensures { (before : List Function) → AreNames before names.now → spec.IsVerdict result (first_fault (spec.faults_of before f.now)) }
+    ensures { (before : List Function) → AreNames before names.now → spec.Gives result (first_fault (spec.faults_of before f.now)) }
 {
     match first_of_function(alloc, names, f)? {
         None => Ok(()),
@@ -95,7 +95,7 @@ fn names_of(alloc: Global, functions: &[Function]) -> Result<Names, Memory>
 pub fn check(alloc: Global, functions: &[Function], index: u32) -> Result<(), CheckRefusal>
     requires within { index < length functions.now }
     requires short { All (λ f. length f.insns < 2 ^ 32) functions.now }
-    ensures { spec.IsVerdict result (first_fault (spec.faults functions.now index)) }
+    ensures { spec.Gives result (first_fault (spec.faults functions.now index)) }
 {
     let place = index as usize;
     let names = names_of(alloc, &functions[..place])?;

@@ -11,7 +11,7 @@ use Rattle.lisp_read.specs.declared.class.Bracket.{Bracket}
 use Rattle.lisp_read.specs.declared.class.Bracket.TheVariants.{Round, Square}
 use Rattle.rtx_tree.specs.declared.class.Class.{Class}
 use Rattle.rtx_tree.specs.declared.class.Class.TheVariants as class
-use Rattle.lisp_read.specs.declared.head.Head.{Head}
+use Rattle.lisp_read.specs.declared.head.Opening.{Opening}
 use Rattle.lisp_read.specs.declared.position.Position.{Position}
 use Rattle.lisp_read.specs.declared.tree.Tree.{Tree}
 use Rattle.rtx_tree.specs.Code.{class_of_code}
@@ -73,7 +73,7 @@ all_behind (t ∷ ts) us a b = (a.0, all_behind ts us a.1 b)
 abbrev Q : Position → Tree → Rtx → Type 0
 Q p t x = Admitted (written x)
 
-leaf : (p : Position) (h : Head) (t : Tree) (x : Rtx) → Leaf p h t x → Admitted (written x)
+leaf : (p : Position) (h : Opening) (t : Tree) (x : Rtx) → Leaf p h t x → Admitted (written x)
 leaf p h t x (Leaf.register r c is fits same) =
     subst (λ (y : Rtx). Admitted (written y)) (sym same)
     (subst Admitted (sym (written_of (record { code = code.Reg; mode = h.mode; number = pos r; name = [] }) []))
@@ -119,7 +119,7 @@ by_class class.Parallel items ps kids labels e all = absurd (let none : ⊥ = cc
 by_class class.Lowpart items ps kids labels e all = all_behind kids (atom (codes "0") ∷ []) all (atom_admitted (codes "0") (word_is_atom (codes "0") refl), tt)
 by_class _ items ps kids labels e all = all
 
-node : (h : Head) (items : List Tree) (ps : List Position) (ts : List Tree) (kids : List Rtx) → parts_of_class (class_of h) items ≡ Some ps → EachAt Q ps ts kids → Admitted (written (node_of h.code h.mode kids))
+node : (h : Opening) (items : List Tree) (ps : List Position) (ts : List Tree) (kids : List Rtx) → parts_of_class (class_of h) items ≡ Some ps → EachAt Q ps ts kids → Admitted (written (node_of h.code h.mode kids))
 node h items ps ts kids parts all =
     subst Admitted (sym (written_of (record { code = h.code; mode = h.mode; number = pos 0; name = [] }) kids))
     (list_admitted _ (atom_admitted (head_text h.code h.mode) (head_is_atom h.code h.mode), by_class (class_of h) items ps (map written kids) (map label_tree kids) (parts_positions (class_of h) items ps parts).0 (each ps ts kids all)))

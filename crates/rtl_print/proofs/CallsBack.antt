@@ -9,7 +9,7 @@ use Rattle.rtx_tree.specs.declared.code.Mode.TheVariants as mode
 use Rattle.rtx_tree.specs.declared.tree.Rtx.{Rtx, out-Rtx, out-roll-Rtx}
 use Rattle.rtx_tree.specs.declared.tree.Rtx.TheOpen.{Rtx-F}
 use Rattle.rtx_tree.specs.Tree.{node_of}
-use Rattle.lisp_read.specs.declared.head.Head.{Head}
+use Rattle.lisp_read.specs.declared.head.Opening.{Opening}
 use Rattle.lisp_read.specs.declared.position.Position.TheVariants.{Pattern}
 use Rattle.lisp_read.specs.declared.tree.Tree.{Tree}
 use Rattle.rtx_tree.specs.Code.{class_of_code}
@@ -85,7 +85,7 @@ abbrev pub whole : List Rtx → Rtx
 whole kids = node_of code.Parallel mode.Void kids
 
 begins_parallel : (t : Tree) (ps : List Tree) → Opened t (head_text code.Parallel mode.Void) ps → is_parallel t ≡ true
-begins_parallel t ps o = ap (λ (h : Option Head). head_is is_class_parallel (option_and_then (placed Pattern) h)) (head_of_opened t code.Parallel mode.Void ps o)
+begins_parallel t ps o = ap (λ (h : Option Opening). head_is is_class_parallel (option_and_then (placed Pattern) h)) (head_of_opened t code.Parallel mode.Void ps o)
 
 together_again : (kids : List Rtx) (ts : List Tree) → AllByRecursion BackHere kids → settled_by code.Parallel kids ≡ true → AllSame ts (map written kids) →
     parsed_map together (each_parsed (read_at Pattern) (filter is_kept ts)) ≡ stands (whole kids)
@@ -115,7 +115,7 @@ parallel_again kids t all h same = by_parts o.parts o.same o.items
 
 no_parallel : (t : Tree) (x : Rtx) → is_class_parallel (class_of_code (code_of x)) ≡ false → Same t (written x) → is_parallel t ≡ false
 no_parallel t x e same =
-    ap (λ (h : Option Head). head_is is_class_parallel (option_and_then (placed Pattern) h)) (head_of_opened t (code_of x) (out-Rtx x).mode (parts_in x) (opened_rtx t x same))
+    ap (λ (h : Option Opening). head_is is_class_parallel (option_and_then (placed Pattern) h)) (head_of_opened t (code_of x) (out-Rtx x).mode (parts_in x) (opened_rtx t x same))
     ∙ by (admits Pattern (class_of_code (code_of x))) (mode_at Pattern (class_of_code (code_of x)) (out-Rtx x).mode)
   where
     by : (a : Bool) (o : Option Mode) → head_is is_class_parallel (cond a (option_map (λ (m : Mode). head_with (code_of x) m) o) None) ≡ false

@@ -4,11 +4,11 @@ use Rattle.rtx_tree.specs.declared.code.Code.{Code}
 use Rattle.rtx_tree.specs.declared.code.Code.TheVariants as code
 use Rattle.rtx_tree.specs.declared.code.Mode.{Mode}
 use Rattle.rtx_tree.specs.declared.code.Mode.TheVariants as mode
-use Rattle.lisp_read.specs.declared.head.Head.{Head}
+use Rattle.lisp_read.specs.declared.head.Opening.{Opening}
 use Rattle.lisp_read.specs.Head.{code_named, mode_named, head_in}
 use Rattle.rtl_print.specs.Print.{head_text}
 
-abbrev pub head_with : Code → Mode → Head
+abbrev pub head_with : Code → Mode → Opening
 head_with c m = record { code = c; mode = m }
 
 by_mode : (m : Mode) (c : Code) → head_in (head_text c m) ≡ Some (head_with c m)

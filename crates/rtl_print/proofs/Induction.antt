@@ -7,7 +7,7 @@ use Rattle.rtx_tree.specs.declared.code.Mode.TheVariants.{Void}
 use Rattle.rtx_tree.specs.declared.place.Place.{Place}
 use Rattle.rtx_tree.specs.declared.tree.Rtx.{Rtx}
 use Rattle.rtx_tree.specs.Tree.{node_of}
-use Rattle.lisp_read.specs.declared.head.Head.{Head}
+use Rattle.lisp_read.specs.declared.head.Opening.{Opening}
 use Rattle.rtx_tree.specs.declared.class.Class.{Class}
 use Rattle.rtx_tree.specs.declared.class.Class.TheVariants as class
 use Rattle.lisp_read.specs.declared.position.Position.{Position}
@@ -41,9 +41,9 @@ module _ (Q : Position → Tree → Rtx → Type 0) where
   Elements _ _ = ⊥
 
   pub record Holds : Type 0 where
-    pub leaf : (p : Position) (h : Head) (t a : Tree) (ts : List Tree) (x : Rtx) → Placed p h → items_of t ≡ a ∷ ts → Leaf p h t x → Q p t x
-    pub parallel : (p : Position) (h : Head) (t a v : Tree) (kids : List Rtx) → Placed p h → class_of h ≡ class.Parallel → items_of t ≡ a ∷ v ∷ [] → is_vector v ≡ true → Elements (vector_of v) kids → Q p t (node_of Parallel Void kids)
-    pub node : (p : Position) (h : Head) (t a : Tree) (ts : List Tree) (ps : List Position) (kids : List Rtx) → Placed p h → items_of t ≡ a ∷ ts → parts_of_class (class_of h) (a ∷ ts) ≡ Some ps → EachAt ps ts kids → Q p t (node_of h.code h.mode kids)
+    pub leaf : (p : Position) (h : Opening) (t a : Tree) (ts : List Tree) (x : Rtx) → Placed p h → items_of t ≡ a ∷ ts → Leaf p h t x → Q p t x
+    pub parallel : (p : Position) (h : Opening) (t a v : Tree) (kids : List Rtx) → Placed p h → class_of h ≡ class.Parallel → items_of t ≡ a ∷ v ∷ [] → is_vector v ≡ true → Elements (vector_of v) kids → Q p t (node_of Parallel Void kids)
+    pub node : (p : Position) (h : Opening) (t a : Tree) (ts : List Tree) (ps : List Position) (kids : List Rtx) → Placed p h → items_of t ≡ a ∷ ts → parts_of_class (class_of h) (a ∷ ts) ≡ Some ps → EachAt ps ts kids → Q p t (node_of h.code h.mode kids)
 
   abbrev P : Tree → Type 0
   P t = ((p : Position) (x : Rtx) → read_at p t ≡ stands x → Q p t x) × ((kids : List Rtx) → elements_of t ≡ stands kids → (is_vector t ≡ true) × Elements (vector_of t) kids)
@@ -69,18 +69,18 @@ module _ (Q : Position → Tree → Rtx → Type 0) where
       ((and_true (is_vector t) (list_all is_nested (vector_of t)) s.0).0, elements_hold (vector_of t) kids all s.1)
 
   module _ (holds : Holds) where
-    node_in : (p : Position) (h : Head) (t : Tree) (items : List Tree) (ps : List Position) (kids : List Rtx) → Placed p h → AllByRecursion P items → items_of t ≡ items →
+    node_in : (p : Position) (h : Opening) (t : Tree) (items : List Tree) (ps : List Position) (kids : List Rtx) → Placed p h → AllByRecursion P items → items_of t ≡ items →
         parts_of_class (class_of h) items ≡ Some ps → each_at ps (drop 1 (map meaning_of items)) ≡ stands kids → Q p t (node_of h.code h.mode kids)
     node_in p h t [] ps kids placed all is parts e = absurd (omega (arith, fits (class_of h) [] ps (parts_positions (class_of h) [] ps parts).0))
     node_in p h t (a ∷ ts) ps kids placed all is parts e =
         let less : length ps < suc (length ts) = fits (class_of h) (a ∷ ts) ps (parts_positions (class_of h) (a ∷ ts) ps parts).0 in
         holds.node p h t a ts ps kids placed is parts (each_holds ps ts kids all.1 (omega (arith, less)) e)
 
-    leaf_in : (p : Position) (h w : Head) (t : Tree) (items : List Tree) (x : Rtx) → Placed p h → items_of t ≡ items → head_of_items items ≡ Some w → Leaf p h t x → Q p t x
+    leaf_in : (p : Position) (h w : Opening) (t : Tree) (items : List Tree) (x : Rtx) → Placed p h → items_of t ≡ items → head_of_items items ≡ Some w → Leaf p h t x → Q p t x
     leaf_in p h w t [] x placed is head l = absurd (let none : ⊥ = cc in none)
     leaf_in p h w t (a ∷ ts) x placed is head l = holds.leaf p h t a ts x placed is l
 
-    by_case : (p : Position) (h w : Head) (t : Tree) (x : Rtx) → head_of t ≡ Some w → Placed p h → AllByRecursion P (items_of t) → Reads p h t x → Q p t x
+    by_case : (p : Position) (h w : Opening) (t : Tree) (x : Rtx) → head_of t ≡ Some w → Placed p h → AllByRecursion P (items_of t) → Reads p h t x → Q p t x
     by_case p h w t x head placed all (Reads.leaf l) = leaf_in p h w t (items_of t) x placed refl head l
     by_case p h w t x head placed all (Reads.parallel a v kids c is e same) =
         let inner : P a × (P v × Unit {0}) = subst (AllByRecursion P) is all in
@@ -90,7 +90,7 @@ module _ (Q : Position → Tree → Rtx → Type 0) where
     read_in : (t : Tree) → AllByRecursion P (items_of t) → (p : Position) (x : Rtx) → read_at p t ≡ stands x → Q p t x
     read_in t all p x e = by_head (head_at p t) refl (sym (read_at_out p t) ∙ e)
       where
-        by_head : (o : Option Head) → head_at p t ≡ o → expression_by p o t (map meaning_of (items_of t)) ≡ stands x → Q p t x
+        by_head : (o : Option Opening) → head_at p t ≡ o → expression_by p o t (map meaning_of (items_of t)) ≡ stands x → Q p t x
         by_head None is e = absurd (let none : ⊥ = cc in none)
         by_head (Some h) is e =
             let w = then_some (head_of t) (placed p) h is in

@@ -8,7 +8,7 @@ use Rattle.rtx_tree.specs.declared.code.Mode.{Mode}
 use Rattle.rtx_tree.specs.declared.code.Mode.TheVariants as mode
 use Rattle.rtx_tree.specs.declared.tree.Rtx.{Rtx}
 use Rattle.rtx_tree.specs.Tree.{node_of}
-use Rattle.lisp_read.specs.declared.head.Head.{Head}
+use Rattle.lisp_read.specs.declared.head.Opening.{Opening}
 use Rattle.rtx_tree.specs.declared.class.Class.{Class}
 use Rattle.rtx_tree.specs.declared.class.Class.TheVariants as class
 use Rattle.lisp_read.specs.declared.position.Position.{Position}
@@ -36,10 +36,10 @@ Q p t x = Back p x
 
 -- ---- nodes
 
-abbrev Node : Class → Position → Head → Tree → Tree → List Tree → List Rtx → Type 0
+abbrev Node : Class → Position → Opening → Tree → Tree → List Tree → List Rtx → Type 0
 Node c p h t head us kids = list_by c p h t (map meaning_of (head ∷ us)) ≡ stands (node_of h.code h.mode kids)
 
-finish : (c : Class) (h : Head) (t head : Tree) (us : List Tree) (ps : List Position) (kids : List Rtx) → items_of t ≡ head ∷ us → Again c head us ps kids →
+finish : (c : Class) (h : Opening) (t head : Tree) (us : List Tree) (ps : List Position) (kids : List Rtx) → items_of t ≡ head ∷ us → Again c head us ps kids →
     node_by t h (parts_of_class c (items_of t)) (map meaning_of (head ∷ us)) ≡ stands (node_of h.code h.mode kids)
 finish c h t head us ps kids is a =
     ap (λ (items : List Tree). node_by t h (parts_of_class c items) (map meaning_of (head ∷ us))) is
@@ -49,7 +49,7 @@ finish c h t head us ps kids is a =
 abbrev Stood : Class → Tree → List Tree → List Position → List Rtx → Type 0
 Stood c a ts ps kids = (positions_of c (a ∷ ts) ≡ Some ps) × EachAt Q ps ts kids
 
-by_class : (c : Class) (p : Position) (h : Head) (t a head : Tree) (ts us : List Tree) (ps : List Position) (kids : List Rtx) (labels : List Tree) → Stood c a ts ps kids →
+by_class : (c : Class) (p : Position) (h : Opening) (t a head : Tree) (ts us : List Tree) (ps : List Position) (kids : List Rtx) (labels : List Tree) → Stood c a ts ps kids →
     AllSame us (parts_by c (pos 0) [] (map written kids) labels) → items_of t ≡ head ∷ us → Node c p h t head us kids
 by_class class.Memory p h t a head ts us ps kids labels s same is = finish class.Memory h t head us ps kids is (plain class.Memory head ts us ps kids s.1 same (λ len. at_least_again (Value ∷ []) (a ∷ ts) ps head us s.0 len))
 by_class class.Lowpart p h t a head ts us ps kids labels s same is = finish class.Lowpart h t head us ps kids is (lowpart_again a head ts us ps kids s.0 s.1 same)
@@ -69,7 +69,7 @@ by_class class.Branch p h t a head ts us ps kids labels s same is = finish class
 by_class class.Scratch p h t a head ts us ps kids labels s same is = finish class.Scratch h t head us ps kids is (plain class.Scratch head ts us ps kids s.1 same (λ len. exactly_again [] (a ∷ ts) ps head us s.0 len))
 by_class _ p h t a head ts us ps kids labels s same is = absurd (let wrong : None ≡ Some ps = s.0 in let none : ⊥ = cc in none)
 
-pub node_back : (p : Position) (h : Head) (a : Tree) (ts : List Tree) (ps : List Position) (kids : List Rtx) → Placed p h → parts_of_class (class_of h) (a ∷ ts) ≡ Some ps → EachAt Q ps ts kids → Back p (node_of h.code h.mode kids)
+pub node_back : (p : Position) (h : Opening) (a : Tree) (ts : List Tree) (ps : List Position) (kids : List Rtx) → Placed p h → parts_of_class (class_of h) (a ∷ ts) ≡ Some ps → EachAt Q ps ts kids → Back p (node_of h.code h.mode kids)
 unfolding Back
 node_back p h a ts ps kids s parts each t same =
     let us : List Tree = parts_by (class_of_code h.code) (pos 0) [] (map written kids) (map label_tree kids) in
@@ -103,7 +103,7 @@ parallel_code : (c : Code) → class_of_code c ≡ class.Parallel → c ≡ code
 parallel_code code.Parallel e = refl
 parallel_code _ e = cc
 
-pub parallel_back : (p : Position) (h : Head) (ts : List Tree) (kids : List Rtx) → Placed p h → class_of h ≡ class.Parallel → Elements Q ts kids → Back p (node_of code.Parallel mode.Void kids)
+pub parallel_back : (p : Position) (h : Opening) (ts : List Tree) (kids : List Rtx) → Placed p h → class_of h ≡ class.Parallel → Elements Q ts kids → Back p (node_of code.Parallel mode.Void kids)
 unfolding Back
 parallel_back p h ts kids s c all t same =
     let us : List Tree = vector (map written kids) ∷ [] in

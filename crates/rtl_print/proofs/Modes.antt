@@ -3,7 +3,7 @@ use Rattle.std.proofs.Common.{◌≡◌, Bool, true, false, Option, Some, None, 
 use Rattle.std.specs.Prelude.{option_map, if◌then◌else◌}
 use Rattle.rtx_tree.specs.declared.code.Mode.{Mode}
 use Rattle.rtx_tree.specs.declared.code.Mode.TheVariants as mode
-use Rattle.lisp_read.specs.declared.head.Head.{Head}
+use Rattle.lisp_read.specs.declared.head.Opening.{Opening}
 use Rattle.rtx_tree.specs.declared.class.Class.{Class}
 use Rattle.rtx_tree.specs.declared.class.Class.TheVariants as class
 use Rattle.lisp_read.specs.declared.position.Position.{Position}
@@ -71,39 +71,39 @@ none_at _ c a b n h e = none_of_class c a b n e
 
 -- ---- heads at positions
 
-pub record Placed (p : Position) (h : Head) : Type 0 where
-  pub written : Head
+pub record Placed (p : Position) (h : Opening) : Type 0 where
+  pub written : Opening
   pub same_code : written.code ≡ h.code
   pub admitted : admits p (class_of h) ≡ true
   pub moded : mode_at p (class_of h) written.mode ≡ Some h.mode
 
-pub placed_code : (p : Position) (w h : Head) → placed p w ≡ Some h → w.code ≡ h.code
+pub placed_code : (p : Position) (w h : Opening) → placed p w ≡ Some h → w.code ≡ h.code
 placed_code p w h e = by_test (admits p (class_of w)) e
   where
     by_test : (b : Bool) → cond b (option_map (λ (m : Mode). head_with w.code m) (mode_at p (class_of w) w.mode)) None ≡ Some h → w.code ≡ h.code
-    by_test true e = ap (λ (k : Head). k.code) (map_some (mode_at p (class_of w) w.mode) (λ (m : Mode). head_with w.code m) h e).2
+    by_test true e = ap (λ (k : Opening). k.code) (map_some (mode_at p (class_of w) w.mode) (λ (m : Mode). head_with w.code m) h e).2
     by_test false e = cc
 
-pub placed_says : (p : Position) (w h : Head) → placed p w ≡ Some h → Placed p h
+pub placed_says : (p : Position) (w h : Opening) → placed p w ≡ Some h → Placed p h
 placed_says p w h e =
     let m = map_some (mode_at p (class_of w) w.mode) (λ (k : Mode). head_with w.code k) h (first (admits p (class_of w)) e).1 in
-    let same : w.code ≡ h.code = ap (λ (k : Head). k.code) m.2 in
+    let same : w.code ≡ h.code = ap (λ (k : Opening). k.code) m.2 in
     record {
       written = w;
       same_code = same;
-      admitted = subst (λ (k : Head). admits p (class_of k) ≡ true) m.2 (first (admits p (class_of w)) e).0;
-      moded = subst (λ (k : Head). mode_at p (class_of k) w.mode ≡ Some k.mode) m.2 m.1;
+      admitted = subst (λ (k : Opening). admits p (class_of k) ≡ true) m.2 (first (admits p (class_of w)) e).0;
+      moded = subst (λ (k : Opening). mode_at p (class_of k) w.mode ≡ Some k.mode) m.2 m.1;
     }
   where
-    first : (b : Bool) {o : Option Head} → cond b o None ≡ Some h → (b ≡ true) × (o ≡ Some h)
+    first : (b : Bool) {o : Option Opening} → cond b o None ≡ Some h → (b ≡ true) × (o ≡ Some h)
     first true e = (refl, e)
     first false e = cc
 
-pub placed_again : (p : Position) (h : Head) → Placed p h → placed p (head_with h.code h.mode) ≡ Some h
+pub placed_again : (p : Position) (h : Opening) → Placed p h → placed p (head_with h.code h.mode) ≡ Some h
 placed_again p h s =
     let same : mode_at p (class_of h) h.mode ≡ Some h.mode = at_again p (class_of h) s.written.mode h.mode s.admitted s.moded in
     rw (s.admitted) (rw same refl)
 
 -- a head of such a class is printed without a mode
-pub placed_bare : (p : Position) (h : Head) → has_none (class_of h) ≡ true → Placed p h → h.mode ≡ mode.Void
+pub placed_bare : (p : Position) (h : Opening) → has_none (class_of h) ≡ true → Placed p h → h.mode ≡ mode.Void
 placed_bare p h n s = none_at p (class_of h) s.written.mode h.mode n s.admitted s.moded

@@ -9,7 +9,7 @@ use Rattle.rtx_tree.specs.declared.code.Mode.{Mode}
 use Rattle.rtx_tree.specs.declared.tree.Rtx.{Rtx, out-Rtx, out-roll-Rtx}
 use Rattle.rtx_tree.specs.declared.tree.Rtx.TheOpen.{Rtx-F}
 use Rattle.rtx_tree.specs.Tree.{node_of}
-use Rattle.lisp_read.specs.declared.head.Head.{Head}
+use Rattle.lisp_read.specs.declared.head.Opening.{Opening}
 use Rattle.rtx_tree.specs.declared.class.Class.{Class}
 use Rattle.rtx_tree.specs.declared.class.Class.TheVariants as class
 use Rattle.lisp_read.specs.declared.position.Position.{Position}
@@ -37,13 +37,13 @@ use Rattle.rtl_print.proofs.Written.{atom, written, written_out, label_tree, par
 node_class : (c : Code) (m : Mode) (kids : List Rtx) → class_of_code (out-Rtx (node_of c m kids)).code ≡ class_of_code c
 node_class c m kids = ap (λ (o : Rtx-F Rtx). class_of_code o.code) (out-roll-Rtx _)
 
-leaf_class : (p : Position) (h : Head) (t : Tree) (x : Rtx) → Leaf p h t x → class_of_code (out-Rtx x).code ≡ class_of h
+leaf_class : (p : Position) (h : Opening) (t : Tree) (x : Rtx) → Leaf p h t x → class_of_code (out-Rtx x).code ≡ class_of h
 leaf_class p h t x (Leaf.register r c is fits same) = ap (λ (y : Rtx). class_of_code (out-Rtx y).code) same ∙ (ap (λ (o : Rtx-F Rtx). class_of_code o.code) (out-roll-Rtx _) ∙ sym c)
 leaf_class p h t x (Leaf.number n c fits same) = ap (λ (y : Rtx). class_of_code (out-Rtx y).code) same ∙ (ap (λ (o : Rtx-F Rtx). class_of_code o.code) (out-roll-Rtx _) ∙ sym c)
 leaf_class p h t x (Leaf.label uid c fits same) = ap (λ (y : Rtx). class_of_code (out-Rtx y).code) same ∙ (ap (λ (o : Rtx-F Rtx). class_of_code o.code) (out-roll-Rtx _) ∙ sym c)
 leaf_class p h t x (Leaf.symbol a l more name c items nested is same) = ap (λ (y : Rtx). class_of_code (out-Rtx y).code) same ∙ (ap (λ (o : Rtx-F Rtx). class_of_code o.code) (out-roll-Rtx _) ∙ sym c)
 
-case_class : (p : Position) (h : Head) (t : Tree) (x : Rtx) → Reads p h t x → class_of_code (out-Rtx x).code ≡ class_of h
+case_class : (p : Position) (h : Opening) (t : Tree) (x : Rtx) → Reads p h t x → class_of_code (out-Rtx x).code ≡ class_of h
 case_class p h t x (Reads.leaf l) = leaf_class p h t x l
 case_class p h t x (Reads.parallel a v kids c is e same) = ap (λ (y : Rtx). class_of_code (out-Rtx y).code) same ∙ (node_class code.Parallel _ kids ∙ sym c)
 case_class p h t x (Reads.node ps kids parts e same) = ap (λ (y : Rtx). class_of_code (out-Rtx y).code) same ∙ node_class h.code h.mode kids
@@ -52,7 +52,7 @@ case_class p h t x (Reads.node ps kids parts e same) = ap (λ (y : Rtx). class_o
 pub head_of_read : (test : Class → Bool) (p : Position) (t : Tree) (x : Rtx) → read_at p t ≡ stands x → head_is test (head_of t) ≡ test (class_of_code (out-Rtx x).code)
 head_of_read test p t x e = by_head (head_at p t) refl (sym (read_at_out p t) ∙ e)
   where
-    by_head : (o : Option Head) → head_at p t ≡ o → expression_by p o t (map meaning_of (items_of t)) ≡ stands x → head_is test (head_of t) ≡ test (class_of_code (out-Rtx x).code)
+    by_head : (o : Option Opening) → head_at p t ≡ o → expression_by p o t (map meaning_of (items_of t)) ≡ stands x → head_is test (head_of t) ≡ test (class_of_code (out-Rtx x).code)
     by_head None is e = cc
     by_head (Some h) is e =
         let w = then_some (head_of t) (placed p) h is in

@@ -3,7 +3,7 @@ use Rattle.std.proofs.Common.{◌≡◌, ℕ, List, [], ◌∷◌, map, Bool, tr
 use Rattle.std.specs.Prelude.{option_and_then}
 use Rattle.rtx_tree.specs.declared.code.Code.{Code}
 use Rattle.rtx_tree.specs.declared.code.Mode.{Mode}
-use Rattle.lisp_read.specs.declared.head.Head.{Head}
+use Rattle.lisp_read.specs.declared.head.Opening.{Opening}
 use Rattle.lisp_read.specs.declared.position.Position.{Position}
 use Rattle.lisp_read.specs.declared.tree.Tree.{Tree, out-Tree}
 use Rattle.lisp_read.specs.declared.tree.Tree.TheOpen.{Tree-F}
@@ -49,9 +49,9 @@ opened t text ps e = by_items l.items l.is l.same
 pub head_of_opened : (t : Tree) (c : Code) (m : Mode) (ps : List Tree) → Opened t (head_text c m) ps → head_of t ≡ Some (head_with c m)
 head_of_opened t c m ps o = ap head_of_items o.items ∙ (ap (option_and_then head_in) o.word ∙ head_again c m)
 
-pub read_opened : (p : Position) (t : Tree) (c : Code) (m : Mode) (ps : List Tree) (o : Opened t (head_text c m) ps) (h : Head) → placed p (head_with c m) ≡ Some h →
+pub read_opened : (p : Position) (t : Tree) (c : Code) (m : Mode) (ps : List Tree) (o : Opened t (head_text c m) ps) (h : Opening) → placed p (head_with c m) ≡ Some h →
     read_at p t ≡ list_by (class_of h) p h t (map meaning_of (o.head ∷ o.parts))
 read_opened p t c m ps o h e =
     read_at_out p t
-    ∙ (ap (λ (x : Option Head). expression_by p x t (map meaning_of (items_of t))) (ap (option_and_then (placed p)) (head_of_opened t c m ps o) ∙ e)
+    ∙ (ap (λ (x : Option Opening). expression_by p x t (map meaning_of (items_of t))) (ap (option_and_then (placed p)) (head_of_opened t c m ps o) ∙ e)
     ∙ ap (λ (ts : List Tree). list_by (class_of h) p h t (map meaning_of ts)) o.items)

@@ -8,7 +8,7 @@ use Rattle.rtx_tree.specs.declared.tree.Rtx.{Rtx}
 use Rattle.rtx_tree.specs.Tree.{node_of, reg_of, const_of, named_of}
 use Rattle.rtx_tree.specs.Patterns.{label_rtx}
 use Rattle.text_words.specs.Words.{fits_i64, is_symbol, number_in}
-use Rattle.lisp_read.specs.declared.head.Head.{Head}
+use Rattle.lisp_read.specs.declared.head.Opening.{Opening}
 use Rattle.rtx_tree.specs.declared.class.Class.{Class}
 use Rattle.rtx_tree.specs.declared.class.Class.TheVariants as class
 use Rattle.lisp_read.specs.declared.position.Position.{Position}
@@ -26,13 +26,13 @@ abbrev inside : Tree → List Meaning
 inside t = map meaning_of (items_of t)
 
 -- an expression of words
-pub data Leaf (p : Position) (h : Head) (t : Tree) (x : Rtx) : Type 0 where
+pub data Leaf (p : Position) (h : Opening) (t : Tree) (x : Rtx) : Type 0 where
   register : (r : ℕ) → class_of h ≡ class.Register → IsRegister r → allowed p r ≡ Some r → x ≡ reg_of h.mode r → Leaf p h t x
   number : (n : ℤ) → class_of h ≡ class.Constant → fits_i64 n ≡ true → x ≡ const_of n → Leaf p h t x
   label : (uid : ℕ) → class_of h ≡ class.Label → uid < 4294967296 → x ≡ label_rtx uid → Leaf p h t x
   symbol : (a l : Tree) (more : List Tree) (name : List ℕ) → class_of h ≡ class.Symbol → items_of t ≡ a ∷ l ∷ more → is_nested l ≡ true → is_symbol name ≡ true → x ≡ named_of SymbolRef h.mode name → Leaf p h t x
 
-pub data Reads (p : Position) (h : Head) (t : Tree) (x : Rtx) : Type 0 where
+pub data Reads (p : Position) (h : Opening) (t : Tree) (x : Rtx) : Type 0 where
   leaf : Leaf p h t x → Reads p h t x
   parallel : (a v : Tree) (kids : List Rtx) → class_of h ≡ class.Parallel → items_of t ≡ a ∷ v ∷ [] → elements_of v ≡ stands kids → x ≡ node_of Parallel Void kids → Reads p h t x
   node : (ps : List Position) (kids : List Rtx) → parts_of_class (class_of h) (items_of t) ≡ Some ps → each_at ps (drop 1 (inside t)) ≡ stands kids → x ≡ node_of h.code h.mode kids → Reads p h t x
@@ -44,10 +44,10 @@ word_says t c p m [] x e = cc
 word_says t c p m (a ∷ []) x e = cc
 word_says t c p m (a ∷ w ∷ more) x e = let says = then_some (atom_of w) (word_at c p m) x (or_stands t (option_and_then (word_at c p m) (atom_of w)) x e) in (says.0, says.2)
 
-abbrev Word : Tree → Class → Position → Head → Rtx → Type 0
+abbrev Word : Tree → Class → Position → Opening → Rtx → Type 0
 Word t c p h x = word_with t c p h.mode (items_of t) ≡ stands x
 
-read_register : (p : Position) (h : Head) (t : Tree) (x : Rtx) → class_of h ≡ class.Register → Word t class.Register p h x → Leaf p h t x
+read_register : (p : Position) (h : Opening) (t : Tree) (x : Rtx) → class_of h ≡ class.Register → Word t class.Register p h x → Leaf p h t x
 read_register p h t x c e =
     let w = word_says t class.Register p h.mode (items_of t) x e in
     let r = map_some (option_and_then (allowed p) (register_in w.0)) (reg_of h.mode) x w.1 in
@@ -55,13 +55,13 @@ read_register p h t x c e =
     let same = if_some (admits_register p k.0) k.0 r.0 k.2 in
     Leaf.register k.0 c (register_is w.0 k.0 k.1) (k.2 ∙ ap (λ (n : ℕ). Some n) (sym same.1)) (sym r.2 ∙ ap (reg_of h.mode) (sym same.1))
 
-read_number : (p : Position) (h : Head) (t : Tree) (x : Rtx) → class_of h ≡ class.Constant → Word t class.Constant p h x → Leaf p h t x
+read_number : (p : Position) (h : Opening) (t : Tree) (x : Rtx) → class_of h ≡ class.Constant → Word t class.Constant p h x → Leaf p h t x
 read_number p h t x c e =
     let w = word_says t class.Constant p h.mode (items_of t) x e in
     let n = map_some (number_in w.0) const_of x w.1 in
     Leaf.number n.0 c (number_fits w.0 n.0 n.1) (sym n.2)
 
-read_label : (p : Position) (h : Head) (t : Tree) (x : Rtx) → class_of h ≡ class.Label → Word t class.Label p h x → Leaf p h t x
+read_label : (p : Position) (h : Opening) (t : Tree) (x : Rtx) → class_of h ≡ class.Label → Word t class.Label p h x → Leaf p h t x
 read_label p h t x c e =
     let w = word_says t class.Label p h.mode (items_of t) x e in
     let n = map_some (uid_in w.0) label_rtx x w.1 in
@@ -98,16 +98,16 @@ parallel_says t (a ∷ v ∷ []) x e =
     let kids = map_stands (node_of Parallel Void) (elements_of v) x inner.1 in
     (a, v, kids.0, refl, kids.1, sym kids.2)
 
-node_says : (p : Position) (h : Head) (t : Tree) (x : Rtx) (o : Option (List Position)) → parts_of_class (class_of h) (items_of t) ≡ o → node_by t h o (inside t) ≡ stands x → Reads p h t x
+node_says : (p : Position) (h : Opening) (t : Tree) (x : Rtx) (o : Option (List Position)) → parts_of_class (class_of h) (items_of t) ≡ o → node_by t h o (inside t) ≡ stands x → Reads p h t x
 node_says p h t x None c e = cc
 node_says p h t x (Some ps) c e =
     let kids = map_stands (node_of h.code h.mode) (each_at ps (drop 1 (inside t))) x e in
     Reads.node ps kids.0 c kids.1 (sym kids.2)
 
-abbrev List_by : Class → Position → Head → Tree → Rtx → Type 0
+abbrev List_by : Class → Position → Opening → Tree → Rtx → Type 0
 List_by c p h t x = list_by c p h t (inside t) ≡ stands x
 
-by_class : (p : Position) (h : Head) (t : Tree) (x : Rtx) (c : Class) → class_of h ≡ c → List_by c p h t x → Reads p h t x
+by_class : (p : Position) (h : Opening) (t : Tree) (x : Rtx) (c : Class) → class_of h ≡ c → List_by c p h t x → Reads p h t x
 by_class p h t x class.Register c e = Reads.leaf (read_register p h t x c (ap (λ (k : Class). word_with t k p h.mode (items_of t)) (sym c) ∙ e))
 by_class p h t x class.Constant c e = Reads.leaf (read_number p h t x c (ap (λ (k : Class). word_with t k p h.mode (items_of t)) (sym c) ∙ e))
 by_class p h t x class.Label c e = Reads.leaf (read_label p h t x c (ap (λ (k : Class). word_with t k p h.mode (items_of t)) (sym c) ∙ e))
@@ -115,5 +115,5 @@ by_class p h t x class.Symbol c e = let s = symbol_says t h.mode (items_of t) x 
 by_class p h t x class.Parallel c e = let s = parallel_says t (items_of t) x e in Reads.parallel s.0 s.1 s.2 c s.3 s.4 s.5
 by_class p h t x k c e = node_says p h t x (parts_of_class k (items_of t)) (ap (λ (j : Class). parts_of_class j (items_of t)) c) e
 
-pub reads : (p : Position) (h : Head) (t : Tree) (x : Rtx) → list_by (class_of h) p h t (inside t) ≡ stands x → Reads p h t x
+pub reads : (p : Position) (h : Opening) (t : Tree) (x : Rtx) → list_by (class_of h) p h t (inside t) ≡ stands x → Reads p h t x
 reads p h t x e = by_class p h t x (class_of h) refl e

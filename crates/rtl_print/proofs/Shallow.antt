@@ -8,7 +8,7 @@ use Rattle.rtx_tree.specs.Tree.{node_of}
 use Rattle.lisp_read.specs.declared.class.Bracket.TheVariants.{Round, Square}
 use Rattle.rtx_tree.specs.declared.class.Class.{Class}
 use Rattle.rtx_tree.specs.declared.class.Class.TheVariants as class
-use Rattle.lisp_read.specs.declared.head.Head.{Head}
+use Rattle.lisp_read.specs.declared.head.Opening.{Opening}
 use Rattle.lisp_read.specs.declared.position.Position.{Position}
 use Rattle.lisp_read.specs.declared.tree.Tree.{Tree, out-Tree}
 use Rattle.lisp_read.specs.declared.tree.Tree.TheOpen.{Tree-F}
@@ -107,7 +107,7 @@ word_within t a ts w v x is e =
     subst (λ (u : Tree). depth_of u ≤ depth_of t) (sym e)
     (list_within (atom w ∷ atom v ∷ []) t a ts is (atom_within (deepest ts) w (atom v ∷ []) (atom_within (deepest ts) v [] (omega arith))))
 
-leaf : (p : Position) (h : Head) (t a : Tree) (ts : List Tree) (x : Rtx) → items_of t ≡ a ∷ ts → Leaf p h t x → Q p t x
+leaf : (p : Position) (h : Opening) (t a : Tree) (ts : List Tree) (x : Rtx) → items_of t ≡ a ∷ ts → Leaf p h t x → Q p t x
 leaf p h t a ts x is (Leaf.register r c at fits same) =
     word_within t a ts _ _ x is (ap written same ∙ written_of (record { code = code.Reg; mode = h.mode; number = pos r; name = [] }) [])
 leaf p h t a ts x is (Leaf.number n c fits same) =
@@ -128,7 +128,7 @@ elements (t ∷ ts) (x ∷ xs) all =
 elements [] (x ∷ xs) all = absurd all
 elements (t ∷ ts) [] all = absurd all
 
-parallel : (h : Head) (t a v : Tree) (kids : List Rtx) → items_of t ≡ a ∷ v ∷ [] → is_vector v ≡ true → Elements Q (vector_of v) kids → depth_of (written (node_of code.Parallel mode.Void kids)) ≤ depth_of t
+parallel : (h : Opening) (t a v : Tree) (kids : List Rtx) → items_of t ≡ a ∷ v ∷ [] → is_vector v ≡ true → Elements Q (vector_of v) kids → depth_of (written (node_of code.Parallel mode.Void kids)) ≤ depth_of t
 parallel h t a v kids items is all =
     let low : deepest (map written kids) ≤ deepest (vector_of v) = elements (vector_of v) kids all in
     let here : depth_of (vector (map written kids)) ≤ depth_of v = omega (arith, vector_depth (map written kids), is_vector_depth v is, low) in
@@ -159,7 +159,7 @@ by_class class.Parallel items ps most kids labels e low = absurd (let none : ⊥
 by_class class.Lowpart items ps most kids labels e low = behind most (codes "0") kids low
 by_class _ items ps most kids labels e low = low
 
-node : (h : Head) (t a : Tree) (ts : List Tree) (ps : List Position) (kids : List Rtx) → items_of t ≡ a ∷ ts → parts_of_class (class_of h) (a ∷ ts) ≡ Some ps → EachAt Q ps ts kids → depth_of (written (node_of h.code h.mode kids)) ≤ depth_of t
+node : (h : Opening) (t a : Tree) (ts : List Tree) (ps : List Position) (kids : List Rtx) → items_of t ≡ a ∷ ts → parts_of_class (class_of h) (a ∷ ts) ≡ Some ps → EachAt Q ps ts kids → depth_of (written (node_of h.code h.mode kids)) ≤ depth_of t
 node h t a ts ps kids items parts all =
     subst (λ (u : Tree). depth_of u ≤ depth_of t) (sym (written_of (record { code = h.code; mode = h.mode; number = pos 0; name = [] }) kids))
     (list_within _ t a ts items

@@ -8,7 +8,7 @@ use Rattle.rtx_tree.specs.declared.code.Mode.TheVariants as mode
 use Rattle.rtx_tree.specs.declared.tree.Rtx.{Rtx, out-Rtx, out-roll-Rtx}
 use Rattle.rtx_tree.specs.declared.tree.Rtx.TheOpen.{Rtx-F}
 use Rattle.rtx_tree.specs.Tree.{node_of, reg_of}
-use Rattle.lisp_read.specs.declared.head.Head.{Head}
+use Rattle.lisp_read.specs.declared.head.Opening.{Opening}
 use Rattle.rtx_tree.specs.declared.class.Class.TheVariants as class
 use Rattle.lisp_read.specs.declared.position.Position.{Position}
 use Rattle.lisp_read.specs.declared.position.Position.TheVariants.{Value, Pattern}
@@ -64,7 +64,7 @@ other p t x c is reg used parallel = record {
   parallel = λ e. absurd (parallel (sym is ∙ e));
 }
 
-leaf : (p : Position) (h : Head) (t : Tree) (x : Rtx) → Leaf p h t x → Shape p t x
+leaf : (p : Position) (h : Opening) (t : Tree) (x : Rtx) → Leaf p h t x → Shape p t x
 leaf p h t x (Leaf.register r c is fits same) =
     let code_is : code_of x ≡ code.Reg = made_code x (reg_of h.mode r) code.Reg same (ap (λ (o : Rtx-F Rtx). o.code) (out-roll-Rtx _)) in
     record {
@@ -105,7 +105,7 @@ one_kid [] kids all = absurd all
 one_kid (t ∷ ts) [] all = absurd all
 one_kid (t ∷ ts) (y ∷ z ∷ more) all = absurd all.2
 
-used_node : (p : Position) (h : Head) (a : Tree) (ts : List Tree) (ps : List Position) (kids : List Rtx) → Placed p h → h.code ≡ code.Use → positions_of (class_of h) (a ∷ ts) ≡ Some ps → EachAt Shape ps ts kids → IsUse (node_of h.code h.mode kids)
+used_node : (p : Position) (h : Opening) (a : Tree) (ts : List Tree) (ps : List Position) (kids : List Rtx) → Placed p h → h.code ≡ code.Use → positions_of (class_of h) (a ∷ ts) ≡ Some ps → EachAt Shape ps ts kids → IsUse (node_of h.code h.mode kids)
 used_node p h a ts ps kids s is parts all =
     let at : exactly (Value ∷ []) (a ∷ ts) ≡ Some ps = no_node h.code code.Use (a ∷ ts) ps is parts in
     let ps_is : Value ∷ [] ≡ ps = (if_some (length (a ∷ ts) == length (Value ∷ []) + 1) (Value ∷ []) ps at).1 in
@@ -113,7 +113,7 @@ used_node p h a ts ps kids s is parts all =
     let void : h.mode ≡ mode.Void = placed_bare p h (rw is refl) s in
     record { kid = k.0; is = ap (λ (c : Code). node_of c h.mode kids) is ∙ (ap (λ (m : Mode). node_of code.Use m kids) void ∙ ap (node_of code.Use mode.Void) k.1); reg = k.2 }
 
-node_shape : (p : Position) (h : Head) (t a : Tree) (ts : List Tree) (ps : List Position) (kids : List Rtx) → Placed p h → positions_of (class_of h) (a ∷ ts) ≡ Some ps → EachAt Shape ps ts kids → Shape p t (node_of h.code h.mode kids)
+node_shape : (p : Position) (h : Opening) (t a : Tree) (ts : List Tree) (ps : List Position) (kids : List Rtx) → Placed p h → positions_of (class_of h) (a ∷ ts) ≡ Some ps → EachAt Shape ps ts kids → Shape p t (node_of h.code h.mode kids)
 node_shape p h t a ts ps kids s parts all = record {
   reg = λ e. absurd (let wrong : None ≡ Some ps = no_node h.code code.Reg (a ∷ ts) ps (sym (node_code h.code h.mode kids) ∙ e) parts in let none : ⊥ = cc in none);
   use_is = λ e. used_node p h a ts ps kids s (sym (node_code h.code h.mode kids) ∙ e) parts all;

@@ -11,7 +11,7 @@ use Rattle.rtx_tree.specs.declared.tree.Rtx.TheOpen.{Rtx-F}
 use Rattle.rtx_tree.specs.Tree.{reg_of, const_of, named_of}
 use Rattle.rtx_tree.specs.Patterns.{label_rtx}
 use Rattle.text_words.specs.Words.{fits_i64, is_symbol}
-use Rattle.lisp_read.specs.declared.head.Head.{Head}
+use Rattle.lisp_read.specs.declared.head.Opening.{Opening}
 use Rattle.rtx_tree.specs.declared.class.Class.{Class}
 use Rattle.rtx_tree.specs.declared.class.Class.TheVariants as class
 use Rattle.lisp_read.specs.declared.position.Position.{Position}
@@ -55,7 +55,7 @@ symbol_code code.SymbolRef e = refl
 symbol_code _ e = cc
 
 -- a head that may stand at a position may stand there by its code and its mode
-pub placed_as : (p : Position) (h : Head) (c : Code) (m : Mode) → Placed p h → h.code ≡ c → h.mode ≡ m → placed p (head_with c m) ≡ Some h
+pub placed_as : (p : Position) (h : Opening) (c : Code) (m : Mode) → Placed p h → h.code ≡ c → h.mode ≡ m → placed p (head_with c m) ≡ Some h
 placed_as p h c m s is_code is_mode = ap (λ (k : Code). placed p (head_with k m)) (sym is_code) ∙ (ap (λ (k : Mode). placed p (head_with h.code k)) (sym is_mode) ∙ placed_again p h s)
 
 -- ---- words
@@ -68,9 +68,9 @@ word_again t c p m head (w ∷ more) text x same e =
 
 -- a class of words: its lists are read as words
 abbrev IsWordClass : Class → Type 0
-IsWordClass c = (p : Position) (h : Head) (t : Tree) (inside : List Meaning) → list_by c p h t inside ≡ word_with t (class_of h) p h.mode (items_of t)
+IsWordClass c = (p : Position) (h : Opening) (t : Tree) (inside : List Meaning) → list_by c p h t inside ≡ word_with t (class_of h) p h.mode (items_of t)
 
-word_back : (k : Class) → IsWordClass k → (p : Position) (h : Head) (c : Code) (m : Mode) (text : List ℕ) (x : Rtx) → Placed p h → class_of h ≡ k → h.code ≡ c → h.mode ≡ m →
+word_back : (k : Class) → IsWordClass k → (p : Position) (h : Opening) (c : Code) (m : Mode) (text : List ℕ) (x : Rtx) → Placed p h → class_of h ≡ k → h.code ≡ c → h.mode ≡ m →
     word_at k p m text ≡ Some x → written x ≡ list (atom (head_text c m) ∷ atom text ∷ []) → Back p x
 unfolding Back
 word_back k words p h c m text x s is_class is_code is_mode e w t same =
@@ -110,7 +110,7 @@ symbol_again t m head (l ∷ more) name is same =
     let quoted : quoted_name (items_of l) ≡ Some name = ap quoted_name (ap items_at i.is) ∙ quoted_again i.items name is i.same in
     rw nested (ap (λ (o : Option (List ℕ)). or_outside l (option_map (named_of code.SymbolRef m) o)) quoted)
 
-symbol_back : (p : Position) (h : Head) (name : List ℕ) → Placed p h → class_of h ≡ class.Symbol → is_symbol name ≡ true → Back p (named_of code.SymbolRef h.mode name)
+symbol_back : (p : Position) (h : Opening) (name : List ℕ) → Placed p h → class_of h ≡ class.Symbol → is_symbol name ≡ true → Back p (named_of code.SymbolRef h.mode name)
 unfolding Back
 symbol_back p h name s is_class is t same =
     let m : Mode = h.mode in
@@ -127,7 +127,7 @@ label_written uid =
     written_of (record { code = code.LabelRef; mode = mode.Void; number = pos 0; name = [] }) (const_of (pos uid) ∷ [])
     ∙ ap (λ (o : Rtx-F Rtx). list (atom (head_text code.LabelRef mode.Void) ∷ atom (signed_decimal o.number) ∷ [])) (out-roll-Rtx _)
 
-pub leaf_back : (p : Position) (h : Head) (t : Tree) (x : Rtx) → Placed p h → Leaf p h t x → Back p x
+pub leaf_back : (p : Position) (h : Opening) (t : Tree) (x : Rtx) → Placed p h → Leaf p h t x → Back p x
 leaf_back p h t x s (Leaf.register r c is fits same) =
     subst (Back p) (sym same)
     (word_back class.Register (λ _ _ _ _. refl) p h code.Reg h.mode (printed_reg_at r) (reg_of h.mode r) s c (register_code h.code c) refl

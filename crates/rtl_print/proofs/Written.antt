@@ -5,7 +5,7 @@ use Rattle.rtx_tree.specs.declared.code.Code.{Code}
 use Rattle.rtx_tree.specs.declared.tree.Rtx.{Rtx, out-Rtx, out-roll-Rtx}
 use Rattle.rtx_tree.specs.declared.tree.Rtx.TheOpen.{Rtx-F}
 use Rattle.rtx_tree.specs.declared.tree.Rtx.TheFolds.{fold-Rtx, fold_out-Rtx}
-use Rattle.rtx_tree.specs.Tree.{Head, tree_of}
+use Rattle.rtx_tree.specs.Tree.{RtxHead, tree_of}
 use Rattle.lisp_read.specs.declared.tree.Tree.{Tree}
 use Rattle.lisp_read.specs.declared.tree.Tree.TheVariants as tree
 use Rattle.rtx_tree.specs.declared.class.Class.{Class}
@@ -79,7 +79,7 @@ written_out x =
     ∙ ap (λ (kids : List Tree). layer o kids (map (λ (k : Written). k.bare) (map trees_of o.kids))) (wholes o.kids)
     ∙ ap (λ (labels : List Tree). layer o (map written o.kids) labels) (bares o.kids)
 
-pub written_of : (h : Head) (kids : List Rtx) → written (tree_of h kids) ≡ list (atom (head_text h.code h.mode) ∷ parts_by (class_of_code h.code) h.number h.name (map written kids) (map label_tree kids))
+pub written_of : (h : RtxHead) (kids : List Rtx) → written (tree_of h kids) ≡ list (atom (head_text h.code h.mode) ∷ parts_by (class_of_code h.code) h.number h.name (map written kids) (map label_tree kids))
 written_of h kids =
     written_out (tree_of h kids)
     ∙ ap (λ (o : Rtx-F Rtx). layer o (map written o.kids) (map label_tree o.kids)) (out-roll-Rtx (record { code = h.code; mode = h.mode; number = h.number; name = h.name; kids = kids }))

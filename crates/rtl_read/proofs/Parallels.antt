@@ -8,7 +8,7 @@ use Rattle.rtx_tree.specs.declared.code.Code.TheVariants.{Parallel}
 use Rattle.rtx_tree.specs.declared.code.Mode.{Mode}
 use Rattle.rtx_tree.specs.declared.code.Mode.TheVariants.{QI, HI, SI, DI}
 use Rattle.lisp_read.specs.declared.tree.Tree.{Tree}
-use Rattle.lisp_read.specs.declared.head.Head.{Head}
+use Rattle.lisp_read.specs.declared.head.Opening.{Opening}
 use Rattle.lisp_read.specs.declared.position.Position.TheVariants.{Pattern}
 use Rattle.lisp_read.specs.Shape.{atom_of, items_of}
 use Rattle.rtx_tree.specs.Code.{class_of_code}
@@ -19,7 +19,7 @@ use Rattle.rtl_read.specs.Word.{head_of_list}
 use Rattle.rtl_read.specs.Call.{is_class_parallel, is_parallel}
 use Rattle.rtl_read.specs.machine.Head.{flags_pass, is_parallel_code, is_parallel_text}
 
-abbrev with_mode : Code → Mode → Head
+abbrev with_mode : Code → Mode → Opening
 with_mode c m = record { code = c; mode = m }
 
 -- no name is that of no mode

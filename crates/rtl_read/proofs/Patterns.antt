@@ -5,7 +5,7 @@ use Rattle.rtx_tree.specs.declared.code.Code.{Code}
 use Rattle.rtx_tree.specs.declared.code.Mode.{Mode}
 use Rattle.rtx_tree.specs.declared.tree.Rtx.{Rtx}
 use Rattle.lisp_read.specs.declared.tree.Tree.{Tree}
-use Rattle.lisp_read.specs.declared.head.Head.{Head}
+use Rattle.lisp_read.specs.declared.head.Opening.{Opening}
 use Rattle.rtx_tree.specs.declared.class.Class.{Class}
 use Rattle.rtx_tree.specs.declared.class.Class.TheVariants as class
 use Rattle.lisp_read.specs.declared.position.Position.TheVariants.{Top, Pattern}
@@ -20,13 +20,13 @@ use Rattle.rtl_read.specs.Word.{head_word, head_of_list}
 use Rattle.rtl_read.specs.machine.Head.{is_pattern_code, names_pattern}
 
 -- what a pattern is does not hang on the position
-list_same : (k : Class) (h : Head) (t : Tree) (inside : List Meaning) → is_pattern k ≡ true → list_by k Pattern h t inside ≡ list_by k Top h t inside
+list_same : (k : Class) (h : Opening) (t : Tree) (inside : List Meaning) → is_pattern k ≡ true → list_by k Pattern h t inside ≡ list_by k Top h t inside
 list_same class.Register h t inside e = absurd (grind arith)
 list_same class.Constant h t inside e = absurd (grind arith)
 list_same class.Label h t inside e = absurd (grind arith)
 list_same _ h t inside e = refl
 
-abbrev head_with_mode : Code → Mode → Head
+abbrev head_with_mode : Code → Mode → Opening
 head_with_mode c m = record { code = c; mode = m }
 
 moded_same : (c : Code) (m : Option Mode) (t : Tree) (inside : List Meaning) → is_pattern (class_of_code c) ≡ true →

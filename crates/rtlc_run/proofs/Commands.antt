@@ -19,39 +19,40 @@ use Rattle.md_list.specs.Answers.{GivesList}
 use Rattle.rtx_tree.specs.Limit.{most_bytes}
 use Rattle.func_input.specs.Input.{InputComesTo}
 use Rattle.func_input.specs.Outcome.{Outcome}
-use Rattle.func_input.specs.Outcome.{Tells}
+use Rattle.func_input.specs.Outcome.{Gives as GivesText}
 use Rattle.asm_text.specs.Compile.{InputComes}
-use Rattle.asm_text.specs.Code.{IsUnnamed, CodeComes, Answers as Told}
+use Rattle.asm_text.specs.Code.{IsUnnamed, CodeComes, Gives as GivesCode}
 use Rattle.rtlc_words.specs.declared.command.Command.{Command}
 use Rattle.rtlc_words.specs.declared.command.Command.TheVariants as commands
 use Rattle.rtlc_words.specs.Words.{command_of}
-use Rattle.rtlc_run.specs.Answer.{described, list_refused, EvalComes, CommandComes, Answers, Produces, InputRefused, HasForms, IsOwn, IsMisused, MayBeAsked, IsRefused}
+use Rattle.rtlc_run.specs.Answer.{described, list_refused, EvalComes, CommandComes, Answers, HasForms, IsMisused, MayBeAsked, IsRefused}
+use Rattle.rtlc_run.specs.machine.Steps.{Gives, InputRefused, IsOwn}
 
 -- what was produced has any property that follows
-pub produces_map : (r : Result (Vec ℕ Global) Refusal) (P Q : Outcome → Type 0) → ((o : Outcome) → P o → Q o) → Produces r P → Produces r Q
-produces_map (Ok text) P Q follows h = follows (Ok text.items) h
-produces_map (Err refusal.Memory) P Q follows h = tt
-produces_map (Err refusal.ReadFault) P Q follows h = tt
-produces_map (Err refusal.WriteFault) P Q follows h = absurd h
-produces_map (Err refusal.Usage) P Q follows h = follows (Err refusal.Usage) h
-produces_map (Err (refusal.Syntax file place)) P Q follows h = follows (Err (refusal.Syntax file place)) h
-produces_map (Err (refusal.Construct place name)) P Q follows h = follows (Err (refusal.Construct place name)) h
-produces_map (Err (refusal.IllFormed function uid rule)) P Q follows h = follows (Err (refusal.IllFormed function uid rule)) h
-produces_map (Err (refusal.Limit which count)) P Q follows h = follows (Err (refusal.Limit which count)) h
-produces_map (Err (refusal.Unmatched function uid stage insn)) P Q follows h = follows (Err (refusal.Unmatched function uid stage insn)) h
+pub gives_map : (r : Result (Vec ℕ Global) Refusal) (P Q : Outcome → Type 0) → ((o : Outcome) → P o → Q o) → Gives r P → Gives r Q
+gives_map (Ok text) P Q follows h = follows (Ok text.items) h
+gives_map (Err refusal.Memory) P Q follows h = tt
+gives_map (Err refusal.ReadFault) P Q follows h = tt
+gives_map (Err refusal.WriteFault) P Q follows h = absurd h
+gives_map (Err refusal.Usage) P Q follows h = follows (Err refusal.Usage) h
+gives_map (Err (refusal.Syntax file place)) P Q follows h = follows (Err (refusal.Syntax file place)) h
+gives_map (Err (refusal.Construct place name)) P Q follows h = follows (Err (refusal.Construct place name)) h
+gives_map (Err (refusal.IllFormed function uid rule)) P Q follows h = follows (Err (refusal.IllFormed function uid rule)) h
+gives_map (Err (refusal.Limit which count)) P Q follows h = follows (Err (refusal.Limit which count)) h
+gives_map (Err (refusal.Unmatched function uid stage insn)) P Q follows h = follows (Err (refusal.Unmatched function uid stage insn)) h
 
 -- so has what was told
-pub produces_tells : (r : Result (Vec ℕ Global) Refusal) (P Q : Outcome → Type 0) → ((o : Outcome) → P o → Q o) → Tells r P → Produces r Q
-produces_tells (Ok text) P Q follows h = follows (Ok text.items) h
-produces_tells (Err refusal.Memory) P Q follows h = tt
-produces_tells (Err refusal.Usage) P Q follows h = absurd h
-produces_tells (Err refusal.ReadFault) P Q follows h = tt
-produces_tells (Err refusal.WriteFault) P Q follows h = absurd h
-produces_tells (Err (refusal.Syntax file place)) P Q follows h = follows (Err (refusal.Syntax file place)) h
-produces_tells (Err (refusal.Construct place name)) P Q follows h = follows (Err (refusal.Construct place name)) h
-produces_tells (Err (refusal.IllFormed function uid rule)) P Q follows h = follows (Err (refusal.IllFormed function uid rule)) h
-produces_tells (Err (refusal.Limit which count)) P Q follows h = follows (Err (refusal.Limit which count)) h
-produces_tells (Err (refusal.Unmatched function uid stage insn)) P Q follows h = follows (Err (refusal.Unmatched function uid stage insn)) h
+pub gives_text : (r : Result (Vec ℕ Global) Refusal) (P Q : Outcome → Type 0) → ((o : Outcome) → P o → Q o) → GivesText r P → Gives r Q
+gives_text (Ok text) P Q follows h = follows (Ok text.items) h
+gives_text (Err refusal.Memory) P Q follows h = tt
+gives_text (Err refusal.Usage) P Q follows h = absurd h
+gives_text (Err refusal.ReadFault) P Q follows h = tt
+gives_text (Err refusal.WriteFault) P Q follows h = absurd h
+gives_text (Err (refusal.Syntax file place)) P Q follows h = follows (Err (refusal.Syntax file place)) h
+gives_text (Err (refusal.Construct place name)) P Q follows h = follows (Err (refusal.Construct place name)) h
+gives_text (Err (refusal.IllFormed function uid rule)) P Q follows h = follows (Err (refusal.IllFormed function uid rule)) h
+gives_text (Err (refusal.Limit which count)) P Q follows h = follows (Err (refusal.Limit which count)) h
+gives_text (Err (refusal.Unmatched function uid stage insn)) P Q follows h = follows (Err (refusal.Unmatched function uid stage insn)) h
 
 -- ---- the input
 
@@ -69,19 +70,19 @@ asm_comes : (known : Source) (left left' : Option (List ℕ)) (bytes : List ℕ)
 asm_comes known left left' bytes o read comes = CommandComes.assembled o (of_input (λ (bs : List ℕ). InputComes bs o) left left' bytes read comes)
 
 -- what the bytes that were read came to, `asm` comes to
-pub asm_produced : (known : Source) (left left' : Option (List ℕ)) (bytes : List ℕ) (r : Result (Vec ℕ Global) Refusal) → Consumes left left' bytes × IsAtEnd left' → Tells r (InputComes bytes) → Produces r (CommandComes known left commands.Asm)
-asm_produced known left left' bytes r read h = produces_tells r (InputComes bytes) (CommandComes known left commands.Asm) (λ o comes. asm_comes known left left' bytes o read comes) h
+pub asm_produced : (known : Source) (left left' : Option (List ℕ)) (bytes : List ℕ) (r : Result (Vec ℕ Global) Refusal) → Consumes left left' bytes × IsAtEnd left' → GivesText r (InputComes bytes) → Gives r (CommandComes known left commands.Asm)
+asm_produced known left left' bytes r read h = gives_text r (InputComes bytes) (CommandComes known left commands.Asm) (λ o comes. asm_comes known left left' bytes o read comes) h
 
 too_long : (left : Option (List ℕ)) (count : ℕ) → InputRefused left (refusal.Limit limit.Text count) → IfSome left (λ bytes. InputComes bytes (Err (refusal.Limit limit.Text count)))
 too_long None count h = tt
 too_long (Some bytes) count h = subst (λ (n : ℕ). InputComes bytes (Err (refusal.Limit limit.Text n))) (sym h.0) (InputComesTo.too_long h.1)
 
-unread_limit : (known : Source) (left : Option (List ℕ)) (which : Limit) (count : ℕ) → InputRefused left (refusal.Limit which count) → Produces (Err (refusal.Limit which count)) (CommandComes known left commands.Asm)
+unread_limit : (known : Source) (left : Option (List ℕ)) (which : Limit) (count : ℕ) → InputRefused left (refusal.Limit which count) → Gives (Err (refusal.Limit which count)) (CommandComes known left commands.Asm)
 unread_limit known left limit.Text count h = CommandComes.assembled (Err (refusal.Limit limit.Text count)) (too_long left count h)
 unread_limit known left _ count h = absurd h
 
 -- an input that was not read refuses `asm`
-pub asm_unread : (known : Source) (left : Option (List ℕ)) (e : Refusal) → InputRefused left e → Produces (Err e) (CommandComes known left commands.Asm)
+pub asm_unread : (known : Source) (left : Option (List ℕ)) (e : Refusal) → InputRefused left e → Gives (Err e) (CommandComes known left commands.Asm)
 asm_unread known left refusal.Memory h = tt
 asm_unread known left refusal.ReadFault h = tt
 asm_unread known left (refusal.Limit which count) h = unread_limit known left which count h
@@ -95,9 +96,9 @@ eval_comes known left left' bytes function steps args o read comes = CommandCome
 
 -- what the bytes that were read came to, `eval` comes to
 pub eval_produced : (known : Source) (left left' : Option (List ℕ)) (bytes function : List ℕ) (steps : ℕ) (args : List ℕ) (r : Result (Vec ℕ Global) Refusal) → Consumes left left' bytes × IsAtEnd left' →
-    Produces r (EvalComes bytes function steps args) → Produces r (CommandComes known left (commands.Eval function steps args))
+    Gives r (EvalComes bytes function steps args) → Gives r (CommandComes known left (commands.Eval function steps args))
 eval_produced known left left' bytes function steps args r read h =
-    produces_map r (EvalComes bytes function steps args) (CommandComes known left (commands.Eval function steps args)) (λ o comes. eval_comes known left left' bytes function steps args o read comes) h
+    gives_map r (EvalComes bytes function steps args) (CommandComes known left (commands.Eval function steps args)) (λ o comes. eval_comes known left left' bytes function steps args o read comes) h
 
 -- bytes that are too many are no functions
 too_many : (bytes function : List ℕ) (steps : ℕ) (args : List ℕ) (count : ℕ) → count ≡ 16777217 → most_bytes < length bytes → EvalComes bytes function steps args (Err (refusal.Limit limit.Text count))
@@ -115,19 +116,19 @@ too_many_left None function steps args count h = tt
 too_many_left (Some bytes) function steps args count h = too_many bytes function steps args count h.0 h.1
 
 eval_limit : (known : Source) (left : Option (List ℕ)) (function : List ℕ) (steps : ℕ) (args : List ℕ) (which : Limit) (count : ℕ) → InputRefused left (refusal.Limit which count) →
-    Produces (Err (refusal.Limit which count)) (CommandComes known left (commands.Eval function steps args))
+    Gives (Err (refusal.Limit which count)) (CommandComes known left (commands.Eval function steps args))
 eval_limit known left function steps args limit.Text count h = CommandComes.tries function steps args (Err (refusal.Limit limit.Text count)) (too_many_left left function steps args count h)
 eval_limit known left function steps args _ count h = absurd h
 
 -- an input that was not read refuses `eval`
-pub eval_unread : (known : Source) (left : Option (List ℕ)) (function : List ℕ) (steps : ℕ) (args : List ℕ) (e : Refusal) → InputRefused left e → Produces (Err e) (CommandComes known left (commands.Eval function steps args))
+pub eval_unread : (known : Source) (left : Option (List ℕ)) (function : List ℕ) (steps : ℕ) (args : List ℕ) (e : Refusal) → InputRefused left e → Gives (Err e) (CommandComes known left (commands.Eval function steps args))
 eval_unread known left function steps args refusal.Memory h = tt
 eval_unread known left function steps args refusal.ReadFault h = tt
 eval_unread known left function steps args (refusal.Limit which count) h = eval_limit known left function steps args which count h
 eval_unread known left function steps args _ h = absurd h
 
 -- what refused the code refuses the outcomes
-pub code_refused : (bytes function : List ℕ) (steps : ℕ) (args : List ℕ) (e : Refusal) → Told (Err e) (CodeComes bytes function) → Produces (Err e) (EvalComes bytes function steps args)
+pub code_refused : (bytes function : List ℕ) (steps : ℕ) (args : List ℕ) (e : Refusal) → GivesCode (Err e) (CodeComes bytes function) → Gives (Err e) (EvalComes bytes function steps args)
 code_refused bytes function steps args refusal.Memory h = tt
 code_refused bytes function steps args refusal.ReadFault h = absurd h
 code_refused bytes function steps args refusal.WriteFault h = absurd h
@@ -152,7 +153,7 @@ unread_is_own left refusal.ReadFault h = (λ is. cc, λ is. cc)
 unread_is_own left (refusal.Limit which count) h = (λ is. cc, λ is. cc)
 unread_is_own left _ h = absurd h
 
-pub told_is_own : (P : Outcome → Type 0) (r : Result (Vec ℕ Global) Refusal) → Tells r P → IsOwn r
+pub told_is_own : (P : Outcome → Type 0) (r : Result (Vec ℕ Global) Refusal) → GivesText r P → IsOwn r
 told_is_own P (Ok text) h = (λ is. cc, λ is. cc)
 told_is_own P (Err refusal.Usage) h = absurd h
 told_is_own P (Err refusal.WriteFault) h = absurd h
@@ -179,7 +180,7 @@ listing_is_own e told is = subst (λ (r : Refusal). IsOwn (Err r)) (sym is) (own
 
 -- ---- descriptions
 
-list_refuses : (known : Source) (input : Option (List ℕ)) (name : Option (List ℕ)) (e : ListRefusal) → GivesList (ListComes known (described name)) (Err e) → Produces (Err (list_refused e)) (CommandComes known input (commands.List name))
+list_refuses : (known : Source) (input : Option (List ℕ)) (name : Option (List ℕ)) (e : ListRefusal) → GivesList (ListComes known (described name)) (Err e) → Gives (Err (list_refused e)) (CommandComes known input (commands.List name))
 list_refuses known input name (listing.Source (source.Syntax file place)) h = CommandComes.listed name (Err (listing.Source (source.Syntax file place))) h
 list_refuses known input name (listing.Source source.Depth) h = CommandComes.listed name (Err (listing.Source source.Depth)) h
 list_refuses known input name (listing.Source source.Include) h = CommandComes.listed name (Err (listing.Source source.Include)) h
@@ -190,17 +191,17 @@ list_refuses known input name listing.Forms h = CommandComes.listed name (Err li
 list_refuses known input name listing.Memory h = tt
 
 -- what refused the list refuses the command
-pub list_unproduced : (known : Source) (input : Option (List ℕ)) (name : Option (List ℕ)) (e : ListRefusal) (told : Refusal) → told ≡ list_refused e → GivesList (ListComes known (described name)) (Err e) → Produces (Err told) (CommandComes known input (commands.List name))
-list_unproduced known input name e told is h = subst (λ (r : Refusal). Produces (Err r) (CommandComes known input (commands.List name))) (sym is) (list_refuses known input name e h)
+pub list_unproduced : (known : Source) (input : Option (List ℕ)) (name : Option (List ℕ)) (e : ListRefusal) (told : Refusal) → told ≡ list_refused e → GivesList (ListComes known (described name)) (Err e) → Gives (Err told) (CommandComes known input (commands.List name))
+list_unproduced known input name e told is h = subst (λ (r : Refusal). Gives (Err r) (CommandComes known input (commands.List name))) (sym is) (list_refuses known input name e h)
 
 -- ---- words
 
 -- what their command comes to, words come to
-pub words_produced : (words : List (List ℕ)) (known : Source) (input : Option (List ℕ)) (c : Command) (r : Result (Vec ℕ Global) Refusal) → command_of words ≡ Some c → Produces r (CommandComes known input c) → Produces r (Answers words known input)
-words_produced words known input c r is h = produces_map r (CommandComes known input c) (Answers words known input) (λ o comes. Answers.spoken c o is comes) h
+pub words_produced : (words : List (List ℕ)) (known : Source) (input : Option (List ℕ)) (c : Command) (r : Result (Vec ℕ Global) Refusal) → command_of words ≡ Some c → Gives r (CommandComes known input c) → Gives r (Answers words known input)
+words_produced words known input c r is h = gives_map r (CommandComes known input c) (Answers words known input) (λ o comes. Answers.spoken c o is comes) h
 
 -- what was produced as a refusal has its cause
-pub refused_has_cause : (words : List (List ℕ)) (known : Source) (input : Option (List ℕ)) (e : Refusal) → Produces (Err e) (Answers words known input) → IsRefused words known input e
+pub refused_has_cause : (words : List (List ℕ)) (known : Source) (input : Option (List ℕ)) (e : Refusal) → Gives (Err e) (Answers words known input) → IsRefused words known input e
 refused_has_cause words known input refusal.Memory h = tt
 refused_has_cause words known input refusal.ReadFault h = tt
 refused_has_cause words known input refusal.WriteFault h = tt

@@ -17,20 +17,21 @@ use Rattle.md_named.specs.Answers.{RefusesForms}
 use Rattle.md_named.proofs.Forms.{one_answer as one_forms}
 use Rattle.rtx_tree.specs.Limit.{most_bytes}
 use Rattle.func_input.specs.Input.{IsInput, FunctionsComeTo, ReadingComesTo, InputComesTo}
-use Rattle.func_input.specs.Outcome.{Outcome, Tells}
+use Rattle.func_input.specs.Outcome.{Outcome, Gives as GivesText}
 use Rattle.func_input.proofs.Inputs.{input_reached}
 use Rattle.func_input.proofs.One.{one_coming_to}
 use Rattle.recog_text.specs.Recog.{FunctionsCome}
 use Rattle.recog_text.proofs.One.{functions_one}
 use Rattle.rtlc_words.specs.declared.command.Command.TheVariants as commands
-use Rattle.rtlc_run.specs.Answer.{described, RecogComes, CommandComes, Produces, InputRefused, IsOwn}
+use Rattle.rtlc_run.specs.Answer.{described, RecogComes, CommandComes}
+use Rattle.rtlc_run.specs.machine.Steps.{Gives, InputRefused, IsOwn}
 use Rattle.rtlc_run.specs.Written.{WritesForms}
-use Rattle.rtlc_run.proofs.Commands.{of_input, produces_tells}
+use Rattle.rtlc_run.proofs.Commands.{of_input, gives_text}
 
 -- ---- what it comes to
 
 -- what refused the description refuses it
-pub forms_refuse : (known : Source) (left : Option (List ℕ)) (name : Option (List ℕ)) (e : Refusal) → RefusesForms e (FormsCome known (described name)) → Produces (Err e) (CommandComes known left (commands.Recog name))
+pub forms_refuse : (known : Source) (left : Option (List ℕ)) (name : Option (List ℕ)) (e : Refusal) → RefusesForms e (FormsCome known (described name)) → Gives (Err e) (CommandComes known left (commands.Recog name))
 forms_refuse known left name refusal.Memory h = tt
 forms_refuse known left name refusal.ReadFault h = tt
 forms_refuse known left name refusal.Usage h = absurd h
@@ -51,13 +52,13 @@ too_long forms None count h = tt
 too_long forms (Some bytes) count h = subst (λ (n : ℕ). InputComesTo (FunctionsCome forms) bytes (Err (refusal.Limit limit.Text n))) (sym h.0) (InputComesTo.too_long h.1)
 
 unread_limit : (known : Source) (left : Option (List ℕ)) (name : Option (List ℕ)) (forms : List Entry) (which : Limit) (count : ℕ) → FormsCome known (described name) (Ok forms) → InputRefused left (refusal.Limit which count) →
-    Produces (Err (refusal.Limit which count)) (CommandComes known left (commands.Recog name))
+    Gives (Err (refusal.Limit which count)) (CommandComes known left (commands.Recog name))
 unread_limit known left name forms limit.Text count come h =
     CommandComes.recognised name (Err (refusal.Limit limit.Text count)) (RecogComes.by_forms forms (Err (refusal.Limit limit.Text count)) come (too_long forms left count h))
 unread_limit known left name forms _ count come h = absurd h
 
 -- an input that was not read refuses it
-pub recog_unread : (known : Source) (left : Option (List ℕ)) (name : Option (List ℕ)) (forms : List Entry) (e : Refusal) → FormsCome known (described name) (Ok forms) → InputRefused left e → Produces (Err e) (CommandComes known left (commands.Recog name))
+pub recog_unread : (known : Source) (left : Option (List ℕ)) (name : Option (List ℕ)) (forms : List Entry) (e : Refusal) → FormsCome known (described name) (Ok forms) → InputRefused left e → Gives (Err e) (CommandComes known left (commands.Recog name))
 recog_unread known left name forms refusal.Memory come h = tt
 recog_unread known left name forms refusal.ReadFault come h = tt
 recog_unread known left name forms (refusal.Limit which count) come h = unread_limit known left name forms which count come h
@@ -65,9 +66,9 @@ recog_unread known left name forms _ come h = absurd h
 
 -- what the bytes that were read came to, it comes to
 pub recog_produced : (known : Source) (left left' : Option (List ℕ)) (name : Option (List ℕ)) (forms : List Entry) (bytes : List ℕ) (r : Result (Vec ℕ Global) Refusal) → FormsCome known (described name) (Ok forms) →
-    Consumes left left' bytes × IsAtEnd left' → Tells r (InputComesTo (FunctionsCome forms) bytes) → Produces r (CommandComes known left (commands.Recog name))
+    Consumes left left' bytes × IsAtEnd left' → GivesText r (InputComesTo (FunctionsCome forms) bytes) → Gives r (CommandComes known left (commands.Recog name))
 recog_produced known left left' name forms bytes r come read h =
-    produces_tells r (InputComesTo (FunctionsCome forms) bytes) (CommandComes known left (commands.Recog name))
+    gives_text r (InputComesTo (FunctionsCome forms) bytes) (CommandComes known left (commands.Recog name))
     (λ o comes. CommandComes.recognised name o (RecogComes.by_forms forms o come (of_input (λ (bs : List ℕ). InputComesTo (FunctionsCome forms) bs o) left left' bytes read comes))) h
 
 -- ---- one answer

@@ -1,7 +1,6 @@
 -- What the program answers. It is one answer for the words, the files and the bytes of the input: a text, or a refusal with its values.
-use Rattle.std.specs.Prelude.{◌≡◌, ◌≢◌, ◌<◌, ◌⊎◌, ℕ, length, List, [], ◌∷◌, codes, unwrap_or, Some, None, IsSome, Result, Ok, Err, IfSome, IfOk, Bool, true, false, Vec}
+use Rattle.std.specs.Prelude.{◌≡◌, ◌⊎◌, ℕ, List, [], unwrap_or, Some, None, IsSome, Result, Ok, Err, IfSome, IfOk, Bool, true, false}
 use Rattle.std.specs.declared.option.Option.{Option}
-use Rattle.std.specs.declared.alloc.Global.{Global}
 use Rattle.std.specs.Io.KnownBytes.{Appends}
 use Rattle.byte_edge.specs.Causes.{Rose, TakesFront}
 use Rattle.rtx_tree.specs.declared.limit.Limit.TheVariants as limit
@@ -15,7 +14,6 @@ use Rattle.md_list.specs.declared.refusal.ListRefusal.TheVariants as listing
 use Rattle.md_list.specs.Listing.{ListComes}
 use Rattle.md_forms.specs.declared.form.Entry.{Entry}
 use Rattle.md_named.specs.Named.{source_refused, FormsCome}
-use Rattle.rtx_tree.specs.Limit.{most_bytes}
 use Rattle.func_input.specs.Input.{InputComesTo}
 use Rattle.func_input.specs.Outcome.{Outcome}
 use Rattle.asm_text.specs.Compile.{InputComes}
@@ -143,25 +141,6 @@ Writes words files input old new = (text : List ℕ) × Answers words files inpu
 -- a front of it was written
 abbrev pub WritesFront : List (List ℕ) → Source → Option (List ℕ) → Option (List ℕ) → Option (List ℕ) → Type 0
 WritesFront words files input old new = (text : List ℕ) × Answers words files input (Ok text) × TakesFront old new text
-
--- a text was made, or a refusal, with a property; a fault of a read and want of memory have their causes elsewhere
-abbrev pub Produces : Result (Vec ℕ Global) Refusal → (Outcome → Type 0) → Type 0
-Produces (Ok text) P = P (Ok text.items)
-Produces (Err refusal.ReadFault) P = Unit {0}
-Produces (Err refusal.WriteFault) P = ⊥
-Produces (Err refusal.Memory) P = Unit {0}
-Produces (Err e) P = P (Err e)
-
--- a command gave it: it is no refusal of the words or of the write
-abbrev pub IsOwn : Result (Vec ℕ Global) Refusal → Type 0
-IsOwn r = (r ≢ Err refusal.Usage) × (r ≢ Err refusal.WriteFault)
-
--- why the bytes of an input were not read
-abbrev pub InputRefused : Option (List ℕ) → Refusal → Type 0
-InputRefused input (refusal.Limit limit.Text count) = (count ≡ 16777217) × IfSome input (λ bytes. most_bytes < length bytes)
-InputRefused input refusal.ReadFault = Unit {0}
-InputRefused input refusal.Memory = Unit {0}
-InputRefused input e = ⊥
 
 -- the cause of a refusal in the words, the files and the input; a fault and want of memory have theirs elsewhere
 abbrev pub IsRefused : List (List ℕ) → Source → Option (List ℕ) → Refusal → Type 0

@@ -4,7 +4,8 @@
 //! written and nothing else; each other status has its cause, and its line was told.
 //!
 //! The words are read by `rtlc_words`; what the commands come to is `specs/Answer.antt`, over `asm_text` for `asm`, over `asm_text` and
-//! `code_eval` for `eval`, and over `md_list` for `list`; what was written then is said in `specs/Written.antt`.
+//! `code_eval` for `eval`, over `md_list` for `list`, and over `md_named` and `recog_text` for `recog`; what was written then is said in
+//! `specs/Written.antt`.
 #![tactic(auto)]
 
 mod program;

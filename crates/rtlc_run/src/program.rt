@@ -22,7 +22,8 @@ ghost use Rattle.rtlc_words.specs.Words as spoken;
 ghost use Rattle.rtlc_words.specs.Words.{words_of};
 ghost use Rattle.rtlc_run.specs.Answer as spec;
 ghost use Rattle.rtlc_run.specs.Written.{WritesLines, WritesSame, WritesList, WritesForms, WritesOutcomes, Completes, CompletesFor, CompletesBy, IsDone};
-ghost use Rattle.rtlc_run.specs.Answer.{EvalComes, CommandComes, Answers, InputRefused, HasForms, IsOwn, IsMisused, reads_input, reads_files, Produces, IsKnownFor, MayBeAsked, Writes, WritesFront, IsRefused, Reports, HasCause, TellsCause, IsAnswered};
+ghost use Rattle.rtlc_run.specs.machine.Steps.{Gives, IsOwn, InputRefused};
+ghost use Rattle.rtlc_run.specs.Answer.{EvalComes, CommandComes, Answers, HasForms, IsMisused, reads_input, reads_files, IsKnownFor, MayBeAsked, Writes, WritesFront, IsRefused, Reports, HasCause, TellsCause, IsAnswered};
 
 use asm_text::{assembly_of, code_of};
 use byte_edge::{Files, ReadAll, Sink, Source, read_all, write_all_of};
@@ -58,7 +59,7 @@ fn input_bytes<S: Source>(alloc: Global, input: &mut S) -> Result<Vec<u8>, Refus
 
 /// The assembly of the input.
 fn assembled<S: Source>(alloc: Global, input: &mut S) -> Result<Vec<u8>, Refusal>
-    ensures gives { (known : Known) → Produces result (CommandComes known (S.left input.old) commands.Asm) }
+    ensures gives { (known : Known) → Gives result (CommandComes known (S.left input.old) commands.Asm) }
     ensures own { IsOwn result }
     ensures fault { result ≡ Err Refusal.ReadFault → Rose (S.fault_count input.old) (S.fault_count input.new) }
     ensures quiet { result ≢ Err Refusal.ReadFault → S.fault_count input.new ≡ S.fault_count input.old }
@@ -76,7 +77,7 @@ fn outcomes_of(
     args: [u64; 8],
 ) -> Result<Vec<u8>, Refusal>
     requires { length bytes.now ≤ most_bytes }
-    ensures gives { Produces result (EvalComes bytes.now function.now steps args) }
+    ensures gives { Gives result (EvalComes bytes.now function.now steps args) }
     ensures usage { result ≡ Err Refusal.Usage → IsUnnamed bytes.now function.now }
     ensures read { result ≢ Err Refusal.ReadFault }
 {
@@ -92,7 +93,7 @@ fn evaluated<S: Source>(
     steps: u16,
     args: [u64; 8],
 ) -> Result<Vec<u8>, Refusal>
-    ensures gives { (known : Known) → Produces result (CommandComes known (S.left input.old) (commands.Eval function.now steps args)) }
+    ensures gives { (known : Known) → Gives result (CommandComes known (S.left input.old) (commands.Eval function.now steps args)) }
     ensures unwritten { result ≢ Err Refusal.WriteFault }
     ensures usage { result ≡ Err Refusal.Usage → IsMisused (Some (commands.Eval function.now steps args)) (S.left input.old) }
     ensures fault { result ≡ Err Refusal.ReadFault → Rose (S.fault_count input.old) (S.fault_count input.new) }
@@ -127,7 +128,7 @@ fn described(name: &Option<Name>) -> &[u8]
 
 /// The list of a description.
 fn listed<F: Files>(alloc: Global, files: &mut F, name: &Option<Name>) -> Result<Vec<u8>, Refusal>
-    ensures gives { (known : Known) → Agrees known (F.holds files.old) → (input : Option (List ℕ)) → Produces result (CommandComes known input (commands.List name.now)) }
+    ensures gives { (known : Known) → Agrees known (F.holds files.old) → (input : Option (List ℕ)) → Gives result (CommandComes known input (commands.List name.now)) }
     ensures asked { (known : Known) → Agrees known (F.holds files.old) → GrewBy (AreNamed known (spec.described name.now)) (F.asked files.old) (F.asked files.new) }
     ensures own { IsOwn result }
     ensures fault { result ≡ Err Refusal.ReadFault → Rose (F.fault_count files.old) (F.fault_count files.new) }
@@ -145,7 +146,7 @@ fn recognised_by<S: Source>(
     input: &mut S,
     description: &Description,
 ) -> Result<Vec<u8>, Refusal>
-    ensures gives { (known : Known) (name : Option (List ℕ)) → FormsCome known (spec.described name) (Ok description.now) → Produces result (CommandComes known (S.left input.old) (commands.Recog name)) }
+    ensures gives { (known : Known) (name : Option (List ℕ)) → FormsCome known (spec.described name) (Ok description.now) → Gives result (CommandComes known (S.left input.old) (commands.Recog name)) }
     ensures own { IsOwn result }
     ensures fault { result ≡ Err Refusal.ReadFault → Rose (S.fault_count input.old) (S.fault_count input.new) }
     ensures quiet { result ≢ Err Refusal.ReadFault → S.fault_count input.new ≡ S.fault_count input.old }
@@ -161,7 +162,7 @@ fn recognised<F: Files, S: Source>(
     input: &mut S,
     name: &Option<Name>,
 ) -> Result<Vec<u8>, Refusal>
-    ensures gives { (known : Known) → Agrees known (F.holds files.old) → Produces result (CommandComes known (S.left input.old) (commands.Recog name.now)) }
+    ensures gives { (known : Known) → Agrees known (F.holds files.old) → Gives result (CommandComes known (S.left input.old) (commands.Recog name.now)) }
     ensures asked { (known : Known) → Agrees known (F.holds files.old) → GrewBy (AreNamed known (spec.described name.now)) (F.asked files.old) (F.asked files.new) }
     ensures own { IsOwn result }
     ensures behind { result ≡ Err Refusal.ReadFault → ¬ Rose (F.fault_count files.old) (F.fault_count files.new) →
@@ -181,7 +182,7 @@ fn produced<F: Files, S: Source>(
     files: &mut F,
     input: &mut S,
 ) -> Result<Vec<u8>, Refusal>
-    ensures gives { (known : Known) → Agrees known (F.holds files.old) → Produces result (CommandComes known (S.left input.old) command) }
+    ensures gives { (known : Known) → Agrees known (F.holds files.old) → Gives result (CommandComes known (S.left input.old) command) }
     ensures asked { (known : Known) → Agrees known (F.holds files.old) → GrewBy (MayBeAsked known (Some command)) (F.asked files.old) (F.asked files.new) }
     ensures unwritten { result ≢ Err Refusal.WriteFault }
     ensures usage { result ≡ Err Refusal.Usage → IsMisused (Some command) (S.left input.old) }
@@ -212,7 +213,7 @@ fn answered<F: Files, S: Source>(
     files: &mut F,
     input: &mut S,
 ) -> Result<Vec<u8>, Refusal>
-    ensures gives { (known : Known) → Agrees known (F.holds files.old) → Produces result (Answers (words_of words.now) known (S.left input.old)) }
+    ensures gives { (known : Known) → Agrees known (F.holds files.old) → Gives result (Answers (words_of words.now) known (S.left input.old)) }
     ensures usage { result ≡ Err Refusal.Usage → IsMisused (spoken.command_of (words_of words.now)) (S.left input.old) }
     ensures unwritten { result ≢ Err Refusal.WriteFault }
     ensures behind { result ≡ Err Refusal.ReadFault → ¬ Rose (F.fault_count files.old) (F.fault_count files.new) →

@@ -5,16 +5,16 @@ use Rattle.std.proofs.lemmas.List.{take_all}
 use Rattle.rtx_tree.specs.declared.tree.Rtx.{Rtx}
 use Rattle.rtx_tree.specs.declared.tree.Rtx.TheViews.{the_lemmas}
 use Rattle.rtx_tree.specs.declared.tree.Rtx.TheFolds.{fold_out-Rtx}
-use Rattle.rtx_tree.specs.Tree.{Head, head_of, kids_of, tree_of, size_step, size_of, is_reg_numbered, mentions_step, mentions_reg}
+use Rattle.rtx_tree.specs.Tree.{RtxHead, head_of, kids_of, tree_of, size_step, size_of, is_reg_numbered, mentions_step, mentions_reg}
 
 -- a tree is made of its head and kids
 pub tree_of-parts : (x : Rtx) → tree_of (head_of x) (kids_of x) ≡ x
 tree_of-parts x = search (rules, the_lemmas)
 
-pub head_of-tree : (h : Head) (kids : List Rtx) → head_of (tree_of h kids) ≡ h
+pub head_of-tree : (h : RtxHead) (kids : List Rtx) → head_of (tree_of h kids) ≡ h
 head_of-tree h kids = search (rules, the_lemmas)
 
-pub kids_of-tree : (h : Head) (kids : List Rtx) → kids_of (tree_of h kids) ≡ kids
+pub kids_of-tree : (h : RtxHead) (kids : List Rtx) → kids_of (tree_of h kids) ≡ kids
 kids_of-tree h kids = search (rules, the_lemmas)
 
 -- trees with one head and the same kids are one

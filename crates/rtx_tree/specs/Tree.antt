@@ -11,20 +11,20 @@ use Rattle.rtx_tree.specs.declared.tree.Rtx.TheOpen.{Rtx-F}
 use Rattle.rtx_tree.specs.declared.tree.Rtx.TheFolds.{fold-Rtx}
 
 -- what a tree has besides its kids
-pub record Head : Type 0 where
+pub record RtxHead : Type 0 where
   pub code : Code
   pub mode : Mode
   pub number : ℤ
   pub name : List ℕ
 
-abbrev pub head_of : Rtx → Head
+abbrev pub head_of : Rtx → RtxHead
 head_of x = let o = out-Rtx x in record { code = o.code; mode = o.mode; number = o.number; name = o.name }
 
 abbrev pub kids_of : Rtx → List Rtx
 kids_of x = (out-Rtx x).kids
 
 -- the tree of a head and kids
-abbrev pub tree_of : Head → List Rtx → Rtx
+abbrev pub tree_of : RtxHead → List Rtx → Rtx
 tree_of h kids = roll-Rtx (record { code = h.code; mode = h.mode; number = h.number; name = h.name; kids = kids })
 
 -- the tree of a number alone, as of a register or a constant

@@ -10,12 +10,12 @@ use Rattle.text_words.specs.Words.{fits_i64, is_symbol}
 use Rattle.rv_text.specs.Table.{Row, row_named}
 use Rattle.rv_text.specs.declared.action.Action.{Action}
 use Rattle.rv_text.specs.declared.line.Line.{Line}
-use Rattle.rv_text.specs.declared.line.Parts as code
+use Rattle.rv_text.specs.declared.line.LineParts as code
 use Rattle.rv_text.specs.declared.operand.Operand.{Operand}
 use Rattle.rv_text.specs.declared.operand.Operand.TheVariants.{Rd, Rs, Rt, Number, Place, Target, Ra}
 
 -- the line that the code lends by its parts
-abbrev pub parts_view : code.Parts → Line
+abbrev pub parts_view : code.LineParts → Line
 parts_view parts = record { name = parts.name.now; rd = parts.rd; rs = parts.rs; rt = parts.rt; imm = parts.imm; target = parts.target.now }
 
 -- ---- what the operands of a line are

@@ -15,7 +15,7 @@ mod print;
 mod table;
 
 pub use action::{Action, Comparison, Extension, Operation, Source};
-pub use line::{CodeItem, Line, Parts};
+pub use line::{CodeItem, Line, LineParts};
 pub use mnemonic::{MNEMONICS, Mnemonic};
 pub use operand::Operand;
 pub use parse::parse_line;

@@ -48,7 +48,7 @@ pub enum CodeItem {
 
 /// The parts of a line, lent.
 #[derive(Clone, Copy)]
-pub struct Parts<'a> {
+pub struct LineParts<'a> {
     /// The mnemonic.
     pub name: &'a [u8],
     /// The register that is written.
@@ -63,12 +63,12 @@ pub struct Parts<'a> {
     pub target: &'a [u8],
 }
 
-impl<'a> Parts<'a> {
+impl<'a> LineParts<'a> {
     /// A line of which nothing but the mnemonic is given.
-    pub fn bare(name: &'a [u8]) -> Parts<'a>
+    pub fn bare(name: &'a [u8]) -> LineParts<'a>
         ensures { parts_view result ≡ spec.bare name.entry.now }
     {
-        Parts {
+        LineParts {
             name,
             rd: 0,
             rs: 0,
@@ -79,32 +79,32 @@ impl<'a> Parts<'a> {
     }
 
     /// This line with what an operand names taken from another one.
-    pub fn with(self, operand: Operand, from: Parts<'a>) -> Parts<'a>
+    pub fn with(self, operand: Operand, from: LineParts<'a>) -> LineParts<'a>
         ensures { parts_view result ≡ spec.put operand (parts_view from.entry) (parts_view self.entry) }
     {
         match operand {
-            Operand::Rd => Parts {
+            Operand::Rd => LineParts {
                 rd: from.rd,
                 ..self
             },
-            Operand::Rs => Parts {
+            Operand::Rs => LineParts {
                 rs: from.rs,
                 ..self
             },
-            Operand::Rt => Parts {
+            Operand::Rt => LineParts {
                 rt: from.rt,
                 ..self
             },
-            Operand::Number { .. } => Parts {
+            Operand::Number { .. } => LineParts {
                 imm: from.imm,
                 ..self
             },
-            Operand::Place { .. } => Parts {
+            Operand::Place { .. } => LineParts {
                 rs: from.rs,
                 imm: from.imm,
                 ..self
             },
-            Operand::Target => Parts {
+            Operand::Target => LineParts {
                 target: from.target,
                 ..self
             },
@@ -113,7 +113,7 @@ impl<'a> Parts<'a> {
     }
 
     /// Whether two lines have the same parts.
-    pub fn same(self, other: Parts<'_>) -> bool
+    pub fn same(self, other: LineParts<'_>) -> bool
         ensures { result ≡ spec.same_line (parts_view self.entry) (parts_view other.entry) }
     {
         self.name == other.name
@@ -154,10 +154,10 @@ pub(crate) fn is_within(number: i64, least: i64, most: i64) -> bool
 
 impl Line {
     /// The line's parts.
-    pub fn parts(&self) -> Parts<'_>
+    pub fn parts(&self) -> LineParts<'_>
         ensures { parts_view result ≡ self.now }
     {
-        Parts {
+        LineParts {
             name: self.name.bytes(),
             rd: self.rd,
             rs: self.rs,
@@ -191,11 +191,11 @@ impl Line {
     }
 
     /// The line with what the operands don't name left out.
-    fn named(&self, operands: &[Operand]) -> Parts<'_>
+    fn named(&self, operands: &[Operand]) -> LineParts<'_>
         ensures { parts_view result ≡ spec.filled operands.now self.now (spec.bare self.now.name) }
     {
         let whole = self.parts();
-        let mut parts = Parts::bare(self.name.bytes());
+        let mut parts = LineParts::bare(self.name.bytes());
         for operand in operands {
             parts = parts.with(*operand, whole);
         }

@@ -9,7 +9,7 @@ ghost use Rattle.rv_text.specs.Text.{Finds, Sets, IsListed, IsListedFrom, IsRest
 ghost use Rattle.rv_text.specs.Table.{HasEvery, row_view};
 ghost use Rattle.rv_text.specs.machine.Cuts as cuts;
 
-use crate::line::{Line, Parts, is_within};
+use crate::line::{Line, LineParts, is_within};
 use crate::operand::Operand;
 use crate::table::{Row, row_named};
 use itoa::Buffer;
@@ -149,40 +149,40 @@ fn read_place(text: &[u8], least: i64, most: i64) -> Option<(i64, u8)>
     }
 }
 
-fn set_rd<'a>(parts: Parts<'a>, rd: Option<u8>) -> Option<Parts<'a>>
+fn set_rd<'a>(parts: LineParts<'a>, rd: Option<u8>) -> Option<LineParts<'a>>
     ensures { option_map parts_view result ≡ option_map (λ rd. record (parts_view parts.entry) { rd = rd }) rd }
 {
     match rd {
         None => None,
-        Some(rd) => Some(Parts { rd, ..parts }),
+        Some(rd) => Some(LineParts { rd, ..parts }),
     }
 }
 
-fn set_rs<'a>(parts: Parts<'a>, rs: Option<u8>) -> Option<Parts<'a>>
+fn set_rs<'a>(parts: LineParts<'a>, rs: Option<u8>) -> Option<LineParts<'a>>
     ensures { option_map parts_view result ≡ option_map (λ rs. record (parts_view parts.entry) { rs = rs }) rs }
 {
     match rs {
         None => None,
-        Some(rs) => Some(Parts { rs, ..parts }),
+        Some(rs) => Some(LineParts { rs, ..parts }),
     }
 }
 
-fn set_rt<'a>(parts: Parts<'a>, rt: Option<u8>) -> Option<Parts<'a>>
+fn set_rt<'a>(parts: LineParts<'a>, rt: Option<u8>) -> Option<LineParts<'a>>
     ensures { option_map parts_view result ≡ option_map (λ rt. record (parts_view parts.entry) { rt = rt }) rt }
 {
     match rt {
         None => None,
-        Some(rt) => Some(Parts { rt, ..parts }),
+        Some(rt) => Some(LineParts { rt, ..parts }),
     }
 }
 
-fn with_imm<'a>(parts: Parts<'a>, imm: i64) -> Parts<'a>
+fn with_imm<'a>(parts: LineParts<'a>, imm: i64) -> LineParts<'a>
     ensures { parts_view result ≡ record (parts_view parts.entry) { imm = imm } }
 {
-    Parts { imm, ..parts }
+    LineParts { imm, ..parts }
 }
 
-fn set_imm<'a>(parts: Parts<'a>, imm: Option<i64>) -> Option<Parts<'a>>
+fn set_imm<'a>(parts: LineParts<'a>, imm: Option<i64>) -> Option<LineParts<'a>>
     ensures { option_map parts_view result ≡ option_map (λ imm. record (parts_view parts.entry) { imm = imm }) imm }
 {
     match imm {
@@ -191,50 +191,55 @@ fn set_imm<'a>(parts: Parts<'a>, imm: Option<i64>) -> Option<Parts<'a>>
     }
 }
 
-fn set_place<'a>(parts: Parts<'a>, place: Option<(i64, u8)>) -> Option<Parts<'a>>
+fn set_place<'a>(parts: LineParts<'a>, place: Option<(i64, u8)>) -> Option<LineParts<'a>>
     ensures { option_map parts_view result ≡ option_map (λ place. record (parts_view parts.entry) { rs = place.1; imm = place.0 }) place }
 {
     match place {
         None => None,
-        Some((imm, rs)) => Some(with_imm(Parts { rs, ..parts }, imm)),
+        Some((imm, rs)) => Some(with_imm(LineParts { rs, ..parts }, imm)),
     }
 }
 
-fn read_rd<'a>(text: &[u8], parts: Parts<'a>) -> Option<Parts<'a>>
+fn read_rd<'a>(text: &[u8], parts: LineParts<'a>) -> Option<LineParts<'a>>
     ensures { Finds (Sets Operand.Rd text.now (parts_view parts.entry)) (option_map parts_view result) }
 {
     set_rd(parts, read_register(text))
 }
 
-fn read_rs<'a>(text: &[u8], parts: Parts<'a>) -> Option<Parts<'a>>
+fn read_rs<'a>(text: &[u8], parts: LineParts<'a>) -> Option<LineParts<'a>>
     ensures { Finds (Sets Operand.Rs text.now (parts_view parts.entry)) (option_map parts_view result) }
 {
     set_rs(parts, read_register(text))
 }
 
-fn read_rt<'a>(text: &[u8], parts: Parts<'a>) -> Option<Parts<'a>>
+fn read_rt<'a>(text: &[u8], parts: LineParts<'a>) -> Option<LineParts<'a>>
     ensures { Finds (Sets Operand.Rt text.now (parts_view parts.entry)) (option_map parts_view result) }
 {
     set_rt(parts, read_register(text))
 }
 
-fn read_imm<'a>(text: &[u8], least: i64, most: i64, parts: Parts<'a>) -> Option<Parts<'a>>
+fn read_imm<'a>(text: &[u8], least: i64, most: i64, parts: LineParts<'a>) -> Option<LineParts<'a>>
     ensures { Finds (Sets (Operand.Number least most) text.now (parts_view parts.entry)) (option_map parts_view result) }
 {
     set_imm(parts, read_number(text, least, most))
 }
 
-fn read_rs_and_imm<'a>(text: &[u8], least: i64, most: i64, parts: Parts<'a>) -> Option<Parts<'a>>
+fn read_rs_and_imm<'a>(
+    text: &[u8],
+    least: i64,
+    most: i64,
+    parts: LineParts<'a>,
+) -> Option<LineParts<'a>>
     ensures { Finds (Sets (Operand.Place least most) text.now (parts_view parts.entry)) (option_map parts_view result) }
 {
     set_place(parts, read_place(text, least, most))
 }
 
-fn read_target<'a>(text: &'a [u8], parts: Parts<'a>) -> Option<Parts<'a>>
+fn read_target<'a>(text: &'a [u8], parts: LineParts<'a>) -> Option<LineParts<'a>>
     ensures { Finds (Sets Operand.Target text.entry.now (parts_view parts.entry)) (option_map parts_view result) }
 {
     if is_symbol(text) {
-        Some(Parts {
+        Some(LineParts {
             target: text,
             ..parts
         })
@@ -243,7 +248,7 @@ fn read_target<'a>(text: &'a [u8], parts: Parts<'a>) -> Option<Parts<'a>>
     }
 }
 
-fn read_ra<'a>(text: &[u8], parts: Parts<'a>) -> Option<Parts<'a>>
+fn read_ra<'a>(text: &[u8], parts: LineParts<'a>) -> Option<LineParts<'a>>
     ensures { Finds (Sets Operand.Ra text.now (parts_view parts.entry)) (option_map parts_view result) }
 {
     if text == b"ra".as_slice() {
@@ -254,7 +259,7 @@ fn read_ra<'a>(text: &[u8], parts: Parts<'a>) -> Option<Parts<'a>>
 }
 
 /// Reads one operand.
-fn read_operand<'a>(operand: Operand, text: &'a [u8], parts: Parts<'a>) -> Option<Parts<'a>>
+fn read_operand<'a>(operand: Operand, text: &'a [u8], parts: LineParts<'a>) -> Option<LineParts<'a>>
     ensures { Finds (Sets operand text.entry.now (parts_view parts.entry)) (option_map parts_view result) }
 {
     match operand {
@@ -273,8 +278,8 @@ fn read_operands_from<'a>(
     operand: Operand,
     others: &[Operand],
     bytes: &'a [u8],
-    parts: Parts<'a>,
-) -> Option<Parts<'a>>
+    parts: LineParts<'a>,
+) -> Option<LineParts<'a>>
     ensures { Finds (IsListedFrom operand others.now bytes.entry.now (parts_view parts.entry)) (option_map parts_view result) }
 {
     let [next, others @ ..] = others else {
@@ -291,7 +296,11 @@ fn read_operands_from<'a>(
 }
 
 /// Reads all operands.
-fn read_operands<'a>(operands: &[Operand], bytes: &'a [u8], parts: Parts<'a>) -> Option<Parts<'a>>
+fn read_operands<'a>(
+    operands: &[Operand],
+    bytes: &'a [u8],
+    parts: LineParts<'a>,
+) -> Option<LineParts<'a>>
     ensures { Finds (IsListed operands.now bytes.entry.now (parts_view parts.entry)) (option_map parts_view result) }
 {
     match operands {
@@ -302,18 +311,18 @@ fn read_operands<'a>(operands: &[Operand], bytes: &'a [u8], parts: Parts<'a>) ->
 }
 
 /// Reads what stands behind the mnemonic of a row.
-fn read_row<'a>(row: Row, name: &'a [u8], rest: &'a [u8]) -> Option<Parts<'a>>
+fn read_row<'a>(row: Row, name: &'a [u8], rest: &'a [u8]) -> Option<LineParts<'a>>
     ensures { Finds (IsRestOf (row_view row) name.entry.now rest.entry.now) (option_map parts_view result) }
 {
     let operands = behind_blanks(rest);
     if operands.len() == rest.len() && !row.operands.is_empty() {
         return None;
     }
-    read_operands(row.operands, operands, Parts::bare(name))
+    read_operands(row.operands, operands, LineParts::bare(name))
 }
 
 /// Reads a line.
-fn read_parts(bytes: &[u8]) -> Option<Parts<'_>>
+fn read_parts(bytes: &[u8]) -> Option<LineParts<'_>>
     ensures { Finds (IsTextOf bytes.entry.now) (option_map parts_view result) }
 {
     let (name, rest) = split_word(behind_blanks(bytes));

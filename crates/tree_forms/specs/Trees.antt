@@ -29,7 +29,7 @@ abbrev pub IsTooMany : List Tree → DescRefusal → Type 0
 IsTooMany trees (refusal.Limit which count) = (which ≡ limit.Forms) × (count ≡ 20001) × (most_forms < length (expanded trees))
 IsTooMany trees refusal.Memory = Unit {0}
 
--- the forms were made
-abbrev pub Describes : List Tree → Result (List Entry) DescRefusal → Type 0
-Describes trees (Ok d) = (d ≡ forms_of trees) × (length (expanded trees) ≤ most_forms)
-Describes trees (Err e) = IsTooMany trees e
+-- what is told is given; a refusal is the one that is told; want of memory is free
+abbrev pub Gives : List Tree → Result (List Entry) DescRefusal → Type 0
+Gives trees (Ok d) = (d ≡ forms_of trees) × (length (expanded trees) ≤ most_forms)
+Gives trees (Err e) = IsTooMany trees e

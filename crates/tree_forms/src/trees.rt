@@ -1,5 +1,5 @@
 //! The forms of trees.
-ghost use Rattle.tree_forms.specs.Trees.{Describes};
+ghost use Rattle.tree_forms.specs.Trees.{Gives};
 ghost use Rattle.tree_forms.specs.machine.Steps.{Expands};
 
 use crate::refusal::DescRefusal;
@@ -30,7 +30,7 @@ fn expanded(alloc: Global, trees: &[Tree]) -> Result<Expanded, DescRefusal>
 ///
 /// `Limit` of `Forms` exactly where the trees make more than 20,000 forms, with 20,001; `Memory` where memory ran out.
 pub fn forms_of_trees(alloc: Global, trees: &[Tree]) -> Result<Forms, DescRefusal>
-    ensures { Describes trees.now result }
+    ensures { Gives trees.now result }
 {
     let expanded = expanded(alloc, trees)?;
     Ok(forms_of(alloc, expanded.forms.as_slice(), &expanded.constants)?)

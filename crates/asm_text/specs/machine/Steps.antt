@@ -8,7 +8,7 @@ use Rattle.rv_text.specs.Text.{IsTextOf}
 use Rattle.rv_text.specs.declared.line.Line.{Line}
 use Rattle.rv_text.specs.declared.line.CodeItem.{CodeItem}
 use Rattle.rv_text.specs.declared.line.CodeItem.TheVariants as item
-use Rattle.asm_table.specs.declared.forms.Match.{Match}
+use Rattle.asm_table.specs.declared.forms.TableMatch.{TableMatch}
 use Rattle.asm_table.specs.Forms.{first_match}
 use Rattle.asm_table.specs.Template.{filled_line}
 use Rattle.rtl_chain.specs.End.{IsFinished}
@@ -22,7 +22,9 @@ IsLineText bytes line = (text : List ℕ) × (bytes ≡ text ++ 10 ∷ []) × Is
 -- the lines and labels of a chain of a function with a number, by the forms that match
 pub data AreItems (number : ℕ) : List Insn → List CodeItem → Type 0 where
   none : AreItems number [] []
-  line : (i : Insn) (insns : List Insn) (m : Match) (line : Line) (items : List CodeItem) → is_mark i.kind ≡ false → first_match i ≡ Some m → IsLineText (filled_line number m) line → AreItems number insns items →
+  line : (i : Insn) (insns : List Insn) (m : TableMatch) (line : Line) (items : List CodeItem) →
+      is_mark i.kind ≡ false → first_match i ≡ Some m → IsLineText (filled_line number m) line →
+      AreItems number insns items →
       AreItems number (i ∷ insns) (item.Code line ∷ items)
   label : (i : Insn) (insns : List Insn) (items : List CodeItem) → i.kind ≡ Label → i.uid < 2 ^ 32 → AreItems number insns items → AreItems number (i ∷ insns) (item.Label number i.uid ∷ items)
   barrier : (i : Insn) (insns : List Insn) (items : List CodeItem) → i.kind ≡ Barrier → AreItems number insns items → AreItems number (i ∷ insns) items

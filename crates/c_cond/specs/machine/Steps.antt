@@ -10,8 +10,8 @@ use Rattle.c_words.specs.declared.head.Binary.{Binary}
 use Rattle.c_words.specs.declared.head.Unary.{Unary}
 use Rattle.c_words.specs.declared.head.Call.{Call}
 use Rattle.c_words.specs.declared.head.Call.TheVariants as call
-use Rattle.c_words.specs.declared.head.Head.{Head}
-use Rattle.c_words.specs.declared.head.Head.TheVariants as head
+use Rattle.c_words.specs.declared.head.CondHead.{CondHead}
+use Rattle.c_words.specs.declared.head.CondHead.TheVariants as head
 use Rattle.c_words.specs.declared.keyword.Keyword.{Keyword}
 use Rattle.c_words.specs.declared.keyword.Keyword.TheVariants as keyword
 use Rattle.c_words.specs.declared.atom.Atom.{Atom}
@@ -42,7 +42,7 @@ parts_then (signature.Two x y) gs = goal.Part x ∷ goal.Mark comma ∷ goal.Par
 parts_then (signature.Three x y z) gs = goal.Part x ∷ goal.Mark comma ∷ goal.Part y ∷ goal.Mark comma ∷ goal.Part z ∷ gs
 
 -- the parts of a call in parentheses, and what comes then
-abbrev pub call_then : Signature → Head → List Goal → List Goal
+abbrev pub call_then : Signature → CondHead → List Goal → List Goal
 call_then parts h gs = goal.Mark open_round ∷ parts_then parts (goal.Mark close_round ∷ goal.Yield h ∷ gs)
 
 -- behind an operand of an expression of level p may stand any operator that binds as tightly
@@ -136,7 +136,7 @@ takes_part d cs part.Value t gs = takes_value d t gs
 abbrev pub if_then : List Goal → Option (List Goal)
 if_then gs = Some (goal.Mark open_round ∷ goal.Part expression ∷ goal.Mark close_round ∷ goal.Statement ∷ goal.Else ∷ gs)
 
-abbrev pub ended : Head → List Goal → Option (List Goal)
+abbrev pub ended : CondHead → List Goal → Option (List Goal)
 ended h gs = Some (goal.Mark semicolon ∷ goal.Yield h ∷ gs)
 
 abbrev pub statement_by : Option Keyword → List Goal → Option (List Goal)
@@ -202,7 +202,7 @@ takes d cs goal.Statements t gs = takes_statements t gs
 takes d cs goal.Condition t gs = takes_expression d cs 0 t gs
 
 -- what a goal gives that may be passed over
-abbrev pub passed : Goal → Option (List Head)
+abbrev pub passed : Goal → Option (List CondHead)
 passed (goal.Yield h) = Some (h ∷ [])
 passed (goal.More p q) = Some []
 passed goal.Else = Some (head.If ∷ [])
@@ -210,20 +210,20 @@ passed goal.Statements = Some (head.Nothing ∷ [])
 passed goal.Condition = Some (head.Number (pos 1) ∷ [])
 passed _ = None
 
-abbrev pub at : List Head → List Goal → Parser
+abbrev pub at : List CondHead → List Goal → Parser
 at code goals = record { code = code; goals = goals }
 
-abbrev pub taken_or : List Head → Option (List Goal) → Option Parser → Option Parser
+abbrev pub taken_or : List CondHead → Option (List Goal) → Option Parser → Option Parser
 taken_or code (Some goals) other = Some (at code goals)
 taken_or code None other = other
 
 -- Behind a token: the first goal that takes it, where those before may be passed over. None where no text goes on so.
-abbrev pub next : Dialect → List Constant → Token → List Head → List Goal → Option Parser
+abbrev pub next : Dialect → List Constant → Token → List CondHead → List Goal → Option Parser
 next d cs t code [] = None
 next d cs t code (g ∷ gs) = taken_or code (takes d cs g t gs) (option_and_then (λ heads. next d cs t (code ++ heads) gs) (passed g))
 
 -- where the text ends: all that is left may be passed over
-abbrev pub finish : List Head → List Goal → Option (List Head)
+abbrev pub finish : List CondHead → List Goal → Option (List CondHead)
 finish code [] = Some code
 finish code (g ∷ gs) = option_and_then (λ heads. finish (code ++ heads) gs) (passed g)
 
@@ -233,7 +233,7 @@ run d cs p [] = Some p
 run d cs p (t ∷ ts) = option_and_then (λ q. run d cs q ts) (next d cs t p.code p.goals)
 
 -- what is made of some tokens
-abbrev pub result_of : Dialect → List Constant → Parser → List Token → Option (List Head)
+abbrev pub result_of : Dialect → List Constant → Parser → List Token → Option (List CondHead)
 result_of d cs p ts = option_and_then (λ q. finish q.code q.goals) (run d cs p ts)
 
 -- a goal took a token, or did not and left the others as they were
@@ -256,6 +256,6 @@ Steps (Ok x) new answer = answer ≡ Some new
 Steps (Err e) new answer = Stops e answer
 
 -- a goal was passed over, or may not be
-abbrev pub Passes : Bool → List Head → List Head → Option (List Head) → Type 0
-Passes true old new answer = (heads : List Head) × (answer ≡ Some heads) × (new ≡ old ++ heads)
+abbrev pub Passes : Bool → List CondHead → List CondHead → Option (List CondHead) → Type 0
+Passes true old new answer = (heads : List CondHead) × (answer ≡ Some heads) × (new ≡ old ++ heads)
 Passes false old new answer = (answer ≡ None) × (new ≡ old)

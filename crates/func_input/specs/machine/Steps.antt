@@ -1,5 +1,5 @@
 -- The steps of the code: for the contracts of private functions alone.
-use Rattle.std.specs.Prelude.{◌≡◌, List, Some, None, Result, Ok, Err}
+use Rattle.std.specs.Prelude.{◌≡◌, ℕ, List, ◌++◌, Some, None, Result, Ok, Err}
 use Rattle.std.specs.declared.option.Option.{Option}
 use Rattle.rtx_tree.specs.declared.function.Function.{Function}
 use Rattle.lisp_read.specs.declared.tree.Tree.{Tree}
@@ -9,6 +9,7 @@ use Rattle.rtl_read.specs.Syntax.{functions_in}
 use Rattle.run_refusal.specs.declared.refusal.Refusal.{Refusal}
 use Rattle.run_refusal.specs.declared.refusal.Refusal.TheVariants as refusal
 use Rattle.func_input.specs.Input.{ReadingComesTo, AreThemselves, RefusesWith}
+use Rattle.func_input.specs.Outcome.{Outcome}
 
 -- a refusal was made, or memory ran out for it
 abbrev pub IsOrMemory : Refusal → Refusal → Type 0
@@ -28,3 +29,9 @@ TellsOf o told = (r : Refusal) × (o ≡ Some r) × (told ≡ Err r)
 abbrev pub Checked : Result (Unit {0}) Refusal → Option Refusal → Type 0
 Checked (Ok done) o = o ≡ None
 Checked (Err e) o = RefusesWith e (TellsOf o)
+
+-- a call appended a text that has a property, or it refused
+abbrev pub AppendedSome : {A : Type 0} →
+    List ℕ → List ℕ → Result A Refusal → (Outcome → Type 0) → Type 0
+AppendedSome old new (Ok x) P = (text : List ℕ) × P (Ok text) × (new ≡ old ++ text)
+AppendedSome old new (Err e) P = RefusesWith e P

@@ -3,7 +3,7 @@ use Rattle.func_input.proofs.Any.{input_refused}
 use Rattle.asm_text.specs.Assembly.{AreTexts}
 use Rattle.asm_text.specs.Code.{NameComes, CodeComes}
 use Rattle.asm_text.proofs.CodeLaws.{one_code}
-use Rattle.asm_text.proofs.CodeSteps.{unread_refused, answers_map}
+use Rattle.asm_text.proofs.CodeSteps.{unread_refused, gives_map}
 use Rattle.asm_text.proofs.code.code_of.Goals as goal
 
 pub returns-in_err-functions-clause-gives : goal.returns-in_err-functions-clause-gives
@@ -18,7 +18,7 @@ returns-in_err-functions-clause-one c = λ bytes name a b p q. one_code bytes na
 
 pub returns-clause-gives : goal.returns-clause-gives
 returns-clause-gives c =
-    answers_map c.name_comes.result (NameComes c.in_ok-functions.functions c.args.name.now) (CodeComes c.args.bytes.now c.args.name.now)
+    gives_map c.name_comes.result (NameComes c.in_ok-functions.functions c.args.name.now) (CodeComes c.args.bytes.now c.args.name.now)
     (λ a comes. CodeComes.read c.in_ok-functions.functions a c.in_ok-functions.ensures.reads comes) c.name_comes.ensures.comes
 
 pub returns-clause-one : goal.returns-clause-one

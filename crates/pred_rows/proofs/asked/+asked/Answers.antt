@@ -1,5 +1,5 @@
 use Rattle.std.proofs.Common.{◌≡◌, List, ap, ◌∙◌, sym}
-use Rattle.c_words.specs.declared.head.Head.{Head}
+use Rattle.c_words.specs.declared.head.CondHead.{CondHead}
 use Rattle.c_cond.specs.Tree.{tree_of}
 use Rattle.pred_rows.specs.Tests.{condition_holds}
 use Rattle.pred_rows.proofs.Answering.{holds_here, holds_nowhere}
@@ -16,5 +16,5 @@ holds_at-returns-in-None g t c = sym (holds_nowhere (g.P.Preds.accepts c.args.pr
 pub node_answer-returns-in-Condition : goal.node_answer-returns-in-Condition
 node_answer-returns-in-Condition g t c =
     let here : c.condition_holds.result ≡ condition_holds (tree_of c.in-Condition.heads) c.args.x.now =
-    c.condition_holds.ensures ∙ ap (λ (heads : List Head). condition_holds (tree_of heads) c.args.x.now) c.as_slice-in-Condition.ensures.value in
+    c.condition_holds.ensures ∙ ap (λ (heads : List CondHead). condition_holds (tree_of heads) c.args.x.now) c.as_slice-in-Condition.ensures.value in
     rw c.in-Condition.is here

@@ -1,6 +1,6 @@
 use Rattle.std.proofs.Common.{[], ◌++◌, sym, subst}
 use Rattle.std.proofs.lemmas.Result.{err_from_is_err_and}
-use Rattle.func_input.specs.Outcome.{AppendedSome}
+use Rattle.func_input.specs.machine.Steps.{AppendedSome}
 use Rattle.recog_text.specs.Each.{EachComes}
 use Rattle.recog_text.specs.machine.Steps.{added}
 use Rattle.recog_text.specs.Recog.{LowerComes}

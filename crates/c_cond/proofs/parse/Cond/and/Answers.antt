@@ -1,5 +1,5 @@
 use Rattle.std.proofs.Common.{◌≡◌, List, [], ◌∷◌, ◌++◌, append_assoc, arith}
-use Rattle.c_words.specs.declared.head.Head.{Head}
+use Rattle.c_words.specs.declared.head.CondHead.{CondHead}
 use Rattle.c_cond.proofs.Answered.{and, tree_of-both, whole_both}
 use Rattle.c_cond.proofs.parse.Cond.and.Goals as goal
 

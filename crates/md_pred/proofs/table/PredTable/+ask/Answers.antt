@@ -1,5 +1,5 @@
 use Rattle.std.proofs.Common.{◌≡◌, List, ap, ◌∙◌}
-use Rattle.c_words.specs.declared.head.Head.{Head}
+use Rattle.c_words.specs.declared.head.CondHead.{CondHead}
 use Rattle.c_cond.specs.Tree.{tree_of}
 use Rattle.pred_rows.specs.Tests.{condition_holds}
 use Rattle.md_pred.specs.machine.Steps.{asked_within}
@@ -9,7 +9,7 @@ use Rattle.md_pred.proofs.table.PredTable.+ask.Goals as goal
 pub node_step-returns-in-Condition-clause-value : goal.node_step-returns-in-Condition-clause-value
 node_step-returns-in-Condition-clause-value t c =
     let here : c.condition_holds.result ≡ condition_holds (tree_of c.in-Condition.heads) c.args.x.now =
-    c.condition_holds.ensures ∙ ap (λ (heads : List Head). condition_holds (tree_of heads) c.args.x.now) c.as_slice-in-Condition.ensures.value in
+    c.condition_holds.ensures ∙ ap (λ (heads : List CondHead). condition_holds (tree_of heads) c.args.x.now) c.as_slice-in-Condition.ensures.value in
     rw c.in-Condition.is here
 
 pub step-returns-in-Some-clause-value : goal.step-returns-in-Some-clause-value

@@ -6,22 +6,22 @@ use rtx_tree::{MemByte, Memories, RangeAt};
 use run_memory::{load, store, visible_part, write_all};
 use std::alloc::Global;
 
-/// The byte at an address, of which the lowest bits are given.
-fn byte_at(address: u64, value: u64) -> MemByte {
-    MemByte {
-        address,
-        byte: (value & 0xff) as u8,
-    }
+fn low_byte(value: u64) -> u8 {
+    (value & 0xff) as u8
 }
 
 /// Memory with bytes at rising addresses: each address is followed by its byte.
 pub fn memory_of(alloc: Global, pairs: &[u64]) -> Result<Memories, Memory> {
     let mut memory = Memories::new(alloc);
     for pair in pairs.chunks(2) {
-        if let [address, byte] = pair
-            && memory.is_above(*address)
-        {
-            memory.push(byte_at(*address, *byte))?;
+        let [address, byte] = pair else {
+            break;
+        };
+        if memory.is_above(*address) {
+            memory.push(MemByte {
+                address: *address,
+                byte: low_byte(*byte),
+            })?;
         }
     }
     Ok(memory)
@@ -76,7 +76,10 @@ fn writes_of(alloc: Global, pairs: &[u64]) -> Result<Items<MemByte>, Memory> {
     let mut writes = Items::new(alloc);
     for pair in pairs.chunks(2) {
         if let [address, byte] = pair {
-            writes.push(byte_at(*address, *byte))?;
+            writes.push(MemByte {
+                address: *address,
+                byte: low_byte(*byte),
+            })?;
         }
     }
     Ok(writes)

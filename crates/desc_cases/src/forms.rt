@@ -14,8 +14,11 @@ pub fn tell_forms(alloc: Global, given: &[u8], input: &[u8], told: &mut Told) {
     if let Some(forms) = joined_forms(alloc, given, input)
         && let Ok(names) = names_of(alloc, forms.as_slice())
     {
+        let mut gap = b"".as_slice();
         for (form, name) in forms.as_slice().iter().zip(names.as_slice()) {
+            told.push(gap);
             show_form(form, name, told);
+            gap = b", ";
         }
     } else {
         told.fail();
@@ -23,7 +26,6 @@ pub fn tell_forms(alloc: Global, given: &[u8], input: &[u8], told: &mut Told) {
 }
 
 fn show_form(form: &Entry, name: &Name, told: &mut Told) {
-    told.text(if told.out.is_empty() { "" } else { ", " });
     told.push(name.bytes());
     match &form.form {
         Ok(_) => told.text(" ok"),

@@ -47,13 +47,13 @@ fn items_of(alloc: Global, lines: &str) -> Option<Items<CodeItem>> {
 }
 
 /// The steps and the first two arguments.
-fn numbers_of(text: &str) -> Option<(u16, [u64; 8])> {
+fn numbers_of(text: &str) -> Option<(u16, u64, u64)> {
     let mut words = text.split(' ');
     if let Ok(steps) = words.next().unwrap_or("").parse::<u16>()
         && let Ok(a0) = words.next().unwrap_or("").parse::<u64>()
         && let Ok(a1) = words.next().unwrap_or("").parse::<u64>()
     {
-        Some((steps, [a0, a1, 0, 0, 0, 0, 0, 0]))
+        Some((steps, a0, a1))
     } else {
         None
     }
@@ -63,11 +63,11 @@ fn show(
     alloc: Global,
     function: &Function,
     items: &[CodeItem],
-    steps: u16,
-    args: [u64; 8],
+    numbers: (u16, u64, u64),
     told: &mut Told,
 ) {
-    match eval_text(alloc, function, items, steps, args) {
+    let (steps, a0, a1) = numbers;
+    match eval_text(alloc, function, items, steps, [a0, a1, 0, 0, 0, 0, 0, 0]) {
         Ok(text) => told.push(text.as_slice()),
         Err(_) => told.fail(),
     }
@@ -79,12 +79,12 @@ pub fn tell(alloc: Global, input: &[u8], told: &mut Told) {
         return told.fail();
     };
     let mut parts = text.split(" | ");
-    if let Some((steps, args)) = numbers_of(parts.next().unwrap_or(""))
+    if let Some(numbers) = numbers_of(parts.next().unwrap_or(""))
         && let Some(functions) = functions_in(alloc, parts.next().unwrap_or(""))
         && let [function] = functions.as_slice()
         && let Some(items) = items_of(alloc, parts.next().unwrap_or(""))
     {
-        show(alloc, function, items.as_slice(), steps, args, told);
+        show(alloc, function, items.as_slice(), numbers, told);
     } else {
         told.fail();
     }

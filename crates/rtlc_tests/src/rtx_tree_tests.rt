@@ -104,7 +104,7 @@ fn two_operands(alloc: Global) -> Result<Operands, Memory> {
 
 /// Whether there is an operand, and its number is this.
 fn has_number(found: &Operands, number: u32, want: i64) -> bool {
-    match found.get(number) {
+    match found.get(number as usize) {
         Some(x) => x.number == want,
         None => false,
     }

@@ -56,6 +56,7 @@ byte_inside memory address (suc count) number zero less there =
     some_of : (o : Option ℕ) → is_some o ≡ true → (x : ℕ) × (o ≡ Some x)
     some_of None is = absurd (let no : ⊥ = cc in no)
     some_of (Some x) is = (x, refl)
+
     div_one : (n : ℕ) → n / 256 ^ 0 ≡ n
     div_one n = omega arith
 byte_inside memory address (suc count) number (suc i) less there =
@@ -141,21 +142,23 @@ module _ (v : Valuation) (f : First) (memory : List MemByte) (n : ℕ) (shows : 
       let new : byte_at after c ≡ Some (number / 256 ^ i % 256) = ap (byte_at after) (sym at) ∙ byte_inside memory address (bytes_of w) number i less has in
       let same : byte ≡ number / 256 ^ i % 256 = let e : Some byte ≡ Some (number / 256 ^ i % 256) = sym is ∙ new in cc in
       let place : (c + (2 ^ 64 - address % 2 ^ 64)) % 2 ^ 64 ≡ i = place_inside address (bytes_of w) c least most few.1 word in
-      let lies : nat_lt i (bytes_of w) ≡ true = grind (arith, tests, less) in
-      (same
-      ∙ sym (next c word
-      ∙ ap (λ p. if nat_lt p (bytes_of w) then byte_of number p else v.memory n c) place
-      ∙ ap (λ b. if b then byte_of number i else v.memory n c) lies),
-      omega (arith, same))
+      let lies : nat_lt i (bytes_of w) ≡ true = grind (arith, tests, less) in (
+        same
+            ∙ sym (next c word
+            ∙ ap (λ p. if nat_lt p (bytes_of w) then byte_of number p else v.memory n c) place
+            ∙ ap (λ b. if b then byte_of number i else v.memory n c) lies),
+        omega (arith, same),
+      )
 
   outside_byte : (c byte : ℕ) → byte_at after c ≡ Some byte → Apart address (bytes_of w) c 1 →
       nat_lt ((c + (2 ^ 64 - address % 2 ^ 64)) % 2 ^ 64) (bytes_of w) ≡ false → (byte ≡ v.memory (suc n) c) × (byte < 256)
   outside_byte c byte is apart lies =
       let word : c < 2 ^ 64 = word_of c (has_old c byte is) in
-      let old : byte_at memory c ≡ Some byte = sym (byte_at-with_number_other memory address (bytes_of w) number c apart) ∙ is in
-      (shows.bytes c byte old
-      ∙ sym (next c word ∙ ap (λ b. if b then byte_of number ((c + (2 ^ 64 - address % 2 ^ 64)) % 2 ^ 64) else v.memory n c) lies),
-      shows.small c byte old)
+      let old : byte_at memory c ≡ Some byte = sym (byte_at-with_number_other memory address (bytes_of w) number c apart) ∙ is in (
+        shows.bytes c byte old
+            ∙ sym (next c word ∙ ap (λ b. if b then byte_of number ((c + (2 ^ 64 - address % 2 ^ 64)) % 2 ^ 64) else v.memory n c) lies),
+        shows.small c byte old,
+      )
 
   byte_by : (c byte : ℕ) (below past : Bool) → nat_lt c address ≡ below → nat_lt c (address + bytes_of w) ≡ past → byte_at after c ≡ Some byte → (byte ≡ v.memory (suc n) c) × (byte < 256)
   byte_by c byte true past less more is =

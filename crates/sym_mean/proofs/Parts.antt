@@ -134,7 +134,7 @@ module _ (v : Valuation) (f : First) (memory : List MemByte) (number : ℕ) (sho
       let word : address < 2 ^ 64 = shows.words address both.first both.byte_is in
       let small : both.first < 256 = shows.small address both.first both.byte_is in
       let here : v.memory number (address % 2 ^ 64) % 256 ≡ both.first =
-          ap (λ a. v.memory number a % 256) (mod-eq_of_lt word) ∙ ap (λ b. b % 256) (sym (shows.bytes address both.first both.byte_is)) ∙ mod-eq_of_lt small in
+      ap (λ a. v.memory number a % 256) (mod-eq_of_lt word) ∙ ap (λ b. b % 256) (sym (shows.bytes address both.first both.byte_is)) ∙ mod-eq_of_lt small in
       let rest = bytes_are (address + 1) count both.later both.rest_is in
       ap (λ b. b + 256 * bytes_at (v.memory number) count (address + 1)) here ∙ ap (λ r. both.first + 256 * r) rest ∙ sym both.number_is
 

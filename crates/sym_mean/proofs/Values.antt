@@ -78,7 +78,7 @@ module _ (v : Valuation) (f : First) where
   worth_operands stores c w a b is =
       by (are_met v f a.needs) (are_met v f b.needs)
       ∙ ap (λ m. if m then Some (mean v (spec.binary stores c w a.term b.term)) else None)
-          (sym (both_met (a.needs ++ b.needs) (spec.divisor_needs c b.term) ∙ ap (λ m. m && are_met v f (spec.divisor_needs c b.term)) (both_met a.needs b.needs)))
+      (sym (both_met (a.needs ++ b.needs) (spec.divisor_needs c b.term) ∙ ap (λ m. m && are_met v f (spec.divisor_needs c b.term)) (both_met a.needs b.needs)))
     where
       by : (x y : Bool) → rtl.of_two (rtl.binary c w) (if x then Some (mean v a.term) else None) (if y then Some (mean v b.term) else None) ≡
           (if (x && y) && are_met v f (spec.divisor_needs c b.term) then Some (mean v (spec.binary stores c w a.term b.term)) else None)
@@ -102,6 +102,7 @@ module _ (v : Valuation) (f : First) where
     where
       number : mean v b ≡ c
       number = constant-is v b c is
+
       by : (z : Bool) → (c == 0) ≡ z → are_met v f (if not (not z) then state.Divisor b ∷ [] else []) ≡ not (mean v b == 0)
       by true e = and_true (not (mean v b == 0))
       by false e = sym (ap (λ n. not (n == 0)) number ∙ ap not e)
@@ -184,6 +185,7 @@ module _ (v : Valuation) (f : First) (s : State) (regs : Regs) (memory : List Me
       either : (b : Bool) (t u : Tree) → width_of t ≡ w → width_of u ≡ w → width_of (if b then t else u) ≡ w
       either true t u p q = p
       either false t u p q = q
+
       by : (left : Option (Option Tree)) → width_of (term_held left (suc reg) w) ≡ w
       by None = width-low_bits w (own_register (suc reg))
       by (Some None) = width-low_bits w (own_register (suc reg))
@@ -246,6 +248,7 @@ module _ (v : Valuation) (f : First) (s : State) (regs : Regs) (memory : List Me
     where
       there : load w memory (mean v (m.made W64).term) ≡ (if is_some (load w f.memory (mean v (m.made W64).term)) && true then Some (mean v (spec.load_at s.stores w (m.made W64).term)) else None)
       there = load_worth v f memory (length s.stores) shows.memory_is w (m.made W64).term s.stores shows.stored refl
+
       by : (b : Bool) → option_and_then (load w memory) (if b then Some (mean v (m.made W64).term) else None) ≡
           (if b && are_met v f (state.Access (m.made W64).term w ∷ []) then Some (mean v (spec.load_at s.stores w (m.made W64).term)) else None)
       by true = there
@@ -266,15 +269,15 @@ module _ (v : Valuation) (f : First) (s : State) (regs : Regs) (memory : List Me
 
   good_shift : (c : Code) → ((w : Width) (a b : Tree) → Makes v (rtl.shifted c w (mean v a) (mean v b)) (spec.binary s.stores c w a b) w) → Good class.Shift c
   good_shift c makes = good_by class.Shift c (λ n name w. none_worth w) (λ r m a w. none_worth w) (λ r r' m m' a a' w.
-    let own : Width = rtl.count_width m'.width in
-    let count : rtl.count_width r'.width ≡ own = ap rtl.count_width a'.widths in
-    record {
-      value_is = ap (λ o. rtl.of_two (rtl.shifted c w) o (r'.value (rtl.count_width r'.width))) (a.values w).value_is
-          ∙ ap (λ u. rtl.of_two (rtl.shifted c w) (worth v f (m.made w)) (r'.value u)) count
-          ∙ ap (λ o. rtl.of_two (rtl.shifted c w) (worth v f (m.made w)) o) (a'.values own).value_is
-          ∙ worth_two v f (rtl.shifted c w) (spec.binary s.stores c w) (m.made w) (m'.made own) (makes w (m.made w).term (m'.made own).term).number_is;
-      width_is = (makes w (m.made w).term (m'.made own).term).width_is;
-    })
+      let own : Width = rtl.count_width m'.width in
+      let count : rtl.count_width r'.width ≡ own = ap rtl.count_width a'.widths in
+      record {
+        value_is = ap (λ o. rtl.of_two (rtl.shifted c w) o (r'.value (rtl.count_width r'.width))) (a.values w).value_is
+            ∙ ap (λ u. rtl.of_two (rtl.shifted c w) (worth v f (m.made w)) (r'.value u)) count
+            ∙ ap (λ o. rtl.of_two (rtl.shifted c w) (worth v f (m.made w)) o) (a'.values own).value_is
+            ∙ worth_two v f (rtl.shifted c w) (spec.binary s.stores c w) (m.made w) (m'.made own) (makes w (m.made w).term (m'.made own).term).number_is;
+        width_is = (makes w (m.made w).term (m'.made own).term).width_is;
+      })
 
   compare : (c : Code) (k : Relation) → spec.relation_of c ≡ Some k → ((own : Width) (a b : ℕ) → rtl.compared c own a b ≡ Some (if holds k own a b then 1 else 0)) →
       (r r' : rtl.Reading) (m m' : Reading) → Agree r m → Agree r' m' → (w : Width) (own : Option Width) → rtl.first_width r.width r'.width ≡ own →
@@ -288,7 +291,7 @@ module _ (v : Valuation) (f : First) (s : State) (regs : Regs) (memory : List Me
         ∙ ap (λ o. rtl.of_two (rtl.compared c own) o (r'.value own)) (a.values own).value_is
         ∙ ap (λ o. rtl.of_two (rtl.compared c own) (worth v f (m.made own)) o) (a'.values own).value_is
         ∙ worth_two v f (rtl.compared c own) (spec.related s.stores (Some k) own w) (m.made own) (m'.made own)
-            (means own (mean v (m.made own).term) (mean v (m'.made own).term) ∙ related.number_is)
+        (means own (mean v (m.made own).term) (mean v (m'.made own).term) ∙ related.number_is)
         ∙ ap (λ o. worth v f (spec.of_two (spec.related s.stores o own w) (m.made own) (m'.made own))) (sym relation);
     width_is = ap (λ o. width_of (spec.related s.stores o own w (m.made own).term (m'.made own).term)) relation ∙ related.width_is;
   }
@@ -298,7 +301,7 @@ module _ (v : Valuation) (f : First) (s : State) (regs : Regs) (memory : List Me
 
   good_comparison : (c : Code) (k : Relation) → spec.relation_of c ≡ Some k → ((own : Width) (a b : ℕ) → rtl.compared c own a b ≡ Some (if holds k own a b then 1 else 0)) → Good class.Comparison c
   good_comparison c k relation means = good_by class.Comparison c (λ n name w. none_worth w) (λ r m a w. none_worth w) (λ r r' m m' a a' w.
-    compare c k relation means r r' m m' a a' w (rtl.first_width m.width m'.width) (ap (λ o. rtl.first_width o r'.width) a.widths ∙ ap (λ o. rtl.first_width m.width o) a'.widths))
+      compare c k relation means r r' m m' a a' w (rtl.first_width m.width m'.width) (ap (λ o. rtl.first_width o r'.width) a.widths ∙ ap (λ o. rtl.first_width m.width o) a'.widths))
 
   -- ---- each code
 

@@ -1,5 +1,6 @@
 pub mod Changes
 pub mod Effects
+pub mod Jumps
 pub mod Memories
 pub mod Numbers
 pub mod Operations

@@ -18,8 +18,8 @@ module _ (regs : List Changed) (stores : List Store) where
       reading_of regs stores x
       ≡ record {
         width = width_of (out-Rtx x).mode;
-        made = made_by regs stores (class_of_code (out-Rtx x).code) (out-Rtx x).code (out-Rtx x).number
-            (out-Rtx x).name (map (reading_of regs stores) (out-Rtx x).kids);
+        made = made_by regs stores (class_of_code (out-Rtx x).code) (out-Rtx x).code
+            (out-Rtx x).number (out-Rtx x).name (map (reading_of regs stores) (out-Rtx x).kids);
       }
   reading_out = fold_out-Rtx Reading (reading_step regs stores)
 

@@ -1,4 +1,5 @@
--- Which instructions can be compared: GCC Internals, "Insns", "Calls" and "Side Effect Expressions".
+-- Which instructions can be compared: GCC Internals, "Insns", "Calls" and "Side Effect
+-- Expressions".
 use Rattle.std.specs.Prelude.{ℕ, ◌+◌, ◌&&◌, not, Bool, true, false, if◌then◌else◌, List, [], ◌∷◌, Option, Some, None}
 use Rattle.rtx_tree.specs.declared.function.Insn.{Insn}
 use Rattle.rtx_tree.specs.declared.function.Kind.{Kind}
@@ -20,7 +21,8 @@ abbrev pub is_end : List Insn → Bool
 is_end [] = true
 is_end (i ∷ insns) = false
 
--- a jump and a call are the last; a return, and a label, can't be compared; a barrier is passed over
+-- a jump and a call are the last; a return, and a label, can't be compared; a barrier is passed
+-- over
 abbrev pub fits_kind : Kind → Insn → Bool → Bool
 fits_kind Plain i last = is_shaped i
 fits_kind Jump i last = is_shaped i && (not (is_return i) && last)

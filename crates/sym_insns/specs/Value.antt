@@ -44,8 +44,8 @@ pub record Reading : Type 0 where
   pub width : Option Width
   pub made : Width → Made
 
--- ---- operations on terms of a width. Each has a case for each code of its class, and a last one that
--- no code of the class comes to
+-- ---- operations on terms of a width. Each has a case for each code of its class, and a last one
+-- that no code of the class comes to
 
 -- so many ones, as a coefficient -1
 abbrev pub minus_one : Width → ℕ

@@ -181,7 +181,8 @@ fn made_of_one(
     }
 }
 
-/// The width in which the operands of a comparison are read: that of the first mode, or else of the second.
+/// The width in which the operands of a comparison are read: that of the first mode, or else of
+/// the second.
 fn own_width(a: &Rtx, b: &Rtx) -> Option<Width>
     ensures { result ≡ first_width (step.width_of (out-Rtx a.now).mode)
         (step.width_of (out-Rtx b.now).mode) }

@@ -1,5 +1,5 @@
--- How the code makes a term: the needs that it meets are put behind those met before. What the code's own types are in the words
--- of the definitions.
+-- How the code makes a term: the needs that it meets are put behind those met before. What the
+-- code's own types are in the words of the definitions.
 use Rattle.std.specs.Prelude.{◌≡◌, List, ◌++◌, map, Option}
 use Rattle.rtx_tree.specs.declared.code.Mode.{Mode}
 use Rattle.rtx_tree.specs.declared.tree.Rtx.{Rtx, out-Rtx}

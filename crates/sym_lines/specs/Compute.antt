@@ -1,7 +1,7 @@
 -- What a line computes, as a term: RISC-V unprivileged manual, "RV32I Base Integer Instruction Set",
 -- "RV64I Base Integer Instruction Set" and "'M' Standard Extension for Integer Multiplication and
 -- Division". Each term is made, by the rules of the normal form, of terms in normal form.
-use Rattle.std.specs.Prelude.{ℕ, ◌-◌, ◌^◌, ℤ, negsuc, zero, suc, if◌then◌else◌, List, [], ◌∷◌}
+use Rattle.std.specs.Prelude.{ℕ, ◌-◌, ◌^◌, negsuc, zero, if◌then◌else◌, [], ◌∷◌}
 use Rattle.bits64.specs.declared.Width.{Width}
 use Rattle.bits64.specs.declared.Width.TheVariants.{W8, W64}
 use Rattle.bits64.specs.Words.{bits_of}

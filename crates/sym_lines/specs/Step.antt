@@ -18,7 +18,7 @@ use Rattle.term_mean.specs.Stores.{Store}
 use Rattle.term_mean.specs.Sums.{constant, summed}
 use Rattle.term_mean.specs.Normal.{built}
 use Rattle.term_mean.specs.Compared.{compared, low_bits}
-use Rattle.sym_state.specs.State.{Changed, Need, Access, Symbol, Jump, Arg, Call, State, own_symbol, needs_at}
+use Rattle.sym_state.specs.State.{Changed, Need, Access, Symbol, Arg, State, own_symbol, needs_at}
 use Rattle.sym_state.specs.Registers.{put, left_by_call, read, read_needs}
 use Rattle.sym_lines.specs.Compute.{computed, relation_of}
 

@@ -1,20 +1,19 @@
 //! Numbers of 8, 16, 32 and 64 bits.
-use anyhow::{Result, bail};
 use bits64::{
     Width, add, div, lt, ltu, mul, mulh, mulhsu, mulhu, rem, sar, sext, shl, shr, sub, trunc, udiv,
     urem, zext,
 };
-use std::alloc::Global;
+use case_text::Told;
 use std::str;
 
-fn width_of(text: &str) -> Result<Width> {
-    Ok(match text {
-        "8" => Width::W8,
-        "16" => Width::W16,
-        "32" => Width::W32,
-        "64" => Width::W64,
-        _ => bail!("no width"),
-    })
+fn width_of(text: &str) -> Option<Width> {
+    match text {
+        "8" => Some(Width::W8),
+        "16" => Some(Width::W16),
+        "32" => Some(Width::W32),
+        "64" => Some(Width::W64),
+        _ => None,
+    }
 }
 
 /// The number that an operation gives, if it gives one.
@@ -49,25 +48,44 @@ fn holds(operation: &str, a: u64, b: u64, w: Width) -> Option<bool> {
     }
 }
 
-/// What an operation gives, as text.
-pub fn answer(alloc: Global, input: &[u8]) -> Result<Vec<u8>> {
-    let mut words = str::from_utf8(input)?.split(' ');
-    let operation = words.next().unwrap_or("");
-    let w = width_of(words.next().unwrap_or(""))?;
-    let a = u64::from_str_radix(words.next().unwrap_or(""), 16)?;
-    let b = u64::from_str_radix(words.next().unwrap_or("0"), 16)?;
-    let text = match (number_of(operation, a, b, w), holds(operation, a, b, w)) {
-        (Some(number), _) => format!(in alloc; "{number:x}")?,
-        (None, Some(true)) => format!(in alloc; "yes")?,
-        (None, Some(false)) => format!(in alloc; "no")?,
-        (None, None) => bail!("no operation"),
-    };
-    Ok(text.into_bytes())
+/// Appends what an operation gives.
+fn show(operation: &str, a: u64, b: u64, w: Width, told: &mut Told) {
+    if let Some(number) = number_of(operation, a, b, w) {
+        return told.show(format_args!("{number:x}"));
+    }
+    match holds(operation, a, b, w) {
+        Some(is) => told.text(if is { "yes" } else { "no" }),
+        None => told.fail(),
+    }
 }
 
-/// The bits and the bytes of a width.
-pub fn width(alloc: Global, input: &[u8]) -> Result<Vec<u8>> {
-    let w = width_of(str::from_utf8(input)?)?;
-    let (bits, bytes) = (w.bits(), w.bytes());
-    Ok(format!(in alloc; "{bits} bits, {bytes} bytes")?.into_bytes())
+/// Appends what an operation gives for a width and two numbers in hexadecimal digits, of which the second may be missing.
+pub fn tell(input: &[u8], told: &mut Told) {
+    let Ok(text) = str::from_utf8(input) else {
+        return told.fail();
+    };
+    let mut words = text.split(' ');
+    let operation = words.next().unwrap_or("");
+    if let Some(w) = width_of(words.next().unwrap_or(""))
+        && let Ok(a) = u64::from_str_radix(words.next().unwrap_or(""), 16)
+        && let Ok(b) = u64::from_str_radix(words.next().unwrap_or("0"), 16)
+    {
+        show(operation, a, b, w, told);
+    } else {
+        told.fail();
+    }
+}
+
+/// Appends the bits and the bytes of a width.
+pub fn tell_width(input: &[u8], told: &mut Told) {
+    if let Ok(text) = str::from_utf8(input)
+        && let Some(w) = width_of(text)
+    {
+        told.show(w.bits());
+        told.text(" bits, ");
+        told.show(w.bytes());
+        told.text(" bytes");
+    } else {
+        told.fail();
+    }
 }

@@ -1,47 +1,62 @@
 //! Words of a command line, and the command that they are.
-use anyhow::Result;
+use case_text::Told;
 use rtlc_words::{Command, command_of};
 use rtx_tree::Name;
-use std::alloc::Global;
-use std::fmt::Write;
+use std::alloc::{AllocError, Global};
 use std::str;
 
-fn described(alloc: Global, command: &str, name: &Option<Name>) -> Result<String> {
-    Ok(match name {
-        Some(name) => format!(in alloc; "{command} of {}", str::from_utf8(name.bytes())?)?,
-        None => format!(in alloc; "{command}")?,
-    })
+fn show_described(command: &str, name: &Option<Name>, told: &mut Told) {
+    told.text(command);
+    if let Some(name) = name {
+        told.text(" of ");
+        told.push(name.bytes());
+    }
 }
 
-/// A command with all its parts, in one line.
-fn line(alloc: Global, command: Option<Command>) -> Result<String> {
+/// Appends a command with all its parts, in one line.
+fn show(command: &Command, told: &mut Told) {
     match command {
-        None => Ok(format!(in alloc; "no command")?),
-        Some(Command::Asm) => Ok(format!(in alloc; "asm")?),
-        Some(Command::List { description }) => described(alloc, "list", &description),
-        Some(Command::Recog { description }) => described(alloc, "recog", &description),
-        Some(
-            Command::Eval {
-                function,
-                steps,
-                args,
-            },
-        ) => {
-            let name = str::from_utf8(function.bytes())?;
-            let mut line = format!(in alloc; "eval {name} for {steps} at")?;
+        Command::Asm => told.text("asm"),
+        Command::List { description } => show_described("list", description, told),
+        Command::Recog { description } => show_described("recog", description, told),
+        Command::Eval {
+            function,
+            steps,
+            args,
+        } => {
+            told.text("eval ");
+            told.push(function.bytes());
+            told.text(" for ");
+            told.show(*steps);
+            told.text(" at");
             for arg in args {
-                write!(line, " {arg}")?;
+                told.text(" ");
+                told.show(*arg);
             }
-            Ok(line)
         }
     }
 }
 
-/// What words with a blank between two are, of which `""` is the empty one.
-pub fn answer(alloc: Global, input: &[u8]) -> Result<Vec<u8>> {
+/// The words of a text with a blank between two, of which `""` is the empty one.
+fn words_of<'a>(alloc: Global, text: &'a str) -> Result<Vec<&'a str>, AllocError> {
     let mut words = Vec::new(alloc);
-    for word in str::from_utf8(input)?.split(' ') {
+    for word in text.split(' ') {
         words.push(if word == "\"\"" { "" } else { word })?;
     }
-    Ok(line(alloc, command_of(alloc, &words)?)?.into_bytes())
+    Ok(words)
+}
+
+/// Appends what words with a blank between two are, of which `""` is the empty one.
+pub fn tell(alloc: Global, input: &[u8], told: &mut Told) {
+    if let Ok(text) = str::from_utf8(input)
+        && let Ok(words) = words_of(alloc, text)
+    {
+        match command_of(alloc, &words) {
+            Ok(Some(command)) => show(&command, told),
+            Ok(None) => told.text("no command"),
+            Err(_) => told.fail(),
+        }
+    } else {
+        told.fail();
+    }
 }

@@ -18,16 +18,24 @@ mod command;
 mod names;
 mod outcomes;
 
-use anyhow::Result;
+use case_text::Told;
 use std::alloc::Global;
 
-/// What the table of that name answers to the input, where it is one of these.
-pub fn answer(alloc: Global, table: &str, input: &[u8]) -> Result<Option<Vec<u8>>> {
-    Ok(Some(match table {
-        "bits" => bits::answer(alloc, input)?,
-        "width" => bits::width(alloc, input)?,
-        "command" => command::answer(alloc, input)?,
-        "outcomes" => outcomes::answer(alloc, input)?,
-        _ => return names::answer(alloc, table, input),
-    }))
+/// Tells what comes of an input. Whether there is such a table.
+pub fn answer(alloc: Global, table: &str, input: &[u8], told: &mut Told) -> bool {
+    match table {
+        "bits" => bits::tell(input, told),
+        "width" => bits::tell_width(input, told),
+        "command" => command::tell(alloc, input, told),
+        "outcomes" => outcomes::tell(alloc, input, told),
+        "number" => names::tell_number(input, told),
+        "symbol" => names::tell_symbol(input, told),
+        "symbol_byte" => names::tell_symbol_byte(input, told),
+        "code" => names::tell_code(input, told),
+        "mode" => names::tell_mode(input, told),
+        "register" => names::tell_register(input, told),
+        "call_used" => names::tell_call_used(input, told),
+        _ => return false,
+    }
+    true
 }

@@ -1,49 +1,75 @@
 //! Words and names.
-use anyhow::Result;
+use case_text::Told;
 use rtx_tree::{Code, HARD_REGS, Mode, reg_call_used, reg_name, reg_number};
-use std::alloc::Global;
 use std::str;
 use text_words::{is_symbol, is_symbol_byte, number_in};
 
-fn yes_or_no(alloc: Global, is: bool) -> Result<String> {
-    Ok(String::from_str(alloc, if is { "yes" } else { "no" })?)
+fn show_answer(is: bool, told: &mut Told) {
+    told.text(if is { "yes" } else { "no" });
 }
 
-/// A text, or `none`.
-fn named(alloc: Global, name: Option<&str>) -> Result<String> {
-    Ok(String::from_str(alloc, name.unwrap_or("none"))?)
-}
-
-fn number(alloc: Global, input: &[u8]) -> Result<String> {
-    match number_in(input) {
-        Some(number) => Ok(format!(in alloc; "{number}")?),
-        None => named(alloc, None),
+/// The byte that a text writes as a number.
+fn byte_in(input: &[u8]) -> Option<u8> {
+    match str::from_utf8(input) {
+        Ok(text) => text.parse::<u8>().ok(),
+        Err(_) => None,
     }
 }
 
-/// The number of the register of a name, and the name of that number.
-fn register(alloc: Global, input: &[u8]) -> Result<String> {
+/// Appends the number that a text writes, or `none`.
+pub fn tell_number(input: &[u8], told: &mut Told) {
+    match number_in(input) {
+        Some(number) => told.show(number),
+        None => told.text("none"),
+    }
+}
+
+/// Appends whether a text is a symbol.
+pub fn tell_symbol(input: &[u8], told: &mut Told) {
+    show_answer(is_symbol(input), told);
+}
+
+/// Appends whether a symbol may have a byte.
+pub fn tell_symbol_byte(input: &[u8], told: &mut Told) {
+    match byte_in(input) {
+        Some(byte) => show_answer(is_symbol_byte(byte), told),
+        None => told.fail(),
+    }
+}
+
+/// Appends the name of the code of that name, or `none`.
+pub fn tell_code(input: &[u8], told: &mut Told) {
+    told.text(match Code::named(input) {
+        Some(code) => code.name(),
+        None => "none",
+    });
+}
+
+/// Appends the name of the mode of that name, or `none`.
+pub fn tell_mode(input: &[u8], told: &mut Told) {
+    told.text(match Mode::named(input) {
+        Some(mode) => mode.name(),
+        None => "none",
+    });
+}
+
+/// Appends the number of the register of a name, and the name of that number.
+pub fn tell_register(input: &[u8], told: &mut Told) {
     match reg_number(input) {
         Some(number) if number < HARD_REGS => {
-            let name = reg_name(number);
-            Ok(format!(in alloc; "{number} {name}")?)
+            told.show(number);
+            told.text(" ");
+            told.text(reg_name(number));
         }
-        Some(_) => named(alloc, Some("no hard register")),
-        None => named(alloc, None),
+        Some(_) => told.text("no hard register"),
+        None => told.text("none"),
     }
 }
 
-/// What a table of words or names answers, where it is one of these.
-pub fn answer(alloc: Global, table: &str, input: &[u8]) -> Result<Option<Vec<u8>>> {
-    let text = match table {
-        "number" => number(alloc, input)?,
-        "symbol" => yes_or_no(alloc, is_symbol(input))?,
-        "symbol_byte" => yes_or_no(alloc, is_symbol_byte(str::from_utf8(input)?.parse::<u8>()?))?,
-        "code" => named(alloc, Code::named(input).map(|code| code.name()))?,
-        "mode" => named(alloc, Mode::named(input).map(|mode| mode.name()))?,
-        "register" => register(alloc, input)?,
-        "call_used" => yes_or_no(alloc, reg_call_used(str::from_utf8(input)?.parse::<u8>()?))?,
-        _ => return Ok(None),
-    };
-    Ok(Some(text.into_bytes()))
+/// Appends whether a call may change the register of a number.
+pub fn tell_call_used(input: &[u8], told: &mut Told) {
+    match byte_in(input) {
+        Some(reg) => show_answer(reg_call_used(reg), told),
+        None => told.fail(),
+    }
 }

@@ -4,8 +4,7 @@ use case_setting::{
     Fault, Setting, bytes_of, check_parts, failing, is_command, outcome, shelf_of, status_of,
     takes_of, words_of,
 };
-use case_text::{Case, Part, Report, cases_of};
-use plain_data::Memory;
+use case_text::{Case, Part, Report, Told, cases_of};
 use rtlc_run::run;
 use std::alloc::Global;
 use std::str;
@@ -73,19 +72,19 @@ fn came(alloc: Global, setting: Setting, command: &str) -> Result<Vec<u8>, Fault
         &mut objects.output,
         &mut objects.errors,
     );
-    Ok(outcome(
+    outcome(
         alloc,
         status,
         objects.output.taken(),
         objects.errors.taken(),
-    )?)
+    )
 }
 
 /// What a case wants.
 fn wanted(alloc: Global, setting: Setting) -> Result<Vec<u8>, Fault> {
     let output = bytes_of(alloc, setting, "-- output")?;
     let errors = bytes_of(alloc, setting, "-- errors")?;
-    Ok(outcome(alloc, status_of(setting)?, &output, &errors)?)
+    outcome(alloc, status_of(setting)?, &output, &errors)
 }
 
 /// Tries one line of words of a case.
@@ -100,22 +99,20 @@ fn try_run(
     check_parts(setting.shared)?;
     let wanted = wanted(alloc, setting)?;
     let came = came(alloc, setting, command)?;
-    Ok(report.judge(title, &wanted, &came)?)
+    report.judge(title, &wanted, &came);
+    Ok(())
 }
 
 /// Tries one line of words of a case, and counts it where it can't be tried as well.
-fn judge_run(
-    alloc: Global,
-    setting: Setting,
-    title: &str,
-    command: &str,
-    report: &mut Report,
-) -> Result<(), Memory> {
-    let title = format!(in alloc; "{title}: {command}")?.into_bytes();
-    match try_run(alloc, setting, &title, command, report) {
-        Ok(()) => Ok(()),
-        Err(Fault::Unread(reason)) => Ok(report.refuse(&title, reason.as_bytes())?),
-        Err(Fault::Memory) => Err(Memory),
+fn judge_run(alloc: Global, setting: Setting, title: &str, command: &str, report: &mut Report) {
+    let mut whole = Told::new(alloc);
+    whole.text(title);
+    whole.text(": ");
+    whole.text(command);
+    match try_run(alloc, setting, &whole.out, command, report) {
+        Ok(()) => {}
+        Err(Fault::Unread(reason)) => report.refuse(&whole.out, reason.as_bytes()),
+        Err(Fault::Memory) => report.refuse(&whole.out, b"out of memory"),
     }
 }
 
@@ -125,29 +122,29 @@ fn judge_case<'s, 't>(
     shared: &'s [Part<'t>],
     case: &'s Case<'t>,
     report: &mut Report,
-) -> Result<(), Memory> {
+) {
     let own = case.parts.as_slice();
     let setting = Setting { own, shared };
     let has_own = own.iter().any(is_command);
     let parts = if has_own { own } else { shared };
     if !parts.iter().any(is_command) {
-        return Ok(report.refuse(case.title.as_bytes(), b"no words")?);
+        report.refuse(case.title.as_bytes(), b"no words");
     }
     for part in parts {
         if is_command(part) {
-            judge_run(alloc, setting, case.title, part.head, report)?;
+            judge_run(alloc, setting, case.title, part.head, report);
         }
     }
-    Ok(())
 }
 
 /// Tries each case of a file of whole runs, and puts it to the report.
-pub fn judge_runs(alloc: Global, text: &str, report: &mut Report) -> Result<(), Memory> {
-    let cases = cases_of(alloc, text)?;
+pub fn judge_runs(alloc: Global, text: &str, report: &mut Report) {
+    let Ok(cases) = cases_of(alloc, text) else {
+        return report.refuse(b"", b"out of memory");
+    };
     if let Some((shared, cases)) = cases.split_first() {
         for case in cases {
-            judge_case(alloc, &shared.parts, case, report)?;
+            judge_case(alloc, &shared.parts, case, report);
         }
     }
-    Ok(())
 }

@@ -2,7 +2,7 @@
 ghost use Rattle.std.specs.Prelude.{◌<◌, IfOk};
 
 use crate::fault::Fault;
-use case_text::{Part, push_bytes, push_word};
+use case_text::{Part, Told, push_bytes, push_word};
 use std::alloc::Global;
 
 /// How many bytes a write takes at most where no part says it.
@@ -24,14 +24,22 @@ fn value_of<'a>(setting: Setting<'_, 'a>, head: &str) -> Option<&'a str> {
         .find_map(|part| part.head.strip_prefix(head))
 }
 
+/// The bytes of a text, of which this tells whether each backquote begins an escape.
+fn read(is_read: bool, bytes: Told) -> Result<Vec<u8>, Fault> {
+    if !is_read {
+        return Err(Fault::Unread("a backquote that begins no escape"));
+    }
+    match bytes.whole() {
+        Some(bytes) => Ok(bytes),
+        None => Err(Fault::Memory),
+    }
+}
+
 /// The bytes of a part's lines.
 pub fn part_bytes(alloc: Global, part: &Part) -> Result<Vec<u8>, Fault> {
-    let mut bytes = Vec::new(alloc);
-    if push_bytes(&part.lines, &mut bytes)? {
-        Ok(bytes)
-    } else {
-        Err(Fault::Unread("a backquote that begins no escape"))
-    }
+    let mut bytes = Told::new(alloc);
+    let is_read = push_bytes(&part.lines, &mut bytes);
+    read(is_read, bytes)
 }
 
 /// The bytes of the first part with this head, and none where there is no such part.
@@ -84,12 +92,9 @@ pub fn failing(alloc: Global, setting: Setting, head: &str) -> Result<Vec<u64>, 
 
 /// The bytes of a word, of which `""` is the empty one.
 fn word_bytes(alloc: Global, text: &str) -> Result<Vec<u8>, Fault> {
-    let mut bytes = Vec::new(alloc);
-    if text == "\"\"" || push_word(text, &mut bytes)? {
-        Ok(bytes)
-    } else {
-        Err(Fault::Unread("a backquote that begins no escape"))
-    }
+    let mut bytes = Told::new(alloc);
+    let is_read = text == "\"\"" || push_word(text, &mut bytes);
+    read(is_read, bytes)
 }
 
 /// The words behind `$`.

@@ -56,15 +56,13 @@ pub fn says_nothing(line: &str) -> bool {
 /// the first.
 pub fn cases_of<'a>(alloc: Global, text: &'a str) -> Result<Vec<Case<'a>>, AllocError> {
     let mut cases = Vec::new(alloc);
-    let mut case = Case::new(alloc, "");
+    cases.push(Case::new(alloc, ""))?;
     for line in text.lines() {
         if let Some(title) = line.strip_prefix("== ") {
-            cases.push(case)?;
-            case = Case::new(alloc, title);
-        } else {
+            cases.push(Case::new(alloc, title))?;
+        } else if let Some(case) = cases.last_mut() {
             case.push_line(alloc, line)?;
         }
     }
-    cases.push(case)?;
     Ok(cases)
 }

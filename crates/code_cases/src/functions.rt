@@ -2,45 +2,55 @@
 ghost use Rattle.std.specs.Prelude.{◌≡◌, ◌<◌, ◌^◌, All, true, length};
 
 use crate::parts::{function_in, functions_in};
-use anyhow::{Result, bail};
+use case_text::Told;
 use rtl_chain::{greatest_uid, instruction_count, next_pseudo};
-use rtl_func::{CheckRefusal, blocks, check, reaches_exit, successors};
+use rtl_func::{Block, CheckRefusal, blocks, check, reaches_exit, successors};
 use rtx_tree::Function;
 use std::alloc::Global;
-use text_cases::push_shown;
 
-fn place(of: Option<u32>) -> i64 {
+fn show_place(of: Option<u32>, told: &mut Told) {
     match of {
-        Some(place) => i64::from(place),
-        None => -1,
+        Some(place) => told.show(place),
+        None => told.text("-1"),
+    }
+}
+
+fn show_blocks(blocks: &[Block], told: &mut Told) {
+    for block in blocks {
+        told.text(" ");
+        told.show(block.first);
+        told.text("-");
+        told.show(block.end);
+    }
+    told.text(";");
+}
+
+/// Appends where each place and the exit lead.
+fn show_successors(f: &Function, told: &mut Told)
+    requires { length f.now.insns < 2 ^ 32 }
+{
+    let end = u32::try_from(f.insns.len()).unwrap_or(0);
+    for index in 0..=end {
+        let next = successors(f, index);
+        told.text(" ");
+        show_place(next.first, told);
+        told.text("|");
+        show_place(next.second, told);
     }
 }
 
 /// Appends whether the exit is reached, the blocks, and where each place and the exit lead.
-pub fn tell_graph(alloc: Global, input: &[u8], out: &mut Vec<u8>) -> Result<()> {
-    let f = function_in(alloc, input)?;
-    push_shown(
-        if reaches_exit(alloc, &f)? {
-            "exit;"
-        } else {
-            "none;"
-        },
-        out,
-    )?;
-    for block in &blocks(alloc, &f)? {
-        push_shown(
-            format!(in alloc; " {}-{}", block.first, block.end)?.as_str(),
-            out,
-        )?;
+pub fn tell_graph(alloc: Global, input: &[u8], told: &mut Told) {
+    if let Some(f) = function_in(alloc, input)
+        && let Ok(is_reached) = reaches_exit(alloc, &f)
+        && let Ok(blocks) = blocks(alloc, &f)
+    {
+        told.text(if is_reached { "exit;" } else { "none;" });
+        show_blocks(blocks.as_slice(), told);
+        show_successors(&f, told);
+    } else {
+        told.fail();
     }
-    push_shown(";", out)?;
-    let end = u32::try_from(f.insns.len()).unwrap_or(0);
-    for index in 0..=end {
-        let next = successors(&f, index);
-        let shown = format!(in alloc; " {}|{}", place(next.first), place(next.second))?;
-        push_shown(shown.as_str(), out)?;
-    }
-    Ok(())
 }
 
 fn is_short(f: &Function) -> bool
@@ -56,28 +66,35 @@ fn are_short(functions: &[Function]) -> bool
 }
 
 /// Appends the uid and the rule that are told of the last of one function or two, or `-`.
-pub fn tell_rule(alloc: Global, input: &[u8], out: &mut Vec<u8>) -> Result<()> {
-    let functions = functions_in(alloc, input)?;
+pub fn tell_rule(alloc: Global, input: &[u8], told: &mut Told) {
+    let Some(functions) = functions_in(alloc, input) else {
+        return told.fail();
+    };
     let functions = functions.as_slice();
     if functions.is_empty() || !are_short(functions) {
-        bail!("no functions");
+        return told.fail();
     }
     let index = if functions.len() > 1 { 1 } else { 0 };
     match check(alloc, functions, index) {
-        Ok(()) => push_shown("-", out),
+        Ok(()) => told.text("-"),
         Err(CheckRefusal::IllFormed { uid, rule }) => {
-            push_shown(format!(in alloc; "{uid} {rule}")?.as_str(), out)
+            told.show(uid);
+            told.text(" ");
+            told.show(rule);
         }
-        Err(CheckRefusal::Memory) => bail!("out of memory"),
+        Err(CheckRefusal::Memory) => told.fail(),
     }
 }
 
 /// Appends how many instructions a chain has, its greatest uid and the next pseudo register.
-pub fn tell_counts(alloc: Global, input: &[u8], out: &mut Vec<u8>) -> Result<()> {
-    let f = function_in(alloc, input)?;
+pub fn tell_counts(alloc: Global, input: &[u8], told: &mut Told) {
+    let Some(f) = function_in(alloc, input) else {
+        return told.fail();
+    };
     let insns = f.insns.as_slice();
-    let count = instruction_count(insns);
-    let uid = greatest_uid(insns);
-    let next = next_pseudo(insns);
-    push_shown(format!(in alloc; "{count} {uid} {next}")?.as_str(), out)
+    told.show(instruction_count(insns));
+    told.text(" ");
+    told.show(greatest_uid(insns));
+    told.text(" ");
+    told.show(next_pseudo(insns));
 }

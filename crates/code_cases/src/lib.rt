@@ -1,6 +1,6 @@
 //! What is told of small cases of functions, lines, memory and registers.
 //!
-//! A case is an input of a table; [`answer`] gives what is told of it, which the case compares with what it wants.
+//! A case is an input of a table; [`answer`] tells what comes of it, which the case compares with what it wants.
 #![tactic(auto)]
 
 mod functions;
@@ -11,27 +11,33 @@ mod registers;
 mod runs;
 mod steps;
 
-use anyhow::Result;
+use case_text::Told;
 use std::alloc::Global;
 
-/// What is told of an input; `None` where there is no such table.
-pub fn answer(alloc: Global, table: &str, given: &[u8], input: &[u8]) -> Result<Option<Vec<u8>>> {
-    let mut out = Vec::new(alloc);
+/// Tells what comes of an input. Whether there is such a table.
+pub fn answer(alloc: Global, table: &str, given: &[u8], input: &[u8], told: &mut Told) -> bool {
     match table {
-        "graphs" => functions::tell_graph(alloc, input, &mut out)?,
-        "rules" => functions::tell_rule(alloc, input, &mut out)?,
-        "counts" => functions::tell_counts(alloc, input, &mut out)?,
-        "values" => steps::tell_value(alloc, input, &mut out)?,
-        "steps" => steps::tell_step(alloc, input, &mut out)?,
-        "runs" => steps::tell_run(alloc, given, input, &mut out)?,
-        "lines" => lines::tell_line(alloc, input, &mut out)?,
-        "parts of lines" => lines::tell_parts(alloc, input, &mut out)?,
-        "steps of lines" => lines::tell_step(alloc, input, &mut out)?,
-        "runs of lines" => runs::tell_run(alloc, input, &mut out)?,
-        "loads" | "stores" | "writes" | "visible" => {
-            memory::tell(alloc, table, given, input, &mut out)?;
-        }
-        _ => return registers::answer(alloc, table, input),
+        "graphs" => functions::tell_graph(alloc, input, told),
+        "rules" => functions::tell_rule(alloc, input, told),
+        "counts" => functions::tell_counts(alloc, input, told),
+        "values" => steps::tell_value(alloc, input, told),
+        "steps" => steps::tell_step(alloc, input, told),
+        "runs" => steps::tell_run(alloc, given, input, told),
+        "lines" => lines::tell_line(alloc, input, told),
+        "parts of lines" => lines::tell_parts(alloc, input, told),
+        "steps of lines" => lines::tell_step(alloc, input, told),
+        "runs of lines" => runs::tell_run(alloc, input, told),
+        "loads" => memory::tell_load(alloc, given, input, told),
+        "stores" => memory::tell_store(alloc, given, input, told),
+        "writes" => memory::tell_writes(alloc, given, input, told),
+        "visible" => memory::tell_visible(alloc, given, input, told),
+        "uses" => registers::tell_uses(alloc, input, told),
+        "live registers" => registers::tell_live(alloc, input, told),
+        "live rows" => registers::tell_rows(alloc, input, told),
+        "conflicts" => registers::tell_conflicts(alloc, input, told),
+        "homes" => registers::tell_homes(alloc, input, told),
+        "tables of registers" => registers::tell_tables(told),
+        _ => return false,
     }
-    Ok(Some(out))
+    true
 }

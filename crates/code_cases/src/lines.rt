@@ -1,59 +1,82 @@
 //! Lines, and their steps.
 use crate::memory::memory_of;
 use crate::parts::{halves, numbers};
-use anyhow::{Result, bail};
-use plain_data::Items;
+use case_text::Told;
+use plain_data::{Items, Memory};
 use rtx_tree::{Name, SymbolAt, World};
 use rv_line::{LineEnd, RvState, step_line};
 use rv_text::{Line, parse_line, print_line};
 use std::alloc::Global;
-use text_cases::push_shown;
 
-fn line_in(alloc: Global, text: &[u8]) -> Result<Line> {
-    match parse_line(alloc, text)? {
-        Some(line) => Ok(line),
-        None => bail!("no line"),
+fn line_in(alloc: Global, text: &[u8]) -> Option<Line> {
+    match parse_line(alloc, text) {
+        Ok(line) => line,
+        Err(_) => None,
+    }
+}
+
+/// A line as it is printed.
+fn printed(alloc: Global, line: &Line) -> Option<Vec<u8>> {
+    let mut out = Vec::new(alloc);
+    if print_line(alloc, line, &mut out).is_err() {
+        return None;
+    }
+    Some(out)
+}
+
+/// Appends bytes, with `\t` for each tab.
+fn show_tabs(bytes: &[u8], told: &mut Told) {
+    for byte in bytes {
+        if *byte == b'\t' {
+            told.text("\\t");
+        } else {
+            told.push(&[*byte]);
+        }
+    }
+}
+
+/// Appends a line as it is printed, and where that isn't read as the line again.
+fn show_line(alloc: Global, line: &Line, told: &mut Told) {
+    if let Some(first) = printed(alloc, line)
+        && let Some(line) = line_in(alloc, first.as_slice())
+        && let Some(again) = printed(alloc, &line)
+    {
+        show_tabs(first.as_slice(), told);
+        let is_same = again.as_slice() == first.as_slice();
+        told.text(if is_same { "" } else { " is read otherwise" });
+    } else {
+        told.fail();
     }
 }
 
 /// Appends a line as it is printed, with `\t` for each tab, and where that isn't read as the line again; or that the text is no line.
-pub fn tell_line(alloc: Global, text: &[u8], out: &mut Vec<u8>) -> Result<()> {
-    let Some(line) = parse_line(alloc, text)? else {
-        return push_shown("no line", out);
-    };
-    let mut printed = Vec::new(alloc);
-    let mut again = Vec::new(alloc);
-    print_line(alloc, &line, &mut printed)?;
-    print_line(alloc, &line_in(alloc, printed.as_slice())?, &mut again)?;
-    for byte in printed.as_slice() {
-        match *byte {
-            b'\t' => push_shown("\\t", out)?,
-            other => out.push(other)?,
-        }
+pub fn tell_line(alloc: Global, text: &[u8], told: &mut Told) {
+    match parse_line(alloc, text) {
+        Ok(Some(line)) => show_line(alloc, &line, told),
+        Ok(None) => told.text("no line"),
+        Err(_) => told.fail(),
     }
-    push_shown(
-        if again.as_slice() == printed.as_slice() {
-            ""
-        } else {
-            " is read otherwise"
-        },
-        out,
-    )
 }
 
 /// Appends the parts of a line and what it does.
-pub fn tell_parts(alloc: Global, text: &[u8], out: &mut Vec<u8>) -> Result<()> {
-    let line = line_in(alloc, text)?;
-    let shown = format!(in alloc;
-        "rd {} rs {} rt {} imm {}",
-        line.rd, line.rs, line.rt, line.imm
-    )?;
-    push_shown(shown.as_str(), out)?;
-    push_shown(format!(in alloc; " {:?}", line.action())?.as_str(), out)
+pub fn tell_parts(alloc: Global, text: &[u8], told: &mut Told) {
+    let Some(line) = line_in(alloc, text) else {
+        return told.fail();
+    };
+    told.text("rd ");
+    told.show(line.rd);
+    told.text(" rs ");
+    told.show(line.rs);
+    told.text(" rt ");
+    told.show(line.rt);
+    told.text(" imm ");
+    told.show(line.imm);
+    told.text(" ");
+    told.debug(&line.action());
 }
 
 /// A world with the function `g` at 8192 and with no reply.
-pub fn world(alloc: Global) -> Result<World> {
+pub fn world(alloc: Global) -> Result<World, Memory> {
     let mut symbols = Items::new(alloc);
     symbols.push(SymbolAt {
         name: Name::of(alloc, b"g")?,
@@ -65,18 +88,18 @@ pub fn world(alloc: Global) -> Result<World> {
     })
 }
 
+/// 16 bytes of 0x81 from 4096 on: each address is followed by its byte.
+const BYTES: [u64; 32] = [
+    4096, 0x81, 4097, 0x81, 4098, 0x81, 4099, 0x81, 4100, 0x81, 4101, 0x81, 4102, 0x81, 4103, 0x81,
+    4104, 0x81, 4105, 0x81, 4106, 0x81, 4107, 0x81, 4108, 0x81, 4109, 0x81, 4110, 0x81, 4111, 0x81,
+];
+
 /// A machine with 16 bytes of 0x81 from 4096 on. `sp` stands there, `ra` and `s0` hold 64, `a1` and what follows it what is given.
-fn machine(alloc: Global, values: &[u64]) -> Result<RvState> {
-    let mut pairs = Vec::new(alloc);
-    for address in 4096..4112 {
-        pairs.push(address)?;
-        pairs.push(0x81)?;
-    }
-    let memory = memory_of(alloc, pairs.as_slice())?;
+fn machine(alloc: Global, values: &[u64]) -> Result<RvState, Memory> {
     let mut state = RvState {
         regs: [None; 32],
         entry_ra: 64,
-        memory,
+        memory: memory_of(alloc, &BYTES)?,
     };
     state.set_register(1, 64);
     state.set_register(2, 4096);
@@ -87,20 +110,26 @@ fn machine(alloc: Global, values: &[u64]) -> Result<RvState> {
     Ok(state)
 }
 
-fn show_step(alloc: Global, end: LineEnd, a0: Option<u64>, out: &mut Vec<u8>) -> Result<()> {
-    let shown = match a0 {
-        Some(value) => format!(in alloc; "{end:?} {}", value.cast_signed())?,
-        None => format!(in alloc; "{end:?} -")?,
-    };
-    push_shown(shown.as_str(), out)
+fn show_step(end: LineEnd, a0: Option<u64>, told: &mut Told) {
+    told.debug(&end);
+    told.text(" ");
+    match a0 {
+        Some(value) => told.show(value.cast_signed()),
+        None => told.text("-"),
+    }
 }
 
 /// Appends how a line ends, and what `a0` holds then, as a signed number.
-pub fn tell_step(alloc: Global, input: &[u8], out: &mut Vec<u8>) -> Result<()> {
-    let (text, values) = halves(input)?;
-    let line = line_in(alloc, text.as_bytes())?;
-    let world = world(alloc)?;
-    let mut state = machine(alloc, numbers(alloc, values)?.as_slice())?;
-    let end = step_line(&line, &mut state, &world);
-    show_step(alloc, end, state.register(10), out)
+pub fn tell_step(alloc: Global, input: &[u8], told: &mut Told) {
+    if let Some((text, values)) = halves(input)
+        && let Some(values) = numbers(alloc, values)
+        && let Some(line) = line_in(alloc, text.as_bytes())
+        && let Ok(world) = world(alloc)
+        && let Ok(mut state) = machine(alloc, values.as_slice())
+    {
+        let end = step_line(&line, &mut state, &world);
+        show_step(end, state.register(10), told);
+    } else {
+        told.fail();
+    }
 }

@@ -1,19 +1,17 @@
 //! Accesses, writes and the visible part of memory.
-use crate::parts::{numbers, width};
-use anyhow::{Result, bail};
-use plain_data::Items;
+use crate::parts::{numbers_in, width};
+use case_text::Told;
+use plain_data::{Items, Memory};
 use rtx_tree::{MemByte, Memories, RangeAt};
 use run_memory::{load, store, visible_part, write_all};
 use std::alloc::Global;
-use std::str;
-use text_cases::{push_apart, push_shown};
 
 fn low_byte(value: u64) -> u8 {
     (value & 0xff) as u8
 }
 
 /// Memory with bytes at rising addresses: each address is followed by its byte.
-pub fn memory_of(alloc: Global, pairs: &[u64]) -> Result<Memories> {
+pub fn memory_of(alloc: Global, pairs: &[u64]) -> Result<Memories, Memory> {
     let mut memory = Memories::new(alloc);
     for pair in pairs.chunks(2) {
         let [address, byte] = pair else {
@@ -29,68 +27,100 @@ pub fn memory_of(alloc: Global, pairs: &[u64]) -> Result<Memories> {
     Ok(memory)
 }
 
+/// The memory whose addresses and bytes a text writes.
+fn memory_in(alloc: Global, text: &[u8]) -> Option<Memories> {
+    let Some(pairs) = numbers_in(alloc, text) else {
+        return None;
+    };
+    memory_of(alloc, pairs.as_slice()).ok()
+}
+
 /// Appends each byte of memory behind its address.
-pub fn show_memory(alloc: Global, memory: &Memories, out: &mut Vec<u8>) -> Result<()> {
+pub fn show_memory(memory: &Memories, told: &mut Told) {
     for byte in memory.bytes() {
-        push_apart(
-            format!(in alloc; "{}={}", byte.address, byte.byte)?.as_str(),
-            out,
-        )?;
+        told.gap();
+        told.show(byte.address);
+        told.text("=");
+        told.show(byte.byte);
     }
-    Ok(())
 }
 
-/// Appends what is loaded, or what memory holds after a store or writes, or its visible part.
-pub fn tell(
-    alloc: Global,
-    table: &str,
-    given: &[u8],
-    input: &[u8],
-    out: &mut Vec<u8>,
-) -> Result<()> {
-    let mut memory = memory_of(alloc, numbers(alloc, str::from_utf8(given)?)?.as_slice())?;
-    let words = numbers(alloc, str::from_utf8(input)?)?;
-    match (table, words.as_slice()) {
-        ("loads", [bits, address]) => {
-            let loaded = load(&memory, width(*bits), *address);
-            return push_shown(format!(in alloc; "{loaded:?}")?.as_str(), out);
-        }
-        ("stores", [bits, address, value]) => {
-            let is_done = store(&mut memory, width(*bits), *address, *value);
-            push_shown(if is_done { "done:" } else { "undone:" }, out)?;
-        }
-        ("writes", pairs) => write_pairs(alloc, pairs, &mut memory)?,
-        ("visible", pairs) => memory = visible(alloc, pairs, &memory)?,
-        _ => bail!("numbers"),
+/// Appends what is loaded from the memory that is given.
+pub fn tell_load(alloc: Global, given: &[u8], input: &[u8], told: &mut Told) {
+    if let Some(memory) = memory_in(alloc, given)
+        && let Some(words) = numbers_in(alloc, input)
+        && let [bits, address] = words.as_slice()
+    {
+        told.debug(&load(&memory, width(*bits), *address));
+    } else {
+        told.fail();
     }
-    show_memory(alloc, &memory, out)
 }
 
-fn write_pairs(alloc: Global, pairs: &[u64], memory: &mut Memories) -> Result<()> {
+/// Appends whether a store is done, and what the memory that is given holds then.
+pub fn tell_store(alloc: Global, given: &[u8], input: &[u8], told: &mut Told) {
+    if let Some(mut memory) = memory_in(alloc, given)
+        && let Some(words) = numbers_in(alloc, input)
+        && let [bits, address, value] = words.as_slice()
+    {
+        let is_done = store(&mut memory, width(*bits), *address, *value);
+        told.text(if is_done { "done:" } else { "undone:" });
+        show_memory(&memory, told);
+    } else {
+        told.fail();
+    }
+}
+
+/// Bytes at addresses, each address followed by its byte.
+fn writes_of(alloc: Global, pairs: &[u64]) -> Result<Items<MemByte>, Memory> {
     let mut writes = Items::new(alloc);
     for pair in pairs.chunks(2) {
-        let [address, byte] = pair else {
-            break;
-        };
-        writes.push(MemByte {
-            address: *address,
-            byte: low_byte(*byte),
-        })?;
+        if let [address, byte] = pair {
+            writes.push(MemByte {
+                address: *address,
+                byte: low_byte(*byte),
+            })?;
+        }
     }
-    write_all(memory, &writes);
-    Ok(())
+    Ok(writes)
 }
 
-fn visible(alloc: Global, pairs: &[u64], memory: &Memories) -> Result<Memories> {
+/// Appends what the memory that is given holds after writes.
+pub fn tell_writes(alloc: Global, given: &[u8], input: &[u8], told: &mut Told) {
+    if let Some(mut memory) = memory_in(alloc, given)
+        && let Some(words) = numbers_in(alloc, input)
+        && let Ok(writes) = writes_of(alloc, words.as_slice())
+    {
+        write_all(&mut memory, &writes);
+        show_memory(&memory, told);
+    } else {
+        told.fail();
+    }
+}
+
+/// Ranges, each an address followed by its length.
+fn ranges_of(alloc: Global, pairs: &[u64]) -> Result<Items<RangeAt>, Memory> {
     let mut ranges = Items::new(alloc);
     for pair in pairs.chunks(2) {
-        let [address, length] = pair else {
-            break;
-        };
-        ranges.push(RangeAt {
-            address: *address,
-            length: *length,
-        })?;
+        if let [address, length] = pair {
+            ranges.push(RangeAt {
+                address: *address,
+                length: *length,
+            })?;
+        }
     }
-    Ok(visible_part(alloc, memory, &ranges)?)
+    Ok(ranges)
+}
+
+/// Appends the visible part of the memory that is given.
+pub fn tell_visible(alloc: Global, given: &[u8], input: &[u8], told: &mut Told) {
+    if let Some(memory) = memory_in(alloc, given)
+        && let Some(words) = numbers_in(alloc, input)
+        && let Ok(ranges) = ranges_of(alloc, words.as_slice())
+        && let Ok(visible) = visible_part(alloc, &memory, &ranges)
+    {
+        show_memory(&visible, told);
+    } else {
+        told.fail();
+    }
 }

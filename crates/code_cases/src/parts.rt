@@ -1,8 +1,8 @@
 //! The parts of inputs.
-ghost use Rattle.std.specs.Prelude.{◌<◌, ◌^◌, IfOk, length};
+ghost use Rattle.std.specs.Prelude.{◌<◌, ◌^◌, IfSome, length};
 
-use anyhow::{Result, bail};
 use bits64::Width;
+use case_text::Told;
 use rtl_read::functions_of;
 use rtx_tree::{Function, Functions};
 use std::alloc::Global;
@@ -10,28 +10,41 @@ use std::str;
 use text_cases::trees_in;
 
 /// The parts of an input between bars.
-pub fn halves(input: &[u8]) -> Result<(&str, &str)> {
-    match str::from_utf8(input)?.split_once(" | ") {
-        Some(parts) => Ok(parts),
-        None => bail!("two parts"),
-    }
+pub fn halves(input: &[u8]) -> Option<(&str, &str)> {
+    let Ok(text) = str::from_utf8(input) else {
+        return None;
+    };
+    text.split_once(" | ")
 }
 
 /// The 64 bits of a decimal number, which may be negative.
-pub fn number(word: &str) -> Result<u64> {
+pub fn number(word: &str) -> Option<u64> {
     match word.parse::<i64>() {
-        Ok(number) => Ok(number.cast_unsigned()),
-        Err(_) => Ok(word.parse::<u64>()?),
+        Ok(number) => Some(number.cast_unsigned()),
+        Err(_) => word.parse::<u64>().ok(),
     }
 }
 
 /// The numbers of a text.
-pub fn numbers(alloc: Global, text: &str) -> Result<Vec<u64>> {
+pub fn numbers(alloc: Global, text: &str) -> Option<Vec<u64>> {
     let mut numbers = Vec::new(alloc);
     for word in text.split_whitespace() {
-        numbers.push(number(word)?)?;
+        let Some(number) = number(word) else {
+            return None;
+        };
+        if numbers.push(number).is_err() {
+            return None;
+        }
     }
-    Ok(numbers)
+    Some(numbers)
+}
+
+/// The numbers of an input.
+pub fn numbers_in(alloc: Global, input: &[u8]) -> Option<Vec<u64>> {
+    match str::from_utf8(input) {
+        Ok(text) => numbers(alloc, text),
+        Err(_) => None,
+    }
 }
 
 /// The width of so many bits.
@@ -44,26 +57,39 @@ pub fn width(bits: u64) -> Width {
     }
 }
 
+/// The text of some functions, or of the one with 16 bytes of locals whose chain is given.
+fn whole_text(alloc: Global, text: &[u8]) -> Option<Vec<u8>> {
+    let mut whole = Told::new(alloc);
+    if text.starts_with(b"(function") {
+        whole.push(text);
+    } else {
+        whole.text("(function \"f\" (locals 16) (insn-chain ");
+        whole.push(text);
+        whole.text("))");
+    }
+    whole.whole()
+}
+
 /// The functions of a text, or the one with 16 bytes of locals whose chain it is.
-pub fn functions_in(alloc: Global, text: &[u8]) -> Result<Functions> {
-    let mut whole = Vec::new(alloc);
-    if !text.starts_with(b"(function") {
-        whole.extend_from_slice(b"(function \"f\" (locals 16) (insn-chain ")?;
+pub fn functions_in(alloc: Global, text: &[u8]) -> Option<Functions> {
+    if let Some(whole) = whole_text(alloc, text)
+        && let Some(trees) = trees_in(alloc, whole.as_slice())
+    {
+        functions_of(alloc, trees.as_slice()).ok()
+    } else {
+        None
     }
-    whole.extend_from_slice(text)?;
-    if !text.starts_with(b"(function") {
-        whole.extend_from_slice(b"))")?;
-    }
-    Ok(functions_of(alloc, trees_in(alloc, whole.as_slice())?.as_slice())?)
 }
 
 /// The last of these functions.
-pub fn function_in(alloc: Global, text: &[u8]) -> Result<Function>
-    ensures { IfOk result (λ f. length f.insns < 2 ^ 32) }
+pub fn function_in(alloc: Global, text: &[u8]) -> Option<Function>
+    ensures { IfSome result (λ f. length f.insns < 2 ^ 32) }
 {
-    let mut functions = functions_in(alloc, text)?;
+    let Some(mut functions) = functions_in(alloc, text) else {
+        return None;
+    };
     match functions.pop() {
-        Some(f) if f.insns.len() < 100_000 => Ok(f),
-        _ => bail!("no function"),
+        Some(f) if f.insns.len() < 100_000 => Some(f),
+        _ => None,
     }
 }

@@ -2,17 +2,16 @@
 use crate::lines::world;
 use crate::memory::{memory_of, show_memory};
 use crate::parts::{halves, number};
-use anyhow::Result;
-use plain_data::Items;
+use case_text::Told;
+use plain_data::{Items, Memory};
 use rtx_tree::{MemByte, RangeAt, Reply, Start, World};
 use rv_line::{CodeCalls, CodeOutcome, run_lines};
 use rv_text::{CodeItem, parse_line};
 use std::alloc::Global;
-use text_cases::push_shown;
 
 /// The items of a text: each part of it is a line, and the label `.L0_3` stands behind the first.
-fn items(alloc: Global, text: &str) -> Result<Vec<CodeItem>> {
-    let mut items = Vec::new(alloc);
+fn items(alloc: Global, text: &str) -> Result<Items<CodeItem>, Memory> {
+    let mut items = Items::new(alloc);
     for part in text.split(" / ") {
         if let Some(line) = parse_line(alloc, part.as_bytes())? {
             items.push(CodeItem::Code { line })?;
@@ -27,70 +26,68 @@ fn items(alloc: Global, text: &str) -> Result<Vec<CodeItem>> {
     Ok(items)
 }
 
+/// 16 bytes of 0 from 4096 on: each address is followed by its byte.
+const BYTES: [u64; 32] = [
+    4096, 0, 4097, 0, 4098, 0, 4099, 0, 4100, 0, 4101, 0, 4102, 0, 4103, 0, 4104, 0, 4105, 0, 4106,
+    0, 4107, 0, 4108, 0, 4109, 0, 4110, 0, 4111, 0,
+];
+
 /// A start with `a0` = 5, and with the 16 bytes below `sp`, of which none is visible but the first.
-fn start(alloc: Global) -> Result<Start> {
+fn start(alloc: Global) -> Result<Start, Memory> {
     let mut visible = Items::new(alloc);
     visible.push(RangeAt {
         address: 4096,
         length: 1,
     })?;
-    let mut pairs = Vec::new(alloc);
-    for address in 4096..4112 {
-        pairs.push(address)?;
-        pairs.push(0)?;
-    }
-    let memory = memory_of(alloc, pairs.as_slice())?;
     Ok(Start {
         args: [5, 0, 0, 0, 0, 0, 0, 0],
         sp: 4112,
         vars: 4112,
         ra: 64,
         saved: [0; 12],
-        memory,
+        memory: memory_of(alloc, &BYTES)?,
         visible,
     })
 }
 
-/// A world with a reply of 7 that writes 9 to the visible byte.
-fn answering_world(alloc: Global) -> Result<World> {
-    let mut world = world(alloc)?;
+/// A reply of 7 that writes 9 to the visible byte.
+fn reply(alloc: Global) -> Result<Reply, Memory> {
     let mut writes = Items::new(alloc);
     writes.push(MemByte {
         address: 4096,
         byte: 9,
     })?;
-    world.replies.push(Reply { value: 7, writes })?;
+    Ok(Reply { value: 7, writes })
+}
+
+/// A world with a reply of 7 that writes 9 to the visible byte.
+fn answering_world(alloc: Global) -> Result<World, Memory> {
+    let mut world = world(alloc)?;
+    world.replies.push(reply(alloc)?)?;
     Ok(world)
 }
 
-fn show_calls(alloc: Global, calls: &CodeCalls, out: &mut Vec<u8>) -> Result<()> {
+fn show_calls(calls: &CodeCalls, told: &mut Told) {
     for call in calls.as_slice() {
-        push_shown(
-            format!(in alloc; ", {}({:?})", call.target, call.args[0])?.as_str(),
-            out,
-        )?;
-        show_memory(alloc, &call.memory, out)?;
+        told.text(", ");
+        told.show(call.target);
+        told.text("(");
+        told.debug(&call.args[0]);
+        told.text(")");
+        show_memory(&call.memory, told);
     }
-    Ok(())
 }
 
-/// What a run of so many lines comes to.
-fn outcome_of(alloc: Global, items: &[CodeItem], steps: u64) -> Result<CodeOutcome> {
-    let start = start(alloc)?;
-    let world = answering_world(alloc)?;
-    Ok(run_lines(alloc, items, &start, &world, steps)?)
-}
-
-fn show_outcome(alloc: Global, outcome: &CodeOutcome, out: &mut Vec<u8>) -> Result<()> {
+fn show_outcome(outcome: &CodeOutcome, told: &mut Told) {
     match outcome {
-        CodeOutcome::Stuck => push_shown("stuck", out),
+        CodeOutcome::Stuck => told.text("stuck"),
         CodeOutcome::Running { calls } => {
-            push_shown("running", out)?;
-            show_calls(alloc, calls, out)
+            told.text("running");
+            show_calls(calls, told);
         }
         CodeOutcome::Asked { calls } => {
-            push_shown("asked", out)?;
-            show_calls(alloc, calls, out)
+            told.text("asked");
+            show_calls(calls, told);
         }
         CodeOutcome::Returned {
             value,
@@ -98,20 +95,31 @@ fn show_outcome(alloc: Global, outcome: &CodeOutcome, out: &mut Vec<u8>) -> Resu
             calls,
             kept,
         } => {
-            let saved = kept.saved == [Some(0); 12];
-            let shown = format!(in alloc; "{value:?} {:?} {saved}", kept.sp)?;
-            push_shown(shown.as_str(), out)?;
-            show_memory(alloc, memory, out)?;
-            show_calls(alloc, calls, out)
+            told.debug(value);
+            told.text(" ");
+            told.debug(&kept.sp);
+            let is_saved = kept.saved == [Some(0); 12];
+            told.text(if is_saved { " true" } else { " false" });
+            show_memory(memory, told);
+            show_calls(calls, told);
         }
     }
 }
 
 /// Appends what a run of so many lines comes to: what it returned, what it kept and the memory then, and each call with its first
 /// argument and the memory then.
-pub fn tell_run(alloc: Global, input: &[u8], out: &mut Vec<u8>) -> Result<()> {
-    let (steps, text) = halves(input)?;
-    let items = items(alloc, text)?;
-    let outcome = outcome_of(alloc, items.as_slice(), number(steps)?)?;
-    show_outcome(alloc, &outcome, out)
+pub fn tell_run(alloc: Global, input: &[u8], told: &mut Told) {
+    if let Some((steps, text)) = halves(input)
+        && let Some(steps) = number(steps)
+        && let Ok(items) = items(alloc, text)
+        && let Ok(start) = start(alloc)
+        && let Ok(world) = answering_world(alloc)
+    {
+        match run_lines(alloc, items.as_slice(), &start, &world, steps) {
+            Ok(outcome) => show_outcome(&outcome, told),
+            Err(_) => told.fail(),
+        }
+    } else {
+        told.fail();
+    }
 }

@@ -2,17 +2,16 @@
 ghost use Rattle.std.specs.Prelude.{◌<◌, ◌^◌, length};
 
 use crate::memory::memory_of;
-use crate::parts::{function_in, halves, number, numbers};
-use anyhow::{Result, bail};
+use crate::parts::{function_in, halves, number, numbers_in};
 use bits64::Width;
+use case_text::Told;
 use func_mean::{Outcome, run_function};
 use lisp_read::rtx_of_tree;
-use plain_data::Items;
-use rtl_step::{Known, Regs, State, StepEnd, step_insn, value, width_of};
-use rtx_tree::{Function, Memories, Mode, Name, Reply, Start, SymbolAt, World};
+use plain_data::{Items, Memory};
+use rtl_step::{Known, Regs, State, step_insn, value, width_of};
+use rtx_tree::{Function, Memories, Mode, Name, Reply, Rtx, Start, SymbolAt, World};
 use std::alloc::Global;
-use std::str;
-use text_cases::{push_shown, tree_in};
+use text_cases::tree_in;
 
 /// The width of a mode, or 64 bits.
 fn width(mode: &str) -> Width {
@@ -20,38 +19,64 @@ fn width(mode: &str) -> Width {
     width_of(mode).unwrap_or(Width::W64)
 }
 
+/// A value: `5` in 64 bits, `5:QI` in 8.
+fn known(word: &str) -> Option<Known> {
+    let (value, mode) = word.split_once(":").unwrap_or((word, ""));
+    let Some(value) = number(value) else {
+        return None;
+    };
+    Some(Known {
+        width: width(mode),
+        value,
+    })
+}
+
 /// Registers with values, from a1 on: `5` in 64 bits, `5:QI` in 8.
-fn registers(alloc: Global, values: &str) -> Result<Regs> {
+fn registers(alloc: Global, values: &str) -> Option<Regs> {
     let mut regs = Regs::new(alloc);
     let mut reg = 11;
     for word in values.split_whitespace() {
-        let (value, mode) = word.split_once(":").unwrap_or((word, ""));
-        let value = number(value)?;
-        let width = width(mode);
-        regs.set(reg, Known { width, value })?;
+        let Some(value) = known(word) else {
+            return None;
+        };
+        if regs.set(reg, value).is_err() {
+            return None;
+        }
         reg = 12;
     }
-    Ok(regs)
+    Some(regs)
+}
+
+fn show_value(alloc: Global, regs: &Regs, x: &Rtx, width: Width, told: &mut Told) {
+    let memory = Memories::new(alloc);
+    told.debug(&value(&Items::new(alloc), regs, &memory, x, width));
 }
 
 /// Appends what is read of an expression in the width of a mode, with the values of a1 and a2.
-pub fn tell_value(alloc: Global, input: &[u8], out: &mut Vec<u8>) -> Result<()> {
-    let (mode, rest) = halves(input)?;
-    let (x, values) = halves(rest.as_bytes())?;
-    let x = rtx_of_tree(alloc, &tree_in(alloc, x.as_bytes())?)?;
-    let regs = registers(alloc, values)?;
-    let memory = Memories::new(alloc);
-    let value = value(&Items::new(alloc), &regs, &memory, &x, width(mode));
-    push_shown(format!(in alloc; "{value:?}")?.as_str(), out)
+pub fn tell_value(alloc: Global, input: &[u8], told: &mut Told) {
+    if let Some((mode, rest)) = halves(input)
+        && let Some((text, values)) = halves(rest.as_bytes())
+        && let Some(tree) = tree_in(alloc, text.as_bytes())
+        && let Ok(x) = rtx_of_tree(alloc, &tree)
+        && let Some(regs) = registers(alloc, values)
+    {
+        show_value(alloc, &regs, &x, width(mode), told);
+    } else {
+        told.fail();
+    }
 }
 
-/// Where `h` is at 4096, with these replies.
-fn world(alloc: Global, values: &[u64]) -> Result<World> {
+fn symbols(alloc: Global) -> Result<Items<SymbolAt>, Memory> {
     let mut symbols = Items::new(alloc);
     symbols.push(SymbolAt {
         name: Name::of(alloc, b"h")?,
         address: 4096,
     })?;
+    Ok(symbols)
+}
+
+/// Where `h` is at 4096, with these replies.
+fn world(alloc: Global, values: &[u64]) -> Result<World, Memory> {
     let mut replies = Items::new(alloc);
     for value in values {
         replies.push(Reply {
@@ -59,56 +84,71 @@ fn world(alloc: Global, values: &[u64]) -> Result<World> {
             writes: Items::new(alloc),
         })?;
     }
-    Ok(World { symbols, replies })
-}
-
-/// The text of a function with an instruction behind a label and a barrier, which returns SI.
-fn text_of(alloc: Global, insn: &[u8]) -> Result<Vec<u8>> {
-    let mut text = Vec::from_slice(
-        alloc,
-        b"(function \"f\" (crtl (return_rtx (reg:SI a0))) (insn-chain (clabel 9) (cbarrier) ",
-    )?;
-    text.extend_from_slice(insn)?;
-    text.extend_from_slice(b"))")?;
-    Ok(text)
-}
-
-/// A state in which a1 is 3 and a2 is 4, and four bytes of memory stand from 8 on.
-fn fresh_state(alloc: Global) -> Result<State> {
-    let regs = registers(alloc, "3 4")?;
-    let memory = memory_of(alloc, [8, 1, 9, 1, 10, 1, 11, 1].as_slice())?;
-    Ok(State {
-        next: 0,
-        regs,
-        memory,
-        visible: Items::new(alloc),
-        calls: Items::new(alloc),
+    Ok(World {
+        symbols: symbols(alloc)?,
+        replies,
     })
 }
 
-/// How a step of a function ends where a call is answered by 7.
-fn stepped(alloc: Global, f: &Function, state: &mut State) -> Result<StepEnd>
-    requires { length f.now.insns < 2 ^ 32 }
-{
-    let world = world(alloc, &[7])?;
-    Ok(step_insn(alloc, f, state, &world)?)
+/// The text of a function with an instruction behind a label and a barrier, which returns SI.
+fn text_of(alloc: Global, insn: &[u8]) -> Option<Vec<u8>> {
+    let mut text = Told::new(alloc);
+    text.text("(function \"f\" (crtl (return_rtx (reg:SI a0))) (insn-chain (clabel 9) (cbarrier) ");
+    text.push(insn);
+    text.text("))");
+    text.whole()
 }
 
-fn show_registers(alloc: Global, regs: &Regs, out: &mut Vec<u8>) -> Result<()> {
-    for reg in 10..13 {
-        let value = regs.value(reg, Width::W64);
-        push_shown(format!(in alloc; " {value:?}")?.as_str(), out)?;
+/// A state in which a1 is 3 and a2 is 4, and four bytes of memory stand from 8 on.
+fn fresh_state(alloc: Global) -> Option<State> {
+    if let Some(regs) = registers(alloc, "3 4")
+        && let Ok(memory) = memory_of(alloc, &[8, 1, 9, 1, 10, 1, 11, 1])
+    {
+        Some(State {
+            next: 0,
+            regs,
+            memory,
+            visible: Items::new(alloc),
+            calls: Items::new(alloc),
+        })
+    } else {
+        None
     }
-    Ok(())
+}
+
+fn show_registers(regs: &Regs, told: &mut Told) {
+    for reg in 10..13 {
+        told.text(" ");
+        told.debug(&regs.value(reg, Width::W64));
+    }
+}
+
+/// Appends how a step of a function ends where a call is answered by 7, what is next, and what a0, a1 and a2 are then.
+fn show_step(alloc: Global, f: &Function, told: &mut Told)
+    requires { length f.now.insns < 2 ^ 32 }
+{
+    if let Some(mut state) = fresh_state(alloc)
+        && let Ok(world) = world(alloc, &[7])
+        && let Ok(end) = step_insn(alloc, f, &mut state, &world)
+    {
+        told.debug(&end);
+        told.text(" ");
+        told.show(state.next);
+        show_registers(&state.regs, told);
+    } else {
+        told.fail();
+    }
 }
 
 /// Appends how one step of an instruction behind a label and a barrier ends, what is next, and what a0, a1 and a2 are then.
-pub fn tell_step(alloc: Global, input: &[u8], out: &mut Vec<u8>) -> Result<()> {
-    let f = function_in(alloc, text_of(alloc, input)?.as_slice())?;
-    let mut state = fresh_state(alloc)?;
-    let end = stepped(alloc, &f, &mut state)?;
-    push_shown(format!(in alloc; "{end:?} {}", state.next)?.as_str(), out)?;
-    show_registers(alloc, &state.regs, out)
+pub fn tell_step(alloc: Global, input: &[u8], told: &mut Told) {
+    if let Some(text) = text_of(alloc, input)
+        && let Some(f) = function_in(alloc, text.as_slice())
+    {
+        show_step(alloc, &f, told);
+    } else {
+        told.fail();
+    }
 }
 
 fn start(alloc: Global) -> Start {
@@ -123,32 +163,36 @@ fn start(alloc: Global) -> Start {
     }
 }
 
-/// What so many steps of a function come to, by these replies.
-fn outcome_of(alloc: Global, f: &Function, replies: &[u64], steps: u64) -> Result<Outcome>
-    requires { length f.now.insns < 2 ^ 32 }
-{
-    let world = world(alloc, replies)?;
-    let start = start(alloc);
-    Ok(run_function(alloc, f, &start, &world, steps)?)
-}
-
-fn outcome_text(alloc: Global, outcome: &Outcome) -> Result<String> {
-    Ok(match outcome {
-        Outcome::Undefined => format!(in alloc; "undefined")?,
-        Outcome::Running { calls } => format!(in alloc; "running {}", calls.len())?,
-        Outcome::Asked { calls } => format!(in alloc; "asked {}", calls.len())?,
-        Outcome::Returned { value, calls, .. } => format!(in alloc; "{value:?} {}", calls.len())?,
-    })
+fn show_outcome(outcome: &Outcome, told: &mut Told) {
+    match outcome {
+        Outcome::Undefined => told.text("undefined"),
+        Outcome::Running { calls } => {
+            told.text("running ");
+            told.show(calls.len());
+        }
+        Outcome::Asked { calls } => {
+            told.text("asked ");
+            told.show(calls.len());
+        }
+        Outcome::Returned { value, calls, .. } => {
+            told.debug(value);
+            told.text(" ");
+            told.show(calls.len());
+        }
+    }
 }
 
 /// Appends how so many steps of a function with the argument 5 stand, its value and its calls. The replies stand behind the number of
 /// steps.
-pub fn tell_run(alloc: Global, given: &[u8], input: &[u8], out: &mut Vec<u8>) -> Result<()> {
-    let f = function_in(alloc, given)?;
-    let words = numbers(alloc, str::from_utf8(input)?)?;
-    let [steps, replies @ ..] = words.as_slice() else {
-        bail!("no number of steps");
-    };
-    let outcome = outcome_of(alloc, &f, replies, *steps)?;
-    push_shown(outcome_text(alloc, &outcome)?.as_str(), out)
+pub fn tell_run(alloc: Global, given: &[u8], input: &[u8], told: &mut Told) {
+    if let Some(words) = numbers_in(alloc, input)
+        && let [steps, replies @ ..] = words.as_slice()
+        && let Ok(world) = world(alloc, replies)
+        && let Some(f) = function_in(alloc, given)
+        && let Ok(outcome) = run_function(alloc, &f, &start(alloc), &world, *steps)
+    {
+        show_outcome(&outcome, told);
+    } else {
+        told.fail();
+    }
 }

@@ -1,66 +1,101 @@
 //! The heads of conditions and statements.
 use crate::iterators::constants_in;
-use anyhow::{Result, bail};
 use c_cond::{CondRefusal, parse_cond, parse_prep, parse_test};
 use c_words::CondHead;
+use case_text::Told;
 use std::alloc::Global;
-use std::str;
-use text_cases::{push_apart, push_shown};
 
-/// A head in few letters.
-fn label(alloc: Global, head: &CondHead) -> Result<String> {
-    let text = match head {
-        CondHead::Number(number) => format!(in alloc; "{number}")?,
-        CondHead::Operand(number) => format!(in alloc; "%{number}")?,
-        CondHead::Window(number) => format!(in alloc; "@{number}")?,
-        CondHead::Mode(mode) => format!(in alloc; "{mode:?}")?,
-        CondHead::CodeIs { code, equal } => format!(in alloc; "{code:?}:{equal}")?,
-        CondHead::ModeIs { mode, equal } => format!(in alloc; "{mode:?}:{equal}")?,
-        CondHead::Unary(operator) => format!(in alloc; "{operator:?}")?,
-        CondHead::Binary(operator) => format!(in alloc; "{operator:?}")?,
-        CondHead::Call(call) => format!(in alloc; "{call:?}")?,
-        CondHead::Predicate(name) => format!(in alloc; "'{}'", str::from_utf8(name.bytes())?)?,
-        CondHead::Assign(number) => format!(in alloc; "%{number}=")?,
-        _ => format!(in alloc; "{head:?}")?,
-    };
-    Ok(text)
+/// Appends a head in few letters.
+fn show_head(head: &CondHead, told: &mut Told) {
+    match head {
+        CondHead::Number(number) => told.show(*number),
+        CondHead::Operand(number) => show_operand(*number, told),
+        CondHead::Window(number) => {
+            told.text("@");
+            told.show(*number);
+        }
+        CondHead::Mode(mode) => told.debug(mode),
+        CondHead::CodeIs { code, equal } => {
+            told.debug(code);
+            show_equal(*equal, told);
+        }
+        CondHead::ModeIs { mode, equal } => {
+            told.debug(mode);
+            show_equal(*equal, told);
+        }
+        CondHead::Unary(operator) => told.debug(operator),
+        CondHead::Binary(operator) => told.debug(operator),
+        CondHead::Call(call) => told.debug(call),
+        CondHead::Predicate(name) => {
+            told.text("'");
+            told.push(name.bytes());
+            told.text("'");
+        }
+        CondHead::Assign(number) => {
+            show_operand(*number, told);
+            told.text("=");
+        }
+        _ => told.debug(head),
+    }
+}
+
+fn show_operand(number: u32, told: &mut Told) {
+    told.text("%");
+    told.show(number);
+}
+
+fn show_equal(equal: bool, told: &mut Told) {
+    told.text(if equal { ":true" } else { ":false" });
 }
 
 /// Appends the heads of a tree, each behind its parts.
-fn show(alloc: Global, heads: &[CondHead], out: &mut Vec<u8>) -> Result<()> {
+fn show(heads: &[CondHead], told: &mut Told) {
     for head in heads {
-        push_apart(label(alloc, head)?.as_str(), out)?;
+        told.gap();
+        show_head(head, told);
     }
-    Ok(())
 }
 
-/// Appends the heads of what a text is parsed to, or from where on it is outside.
-pub fn tell(
-    alloc: Global,
-    table: &str,
-    given: &[u8],
-    text: &[u8],
-    out: &mut Vec<u8>,
-) -> Result<()> {
-    let list = constants_in(alloc, given)?;
-    let refusal = match table {
-        "preparations" => match parse_prep(alloc, text, &list) {
-            Ok(prep) => return show(alloc, prep.heads(), out),
-            Err(refusal) => refusal,
-        },
-        "tests" => match parse_test(alloc, text, &list) {
-            Ok(test) => return show(alloc, test.heads(), out),
-            Err(refusal) => refusal,
-        },
-        _ => match parse_cond(alloc, text, &list) {
-            Ok(cond) => return show(alloc, cond.heads(), out),
-            Err(refusal) => refusal,
-        },
-    };
+/// Appends from where on a text is outside.
+fn show_refusal(refusal: CondRefusal, told: &mut Told) {
     match refusal {
         CondRefusal::Outside { offset } => {
-            push_shown(format!(in alloc; "outside from {offset}")?.as_str(), out)
+            told.text("outside from ");
+            told.show(offset);
         }
-        CondRefusal::Memory => bail!("out of memory"),
+        CondRefusal::Memory => told.fail(),
+    }
+}
+
+/// Appends the heads of what a condition is parsed to, or from where on it is outside.
+pub fn tell_cond(alloc: Global, given: &[u8], text: &[u8], told: &mut Told) {
+    let Some(list) = constants_in(alloc, given) else {
+        return told.fail();
+    };
+    match parse_cond(alloc, text, &list) {
+        Ok(cond) => show(cond.heads(), told),
+        Err(refusal) => show_refusal(refusal, told),
+    }
+}
+
+/// Appends the heads of what a test is parsed to, or from where on it is outside.
+pub fn tell_test(alloc: Global, given: &[u8], text: &[u8], told: &mut Told) {
+    let Some(list) = constants_in(alloc, given) else {
+        return told.fail();
+    };
+    match parse_test(alloc, text, &list) {
+        Ok(test) => show(test.heads(), told),
+        Err(refusal) => show_refusal(refusal, told),
+    }
+}
+
+/// Appends the heads of what preparations are parsed to, or from where on they are outside.
+pub fn tell_prep(alloc: Global, given: &[u8], text: &[u8], told: &mut Told) {
+    let Some(list) = constants_in(alloc, given) else {
+        return told.fail();
+    };
+    match parse_prep(alloc, text, &list) {
+        Ok(prep) => show(prep.heads(), told),
+        Err(refusal) => show_refusal(refusal, told),
     }
 }

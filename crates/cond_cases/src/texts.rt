@@ -1,63 +1,64 @@
 //! Lists, constraints and templates as descriptions write them.
-use anyhow::Result;
+use case_text::Told;
 use md_text::*;
+use plain_data::Memory;
 use rtx_tree::Name;
 use std::alloc::Global;
-use text_cases::{push_apart, push_shown};
 
 /// Appends a name between `<` and `>`.
-fn show_name(name: &Name, out: &mut Vec<u8>) -> Result<()> {
-    out.push(b'<')?;
-    out.extend_from_slice(name.bytes())?;
-    out.push(b'>')?;
-    Ok(())
+fn show_name(name: &Name, told: &mut Told) {
+    told.text("<");
+    told.push(name.bytes());
+    told.text(">");
 }
 
 /// Appends the members of a list.
-pub fn tell_members(alloc: Global, text: &[u8], out: &mut Vec<u8>) -> Result<()> {
-    for name in members_of(alloc, text)?.as_slice() {
-        show_name(name, out)?;
+pub fn tell_members(alloc: Global, text: &[u8], told: &mut Told) {
+    let Ok(members) = members_of(alloc, text) else {
+        return told.fail();
+    };
+    for name in members.as_slice() {
+        show_name(name, told);
     }
-    Ok(())
 }
 
-/// Appends so many bytes.
-fn push_often(byte: u8, count: u64, out: &mut Vec<u8>) -> Result<()> {
+/// Appends a text so many times.
+fn show_often(text: &str, count: u64, told: &mut Told) {
     for _ in 0..count {
-        out.push(byte)?;
+        told.text(text);
     }
-    Ok(())
 }
 
-fn show_member(alloc: Global, member: &Member, out: &mut Vec<u8>) -> Result<()> {
-    push_apart("", out)?;
+fn show_member(member: &Member, told: &mut Told) {
+    told.gap();
     match member {
-        Member::Letter(letter) => push_shown(format!(in alloc; "{letter:?}")?.as_str(), out),
-        Member::Same(number) => push_shown(format!(in alloc; "same {number}")?.as_str(), out),
-        Member::Defined(name) => show_name(name, out),
+        Member::Letter(letter) => told.debug(letter),
+        Member::Same(number) => {
+            told.text("same ");
+            told.show(*number);
+        }
+        Member::Defined(name) => show_name(name, told),
     }
 }
 
 /// Appends an alternative, with a mark for its direction and a mark for each time that it is less wanted.
-fn show_alternative(alloc: Global, alternative: &Alternative, out: &mut Vec<u8>) -> Result<()> {
-    match alternative.direction {
-        Direction::Input => {}
-        Direction::Output => out.push(b'=')?,
-        Direction::Both => out.push(b'+')?,
-    }
-    if alternative.early {
-        out.push(b'&')?;
-    }
-    push_often(b'?', alternative.slight, out)?;
-    push_often(b'!', alternative.severe, out)?;
+fn show_alternative(alternative: &Alternative, told: &mut Told) {
+    told.text(match alternative.direction {
+        Direction::Input => "",
+        Direction::Output => "=",
+        Direction::Both => "+",
+    });
+    told.text(if alternative.early { "&" } else { "" });
+    show_often("?", alternative.slight, told);
+    show_often("!", alternative.severe, told);
     for member in alternative.members.as_slice() {
-        show_member(alloc, member, out)?;
+        show_member(member, told);
     }
-    push_shown(";", out)
+    told.text(";");
 }
 
 /// The names of the defined constraints: the words of a text, and the empty one behind its last blank.
-fn names_in(alloc: Global, given: &[u8]) -> Result<Vec<Name>> {
+fn names_in(alloc: Global, given: &[u8]) -> Result<Vec<Name>, Memory> {
     let mut names = Vec::new(alloc);
     for word in given.split(|byte| byte.is_ascii_whitespace()) {
         names.push(Name::of(alloc, word)?)?;
@@ -66,44 +67,58 @@ fn names_in(alloc: Global, given: &[u8]) -> Result<Vec<Name>> {
 }
 
 /// Appends the alternatives of a constraint, or that a name in it is unknown.
-pub fn tell_constraint(alloc: Global, given: &[u8], text: &[u8], out: &mut Vec<u8>) -> Result<()> {
-    let names = names_in(alloc, given)?;
-    let Some(constraint) = constraint_of(alloc, text, names.as_slice())? else {
-        return push_shown("unknown", out);
+pub fn tell_constraint(alloc: Global, given: &[u8], text: &[u8], told: &mut Told) {
+    let Ok(names) = names_in(alloc, given) else {
+        return told.fail();
     };
-    for alternative in constraint.as_slice() {
-        show_alternative(alloc, alternative, out)?;
+    match constraint_of(alloc, text, names.as_slice()) {
+        Ok(Some(constraint)) => {
+            for alternative in constraint.as_slice() {
+                show_alternative(alternative, told);
+            }
+        }
+        Ok(None) => told.text("unknown"),
+        Err(_) => told.fail(),
     }
-    Ok(())
 }
 
-fn show_line(alloc: Global, line: &[Piece], out: &mut Vec<u8>) -> Result<()> {
-    out.push(b'[')?;
+fn show_line(line: &[Piece], told: &mut Told) {
+    told.text("[");
     for piece in line {
         match piece {
-            Piece::Byte(byte) => out.push(*byte)?,
+            Piece::Byte(byte) => told.push(&[*byte]),
             Piece::Operand { print, number } => {
-                push_shown(format!(in alloc; "<{print:?} {number}>")?.as_str(), out)?;
+                told.text("<");
+                told.debug(print);
+                told.text(" ");
+                told.show(*number);
+                told.text(">");
             }
-            Piece::Uid => push_shown("<uid>", out)?,
+            Piece::Uid => told.text("<uid>"),
         }
     }
-    push_shown("]", out)
+    told.text("]");
+}
+
+fn show_template(template: &Template, told: &mut Told) {
+    match template {
+        Template::Split => told.text("split"),
+        Template::One(line) => show_line(line.as_slice(), told),
+        Template::Each(lines) => {
+            told.text("each");
+            for line in lines.as_slice() {
+                show_line(line.as_slice(), told);
+            }
+        }
+    }
 }
 
 /// Appends the pieces of a template, or why it is none.
-pub fn tell_template(alloc: Global, text: &[u8], out: &mut Vec<u8>) -> Result<()> {
-    match template_of(alloc, text)? {
-        Reading::Template(Template::Split) => push_shown("split", out),
-        Reading::Template(Template::One(line)) => show_line(alloc, line.as_slice(), out),
-        Reading::Template(Template::Each(lines)) => {
-            push_shown("each", out)?;
-            for line in lines.as_slice() {
-                show_line(alloc, line.as_slice(), out)?;
-            }
-            Ok(())
-        }
-        Reading::Code => push_shown("code", out),
-        Reading::Outside => push_shown("outside", out),
+pub fn tell_template(alloc: Global, text: &[u8], told: &mut Told) {
+    match template_of(alloc, text) {
+        Ok(Reading::Template(template)) => show_template(&template, told),
+        Ok(Reading::Code) => told.text("code"),
+        Ok(Reading::Outside) => told.text("outside"),
+        Err(_) => told.fail(),
     }
 }

@@ -1,97 +1,107 @@
 //! Forms with their reasons, attributes and alternatives.
 use crate::parts::{forms_in, halves, operands_of};
-use anyhow::Result;
+use case_text::Told;
 use md_attr::{Attributes, enabled, has_alternative, value};
 use md_constr::{Constraints, alternatives_of, fits};
 use md_forms::{Entry, Forms, names_of};
 use md_pred::PredTable;
 use rtx_tree::{Name, Operands};
 use std::alloc::Global;
-use text_cases::{push_shown, show_number, trees_in};
+use text_cases::trees_in;
 
 /// Appends the name of each form of a description, and `ok` or the number of the reason for which it is set aside.
-pub fn tell_forms(alloc: Global, given: &[u8], input: &[u8], out: &mut Vec<u8>) -> Result<()> {
-    let forms = joined_forms(alloc, given, input)?;
-    let names = names_of(alloc, forms.as_slice())?;
-    for (form, name) in forms.as_slice().iter().zip(names.as_slice()) {
-        show_form(alloc, form, name, out)?;
+pub fn tell_forms(alloc: Global, given: &[u8], input: &[u8], told: &mut Told) {
+    if let Some(forms) = joined_forms(alloc, given, input)
+        && let Ok(names) = names_of(alloc, forms.as_slice())
+    {
+        let mut gap = b"".as_slice();
+        for (form, name) in forms.as_slice().iter().zip(names.as_slice()) {
+            told.push(gap);
+            show_form(form, name, told);
+            gap = b", ";
+        }
+    } else {
+        told.fail();
     }
-    Ok(())
 }
 
-fn show_form(alloc: Global, form: &Entry, name: &Name, out: &mut Vec<u8>) -> Result<()> {
-    if !out.is_empty() {
-        push_shown(", ", out)?;
-    }
-    out.extend_from_slice(name.bytes())?;
+fn show_form(form: &Entry, name: &Name, told: &mut Told) {
+    told.push(name.bytes());
     match &form.form {
-        Ok(_) => push_shown(" ok", out),
-        Err(reason) => show_number(alloc, i64::from(reason.number()), out),
-    }
-}
-
-/// Appends the value of attribute `t` in each alternative of a form: the value, or `-` where there is no such attribute, and `!`
-/// behind it where the alternative can't be used.
-fn show_values(alloc: Global, attrs: &Attributes, form: u32, out: &mut Vec<u8>) -> Result<()> {
-    let name = Name::of(alloc, b"t")?;
-    for alternative in 0..31 {
-        if has_alternative(attrs, form, alternative) {
-            match value(attrs, &name, form, alternative) {
-                Some(found) => out.extend_from_slice(found.bytes())?,
-                None => push_shown("-", out)?,
-            }
-            push_shown(
-                if enabled(attrs, form, alternative) {
-                    " "
-                } else {
-                    "! "
-                },
-                out,
-            )?;
+        Ok(_) => told.text(" ok"),
+        Err(reason) => {
+            told.text(" ");
+            told.show(reason.number());
         }
     }
-    push_shown(";", out)
 }
 
-/// Appends the values in all forms of a description.
-pub fn tell_values(alloc: Global, input: &[u8], out: &mut Vec<u8>) -> Result<()> {
-    let forms = forms_in(alloc, input)?;
-    let attrs = Attributes::of(alloc, &forms)?;
-    let mut form: u32 = 0;
-    for _ in forms.as_slice() {
-        show_values(alloc, &attrs, form, out)?;
-        form = form.saturating_add(1);
+/// Appends the value of an attribute in each alternative of a form: the value, or `-` where there is no such attribute, and `!`
+/// behind it where the alternative can't be used.
+fn show_values(attrs: &Attributes, name: &Name, form: u32, told: &mut Told) {
+    for alternative in 0..31 {
+        if has_alternative(attrs, form, alternative) {
+            match value(attrs, name, form, alternative) {
+                Some(found) => told.push(found.bytes()),
+                None => told.text("-"),
+            }
+            let is_enabled = enabled(attrs, form, alternative);
+            told.text(if is_enabled { " " } else { "! " });
+        }
     }
-    Ok(())
+    told.text(";");
+}
+
+/// Appends the values of the attribute `t` in all forms of a description.
+pub fn tell_values(alloc: Global, input: &[u8], told: &mut Told) {
+    if let Some(forms) = forms_in(alloc, input)
+        && let Ok(attrs) = Attributes::of(alloc, &forms)
+        && let Ok(name) = Name::of(alloc, b"t")
+    {
+        let mut form: u32 = 0;
+        for _ in forms.as_slice() {
+            show_values(&attrs, &name, form, told);
+            form = form.saturating_add(1);
+        }
+    } else {
+        told.fail();
+    }
 }
 
 /// Appends for each alternative of a form whether operands fit it: 1 where they do. The form and the operands are the input.
-pub fn tell_fitting(alloc: Global, given: &[u8], input: &[u8], out: &mut Vec<u8>) -> Result<()> {
-    let (form, operands) = halves(input)?;
-    let forms = joined_forms(alloc, given, form)?;
-    let operands = operands_of(alloc, trees_in(alloc, operands)?.as_slice())?;
-    show_fitting(alloc, &forms, &operands, out)
+pub fn tell_fitting(alloc: Global, given: &[u8], input: &[u8], told: &mut Told) {
+    if let Some((form, operands)) = halves(input)
+        && let Some(trees) = trees_in(alloc, operands)
+        && let Some(operands) = operands_of(alloc, trees.as_slice())
+        && let Some(forms) = joined_forms(alloc, given, form)
+    {
+        show_fitting(alloc, &forms, &operands, told);
+    } else {
+        told.fail();
+    }
 }
 
 /// The forms of two texts, one behind the other.
-fn joined_forms(alloc: Global, given: &[u8], input: &[u8]) -> Result<Forms> {
-    let mut text = Vec::from_slice(alloc, given)?;
-    text.extend_from_slice(input)?;
-    forms_in(alloc, text.as_slice())
+fn joined_forms(alloc: Global, given: &[u8], input: &[u8]) -> Option<Forms> {
+    let mut text = Told::new(alloc);
+    text.push(given);
+    text.push(input);
+    let Some(whole) = text.whole() else {
+        return None;
+    };
+    forms_in(alloc, whole.as_slice())
 }
 
-fn show_fitting(
-    alloc: Global,
-    forms: &Forms,
-    operands: &Operands,
-    out: &mut Vec<u8>,
-) -> Result<()> {
-    let table = Constraints::of(alloc, forms)?;
-    let preds = PredTable::of(alloc, forms)?;
-    let last = u32::try_from(forms.len()).unwrap_or(0).saturating_sub(1);
-    for alternative in 0..alternatives_of(&table, last) {
-        let fit = fits(&table, &preds, last, alternative, operands);
-        push_shown(if fit { "1" } else { "0" }, out)?;
+fn show_fitting(alloc: Global, forms: &Forms, operands: &Operands, told: &mut Told) {
+    if let Ok(table) = Constraints::of(alloc, forms)
+        && let Ok(preds) = PredTable::of(alloc, forms)
+    {
+        let last = u32::try_from(forms.len()).unwrap_or(0).saturating_sub(1);
+        for alternative in 0..alternatives_of(&table, last) {
+            let is_fit = fits(&table, &preds, last, alternative, operands);
+            told.text(if is_fit { "1" } else { "0" });
+        }
+    } else {
+        told.fail();
     }
-    Ok(())
 }

@@ -2,41 +2,52 @@
 ghost use Rattle.std.specs.Prelude.{◌≡◌, ◌<◌};
 
 use crate::parts::halves;
-use anyhow::{Result, bail};
+use case_text::Told;
 use lisp_read::{Tree, is_word};
 use md_match::{Steps, instantiate, match_shape};
 use md_pattern::pattern_of;
-use plain_data::Items;
+use plain_data::{Items, Memory};
 use rtx_tree::{Operands, Rtx, same};
 use std::alloc::Global;
 use std::marker::Brand;
 use std::sync::ledger::{Blank, Ledger};
-use text_cases::{push_apart, push_shown, show, tree_in, trees_in};
+use text_cases::{show, tree_in, trees_in};
 
-fn pattern(alloc: Global, tree: &Tree) -> Result<Rtx> {
-    match pattern_of(alloc, tree, &Items::new(alloc))? {
-        Ok(pattern) => Ok(pattern.tree),
-        Err(_) => bail!("no pattern"),
+fn pattern(alloc: Global, tree: &Tree) -> Option<Rtx> {
+    match pattern_of(alloc, tree, &Items::new(alloc)) {
+        Ok(Ok(pattern)) => Some(pattern.tree),
+        _ => None,
+    }
+}
+
+fn pattern_in(alloc: Global, text: &[u8]) -> Option<Rtx> {
+    let Some(tree) = tree_in(alloc, text) else {
+        return None;
+    };
+    pattern(alloc, &tree)
+}
+
+/// Appends `-` so many times.
+fn show_missing(missing: u32, told: &mut Told) {
+    for _ in 0..missing {
+        told.apart("-");
     }
 }
 
 /// Appends the operands in order; `-` is a missing one.
-fn show_operands(alloc: Global, operands: &Operands, out: &mut Vec<u8>) -> Result<()> {
+fn show_operands(operands: &Operands, told: &mut Told) {
     let mut missing: u32 = 0;
     for number in 0..32 {
         match operands.get(number) {
             Some(operand) => {
-                for _ in 0..missing {
-                    push_apart("-", out)?;
-                }
+                show_missing(missing, told);
                 missing = 0;
-                push_apart("", out)?;
-                show(alloc, operand, out)?;
+                told.gap();
+                show(operand, told);
             }
             None => missing = missing.saturating_add(1),
         }
     }
-    Ok(())
 }
 
 /// The operands with which a pattern matches an instruction.
@@ -45,50 +56,80 @@ fn matched<L: Ledger>(
     pattern: &Rtx,
     insn: &Rtx,
     blank: Blank,
-) -> Result<Option<Operands>>
+) -> Result<Option<Operands>, Memory>
     requires name { blank.name ≡ L.name }
     requires parts { blank.parts ≡ L.parts }
     requires some { 0 < blank.parts }
 {
     let mut steps = Steps::<L>::new(blank);
-    Ok(match_shape(alloc, pattern, insn, &mut steps)?)
+    match_shape(alloc, pattern, insn, &mut steps)
+}
+
+/// Appends operands, and where a pattern doesn't give the instruction back with them.
+fn show_matched(alloc: Global, tree: &Rtx, insn: &Rtx, operands: &Operands, told: &mut Told) {
+    told.text("matches");
+    show_operands(operands, told);
+    match instantiate(alloc, tree, operands) {
+        Ok(Some(back)) if same(&back, insn) => {}
+        Ok(_) => told.text(" and is not given back"),
+        Err(_) => told.fail(),
+    }
 }
 
 /// Appends the operands with which a pattern matches an instruction, or that it doesn't; and where the pattern doesn't give it back.
-pub fn tell_matched(alloc: Global, input: &[u8], out: &mut Vec<u8>) -> Result<()> {
-    let (first, second) = halves(input)?;
-    let tree = pattern(alloc, &tree_in(alloc, first)?)?;
-    let insn = pattern(alloc, &tree_in(alloc, second)?)?;
-    let Some(operands) = matched::<Brand>(alloc, &tree, &insn, Blank::new(1))? else {
-        return push_shown("none", out);
-    };
-    push_shown("matches", out)?;
-    show_operands(alloc, &operands, out)?;
-    match instantiate(alloc, &tree, &operands)? {
-        Some(back) if same(&back, &insn) => Ok(()),
-        _ => push_shown(" and is not given back", out),
+pub fn tell_matched(alloc: Global, input: &[u8], told: &mut Told) {
+    if let Some((first, second)) = halves(input)
+        && let Some(tree) = pattern_in(alloc, first)
+        && let Some(insn) = pattern_in(alloc, second)
+    {
+        match matched::<Brand>(alloc, &tree, &insn, Blank::new(1)) {
+            Ok(Some(operands)) => show_matched(alloc, &tree, &insn, &operands, told),
+            Ok(None) => told.text("none"),
+            Err(_) => told.fail(),
+        }
+    } else {
+        told.fail();
     }
 }
 
-fn operands_in(alloc: Global, trees: &[Tree]) -> Result<Operands> {
+/// Puts the operand that a tree writes under a number; `-` is a missing one. Whether the tree writes one.
+fn put_operand(alloc: Global, number: u32, tree: &Tree, operands: &mut Operands) -> bool {
+    if is_word(tree, b"-") {
+        return true;
+    }
+    match pattern(alloc, tree) {
+        Some(x) => operands.put(number, x).is_ok(),
+        None => false,
+    }
+}
+
+fn operands_in(alloc: Global, text: &[u8]) -> Option<Operands> {
+    let Some(trees) = trees_in(alloc, text) else {
+        return None;
+    };
     let mut operands = Operands::new(alloc);
     let mut number: u32 = 0;
-    for tree in trees {
-        if !is_word(tree, b"-") {
-            operands.put(number, pattern(alloc, tree)?)?;
+    for tree in trees.as_slice() {
+        if !put_operand(alloc, number, tree, &mut operands) {
+            return None;
         }
         number = number.saturating_add(1);
     }
-    Ok(operands)
+    Some(operands)
 }
 
 /// Appends what a pattern makes of operands, or that it makes nothing.
-pub fn tell_made(alloc: Global, input: &[u8], out: &mut Vec<u8>) -> Result<()> {
-    let (first, second) = halves(input)?;
-    let tree = pattern(alloc, &tree_in(alloc, first)?)?;
-    let operands = operands_in(alloc, trees_in(alloc, second)?.as_slice())?;
-    match instantiate(alloc, &tree, &operands)? {
-        Some(made) => show(alloc, &made, out),
-        None => push_shown("none", out),
+pub fn tell_made(alloc: Global, input: &[u8], told: &mut Told) {
+    if let Some((first, second)) = halves(input)
+        && let Some(tree) = pattern_in(alloc, first)
+        && let Some(operands) = operands_in(alloc, second)
+    {
+        match instantiate(alloc, &tree, &operands) {
+            Ok(Some(made)) => show(&made, told),
+            Ok(None) => told.text("none"),
+            Err(_) => told.fail(),
+        }
+    } else {
+        told.fail();
     }
 }

@@ -2,8 +2,7 @@
 //!
 //! [`equate`] runs each side symbolically and compares the two states over the registers that are live behind: it answers that they
 //! are the same, or the first item in which they differ, or the place of a part that can't be compared, or that a term is too large.
-//! It answers what its definition says, unless memory runs out. Sides that are the same do the same; sides that do the same may
-//! be told apart.
+//! It answers what its definition says, unless memory runs out. Sides that do the same may be told apart.
 #![tactic(auto)]
 
 mod judge;

@@ -6,7 +6,6 @@ use rtl_func::{CheckRefusal, check, reaches_exit, successors};
 use rtx_tree::{Code, Function, Insn, Kind, Mode, Name, Rtx};
 use rv_text::{Line, parse_line, print_line};
 use std::alloc::Global;
-use std::test::Fail;
 
 fn insn(alloc: Global, uid: u32, kind: Kind, pattern: Rtx) -> Insn {
     Insn {
@@ -70,103 +69,157 @@ fn leave(alloc: Global) -> Rtx {
     Rtx::leaf(alloc, Code::Return, Mode::Void, 0)
 }
 
-/// Labels and barriers with a pattern.
-#[test]
-fn patterns_of_marks(rt: HostRuntime) -> Result<(), Fail> {
-    let alloc = rt.alloc();
-    for (kind, want) in [(Kind::Label, 3), (Kind::Barrier, 0)] {
-        let moves = set(alloc, reg(alloc, 10))?;
-        assert_eq!(rt; rule(alloc, kind, leave(alloc))?, want);
-        assert_eq!(rt; rule(alloc, kind, moves)?, want);
-    }
-    Ok(())
+/// Whether a mark with a pattern breaks a rule, whatever the pattern.
+fn breaks(alloc: Global, kind: Kind, want: u8) -> Result<bool, Memory> {
+    let moves = set(alloc, reg(alloc, 10))?;
+    Ok(rule(alloc, kind, leave(alloc))? == want && rule(alloc, kind, moves)? == want)
 }
 
-/// Sources of a set that no text writes: an operator over two parts or one, and a leaf.
+/// Labels and barriers with a pattern.
 #[test]
-fn sources_that_no_text_writes(rt: HostRuntime) -> Result<(), Fail> {
+fn patterns_of_marks(rt: HostRuntime) {
+    assert!(rt; matches!(breaks(rt.alloc(), Kind::Label, 3), Ok(true)));
+    assert!(rt; matches!(breaks(rt.alloc(), Kind::Barrier, 0), Ok(true)));
+}
+
+/// The rule that is told of a set with this source, or 0.
+fn rule_of_source(alloc: Global, source: Rtx) -> Result<u8, Memory> {
+    rule(alloc, Kind::Plain, set(alloc, source)?)
+}
+
+/// The rule that is told of a set whose source is an operator over two parts, or 0.
+fn rule_of_two(alloc: Global, code: Code, a: Rtx, b: Rtx) -> Result<u8, Memory> {
+    rule_of_source(alloc, Rtx::of_two(alloc, code, Mode::DI, a, b)?)
+}
+
+/// The rule that is told of a set whose source is an operand of a pattern, or 0.
+fn rule_of_operand(alloc: Global) -> Result<u8, Memory> {
+    let operand = Rtx::of_one(alloc, Code::MatchOperand, Mode::DI, reg(alloc, 65))?;
+    rule_of_source(alloc, operand)
+}
+
+/// A number.
+fn one(alloc: Global) -> Rtx {
+    Rtx::const_int(alloc, 1)
+}
+
+/// A parallel without parts.
+fn nothing(alloc: Global) -> Rtx {
+    Rtx::of_kids(alloc, Code::Parallel, Mode::Void, Items::new(alloc))
+}
+
+/// Sources of a set that no text writes: an operator over two parts.
+#[test]
+fn operators_that_no_text_writes(rt: HostRuntime) {
     let alloc = rt.alloc();
-    let nothing = Rtx::of_kids(alloc, Code::Parallel, Mode::Void, Items::new(alloc));
-    let empty = Rtx::of_kids(alloc, Code::Parallel, Mode::Void, Items::new(alloc));
-    let mut sources = Items::new(alloc);
-    for (code, a, b) in [
-        (Code::Plus, reg(alloc, 65), nothing),
-        (Code::Lt, Rtx::const_int(alloc, 1), Rtx::const_int(alloc, 1)),
-        (Code::Neg, reg(alloc, 65), Rtx::const_int(alloc, 1)),
-        (Code::Set, reg(alloc, 65), reg(alloc, 65)),
-    ] {
-        sources.push(Rtx::of_two(alloc, code, Mode::DI, a, b)?)?;
-    }
-    sources.push(Rtx::of_one(alloc, Code::MatchOperand, Mode::DI, reg(alloc, 65))?)?;
-    sources.push(reg(alloc, 33))?;
-    sources.push(empty)?;
-    for source in sources.into_vec() {
-        assert_eq!(rt; rule(alloc, Kind::Plain, set(alloc, source)?)?, 4);
-    }
-    Ok(())
+    let x = reg(alloc, 65);
+    assert!(rt; matches!(rule_of_two(alloc, Code::Plus, x, nothing(alloc)), Ok(4)));
+    let x = one(alloc);
+    assert!(rt; matches!(rule_of_two(alloc, Code::Lt, x, one(alloc)), Ok(4)));
+    let x = reg(alloc, 65);
+    assert!(rt; matches!(rule_of_two(alloc, Code::Neg, x, one(alloc)), Ok(4)));
+    let x = reg(alloc, 65);
+    assert!(rt; matches!(rule_of_two(alloc, Code::Set, x, reg(alloc, 65)), Ok(4)));
+}
+
+/// Sources of a set that no text writes: an operator over one part, a register and a leaf.
+#[test]
+fn leaves_that_no_text_writes(rt: HostRuntime) {
+    assert!(rt; matches!(rule_of_operand(rt.alloc()), Ok(4)));
+    let x = reg(rt.alloc(), 33);
+    assert!(rt; matches!(rule_of_source(rt.alloc(), x), Ok(4)));
+    let x = nothing(rt.alloc());
+    assert!(rt; matches!(rule_of_source(rt.alloc(), x), Ok(4)));
+}
+
+fn pc(alloc: Global) -> Rtx {
+    Rtx::leaf(alloc, Code::Pc, Mode::Void, 0)
+}
+
+fn label(alloc: Global, uid: i64) -> Result<Rtx, Memory> {
+    Rtx::of_one(
+        alloc,
+        Code::LabelRef,
+        Mode::Void,
+        Rtx::const_int(alloc, uid),
+    )
+}
+
+/// A jump to one of two places, by a test.
+fn jump(alloc: Global, test: Rtx, holds: Rtx, fails: Rtx) -> Result<Rtx, Memory> {
+    let choice = Rtx::of_three(alloc, Code::IfThenElse, Mode::Void, test, holds, fails)?;
+    Rtx::of_two(alloc, Code::Set, Mode::Void, pc(alloc), choice)
+}
+
+/// A branch to the label 7 that falls through where its condition holds.
+fn other_branch(alloc: Global) -> Result<Function, Memory>
+    ensures { IfOk result (λ f. length f.insns ≡ 1) }
+{
+    let to = label(alloc, 7)?;
+    let pattern = jump(alloc, reg(alloc, 10), pc(alloc), to)?;
+    function(alloc, Kind::Jump, pattern)
 }
 
 /// A branch that falls through where its condition holds leads nowhere.
 #[test]
-fn branches_the_other_way(rt: HostRuntime) -> Result<(), Fail> {
-    let alloc = rt.alloc();
-    let pc = Rtx::leaf(alloc, Code::Pc, Mode::Void, 0);
-    let other = Rtx::leaf(alloc, Code::Pc, Mode::Void, 0);
-    let to = Rtx::of_one(alloc, Code::LabelRef, Mode::Void, Rtx::const_int(alloc, 7))?;
-    let test = reg(alloc, 10);
-    let choice = Rtx::of_three(alloc, Code::IfThenElse, Mode::Void, test, other, to)?;
-    let pattern = Rtx::of_two(alloc, Code::Set, Mode::Void, pc, choice)?;
-    let f = function(alloc, Kind::Jump, pattern)?;
+fn branches_the_other_way(rt: HostRuntime) {
+    let Ok(f) = other_branch(rt.alloc()) else {
+        panic!(rt; "no function");
+    };
     let next = successors(&f, 0);
     assert!(rt; next.first.is_none() && next.second.is_none());
-    Ok(())
 }
 
 /// A branch to the label 5000.
 fn branch(alloc: Global) -> Result<Rtx, Memory> {
     let zero = Rtx::const_int(alloc, 0);
     let test = Rtx::of_two(alloc, Code::Ne, Mode::Void, reg(alloc, 10), zero)?;
-    let to = Rtx::of_one(
-        alloc,
-        Code::LabelRef,
-        Mode::Void,
-        Rtx::const_int(alloc, 5000),
-    )?;
-    let pc = Rtx::leaf(alloc, Code::Pc, Mode::Void, 0);
-    let choice = Rtx::of_three(alloc, Code::IfThenElse, Mode::Void, test, to, pc)?;
-    let target = Rtx::leaf(alloc, Code::Pc, Mode::Void, 0);
-    Rtx::of_two(alloc, Code::Set, Mode::Void, target, choice)
+    let to = label(alloc, 5000)?;
+    jump(alloc, test, to, pc(alloc))
+}
+
+/// 5,000 labels, each with a branch to the last.
+fn long_chain(alloc: Global) -> Result<Function, Memory> {
+    let mut f = function(alloc, Kind::Jump, leave(alloc))?;
+    f.insns = Items::new(alloc);
+    for uid in 1..5_001 {
+        f.insns.push(insn(alloc, uid, Kind::Label, nothing(alloc)))?;
+        f.insns
+            .push(insn(alloc, uid + 20_000, Kind::Jump, branch(alloc)?))?;
+    }
+    Ok(f)
+}
+
+/// Whether the exit of a long function is reached.
+fn is_left(alloc: Global, f: &Function) -> bool {
+    f.insns.len() < 100_000 && matches!(reaches_exit(alloc, f), Ok(true))
 }
 
 /// 5,000 labels, each with a branch to the last: a label is looked up at once.
 #[test]
-fn long_chains(rt: HostRuntime) -> Result<(), Fail> {
-    let alloc = rt.alloc();
-    let mut f = function(alloc, Kind::Jump, leave(alloc))?;
-    f.insns = Items::new(alloc);
-    for uid in 1..5_001 {
-        let nothing = Rtx::of_kids(alloc, Code::Parallel, Mode::Void, Items::new(alloc));
-        f.insns.push(insn(alloc, uid, Kind::Label, nothing))?;
-        f.insns
-            .push(insn(alloc, uid + 20_000, Kind::Jump, branch(alloc)?))?;
-    }
-    if f.insns.len() < 100_000 {
-        assert!(rt; reaches_exit(alloc, &f)?);
-    }
-    assert_eq!(rt; rule_of(alloc, f)?, 0);
-    Ok(())
+fn long_chains(rt: HostRuntime) {
+    let Ok(f) = long_chain(rt.alloc()) else {
+        panic!(rt; "no function");
+    };
+    assert!(rt; is_left(rt.alloc(), &f));
+    assert!(rt; matches!(rule_of(rt.alloc(), f), Ok(0)));
 }
 
 /// A line with a register that its mnemonic doesn't have.
+fn spoilt_line(alloc: Global) -> Option<Line> {
+    match parse_line(alloc, b"sd s1,-8(sp)") {
+        Ok(Some(line)) => Some(Line { rd: 1, ..line }),
+        _ => None,
+    }
+}
+
 #[test]
-fn spoilt_lines(rt: HostRuntime) -> Result<(), Fail> {
-    let Some(line) = parse_line(rt.alloc(), b"sd s1,-8(sp)")? else {
+fn spoilt_lines(rt: HostRuntime) {
+    let Some(spoilt) = spoilt_line(rt.alloc()) else {
         panic!(rt; "no line");
     };
-    let spoilt = Line { rd: 1, ..line };
     assert!(rt; spoilt.action().is_none());
     let mut out = Vec::new(rt.alloc());
-    print_line(rt.alloc(), &spoilt, &mut out)?;
+    assert!(rt; print_line(rt.alloc(), &spoilt, &mut out).is_ok());
     assert!(rt; out.is_empty());
-    Ok(())
 }

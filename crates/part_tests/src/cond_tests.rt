@@ -2,10 +2,9 @@
 use c_cond::{CondHead, Unary, parse_cond};
 use c_eval::{Facts, Reading, eval, read};
 use md_pred::PredTable;
-use plain_data::Items;
+use plain_data::{Items, Memory};
 use rtx_tree::{Code, Mode, Operands, RegSet, Rtx};
 use std::alloc::Global;
-use std::test::Fail;
 
 fn facts(alloc: Global) -> Facts {
     Facts {
@@ -15,48 +14,70 @@ fn facts(alloc: Global) -> Facts {
     }
 }
 
+/// What is read of a row of heads, where no operand and no predicate is known.
+fn reading(alloc: Global, heads: &[CondHead]) -> Result<Reading, Memory> {
+    let preds = PredTable::of(alloc, &Items::new(alloc))?;
+    Ok(read(heads, &facts(alloc), &Operands::new(alloc), &preds))
+}
+
+/// What is read of a row of two numbers and a head.
+fn last(alloc: Global, head: CondHead) -> Result<Reading, Memory> {
+    reading(alloc, &[CondHead::Number(1), CondHead::Number(0), head])
+}
+
 /// The last tree of a row is read.
 #[test]
-fn the_last_tree_of_heads(rt: HostRuntime) -> Result<(), Fail> {
+fn the_last_tree_of_heads(rt: HostRuntime) {
     let alloc = rt.alloc();
-    let operands = Operands::new(alloc);
-    let facts = facts(alloc);
-    let preds = PredTable::of(alloc, &Items::new(alloc))?;
-    let nothing: [CondHead; 0] = [];
-    assert_eq!(rt; read(&nothing, &facts, &operands, &preds), Reading::Nothing);
-    let mut heads = [
-        CondHead::Number(1),
-        CondHead::Number(0),
-        CondHead::Unary(Unary::Not),
-    ];
-    assert_eq!(rt; read(&heads, &facts, &operands, &preds), Reading::Number(1));
-    for (head, want) in [
-        (CondHead::Operand(3), Reading::Operand(3)),
-        (CondHead::Mode(Mode::SI), Reading::Mode(Mode::SI)),
-        (CondHead::Window(2), Reading::Window(2)),
-        (CondHead::Done, Reading::Nothing),
-        (CondHead::Choose, Reading::Nothing),
-    ] {
-        heads[2] = head;
-        assert_eq!(rt; read(&heads, &facts, &operands, &preds), want);
+    assert!(rt; matches!(reading(alloc, &[]), Ok(Reading::Nothing)));
+    assert!(rt;
+        matches!(
+            last(alloc, CondHead::Unary(Unary::Not)),
+            Ok(Reading::Number(1))
+        )
+    );
+    assert!(rt; matches!(last(alloc, CondHead::Operand(3)), Ok(Reading::Operand(3))));
+    assert!(rt;
+        matches!(
+            last(alloc, CondHead::Mode(Mode::SI)),
+            Ok(Reading::Mode(Mode::SI))
+        )
+    );
+    assert!(rt; matches!(last(alloc, CondHead::Window(2)), Ok(Reading::Window(2))));
+    assert!(rt; matches!(last(alloc, CondHead::Done), Ok(Reading::Nothing)));
+    assert!(rt; matches!(last(alloc, CondHead::Choose), Ok(Reading::Nothing)));
+}
+
+/// An operand that is a register without a number of one.
+fn no_register(alloc: Global) -> Result<Operands, Memory> {
+    let mut operands = Operands::new(alloc);
+    operands.put(0, Rtx::leaf(alloc, Code::Reg, Mode::DI, 4_294_967_306))?;
+    Ok(operands)
+}
+
+/// A window with one place, at which nothing is dead.
+fn window(alloc: Global) -> Result<Facts, Memory> {
+    let mut facts = facts(alloc);
+    facts.dead.push(RegSet::new(alloc))?;
+    Ok(facts)
+}
+
+/// What it is worth that an operand that is a register without a number of one is not dead.
+fn worth(alloc: Global) -> Option<i64> {
+    let constants = Items::new(alloc);
+    if let Ok(cond) = parse_cond(alloc, b"!peep2_reg_dead_p (0, operands[0])", &constants)
+        && let Ok(preds) = PredTable::of(alloc, &Items::new(alloc))
+        && let Ok(operands) = no_register(alloc)
+        && let Ok(facts) = window(alloc)
+    {
+        Some(eval(&cond, &facts, &operands, &preds))
+    } else {
+        None
     }
-    Ok(())
 }
 
 /// An operand that is a register without a number of one is not known to be dead.
 #[test]
-fn registers_that_are_none(rt: HostRuntime) -> Result<(), Fail> {
-    let alloc = rt.alloc();
-    let mut operands = Operands::new(alloc);
-    operands.put(0, Rtx::leaf(alloc, Code::Reg, Mode::DI, 4_294_967_306))?;
-    let mut facts = facts(alloc);
-    facts.dead.push(RegSet::new(alloc))?;
-    let preds = PredTable::of(alloc, &Items::new(alloc))?;
-    let cond = parse_cond(
-        alloc,
-        b"!peep2_reg_dead_p (0, operands[0])",
-        &Items::new(alloc),
-    )?;
-    assert_eq!(rt; eval(&cond, &facts, &operands, &preds), 0);
-    Ok(())
+fn registers_that_are_none(rt: HostRuntime) {
+    assert!(rt; matches!(worth(rt.alloc()), Some(0)));
 }

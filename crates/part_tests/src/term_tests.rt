@@ -3,7 +3,6 @@ use bits64::Width;
 use plain_data::{Items, Memory};
 use rtx_tree::Name;
 use std::alloc::Global;
-use std::test::Fail;
 use sym_term::{SymStores, TermRefusal, norm};
 use term_cases::register_term;
 use term_tree::{Head, Term, size};
@@ -41,48 +40,58 @@ fn normal_size(alloc: Global, t: &Term, stores: &SymStores) -> Result<u64, TermR
     Ok(size(&norm(alloc, t, stores)?))
 }
 
+// Whether the normal form of a term has 1,048,577 nodes, which is too many.
+fn is_too_large(alloc: Global, t: &Term) -> bool {
+    matches!(
+        normal_size(alloc, t, &Items::new(alloc)),
+        Err(TermRefusal::Size { size: 1_048_577 })
+    )
+}
+
+// Whether a term is its own normal form, with 1,048,575 nodes.
+fn is_within(alloc: Global, t: &Term) -> bool {
+    matches!(normal_size(alloc, t, &Items::new(alloc)), Ok(1_048_575))
+}
+
 // The upper half of a product is not flattened.
 #[test]
-fn doubled_upper_halves(rt: HostRuntime) -> Result<(), Fail> {
-    let none = Items::new(rt.alloc());
-    let half = doubled_often(rt.alloc(), Head::Mulhu, 19)?;
-    assert!(rt; matches!(normal_size(rt.alloc(), &half, &none), Ok(1_048_575)));
-    let whole = doubled(rt.alloc(), Head::Mulhu, half)?;
-    assert!(rt;
-        matches!(
-            normal_size(rt.alloc(), &whole, &none),
-            Err(TermRefusal::Size { size: 1_048_577 })
-        )
-    );
-    Ok(())
+fn doubled_upper_halves(rt: HostRuntime) {
+    let Ok(half) = doubled_often(rt.alloc(), Head::Mulhu, 19) else {
+        panic!(rt; "out of memory");
+    };
+    assert!(rt; is_within(rt.alloc(), &half));
+    let Ok(whole) = doubled(rt.alloc(), Head::Mulhu, half) else {
+        panic!(rt; "out of memory");
+    };
+    assert!(rt; is_too_large(rt.alloc(), &whole));
 }
 
 // The product of a normal form with itself and a0: 2 t + 1 factors where there were t.
-fn doubled_and_one(alloc: Global, t: Term, stores: &SymStores) -> Result<Term, TermRefusal> {
+fn doubled_and_one(alloc: Global, t: Term) -> Result<Term, TermRefusal> {
     let square = doubled(alloc, Head::Mul, t)?;
-    norm(
-        alloc,
-        &two_parts(alloc, Head::Mul, square, register_term(alloc, 10))?,
-        stores,
-    )
+    let more = two_parts(alloc, Head::Mul, square, register_term(alloc, 10))?;
+    norm(alloc, &more, &Items::new(alloc))
+}
+
+// The normal form after 19 such steps.
+fn stepped(alloc: Global) -> Result<Term, TermRefusal> {
+    let mut t = register_term(alloc, 10);
+    for _ in 0..19 {
+        t = doubled_and_one(alloc, t)?;
+    }
+    Ok(t)
 }
 
 // One step after the other, as lines of code multiply a register by itself: 1,048,575 factors are just few enough, and
 // one more is too many.
 #[test]
-fn step_by_step(rt: HostRuntime) -> Result<(), Fail> {
-    let none = Items::new(rt.alloc());
-    let mut t = register_term(rt.alloc(), 10);
-    for _ in 0..19 {
-        t = doubled_and_one(rt.alloc(), t, &none)?;
-    }
+fn step_by_step(rt: HostRuntime) {
+    let Ok(t) = stepped(rt.alloc()) else {
+        panic!(rt; "no normal form");
+    };
     assert!(rt; size(&t) == 1_048_576);
-    let more = two_parts(rt.alloc(), Head::Mul, t, register_term(rt.alloc(), 10))?;
-    assert!(rt;
-        matches!(
-            normal_size(rt.alloc(), &more, &none),
-            Err(TermRefusal::Size { size: 1_048_577 })
-        )
-    );
-    Ok(())
+    let Ok(more) = two_parts(rt.alloc(), Head::Mul, t, register_term(rt.alloc(), 10)) else {
+        panic!(rt; "out of memory");
+    };
+    assert!(rt; is_too_large(rt.alloc(), &more));
 }

@@ -4,10 +4,10 @@
 
 mod tables;
 
-use anyhow::{Result, bail};
-use byte_edge::{DiskFiles, FetchFault, Files, Sink, StdSink, write_all_of};
+use anyhow::{Result, ensure};
+use byte_edge::{DiskFiles, Files, Sink, StdSink, write_all_of};
 use case_runs::judge_runs;
-use case_text::{Report, is_table};
+use case_text::{Report, Told, is_table};
 use std::alloc::Global;
 use std::{env, str};
 use tables::judge_tables;
@@ -23,40 +23,49 @@ struct Counts {
 }
 
 /// The report on a file of cases.
-fn judged(alloc: Global, text: &str) -> Result<Report> {
+fn judged(alloc: Global, text: &str) -> Report {
     let mut report = Report::new(alloc);
     if is_table(text) {
-        judge_tables(alloc, text, &mut report)?;
+        judge_tables(alloc, text, &mut report);
     } else {
-        judge_runs(alloc, text, &mut report)?;
+        judge_runs(alloc, text, &mut report);
     }
-    Ok(report)
+    report
 }
 
-/// Writes text.
-fn write<K: Sink>(output: &mut K, text: &[u8]) -> Result<()> {
-    Ok(write_all_of(output, text)?)
+/// Appends how many cases are right, behind a name.
+fn show_counts(name: &str, counts: &Counts, told: &mut Told) {
+    told.text(name);
+    told.text(": ");
+    told.show(counts.right);
+    told.text(" of ");
+    told.show(counts.cases);
+    told.text(" right\n");
 }
 
-/// Tries the cases of a file, writes what is told of them, and counts them.
-fn judge_file<F: Files, K: Sink>(
+/// Tries the cases of a file, counts them, and gives what is told of them.
+fn judge_file<F: Files>(
     alloc: Global,
     files: &mut F,
-    output: &mut K,
     name: &str,
     counts: &mut Counts,
-) -> Result<()> {
+) -> Result<Told> {
     let mut bytes = Vec::new(alloc);
     files.fetch(name.as_bytes(), ROOM, &mut bytes)?;
-    let report = judged(alloc, str::from_utf8(&bytes)?)?;
-    let (right, cases) = (report.right(), report.cases());
-    counts.right = counts.right.saturating_add(right);
-    counts.cases = counts.cases.saturating_add(cases);
-    write(
-        output,
-        format!(in alloc; "{name}: {right} of {cases} right\n")?.as_bytes(),
-    )?;
-    write(output, report.wrong())
+    let report = judged(alloc, str::from_utf8(&bytes)?);
+    let found = Counts {
+        cases: report.cases(),
+        right: report.right(),
+    };
+    counts.right = counts.right.saturating_add(found.right);
+    counts.cases = counts.cases.saturating_add(found.cases);
+    let mut told = Told::new(alloc);
+    show_counts(name, &found, &mut told);
+    match report.wrong() {
+        Some(wrong) => told.push(&wrong),
+        None => told.fail(),
+    }
+    Ok(told)
 }
 
 fn main(rt: HostRuntime) -> Result<()> {
@@ -65,11 +74,12 @@ fn main(rt: HostRuntime) -> Result<()> {
     let mut output = StdSink::new(rt.stdout());
     let mut counts = Counts { cases: 0, right: 0 };
     for name in env::args(&rt)?.skip(1) {
-        judge_file(alloc, &mut files, &mut output, &name, &mut counts)?;
+        let told = judge_file(alloc, &mut files, &name, &mut counts)?;
+        ensure!(told.is_whole(), "out of memory");
+        write_all_of(&mut output, &told.out)?;
     }
-    let Counts { cases, right } = counts;
-    write(
-        &mut output,
-        format!(in alloc; "all: {right} of {cases} right\n")?.as_bytes(),
-    )
+    let mut told = Told::new(alloc);
+    show_counts("all", &counts, &mut told);
+    write_all_of(&mut output, &told.out)?;
+    Ok(())
 }

@@ -1,36 +1,32 @@
 //! Tables of cases.
-use anyhow::{Result, bail};
-use case_text::{Report, Table, push_bytes, push_shown, push_word};
+use case_text::{Report, Table, Told, push_bytes, push_shown, push_word};
 use std::alloc::Global;
 
-/// The reason for which a row is refused whose text has a backquote that begins no escape.
-const UNREAD: &str = "a backquote that begins no escape";
-
-/// What the table answers to an input, as it is shown.
-fn shown_answer(alloc: Global, table: &Table, input: &str) -> Result<Vec<u8>> {
-    let mut given = Vec::new(alloc);
-    let mut bytes = Vec::new(alloc);
-    if !push_bytes(table.given(), &mut given)? || !push_word(input, &mut bytes)? {
-        bail!("{UNREAD}")
-    }
-    let came = match base_cases::answer(alloc, table.name(), &bytes)? {
-        Some(came) => came,
-        None => case_tables::answer(alloc, table.name(), &given, &bytes)?,
-    };
-    let mut shown = Vec::new(alloc);
-    push_shown(&came, false, &mut shown)?;
-    Ok(shown)
+/// The bytes that a row stands for.
+#[derive(Drop)]
+struct Row {
+    /// What is given to its table.
+    given: Told,
+    input: Told,
+    wanted: Told,
 }
 
-/// What is wanted, as it is shown.
-fn shown_wanted(alloc: Global, wanted: &str) -> Result<Vec<u8>> {
-    let mut bytes = Vec::new(alloc);
-    if !push_word(wanted, &mut bytes)? {
-        bail!("{UNREAD}")
-    }
-    let mut shown = Vec::new(alloc);
-    push_shown(&bytes, false, &mut shown)?;
-    Ok(shown)
+/// The bytes of a row, unless it has a backquote that begins no escape.
+fn row_of(alloc: Global, table: &Table, input: &str, wanted: &str) -> Option<Row> {
+    let mut row = Row {
+        given: Told::new(alloc),
+        input: Told::new(alloc),
+        wanted: Told::new(alloc),
+    };
+    let is_read = push_word(wanted, &mut row.wanted)
+        && push_bytes(table.given(), &mut row.given)
+        && push_word(input, &mut row.input);
+    if is_read { Some(row) } else { None }
+}
+
+/// Whether all of a row was read.
+fn is_whole(row: &Row) -> bool {
+    row.given.is_whole() && row.input.is_whole() && row.wanted.is_whole()
 }
 
 /// The input and what is wanted, of which either may be empty.
@@ -47,37 +43,83 @@ fn sides_of(row: &str) -> Option<(&str, &str)> {
     }
 }
 
-/// Tries a row.
-fn try_row(alloc: Global, table: &Table, report: &mut Report) -> Result<()> {
-    let row = table.row();
-    let Some((input, wanted)) = sides_of(row) else {
-        bail!("no row of a table")
-    };
-    let wanted = shown_wanted(alloc, wanted.trim())?;
-    let came = shown_answer(alloc, table, input.trim())?;
-    let title = format!(in alloc; "{}: {}", table.name(), input.trim())?;
-    Ok(report.judge(title.as_bytes(), &wanted, &came)?)
+/// Bytes as they are shown.
+fn shown(alloc: Global, bytes: &[u8]) -> Told {
+    let mut text = Told::new(alloc);
+    push_shown(bytes, false, &mut text);
+    text
+}
+
+/// Counts a row, which is right where what is told is what is wanted.
+fn judge_told(alloc: Global, title: &[u8], wanted: &[u8], told: &Told, report: &mut Report) {
+    let wanted = shown(alloc, wanted);
+    let came = shown(alloc, &told.out);
+    if told.is_whole() && wanted.is_whole() && came.is_whole() {
+        report.judge(title, &wanted.out, &came.out);
+    } else {
+        report.refuse(title, b"what is given or the input can't be read");
+    }
+}
+
+/// The text of two texts.
+fn joined(alloc: Global, first: &str, second: &str) -> Told {
+    let mut text = Told::new(alloc);
+    text.text(first);
+    text.text(second);
+    text
+}
+
+/// Tells what comes of an input of the table of that name, with what was given to it. Whether there is such a table.
+fn answer(alloc: Global, table: &str, given: &[u8], input: &[u8], told: &mut Told) -> bool {
+    base_cases::answer(alloc, table, input, told)
+        || text_cases::answer(alloc, table, input, told)
+        || cond_cases::answer(alloc, table, given, input, told)
+        || desc_cases::answer(alloc, table, given, input, told)
+        || code_cases::answer(alloc, table, given, input, told)
+        || term_cases::answer(alloc, table, given, input, told)
+}
+
+/// Tries a row whose bytes are read.
+fn try_row(alloc: Global, table: &Table, title: &[u8], row: &Row, report: &mut Report) {
+    let name = table.name();
+    let mut told = Told::new(alloc);
+    if answer(alloc, name, &row.given.out, &row.input.out, &mut told) {
+        told.need(is_whole(row));
+        judge_told(alloc, title, &row.wanted.out, &told, report);
+    } else {
+        let reason = joined(alloc, "no table ", name);
+        report.refuse(table.row().as_bytes(), &reason.out);
+    }
 }
 
 /// Tries a row, and counts it where it can't be tried as well.
-fn judge_row(alloc: Global, table: &Table, report: &mut Report) -> Result<()> {
-    if let Err(error) = try_row(alloc, table, report) {
-        let reason = format!(in alloc; "{error}")?;
-        report.refuse(table.row().as_bytes(), reason.as_bytes())?;
+fn judge_row(alloc: Global, table: &Table, report: &mut Report) {
+    let text = table.row();
+    let Some((input, wanted)) = sides_of(text) else {
+        return report.refuse(text.as_bytes(), b"no row of a table");
+    };
+    let input = input.trim();
+    match row_of(alloc, table, input, wanted.trim()) {
+        Some(row) => {
+            let mut title = joined(alloc, table.name(), ": ");
+            title.text(input);
+            try_row(alloc, table, &title.out, &row, report);
+        }
+        None => report.refuse(text.as_bytes(), b"a backquote that begins no escape"),
     }
-    Ok(())
 }
 
 /// Tries each row of a file of tables, and puts it to the report.
-pub fn judge_tables(alloc: Global, text: &str, report: &mut Report) -> Result<()> {
+pub fn judge_tables(alloc: Global, text: &str, report: &mut Report) {
     let mut table = Table::new(alloc);
     for line in text.lines() {
-        if table.read_line(line)? {
-            judge_row(alloc, &table, report)?;
+        match table.read_line(line) {
+            Ok(true) => judge_row(alloc, &table, report),
+            Ok(false) => {}
+            Err(_) => report.refuse(line.as_bytes(), b"out of memory"),
         }
     }
     if table.is_open() {
-        report.refuse(table.row().as_bytes(), b"it does not end")?;
+        report.refuse(table.row().as_bytes(), b"it does not end");
     }
-    Ok(())
 }

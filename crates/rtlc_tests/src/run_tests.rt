@@ -1,125 +1,114 @@
 //! Runs at the limits, of which the input is generated, and outcomes that no run meets.
-use byte_edge::{ByteFiles, ByteSink, ByteSource, QuietFiles};
+use byte_edge::{ByteFiles, ByteSink, ByteSource, Files, QuietFiles};
+use case_text::Told;
 use code_eval::{code_ending, print_line, rtl_ending};
 use func_mean::Outcome;
 use plain_data::{Items, Memory};
 use rtlc_run::run;
 use rv_line::CodeOutcome;
 use std::alloc::Global;
-use std::process::Abort;
-use std::test::Fail;
 
-/// The status of a run of `asm` on a text, and the line of its refusal.
-fn assembled(alloc: Global, text: &[u8]) -> Result<(u8, ByteSink), Memory> {
-    let mut files = QuietFiles::new(alloc);
+/// The status of a run, and the line of its refusal.
+fn ran<F: Files>(
+    alloc: Global,
+    words: &[&str],
+    files: &mut F,
+    text: &[u8],
+) -> Result<(u8, ByteSink), Memory> {
     let mut input = ByteSource::new(alloc, text, &[])?;
     let mut output = ByteSink::new(alloc, 1_000_000, 4096, &[])?;
     let mut errors = ByteSink::new(alloc, 1000, 1000, &[])?;
-    let status = run(
-        alloc,
-        &["asm"],
-        &mut files,
-        &mut input,
-        &mut output,
-        &mut errors,
-    );
+    let status = run(alloc, words, files, &mut input, &mut output, &mut errors);
     Ok((status, errors))
 }
 
-/// The status of a run of `list` on a description, and the line of its refusal.
-fn listed(alloc: Global, text: &[u8]) -> Result<(u8, ByteSink), Memory> {
+/// Whether a run ended with this status, and this line.
+fn is_ended(ran: &Result<(u8, ByteSink), Memory>, status: u8, line: &str) -> bool {
+    match ran {
+        Ok((got, errors)) => *got == status && errors.taken() == line.as_bytes(),
+        Err(_) => false,
+    }
+}
+
+/// Whether a run of `asm` on a text ends with this status, and this line.
+fn is_assembled(alloc: Global, text: &[u8], status: u8, line: &str) -> bool {
+    let mut files = QuietFiles::new(alloc);
+    is_ended(&ran(alloc, &["asm"], &mut files, text), status, line)
+}
+
+/// The file `d`.
+fn files_of(alloc: Global, text: &[u8]) -> Result<ByteFiles, Memory> {
     let mut files = ByteFiles::new(alloc, &[])?;
     files.put_file(b"d", text)?;
-    let mut input = ByteSource::new(alloc, b"", &[])?;
-    let mut output = ByteSink::new(alloc, 1_000_000, 4096, &[])?;
-    let mut errors = ByteSink::new(alloc, 1000, 1000, &[])?;
-    let status = run(
-        alloc,
-        &["list", "--md", "d"],
-        &mut files,
-        &mut input,
-        &mut output,
-        &mut errors,
-    );
-    Ok((status, errors))
+    Ok(files)
 }
 
-/// A run ended with this status, and this line.
-fn ended(rt: &impl Abort, ran: &(u8, ByteSink), status: u8, line: &[u8]) {
-    assert_eq!(rt; ran.1.taken(), line);
-    assert_eq!(rt; ran.0, status);
+/// Whether a run of `list` on a description ends with this status, and this line.
+fn is_listed(alloc: Global, text: &[u8], status: u8, line: &str) -> bool {
+    let Ok(mut files) = files_of(alloc, text) else {
+        return false;
+    };
+    is_ended(
+        &ran(alloc, &["list", "--md", "d"], &mut files, b""),
+        status,
+        line,
+    )
 }
 
-/// So many times the same bytes.
-fn repeated(alloc: Global, bytes: &[u8], count: usize) -> Result<Vec<u8>, Memory> {
-    let mut text = Vec::new(alloc);
+/// So many times the same text.
+fn repeated(alloc: Global, text: &str, count: u32) -> Told {
+    let mut whole = Told::new(alloc);
     for _ in 0..count {
-        text.extend_from_slice(bytes)?;
+        whole.text(text);
     }
-    Ok(text)
+    whole
 }
 
 #[test]
-fn the_greatest_text_is_read(rt: HostRuntime) -> Result<(), Fail> {
-    let alloc = rt.alloc();
-    let mut blanks = vec![in alloc; b' '; 16_777_216]?;
-    ended(&rt, &assembled(alloc, &blanks)?, 0, b"");
-    blanks.push(b' ')?;
-    ended(
-        &rt,
-        &assembled(alloc, &blanks)?,
-        2,
-        b"rtlc: limit Text: 16777217\n",
-    );
-    Ok(())
+fn the_greatest_text_is_read(rt: HostRuntime) {
+    let mut text = repeated(rt.alloc(), "                ", 1_048_576);
+    assert!(rt; is_assembled(rt.alloc(), &text.out, 0, ""));
+    text.text(" ");
+    assert!(rt; text.out.len() == 16_777_217);
+    assert!(rt; is_assembled(rt.alloc(), &text.out, 2, "rtlc: limit Text: 16777217\n"));
 }
 
 #[test]
-fn a_description_has_so_many_forms(rt: HostRuntime) -> Result<(), Fail> {
-    let alloc = rt.alloc();
-    let most = repeated(alloc, b"(x)", 20_000)?;
-    ended(&rt, &listed(alloc, &most)?, 0, b"");
-    let more = repeated(alloc, b"(x)", 20_001)?;
-    ended(
-        &rt,
-        &listed(alloc, &more)?,
-        2,
-        b"rtlc: limit Forms: 20001\n",
-    );
-    Ok(())
+fn a_description_has_so_many_forms(rt: HostRuntime) {
+    let mut text = repeated(rt.alloc(), "(x)", 20_000);
+    assert!(rt; is_listed(rt.alloc(), &text.out, 0, ""));
+    text.text("(x)");
+    assert!(rt; text.is_whole());
+    assert!(rt; is_listed(rt.alloc(), &text.out, 2, "rtlc: limit Forms: 20001\n"));
 }
 
 /// A function of so many instructions, each of its own number.
-fn long_function(alloc: Global, count: u32) -> Result<Vec<u8>, Memory> {
-    let mut text = Vec::new(alloc);
-    text.extend_from_slice(b"(function \"i\" (insn-chain ")?;
+fn long_function(alloc: Global, count: u32) -> Told {
+    let mut text = Told::new(alloc);
+    text.text("(function \"i\" (insn-chain ");
     for uid in 1..=count {
-        let insn = format!(in alloc; "(cinsn {uid} (set (reg:DI a0) (reg:DI a0)))")?;
-        text.extend_from_slice(insn.as_bytes())?;
+        text.text("(cinsn ");
+        text.show(uid);
+        text.text(" (set (reg:DI a0) (reg:DI a0)))");
     }
-    text.extend_from_slice(b"))")?;
-    Ok(text)
+    text.text("))");
+    text
+}
+
+/// Whether a function of so many instructions is assembled with this status, and this line.
+fn is_long(alloc: Global, count: u32, status: u8, line: &str) -> bool {
+    let text = long_function(alloc, count);
+    text.is_whole() && is_assembled(alloc, &text.out, status, line)
 }
 
 #[test]
-fn a_function_has_so_many_instructions(rt: HostRuntime) -> Result<(), Fail> {
-    let alloc = rt.alloc();
-    let most = long_function(alloc, 10_000)?;
-    ended(&rt, &assembled(alloc, &most)?, 0, b"");
-    let more = long_function(alloc, 10_001)?;
-    ended(
-        &rt,
-        &assembled(alloc, &more)?,
-        2,
-        b"rtlc: limit Instructions: 10001\n",
-    );
-    Ok(())
+fn a_function_has_so_many_instructions(rt: HostRuntime) {
+    assert!(rt; is_long(rt.alloc(), 10_000, 0, ""));
+    assert!(rt; is_long(rt.alloc(), 10_001, 2, "rtlc: limit Instructions: 10001\n"));
 }
 
-/// Outcomes that `eval` never meets, since its world has a reply for each line that is run.
-#[test]
-fn calls_without_a_reply_are_told(rt: HostRuntime) -> Result<(), Fail> {
-    let alloc = rt.alloc();
+/// What is told of a function that asks a call, and of lines that do.
+fn told_of_asking(alloc: Global) -> Result<Vec<u8>, Memory> {
     let rtl = Outcome::Asked {
         calls: Items::new(alloc),
     };
@@ -129,9 +118,14 @@ fn calls_without_a_reply_are_told(rt: HostRuntime) -> Result<(), Fail> {
     let mut text = Vec::new(alloc);
     print_line(b"rtl", rtl_ending(&rtl), &mut text)?;
     print_line(b"code", code_ending(None, &code), &mut text)?;
-    assert_eq!(rt;
-        text.as_slice(),
-        b"rtl: asked, calls 0\ncode: asked, calls 0\n".as_slice()
-    );
-    Ok(())
+    Ok(text)
+}
+
+/// Outcomes that `eval` never meets, since its world has a reply for each line that is run.
+#[test]
+fn calls_without_a_reply_are_told(rt: HostRuntime) {
+    let Ok(text) = told_of_asking(rt.alloc()) else {
+        panic!(rt; "out of memory");
+    };
+    assert!(rt; text.as_slice() == b"rtl: asked, calls 0\ncode: asked, calls 0\n".as_slice());
 }

@@ -1,9 +1,9 @@
 -- What an instruction does to a symbolic state: GCC Internals, "Side Effect Expressions". All terms
 -- are made by the state before it; then all effects are made.
-use Rattle.std.specs.Prelude.{ℕ, ◌<◌, ◌^◌, nat_lt, if◌then◌else◌, List, [], ◌∷◌, ◌++◌, map, Option, Some, None, option_and_then}
+use Rattle.std.specs.Prelude.{ℕ, ◌^◌, nat_lt, if◌then◌else◌, List, [], ◌∷◌, ◌++◌, map, Option, Some, None, option_and_then}
 use Rattle.bits64.specs.declared.Width.{Width}
 use Rattle.bits64.specs.declared.Width.TheVariants.{W8, W64}
-use Rattle.rtx_tree.specs.Patterns.{is_pc, label_of}
+use Rattle.rtx_tree.specs.Patterns.{label_of}
 use Rattle.rtx_tree.specs.declared.code.Code.{Code}
 use Rattle.rtx_tree.specs.declared.code.Code.TheVariants.{Mem, Scratch, Set, Use, Clobber, Parallel, IfThenElse}
 use Rattle.rtx_tree.specs.declared.code.Mode.{Mode}
@@ -15,7 +15,7 @@ use Rattle.rtl_step.specs.Call.{target_of, call_part}
 use Rattle.term_tree.specs.Tree.{Tree}
 use Rattle.term_mean.specs.Stores.{Store}
 use Rattle.term_mean.specs.Sums.{constant}
-use Rattle.sym_state.specs.State.{Changed, Need, Lost, Access, Jump, Arg, Call, State, nothing, needs_at}
+use Rattle.sym_state.specs.State.{Changed, Need, Lost, Access, Arg, State, nothing, needs_at}
 use Rattle.sym_state.specs.Registers.{put, left_by_call, read, read_needs}
 use Rattle.sym_insns.specs.Value.{Made, made_of}
 
@@ -51,8 +51,10 @@ set_memory address source w = record {
 }
 
 abbrev pub set_place : Option Rtx → List Changed → List Store → Rtx → Rtx → Width → Effected
-set_place None regs stores place source w = set_register (register_of place) (made_of regs stores source w)
-set_place (Some address) regs stores place source w = set_memory (made_of regs stores address W64) (made_of regs stores source w) w
+set_place None regs stores place source w =
+    set_register (register_of place) (made_of regs stores source w)
+set_place (Some address) regs stores place source w =
+    set_memory (made_of regs stores address W64) (made_of regs stores source w) w
 
 abbrev pub set_in : Option Width → List Changed → List Store → Rtx → Rtx → Effected
 set_in None regs stores place source = no_effect
@@ -60,7 +62,8 @@ set_in (Some w) regs stores place source = set_place (address_of place) regs sto
 
 -- (set PLACE SOURCE)
 abbrev pub set_effect : List Changed → List Store → Rtx → Rtx → Effected
-set_effect regs stores place source = set_in (width_of (out-Rtx place).mode) regs stores place source
+set_effect regs stores place source =
+    set_in (width_of (out-Rtx place).mode) regs stores place source
 
 abbrev pub unset : Option ℕ → Effected
 unset None = no_effect
@@ -141,7 +144,8 @@ always = record { term = constant W8 1; needs = [] }
 
 -- what the pc is set to: (if_then_else TEST (label_ref UID) (pc)), or (label_ref UID)
 abbrev pub jump_by : Code → List Rtx → Rtx → ℕ → State → State
-jump_by IfThenElse (test ∷ label ∷ other ∷ []) source index s = jumps index (made_of s.regs s.stores test W8) label s
+jump_by IfThenElse (test ∷ label ∷ other ∷ []) source index s =
+    jumps index (made_of s.regs s.stores test W8) label s
 jump_by _ parts source index s = jumps index always source s
 
 abbrev pub jump_source : List Rtx → Rtx → Rtx
@@ -150,7 +154,9 @@ jump_source parts x = x
 
 -- (set (pc) SOURCE)
 abbrev pub after_jump : ℕ → Rtx → State → State
-after_jump index x s = let source = jump_source (out-Rtx x).kids x in jump_by (out-Rtx source).code (out-Rtx source).kids source index s
+after_jump index x s =
+    let source = jump_source (out-Rtx x).kids x in
+    jump_by (out-Rtx source).code (out-Rtx source).kids source index s
 
 -- ---- calls ("Calls"; RISC-V ELF psABI, "Integer Calling Convention")
 
@@ -162,25 +168,30 @@ result_by _ parts = None
 abbrev pub result_mode : Rtx → Option Mode
 result_mode x = result_by (out-Rtx x).code (out-Rtx x).kids
 
+-- what there is not needs what nothing meets
+abbrev pub missing : Made
+missing = record { term = nothing; needs = Lost 0 W64 ∷ [] }
+
 abbrev pub made_target : List Changed → List Store → Option Rtx → Made
-made_target regs stores None = record { term = nothing; needs = Lost 0 W64 ∷ [] }
+made_target regs stores None = missing
 made_target regs stores (Some x) = made_of regs stores x W64
 
 -- an argument in its mode, without which it has no value
 abbrev pub arg_in : Option Width → List Changed → ℕ → Made
-arg_in None regs reg = record { term = nothing; needs = Lost 0 W64 ∷ [] }
+arg_in None regs reg = missing
 arg_in (Some w) regs reg = record { term = read regs reg w; needs = read_needs regs reg w }
 
 abbrev pub made_arg : List Changed → ArgUse → Made
-made_arg regs use = arg_in (width_of use.mode) regs use.reg
+made_arg regs arg = arg_in (width_of arg.mode) regs arg.reg
 
 abbrev pub args_of : List Changed → List ArgUse → List Arg
 args_of regs [] = []
-args_of regs (use ∷ uses) = record { reg = use.reg; value = (made_arg regs use).term } ∷ args_of regs uses
+args_of regs (arg ∷ uses) =
+    record { reg = arg.reg; value = (made_arg regs arg).term } ∷ args_of regs uses
 
 abbrev pub args_needs : List Changed → List ArgUse → List Need
 args_needs regs [] = []
-args_needs regs (use ∷ uses) = (made_arg regs use).needs ++ args_needs regs uses
+args_needs regs (arg ∷ uses) = (made_arg regs arg).needs ++ args_needs regs uses
 
 abbrev pub calls : ℕ → Made → Option Mode → List ArgUse → State → State
 calls index target mode uses s = record s {
@@ -190,4 +201,5 @@ calls index target mode uses s = record s {
 }
 
 abbrev pub after_call : ℕ → Rtx → List ArgUse → State → State
-after_call index x uses s = calls index (made_target s.regs s.stores (target_of (call_part x))) (result_mode x) uses s
+after_call index x uses s =
+    calls index (made_target s.regs s.stores (target_of (call_part x))) (result_mode x) uses s

@@ -21,17 +21,18 @@ is_end [] = true
 is_end (i ∷ insns) = false
 
 -- a jump and a call are the last; a return, and a label, can't be compared; a barrier is passed over
-abbrev pub fits_kind : Kind → Insn → List Insn → Bool
-fits_kind Plain i rest = is_shaped i
-fits_kind Jump i rest = is_shaped i && (not (is_return i) && is_end rest)
-fits_kind Call i rest = is_shaped i && is_end rest
-fits_kind Label i rest = false
-fits_kind Barrier i rest = true
+abbrev pub fits_kind : Kind → Insn → Bool → Bool
+fits_kind Plain i last = is_shaped i
+fits_kind Jump i last = is_shaped i && (not (is_return i) && last)
+fits_kind Call i last = is_shaped i && last
+fits_kind Label i last = false
+fits_kind Barrier i last = true
 
 -- the place of the first instruction that can't be compared
 abbrev pub bad_from : ℕ → List Insn → Option ℕ
 bad_from index [] = None
-bad_from index (i ∷ insns) = if fits_kind i.kind i insns then bad_from (index + 1) insns else Some index
+bad_from index (i ∷ insns) =
+    if fits_kind i.kind i (is_end insns) then bad_from (index + 1) insns else Some index
 
 abbrev pub bad_insn : List Insn → Option ℕ
 bad_insn insns = bad_from 0 insns

@@ -103,7 +103,8 @@ is_nonzero (Some c) = not (c == 0)
 
 -- a divisor has not to be 0; a constant that is not needs nothing
 abbrev pub divisor_needs : Code → Tree → List Need
-divisor_needs code b = if divides code && not (is_nonzero (constant_in b)) then Divisor b ∷ [] else []
+divisor_needs code b =
+    if divides code && not (is_nonzero (constant_in b)) then Divisor b ∷ [] else []
 
 -- ("Conversions")
 abbrev pub converted : List Store → Code → Width → Tree → Tree
@@ -166,13 +167,15 @@ load_at stores w at = built stores heads.Load w (length stores) [] (at ∷ [])
 
 -- ("Registers and Memory")
 abbrev pub loaded : List Store → Width → Made → Made
-loaded stores w a = record { term = load_at stores w a.term; needs = a.needs ++ Access a.term w ∷ [] }
+loaded stores w a =
+    record { term = load_at stores w a.term; needs = a.needs ++ Access a.term w ∷ [] }
 
 -- an expression without parts, in a width
 abbrev pub made_of_none : List Changed → Class → ℤ → List ℕ → Width → Made
 made_of_none regs Register number name w = of_register regs (cast_unsigned w64 number) w
 -- "Constant Expression Types"
-made_of_none regs Constant number name w = record { term = constant w (cast_unsigned w64 number); needs = [] }
+made_of_none regs Constant number name w =
+    record { term = constant w (cast_unsigned w64 number); needs = [] }
 made_of_none regs Symbol number name w = of_symbol name w
 made_of_none regs _ number name w = no_value w
 
@@ -194,13 +197,16 @@ made_of_one stores _ code a w = no_value w
 -- "Comparison Operations": the operands have one mode, which one of them may leave to the other
 abbrev pub of_compared : List Store → Option Width → Code → Reading → Reading → Width → Made
 of_compared stores None code a b w = no_value w
-of_compared stores (Some own) code a b w = of_two (related stores (relation_of code) own w) (a.made own) (b.made own)
+of_compared stores (Some own) code a b w =
+    of_two (related stores (relation_of code) own w) (a.made own) (b.made own)
 
 -- an expression of two parts
 abbrev pub made_of_two : List Store → Class → Code → Reading → Reading → Width → Made
 made_of_two stores Binary code a b w = of_operands stores code w (a.made w) (b.made w)
-made_of_two stores Shift code a b w = of_two (binary stores code w) (a.made w) (b.made (count_width b.width))
-made_of_two stores Comparison code a b w = of_compared stores (first_width a.width b.width) code a b w
+made_of_two stores Shift code a b w =
+    of_two (binary stores code w) (a.made w) (b.made (count_width b.width))
+made_of_two stores Comparison code a b w =
+    of_compared stores (first_width a.width b.width) code a b w
 made_of_two stores _ code a b w = no_value w
 
 -- an expression of more parts
@@ -209,7 +215,8 @@ made_of_parts stores class code (a ∷ b ∷ []) w = made_of_two stores class co
 made_of_parts stores class code _ w = no_value w
 
 -- an expression of a class, code, number, name and parts, in a width
-abbrev pub made_by : List Changed → List Store → Class → Code → ℤ → List ℕ → List Reading → Width → Made
+abbrev pub made_by : List Changed → List Store → Class → Code → ℤ → List ℕ → List Reading → Width →
+    Made
 made_by regs stores class code number name [] w = made_of_none regs class number name w
 made_by regs stores class code number name (a ∷ []) w = made_of_one stores class code a w
 made_by regs stores class code number name parts w = made_of_parts stores class code parts w

@@ -5,6 +5,7 @@
 //! effects of an instruction, where it leads and what it calls. Each call gives what its definition gives, unless memory runs out.
 #![tactic(auto)]
 
+mod call;
 mod effect;
 mod jump;
 mod operation;
@@ -12,4 +13,4 @@ mod run;
 mod shape;
 mod value;
 
-pub use run::run_rtl;
+pub use run::{run_on, run_rtl};

@@ -44,7 +44,8 @@ pub fn two(
     a: Term,
     b: Term,
 ) -> Result<Term, Memory>
-    ensures { IfOk result (λ r. tree_of r ≡ spec.two (map store_of stores.now) head w (tree_of a) (tree_of b)) }
+    ensures { IfOk result (λ r. tree_of r ≡ spec.two (map store_of stores.now) head w (tree_of a)
+        (tree_of b)) }
 {
     let mut parts = Vec::new(alloc);
     parts.push(a)?;
@@ -60,7 +61,8 @@ fn less_one(
     constant: u64,
     a: Term,
 ) -> Result<Term, Memory>
-    ensures { IfOk result (λ r. tree_of r ≡ sums.summed w constant ((spec.minus_one w, tree_of a) ∷ [])) }
+    ensures { IfOk result (λ r. tree_of r
+        ≡ sums.summed w constant ((spec.minus_one w, tree_of a) ∷ [])) }
 {
     let mut atoms = Vec::new(alloc);
     atoms.push(Atom {
@@ -79,7 +81,8 @@ fn sum(
     coefficient: u64,
     b: Term,
 ) -> Result<Term, Memory>
-    ensures { IfOk result (λ r. tree_of r ≡ sums.summed w 0 ((1, tree_of a) ∷ (coefficient, tree_of b) ∷ [])) }
+    ensures { IfOk result (λ r. tree_of r
+        ≡ sums.summed w 0 ((1, tree_of a) ∷ (coefficient, tree_of b) ∷ [])) }
 {
     let mut atoms = Vec::new(alloc);
     atoms.push(Atom {
@@ -139,7 +142,8 @@ fn with_head(
     a: Term,
     b: Term,
 ) -> Result<Term, Memory>
-    ensures { IfOk result (λ r. tree_of r ≡ spec.with_head (map store_of stores.now) head w (tree_of a) (tree_of b)) }
+    ensures { IfOk result (λ r. tree_of r
+        ≡ spec.with_head (map store_of stores.now) head w (tree_of a) (tree_of b)) }
 {
     match head {
         Some(head) => two(maker, alloc, stores, head, w, a, b),
@@ -157,7 +161,8 @@ pub fn binary(
     a: Term,
     b: Term,
 ) -> Result<Term, Memory>
-    ensures { IfOk result (λ r. tree_of r ≡ spec.binary (map store_of stores.now) code w (tree_of a) (tree_of b)) }
+    ensures { IfOk result (λ r. tree_of r ≡ spec.binary (map store_of stores.now) code w (tree_of a)
+        (tree_of b)) }
 {
     match code {
         Code::Plus => sum(maker, alloc, w, a, 1, b),
@@ -184,13 +189,9 @@ fn is_nonzero(b: &Term) -> bool
 }
 
 /// Notes what a divisor needs.
-pub fn need_divisor(
-    alloc: Global,
-    code: Code,
-    b: &Term,
-    needs: &mut Needs,
-) -> Result<(), Memory>
-    ensures { OnOk result (map need_of needs.new ≡ map need_of needs.old ++ spec.divisor_needs code (tree_of b.now)) }
+pub fn need_divisor(alloc: Global, code: Code, b: &Term, needs: &mut Needs) -> Result<(), Memory>
+    ensures { OnOk result (map need_of needs.new
+        ≡ map need_of needs.old ++ spec.divisor_needs code (tree_of b.now)) }
 {
     if does_divide(code) && !is_nonzero(b) {
         needs.push(NeedOf::Divisor {
@@ -209,7 +210,8 @@ pub fn converted(
     w: Width,
     a: Term,
 ) -> Result<Term, Memory>
-    ensures { IfOk result (λ r. tree_of r ≡ spec.converted (map store_of stores.now) code w (tree_of a)) }
+    ensures { IfOk result (λ r. tree_of r
+        ≡ spec.converted (map store_of stores.now) code w (tree_of a)) }
 {
     match code {
         Code::SignExtend => one(maker, alloc, stores, Head::Sext, w, a),
@@ -264,7 +266,8 @@ fn related(
     a: Term,
     b: Term,
 ) -> Result<Term, Memory>
-    ensures { IfOk result (λ r. tree_of r ≡ spec.related (map store_of stores.now) (Some relation) own w (tree_of a) (tree_of b)) }
+    ensures { IfOk result (λ r. tree_of r
+        ≡ spec.related (map store_of stores.now) (Some relation) own w (tree_of a) (tree_of b)) }
 {
     let truth = maker.compared(relation, own, a, b)?;
     truth_in(maker, alloc, stores, w, truth)
@@ -281,7 +284,9 @@ pub fn compared(
     a: Term,
     b: Term,
 ) -> Result<Term, Memory>
-    ensures { IfOk result (λ r. tree_of r ≡ spec.related (map store_of stores.now) (spec.relation_of code) own w (tree_of a) (tree_of b)) }
+    ensures { IfOk result (λ r. tree_of r
+        ≡ spec.related (map store_of stores.now) (spec.relation_of code) own w (tree_of a)
+        (tree_of b)) }
 {
     match relation_of(code) {
         Some(relation) => related(maker, alloc, stores, relation, own, w, a, b),

@@ -1,11 +1,16 @@
 //! The value of an expression as a term.
-ghost use Rattle.std.specs.Prelude.{◌≡◌, ◌++◌, map, option_map, IfOk, OnOk};
+ghost use Rattle.std.specs.Prelude.{◌≡◌, ◌++◌, [], ◌∷◌, map, option_map, IfOk, OnOk};
 ghost use Rattle.rtx_tree.specs.Code.{class_of_code};
+ghost use Rattle.rtx_tree.specs.declared.tree.Rtx.{out-Rtx};
+ghost use Rattle.rtl_step.specs.Value as step;
+ghost use Rattle.rtl_step.specs.Value.{first_width, count_width};
 ghost use Rattle.term_tree.specs.View.{tree_of};
 ghost use Rattle.sym_term.specs.Views.{store_of};
+ghost use Rattle.sym_state.specs.State.{Access};
 ghost use Rattle.sym_state.specs.Views.{changed_of, need_of};
+ghost use Rattle.sym_state.specs.machine.Places.{listed};
 ghost use Rattle.sym_insns.specs.Value as spec;
-ghost use Rattle.sym_insns.specs.machine.Making.{IsMade};
+ghost use Rattle.sym_insns.specs.machine.Making.{IsMade, reading_by_mode};
 
 use crate::operation::{Needs, binary, compared, converted, need_divisor, unary};
 use bits64::Width;
@@ -28,7 +33,8 @@ pub fn no_value(alloc: Global, w: Width, needs: &mut Needs) -> Result<Term, Memo
 
 /// Notes a need, if there is one.
 fn note(need: Option<NeedOf>, needs: &mut Needs) -> Result<(), Memory>
-    ensures { OnOk result (map need_of needs.new ≡ map need_of needs.old ++ listed (option_map need_of need)) }
+    ensures { OnOk result (map need_of needs.new
+        ≡ map need_of needs.old ++ listed (option_map need_of need)) }
 {
     if let Some(need) = need {
         needs.push(need)?;
@@ -45,7 +51,8 @@ pub fn read_register(
     w: Width,
     needs: &mut Needs,
 ) -> Result<Term, Memory>
-    ensures { IfOk result (λ r. IsMade needs.old needs.new (tree_of r) (spec.of_register (map changed_of regs.now) reg w)) }
+    ensures { IfOk result (λ r. IsMade needs.old needs.new (tree_of r)
+        (spec.of_register (map changed_of regs.now) reg w)) }
 {
     note(read_need(regs, reg, w), needs)?;
     read(maker, alloc, regs, reg, w)
@@ -59,7 +66,8 @@ fn symbol(
     w: Width,
     needs: &mut Needs,
 ) -> Result<Term, Memory>
-    ensures { IfOk result (λ r. IsMade needs.old needs.new (tree_of r) (spec.of_symbol name.now w)) }
+    ensures { IfOk result (λ r. IsMade needs.old needs.new (tree_of r)
+        (spec.of_symbol name.now w)) }
 {
     needs.push(NeedOf::Symbol {
         name: name.copy(alloc)?,
@@ -77,7 +85,9 @@ fn made_of_none(
     w: Width,
     needs: &mut Needs,
 ) -> Result<Term, Memory>
-    ensures { IfOk result (λ r. IsMade needs.old needs.new (tree_of r) (spec.made_of_none (map changed_of regs.now) (class_of_code (out-Rtx x.now).code) (out-Rtx x.now).number (out-Rtx x.now).name w)) }
+    ensures { IfOk result (λ r. IsMade needs.old needs.new (tree_of r)
+        (spec.made_of_none (map changed_of regs.now) (class_of_code (out-Rtx x.now).code)
+        (out-Rtx x.now).number (out-Rtx x.now).name w)) }
 {
     match x.code.class() {
         Class::Register => read_register(maker, alloc, regs, x.number.cast_unsigned(), w, needs),
@@ -96,7 +106,11 @@ fn load(
     address: Term,
     needs: &mut Needs,
 ) -> Result<Term, Memory>
-    ensures { IfOk result (λ r. IsMade needs.old needs.new (tree_of r) (record { term = spec.load_at (map store_of stores.now) w (tree_of address); needs = Access (tree_of address) w ∷ [] })) }
+    ensures { IfOk result (λ r. IsMade needs.old needs.new (tree_of r)
+        (record {
+          term = spec.load_at (map store_of stores.now) w (tree_of address);
+          needs = Access (tree_of address) w ∷ [];
+        })) }
 {
     needs.push(NeedOf::Access {
         address: address.copy(alloc)?,
@@ -120,7 +134,10 @@ fn of_converted(
     w: Width,
     needs: &mut Needs,
 ) -> Result<Term, Memory>
-    ensures { IfOk result (λ r. IsMade needs.old needs.new (tree_of r) (spec.of_converted (map store_of stores.now) (spec.reading_of (map changed_of regs.now) (map store_of stores.now) a.now).width code (spec.reading_of (map changed_of regs.now) (map store_of stores.now) a.now) w)) }
+    ensures { IfOk result (λ r. IsMade needs.old needs.new (tree_of r)
+        (spec.of_converted (map store_of stores.now)
+        (reading_by_mode (map changed_of regs.now) (map store_of stores.now) a.now).width code
+        (reading_by_mode (map changed_of regs.now) (map store_of stores.now) a.now) w)) }
 {
     match width_of(a.mode) {
         None => no_value(alloc, w, needs),
@@ -143,7 +160,9 @@ fn made_of_one(
     w: Width,
     needs: &mut Needs,
 ) -> Result<Term, Memory>
-    ensures { IfOk result (λ r. IsMade needs.old needs.new (tree_of r) (spec.made_of_one (map store_of stores.now) (class_of_code code) code (spec.reading_of (map changed_of regs.now) (map store_of stores.now) a.now) w)) }
+    ensures { IfOk result (λ r. IsMade needs.old needs.new (tree_of r)
+        (spec.made_of_one (map store_of stores.now) (class_of_code code) code
+        (reading_by_mode (map changed_of regs.now) (map store_of stores.now) a.now) w)) }
 {
     match code.class() {
         Class::Memory => {
@@ -159,5 +178,110 @@ fn made_of_one(
             of_converted(maker, alloc, regs, stores, code, a, w, needs)
         }
         _ => no_value(alloc, w, needs),
+    }
+}
+
+/// The width in which the operands of a comparison are read: that of the first mode, or else of the second.
+fn own_width(a: &Rtx, b: &Rtx) -> Option<Width>
+    ensures { result ≡ first_width (step.width_of (out-Rtx a.now).mode)
+        (step.width_of (out-Rtx b.now).mode) }
+{
+    match width_of(a.mode) {
+        None => width_of(b.mode),
+        Some(w) => Some(w),
+    }
+}
+
+/// The width in which a count is read: that of its mode, or 64 bits.
+fn count_width_of(b: &Rtx) -> Width
+    ensures { result ≡ count_width (step.width_of (out-Rtx b.now).mode) }
+{
+    width_of(b.mode).unwrap_or(Width::W64)
+}
+
+/// An operation on two terms, the second of which may be a divisor.
+fn of_operands(
+    maker: &mut TermMaker,
+    alloc: Global,
+    stores: &SymStores,
+    code: Code,
+    w: Width,
+    a: Term,
+    b: Term,
+    needs: &mut Needs,
+) -> Result<Term, Memory>
+    ensures { IfOk result (λ r. IsMade needs.old needs.new (tree_of r)
+        (record {
+          term = spec.binary (map store_of stores.now) code w (tree_of a) (tree_of b);
+          needs = spec.divisor_needs code (tree_of b);
+        })) }
+{
+    need_divisor(alloc, code, &b, needs)?;
+    binary(maker, alloc, stores, code, w, a, b)
+}
+
+/// An expression of two parts; one of more has no value.
+#[cycle(make)]
+fn made_of_parts(
+    maker: &mut TermMaker,
+    alloc: Global,
+    regs: &SymRegs,
+    stores: &SymStores,
+    code: Code,
+    parts: &[Rtx],
+    w: Width,
+    needs: &mut Needs,
+) -> Result<Term, Memory>
+    ensures { IfOk result (λ r. IsMade needs.old needs.new (tree_of r)
+        (spec.made_of_parts (map store_of stores.now) (class_of_code code) code
+        (map (reading_by_mode (map changed_of regs.now) (map store_of stores.now)) parts.now) w)) }
+{
+    match parts {
+        [a, b] => match code.class() {
+            Class::Binary => {
+                let first = make(maker, alloc, regs, stores, a, w, needs)?;
+                let second = make(maker, alloc, regs, stores, b, w, needs)?;
+                of_operands(maker, alloc, stores, code, w, first, second, needs)
+            }
+            Class::Shift => {
+                let first = make(maker, alloc, regs, stores, a, w, needs)?;
+                let count = make(maker, alloc, regs, stores, b, count_width_of(b), needs)?;
+                binary(maker, alloc, stores, code, w, first, count)
+            }
+            Class::Comparison => {
+                let Some(own) = own_width(a, b) else {
+                    return no_value(alloc, w, needs);
+                };
+                let first = make(maker, alloc, regs, stores, a, own, needs)?;
+                let second = make(maker, alloc, regs, stores, b, own, needs)?;
+                compared(maker, alloc, stores, code, own, w, first, second)
+            }
+            _ => no_value(alloc, w, needs),
+        },
+        [] => no_value(alloc, w, needs),
+        [_a] => no_value(alloc, w, needs),
+        [_a, _b, _c, ..] => no_value(alloc, w, needs),
+    }
+}
+
+/// What is made of an expression in a width; its needs are put behind those that were met before.
+#[cycle(make)]
+#[tactic(auto, using(crate::proofs::Values::made_read))]
+pub fn make(
+    maker: &mut TermMaker,
+    alloc: Global,
+    regs: &SymRegs,
+    stores: &SymStores,
+    x: &Rtx,
+    w: Width,
+    needs: &mut Needs,
+) -> Result<Term, Memory>
+    ensures { IfOk result (λ r. IsMade needs.old needs.new (tree_of r)
+        (spec.made_of (map changed_of regs.now) (map store_of stores.now) x.now w)) }
+{
+    match x.kids.as_slice() {
+        [] => made_of_none(maker, alloc, regs, x, w, needs),
+        [a] => made_of_one(maker, alloc, regs, stores, x.code, a, w, needs),
+        parts => made_of_parts(maker, alloc, regs, stores, x.code, parts, w, needs),
     }
 }

@@ -1,3 +1,4 @@
 pub mod Compute
 pub mod Step
 pub mod Run
+pub mod machine

@@ -15,7 +15,7 @@ use Rattle.sym_state.specs.Registers.{changed, held, placed, put}
 
 -- ---- what is held after a register is placed
 
-same_number : (a b : ℕ) → (a == b) ≡ true → a ≡ b
+pub same_number : (a b : ℕ) → (a == b) ≡ true → a ≡ b
 same_number a b is = grind (arith, nat_tests, is)
 
 other_number : (a b : ℕ) → a ≢ b → (a == b) ≡ false

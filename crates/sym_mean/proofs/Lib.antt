@@ -1,6 +1,9 @@
 pub mod Changes
 pub mod Effects
+pub mod Memories
 pub mod Numbers
 pub mod Operations
 pub mod Parts
+pub mod Plain
+pub mod States
 pub mod Values

@@ -99,31 +99,31 @@ mult_made v stores w a b stored = two_made v stores heads.Mul w a b _ stored ref
 
 -- ---- quotients and remainders
 
-wrapped_pub below : (w : Width) (z : ℤ) → wrapped w z < 2 ^ bits_of w
+wrapped_below : (w : Width) (z : ℤ) → wrapped w z < 2 ^ bits_of w
 wrapped_below w (pos n) = mod-lt n (pow_pos (bits_of w))
 wrapped_below w (negsuc n) = let some : 0 < 2 ^ bits_of w = pow_pos (bits_of w) in omega (arith, some)
 
-low_pub below : (w : Width) (a : ℕ) → low w a < 2 ^ bits_of w
+low_below : (w : Width) (a : ℕ) → low w a < 2 ^ bits_of w
 low_below w a = mod-lt a (pow_pos (bits_of w))
 
-either_pub below : (w : Width) (b : Bool) (m n : ℕ) → m < 2 ^ bits_of w → n < 2 ^ bits_of w → (if b then m else n) < 2 ^ bits_of w
+either_below : (w : Width) (b : Bool) (m n : ℕ) → m < 2 ^ bits_of w → n < 2 ^ bits_of w → (if b then m else n) < 2 ^ bits_of w
 either_below w true m n p q = p
 either_below w false m n p q = q
 
-ones_pub below : (w : Width) → 2 ^ bits_of w - 1 < 2 ^ bits_of w
+ones_below : (w : Width) → 2 ^ bits_of w - 1 < 2 ^ bits_of w
 ones_below w = let some : 0 < 2 ^ bits_of w = pow_pos (bits_of w) in omega (arith, some)
 
-quotient_signed_pub below : (w : Width) (a b : ℕ) → quotient_signed w a b < 2 ^ bits_of w
+quotient_signed_below : (w : Width) (a b : ℕ) → quotient_signed w a b < 2 ^ bits_of w
 quotient_signed_below w a b = either_below w (low w b == 0) _ _ (ones_below w) (wrapped_below w _)
 
-remainder_signed_pub below : (w : Width) (a b : ℕ) → remainder_signed w a b < 2 ^ bits_of w
+remainder_signed_below : (w : Width) (a b : ℕ) → remainder_signed w a b < 2 ^ bits_of w
 remainder_signed_below w a b = either_below w (low w b == 0) _ _ (low_below w a) (wrapped_below w _)
 
-quotient_unsigned_pub below : (w : Width) (a b : ℕ) → quotient_unsigned w a b < 2 ^ bits_of w
+quotient_unsigned_below : (w : Width) (a b : ℕ) → quotient_unsigned w a b < 2 ^ bits_of w
 quotient_unsigned_below w a b =
     either_below w (low w b == 0) _ _ (ones_below w) (omega (arith, div-le_self (low w a) (low w b), low_below w a))
 
-remainder_unsigned_pub below : (w : Width) (a b : ℕ) → remainder_unsigned w a b < 2 ^ bits_of w
+remainder_unsigned_below : (w : Width) (a b : ℕ) → remainder_unsigned w a b < 2 ^ bits_of w
 remainder_unsigned_below w a b =
     either_below w (low w b == 0) _ _ (low_below w a) (omega (arith, mod-le (low w a) (low w b), low_below w a))
 

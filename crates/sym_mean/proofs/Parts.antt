@@ -48,14 +48,14 @@ module _ (v : Valuation) (f : First) (of : IsOf v f) where
   own_mean reg w = mean-low_bits v w (own_register reg) ∙ low-low w W64 (v.reg reg) (at_most_64 w)
 
   -- what was not changed
-  kept_worth : (reg : ℕ) (w : Width) (o : Option ℕ) → reg_value f.regs reg w ≡ o →
+  kept_worth : (reg : ℕ) (w : Width) (o : Option ℕ) → f.reads reg w ≡ o →
       o ≡ (if is_some o && true then Some (mean v (low_bits w (own_register reg))) else None)
   kept_worth reg w None is = refl
   kept_worth reg w (Some value) is = ap Some (of.registers reg w value is ∙ sym (own_mean reg w))
 
-  kept : (regs : Regs) (reg : ℕ) (w : Width) → reg_value regs reg w ≡ reg_value f.regs reg w →
+  kept : (regs : Regs) (reg : ℕ) (w : Width) → reg_value regs reg w ≡ f.reads reg w →
       reg_value regs reg w ≡ worth v f (record { term = low_bits w (own_register reg); needs = need_of None reg w })
-  kept regs reg w same = same ∙ kept_worth reg w (reg_value f.regs reg w) refl
+  kept regs reg w same = same ∙ kept_worth reg w (f.reads reg w) refl
 
   -- what has the bits of a term
   known_worth : (t : Tree) (reg : ℕ) (w : Width) (short : Bool) → nat_lt (bits_of (width_of t)) (bits_of w) ≡ short →
@@ -84,7 +84,7 @@ module _ (v : Valuation) (f : First) (of : IsOf v f) where
 
 -- ---- loads
 
-both_bytes : Option ℕ → Option ℕ → Option ℕ
+unfoldable pub both_bytes : Option ℕ → Option ℕ → Option ℕ
 both_bytes byte rest = option_and_then (λ b. option_map (λ r. b + 256 * r) rest) byte
 
 both_has : (byte rest : Option ℕ) → is_some (both_bytes byte rest) ≡ (is_some byte && is_some rest)

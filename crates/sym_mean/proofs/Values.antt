@@ -24,6 +24,7 @@ use Rattle.term_tree.specs.declared.head.Head.TheVariants as heads
 use Rattle.term_tree.specs.declared.head.Relation.{Relation}
 use Rattle.term_tree.specs.declared.head.Relation.TheVariants as relation
 use Rattle.term_tree.specs.Tree.{Tree, width_of}
+use Rattle.term_tree.specs.Form.{narrower}
 use Rattle.term_mean.specs.Meaning.{Valuation, mean}
 use Rattle.term_mean.specs.Stores.{Store}
 use Rattle.term_mean.specs.Relations.{holds}
@@ -42,7 +43,7 @@ use Rattle.sym_mean.specs.Needs.{First, is_met, are_met, worth}
 use Rattle.sym_mean.specs.Shows.{IsOf, Shows}
 use Rattle.sym_mean.proofs.Operations as made
 use Rattle.sym_mean.proofs.Operations.{Makes}
-use Rattle.sym_mean.proofs.Parts.{register_worth, load_worth, own_mean}
+use Rattle.sym_mean.proofs.Parts.{register_worth, load_worth}
 
 module _ (v : Valuation) (f : First) where
   -- ---- what is made of parts
@@ -90,19 +91,19 @@ module _ (v : Valuation) (f : First) where
   nonzero_low : (w : Width) (b : Tree) → width_of b ≡ w → low w (mean v b) ≡ mean v b
   nonzero_low w b is = sym (made.below w (mean v b) (made.mean_below v w b is))
 
+  and_true : (x : Bool) → (x && true) ≡ x
+  and_true true = refl
+  and_true false = refl
+
   divisor_met : (b : Tree) (c : Option ℕ) → constant_in b ≡ c →
       are_met v f (if not (spec.is_nonzero c) then state.Divisor b ∷ [] else []) ≡ not (mean v b == 0)
   divisor_met b None is = and_true (not (mean v b == 0))
-    where
-      and_true : (x : Bool) → (x && true) ≡ x
-      and_true true = refl
-      and_true false = refl
   divisor_met b (Some c) is = by (c == 0) refl
     where
       number : mean v b ≡ c
       number = constant-is v b c is
       by : (z : Bool) → (c == 0) ≡ z → are_met v f (if not (not z) then state.Divisor b ∷ [] else []) ≡ not (mean v b == 0)
-      by true e = ap (λ x. x && true) (refl {not (mean v b == 0)}) ∙ ap (λ n. not (n == 0) && true) number ∙ ap (λ x. not x && true) e ∙ sym (ap (λ n. not (n == 0)) number ∙ ap not e)
+      by true e = and_true (not (mean v b == 0))
       by false e = sym (ap (λ n. not (n == 0)) number ∙ ap not e)
 
   divided : (c : Code) (w : Width) (b : Tree) (quotient : ℕ) (t : Tree) → spec.divides c ≡ true → width_of b ≡ w → Makes v (Some quotient) t w →
@@ -186,7 +187,7 @@ module _ (v : Valuation) (f : First) (s : State) (regs : Regs) (memory : List Me
       by : (left : Option (Option Tree)) → width_of (term_held left (suc reg) w) ≡ w
       by None = width-low_bits w (own_register (suc reg))
       by (Some None) = width-low_bits w (own_register (suc reg))
-      by (Some (Some t)) = either _ _ _ (width-low_bits w (own_register (suc reg))) (width-low_bits w t)
+      by (Some (Some t)) = either (narrower (width_of t) w) (low_bits w (own_register (suc reg))) (low_bits w t) (width-low_bits w (own_register (suc reg))) (width-low_bits w t)
 
   reg_worth : (reg : ℕ) (w : Width) → IsWorth (reg_value regs reg w) (spec.of_register s.regs reg w) w
   reg_worth reg w = record { value_is = register_worth v f of s regs reg w shows.registers; width_is = read_width reg w }

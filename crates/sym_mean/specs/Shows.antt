@@ -18,13 +18,13 @@ use Rattle.sym_mean.specs.Needs.{First}
 
 -- registers and symbols of a valuation are those before the first instruction, which have 64 bits
 pub record IsOf (v : Valuation) (f : First) : Type 0 where
-  pub registers : (reg : ℕ) (w : Width) (value : ℕ) → reg_value f.regs reg w ≡ Some value → value ≡ low w (v.reg reg)
+  pub registers : (reg : ℕ) (w : Width) (value : ℕ) → f.reads reg w ≡ Some value → value ≡ low w (v.reg reg)
   pub symbols : (name : List ℕ) (address : ℕ) → symbol_address f.symbols name ≡ Some address → address ≡ v.sym name
   pub words : (name : List ℕ) (address : ℕ) → symbol_address f.symbols name ≡ Some address → address < 2 ^ 64
 
 -- a register, by what was made of it and by what is known of it now
 abbrev pub ShowsRegister : Valuation → First → Regs → Option (Option Tree) → ℕ → Type 0
-ShowsRegister v f regs None reg = (w : Width) → reg_value regs reg w ≡ reg_value f.regs reg w
+ShowsRegister v f regs None reg = (w : Width) → reg_value regs reg w ≡ f.reads reg w
 ShowsRegister v f regs (Some None) reg = get regs reg ≡ None
 ShowsRegister v f regs (Some (Some t)) reg = get regs reg ≡ Some (known_of (width_of t) (mean v t))
 

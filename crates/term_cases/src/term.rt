@@ -1,5 +1,4 @@
 //! The term that a tree writes.
-use anyhow::{Result, bail};
 use bits64::{Width, trunc};
 use lisp_read::{Tree, atom, items};
 use plain_data::Items;
@@ -45,68 +44,124 @@ fn name_and_width(word: &[u8]) -> (&[u8], Width) {
     }
 }
 
-fn word_of(tree: &Tree) -> Result<&[u8]> {
+/// The text of an atom, and of another tree the empty one.
+fn word_of(tree: &Tree) -> &[u8] {
     match atom(tree) {
-        Some(word) => Ok(word.bytes()),
-        None => bail!("no word"),
+        Some(word) => word.bytes(),
+        None => b"",
     }
 }
 
-fn number_of(tree: &Tree) -> Result<u64> {
-    match number_in(word_of(tree)?) {
-        Some(number) => Ok(number.cast_unsigned()),
-        None => bail!("no number"),
+fn number_of(tree: &Tree) -> Option<u64> {
+    match number_in(word_of(tree)) {
+        Some(number) => Some(number.cast_unsigned()),
+        None => None,
     }
 }
 
 /// The register of a word, as `a0` or `<1>`.
 fn register(word: &[u8]) -> Option<u64> {
-    match word {
-        [b'<', digits @ .., b'>'] => Some(number_in(digits)?.cast_unsigned().wrapping_add(64)),
-        _ => Some(u64::from(reg_number(word)?)),
+    if let [b'<', digits @ .., b'>'] = word {
+        return match number_in(digits) {
+            Some(number) => Some(number.cast_unsigned().wrapping_add(64)),
+            None => None,
+        };
+    }
+    match reg_number(word) {
+        Some(number) => Some(u64::from(number)),
+        None => None,
     }
 }
 
 /// A sum: a constant, and lists of a coefficient and a term.
 #[cycle(term)]
-fn sum(alloc: Global, width: Width, parts: &[Tree]) -> Result<Term> {
+fn sum(alloc: Global, width: Width, parts: &[Tree]) -> Option<Term> {
     let [constant, rest @ ..] = parts else {
-        bail!("no constant");
+        return None;
     };
     let mut atoms = Items::new(alloc);
     for part in rest {
         let [coefficient, term] = items(part) else {
-            bail!("no coefficient and term");
+            return None;
         };
-        atoms.push(Atom {
-            coefficient: trunc(number_of(coefficient)?, width),
-            term: term_of(alloc, term)?,
-        })?;
+        let Some(term) = term_of(alloc, term) else {
+            return None;
+        };
+        if !push_atom(width, coefficient, term, &mut atoms) {
+            return None;
+        }
     }
-    Ok(Term::Sum {
+    let Some(constant) = number_of(constant) else {
+        return None;
+    };
+    Some(Term::Sum {
         width,
-        constant: trunc(number_of(constant)?, width),
+        constant: trunc(constant, width),
         atoms,
     })
 }
 
+/// Appends a term with the coefficient that a tree writes. Whether it writes one.
+fn push_atom(width: Width, coefficient: &Tree, term: Term, atoms: &mut Items<Atom>) -> bool {
+    match number_of(coefficient) {
+        Some(coefficient) => {
+            let coefficient = trunc(coefficient, width);
+            atoms.push(Atom { coefficient, term }).is_ok()
+        }
+        None => false,
+    }
+}
+
+/// A number and a name of an operator's own.
+#[derive(Drop)]
+struct Own {
+    number: u64,
+    name: Name,
+}
+
+/// Whether a tree is a part of an operator, and no number or name of its own.
+fn is_part(tree: &Tree) -> bool {
+    let word = word_of(tree);
+    word.is_empty() || number_in(word).is_none() && register(word).is_some()
+}
+
+/// Keeps a number or a name.
+fn put_own(alloc: Global, word: &[u8], own: &mut Own) -> bool {
+    if let Some(number) = number_in(word) {
+        own.number = number.cast_unsigned();
+        return true;
+    }
+    match Name::of(alloc, word) {
+        Ok(name) => {
+            own.name = name;
+            true
+        }
+        Err(_) => false,
+    }
+}
+
 /// An operator over parts; a number or a name among them is its own.
 #[cycle(term)]
-fn node(alloc: Global, head: Head, width: Width, trees: &[Tree]) -> Result<Term> {
-    let mut number = 0;
-    let mut name = Name::empty(alloc);
+fn node(alloc: Global, head: Head, width: Width, trees: &[Tree]) -> Option<Term> {
+    let mut own = Own {
+        number: 0,
+        name: Name::empty(alloc),
+    };
     let mut parts = Items::new(alloc);
     for tree in trees {
-        let word = atom(tree).map_or(b"".as_slice(), |word| word.bytes());
-        if number_in(word).is_some() {
-            number = number_of(tree)?;
-        } else if word.is_empty() || register(word).is_some() {
-            parts.push(term_of(alloc, tree)?)?;
-        } else {
-            name = Name::of(alloc, word)?;
+        if is_part(tree) {
+            let Some(term) = term_of(alloc, tree) else {
+                return None;
+            };
+            if parts.push(term).is_err() {
+                return None;
+            }
+        } else if !put_own(alloc, word_of(tree), &mut own) {
+            return None;
         }
     }
-    Ok(Term::Node {
+    let Own { number, name } = own;
+    Some(Term::Node {
         head,
         width,
         number,
@@ -115,25 +170,33 @@ fn node(alloc: Global, head: Head, width: Width, trees: &[Tree]) -> Result<Term>
     })
 }
 
+/// The operator of a name.
+fn head_of(name: &[u8]) -> Option<Head> {
+    for (known, head) in HEADS {
+        if known.as_bytes() == name {
+            return Some(head);
+        }
+    }
+    None
+}
+
 /// The term of a tree: `a0`, or an operator with its width and its parts, as `(sum64 5 (1 a0) (-1 a1))`.
 #[cycle(term)]
-pub fn term_of(alloc: Global, tree: &Tree) -> Result<Term> {
+pub fn term_of(alloc: Global, tree: &Tree) -> Option<Term> {
     let [head, parts @ ..] = items(tree) else {
-        return match register(word_of(tree)?) {
-            Some(number) => Ok(register_term(alloc, number)),
-            None => bail!("no register"),
+        return match register(word_of(tree)) {
+            Some(number) => Some(register_term(alloc, number)),
+            None => None,
         };
     };
-    let (name, width) = name_and_width(word_of(head)?);
+    let (name, width) = name_and_width(word_of(head));
     if name == b"sum".as_slice() {
         return sum(alloc, width, parts);
     }
-    for (known, head) in HEADS {
-        if known.as_bytes() == name {
-            return node(alloc, head, width, parts);
-        }
+    match head_of(name) {
+        Some(head) => node(alloc, head, width, parts),
+        None => None,
     }
-    bail!("no operator");
 }
 
 /// A register.

@@ -1,58 +1,56 @@
 //! Expressions, with registers by their numbers.
-use crate::push_shown;
 use crate::trees::trees_in;
-use anyhow::{Result, bail};
+use case_text::Told;
 use lisp_read::{RtlRefusal, rtx_of_tree};
 use rtx_tree::{Code, Rtx};
 use std::alloc::Global;
 
-/// Appends a blank and a number.
-pub fn show_number(alloc: Global, number: i64, out: &mut Vec<u8>) -> Result<()> {
-    push_shown(format!(in alloc; " {number}")?.as_str(), out)
-}
-
 /// Appends an expression with its registers by their numbers.
-pub fn show(alloc: Global, x: &Rtx, out: &mut Vec<u8>) -> Result<()> {
-    push_shown("(", out)?;
-    push_shown(x.code.name(), out)?;
+pub fn show(x: &Rtx, told: &mut Told) {
+    told.text("(");
+    told.text(x.code.name());
     if !x.mode.name().is_empty() {
-        push_shown(":", out)?;
-        push_shown(x.mode.name(), out)?;
+        told.text(":");
+        told.text(x.mode.name());
     }
     if matches!(x.code, Code::Reg | Code::ConstInt) || x.number != 0 {
-        show_number(alloc, x.number, out)?;
+        told.text(" ");
+        told.show(x.number);
     }
     if !x.name.bytes().is_empty() {
-        push_shown(" ", out)?;
-        out.extend_from_slice(x.name.bytes())?;
+        told.text(" ");
+        told.push(x.name.bytes());
     }
     for kid in x.kids.as_slice() {
-        push_shown(" ", out)?;
-        show(alloc, kid, out)?;
+        told.text(" ");
+        show(kid, told);
     }
-    push_shown(")", out)
+    told.text(")");
 }
 
 /// Appends the place and the name of the first construct outside.
-pub fn show_refusal(alloc: Global, refusal: RtlRefusal, out: &mut Vec<u8>) -> Result<()> {
+pub fn show_refusal(refusal: &RtlRefusal, told: &mut Told) {
     match refusal {
         RtlRefusal::Construct { place, name } => {
-            let place = format!(in alloc; "{}:{} ", place.line, place.column)?;
-            push_shown(place.as_str(), out)?;
-            out.extend_from_slice(name.bytes())?;
-            Ok(())
+            told.show(place.line);
+            told.text(":");
+            told.show(place.column);
+            told.text(" ");
+            told.push(name.bytes());
         }
-        RtlRefusal::Memory => bail!("out of memory"),
+        RtlRefusal::Memory => told.fail(),
     }
 }
 
 /// Appends what each tree stands for: an expression, or the first construct outside.
-pub fn tell_expressions(alloc: Global, text: &[u8], out: &mut Vec<u8>) -> Result<()> {
-    for tree in trees_in(alloc, text)?.as_slice() {
+pub fn tell_expressions(alloc: Global, text: &[u8], told: &mut Told) {
+    let Some(trees) = trees_in(alloc, text) else {
+        return told.fail();
+    };
+    for tree in trees.as_slice() {
         match rtx_of_tree(alloc, tree) {
-            Ok(x) => show(alloc, &x, out)?,
-            Err(refusal) => show_refusal(alloc, refusal, out)?,
+            Ok(x) => show(&x, told),
+            Err(refusal) => show_refusal(&refusal, told),
         }
     }
-    Ok(())
 }

@@ -1,27 +1,16 @@
 -- The item that a comparison finds is the first in which the states do not agree; and where it finds none, they agree.
-use Rattle.std.proofs.Common.{◌≡◌, ◌≢◌, ℕ, suc, ◌+◌, ◌<◌, ◌==◌, ◌&&◌, ◌||◌, not, nat_le, Bool, true, false, cond, List, [], ◌∷◌, take, slice_get, Option, Some, None, refl, sym, ◌∙◌, ap, subst, arith}
-use Rattle.std.specs.Prelude.{is_some}
-use Rattle.bits64.specs.declared.Width.TheVariants.{W64}
-use Rattle.rtx_tree.specs.RegSet.{has_reg}
-use Rattle.rtx_tree.specs.Registers.{virtual_stack_vars}
+use Rattle.std.proofs.Common.{◌≡◌, ◌≢◌, ℕ, ◌+◌, Bool, true, false, cond, List, [], ◌∷◌, take, slice_get, Option, Some, None, refl, sym, ◌∙◌, subst, arith}
 use Rattle.term_tree.specs.Tree.{Tree}
-use Rattle.term_mean.specs.Stores.{Store}
-use Rattle.term_mean.specs.Sums.{constant}
-use Rattle.term_text.specs.declared.item.Item.{Item}
-use Rattle.term_text.specs.declared.item.Item.TheVariants as item
-use Rattle.sym_term.proofs.Steps.{same-is}
-use Rattle.sym_state.specs.State.{State, Jump, Arg, Call, NeedAt, nothing, own_register}
-use Rattle.sym_state.specs.Registers.{held}
-use Rattle.sym_diff.specs.Difference.{Difference, Differ, Lacks, shown, or_else}
-use Rattle.sym_diff.specs.Registers.{same_tree, is_live, compared_register, compared_all, compared_registers, changed_in, fails, is_passed_over, register_difference}
-use Rattle.sym_diff.specs.Compared.{compared_terms, compared_store, compared_stores, compared_jump, compared_calls, compared_arg, compared_args, compared_numbers, compared_results, compared_needs, target_term, arg_at, arg_beside, args_in, result_bits, need_term, is_covered}
+use Rattle.sym_state.specs.State.{State, NeedAt}
+use Rattle.sym_diff.specs.Difference.{Difference, Lacks, or_else}
+use Rattle.sym_diff.specs.Registers.{compared_registers}
+use Rattle.sym_diff.specs.Compared.{compared_stores, compared_jump, compared_calls, compared_needs, need_term, is_covered}
 use Rattle.sym_diff.specs.States.{difference}
-use Rattle.sym_diff.specs.Agree.{RegistersAgree, JumpsAgree, SameCall, CallsAgree, Agree, FirstFails, Tells}
-use Rattle.sym_diff.proofs.AgreeLaws.{or_none, none_or, terms_none, none_terms, register_none, none_register, needs_none, none_needs}
-use Rattle.sym_diff.proofs.NumberLaws.{same_number, itself, or_left, or_right, args_from, changed_keeps, changed_has, args_keep, args_have, Increasing, changed_increasing, has_over}
-use Rattle.sym_diff.proofs.Items.{IsOf, InItem, some_item, none_item, or_item, terms_item, contrary}
+use Rattle.sym_diff.specs.Agree.{RegistersAgree, JumpsAgree, CallsAgree, Agree, FirstFails, Tells}
+use Rattle.sym_diff.proofs.AgreeLaws.{or_none, needs_none, none_needs}
+use Rattle.sym_diff.proofs.Items.{contrary}
 use Rattle.sym_diff.proofs.RegistersFirst.{registers_none, registers_first}
-use Rattle.sym_diff.proofs.StoresFirst.{stores_none, StoreAt, stores_first}
+use Rattle.sym_diff.proofs.StoresFirst.{stores_none, stores_first}
 use Rattle.sym_diff.proofs.CallLaws.{jump_item, jump_none, none_jump, calls_item, calls_none, none_calls}
 
 -- ---- needs

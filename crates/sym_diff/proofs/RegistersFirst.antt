@@ -1,25 +1,19 @@
 -- The registers agree where nothing is found in them; what is found is the first that does not.
-use Rattle.std.proofs.Common.{◌≡◌, ◌≢◌, ℕ, suc, ◌+◌, ◌<◌, ◌==◌, ◌&&◌, ◌||◌, not, nat_le, Bool, true, false, cond, List, [], ◌∷◌, take, slice_get, Option, Some, None, refl, sym, ◌∙◌, ap, subst, arith}
+use Rattle.std.proofs.Common.{◌≡◌, ℕ, ◌<◌, ◌==◌, ◌&&◌, ◌||◌, not, nat_le, Bool, true, false, cond, List, [], ◌∷◌, Option, Some, None, refl, sym, ◌∙◌, ap, subst, arith}
 use Rattle.std.specs.Prelude.{is_some}
-use Rattle.bits64.specs.declared.Width.TheVariants.{W64}
 use Rattle.rtx_tree.specs.RegSet.{has_reg}
 use Rattle.rtx_tree.specs.Registers.{virtual_stack_vars}
 use Rattle.term_tree.specs.Tree.{Tree}
-use Rattle.term_mean.specs.Stores.{Store}
-use Rattle.term_mean.specs.Sums.{constant}
-use Rattle.term_text.specs.declared.item.Item.{Item}
 use Rattle.term_text.specs.declared.item.Item.TheVariants as item
 use Rattle.sym_term.proofs.Steps.{same-is}
-use Rattle.sym_state.specs.State.{State, Jump, Arg, Call, NeedAt, nothing, own_register}
+use Rattle.sym_state.specs.State.{State, own_register}
 use Rattle.sym_state.specs.Registers.{held}
-use Rattle.sym_diff.specs.Difference.{Difference, Differ, Lacks, shown, or_else}
+use Rattle.sym_diff.specs.Difference.{Difference, or_else}
 use Rattle.sym_diff.specs.Registers.{same_tree, is_live, compared_register, compared_all, compared_registers, changed_in, fails, one_calls, is_passed_over, register_difference}
-use Rattle.sym_diff.specs.Compared.{compared_terms, compared_store, compared_stores, compared_jump, compared_calls, compared_arg, compared_args, compared_numbers, compared_results, compared_needs, target_term, arg_at, arg_beside, args_in, result_bits, need_term, is_covered}
-use Rattle.sym_diff.specs.States.{difference}
-use Rattle.sym_diff.specs.Agree.{RegistersAgree, JumpsAgree, SameCall, CallsAgree, Agree, FirstFails, Tells}
-use Rattle.sym_diff.proofs.AgreeLaws.{or_none, none_or, terms_none, none_terms, register_none, none_register, needs_none, none_needs}
-use Rattle.sym_diff.proofs.NumberLaws.{same_number, itself, or_left, or_right, args_from, changed_keeps, changed_has, args_keep, args_have, Increasing, changed_increasing, has_over}
-use Rattle.sym_diff.proofs.Items.{IsOf, InItem, some_item, none_item, or_item, terms_item, contrary}
+use Rattle.sym_diff.specs.Agree.{RegistersAgree, FirstFails}
+use Rattle.sym_diff.proofs.AgreeLaws.{or_none, register_none, none_register}
+use Rattle.sym_diff.proofs.NumberLaws.{same_number, changed_keeps, changed_has, Increasing, changed_increasing, has_over}
+use Rattle.sym_diff.proofs.Items.{InItem, some_item, none_item}
 
 abbrev numbers : State → State → List ℕ
 numbers a b = changed_in b.regs (changed_in a.regs [])

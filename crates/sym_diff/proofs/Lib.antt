@@ -3,4 +3,8 @@ pub mod PlaceLaws
 pub mod StoreLaws
 pub mod AgreeLaws
 pub mod NumberLaws
+pub mod Items
+pub mod RegistersFirst
+pub mod StoresFirst
+pub mod CallLaws
 pub mod FirstLaws

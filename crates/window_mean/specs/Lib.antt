@@ -1,4 +1,0 @@
-pub mod Insns
-pub mod Lines
-pub mod Beside
-pub mod Does

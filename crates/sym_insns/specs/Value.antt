@@ -27,6 +27,7 @@ use Rattle.term_mean.specs.Normal.{built}
 use Rattle.term_mean.specs.Compared.{compared, low_bits}
 use Rattle.sym_state.specs.State as state
 use Rattle.sym_state.specs.State.{Changed, Need, Lost, Access, Divisor, own_symbol}
+pub use Rattle.sym_state.specs.Makers.{minus_one, one, two, truth_in}
 use Rattle.sym_state.specs.Registers.{read, read_needs}
 
 -- a term, and what it needs, in the order in which it is met
@@ -46,17 +47,6 @@ pub record Reading : Type 0 where
 
 -- ---- operations on terms of a width. Each has a case for each code of its class, and a last one
 -- that no code of the class comes to
-
--- so many ones, as a coefficient -1
-abbrev pub minus_one : Width → ℕ
-minus_one w = 2 ^ bits_of w - 1
-
--- an operator of one part, and of two
-abbrev pub one : List Store → Head → Width → Tree → Tree
-one stores h w a = built stores h w 0 [] (a ∷ [])
-
-abbrev pub two : List Store → Head → Width → Tree → Tree → Tree
-two stores h w a b = built stores h w 0 [] (a ∷ b ∷ [])
 
 -- ("RTL Expressions for Arithmetic": `neg`, `not`) -a, and -1 - a
 abbrev pub unary : Code → Width → Tree → Tree
@@ -126,10 +116,6 @@ relation_of Leu = Some relation.Leu
 relation_of Gtu = Some relation.Gtu
 relation_of Geu = Some relation.Geu
 relation_of _ = None
-
--- a truth has 8 bits; in a wider mode it is extended by zeros
-abbrev pub truth_in : List Store → Width → Tree → Tree
-truth_in stores w t = if same_width w W8 then t else one stores heads.Zext w t
 
 -- a comparison of operands of so many bits, in a width
 abbrev pub related : List Store → Option Relation → Width → Width → Tree → Tree → Tree

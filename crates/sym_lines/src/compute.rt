@@ -6,25 +6,24 @@ ghost use Rattle.rv_text.specs.declared.action.Extension.TheVariants.{Zero};
 ghost use Rattle.term_tree.specs.View.{tree_of};
 ghost use Rattle.term_mean.specs.Sums as sums;
 ghost use Rattle.term_mean.specs.Compared as comparisons;
+ghost use Rattle.sym_state.specs.Makers as makers;
 ghost use Rattle.sym_lines.specs.Compute as spec;
 ghost use Rattle.sym_lines.specs.Step.{extended as extended_spec};
 
 use bits64::Width;
 use plain_data::{Items, Memory};
-use rtx_tree::Name;
 use rv_text::{Comparison, Extension, Operation, Source};
 use std::alloc::Global;
+use sym_state::{less_one, sum, truth_in};
 use sym_term::TermMaker;
 use term_sums::minus_one;
-use term_tree::{Atom, Head, Relation, Term, is_same_width};
+use term_tree::{Head, Relation, Term, is_same_width};
 
-/// An operator of one part.
+/// An operator of one part, which is no load.
 fn one(maker: &mut TermMaker, alloc: Global, head: Head, w: Width, a: Term) -> Result<Term, Memory>
-    ensures { IfOk result (λ r. tree_of r ≡ spec.one head w (tree_of a)) }
+    ensures { IfOk result (λ r. tree_of r ≡ makers.one [] head w (tree_of a)) }
 {
-    let mut parts = Vec::new(alloc);
-    parts.push(a)?;
-    maker.built(&Items::new(alloc), head, w, 0, Name::empty(alloc), parts)
+    sym_state::one(maker, alloc, &Items::new(alloc), head, w, a)
 }
 
 /// An operator of two parts.
@@ -36,47 +35,9 @@ fn two(
     a: Term,
     b: Term,
 ) -> Result<Term, Memory>
-    ensures { IfOk result (λ r. tree_of r ≡ spec.two head w (tree_of a) (tree_of b)) }
+    ensures { IfOk result (λ r. tree_of r ≡ makers.two [] head w (tree_of a) (tree_of b)) }
 {
-    let mut parts = Vec::new(alloc);
-    parts.push(a)?;
-    parts.push(b)?;
-    maker.built(&Items::new(alloc), head, w, 0, Name::empty(alloc), parts)
-}
-
-/// A term, and another with a coefficient.
-fn sum(
-    maker: &mut TermMaker,
-    alloc: Global,
-    w: Width,
-    a: Term,
-    coefficient: u64,
-    b: Term,
-) -> Result<Term, Memory>
-    ensures { IfOk result (λ r. tree_of r
-        ≡ sums.summed w 0 ((1, tree_of a) ∷ (coefficient, tree_of b) ∷ [])) }
-{
-    let mut atoms = Vec::new(alloc);
-    atoms.push(Atom {
-        coefficient: 1,
-        term: a,
-    })?;
-    atoms.push(Atom {
-        coefficient,
-        term: b,
-    })?;
-    maker.summed(w, 0, atoms.as_slice())
-}
-
-/// A truth in a width.
-fn truth_in(maker: &mut TermMaker, alloc: Global, w: Width, t: Term) -> Result<Term, Memory>
-    ensures { IfOk result (λ r. tree_of r ≡ spec.truth_in w (tree_of t)) }
-{
-    if is_same_width(w, Width::W8) {
-        Ok(t)
-    } else {
-        one(maker, alloc, Head::Zext, w, t)
-    }
+    sym_state::two(maker, alloc, &Items::new(alloc), head, w, a, b)
 }
 
 /// Whether a relation holds, in a width.
@@ -89,10 +50,10 @@ fn related(
     b: Term,
 ) -> Result<Term, Memory>
     ensures { IfOk result (λ r. tree_of r
-        ≡ spec.truth_in w (comparisons.compared relation w (tree_of a) (tree_of b))) }
+        ≡ makers.truth_in [] w (comparisons.compared relation w (tree_of a) (tree_of b))) }
 {
     let truth = maker.compared(relation, w, a, b)?;
-    truth_in(maker, alloc, w, truth)
+    truth_in(maker, alloc, &Items::new(alloc), w, truth)
 }
 
 /// The result of an operation on two terms of a width.
@@ -132,12 +93,7 @@ fn result_of(
 fn complement(maker: &mut TermMaker, alloc: Global, w: Width, a: Term) -> Result<Term, Memory>
     ensures { IfOk result (λ r. tree_of r ≡ spec.complement w (tree_of a)) }
 {
-    let mut atoms = Vec::new(alloc);
-    atoms.push(Atom {
-        coefficient: minus_one(w),
-        term: a,
-    })?;
-    maker.summed(w, minus_one(w), atoms.as_slice())
+    less_one(maker, alloc, w, minus_one(w), a)
 }
 
 /// The exclusive or with a number that a mnemonic stands for: with -1 it is the complement.

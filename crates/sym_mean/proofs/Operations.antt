@@ -86,7 +86,7 @@ mean_below v w t is =
     omega (arith, cut, less)
 
 -- an operator of two parts, whose operation has the number
-two_made : (v : Valuation) (stores : List Store) (h : Head) (w : Width) (a b : Tree) (number : ℕ) → Stored v stores → own_width h w ≡ w →
+pub two_made : (v : Valuation) (stores : List Store) (h : Head) (w : Width) (a b : Tree) (number : ℕ) → Stored v stores → own_width h w ≡ w →
     number ≡ low (own_width h w) (applied v h w 0 [] ((width_of a, mean v a) ∷ (width_of b, mean v b) ∷ [])) →
     Makes v (Some number) (spec.two stores h w a b) w
 two_made v stores h w a b number stored own is = record {
@@ -99,11 +99,11 @@ mult_made v stores w a b stored = two_made v stores heads.Mul w a b _ stored ref
 
 -- ---- quotients and remainders
 
-wrapped_below : (w : Width) (z : ℤ) → wrapped w z < 2 ^ bits_of w
+pub wrapped_below : (w : Width) (z : ℤ) → wrapped w z < 2 ^ bits_of w
 wrapped_below w (pos n) = mod-lt n (pow_pos (bits_of w))
 wrapped_below w (negsuc n) = let some : 0 < 2 ^ bits_of w = pow_pos (bits_of w) in omega (arith, some)
 
-low_below : (w : Width) (a : ℕ) → low w a < 2 ^ bits_of w
+pub low_below : (w : Width) (a : ℕ) → low w a < 2 ^ bits_of w
 low_below w a = mod-lt a (pow_pos (bits_of w))
 
 either_below : (w : Width) (b : Bool) (m n : ℕ) → m < 2 ^ bits_of w → n < 2 ^ bits_of w → (if b then m else n) < 2 ^ bits_of w

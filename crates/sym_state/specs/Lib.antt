@@ -1,4 +1,5 @@
 pub mod Answers
+pub mod Makers
 pub mod Registers
 pub mod State
 pub mod Views

@@ -3,15 +3,18 @@
 //!
 //! A [`SymState`] has the registers that were changed, the stores, the jump, the call and the needs. Here a register is read
 //! ([`read`], [`read_need`]), set or unset ([`put`], [`leave_by_call`]), and a state is seen to be within the limit of terms
-//! ([`SymState::is_within`]). Each call gives what its definition gives, unless memory runs out.
+//! ([`SymState::is_within`]); and terms are made by one step of the rules, for instructions and lines alike. Each call gives what its
+//! definition gives, unless memory runs out.
 #![tactic(auto)]
 
 mod limits;
+mod makers;
 mod refusal;
 mod registers;
 mod state;
 mod terms;
 
+pub use makers::{less_one, one, sum, truth_in, two};
 pub use refusal::SymRefusal;
 pub use registers::{leave_by_call, put, read, read_need};
 pub use state::{

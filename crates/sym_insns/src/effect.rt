@@ -127,8 +127,8 @@ fn make_place(
     needs: &mut Needs,
 ) -> Result<Term, Memory>
     ensures { IfOk result (λ r. IsMade needs.old needs.new (tree_of r)
-        (at_place (made_of (map changed_of regs.now) (map store_of stores.now) address.now Width.W64)
-        w)) }
+        (at_place
+        (made_of (map changed_of regs.now) (map store_of stores.now) address.now Width.W64) w)) }
 {
     let term = make(maker, alloc, regs, stores, address, Width::W64, needs)?;
     need_access(alloc, &term, w, needs)?;

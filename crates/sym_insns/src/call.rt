@@ -3,9 +3,9 @@ ghost use Rattle.std.specs.Prelude.{◌≡◌, ◌++◌, map, option_copied, IfO
 ghost use Rattle.rtl_step.specs.Call as calls;
 ghost use Rattle.term_tree.specs.View.{tree_of};
 ghost use Rattle.sym_term.specs.Views.{store_of};
-ghost use Rattle.sym_state.specs.Views.{arg_of, changed_of, need_of, state_of};
+ghost use Rattle.sym_state.specs.Views.{call_of, changed_of, state_of};
 ghost use Rattle.sym_insns.specs.Effects as spec;
-ghost use Rattle.sym_insns.specs.machine.Making.{AreArgs, IsCall, IsMade};
+ghost use Rattle.sym_insns.specs.machine.Making.{AreArgs, IsCall, IsMade, with_call};
 
 use crate::effect::add_needs;
 use crate::operation::Needs;
@@ -125,6 +125,22 @@ fn make_call(
     })
 }
 
+/// Notes what is called.
+fn note_call(state: &mut SymState, call: SymCall)
+    ensures { state_of state.new ≡ record (state_of state.old) { call = Some (call_of call) } }
+{
+    state.call = Some(call);
+}
+
+/// Makes a call: registers that it need not preserve are unset.
+fn leave(state: &mut SymState, call: SymCall) -> Result<(), Memory>
+    ensures { OnOk result (state_of state.new ≡ with_call (call_of call) (state_of state.old)) }
+{
+    leave_by_call(&mut state.regs)?;
+    note_call(state, call);
+    Ok(())
+}
+
 /// Runs a call at a place.
 pub fn run_call(
     maker: &mut TermMaker,
@@ -147,7 +163,6 @@ pub fn run_call(
         uses,
         &mut needs,
     )?;
-    leave_by_call(&mut state.regs)?;
-    state.call = Some(call);
+    leave(state, call)?;
     add_needs(&mut state.needs, index, needs)
 }

@@ -2,11 +2,12 @@
 ghost use Rattle.std.specs.Prelude.{◌≡◌, ◌++◌, [], ◌∷◌, map, IfOk, OnOk};
 ghost use Rattle.rtl_step.specs.Effect.{register_of as register_spec};
 ghost use Rattle.sym_term.specs.Views.{store_of};
-ghost use Rattle.sym_state.specs.State.{needs_at};
+ghost use Rattle.sym_state.specs.State.{Access, needs_at};
+ghost use Rattle.term_tree.specs.View.{tree_of};
 ghost use Rattle.sym_state.specs.Views.{changed_of, need_at_of, need_of, state_of};
 ghost use Rattle.sym_insns.specs.Effects as spec;
 ghost use Rattle.sym_insns.specs.Value.{made_of};
-ghost use Rattle.sym_insns.specs.machine.Making.{effect_view, effected_view, with_effect};
+ghost use Rattle.sym_insns.specs.machine.Making.{IsMade, at_place, effect_view, effected_view, with_effect};
 
 use crate::operation::Needs;
 use crate::value::make;
@@ -103,6 +104,37 @@ fn set_register(
     })
 }
 
+/// Notes that memory at an address is written.
+fn need_access(alloc: Global, address: &Term, w: Width, needs: &mut Needs) -> Result<(), Memory>
+    ensures { OnOk result (map need_of needs.new
+        ≡ map need_of needs.old ++ Access (tree_of address.now) w ∷ []) }
+{
+    needs.push(NeedOf::Access {
+        address: address.copy(alloc)?,
+        width: w,
+    })?;
+    Ok(())
+}
+
+/// The address of a place in memory.
+fn make_place(
+    maker: &mut TermMaker,
+    alloc: Global,
+    regs: &SymRegs,
+    stores: &SymStores,
+    address: &Rtx,
+    w: Width,
+    needs: &mut Needs,
+) -> Result<Term, Memory>
+    ensures { IfOk result (λ r. IsMade needs.old needs.new (tree_of r)
+        (at_place
+        (made_of (map changed_of regs.now) (map store_of stores.now) address.now Width.W64) w)) }
+{
+    let term = make(maker, alloc, regs, stores, address, Width::W64, needs)?;
+    need_access(alloc, &term, w, needs)?;
+    Ok(term)
+}
+
 fn set_memory(
     maker: &mut TermMaker,
     alloc: Global,
@@ -119,11 +151,7 @@ fn set_memory(
 {
     let mut needs = Needs::new(alloc);
     let value = make(maker, alloc, regs, stores, source, w, &mut needs)?;
-    let address = make(maker, alloc, regs, stores, address, Width::W64, &mut needs)?;
-    needs.push(NeedOf::Access {
-        address: address.copy(alloc)?,
-        width: w,
-    })?;
+    let address = make_place(maker, alloc, regs, stores, address, w, &mut needs)?;
     Ok(EffectedOf {
         effect: EffectOf::Stores { address, value },
         needs,

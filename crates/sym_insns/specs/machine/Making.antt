@@ -1,13 +1,15 @@
 -- How the code makes a term: the needs that it meets are put behind those met before. What the
 -- code's own types are in the words of the definitions.
-use Rattle.std.specs.Prelude.{◌≡◌, List, ◌++◌, map, Option}
+use Rattle.std.specs.Prelude.{◌≡◌, List, [], ◌∷◌, ◌++◌, map, Option, Some}
+use Rattle.bits64.specs.declared.Width.{Width}
 use Rattle.rtx_tree.specs.declared.code.Mode.{Mode}
 use Rattle.rtx_tree.specs.declared.tree.Rtx.{Rtx, out-Rtx}
 use Rattle.rtl_step.specs.Value.{width_of}
 use Rattle.term_tree.specs.Tree.{Tree}
 use Rattle.term_tree.specs.View.{tree_of}
 use Rattle.term_mean.specs.Stores.{Store}
-use Rattle.sym_state.specs.State.{Changed, State, Need, Arg}
+use Rattle.sym_state.specs.State.{Changed, State, Need, Access, Arg, Call}
+use Rattle.sym_state.specs.Registers.{left_by_call}
 use Rattle.sym_state.specs.Views.{arg_of, call_of, need_of}
 use Rattle.sym_state.specs.declared.state.NeedOf.{NeedOf}
 use Rattle.sym_state.specs.declared.state.SymArg.{SymArg}
@@ -22,6 +24,11 @@ use Rattle.sym_insns.specs.declared.effect.EffectedOf.{EffectedOf}
 pub record IsMade (before after : List NeedOf) (term : Tree) (made : Made) : Type 0 where
   pub term_is : term ≡ made.term
   pub needs_are : map need_of after ≡ map need_of before ++ made.needs
+
+-- the address of a place in memory, so many bits of which are written
+abbrev pub at_place : Made → Width → Made
+at_place address w =
+    record { term = address.term; needs = address.needs ++ Access address.term w ∷ [] }
 
 -- an expression as its outside reads it, by its own mode and what is made of it
 abbrev pub reading_by_mode : List Changed → List Store → Rtx → Reading
@@ -45,6 +52,10 @@ with_effect e s = record s { regs = spec.reg_after e s.regs; stores = spec.store
 abbrev pub with_jump : Tree → Rtx → State → State
 with_jump condition label s =
     record s { jump = record { condition = condition; target = spec.target_uid label } }
+
+-- a call made, without its needs
+abbrev pub with_call : Call → State → State
+with_call call s = record s { regs = left_by_call s.regs; call = Some call }
 
 -- arguments with what they need
 pub record AreArgs (before after : List NeedOf) (args : List SymArg) (made : List Arg)

@@ -4,6 +4,8 @@ ghost use Rattle.rtx_tree.specs.Registers.{is_call_used as is_call_used_spec};
 ghost use Rattle.term_tree.specs.View.{tree_of};
 ghost use Rattle.sym_state.specs.Registers.{held as held_spec};
 ghost use Rattle.sym_state.specs.Views.{changed_of};
+ghost use Rattle.term_text.specs.declared.item.Item.TheVariants as items;
+ghost use Rattle.sym_diff.specs.Difference.{Differ, shown as shown_spec};
 ghost use Rattle.sym_diff.specs.Registers as spec;
 ghost use Rattle.sym_diff.specs.Views.{difference_of};
 
@@ -182,7 +184,40 @@ fn fails(
     }
 }
 
+/// The low bits that the other side knows, as they are shown.
+fn shown_beside(
+    maker: &mut TermMaker,
+    alloc: Global,
+    a: &Option<Term>,
+    b: &Option<Term>,
+) -> Result<Term, Memory>
+    ensures { IfOk result (λ term. tree_of term ≡
+        shown_spec (spec.cut_beside (option_map tree_of a.now) (option_map tree_of b.now))) }
+{
+    let beside = cut_beside(maker, alloc, a, b)?;
+    shown(alloc, &beside)
+}
+
 /// What a register holds on both sides.
+fn differ_in(
+    maker: &mut TermMaker,
+    alloc: Global,
+    reg: u64,
+    a: &Option<Term>,
+    b: &Option<Term>,
+) -> Result<SymDifference, Memory>
+    ensures { IfOk result (λ found. difference_of found ≡
+        Differ (items.Register reg) (shown_spec (option_map tree_of a.now))
+        (shown_spec (spec.cut_beside (option_map tree_of a.now) (option_map tree_of b.now)))) }
+{
+    Ok(SymDifference::Differ {
+        item: Item::Register { reg },
+        left: shown(alloc, a)?,
+        right: shown_beside(maker, alloc, a, b)?,
+    })
+}
+
+/// What a register holds behind both sides.
 fn register_difference(
     maker: &mut TermMaker,
     alloc: Global,
@@ -195,13 +230,8 @@ fn register_difference(
         (held_spec (map changed_of b.now) reg) reg) }
 {
     let left = value_behind(alloc, a, reg)?;
-    let behind = value_behind(alloc, b, reg)?;
-    let right = cut_beside(maker, alloc, &left, &behind)?;
-    Ok(SymDifference::Differ {
-        item: Item::Register { reg },
-        left: shown(alloc, &left)?,
-        right: shown(alloc, &right)?,
-    })
+    let right = value_behind(alloc, b, reg)?;
+    differ_in(maker, alloc, reg, &left, &right)
 }
 
 /// Whether a register is passed over, since a call may change it.

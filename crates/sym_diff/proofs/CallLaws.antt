@@ -1,13 +1,14 @@
 -- The jump and the call: they agree where nothing is found in them, and only there.
-use Rattle.std.proofs.Common.{◌≡◌, ℕ, ◌==◌, ◌||◌, Bool, true, false, List, [], ◌∷◌, Option, Some, None, refl, subst}
+use Rattle.std.proofs.Common.{◌≡◌, ℕ, ◌==◌, ◌||◌, Bool, true, false, List, [], ◌∷◌, Option, Some, None, refl, sym, ◌∙◌, ap, subst, cond}
 use Rattle.bits64.specs.declared.Width.TheVariants.{W64}
 use Rattle.rtx_tree.specs.RegSet.{has_reg}
 use Rattle.term_tree.specs.Tree.{Tree}
 use Rattle.term_mean.specs.Sums.{constant}
 use Rattle.term_text.specs.declared.item.Item.TheVariants as item
+use Rattle.sym_term.proofs.Steps.{same-is}
 use Rattle.sym_state.specs.State.{Jump, Arg, Call, nothing}
 use Rattle.sym_diff.specs.Difference.{Difference, Differ, shown, or_else}
-use Rattle.sym_diff.specs.Compared.{compared_terms, compared_jump, compared_calls, compared_arg, compared_args, compared_numbers, compared_results, target_term, arg_at, arg_beside, args_in, result_bits}
+use Rattle.sym_diff.specs.Compared.{compared_terms, compared_jump, compared_calls, compared_arg, compared_args, compared_numbers, compared_results, target_term, arg_at, arg_beside, same_value, args_in, result_bits}
 use Rattle.sym_diff.specs.Agree.{JumpsAgree, SameCall, CallsAgree}
 use Rattle.sym_diff.proofs.AgreeLaws.{or_none, none_or, terms_none, none_terms}
 use Rattle.sym_diff.proofs.NumberLaws.{same_number, itself, or_left, or_right, args_from, args_keep, args_have}
@@ -34,10 +35,17 @@ none_jump a b h =
 abbrev found_arg : Bool → List Arg → List Arg → ℕ → Option Difference
 found_arg of_lines a b reg = compared_arg of_lines (arg_at a reg) (arg_at b reg)
 
+arg_item : (of_lines : Bool) (x y : Option Tree) → InItem item.Call (compared_arg of_lines x y)
+arg_item of_lines x y = go (same_value x (arg_beside of_lines x y))
+  where
+    go : (s : Bool) → InItem item.Call (cond s None (Some (Differ item.Call (shown x) (shown (arg_beside of_lines x y)))))
+    go true = none_item item.Call
+    go false = some_item item.Call (shown x) (shown (arg_beside of_lines x y))
+
 args_item : (of_lines : Bool) (a b : List Arg) (regs : List ℕ) → InItem item.Call (compared_args of_lines a b regs)
 args_item of_lines a b [] = none_item item.Call
 args_item of_lines a b (reg ∷ regs) =
-    or_item item.Call (found_arg of_lines a b reg) (compared_args of_lines a b regs) (terms_item item.Call (shown (arg_at a reg)) (shown (arg_beside of_lines (arg_at a reg) (arg_at b reg)))) (args_item of_lines a b regs)
+    or_item item.Call (found_arg of_lines a b reg) (compared_args of_lines a b regs) (arg_item of_lines (arg_at a reg) (arg_at b reg)) (args_item of_lines a b regs)
 
 args_none : (of_lines : Bool) (a b : List Arg) (regs : List ℕ) → compared_args of_lines a b regs ≡ None → (reg : ℕ) → has_reg regs reg ≡ true → found_arg of_lines a b reg ≡ None
 args_none of_lines a b [] h reg has = cc
@@ -81,11 +89,30 @@ second_args false a b reg u of_insns is = args_have b (args_in a []) reg u is
 lines_args : (a b : List Arg) (reg : ℕ) → arg_at a reg ≡ None → has_reg (compared_numbers true a b) reg ≡ true → ⊥
 lines_args a b reg none has = let h = args_from a [] reg none has in cc
 
-arg_none : (of_lines : Bool) (x y : Option Tree) → compared_arg of_lines x y ≡ None → shown x ≡ shown (arg_beside of_lines x y)
-arg_none of_lines x y h = terms_none item.Call (shown x) (shown (arg_beside of_lines x y)) h
+value_same : (x y : Option Tree) → same_value x y ≡ true → x ≡ y
+value_same None None h = refl
+value_same None (Some u) h = cc
+value_same (Some t) None h = cc
+value_same (Some t) (Some u) h = ap (λ t. Some t) ((same-is t u).0 h)
 
-none_arg : (of_lines : Bool) (x y : Option Tree) → shown x ≡ shown (arg_beside of_lines x y) → compared_arg of_lines x y ≡ None
-none_arg of_lines x y h = none_terms item.Call (shown x) (shown (arg_beside of_lines x y)) h
+same_is : (x y : Option Tree) → x ≡ y → same_value x y ≡ true
+same_is None None h = refl
+same_is None (Some u) h = cc
+same_is (Some t) None h = cc
+same_is (Some t) (Some u) h = (same-is t u).1 (some h)
+  where
+    some : Some t ≡ Some u → t ≡ u
+    some h = cc
+
+arg_none : (of_lines : Bool) (x y : Option Tree) → compared_arg of_lines x y ≡ None → x ≡ arg_beside of_lines x y
+arg_none of_lines x y h = go (same_value x (arg_beside of_lines x y)) refl h
+  where
+    go : (s : Bool) → same_value x (arg_beside of_lines x y) ≡ s → cond s None (Some (Differ item.Call (shown x) (shown (arg_beside of_lines x y)))) ≡ None → x ≡ arg_beside of_lines x y
+    go true is h = value_same x (arg_beside of_lines x y) is
+    go false is h = cc
+
+none_arg : (of_lines : Bool) (x y : Option Tree) → x ≡ arg_beside of_lines x y → compared_arg of_lines x y ≡ None
+none_arg of_lines x y h = ap (λ s. cond s None (Some (Differ item.Call (shown x) (shown (arg_beside of_lines x y))))) (same_is x (arg_beside of_lines x y) h)
 
 abbrev calls_found : Bool → Call → Call → Option Difference
 calls_found of_lines a b = compared_args of_lines a.args b.args (compared_numbers of_lines a.args b.args)
@@ -102,22 +129,21 @@ both_none of_lines a b h =
       result = results_none of_lines a b more.1;
     }
   where
-    first_shown : (reg : ℕ) (t : Tree) → arg_at a.args reg ≡ Some t → shown (arg_at a.args reg) ≡ shown (arg_beside of_lines (arg_at a.args reg) (arg_at b.args reg)) →
-        t ≡ shown (arg_beside of_lines (Some t) (arg_at b.args reg))
-    first_shown reg t is h = subst (λ x. shown x ≡ shown (arg_beside of_lines x (arg_at b.args reg))) is h
+    first_shown : (reg : ℕ) (t : Tree) → arg_at a.args reg ≡ Some t → arg_at a.args reg ≡ arg_beside of_lines (arg_at a.args reg) (arg_at b.args reg) →
+        arg_beside of_lines (Some t) (arg_at b.args reg) ≡ Some t
+    first_shown reg t is h = subst (λ x. arg_beside of_lines x (arg_at b.args reg) ≡ x) is (sym h)
 
-    second_shown : (reg : ℕ) (u : Tree) → of_lines ≡ false → arg_at b.args reg ≡ Some u → shown (arg_at a.args reg) ≡ shown (arg_beside of_lines (arg_at a.args reg) (arg_at b.args reg)) →
-        shown (arg_at a.args reg) ≡ u
-    second_shown reg u of_insns is h =
-        subst (λ y. shown (arg_at a.args reg) ≡ shown y) is (subst (λ l. shown (arg_at a.args reg) ≡ shown (arg_beside l (arg_at a.args reg) (arg_at b.args reg))) of_insns h)
+    second_shown : (reg : ℕ) (u : Tree) → of_lines ≡ false → arg_at b.args reg ≡ Some u → arg_at a.args reg ≡ arg_beside of_lines (arg_at a.args reg) (arg_at b.args reg) →
+        arg_at a.args reg ≡ Some u
+    second_shown reg u of_insns is h = subst (λ l. arg_at a.args reg ≡ arg_beside l (arg_at a.args reg) (arg_at b.args reg)) of_insns h ∙ is
 
 -- an argument that is looked at is the same
 arg_same : (of_lines : Bool) (a b : Call) → SameCall of_lines a b → (reg : ℕ) → has_reg (compared_numbers of_lines a.args b.args) reg ≡ true → (x y : Option Tree) → arg_at a.args reg ≡ x → arg_at b.args reg ≡ y →
-    shown x ≡ shown (arg_beside of_lines x y)
-arg_same of_lines a b s reg has (Some t) y is is_y = subst (λ y. t ≡ shown (arg_beside of_lines (Some t) y)) is_y (s.args reg t is)
+    x ≡ arg_beside of_lines x y
+arg_same of_lines a b s reg has (Some t) y is is_y = sym (subst (λ y. arg_beside of_lines (Some t) y ≡ Some t) is_y (s.args reg t is))
 arg_same true a b s reg has None y is is_y = absurd (lines_args a.args b.args reg is has)
 arg_same false a b s reg has None None is is_y = refl
-arg_same false a b s reg has None (Some u) is is_y = subst (λ x. shown x ≡ u) is (s.more refl reg u is_y)
+arg_same false a b s reg has None (Some u) is is_y = subst (λ x. x ≡ Some u) is (s.more refl reg u is_y)
 
 none_both : (of_lines : Bool) (a b : Call) → SameCall of_lines a b → compared_calls of_lines (Some a) (Some b) ≡ None
 none_both of_lines a b s =

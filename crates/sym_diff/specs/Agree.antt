@@ -11,7 +11,7 @@ use Rattle.term_mean.specs.Compared.{low_bits}
 use Rattle.term_text.specs.declared.item.Item.TheVariants as item
 use Rattle.sym_state.specs.State.{State, Jump, Call, NeedAt}
 use Rattle.sym_state.specs.Registers.{held}
-use Rattle.sym_diff.specs.Difference.{Difference, Differ, Lacks, shown}
+use Rattle.sym_diff.specs.Difference.{Difference, Differ, Lacks}
 use Rattle.sym_diff.specs.Registers.{value_behind, is_live, is_free, one_calls, is_passed_over}
 use Rattle.sym_diff.specs.Compared.{target_term, arg_at, arg_beside, result_bits, is_covered}
 
@@ -47,9 +47,9 @@ JumpsAgree a b = (a.condition ≡ b.condition) × (target_term a.target ≡ targ
 pub record SameCall (of_lines : Bool) (a b : Call) : Type 0 where
   pub target : a.target ≡ b.target
   pub args : (reg : ℕ) (t : Tree) → arg_at a.args reg ≡ Some t →
-      t ≡ shown (arg_beside of_lines (Some t) (arg_at b.args reg))
+      arg_beside of_lines (Some t) (arg_at b.args reg) ≡ Some t
   pub more : of_lines ≡ false → (reg : ℕ) (u : Tree) → arg_at b.args reg ≡ Some u →
-      shown (arg_at a.args reg) ≡ u
+      arg_at a.args reg ≡ Some u
   pub result : of_lines ≡ false →
       constant W64 (result_bits a.result) ≡ constant W64 (result_bits b.result)
 

@@ -1,5 +1,5 @@
 -- The stores, the jumps, the calls and the needs of two symbolic states compared.
-use Rattle.std.specs.Prelude.{ℕ, ◌+◌, ◌==◌, ◌&&◌, nat_le, Bool, false, if◌then◌else◌, List, [], ◌∷◌, Option, Some, None}
+use Rattle.std.specs.Prelude.{ℕ, ◌+◌, ◌==◌, ◌&&◌, nat_le, Bool, true, false, if◌then◌else◌, List, [], ◌∷◌, Option, Some, None}
 use Rattle.std.specs.List.{list_any}
 use Rattle.std.specs.Str.{bytes_eq}
 use Rattle.bits64.specs.declared.Width.TheVariants.{W64}
@@ -63,8 +63,16 @@ compared_numbers of_lines a b = if of_lines then args_in a [] else args_in b (ar
 abbrev pub arg_beside : Bool → Option Tree → Option Tree → Option Tree
 arg_beside of_lines a b = if of_lines then cut_beside a b else b
 
+-- both hand over the same, or both nothing
+abbrev pub same_value : Option Tree → Option Tree → Bool
+same_value None None = true
+same_value (Some a) (Some b) = same_tree a b
+same_value _ _ = false
+
 abbrev pub compared_arg : Bool → Option Tree → Option Tree → Option Difference
-compared_arg of_lines a b = compared_terms item.Call (shown a) (shown (arg_beside of_lines a b))
+compared_arg of_lines a b =
+    let beside = arg_beside of_lines a b in
+    if same_value a beside then None else Some (Differ item.Call (shown a) (shown beside))
 
 abbrev pub compared_args : Bool → List Arg → List Arg → List ℕ → Option Difference
 compared_args of_lines a b [] = None

@@ -4,10 +4,12 @@ ghost use Rattle.bits64.specs.declared.Width.TheVariants.{W64};
 ghost use Rattle.term_tree.specs.View.{tree_of};
 ghost use Rattle.term_mean.specs.Sums.{constant};
 ghost use Rattle.sym_state.specs.Views.{arg_of, call_of};
+ghost use Rattle.term_text.specs.declared.item.Item.TheVariants as item;
+ghost use Rattle.sym_diff.specs.Difference as difference;
 ghost use Rattle.sym_diff.specs.Compared as spec;
 ghost use Rattle.sym_diff.specs.Views.{difference_of};
 
-use crate::difference::{Found, compared_terms, copy_of, differ, nothing, shown};
+use crate::difference::{Found, compared_terms, copy_of, differ, nothing, same_terms, shown};
 use crate::numbers::{Numbers, put_args};
 use crate::registers::cut_beside;
 use bits64::Width;
@@ -69,6 +71,34 @@ fn arg_beside(
     }
 }
 
+/// Whether both hand over the same, or both nothing.
+fn same_value(maker: &mut TermMaker, a: &Option<Term>, b: &Option<Term>) -> Result<bool, Memory>
+    ensures { IfOk result (λ same. same ≡
+        spec.same_value (option_map tree_of a.now) (option_map tree_of b.now)) }
+{
+    match a {
+        None => match b {
+            None => Ok(true),
+            Some(_b) => Ok(false),
+        },
+        Some(a) => match b {
+            None => Ok(false),
+            Some(b) => same_terms(maker, a, b),
+        },
+    }
+}
+
+/// What is handed over on both sides.
+fn differ_as_shown(alloc: Global, a: &Option<Term>, b: &Option<Term>) -> Result<Found, Memory>
+    ensures { IfOk result (λ found. option_map difference_of found ≡
+        Some (difference.Differ item.Call (difference.shown (option_map tree_of a.now))
+        (difference.shown (option_map tree_of b.now)))) }
+{
+    let left = shown(alloc, a)?;
+    let right = shown(alloc, b)?;
+    differ(alloc, Item::Call, &left, &right)
+}
+
 fn compared_arg(
     maker: &mut TermMaker,
     alloc: Global,
@@ -80,9 +110,11 @@ fn compared_arg(
         spec.compared_arg of_lines (option_map tree_of a.now) (option_map tree_of b.now)) }
 {
     let beside = arg_beside(maker, alloc, of_lines, a, b)?;
-    let left = shown(alloc, a)?;
-    let right = shown(alloc, &beside)?;
-    compared_terms(maker, alloc, Item::Call, &left, &right)
+    if same_value(maker, a, &beside)? {
+        Ok(None)
+    } else {
+        differ_as_shown(alloc, a, &beside)
+    }
 }
 
 /// What is handed over in a register on both sides.

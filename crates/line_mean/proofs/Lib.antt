@@ -1,0 +1,6 @@
+pub mod Accesses
+pub mod Computing
+pub mod Lines
+pub mod Reading
+pub mod Results
+pub mod Setting

@@ -115,6 +115,15 @@ operated_made v op.Xor x w a b n is same = exclusive_made v x w a b n is same
 operated_made v o x w a b n is same =
     as_number (sym (results_low o w (mean v a) (mean v b)) ∙ ap (λ n. line.result_of o w (low w (mean v a)) n) (sym same) ∙ results_low o w (mean v a) n) (results_made v o w a b)
 
+-- the width of an operation's term
+exclusive_width : (x : Source) (w : Width) (a b : Tree) (v : Valuation) → width_of (spec.exclusive_or x w a b) ≡ w
+exclusive_width (Constant (negsuc zero)) w a b v = width-summed w (2 ^ bits_of w - 1) ((2 ^ bits_of w - 1, a) ∷ [])
+exclusive_width x w a b v = (results_made v op.Xor w a b).width_is
+
+pub operated_width : (v : Valuation) (o : Operation) (x : Source) (w : Width) (a b : Tree) → width_of (spec.operated o x w a b) ≡ w
+operated_width v op.Xor x w a b = exclusive_width x w a b v
+operated_width v o x w a b = (results_made v o w a b).width_is
+
 -- ---- what is written
 
 -- a width is 64 where it is as wide

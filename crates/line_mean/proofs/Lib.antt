@@ -4,3 +4,4 @@ pub mod Lines
 pub mod Reading
 pub mod Results
 pub mod Setting
+pub mod Steps

@@ -12,6 +12,8 @@ mod runs;
 mod steps;
 
 use case_text::Told;
+pub use lines::line_in;
+pub use parts::{function_in, halves};
 use std::alloc::Global;
 
 /// Tells what comes of an input. Whether there is such a table.

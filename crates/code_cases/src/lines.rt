@@ -8,7 +8,8 @@ use rv_line::{LineEnd, RvState, step_line};
 use rv_text::{Line, parse_line, print_line};
 use std::alloc::Global;
 
-fn line_in(alloc: Global, text: &[u8]) -> Option<Line> {
+/// The line that a text writes.
+pub fn line_in(alloc: Global, text: &[u8]) -> Option<Line> {
     match parse_line(alloc, text) {
         Ok(line) => line,
         Err(_) => None,

@@ -7,8 +7,9 @@ mod normal;
 mod term;
 
 use case_text::Told;
+pub use normal::show as show_term;
 use std::alloc::Global;
-pub use term::register_term;
+pub use term::{register, register_term};
 
 /// Tells what comes of an input. Whether there is such a table.
 pub fn answer(alloc: Global, table: &str, given: &[u8], input: &[u8], told: &mut Told) -> bool {

@@ -24,7 +24,8 @@ const RELATIONS: [(&str, Relation); 10] = [
     ("geu", Relation::Geu),
 ];
 
-fn show(alloc: Global, term: &Term, told: &mut Told) {
+/// Appends the text of a term.
+pub fn show(alloc: Global, term: &Term, told: &mut Told) {
     match print_term(alloc, term) {
         Ok(text) => told.push(text.bytes()),
         Err(_) => told.fail(),
@@ -39,7 +40,7 @@ fn term_in(alloc: Global, text: &[u8]) -> Option<Term> {
     term_of(alloc, &tree)
 }
 
-/// Appends the text of a term.
+/// Appends the text of the term that a text writes.
 pub fn tell_text(alloc: Global, input: &[u8], told: &mut Told) {
     match term_in(alloc, input) {
         Some(term) => show(alloc, &term, told),

@@ -60,7 +60,7 @@ fn number_of(tree: &Tree) -> Option<u64> {
 }
 
 /// The register of a word, as `a0` or `<1>`.
-fn register(word: &[u8]) -> Option<u64> {
+pub fn register(word: &[u8]) -> Option<u64> {
     if let [b'<', digits @ .., b'>'] = word {
         return match number_in(digits) {
             Some(number) => Some(number.cast_unsigned().wrapping_add(64)),

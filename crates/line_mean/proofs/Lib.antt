@@ -5,3 +5,4 @@ pub mod Reading
 pub mod Results
 pub mod Setting
 pub mod Steps
+pub mod Tables

@@ -1,0 +1,58 @@
+-- A line of the table names one of 32 registers as rd.
+use Rattle.std.proofs.Common.{◌≡◌, ℕ, zero, suc, ◌+◌, ◌<◌, ◌==◌, ◌&&◌, Bool, true, false, cond, List, [], ◌∷◌, length, Option, Some, None, refl, sym, ◌∙◌, ap, subst, arith, tests}
+use Rattle.std.specs.Prelude.{if◌then◌else◌, is_some, option_and_then, slice_get, bytes_eq, nat_eq}
+use Rattle.std.specs.Ordering.{int_eq}
+use Rattle.std.proofs.lemmas.Bool.Decides.{nat_tests}
+use Rattle.rtx_tree.specs.Registers.{reg_names}
+use Rattle.rv_text.specs.Lines.{bare, put, filled, has_all, same_line, is_of_row, action_of, register_text}
+use Rattle.rv_text.specs.Table.{Row, row_named}
+use Rattle.rv_text.specs.declared.action.Action.{Action}
+use Rattle.rv_text.specs.declared.line.Line.{Line}
+use Rattle.rv_text.specs.declared.operand.Operand.{Operand}
+use Rattle.rv_text.specs.declared.operand.Operand.TheVariants.{Rd, Rs, Rt, Number, Place, Target, Ra}
+
+both : (a b : Bool) → (a && b) ≡ true → (a ≡ true) × (b ≡ true)
+both true b is = (refl, is)
+both false b is = absurd (let no : ⊥ = cc in no)
+
+there : {A : Type 0} (xs : List A) (k : ℕ) → is_some (slice_get xs k) ≡ true → k < length xs
+there [] k is = absurd (let no : ⊥ = cc in no)
+there (x ∷ xs) zero is = omega arith
+there (x ∷ xs) (suc k) is = omega (arith, there xs k is)
+
+-- what a line is filled with has rd from one of the two
+filled_within : (operands : List Operand) (from l : Line) → has_all operands from ≡ true → l.rd < 32 → (filled operands from l).rd < 32
+filled_within [] from l has within = within
+filled_within (Rd ∷ operands) from l has within =
+    let parts = both (is_some (register_text from.rd)) (has_all operands from) has in
+    filled_within operands from (put Rd from l) parts.1 (there reg_names from.rd parts.0)
+filled_within (Rs ∷ operands) from l has within = filled_within operands from (put Rs from l) (both _ (has_all operands from) has).1 within
+filled_within (Rt ∷ operands) from l has within = filled_within operands from (put Rt from l) (both _ (has_all operands from) has).1 within
+filled_within (Number least most ∷ operands) from l has within = filled_within operands from (put (Number least most) from l) (both _ (has_all operands from) has).1 within
+filled_within (Place least most ∷ operands) from l has within = filled_within operands from (put (Place least most) from l) (both _ (has_all operands from) has).1 within
+filled_within (Target ∷ operands) from l has within = filled_within operands from (put Target from l) (both _ (has_all operands from) has).1 within
+filled_within (Ra ∷ operands) from l has within = filled_within operands from (put Ra from l) has within
+
+same_rd : (a b : Line) → same_line a b ≡ true → a.rd ≡ b.rd
+same_rd a b is =
+    let later = both (bytes_eq a.name b.name) _ is in
+    let rd = both (nat_eq a.rd b.rd) _ later.1 in
+    grind (arith, nat_tests, rd.0)
+
+row_within : (row : Row) (l : Line) → is_of_row row l ≡ true → l.rd < 32
+row_within row l is =
+    let parts = both (has_all row.operands l) (same_line (filled row.operands l (bare l.name)) l) is in
+    subst (λ n. n < 32) (same_rd (filled row.operands l (bare l.name)) l parts.1)
+    (filled_within row.operands l (bare l.name) parts.0 (omega arith))
+
+-- rd of a line that does something
+pub rd_within : (l : Line) (a : Action) → action_of l ≡ Some a → l.rd < 32
+rd_within l a is = by (row_named l.name) is
+  where
+    of_row : (row : Row) (b : Bool) → is_of_row row l ≡ b → (if b then Some row.action else None) ≡ Some a → l.rd < 32
+    of_row row true e is = row_within row l e
+    of_row row false e is = absurd (let no : ⊥ = cc in no)
+
+    by : (o : Option Row) → option_and_then (λ row. if is_of_row row l then Some row.action else None) o ≡ Some a → l.rd < 32
+    by None is = absurd (let no : ⊥ = cc in no)
+    by (Some row) is = of_row row (is_of_row row l) refl is

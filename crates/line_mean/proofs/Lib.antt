@@ -1,5 +1,6 @@
 pub mod Accesses
 pub mod Computing
+pub mod Ends
 pub mod Lines
 pub mod Reading
 pub mod Results

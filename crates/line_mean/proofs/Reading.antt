@@ -77,7 +77,7 @@ module _ (v : Valuation) (f : needs.First) (first : List (Option ℕ)) (is_first
       by true = low_low (own_register reg)
       by false = low_low t
 
-  read_low : (s : State) (reg : ℕ) → low W64 (mean v (spec.register s.regs reg)) ≡ mean v (spec.register s.regs reg)
+  pub read_low : (s : State) (reg : ℕ) → low W64 (mean v (spec.register s.regs reg)) ≡ mean v (spec.register s.regs reg)
   read_low s zero = ap (low W64) (mean-constant v W64 0) ∙ sym (mean-constant v W64 0)
   read_low s (suc reg) = held_low (suc reg) (held s.regs (suc reg))
 

@@ -67,7 +67,7 @@ module _ (v : Valuation) (f : needs.First) (first : List (Option ℕ)) (is_first
   abbrev pub sets_to : Line → List Need → Tree → LineEnd × RvState
   sets_to l ns t = if are_met v f ns then (ends.Next, record m { regs = line.with_register m.regs l.rd (mean v t) }) else (ends.Stuck, m)
 
-  set_had : (l : Line) (ns : List Need) (t : Tree) → line.set_rd m l (had v f first is_first ns t) ≡ sets_to l ns t
+  pub set_had : (l : Line) (ns : List Need) (t : Tree) → line.set_rd m l (had v f first is_first ns t) ≡ sets_to l ns t
   set_had l ns t = by (are_met v f ns)
     where
       by : (b : Bool) → line.set_rd m l (if b then Some (mean v t) else None) ≡ (if b then (ends.Next, record m { regs = line.with_register m.regs l.rd (mean v t) }) else (ends.Stuck, m))

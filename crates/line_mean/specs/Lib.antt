@@ -1,1 +1,3 @@
+pub mod EndsLines
+pub mod More
 pub mod ShowsLine

@@ -1,5 +1,7 @@
 pub mod Changes
 pub mod Effects
+pub mod Firsts
+pub mod Growth
 pub mod Jumps
 pub mod Memories
 pub mod Numbers
@@ -8,3 +10,4 @@ pub mod Parts
 pub mod Plain
 pub mod States
 pub mod Values
+pub mod Writes

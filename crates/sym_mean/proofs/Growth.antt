@@ -101,11 +101,11 @@ plain_grows index x s = record {
 -- ---- a jump
 
 -- what a jump tests, and its label
-abbrev jump_test_by : Code → List Rtx → State → Made
+abbrev pub jump_test_by : Code → List Rtx → State → Made
 jump_test_by code.IfThenElse (test ∷ label ∷ other ∷ []) s = made_of s.regs s.stores test W8
 jump_test_by _ parts s = spec.always
 
-abbrev jump_label_by : Code → List Rtx → Rtx → Rtx
+abbrev pub jump_label_by : Code → List Rtx → Rtx → Rtx
 jump_label_by code.IfThenElse (test ∷ label ∷ other ∷ []) source = label
 jump_label_by _ parts source = source
 

@@ -2,6 +2,8 @@ pub mod Changes
 pub mod Effects
 pub mod Firsts
 pub mod Growth
+pub mod JumpShapes
+pub mod JumpSteps
 pub mod Jumps
 pub mod Memories
 pub mod Numbers

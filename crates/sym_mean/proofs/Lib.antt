@@ -5,6 +5,7 @@ pub mod Growth
 pub mod JumpShapes
 pub mod JumpSteps
 pub mod Jumps
+pub mod Left
 pub mod Memories
 pub mod Numbers
 pub mod Operations

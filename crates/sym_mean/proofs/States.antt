@@ -37,7 +37,7 @@ differs a b is same = let yes : (a == b) ≡ true = grind (arith, same) in absur
 
 module _ (v : Valuation) (f : First) where
   -- what is shown of a register goes by what is known of it
-  shows_get : (regs regs' : Regs) (q : ℕ) (left : Option (Option Tree)) → get regs' (suc q) ≡ get regs (suc q) → ShowsRegister v f regs left (suc q) → ShowsRegister v f regs' left (suc q)
+  pub shows_get : (regs regs' : Regs) (q : ℕ) (left : Option (Option Tree)) → get regs' (suc q) ≡ get regs (suc q) → ShowsRegister v f regs left (suc q) → ShowsRegister v f regs' left (suc q)
   shows_get regs regs' q None same shows = λ w. ap (λ o. option_and_then (known_in w) o) same ∙ shows w
   shows_get regs regs' q (Some None) same shows = same ∙ shows
   shows_get regs regs' q (Some (Some t)) same shows = same ∙ shows

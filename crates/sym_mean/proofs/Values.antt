@@ -178,7 +178,7 @@ module _ (v : Valuation) (f : First) (s : State) (regs : Regs) (memory : List Me
     width_is = width-low_bits w (own_symbol name);
   }
 
-  read_width : (reg : ℕ) (w : Width) → width_of (read s.regs reg w) ≡ w
+  pub read_width : (reg : ℕ) (w : Width) → width_of (read s.regs reg w) ≡ w
   read_width zero w = refl
   read_width (suc reg) w = by (held s.regs (suc reg))
     where

@@ -40,8 +40,11 @@ module _ (v : Valuation) (f : First) (s : State) (ranges : List RangeAt) (regs :
 
   -- ---- the arguments
 
+  abbrev told : ArgUse → ℕ → ArgValue
+  told arg value = record { reg = arg.reg; mode = arg.mode; value = value }
+
   abbrev arg_value : ArgUse → ArgValue
-  arg_value arg = record { reg = arg.reg; mode = arg.mode; value = mean v (spec.made_arg s.regs arg).term }
+  arg_value arg = told arg (mean v (spec.made_arg s.regs arg).term)
 
   abbrev pub arg_values : List ArgUse → List ArgValue
   arg_values [] = []
@@ -50,20 +53,20 @@ module _ (v : Valuation) (f : First) (s : State) (ranges : List RangeAt) (regs :
   arg_worth : (arg : ArgUse) → call.arg_of regs arg ≡ (if are_met v f (spec.made_arg s.regs arg).needs then Some (arg_value arg) else None)
   arg_worth arg = by (rtl.width_of arg.mode)
     where
-      met : (m : Made) → option_map (λ value. record { reg = arg.reg; mode = arg.mode; value = value }) (worth v f m) ≡
-          (if are_met v f m.needs then Some (record { reg = arg.reg; mode = arg.mode; value = mean v m.term }) else None)
+      met : (m : Made) → option_map (told arg) (worth v f m) ≡
+          (if are_met v f m.needs then Some (told arg (mean v m.term)) else None)
       met m = each (are_met v f m.needs)
         where
-          each : (b : Bool) → option_map (λ value. record { reg = arg.reg; mode = arg.mode; value = value }) (if b then Some (mean v m.term) else None) ≡
-              (if b then Some (record { reg = arg.reg; mode = arg.mode; value = mean v m.term }) else None)
+          each : (b : Bool) → option_map (told arg) (if b then Some (mean v m.term) else None) ≡
+              (if b then Some (told arg (mean v m.term)) else None)
           each true = refl
           each false = refl
 
-      by : (o : Option Width) → option_map (λ value. record { reg = arg.reg; mode = arg.mode; value = value }) (option_and_then (reg_value regs arg.reg) o) ≡
-          (if are_met v f (spec.arg_in o s.regs arg.reg).needs then Some (record { reg = arg.reg; mode = arg.mode; value = mean v (spec.arg_in o s.regs arg.reg).term }) else None)
+      by : (o : Option Width) → option_map (told arg) (option_and_then (reg_value regs arg.reg) o) ≡
+          (if are_met v f (spec.arg_in o s.regs arg.reg).needs then Some (told arg (mean v (spec.arg_in o s.regs arg.reg).term)) else None)
       by None = refl
       by (Some w) =
-          ap (λ o. option_map (λ value. record { reg = arg.reg; mode = arg.mode; value = value }) o) (register_worth v f of s regs arg.reg w shows.registers)
+          ap (λ o. option_map (told arg) o) (register_worth v f of s regs arg.reg w shows.registers)
           ∙ met (spec.arg_in (Some w) s.regs arg.reg)
 
   args_worth : (uses : List ArgUse) → call.args_of regs uses ≡ (if are_met v f (spec.args_needs s.regs uses) then Some (arg_values uses) else None)

@@ -1,6 +1,7 @@
 pub mod CallShapes
 pub mod CallSteps
 pub mod Changes
+pub mod Defined
 pub mod Effects
 pub mod Ends
 pub mod Firsts
@@ -8,12 +9,14 @@ pub mod Growth
 pub mod JumpShapes
 pub mod JumpSteps
 pub mod Jumps
+pub mod Kept
 pub mod Known
 pub mod Left
 pub mod Memories
 pub mod Numbers
 pub mod Operations
 pub mod Parts
+pub mod Places
 pub mod Plain
 pub mod Runs
 pub mod Shown

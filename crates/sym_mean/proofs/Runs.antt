@@ -9,7 +9,7 @@ use Rattle.rtl_step.specs.Regs.{Regs}
 use Rattle.term_mean.specs.Meaning.{Valuation}
 use Rattle.term_mean.specs.Stores.{Stored}
 use Rattle.window_mean.specs.Insns.{InsnsCome, insns_come}
-use Rattle.sym_state.specs.State.{State, Runs, start, ran}
+use Rattle.sym_state.specs.State.{State, Runs, start}
 use Rattle.sym_insns.specs.Run.{run_from, run}
 use Rattle.sym_insns.specs.Shape.{bad_insn}
 use Rattle.sym_mean.specs.Needs.{First}
@@ -19,17 +19,9 @@ use Rattle.sym_mean.proofs.Firsts.{start_shows}
 use Rattle.sym_mean.proofs.Writes.{Write, run_writes, memories, no_memory, memories_follow}
 use Rattle.sym_mean.proofs.Known.{means_from}
 use Rattle.sym_mean.proofs.Shown.{comes_from}
+use Rattle.sym_mean.proofs.Ways.{does_run}
 
 -- ---- the whole run
-
-record DoesRun (shape : Option ℕ) (last : Option State) (s : State) : Type 0 where
-  pub fits : shape ≡ None
-  pub goes : last ≡ Some s
-
-does_run : (shape : Option ℕ) (last : Option State) (s : State) → ran shape last ≡ Runs s → DoesRun shape last s
-does_run (Some index) last s is = absurd (let no : ⊥ = cc in no)
-does_run None None s is = absurd (let no : ⊥ = cc in no)
-does_run None (Some t) s is = let same : t ≡ s = cc in record { fits = refl; goes = ap Some same }
 
 start_way : (v : Valuation) (symbols : List SymbolAt) (regs : Regs) (memory : List MemByte) → IsFirst v (first_of symbols regs memory) → Way v (first_of symbols regs memory) start regs memory
 start_way v symbols regs memory first = record { no_call = refl; no_jump = refl; shows = start_shows v symbols regs memory first }

@@ -14,9 +14,8 @@ use Rattle.rtl_func.specs.Calls.{call_result_agrees}
 use Rattle.term_mean.specs.Meaning.{Valuation}
 use Rattle.term_mean.specs.Stores.{Store, Follow}
 use Rattle.window_mean.specs.Insns.{InsnsCome, goes_on, insns_come}
-use Rattle.sym_state.specs.State.{State}
+use Rattle.sym_state.specs.State.{State, Runs, ran}
 use Rattle.sym_insns.specs.Effects as spec
-use Rattle.sym_insns.specs.Run.{run}
 use Rattle.sym_insns.specs.Shape.{all_natural, is_shaped, is_end, fits_kind, bad_from}
 use Rattle.sym_mean.specs.Needs.{First, are_met}
 use Rattle.sym_mean.specs.Shows.{IsOf}
@@ -56,6 +55,16 @@ fits_all index i insns bad = by (fits_kind i.kind i (is_end insns)) refl bad
     by : (b : Bool) → fits_kind i.kind i (is_end insns) ≡ b → (if b then bad_from (index + 1) insns else Some index) ≡ None → FitsAll index i insns
     by true here rest = record { here = here; rest = rest }
     by false here rest = absurd (let no : ⊥ = cc in no)
+
+-- instructions that run have shapes that fit, and a last state
+pub record DoesRun (shape : Option ℕ) (last : Option State) (s : State) : Type 0 where
+  pub fits : shape ≡ None
+  pub goes : last ≡ Some s
+
+pub does_run : (shape : Option ℕ) (last : Option State) (s : State) → ran shape last ≡ Runs s → DoesRun shape last s
+does_run (Some index) last s is = absurd (let no : ⊥ = cc in no)
+does_run None None s is = absurd (let no : ⊥ = cc in no)
+does_run None (Some t) s is = let same : t ≡ s = cc in record { fits = refl; goes = ap Some same }
 
 -- what follows the first stores
 pub follow_behind : (v : Valuation) (first later : List Store) (n : ℕ) → Follow v n (first ++ later) → Follow v (n + length first) later

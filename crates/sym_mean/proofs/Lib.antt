@@ -13,14 +13,17 @@ pub mod Kept
 pub mod Known
 pub mod Left
 pub mod Memories
+pub mod Needed
 pub mod Numbers
 pub mod Operations
 pub mod Parts
 pub mod Places
 pub mod Plain
+pub mod Reading
 pub mod Runs
 pub mod Shown
 pub mod States
+pub mod Used
 pub mod Values
 pub mod Ways
 pub mod Writes

@@ -30,9 +30,16 @@ use Rattle.sym_mean.proofs.Places.{same_number, IsNatural}
 
 -- ---- needs of registers
 
--- a register that is needed is one of some, and was not changed before
+-- a register, other than register zero, is one of some and was not changed
+pub record IsThere (regs : List Changed) (some : ℕ → Bool) (reg : ℕ) : Type 0 where
+  pub below : ℕ
+  pub reg_is : reg ≡ suc below
+  pub unchanged : is_some (held regs (suc below)) ≡ false
+  pub is_one : some (suc below) ≡ true
+
+-- a register that is needed
 abbrev pub NeedIs : List Changed → (ℕ → Bool) → Need → Type 0
-NeedIs regs some (Register reg w) = (r : ℕ) × (reg ≡ suc r) × (is_some (held regs (suc r)) ≡ false) × (some (suc r) ≡ true)
+NeedIs regs some (Register reg w) = IsThere regs some reg
 NeedIs regs some _ = Unit {0}
 
 abbrev pub NeedsAre : List Changed → (ℕ → Bool) → List Need → Type 0
@@ -46,7 +53,7 @@ needs_joined regs some [] ys first later = later
 needs_joined regs some (x ∷ xs) ys first later = (first.0, needs_joined regs some xs ys first.1 later)
 
 need_more : (regs : List Changed) (some more : ℕ → Bool) → AreMore some more → (n : Need) → NeedIs regs some n → NeedIs regs more n
-need_more regs some more are (Register reg w) is = (is.0, is.1.0, is.1.1.0, are is.0 is.1.1.1)
+need_more regs some more are (Register reg w) is = record { below = is.below; reg_is = is.reg_is; unchanged = is.unchanged; is_one = are is.below is.is_one }
 need_more regs some more are (Lost reg w) is = tt
 need_more regs some more are (Access address w) is = tt
 need_more regs some more are (Divisor t) is = tt
@@ -59,7 +66,7 @@ needs_more regs some more are (n ∷ needs) is = (need_more regs some more are n
 -- ---- registers
 
 need_by : (regs : List Changed) (some : ℕ → Bool) (r : ℕ) (w : Width) → some (suc r) ≡ true → (left : Option (Option Tree)) → held regs (suc r) ≡ left → NeedsAre regs some (need_of left (suc r) w)
-need_by regs some r w is None there = ((r, refl, ap is_some there, is), tt)
+need_by regs some r w is None there = (record { below = r; reg_is = refl; unchanged = ap is_some there; is_one = is }, tt)
 need_by regs some r w is (Some None) there = (tt, tt)
 need_by regs some r w is (Some (Some t)) there = by (narrower (width_of t) w)
   where

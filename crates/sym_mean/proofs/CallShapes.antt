@@ -1,10 +1,9 @@
 -- The shape of a call that can be compared: a call, or a set of register a0 to one.
-use Rattle.std.proofs.Common.{◌≡◌, ℕ, ◌&&◌, ◌==◌, Bool, true, false, List, [], ◌∷◌, Option, Some, None, refl, sym, ◌∙◌, ap, subst}
+use Rattle.std.proofs.Common.{◌≡◌, ℕ, ◌==◌, true, List, [], ◌∷◌, Option, Some, refl, sym, ◌∙◌, ap, subst}
 use Rattle.std.specs.List.{AllByRecursion}
 use Rattle.bits64.specs.declared.Width.{Width}
 use Rattle.bits64.specs.declared.Width.TheVariants.{W8, W16, W32, W64}
 use Rattle.rtx_tree.specs.Code.{class_of_code}
-use Rattle.rtx_tree.specs.declared.class.Class.{Class}
 use Rattle.rtx_tree.specs.declared.class.Class.TheVariants as class
 use Rattle.rtx_tree.specs.declared.code.Code.{Code}
 use Rattle.rtx_tree.specs.declared.code.Code.TheVariants as code
@@ -21,7 +20,8 @@ use Rattle.rtl_func.specs.Calls.{is_result, is_result_by, has_result, has_result
 use Rattle.rtl_func.specs.Shapes.{class_at, mode_at, number_at, has_mode, is_register_number, is_call_class, fits_row}
 use Rattle.sym_insns.specs.Effects as spec
 use Rattle.sym_mean.specs.Means.{result_width}
-use Rattle.sym_mean.proofs.JumpShapes.{both_of, IsSound, sound_kids, sound_pattern, row_by, set_parts}
+use Rattle.sym_mean.proofs.JumpShapes.{IsSound, sound_kids, sound_pattern, row_by, set_parts}
+use Rattle.sym_mean.proofs.Bools.{both_of}
 
 -- ---- the width of a result
 

@@ -1,6 +1,5 @@
 -- A call that can be compared: what it comes to where its needs are met and its target is a multiple of 4, and what its symbolic state tells of it.
-use Rattle.std.proofs.lemmas.Bool.Decides.{nat_tests}
-use Rattle.std.proofs.Common.{◌≡◌, ℕ, ◌==◌, ◌%◌, ◌&&◌, Bool, true, false, List, [], ◌∷◌, ◌++◌, Option, Some, None, refl, sym, ◌∙◌, ap, arith}
+use Rattle.std.proofs.Common.{◌≡◌, ℕ, ◌==◌, ◌%◌, ◌&&◌, Bool, true, false, List, [], ◌∷◌, Option, Some, None, refl, sym, ◌∙◌, ap}
 use Rattle.std.specs.Prelude.{if◌then◌else◌, option_map, option_and_then}
 use Rattle.bits64.specs.declared.Width.{Width}
 use Rattle.bits64.specs.declared.Width.TheVariants.{W64}
@@ -18,17 +17,16 @@ use Rattle.rtl_step.specs.declared.call.ArgValue.{ArgValue}
 use Rattle.rtl_step.specs.declared.call.CallEvent.{CallEvent}
 use Rattle.term_tree.specs.Tree as term
 use Rattle.term_mean.specs.Meaning.{Valuation, mean}
-use Rattle.window_mean.specs.Insns.{Calls, InsnsCome, come_to, insn_comes}
-use Rattle.sym_state.specs.State.{State, Arg}
-use Rattle.sym_state.specs.Registers.{read}
-use Rattle.sym_insns.specs.Value.{Made, made_of}
+use Rattle.window_mean.specs.Insns.{Calls, come_to, insn_comes}
+use Rattle.sym_state.specs.State.{State}
+use Rattle.sym_insns.specs.Value.{Made}
 use Rattle.sym_insns.specs.Effects as spec
 use Rattle.sym_mean.specs.Needs.{First, are_met, worth}
 use Rattle.sym_mean.specs.Shows.{IsOf, Shows}
 use Rattle.sym_mean.specs.Means.{ArgMeans, ArgsMean}
-use Rattle.sym_mean.proofs.JumpShapes.{both_of}
 use Rattle.sym_mean.proofs.Parts.{register_worth}
 use Rattle.sym_mean.proofs.Values.{both_met, value_worth, read_width}
+use Rattle.sym_mean.proofs.Bools.{both_of}
 
 module _ (v : Valuation) (f : First) (s : State) (ranges : List RangeAt) (regs : Regs) (memory : List MemByte) (of : IsOf v f) (shows : Shows v f s regs memory) where
   -- ---- the target

@@ -1,7 +1,8 @@
 -- What an instruction defines is what is changed in the symbolic state after it.
+use Rattle.std.proofs.Math.Bool.{or-true, or-false, or_assoc}
 use Rattle.std.proofs.lemmas.Bool.Decides.{nat_tests}
-use Rattle.std.proofs.Common.{◌≡◌, ◌≢◌, ℕ, zero, suc, ◌==◌, ◌&&◌, ◌||◌, Bool, true, false, List, [], ◌∷◌, map, Option, Some, None, refl, sym, ◌∙◌, ap, subst, arith}
-use Rattle.std.specs.Prelude.{is_some, if◌then◌else◌}
+use Rattle.std.proofs.Common.{◌≡◌, ◌≢◌, ℕ, zero, suc, ◌==◌, ◌||◌, Bool, true, false, List, [], ◌∷◌, map, Option, Some, None, refl, sym, ◌∙◌, ap, arith}
+use Rattle.std.specs.Prelude.{is_some}
 use Rattle.std.specs.List.{list_any, AllByRecursion}
 use Rattle.bits64.specs.declared.Width.{Width}
 use Rattle.rtx_tree.specs.Code.{class_of_code}
@@ -33,42 +34,30 @@ changes (spec.Sets reg t) q = reg == q
 changes (spec.Unsets reg) q = reg == q
 changes _ q = false
 
-or_true : (b : Bool) → (b || true) ≡ true
-or_true true = refl
-or_true false = refl
-
-or_false : (b : Bool) → (b || false) ≡ b
-or_false true = refl
-or_false false = refl
-
-or_assoc : (a b c : Bool) → ((a || b) || c) ≡ (a || (b || c))
-or_assoc true b c = refl
-or_assoc false b c = refl
-
 put_by : (regs : List Changed) (r q : ℕ) (value : Option Tree) (same : Bool) → (suc r == suc q) ≡ same → is_some (held (put regs (suc r) value) (suc q)) ≡ (is_some (held regs (suc q)) || same)
 put_by regs r q value true is =
     let e : suc r ≡ suc q = same_number (suc r) (suc q) is in
-    ap (λ n. is_some (held (put regs (suc r) value) n)) (sym e) ∙ (ap is_some (held_placed regs (suc r) value) ∙ sym (or_true (is_some (held regs (suc q)))))
+    ap (λ n. is_some (held (put regs (suc r) value) n)) (sym e) ∙ (ap is_some (held_placed regs (suc r) value) ∙ sym (or-true (is_some (held regs (suc q)))))
 put_by regs r q value false is =
     let other : suc r ≢ suc q = λ same. (let yes : (suc r == suc q) ≡ true = grind (arith, nat_tests, same) in absurd (let no : ⊥ = cc in no)) in
-    ap is_some (held_kept regs (suc r) (suc q) value other) ∙ sym (or_false (is_some (held regs (suc q))))
+    ap is_some (held_kept regs (suc r) (suc q) value other) ∙ sym (or-false (is_some (held regs (suc q))))
 
 put_held : (regs : List Changed) (reg q : ℕ) (value : Option Tree) → is_some (held (put regs reg value) (suc q)) ≡ (is_some (held regs (suc q)) || (reg == suc q))
 put_held regs zero q value =
-    let none : (0 == suc q) ≡ false = grind (arith, nat_tests) in sym (ap (λ b. is_some (held regs (suc q)) || b) none ∙ or_false (is_some (held regs (suc q))))
+    let none : (0 == suc q) ≡ false = grind (arith, nat_tests) in sym (ap (λ b. is_some (held regs (suc q)) || b) none ∙ or-false (is_some (held regs (suc q))))
 put_held regs (suc r) q value = put_by regs r q value (suc r == suc q) refl
 
 changes_held : (e : spec.Effect) (regs : List Changed) (q : ℕ) → is_some (held (spec.reg_after e regs) (suc q)) ≡ (is_some (held regs (suc q)) || changes e (suc q))
-changes_held spec.Nothing regs q = sym (or_false (is_some (held regs (suc q))))
+changes_held spec.Nothing regs q = sym (or-false (is_some (held regs (suc q))))
 changes_held (spec.Sets reg t) regs q = put_held regs reg q (Some t)
 changes_held (spec.Unsets reg) regs q = put_held regs reg q None
-changes_held (spec.Stores address value) regs q = sym (or_false (is_some (held regs (suc q))))
+changes_held (spec.Stores address value) regs q = sym (or-false (is_some (held regs (suc q))))
 
 abbrev pub all_change : List spec.Effected → ℕ → Bool
 all_change es q = list_any (λ e. changes e.effect q) es
 
 pub made_held : (index : ℕ) (es : List spec.Effected) (s : State) (q : ℕ) → is_some (held (spec.make_all index es s).regs (suc q)) ≡ (is_some (held s.regs (suc q)) || all_change es (suc q))
-made_held index [] s q = sym (or_false (is_some (held s.regs (suc q))))
+made_held index [] s q = sym (or-false (is_some (held s.regs (suc q))))
 made_held index (e ∷ es) s q =
     made_held index es (spec.make index e s) q
     ∙ (ap (λ b. b || all_change es (suc q)) (changes_held e.effect s.regs q)

@@ -1,6 +1,6 @@
 -- How a window of instructions ends, and what its symbolic state tells of that: behind its last instruction, at a jump, and at a call.
 use Rattle.std.proofs.lemmas.Bool.Decides.{nat_tests}
-use Rattle.std.proofs.Common.{◌≡◌, ℕ, ◌==◌, ◌%◌, ◌&&◌, Bool, true, false, List, [], ◌∷◌, ◌++◌, Option, Some, None, refl, sym, ◌∙◌, ap, subst, arith}
+use Rattle.std.proofs.Common.{◌≡◌, ℕ, ◌==◌, ◌%◌, ◌&&◌, Bool, true, false, List, [], ◌++◌, Some, None, refl, sym, ◌∙◌, ap, subst, arith}
 use Rattle.std.specs.Prelude.{if◌then◌else◌, option_and_then}
 use Rattle.bits64.specs.declared.Width.{Width}
 use Rattle.rtx_tree.specs.Patterns.{label_of}
@@ -11,7 +11,7 @@ use Rattle.rtx_tree.specs.declared.tree.Rtx.{Rtx}
 use Rattle.rtl_step.specs.Regs.{Regs}
 use Rattle.rtl_step.specs.Call as call
 use Rattle.term_mean.specs.Meaning.{Valuation, mean}
-use Rattle.window_mean.specs.Insns.{InsnsEnd, Falls, Goes, Calls, Returns, InsnsCome, come_to, goes_on, insns_come}
+use Rattle.window_mean.specs.Insns.{InsnsEnd, Falls, Goes, Calls, Returns, come_to, goes_on, insns_come}
 use Rattle.sym_state.specs.State.{State, falls}
 use Rattle.sym_insns.specs.Value.{Made}
 use Rattle.sym_insns.specs.Effects as spec
@@ -20,10 +20,10 @@ use Rattle.sym_mean.specs.Shows.{IsOf, Shows}
 use Rattle.sym_mean.specs.Means.{left_at, LeadsOn, JumpMeans, EndMeans, Means}
 use Rattle.sym_mean.proofs.CallShapes.{width_as}
 use Rattle.sym_mean.proofs.CallSteps.{target_made, event_made, target_fits, is_made, args_mean}
-use Rattle.sym_mean.proofs.JumpShapes.{both_of}
 use Rattle.sym_mean.proofs.JumpSteps.{leads_to}
 use Rattle.sym_mean.proofs.Left.{left_shows}
 use Rattle.sym_mean.proofs.Values.{both_met}
+use Rattle.sym_mean.proofs.Bools.{both_of}
 
 -- a symbolic state on the way shows the state of a run: there was no jump and no call so far
 pub record Way (v : Valuation) (f : First) (s : State) (regs : Regs) (memory : List MemByte) : Type 0 where

@@ -1,5 +1,6 @@
 -- Along a run of instructions needs and stores are only added, behind those that there are.
-use Rattle.std.proofs.Common.{◌≡◌, ℕ, ◌+◌, ◌&&◌, Bool, true, false, List, [], ◌∷◌, ◌++◌, Option, Some, None, refl, sym, ◌∙◌, ap, subst}
+use Rattle.std.proofs.lemmas.List.{append_assoc, append-nil}
+use Rattle.std.proofs.Common.{◌≡◌, ℕ, ◌+◌, ◌&&◌, Bool, true, false, List, [], ◌∷◌, ◌++◌, Some, None, refl, sym, ◌∙◌, ap, subst}
 use Rattle.std.specs.Prelude.{if◌then◌else◌}
 use Rattle.std.proofs.lemmas.List.Folds.{list_all-append}
 use Rattle.rtx_tree.specs.declared.code.Code.{Code}
@@ -19,14 +20,7 @@ use Rattle.sym_insns.specs.Run.{after, after_kind, run_from}
 use Rattle.sym_mean.specs.Needs.{First, is_met, are_met}
 use Rattle.sym_mean.specs.Means.{all_met}
 use Rattle.sym_mean.proofs.Plain.{all_needs}
-
-pub append_assoc : {A : Type 0} (xs ys zs : List A) → (xs ++ ys) ++ zs ≡ xs ++ (ys ++ zs)
-append_assoc [] ys zs = refl
-append_assoc (x ∷ xs) ys zs = ap (λ rest. x ∷ rest) (append_assoc xs ys zs)
-
-pub append_nothing : {A : Type 0} (xs : List A) → xs ++ [] ≡ xs
-append_nothing [] = refl
-append_nothing (x ∷ xs) = ap (λ rest. x ∷ rest) (append_nothing xs)
+use Rattle.sym_mean.proofs.Bools.{both_of}
 
 -- a state has the needs and the stores of another, and then more
 pub record Grows (s t : State) : Type 0 where
@@ -36,7 +30,7 @@ pub record Grows (s t : State) : Type 0 where
   pub stores_are : t.stores ≡ s.stores ++ more_stores
 
 grows_not : (s : State) → Grows s s
-grows_not s = record { more_needs = []; needs_are = sym (append_nothing s.needs); more_stores = []; stores_are = sym (append_nothing s.stores) }
+grows_not s = record { more_needs = []; needs_are = sym (append-nil s.needs); more_stores = []; stores_are = sym (append-nil s.stores) }
 
 grows_on : (s t u : State) → Grows s t → Grows t u → Grows s u
 grows_on s t u first later = record {
@@ -58,9 +52,9 @@ new_stores [] = []
 new_stores (e ∷ es) = new_store e.effect ++ new_stores es
 
 store_added : (e : spec.Effect) (stores : List Store) → spec.store_after e stores ≡ stores ++ new_store e
-store_added spec.Nothing stores = sym (append_nothing stores)
-store_added (spec.Sets reg t) stores = sym (append_nothing stores)
-store_added (spec.Unsets reg) stores = sym (append_nothing stores)
+store_added spec.Nothing stores = sym (append-nil stores)
+store_added (spec.Sets reg t) stores = sym (append-nil stores)
+store_added (spec.Unsets reg) stores = sym (append-nil stores)
 store_added (spec.Stores address value) stores = refl
 
 needs_at-append : (index : ℕ) (xs ys : List Need) → needs_at index (xs ++ ys) ≡ needs_at index xs ++ needs_at index ys
@@ -68,14 +62,14 @@ needs_at-append index [] ys = refl
 needs_at-append index (x ∷ xs) ys = ap (λ rest. record { index = index; what = x } ∷ rest) (needs_at-append index xs ys)
 
 pub made_needs : (index : ℕ) (es : List spec.Effected) (s : State) → (spec.make_all index es s).needs ≡ s.needs ++ needs_at index (all_needs es)
-made_needs index [] s = sym (append_nothing s.needs)
+made_needs index [] s = sym (append-nil s.needs)
 made_needs index (e ∷ es) s =
     made_needs index es (spec.make index e s)
     ∙ (append_assoc s.needs (needs_at index e.needs) (needs_at index (all_needs es))
     ∙ ap (λ rest. s.needs ++ rest) (sym (needs_at-append index e.needs (all_needs es))))
 
 pub made_stores : (index : ℕ) (es : List spec.Effected) (s : State) → (spec.make_all index es s).stores ≡ s.stores ++ new_stores es
-made_stores index [] s = sym (append_nothing s.stores)
+made_stores index [] s = sym (append-nil s.stores)
 made_stores index (e ∷ es) s =
     made_stores index es (spec.make index e s)
     ∙ (ap (λ stores. stores ++ new_stores es) (store_added e.effect s.stores)
@@ -127,7 +121,7 @@ jump_is index x s =
     jump_by_is (out-Rtx source).code (out-Rtx source).kids source index s
 
 jumps_grow : (index : ℕ) (test : Made) (label : Rtx) (s : State) → Grows s (spec.jumps index test label s)
-jumps_grow index test label s = record { more_needs = needs_at index test.needs; needs_are = refl; more_stores = []; stores_are = sym (append_nothing s.stores) }
+jumps_grow index test label s = record { more_needs = needs_at index test.needs; needs_are = refl; more_stores = []; stores_are = sym (append-nil s.stores) }
 
 jump_grows : (index : ℕ) (x : Rtx) (s : State) → Grows s (spec.after_jump index x s)
 jump_grows index x s =
@@ -141,7 +135,7 @@ call_grows index i s = record {
   more_needs = needs_at index ((spec.made_target s.regs s.stores (target_of (call_part i.pattern))).needs ++ spec.args_needs s.regs i.uses);
   needs_are = refl;
   more_stores = [];
-  stores_are = sym (append_nothing s.stores);
+  stores_are = sym (append-nil s.stores);
 }
 
 pub kind_grows : (k : Kind) (index : ℕ) (i : Insn) (s : State) → Grows s (after_kind k index i s)
@@ -166,14 +160,10 @@ run_grows (i ∷ insns) index s t is =
 
 -- ---- needs that are met
 
-both_true : (a b : Bool) → (a && b) ≡ true → (a ≡ true) × (b ≡ true)
-both_true true b is = (refl, is)
-both_true false b is = absurd (let no : ⊥ = cc in no)
-
 -- of a state that has more, the needs that there were are met
 pub met_before : (v : Valuation) (f : First) (s t : State) → Grows s t → all_met v f t.needs ≡ true → all_met v f s.needs ≡ true
 met_before v f s t grows met =
-    (both_true _ _ (sym (list_all-append (λ (n : NeedAt). is_met v f n.what) s.needs grows.more_needs) ∙ (ap (all_met v f) (sym grows.needs_are) ∙ met))).0
+    (both_of _ _ (sym (list_all-append (λ (n : NeedAt). is_met v f n.what) s.needs grows.more_needs) ∙ (ap (all_met v f) (sym grows.needs_are) ∙ met))).0
 
 -- the needs at a place are met where they are
 pub met_at : (v : Valuation) (f : First) (index : ℕ) (needs : List Need) → all_met v f (needs_at index needs) ≡ are_met v f needs
@@ -186,7 +176,7 @@ met_both v f before index needs =
     list_all-append (λ (n : NeedAt). is_met v f n.what) before (needs_at index needs) ∙ ap (λ b. all_met v f before && b) (met_at v f index needs)
 
 pub met_new : (v : Valuation) (f : First) (before : List NeedAt) (index : ℕ) (needs : List Need) → all_met v f (before ++ needs_at index needs) ≡ true → are_met v f needs ≡ true
-met_new v f before index needs met = (both_true _ _ (sym (met_both v f before index needs) ∙ met)).1
+met_new v f before index needs met = (both_of _ _ (sym (met_both v f before index needs) ∙ met)).1
 
 pub met_then : (v : Valuation) (f : First) (before : List NeedAt) (index : ℕ) (needs : List Need) → all_met v f before ≡ true → are_met v f needs ≡ true → all_met v f (before ++ needs_at index needs) ≡ true
 met_then v f before index needs old new = met_both v f before index needs ∙ (ap (λ b. b && are_met v f needs) old ∙ new)

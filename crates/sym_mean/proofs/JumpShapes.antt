@@ -1,5 +1,5 @@
 -- The shape of a jump that can be compared: it sets the pc to a label, or to one of a label and the next instruction by a comparison.
-use Rattle.std.proofs.Common.{◌≡◌, ℕ, ◌&&◌, ◌||◌, Bool, true, false, List, [], ◌∷◌, ◌++◌, Option, Some, None, refl, sym, ◌∙◌, ap, subst}
+use Rattle.std.proofs.Common.{◌≡◌, ℕ, ◌&&◌, ◌||◌, Bool, true, false, List, [], ◌∷◌, Some, refl, sym, ◌∙◌, ap, subst}
 use Rattle.std.specs.List.{list_all, flat_map, AllByRecursion}
 use Rattle.std.specs.Int.{cast_unsigned, w64}
 use Rattle.std.proofs.lemmas.List.Folds.{list_all-append}
@@ -14,23 +14,10 @@ use Rattle.rtx_tree.specs.declared.tree.Rtx.{Rtx, out-Rtx}
 use Rattle.rtl_func.specs.Kinds.{is_jump_by, is_jump_tree}
 use Rattle.rtl_func.specs.Modes.{shapes_agree}
 use Rattle.rtl_func.specs.Nodes.{nodes_of}
-use Rattle.rtl_func.specs.Shapes.{class_at, mode_at, number_at, is_bare, is_effect, is_place_class, is_operand, is_call_class, is_jump_source_class, is_counter_class, is_comparison_class, is_label_class, is_set_to, is_choice, fits_one, fits_two, fits_three, fits_row, is_shaped}
+use Rattle.rtl_func.specs.Shapes.{class_at, mode_at, number_at, is_bare, is_effect, is_place_class, is_jump_source_class, is_counter_class, is_comparison_class, is_label_class, is_set_to, is_choice, fits_two, fits_row, is_shaped}
 use Rattle.rtl_func.proofs.NodeLaws.{nodes_out}
 use Rattle.reg_uses.specs.Uses.{is_return_code}
-
--- ---- both of two, and one of two
-
-pub both_of : (a b : Bool) → (a && b) ≡ true → (a ≡ true) × (b ≡ true)
-both_of true b is = (refl, is)
-both_of false b is = absurd (let no : ⊥ = cc in no)
-
-other_of : (a b : Bool) → (a || b) ≡ true → a ≡ false → b ≡ true
-other_of true b is none = absurd (let no : ⊥ = cc in no)
-other_of false b is none = is
-
-none_of : (a b : Bool) → a ≡ false → (a && b) ≡ false
-none_of true b none = absurd (let no : ⊥ = cc in no)
-none_of false b none = refl
+use Rattle.sym_mean.proofs.Bools.{both_of, other_of, none_of}
 
 -- ---- the parts of a tree are shaped where it is
 

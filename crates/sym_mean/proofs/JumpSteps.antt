@@ -1,9 +1,7 @@
 -- A jump that can be compared: what it comes to where its needs are met, and the symbolic state after it.
-use Rattle.std.proofs.Common.{◌≡◌, ℕ, ◌==◌, Bool, true, false, List, [], ◌∷◌, Option, Some, None, refl, sym, ◌∙◌, ap}
+use Rattle.std.proofs.Common.{◌≡◌, ℕ, ◌==◌, Bool, true, false, List, [], ◌∷◌, Option, Some, None, refl, ◌∙◌, ap}
 use Rattle.std.specs.Prelude.{if◌then◌else◌, option_map}
 use Rattle.rtx_tree.specs.Patterns.{is_pc, label_of}
-use Rattle.rtx_tree.specs.declared.class.Class.TheVariants as class
-use Rattle.rtx_tree.specs.declared.code.Code.{Code}
 use Rattle.rtx_tree.specs.declared.code.Code.TheVariants as code
 use Rattle.rtx_tree.specs.declared.function.Insn.{Insn}
 use Rattle.rtx_tree.specs.declared.function.Kind.TheVariants as kind
@@ -13,10 +11,9 @@ use Rattle.rtx_tree.specs.declared.tree.Rtx.{Rtx, out-Rtx}
 use Rattle.bits64.specs.declared.Width.TheVariants.{W8}
 use Rattle.rtl_step.specs.Regs.{Regs}
 use Rattle.rtl_step.specs.Jump as jump
-use Rattle.rtl_step.specs.declared.jump.Way.{Way}
 use Rattle.rtl_step.specs.declared.jump.Way.TheVariants as way
 use Rattle.term_mean.specs.Meaning.{Valuation, mean}
-use Rattle.window_mean.specs.Insns.{InsnsEnd, Falls, Goes, InsnsCome, come_to, end_of_way, insn_comes}
+use Rattle.window_mean.specs.Insns.{InsnsEnd, Falls, Goes, come_to, end_of_way, insn_comes}
 use Rattle.sym_state.specs.State.{State}
 use Rattle.sym_insns.specs.Value.{Made, made_of}
 use Rattle.sym_insns.specs.Effects as spec

@@ -1,13 +1,12 @@
 -- What a window of instructions defines is what is changed in the symbolic state after it, and what it leaves alone is kept there.
+use Rattle.std.proofs.Math.Bool.{or-true, or-false, or_assoc}
 use Rattle.std.proofs.lemmas.Bool.Decides.{nat_tests}
-use Rattle.std.proofs.Common.{◌≡◌, ℕ, zero, suc, ◌+◌, ◌==◌, ◌&&◌, ◌||◌, not, Bool, true, false, List, [], ◌∷◌, Option, Some, None, refl, sym, ◌∙◌, ap, subst, arith}
-use Rattle.std.specs.Prelude.{is_some, if◌then◌else◌}
-use Rattle.std.specs.List.{list_any, AllByRecursion}
+use Rattle.std.proofs.Common.{◌≡◌, ℕ, suc, ◌+◌, ◌==◌, ◌&&◌, ◌||◌, not, Bool, true, false, List, [], ◌∷◌, Some, None, refl, sym, ◌∙◌, ap, subst, arith}
+use Rattle.std.specs.Prelude.{is_some}
+use Rattle.std.specs.List.{AllByRecursion}
 use Rattle.rtx_tree.specs.Code.{class_of_code}
-use Rattle.rtx_tree.specs.Patterns.{is_pc, is_pc_code}
 use Rattle.rtx_tree.specs.Registers.{is_call_used}
 use Rattle.rtx_tree.specs.Tree.{is_reg_numbered}
-use Rattle.rtx_tree.specs.declared.class.Class.TheVariants as class
 use Rattle.rtx_tree.specs.declared.code.Code.{Code}
 use Rattle.rtx_tree.specs.declared.code.Code.TheVariants as code
 use Rattle.rtx_tree.specs.declared.function.Insn.{Insn}
@@ -21,30 +20,19 @@ use Rattle.rtl_step.specs.Effect.{register_by}
 use Rattle.reg_uses.specs.Effects as uses
 use Rattle.reg_uses.specs.Uses.{is_call_kind, is_return, insn_defines}
 use Rattle.window_mean.specs.Uses.{window_defines}
-use Rattle.sym_state.specs.State.{State, Changed, Ran, Runs, start}
+use Rattle.sym_state.specs.State.{State, Runs, start}
 use Rattle.sym_state.specs.Registers.{held, left_by_call}
 use Rattle.sym_insns.specs.Effects as spec
 use Rattle.sym_insns.specs.Run.{after_kind, run_from, run}
 use Rattle.sym_insns.specs.Shape.{all_natural, is_shaped, is_end, fits_kind, bad_from, bad_insn}
 use Rattle.sym_mean.proofs.CallShapes.{IsCall, alone, sets}
 use Rattle.sym_mean.proofs.Defined.{made_held, effects_change}
-use Rattle.sym_mean.proofs.Growth.{goes_from, jump_is, jump_test, jump_label}
-use Rattle.sym_mean.proofs.JumpShapes.{IsJump, IsSound, both_of, pc_by, sound_pattern, sound_kids}
+use Rattle.sym_mean.proofs.Growth.{goes_from, jump_is}
+use Rattle.sym_mean.proofs.JumpShapes.{IsJump, IsSound, pc_by, sound_pattern, sound_kids}
 use Rattle.sym_mean.proofs.Left.{held_left}
 use Rattle.sym_mean.proofs.Places.{IsNatural, natural_kids, is_that, place_as}
-use Rattle.sym_mean.proofs.Ways.{not_true, jump_of, call_of, fits_all, does_run}
-
-or_true : (b : Bool) → (b || true) ≡ true
-or_true true = refl
-or_true false = refl
-
-or_false : (b : Bool) → (b || false) ≡ b
-or_false true = refl
-or_false false = refl
-
-or_assoc : (a b c : Bool) → ((a || b) || c) ≡ (a || (b || c))
-or_assoc true b c = refl
-or_assoc false b c = refl
+use Rattle.sym_mean.proofs.Ways.{jump_of, call_of, fits_all, does_run}
+use Rattle.sym_mean.proofs.Bools.{both_of, not_true}
 
 -- ---- shapes
 
@@ -123,7 +111,7 @@ plain_held i is index s last q shaped =
     made_held index (spec.effects_of s.regs s.stores i.pattern) s q
     ∙ ap (λ b. is_some (held s.regs (suc q)) || b)
     (effects_change s.regs s.stores q i.pattern (sound_insn i shaped) (natural_insn i shaped)
-    ∙ (sym (or_false (uses.pattern_defines (suc q) i.pattern)) ∙ sym (defines_as i kind.Plain (suc q) is)))
+    ∙ (sym (or-false (uses.pattern_defines (suc q) i.pattern)) ∙ sym (defines_as i kind.Plain (suc q) is)))
 
 jump_held : (i : Insn) → i.kind ≡ kind.Jump → KindHeld kind.Jump i
 jump_held i is index s last q fits =
@@ -132,7 +120,7 @@ jump_held i is index s last q fits =
     let source = spec.jump_source (out-Rtx i.pattern).kids i.pattern in
     let none : insn_defines i (suc q) ≡ false = defines_none i kind.Jump (suc q) is refl (jump_defines i.pattern q (jump_of i first.0 is (not_true (is_return i) rest.0))) in
     ap (λ (t : State). is_some (held t.regs (suc q))) (jump_is index i.pattern s)
-    ∙ (sym (or_false (is_some (held s.regs (suc q)))) ∙ ap (λ b. is_some (held s.regs (suc q)) || b) (sym none))
+    ∙ (sym (or-false (is_some (held s.regs (suc q)))) ∙ ap (λ b. is_some (held s.regs (suc q)) || b) (sym none))
 
 call_held : (i : Insn) → i.kind ≡ kind.Call → KindHeld kind.Call i
 call_held i is index s last q fits = by (is_call_used (suc q)) refl
@@ -142,17 +130,17 @@ call_held i is index s last q fits = by (is_call_used (suc q)) refl
 
     by : (b : Bool) → is_call_used (suc q) ≡ b → is_some (held (left_by_call s.regs) (suc q)) ≡ (is_some (held s.regs (suc q)) || insn_defines i (suc q))
     by true used =
-        let defines : insn_defines i (suc q) ≡ true = defines_as i kind.Call (suc q) is ∙ (ap (λ b. uses.pattern_defines (suc q) i.pattern || b) used ∙ or_true (uses.pattern_defines (suc q) i.pattern)) in
-        ap is_some (held_left s.regs q true used) ∙ (sym (or_true (is_some (held s.regs (suc q)))) ∙ ap (λ b. is_some (held s.regs (suc q)) || b) (sym defines))
+        let defines : insn_defines i (suc q) ≡ true = defines_as i kind.Call (suc q) is ∙ (ap (λ b. uses.pattern_defines (suc q) i.pattern || b) used ∙ or-true (uses.pattern_defines (suc q) i.pattern)) in
+        ap is_some (held_left s.regs q true used) ∙ (sym (or-true (is_some (held s.regs (suc q)))) ∙ ap (λ b. is_some (held s.regs (suc q)) || b) (sym defines))
     by false used =
         let none : uses.pattern_defines (suc q) i.pattern ≡ false = call_defines i.pattern q (call_of i shaped is) (sound_insn i shaped) (natural_insn i shaped) used in
-        let defines : insn_defines i (suc q) ≡ false = defines_as i kind.Call (suc q) is ∙ (ap (λ b. uses.pattern_defines (suc q) i.pattern || b) used ∙ (or_false (uses.pattern_defines (suc q) i.pattern) ∙ none)) in
-        ap is_some (held_left s.regs q false used) ∙ (sym (or_false (is_some (held s.regs (suc q)))) ∙ ap (λ b. is_some (held s.regs (suc q)) || b) (sym defines))
+        let defines : insn_defines i (suc q) ≡ false = defines_as i kind.Call (suc q) is ∙ (ap (λ b. uses.pattern_defines (suc q) i.pattern || b) used ∙ (or-false (uses.pattern_defines (suc q) i.pattern) ∙ none)) in
+        ap is_some (held_left s.regs q false used) ∙ (sym (or-false (is_some (held s.regs (suc q)))) ∙ ap (λ b. is_some (held s.regs (suc q)) || b) (sym defines))
 
 barrier_held : (i : Insn) → i.kind ≡ kind.Barrier → KindHeld kind.Barrier i
 barrier_held i is index s last q nothing =
     let none : insn_defines i (suc q) ≡ false = defines_none i kind.Barrier (suc q) is refl (nothing_defines i.pattern (suc q) nothing) in
-    sym (or_false (is_some (held s.regs (suc q)))) ∙ ap (λ b. is_some (held s.regs (suc q)) || b) (sym none)
+    sym (or-false (is_some (held s.regs (suc q)))) ∙ ap (λ b. is_some (held s.regs (suc q)) || b) (sym none)
 
 label_held : (i : Insn) → KindHeld kind.Label i
 label_held i index s last q fits = absurd (let no : ⊥ = cc in no)
@@ -170,7 +158,7 @@ kind_held kind.Label i is = label_held i
 held_from : (insns : List Insn) (index : ℕ) (s t : State) (q : ℕ) → bad_from index insns ≡ None → run_from index insns s ≡ Some t →
     is_some (held t.regs (suc q)) ≡ (is_some (held s.regs (suc q)) || window_defines insns (suc q))
 held_from [] index s t q bad goes =
-    let same : s ≡ t = cc in subst (λ (t : State). is_some (held t.regs (suc q)) ≡ (is_some (held s.regs (suc q)) || false)) same (sym (or_false (is_some (held s.regs (suc q)))))
+    let same : s ≡ t = cc in subst (λ (t : State). is_some (held t.regs (suc q)) ≡ (is_some (held s.regs (suc q)) || false)) same (sym (or-false (is_some (held s.regs (suc q)))))
 held_from (i ∷ insns) index s t q bad goes =
     let fits = fits_all index i insns bad in
     held_from insns (index + 1) (after_kind i.kind index i s) t q fits.rest (goes_from insns index i s t goes)

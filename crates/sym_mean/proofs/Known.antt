@@ -1,5 +1,5 @@
 -- Where instructions come to something, the needs of their symbolic state were met, and it means what they come to.
-use Rattle.std.proofs.lemmas.List.{length-append}
+use Rattle.std.proofs.lemmas.List.{append-nil, length-append}
 use Rattle.std.proofs.Common.{◌≡◌, ℕ, ◌+◌, not, Bool, true, false, List, [], ◌∷◌, ◌++◌, length, Some, None, refl, sym, ◌∙◌, ap, subst}
 use Rattle.std.specs.Prelude.{if◌then◌else◌, option_map, option_and_then}
 use Rattle.rtx_tree.specs.declared.function.Insn.{Insn}
@@ -17,7 +17,7 @@ use Rattle.term_mean.specs.Stores.{Follow}
 use Rattle.window_mean.specs.Insns.{Falls, Calls, InsnsCome, come_to, come_after, insn_comes, insns_come}
 use Rattle.sym_state.specs.State.{State}
 use Rattle.sym_insns.specs.Effects as spec
-use Rattle.sym_insns.specs.Run.{after_kind, run_from, run}
+use Rattle.sym_insns.specs.Run.{after_kind, run_from}
 use Rattle.sym_insns.specs.Shape.{is_shaped, is_end, fits_kind, bad_from}
 use Rattle.sym_mean.specs.Needs.{First, are_met}
 use Rattle.sym_mean.specs.Shows.{IsOf}
@@ -25,12 +25,12 @@ use Rattle.sym_mean.specs.Means.{all_met, Means}
 use Rattle.sym_mean.proofs.CallShapes.{HasWidth, call_width}
 use Rattle.sym_mean.proofs.CallSteps.{target_made, event_made, is_made, called}
 use Rattle.sym_mean.proofs.Ends.{Way, fallen, jump_means, call_means, call_needs, last_on}
-use Rattle.sym_mean.proofs.Growth.{append_nothing, new_stores, made_needs, made_stores, goes_from, met_then}
-use Rattle.sym_mean.proofs.JumpShapes.{both_of}
+use Rattle.sym_mean.proofs.Growth.{new_stores, made_needs, made_stores, goes_from, met_then}
 use Rattle.sym_mean.proofs.JumpSteps.{Jumped, leads_to, jumped}
 use Rattle.sym_mean.proofs.Plain.{all_needs, all_meant, AllLeadOn}
 use Rattle.sym_mean.proofs.Writes.{writes_on, writes_by, run_writes, FollowWrites, leads_by, followed}
-use Rattle.sym_mean.proofs.Ways.{not_true, jump_of, call_of, fits_all, rest_of, plain_way, plain_is}
+use Rattle.sym_mean.proofs.Ways.{jump_of, call_of, fits_all, rest_of, plain_way, plain_is}
+use Rattle.sym_mean.proofs.Bools.{both_of, not_true}
 
 module _ (v : Valuation) (f : First) (ranges : List RangeAt) (of : IsOf v f) where
   -- ---- where the run is known
@@ -72,7 +72,7 @@ module _ (v : Valuation) (f : First) (ranges : List RangeAt) (of : IsOf v f) whe
           sym (ap (λ o. option_and_then (rest_of f ranges insns) (option_map (come_after regs memory) o)) here) ∙ comes in
           let written = followed v f es (length s.stores) (run_writes f.symbols insns (regs_after done regs) (memory_after done memory))
           (subst (λ o. FollowWrites v.memory (length s.stores) (writes_on o regs memory (run_writes f.symbols insns))) here follows) in
-          let leads : AllLeadOn v f s.stores es = leads_by v f es s.stores [] (subst (λ ss. Follow v (length s.stores) ss) (sym (append_nothing (new_stores es))) written.stores) in
+          let leads : AllLeadOn v f s.stores es = leads_by v f es s.stores [] (subst (λ ss. Follow v (length s.stores) ss) (sym (append-nil (new_stores es))) written.stores) in
           let long : length s.stores + length (new_stores es) ≡ length (spec.after_plain index i.pattern s).stores = sym (ap length (made_stores index es s) ∙ length-append s.stores (new_stores es)) in
           on (index + 1) (spec.after_plain index i.pattern s) t (regs_after done regs) (memory_after done memory) came bad goes rest
           (plain_way v f of index i s regs memory way all leads)

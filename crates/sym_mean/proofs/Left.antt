@@ -1,13 +1,12 @@
 -- The registers that a call leaves: in a symbolic state and in the state of a run the same ones are unset.
 use Rattle.std.proofs.lemmas.Bool.Decides.{nat_tests}
-use Rattle.std.proofs.Common.{◌≡◌, ◌≢◌, ℕ, zero, suc, ◌+◌, ◌<◌, ◌≤◌, ◌==◌, not, Bool, true, false, cond, List, Option, Some, None, refl, sym, ◌∙◌, ap, subst, arith, tests}
+use Rattle.std.proofs.Common.{◌≡◌, ◌≢◌, ℕ, zero, suc, ◌+◌, ◌<◌, ◌≤◌, ◌==◌, not, Bool, true, false, cond, List, Some, None, refl, sym, ◌∙◌, ap, subst, arith}
 use Rattle.std.specs.Prelude.{if◌then◌else◌, option_and_then}
 use Rattle.std.specs.FinMap.{get}
 use Rattle.bits64.specs.declared.Width.{Width}
 use Rattle.rtx_tree.specs.Registers.{is_call_used}
 use Rattle.rtl_step.specs.Regs.{Regs, known_in, reg_value, preserved}
 use Rattle.rtl_step.proofs.Registers.{get_kept}
-use Rattle.term_tree.specs.Tree.{Tree}
 use Rattle.term_mean.specs.Meaning.{Valuation}
 use Rattle.window_mean.specs.Insns.{InsnsEnd, Falls, Goes, Calls, Returns}
 use Rattle.sym_state.specs.State.{Changed}

@@ -1,3 +1,4 @@
+pub mod Bools
 pub mod CallShapes
 pub mod CallSteps
 pub mod Changes

@@ -1,6 +1,6 @@
 -- What a plain instruction, a jump and a call need of registers is used by their patterns, and by a call's arguments.
 use Rattle.std.proofs.lemmas.Bool.Decides.{nat_tests}
-use Rattle.std.proofs.Common.{◌≡◌, ℕ, suc, ◌+◌, ◌==◌, ◌&&◌, ◌||◌, not, Bool, true, false, List, [], ◌∷◌, ◌++◌, map, Option, Some, None, refl, sym, ◌∙◌, ap, subst, arith}
+use Rattle.std.proofs.Common.{◌≡◌, ℕ, suc, ◌==◌, ◌&&◌, ◌||◌, not, Bool, true, false, List, [], ◌∷◌, ◌++◌, map, Option, Some, None, refl, sym, ◌∙◌, ap, subst, arith}
 use Rattle.std.specs.Prelude.{if◌then◌else◌}
 use Rattle.std.specs.List.{list_any, AllByRecursion}
 use Rattle.bits64.specs.declared.Width.{Width}
@@ -26,18 +26,7 @@ use Rattle.sym_mean.proofs.JumpShapes.{Leads, to_label, by_test, IsJump}
 use Rattle.sym_mean.proofs.Places.{IsNatural, natural_kids}
 use Rattle.sym_mean.proofs.Plain.{all_needs}
 use Rattle.sym_mean.proofs.Reading.{NeedsAre, needs_joined, needs_more, read_is, value_needs}
-
-pub or_first : (a b : Bool) → a ≡ true → (a || b) ≡ true
-or_first true b is = refl
-or_first false b is = absurd (let no : ⊥ = cc in no)
-
-pub or_later : (a b : Bool) → b ≡ true → (a || b) ≡ true
-or_later true b is = refl
-or_later false b is = is
-
-pub either : (a b : Bool) → (a || b) ≡ false → (a ≡ false) × (b ≡ false)
-either true b is = absurd (let no : ⊥ = cc in no)
-either false b is = (refl, is)
+use Rattle.sym_mean.proofs.Bools.{or_first, or_later}
 
 -- ---- what stands in a tree is read
 

@@ -1,10 +1,9 @@
 -- The register of a place: the one that is set by its number as 64 bits is the one that it defines.
 use Rattle.std.proofs.lemmas.Bool.Decides.{nat_tests}
-use Rattle.std.proofs.Common.{◌≡◌, ℕ, zero, suc, ◌+◌, ◌<◌, ◌^◌, ◌==◌, ◌&&◌, not, nat_lt, Bool, true, false, List, [], ◌∷◌, Option, Some, None, refl, sym, ◌∙◌, ap, subst, arith, tests}
+use Rattle.std.proofs.Common.{◌≡◌, ℕ, suc, ◌==◌, ◌&&◌, not, Bool, true, false, List, [], ◌∷◌, Option, Some, None, refl, sym, ◌∙◌, ap, arith, tests}
 use Rattle.std.specs.Prelude.{ℤ, pos, negsuc, is_some}
 use Rattle.std.specs.Int.{cast_unsigned, w64}
 use Rattle.std.specs.List.{list_all, AllByRecursion}
-use Rattle.std.specs.Ordering.{int_eq}
 use Rattle.rtx_tree.specs.Code.{class_of_code}
 use Rattle.rtx_tree.specs.Tree.{is_reg_numbered}
 use Rattle.rtx_tree.specs.declared.class.Class.TheVariants as class
@@ -13,11 +12,12 @@ use Rattle.rtx_tree.specs.declared.code.Code.TheVariants as code
 use Rattle.rtx_tree.specs.declared.code.Mode.{Mode}
 use Rattle.rtx_tree.specs.declared.tree.Rtx.{Rtx, out-Rtx}
 use Rattle.rtl_step.specs.Effect.{inner_number, register_by, register_of, address_part}
-use Rattle.rtl_func.specs.Shapes.{class_at, mode_at, number_at, has_mode, is_true_register, is_narrower, fits_row}
+use Rattle.rtl_func.specs.Shapes.{class_at, mode_at, number_at, has_mode, is_true_register, fits_row}
 use Rattle.reg_uses.specs.Effects.{is_register, place_is_by, place_is}
 use Rattle.sym_insns.specs.Shape.{is_natural, all_natural}
 use Rattle.sym_insns.proofs.Shapes.{natural_out}
-use Rattle.sym_mean.proofs.JumpShapes.{both_of, IsSound, sound_kids, row_by}
+use Rattle.sym_mean.proofs.JumpShapes.{IsSound, row_by}
+use Rattle.sym_mean.proofs.Bools.{both_of}
 
 -- ---- numbers
 

@@ -12,7 +12,7 @@ use Rattle.rtx_tree.specs.declared.class.Class.{Class}
 use Rattle.rtx_tree.specs.declared.class.Class.TheVariants as class
 use Rattle.rtx_tree.specs.declared.code.Code.{Code}
 use Rattle.rtx_tree.specs.declared.code.Code.TheVariants as code
-use Rattle.rtx_tree.specs.declared.tree.Rtx.{Rtx, out-Rtx, roll-Rtx}
+use Rattle.rtx_tree.specs.declared.tree.Rtx.{Rtx, roll-Rtx}
 use Rattle.rtx_tree.specs.declared.tree.Rtx.TheFolds.{fold-roll-Rtx, ind-Rtx, map-Rtx}
 use Rattle.rtx_tree.specs.declared.tree.Rtx.TheOpen.{Rtx-F}
 use Rattle.rtl_step.specs.Value.{first_width, count_width}
@@ -25,8 +25,8 @@ use Rattle.sym_state.specs.Registers.{held, need_of, read_needs}
 use Rattle.sym_insns.specs.Value as spec
 use Rattle.sym_insns.specs.Value.{Made, Reading}
 use Rattle.sym_insns.specs.Shape.{is_natural, natural_step, all_natural}
-use Rattle.sym_mean.proofs.JumpShapes.{both_of}
 use Rattle.sym_mean.proofs.Places.{same_number, IsNatural}
+use Rattle.sym_mean.proofs.Bools.{both_of, or_first, or_later}
 
 -- ---- needs of registers
 
@@ -97,8 +97,8 @@ module _ (regs : List Changed) (stores : List Store) (some : ℕ → Bool) where
       let here : c ≡ code.Reg = register_code c is in
       let natural' : is_natural code.Reg n ≡ true = ap (λ c. is_natural c n) (sym here) ∙ natural in
       read_is regs some (cast_unsigned w64 n) w (λ q same.
-          let yes : (cast_unsigned w64 n == suc q) ≡ true = grind (arith, nat_tests, same) in
-          own q (ap (λ c. is_reg_numbered c n (suc q)) here ∙ (sym (same_number n (suc q) natural') ∙ yes)))
+      let yes : (cast_unsigned w64 n == suc q) ≡ true = grind (arith, nat_tests, same) in
+      own q (ap (λ c. is_reg_numbered c n (suc q)) here ∙ (sym (same_number n (suc q) natural') ∙ yes)))
   none_needs class.Constant c n name w is natural own = tt
   none_needs class.Symbol c n name w is natural own = (tt, tt)
   none_needs k c n name w is natural own = (tt, tt)
@@ -141,14 +141,6 @@ module _ (regs : List Changed) (stores : List Store) (some : ℕ → Bool) where
   made_needs c n name (a ∷ b ∷ d ∷ ms) w natural own parts = (tt, tt)
 
 -- ---- each expression
-
-or_first : (a b : Bool) → a ≡ true → (a || b) ≡ true
-or_first true b is = refl
-or_first false b is = absurd (let no : ⊥ = cc in no)
-
-or_later : (a b : Bool) → b ≡ true → (a || b) ≡ true
-or_later true b is = refl
-or_later false b is = is
 
 module _ (regs : List Changed) (stores : List Store) where
   abbrev terms : Rtx → Reading

@@ -1,6 +1,6 @@
 -- Whole runs of instructions. Where the instructions come to something, the needs of their symbolic state were met, and it means what they come to; where its needs are met, they
 -- come to what it means.
-use Rattle.std.proofs.Common.{◌≡◌, ℕ, true, List, Option, Some, None, refl, sym, ◌∙◌, ap}
+use Rattle.std.proofs.Common.{◌≡◌, true, List, Some, refl, sym, ◌∙◌, ap}
 use Rattle.rtx_tree.specs.declared.function.Insn.{Insn}
 use Rattle.rtx_tree.specs.declared.machine.RangeAt.{RangeAt}
 use Rattle.rtx_tree.specs.declared.machine.SymbolAt.{SymbolAt}

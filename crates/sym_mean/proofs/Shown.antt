@@ -1,4 +1,5 @@
 -- Where the needs of the symbolic state of instructions are met, they come to what it means.
+use Rattle.std.proofs.lemmas.List.{append_assoc}
 use Rattle.std.proofs.lemmas.Bool.Decides.{nat_tests}
 use Rattle.std.proofs.Common.{◌≡◌, ℕ, ◌+◌, ◌==◌, ◌%◌, ◌&&◌, not, true, false, List, [], ◌∷◌, ◌++◌, length, Some, None, refl, sym, ◌∙◌, ap, subst, arith}
 use Rattle.std.specs.Prelude.{if◌then◌else◌, option_map, option_and_then}
@@ -16,7 +17,7 @@ use Rattle.term_mean.specs.Stores.{Follow, Stored}
 use Rattle.window_mean.specs.Insns.{Falls, Calls, InsnsCome, come_to, come_after, insn_comes, insns_come}
 use Rattle.sym_state.specs.State.{State}
 use Rattle.sym_insns.specs.Effects as spec
-use Rattle.sym_insns.specs.Run.{after_kind, run_from, run}
+use Rattle.sym_insns.specs.Run.{after_kind, run_from}
 use Rattle.sym_insns.specs.Shape.{is_shaped, is_end, fits_kind, bad_from}
 use Rattle.sym_mean.specs.Needs.{First, are_met}
 use Rattle.sym_mean.specs.Shows.{IsOf}
@@ -25,15 +26,14 @@ use Rattle.sym_mean.proofs.CallShapes.{call_width}
 use Rattle.sym_mean.proofs.CallSteps.{target_made, event_made, is_made, called}
 use Rattle.sym_mean.proofs.Ends.{Way, fallen, jump_means, call_means, last_on}
 use Rattle.sym_mean.proofs.Growth.{new_stores, made_needs, made_stores, goes_from, run_grows, met_before, met_new}
-use Rattle.sym_mean.proofs.JumpShapes.{both_of}
 use Rattle.sym_mean.proofs.JumpSteps.{leads_to, jumped}
 use Rattle.sym_mean.proofs.Plain.{all_needs, all_meant, AllLeadOn}
 use Rattle.sym_mean.proofs.Values.{both_met}
 use Rattle.sym_mean.proofs.Writes.{leads_by}
-use Rattle.sym_mean.proofs.Ways.{not_true, jump_of, call_of, fits_all, follow_behind, rest_of, plain_way, plain_is}
+use Rattle.sym_mean.proofs.Ways.{jump_of, call_of, fits_all, follow_behind, rest_of, plain_way, plain_is}
 use Rattle.window_mean.specs.Insns.{InsnsEnd}
 use Rattle.sym_insns.specs.Value.{Made}
-use Rattle.sym_mean.proofs.Growth.{append_assoc}
+use Rattle.sym_mean.proofs.Bools.{both_of, not_true}
 
 module _ (v : Valuation) (f : First) (ranges : List RangeAt) (of : IsOf v f) where
   -- ---- where the run has to be shown

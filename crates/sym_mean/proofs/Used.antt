@@ -1,4 +1,5 @@
 -- The registers that a window of instructions needs are those that it uses.
+use Rattle.std.proofs.lemmas.List.{append-nil}
 use Rattle.std.proofs.lemmas.List.Elements.{All-append, All-cons}
 use Rattle.std.proofs.Common.{◌≡◌, ℕ, suc, ◌+◌, ◌&&◌, not, Bool, true, false, List, [], ◌∷◌, ◌++◌, Some, None, refl, sym, ◌∙◌, ap, subst, arith}
 use Rattle.std.specs.Prelude.{is_some}
@@ -6,7 +7,7 @@ use Rattle.std.specs.List.{All}
 use Rattle.rtx_tree.specs.declared.function.Insn.{Insn}
 use Rattle.rtx_tree.specs.declared.function.Kind.{Kind}
 use Rattle.rtx_tree.specs.declared.function.Kind.TheVariants as kind
-use Rattle.rtx_tree.specs.declared.tree.Rtx.{Rtx, out-Rtx}
+use Rattle.rtx_tree.specs.declared.tree.Rtx.{out-Rtx}
 use Rattle.rtl_step.specs.Call as call
 use Rattle.reg_uses.specs.Effects as uses
 use Rattle.reg_uses.specs.Uses.{has_argument, insn_uses, insn_defines, is_return}
@@ -16,13 +17,13 @@ use Rattle.sym_state.specs.Registers.{held}
 use Rattle.sym_insns.specs.Effects as spec
 use Rattle.sym_insns.specs.Run.{after_kind, run_from, run}
 use Rattle.sym_insns.specs.Shape.{is_shaped, is_end, fits_kind, bad_from, bad_insn}
-use Rattle.sym_mean.proofs.Growth.{append_nothing, made_needs, goes_from, jump_test, jump_is}
-use Rattle.sym_mean.proofs.JumpShapes.{both_of}
+use Rattle.sym_mean.proofs.Growth.{made_needs, goes_from, jump_test, jump_is}
 use Rattle.sym_mean.proofs.Kept.{natural_insn, kind_held}
 use Rattle.sym_mean.proofs.Plain.{all_needs}
 use Rattle.sym_mean.proofs.Reading.{NeedIs, NeedsAre, AreMore, needs_joined, needs_more}
-use Rattle.sym_mean.proofs.Ways.{not_true, jump_of, call_of, fits_all, does_run}
-use Rattle.sym_mean.proofs.Needed.{or_first, or_later, either, plain_needs, jump_needs, called_needs, args_need}
+use Rattle.sym_mean.proofs.Ways.{jump_of, call_of, fits_all, does_run}
+use Rattle.sym_mean.proofs.Needed.{plain_needs, jump_needs, called_needs, args_need}
+use Rattle.sym_mean.proofs.Bools.{both_of, or_first, or_later, either, not_true}
 
 -- ---- what an instruction needs anew
 
@@ -41,7 +42,7 @@ abbrev KindNeeds : Kind → Insn → Type 0
 KindNeeds k i = (index : ℕ) (s : State) (last : Bool) → fits_kind k i last ≡ true → NewNeeds index i s (after_kind k index i s)
 
 nothing_new : (index : ℕ) (i : Insn) (s : State) → NewNeeds index i s s
-nothing_new index i s = record { needs = []; needs_are = sym (append_nothing s.needs); they_are = tt }
+nothing_new index i s = record { needs = []; needs_are = sym (append-nil s.needs); they_are = tt }
 
 plain_new : (i : Insn) → KindNeeds kind.Plain i
 plain_new i index s last shaped =
@@ -125,8 +126,8 @@ used_from good (i ∷ insns) index s t bad goes before give =
     let here = good_needs good s.regs (λ reg. insn_uses i reg) (λ q held used. give q held (or_first (insn_uses i (suc q)) _ used)) index new.needs new.they_are in
     let all = subst (All (IsGood good)) (sym new.needs_are) (All-append (IsGood good) s.needs (needs_at index new.needs) before here) in
     used_from good insns (index + 1) next t fits.rest (goes_from insns index i s t goes) all (λ q none used.
-        let kept = either (is_some (held s.regs (suc q))) (insn_defines i (suc q)) (sym (kind_held i.kind i refl index s (is_end insns) q fits.here) ∙ none) in
-        give q kept.0 (or_later (insn_uses i (suc q)) _ (ap (λ b. not b && window_uses insns (suc q)) kept.1 ∙ used)))
+    let kept = either (is_some (held s.regs (suc q))) (insn_defines i (suc q)) (sym (kind_held i.kind i refl index s (is_end insns) q fits.here) ∙ none) in
+    give q kept.0 (or_later (insn_uses i (suc q)) _ (ap (λ b. not b && window_uses insns (suc q)) kept.1 ∙ used)))
 
 -- the registers that a window of instructions needs are those that it uses
 pub needs_used : (insns : List Insn) (s : State) → run insns ≡ Runs s → All (IsUsed insns) s.needs

@@ -22,14 +22,11 @@ use Rattle.sym_mean.specs.Shows.{IsOf}
 use Rattle.sym_mean.proofs.CallShapes.{IsCall, call_shape}
 use Rattle.sym_mean.proofs.Ends.{Way}
 use Rattle.sym_mean.proofs.Growth.{made_jump, made_call}
-use Rattle.sym_mean.proofs.JumpShapes.{IsJump, both_of, jump_shape}
+use Rattle.sym_mean.proofs.JumpShapes.{IsJump, jump_shape}
 use Rattle.sym_mean.proofs.Plain.{all_needs, all_meant, AllLeadOn, effects_are, plain_shows}
+use Rattle.sym_mean.proofs.Bools.{both_of}
 
 -- ---- what the shape of instructions gives
-
-pub not_true : (b : Bool) → not b ≡ true → b ≡ false
-not_true true is = absurd (let no : ⊥ = cc in no)
-not_true false is = refl
 
 pub jump_of : (i : Insn) → is_shaped i ≡ true → i.kind ≡ kind.Jump → is_return i ≡ false → IsJump i.pattern
 jump_of i shaped jumps returns =

@@ -1,4 +1,5 @@
 -- The memories behind what a run of instructions writes: from them a valuation is made in which the run's stores are those that it has.
+use Rattle.std.proofs.lemmas.List.{append_assoc}
 use Rattle.std.proofs.Common.{◌≡◌, ℕ, zero, suc, ◌+◌, ◌<◌, ◌^◌, List, [], ◌∷◌, ◌++◌, length, Option, Some, None, refl, sym, ◌∙◌, ap, subst, arith}
 use Rattle.bits64.specs.declared.Width.{Width}
 use Rattle.bits64.specs.Words.{bytes_of}
@@ -11,14 +12,14 @@ use Rattle.rtl_step.specs.Regs.{Regs}
 use Rattle.rtl_step.specs.Effect.{effects_of, regs_after, memory_after}
 use Rattle.rtl_step.specs.declared.effect.Effect.{Effect}
 use Rattle.rtl_step.specs.declared.effect.Effect.TheVariants as rtl
-use Rattle.term_tree.specs.Tree.{width_of}
-use Rattle.term_mean.specs.Meaning.{Valuation, mean}
+use Rattle.term_mean.specs.Meaning.{Valuation}
 use Rattle.term_mean.specs.Stores.{Store, written, Follow}
 use Rattle.sym_insns.specs.Effects as spec
 use Rattle.sym_mean.specs.Needs.{First}
 use Rattle.sym_mean.specs.Meant.{meant}
-use Rattle.sym_mean.proofs.Growth.{new_store, new_stores, append_assoc}
+use Rattle.sym_mean.proofs.Growth.{new_store, new_stores}
 use Rattle.sym_mean.proofs.Plain.{all_meant, AllLeadOn}
+use Rattle.sym_mean.proofs.Memories.{one_more}
 
 -- a number that is written in a width at an address
 pub record Write : Type 0 where
@@ -89,10 +90,6 @@ memories_follow first ws = memories_from ws first (memories first ws) 0 (λ k. a
     plus k = omega arith
 
 -- ---- what effects write and what their terms store
-
-one_more : (stores : List Store) (s : Store) → length (stores ++ s ∷ []) ≡ suc (length stores)
-one_more [] s = refl
-one_more (t ∷ stores) s = ap suc (one_more stores s)
 
 module _ (v : Valuation) (f : First) where
   -- the stores of effects lead on where a valuation follows them

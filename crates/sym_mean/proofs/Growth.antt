@@ -94,28 +94,21 @@ plain_grows index x s = record {
 
 -- ---- a jump
 
--- what a jump tests, and its label
+-- what a jump tests
 abbrev pub jump_test_by : Code → List Rtx → State → Made
 jump_test_by code.IfThenElse (test ∷ label ∷ other ∷ []) s = made_of s.regs s.stores test W8
 jump_test_by _ parts s = spec.always
 
-abbrev pub jump_label_by : Code → List Rtx → Rtx → Rtx
-jump_label_by code.IfThenElse (test ∷ label ∷ other ∷ []) source = label
-jump_label_by _ parts source = source
-
 abbrev pub jump_test : Rtx → State → Made
 jump_test source s = jump_test_by (out-Rtx source).code (out-Rtx source).kids s
 
-abbrev pub jump_label : Rtx → Rtx
-jump_label source = jump_label_by (out-Rtx source).code (out-Rtx source).kids source
-
-jump_by_is : (c : Code) (parts : List Rtx) (source : Rtx) (index : ℕ) (s : State) → spec.jump_by c parts source index s ≡ spec.jumps index (jump_test_by c parts s) (jump_label_by c parts source) s
+jump_by_is : (c : Code) (parts : List Rtx) (source : Rtx) (index : ℕ) (s : State) → spec.jump_by c parts source index s ≡ spec.jumps index (jump_test_by c parts s) (spec.label_by c parts source) s
 jump_by_is code.IfThenElse (test ∷ label ∷ other ∷ []) source index s = refl
 jump_by_is c parts source index s = refl
 
 -- a jump's state, by its test and its label
 pub jump_is : (index : ℕ) (x : Rtx) (s : State) →
-    spec.after_jump index x s ≡ spec.jumps index (jump_test (spec.jump_source (out-Rtx x).kids x) s) (jump_label (spec.jump_source (out-Rtx x).kids x)) s
+    spec.after_jump index x s ≡ spec.jumps index (jump_test (spec.jump_source (out-Rtx x).kids x) s) (spec.jump_label (spec.jump_source (out-Rtx x).kids x)) s
 jump_is index x s =
     let source = spec.jump_source (out-Rtx x).kids x in
     jump_by_is (out-Rtx source).code (out-Rtx source).kids source index s
@@ -126,7 +119,7 @@ jumps_grow index test label s = record { more_needs = needs_at index test.needs;
 jump_grows : (index : ℕ) (x : Rtx) (s : State) → Grows s (spec.after_jump index x s)
 jump_grows index x s =
     let source = spec.jump_source (out-Rtx x).kids x in
-    subst (λ t. Grows s t) (sym (jump_is index x s)) (jumps_grow index (jump_test source s) (jump_label source) s)
+    subst (λ t. Grows s t) (sym (jump_is index x s)) (jumps_grow index (jump_test source s) (spec.jump_label source) s)
 
 -- ---- a run
 

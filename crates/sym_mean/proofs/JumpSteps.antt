@@ -19,7 +19,7 @@ use Rattle.sym_insns.specs.Value.{Made, made_of}
 use Rattle.sym_insns.specs.Effects as spec
 use Rattle.sym_mean.specs.Needs.{First, are_met}
 use Rattle.sym_mean.specs.Shows.{IsOf, Shows}
-use Rattle.sym_mean.proofs.Growth.{jump_test_by, jump_label_by, jump_test, jump_label, jump_is}
+use Rattle.sym_mean.proofs.Growth.{jump_test_by, jump_test, jump_is}
 use Rattle.sym_mean.proofs.JumpShapes.{Leads, to_label, by_test, IsJump}
 use Rattle.sym_mean.proofs.Jumps.{branch_worth}
 
@@ -45,9 +45,9 @@ module _ (v : Valuation) (f : First) (s : State) (ranges : List RangeAt) (regs :
       ∙ ap (λ b. if b then jump.way_of f.symbols regs memory source else None) pc)
 
   after_here : (place source : Rtx) (index : ℕ) → (out-Rtx i.pattern).kids ≡ place ∷ source ∷ [] →
-      spec.after_jump index i.pattern s ≡ spec.jumps index (jump_test source s) (jump_label source) s
+      spec.after_jump index i.pattern s ≡ spec.jumps index (jump_test source s) (spec.jump_label source) s
   after_here place source index kids =
-      jump_is index i.pattern s ∙ ap (λ parts. spec.jumps index (jump_test (spec.jump_source parts i.pattern) s) (jump_label (spec.jump_source parts i.pattern)) s) kids
+      jump_is index i.pattern s ∙ ap (λ parts. spec.jumps index (jump_test (spec.jump_source parts i.pattern) s) (spec.jump_label (spec.jump_source parts i.pattern)) s) kids
 
   chosen_end : (number uid : ℕ) → end_of_way (jump.chosen number uid) ≡ leads_to number uid
   chosen_end number uid = by (number == 0)
@@ -68,7 +68,7 @@ module _ (v : Valuation) (f : First) (s : State) (ranges : List RangeAt) (regs :
   ends_by source (to_label is labelled) place set kids pc =
       let parts : List Rtx = (out-Rtx source).kids in
       let test_is : jump_test source s ≡ spec.always = ap (λ c. jump_test_by c parts s) is in
-      let label_is : jump_label source ≡ source = ap (λ c. jump_label_by c parts source) is in
+      let label_is : spec.jump_label source ≡ source = ap (λ c. spec.label_by c parts source) is in
       let goes : jump.way_of f.symbols regs memory source ≡ Some (way.Goes labelled.uid) =
       ap (λ c. jump.way_by c parts source f.symbols regs memory) is ∙ ap (λ o. option_map way.Goes o) labelled.uid_is in
       record {
@@ -76,12 +76,12 @@ module _ (v : Valuation) (f : First) (s : State) (ranges : List RangeAt) (regs :
         label = source;
         uid = labelled.uid;
         label_is = labelled.uid_is;
-        after_is = λ index. after_here place source index kids ∙ (ap (λ t. spec.jumps index t (jump_label source) s) test_is ∙ ap (λ l. spec.jumps index spec.always l s) label_is);
+        after_is = λ index. after_here place source index kids ∙ (ap (λ t. spec.jumps index t (spec.jump_label source) s) test_is ∙ ap (λ l. spec.jumps index spec.always l s) label_is);
         comes_is = ap (λ o. option_map (λ w. come_to regs memory (end_of_way w)) o) (way_here place source set kids pc ∙ goes);
       }
   ends_by source (by_test test label other is parts compares labelled pc_other) place set kids pc =
       let test_is : jump_test source s ≡ made_of s.regs s.stores test W8 = ap (λ c. jump_test_by c (out-Rtx source).kids s) is ∙ ap (λ ps. jump_test_by code.IfThenElse ps s) parts in
-      let label_is : jump_label source ≡ label = ap (λ c. jump_label_by c (out-Rtx source).kids source) is ∙ ap (λ ps. jump_label_by code.IfThenElse ps source) parts in
+      let label_is : spec.jump_label source ≡ label = ap (λ c. spec.label_by c (out-Rtx source).kids source) is ∙ ap (λ ps. spec.label_by code.IfThenElse ps source) parts in
       let goes : jump.way_of f.symbols regs memory source ≡ jump.branch f.symbols regs memory test label =
       ap (λ c. jump.way_by c (out-Rtx source).kids source f.symbols regs memory) is
       ∙ (ap (λ ps. jump.way_by code.IfThenElse ps source f.symbols regs memory) parts
@@ -92,7 +92,7 @@ module _ (v : Valuation) (f : First) (s : State) (ranges : List RangeAt) (regs :
         label = label;
         uid = labelled.uid;
         label_is = labelled.uid_is;
-        after_is = λ index. after_here place source index kids ∙ (ap (λ t. spec.jumps index t (jump_label source) s) test_is ∙ ap (λ l. spec.jumps index made l s) label_is);
+        after_is = λ index. after_here place source index kids ∙ (ap (λ t. spec.jumps index t (spec.jump_label source) s) test_is ∙ ap (λ l. spec.jumps index made l s) label_is);
         comes_is =
             ap (λ o. option_map (λ w. come_to regs memory (end_of_way w)) o) (way_here place source set kids pc ∙ (goes ∙ branch_worth v f s regs memory of shows test label compares))
             ∙ branch_end (are_met v f made.needs) (mean v made.term) labelled.uid (label_of label) labelled.uid_is;

@@ -135,7 +135,7 @@ module _ (v : Valuation) (f : First) (ranges : List RangeAt) (of : IsOf v f) whe
 
   jump_more : (i j : Insn) (insns : List Insn) → KindMeans kind.Jump i (j ∷ insns)
   jump_more i j insns index s t regs memory came fits bad goes comes way met follows =
-      let last : false ≡ true = (both_of (not (is_return i)) false (both_of (is_shaped i) _ fits).1).1 in absurd (let no : ⊥ = cc in no)
+      let last : false ≡ true = (both_of (spec.has_target i.pattern) false (both_of (not (is_return i)) _ (both_of (is_shaped i) _ fits).1).1).1 in absurd (let no : ⊥ = cc in no)
 
   call_more : (i j : Insn) (insns : List Insn) → KindMeans kind.Call i (j ∷ insns)
   call_more i j insns index s t regs memory came fits bad goes comes way met follows =

@@ -12,6 +12,7 @@ pub mod JumpSteps
 pub mod Jumps
 pub mod Kept
 pub mod Known
+pub mod LastInsn
 pub mod Left
 pub mod Memories
 pub mod Needed

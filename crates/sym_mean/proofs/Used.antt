@@ -92,11 +92,11 @@ kind_new kind.Barrier i is = barrier_new i
 
 -- ---- windows
 
-abbrev IsGoodNeed : (ℕ → Type 0) → Need → Type 0
+abbrev pub IsGoodNeed : (ℕ → Type 0) → Need → Type 0
 IsGoodNeed good (Register reg w) = good reg
 IsGoodNeed good _ = Unit {0}
 
-abbrev IsGood : (ℕ → Type 0) → NeedAt → Type 0
+abbrev pub IsGood : (ℕ → Type 0) → NeedAt → Type 0
 IsGood good n = IsGoodNeed good n.what
 
 -- where a need is of a register, the window uses the register

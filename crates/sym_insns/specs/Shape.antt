@@ -15,6 +15,7 @@ use Rattle.rtl_func.specs.Modes.{shapes_agree}
 use Rattle.rtl_func.specs.Calls.{call_result_agrees}
 use Rattle.rtl_func.specs.Effects.{parallels_hold_simple}
 use Rattle.reg_uses.specs.Uses.{is_return}
+use Rattle.sym_insns.specs.Effects.{has_target}
 
 -- a register's number is none below 0
 abbrev pub is_natural : Code → ℤ → Bool
@@ -40,11 +41,11 @@ abbrev pub is_end : List Insn → Bool
 is_end [] = true
 is_end (i ∷ insns) = false
 
--- a jump and a call are the last; a return, and a label, can't be compared; a barrier, which holds
--- nothing, is passed over
+-- a jump, to a label whose uid has 32 bits, and a call are the last; a return, and a label, can't be
+-- compared; a barrier, which holds nothing, is passed over
 abbrev pub fits_kind : Kind → Insn → Bool → Bool
 fits_kind Plain i last = is_shaped i
-fits_kind Jump i last = is_shaped i && (not (is_return i) && last)
+fits_kind Jump i last = is_shaped i && (not (is_return i) && (has_target i.pattern && last))
 fits_kind Call i last = is_shaped i && last
 fits_kind Label i last = false
 fits_kind Barrier i last = is_nothing i.pattern

@@ -3,6 +3,7 @@ ghost use Rattle.std.specs.Prelude.{◌≡◌, ◌<◌, ◌^◌, length};
 ghost use Rattle.rtx_tree.specs.Tree.{head_of};
 ghost use Rattle.sym_insns.specs.Shape as spec;
 
+use crate::jump::has_target;
 use reg_uses::is_return;
 use rtl_func::{call_result_agrees, kinds_agree, parallels_hold_simple, shapes_agree};
 use rtx_tree::{Code, Insn, Kind, Rtx};
@@ -46,7 +47,9 @@ fn does_fit(insn: &Insn, is_last: bool) -> bool
 {
     match insn.kind {
         Kind::Plain => is_shaped(insn),
-        Kind::Jump => is_shaped(insn) && !is_return(insn) && is_last,
+        Kind::Jump => {
+            is_shaped(insn) && !is_return(insn) && has_target(&insn.pattern) && is_last
+        }
         Kind::Call => is_shaped(insn) && is_last,
         Kind::Label => false,
         Kind::Barrier => kinds_agree(Kind::Label, &insn.pattern),

@@ -1,6 +1,8 @@
 pub mod Accesses
+pub mod Before
 pub mod Computing
 pub mod Ends
+pub mod Leads
 pub mod Lines
 pub mod Reading
 pub mod Results

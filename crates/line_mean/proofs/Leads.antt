@@ -21,7 +21,7 @@ use Rattle.term_mean.specs.Stores.{Stored}
 use Rattle.term_mean.specs.Sums.{constant}
 use Rattle.term_mean.proofs.SumLaws.{mean-constant}
 use Rattle.window_mean.specs.Lines.{LinesCome, come_to, line_goes_on, lines_come}
-use Rattle.window_mean.specs.Lines as end
+use Rattle.window_mean.specs.Lines as window
 use Rattle.sym_state.specs.State as sym
 use Rattle.sym_state.specs.State.{State, Need, Access, Symbol, own_symbol}
 use Rattle.sym_state.specs.Registers.{held}
@@ -34,7 +34,7 @@ use Rattle.sym_mean.proofs.Parts.{has_load}
 use Rattle.sym_mean.proofs.States.{has_number}
 use Rattle.sym_mean.proofs.Values.{both_met}
 use Rattle.line_mean.specs.ShowsLine.{IsFirst, ShowsNumber, ShowsLine}
-use Rattle.line_mean.specs.EndsLines.{EndsLines, falls, goes, calls}
+use Rattle.line_mean.specs.EndsLines.{EndsLines, falls, goes, calls, LinesRun}
 use Rattle.line_mean.proofs.Before.{IsHad, met_front, stored_front}
 use Rattle.line_mean.proofs.Ends.{branch_term, branch_goes, symbol_goes, symbol_shows, call_goes, register_call_goes}
 use Rattle.line_mean.proofs.Steps.{sets_to, compute_needs, compute_term, compute_goes, compute_shows, load_needs, load_term, load_goes, load_shows, store_needs, store_value, memory_behind, store_goes, store_shows}
@@ -57,16 +57,10 @@ pub record GoesOn (v : Valuation) (f : First) (first : List (Option ℕ)) (world
   pub jump_is : next.jump ≡ s.jump
   pub call_is : next.call ≡ s.call
 
--- the line alone comes to where the state after it says
-pub record EndsThere (v : Valuation) (f : First) (first : List (Option ℕ)) (world : World) (function : ℕ) (l : Line) (next : State) (m : RvState) : Type 0 where
-  pub done : LinesCome
-  pub comes : lines_come world (l ∷ []) m ≡ Some done
-  pub ends : EndsLines v f first function next done
-  pub entry_is : done.machine.entry_ra ≡ m.entry_ra
-
+-- where a line leads; the last one alone comes to where the state after it says
 pub data Leads (v : Valuation) (f : First) (first : List (Option ℕ)) (world : World) (function : ℕ) (l : Line) (lines : List Line) (s next : State) (m : RvState) : Type 0 where
   on : GoesOn v f first world l s next m → Leads v f first world function l lines s next m
-  stops : lines ≡ [] → EndsThere v f first world function l next m → Leads v f first world function l lines s next m
+  stops : lines ≡ [] → LinesRun v f first world function (l ∷ []) next m → Leads v f first world function l lines s next m
 
 module _ (v : Valuation) (f : First) (first : List (Option ℕ)) (is_first : IsFirst v f first) (of : IsOf v f) (world : World) (same : f.symbols ≡ world.symbols) (function : ℕ)
     (s : State) (m : RvState) (shows : ShowsLine v f first s m) (l : Line) (index : ℕ) where
@@ -122,7 +116,7 @@ module _ (v : Valuation) (f : First) (first : List (Option ℕ)) (is_first : IsF
   }
 
   ends_by : (next : State) (e : LineEnd) (done : LinesCome) → line.step world l m ≡ (e, m) → line_goes_on e l m (lines_come world []) ≡ Some done → done.machine ≡ m → EndsLines v f first function next done →
-      EndsThere v f first world function l next m
+      LinesRun v f first world function (l ∷ []) next m
   ends_by next e done step comes still ends = record {
     done = done;
     comes = ap (λ stepped. line_goes_on stepped.0 l stepped.1 (lines_come world [])) step ∙ comes;
@@ -131,13 +125,13 @@ module _ (v : Valuation) (f : First) (first : List (Option ℕ)) (is_first : IsF
   }
 
   branch_by : (next : State) (b : Bool) → (mean v next.jump.condition == 0) ≡ b → line.step world l m ≡ (if b then ends.Next else ends.Jumped, m) → next.call ≡ None →
-      label_uid function l.target ≡ next.jump.target → ShowsLine v f first next m → EndsThere v f first world function l next m
+      label_uid function l.target ≡ next.jump.target → ShowsLine v f first next m → LinesRun v f first world function (l ∷ []) next m
   branch_by next true is step none target there =
       let zero_is : mean v next.jump.condition ≡ 0 = grind (arith, nat_tests, is) in
-      ends_by next ends.Next (come_to m end.Falls) step refl refl (falls none zero_is there refl)
+      ends_by next ends.Next (come_to m window.Falls) step refl refl (falls none zero_is there refl)
   branch_by next false is step none target there =
       let some : mean v next.jump.condition ≢ 0 = λ zero_is. (let yes : (mean v next.jump.condition == 0) ≡ true = ap (λ n. n == 0) zero_is in absurd (let no : ⊥ = cc in no)) in
-      ends_by next ends.Jumped (come_to m (end.Goes l.target)) step refl refl (goes l.target none some there target refl)
+      ends_by next ends.Jumped (come_to m (window.Goes l.target)) step refl refl (goes l.target none some there target refl)
 
   -- ---- every line
 
@@ -174,7 +168,7 @@ module _ (v : Valuation) (f : First) (first : List (Option ℕ)) (is_first : IsF
   act_leads action.Call lines is fits none_jumps none_calls had aligned =
       let met = (met_front v f index s.needs (Symbol l.target ∷ []) had.met).1 in
       stops (no_more lines fits)
-      (ends_by (after action.Call) (ends.Called (mean v (own_symbol l.target))) (come_to m (end.Calls (mean v (own_symbol l.target))))
+      (ends_by (after action.Call) (ends.Called (mean v (own_symbol l.target))) (come_to m (window.Calls (mean v (own_symbol l.target))))
       (step_of action.Call is ∙ call_goes v f first is_first s m shows of world same l ∙ ap (λ b. (if b then ends.Called (mean v (own_symbol l.target)) else ends.Stuck, m)) met)
       refl refl (calls _ s refl none_jumps refl refl shows refl refl))
   act_leads action.CallRegister lines is fits none_jumps none_calls had aligned =
@@ -183,7 +177,7 @@ module _ (v : Valuation) (f : First) (first : List (Option ℕ)) (is_first : IsF
       let last = no_more lines fits in
       let four : target % 4 ≡ 0 = aligned last in
       stops last
-      (ends_by (after action.CallRegister) (ends.Called target) (come_to m (end.Calls target))
+      (ends_by (after action.CallRegister) (ends.Called target) (come_to m (window.Calls target))
       (step_of action.CallRegister is ∙ register_call_goes v f first is_first s m shows world l
       ∙ ap (λ b. (if b then (if target % 4 == 0 then ends.Called target else ends.Stuck) else ends.Stuck, m)) met
       ∙ ap (λ n. (if n == 0 then ends.Called target else ends.Stuck, m)) four)

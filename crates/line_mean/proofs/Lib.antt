@@ -6,6 +6,7 @@ pub mod Leads
 pub mod Lines
 pub mod Reading
 pub mod Results
+pub mod Runs
 pub mod Setting
 pub mod Steps
 pub mod Tables

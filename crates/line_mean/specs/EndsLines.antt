@@ -38,8 +38,9 @@ pub record IsBefore (v : Valuation) (f : First) (world : World) (m : RvState) : 
   pub memory_is : ShowsMemory v f m.memory 0
 
 -- the lines come to where their symbolic state says
-pub record LinesRun (v : Valuation) (f : First) (world : World) (function : ℕ) (lines : List Line) (s : State) (m : RvState) : Type 0 where
+pub record LinesRun (v : Valuation) (f : First) (first : List (Option ℕ)) (world : World) (function : ℕ) (lines : List Line)
+    (s : State) (m : RvState) : Type 0 where
   pub done : LinesCome
   pub comes : lines_come world lines m ≡ Some done
-  pub ends : EndsLines v f m.regs function s done
+  pub ends : EndsLines v f first function s done
   pub entry_is : done.machine.entry_ra ≡ m.entry_ra

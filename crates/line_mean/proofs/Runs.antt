@@ -1,16 +1,23 @@
 -- Lines whose needs are met come to where their symbolic state says.
 use Rattle.std.proofs.Common.{◌≡◌, ℕ, zero, suc, ◌+◌, ◌<◌, ◌^◌, ◌==◌, Bool, true, false, List, [], ◌∷◌, length, Option, Some, None, refl, sym, ◌∙◌, ap, subst, arith}
-use Rattle.std.specs.Prelude.{if◌then◌else◌}
+use Rattle.std.specs.Prelude.{if◌then◌else◌, bytes_eq, option_map}
+use Rattle.bits64.specs.declared.Width.{Width}
 use Rattle.bits64.specs.declared.Width.TheVariants.{W8}
+use Rattle.bits64.specs.Words.{low}
+use Rattle.rtx_tree.specs.declared.machine.SymbolAt.{SymbolAt}
 use Rattle.rtx_tree.specs.declared.machine.World.{World}
+use Rattle.run_memory.specs.Symbols.{symbol_address}
+use Rattle.same_behaviour.specs.Lawful.{AreAddresses}
 use Rattle.rv_text.specs.Lines.{action_of}
 use Rattle.rv_text.specs.declared.action.Action.{Action}
 use Rattle.rv_text.specs.declared.line.Line.{Line}
 use Rattle.rv_line.specs.Step as line
+use Rattle.rv_line.specs.Step.{register}
 use Rattle.rv_line.specs.declared.state.RvState.{RvState}
 use Rattle.term_mean.specs.Meaning.{Valuation, mean}
 use Rattle.term_mean.specs.Stores.{Stored}
 use Rattle.term_mean.proofs.SumLaws.{mean-constant}
+use Rattle.window_mean.specs.Beside.{IsMachine}
 use Rattle.window_mean.specs.Lines.{LinesCome, come_to, line_goes_on, lines_come}
 use Rattle.window_mean.specs.Lines as window
 use Rattle.sym_state.specs.State as sym
@@ -19,9 +26,9 @@ use Rattle.sym_lines.specs.Step.{act}
 use Rattle.sym_lines.specs.Run.{label_uid, fits_action, bad_from, bad_line, act_as, after, run_from, run}
 use Rattle.sym_mean.specs.Needs.{First}
 use Rattle.sym_mean.specs.Means.{all_met, IsAligned}
-use Rattle.sym_mean.specs.Shows.{IsOf}
+use Rattle.sym_mean.specs.Shows.{IsOf, ShowsMemory}
 use Rattle.line_mean.specs.ShowsLine.{IsFirst, ShowsLine}
-use Rattle.line_mean.specs.EndsLines.{EndsLines, falls, IsBefore, LinesRun}
+use Rattle.line_mean.specs.EndsLines.{EndsLines, falls, first_on, IsBefore, LinesRun}
 use Rattle.line_mean.proofs.Before.{IsHad, had_at_first}
 use Rattle.line_mean.proofs.Leads.{Leads, on, stops, act_leads}
 
@@ -79,6 +86,37 @@ module _ (v : Valuation) (f : First) (first : List (Option ℕ)) (is_first : IsF
       let fit = fitting (fits_action (action_of l) lines) (bad_from (place + 1) lines) place fits in
       let within = chosen (is_within (after function index l s)) (run_from function (index + 1) lines (after function index l s)) last runs in
       line_runs l lines index s m (action_of l) refl fit.0 shows within.1 none_jumps none_calls (run_on lines (index + 1) (place + 1) fit.1)
+
+-- ---- what lines are run from
+
+-- a symbol's address has 64 bits
+address_below : (symbols : List SymbolAt) → AreAddresses symbols → (name : List ℕ) (address : ℕ) → symbol_address symbols name ≡ Some address → address < 2 ^ 64
+address_below [] words name address is = absurd (let no : ⊥ = cc in no)
+address_below (s ∷ symbols) words name address is =
+    by (bytes_eq s.name name) is (address_below symbols (λ k d less. words (suc k) d (omega (arith, less))) name address)
+  where
+    by : (same : Bool) → (if same then Some s.address else symbol_address symbols name) ≡ Some address → (symbol_address symbols name ≡ Some address → address < 2 ^ 64) → address < 2 ^ 64
+    by true is further = let here : s.address ≡ address = cc in subst (λ n. n < 2 ^ 64) here (words 0 s (omega arith))
+    by false is further = further is
+
+-- a machine whose registers, symbols and memory are those of a valuation
+pub before_of : (v : Valuation) (world : World) (m : RvState) → AreAddresses world.symbols → IsMachine m → ((reg number : ℕ) → register m.regs reg ≡ Some number → number ≡ v.reg reg) →
+    ((name : List ℕ) (address : ℕ) → symbol_address world.symbols name ≡ Some address → address ≡ v.sym name) → ShowsMemory v (first_on world m) m.memory 0 → IsBefore v (first_on world m) world m
+before_of v world m words machine registers symbols memory = record {
+  of = record {
+    registers = λ reg w value is. read_is reg w value (register m.regs reg) refl is;
+    symbols = symbols;
+    words = address_below world.symbols words;
+  };
+  first = record { reads_are = λ reg w. refl; words = λ reg number is. (machine.words reg number is, registers reg number is) };
+  symbols_are = refl;
+  long = machine.long;
+  memory_is = memory;
+}
+  where
+    read_is : (reg : ℕ) (w : Width) (value : ℕ) (o : Option ℕ) → register m.regs reg ≡ o → option_map (low w) o ≡ Some value → value ≡ low w (v.reg reg)
+    read_is reg w value None there is = absurd (let no : ⊥ = cc in no)
+    read_is reg w value (Some number) there is = let same : low w number ≡ value = cc in sym same ∙ ap (low w) (registers reg number there)
 
 -- ---- from the first line on
 

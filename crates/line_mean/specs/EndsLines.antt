@@ -4,6 +4,7 @@ use Rattle.std.specs.Prelude.{◌≡◌, ◌≢◌, ℕ, List, length, Option, S
 use Rattle.rtx_tree.specs.declared.machine.World.{World}
 use Rattle.rv_text.specs.declared.line.Line.{Line}
 use Rattle.rv_line.specs.declared.state.RvState.{RvState}
+use Rattle.window_mean.specs.Beside.{reads}
 use Rattle.window_mean.specs.Lines.{Falls, Goes, Calls, LinesCome, lines_come}
 use Rattle.term_mean.specs.Meaning.{Valuation, mean}
 use Rattle.term_mean.specs.Stores.{Stored}
@@ -28,6 +29,10 @@ pub data EndsLines (v : Valuation) (f : First) (first : List (Option ℕ)) (func
       s.regs ≡ left_by_call before.regs → ShowsLine v f first before done.machine →
       done.ending ≡ Calls (mean v call.target) → call.args ≡ args_from 8 10 before.regs →
       EndsLines v f first function s done
+
+-- what there is on a machine before the first line
+abbrev pub first_on : World → RvState → First
+first_on world m = record { symbols = world.symbols; reads = reads m.regs; memory = m.memory }
 
 -- what lines are run from: registers, symbols and memory are those of a valuation
 pub record IsBefore (v : Valuation) (f : First) (world : World) (m : RvState) : Type 0 where

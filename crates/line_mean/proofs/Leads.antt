@@ -1,12 +1,11 @@
 -- A line whose needs are met goes on, and the symbolic state after it shows the machine after it; or it ends the lines as the state says.
-use Rattle.std.proofs.Common.{◌≡◌, ◌≢◌, ℕ, zero, suc, ◌+◌, ◌%◌, ◌<◌, ◌==◌, ◌&&◌, Bool, true, false, cond, List, [], ◌∷◌, ◌++◌, length, Option, Some, None, refl, sym, ◌∙◌, ap, subst, arith}
+use Rattle.std.proofs.Common.{◌≡◌, ◌≢◌, ℕ, suc, ◌%◌, ◌==◌, ◌&&◌, Bool, true, false, List, [], ◌∷◌, ◌++◌, length, Option, Some, None, refl, sym, ◌∙◌, ap, subst, arith}
 use Rattle.std.specs.Prelude.{if◌then◌else◌, is_some}
 use Rattle.std.proofs.lemmas.Bool.Decides.{nat_tests}
 use Rattle.bits64.specs.declared.Width.{Width}
-use Rattle.bits64.specs.declared.Width.TheVariants.{W8, W64}
-use Rattle.bits64.specs.Words.{bytes_of}
+use Rattle.bits64.specs.declared.Width.TheVariants.{W8}
 use Rattle.rtx_tree.specs.declared.machine.World.{World}
-use Rattle.run_memory.specs.RunMemory.{load, number_at}
+use Rattle.run_memory.specs.RunMemory.{load}
 use Rattle.rv_text.specs.Lines.{action_of}
 use Rattle.rv_text.specs.declared.action.Action.{Action}
 use Rattle.rv_text.specs.declared.action.Action.TheVariants as action
@@ -27,7 +26,7 @@ use Rattle.sym_state.specs.State.{State, Need, Access, Symbol, own_symbol}
 use Rattle.sym_state.specs.Registers.{held}
 use Rattle.sym_lines.specs.Step as spec
 use Rattle.sym_lines.specs.Run.{label_uid, is_end, fits_action}
-use Rattle.sym_mean.specs.Needs.{First, is_met, are_met}
+use Rattle.sym_mean.specs.Needs.{First, are_met}
 use Rattle.sym_mean.specs.Means.{IsAligned}
 use Rattle.sym_mean.specs.Shows.{IsOf, ShowsMemory}
 use Rattle.sym_mean.proofs.Parts.{has_load}

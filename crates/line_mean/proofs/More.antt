@@ -1,6 +1,6 @@
 -- A machine that has each number that another has does what the other does.
-use Rattle.std.proofs.Common.{◌≡◌, ◌≢◌, ℕ, zero, suc, ◌+◌, ◌<◌, ◌==◌, Bool, true, false, List, [], ◌∷◌, length, Option, Some, None, refl, sym, ◌∙◌, ap, subst, arith}
-use Rattle.std.specs.Prelude.{if◌then◌else◌, option_map, option_and_then}
+use Rattle.std.proofs.Common.{◌≡◌, ◌≢◌, ℕ, zero, suc, ◌<◌, ◌==◌, Bool, true, false, List, [], ◌∷◌, length, Option, Some, None, refl, sym, ◌∙◌, ap, subst, arith}
+use Rattle.std.specs.Prelude.{option_map, option_and_then}
 use Rattle.std.proofs.lemmas.Bool.Decides.{nat_tests}
 use Rattle.bits64.specs.declared.Width.{Width}
 use Rattle.rtx_tree.specs.declared.machine.World.{World}
@@ -132,7 +132,7 @@ set_more m more has (suc rd) number within = record {
         let long = has.long in
         let more_long = has.more_long in
         let both : register (with_register more.regs (suc rd) number) (suc rd) ≡ register (with_register m.regs (suc rd) number) (suc rd) =
-            register_set more.regs (suc rd) number (omega arith) (omega (arith, within, more_long)) ∙ sym (register_set m.regs (suc rd) number (omega arith) (omega (arith, within, long))) in
+        register_set more.regs (suc rd) number (omega arith) (omega (arith, within, more_long)) ∙ sym (register_set m.regs (suc rd) number (omega arith) (omega (arith, within, long))) in
         subst (λ q. register (with_register more.regs (suc rd) number) q ≡ register (with_register m.regs (suc rd) number) q) e both ∙ is
     by (suc reg) n false here is =
         let other = differs (suc rd) (suc reg) here in
@@ -170,7 +170,7 @@ module _ (world : World) (l : Line) (lines : List Line) (m more : RvState) (done
       line.step world l more ≡ (ends.Next, record more { regs = with_register more.regs l.rd number }) → lines_come world (l ∷ lines) m ≡ Some done → RunsMore world (l ∷ lines) m more done
   sets_on number within step step' is =
       let further = rest (record m { regs = with_register m.regs l.rd number }) (record more { regs = with_register more.regs l.rd number })
-          (set_more m more has l.rd number within) (sym (ap (stepped_on world l lines) step) ∙ is) in
+      (set_more m more has l.rd number within) (sym (ap (stepped_on world l lines) step) ∙ is) in
       record {
         come = further.come;
         comes = ap (stepped_on world l lines) step' ∙ further.comes;

@@ -1,5 +1,5 @@
 -- Lines whose needs are met come to where their symbolic state says.
-use Rattle.std.proofs.Common.{◌≡◌, ℕ, zero, suc, ◌+◌, ◌<◌, ◌^◌, ◌==◌, Bool, true, false, List, [], ◌∷◌, length, Option, Some, None, refl, sym, ◌∙◌, ap, subst, arith}
+use Rattle.std.proofs.Common.{◌≡◌, ℕ, suc, ◌+◌, ◌<◌, ◌^◌, Bool, true, false, List, [], ◌∷◌, Option, Some, None, refl, sym, ◌∙◌, ap, subst, arith}
 use Rattle.std.specs.Prelude.{if◌then◌else◌, bytes_eq, option_map}
 use Rattle.bits64.specs.declared.Width.{Width}
 use Rattle.bits64.specs.declared.Width.TheVariants.{W8}
@@ -11,7 +11,6 @@ use Rattle.same_behaviour.specs.Lawful.{AreAddresses}
 use Rattle.rv_text.specs.Lines.{action_of}
 use Rattle.rv_text.specs.declared.action.Action.{Action}
 use Rattle.rv_text.specs.declared.line.Line.{Line}
-use Rattle.rv_line.specs.Step as line
 use Rattle.rv_line.specs.Step.{register}
 use Rattle.rv_line.specs.declared.state.RvState.{RvState}
 use Rattle.term_mean.specs.Meaning.{Valuation, mean}

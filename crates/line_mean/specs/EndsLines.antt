@@ -7,15 +7,13 @@ use Rattle.rv_line.specs.declared.state.RvState.{RvState}
 use Rattle.window_mean.specs.Beside.{reads}
 use Rattle.window_mean.specs.Lines.{Falls, Goes, Calls, LinesCome, lines_come}
 use Rattle.term_mean.specs.Meaning.{Valuation, mean}
-use Rattle.term_mean.specs.Stores.{Stored}
 use Rattle.sym_state.specs.State as sym
 use Rattle.sym_state.specs.State.{State, Call, Runs}
 use Rattle.sym_state.specs.Registers.{left_by_call}
 use Rattle.sym_lines.specs.Step.{args_from}
-use Rattle.sym_lines.specs.Run.{label_uid, run}
+use Rattle.sym_lines.specs.Run.{label_uid}
 use Rattle.sym_mean.specs.Needs.{First}
 use Rattle.sym_mean.specs.Shows.{IsOf, ShowsMemory}
-use Rattle.sym_mean.specs.Means.{all_met, IsAligned}
 use Rattle.line_mean.specs.ShowsLine.{IsFirst, ShowsLine}
 
 -- Lines of a function fall through, or go to a text that stands for the label, or call the function at

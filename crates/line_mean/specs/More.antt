@@ -1,5 +1,5 @@
 -- A machine that has each number that another has: what the other is not stuck at, it isn't either.
-use Rattle.std.specs.Prelude.{◌≡◌, ℕ, List, length, Option, Some, None}
+use Rattle.std.specs.Prelude.{◌≡◌, ℕ, List, length, Some, None}
 use Rattle.rtx_tree.specs.declared.machine.World.{World}
 use Rattle.rv_text.specs.declared.line.Line.{Line}
 use Rattle.rv_line.specs.Step.{register}

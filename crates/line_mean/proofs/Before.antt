@@ -6,6 +6,7 @@ use Rattle.rv_text.specs.Lines.{action_of}
 use Rattle.rv_text.specs.declared.action.Action.{Action}
 use Rattle.rv_text.specs.declared.action.Action.TheVariants as action
 use Rattle.rv_text.specs.declared.line.Line.{Line}
+use Rattle.rv_text.proofs.Numbers.{and_true}
 use Rattle.term_mean.specs.Meaning.{Valuation}
 use Rattle.term_mean.specs.Stores.{Store, Follow, Stored}
 use Rattle.sym_state.specs.State.{State, Need, NeedAt, Symbol, is_within, needs_at}
@@ -32,10 +33,6 @@ stored_front v stores s stored =
 
 -- ---- the last needs
 
-both : (a b : Bool) → (a && b) ≡ true → (a ≡ true) × (b ≡ true)
-both true b is = (refl, is)
-both false b is = absurd (let no : ⊥ = cc in no)
-
 module _ (v : Valuation) (f : First) where
   met_at : (index : ℕ) (needs : List Need) → all_met v f (needs_at index needs) ≡ are_met v f needs
   met_at index [] = refl
@@ -43,7 +40,7 @@ module _ (v : Valuation) (f : First) where
 
   pub met_front : (index : ℕ) (before : List NeedAt) (needs : List Need) → all_met v f (before ++ needs_at index needs) ≡ true → (all_met v f before ≡ true) × (are_met v f needs ≡ true)
   met_front index before needs met =
-      let parts = both (all_met v f before) (all_met v f (needs_at index needs)) (sym (list_all-append (λ n. is_met v f n.what) before (needs_at index needs)) ∙ met) in
+      let parts = and_true (all_met v f before) (all_met v f (needs_at index needs)) (sym (list_all-append (λ n. is_met v f n.what) before (needs_at index needs)) ∙ met) in
       (parts.0, sym (met_at index needs) ∙ parts.1)
 
   -- ---- the state before a line

@@ -10,6 +10,7 @@ use Rattle.rv_text.specs.Lines.{action_of}
 use Rattle.rv_text.specs.declared.action.Action.{Action}
 use Rattle.rv_text.specs.declared.action.Action.TheVariants as action
 use Rattle.rv_text.specs.declared.line.Line.{Line}
+use Rattle.rv_text.proofs.Numbers.{and_true}
 use Rattle.rv_line.specs.Step as line
 use Rattle.rv_line.specs.declared.state.RvState.{RvState}
 use Rattle.rv_line.specs.declared.state.LineEnd.{LineEnd}
@@ -42,10 +43,6 @@ use Rattle.line_mean.proofs.Tables.{rd_within, branch_words}
 no_more : (lines : List Line) → is_end lines ≡ true → lines ≡ []
 no_more [] is = refl
 no_more (l ∷ lines) is = absurd (let no : ⊥ = cc in no)
-
-both : (a b : Bool) → (a && b) ≡ true → (a ≡ true) × (b ≡ true)
-both true b is = (refl, is)
-both false b is = absurd (let no : ⊥ = cc in no)
 
 -- the line goes on, and neither jumps nor calls
 pub record GoesOn (v : Valuation) (f : First) (first : List (Option ℕ)) (world : World) (l : Line) (s next : State) (m : RvState) : Type 0 where
@@ -88,9 +85,9 @@ module _ (v : Valuation) (f : First) (first : List (Option ℕ)) (is_first : IsF
   store_leads w is had =
       let met = (met_front v f index s.needs (store_needs v f first is_first s m shows l w) had.met).1 in
       let at : ℕ = mean v (spec.address s.regs l) in
-      let right = both (are_met v f (spec.register_needs s.regs l.rt)) _ (sym (both_met v f (spec.register_needs s.regs l.rt) (spec.register_needs s.regs l.rs ++ Access (spec.address s.regs l) w ∷ [])) ∙ met) in
-      let left = both (are_met v f (spec.register_needs s.regs l.rs)) _ (sym (both_met v f (spec.register_needs s.regs l.rs) (Access (spec.address s.regs l) w ∷ [])) ∙ right.1) in
-      let access : is_some (load w f.memory at) ≡ true = (both (is_some (load w f.memory at)) true left.1).0 in
+      let right = and_true (are_met v f (spec.register_needs s.regs l.rt)) _ (sym (both_met v f (spec.register_needs s.regs l.rt) (spec.register_needs s.regs l.rs ++ Access (spec.address s.regs l) w ∷ [])) ∙ met) in
+      let left = and_true (are_met v f (spec.register_needs s.regs l.rs)) _ (sym (both_met v f (spec.register_needs s.regs l.rs) (Access (spec.address s.regs l) w ∷ [])) ∙ right.1) in
+      let access : is_some (load w f.memory at) ≡ true = (and_true (is_some (load w f.memory at)) true left.1).0 in
       let here : is_some (load w m.memory at) ≡ true = has_load w m.memory f.memory at shows.memory_is.addresses ∙ access in
       let next = (stored_front v s.stores (spec.address s.regs l, store_value v f first is_first s m shows l w) had.stored).1 in
       record {

@@ -23,6 +23,7 @@ use Rattle.same_behaviour.proofs.Registers.{register_set, register_kept, length_
 use Rattle.window_mean.specs.Lines.{LinesEnd, LinesCome, come_to, line_goes_on, lines_come}
 use Rattle.window_mean.specs.Lines as window
 use Rattle.line_mean.specs.More.{HasMore, RunsMore}
+use Rattle.line_mean.proofs.Setting.{differs}
 use Rattle.line_mean.proofs.Tables.{rd_within}
 
 -- ---- what is there of one is there of the other
@@ -110,9 +111,6 @@ line_does : (world : World) (l : Line) (m more : RvState) → HasMore m more →
 line_does world l m more has = does_more m more has world l (action_of l) refl refl refl
 
 -- ---- the machines behind it
-
-differs : (a b : ℕ) → (a == b) ≡ false → a ≢ b
-differs a b is same = let yes : (a == b) ≡ true = grind (arith, nat_tests, same) in absurd (let no : ⊥ = cc in no)
 
 -- a register, where one is set in both
 set_more : (m more : RvState) → HasMore m more → (rd number : ℕ) → rd < 32 → HasMore (record m { regs = with_register m.regs rd number }) (record more { regs = with_register more.regs rd number })

@@ -12,7 +12,7 @@ use Rattle.sym_mean.specs.Needs as needs
 use Rattle.sym_mean.proofs.Changes.{same_number, held_placed, held_kept}
 use Rattle.line_mean.specs.ShowsLine.{ShowsNumber, ShowsLine}
 
-differs : (a b : ℕ) → (a == b) ≡ false → a ≢ b
+pub differs : (a b : ℕ) → (a == b) ≡ false → a ≢ b
 differs a b is same = let yes : (a == b) ≡ true = grind (arith, same) in absurd (let no : ⊥ = cc in no)
 
 module _ (v : Valuation) (f : needs.First) (first : List (Option ℕ)) where

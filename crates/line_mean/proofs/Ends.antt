@@ -1,11 +1,10 @@
 -- The step of a line that names a symbol, jumps or calls: where its needs are met it goes by the numbers of its terms, else it is stuck.
-use Rattle.std.proofs.Common.{◌≡◌, ℕ, zero, suc, ◌+◌, ◌-◌, ◌%◌, ◌^◌, ◌<◌, ◌==◌, ◌&&◌, Bool, true, false, cond, List, [], ◌∷◌, ◌++◌, length, Option, Some, None, refl, sym, ◌∙◌, ap, subst, arith, tests}
-use Rattle.std.specs.Prelude.{ℤ, pos, negsuc, if◌then◌else◌, is_some, not, option_map, option_and_then}
+use Rattle.std.proofs.Common.{◌≡◌, ℕ, ◌%◌, ◌^◌, ◌<◌, ◌==◌, ◌&&◌, Bool, true, false, List, [], ◌∷◌, ◌++◌, Option, Some, None, refl, sym, ◌∙◌, ap, arith, tests}
+use Rattle.std.specs.Prelude.{ℤ, if◌then◌else◌, is_some, not}
 use Rattle.std.specs.Int.{cast_unsigned, w64}
-use Rattle.std.proofs.Math.Nat.{mod-lt, mod-eq_of_lt}
-use Rattle.bits64.specs.declared.Width.{Width}
-use Rattle.bits64.specs.declared.Width.TheVariants.{W8, W64}
-use Rattle.bits64.specs.Words.{low, less_signed, less_unsigned}
+use Rattle.std.proofs.Math.Nat.{mod-eq_of_lt}
+use Rattle.bits64.specs.declared.Width.TheVariants.{W64}
+use Rattle.bits64.specs.Words.{low}
 use Rattle.rtx_tree.specs.declared.machine.World.{World}
 use Rattle.run_memory.specs.Symbols.{symbol_address}
 use Rattle.rv_text.specs.declared.line.Line.{Line}
@@ -16,16 +15,15 @@ use Rattle.rv_text.specs.declared.action.Source.{Source}
 use Rattle.rv_text.specs.declared.action.Source.TheVariants.{First, Second, ReturnAddress, Immediate, Constant}
 use Rattle.rv_line.specs.Step as line
 use Rattle.rv_line.specs.declared.state.RvState.{RvState}
-use Rattle.rv_line.specs.declared.state.LineEnd.{LineEnd}
 use Rattle.rv_line.specs.declared.state.LineEnd.TheVariants as ends
-use Rattle.term_tree.specs.Tree.{Tree, width_of}
+use Rattle.term_tree.specs.Tree.{Tree}
 use Rattle.term_mean.specs.Meaning.{Valuation, mean, truth}
 use Rattle.term_mean.specs.Sums.{constant}
 use Rattle.term_mean.specs.Relations.{holds}
 use Rattle.term_mean.specs.Compared.{compared}
 use Rattle.term_mean.proofs.SumLaws.{mean-constant}
 use Rattle.term_mean.proofs.ComparedLaws.{mean-compared}
-use Rattle.sym_state.specs.State.{State, Need, Symbol, own_symbol, needs_at}
+use Rattle.sym_state.specs.State.{State, Symbol, own_symbol, needs_at}
 use Rattle.sym_lines.specs.Compute.{relation_of}
 use Rattle.sym_lines.specs.Step as spec
 use Rattle.sym_mean.specs.Needs as needs

@@ -1,9 +1,8 @@
 -- Lines of the table: rd is one of 32 registers, and a branch compares all 64 bits of registers or of a small constant.
-use Rattle.std.proofs.Common.{◌≡◌, ℕ, zero, suc, ◌+◌, ◌^◌, ◌<◌, ◌==◌, nat_lt, ◌&&◌, Bool, true, false, cond, List, [], ◌∷◌, length, Option, Some, None, refl, sym, ◌∙◌, ap, subst, arith, tests}
+use Rattle.std.proofs.Common.{◌≡◌, ℕ, zero, suc, ◌^◌, ◌<◌, nat_lt, ◌&&◌, Bool, true, false, List, [], ◌∷◌, length, Option, Some, None, refl, sym, ◌∙◌, ap, subst, arith}
 use Rattle.std.specs.Prelude.{if◌then◌else◌, is_some, option_and_then, slice_get, bytes_eq, nat_eq}
 use Rattle.std.specs.Int.{cast_unsigned, w64}
 use Rattle.std.specs.List.{list_all}
-use Rattle.std.specs.Ordering.{int_eq}
 use Rattle.std.proofs.lemmas.Bool.Decides.{nat_tests}
 use Rattle.rtx_tree.specs.Registers.{reg_names}
 use Rattle.rv_text.specs.Lines.{bare, put, filled, has_all, same_line, is_of_row, action_of, register_text}
@@ -12,14 +11,11 @@ use Rattle.rv_text.specs.declared.action.Action.{Action}
 use Rattle.rv_text.specs.declared.action.Action.TheVariants.{Branch}
 use Rattle.rv_text.specs.declared.action.Comparison.{Comparison}
 use Rattle.rv_text.specs.declared.action.Source.{Source}
-use Rattle.rv_text.specs.declared.action.Source.TheVariants.{First, Second, ReturnAddress, Immediate, Constant}
+use Rattle.rv_text.specs.declared.action.Source.TheVariants.{Immediate, Constant}
 use Rattle.rv_text.specs.declared.line.Line.{Line}
 use Rattle.rv_text.specs.declared.operand.Operand.{Operand}
 use Rattle.rv_text.specs.declared.operand.Operand.TheVariants.{Rd, Rs, Rt, Number, Place, Target, Ra}
-
-both : (a b : Bool) → (a && b) ≡ true → (a ≡ true) × (b ≡ true)
-both true b is = (refl, is)
-both false b is = absurd (let no : ⊥ = cc in no)
+use Rattle.rv_text.proofs.Numbers.{and_true}
 
 there : {A : Type 0} (xs : List A) (k : ℕ) → is_some (slice_get xs k) ≡ true → k < length xs
 there [] k is = absurd (let no : ⊥ = cc in no)
@@ -30,24 +26,24 @@ there (x ∷ xs) (suc k) is = omega (arith, there xs k is)
 filled_within : (operands : List Operand) (from l : Line) → has_all operands from ≡ true → l.rd < 32 → (filled operands from l).rd < 32
 filled_within [] from l has within = within
 filled_within (Rd ∷ operands) from l has within =
-    let parts = both (is_some (register_text from.rd)) (has_all operands from) has in
+    let parts = and_true (is_some (register_text from.rd)) (has_all operands from) has in
     filled_within operands from (put Rd from l) parts.1 (there reg_names from.rd parts.0)
-filled_within (Rs ∷ operands) from l has within = filled_within operands from (put Rs from l) (both _ (has_all operands from) has).1 within
-filled_within (Rt ∷ operands) from l has within = filled_within operands from (put Rt from l) (both _ (has_all operands from) has).1 within
-filled_within (Number least most ∷ operands) from l has within = filled_within operands from (put (Number least most) from l) (both _ (has_all operands from) has).1 within
-filled_within (Place least most ∷ operands) from l has within = filled_within operands from (put (Place least most) from l) (both _ (has_all operands from) has).1 within
-filled_within (Target ∷ operands) from l has within = filled_within operands from (put Target from l) (both _ (has_all operands from) has).1 within
+filled_within (Rs ∷ operands) from l has within = filled_within operands from (put Rs from l) (and_true _ (has_all operands from) has).1 within
+filled_within (Rt ∷ operands) from l has within = filled_within operands from (put Rt from l) (and_true _ (has_all operands from) has).1 within
+filled_within (Number least most ∷ operands) from l has within = filled_within operands from (put (Number least most) from l) (and_true _ (has_all operands from) has).1 within
+filled_within (Place least most ∷ operands) from l has within = filled_within operands from (put (Place least most) from l) (and_true _ (has_all operands from) has).1 within
+filled_within (Target ∷ operands) from l has within = filled_within operands from (put Target from l) (and_true _ (has_all operands from) has).1 within
 filled_within (Ra ∷ operands) from l has within = filled_within operands from (put Ra from l) has within
 
 same_rd : (a b : Line) → same_line a b ≡ true → a.rd ≡ b.rd
 same_rd a b is =
-    let later = both (bytes_eq a.name b.name) _ is in
-    let rd = both (nat_eq a.rd b.rd) _ later.1 in
+    let later = and_true (bytes_eq a.name b.name) _ is in
+    let rd = and_true (nat_eq a.rd b.rd) _ later.1 in
     grind (arith, nat_tests, rd.0)
 
 row_within : (row : Row) (l : Line) → is_of_row row l ≡ true → l.rd < 32
 row_within row l is =
-    let parts = both (has_all row.operands l) (same_line (filled row.operands l (bare l.name)) l) is in
+    let parts = and_true (has_all row.operands l) (same_line (filled row.operands l (bare l.name)) l) is in
     subst (λ n. n < 32) (same_rd (filled row.operands l (bare l.name)) l parts.1)
     (filled_within row.operands l (bare l.name) parts.0 (omega arith))
 
@@ -84,7 +80,7 @@ compares_words _ = true
 found_has : (p : Row → Bool) (rows : List Row) (name : List ℕ) (row : Row) → list_all p rows ≡ true → find_row name rows ≡ Some row → p row ≡ true
 found_has p [] name row all found = absurd (let no : ⊥ = cc in no)
 found_has p (first ∷ rows) name row all found =
-    let parts = both (p first) (list_all p rows) all in by (bytes_eq first.name name) parts found (found_has p rows name row parts.1)
+    let parts = and_true (p first) (list_all p rows) all in by (bytes_eq first.name name) parts found (found_has p rows name row parts.1)
   where
     by : (b : Bool) → (p first ≡ true) × (list_all p rows ≡ true) → (if b then Some first else find_row name rows) ≡ Some row → (find_row name rows ≡ Some row → p row ≡ true) → p row ≡ true
     by true parts found further = let same : first ≡ row = cc in sym (ap p same) ∙ parts.0
@@ -97,4 +93,4 @@ all_compare_words = refl
 pub branch_words : (l : Line) (comparison : Comparison) (left right : Source) → action_of l ≡ Some (Branch comparison left right) → (is_word left ≡ true) × (is_word right ≡ true)
 branch_words l comparison left right is =
     let row = row_of_line l (Branch comparison left right) is in
-    both (is_word left) (is_word right) (sym (ap compares_words row.3) ∙ found_has (λ row. compares_words row.action) table l.name row.0 all_compare_words row.1)
+    and_true (is_word left) (is_word right) (sym (ap compares_words row.3) ∙ found_has (λ row. compares_words row.action) table l.name row.0 all_compare_words row.1)

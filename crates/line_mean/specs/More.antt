@@ -1,5 +1,5 @@
 -- A machine that has each number that another has: what the other is not stuck at, it isn't either.
-use Rattle.std.specs.Prelude.{◌≡◌, ℕ, List, length, Option, Some, None}
+use Rattle.std.specs.Prelude.{◌≡◌, ℕ, List, length, Some, None}
 use Rattle.rtx_tree.specs.declared.machine.World.{World}
 use Rattle.rv_text.specs.declared.line.Line.{Line}
 use Rattle.rv_line.specs.Step.{register}
@@ -14,10 +14,12 @@ pub record HasMore (m more : RvState) : Type 0 where
   pub memory_is : more.memory ≡ m.memory
   pub entry_is : more.entry_ra ≡ m.entry_ra
 
--- lines end the same way on it; a register that is unset where the first ends is as it was
-pub record RunsMore (world : World) (lines : List Line) (done : LinesCome) (more : RvState) : Type 0 where
+-- Lines end the same way on it. A register that is unset where the first ends was unset from the first
+-- line on, and on the second is as it was.
+pub record RunsMore (world : World) (lines : List Line) (m more : RvState) (done : LinesCome) : Type 0 where
   pub come : LinesCome
   pub comes : lines_come world lines more ≡ Some come
   pub ending_is : come.ending ≡ done.ending
   pub has_more : HasMore done.machine come.machine
+  pub unset : (reg : ℕ) → register done.machine.regs reg ≡ None → register m.regs reg ≡ None
   pub others : (reg : ℕ) → register done.machine.regs reg ≡ None → register come.machine.regs reg ≡ register more.regs reg

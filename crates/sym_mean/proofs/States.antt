@@ -96,7 +96,7 @@ module _ (v : Valuation) (f : First) where
   LeadsOn stores (spec.Stores address value) = IsNext v (length stores) (address, value)
   LeadsOn stores _ = Unit {0}
 
-  has_number : (w : Width) (memory : List MemByte) (address : ℕ) → is_some (load w memory address) ≡ true → is_some (number_at memory address (bytes_of w)) ≡ true
+  pub has_number : (w : Width) (memory : List MemByte) (address : ℕ) → is_some (load w memory address) ≡ true → is_some (number_at memory address (bytes_of w)) ≡ true
   has_number w memory address is = by (is_aligned w address) is
     where
       by : (b : Bool) → is_some (if b then number_at memory address (bytes_of w) else None) ≡ true → is_some (number_at memory address (bytes_of w)) ≡ true

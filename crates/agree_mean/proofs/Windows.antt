@@ -1,6 +1,5 @@
--- What a window of instructions that has a meaning keeps: its labels have 32 bits, a call is one of its instructions, and memory has
--- its addresses in order.
-use Rattle.std.proofs.Common.{◌≡◌, ℕ, ◌^◌, ◌<◌, Bool, true, false, List, [], ◌∷◌, Option, Some, None, refl, sym, ◌∙◌, ap, subst}
+-- What a window of instructions that has a meaning keeps: memory has its addresses in order, and a call is one of its instructions.
+use Rattle.std.proofs.Common.{◌≡◌, ℕ, ◌^◌, ◌<◌, Bool, true, false, List, [], ◌∷◌, Option, Some, None, refl, sym, ◌∙◌, ap, subst, arith}
 use Rattle.std.specs.Prelude.{◌||◌, ◌&&◌, zero, suc, ◌+◌, ◌/◌, ◌%◌, option_map, option_and_then, unwrap_or, is_some}
 use Rattle.std.specs.List.{All, list_any}
 use Rattle.bits64.specs.declared.Width.{Width}
@@ -29,7 +28,6 @@ use Rattle.rtl_step.specs.Call.{event_of, result_width}
 use Rattle.rtl_step.specs.declared.call.CallEvent.{CallEvent}
 use Rattle.window_mean.specs.Insns.{InsnsEnd, Falls, Goes, Calls, Returns, InsnsCome, come_to, come_after, end_of_way, insn_comes, goes_on, insns_come}
 use Rattle.window_mean.specs.Uses.{window_defines}
-use Rattle.agree_mean.specs.Labels.{LabelFits, LabelsFit}
 
 -- ---- memory in order
 
@@ -56,11 +54,10 @@ effects_ordered (e ∷ es) memory ordered = effects_ordered es (bytes_after e me
 module _ (symbols : List SymbolAt) (ranges : List RangeAt) where
   -- ---- one instruction: what is told of where it comes to
 
-  -- memory is in order, a call is a call's, and a label fits
+  -- memory stays in order, and a call is a call's
   record Keeps (i : Insn) (memory : List MemByte) (came : InsnsCome) : Type 0 where
     pub ordered : IsOrdered memory → IsOrdered came.memory
     pub calls : (event : CallEvent) (w : Width) → came.ending ≡ Calls event w → i.kind ≡ kind.Call
-    pub fits : LabelFits i → (uid : ℕ) → came.ending ≡ Goes uid → uid < 2 ^ 32
 
   plain_keeps : (i : Insn) (regs : Regs) (memory : List MemByte) (o : Option (List Effect)) (came : InsnsCome) → option_map (come_after regs memory) o ≡ Some came → Keeps i memory came
   plain_keeps i regs memory None came is = absurd (let no : ⊥ = cc in no)
@@ -69,24 +66,20 @@ module _ (symbols : List SymbolAt) (ranges : List RangeAt) where
       subst (λ came. Keeps i memory came) same (record {
         ordered = effects_ordered es memory;
         calls = λ event w ends. absurd (let no : ⊥ = cc in no);
-        fits = λ fits uid ends. absurd (let no : ⊥ = cc in no);
       })
 
   way_keeps : (i : Insn) (regs : Regs) (memory : List MemByte) (w : Way) → jump_of symbols regs memory i.pattern ≡ Some w → Keeps i memory (come_to regs memory (end_of_way w))
   way_keeps i regs memory way.Falls leads = record {
     ordered = λ ordered. ordered;
     calls = λ event w ends. absurd (let no : ⊥ = cc in no);
-    fits = λ fits uid ends. absurd (let no : ⊥ = cc in no);
   }
   way_keeps i regs memory (way.Goes uid) leads = record {
     ordered = λ ordered. ordered;
     calls = λ event w ends. absurd (let no : ⊥ = cc in no);
-    fits = λ fits u ends. let same : uid ≡ u = cc in subst (λ n. n < 2 ^ 32) same (fits symbols regs memory uid leads);
   }
   way_keeps i regs memory way.Leaves leads = record {
     ordered = λ ordered. ordered;
     calls = λ event w ends. absurd (let no : ⊥ = cc in no);
-    fits = λ fits uid ends. absurd (let no : ⊥ = cc in no);
   }
 
   jump_keeps : (i : Insn) (regs : Regs) (memory : List MemByte) (o : Option Way) (came : InsnsCome) → jump_of symbols regs memory i.pattern ≡ o → option_map (λ w. come_to regs memory (end_of_way w)) o ≡ Some came → Keeps i memory came
@@ -104,7 +97,6 @@ module _ (symbols : List SymbolAt) (ranges : List RangeAt) where
       subst (λ came. Keeps i memory came) same (record {
         ordered = λ ordered. ordered;
         calls = λ e u ends. called;
-        fits = λ fits uid ends. absurd (let no : ⊥ = cc in no);
       })
 
   kind_keeps : (k : Kind) (i : Insn) (regs : Regs) (memory : List MemByte) (came : InsnsCome) → i.kind ≡ k → insn_comes k symbols ranges i regs memory ≡ Some came → Keeps i memory came
@@ -117,7 +109,6 @@ module _ (symbols : List SymbolAt) (ranges : List RangeAt) where
       subst (λ came. Keeps i memory came) same (record {
         ordered = λ ordered. ordered;
         calls = λ event w ends. absurd (let no : ⊥ = cc in no);
-        fits = λ fits uid ends. absurd (let no : ⊥ = cc in no);
       })
 
   -- ---- the window
@@ -140,9 +131,6 @@ module _ (symbols : List SymbolAt) (ranges : List RangeAt) where
   pub record WindowKeeps (insns : List Insn) (memory : List MemByte) (came : InsnsCome) : Type 0 where
     pub ordered : IsOrdered memory → IsOrdered came.memory
     pub calls : (event : CallEvent) (w : Width) → came.ending ≡ Calls event w → window_defines insns 1 ≡ true
-    pub fits : LabelsFit insns → (uid : ℕ) → came.ending ≡ Goes uid → uid < 2 ^ 32
-
-  pub window_keeps : (insns : List Insn) (regs : Regs) (memory : List MemByte) (came : InsnsCome) → insns_come symbols ranges insns regs memory ≡ Some came → WindowKeeps insns memory came
 
   stops : (i : Insn) (insns : List Insn) (memory : List MemByte) (here came : InsnsCome) → Keeps i memory here → Some here ≡ Some came → WindowKeeps (i ∷ insns) memory came
   stops i insns memory here came keeps is =
@@ -150,32 +138,34 @@ module _ (symbols : List SymbolAt) (ranges : List RangeAt) where
       subst (λ came. WindowKeeps (i ∷ insns) memory came) same (record {
         ordered = keeps.ordered;
         calls = λ event w ends. or_left (insn_defines i 1) (window_defines insns 1) (call_defines i (keeps.calls event w ends));
-        fits = λ fits uid ends. keeps.fits fits.0 uid ends;
       })
 
-  goes_by : (ending : InsnsEnd) (i : Insn) (insns : List Insn) (memory : List MemByte) (here came : InsnsCome) → here.ending ≡ ending → Keeps i memory here →
+  -- what is known of each run of the rest
+  abbrev Rest : List Insn → Type 0
+  Rest insns = (regs : Regs) (memory : List MemByte) (came : InsnsCome) → insns_come symbols ranges insns regs memory ≡ Some came → WindowKeeps insns memory came
+
+  goes_by : (ending : InsnsEnd) (i : Insn) (insns : List Insn) (memory : List MemByte) (here came : InsnsCome) → Rest insns → here.ending ≡ ending → Keeps i memory here →
       goes_on ending here (insns_come symbols ranges insns) ≡ Some came → WindowKeeps (i ∷ insns) memory came
-  goes_by Falls i insns memory here came ends keeps comes =
-      let rest = window_keeps insns here.regs here.memory came comes in
+  goes_by Falls i insns memory here came later ends keeps comes =
+      let rest = later here.regs here.memory came comes in
       record {
         ordered = λ ordered. rest.ordered (keeps.ordered ordered);
         calls = λ event w called. or_right (insn_defines i 1) (window_defines insns 1) (rest.calls event w called);
-        fits = λ fits uid goes. rest.fits fits.1 uid goes;
       }
-  goes_by (Goes uid) i insns memory here came ends keeps comes = stops i insns memory here came keeps comes
-  goes_by (Calls event w) i insns memory here came ends keeps comes = stops i insns memory here came keeps comes
-  goes_by Returns i insns memory here came ends keeps comes = stops i insns memory here came keeps comes
+  goes_by (Goes uid) i insns memory here came later ends keeps comes = stops i insns memory here came keeps comes
+  goes_by (Calls event w) i insns memory here came later ends keeps comes = stops i insns memory here came keeps comes
+  goes_by Returns i insns memory here came later ends keeps comes = stops i insns memory here came keeps comes
 
-  first_by : (o : Option InsnsCome) (i : Insn) (insns : List Insn) (regs : Regs) (memory : List MemByte) (came : InsnsCome) → insn_comes i.kind symbols ranges i regs memory ≡ o →
+  first_by : (o : Option InsnsCome) (i : Insn) (insns : List Insn) (regs : Regs) (memory : List MemByte) (came : InsnsCome) → Rest insns → insn_comes i.kind symbols ranges i regs memory ≡ o →
       option_and_then (λ came. goes_on came.ending came (insns_come symbols ranges insns)) o ≡ Some came → WindowKeeps (i ∷ insns) memory came
-  first_by None i insns regs memory came is comes = absurd (let no : ⊥ = cc in no)
-  first_by (Some here) i insns regs memory came is comes = goes_by here.ending i insns memory here came refl (kind_keeps i.kind i regs memory here refl is) comes
+  first_by None i insns regs memory came later is comes = absurd (let no : ⊥ = cc in no)
+  first_by (Some here) i insns regs memory came later is comes = goes_by here.ending i insns memory here came later refl (kind_keeps i.kind i regs memory here refl is) comes
 
+  pub window_keeps : (insns : List Insn) (regs : Regs) (memory : List MemByte) (came : InsnsCome) → insns_come symbols ranges insns regs memory ≡ Some came → WindowKeeps insns memory came
   window_keeps [] regs memory came comes =
       let same : come_to regs memory Falls ≡ came = cc in
       subst (λ came. WindowKeeps [] memory came) same (record {
         ordered = λ ordered. ordered;
         calls = λ event w ends. absurd (let no : ⊥ = cc in no);
-        fits = λ fits uid ends. absurd (let no : ⊥ = cc in no);
       })
-  window_keeps (i ∷ insns) regs memory came comes = first_by (insn_comes i.kind symbols ranges i regs memory) i insns regs memory came refl comes
+  window_keeps (i ∷ insns) regs memory came comes = first_by (insn_comes i.kind symbols ranges i regs memory) i insns regs memory came (window_keeps insns) refl comes

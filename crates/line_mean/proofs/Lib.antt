@@ -4,7 +4,6 @@ pub mod Computing
 pub mod Ends
 pub mod Leads
 pub mod Lines
-pub mod More
 pub mod Reading
 pub mod Results
 pub mod Runs

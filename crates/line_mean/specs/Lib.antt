@@ -1,3 +1,2 @@
 pub mod EndsLines
-pub mod More
 pub mod ShowsLine

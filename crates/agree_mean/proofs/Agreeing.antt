@@ -146,11 +146,11 @@ module _ (number : ℕ) (insns : List Insn) (lines : List Line) (live : List ℕ
       let code_event : code.event ≡ own.event = ap (λ e. event_of e own.event) (sym code.ending_is ∙ own.ending_is) in
       let other_event : other.event ≡ own.event = ap (λ e. event_of e own.event) (sym other.ending_is ∙ own.ending_is) in
       let target : mean told.u call.target ≡ means.event.target =
-          ap (λ (c : Call). mean told.u c.target) one ∙ ap (mean told.u) (sym agrees.target) ∙ sym code.target_is ∙ ap (λ (e : CallEvent). e.target) code_event ∙ own.target_is ∙ sym means.target_is in
+      ap (λ (c : Call). mean told.u c.target) one ∙ ap (mean told.u) (sym agrees.target) ∙ sym code.target_is ∙ ap (λ (e : CallEvent). e.target) code_event ∙ own.target_is ∙ sym means.target_is in
       let arguments = same_args told.v told.u told.w x.args means.event.args own.event.args before.regs ranges (mean told.u call.target) m.regs done.machine
-          means.args_are own.args_are (subst (λ (e : CallEvent). ArgsMean told.u x.args e.args) code_event code.args_are) (subst (λ (e : CallEvent). ArgsMean told.w x.args e.args) other_event other.args_are) hands.distinct
-          (λ reg t at. subst (λ l. arg_beside true (Some t) (arg_at l reg) ≡ Some t) (sym (ap (λ (c : Call). c.args) one) ∙ args) (agrees.args reg t at))
-          shows.registers told.held_at told.none_at in
+      means.args_are own.args_are (subst (λ (e : CallEvent). ArgsMean told.u x.args e.args) code_event code.args_are) (subst (λ (e : CallEvent). ArgsMean told.w x.args e.args) other_event other.args_are) hands.distinct
+      (λ reg t at. subst (λ l. arg_beside true (Some t) (arg_at l reg) ≡ Some t) (sym (ap (λ (c : Call). c.args) one) ∙ args) (agrees.args reg t at))
+      shows.registers told.held_at told.none_at in
       subst (λ e. SameEnd number ranges done.machine e done.ending) (sym means.ending_is)
       (subst (λ e. SameEnd number ranges done.machine (rtl.Calls means.event means.width) e) (sym ends)
       (window.calls means.event means.width (mean told.u call.target) (record { target_is = target; args_are = arguments; memory_is = seen ∙ sym means.memory_is })))

@@ -184,7 +184,7 @@ module _ (v u w : Valuation) (args : List Arg) (values again : List ArgValue) (c
       let there : arg_at (lines.args_from 8 10 changed) (suc reg) ≡ Some (lines.register changed (suc reg)) = from_within 8 10 (suc reg) changed least (omega (arith, most)) in
       let cuts : arg_beside true (Some t) (Some (lines.register changed (suc reg))) ≡ Some t = sym (ap (arg_beside true (Some t)) there) ∙ agree (suc reg) t at in
       let found = held_by u w first machine.regs reg t value same is (number (suc reg)) (none (suc reg)) (held changed (suc reg)) (shows reg)
-          (λ x. cut_mean x t (lines.register changed (suc reg)) (narrower (width_of t) (width_of (lines.register changed (suc reg)))) refl cuts) in
+      (λ x. cut_mean x t (lines.register changed (suc reg)) (narrower (width_of t) (width_of (lines.register changed (suc reg)))) refl cuts) in
       (found.holds, found.at, found.low_is)
 
   pub same_args : SameArgs (call_of ranges target machine) values

@@ -175,7 +175,7 @@ module _ (number : ℕ) (insns : List Insn) (lines : List Line) (live : List ℕ
   seen_by address None is seen =
       let none : is_some (byte_at memory address) ≡ false = sym (told.means.shows.memory_is.addresses address) ∙ ap is_some is in
       let none' : is_some (byte_at told.ran.done.machine.memory address) ≡ false =
-          told.left.memory_is.addresses address ∙ ap is_some (seen_same ranges m.memory memory starts.beside.visible_is address seen) ∙ none in
+      told.left.memory_is.addresses address ∙ ap is_some (seen_same ranges m.memory memory starts.beside.visible_is address seen) ∙ none in
       none_of (byte_at told.ran.done.machine.memory address) none' ∙ sym is
 
   bytes_of : (bytes : List MemByte) → ((address byte : ℕ) → byte_at bytes address ≡ Some byte → (address < 2 ^ 64) × (byte < 2 ^ 8)) → IsOrdered bytes → IsMemory bytes

@@ -127,7 +127,7 @@ module _ (symbols : List SymbolAt) (ranges : List RangeAt) (insns : List Insn) (
   pub same_byte : (other address byte : ℕ) → byte_at came.memory address ≡ Some byte → byte ≡ (coded other).v.memory (length s.stores) address
   same_byte other address byte is =
       let there : is_some (byte_at again.come.memory address) ≡ true =
-          again.means.shows.memory_is.addresses address ∙ sym (own.means.shows.memory_is.addresses address) ∙ ap is_some is in
+      again.means.shows.memory_is.addresses address ∙ sym (own.means.shows.memory_is.addresses address) ∙ ap is_some is in
       by (byte_at again.come.memory address) refl there
     where
       by : (o : Option ℕ) → byte_at again.come.memory address ≡ o → is_some o ≡ true → byte ≡ (coded other).v.memory (length s.stores) address

@@ -3,7 +3,7 @@
 -- Expressions" and "Liveness information"; RISC-V assembly manual, `ret`).
 use Rattle.std.specs.Prelude.{◌≡◌, ℕ, ◌+◌, ◌<◌, Bool, true, false, List, [], ◌∷◌, ◌++◌, map, Some}
 use Rattle.rtx_tree.specs.Tree.{head_of}
-use Rattle.rtx_tree.specs.declared.code.Code.{Code}
+use Rattle.rtx_tree.specs.declared.code.Code as rtl
 use Rattle.rtx_tree.specs.declared.code.Code.TheVariants.{Use, Clobber}
 use Rattle.rtx_tree.specs.declared.function.Insn.{Insn}
 use Rattle.rtx_tree.specs.declared.function.Function.{Function}
@@ -25,7 +25,7 @@ use Rattle.window_mean.specs.Uses.{window_uses}
 -- ---- one place
 
 -- a `use` or a `clobber`
-abbrev pub is_quiet : Code → Bool
+abbrev pub is_quiet : rtl.Code → Bool
 is_quiet Use = true
 is_quiet Clobber = true
 is_quiet _ = false

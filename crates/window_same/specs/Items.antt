@@ -1,7 +1,7 @@
 -- The items of a function, which has a number, place by place: a label; nothing for a barrier, and for a `use` or a `clobber` alone; the
 -- line of a return; or lines that do what the instruction does, over what is live behind it (GCC Internals, "Insns", "Side Effect
 -- Expressions" and "Liveness information"; RISC-V assembly manual, `ret`).
-use Rattle.std.specs.Prelude.{◌≡◌, ℕ, ◌+◌, ◌<◌, Bool, true, false, List, [], ◌∷◌, ◌++◌, map, Some}
+use Rattle.std.specs.Prelude.{◌≡◌, ℕ, ◌+◌, ◌<◌, ◌&&◌, not, Bool, true, false, List, [], ◌∷◌, ◌++◌, map, Option, Some}
 use Rattle.rtx_tree.specs.Tree.{head_of}
 use Rattle.rtx_tree.specs.declared.code.Code as rtl
 use Rattle.rtx_tree.specs.declared.code.Code.TheVariants.{Use, Clobber}
@@ -13,6 +13,7 @@ use Rattle.rtl_func.specs.Paths.{ReachesExit}
 use Rattle.reg_uses.specs.Uses.{is_return}
 use Rattle.live.specs.Live.{IsLiveAfter}
 use Rattle.rv_text.specs.Lines.{action_of}
+use Rattle.rv_text.specs.declared.action.Action.{Action}
 use Rattle.rv_text.specs.declared.action.Action.TheVariants as action
 use Rattle.rv_text.specs.declared.action.Source.TheVariants.{First, ReturnAddress}
 use Rattle.rv_text.specs.declared.line.Line.{Line}
@@ -35,13 +36,26 @@ pub data IsReturnLine (line : Line) : Type 0 where
   ret : action_of line ≡ Some (action.Return ReturnAddress) → IsReturnLine line
   jr : action_of line ≡ Some (action.Return First) → line.rs ≡ 1 → IsReturnLine line
 
+-- the line calls
+abbrev pub is_call : Option Action → Bool
+is_call (Some action.Call) = true
+is_call (Some action.CallRegister) = true
+is_call _ = false
+
+-- a line that calls is the last
+abbrev pub calls_last : List Line → Bool
+calls_last [] = true
+calls_last (line ∷ []) = true
+calls_last (line ∷ lines) = not (is_call (action_of line)) && calls_last lines
+
 -- the hard registers that are live behind a place
 abbrev pub IsLiveBehind : Function → ℕ → ℕ → Type 0
 IsLiveBehind f place reg = IsLiveAfter f reg place × (reg < 32)
 
--- lines that do what the instruction at a place does, where it uses hard registers alone
+-- lines that do what the instruction at a place does, where it uses hard registers alone; behind a call there is none
 pub record AreLinesAt (number : ℕ) (f : Function) (place : ℕ) (i : Insn) (lines : List Line) : Type 0 where
   pub is_none : is_mark i.kind ≡ false
+  pub last : calls_last lines ≡ true
   pub hard : (reg : ℕ) → 31 < reg → window_uses (i ∷ []) reg ≡ false
   pub same : DoSame number (i ∷ []) lines (IsLiveBehind f place)
 

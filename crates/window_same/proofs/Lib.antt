@@ -1,3 +1,4 @@
 pub mod Simulation
 pub mod Turns
 pub mod Memories
+pub mod Replies

@@ -2,3 +2,4 @@ pub mod Simulation
 pub mod Turns
 pub mod Memories
 pub mod Replies
+pub mod Leads

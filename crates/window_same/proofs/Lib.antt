@@ -3,3 +3,4 @@ pub mod Turns
 pub mod Memories
 pub mod Replies
 pub mod Leads
+pub mod Places

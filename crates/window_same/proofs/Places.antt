@@ -130,3 +130,95 @@ module _ (number : ℕ) (f : Function) (marks : MarksAreEmpty f) (ending : List 
           (items_of.returning line jump return returns) are refl
       by_items _ (items_of.window lines window) later =
           stays i.kind i insns place (map Code lines ++ more) (map Code lines) more refl window.is_none is path (items_of.window lines window) are refl
+
+-- ---- labels
+
+-- an instruction that is no label
+kind_is_none : (k : Kind) (uid : ℕ) (i : Insn) → i.kind ≡ k → is_label_kind k ≡ false → is_label uid i ≡ false
+kind_is_none k uid i is none = ap (λ k. is_label_kind k && (i.uid == uid)) is ∙ ap (λ b. b && (i.uid == uid)) none
+
+unmarked : (k : Kind) → is_mark k ≡ false → is_label_kind k ≡ false
+unmarked kind.Plain none = refl
+unmarked kind.Jump none = refl
+unmarked kind.Call none = refl
+unmarked kind.Label none = absurd (let no : ⊥ = cc in no)
+unmarked kind.Barrier none = refl
+
+-- lines are passed over
+behind_lines : (target : List ℕ) (lines : List Line) (items : List CodeItem) → behind_label target (map Code lines ++ items) ≡ behind_label target items
+behind_lines target [] items = refl
+behind_lines target (line ∷ lines) items = behind_lines target lines items
+
+-- where a label stands among the instructions, and what follows it among the items
+pub record Found (number : ℕ) (f : Function) (ending : List CodeItem) (uid first place : ℕ) (insns : List Insn) (items : List CodeItem) : Type 0 where
+  pub by : ℕ
+  pub place_is : place ≡ first + by
+  pub rest : List CodeItem
+  pub behind : behind_label (label_text number uid) items ≡ Some rest
+  pub there : List CodeItem
+  pub are : AreItemsFrom number f ending place (drop by insns) there
+  pub same : next_line rest ≡ next_line there
+  pub within : by < length insns
+
+module _ (number : ℕ) (f : Function) (ending : List CodeItem) (uid place : ℕ) where
+  abbrev FoundIn : ℕ → List Insn → List CodeItem → Type 0
+  FoundIn first insns items = Found number f ending uid first place insns items
+
+  abbrev FoundBehind : ℕ → List Insn → List CodeItem → Type 0
+  FoundBehind first insns items = position_from (is_label uid) (first + 1) insns ≡ Some place → FoundIn (first + 1) insns items
+
+  -- one place further on
+  found_later : (first : ℕ) (i : Insn) (insns : List Insn) (items items' : List CodeItem) →
+      behind_label (label_text number uid) items ≡ behind_label (label_text number uid) items' → FoundIn (first + 1) insns items' →
+      FoundIn first (i ∷ insns) items
+  found_later first i insns items items' same later = record {
+    by = suc later.by;
+    place_is = let is = later.place_is in omega (arith, is);
+    rest = later.rest;
+    behind = same ∙ later.behind;
+    there = later.there;
+    are = later.are;
+    same = later.same;
+    within = let inside = later.within in omega (arith, inside);
+  }
+
+  at_label : (first : ℕ) (i : Insn) (insns : List Insn) (more : List CodeItem) (here : Bool) → (i.uid == uid) ≡ here → IsUid uid →
+      i.kind ≡ kind.Label → IsUid i.uid → AreItemsFrom number f ending (first + 1) insns more →
+      cond here (Some first) (position_from (is_label uid) (first + 1) insns) ≡ Some place →
+      FoundBehind first insns more →
+      FoundIn first (i ∷ insns) (Label number i.uid ∷ more)
+  at_label first i insns more true here small label small' are is later =
+      let same : first ≡ place = cc in record {
+    by = 0;
+    place_is = omega (arith, same);
+    rest = more;
+    behind = ap (λ b. if b then Some more else behind_label (label_text number uid) more) (label_test number i.uid uid small' small ∙ here);
+    there = Label number i.uid ∷ more;
+    are = subst (λ p. AreItemsFrom number f ending p (i ∷ insns) (Label number i.uid ∷ more)) same
+        (items_of.next first i insns (Label number i.uid ∷ []) more (items_of.label label small') are);
+    same = refl;
+    within = omega arith;
+  }
+  at_label first i insns more false here small label small' are is later =
+      found_later first i insns (Label number i.uid ∷ more) more
+      (ap (λ b. if b then Some more else behind_label (label_text number uid) more) (label_test number i.uid uid small' small ∙ here)) (later is)
+
+  pub found : (first : ℕ) (insns : List Insn) (items : List CodeItem) → IsUid uid → AreItemsFrom number f ending first insns items →
+      position_from (is_label uid) first insns ≡ Some place → FoundIn first insns items
+  found first _ _ small (items_of.end _) is = absurd (let no : ⊥ = cc in no)
+  found first _ _ small (items_of.next _ i insns own more at are) is = by_items own at (found (first + 1) insns more small are)
+    where
+      other : (own : List CodeItem) → is_label uid i ≡ false → behind_label (label_text number uid) (own ++ more) ≡ behind_label (label_text number uid) more → FoundBehind first insns more →
+          FoundIn first (i ∷ insns) (own ++ more)
+      other own none same later = found_later first i insns (own ++ more) more same
+          (later (sym (ap (λ b. cond b (Some first) (position_from (is_label uid) (first + 1) insns)) none) ∙ is))
+      by_items : (own : List CodeItem) → AreItemsAt number f first i own → FoundBehind first insns more → FoundIn first (i ∷ insns) (own ++ more)
+      by_items _ (items_of.label label small') later =
+          at_label first i insns more (i.uid == uid) refl small label small' are
+          (sym (ap (λ b. cond b (Some first) (position_from (is_label uid) (first + 1) insns))
+          (ap (λ k. is_label_kind k && (i.uid == uid)) label)) ∙ is) later
+      by_items _ (items_of.barrier barrier) later = other [] (kind_is_none kind.Barrier uid i barrier refl) refl later
+      by_items _ (items_of.quiet plain quiet) later = other [] (kind_is_none kind.Plain uid i plain refl) refl later
+      by_items _ (items_of.returning line jump return returns) later = other (Code line ∷ []) (kind_is_none kind.Jump uid i jump refl) refl later
+      by_items _ (items_of.window lines window) later =
+          other (map Code lines) (kind_is_none i.kind uid i refl (unmarked i.kind window.is_none)) (behind_lines (label_text number uid) lines more) later

@@ -4,3 +4,4 @@ pub mod Memories
 pub mod Replies
 pub mod Leads
 pub mod Places
+pub mod Calls

@@ -5,3 +5,4 @@ pub mod Replies
 pub mod Leads
 pub mod Places
 pub mod Calls
+pub mod Steps

@@ -6,3 +6,4 @@ pub mod Leads
 pub mod Places
 pub mod Calls
 pub mod Steps
+pub mod Quiet

@@ -7,3 +7,4 @@ pub mod Places
 pub mod Calls
 pub mod Steps
 pub mod Quiet
+pub mod Returns

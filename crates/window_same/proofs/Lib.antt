@@ -8,3 +8,4 @@ pub mod Calls
 pub mod Steps
 pub mod Quiet
 pub mod Returns
+pub mod Runs

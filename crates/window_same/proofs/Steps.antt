@@ -90,7 +90,7 @@ end_calls number ranges m _ _ event w (same.goes uid small) is = absurd (let no 
 end_calls number ranges m _ _ event w (same.calls event' w' target one) is = let here : event' ≡ event = cc in
     record { target = target; same_call = subst (λ e. SameCall e (call_of ranges target m)) here one; is = refl }
 
-end_returns : (number : ℕ) (ranges : List RangeAt) (m : RvState) (e : InsnsEnd) (e' : LinesEnd) → SameEnd number ranges m e e' → e ≡ insn_end.Returns → ⊥
+pub end_returns : (number : ℕ) (ranges : List RangeAt) (m : RvState) (e : InsnsEnd) (e' : LinesEnd) → SameEnd number ranges m e e' → e ≡ insn_end.Returns → ⊥
 end_returns number ranges m _ _ same.falls is = cc
 end_returns number ranges m _ _ (same.goes uid small) is = cc
 end_returns number ranges m _ _ (same.calls event w target one) is = cc
@@ -122,7 +122,7 @@ hard_is reg b hard uses = hard_by reg (nat_lt 31 reg) refl (λ above. let no : t
 
 module _ (number : ℕ) (f : Function) (marks : MarksAreEmpty f) (ending items : List CodeItem) (start : Start) (world : World)
     (Keeps : Regs → RvState → Type 0) (Good : Outcome → Type 0) where
-  abbrev LiveAgree : ℕ → Regs → RvState → Type 0
+  abbrev pub LiveAgree : ℕ → Regs → RvState → Type 0
   LiveAgree place regs m = (reg : ℕ) → IsLive f reg place → reg < 32 → Agrees regs m.regs reg
 
   -- How the machine stands beside the function: it is at the same place; what is live there agrees, and memory; the calls are the same,
@@ -179,33 +179,33 @@ module _ (number : ℕ) (f : Function) (marks : MarksAreEmpty f) (ending items :
       (lawful : IsLawfulWorld start world) (keeping : IsKeeping) where
     -- ---- steps
 
-    step_at : (s : State) (place : ℕ) → rtl_step.place_from f.insns s.next ≡ place →
+    pub step_at : (s : State) (place : ℕ) → rtl_step.place_from f.insns s.next ≡ place →
         rtl_step.step world f s ≡ rtl_step.act_at (slice_get f.insns place) world f place s
     step_at s place is = ap (λ p. rtl_step.act_at (slice_get f.insns p) world f p s) is
 
-    step_insn : (s : State) (place : ℕ) (i : Insn) (k : Kind) → rtl_step.place_from f.insns s.next ≡ place → slice_get f.insns place ≡ Some i →
+    pub step_insn : (s : State) (place : ℕ) (i : Insn) (k : Kind) → rtl_step.place_from f.insns s.next ≡ place → slice_get f.insns place ≡ Some i →
         i.kind ≡ k → rtl_step.step world f s ≡ rtl_step.act k world f i place s
     step_insn s place i k passed there kind_is =
         step_at s place passed ∙ ap (λ o. rtl_step.act_at o world f place s) there ∙ ap (λ k. rtl_step.act k world f i place s) kind_is
 
     -- a step without a value
-    never : (s s' : State) → rtl_step.step world f s ≡ (rtl_ends.Undefined, s') → EndsGood s → ⊥
+    pub never : (s s' : State) → rtl_step.step world f s ≡ (rtl_ends.Undefined, s') → EndsGood s → ⊥
     never s s' is good = keeping.defined (good rtl_ends.Undefined s' is refl)
 
     -- ---- the lines of an instruction
 
     -- where a state stands: its place past labels and barriers, the instruction there and its lines
-    record Window (s : State) (t : Running) (place : ℕ) (i : Insn) (insns : List Insn) (ls : List Line) (more : List CodeItem) : Type 0 where
-      related : Related s t
-      passed : rtl_step.place_from f.insns s.next ≡ place
-      path : Path f.insns 0 place
-      chain : drop place f.insns ≡ i ∷ insns
-      agree : LiveAgree place s.regs t.machine
-      lines_are : AreLinesAt number f place i ls
-      rest_are : AreItemsFrom number f ending (place + 1) insns more
-      next : next_line t.rest ≡ next_line (map Code ls ++ more)
+    pub record Window (s : State) (t : Running) (place : ℕ) (i : Insn) (insns : List Insn) (ls : List Line) (more : List CodeItem) : Type 0 where
+      pub related : Related s t
+      pub passed : rtl_step.place_from f.insns s.next ≡ place
+      pub path : Path f.insns 0 place
+      pub chain : drop place f.insns ≡ i ∷ insns
+      pub agree : LiveAgree place s.regs t.machine
+      pub lines_are : AreLinesAt number f place i ls
+      pub rest_are : AreItemsFrom number f ending (place + 1) insns more
+      pub next : next_line t.rest ≡ next_line (map Code ls ++ more)
 
-    starts : (s : State) (t : Running) (place : ℕ) (i : Insn) (insns : List Insn) (ls : List Line) (more : List CodeItem) →
+    pub starts : (s : State) (t : Running) (place : ℕ) (i : Insn) (insns : List Insn) (ls : List Line) (more : List CodeItem) →
         Window s t place i insns ls more → Starts (i ∷ []) (IsLiveBehind f place) world start.visible s.regs s.memory t.machine
     starts s t place i insns ls more w = record {
       symbols = lawful.symbols;
@@ -278,7 +278,7 @@ module _ (number : ℕ) (f : Function) (marks : MarksAreEmpty f) (ending items :
       falls_by _ is (turns.calls k rest m' target led end) ends stepped leads_there = absurd (let no : ⊥ = cc in no)
       falls_by _ is turns.returns ends stepped leads_there = absurd (let no : ⊥ = cc in no)
 
-      falls_on : came.ending ≡ insn_end.Falls → rtl_step.step world f s ≡ (rtl_ends.Next, behind (place + 1)) → leads f.insns place (place + 1) ≡ true → Simulates s t
+      pub falls_on : came.ending ≡ insn_end.Falls → rtl_step.step world f s ≡ (rtl_ends.Next, behind (place + 1)) → leads f.insns place (place + 1) ≡ true → Simulates s t
       falls_on ends = falls_by does.done.ending (end_falls number start.visible after came.ending does.done.ending does.same_end ends) passes ends
 
       -- it goes to a label
@@ -311,7 +311,7 @@ module _ (number : ℕ) (f : Function) (marks : MarksAreEmpty f) (ending items :
       goes_by uid q _ is (turns.calls k rest m' target led end) ends small at_q stepped leads_there = absurd (let no : ⊥ = cc in no)
       goes_by uid q _ is turns.returns ends small at_q stepped leads_there = absurd (let no : ⊥ = cc in no)
 
-      goes_on : (uid q : ℕ) → came.ending ≡ insn_end.Goes uid → place_of uid f.insns ≡ Some q → rtl_step.step world f s ≡ (rtl_ends.Jumped, behind q) →
+      pub goes_on : (uid q : ℕ) → came.ending ≡ insn_end.Goes uid → place_of uid f.insns ≡ Some q → rtl_step.step world f s ≡ (rtl_ends.Jumped, behind q) →
           leads f.insns place q ≡ true → Simulates s t
       goes_on uid q ends = let is = end_goes number start.visible after came.ending does.done.ending uid does.same_end ends in
           goes_by uid q does.done.ending is.1 passes ends is.0
@@ -380,7 +380,7 @@ module _ (number : ℕ) (f : Function) (marks : MarksAreEmpty f) (ending items :
           is_call leads_there stepped led end
       calls_by event w' _ call turns.returns ends is_call leads_there stepped = let is = call.is in absurd (let no : ⊥ = cc in no)
 
-      calls_on : (event : CallEvent) (w' : Width) → came.ending ≡ insn_end.Calls event w' → i.kind ≡ kind.Call →
+      pub calls_on : (event : CallEvent) (w' : Width) → came.ending ≡ insn_end.Calls event w' → i.kind ≡ kind.Call →
           rtl_step.step world f s ≡ rtl_step.after_reply (behind s.next) place w' event (rtl_step.next_reply world s) → Simulates s t
       calls_on event w' ends is_call = calls_by event w' does.done.ending
           (end_calls number start.visible after came.ending does.done.ending event w' does.same_end ends) passes ends is_call

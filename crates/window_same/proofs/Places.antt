@@ -81,7 +81,7 @@ module _ (number : ℕ) (f : Function) (marks : MarksAreEmpty f) (ending : List 
     lives = λ reg lives. lives;
   }
 
-  restand : (place : ℕ) (rest items : List CodeItem) → next_line rest ≡ next_line items → Stands place items → Stands place rest
+  pub restand : (place : ℕ) (rest items : List CodeItem) → next_line rest ≡ next_line items → Stands place items → Stands place rest
   restand place rest items same (at_end none within path next) = at_end none within path (same ∙ next)
   restand place rest items same (at_insn i insns own more is path mark own_are are next) =
       at_insn i insns own more is path mark own_are are (same ∙ next)

@@ -25,6 +25,8 @@ use Rattle.rtl_step.specs.declared.step.StepEnd.TheVariants as rtl_ends
 use Rattle.func_mean.specs.Run as func
 use Rattle.func_mean.specs.declared.outcome.Outcome.{Outcome}
 use Rattle.rtl_func.specs.Paths.{ReachesExit, Path, leads}
+use Rattle.rtx_tree.specs.Registers.{is_call_used}
+use Rattle.reg_uses.specs.Effects.{pattern_defines}
 use Rattle.reg_uses.specs.Uses.{insn_uses, insn_defines, is_return, return_uses, is_call_kind}
 use Rattle.live.specs.Live as live
 use Rattle.live.specs.Live.{IsLive}
@@ -42,7 +44,7 @@ use Rattle.same_behaviour.specs.Direct.{IsEnding}
 use Rattle.same_behaviour.specs.Direct as direct
 use Rattle.same_behaviour.specs.Lawful.{IsLawfulWorld}
 use Rattle.same_behaviour.proofs.Places.{get_dropped, get_past, end_dropped, drop_next, within_dropped}
-use Rattle.window_mean.specs.Beside.{Agrees}
+use Rattle.window_mean.specs.Beside.{Agrees, Beside}
 use Rattle.window_mean.specs.Insns as window
 use Rattle.window_mean.specs.Insns.{InsnsCome, insns_come, insn_comes, come_to}
 use Rattle.window_same.specs.ForLines.{MarksAreEmpty}
@@ -59,6 +61,10 @@ use Rattle.window_same.proofs.Steps as steps
 use Rattle.window_same.proofs.Steps.{IsKeeping}
 use Rattle.window_same.proofs.Turns as turns
 use Rattle.window_same.proofs.Turns.{at}
+
+or_true : (b : Bool) → (b || true) ≡ true
+or_true true = refl
+or_true false = refl
 
 module _ (number : ℕ) (f : Function) (marks : MarksAreEmpty f) (ending items : List CodeItem) (start : Start) (world : World)
     (Keeps : Regs → RvState → Type 0) (Good : Outcome → Type 0) (all : AreItemsFrom number f ending 0 f.insns items)
@@ -186,3 +192,106 @@ module _ (number : ℕ) (f : Function) (marks : MarksAreEmpty f) (ending items :
         w.related.visible_is)
     window_at kind.Label is = absurd (let no : true ≡ false = sym (ap rtl_step.is_mark is) ∙ w.lines_are.is_none in let none : ⊥ = cc in none)
     window_at kind.Barrier is = absurd (let no : true ≡ false = sym (ap rtl_step.is_mark is) ∙ w.lines_are.is_none in let none : ⊥ = cc in none)
+
+  -- ---- a use or a clobber alone
+
+  quiet_defines : (i : Insn) (reg : ℕ) → i.kind ≡ kind.Plain → pattern_defines reg i.pattern ≡ false → insn_defines i reg ≡ false
+  quiet_defines i reg plain none = ap (λ b. b || (is_call_kind i.kind && is_call_used reg)) none ∙ ap (λ k. is_call_kind k && is_call_used reg) plain
+
+  quiet_at : (s : State) (t : Running) (place : ℕ) (i : Insn) (insns : List Insn) (more : List CodeItem) (effects : Option (List Effect)) →
+      effects_of world.symbols s.regs s.memory i.pattern ≡ effects → Related s t → rtl_step.place_from f.insns s.next ≡ place →
+      Path f.insns 0 place → drop place f.insns ≡ i ∷ insns → LiveAgree place s.regs t.machine → i.kind ≡ kind.Plain →
+      is_quiet (head_of i.pattern).code ≡ true → AreItemsFrom number f ending (place + 1) insns more → next_line t.rest ≡ next_line more →
+      EndsGood s → Simulates s t
+  quiet_at s t place i insns more None are related passed path chain agree plain quiet rest_are next good =
+      absurd (never s s (step_insn s place i kind.Plain passed (get_dropped f.insns place i insns chain) plain ∙ ap (rtl_step.after_effects s place) are) good)
+  quiet_at s t place i insns more (Some effects) are related passed path chain agree plain quiet rest_are next good =
+      let there = get_dropped f.insns place i insns chain in
+      let inside = within_dropped f.insns place i insns chain in
+      let leads_there = leads_on f.insns place i there (λ jumps. let no : kind.Plain ≡ kind.Jump = sym plain ∙ jumps in let none : ⊥ = cc in none) in
+      let left = quiet_leaves world.symbols s.regs s.memory i.pattern effects quiet are in
+      let after : State = record s { next = place + 1; regs = regs_after effects s.regs; memory = memory_after effects s.memory } in
+      let related_after : Related after t = record {
+        place = record {
+          within = omega (arith, inside);
+          path = further f.insns 0 place (place + 1) path leads_there;
+          there = more;
+          are = subst (λ insns. AreItemsFrom number f ending (place + 1) insns more) (sym (drop_next f.insns place i insns chain)) rest_are;
+          same = next;
+        };
+        beside = subst (λ memory. Beside start.visible memory t.machine) (sym left.memory_is) related.beside;
+        agree = λ reg lives small width value known. let before = left.known reg width value known in
+            agree reg (live.Passing place (place + 1) i there (quiet_defines i reg plain before.0) leads_there lives) small width value before.1;
+        visible_is = related.visible_is;
+        calls_are = related.calls_are;
+        replies_are = related.replies_are;
+        entry_is = related.entry_is;
+        keeps = keeping.quiet place i s.regs s.memory t.machine effects there plain quiet are related.keeps;
+      } in
+      machine.goes_on rtl_ends.Next after 0 t (step_insn s place i kind.Plain passed there plain ∙ ap (rtl_step.after_effects s place) are) refl
+      (machine.stays t) (omega arith) related_after
+
+  -- ---- whatever stands there
+
+  returns_use : (i : Insn) (reg : ℕ) → is_return i ≡ true → return_uses f reg ≡ true → live.uses_in f i reg ≡ true
+  returns_use i reg return uses = ap (λ b. insn_uses i reg || (b && return_uses f reg)) return ∙ ap (λ b. insn_uses i reg || b) uses ∙ or_true (insn_uses i reg)
+
+  return_at : (s : State) (t : Running) (place : ℕ) (i : Insn) (insns : List Insn) (line : Line) (more : List CodeItem) → Related s t →
+      rtl_step.place_from f.insns s.next ≡ place → drop place f.insns ≡ i ∷ insns → LiveAgree place s.regs t.machine → i.kind ≡ kind.Jump →
+      is_return i ≡ true → IsReturnLine line → next_line t.rest ≡ Some (line, more) → EndsGood s → Simulates s t
+  return_at s t place i insns line more related passed chain agree jump return returns next good =
+      let there = get_dropped f.insns place i insns chain in
+      returns_by s t line more (rtl_step.has_result f.result s.regs) refl related
+      (λ reg uses small. agree reg (live.AtUse place i there (returns_use i reg return uses)) small) next returns
+      (step_insn s place i kind.Jump passed there jump ∙ ap (rtl_step.after_jump f s place) (leaves i world.symbols s.regs s.memory return)) good
+
+  insn_at : (s : State) (t : Running) (place : ℕ) (i : Insn) (insns : List Insn) (own more : List CodeItem) → Related s t →
+      rtl_step.place_from f.insns s.next ≡ place → Path f.insns 0 place → drop place f.insns ≡ i ∷ insns → LiveAgree place s.regs t.machine →
+      rtl_step.is_mark i.kind ≡ false → AreItemsAt number f place i own → AreItemsFrom number f ending (place + 1) insns more →
+      next_line t.rest ≡ next_line (own ++ more) → EndsGood s → Simulates s t
+  insn_at s t place i insns _ more related passed path chain agree none (items_of.label label small) rest_are next good =
+      absurd (let no : true ≡ false = sym (ap rtl_step.is_mark label) ∙ none in let nothing : ⊥ = cc in nothing)
+  insn_at s t place i insns _ more related passed path chain agree none (items_of.barrier barrier) rest_are next good =
+      absurd (let no : true ≡ false = sym (ap rtl_step.is_mark barrier) ∙ none in let nothing : ⊥ = cc in nothing)
+  insn_at s t place i insns _ more related passed path chain agree none (items_of.quiet plain quiet) rest_are next good =
+      quiet_at s t place i insns more (effects_of world.symbols s.regs s.memory i.pattern) refl related passed path chain agree plain quiet rest_are next good
+  insn_at s t place i insns _ more related passed path chain agree none (items_of.returning line jump return returns) rest_are next good =
+      return_at s t place i insns line more related passed chain agree jump return returns next good
+  insn_at s t place i insns _ more related passed path chain agree none (items_of.window ls lines_are) rest_are next good =
+      window_at s t place i insns ls more (record {
+        related = related;
+        passed = passed;
+        path = path;
+        chain = chain;
+        agree = agree;
+        lines_are = lines_are;
+        rest_are = rest_are;
+        next = next;
+      }) good i.kind refl
+
+  end_at : (s : State) (t : Running) (place : ℕ) (ending' : List CodeItem) → ending ≡ ending' → IsEnding (ReachesExit f.insns) ending' → Related s t →
+      rtl_step.place_from f.insns s.next ≡ place → place ≤ length f.insns → Path f.insns 0 place → drop place f.insns ≡ [] →
+      LiveAgree place s.regs t.machine → next_line t.rest ≡ next_line ending → EndsGood s → Simulates s t
+  end_at s t place _ is (direct.returning line returns) related passed within path chain agree next good =
+      let last = end_dropped f.insns place within chain in
+      returns_by s t line [] (rtl_step.has_result f.result s.regs) refl related
+      (λ reg uses small. agree reg (subst (IsLive f reg) (sym last) (live.AtEnd uses)) small) (next ∙ ap next_line is) (ret returns)
+      (steps.step_at number f marks ending items start world Keeps Good all ended lawful keeping s place passed ∙
+      ap (λ o. rtl_step.act_at o world f place s) (get_past f.insns place chain)) good
+  end_at s t place _ is (direct.unreached never_there) related passed within path chain agree next good =
+      absurd (never_there (subst (Path f.insns 0) (end_dropped f.insns place within chain) path))
+
+  stands_at : (s : State) (t : Running) (place : ℕ) → places.Stands number f marks ending place t.rest → Related s t →
+      rtl_step.place_from f.insns s.next ≡ place → LiveAgree place s.regs t.machine → EndsGood s → Simulates s t
+  stands_at s t place (places.at_end chain within path next) related passed agree good =
+      end_at s t place ending refl ended related passed within path chain agree next good
+  stands_at s t place (places.at_insn i insns own more chain path none own_are rest_are next) related passed agree good =
+      insn_at s t place i insns own more related passed path chain agree none own_are rest_are next good
+
+  -- each step is followed
+  pub step_follows : (s : State) (t : Running) → Related s t → EndsGood s → Simulates s t
+  step_follows s t related good =
+      let here = related.place in
+      let passing = places.passes number f marks ending (drop s.next f.insns) here.there s.next refl here.within here.path here.are in
+      stands_at s t passing.place' (places.restand number f marks ending passing.place' t.rest here.there here.same passing.stands) related
+      passing.passed_is (λ reg lives small. related.agree reg (passing.lives reg lives) small) good

@@ -9,3 +9,4 @@ pub mod Steps
 pub mod Quiet
 pub mod Returns
 pub mod Runs
+pub mod Entry

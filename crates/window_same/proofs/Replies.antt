@@ -30,7 +30,7 @@ use Rattle.window_same.proofs.Memories.{memory_written, within_written, visible_
 
 -- ---- the code's registers
 
-abbrev held : Option (Option ℕ) → Option ℕ
+abbrev pub held : Option (Option ℕ) → Option ℕ
 held o = option_and_then (λ value. value) o
 
 none_anyway : (b : Bool) → ◌≡◌ {A = Option ℕ} None (if b then None else None)
@@ -57,7 +57,7 @@ left_long (x ∷ regs) base = ap suc (left_long regs (base + 1))
 not_zero : (reg : ℕ) → 0 < reg → (reg == 0) ≡ false
 not_zero reg some = grind (arith, nat_tests, some)
 
-register_at : (regs : List (Option ℕ)) (reg : ℕ) → 0 < reg → register regs reg ≡ held (slice_get regs reg)
+pub register_at : (regs : List (Option ℕ)) (reg : ℕ) → 0 < reg → register regs reg ≡ held (slice_get regs reg)
 register_at regs reg some = ap (λ b. if b then Some 0 else held (slice_get regs reg)) (not_zero reg some)
 
 -- another register than a0 is unset, or as it was
@@ -115,7 +115,7 @@ beside_after ranges memory reply m fits small is = record {
 
 -- ---- what is known in the function is so in the code
 
-low_in : (v w : Width) (a : ℕ) → nat_le (bits_of v) (bits_of w) ≡ true → low v (low w a) ≡ low v a
+pub low_in : (v w : Width) (a : ℕ) → nat_le (bits_of v) (bits_of w) ≡ true → low v (low w a) ≡ low v a
 low_in W8 W8 a fits = omega arith
 low_in W8 W16 a fits = omega arith
 low_in W8 W32 a fits = omega arith

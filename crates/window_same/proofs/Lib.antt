@@ -10,3 +10,5 @@ pub mod Quiet
 pub mod Returns
 pub mod Runs
 pub mod Entry
+pub mod Follow
+pub mod Same

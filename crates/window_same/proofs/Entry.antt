@@ -1,5 +1,5 @@
 -- The two machines at entry: they stand beside each other, and what the function knows of a hard register the code has.
-use Rattle.std.proofs.Common.{◌≡◌, ◌≢◌, ℕ, zero, suc, ◌<◌, ◌^◌, ◌==◌, ◌||◌, not, arith, cond, if◌then◌else◌, ⊎_elim, Bool, true, false, List, [], ◌∷◌, map, Option, Some, None, refl, sym, ap, subst, ◌∙◌}
+use Rattle.std.proofs.Common.{◌≡◌, ◌≢◌, ℕ, zero, suc, ◌<◌, ◌==◌, ◌||◌, not, arith, cond, if◌then◌else◌, ⊎_elim, Bool, true, false, List, [], ◌∷◌, map, Option, Some, None, refl, sym, ap, subst, ◌∙◌}
 use Rattle.std.proofs.lemmas.Bool.Decides.{nat_tests}
 use Rattle.std.proofs.lemmas.List.Elements.{All-filter}
 use Rattle.std.proofs.lemmas.List.Kept.{IsStrictlyIncreasing-filter}
@@ -12,17 +12,16 @@ use Rattle.std.specs.Prelude.{slice_get, option_and_then, option_map, IfSome, na
 use Rattle.bits64.specs.Words.{low, bits_of}
 use Rattle.bits64.specs.declared.Width.{Width}
 use Rattle.bits64.specs.declared.Width.TheVariants.{W8, W16, W32, W64}
-use Rattle.rtx_tree.specs.Memories.{IsOrdered, byte_at}
+use Rattle.rtx_tree.specs.Memories.{byte_at}
 use Rattle.rtx_tree.specs.declared.machine.Start.{Start}
 use Rattle.rtx_tree.specs.declared.memories.MemByte.{MemByte}
-use Rattle.rtl_step.specs.Regs.{Regs, known_in, known_of, reg_value, with_reg}
-use Rattle.rtl_step.specs.declared.regs.Known.{Known}
+use Rattle.rtl_step.specs.Regs.{Regs, known_in, known_of, with_reg}
 use Rattle.func_mean.specs.Run as func
 use Rattle.rv_line.specs.Run as lines
 use Rattle.rv_line.specs.Step.{register}
 use Rattle.same_behaviour.specs.Lawful.{IsWord, IsByte, IsMemory, AreWords, IsLawful, is_below_sp, seen_by_rtl}
 use Rattle.same_behaviour.proofs.Entry.{same_or_not, visible_at_entry}
-use Rattle.window_mean.specs.Beside.{Agrees, Within, Beside, IsMachine}
+use Rattle.window_mean.specs.Beside.{Agrees, Beside, IsMachine}
 use Rattle.window_same.proofs.Replies.{agrees_zero, held, register_at, low_in}
 
 -- ---- a part of memory that goes by the addresses
@@ -61,15 +60,19 @@ module _ (test : ℕ → Bool) where
     where
       not_here : b.address ≢ address → (b.address == address) ≡ false
       not_here other = grind (arith, nat_tests, other)
+
       elsewhere : (is : Bool) → b.address ≢ address → byte_at (cond is (b ∷ kept memory) (kept memory)) address ≡ Some byte → byte_at (kept memory) address ≡ Some byte
       elsewhere true other has = sym (ap (λ c. if c then Some b.byte else byte_at (kept memory) address) (not_here other)) ∙ has
       elsewhere false other has = has
+
       at_here : (is : Bool) → test b.address ≡ is → b.address ≡ address →
           (byte_at (kept memory) address ≡ Some byte → (byte_at memory address ≡ Some byte) × (test address ≡ true)) → byte_at (cond is (b ∷ kept memory) (kept memory)) address ≡ Some byte →
           (byte_at (b ∷ memory) address ≡ Some byte) × (test address ≡ true)
-      at_here true is here later has = let yes : (b.address == address) ≡ true = grind (arith, nat_tests, here) in
-          (ap (λ c. if c then Some b.byte else byte_at memory address) yes ∙
-          sym (ap (λ c. if c then Some b.byte else byte_at (kept memory) address) yes) ∙ has, sym (ap test here) ∙ is)
+      at_here true is here later has = let yes : (b.address == address) ≡ true = grind (arith, nat_tests, here) in (
+        ap (λ c. if c then Some b.byte else byte_at memory address) yes ∙
+            sym (ap (λ c. if c then Some b.byte else byte_at (kept memory) address) yes) ∙ has,
+        sym (ap test here) ∙ is,
+      )
       at_here false is here later has =
           absurd (let both : true ≡ false = sym (later has).1 ∙ sym (ap test here) ∙ is in let no : ⊥ = cc in no)
 
@@ -101,12 +104,12 @@ agrees_with regs code zero value reg small holds agrees = agrees
 agrees_with regs code (suc t) value zero small holds agrees = agrees_zero (with_reg regs (suc t) (known_of W64 value)) code
 agrees_with regs code (suc t) value (suc reg) small holds agrees = λ w v known.
     let set : get (with_reg regs (suc t) (known_of W64 value)) (suc reg) ≡ (if eq_by_cmp nat_cmp (suc reg) (suc t) then Some (known_of W64 value) else get regs (suc reg)) =
-        get-insert nat_cmp_total regs (suc t) (known_of W64 value) (suc reg) in
+    get-insert nat_cmp_total regs (suc t) (known_of W64 value) (suc reg) in
     ⊎_elim
     (λ (same : suc t ≡ suc reg).
     let here : option_and_then (known_in w) (get (with_reg regs (suc t) (known_of W64 value)) (suc reg)) ≡ Some (low w value) =
-        ap (option_and_then (known_in w)) (set ∙ ap (λ b. if b then Some (known_of W64 value) else get regs (suc reg))
-        (subst (λ n. eq_by_cmp nat_cmp n (suc t) ≡ true) same (is_here (suc t)))) ∙ known_wide w value in
+    ap (option_and_then (known_in w)) (set ∙ ap (λ b. if b then Some (known_of W64 value) else get regs (suc reg))
+    (subst (λ n. eq_by_cmp nat_cmp n (suc t) ≡ true) same (is_here (suc t)))) ∙ known_wide w value in
     ap (option_map (low w)) (subst (λ n. register code n ≡ Some value) same (holds (omega (arith, small, same)))) ∙ sym here ∙ known)
     (λ other. agrees w v (sym (ap (option_and_then (known_in w)) (set ∙ ap (λ b. if b then Some (known_of W64 value) else get regs (suc reg))
     (is_other (suc reg) (suc t) other))) ∙ known))
@@ -126,10 +129,55 @@ agrees_empty code (suc reg) = λ w v known. absurd (let none : ◌≡◌ {A = Op
 pub agrees_at_entry : (frame locals : ℕ) (start : Start) (reg : ℕ) → reg < 32 →
     Agrees (func.entry_regs (seen_by_rtl frame locals start)) (lines.entry_regs start) reg
 agrees_at_entry frame locals start reg small =
-    agrees_all (func.entry_values (seen_by_rtl frame locals start)) empty (lines.entry_regs start) reg small
-    (λ hard. refl, (λ hard. refl, (λ hard. refl, (λ hard. refl, (λ hard. refl, (λ hard. refl, (λ hard. refl, (λ hard. refl,
-    (λ hard. refl, (λ hard. refl, (λ hard. refl, (λ hard. refl, (λ hard. refl, (λ hard. refl, (λ hard. refl, (λ hard. refl,
-    (λ hard. refl, (λ hard. refl, (λ hard. refl, (λ hard. refl, (λ hard. refl, (λ hard. refl, (λ hard. absurd (omega (arith, hard)), tt)))))))))))))))))))))))
+    agrees_all (func.entry_values (seen_by_rtl frame locals start)) empty (lines.entry_regs start) reg small (
+      λ hard. refl,
+      (
+        λ hard. refl,
+        (
+          λ hard. refl,
+          (
+            λ hard. refl,
+            (
+              λ hard. refl,
+              (
+                λ hard. refl,
+                (
+                  λ hard. refl,
+                  (
+                    λ hard. refl,
+                    (
+                      λ hard. refl,
+                      (
+                        λ hard. refl,
+                        (
+                          λ hard. refl,
+                          (
+                            λ hard. refl,
+                            (
+                              λ hard. refl,
+                              (
+                                λ hard. refl,
+                                (
+                                  λ hard. refl,
+                                  (
+                                    λ hard. refl,
+                                    (λ hard. refl, (λ hard. refl, (λ hard. refl, (λ hard. refl, (λ hard. refl, (λ hard. refl, (λ hard. absurd (omega (arith, hard)), tt))))))),
+                                  ),
+                                ),
+                              ),
+                            ),
+                          ),
+                        ),
+                      ),
+                    ),
+                  ),
+                ),
+              ),
+            ),
+          ),
+        ),
+      ),
+    )
     (agrees_empty (lines.entry_regs start) reg)
 
 -- ---- the machine
@@ -150,11 +198,79 @@ word_of regs zero number all is = let same : 0 ≡ number = cc in omega (arith, 
 word_of regs (suc reg) number all is = word_in regs (suc reg) number all (sym (register_at regs (suc reg) (omega arith)) ∙ is)
 
 entry_words : (start : Start) → AreWords start → AllWords (lines.entry_regs start)
-entry_words start w = let a = w.args in let s = w.saved in
-    (omega arith, (w.ra, (w.sp, (tt, (tt, (tt, (tt, (tt,
-    (s 0 (omega arith), (s 1 (omega arith), (a 0 (omega arith), (a 1 (omega arith), (a 2 (omega arith), (a 3 (omega arith), (a 4 (omega arith), (a 5 (omega arith),
-    (a 6 (omega arith), (a 7 (omega arith), (s 2 (omega arith), (s 3 (omega arith), (s 4 (omega arith), (s 5 (omega arith), (s 6 (omega arith), (s 7 (omega arith),
-    (s 8 (omega arith), (s 9 (omega arith), (s 10 (omega arith), (s 11 (omega arith), (tt, (tt, (tt, (tt, tt))))))))))))))))))))))))))))))))
+entry_words start w = let a = w.args in let s = w.saved in (
+  omega arith,
+  (
+    w.ra,
+    (
+      w.sp,
+      (
+        tt,
+        (
+          tt,
+          (
+            tt,
+            (
+              tt,
+              (
+                tt,
+                (
+                  s 0 (omega arith),
+                  (
+                    s 1 (omega arith),
+                    (
+                      a 0 (omega arith),
+                      (
+                        a 1 (omega arith),
+                        (
+                          a 2 (omega arith),
+                          (
+                            a 3 (omega arith),
+                            (
+                              a 4 (omega arith),
+                              (
+                                a 5 (omega arith),
+                                (
+                                  a 6 (omega arith),
+                                  (
+                                    a 7 (omega arith),
+                                    (
+                                      s 2 (omega arith),
+                                      (
+                                        s 3 (omega arith),
+                                        (
+                                          s 4 (omega arith),
+                                          (
+                                            s 5 (omega arith),
+                                            (
+                                              s 6 (omega arith),
+                                              (
+                                                s 7 (omega arith),
+                                                (s 8 (omega arith), (s 9 (omega arith), (s 10 (omega arith), (s 11 (omega arith), (tt, (tt, (tt, (tt, tt)))))))),
+                                              ),
+                                            ),
+                                          ),
+                                        ),
+                                      ),
+                                    ),
+                                  ),
+                                ),
+                              ),
+                            ),
+                          ),
+                        ),
+                      ),
+                    ),
+                  ),
+                ),
+              ),
+            ),
+          ),
+        ),
+      ),
+    ),
+  ),
+)
 
 entry_machine : (frame locals : ℕ) (start : Start) → IsLawful frame locals start → IsMachine (lines.entry start)
 entry_machine frame locals start lawful = record {
@@ -167,8 +283,8 @@ pub beside_at_entry : (frame locals : ℕ) (start : Start) → IsLawful frame lo
     Beside start.visible (seen_by_rtl frame locals start).memory (lines.entry start)
 beside_at_entry frame locals start lawful =
     let stays : ℕ → Bool = λ address. not (is_below_sp start frame address) || is_below_sp start locals address in record {
-  first = memory_kept stays start.memory lawful.memory;
-  second = entry_machine frame locals start lawful;
-  within = λ address byte has. (within_kept stays start.memory address byte has).0;
-  visible_is = visible_at_entry frame locals start lawful;
-}
+      first = memory_kept stays start.memory lawful.memory;
+      second = entry_machine frame locals start lawful;
+      within = λ address byte has. (within_kept stays start.memory address byte has).0;
+      visible_is = visible_at_entry frame locals start lawful;
+    }

@@ -1,5 +1,5 @@
 -- The items of a function follow each of its runs, from entry on, whatever has to be kept.
-use Rattle.std.proofs.Common.{◌≡◌, ◌≢◌, ℕ, ◌≤◌, arith, List, [], refl, sym, ap, subst, ◌∙◌}
+use Rattle.std.proofs.Common.{ℕ, ◌≤◌, arith, List, [], refl, subst}
 use Rattle.rtx_tree.specs.declared.machine.Start.{Start}
 use Rattle.rtx_tree.specs.declared.machine.World.{World}
 use Rattle.rtx_tree.specs.declared.function.Function.{Function}
@@ -55,10 +55,12 @@ module _ (number : ℕ) (f : Function) (marks : MarksAreEmpty f) (ending items :
       (k : ℕ) × (func.taken f seen world n ≤ k) × SameOutcome f.result start (func.run_of f seen world n) (lines.run items start world k)
   reached n reaches =
       let few = turns.weigh_few world start.visible items reaches.turns (at items (lines.entry start) world.replies []) in
-      let enough = reaches.enough in
-      (reaches.turns, omega (arith, few, enough),
-      subst (SameOutcome f.result start (func.run_of f seen world n))
-      (turns.run_is world start.visible items reaches.turns (at items (lines.entry start) world.replies [])) reaches.same)
+      let enough = reaches.enough in (
+        reaches.turns,
+        omega (arith, few, enough),
+        subst (SameOutcome f.result start (func.run_of f seen world n))
+            (turns.run_is world start.visible items reaches.turns (at items (lines.entry start) world.replies [])) reaches.same,
+      )
 
   pub follows : AreItemsFrom number f ending 0 f.insns items → IsEnding (ReachesExit f.insns) ending → IsLawful frame f.locals start →
       IsLawfulWorld start world → IsKeeping number f marks ending items start world Keeps Good →

@@ -3,7 +3,7 @@ use Rattle.std.proofs.Common.{◌≡◌, ◌≢◌, ℕ, suc, ◌+◌, ◌≤◌
 use Rattle.std.specs.Prelude.{slice_get}
 use Rattle.std.specs.List.{position_from}
 use Rattle.rtx_tree.specs.Registers.{is_call_used}
-use Rattle.rtx_tree.specs.Patterns.{is_label_kind, is_label, place_of}
+use Rattle.rtx_tree.specs.Patterns.{is_label_kind, is_label}
 use Rattle.rtx_tree.specs.declared.function.Insn.{Insn}
 use Rattle.rtx_tree.specs.declared.function.Function.{Function}
 use Rattle.rtx_tree.specs.declared.function.Kind.{Kind}
@@ -189,16 +189,16 @@ module _ (number : ℕ) (f : Function) (ending : List CodeItem) (uid place : ℕ
       FoundIn first (i ∷ insns) (Label number i.uid ∷ more)
   at_label first i insns more true here small label small' are is later =
       let same : first ≡ place = cc in record {
-    by = 0;
-    place_is = omega (arith, same);
-    rest = more;
-    behind = ap (λ b. if b then Some more else behind_label (label_text number uid) more) (label_test number i.uid uid small' small ∙ here);
-    there = Label number i.uid ∷ more;
-    are = subst (λ p. AreItemsFrom number f ending p (i ∷ insns) (Label number i.uid ∷ more)) same
-        (items_of.next first i insns (Label number i.uid ∷ []) more (items_of.label label small') are);
-    same = refl;
-    within = omega arith;
-  }
+        by = 0;
+        place_is = omega (arith, same);
+        rest = more;
+        behind = ap (λ b. if b then Some more else behind_label (label_text number uid) more) (label_test number i.uid uid small' small ∙ here);
+        there = Label number i.uid ∷ more;
+        are = subst (λ p. AreItemsFrom number f ending p (i ∷ insns) (Label number i.uid ∷ more)) same
+            (items_of.next first i insns (Label number i.uid ∷ []) more (items_of.label label small') are);
+        same = refl;
+        within = omega arith;
+      }
   at_label first i insns more false here small label small' are is later =
       found_later first i insns (Label number i.uid ∷ more) more
       (ap (λ b. if b then Some more else behind_label (label_text number uid) more) (label_test number i.uid uid small' small ∙ here)) (later is)
@@ -212,6 +212,7 @@ module _ (number : ℕ) (f : Function) (ending : List CodeItem) (uid place : ℕ
           FoundIn first (i ∷ insns) (own ++ more)
       other own none same later = found_later first i insns (own ++ more) more same
           (later (sym (ap (λ b. cond b (Some first) (position_from (is_label uid) (first + 1) insns)) none) ∙ is))
+
       by_items : (own : List CodeItem) → AreItemsAt number f first i own → FoundBehind first insns more → FoundIn first (i ∷ insns) (own ++ more)
       by_items _ (items_of.label label small') later =
           at_label first i insns more (i.uid == uid) refl small label small' are

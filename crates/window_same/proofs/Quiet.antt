@@ -1,5 +1,5 @@
 -- A `use` or a `clobber` alone: memory is as it was, and what is known behind it was known before, of a register that it does not define.
-use Rattle.std.proofs.Common.{◌≡◌, ℕ, zero, suc, ℤ, pos, ◌<◌, ◌^◌, ◌==◌, ◌||◌, ◌&&◌, not, arith, cond, Bool, true, false, List, [], ◌∷◌, Option, Some, None, refl, sym, ap, subst, ◌∙◌}
+use Rattle.std.proofs.Common.{◌≡◌, ℕ, zero, suc, ℤ, pos, ◌<◌, ◌==◌, ◌||◌, ◌&&◌, not, arith, Bool, true, false, List, [], ◌∷◌, Option, Some, None, refl, sym, ap, subst, ◌∙◌}
 use Rattle.std.proofs.lemmas.Bool.Decides.{nat_tests, Decides-int_eq}
 use Rattle.std.specs.Prelude.{option_map, option_and_then, if◌then◌else◌}
 use Rattle.std.specs.Int.{cast_unsigned, w64}
@@ -19,7 +19,7 @@ use Rattle.rtl_step.specs.Effect.{regs_after, memory_after}
 use Rattle.rtl_step.specs.declared.effect.Effect.{Effect}
 use Rattle.rtl_step.specs.declared.effect.Effect.TheVariants.{Nothing, Unsets}
 use Rattle.rtl_step.specs.declared.regs.Known.{Known}
-use Rattle.reg_uses.specs.Effects.{is_register, place_is, place_is_by, effect_defines_by, effects_by, pattern_defines, all_define}
+use Rattle.reg_uses.specs.Effects.{is_register, place_is_by, effect_defines_by, effects_by, pattern_defines, all_define}
 use Rattle.window_same.specs.Items.{is_quiet}
 
 -- ---- a register that is unset
@@ -160,9 +160,9 @@ module _ (symbols : List SymbolAt) (regs : Regs) (memory : List MemByte) where
   quiet_leaves x effects quiet is =
       let one = effects_are (step.effect_of symbols regs memory x) effects (sym (alone_in (out-Rtx x).code x quiet) ∙ is) in
       let leaves = subst (Leaves (λ reg. effect_defines_by reg (out-Rtx x).code (out-Rtx x).kids)) one.2
-          (quiet_by (out-Rtx x).code (out-Rtx x).kids one.0 quiet one.1) in
+      (quiet_by (out-Rtx x).code (out-Rtx x).kids one.0 quiet one.1) in
       let defines : (reg : ℕ) → pattern_defines reg x ≡ effect_defines_by reg (out-Rtx x).code (out-Rtx x).kids = λ reg.
-          ap (all_define reg) (alone_of (out-Rtx x).code (out-Rtx x).kids x quiet) ∙ or_none (effect_defines_by reg (out-Rtx x).code (out-Rtx x).kids) in
+      ap (all_define reg) (alone_of (out-Rtx x).code (out-Rtx x).kids x quiet) ∙ or_none (effect_defines_by reg (out-Rtx x).code (out-Rtx x).kids) in
       record {
         memory_is = leaves.memory_is;
         known = λ reg w v known. let parts = leaves.known reg w v known in (defines reg ∙ parts.0, parts.1);

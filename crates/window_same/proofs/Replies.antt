@@ -5,7 +5,7 @@ use Rattle.std.proofs.lemmas.Bool.Decides.{nat_tests}
 use Rattle.std.specs.Prelude.{slice_get, option_and_then, option_map, nat_le}
 use Rattle.std.specs.List.{All}
 use Rattle.std.specs.Cmp.{nat_cmp_total}
-use Rattle.std.specs.FinMap.{get, insert, get-insert}
+use Rattle.std.specs.FinMap.{get, get-insert}
 use Rattle.std.specs.Ordering.{nat_cmp, eq_by_cmp}
 use Rattle.bits64.specs.Words.{low, bits_of}
 use Rattle.bits64.specs.declared.Width.{Width}
@@ -14,18 +14,18 @@ use Rattle.rtx_tree.specs.Registers.{is_call_used}
 use Rattle.rtx_tree.specs.declared.machine.RangeAt.{RangeAt}
 use Rattle.rtx_tree.specs.declared.machine.Reply.{Reply}
 use Rattle.rtx_tree.specs.declared.memories.MemByte.{MemByte}
-use Rattle.rtl_step.specs.Regs.{Regs, known_of, known_in, reg_value, preserved}
+use Rattle.rtl_step.specs.Regs.{Regs, known_of, known_in, preserved}
 use Rattle.rtl_step.specs.Call.{regs_replied}
 use Rattle.rtl_step.specs.declared.regs.Known.{Known}
 use Rattle.rtl_step.proofs.Registers.{get_kept}
 use Rattle.run_memory.specs.RunMemory.{written}
 use Rattle.rv_line.specs.Run.{left_from, after_call}
-use Rattle.rv_line.specs.Step.{register, with_register}
+use Rattle.rv_line.specs.Step.{register}
 use Rattle.rv_line.specs.declared.state.RvState.{RvState}
 use Rattle.same_behaviour.specs.Lawful.{IsWord, IsByte}
 use Rattle.same_behaviour.proofs.Entry.{same_or_not}
 use Rattle.same_behaviour.proofs.Registers.{register_set, register_kept, length_written}
-use Rattle.window_mean.specs.Beside.{reads, Agrees, Beside, IsMachine}
+use Rattle.window_mean.specs.Beside.{Agrees, Beside, IsMachine}
 use Rattle.window_same.proofs.Memories.{memory_written, within_written, visible_written}
 
 -- ---- the code's registers
@@ -91,7 +91,7 @@ word_after : (reply : Reply) (m : RvState) → IsWord reply.value → IsMachine 
 word_after reply m fits is zero number has = is.words 0 number has
 word_after reply m fits is (suc reg) number has = ⊎_elim
     (λ (same : 10 ≡ suc reg). let there : Some reply.value ≡ Some number =
-        sym (result_after reply m is.long) ∙ subst (λ r. register (after_call reply m).regs r ≡ Some number) (sym same) has in
+    sym (result_after reply m is.long) ∙ subst (λ r. register (after_call reply m).regs r ≡ Some number) (sym same) has in
     let equal : reply.value ≡ number = cc in subst (λ n. n < 2 ^ 64) equal fits)
     (λ other. is.words (suc reg) number (word_if (is_call_used (suc reg)) (register m.regs (suc reg)) number
     (sym (other_after reply m (suc reg) (omega arith) other) ∙ has)))
@@ -166,16 +166,16 @@ pub agrees_after : (regs : Regs) (w : Width) (reply : Reply) (m : RvState) (reg 
     (is_call_used reg ≡ false → Agrees regs m.regs reg) → Agrees (regs_replied regs w reply.value) (after_call reply m).regs reg
 agrees_after regs w reply m zero long agrees = agrees_zero (regs_replied regs w reply.value) (after_call reply m).regs
 agrees_after regs w reply m (suc reg) long agrees = λ v value known. ⊎_elim
-    (λ (same : 10 ≡ suc reg). 
+    (λ (same : 10 ≡ suc reg).
     let here : get (regs_replied regs w reply.value) (suc reg) ≡ Some (known_of w reply.value) =
-        got_after regs w reply.value (suc reg) ∙ ap (λ b. if b then Some (known_of w reply.value) else get (preserved regs) (suc reg))
-        (subst (λ r. eq_by_cmp nat_cmp r 10 ≡ true) same (is_here 10)) in
+    got_after regs w reply.value (suc reg) ∙ ap (λ b. if b then Some (known_of w reply.value) else get (preserved regs) (suc reg))
+    (subst (λ r. eq_by_cmp nat_cmp r 10 ≡ true) same (is_here 10)) in
     ap (option_map (low v)) (subst (λ r. register (after_call reply m).regs r ≡ Some reply.value) same (result_after reply m long)) ∙
     ap Some (known_by v w reply.value value (nat_le (bits_of v) (bits_of w)) refl (sym (ap (option_and_then (known_in v)) here) ∙ known)))
     (λ other.
     let there : get (regs_replied regs w reply.value) (suc reg) ≡ cond (not (is_call_used (suc reg))) (get regs (suc reg)) None =
-        got_after regs w reply.value (suc reg) ∙ ap (λ b. if b then Some (known_of w reply.value) else get (preserved regs) (suc reg))
-        (is_other (suc reg) 10 other) ∙ get_kept regs (λ r. not (is_call_used r)) (suc reg) in
+    got_after regs w reply.value (suc reg) ∙ ap (λ b. if b then Some (known_of w reply.value) else get (preserved regs) (suc reg))
+    (is_other (suc reg) 10 other) ∙ get_kept regs (λ r. not (is_call_used r)) (suc reg) in
     let kept = kept_by (is_call_used (suc reg)) (get regs (suc reg)) v value (sym (ap (option_and_then (known_in v)) there) ∙ known) in
     ap (option_map (low v)) (kept_after reply m (suc reg) kept.0) ∙ agrees kept.0 v value kept.1)
     (same_or_not 10 (suc reg))

@@ -1,5 +1,5 @@
 -- Returns on both sides: what the function returns and what its items leave to the caller.
-use Rattle.std.proofs.Common.{◌≡◌, ℕ, ◌+◌, ◌==◌, ◌&&◌, ◌||◌, arith, if◌then◌else◌, Bool, true, false, List, [], ◌∷◌, Option, Some, None, refl, sym, ap, subst, ◌∙◌}
+use Rattle.std.proofs.Common.{◌≡◌, ℕ, ◌==◌, ◌&&◌, ◌||◌, arith, if◌then◌else◌, true, List, Option, Some, None, refl, ap, ◌∙◌}
 use Rattle.std.proofs.lemmas.Bool.Decides.{nat_tests}
 use Rattle.std.specs.Prelude.{option_and_then, option_map, is_some}
 use Rattle.bits64.specs.Words.{low}
@@ -21,15 +21,12 @@ use Rattle.rtl_step.specs.declared.jump.Way.TheVariants.{Leaves}
 use Rattle.rtx_tree.specs.RegSet.{has_reg}
 use Rattle.rv_regs.specs.Registers.{kept_registers}
 use Rattle.reg_uses.specs.Uses.{is_return, is_return_code, function_sets, return_uses}
-use Rattle.rv_text.specs.Lines.{action_of}
-use Rattle.rv_text.specs.declared.action.Action.TheVariants as action
-use Rattle.rv_text.specs.declared.action.Source.TheVariants.{First, ReturnAddress}
 use Rattle.rv_text.specs.declared.line.Line.{Line}
-use Rattle.rv_line.specs.Step.{register, step, step_as, return_end, source_value}
+use Rattle.rv_line.specs.Step.{register, step, step_as, return_end}
 use Rattle.rv_line.specs.declared.state.RvState.{RvState}
 use Rattle.rv_line.specs.declared.state.LineEnd.TheVariants as ends
 use Rattle.same_behaviour.specs.Same.{SameResult}
-use Rattle.window_mean.specs.Beside.{reads, Agrees}
+use Rattle.window_mean.specs.Beside.{Agrees}
 use Rattle.window_same.specs.Items.{IsReturnLine, ret, jr}
 
 -- ---- the function

@@ -1,6 +1,6 @@
 -- Each step of a function is followed by the turns of what stands for its instruction.
-use Rattle.std.proofs.Common.{◌≡◌, ◌≢◌, ℕ, zero, suc, ◌+◌, ◌≤◌, ◌<◌, ◌||◌, ◌&&◌, ◌==◌, arith, if◌then◌else◌, Bool, true, false, drop, length, List, [], ◌∷◌, ◌++◌, map, Option, Some, None, refl, sym, ap, subst, ◌∙◌}
-use Rattle.std.specs.Prelude.{slice_get, option_map, option_and_then, is_some}
+use Rattle.std.proofs.Common.{◌≡◌, ℕ, ◌+◌, ◌≤◌, ◌<◌, ◌||◌, ◌&&◌, arith, if◌then◌else◌, Bool, true, false, drop, length, List, [], ◌∷◌, ◌++◌, Option, Some, None, refl, sym, ap, subst, ◌∙◌}
+use Rattle.std.specs.Prelude.{slice_get, option_map, option_and_then}
 use Rattle.bits64.specs.declared.Width.{Width}
 use Rattle.rtx_tree.specs.Tree.{head_of}
 use Rattle.rtx_tree.specs.Patterns.{place_of}
@@ -22,7 +22,6 @@ use Rattle.rtl_step.specs.declared.jump.Way.{Way}
 use Rattle.rtl_step.specs.declared.jump.Way.TheVariants as way
 use Rattle.rtl_step.specs.declared.step.State.{State}
 use Rattle.rtl_step.specs.declared.step.StepEnd.TheVariants as rtl_ends
-use Rattle.func_mean.specs.Run as func
 use Rattle.func_mean.specs.declared.outcome.Outcome.{Outcome}
 use Rattle.rtl_func.specs.Paths.{ReachesExit, Path, leads}
 use Rattle.rtx_tree.specs.Registers.{is_call_used}
@@ -30,13 +29,10 @@ use Rattle.reg_uses.specs.Effects.{pattern_defines}
 use Rattle.reg_uses.specs.Uses.{insn_uses, insn_defines, is_return, return_uses, is_call_kind}
 use Rattle.live.specs.Live as live
 use Rattle.live.specs.Live.{IsLive}
-use Rattle.rv_text.specs.Lines.{action_of}
 use Rattle.rv_text.specs.declared.line.Line.{Line}
 use Rattle.rv_text.specs.declared.line.CodeItem.{CodeItem}
-use Rattle.rv_text.specs.declared.line.CodeItem.TheVariants.{Code}
 use Rattle.rv_line.specs.Run as lines
 use Rattle.rv_line.specs.Run.{Running, next_line}
-use Rattle.rv_line.specs.Step.{register}
 use Rattle.rv_line.specs.declared.state.RvState.{RvState}
 use Rattle.rv_line.specs.declared.state.LineEnd.TheVariants as ends
 use Rattle.run_memory.specs.RunMemory.{visible}
@@ -164,8 +160,8 @@ module _ (number : ℕ) (f : Function) (marks : MarksAreEmpty f) (ending items :
     way_at _ leads_by.leaves_it is jump =
         let came : InsnsCome = come_to s.regs s.memory window.Returns in
         let does = w.lines_are.same world start.visible s.regs s.memory t.machine came
-            (steps.starts number f marks ending items start world Keeps Good all ended lawful keeping s t place i insns ls more w)
-            (jump_comes way.Leaves is jump refl) in
+        (steps.starts number f marks ending items start world Keeps Good all ended lawful keeping s t place i insns ls more w)
+        (jump_comes way.Leaves is jump refl) in
         absurd (steps.end_returns number start.visible does.done.machine window.Returns does.done.ending does.same_end refl)
 
     jump_at : (took : Option Way) → jump_of world.symbols s.regs s.memory i.pattern ≡ took → i.kind ≡ kind.Jump → Simulates s t

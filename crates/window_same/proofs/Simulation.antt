@@ -76,7 +76,7 @@ module _ (T O : Type 0) (turn : T → Turned T O) (stop : T → O) (weight : T �
   weigh_on _ j _ _ (stays t) = omega arith
   weigh_on _ j _ _ (moves k t t' final as_asked is rest) =
       let more : weigh (suc (added k j)) t ≡ weight t + weigh (added k j) t' =
-          ap (λ x. weight t + turned_on x (weigh (added k j)) (λ outcome. 0)) is in
+      ap (λ x. weight t + turned_on x (weigh (added k j)) (λ outcome. 0)) is in
       let few : weigh (suc k) t ≡ weight t + weigh k t' = ap (λ x. weight t + turned_on x (weigh k) (λ outcome. 0)) is in
       let later = weigh_on k j t' final rest in
       omega (arith, more, few, later)
@@ -153,7 +153,7 @@ module _ (T O : Type 0) (turn : T → Turned T O) (stop : T → O) (weight : T �
     both_go n s t e s' k t' is on turns few later = record {
       turns = added k later.turns;
       enough = let steps : func.taken_from world f (suc n) s ≡ counted e + func.taken_from world f n s' =
-              ap (λ (x : Stepped). func.taken_on x.0 x.1 (func.taken_from world f n)) is ∙ taken_goes n e s' on in
+          ap (λ (x : Stepped). func.taken_on x.0 x.1 (func.taken_from world f n)) is ∙ taken_goes n e s' on in
           let weights = weigh_on k later.turns t t' turns in
           let rest = later.enough in
           omega (arith, steps, weights, rest, few);
@@ -168,7 +168,7 @@ module _ (T O : Type 0) (turn : T → Turned T O) (stop : T → O) (weight : T �
     both_end n s t e s' k t' outcome is over_there turns as_asked end few same = record {
       turns = added k 1;
       enough = let steps : func.taken_from world f (suc n) s ≡ counted e =
-              ap (λ (x : Stepped). func.taken_on x.0 x.1 (func.taken_from world f n)) is ∙ taken_ends n e s' over_there in
+          ap (λ (x : Stepped). func.taken_on x.0 x.1 (func.taken_from world f n)) is ∙ taken_ends n e s' over_there in
           omega (arith, steps, few);
       same = subst (λ x. Same x (run (added k 1) t)) (sym (step_ends n s e s' is over_there))
           (subst (λ y. Same (func.ended f e s') y)

@@ -1,7 +1,7 @@
 -- A step of a function, and the turns of its items.
-use Rattle.std.proofs.Common.{◌≡◌, ◌≢◌, ℕ, zero, suc, ◌+◌, ◌≤◌, ◌<◌, ◌||◌, ◌&&◌, not, ◌⊎◌, ⊎_elim, arith, Bool, true, false, drop, length, List, [], ◌∷◌, ◌++◌, map, Option, Some, None, refl, sym, ap, subst, ◌∙◌}
+use Rattle.std.proofs.Common.{◌≡◌, ℕ, ◌+◌, ◌≤◌, ◌<◌, ◌||◌, ◌&&◌, not, arith, Bool, true, false, drop, length, List, [], ◌∷◌, ◌++◌, map, Some, refl, sym, ap, subst, ◌∙◌}
 use Rattle.std.proofs.lemmas.Bool.Decides.{nat_tests}
-use Rattle.std.specs.Prelude.{nat_lt, slice_get, if◌then◌else◌}
+use Rattle.std.specs.Prelude.{nat_lt, slice_get}
 use Rattle.rtx_tree.specs.Tree.{head_of}
 use Rattle.rtx_tree.specs.Patterns.{place_of}
 use Rattle.rtx_tree.specs.declared.function.Insn.{Insn}
@@ -52,7 +52,7 @@ use Rattle.window_mean.specs.Lines as window
 use Rattle.window_mean.specs.Lines.{LinesEnd}
 use Rattle.window_mean.specs.Same.{SameEnd, LinesDo, Starts, IsKept}
 use Rattle.window_mean.specs.Same as same
-use Rattle.window_mean.specs.Uses.{window_uses, window_defines}
+use Rattle.window_mean.specs.Uses.{window_uses}
 use Rattle.window_same.specs.ForLines.{MarksAreEmpty}
 use Rattle.window_same.specs.Items.{AreItemsFrom, AreLinesAt, IsLiveBehind, is_quiet}
 use Rattle.window_same.proofs.Calls.{same_more, length_more, next_is}
@@ -287,14 +287,17 @@ module _ (number : ℕ) (f : Function) (marks : MarksAreEmpty f) (ending items :
       at_label uid q small at_q leads_there =
           let label = found number f ending uid q 0 f.insns items small all at_q in
           let here : label.by ≡ q = let is = label.place_is in omega (arith, is) in
-          let inside = label.within in
-          (label.rest, label.behind, record {
-            within = omega (arith, inside, here);
-            path = further f.insns 0 place q w.path leads_there;
-            there = label.there;
-            are = subst (λ by. AreItemsFrom number f ending q (drop by f.insns) label.there) here label.are;
-            same = label.same;
-          })
+          let inside = label.within in (
+            label.rest,
+            label.behind,
+            record {
+              within = omega (arith, inside, here);
+              path = further f.insns 0 place q w.path leads_there;
+              there = label.there;
+              are = subst (λ by. AreItemsFrom number f ending q (drop by f.insns) label.there) here label.are;
+              same = label.same;
+            },
+          )
 
       goes_by : (uid q : ℕ) (e : LinesEnd) → e ≡ window.Goes (label_text number uid) → Passes world start.visible items t.replies t.calls t.rest t.machine more after e →
           came.ending ≡ insn_end.Goes uid → IsUid uid → place_of uid f.insns ≡ Some q → rtl_step.step world f s ≡ (rtl_ends.Jumped, behind q) →
@@ -304,7 +307,7 @@ module _ (number : ℕ) (f : Function) (marks : MarksAreEmpty f) (ending items :
           let label = at_label uid q small at_q leads_there in
           let same : target ≡ label_text number uid = cc in
           let last : turn (at rest m' t.replies t.calls) ≡ machine.Goes (at label.0 after t.replies t.calls) =
-              end ∙ ap (λ o. turned_as (lines.jumped o (at [] after t.replies t.calls))) (ap (λ target. behind_label target items) same ∙ label.1) in
+          end ∙ ap (λ o. turned_as (lines.jumped o (at [] after t.replies t.calls))) (ap (λ target. behind_label target items) same ∙ label.1) in
           machine.goes_on rtl_ends.Jumped (behind q) (added k 1) (at label.0 after t.replies t.calls) stepped refl
           (then_one k t (at rest m' t.replies t.calls) (at label.0 after t.replies t.calls) led last) (one_at_least k t (at rest m' t.replies t.calls) led)
           (related_behind q label.0 label.2 leads_there (λ reg. subst (λ e. IsKept e reg) (sym ends) tt))
@@ -331,17 +334,17 @@ module _ (number : ℕ) (f : Function) (marks : MarksAreEmpty f) (ending items :
       related_called event w' target reply left ends same replies_are is_call leads_there =
           let gone : drop (length s.calls) world.replies ≡ reply ∷ left = sym w.related.replies_are ∙ replies_are in
           let lawful_reply = next_is (IsLawfulReply start) world.replies left (length s.calls) reply lawful.replies (sym gone) in record {
-        place = at_next more leads_there refl;
-        beside = beside_after start.visible came.memory reply after lawful_reply.value lawful_reply.bytes does.beside;
-        agree = λ reg lives small. agrees_after came.regs w' reply after reg does.beside.second.long
-            (λ kept. does.agree reg ((place + 1, leads_there, lives), small) (subst (λ e. IsKept e reg) (sym ends) kept));
-        visible_is = w.related.visible_is;
-        calls_are = same_more s.calls t.calls event (call_of start.visible target after) w.related.calls_are same;
-        replies_are = sym (drop_next world.replies (length s.calls) reply left gone) ∙
-            ap (λ n. drop n world.replies) (sym (length_more s.calls event));
-        entry_is = does.entry_is ∙ w.related.entry_is;
-        keeps = keeping.replied place i came.regs w' reply after there is_call keeps;
-      }
+            place = at_next more leads_there refl;
+            beside = beside_after start.visible came.memory reply after lawful_reply.value lawful_reply.bytes does.beside;
+            agree = λ reg lives small. agrees_after came.regs w' reply after reg does.beside.second.long
+                (λ kept. does.agree reg ((place + 1, leads_there, lives), small) (subst (λ e. IsKept e reg) (sym ends) kept));
+            visible_is = w.related.visible_is;
+            calls_are = same_more s.calls t.calls event (call_of start.visible target after) w.related.calls_are same;
+            replies_are = sym (drop_next world.replies (length s.calls) reply left gone) ∙
+                ap (λ n. drop n world.replies) (sym (length_more s.calls event));
+            entry_is = does.entry_is ∙ w.related.entry_is;
+            keeps = keeping.replied place i came.regs w' reply after there is_call keeps;
+          }
 
       -- by the replies that are left
       answered : (event : CallEvent) (w' : Width) (target k : ℕ) (rest' : List CodeItem) (m' : RvState) (left : List Reply) → t.replies ≡ left →

@@ -12,7 +12,7 @@ use Rattle.rv_text.specs.declared.action.Action.TheVariants as action
 use Rattle.rv_text.specs.declared.line.Line.{Line}
 use Rattle.rv_text.specs.declared.line.CodeItem.{CodeItem}
 use Rattle.rv_text.specs.declared.line.CodeItem.TheVariants.{Code}
-use Rattle.rv_line.specs.Step.{step, step_as, set_rd, set_memory, branch_end, call_end, register_call_end, return_end}
+use Rattle.rv_line.specs.Step.{step, step_as, set_rd, set_memory, branch_end, return_end}
 use Rattle.rv_line.specs.Run as lines
 use Rattle.rv_line.specs.Run.{Running, behind_label, next_line}
 use Rattle.rv_line.specs.declared.outcome.CodeCall.{CodeCall}

@@ -15,7 +15,7 @@ use Rattle.rtx_tree.specs.declared.tree.Rtx.{Rtx, out-Rtx}
 use Rattle.rtx_tree.specs.Tree.{is_reg_numbered}
 use Rattle.rtl_step.specs.Regs.{Regs, known_in, reg_value, without_reg}
 use Rattle.rtl_step.specs.Effect as step
-use Rattle.rtl_step.specs.Effect.{regs_after, memory_after}
+use Rattle.rtl_step.specs.Effect.{reg_after, regs_after, bytes_after, memory_after}
 use Rattle.rtl_step.specs.declared.effect.Effect.{Effect}
 use Rattle.rtl_step.specs.declared.effect.Effect.TheVariants.{Nothing, Unsets}
 use Rattle.rtl_step.specs.declared.regs.Known.{Known}
@@ -70,25 +70,27 @@ unset_is n reg true is other =
 -- ---- the effects
 
 module _ (symbols : List SymbolAt) (regs : Regs) (memory : List MemByte) where
-  -- what they leave
-  pub record Leaves (defines : ℕ → Bool) (effects : List Effect) : Type 0 where
-    pub memory_is : memory_after effects memory ≡ memory
-    pub known : (reg : ℕ) (w : Width) (v : ℕ) → reg_value (regs_after effects regs) reg w ≡ Some v →
-        (defines reg ≡ false) × (reg_value regs reg w ≡ Some v)
+  -- What an effect leaves: memory as it was, and of a register no more than was known, where it defines it not.
+  pub record Leaves (defines : ℕ → Bool) (e : Effect) : Type 0 where
+    pub memory_is : bytes_after e memory ≡ memory
+    pub known : (before : Regs) (reg : ℕ) (w : Width) (v : ℕ) → reg_value (reg_after e before) reg w ≡ Some v →
+        (defines reg ≡ false) × (reg_value before reg w ≡ Some v)
 
-  nothing_leaves : (defines : ℕ → Bool) (effects : List Effect) → ((reg : ℕ) → defines reg ≡ false) → Nothing ∷ [] ≡ effects → Leaves defines effects
-  nothing_leaves defines effects none is = subst (Leaves defines) is (record {
+  nothing_leaves : (defines : ℕ → Bool) (e : Effect) → ((reg : ℕ) → defines reg ≡ false) → Nothing ≡ e → Leaves defines e
+  nothing_leaves defines e none is = subst (Leaves defines) is (record {
     memory_is = refl;
-    known = λ reg w v known. (none reg, known);
+    known = λ before reg w v known. (none reg, known);
   })
 
-  unset_leaves : (defines : ℕ → Bool) (r : ℕ) (effects : List Effect) → ((reg : ℕ) → (0 < reg → reg ≡ r → ⊥) → defines reg ≡ false) →
-      Unsets r ∷ [] ≡ effects → Leaves defines effects
-  unset_leaves defines r effects other is = subst (Leaves defines) is (record { memory_is = refl; known = by_reg })
+  unset_leaves : (defines : ℕ → Bool) (r : ℕ) (e : Effect) → ((reg : ℕ) → (0 < reg → reg ≡ r → ⊥) → defines reg ≡ false) →
+      Unsets r ≡ e → Leaves defines e
+  unset_leaves defines r e other is = subst (Leaves defines) is (record { memory_is = refl; known = by_reg })
     where
-      by_reg : (reg : ℕ) (w : Width) (v : ℕ) → reg_value (without_reg regs r) reg w ≡ Some v → (defines reg ≡ false) × (reg_value regs reg w ≡ Some v)
-      by_reg zero w v known = (other zero (λ some. absurd (omega (arith, some))), known)
-      by_reg (suc reg) w v known = let parts = known_without regs r (suc reg) w v (omega arith) known in (other (suc reg) (λ some. parts.0), parts.1)
+      by_reg : (before : Regs) (reg : ℕ) (w : Width) (v : ℕ) → reg_value (without_reg before r) reg w ≡ Some v →
+          (defines reg ≡ false) × (reg_value before reg w ≡ Some v)
+      by_reg before zero w v known = (other zero (λ some. absurd (omega (arith, some))), known)
+      by_reg before (suc reg) w v known = let parts = known_without before r (suc reg) w v (omega arith) known in
+          (other (suc reg) (λ some. parts.0), parts.1)
 
   effects_are : (o : Option Effect) (effects : List Effect) → option_map (λ e. e ∷ []) o ≡ Some effects → (e : Effect) × (o ≡ Some e) × (e ∷ [] ≡ effects)
   effects_are None effects is = absurd (let no : ⊥ = cc in no)
@@ -105,24 +107,24 @@ module _ (symbols : List SymbolAt) (regs : Regs) (memory : List MemByte) where
 
   nothing_clobbered : (code : Code) (place : Rtx) (e : Effect) → (out-Rtx place).code ≡ code →
       ((reg : ℕ) (number : ℤ) → is_reg_numbered code number reg ≡ false) → ◌≡◌ {A = Option Effect} (Some Nothing) (Some e) →
-      Leaves (λ reg. is_register reg place) (e ∷ [])
+      Leaves (λ reg. is_register reg place) e
   nothing_clobbered code place e is none same = let here : Nothing ≡ e = cc in
-      nothing_leaves (λ reg. is_register reg place) (e ∷ []) (λ reg. no_register reg code place is (none reg)) (ap (λ e. e ∷ []) here)
+      nothing_leaves (λ reg. is_register reg place) e (λ reg. no_register reg code place is (none reg)) here
 
   register_clobbered : (place : Rtx) (e : Effect) → (out-Rtx place).code ≡ Reg → Some (Unsets (cast_unsigned w64 (out-Rtx place).number)) ≡ Some e →
-      Leaves (λ reg. is_register reg place) (e ∷ [])
+      Leaves (λ reg. is_register reg place) e
   register_clobbered place e is same = let here : Unsets (cast_unsigned w64 (out-Rtx place).number) ≡ e = cc in
-      unset_leaves (λ reg. is_register reg place) (cast_unsigned w64 (out-Rtx place).number) (e ∷ [])
+      unset_leaves (λ reg. is_register reg place) (cast_unsigned w64 (out-Rtx place).number) e
       (λ reg other. ap (λ c. not (reg == 0) && is_reg_numbered c (out-Rtx place).number reg) is ∙
-      unset_is (out-Rtx place).number reg (not (reg == 0) && int_eq (out-Rtx place).number (pos reg)) refl other) (ap (λ e. e ∷ []) here)
+      unset_is (out-Rtx place).number reg (not (reg == 0) && int_eq (out-Rtx place).number (pos reg)) refl other) here
 
   part_clobbered : (code : Code) (inner : Rtx) (e : Effect) → (out-Rtx inner).code ≡ code →
-      option_map Unsets (step.inner_number code (out-Rtx inner).number) ≡ Some e → Leaves (λ reg. is_register reg inner) (e ∷ [])
+      option_map Unsets (step.inner_number code (out-Rtx inner).number) ≡ Some e → Leaves (λ reg. is_register reg inner) e
   part_clobbered Reg inner e is same = register_clobbered inner e is same
   part_clobbered _ inner e is same = absurd (let no : ⊥ = cc in no)
 
   clobbered : (code : Code) (kids : List Rtx) (place : Rtx) (e : Effect) → (out-Rtx place).code ≡ code →
-      step.clobber_by code (step.register_by code (out-Rtx place).number kids) ≡ Some e → Leaves (λ reg. place_is_by reg code kids place) (e ∷ [])
+      step.clobber_by code (step.register_by code (out-Rtx place).number kids) ≡ Some e → Leaves (λ reg. place_is_by reg code kids place) e
   clobbered Reg kids place e is same = register_clobbered place e is same
   clobbered Subreg (inner ∷ []) place e is same = part_clobbered (out-Rtx inner).code inner e refl same
   clobbered Mem kids place e is same = nothing_clobbered Mem place e is (λ reg number. refl) same
@@ -131,10 +133,10 @@ module _ (symbols : List SymbolAt) (regs : Regs) (memory : List MemByte) where
 
   -- ---- the instruction
 
-  quiet_by : (code : Code) (kids : List Rtx) (e : Effect) → is_quiet code ≡ true → step.effect_by code kids symbols regs memory ≡ Some e →
-      Leaves (λ reg. effect_defines_by reg code kids) (e ∷ [])
+  pub quiet_by : (code : Code) (kids : List Rtx) (e : Effect) → is_quiet code ≡ true → step.effect_by code kids symbols regs memory ≡ Some e →
+      Leaves (λ reg. effect_defines_by reg code kids) e
   quiet_by Use (x ∷ []) e quiet same = let here : Nothing ≡ e = cc in
-      nothing_leaves (λ reg. false) (e ∷ []) (λ reg. refl) (ap (λ e. e ∷ []) here)
+      nothing_leaves (λ reg. false) e (λ reg. refl) here
   quiet_by Clobber (place ∷ []) e quiet same = clobbered (out-Rtx place).code (out-Rtx place).kids place e refl same
   quiet_by Use kids e quiet same = absurd (let no : ⊥ = cc in no)
   quiet_by Clobber kids e quiet same = absurd (let no : ⊥ = cc in no)
@@ -155,15 +157,19 @@ module _ (symbols : List SymbolAt) (regs : Regs) (memory : List MemByte) where
   or_none true = refl
   or_none false = refl
 
+  pub record QuietLeaves (x : Rtx) (effects : List Effect) : Type 0 where
+    pub memory_is : memory_after effects memory ≡ memory
+    pub known : (reg : ℕ) (w : Width) (v : ℕ) → reg_value (regs_after effects regs) reg w ≡ Some v →
+        (pattern_defines reg x ≡ false) × (reg_value regs reg w ≡ Some v)
+
   pub quiet_leaves : (x : Rtx) (effects : List Effect) → is_quiet (out-Rtx x).code ≡ true → step.effects_of symbols regs memory x ≡ Some effects →
-      Leaves (λ reg. pattern_defines reg x) effects
+      QuietLeaves x effects
   quiet_leaves x effects quiet is =
       let one = effects_are (step.effect_of symbols regs memory x) effects (sym (alone_in (out-Rtx x).code x quiet) ∙ is) in
-      let leaves = subst (Leaves (λ reg. effect_defines_by reg (out-Rtx x).code (out-Rtx x).kids)) one.2
-      (quiet_by (out-Rtx x).code (out-Rtx x).kids one.0 quiet one.1) in
+      let leaves = quiet_by (out-Rtx x).code (out-Rtx x).kids one.0 quiet one.1 in
       let defines : (reg : ℕ) → pattern_defines reg x ≡ effect_defines_by reg (out-Rtx x).code (out-Rtx x).kids = λ reg.
-      ap (all_define reg) (alone_of (out-Rtx x).code (out-Rtx x).kids x quiet) ∙ or_none (effect_defines_by reg (out-Rtx x).code (out-Rtx x).kids) in
-      record {
+          ap (all_define reg) (alone_of (out-Rtx x).code (out-Rtx x).kids x quiet) ∙ or_none (effect_defines_by reg (out-Rtx x).code (out-Rtx x).kids) in
+      subst (QuietLeaves x) one.2 (record {
         memory_is = leaves.memory_is;
-        known = λ reg w v known. let parts = leaves.known reg w v known in (defines reg ∙ parts.0, parts.1);
-      }
+        known = λ reg w v known. let parts = leaves.known regs reg w v known in (defines reg ∙ parts.0, parts.1);
+      })

@@ -91,7 +91,7 @@ module _ (number : ℕ) (f : Function) (marks : MarksAreEmpty f) (ending items :
       ((reg : ℕ) → return_uses f reg ≡ true → reg < 32 → Agrees s.regs t.machine.regs reg) → next_line t.rest ≡ Some (line, more) →
       IsReturnLine line → rtl_step.has_result f.result s.regs ≡ true → rtl_step.step world f s ≡ (rtl_ends.Returned, s) → EndsGood s → Simulates s t
   returns_good s t line more related used next returns has stepped good =
-      let back = keeping.returns s t.machine related.keeps used (good rtl_ends.Returned s stepped refl) in
+      let back = keeping.returns s t.machine related.beside.second related.keeps used (good rtl_ends.Returned s stepped refl) in
       let line_is = line_returns world line t.machine returns (back.0 ∙ ap Some (sym related.entry_is)) in
       machine.ends_there rtl_ends.Returned s 0 t (lines.returned start.visible (at [] t.machine t.replies t.calls)) stepped refl (machine.stays t) tt
       (turns.line_turns world start.visible items t.replies t.calls t.rest line more t.machine t.machine ends.Returned next line_is) (omega arith) (

@@ -93,10 +93,10 @@ module _ (number : ℕ) (f : Function) (for_lines : IsForLines f) (calls_nothing
   keeping : IsKeeping number f for_lines.marks ending items start world AreKept IsDefined
   keeping = record {
     defined = λ good. good refl;
-    does = λ place i ls regs memory m came there comes does keeps reg kept. kept_by_lines place i ls m came there does reg kept ∙ keeps reg kept;
+    does = λ place i ls regs memory m came there comes stays does keeps reg kept. kept_by_lines place i ls m came there does reg kept ∙ keeps reg kept;
     quiet = λ place i regs memory m effects there plain quiet are keeps. keeps;
-    replied = λ place i regs w reply m there call keeps. absurd (calls_nothing place i there call);
-    returns = λ s m keeps used good. (keeps 1 refl, saved_same m.regs (lines.entry_regs start) keeps);
+    replied = λ place i ls regs memory m came event w reply there call comes ends does keeps. absurd (calls_nothing place i there call);
+    returns = λ s m is_machine keeps used good. (keeps 1 refl, saved_same m.regs (lines.entry_regs start) keeps);
   }
 
 -- the items of a function without a frame that calls nothing have its behaviour, whatever frame it is said to need

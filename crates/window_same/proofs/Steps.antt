@@ -45,7 +45,7 @@ use Rattle.same_behaviour.specs.Direct.{IsUid, IsEnding}
 use Rattle.same_behaviour.specs.Lawful.{IsLawfulReply, IsLawfulWorld}
 use Rattle.same_behaviour.specs.Same.{SameOutcome, SameCall, SameCalls, at_entry}
 use Rattle.same_behaviour.proofs.Places.{get_dropped, get_past, drop_next, within_dropped}
-use Rattle.window_mean.specs.Beside.{Agrees, Beside}
+use Rattle.window_mean.specs.Beside.{Agrees, Beside, IsMachine}
 use Rattle.window_mean.specs.Insns as insn_end
 use Rattle.window_mean.specs.Insns.{InsnsEnd, InsnsCome, insns_come}
 use Rattle.window_mean.specs.Lines as window
@@ -142,14 +142,17 @@ module _ (number : ℕ) (f : Function) (marks : MarksAreEmpty f) (ending items :
     pub defined : Good rtl.Undefined → ⊥
     pub does : (place : ℕ) (i : Insn) (ls : List Line) (regs : Regs) (memory : List MemByte) (m : RvState) (came : InsnsCome) →
         slice_get f.insns place ≡ Some i → insns_come world.symbols start.visible (i ∷ []) regs memory ≡ Some came →
-        (does : LinesDo number (i ∷ []) ls (IsLiveBehind f place) world start.visible m came) → Keeps regs m →
-        Keeps came.regs does.done.machine
+        ((reg : ℕ) → IsKept came.ending reg) → (does : LinesDo number (i ∷ []) ls (IsLiveBehind f place) world start.visible m came) →
+        Keeps regs m → Keeps came.regs does.done.machine
     pub quiet : (place : ℕ) (i : Insn) (regs : Regs) (memory : List MemByte) (m : RvState) (effects : List Effect) →
         slice_get f.insns place ≡ Some i → i.kind ≡ kind.Plain → is_quiet (head_of i.pattern).code ≡ true →
         effects_of world.symbols regs memory i.pattern ≡ Some effects → Keeps regs m → Keeps (regs_after effects regs) m
-    pub replied : (place : ℕ) (i : Insn) (regs : Regs) (w : Width) (reply : Reply) (m : RvState) →
-        slice_get f.insns place ≡ Some i → i.kind ≡ kind.Call → Keeps regs m → Keeps (regs_replied regs w reply.value) (after_call reply m)
-    pub returns : (s : State) (m : RvState) → Keeps s.regs m → ((reg : ℕ) → return_uses f reg ≡ true → reg < 32 → Agrees s.regs m.regs reg) →
+    pub replied : (place : ℕ) (i : Insn) (ls : List Line) (regs : Regs) (memory : List MemByte) (m : RvState) (came : InsnsCome)
+        (event : CallEvent) (w : Width) (reply : Reply) → slice_get f.insns place ≡ Some i → i.kind ≡ kind.Call →
+        insns_come world.symbols start.visible (i ∷ []) regs memory ≡ Some came → came.ending ≡ insn_end.Calls event w →
+        (does : LinesDo number (i ∷ []) ls (IsLiveBehind f place) world start.visible m came) → Keeps regs m →
+        Keeps (regs_replied came.regs w reply.value) (after_call reply does.done.machine)
+    pub returns : (s : State) (m : RvState) → IsMachine m → Keeps s.regs m → ((reg : ℕ) → return_uses f reg ≡ true → reg < 32 → Agrees s.regs m.regs reg) →
         Good (func.returned f s) → (register m.regs 1 ≡ Some start.ra) × (lines.saved_of m.regs ≡ at_entry start)
 
   abbrev pub turn : Running → machine.Turned Running CodeOutcome
@@ -235,8 +238,8 @@ module _ (number : ℕ) (f : Function) (marks : MarksAreEmpty f) (ending items :
       passes = turns.alike world start.visible items t.replies t.calls (map Code ls ++ more) t.rest t.machine more after does.done.ending w.next
           (turns.passes world start.visible items t.replies t.calls ls more t.machine does.done w.lines_are.last does.comes)
 
-      keeps : Keeps came.regs after
-      keeps = keeping.does place i ls s.regs s.memory t.machine came there comes does w.related.keeps
+      keeps : ((reg : ℕ) → IsKept came.ending reg) → Keeps came.regs after
+      keeps kept = keeping.does place i ls s.regs s.memory t.machine came there comes kept does w.related.keeps
 
       -- what is live where the instruction leads agrees behind the lines
       agree_at : (q : ℕ) → leads f.insns place q ≡ true → ((reg : ℕ) → IsKept came.ending reg) → LiveAgree q came.regs after
@@ -256,7 +259,7 @@ module _ (number : ℕ) (f : Function) (marks : MarksAreEmpty f) (ending items :
         calls_are = w.related.calls_are;
         replies_are = w.related.replies_are;
         entry_is = does.entry_is ∙ w.related.entry_is;
-        keeps = keeps;
+        keeps = keeps kept;
       }
 
       at_next : (rest : List CodeItem) → leads f.insns place (place + 1) ≡ true → next_line rest ≡ next_line more → At number f marks ending (place + 1) rest
@@ -343,7 +346,7 @@ module _ (number : ℕ) (f : Function) (marks : MarksAreEmpty f) (ending items :
             replies_are = sym (drop_next world.replies (length s.calls) reply left gone) ∙
                 ap (λ n. drop n world.replies) (sym (length_more s.calls event));
             entry_is = does.entry_is ∙ w.related.entry_is;
-            keeps = keeping.replied place i came.regs w' reply after there is_call keeps;
+            keeps = keeping.replied place i ls s.regs s.memory t.machine came event w' reply there is_call comes ends does w.related.keeps;
           }
 
       -- by the replies that are left

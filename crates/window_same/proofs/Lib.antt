@@ -8,6 +8,7 @@ pub mod Calls
 pub mod Steps
 pub mod Quiet
 pub mod Returns
+pub mod Sets
 pub mod Runs
 pub mod Entry
 pub mod Follow

@@ -61,7 +61,7 @@ above_zero zero b is = absurd (let no : ⊥ = cc in no)
 above_zero (suc reg) b is = omega arith
 
 -- of a place that is unset the register is the one that it defines
-unset_is : (n : ℤ) (reg : ℕ) (b : Bool) → not (reg == 0) && int_eq n (pos reg) ≡ b → (0 < reg → reg ≡ cast_unsigned w64 n → ⊥) → b ≡ false
+pub unset_is : (n : ℤ) (reg : ℕ) (b : Bool) → not (reg == 0) && int_eq n (pos reg) ≡ b → (0 < reg → reg ≡ cast_unsigned w64 n → ⊥) → b ≡ false
 unset_is n reg false is other = refl
 unset_is n reg true is other =
     let same = same_number n reg (and_right (not (reg == 0)) (int_eq n (pos reg)) is) in
@@ -99,7 +99,7 @@ module _ (symbols : List SymbolAt) (regs : Regs) (memory : List MemByte) where
   -- ---- what is clobbered
 
   -- no register
-  no_register : (reg : ℕ) (code : Code) (place : Rtx) → (out-Rtx place).code ≡ code → ((number : ℤ) → is_reg_numbered code number reg ≡ false) →
+  pub no_register : (reg : ℕ) (code : Code) (place : Rtx) → (out-Rtx place).code ≡ code → ((number : ℤ) → is_reg_numbered code number reg ≡ false) →
       is_register reg place ≡ false
   no_register reg code place is none =
       ap (λ c. not (reg == 0) && is_reg_numbered c (out-Rtx place).number reg) is ∙

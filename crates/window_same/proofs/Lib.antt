@@ -12,4 +12,5 @@ pub mod Sets
 pub mod Runs
 pub mod Entry
 pub mod Follow
+pub mod Kept
 pub mod Same

@@ -14,3 +14,4 @@ pub mod Entry
 pub mod Follow
 pub mod Kept
 pub mod Same
+pub mod Left

@@ -1,10 +1,11 @@
 -- The items of a function that may set the registers of its caller have its behaviour, in each run that leaves them as it found them.
-use Rattle.std.proofs.Common.{◌≡◌, ◌≢◌, ℕ, zero, suc, ◌<◌, ◌^◌, ◌||◌, ◌&&◌, arith, Bool, true, false, List, [], ◌∷◌, map, Option, Some, None, refl, sym, ap, subst, ◌∙◌}
+use Rattle.std.proofs.Common.{◌≡◌, ◌≢◌, ℕ, zero, suc, ◌<◌, ◌^◌, ◌||◌, ◌&&◌, Bool, true, false, List, [], ◌∷◌, Option, Some, None, refl, sym, ap, subst, ◌∙◌}
 use Rattle.std.specs.List.{list_any}
-use Rattle.std.specs.Prelude.{slice_get, option_map, option_and_then}
+use Rattle.std.specs.Prelude.{slice_get, slice_index, option_map, option_and_then}
 use Rattle.bits64.specs.Words.{low}
 use Rattle.bits64.specs.declared.Width.{Width}
 use Rattle.bits64.specs.declared.Width.TheVariants.{W64}
+use Rattle.rtx_tree.specs.Tree.{head_of}
 use Rattle.rtx_tree.specs.RegSet.{has_reg}
 use Rattle.rtx_tree.specs.Registers.{is_call_used}
 use Rattle.rtx_tree.specs.declared.function.Function.{Function}
@@ -32,24 +33,25 @@ use Rattle.func_mean.specs.declared.outcome.Outcome.{Outcome}
 use Rattle.func_mean.specs.declared.outcome.Outcome.TheVariants as rtl
 use Rattle.rv_regs.specs.Registers.{kept_registers}
 use Rattle.reg_uses.specs.Effects.{pattern_defines}
-use Rattle.reg_uses.specs.Uses.{insn_defines, insn_sets, is_call_kind, is_result, function_sets, return_uses}
+use Rattle.reg_uses.specs.Uses.{insn_sets, is_call_kind, is_result, function_sets, return_uses}
 use Rattle.rv_text.specs.declared.line.CodeItem.{CodeItem}
 use Rattle.rv_text.specs.declared.line.Line.{Line}
 use Rattle.rv_line.specs.Run as lines
 use Rattle.rv_line.specs.Run.{after_call}
 use Rattle.rv_line.specs.Step.{register}
 use Rattle.rv_line.specs.declared.state.RvState.{RvState}
-use Rattle.window_mean.specs.Beside.{reads, Agrees, IsMachine}
+use Rattle.same_behaviour.proofs.Registers.{low_same}
+use Rattle.window_mean.specs.Beside.{Agrees, IsMachine}
 use Rattle.window_mean.specs.Insns as window
 use Rattle.window_mean.specs.Insns.{InsnsEnd, InsnsCome, insns_come, insn_comes, come_to}
 use Rattle.window_mean.specs.Same.{LinesDo, IsKept}
 use Rattle.window_mean.specs.Uses.{window_defines}
 use Rattle.window_same.specs.ForLines.{MarksAreEmpty}
-use Rattle.window_same.specs.Items.{AreItems, IsLiveBehind}
+use Rattle.window_same.specs.Items.{AreItems, IsLiveBehind, is_quiet}
 use Rattle.window_same.specs.Left.{found, LeavesAsFound, SameWhereLeft, SetsAreNamed}
 use Rattle.window_same.proofs.Entry.{agrees_at_entry}
 use Rattle.window_same.proofs.Follow.{follows}
-use Rattle.window_same.proofs.Kept.{OfEach, each_in, kept_hard, lines_keep, saved_same}
+use Rattle.window_same.proofs.Kept.{each_in, kept_hard, lines_keep, saved_same}
 use Rattle.window_same.proofs.Quiet.{quiet_leaves}
 use Rattle.window_same.proofs.Replies.{agrees_after}
 use Rattle.window_same.proofs.Sets.{plain_keeps, jump_defines, call_defines}
@@ -69,6 +71,10 @@ none_in p (y ∷ xs) (suc k) x none there = none_in p xs k x (rest (p y) none) t
     rest : (b : Bool) → b || list_any p xs ≡ false → list_any p xs ≡ false
     rest true is = absurd (let no : ⊥ = cc in no)
     rest false is = is
+
+or_true : (b : Bool) → (b || true) ≡ true
+or_true true = refl
+or_true false = refl
 
 and_none : (b : Bool) → b && false ≡ false
 and_none true = refl
@@ -206,3 +212,69 @@ module _ (number : ℕ) (f : Function) (marks : MarksAreEmpty f) (named : SetsAr
       ap (option_map (low v)) (lines_keep number (i ∷ []) ls (IsLiveBehind f place) world start.visible m came does reg kept
       (defines_none i reg (ap (λ b. is_call_kind i.kind && b) preserved ∙ and_none (is_call_kind i.kind)) (is.defines (kept_hard reg kept).no_result))) ∙
       keeps reg kept unset v value (subst (λ (regs : Regs). reg_value regs reg v ≡ Some value) is.regs_are known))
+
+  keeps_quiet : (place : ℕ) (i : Insn) (regs : Regs) (memory : List MemByte) (m : RvState) (effects : List Effect) →
+      is_quiet (head_of i.pattern).code ≡ true → effects_of world.symbols regs memory i.pattern ≡ Some effects → Keeps regs m →
+      Keeps (regs_after effects regs) m
+  keeps_quiet place i regs memory m effects quiet are keeps reg kept unset = λ w v known.
+      keeps reg kept unset w v ((quiet_leaves world.symbols regs memory i.pattern effects quiet are).known reg w v known).1
+
+  -- ---- at a return
+
+  whole : (o : Option ℕ) (x : ℕ) → ((n : ℕ) → o ≡ Some n → n < 2 ^ 64) → option_map (low W64) o ≡ Some x → o ≡ Some x
+  whole None x fits is = absurd (let no : ⊥ = cc in no)
+  whole (Some n) x fits is = let small = fits n refl in let same : low W64 n ≡ x = cc in ap Some (sym (low_same n small) ∙ same)
+
+  uses_set : (reg : ℕ) → has_reg kept_registers reg ≡ true → function_sets f reg ≡ true → return_uses f reg ≡ true
+  uses_set reg kept set = ap (λ b. is_result f reg || (b && function_sets f reg)) kept ∙ ap (λ b. is_result f reg || b) set ∙ or_true (is_result f reg)
+
+  agrees_by : (regs : Regs) (m : RvState) (reg : ℕ) (b : Bool) → function_sets f reg ≡ b → has_reg kept_registers reg ≡ true → Keeps regs m →
+      ((reg : ℕ) → return_uses f reg ≡ true → reg < 32 → Agrees regs m.regs reg) → Agrees regs m.regs reg
+  agrees_by regs m reg true set kept keeps used = used reg (uses_set reg kept set) (kept_hard reg kept).below
+  agrees_by regs m reg false unset kept keeps used = keeps reg kept unset
+
+  -- what is found in a register at the return, its machine has
+  returns_with : (regs : Regs) (m : RvState) → IsMachine m → Keeps regs m →
+      ((reg : ℕ) → return_uses f reg ≡ true → reg < 32 → Agrees regs m.regs reg) → (reg x : ℕ) → has_reg kept_registers reg ≡ true →
+      reg_value regs reg W64 ≡ Some x → register m.regs reg ≡ Some x
+  returns_with regs m is_machine keeps used reg x kept known =
+      whole (register m.regs reg) x (λ n. is_machine.words reg n) (agrees_by regs m reg (function_sets f reg) refl kept keeps used W64 x known)
+
+  one_of : (xs ys : List (Option ℕ)) (k : ℕ) (x y : Option ℕ) → xs ≡ ys → slice_get xs k ≡ Some x → slice_get ys k ≡ Some y → x ≡ y
+  one_of xs ys k x y same at_x at_y = let both : ◌≡◌ {A = Option (Option ℕ)} (Some x) (Some y) = sym at_x ∙ ap (λ l. slice_get l k) same ∙ at_y in cc
+
+  returns_all : (s : State) (m : RvState) → IsMachine m → Keeps s.regs m →
+      ((reg : ℕ) → return_uses f reg ≡ true → reg < 32 → Agrees s.regs m.regs reg) → func.kept_of s.regs ≡ found start → (reg : ℕ) →
+      has_reg kept_registers reg ≡ true → register m.regs reg ≡ register (lines.entry_regs start) reg
+  returns_all s m is_machine keeps used left reg kept =
+      let at : (k reg x : ℕ) → has_reg kept_registers reg ≡ true → slice_get (func.kept_of s.regs) k ≡ Some (reg_value s.regs reg W64) →
+          slice_get (found start) k ≡ Some (Some x) → register m.regs reg ≡ Some x = λ k reg x kept at_x at_y.
+          returns_with s.regs m is_machine keeps used reg x kept
+          (one_of (func.kept_of s.regs) (found start) k (reg_value s.regs reg W64) (Some x) left at_x at_y) in
+      let saved : ℕ → ℕ = λ k. slice_index start.saved k in
+      each_in (λ reg. register m.regs reg ≡ register (lines.entry_regs start) reg) kept_registers reg
+      (at 1 1 start.ra refl refl refl, (at 0 2 start.sp refl refl refl, (at 2 8 (saved 0) refl refl refl, (at 3 9 (saved 1) refl refl refl,
+      (at 4 18 (saved 2) refl refl refl, (at 5 19 (saved 3) refl refl refl, (at 6 20 (saved 4) refl refl refl,
+      (at 7 21 (saved 5) refl refl refl, (at 8 22 (saved 6) refl refl refl, (at 9 23 (saved 7) refl refl refl,
+      (at 10 24 (saved 8) refl refl refl, (at 11 25 (saved 9) refl refl refl, (at 12 26 (saved 10) refl refl refl,
+      (at 13 27 (saved 11) refl refl refl, tt)))))))))))))) kept
+
+  keeping : IsKeeping number f marks ending items start world Keeps Good
+  keeping = record {
+    defined = λ good. good.0 refl;
+    does = keeps_on;
+    quiet = λ place i regs memory m effects there plain quiet are keeps. keeps_quiet place i regs memory m effects quiet are keeps;
+    replied = λ place i ls regs memory m came event w reply there call comes ends does keeps.
+        keeps_replied place i ls regs memory m came w reply call comes does keeps;
+    returns = λ s m is_machine keeps used good. let all = returns_all s m is_machine keeps used good.1 in
+        (all 1 refl, saved_same m.regs (lines.entry_regs start) all);
+  }
+
+-- the items of a function have its behaviour in each run that leaves sp, ra and s0 to s11 as it found them
+pub items_are_same_where_left : (number least : ℕ) (f : Function) (items : List CodeItem) → MarksAreEmpty f → SetsAreNamed f →
+    AreItems number f items → SameWhereLeft least f items
+items_are_same_where_left number least f items marks named are = λ frame start world n enough lawful lawful_world left defined.
+    follows number f marks are.ending items frame start world (Keeps number f marks named are.ending items start world)
+    (Good number f marks named are.ending items start world) are.are are.ends lawful lawful_world
+    (keeping number f marks named are.ending items start world)
+    (λ reg kept unset. agrees_at_entry frame f.locals start reg (kept_hard reg kept).below) n (defined, left)

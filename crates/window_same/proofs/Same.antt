@@ -1,6 +1,5 @@
 -- The items of a function have its behaviour.
-use Rattle.std.proofs.Common.{◌≡◌, ◌≢◌, ℕ, ◌==◌, ◌||◌, ◌&&◌, ◌⊎◌, inl, inr, ⊎_elim, arith, Bool, true, false, List, [], ◌∷◌, Option, Some, refl, sym, ap, subst, ◌∙◌}
-use Rattle.std.proofs.lemmas.Bool.Decides.{nat_tests}
+use Rattle.std.proofs.Common.{◌≡◌, ◌≢◌, ℕ, ◌||◌, ◌&&◌, true, false, List, [], ◌∷◌, Some, refl, ap, ◌∙◌}
 use Rattle.std.specs.Prelude.{slice_get}
 use Rattle.rtx_tree.specs.RegSet.{has_reg}
 use Rattle.rtx_tree.specs.Registers.{is_call_used}
@@ -16,13 +15,10 @@ use Rattle.func_mean.specs.declared.outcome.Outcome.TheVariants as rtl
 use Rattle.rv_regs.specs.Registers.{kept_registers}
 use Rattle.reg_uses.specs.Uses.{is_call_kind}
 use Rattle.rv_text.specs.declared.line.CodeItem.{CodeItem}
-use Rattle.rv_text.specs.declared.line.Line.{Line}
 use Rattle.rv_line.specs.Run as lines
 use Rattle.rv_line.specs.Step.{register}
 use Rattle.rv_line.specs.declared.state.RvState.{RvState}
 use Rattle.same_behaviour.specs.Same.{Same}
-use Rattle.window_mean.specs.Insns.{InsnsCome}
-use Rattle.window_mean.specs.Same.{LinesDo}
 use Rattle.window_mean.specs.Uses.{window_defines}
 use Rattle.window_same.specs.ForLines.{IsForLines, CallsNothing}
 use Rattle.window_same.specs.Items.{AreItems, IsLiveBehind}

@@ -3,7 +3,7 @@ use Rattle.std.proofs.Common.{◌≡◌, ℕ, zero, suc, pos, ◌<◌, ◌==◌,
 use Rattle.std.proofs.lemmas.Bool.Decides.{nat_tests}
 use Rattle.std.proofs.lemmas.List.Elements.{All-head, All-tail}
 use Rattle.std.specs.Cmp.{nat_cmp_total}
-use Rattle.std.specs.FinMap.{get, insert, get-insert}
+use Rattle.std.specs.FinMap.{get, get-insert}
 use Rattle.std.specs.List.{All, list_any}
 use Rattle.std.specs.Int.{cast_unsigned, w64}
 use Rattle.std.specs.Ordering.{int_eq, nat_cmp, eq_by_cmp}
@@ -29,7 +29,7 @@ use Rattle.rtl_step.specs.Value.{width_of, value_of, of_two}
 use Rattle.rtl_step.specs.declared.call.ArgValue.{ArgValue}
 use Rattle.rtl_step.specs.declared.call.CallEvent.{CallEvent}
 use Rattle.rtl_step.specs.declared.effect.Effect.{Effect}
-use Rattle.rtl_step.specs.declared.effect.Effect.TheVariants.{Nothing, Sets, Stores}
+use Rattle.rtl_step.specs.declared.effect.Effect.TheVariants.{Sets, Stores}
 use Rattle.rtl_step.specs.declared.jump.Way.{Way}
 use Rattle.rtl_step.specs.declared.regs.Known.{Known}
 use Rattle.reg_uses.specs.Effects.{place_is, place_is_by, effect_defines_by, effect_sets_by, effect_defines, effect_sets, effects_of, effects_by, all_define, pattern_defines}

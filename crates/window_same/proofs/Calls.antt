@@ -11,21 +11,26 @@ alone : (event : CallEvent) (call : CodeCall) → SameCall event call → SameCa
 alone event call same = (refl, λ i e c at at'. by_place i e c at at')
   where
     by_place : (i : ℕ) (e : CallEvent) (c : CodeCall) → slice_get (event ∷ []) i ≡ Some e → slice_get (call ∷ []) i ≡ Some c → SameCall e c
-    by_place zero e c at at' = let this : event ≡ e = cc in let that : call ≡ c = cc in subst (λ e. SameCall e c) this (subst (λ c. SameCall event c) that same)
+    by_place zero e c at at' = let this : event ≡ e = cc in let that : call ≡ c = cc in
+        subst (λ e. SameCall e c) this (subst (λ c. SameCall event c) that same)
     by_place (suc i) e c at at' = absurd (let no : ⊥ = cc in no)
 
-first_of : (e : CallEvent) (events : List CallEvent) (c : CodeCall) (calls : List CodeCall) → SameCalls (e ∷ events) (c ∷ calls) → SameCall e c
+first_of : (e : CallEvent) (events : List CallEvent) (c : CodeCall) (calls : List CodeCall) → SameCalls (e ∷ events) (c ∷ calls) →
+    SameCall e c
 first_of e events c calls same = same.1 0 e c refl refl
 
-rest_of : (e : CallEvent) (events : List CallEvent) (c : CodeCall) (calls : List CodeCall) → SameCalls (e ∷ events) (c ∷ calls) → SameCalls events calls
+rest_of : (e : CallEvent) (events : List CallEvent) (c : CodeCall) (calls : List CodeCall) → SameCalls (e ∷ events) (c ∷ calls) →
+    SameCalls events calls
 rest_of e events c calls same = (let long = same.0 in omega (arith, long), λ i. same.1 (suc i))
 
 with_first : (e : CallEvent) (events : List CallEvent) (c : CodeCall) (calls : List CodeCall) → SameCall e c → SameCalls events calls →
     SameCalls (e ∷ events) (c ∷ calls)
 with_first e events c calls first rest = (ap suc rest.0, λ i e' c' at at'. by_place i e' c' at at')
   where
-    by_place : (i : ℕ) (e' : CallEvent) (c' : CodeCall) → slice_get (e ∷ events) i ≡ Some e' → slice_get (c ∷ calls) i ≡ Some c' → SameCall e' c'
-    by_place zero e' c' at at' = let this : e ≡ e' = cc in let that : c ≡ c' = cc in subst (λ e. SameCall e c') this (subst (λ c. SameCall e c) that first)
+    by_place : (i : ℕ) (e' : CallEvent) (c' : CodeCall) → slice_get (e ∷ events) i ≡ Some e' → slice_get (c ∷ calls) i ≡ Some c' →
+        SameCall e' c'
+    by_place zero e' c' at at' = let this : e ≡ e' = cc in let that : c ≡ c' = cc in
+        subst (λ e. SameCall e c') this (subst (λ c. SameCall e c) that first)
     by_place (suc i) e' c' at at' = rest.1 i e' c' at at'
 
 -- one call more on each side

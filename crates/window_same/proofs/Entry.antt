@@ -38,7 +38,8 @@ module _ (test : ℕ → Bool) where
   addresses_kept (b ∷ memory) = by_test (test b.address) (addresses_kept memory)
     where
       by_test : (is : Bool) → addresses (kept memory) ≡ filter test (addresses memory) →
-          addresses (cond is (b ∷ kept memory) (kept memory)) ≡ cond is (b.address ∷ filter test (addresses memory)) (filter test (addresses memory))
+          addresses (cond is (b ∷ kept memory) (kept memory)) ≡ cond is (b.address ∷ filter test (addresses memory)) (filter test
+              (addresses memory))
       by_test true rest = ap (λ xs. b.address ∷ xs) rest
       by_test false rest = rest
 
@@ -50,7 +51,8 @@ module _ (test : ℕ → Bool) where
   }
 
   -- what is in the part is in the whole
-  within_kept : (memory : List MemByte) (address byte : ℕ) → byte_at (kept memory) address ≡ Some byte → (byte_at memory address ≡ Some byte) × (test address ≡ true)
+  within_kept : (memory : List MemByte) (address byte : ℕ) → byte_at (kept memory) address ≡ Some byte →
+      (byte_at memory address ≡ Some byte) × (test address ≡ true)
   within_kept [] address byte has = absurd (let no : ⊥ = cc in no)
   within_kept (b ∷ memory) address byte has = ⊎_elim
       (λ (here : b.address ≡ address). at_here (test b.address) refl here (within_kept memory address byte) has)
@@ -61,12 +63,14 @@ module _ (test : ℕ → Bool) where
       not_here : b.address ≢ address → (b.address == address) ≡ false
       not_here other = grind (arith, nat_tests, other)
 
-      elsewhere : (is : Bool) → b.address ≢ address → byte_at (cond is (b ∷ kept memory) (kept memory)) address ≡ Some byte → byte_at (kept memory) address ≡ Some byte
+      elsewhere : (is : Bool) → b.address ≢ address → byte_at (cond is (b ∷ kept memory) (kept memory)) address ≡ Some byte →
+          byte_at (kept memory) address ≡ Some byte
       elsewhere true other has = sym (ap (λ c. if c then Some b.byte else byte_at (kept memory) address) (not_here other)) ∙ has
       elsewhere false other has = has
 
       at_here : (is : Bool) → test b.address ≡ is → b.address ≡ address →
-          (byte_at (kept memory) address ≡ Some byte → (byte_at memory address ≡ Some byte) × (test address ≡ true)) → byte_at (cond is (b ∷ kept memory) (kept memory)) address ≡ Some byte →
+          (byte_at (kept memory) address ≡ Some byte → (byte_at memory address ≡ Some byte) × (test address ≡ true)) →
+              byte_at (cond is (b ∷ kept memory) (kept memory)) address ≡ Some byte →
           (byte_at (b ∷ memory) address ≡ Some byte) × (test address ≡ true)
       at_here true is here later has = let yes : (b.address == address) ≡ true = grind (arith, nat_tests, here) in (
         ap (λ c. if c then Some b.byte else byte_at memory address) yes ∙
@@ -98,12 +102,14 @@ is_here n = grind (arith, nat_tests)
 is_other : (n k : ℕ) → k ≢ n → eq_by_cmp nat_cmp n k ≡ false
 is_other n k other = grind (arith, nat_tests, other)
 
-agrees_with : (regs : Regs) (code : List (Option ℕ)) (t value reg : ℕ) → reg < 32 → (t < 32 → register code t ≡ Some value) → Agrees regs code reg →
+agrees_with : (regs : Regs) (code : List (Option ℕ)) (t value reg : ℕ) → reg < 32 → (t < 32 → register code t ≡ Some value) →
+    Agrees regs code reg →
     Agrees (with_reg regs t (known_of W64 value)) code reg
 agrees_with regs code zero value reg small holds agrees = agrees
 agrees_with regs code (suc t) value zero small holds agrees = agrees_zero (with_reg regs (suc t) (known_of W64 value)) code
 agrees_with regs code (suc t) value (suc reg) small holds agrees = λ w v known.
-    let set : get (with_reg regs (suc t) (known_of W64 value)) (suc reg) ≡ (if eq_by_cmp nat_cmp (suc reg) (suc t) then Some (known_of W64 value) else get regs (suc reg)) =
+    let set : get (with_reg regs (suc t) (known_of W64 value)) (suc reg) ≡ (if eq_by_cmp nat_cmp (suc reg) (suc t) then Some
+        (known_of W64 value) else get regs (suc reg)) =
     get-insert nat_cmp_total regs (suc t) (known_of W64 value) (suc reg) in
     ⊎_elim
     (λ (same : suc t ≡ suc reg).
@@ -111,19 +117,23 @@ agrees_with regs code (suc t) value (suc reg) small holds agrees = λ w v known.
     ap (option_and_then (known_in w)) (set ∙ ap (λ b. if b then Some (known_of W64 value) else get regs (suc reg))
     (subst (λ n. eq_by_cmp nat_cmp n (suc t) ≡ true) same (is_here (suc t)))) ∙ known_wide w value in
     ap (option_map (low w)) (subst (λ n. register code n ≡ Some value) same (holds (omega (arith, small, same)))) ∙ sym here ∙ known)
-    (λ other. agrees w v (sym (ap (option_and_then (known_in w)) (set ∙ ap (λ b. if b then Some (known_of W64 value) else get regs (suc reg))
+    (λ other. agrees w v (sym (ap (option_and_then (known_in w)) (set ∙
+        ap (λ b. if b then Some (known_of W64 value) else get regs (suc reg))
     (is_other (suc reg) (suc t) other))) ∙ known))
     (same_or_not (suc t) (suc reg))
 
-agrees_all : (entries : List (ℕ × ℕ)) (regs : Regs) (code : List (Option ℕ)) (reg : ℕ) → reg < 32 → AreHeld code entries → Agrees regs code reg →
+agrees_all : (entries : List (ℕ × ℕ)) (regs : Regs) (code : List (Option ℕ)) (reg : ℕ) → reg < 32 → AreHeld code entries →
+    Agrees regs code reg →
     Agrees (func.with_all entries regs) code reg
 agrees_all [] regs code reg small holds agrees = agrees
 agrees_all (entry ∷ rest) regs code reg small holds agrees =
-    agrees_all rest (with_reg regs entry.0 (known_of W64 entry.1)) code reg small holds.1 (agrees_with regs code entry.0 entry.1 reg small holds.0 agrees)
+    agrees_all rest (with_reg regs entry.0 (known_of W64 entry.1)) code reg small holds.1
+        (agrees_with regs code entry.0 entry.1 reg small holds.0 agrees)
 
 agrees_empty : (code : List (Option ℕ)) (reg : ℕ) → Agrees empty code reg
 agrees_empty code zero = agrees_zero empty code
-agrees_empty code (suc reg) = λ w v known. absurd (let none : ◌≡◌ {A = Option ℕ} None (Some v) = sym (ap (option_and_then (known_in w)) (get-empty nat_cmp (suc reg))) ∙ known in let no : ⊥ = cc in no)
+agrees_empty code (suc reg) = λ w v known. absurd (let none : ◌≡◌ {A = Option ℕ} None (Some v) = sym (ap (option_and_then (known_in w))
+    (get-empty nat_cmp (suc reg))) ∙ known in let no : ⊥ = cc in no)
 
 -- what the function knows of a hard register
 pub agrees_at_entry : (frame locals : ℕ) (start : Start) (reg : ℕ) → reg < 32 →
@@ -161,7 +171,8 @@ agrees_at_entry frame locals start reg small =
                                   λ hard. refl,
                                   (
                                     λ hard. refl,
-                                    (λ hard. refl, (λ hard. refl, (λ hard. refl, (λ hard. refl, (λ hard. refl, (λ hard. refl, (λ hard. absurd (omega (arith, hard)), tt))))))),
+                                    (λ hard. refl, (λ hard. refl, (λ hard. refl, (λ hard. refl, (λ hard. refl, (λ hard. refl,
+                                        (λ hard. absurd (omega (arith, hard)), tt))))))),
                                   ),
                                 ),
                               ),
@@ -246,7 +257,8 @@ entry_words start w = let a = w.args in let s = w.saved in (
                                               s 6 (omega arith),
                                               (
                                                 s 7 (omega arith),
-                                                (s 8 (omega arith), (s 9 (omega arith), (s 10 (omega arith), (s 11 (omega arith), (tt, (tt, (tt, (tt, tt)))))))),
+                                                (s 8 (omega arith), (s 9 (omega arith), (s 10 (omega arith), (s 11 (omega arith), (tt,
+                                                    (tt, (tt, (tt, tt)))))))),
                                               ),
                                             ),
                                           ),

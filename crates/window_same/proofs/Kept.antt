@@ -33,9 +33,11 @@ IsPreserved reg = (reg ≡ 1) ⊎ (is_call_used reg ≡ false)
 
 pub kept_reg : (reg : ℕ) → has_reg kept_registers reg ≡ true → IsPreserved reg
 kept_reg reg is = each_in IsPreserved kept_registers reg
-    (inl refl, (inr refl, (inr refl, (inr refl, (inr refl, (inr refl, (inr refl, (inr refl, (inr refl, (inr refl, (inr refl, (inr refl, (inr refl, (inr refl, tt)))))))))))))) is
+    (inl refl, (inr refl, (inr refl, (inr refl, (inr refl, (inr refl, (inr refl, (inr refl, (inr refl, (inr refl, (inr refl, (inr refl,
+        (inr refl, (inr refl, tt)))))))))))))) is
 
-pub saved_same : (a b : List (Option ℕ)) → ((reg : ℕ) → has_reg kept_registers reg ≡ true → register a reg ≡ register b reg) → lines.saved_of a ≡ lines.saved_of b
+pub saved_same : (a b : List (Option ℕ)) → ((reg : ℕ) → has_reg kept_registers reg ≡ true → register a reg ≡ register b reg) →
+    lines.saved_of a ≡ lines.saved_of b
 saved_same a b same =
     let e2 = same 2 refl in let e8 = same 8 refl in let e9 = same 9 refl in let e18 = same 18 refl in let e19 = same 19 refl in
     let e20 = same 20 refl in let e21 = same 21 refl in let e22 = same 22 refl in let e23 = same 23 refl in let e24 = same 24 refl in

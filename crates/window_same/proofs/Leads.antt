@@ -64,8 +64,10 @@ module _ (symbols : List SymbolAt) (regs : Regs) (memory : List MemByte) where
   set_way true source w is = source_way (out-Rtx source).code (out-Rtx source).kids source w is
   set_way false source w is = absurd (let no : ⊥ = cc in no)
 
-  way_by : (code : Code) (parts : List Rtx) (w : Way) → jump.jump_by code parts symbols regs memory ≡ Some w → IsWayOf w (flows.jump_flow_by code parts)
-  way_by Return parts w is = let same : way.Leaves ≡ w = cc in subst (λ w. IsWayOf w (flows.jump_flow_by Return parts)) same (leaves (flows.jump_flow_by Return parts))
+  way_by : (code : Code) (parts : List Rtx) (w : Way) → jump.jump_by code parts symbols regs memory ≡ Some w →
+      IsWayOf w (flows.jump_flow_by code parts)
+  way_by Return parts w is = let same : way.Leaves ≡ w = cc in
+      subst (λ w. IsWayOf w (flows.jump_flow_by Return parts)) same (leaves (flows.jump_flow_by Return parts))
   way_by Set (place ∷ source ∷ []) w is = set_way (is_pc place) source w is
   way_by _ parts w is = absurd (let no : ⊥ = cc in no)
 
@@ -82,7 +84,8 @@ or_true true = refl
 or_true false = refl
 
 -- the places to which an instruction leads, by what its pattern says
-places_are : (insns : List Insn) (p : ℕ) (i : Insn) (flow : Flow) → slice_get insns p ≡ Some i → flow_of i ≡ flow → successors_of insns p ≡ flow_places insns p flow
+places_are : (insns : List Insn) (p : ℕ) (i : Insn) (flow : Flow) → slice_get insns p ≡ Some i → flow_of i ≡ flow →
+    successors_of insns p ≡ flow_places insns p flow
 places_are insns p i flow there is = ap (successors_by insns p) there ∙ ap (flow_places insns p) is
 
 leads_next : (insns : List Insn) (p : ℕ) (places : List ℕ) → successors_of insns p ≡ (p + 1) ∷ places → leads insns p (p + 1) ≡ true
@@ -105,10 +108,12 @@ pub data LeadsBy (insns : List Insn) (p : ℕ) : Way → Type 0 where
   goes_on : (uid : ℕ) → ((q : ℕ) → place_of uid insns ≡ Some q → leads insns p q ≡ true) → LeadsBy insns p (way.Goes uid)
   leaves_it : LeadsBy insns p way.Leaves
 
-way_leads : (insns : List Insn) (p : ℕ) (w : Way) (flow : Flow) → IsWayOf w flow → successors_of insns p ≡ flow_places insns p flow → LeadsBy insns p w
+way_leads : (insns : List Insn) (p : ℕ) (w : Way) (flow : Flow) → IsWayOf w flow → successors_of insns p ≡ flow_places insns p flow →
+    LeadsBy insns p w
 way_leads insns p _ _ (falls uid) are = falls_on (leads_next insns p (flows.label_places insns uid) are)
 way_leads insns p _ _ (branches uid) are = goes_on uid (λ q at.
-    ap (λ l. has_place l q) (are ∙ ap (λ o. (p + 1) ∷ option_to_list o) at) ∙ ap (λ b. (p + 1 == q) || (b || false)) (is_here q) ∙ or_true (p + 1 == q))
+    ap (λ l. has_place l q) (are ∙ ap (λ o. (p + 1) ∷ option_to_list o) at) ∙ ap (λ b. (p + 1 == q) || (b || false)) (is_here q) ∙
+        or_true (p + 1 == q))
 way_leads insns p _ _ (goes uid) are = goes_on uid (λ q at.
     ap (λ l. has_place l q) (are ∙ ap (λ o. option_to_list o) at) ∙ ap (λ b. b || false) (is_here q))
 way_leads insns p _ _ (leaves flow) are = leaves_it

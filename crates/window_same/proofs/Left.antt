@@ -131,7 +131,8 @@ module _ (symbols : List SymbolAt) (ranges : List RangeAt) where
     width : Width
     ends : came.ending ≡ window.Calls event width
 
-  call_comes : (i : Insn) (reg : ℕ) (regs : Regs) (memory : List MemByte) (event : Option CallEvent) (width : Option Width) (came : InsnsCome) →
+  call_comes : (i : Insn) (reg : ℕ) (regs : Regs) (memory : List MemByte) (event : Option CallEvent) (width : Option Width)
+      (came : InsnsCome) →
       event_of symbols regs memory ranges i.pattern i.uses ≡ event →
       of_two (λ event w. Some (come_to regs memory (window.Calls event w))) event width ≡ Some came → IsCall i reg regs came
   call_comes i reg regs memory None width came event_is is = absurd (let no : ⊥ = cc in no)
@@ -210,7 +211,8 @@ module _ (number : ℕ) (f : Function) (marks : MarksAreEmpty f) (named : SetsAr
       let is = is_call world.symbols start.visible i reg regs memory came call comes in
       agrees_after came.regs w reply does.done.machine reg does.beside.second.long (λ preserved. λ v value known.
       ap (option_map (low v)) (lines_keep number (i ∷ []) ls (IsLiveBehind f place) world start.visible m came does reg kept
-      (defines_none i reg (ap (λ b. is_call_kind i.kind && b) preserved ∙ and_none (is_call_kind i.kind)) (is.defines (kept_hard reg kept).no_result))) ∙
+      (defines_none i reg (ap (λ b. is_call_kind i.kind && b) preserved ∙
+          and_none (is_call_kind i.kind)) (is.defines (kept_hard reg kept).no_result))) ∙
       keeps reg kept unset v value (subst (λ (regs : Regs). reg_value regs reg v ≡ Some value) is.regs_are known))
 
   keeps_quiet : (place : ℕ) (i : Insn) (regs : Regs) (memory : List MemByte) (m : RvState) (effects : List Effect) →
@@ -226,9 +228,11 @@ module _ (number : ℕ) (f : Function) (marks : MarksAreEmpty f) (named : SetsAr
   whole (Some n) x fits is = let small = fits n refl in let same : low W64 n ≡ x = cc in ap Some (sym (low_same n small) ∙ same)
 
   uses_set : (reg : ℕ) → has_reg kept_registers reg ≡ true → function_sets f reg ≡ true → return_uses f reg ≡ true
-  uses_set reg kept set = ap (λ b. is_result f reg || (b && function_sets f reg)) kept ∙ ap (λ b. is_result f reg || b) set ∙ or_true (is_result f reg)
+  uses_set reg kept set = ap (λ b. is_result f reg || (b && function_sets f reg)) kept ∙ ap (λ b. is_result f reg || b) set ∙
+      or_true (is_result f reg)
 
-  agrees_by : (regs : Regs) (m : RvState) (reg : ℕ) (b : Bool) → function_sets f reg ≡ b → has_reg kept_registers reg ≡ true → Keeps regs m →
+  agrees_by : (regs : Regs) (m : RvState) (reg : ℕ) (b : Bool) → function_sets f reg ≡ b → has_reg kept_registers reg ≡ true →
+      Keeps regs m →
       ((reg : ℕ) → return_uses f reg ≡ true → reg < 32 → Agrees regs m.regs reg) → Agrees regs m.regs reg
   agrees_by regs m reg true set kept keeps used = used reg (uses_set reg kept set) (kept_hard reg kept).below
   agrees_by regs m reg false unset kept keeps used = keeps reg kept unset
@@ -238,10 +242,12 @@ module _ (number : ℕ) (f : Function) (marks : MarksAreEmpty f) (named : SetsAr
       ((reg : ℕ) → return_uses f reg ≡ true → reg < 32 → Agrees regs m.regs reg) → (reg x : ℕ) → has_reg kept_registers reg ≡ true →
       reg_value regs reg W64 ≡ Some x → register m.regs reg ≡ Some x
   returns_with regs m is_machine keeps used reg x kept known =
-      whole (register m.regs reg) x (λ n. is_machine.words reg n) (agrees_by regs m reg (function_sets f reg) refl kept keeps used W64 x known)
+      whole (register m.regs reg) x (λ n. is_machine.words reg n) (agrees_by regs m reg
+          (function_sets f reg) refl kept keeps used W64 x known)
 
   one_of : (xs ys : List (Option ℕ)) (k : ℕ) (x y : Option ℕ) → xs ≡ ys → slice_get xs k ≡ Some x → slice_get ys k ≡ Some y → x ≡ y
-  one_of xs ys k x y same at_x at_y = let both : ◌≡◌ {A = Option (Option ℕ)} (Some x) (Some y) = sym at_x ∙ ap (λ l. slice_get l k) same ∙ at_y in cc
+  one_of xs ys k x y same at_x at_y = let both : ◌≡◌ {A = Option (Option ℕ)} (Some x) (Some y) = sym at_x ∙ ap (λ l. slice_get l k) same ∙
+      at_y in cc
 
   returns_all : (s : State) (m : RvState) → IsMachine m → Keeps s.regs m →
       ((reg : ℕ) → return_uses f reg ≡ true → reg < 32 → Agrees s.regs m.regs reg) → func.kept_of s.regs ≡ found start → (reg : ℕ) →

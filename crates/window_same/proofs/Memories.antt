@@ -43,9 +43,11 @@ within_here memory other at byte b None is within has =
 within_here memory other at byte b (Some old) is within has =
     byte_at-with_byte other at byte old (within at old is) ∙ sym (byte_at-with_byte memory at byte old is) ∙ has
 
-within_with : (memory other : List MemByte) (at byte : ℕ) → Within memory other → Within (with_byte memory at byte) (with_byte other at byte)
+within_with : (memory other : List MemByte) (at byte : ℕ) → Within memory other →
+    Within (with_byte memory at byte) (with_byte other at byte)
 within_with memory other at byte within address b has = ⊎_elim
-    (λ (same : address ≡ at). subst (λ a. byte_at (with_byte memory at byte) a ≡ Some b → byte_at (with_byte other at byte) a ≡ Some b) (sym same)
+    (λ (same : address ≡ at). subst
+        (λ a. byte_at (with_byte memory at byte) a ≡ Some b → byte_at (with_byte other at byte) a ≡ Some b) (sym same)
     (within_here memory other at byte b (byte_at memory at) refl within) has)
     (λ differ. byte_at-with_byte_other other at byte address differ ∙
     within address b (sym (byte_at-with_byte_other memory at byte address differ) ∙ has))
@@ -54,7 +56,8 @@ within_with memory other at byte within address b has = ⊎_elim
 pub within_written : (writes memory other : List MemByte) → Within memory other → Within (written writes memory) (written writes other)
 within_written [] memory other within = within
 within_written (w ∷ writes) memory other within =
-    within_written writes (with_byte memory w.address w.byte) (with_byte other w.address w.byte) (within_with memory other w.address w.byte within)
+    within_written writes (with_byte memory w.address w.byte) (with_byte other w.address w.byte)
+        (within_with memory other w.address w.byte within)
 
 -- ---- what is seen of it
 
@@ -63,7 +66,8 @@ visible_with : (ranges : List RangeAt) (memory : List MemByte) (at byte : ℕ) �
 visible_with ranges [] at byte = refl
 visible_with ranges (b ∷ memory) at byte = seen (is_visible ranges b.address) (visible_with ranges memory at byte)
   where
-    seen : (is : Bool) → visible ranges (with_byte memory at byte) ≡ with_byte (visible ranges memory) at byte → cond is (with_byte_here at byte b ∷ visible ranges (with_byte memory at byte)) (visible ranges (with_byte memory at byte)) ≡
+    seen : (is : Bool) → visible ranges (with_byte memory at byte) ≡ with_byte (visible ranges memory) at byte →
+        cond is (with_byte_here at byte b ∷ visible ranges (with_byte memory at byte)) (visible ranges (with_byte memory at byte)) ≡
         with_byte (cond is (b ∷ visible ranges memory) (visible ranges memory)) at byte
     seen true rest = ap (λ m. with_byte_here at byte b ∷ m) rest
     seen false rest = rest
@@ -73,4 +77,5 @@ pub visible_written : (ranges : List RangeAt) (writes memory other : List MemByt
 visible_written ranges [] memory other same = same
 visible_written ranges (w ∷ writes) memory other same =
     visible_written ranges writes (with_byte memory w.address w.byte) (with_byte other w.address w.byte)
-    (visible_with ranges other w.address w.byte ∙ ap (λ m. with_byte m w.address w.byte) same ∙ sym (visible_with ranges memory w.address w.byte))
+    (visible_with ranges other w.address w.byte ∙ ap (λ m. with_byte m w.address w.byte) same ∙
+        sym (visible_with ranges memory w.address w.byte))

@@ -129,7 +129,8 @@ module _ (number : ℕ) (f : Function) (marks : MarksAreEmpty f) (ending : List 
           stays kind.Jump i insns place (Code line ∷ more) (Code line ∷ []) more jump refl is path
           (items_of.returning line jump return returns) are refl
       by_items _ (items_of.window lines window) later =
-          stays i.kind i insns place (map Code lines ++ more) (map Code lines) more refl window.is_none is path (items_of.window lines window) are refl
+          stays i.kind i insns place (map Code lines ++ more) (map Code lines) more refl window.is_none is path
+              (items_of.window lines window) are refl
 
 -- ---- labels
 
@@ -145,12 +146,14 @@ unmarked kind.Label none = absurd (let no : ⊥ = cc in no)
 unmarked kind.Barrier none = refl
 
 -- lines are passed over
-behind_lines : (target : List ℕ) (lines : List Line) (items : List CodeItem) → behind_label target (map Code lines ++ items) ≡ behind_label target items
+behind_lines : (target : List ℕ) (lines : List Line) (items : List CodeItem) →
+    behind_label target (map Code lines ++ items) ≡ behind_label target items
 behind_lines target [] items = refl
 behind_lines target (line ∷ lines) items = behind_lines target lines items
 
 -- where a label stands among the instructions, and what follows it among the items
-pub record Found (number : ℕ) (f : Function) (ending : List CodeItem) (uid first place : ℕ) (insns : List Insn) (items : List CodeItem) : Type 0 where
+pub record Found (number : ℕ) (f : Function) (ending : List CodeItem) (uid first place : ℕ) (insns : List Insn)
+    (items : List CodeItem) : Type 0 where
   pub by : ℕ
   pub place_is : place ≡ first + by
   pub rest : List CodeItem
@@ -192,7 +195,8 @@ module _ (number : ℕ) (f : Function) (ending : List CodeItem) (uid place : ℕ
         by = 0;
         place_is = omega (arith, same);
         rest = more;
-        behind = ap (λ b. if b then Some more else behind_label (label_text number uid) more) (label_test number i.uid uid small' small ∙ here);
+        behind = ap (λ b. if b then Some more else behind_label (label_text number uid) more) (label_test number i.uid uid small' small ∙
+            here);
         there = Label number i.uid ∷ more;
         are = subst (λ p. AreItemsFrom number f ending p (i ∷ insns) (Label number i.uid ∷ more)) same
             (items_of.next first i insns (Label number i.uid ∷ []) more (items_of.label label small') are);
@@ -201,25 +205,30 @@ module _ (number : ℕ) (f : Function) (ending : List CodeItem) (uid place : ℕ
       }
   at_label first i insns more false here small label small' are is later =
       found_later first i insns (Label number i.uid ∷ more) more
-      (ap (λ b. if b then Some more else behind_label (label_text number uid) more) (label_test number i.uid uid small' small ∙ here)) (later is)
+      (ap (λ b. if b then Some more else behind_label (label_text number uid) more) (label_test number i.uid uid small' small ∙
+          here)) (later is)
 
   pub found : (first : ℕ) (insns : List Insn) (items : List CodeItem) → IsUid uid → AreItemsFrom number f ending first insns items →
       position_from (is_label uid) first insns ≡ Some place → FoundIn first insns items
   found first _ _ small (items_of.end _) is = absurd (let no : ⊥ = cc in no)
   found first _ _ small (items_of.next _ i insns own more at are) is = by_items own at (found (first + 1) insns more small are)
     where
-      other : (own : List CodeItem) → is_label uid i ≡ false → behind_label (label_text number uid) (own ++ more) ≡ behind_label (label_text number uid) more → FoundBehind first insns more →
+      other : (own : List CodeItem) → is_label uid i ≡ false → behind_label (label_text number uid) (own ++ more) ≡ behind_label
+          (label_text number uid) more → FoundBehind first insns more →
           FoundIn first (i ∷ insns) (own ++ more)
       other own none same later = found_later first i insns (own ++ more) more same
           (later (sym (ap (λ b. cond b (Some first) (position_from (is_label uid) (first + 1) insns)) none) ∙ is))
 
-      by_items : (own : List CodeItem) → AreItemsAt number f first i own → FoundBehind first insns more → FoundIn first (i ∷ insns) (own ++ more)
+      by_items : (own : List CodeItem) → AreItemsAt number f first i own → FoundBehind first insns more →
+          FoundIn first (i ∷ insns) (own ++ more)
       by_items _ (items_of.label label small') later =
           at_label first i insns more (i.uid == uid) refl small label small' are
           (sym (ap (λ b. cond b (Some first) (position_from (is_label uid) (first + 1) insns))
           (ap (λ k. is_label_kind k && (i.uid == uid)) label)) ∙ is) later
       by_items _ (items_of.barrier barrier) later = other [] (kind_is_none kind.Barrier uid i barrier refl) refl later
       by_items _ (items_of.quiet plain quiet) later = other [] (kind_is_none kind.Plain uid i plain refl) refl later
-      by_items _ (items_of.returning line jump return returns) later = other (Code line ∷ []) (kind_is_none kind.Jump uid i jump refl) refl later
+      by_items _ (items_of.returning line jump return returns) later =
+          other (Code line ∷ []) (kind_is_none kind.Jump uid i jump refl) refl later
       by_items _ (items_of.window lines window) later =
-          other (map Code lines) (kind_is_none i.kind uid i refl (unmarked i.kind window.is_none)) (behind_lines (label_text number uid) lines more) later
+          other (map Code lines) (kind_is_none i.kind uid i refl (unmarked i.kind window.is_none)) (behind_lines
+              (label_text number uid) lines more) later

@@ -40,8 +40,10 @@ known_without : (regs : Regs) (r reg : ℕ) (w : Width) (v : ℕ) → 0 < reg �
     (reg ≡ r → ⊥) × (reg_value regs reg w ≡ Some v)
 known_without regs r zero w v some is = absurd (omega (arith, some))
 known_without regs r (suc reg) w v some is =
-    let parts = none_of (eq_by_cmp nat_cmp (suc reg) r) (get regs (suc reg)) w v (sym (ap (option_and_then (known_in w)) (removed regs r (suc reg))) ∙ is) in
-    (λ same. let no : true ≡ false = sym (is_here (suc reg)) ∙ subst (λ x. eq_by_cmp nat_cmp (suc reg) x ≡ false) (sym same) parts.0 in let none : ⊥ = cc in none, parts.1)
+    let parts = none_of (eq_by_cmp nat_cmp (suc reg) r) (get regs (suc reg)) w v (sym (ap (option_and_then (known_in w)) (removed regs r
+        (suc reg))) ∙ is) in
+    (λ same. let no : true ≡ false = sym (is_here (suc reg)) ∙
+        subst (λ x. eq_by_cmp nat_cmp (suc reg) x ≡ false) (sym same) parts.0 in let none : ⊥ = cc in none, parts.1)
 
 -- ---- which register that is
 
@@ -61,7 +63,8 @@ above_zero zero b is = absurd (let no : ⊥ = cc in no)
 above_zero (suc reg) b is = omega arith
 
 -- of a place that is unset the register is the one that it defines
-pub unset_is : (n : ℤ) (reg : ℕ) (b : Bool) → not (reg == 0) && int_eq n (pos reg) ≡ b → (0 < reg → reg ≡ cast_unsigned w64 n → ⊥) → b ≡ false
+pub unset_is : (n : ℤ) (reg : ℕ) (b : Bool) → not (reg == 0) && int_eq n (pos reg) ≡ b → (0 < reg → reg ≡ cast_unsigned w64 n → ⊥) →
+    b ≡ false
 unset_is n reg false is other = refl
 unset_is n reg true is other =
     let same = same_number n reg (and_right (not (reg == 0)) (int_eq n (pos reg)) is) in
@@ -92,14 +95,16 @@ module _ (symbols : List SymbolAt) (regs : Regs) (memory : List MemByte) where
       by_reg before (suc reg) w v known = let parts = known_without before r (suc reg) w v (omega arith) known in
           (other (suc reg) (λ some. parts.0), parts.1)
 
-  effects_are : (o : Option Effect) (effects : List Effect) → option_map (λ e. e ∷ []) o ≡ Some effects → (e : Effect) × (o ≡ Some e) × (e ∷ [] ≡ effects)
+  effects_are : (o : Option Effect) (effects : List Effect) → option_map (λ e. e ∷ []) o ≡ Some effects →
+      (e : Effect) × (o ≡ Some e) × (e ∷ [] ≡ effects)
   effects_are None effects is = absurd (let no : ⊥ = cc in no)
   effects_are (Some e) effects is = (e, refl, let same : e ∷ [] ≡ effects = cc in same)
 
   -- ---- what is clobbered
 
   -- no register
-  pub no_register : (reg : ℕ) (code : Code) (place : Rtx) → (out-Rtx place).code ≡ code → ((number : ℤ) → is_reg_numbered code number reg ≡ false) →
+  pub no_register : (reg : ℕ) (code : Code) (place : Rtx) → (out-Rtx place).code ≡ code →
+      ((number : ℤ) → is_reg_numbered code number reg ≡ false) →
       is_register reg place ≡ false
   no_register reg code place is none =
       ap (λ c. not (reg == 0) && is_reg_numbered c (out-Rtx place).number reg) is ∙
@@ -111,7 +116,8 @@ module _ (symbols : List SymbolAt) (regs : Regs) (memory : List MemByte) where
   nothing_clobbered code place e is none same = let here : Nothing ≡ e = cc in
       nothing_leaves (λ reg. is_register reg place) e (λ reg. no_register reg code place is (none reg)) here
 
-  register_clobbered : (place : Rtx) (e : Effect) → (out-Rtx place).code ≡ Reg → Some (Unsets (cast_unsigned w64 (out-Rtx place).number)) ≡ Some e →
+  register_clobbered : (place : Rtx) (e : Effect) → (out-Rtx place).code ≡ Reg →
+      Some (Unsets (cast_unsigned w64 (out-Rtx place).number)) ≡ Some e →
       Leaves (λ reg. is_register reg place) e
   register_clobbered place e is same = let here : Unsets (cast_unsigned w64 (out-Rtx place).number) ≡ e = cc in
       unset_leaves (λ reg. is_register reg place) (cast_unsigned w64 (out-Rtx place).number) e
@@ -133,7 +139,8 @@ module _ (symbols : List SymbolAt) (regs : Regs) (memory : List MemByte) where
 
   -- ---- the instruction
 
-  pub quiet_by : (code : Code) (kids : List Rtx) (e : Effect) → is_quiet code ≡ true → step.effect_by code kids symbols regs memory ≡ Some e →
+  pub quiet_by : (code : Code) (kids : List Rtx) (e : Effect) → is_quiet code ≡ true →
+      step.effect_by code kids symbols regs memory ≡ Some e →
       Leaves (λ reg. effect_defines_by reg code kids) e
   quiet_by Use (x ∷ []) e quiet same = let here : Nothing ≡ e = cc in
       nothing_leaves (λ reg. false) e (λ reg. refl) here
@@ -143,7 +150,8 @@ module _ (symbols : List SymbolAt) (regs : Regs) (memory : List MemByte) where
   quiet_by _ kids e quiet same = absurd (let no : ⊥ = cc in no)
 
   -- it stands alone
-  alone_in : (code : Code) (x : Rtx) → is_quiet code ≡ true → step.effects_by code x symbols regs memory ≡ step.one_effect symbols regs memory x
+  alone_in : (code : Code) (x : Rtx) → is_quiet code ≡ true → step.effects_by code x symbols regs memory ≡ step.one_effect symbols regs
+      memory x
   alone_in Use x quiet = refl
   alone_in Clobber x quiet = refl
   alone_in _ x quiet = absurd (let no : ⊥ = cc in no)
@@ -162,13 +170,15 @@ module _ (symbols : List SymbolAt) (regs : Regs) (memory : List MemByte) where
     pub known : (reg : ℕ) (w : Width) (v : ℕ) → reg_value (regs_after effects regs) reg w ≡ Some v →
         (pattern_defines reg x ≡ false) × (reg_value regs reg w ≡ Some v)
 
-  pub quiet_leaves : (x : Rtx) (effects : List Effect) → is_quiet (out-Rtx x).code ≡ true → step.effects_of symbols regs memory x ≡ Some effects →
+  pub quiet_leaves : (x : Rtx) (effects : List Effect) → is_quiet (out-Rtx x).code ≡ true →
+      step.effects_of symbols regs memory x ≡ Some effects →
       QuietLeaves x effects
   quiet_leaves x effects quiet is =
       let one = effects_are (step.effect_of symbols regs memory x) effects (sym (alone_in (out-Rtx x).code x quiet) ∙ is) in
       let leaves = quiet_by (out-Rtx x).code (out-Rtx x).kids one.0 quiet one.1 in
       let defines : (reg : ℕ) → pattern_defines reg x ≡ effect_defines_by reg (out-Rtx x).code (out-Rtx x).kids = λ reg.
-          ap (all_define reg) (alone_of (out-Rtx x).code (out-Rtx x).kids x quiet) ∙ or_none (effect_defines_by reg (out-Rtx x).code (out-Rtx x).kids) in
+          ap (all_define reg) (alone_of (out-Rtx x).code (out-Rtx x).kids x quiet) ∙
+              or_none (effect_defines_by reg (out-Rtx x).code (out-Rtx x).kids) in
       subst (QuietLeaves x) one.2 (record {
         memory_is = leaves.memory_is;
         known = λ reg w v known. let parts = leaves.known regs reg w v known in (defines reg ∙ parts.0, parts.1);

@@ -41,7 +41,8 @@ held_if : (b : Bool) (x : Option ℕ) → held (Some (if b then None else x)) �
 held_if true x = refl
 held_if false x = refl
 
-left_at : (regs : List (Option ℕ)) (base reg : ℕ) → held (slice_get (left_from base regs) reg) ≡ (if is_call_used (base + reg) then None else held (slice_get regs reg))
+left_at : (regs : List (Option ℕ)) (base reg : ℕ) → held (slice_get (left_from base regs) reg) ≡ (if is_call_used
+    (base + reg) then None else held (slice_get regs reg))
 left_at [] base reg = none_anyway (is_call_used (base + reg))
 left_at (x ∷ regs) base zero =
     let here : base ≡ base + 0 = omega arith in
@@ -74,7 +75,8 @@ result_after reply m long =
     let left = left_long m.regs 0 in register_set (left_from 0 m.regs) 10 reply.value (omega arith) (omega (arith, left, long))
 
 -- what a call preserves is as it was
-pub kept_after : (reply : Reply) (m : RvState) (reg : ℕ) → is_call_used reg ≡ false → register (after_call reply m).regs reg ≡ register m.regs reg
+pub kept_after : (reply : Reply) (m : RvState) (reg : ℕ) → is_call_used reg ≡ false →
+    register (after_call reply m).regs reg ≡ register m.regs reg
 kept_after reply m zero kept = refl
 kept_after reply m (suc reg) kept =
     other_after reply m (suc reg) (omega arith) (λ is. let no : true ≡ false = ap is_call_used is ∙ kept in let none : ⊥ = cc in none) ∙
@@ -143,7 +145,8 @@ low_nothing W64 = refl
 pub agrees_zero : (regs : Regs) (code : List (Option ℕ)) → Agrees regs code 0
 agrees_zero regs code w value known = ap Some (low_nothing w) ∙ known
 
-known_by : (v w : Width) (a value : ℕ) (b : Bool) → nat_le (bits_of v) (bits_of w) ≡ b → (if b then Some (low v (low w a)) else None) ≡ Some value →
+known_by : (v w : Width) (a value : ℕ) (b : Bool) → nat_le (bits_of v) (bits_of w) ≡ b →
+    (if b then Some (low v (low w a)) else None) ≡ Some value →
     low v a ≡ value
 known_by v w a value true fits is = let same : low v (low w a) ≡ value = cc in sym (low_in v w a fits) ∙ same
 known_by v w a value false fits is = absurd (let no : ⊥ = cc in no)
@@ -153,7 +156,8 @@ kept_by : (b : Bool) (o : Option Known) (v : Width) (value : ℕ) → option_and
 kept_by true o v value is = absurd (let no : ⊥ = cc in no)
 kept_by false o v value is = (refl, is)
 
-got_after : (regs : Regs) (w : Width) (a reg : ℕ) → get (regs_replied regs w a) reg ≡ (if eq_by_cmp nat_cmp reg 10 then Some (known_of w a) else get (preserved regs) reg)
+got_after : (regs : Regs) (w : Width) (a reg : ℕ) → get (regs_replied regs w a) reg ≡ (if eq_by_cmp nat_cmp reg 10 then Some
+    (known_of w a) else get (preserved regs) reg)
 got_after regs w a reg = get-insert nat_cmp_total (preserved regs) 10 (known_of w a) reg
 
 is_here : (n : ℕ) → eq_by_cmp nat_cmp n n ≡ true

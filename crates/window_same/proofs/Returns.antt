@@ -44,7 +44,8 @@ leaves i symbols regs memory is = return_way (out-Rtx i.pattern).code (out-Rtx i
 -- ---- the line
 
 back : (m : RvState) (ra : Option ℕ) → ra ≡ Some m.entry_ra → return_end m.entry_ra ra ≡ ends.Returned
-back m ra is = ap (return_end m.entry_ra) is ∙ ap (λ b. if b then ends.Returned else ends.Stuck) (let same : (m.entry_ra == m.entry_ra) ≡ true = grind (arith, nat_tests) in same)
+back m ra is = ap (return_end m.entry_ra) is ∙
+    ap (λ b. if b then ends.Returned else ends.Stuck) (let same : (m.entry_ra == m.entry_ra) ≡ true = grind (arith, nat_tests) in same)
 
 pub line_returns : (world : World) (line : Line) (m : RvState) → IsReturnLine line → register m.regs 1 ≡ Some m.entry_ra →
     step world line m ≡ (ends.Returned, m)
@@ -63,7 +64,8 @@ held_result : (mode : Mode) (w : Width) (a0 : Option ℕ) (value : ℕ) → widt
 held_result mode w None value is_w is = absurd (let no : ⊥ = cc in no)
 held_result mode w (Some number) value is_w is = ap (option_map (λ w. low w number)) is_w ∙ is
 
-in_width : (mode : Mode) (w : Width) (regs : Regs) (code : List (Option ℕ)) (o : Option ℕ) → width_of mode ≡ Some w → reg_value regs 10 w ≡ o →
+in_width : (mode : Mode) (w : Width) (regs : Regs) (code : List (Option ℕ)) (o : Option ℕ) → width_of mode ≡ Some w →
+    reg_value regs 10 w ≡ o →
     is_some o ≡ true → Agrees regs code 10 → SameResult (Some mode) o (register code 10)
 in_width mode w regs code None is_w is has agrees = absurd (let no : ⊥ = cc in no)
 in_width mode w regs code (Some value) is_w is has agrees = held_result mode w (register code 10) value is_w (agrees w value is)
@@ -75,7 +77,8 @@ in_mode mode regs code None is_w has agrees = absurd (let no : ⊥ = cc in no)
 in_mode mode regs code (Some w) is_w has agrees = in_width mode w regs code (reg_value regs 10 w) is_w refl has agrees
 
 -- where a function's result is known, its items have it
-pub same_result : (mode : Option Mode) (regs : Regs) (code : List (Option ℕ)) → has_result mode regs ≡ true → (is_some mode ≡ true → Agrees regs code 10) →
+pub same_result : (mode : Option Mode) (regs : Regs) (code : List (Option ℕ)) → has_result mode regs ≡ true →
+    (is_some mode ≡ true → Agrees regs code 10) →
     SameResult mode (result_of mode regs) (register code 10)
 same_result None regs code has agrees = tt
 same_result (Some mode) regs code has agrees = in_mode mode regs code (width_of mode) refl has (agrees refl)

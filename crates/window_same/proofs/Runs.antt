@@ -78,7 +78,8 @@ module _ (number : ℕ) (f : Function) (marks : MarksAreEmpty f) (ending items :
   abbrev LiveAgree : ℕ → Regs → RvState → Type 0
   LiveAgree place regs m = steps.LiveAgree number f marks ending items start world Keeps Good place regs m
 
-  step_insn : (s : State) (place : ℕ) (i : Insn) (k : Kind) → rtl_step.place_from f.insns s.next ≡ place → slice_get f.insns place ≡ Some i →
+  step_insn : (s : State) (place : ℕ) (i : Insn) (k : Kind) → rtl_step.place_from f.insns s.next ≡ place →
+      slice_get f.insns place ≡ Some i →
       i.kind ≡ k → rtl_step.step world f s ≡ rtl_step.act k world f i place s
   step_insn = steps.step_insn number f marks ending items start world Keeps Good all ended lawful keeping
 
@@ -89,19 +90,23 @@ module _ (number : ℕ) (f : Function) (marks : MarksAreEmpty f) (ending items :
 
   returns_good : (s : State) (t : Running) (line : Line) (more : List CodeItem) → Related s t →
       ((reg : ℕ) → return_uses f reg ≡ true → reg < 32 → Agrees s.regs t.machine.regs reg) → next_line t.rest ≡ Some (line, more) →
-      IsReturnLine line → rtl_step.has_result f.result s.regs ≡ true → rtl_step.step world f s ≡ (rtl_ends.Returned, s) → EndsGood s → Simulates s t
+      IsReturnLine line → rtl_step.has_result f.result s.regs ≡ true → rtl_step.step world f s ≡ (rtl_ends.Returned, s) → EndsGood s →
+          Simulates s t
   returns_good s t line more related used next returns has stepped good =
       let back = keeping.returns s t.machine related.beside.second related.keeps used (good rtl_ends.Returned s stepped refl) in
       let line_is = line_returns world line t.machine returns (back.0 ∙ ap Some (sym related.entry_is)) in
-      machine.ends_there rtl_ends.Returned s 0 t (lines.returned start.visible (at [] t.machine t.replies t.calls)) stepped refl (machine.stays t) tt
-      (turns.line_turns world start.visible items t.replies t.calls t.rest line more t.machine t.machine ends.Returned next line_is) (omega arith) (
+      machine.ends_there rtl_ends.Returned s 0 t (lines.returned start.visible (at [] t.machine t.replies t.calls)) stepped refl
+          (machine.stays t) tt
+      (turns.line_turns world start.visible items t.replies t.calls t.rest line more t.machine t.machine ends.Returned next line_is)
+          (omega arith) (
         same_result f.result s.regs t.machine.regs has (λ some. used 10 (result_used f some) (omega arith)),
         (related.beside.visible_is ∙ ap (λ v. visible v s.memory) (sym related.visible_is)),
         related.calls_are,
         back.1,
       )
 
-  returns_by : (s : State) (t : Running) (line : Line) (more : List CodeItem) (b : Bool) → rtl_step.has_result f.result s.regs ≡ b → Related s t →
+  returns_by : (s : State) (t : Running) (line : Line) (more : List CodeItem) (b : Bool) → rtl_step.has_result f.result s.regs ≡ b →
+      Related s t →
       ((reg : ℕ) → return_uses f reg ≡ true → reg < 32 → Agrees s.regs t.machine.regs reg) → next_line t.rest ≡ Some (line, more) →
       IsReturnLine line → rtl_step.step world f s ≡ rtl_step.after_return f.result s → EndsGood s → Simulates s t
   returns_by s t line more true has related used next returns stepped good = returns_good s t line more related used next returns has
@@ -111,22 +116,26 @@ module _ (number : ℕ) (f : Function) (marks : MarksAreEmpty f) (ending items :
 
   -- ---- a window
 
-  one_comes : (i : Insn) (k : Kind) (s : State) (came : InsnsCome) → i.kind ≡ k → insn_comes k world.symbols start.visible i s.regs s.memory ≡ Some came →
+  one_comes : (i : Insn) (k : Kind) (s : State) (came : InsnsCome) → i.kind ≡ k →
+      insn_comes k world.symbols start.visible i s.regs s.memory ≡ Some came →
       window.goes_on came.ending came (insns_come world.symbols start.visible []) ≡ Some came →
       insns_come world.symbols start.visible (i ∷ []) s.regs s.memory ≡ Some came
   one_comes i k s came kind_is comes stays =
       let further : InsnsCome → Option InsnsCome = λ came. window.goes_on came.ending came (insns_come world.symbols start.visible []) in
-      ap (λ k. option_and_then further (insn_comes k world.symbols start.visible i s.regs s.memory)) kind_is ∙ ap (option_and_then further) comes ∙ stays
+      ap (λ k. option_and_then further (insn_comes k world.symbols start.visible i s.regs s.memory)) kind_is ∙
+          ap (option_and_then further) comes ∙ stays
 
   module _ (s : State) (t : Running) (place : ℕ) (i : Insn) (insns : List Insn) (ls : List Line) (more : List CodeItem)
-      (w : steps.Window number f marks ending items start world Keeps Good all ended lawful keeping s t place i insns ls more) (good : EndsGood s) where
+      (w : steps.Window number f marks ending items start world Keeps Good all ended lawful keeping s t place i insns ls more)
+          (good : EndsGood s) where
     there : slice_get f.insns place ≡ Some i
     there = get_dropped f.insns place i insns w.chain
 
     stepped : (k : Kind) → i.kind ≡ k → rtl_step.step world f s ≡ rtl_step.act k world f i place s
     stepped k is = step_insn s place i k w.passed there is
 
-    plain_at : (effects : Option (List Effect)) → effects_of world.symbols s.regs s.memory i.pattern ≡ effects → i.kind ≡ kind.Plain → Simulates s t
+    plain_at : (effects : Option (List Effect)) → effects_of world.symbols s.regs s.memory i.pattern ≡ effects → i.kind ≡ kind.Plain →
+        Simulates s t
     plain_at None are plain = absurd (never s s (stepped kind.Plain plain ∙ ap (rtl_step.after_effects s place) are) good)
     plain_at (Some effects) are plain =
         let came : InsnsCome = window.come_after s.regs s.memory effects in
@@ -136,7 +145,8 @@ module _ (number : ℕ) (f : Function) (marks : MarksAreEmpty f) (ending items :
         (leads_on f.insns place i there (λ jumps. let no : kind.Plain ≡ kind.Jump = sym plain ∙ jumps in let none : ⊥ = cc in none))
 
     jump_comes : (took : Way) → jump_of world.symbols s.regs s.memory i.pattern ≡ Some took → i.kind ≡ kind.Jump →
-        window.goes_on (window.end_of_way took) (come_to s.regs s.memory (window.end_of_way took)) (insns_come world.symbols start.visible []) ≡
+        window.goes_on (window.end_of_way took) (come_to s.regs s.memory (window.end_of_way took))
+            (insns_come world.symbols start.visible []) ≡
         Some (come_to s.regs s.memory (window.end_of_way took)) →
         insns_come world.symbols start.visible (i ∷ []) s.regs s.memory ≡ Some (come_to s.regs s.memory (window.end_of_way took))
     jump_comes took is jump stays = one_comes i kind.Jump s (come_to s.regs s.memory (window.end_of_way took)) jump
@@ -151,7 +161,8 @@ module _ (number : ℕ) (f : Function) (marks : MarksAreEmpty f) (ending items :
         (come_to s.regs s.memory (window.Goes uid)) (jump_comes (way.Goes uid) is jump refl) uid q refl at_q
         (stepped kind.Jump jump ∙ ap (rtl_step.after_jump f s place) is ∙ ap (rtl_step.after_goes s) at_q) (leads_there q at_q)
 
-    way_at : (took : Way) → LeadsBy f.insns place took → jump_of world.symbols s.regs s.memory i.pattern ≡ Some took → i.kind ≡ kind.Jump → Simulates s t
+    way_at : (took : Way) → LeadsBy f.insns place took → jump_of world.symbols s.regs s.memory i.pattern ≡ Some took →
+        i.kind ≡ kind.Jump → Simulates s t
     way_at _ (leads_by.falls_on leads_there) is jump =
         steps.falls_on number f marks ending items start world Keeps Good all ended lawful keeping s t place i insns ls more w
         (come_to s.regs s.memory window.Falls) (jump_comes way.Falls is jump refl) refl
@@ -183,16 +194,21 @@ module _ (number : ℕ) (f : Function) (marks : MarksAreEmpty f) (ending items :
     window_at : (k : Kind) → i.kind ≡ k → Simulates s t
     window_at kind.Plain is = plain_at (effects_of world.symbols s.regs s.memory i.pattern) refl is
     window_at kind.Jump is = jump_at (jump_of world.symbols s.regs s.memory i.pattern) refl is
-    window_at kind.Call is = call_at (result_width i.pattern) (event_of world.symbols s.regs s.memory start.visible i.pattern i.uses) refl refl is
-        (stepped kind.Call is ∙ ap (λ v. rtl_step.after_event world s place (result_width i.pattern) (event_of world.symbols s.regs s.memory v i.pattern i.uses))
+    window_at kind.Call is = call_at (result_width i.pattern)
+        (event_of world.symbols s.regs s.memory start.visible i.pattern i.uses) refl refl is
+        (stepped kind.Call is ∙ ap (λ v. rtl_step.after_event world s place (result_width i.pattern)
+            (event_of world.symbols s.regs s.memory v i.pattern i.uses))
         w.related.visible_is)
-    window_at kind.Label is = absurd (let no : true ≡ false = sym (ap rtl_step.is_mark is) ∙ w.lines_are.is_none in let none : ⊥ = cc in none)
-    window_at kind.Barrier is = absurd (let no : true ≡ false = sym (ap rtl_step.is_mark is) ∙ w.lines_are.is_none in let none : ⊥ = cc in none)
+    window_at kind.Label is = absurd (let no : true ≡ false = sym (ap rtl_step.is_mark is) ∙
+        w.lines_are.is_none in let none : ⊥ = cc in none)
+    window_at kind.Barrier is = absurd (let no : true ≡ false = sym (ap rtl_step.is_mark is) ∙
+        w.lines_are.is_none in let none : ⊥ = cc in none)
 
   -- ---- a use or a clobber alone
 
   quiet_defines : (i : Insn) (reg : ℕ) → i.kind ≡ kind.Plain → pattern_defines reg i.pattern ≡ false → insn_defines i reg ≡ false
-  quiet_defines i reg plain none = ap (λ b. b || (is_call_kind i.kind && is_call_used reg)) none ∙ ap (λ k. is_call_kind k && is_call_used reg) plain
+  quiet_defines i reg plain none = ap (λ b. b || (is_call_kind i.kind && is_call_used reg)) none ∙
+      ap (λ k. is_call_kind k && is_call_used reg) plain
 
   quiet_at : (s : State) (t : Running) (place : ℕ) (i : Insn) (insns : List Insn) (more : List CodeItem) (effects : Option (List Effect)) →
       effects_of world.symbols s.regs s.memory i.pattern ≡ effects → Related s t → rtl_step.place_from f.insns s.next ≡ place →
@@ -200,11 +216,13 @@ module _ (number : ℕ) (f : Function) (marks : MarksAreEmpty f) (ending items :
       is_quiet (head_of i.pattern).code ≡ true → AreItemsFrom number f ending (place + 1) insns more → next_line t.rest ≡ next_line more →
       EndsGood s → Simulates s t
   quiet_at s t place i insns more None are related passed path chain agree plain quiet rest_are next good =
-      absurd (never s s (step_insn s place i kind.Plain passed (get_dropped f.insns place i insns chain) plain ∙ ap (rtl_step.after_effects s place) are) good)
+      absurd (never s s (step_insn s place i kind.Plain passed (get_dropped f.insns place i insns chain) plain ∙
+          ap (rtl_step.after_effects s place) are) good)
   quiet_at s t place i insns more (Some effects) are related passed path chain agree plain quiet rest_are next good =
       let there = get_dropped f.insns place i insns chain in
       let inside = within_dropped f.insns place i insns chain in
-      let leads_there = leads_on f.insns place i there (λ jumps. let no : kind.Plain ≡ kind.Jump = sym plain ∙ jumps in let none : ⊥ = cc in none) in
+      let leads_there = leads_on f.insns place i there (λ jumps. let no : kind.Plain ≡ kind.Jump = sym plain ∙
+          jumps in let none : ⊥ = cc in none) in
       let left = quiet_leaves world.symbols s.regs s.memory i.pattern effects quiet are in
       let after : State = record s { next = place + 1; regs = regs_after effects s.regs; memory = memory_after effects s.memory } in
       let related_after : Related after t = record {
@@ -217,20 +235,23 @@ module _ (number : ℕ) (f : Function) (marks : MarksAreEmpty f) (ending items :
         };
         beside = subst (λ memory. Beside start.visible memory t.machine) (sym left.memory_is) related.beside;
         agree = λ reg lives small width value known. let before = left.known reg width value known in
-            agree reg (live.Passing place (place + 1) i there (quiet_defines i reg plain before.0) leads_there lives) small width value before.1;
+            agree reg (live.Passing place (place + 1) i there
+                (quiet_defines i reg plain before.0) leads_there lives) small width value before.1;
         visible_is = related.visible_is;
         calls_are = related.calls_are;
         replies_are = related.replies_are;
         entry_is = related.entry_is;
         keeps = keeping.quiet place i s.regs s.memory t.machine effects there plain quiet are related.keeps;
       } in
-      machine.goes_on rtl_ends.Next after 0 t (step_insn s place i kind.Plain passed there plain ∙ ap (rtl_step.after_effects s place) are) refl
+      machine.goes_on rtl_ends.Next after 0 t (step_insn s place i kind.Plain passed there plain ∙
+          ap (rtl_step.after_effects s place) are) refl
       (machine.stays t) (omega arith) related_after
 
   -- ---- whatever stands there
 
   returns_use : (i : Insn) (reg : ℕ) → is_return i ≡ true → return_uses f reg ≡ true → live.uses_in f i reg ≡ true
-  returns_use i reg return uses = ap (λ b. insn_uses i reg || (b && return_uses f reg)) return ∙ ap (λ b. insn_uses i reg || b) uses ∙ or_true (insn_uses i reg)
+  returns_use i reg return uses = ap (λ b. insn_uses i reg || (b && return_uses f reg)) return ∙ ap (λ b. insn_uses i reg || b) uses ∙
+      or_true (insn_uses i reg)
 
   return_at : (s : State) (t : Running) (place : ℕ) (i : Insn) (insns : List Insn) (line : Line) (more : List CodeItem) → Related s t →
       rtl_step.place_from f.insns s.next ≡ place → drop place f.insns ≡ i ∷ insns → LiveAgree place s.regs t.machine → i.kind ≡ kind.Jump →
@@ -239,10 +260,12 @@ module _ (number : ℕ) (f : Function) (marks : MarksAreEmpty f) (ending items :
       let there = get_dropped f.insns place i insns chain in
       returns_by s t line more (rtl_step.has_result f.result s.regs) refl related
       (λ reg uses small. agree reg (live.AtUse place i there (returns_use i reg return uses)) small) next returns
-      (step_insn s place i kind.Jump passed there jump ∙ ap (rtl_step.after_jump f s place) (leaves i world.symbols s.regs s.memory return)) good
+      (step_insn s place i kind.Jump passed there jump ∙
+          ap (rtl_step.after_jump f s place) (leaves i world.symbols s.regs s.memory return)) good
 
   insn_at : (s : State) (t : Running) (place : ℕ) (i : Insn) (insns : List Insn) (own more : List CodeItem) → Related s t →
-      rtl_step.place_from f.insns s.next ≡ place → Path f.insns 0 place → drop place f.insns ≡ i ∷ insns → LiveAgree place s.regs t.machine →
+      rtl_step.place_from f.insns s.next ≡ place → Path f.insns 0 place → drop place f.insns ≡ i ∷ insns →
+          LiveAgree place s.regs t.machine →
       rtl_step.is_mark i.kind ≡ false → AreItemsAt number f place i own → AreItemsFrom number f ending (place + 1) insns more →
       next_line t.rest ≡ next_line (own ++ more) → EndsGood s → Simulates s t
   insn_at s t place i insns _ more related passed path chain agree none (items_of.label label small) rest_are next good =
@@ -250,7 +273,8 @@ module _ (number : ℕ) (f : Function) (marks : MarksAreEmpty f) (ending items :
   insn_at s t place i insns _ more related passed path chain agree none (items_of.barrier barrier) rest_are next good =
       absurd (let no : true ≡ false = sym (ap rtl_step.is_mark barrier) ∙ none in let nothing : ⊥ = cc in nothing)
   insn_at s t place i insns _ more related passed path chain agree none (items_of.quiet plain quiet) rest_are next good =
-      quiet_at s t place i insns more (effects_of world.symbols s.regs s.memory i.pattern) refl related passed path chain agree plain quiet rest_are next good
+      quiet_at s t place i insns more
+          (effects_of world.symbols s.regs s.memory i.pattern) refl related passed path chain agree plain quiet rest_are next good
   insn_at s t place i insns _ more related passed path chain agree none (items_of.returning line jump return returns) rest_are next good =
       return_at s t place i insns line more related passed chain agree jump return returns next good
   insn_at s t place i insns _ more related passed path chain agree none (items_of.window ls lines_are) rest_are next good =
@@ -265,7 +289,8 @@ module _ (number : ℕ) (f : Function) (marks : MarksAreEmpty f) (ending items :
         next = next;
       }) good i.kind refl
 
-  end_at : (s : State) (t : Running) (place : ℕ) (ending' : List CodeItem) → ending ≡ ending' → IsEnding (ReachesExit f.insns) ending' → Related s t →
+  end_at : (s : State) (t : Running) (place : ℕ) (ending' : List CodeItem) → ending ≡ ending' → IsEnding (ReachesExit f.insns) ending' →
+      Related s t →
       rtl_step.place_from f.insns s.next ≡ place → place ≤ length f.insns → Path f.insns 0 place → drop place f.insns ≡ [] →
       LiveAgree place s.regs t.machine → next_line t.rest ≡ next_line ending → EndsGood s → Simulates s t
   end_at s t place _ is (direct.returning line returns) related passed within path chain agree next good =

@@ -35,7 +35,8 @@ calls_not kind.Call other = absurd (other refl)
 calls_not kind.Label other = refl
 calls_not kind.Barrier other = refl
 
-module _ (number : ℕ) (f : Function) (for_lines : IsForLines f) (calls_nothing : CallsNothing f) (ending items : List CodeItem) (start : Start)
+module _ (number : ℕ) (f : Function) (for_lines : IsForLines f) (calls_nothing : CallsNothing f) (ending items : List CodeItem)
+    (start : Start)
     (world : World) where
   -- they hold what they held at entry
   abbrev AreKept : Regs → RvState → Type 0
@@ -44,7 +45,8 @@ module _ (number : ℕ) (f : Function) (for_lines : IsForLines f) (calls_nothing
   abbrev IsDefined : Outcome → Type 0
   IsDefined outcome = outcome ≢ rtl.Undefined
 
-  defines_none : (place reg : ℕ) (i : Insn) → slice_get f.insns place ≡ Some i → has_reg kept_registers reg ≡ true → window_defines (i ∷ []) reg ≡ false
+  defines_none : (place reg : ℕ) (i : Insn) → slice_get f.insns place ≡ Some i → has_reg kept_registers reg ≡ true →
+      window_defines (i ∷ []) reg ≡ false
   defines_none place reg i there kept =
       ap (λ b. (b || (is_call_kind i.kind && is_call_used reg)) || false) (for_lines.leaves place reg i there kept) ∙
       ap (λ b. (b && is_call_used reg) || false) (calls_not i.kind (calls_nothing place i there))
@@ -53,7 +55,8 @@ module _ (number : ℕ) (f : Function) (for_lines : IsForLines f) (calls_nothing
   keeping = record {
     defined = λ good. good refl;
     does = λ place i ls regs memory m came there comes stays does keeps reg kept.
-        lines_keep number (i ∷ []) ls (IsLiveBehind f place) world start.visible m came does reg kept (defines_none place reg i there kept) ∙ keeps reg kept;
+        lines_keep number (i ∷ []) ls (IsLiveBehind f place) world start.visible m came does reg kept
+            (defines_none place reg i there kept) ∙ keeps reg kept;
     quiet = λ place i regs memory m effects there plain quiet are keeps. keeps;
     replied = λ place i ls regs memory m came event w reply there call comes ends does keeps. absurd (calls_nothing place i there call);
     returns = λ s m is_machine keeps used good. (keeps 1 refl, saved_same m.regs (lines.entry_regs start) keeps);
@@ -63,6 +66,7 @@ module _ (number : ℕ) (f : Function) (for_lines : IsForLines f) (calls_nothing
 pub items_are_same : (number least : ℕ) (f : Function) (items : List CodeItem) → IsForLines f → CallsNothing f → AreItems number f items →
     Same least f items
 items_are_same number least f items for_lines calls_nothing are = λ frame start world n enough lawful lawful_world defined.
-    follows number f for_lines.marks are.ending items frame start world (AreKept number f for_lines calls_nothing are.ending items start world)
+    follows number f for_lines.marks are.ending items frame start world
+        (AreKept number f for_lines calls_nothing are.ending items start world)
     (IsDefined number f for_lines calls_nothing are.ending items start world) are.are are.ends lawful lawful_world
     (keeping number f for_lines calls_nothing are.ending items start world) (λ reg kept. refl) n defined

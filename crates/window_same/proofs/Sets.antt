@@ -45,7 +45,8 @@ known_with : (regs : Regs) (t reg : ℕ) (k : Known) (w : Width) → (t ≡ reg 
 known_with regs zero reg k w other = refl
 known_with regs (suc t) zero k w other = refl
 known_with regs (suc t) (suc reg) k w other = ap (option_and_then (known_in w))
-    (get-insert nat_cmp_total regs (suc t) k (suc reg) ∙ ap (λ b. if b then Some k else get regs (suc reg)) (is_other (suc reg) (suc t) other))
+    (get-insert nat_cmp_total regs (suc t) k (suc reg) ∙
+        ap (λ b. if b then Some k else get regs (suc reg)) (is_other (suc reg) (suc t) other))
 
 module _ (symbols : List SymbolAt) (regs : Regs) (memory : List MemByte) where
   -- what an effect leaves known of a register
@@ -59,13 +60,16 @@ module _ (symbols : List SymbolAt) (regs : Regs) (memory : List MemByte) where
   sets_other place reg t named is some none same =
       let yes : place_is reg place ≡ true = named reg (is ∙ ap Some same) some in let no : true ≡ false = sym yes ∙ none in cc
 
-  set_by : (place : Rtx) (reg : ℕ) (target value : Option ℕ) (w : Width) (e : Effect) → register_of place ≡ target → IsNamed place → 0 < reg →
-      place_is reg place ≡ false → of_two (λ t value. Some (Sets t (known_of w value))) target value ≡ Some e → Keeps reg (place_is reg place) e
+  set_by : (place : Rtx) (reg : ℕ) (target value : Option ℕ) (w : Width) (e : Effect) → register_of place ≡ target → IsNamed place →
+      0 < reg →
+      place_is reg place ≡ false → of_two (λ t value. Some (Sets t (known_of w value))) target value ≡ Some e →
+          Keeps reg (place_is reg place) e
   set_by place reg None value w e target_is named some none is = absurd (let no : ⊥ = cc in no)
   set_by place reg (Some t) None w e target_is named some none is = absurd (let no : ⊥ = cc in no)
   set_by place reg (Some t) (Some value) w e target_is named some none is = let here : Sets t (known_of w value) ≡ e = cc in
       subst (Keeps reg (place_is reg place)) here
-      (λ before w' v known. (none, sym (known_with before t reg (known_of w value) w' (sets_other place reg t named target_is some none)) ∙ known))
+      (λ before w' v known. (none, sym (known_with before t reg (known_of w value) w'
+          (sets_other place reg t named target_is some none)) ∙ known))
 
   stored_by : (place : Rtx) (reg : ℕ) (b : Bool) (w : Width) (at value : ℕ) (e : Effect) → place_is reg place ≡ false →
       (if b then Some (Stores w at value) else None) ≡ Some e → Keeps reg (place_is reg place) e
@@ -74,12 +78,14 @@ module _ (symbols : List SymbolAt) (regs : Regs) (memory : List MemByte) where
   stored_by place reg false w at value e none is = absurd (let no : ⊥ = cc in no)
 
   stores_by : (place : Rtx) (reg : ℕ) (at value : Option ℕ) (w : Width) (e : Effect) → place_is reg place ≡ false →
-      of_two (λ at value. if is_some (load w memory at) then Some (Stores w at value) else None) at value ≡ Some e → Keeps reg (place_is reg place) e
+      of_two (λ at value. if is_some (load w memory at) then Some (Stores w at value) else None) at value ≡ Some e →
+          Keeps reg (place_is reg place) e
   stores_by place reg None value w e none is = absurd (let no : ⊥ = cc in no)
   stores_by place reg (Some at) None w e none is = absurd (let no : ⊥ = cc in no)
   stores_by place reg (Some at) (Some value) w e none is = stored_by place reg (is_some (load w memory at)) w at value e none is
 
-  set_in : (place source : Rtx) (reg : ℕ) (address : Option Rtx) (w : Width) (e : Effect) → IsNamed place → 0 < reg → place_is reg place ≡ false →
+  set_in : (place source : Rtx) (reg : ℕ) (address : Option Rtx) (w : Width) (e : Effect) → IsNamed place → 0 < reg →
+      place_is reg place ≡ false →
       step.set_place address symbols regs memory place source w ≡ Some e → Keeps reg (place_is reg place) e
   set_in place source reg None w e named some none is =
       set_by place reg (register_of place) (value_of symbols regs memory source w) w e refl named some none is
@@ -93,13 +99,16 @@ module _ (symbols : List SymbolAt) (regs : Regs) (memory : List MemByte) where
 
   -- ---- one effect
 
-  quiet_keeps : (code : Code) (kids : List Rtx) (reg : ℕ) (e : Effect) → Leaves symbols regs memory (λ reg. effect_defines_by reg code kids) e →
+  quiet_keeps : (code : Code) (kids : List Rtx) (reg : ℕ) (e : Effect) →
+      Leaves symbols regs memory (λ reg. effect_defines_by reg code kids) e →
       Keeps reg (effect_defines_by reg code kids) e
   quiet_keeps code kids reg e leaves = λ before w v known. leaves.known before reg w v known
 
-  part_by : (code : Code) (kids : List Rtx) (reg : ℕ) (e : Effect) → step.effect_by code kids symbols regs memory ≡ Some e → IsSetNamed code kids →
+  part_by : (code : Code) (kids : List Rtx) (reg : ℕ) (e : Effect) → step.effect_by code kids symbols regs memory ≡ Some e →
+      IsSetNamed code kids →
       0 < reg → effect_sets_by reg code kids ≡ false → Keeps reg (effect_defines_by reg code kids) e
-  part_by Set (place ∷ source ∷ []) reg e is named some none = set_keeps place source reg (width_of (out-Rtx place).mode) e named some none is
+  part_by Set (place ∷ source ∷ []) reg e is named some none = set_keeps place source reg (width_of
+      (out-Rtx place).mode) e named some none is
   part_by Use kids reg e is named some none = quiet_keeps Use kids reg e (quiet_by symbols regs memory Use kids e refl is)
   part_by Clobber kids reg e is named some none = quiet_keeps Clobber kids reg e (quiet_by symbols regs memory Clobber kids e refl is)
   part_by _ kids reg e is named some none = absurd (let no : ⊥ = cc in no)
@@ -128,7 +137,8 @@ module _ (symbols : List SymbolAt) (regs : Regs) (memory : List MemByte) where
 
   all_by : (x : Rtx) (xs : List Rtx) (es : List Effect) (reg : ℕ) (e : Option Effect) (rest : Option (List Effect)) →
       step.effect_of symbols regs memory x ≡ e → step.all_effects symbols regs memory xs ≡ rest →
-      option_and_then (λ e. option_map (λ es. e ∷ es) rest) e ≡ Some es → ((e : Effect) → step.effect_of symbols regs memory x ≡ Some e → Keeps reg (effect_defines reg x) e) →
+      option_and_then (λ e. option_map (λ es. e ∷ es) rest) e ≡ Some es →
+          ((e : Effect) → step.effect_of symbols regs memory x ≡ Some e → Keeps reg (effect_defines reg x) e) →
       ((es : List Effect) → step.all_effects symbols regs memory xs ≡ Some es → AllKeep xs es reg) → AllKeep (x ∷ xs) es reg
   all_by x xs es reg None rest e_is rest_is is first later = absurd (let no : ⊥ = cc in no)
   all_by x xs es reg (Some e) None e_is rest_is is first later = absurd (let no : ⊥ = cc in no)
@@ -158,7 +168,8 @@ module _ (symbols : List SymbolAt) (regs : Regs) (memory : List MemByte) where
   same_effects _ kids x is = one_is_all x (step.effect_of symbols regs memory x) refl
 
   -- of a register that no `set` sets
-  pub plain_keeps : (x : Rtx) (es : List Effect) (reg : ℕ) → step.effects_of symbols regs memory x ≡ Some es → Named (effects_of x) → 0 < reg →
+  pub plain_keeps : (x : Rtx) (es : List Effect) (reg : ℕ) → step.effects_of symbols regs memory x ≡ Some es → Named (effects_of x) →
+      0 < reg →
       list_any (effect_sets reg) (effects_of x) ≡ false → (w : Width) (v : ℕ) → reg_value (regs_after es regs) reg w ≡ Some v →
       (pattern_defines reg x ≡ false) × (reg_value regs reg w ≡ Some v)
   plain_keeps x es reg is named some none w v known =
@@ -177,7 +188,8 @@ module _ (symbols : List SymbolAt) (regs : Regs) (memory : List MemByte) where
   alone_defines : (x : Rtx) (reg : ℕ) → IsAlone reg (out-Rtx x).code (out-Rtx x).kids → pattern_defines reg x ≡ false
   alone_defines x reg alone = ap (all_define reg) (alone.0 x) ∙ or_none (effect_defines reg x) ∙ alone.1
 
-  pc_by : (code : Code) (kids : List Rtx) (place : Rtx) (reg : ℕ) → (out-Rtx place).code ≡ code → is_pc_code code ≡ true → place_is_by reg code kids place ≡ false
+  pc_by : (code : Code) (kids : List Rtx) (place : Rtx) (reg : ℕ) → (out-Rtx place).code ≡ code → is_pc_code code ≡ true →
+      place_is_by reg code kids place ≡ false
   pc_by Pc kids place reg is pc = no_register symbols regs memory reg Pc place is (λ number. refl)
   pc_by _ kids place reg is pc = absurd (let no : ⊥ = cc in no)
 
@@ -208,19 +220,23 @@ module _ (symbols : List SymbolAt) (regs : Regs) (memory : List MemByte) where
   set_call true place source x address reg result other is target =
       (λ x. refl, result_by (out-Rtx place).code (out-Rtx place).kids place reg refl other result)
   set_call false place source x address reg result other is target =
-      absurd (let none : ◌≡◌ {A = Option Rtx} None (Some address) = sym (ap (λ c. target_by c (out-Rtx x).kids) is) ∙ target in let no : ⊥ = cc in no)
+      absurd (let none : ◌≡◌ {A = Option Rtx} None (Some address) = sym (ap (λ c. target_by c (out-Rtx x).kids) is) ∙
+          target in let no : ⊥ = cc in no)
 
   call_alone : (code : Code) (kids : List Rtx) (x address : Rtx) (reg : ℕ) → (out-Rtx x).code ≡ code → (reg ≡ 10 → ⊥) →
       target_of (call_by code kids x) ≡ Some address → IsAlone reg code kids
   call_alone Call kids x address reg is other target = (λ x. refl, refl)
-  call_alone Set (place ∷ source ∷ []) x address reg is other target = set_call (is_result place) place source x address reg refl other is target
+  call_alone Set (place ∷ source ∷ []) x address reg is other target =
+      set_call (is_result place) place source x address reg refl other is target
   call_alone _ kids x address reg is other target =
-      absurd (let none : ◌≡◌ {A = Option Rtx} None (Some address) = sym (ap (λ c. target_by c (out-Rtx x).kids) is) ∙ target in let no : ⊥ = cc in no)
+      absurd (let none : ◌≡◌ {A = Option Rtx} None (Some address) = sym (ap (λ c. target_by c (out-Rtx x).kids) is) ∙
+          target in let no : ⊥ = cc in no)
 
   call_by_target : (x : Rtx) (reg : ℕ) (target : Option Rtx) (args : Option (List ArgValue)) (ranges : List RangeAt) (event : CallEvent) →
       target_of (call_part x) ≡ target → (reg ≡ 10 → ⊥) →
       of_two (λ target args. Some (record { target = target; args = args; memory = visible ranges memory }))
-      (option_and_then (λ target. option_and_then aligned_target (value_of symbols regs memory target W64)) target) args ≡ Some event → pattern_defines reg x ≡ false
+      (option_and_then (λ target. option_and_then aligned_target (value_of symbols regs memory target W64)) target) args ≡ Some event →
+          pattern_defines reg x ≡ false
   call_by_target x reg None args ranges event target_is other is = absurd (let no : ⊥ = cc in no)
   call_by_target x reg (Some address) args ranges event target_is other is =
       alone_defines x reg (call_alone (out-Rtx x).code (out-Rtx x).kids x address reg refl other target_is)
@@ -228,4 +244,5 @@ module _ (symbols : List SymbolAt) (regs : Regs) (memory : List MemByte) where
   -- a call defines none but a0
   pub call_defines : (x : Rtx) (uses : List ArgUse) (ranges : List RangeAt) (reg : ℕ) (event : CallEvent) →
       event_of symbols regs memory ranges x uses ≡ Some event → (reg ≡ 10 → ⊥) → pattern_defines reg x ≡ false
-  call_defines x uses ranges reg event is other = call_by_target x reg (target_of (call_part x)) (args_of regs uses) ranges event refl other is
+  call_defines x uses ranges reg event is other = call_by_target x reg (target_of (call_part x))
+      (args_of regs uses) ranges event refl other is

@@ -66,7 +66,8 @@ use Rattle.window_same.proofs.Turns.{turned_as, at, Any, stopped, one, Passes}
 
 -- ---- ends of windows
 
-end_falls : (number : ℕ) (ranges : List RangeAt) (m : RvState) (e : InsnsEnd) (e' : LinesEnd) → SameEnd number ranges m e e' → e ≡ insn_end.Falls → e' ≡ window.Falls
+end_falls : (number : ℕ) (ranges : List RangeAt) (m : RvState) (e : InsnsEnd) (e' : LinesEnd) → SameEnd number ranges m e e' →
+    e ≡ insn_end.Falls → e' ≡ window.Falls
 end_falls number ranges m _ _ same.falls is = refl
 end_falls number ranges m _ _ (same.goes uid small) is = absurd (let no : ⊥ = cc in no)
 end_falls number ranges m _ _ (same.calls event w target one) is = absurd (let no : ⊥ = cc in no)
@@ -90,7 +91,8 @@ end_calls number ranges m _ _ event w (same.goes uid small) is = absurd (let no 
 end_calls number ranges m _ _ event w (same.calls event' w' target one) is = let here : event' ≡ event = cc in
     record { target = target; same_call = subst (λ e. SameCall e (call_of ranges target m)) here one; is = refl }
 
-pub end_returns : (number : ℕ) (ranges : List RangeAt) (m : RvState) (e : InsnsEnd) (e' : LinesEnd) → SameEnd number ranges m e e' → e ≡ insn_end.Returns → ⊥
+pub end_returns : (number : ℕ) (ranges : List RangeAt) (m : RvState) (e : InsnsEnd) (e' : LinesEnd) → SameEnd number ranges m e e' →
+    e ≡ insn_end.Returns → ⊥
 end_returns number ranges m _ _ same.falls is = cc
 end_returns number ranges m _ _ (same.goes uid small) is = cc
 end_returns number ranges m _ _ (same.calls event w target one) is = cc
@@ -116,7 +118,8 @@ hard_by reg false is none = grind (arith, nat_tests, is)
 
 -- a register that is used is hard
 hard_is : (reg : ℕ) (b : Bool) → (31 < reg → b ≡ false) → b ≡ true → reg < 32
-hard_is reg b hard uses = hard_by reg (nat_lt 31 reg) refl (λ above. let no : true ≡ false = sym uses ∙ hard above in let none : ⊥ = cc in none)
+hard_is reg b hard uses = hard_by reg (nat_lt 31 reg) refl (λ above. let no : true ≡ false = sym uses ∙
+    hard above in let none : ⊥ = cc in none)
 
 -- ---- the run of a function and that of its items
 
@@ -152,7 +155,8 @@ module _ (number : ℕ) (f : Function) (marks : MarksAreEmpty f) (ending items :
         insns_come world.symbols start.visible (i ∷ []) regs memory ≡ Some came → came.ending ≡ insn_end.Calls event w →
         (does : LinesDo number (i ∷ []) ls (IsLiveBehind f place) world start.visible m came) → Keeps regs m →
         Keeps (regs_replied came.regs w reply.value) (after_call reply does.done.machine)
-    pub returns : (s : State) (m : RvState) → IsMachine m → Keeps s.regs m → ((reg : ℕ) → return_uses f reg ≡ true → reg < 32 → Agrees s.regs m.regs reg) →
+    pub returns : (s : State) (m : RvState) → IsMachine m → Keeps s.regs m →
+        ((reg : ℕ) → return_uses f reg ≡ true → reg < 32 → Agrees s.regs m.regs reg) →
         Good (func.returned f s) → (register m.regs 1 ≡ Some start.ra) × (lines.saved_of m.regs ≡ at_entry start)
 
   abbrev pub turn : Running → machine.Turned Running CodeOutcome
@@ -186,7 +190,8 @@ module _ (number : ℕ) (f : Function) (marks : MarksAreEmpty f) (ending items :
         rtl_step.step world f s ≡ rtl_step.act_at (slice_get f.insns place) world f place s
     step_at s place is = ap (λ p. rtl_step.act_at (slice_get f.insns p) world f p s) is
 
-    pub step_insn : (s : State) (place : ℕ) (i : Insn) (k : Kind) → rtl_step.place_from f.insns s.next ≡ place → slice_get f.insns place ≡ Some i →
+    pub step_insn : (s : State) (place : ℕ) (i : Insn) (k : Kind) → rtl_step.place_from f.insns s.next ≡ place →
+        slice_get f.insns place ≡ Some i →
         i.kind ≡ k → rtl_step.step world f s ≡ rtl_step.act k world f i place s
     step_insn s place i k passed there kind_is =
         step_at s place passed ∙ ap (λ o. rtl_step.act_at o world f place s) there ∙ ap (λ k. rtl_step.act k world f i place s) kind_is
@@ -198,7 +203,8 @@ module _ (number : ℕ) (f : Function) (marks : MarksAreEmpty f) (ending items :
     -- ---- the lines of an instruction
 
     -- where a state stands: its place past labels and barriers, the instruction there and its lines
-    pub record Window (s : State) (t : Running) (place : ℕ) (i : Insn) (insns : List Insn) (ls : List Line) (more : List CodeItem) : Type 0 where
+    pub record Window (s : State) (t : Running) (place : ℕ) (i : Insn) (insns : List Insn) (ls : List Line)
+        (more : List CodeItem) : Type 0 where
       pub related : Related s t
       pub passed : rtl_step.place_from f.insns s.next ≡ place
       pub path : Path f.insns 0 place
@@ -213,9 +219,11 @@ module _ (number : ℕ) (f : Function) (marks : MarksAreEmpty f) (ending items :
     starts s t place i insns ls more w = record {
       symbols = lawful.symbols;
       beside = w.related.beside;
-      used = λ reg uses. w.agree reg (live.AtUse place i there (or_left (insn_uses i reg) _ (used_by (insn_uses i reg) (insn_defines i reg) uses)))
+      used = λ reg uses. w.agree reg (live.AtUse place i there (or_left (insn_uses i reg) _ (used_by (insn_uses i reg)
+          (insn_defines i reg) uses)))
           (hard_is reg (window_uses (i ∷ []) reg) (w.lines_are.hard reg) uses);
-      passed = λ reg lives none. w.agree reg (live.Passing place lives.0.0 i there (sym (or_none (insn_defines i reg)) ∙ none) lives.0.1 lives.0.2) lives.1;
+      passed = λ reg lives none. w.agree reg (live.Passing place lives.0.0 i there (sym (or_none (insn_defines i reg)) ∙
+          none) lives.0.1 lives.0.2) lives.1;
     }
       where
         there : slice_get f.insns place ≡ Some i
@@ -235,7 +243,8 @@ module _ (number : ℕ) (f : Function) (marks : MarksAreEmpty f) (ending items :
       after = does.done.machine
 
       passes : Passes world start.visible items t.replies t.calls t.rest t.machine more after does.done.ending
-      passes = turns.alike world start.visible items t.replies t.calls (map Code ls ++ more) t.rest t.machine more after does.done.ending w.next
+      passes = turns.alike world start.visible items t.replies t.calls
+          (map Code ls ++ more) t.rest t.machine more after does.done.ending w.next
           (turns.passes world start.visible items t.replies t.calls ls more t.machine does.done w.lines_are.last does.comes)
 
       keeps : ((reg : ℕ) → IsKept came.ending reg) → Keeps came.regs after
@@ -262,18 +271,21 @@ module _ (number : ℕ) (f : Function) (marks : MarksAreEmpty f) (ending items :
         keeps = keeps kept;
       }
 
-      at_next : (rest : List CodeItem) → leads f.insns place (place + 1) ≡ true → next_line rest ≡ next_line more → At number f marks ending (place + 1) rest
+      at_next : (rest : List CodeItem) → leads f.insns place (place + 1) ≡ true → next_line rest ≡ next_line more →
+          At number f marks ending (place + 1) rest
       at_next rest leads_there next = let inside = within_dropped f.insns place i insns w.chain in record {
         within = omega (arith, inside);
         path = further f.insns 0 place (place + 1) w.path leads_there;
         there = more;
-        are = subst (λ insns. AreItemsFrom number f ending (place + 1) insns more) (sym (drop_next f.insns place i insns w.chain)) w.rest_are;
+        are = subst (λ insns. AreItemsFrom number f ending (place + 1) insns more) (sym
+            (drop_next f.insns place i insns w.chain)) w.rest_are;
         same = next;
       }
 
       -- it falls through
       falls_by : (e : LinesEnd) → e ≡ window.Falls → Passes world start.visible items t.replies t.calls t.rest t.machine more after e →
-          came.ending ≡ insn_end.Falls → rtl_step.step world f s ≡ (rtl_ends.Next, behind (place + 1)) → leads f.insns place (place + 1) ≡ true → Simulates s t
+          came.ending ≡ insn_end.Falls → rtl_step.step world f s ≡ (rtl_ends.Next, behind (place + 1)) →
+              leads f.insns place (place + 1) ≡ true → Simulates s t
       falls_by _ is (turns.falls k rest next led) ends stepped leads_there =
           machine.goes_on rtl_ends.Next (behind (place + 1)) k (at rest after t.replies t.calls) stepped refl led (omega arith)
           (related_behind (place + 1) rest (at_next rest leads_there next) leads_there (λ reg. subst (λ e. IsKept e reg) (sym ends) tt))
@@ -281,8 +293,10 @@ module _ (number : ℕ) (f : Function) (marks : MarksAreEmpty f) (ending items :
       falls_by _ is (turns.calls k rest m' target led end) ends stepped leads_there = absurd (let no : ⊥ = cc in no)
       falls_by _ is turns.returns ends stepped leads_there = absurd (let no : ⊥ = cc in no)
 
-      pub falls_on : came.ending ≡ insn_end.Falls → rtl_step.step world f s ≡ (rtl_ends.Next, behind (place + 1)) → leads f.insns place (place + 1) ≡ true → Simulates s t
-      falls_on ends = falls_by does.done.ending (end_falls number start.visible after came.ending does.done.ending does.same_end ends) passes ends
+      pub falls_on : came.ending ≡ insn_end.Falls → rtl_step.step world f s ≡ (rtl_ends.Next, behind (place + 1)) →
+          leads f.insns place (place + 1) ≡ true → Simulates s t
+      falls_on ends = falls_by does.done.ending
+          (end_falls number start.visible after came.ending does.done.ending does.same_end ends) passes ends
 
       -- it goes to a label
       at_label : (uid q : ℕ) → IsUid uid → place_of uid f.insns ≡ Some q → leads f.insns place q ≡ true →
@@ -302,22 +316,27 @@ module _ (number : ℕ) (f : Function) (marks : MarksAreEmpty f) (ending items :
             },
           )
 
-      goes_by : (uid q : ℕ) (e : LinesEnd) → e ≡ window.Goes (label_text number uid) → Passes world start.visible items t.replies t.calls t.rest t.machine more after e →
-          came.ending ≡ insn_end.Goes uid → IsUid uid → place_of uid f.insns ≡ Some q → rtl_step.step world f s ≡ (rtl_ends.Jumped, behind q) →
+      goes_by : (uid q : ℕ) (e : LinesEnd) → e ≡ window.Goes (label_text number uid) →
+          Passes world start.visible items t.replies t.calls t.rest t.machine more after e →
+          came.ending ≡ insn_end.Goes uid → IsUid uid → place_of uid f.insns ≡ Some q →
+              rtl_step.step world f s ≡ (rtl_ends.Jumped, behind q) →
           leads f.insns place q ≡ true → Simulates s t
       goes_by uid q _ is (turns.falls k rest next led) ends small at_q stepped leads_there = absurd (let no : ⊥ = cc in no)
       goes_by uid q _ is (turns.goes k rest m' target led end) ends small at_q stepped leads_there =
           let label = at_label uid q small at_q leads_there in
           let same : target ≡ label_text number uid = cc in
           let last : turn (at rest m' t.replies t.calls) ≡ machine.Goes (at label.0 after t.replies t.calls) =
-          end ∙ ap (λ o. turned_as (lines.jumped o (at [] after t.replies t.calls))) (ap (λ target. behind_label target items) same ∙ label.1) in
+          end ∙ ap (λ o. turned_as (lines.jumped o (at [] after t.replies t.calls))) (ap (λ target. behind_label target items) same ∙
+              label.1) in
           machine.goes_on rtl_ends.Jumped (behind q) (added k 1) (at label.0 after t.replies t.calls) stepped refl
-          (then_one k t (at rest m' t.replies t.calls) (at label.0 after t.replies t.calls) led last) (one_at_least k t (at rest m' t.replies t.calls) led)
+          (then_one k t (at rest m' t.replies t.calls) (at label.0 after t.replies t.calls) led last) (one_at_least k t
+              (at rest m' t.replies t.calls) led)
           (related_behind q label.0 label.2 leads_there (λ reg. subst (λ e. IsKept e reg) (sym ends) tt))
       goes_by uid q _ is (turns.calls k rest m' target led end) ends small at_q stepped leads_there = absurd (let no : ⊥ = cc in no)
       goes_by uid q _ is turns.returns ends small at_q stepped leads_there = absurd (let no : ⊥ = cc in no)
 
-      pub goes_on : (uid q : ℕ) → came.ending ≡ insn_end.Goes uid → place_of uid f.insns ≡ Some q → rtl_step.step world f s ≡ (rtl_ends.Jumped, behind q) →
+      pub goes_on : (uid q : ℕ) → came.ending ≡ insn_end.Goes uid → place_of uid f.insns ≡ Some q →
+          rtl_step.step world f s ≡ (rtl_ends.Jumped, behind q) →
           leads f.insns place q ≡ true → Simulates s t
       goes_on uid q ends = let is = end_goes number start.visible after came.ending does.done.ending uid does.same_end ends in
           goes_by uid q does.done.ending is.1 passes ends is.0
@@ -331,8 +350,10 @@ module _ (number : ℕ) (f : Function) (marks : MarksAreEmpty f) (ending items :
         calls = s.calls ++ event ∷ [];
       }
 
-      related_called : (event : CallEvent) (w' : Width) (target : ℕ) (reply : Reply) (left : List Reply) → came.ending ≡ insn_end.Calls event w' →
-          SameCall event (call_of start.visible target after) → t.replies ≡ reply ∷ left → i.kind ≡ kind.Call → leads f.insns place (place + 1) ≡ true →
+      related_called : (event : CallEvent) (w' : Width) (target : ℕ) (reply : Reply) (left : List Reply) →
+          came.ending ≡ insn_end.Calls event w' →
+          SameCall event (call_of start.visible target after) → t.replies ≡ reply ∷ left → i.kind ≡ kind.Call →
+              leads f.insns place (place + 1) ≡ true →
           Related (called event w' reply) (at more (after_call reply after) left (t.calls ++ call_of start.visible target after ∷ []))
       related_called event w' target reply left ends same replies_are is_call leads_there =
           let gone : drop (length s.calls) world.replies ≡ reply ∷ left = sym w.related.replies_are ∙ replies_are in
@@ -350,16 +371,19 @@ module _ (number : ℕ) (f : Function) (marks : MarksAreEmpty f) (ending items :
           }
 
       -- by the replies that are left
-      answered : (event : CallEvent) (w' : Width) (target k : ℕ) (rest' : List CodeItem) (m' : RvState) (left : List Reply) → t.replies ≡ left →
+      answered : (event : CallEvent) (w' : Width) (target k : ℕ) (rest' : List CodeItem) (m' : RvState) (left : List Reply) →
+          t.replies ≡ left →
           came.ending ≡ insn_end.Calls event w' → SameCall event (call_of start.visible target after) → i.kind ≡ kind.Call →
           leads f.insns place (place + 1) ≡ true →
           rtl_step.step world f s ≡ rtl_step.after_reply (behind s.next) place w' event (rtl_step.next_reply world s) →
           turns.Moves world start.visible items k t (at rest' m' t.replies t.calls) →
-          turn (at rest' m' t.replies t.calls) ≡ turned_as (lines.called start.visible target more (at [] after t.replies t.calls)) → Simulates s t
+          turn (at rest' m' t.replies t.calls) ≡ turned_as (lines.called start.visible target more (at [] after t.replies t.calls)) →
+              Simulates s t
       answered event w' target k rest' m' [] none ends same is_call leads_there stepped led end =
           let gone : drop (length s.calls) world.replies ≡ [] = sym w.related.replies_are ∙ none in
           let made : List CodeCall = t.calls ++ call_of start.visible target after ∷ [] in
-          machine.ends_there rtl_ends.Asked (record (behind s.next) { calls = s.calls ++ event ∷ [] }) k (at rest' m' t.replies t.calls) (code.Asked made)
+          machine.ends_there rtl_ends.Asked (record (behind s.next) { calls = s.calls ++ event ∷ [] }) k (at rest' m' t.replies t.calls)
+              (code.Asked made)
           (stepped ∙ ap (rtl_step.after_reply (behind s.next) place w' event) (get_past world.replies (length s.calls) gone)) refl led tt
           (end ∙ ap (λ left. turned_as (lines.replied left more (at [] after left made))) none)
           (one_at_least k t (at rest' m' t.replies t.calls) led)
@@ -369,20 +393,26 @@ module _ (number : ℕ) (f : Function) (marks : MarksAreEmpty f) (ending items :
           let made : List CodeCall = t.calls ++ call_of start.visible target after ∷ [] in
           let t'' : Running = at more (after_call reply after) left made in
           machine.goes_on rtl_ends.Called (called event w' reply) (added k 1) t''
-          (stepped ∙ ap (rtl_step.after_reply (behind s.next) place w' event) (get_dropped world.replies (length s.calls) reply left gone)) refl
-          (then_one k t (at rest' m' t.replies t.calls) t'' led (end ∙ ap (λ left. turned_as (lines.replied left more (at [] after left made))) some))
+          (stepped ∙ ap (rtl_step.after_reply (behind s.next) place w' event) (get_dropped world.replies
+              (length s.calls) reply left gone)) refl
+          (then_one k t (at rest' m' t.replies t.calls) t'' led (end ∙
+              ap (λ left. turned_as (lines.replied left more (at [] after left made))) some))
           (one_at_least k t (at rest' m' t.replies t.calls) led)
           (related_called event w' target reply left ends same some is_call leads_there)
 
       calls_by : (event : CallEvent) (w' : Width) (e : LinesEnd) (call : CallEnd start.visible after event e) →
-          Passes world start.visible items t.replies t.calls t.rest t.machine more after e → came.ending ≡ insn_end.Calls event w' → i.kind ≡ kind.Call →
+          Passes world start.visible items t.replies t.calls t.rest t.machine more after e → came.ending ≡ insn_end.Calls event w' →
+              i.kind ≡ kind.Call →
           leads f.insns place (place + 1) ≡ true →
           rtl_step.step world f s ≡ rtl_step.after_reply (behind s.next) place w' event (rtl_step.next_reply world s) → Simulates s t
-      calls_by event w' _ call (turns.falls k rest next led) ends is_call leads_there stepped = let is = call.is in absurd (let no : ⊥ = cc in no)
-      calls_by event w' _ call (turns.goes k rest m' target led end) ends is_call leads_there stepped = let is = call.is in absurd (let no : ⊥ = cc in no)
+      calls_by event w' _ call (turns.falls k rest next led) ends is_call leads_there stepped = let is = call.is in
+          absurd (let no : ⊥ = cc in no)
+      calls_by event w' _ call (turns.goes k rest m' target led end) ends is_call leads_there stepped = let is = call.is in
+          absurd (let no : ⊥ = cc in no)
       calls_by event w' _ call (turns.calls k rest m' target led end) ends is_call leads_there stepped =
           let is = call.is in let same : call.target ≡ target = cc in
-          answered event w' target k rest m' t.replies refl ends (subst (λ x. SameCall event (call_of start.visible x after)) same call.same_call)
+          answered event w' target k rest m' t.replies refl ends (subst
+              (λ x. SameCall event (call_of start.visible x after)) same call.same_call)
           is_call leads_there stepped led end
       calls_by event w' _ call turns.returns ends is_call leads_there stepped = let is = call.is in absurd (let no : ⊥ = cc in no)
 

@@ -113,7 +113,8 @@ module _ (world : World) (ranges : List RangeAt) (items : List CodeItem) where
   run_is (suc k) s = on_turn (lines.turn world ranges items s) (machine.run Running CodeOutcome turn stopped one Any k)
       (lines.run_from world ranges items k) (run_is k)
 
-  weigh_turn : (x : lines.Turn) (weigh : Running → ℕ) (k : ℕ) → ((s : Running) → weigh s ≤ k) → turned_on (turned_as x) weigh (λ outcome. 0) ≤ k
+  weigh_turn : (x : lines.Turn) (weigh : Running → ℕ) (k : ℕ) → ((s : Running) → weigh s ≤ k) →
+      turned_on (turned_as x) weigh (λ outcome. 0) ≤ k
   weigh_turn (lines.Goes s) weigh k few = few s
   weigh_turn (lines.Ends outcome) weigh k few = omega arith
 
@@ -136,7 +137,8 @@ module _ (world : World) (ranges : List RangeAt) (items : List CodeItem) where
       falls : (k : ℕ) (more' : List CodeItem) → next_line more' ≡ next_line more → Moves k (here rest before) (here more' m) →
           Passes rest before more m window.Falls
       goes : (k : ℕ) (rest' : List CodeItem) (m' : RvState) (target : List ℕ) → Moves k (here rest before) (here rest' m') →
-          turn (here rest' m') ≡ turned_as (lines.jumped (behind_label target items) (here [] m)) → Passes rest before more m (window.Goes target)
+          turn (here rest' m') ≡ turned_as (lines.jumped (behind_label target items) (here [] m)) →
+              Passes rest before more m (window.Goes target)
       calls : (k : ℕ) (rest' : List CodeItem) (m' : RvState) (target : ℕ) → Moves k (here rest before) (here rest' m') →
           turn (here rest' m') ≡ turned_as (lines.called ranges target more (here [] m)) → Passes rest before more m (window.Calls target)
       returns : Passes rest before more m window.Returns
@@ -244,7 +246,8 @@ module _ (world : World) (ranges : List RangeAt) (items : List CodeItem) where
     by_end line ls more m after ends.Jumped done last is comes later =
         let whole : List CodeItem = Code line ∷ (map Code ls ++ more) in
         as_done whole m more (window.come_to after (window.Goes line.target)) done comes
-        (goes 0 whole m line.target (machine.stays (here whole m)) (line_turns whole line (map Code ls ++ more) m after ends.Jumped refl is))
+        (goes 0 whole m line.target (machine.stays (here whole m)) (line_turns whole line
+            (map Code ls ++ more) m after ends.Jumped refl is))
     by_end line ls more m after (ends.Called target) done last is comes later =
         as_done (Code line ∷ (map Code ls ++ more)) m more (window.come_to after (window.Calls target)) done comes
         (at_call line ls more m after target last is)

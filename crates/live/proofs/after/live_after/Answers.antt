@@ -2,4 +2,6 @@ use Rattle.live.proofs.AfterLaws.{live_after_is}
 use Rattle.live.proofs.after.live_after.Goals as goal
 
 pub returns : goal.returns
-returns c = ?
+returns c =
+    live_after_is c.args.f.now c.args.rows.now c.args.place c.successors.result.first c.successors.result.second c.add_place.new.set c.add_place-2.new.set c.requires c.successors.ensures.places
+    (λ reg. c.in_ok-add_place.ensures reg) (λ reg. c.in_ok-add_place-2.ensures reg) c.contains.ensures.ordered

@@ -1,4 +1,4 @@
-use Rattle.std.proofs.Common.{List, sym, subst}
+use Rattle.std.proofs.Common.{List, subst}
 use Rattle.live_rows.specs.declared.node.Node.{Node}
 use Rattle.live_rows.specs.Paths.{IsLiveRows}
 use Rattle.live.proofs.NodeLaws.{AreLiveRows-from}

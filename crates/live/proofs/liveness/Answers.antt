@@ -1,4 +1,4 @@
-use Rattle.std.proofs.Common.{ℕ, List, sym, subst}
+use Rattle.std.proofs.Common.{sym, subst}
 use Rattle.live.specs.Live.{AreLiveRows}
 use Rattle.live.proofs.NodeLaws.{IsLiveness-from}
 use Rattle.live.proofs.liveness.Goals as goal

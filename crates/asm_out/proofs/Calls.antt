@@ -14,7 +14,7 @@ use Rattle.equate.specs.Verdict.{Verdict, Same}
 use Rattle.equate.specs.Equated.{verdict, Equated}
 use Rattle.asm_out.specs.declared.piece.Piece.{Piece}
 use Rattle.asm_out.specs.declared.refusal.OutRefusal.{OutRefusal}
-use Rattle.asm_out.specs.Refused.{most_output, too_long, refused_by, unmatched}
+use Rattle.asm_out.specs.Refused.{most_output, too_long, refused_by, unmatched_insn}
 use Rattle.asm_out.specs.Outcome.{Outcome, RefusesWith, Gives, Appends}
 use Rattle.asm_out.specs.Comes.{IsTried, PlaceComes, code_piece, limited}
 use Rattle.asm_out.specs.machine.Steps.{IsRefusal, Judges}
@@ -31,7 +31,7 @@ pub piece_appended : (t t' : List ℕ) (i i' : List CodeItem) (piece : Piece) �
 piece_appended t t' i i' piece room text items = (piece, ap (λ b. if b then Ok piece else Err too_long) (sym room), text, items)
 
 -- an instruction for which no form counts
-pub told_unmatched : (i : Insn) (e : OutRefusal) (P : Outcome → Type 0) → e ≡ unmatched i → P (Err (unmatched i)) → RefusesWith e P
+pub told_unmatched : (i : Insn) (e : OutRefusal) (P : Outcome → Type 0) → e ≡ unmatched_insn i → P (Err (unmatched_insn i)) → RefusesWith e P
 told_unmatched i e P is holds = subst (λ (e : OutRefusal). RefusesWith e P) (sym is) holds
 
 module _ (forms : List Entry) (number : ℕ) (f : Function) (place : ℕ) (i : Insn) (c : Chosen) (lines : List Line) (live : List ℕ) (tried : IsTried forms number f place i c lines live) where

@@ -91,7 +91,7 @@ fn write_parts(
 ///
 /// # Errors
 ///
-/// `Unmatched` at the first instruction for which no form counts, or that has need of a frame; `NotEquated`, or `Limit` of
+/// `Unmatched` at the first instruction for which no form counts; `NotEquated`, or `Limit` of
 /// `TermSize`, where its comparison fails; `Limit` of `Output` where the text were longer than an assembly may be; `Memory` where
 /// memory ran out.
 pub fn write_function(

@@ -1,5 +1,5 @@
 -- What the calls have done, from what their parts did.
-use Rattle.std.proofs.Common.{◌≡◌, ℕ, ◌+◌, Bool, true, false, not, ◌&&◌, map, List, ◌∷◌, [], ◌++◌, length, Some, Ok, Err, Result, refl, sym, ap, subst, ◌∙◌}
+use Rattle.std.proofs.Common.{◌≡◌, ℕ, ◌+◌, Bool, true, false, not, ◌&&◌, map, List, ◌∷◌, [], ◌++◌, length, Some, Ok, Err, refl, sym, ap, subst, ◌∙◌}
 use Rattle.std.specs.Prelude.{if◌then◌else◌, nat_le}
 use Rattle.rtx_tree.specs.declared.function.Insn.{Insn}
 use Rattle.rtx_tree.specs.declared.function.Function.{Function}
@@ -11,15 +11,15 @@ use Rattle.md_forms.specs.Forms.{names_of}
 use Rattle.md_desc.specs.declared.output.Chosen.{Chosen}
 use Rattle.form_needs.specs.Needs.{name_at}
 use Rattle.equate.specs.Side.{Lines}
-use Rattle.equate.specs.Verdict.{Verdict, Same}
+use Rattle.equate.specs.Verdict.{Verdict}
 use Rattle.equate.specs.Equated.{verdict, Equated}
 use Rattle.asm_out.specs.declared.piece.Piece.{Piece}
 use Rattle.asm_out.specs.declared.refusal.OutRefusal.{OutRefusal}
 use Rattle.asm_out.specs.Filled.{text_of, written}
 use Rattle.asm_out.specs.Refused.{most_output, too_long, refused_by, unmatched_insn}
-use Rattle.asm_out.specs.Outcome.{Outcome, RefusesWith, Gives, Appends}
+use Rattle.asm_out.specs.Outcome.{Outcome, RefusesWith, Appends}
 use Rattle.asm_out.specs.Comes.{IsTried, PlaceComes, code_piece, limited}
-use Rattle.asm_out.specs.machine.Steps.{IsRefusal, Judges}
+use Rattle.asm_out.specs.machine.Steps.{IsRefusal}
 use Rattle.asm_out.proofs.Refusing.{refuses_map, refuses_as}
 
 -- a piece that is too long

@@ -1,5 +1,5 @@
 -- The lines of a text: which they are, and that each is a line of the table where they are equated with an instruction.
-use Rattle.std.proofs.Common.{◌≡◌, ◌≢◌, ℕ, ◌+◌, Bool, true, false, ◌&&◌, List, [], ◌∷◌, Option, Some, None, refl, sym, ap, subst, ◌∙◌}
+use Rattle.std.proofs.Common.{◌≡◌, ◌≢◌, ℕ, ◌+◌, Bool, true, false, ◌&&◌, List, [], ◌∷◌, Option, Some, None, refl, sym, ap, ◌∙◌}
 use Rattle.std.specs.Prelude.{if◌then◌else◌, option_and_then}
 use Rattle.std.specs.List.{AllZip}
 use Rattle.rtx_tree.specs.declared.function.Insn.{Insn}
@@ -17,7 +17,7 @@ use Rattle.sym_state.specs.State.{start}
 use Rattle.sym_insns.specs.Run as insns
 use Rattle.equate.specs.Verdict.{Same}
 use Rattle.equate.specs.Side.{Lines, returns_by, is_one_return, is_one_return_line, both_return}
-use Rattle.equate.specs.Equated.{judged, told, Equated}
+use Rattle.equate.specs.Equated.{judged, Equated}
 use Rattle.asm_out.specs.Filled.{IsReadAs, no_line}
 
 -- ---- one list of lines

@@ -9,10 +9,9 @@ use Rattle.rv_text.specs.declared.line.Line.{Line}
 use Rattle.md_forms.specs.declared.form.Entry.{Entry}
 use Rattle.md_forms.specs.Forms.{names_of}
 use Rattle.md_desc.specs.declared.output.Chosen.{Chosen}
-use Rattle.md_desc.specs.Recog.{IsChosen, NoneMatchesOut}
+use Rattle.md_desc.specs.Recog.{NoneMatchesOut}
 use Rattle.md_output.specs.Filled.{lines_of}
-use Rattle.live.specs.Live.{AreLiveAfter}
-use Rattle.form_needs.specs.Needs.{is_kind, is_note, is_label, needs_form, is_held, output_facts, name_at}
+use Rattle.form_needs.specs.Needs.{is_kind, is_note, is_label, is_held, output_facts, name_at}
 use Rattle.form_needs.proofs.OneChosen.{chosen_one, chosen_not}
 use Rattle.equate.specs.Side.{Lines}
 use Rattle.equate.specs.Verdict.{Verdict}

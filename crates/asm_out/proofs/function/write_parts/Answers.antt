@@ -14,7 +14,7 @@ returns-in_err-write_opening c =
 
 pub returns-in_err-write_chain : goal.returns-in_err-write_chain
 returns-in_err-write_chain c =
-    let p = err_from_is_err_and c.from_residual.result c.from_residual.ensures.1 in
+    let p = err_from_is_err_and c.from_residual-in_err-write_chain.result c.from_residual-in_err-write_chain.ensures.1 in
     let f = c.args.f.now in
     let comes = PartComes c.args.description.now c.args.number f in
     rw (p.1, p.2)

@@ -1,4 +1,4 @@
-use Rattle.std.proofs.Common.{ℕ, List, sym, subst, arith}
+use Rattle.std.proofs.Common.{ℕ, List, subst, arith}
 use Rattle.asm_out.specs.Filled.{IsReadAs}
 use Rattle.asm_out.proofs.ReadLaws.{read_on}
 use Rattle.asm_out.proofs.lines.read_lines.Goals as goal

@@ -1,4 +1,4 @@
-use Rattle.std.proofs.Common.{◌≡◌, ℕ, true, false, List, Ok, rules, sym, ap, subst, ◌∙◌}
+use Rattle.std.proofs.Common.{◌≡◌, true, false, Ok, rules, sym, ap, subst, ◌∙◌}
 use Rattle.form_needs.specs.Needs.{is_label, is_silent, needs_form, is_held}
 use Rattle.asm_out.specs.declared.piece.Piece.{Piece}
 use Rattle.asm_out.specs.Outcome.{only_text}

@@ -63,7 +63,7 @@ module _ (comes : Part → Outcome → Type 0) where
   then_by _ _ ys _ piece o (PartsCome.goes_on size p parts o' first rest here lim tail) h more =
       let last = behind_ok first rest piece h in
       let sizes : size + length piece.text ≡ (size + length first.text) + length last.0.text =
-          omega (arith, ap (λ (p : Piece). length p.text) last.2, length-append first.text last.0.text) in
+      omega (arith, ap (λ (p : Piece). length p.text) last.2, length-append first.text last.0.text) in
       let rest_come = then_by (size + length first.text) parts ys rest last.0 o tail last.1 (subst (λ n. PartsCome comes n ys o) sizes more) in
       subst (PartsCome comes size (p ∷ (parts ++ ys))) (sym (behind_joined first last.0 o) ∙ ap (λ (p : Piece). outcome_behind p o) last.2)
       (PartsCome.goes_on size p (parts ++ ys) o' first (outcome_behind last.0 o) here lim rest_come)

@@ -120,8 +120,13 @@ module _ (forms : List Entry) (number : ℕ) (f : Function) (place : ℕ) (i : I
       (inr (record { c = c; lines = lines; live = live; tried = tried; is = sym (ap (λ r. outcome_by r (code_piece forms number i c lines)) is) }))
   body_of _ (PlaceComes.equated c lines live tried is) =
       as_asked OfForm (Ok (code_piece forms number i c lines)) (form_asks (is_label i.kind) (is_kind i.kind) (is_note (head_of i.pattern).code) (is_held i) (apart_kinds i.kind) tried.needs tried.free)
-      (inr (record { c = c; lines = lines; live = live; tried = tried;
-        is = sym (ap (λ (v : Verdict). outcome_by (refused_by i.uid (name_at (names_of forms) c.form) v) (code_piece forms number i c lines)) is) }))
+      (inr (record {
+        c = c;
+        lines = lines;
+        live = live;
+        tried = tried;
+        is = sym (ap (λ (v : Verdict). outcome_by (refused_by i.uid (name_at (names_of forms) c.form) v) (code_piece forms number i c lines)) is);
+      }))
 
   -- ---- one outcome
 

@@ -35,9 +35,9 @@ module _ (comes : Part → Outcome → Type 0) where
       Appends {A = Unit {0}} t t' i i' (Ok tt) (PartsCome comes (length t) (places_from 0 (take k insns))) → RefusesWith e (PartsCome comes (length t') (Place k x ∷ [])) → RefusesWith e (PartsCome comes (length t) (places_from 0 insns))
   places_wrong t t' i i' insns k x e within is first last =
       let here : Appends {A = Unit {0}} t t' i i' (Err e) (PartsCome comes (length t) (places_from 0 (take k insns) ++ Place k x ∷ [])) =
-          appends_then comes {A = Unit {0}} {B = Unit {0}} t t' t' i i' i' tt (Err e) (places_from 0 (take k insns)) (Place k x ∷ []) first last in
+      appends_then comes {A = Unit {0}} {B = Unit {0}} t t' t' i i' i' tt (Err e) (places_from 0 (take k insns)) (Place k x ∷ []) first last in
       let upto : RefusesWith e (PartsCome comes (length t) (places_from 0 (take (k + 1) insns))) =
-          subst (λ (ps : List Part). RefusesWith e (PartsCome comes (length t) ps)) (sym (places_more k insns x within is)) here in
+      subst (λ (ps : List Part). RefusesWith e (PartsCome comes (length t) ps)) (sym (places_more k insns x within is)) here in
       subst (λ (ps : List Part). RefusesWith e (PartsCome comes (length t) ps))
       (sym (places-append 0 (take (k + 1) insns) (drop (k + 1) insns)) ∙ ap (places_from 0) (take-append-drop (k + 1) insns))
       (appends_wrong comes (length t) (places_from 0 (take (k + 1) insns)) (places_from (0 + length (take (k + 1) insns)) (drop (k + 1) insns)) e upto)

@@ -104,7 +104,17 @@ pub fn write_places(
         (PartsCome (PartComes description.now number f.now) (length out.old.items) (places_from 0 f.now.insns)) }
 {
     for (place, insn) in f.insns.as_slice().iter().enumerate() {
-        write_place(alloc, description, number, f, rows, place as u32, insn, out, items)?;
+        write_place(
+            alloc,
+            description,
+            number,
+            f,
+            rows,
+            place as u32,
+            insn,
+            out,
+            items,
+        )?;
     }
     Ok(())
 }

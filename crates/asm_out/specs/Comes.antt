@@ -85,7 +85,8 @@ pub data PartsCome (comes : Part → Outcome → Type 0) : ℕ → List Part →
   refused : (size : ℕ) (p : Part) (parts : List Part) (o : Outcome) (e : OutRefusal) → comes p o → limited size o ≡ Err e →
       PartsCome comes size (p ∷ parts) (Err e)
   goes_on : (size : ℕ) (p : Part) (parts : List Part) (o : Outcome) (piece : Piece) (rest : Outcome) → comes p o →
-      limited size o ≡ Ok piece → PartsCome comes (size + length piece.text) parts rest → PartsCome comes size (p ∷ parts) (outcome_behind piece rest)
+      limited size o ≡ Ok piece → PartsCome comes (size + length piece.text) parts rest →
+      PartsCome comes size (p ∷ parts) (outcome_behind piece rest)
 
 -- what a function with a number comes to behind a text of a size
 abbrev pub FunctionComes : List Entry → ℕ → Function → ℕ → Outcome → Type 0

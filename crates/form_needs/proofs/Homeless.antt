@@ -4,7 +4,7 @@ use Rattle.std.specs.List.{list_any}
 use Rattle.rtx_tree.specs.declared.tree.Rtx.{Rtx}
 use Rattle.rtx_tree.specs.declared.tree.Rtx.TheFolds.{fold_out-Rtx}
 use Rattle.rtx_tree.specs.Tree.{head_of, kids_of}
-use Rattle.recog_text.specs.Recog.{is_homeless, homeless_step, names_homeless}
+use Rattle.form_needs.specs.Needs.{is_homeless, homeless_step, names_homeless}
 
 any_of_map : {A : Type 0} (f : A → Bool) (xs : List A) → list_any (λ here. here) (map f xs) ≡ list_any f xs
 any_of_map f [] = refl

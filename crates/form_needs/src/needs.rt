@@ -1,7 +1,7 @@
 //! Which instructions need a form.
 ghost use Rattle.std.specs.Prelude.{◌≡◌};
 ghost use Rattle.rtx_tree.specs.Tree.{head_of};
-ghost use Rattle.recog_text.specs.Recog as spec;
+ghost use Rattle.form_needs.specs.Needs as spec;
 
 use rtx_tree::{Code, Insn, Kind, Rtx};
 
@@ -51,4 +51,11 @@ pub fn is_held(insn: &Insn) -> bool
     ensures { result ≡ spec.is_held insn.now }
 {
     matches!(insn.kind, Kind::Call) || names_homeless(&insn.pattern)
+}
+
+/// Whether an instruction gives nothing at output: a barrier, and a `use` or `clobber` alone.
+pub fn is_silent(insn: &Insn) -> bool
+    ensures { result ≡ spec.is_silent insn.now }
+{
+    !matches!(insn.kind, Kind::Label) && !needs_form(insn)
 }

@@ -1,0 +1,2 @@
+pub mod Homeless
+pub mod OneChosen

@@ -1,8 +1,8 @@
 use Rattle.std.proofs.Common.{[], subst, arith}
 use Rattle.std.proofs.lemmas.List.{drop_all}
-use Rattle.recog_text.specs.Recog.{LowerComes}
-use Rattle.recog_text.proofs.Each.{Makes, makes_all}
-use Rattle.recog_text.proofs.stages.lower_insns.Goals as goal
+use Rattle.func_after.specs.After.{LowerComes}
+use Rattle.func_after.proofs.Each.{Makes, makes_all}
+use Rattle.func_after.proofs.lower.lower_insns.Goals as goal
 
 pub returns : goal.returns
 returns c =

@@ -1,9 +1,10 @@
 use Rattle.std.proofs.Common.{◌≡◌, true, false, [], refl, rules, subst}
 use Rattle.rtx_tree.specs.declared.stage.Stage.TheVariants.{Lower}
 use Rattle.md_desc.specs.Recog.{IsFirst, NoneMatches}
-use Rattle.recog_text.specs.Recog.{needs_form, LowerComes}
-use Rattle.recog_text.proofs.Told.{told_unmatched}
-use Rattle.recog_text.proofs.stages.lower_insn.Goals as goal
+use Rattle.form_needs.specs.Needs.{needs_form}
+use Rattle.func_after.specs.After.{LowerComes}
+use Rattle.func_after.proofs.Told.{told_unmatched}
+use Rattle.func_after.proofs.lower.lower_insn.Goals as goal
 
 pub returns-then-not-needs_form : goal.returns-then-not-needs_form
 returns-then-not-needs_form c = let free : needs_form c.args.insn.now ≡ false = search rules in ([], LowerComes.free free, refl)

@@ -6,7 +6,7 @@ use Rattle.func_input.specs.Input.{RefusesWith}
 use Rattle.func_input.specs.Outcome.{Outcome, outcome_map, outcome_then}
 use Rattle.func_input.proofs.Firsts.{drop_at}
 use Rattle.func_input.proofs.Refusing.{refuses_map}
-use Rattle.recog_text.specs.Each.{EachComes}
+use Rattle.func_after.specs.Each.{EachComes}
 
 -- what the rest comes to makes, with what is there now, what all come to, with what was there before
 pub record Makes {A : Type 0} (comes : A → Outcome → Type 0) (xs : List A) (old now : List ℕ) (rest : List A) : Type 0 where

@@ -2,8 +2,8 @@ use Rattle.std.proofs.Common.{subst, arith}
 use Rattle.std.proofs.lemmas.List.{drop_all}
 use Rattle.std.proofs.lemmas.Result.{err_from_is_err_and}
 use Rattle.recog_text.specs.Recog.{OutputComes}
-use Rattle.recog_text.proofs.Each.{Makes, makes_wrong, makes_all}
-use Rattle.recog_text.proofs.stages.print_insns.Goals as goal
+use Rattle.func_after.proofs.Each.{Makes, makes_wrong, makes_all}
+use Rattle.recog_text.proofs.lines.print_insns.Goals as goal
 
 pub returns-in_err-print_insn : goal.returns-in_err-print_insn
 returns-in_err-print_insn c =

@@ -2,9 +2,10 @@ use Rattle.std.proofs.Common.{◌≡◌, true, false, [], sym, rules, subst}
 use Rattle.std.proofs.lemmas.List.{append-nil}
 use Rattle.rtx_tree.specs.declared.stage.Stage.TheVariants.{Output}
 use Rattle.md_desc.specs.Recog.{IsChosen, NoneMatchesOut}
-use Rattle.recog_text.specs.Recog.{needs_form, is_held, line_of, OutputComes}
-use Rattle.recog_text.proofs.Told.{told_unmatched}
-use Rattle.recog_text.proofs.stages.print_insn.Goals as goal
+use Rattle.form_needs.specs.Needs.{needs_form, is_held}
+use Rattle.recog_text.specs.Recog.{line_of, OutputComes}
+use Rattle.func_after.proofs.Told.{told_unmatched}
+use Rattle.recog_text.proofs.lines.print_insn.Goals as goal
 
 pub returns-then-not-needs_form : goal.returns-then-not-needs_form
 returns-then-not-needs_form c = let free : needs_form c.args.insn.now ≡ false = search rules in ([], OutputComes.free free, sym (append-nil c.args.out.now.items))

@@ -1,94 +1,20 @@
-//! What instructions come to at each stage.
-ghost use Rattle.std.specs.Prelude.{◌≡◌, ◌++◌, ◌∷◌, [], IfOk, OnOk};
+//! The lines of instructions.
+ghost use Rattle.std.specs.Prelude.{◌≡◌, ◌++◌, ◌∷◌, [], OnOk};
 ghost use Rattle.std.specs.Fmt.{decimal};
 ghost use Rattle.md_forms.specs.Forms.{names_of};
 ghost use Rattle.func_input.specs.machine.Steps.{AppendedSome};
-ghost use Rattle.recog_text.specs.Each.{EachComes};
+ghost use Rattle.func_after.specs.Each.{EachComes};
 ghost use Rattle.recog_text.specs.Recog as spec;
-ghost use Rattle.recog_text.specs.Recog.{LowerComes, OutputComes};
+ghost use Rattle.recog_text.specs.Recog.{OutputComes};
 
-use crate::needs::{is_held, needs_form};
-use c_eval::Facts;
+use form_needs::{is_held, name_at, needs_form, output_facts};
+use func_after::unmatched;
 use md_desc::{Chosen, Description};
-use plain_data::{Items, Memory};
+use plain_data::Memory;
 use rtx_tree::{Insn, Name, Stage};
 use run_refusal::Refusal;
 use std::alloc::Global;
 use text_words::{print_count, print_text};
-
-fn lower_facts(alloc: Global) -> Facts
-    ensures { result ≡ spec.lower_facts }
-{
-    Facts {
-        reloaded: false,
-        new_pseudos: true,
-        dead: Items::new(alloc),
-    }
-}
-
-fn output_facts(alloc: Global) -> Facts
-    ensures { result ≡ spec.output_facts }
-{
-    Facts {
-        reloaded: true,
-        new_pseudos: false,
-        dead: Items::new(alloc),
-    }
-}
-
-fn unmatched(alloc: Global, stage: Stage, function: &Name, insn: &Insn) -> Result<Refusal, Memory>
-    ensures { IfOk result (λ e. e ≡ spec.unmatched_at stage function.now insn.now) }
-{
-    Ok(Refusal::Unmatched {
-        function: function.copy(alloc)?,
-        uid: insn.uid,
-        stage,
-        insn: insn.pattern.copy(alloc)?,
-    })
-}
-
-/// Checks that a form matches an instruction, where it needs one.
-pub fn lower_insn(
-    alloc: Global,
-    desc: &Description,
-    function: &Name,
-    insn: &Insn,
-) -> Result<(), Refusal>
-    ensures { AppendedSome [] [] result (LowerComes desc.now function.now insn.now) }
-{
-    if !needs_form(insn) {
-        return Ok(());
-    }
-    match desc.recog(alloc, &insn.pattern, &lower_facts(alloc))? {
-        Some(_) => Ok(()),
-        None => Err(unmatched(alloc, Stage::Lower, function, insn)?),
-    }
-}
-
-/// Checks it of each instruction of a chain.
-#[tactic(auto, using(crate::proofs::Each::makes_start, crate::proofs::Each::makes_on, crate::proofs::Each::makes_wrong, crate::proofs::Each::makes_all))]
-pub fn lower_insns(
-    alloc: Global,
-    desc: &Description,
-    function: &Name,
-    insns: &[Insn],
-) -> Result<(), Refusal>
-    ensures { AppendedSome [] [] result (EachComes (LowerComes desc.now function.now) insns.now) }
-{
-    for insn in insns {
-        lower_insn(alloc, desc, function, insn)?;
-    }
-    Ok(())
-}
-
-fn name_at(names: &[Name], form: u32) -> &[u8]
-    ensures { result.now ≡ spec.name_at names.now form }
-{
-    match names.get(form as usize) {
-        Some(name) => name.bytes(),
-        None => b"",
-    }
-}
 
 /// Appends a text and what ends it.
 fn print_part(text: &[u8], end: u8, out: &mut Vec<u8>) -> Result<(), Memory>
@@ -126,7 +52,7 @@ fn print_chosen(
 }
 
 /// Appends the line of an instruction, where it needs a form.
-pub fn print_insn(
+fn print_insn(
     alloc: Global,
     desc: &Description,
     names: &[Name],
@@ -150,8 +76,8 @@ pub fn print_insn(
 }
 
 /// Appends the lines of a chain.
-#[tactic(auto, using(crate::proofs::Each::makes_start, crate::proofs::Each::makes_on, crate::proofs::Each::makes_wrong, crate::proofs::Each::makes_all))]
-pub fn print_insns(
+#[tactic(auto, using(func_after::proofs::Each::makes_start, func_after::proofs::Each::makes_on, func_after::proofs::Each::makes_wrong, func_after::proofs::Each::makes_all))]
+pub(crate) fn print_insns(
     alloc: Global,
     desc: &Description,
     names: &[Name],

@@ -8,7 +8,7 @@ use Rattle.md_forms.specs.Forms.{names_of}
 use Rattle.md_desc.specs.declared.output.Chosen.{Chosen}
 use Rattle.md_desc.specs.Recog.{IsChosen, NoneMatchesOut}
 use Rattle.form_needs.specs.Needs.{needs_form, is_held, output_facts}
-use Rattle.form_needs.proofs.OneChosen.{same_form, same_alternative}
+use Rattle.form_needs.proofs.OneChosen.{both, chosen_one, chosen_not}
 use Rattle.func_input.specs.Outcome.{Outcome}
 use Rattle.func_after.specs.Each.{EachComes}
 use Rattle.func_after.specs.After.{Answer, AfterComes}
@@ -16,20 +16,12 @@ use Rattle.func_after.proofs.Each.{one_each}
 use Rattle.func_after.proofs.OneAfter.{one_after}
 use Rattle.recog_text.specs.Recog.{line_of, OutputComes, FunctionComes, FunctionsCome}
 
-both : (b : Bool) → b ≡ true → b ≡ false → ⊥
-both b t f = let none : true ≡ false = sym t ∙ f in let never : ⊥ = cc in never
-
 -- ---- instructions
 
 module _ (es : List Entry) (function : List ℕ) (i : Insn) where
   same_line : (c d : Chosen) → IsChosen es output_facts i.pattern c → IsChosen es output_facts i.pattern d →
       line_of (names_of es) function i.uid c.form c.alternative ≡ line_of (names_of es) function i.uid d.form d.alternative
-  same_line c d m n =
-      let form = same_form es output_facts i.pattern c d m n in
-      ap (λ k. line_of (names_of es) function i.uid k c.alternative) form ∙ ap (line_of (names_of es) function i.uid d.form) (same_alternative es output_facts i.pattern c d form m n)
-
-  chosen_not : (c : Chosen) → IsChosen es output_facts i.pattern c → NoneMatchesOut es output_facts i.pattern → ⊥
-  chosen_not c m none = none c.form c.operands c.alternative m.matches
+  same_line c d m n = ap (λ (k : Chosen). line_of (names_of es) function i.uid k.form k.alternative) (chosen_one es output_facts i.pattern c d m n)
 
   output_one : (a b : Outcome) → OutputComes es function i a → OutputComes es function i b → a ≡ b
   output_one _ _ (OutputComes.free e) (OutputComes.free f) = refl
@@ -43,10 +35,10 @@ module _ (es : List Entry) (function : List ℕ) (i : Insn) where
   output_one _ _ (OutputComes.chosen c e h m) (OutputComes.free f) = absurd (both (needs_form i) e f)
   output_one _ _ (OutputComes.chosen c e h m) (OutputComes.held f k) = absurd (both (is_held i) k h)
   output_one _ _ (OutputComes.chosen c e h m) (OutputComes.chosen d f k n) = ap (λ (t : List ℕ). Ok t) (same_line c d m n)
-  output_one _ _ (OutputComes.chosen c e h m) (OutputComes.unmatched f k none) = absurd (chosen_not c m none)
+  output_one _ _ (OutputComes.chosen c e h m) (OutputComes.unmatched f k none) = absurd (chosen_not es output_facts i.pattern c m none)
   output_one _ _ (OutputComes.unmatched e h none) (OutputComes.free f) = absurd (both (needs_form i) e f)
   output_one _ _ (OutputComes.unmatched e h none) (OutputComes.held f k) = refl
-  output_one _ _ (OutputComes.unmatched e h none) (OutputComes.chosen c f k m) = absurd (chosen_not c m none)
+  output_one _ _ (OutputComes.unmatched e h none) (OutputComes.chosen c f k m) = absurd (chosen_not es output_facts i.pattern c m none)
   output_one _ _ (OutputComes.unmatched e h none) (OutputComes.unmatched f k other) = refl
 
 -- ---- functions

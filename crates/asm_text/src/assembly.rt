@@ -4,7 +4,7 @@ ghost use Rattle.func_input.specs.machine.Steps.{IsOrMemory};
 ghost use Rattle.asm_text.specs.Assembly as spec;
 ghost use Rattle.asm_text.specs.Assembly.{FunctionComes, AssemblyComes};
 ghost use Rattle.asm_text.specs.Compile.{Gives};
-ghost use Rattle.asm_text.specs.machine.Steps.{AppendsPiece};
+ghost use Rattle.asm_text.specs.machine.Steps.{AppendsPiece, WrittenComes};
 
 use asm_out::{CodeItems, OutRefusal, write_function};
 use func_after::after;

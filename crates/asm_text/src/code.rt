@@ -6,7 +6,7 @@ ghost use Rattle.asm_text.specs.Code as codes;
 ghost use Rattle.asm_text.specs.Code.{Answer, Gives, NameComes, CodeComes, IsCodedAt, IsUnnamed};
 
 use crate::assembly::Assembly;
-use crate::compile::compile;
+use crate::input::compile;
 use asm_out::CodeItems;
 use func_input::read_functions;
 use md_desc::Description;

@@ -10,8 +10,8 @@
 
 mod assembly;
 mod code;
-mod compile;
+mod input;
 
 pub use assembly::{Assembly, Parts};
 pub use code::{Coded, code_of};
-pub use compile::{assembly_of, compile};
+pub use input::{assembly_of, compile};

@@ -4,8 +4,8 @@
 //! that none matches (`specs/After.antt`). `specs/Each.antt` says what some things come to, one behind the other.
 #![tactic(auto)]
 
-mod after;
+mod chain;
 mod lower;
 
-pub use after::after;
+pub use chain::after;
 pub use lower::unmatched;

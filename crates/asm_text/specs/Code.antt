@@ -1,5 +1,6 @@
 -- A function of an input with its code: the lines and labels that its part of the input's assembly spells.
-use Rattle.std.specs.Prelude.{◌≡◌, ℕ, ◌+◌, Bool, true, false, List, [], ◌∷◌, Option, Some, None, is_some, option_map, slice_get, Result, Ok, Err, if◌then◌else◌}
+use Rattle.std.specs.Prelude.{◌≡◌, ℕ, Bool, false, List, Option, Some, None, is_some, slice_get, Result, Ok, Err}
+use Rattle.std.specs.List.{position_from}
 use Rattle.std.specs.Str.{bytes_eq}
 use Rattle.rtx_tree.specs.declared.function.Function.{Function}
 use Rattle.run_refusal.specs.declared.refusal.Refusal.{Refusal}
@@ -17,8 +18,7 @@ is_named name f = bytes_eq f.name name
 
 -- the place of the first function with a name, counted from 0
 abbrev pub place_named : List Function → List ℕ → Option ℕ
-place_named [] name = None
-place_named (f ∷ functions) name = if is_named name f then Some 0 else option_map (λ place. place + 1) (place_named functions name)
+place_named functions name = position_from (is_named name) 0 functions
 
 -- one of some functions has a name
 abbrev pub has_named : List Function → List ℕ → Bool

@@ -1,5 +1,5 @@
 //! A function of an input with its code, as lines and labels.
-ghost use Rattle.std.specs.Prelude.{◌≡◌, ◌≤◌, ◌<◌, ℕ, List, Err, Some, false, length, slice_get};
+ghost use Rattle.std.specs.Prelude.{◌≡◌, ◌≤◌, ◌<◌, ℕ, List, Err, IfSome, false, length};
 ghost use Rattle.rtx_tree.specs.Limit.{most_bytes};
 ghost use Rattle.md_forms.specs.declared.form.Entry.{Entry};
 ghost use Rattle.asm_text.specs.Code as codes;
@@ -25,7 +25,8 @@ pub struct Coded {
 
 /// The place of the first of some functions that has a name.
 fn place_named(functions: &[Function], name: &[u8]) -> Option<usize>
-    ensures { result ≡ codes.place_named functions.now name.now }
+    ensures place { result ≡ codes.place_named functions.now name.now }
+    ensures within { IfSome result (λ place. place < length functions.now) }
 {
     functions.iter().position(|f| f.name.bytes() == name)
 }

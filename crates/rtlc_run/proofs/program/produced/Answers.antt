@@ -1,19 +1,10 @@
+use Rattle.std.proofs.Common.{rules}
+use Rattle.rtlc_run.specs.declared.program.Task.TheVariants as task
+use Rattle.rtlc_run.specs.Answer.{described, ByForms, CommandComes}
+use Rattle.rtlc_run.specs.machine.Steps.{TaskComes}
+use Rattle.rtlc_run.proofs.Commands.{gives_map}
 use Rattle.rtlc_run.proofs.program.produced.Goals as goal
 
-pub returns-in-List-clause-asked : goal.returns-in-List-clause-asked
-returns-in-List-clause-asked g c = λ known agrees. rw c.in-List.is (c.listed.ensures.asked known agrees)
-
-pub returns-in-Recog-clause-asked : goal.returns-in-Recog-clause-asked
-returns-in-Recog-clause-asked g c = λ known agrees. rw c.in-Recog.is (c.recognised.ensures.asked known agrees)
-
-pub returns-in-Asm-clause-behind : goal.returns-in-Asm-clause-behind
-returns-in-Asm-clause-behind g c = λ read calm known agrees. rw c.in-Asm.is tt
-
-pub returns-in-List-clause-behind : goal.returns-in-List-clause-behind
-returns-in-List-clause-behind g c = λ read calm known agrees. rw c.in-List.is tt
-
-pub returns-in-Eval-clause-behind : goal.returns-in-Eval-clause-behind
-returns-in-Eval-clause-behind g c = λ read calm known agrees. rw c.in-Eval.is tt
-
-pub returns-in-Recog-clause-behind : goal.returns-in-Recog-clause-behind
-returns-in-Recog-clause-behind g c = λ read calm known agrees. rw c.in-Recog.is (c.recognised.ensures.behind read calm known agrees)
+pub returns-in-Asm-clause-gives : goal.returns-in-Asm-clause-gives
+returns-in-Asm-clause-gives g c = λ known agrees.
+    rw c.in-Asm.is (gives_map c.made_by-in-Asm.result _ _ (λ o comes. CommandComes.assembled c.in-Asm.description o comes) (c.made_by-in-Asm.ensures.gives known agrees))

@@ -59,11 +59,11 @@ pub data Part : Type 0 where
   Closing : Part
 
 abbrev pub places_from : ℕ → List Insn → List Part
-places_from place [] = Closing ∷ []
+places_from place [] = []
 places_from place (i ∷ insns) = Place place i ∷ places_from (place + 1) insns
 
 abbrev pub parts_of : Function → List Part
-parts_of f = Opening ∷ places_from 0 f.insns
+parts_of f = Opening ∷ (places_from 0 f.insns ++ Closing ∷ [])
 
 abbrev pub PartComes : List Entry → ℕ → Function → Part → Outcome → Type 0
 PartComes forms number f Opening o = o ≡ Ok (only_text (opening_lines f.name))

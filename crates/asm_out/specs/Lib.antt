@@ -4,3 +4,4 @@ pub mod Refused
 pub mod Comes
 pub mod Written
 pub mod Outcome
+pub mod machine

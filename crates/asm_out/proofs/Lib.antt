@@ -1,0 +1,7 @@
+pub mod Refusing
+pub mod PartLaws
+pub mod Sorted
+pub mod LineLaws
+pub mod PlaceOne
+pub mod WrittenLaws
+pub mod SpelledLaws

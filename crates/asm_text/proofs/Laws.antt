@@ -11,7 +11,8 @@ use Rattle.asm_out.specs.Comes as out
 use Rattle.asm_out.specs.Outcome as out_of
 use Rattle.asm_out.specs.Frame.{framed}
 use Rattle.asm_out.specs.Refused.{most_output}
-use Rattle.asm_out.proofs.Laws.{is_written, within_limit, body_spelled}
+use Rattle.asm_out.proofs.WrittenLaws.{function_written, function_within}
+use Rattle.asm_out.proofs.SpelledLaws.{chain_spelled}
 use Rattle.asm_text.specs.declared.assembly.Assembly.{Assembly}
 use Rattle.asm_text.specs.Assembly.{PieceOutcome, told_for, FunctionComes, Outcome, AreWritten, AssemblyComes, nothing, alone, joined, outcome_behind}
 use Rattle.asm_text.specs.Lines.{IsAssembly}
@@ -56,7 +57,7 @@ is_assembly_from forms number size _ _ a is (AreWritten.goes_on _ _ f functions 
     let here = has_piece forms number size f (Ok piece) piece refl comes in
     let b = behind (alone piece) rest a is in
     subst (IsAssembly forms number (f ∷ functions)) b.whole
-    (IsAssembly.function number f here.after functions piece b.more small here.comes_after (is_written forms number here.after size piece here.comes)
+    (IsAssembly.function number f here.after functions piece b.more small here.comes_after (function_written forms number here.after size piece here.comes)
     (is_assembly_from forms (number + 1) (size + length piece.text) functions rest b.more b.rest_is more))
 
 -- the lines are those of the forms
@@ -69,7 +70,7 @@ are_parts forms number _ _ (IsAssembly.none _) = AreParts.none
 are_parts forms number _ _ (IsAssembly.function _ f g functions piece rest small after written others) =
     let framed_is : piece.text ≡ framed f.name written.body = written.framed_is ∙ ap (λ (n : List ℕ). framed n written.body) (after_name forms f g (Ok g) refl after) in
     subst (λ (t : List ℕ). AreParts (f ∷ functions) (t ++ rest.text) (piece.items ∷ rest.parts)) (sym framed_is)
-    (AreParts.part f functions written.body rest.text piece.items rest.parts (body_spelled forms number g 0 g.insns written.body piece.items small written.are) (are_parts forms (number + 1) functions rest others))
+    (AreParts.part f functions written.body rest.text piece.items rest.parts (chain_spelled forms number g 0 g.insns written.body piece.items small written.are) (are_parts forms (number + 1) functions rest others))
 
 -- there is one for each function
 pub parts_count : (forms : List Entry) (number : ℕ) (functions : List Function) (a : Assembly) → IsAssembly forms number functions a → length a.parts ≡ length functions
@@ -82,7 +83,7 @@ within_from forms number size _ _ a within is (AreWritten.refused _ _ f function
 within_from forms number size _ _ a within is (AreWritten.goes_on _ _ f functions piece rest small comes more) =
     let here = has_piece forms number size f (Ok piece) piece refl comes in
     let b = behind (alone piece) rest a is in
-    let own : size + length piece.text ≤ most_output = within_limit forms number here.after size piece here.comes in
+    let own : size + length piece.text ≤ most_output = function_within forms number here.after size piece here.comes in
     let all : (size + length piece.text) + length b.more.text ≤ most_output = within_from forms (number + 1) (size + length piece.text) functions rest b.more own b.rest_is more in
     let size_is : length a.text ≡ length piece.text + length b.more.text = ap (λ (x : Assembly). length x.text) (sym b.whole) ∙ length-append piece.text b.more.text in
     omega (arith, all, size_is)

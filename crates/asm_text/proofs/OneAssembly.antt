@@ -10,7 +10,7 @@ use Rattle.func_after.proofs.OneAfter.{one_after}
 use Rattle.asm_out.specs.declared.piece.Piece.{Piece}
 use Rattle.asm_out.specs.Comes as out
 use Rattle.asm_out.specs.Outcome as out_of
-use Rattle.asm_out.proofs.One.{function_one}
+use Rattle.asm_out.proofs.PlaceOne.{function_one}
 use Rattle.asm_text.specs.Assembly.{PieceOutcome, told_for, FunctionComes, Outcome, AreWritten, AssemblyComes, alone, outcome_behind}
 use Rattle.asm_text.specs.Compile.{FunctionsCome, InputComes}
 

@@ -6,14 +6,18 @@ ghost use Rattle.asm_text.specs.Assembly.{FunctionComes, AssemblyComes};
 ghost use Rattle.asm_text.specs.Compile.{Gives};
 ghost use Rattle.asm_text.specs.machine.Steps.{AppendsPiece, WrittenComes};
 
-use asm_out::{CodeItems, OutRefusal, write_function};
+use asm_out::{OutRefusal, write_function};
 use func_after::after;
 use func_input::next_number;
 use md_desc::Description;
 use plain_data::Items;
 use rtx_tree::{Function, Name, Stage};
 use run_refusal::Refusal;
+use rv_text::CodeItem;
 use std::alloc::Global;
+
+/// Lines and labels, in order.
+pub type CodeItems = Items<CodeItem>;
 
 /// For each of some functions, in order, its lines and labels.
 pub type Parts = Items<CodeItems>;
@@ -71,9 +75,9 @@ fn write_after(
 ) -> Result<(), Refusal>
     ensures { AppendsPiece text.old.items text.new.items parts.old parts.new result (WrittenComes description.now number (length text.old.items) f.now) }
 {
-    let mut items = Items::new(alloc);
+    let mut items = Vec::new(alloc);
     match write_function(alloc, description, number, f, text, &mut items) {
-        Ok(()) => Ok(parts.push(items)?),
+        Ok(()) => Ok(parts.push(Items::from_vec(items))?),
         Err(e) => Err(refused_for(alloc, &f.name, e)),
     }
 }

@@ -5,9 +5,8 @@ ghost use Rattle.md_forms.specs.declared.form.Entry.{Entry};
 ghost use Rattle.asm_text.specs.Code as codes;
 ghost use Rattle.asm_text.specs.Code.{Answer, Gives, NameComes, CodeComes, IsCodedAt, IsUnnamed};
 
-use crate::assembly::Assembly;
+use crate::assembly::{Assembly, CodeItems};
 use crate::input::compile;
-use asm_out::CodeItems;
 use func_input::read_functions;
 use md_desc::Description;
 use rtx_tree::{Function, Functions};

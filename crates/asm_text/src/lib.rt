@@ -12,6 +12,6 @@ mod assembly;
 mod code;
 mod input;
 
-pub use assembly::{Assembly, Parts};
+pub use assembly::{Assembly, CodeItems, Parts};
 pub use code::{Coded, code_of};
 pub use input::{assembly_of, compile};

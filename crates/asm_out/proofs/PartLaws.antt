@@ -110,6 +110,9 @@ module _ (comes : Part → Outcome → Type 0) where
 
   -- ---- what calls have appended
 
+  pub appends_none : (t : List ℕ) (i : List CodeItem) → Appends {A = Unit {0}} t t i i (Ok tt) (PartsCome comes (length t) [])
+  appends_none t i = (nothing, PartsCome.none (length t), sym (append-nil t), sym (append-nil i))
+
   pub appends_then : {A B : Type 0} (t t' t'' : List ℕ) (i i' i'' : List CodeItem) (x : A) (r : Result B OutRefusal) (xs ys : List Part) →
       Appends t t' i i' (Ok x) (PartsCome comes (length t) xs) → Appends t' t'' i' i'' r (PartsCome comes (length t') ys) → Appends t t'' i i'' r (PartsCome comes (length t) (xs ++ ys))
   appends_then t t' t'' i i' i'' x (Ok y) xs ys first last =

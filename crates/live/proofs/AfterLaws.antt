@@ -1,12 +1,12 @@
 -- What is live after a place, by the rows of the places to which it leads.
-use Rattle.std.proofs.Common.{◌≡◌, ℕ, Bool, true, false, ◌||◌, List, [], ◌∷◌, ◌++◌, Option, Some, None, inl, inr, refl, sym, ap, ◌∙◌, eqb, eq-eqb, subst}
+use Rattle.std.proofs.Common.{◌≡◌, ℕ, Bool, true, false, ◌||◌, List, ◌++◌, Option, Some, None, inl, inr, refl, sym, ap, ◌∙◌, eqb, eq-eqb, subst}
 use Rattle.std.proofs.lemmas.Bool.{or_cases, or_right, or_left, eqb-true, false≢true}
 use Rattle.std.specs.List.Sorted.{IsStrictlyIncreasing}
 use Rattle.std.specs.Option.{option_to_list}
 use Rattle.rtx_tree.specs.declared.function.Function.{Function}
 use Rattle.rtx_tree.specs.RegSet.{has_reg}
 use Rattle.reg_rows.specs.Table.{has_at}
-use Rattle.rtl_func.specs.Paths.{has_place, leads}
+use Rattle.rtl_func.specs.Paths.{has_place}
 use Rattle.rtl_func.specs.Successors.{successors_of}
 use Rattle.live_rows.specs.machine.Rows.{at_place}
 use Rattle.live.specs.Live.{IsLiveAfter, AreLiveAfter, AreLiveRows}

@@ -34,7 +34,8 @@ pub fn live_rows_of(alloc: Global, f: &Function) -> Result<Vec<RegRow>, Memory>
         return Err(Memory);
     }
     let nodes = nodes_of(alloc, f)?;
-    live_rows(alloc, nodes.as_slice())
+    let rows = live_rows(alloc, nodes.as_slice())?;
+    Ok(rows)
 }
 
 /// The registers that are live before each place of the function's chain, and at last before its end. A chain of 2^32 places or
@@ -43,5 +44,6 @@ pub fn liveness(alloc: Global, f: &Function) -> Result<Live, Memory>
     ensures { IfOk result (λ live. IsLiveness f.now live) }
 {
     let rows = live_rows_of(alloc, f)?;
-    sets_of(alloc, rows.as_slice())
+    let sets = sets_of(alloc, rows.as_slice())?;
+    Ok(sets)
 }

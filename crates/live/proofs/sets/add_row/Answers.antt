@@ -1,6 +1,6 @@
-use Rattle.std.proofs.Common.{ℕ, ◌/◌, ◌%◌, eqb, get_or, sym, arith}
+use Rattle.std.proofs.Common.{◌/◌, ◌%◌, eqb, get_or, sym, arith}
 use Rattle.std.proofs.lemmas.Bool.{and_parts, eqb-true}
-use Rattle.live.proofs.SetLaws.{IsTaken-one, IsTaken-word, taken_all}
+use Rattle.live.proofs.SetLaws.{IsTaken-word, taken_all}
 use Rattle.live.proofs.sets.add_row.Goals as goal
 
 pub loop-reg-preserved-then-is_passed : goal.loop-reg-preserved-then-is_passed

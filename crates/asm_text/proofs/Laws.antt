@@ -1,5 +1,5 @@
 -- What the assembly of functions is: its lines, the parts of its text, how many these are, and its size.
-use Rattle.std.proofs.Common.{◌≡◌, ◌<◌, ◌≤◌, ◌^◌, ℕ, ◌+◌, List, [], ◌∷◌, ◌++◌, length, Result, Ok, Err, refl, sym, ap, subst, ◌∙◌, arith}
+use Rattle.std.proofs.Common.{◌≡◌, ◌<◌, ◌≤◌, ◌^◌, ℕ, suc, ◌+◌, List, [], ◌∷◌, ◌++◌, length, Result, Ok, Err, refl, sym, ap, subst, ◌∙◌, arith}
 use Rattle.std.proofs.lemmas.List.{length-append}
 use Rattle.rtx_tree.specs.declared.function.Function.{Function}
 use Rattle.rv_text.specs.declared.line.CodeItem.{CodeItem}
@@ -75,7 +75,7 @@ are_parts forms number _ _ (IsAssembly.function _ f g functions piece rest small
 -- there is one for each function
 pub parts_count : (forms : List Entry) (number : ℕ) (functions : List Function) (a : Assembly) → IsAssembly forms number functions a → length a.parts ≡ length functions
 parts_count forms number _ _ (IsAssembly.none _) = refl
-parts_count forms number _ _ (IsAssembly.function _ f g functions piece rest small after written others) = ap (λ (n : ℕ). n + 1) (parts_count forms (number + 1) functions rest others)
+parts_count forms number _ _ (IsAssembly.function _ f g functions piece rest small after written others) = ap suc (parts_count forms (number + 1) functions rest others)
 
 within_from : (forms : List Entry) (number size : ℕ) (functions : List Function) (o : Outcome) (a : Assembly) → size ≤ most_output → o ≡ Ok a → AreWritten forms number size functions o → size + length a.text ≤ most_output
 within_from forms number size _ _ a within is (AreWritten.none _ _) = let empty : length a.text ≡ 0 = ap (λ (x : Assembly). length x.text) (sym (same_assembly nothing a is)) in omega (arith, within, empty)

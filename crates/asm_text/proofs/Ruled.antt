@@ -1,6 +1,6 @@
 -- Functions of which none is refused keep the rules.
 use Rattle.std.proofs.Common.{◌≡◌, ℕ, ◌+◌, List, [], ◌∷◌, Option, Some, None, refl, sym, ap, ◌∙◌}
-use Rattle.std.specs.Prelude.{drop}
+use Rattle.std.specs.Prelude.{drop, take}
 use Rattle.rtx_tree.specs.declared.function.Function.{Function}
 use Rattle.rtl_func.specs.declared.fault.Fault.{Fault}
 use Rattle.rtl_func.specs.Faults as rules
@@ -32,7 +32,7 @@ ruled_from functions index [] at is = tt
 ruled_from functions index (f ∷ rest) at is =
     let parts = later_none (refused_at functions index f) (refused_from functions (index + 1) rest) is in
     let own = later_none (rule_broken f (rules.first_fault (faults functions index))) (limit_passed f) parts.0 in (
-      record { before = _; keeps = sym (ap (λ o. rules.first_fault (faults_by functions index o)) (get_dropped functions index f rest at)) ∙ keeps_rules f _ own.0; within = own.1 },
+      record { before = take index functions; keeps = sym (ap (λ o. rules.first_fault (faults_by functions index o)) (get_dropped functions index f rest at)) ∙ keeps_rules f _ own.0; within = own.1 },
       ruled_from functions (index + 1) rest (drop_next functions index f rest at) parts.1,
     )
 

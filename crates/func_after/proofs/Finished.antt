@@ -4,7 +4,7 @@ use Rattle.rtx_tree.specs.declared.function.Insn.{Insn}
 use Rattle.rtx_tree.specs.declared.function.Function.{Function}
 use Rattle.run_refusal.specs.declared.refusal.Refusal.{Refusal}
 use Rattle.md_forms.specs.declared.form.Entry.{Entry}
-use Rattle.rtl_chain.specs.End.{IsEnd, IsFinished}
+use Rattle.rtl_chain.specs.End.{return_insn, IsEnd, IsFinished}
 use Rattle.func_input.specs.Input.{RefusesWith}
 use Rattle.func_input.specs.machine.Steps.{AppendedSome}
 use Rattle.func_input.proofs.Refusing.{refuses_map}
@@ -12,7 +12,7 @@ use Rattle.func_after.specs.Each.{EachComes}
 use Rattle.func_after.specs.After.{LowerComes, AfterComes, with_chain}
 
 pub with_end : (insns copies : List Insn) (end : Insn) → copies ≡ insns → IsEnd insns (Some end) → IsFinished insns (copies ++ end ∷ [])
-with_end insns copies _ is (IsEnd.returning reached) = subst (λ c. IsFinished insns (c ++ _ ∷ [])) (sym is) (IsFinished.returning reached)
+with_end insns copies _ is (IsEnd.returning reached) = subst (λ (c : List Insn). IsFinished insns (c ++ return_insn insns ∷ [])) (sym is) (IsFinished.returning reached)
 
 pub without_end : (insns copies : List Insn) → copies ≡ insns → IsEnd insns None → IsFinished insns copies
 without_end insns copies is (IsEnd.staying never) = subst (IsFinished insns) (sym is) (IsFinished.staying never)

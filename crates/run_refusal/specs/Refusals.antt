@@ -61,12 +61,19 @@ stage_text stage = codes "unmatched at " ++ (stage_name stage ++ codes ": ")
 abbrev pub unmatched_line : List ℕ → ℕ → Stage → Rtx → List ℕ
 unmatched_line function uid stage insn = at_text function uid ++ (stage_text stage ++ (printed insn ++ codes "\n"))
 
+-- not equated RULE:, and a space
+abbrev pub form_text : List ℕ → List ℕ
+form_text rule = codes "not equated " ++ (rule ++ codes ": ")
+
+abbrev pub both_text : List ℕ → List ℕ → List ℕ
+both_text left right = left ++ (codes " and " ++ (right ++ codes "\n"))
+
 -- ITEM: LEFT and RIGHT
 abbrev pub sides_text : Item → List ℕ → List ℕ → List ℕ
-sides_text item left right = item_text item ++ (codes ": " ++ (left ++ (codes " and " ++ right)))
+sides_text item left right = item_text item ++ (codes ": " ++ both_text left right)
 
 abbrev pub not_equated_line : List ℕ → ℕ → List ℕ → Item → List ℕ → List ℕ → List ℕ
-not_equated_line function uid rule item left right = at_text function uid ++ (codes "not equated " ++ (rule ++ (codes ": " ++ (sides_text item left right ++ codes "\n"))))
+not_equated_line function uid rule item left right = at_text function uid ++ (form_text rule ++ sides_text item left right)
 
 -- the line of a refusal, which ends with a newline
 abbrev pub line_of : Refusal → List ℕ

@@ -194,23 +194,31 @@ fn unmatched_line(
     print_insn(insn, out)
 }
 
+/// Prints `not equated RULE: `.
+fn print_form(rule: &Name, out: &mut Vec<u8>) -> Result<(), Memory>
+    ensures { OnOk result (out.new.items ≡ out.old.items ++ spec.form_text rule.now) }
+{
+    print_text(b"not equated ", out)?;
+    print_text(rule.bytes(), out)?;
+    print_text(b": ", out)
+}
+
+fn print_both(left: &Name, right: &Name, out: &mut Vec<u8>) -> Result<(), Memory>
+    ensures { OnOk result (out.new.items ≡ out.old.items ++ spec.both_text left.now right.now) }
+{
+    print_text(left.bytes(), out)?;
+    print_text(b" and ", out)?;
+    print_text(right.bytes(), out)?;
+    print_text(b"\n", out)
+}
+
 /// Prints `ITEM: LEFT and RIGHT`.
 fn print_sides(item: Item, left: &Name, right: &Name, out: &mut Vec<u8>) -> Result<(), Memory>
     ensures { OnOk result (out.new.items ≡ out.old.items ++ spec.sides_text item left.now right.now) }
 {
     print_item(item, out)?;
     print_text(b": ", out)?;
-    print_text(left.bytes(), out)?;
-    print_text(b" and ", out)?;
-    print_text(right.bytes(), out)
-}
-
-fn print_rule_name(rule: &Name, out: &mut Vec<u8>) -> Result<(), Memory>
-    ensures { OnOk result (out.new.items ≡ out.old.items ++ (codes "not equated " ++ (rule.now ++ codes ": "))) }
-{
-    print_text(b"not equated ", out)?;
-    print_text(rule.bytes(), out)?;
-    print_text(b": ", out)
+    print_both(left, right, out)
 }
 
 fn not_equated_line(
@@ -225,9 +233,8 @@ fn not_equated_line(
     ensures { OnOk result (out.new.items ≡ out.old.items ++ spec.not_equated_line function.now uid rule.now item left.now right.now) }
 {
     print_at(function, uid, out)?;
-    print_rule_name(rule, out)?;
-    print_sides(item, left, right, out)?;
-    print_text(b"\n", out)
+    print_form(rule, out)?;
+    print_sides(item, left, right, out)
 }
 
 /// Appends the line of a refusal.

@@ -2,9 +2,6 @@ pub mod Wholes
 pub mod Pieces
 pub mod OneAssembly
 pub mod Laws
-pub mod Ruled
-pub mod Written
-pub mod SameLaws
 pub mod Parts
 pub mod Comes
 pub mod CodeLaws

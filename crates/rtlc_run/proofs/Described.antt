@@ -22,7 +22,7 @@ use Rattle.asm_text.specs.Same.{frame_size}
 use Rattle.asm_text.specs.Code.{CodeComes}
 use Rattle.asm_text.proofs.OneAssembly.{one_coming_of}
 use Rattle.asm_text.proofs.Laws.{is_assembly}
-use Rattle.asm_text.proofs.SameLaws.{input_does_same, coded_is_same}
+use Rattle.asm_same.proofs.Same.{input_does_same, coded_is_same}
 use Rattle.asm_text.proofs.CodeLaws.{one_code, code_coded}
 use Rattle.code_eval.specs.Start.{stack_room}
 use Rattle.code_eval.specs.Eval.{eval_text, IsFair}

@@ -1,2 +1,3 @@
 pub mod NodeLaws
 pub mod SetLaws
+pub mod AfterLaws

@@ -1,5 +1,5 @@
 -- Paths of the graph and paths of the chain.
-use Rattle.std.proofs.Common.{◌≡◌, ℕ, zero, suc, ◌+◌, ◌<◌, ◌≤◌, true, false, List, [], ◌∷◌, ◌++◌, length, Option, Some, None, inl, inr, refl, sym, ap, subst, ◌∙◌, arith, ◌⊎◌}
+use Rattle.std.proofs.Common.{◌≡◌, ℕ, zero, suc, ◌+◌, ◌<◌, List, [], ◌∷◌, ◌++◌, length, Some, inl, inr, refl, sym, ap, subst, ◌∙◌, arith, ◌⊎◌}
 use Rattle.std.specs.Prelude.{slice_get}
 use Rattle.std.proofs.lemmas.Bool.{false≢true}
 use Rattle.std.proofs.lemmas.List.{length_push}
@@ -9,7 +9,7 @@ use Rattle.rtx_tree.specs.declared.function.Function.{Function}
 use Rattle.live_rows.specs.declared.node.Node.{Node}
 use Rattle.reg_rows.specs.Table.{has_at}
 use Rattle.live_rows.specs.Paths.{Reaches, Here, Along, IsLiveRows}
-use Rattle.live.specs.Live.{IsLive, AtEnd, AtUse, Passing, IsLiveness, live_has}
+use Rattle.live.specs.Live.{IsLive, AtEnd, AtUse, Passing, IsLiveness, AreLiveRows, live_has}
 use Rattle.live.specs.machine.Nodes.{IsNodeOf, IsEndOf, AreNodes}
 
 -- a node stands for an instruction or for the end
@@ -96,10 +96,18 @@ AreNodes-push f nodes new each long is =
       ];
     }
 
-pub IsLiveness-from : (f : Function) (nodes : List Node) (rows sets : List (List ℕ)) → AreNodes f nodes → IsLiveRows nodes rows → length sets ≡ length rows → ((p reg : ℕ) → live_has sets p reg ≡ has_at rows p reg) → IsLiveness f sets
-IsLiveness-from f nodes rows sets are exact long each =
+pub AreLiveRows-from : (f : Function) (nodes : List Node) (rows : List (List ℕ)) → AreNodes f nodes → IsLiveRows nodes rows → AreLiveRows f rows
+AreLiveRows-from f nodes rows are exact =
     record {
-      long = omega (arith, are.long, exact.long, long);
-      sound = λ p reg h. to_live f nodes are reg p (exact.sound p reg (sym (each p reg) ∙ h));
-      complete = λ p reg live. each p reg ∙ exact.complete p reg (from_live f nodes are reg p live);
+      long = omega (arith, are.long, exact.long);
+      sound = λ p reg h. to_live f nodes are reg p (exact.sound p reg h);
+      complete = λ p reg live. exact.complete p reg (from_live f nodes are reg p live);
+    }
+
+pub IsLiveness-from : (f : Function) (rows sets : List (List ℕ)) → AreLiveRows f rows → length sets ≡ length rows → ((p reg : ℕ) → live_has sets p reg ≡ has_at rows p reg) → IsLiveness f sets
+IsLiveness-from f rows sets exact long each =
+    record {
+      long = omega (arith, exact.long, long);
+      sound = λ p reg h. exact.sound p reg (sym (each p reg) ∙ h);
+      complete = λ p reg live. each p reg ∙ exact.complete p reg live;
     }

@@ -33,14 +33,13 @@ fn is_passed(row: &RegRow, reg: usize) -> bool
     reg % WORD == 0 && row.is_zero(reg / WORD)
 }
 
-/// The registers of a row. A row past `u32` finds no memory.
-fn set_of(alloc: Global, row: &RegRow) -> Result<RegSet, Memory>
-    ensures { IfOk result (λ set. (reg : ℕ) → has_reg set reg ≡ has row.now reg) }
+/// Adds the registers of a row. A row past `u32` finds no memory.
+pub fn add_row(row: &RegRow, set: &mut RegSet) -> Result<(), Memory>
+    ensures { OnOk result ((reg : ℕ) → has_reg set.new reg ≡ (has_reg set.old reg || has row.now reg)) }
 {
     if row.width() > MOST_WORDS {
         return Err(Memory);
     }
-    let mut set = RegSet::new(alloc);
     let end = row.width() * WORD;
     let mut reg = 0;
     while reg < end {
@@ -48,9 +47,18 @@ fn set_of(alloc: Global, row: &RegRow) -> Result<RegSet, Memory>
             reg += WORD;
             continue;
         }
-        add_register(row, reg as u32, &mut set)?;
+        add_register(row, reg as u32, set)?;
         reg += 1;
     }
+    Ok(())
+}
+
+/// The registers of a row.
+fn set_of(alloc: Global, row: &RegRow) -> Result<RegSet, Memory>
+    ensures { IfOk result (λ set. (reg : ℕ) → has_reg set reg ≡ has row.now reg) }
+{
+    let mut set = RegSet::new(alloc);
+    add_row(row, &mut set)?;
     Ok(set)
 }
 

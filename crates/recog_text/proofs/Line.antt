@@ -1,7 +1,8 @@
 -- A line, from its parts.
 use Rattle.std.proofs.Common.{◌≡◌, ℕ, List, [], ◌∷◌, ◌++◌, ap, ◌∙◌, append_assoc}
 use Rattle.std.specs.Fmt.{decimal}
-use Rattle.recog_text.specs.Recog.{name_at, line_of}
+use Rattle.form_needs.specs.Needs.{name_at}
+use Rattle.recog_text.specs.Recog.{line_of}
 
 -- what stands behind a part and its blank
 behind : (front part rest : List ℕ) → (front ++ (part ++ 32 ∷ [])) ++ rest ≡ front ++ (part ++ (32 ∷ rest))

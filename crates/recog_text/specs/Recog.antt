@@ -1,21 +1,11 @@
 -- What `recog` tells of functions: GCC Internals, "Pattern Ordering" (the first match), "Interdependence of Patterns", and "Multiple
 -- Alternative Constraints". The lines are this project's own.
-use Rattle.std.specs.Prelude.{◌≡◌, ℕ, ℤ, pos, Bool, true, false, not, ◌&&◌, ◌||◌, nat_lt, List, [], ◌∷◌, ◌++◌, slice_get, unwrap_or, Ok, Err}
+use Rattle.std.specs.Prelude.{◌≡◌, ℕ, true, false, List, [], ◌∷◌, ◌++◌, Ok, Err}
 use Rattle.std.specs.Fmt.{decimal}
-use Rattle.std.specs.List.{list_any}
-use Rattle.rtx_tree.specs.declared.code.Code.{Code}
-use Rattle.rtx_tree.specs.declared.code.Code.TheVariants.{Reg, Use, Clobber}
-use Rattle.rtx_tree.specs.declared.function.Kind.{Kind}
-use Rattle.rtx_tree.specs.declared.function.Kind.TheVariants.{Plain, Jump, Call}
 use Rattle.rtx_tree.specs.declared.function.Insn.{Insn}
 use Rattle.rtx_tree.specs.declared.function.Function.{Function}
 use Rattle.rtx_tree.specs.declared.stage.Stage.{Stage}
 use Rattle.rtx_tree.specs.declared.stage.Stage.TheVariants.{Lower, Output}
-use Rattle.rtx_tree.specs.declared.tree.Rtx.{Rtx}
-use Rattle.rtx_tree.specs.declared.tree.Rtx.TheOpen.{Rtx-F}
-use Rattle.rtx_tree.specs.declared.tree.Rtx.TheFolds.{fold-Rtx}
-use Rattle.rtx_tree.specs.Tree.{head_of}
-use Rattle.c_eval.specs.declared.facts.Facts.{Facts}
 use Rattle.run_refusal.specs.declared.refusal.Refusal.{Refusal}
 use Rattle.run_refusal.specs.declared.refusal.Refusal.TheVariants as refusal
 use Rattle.md_forms.specs.declared.form.Entry.{Entry}
@@ -23,64 +13,12 @@ use Rattle.md_forms.specs.Forms.{names_of}
 use Rattle.md_recog.specs.declared.recog.FormMatch.{FormMatch}
 use Rattle.md_desc.specs.declared.output.Chosen.{Chosen}
 use Rattle.md_desc.specs.Recog.{IsFirst, NoneMatches, IsChosen, NoneMatchesOut}
+use Rattle.form_needs.specs.Needs.{lower_facts, output_facts, needs_form, is_held, name_at}
 use Rattle.rtl_chain.specs.End.{IsFinished}
 use Rattle.func_input.specs.Outcome.{Outcome}
 use Rattle.recog_text.specs.Each.{EachComes}
 
--- ---- what conditions know at each stage
-
--- registers have no homes yet, and new ones may be made
-abbrev pub lower_facts : Facts
-lower_facts = record { reloaded = false; new_pseudos = true; dead = [] }
-
--- they have
-abbrev pub output_facts : Facts
-output_facts = record { reloaded = true; new_pseudos = false; dead = [] }
-
--- ---- instructions
-
--- labels and barriers are none
-abbrev pub is_kind : Kind → Bool
-is_kind Plain = true
-is_kind Jump = true
-is_kind Call = true
-is_kind _ = false
-
--- a use or a clobber alone gives no line, and no form needs to match it
-abbrev pub is_note : Code → Bool
-is_note Use = true
-is_note Clobber = true
-is_note _ = false
-
-abbrev pub needs_form : Insn → Bool
-needs_form i = is_kind i.kind && not (is_note (head_of i.pattern).code)
-
--- registers are 0 to 31; what comes behind is the address of the locals or a pseudo register
-abbrev pub is_homeless : Code → ℤ → Bool
-is_homeless Reg (pos n) = nat_lt 31 n
-is_homeless _ _ = false
-
-abbrev pub homeless_step : Rtx-F Bool → Bool
-homeless_step x = is_homeless x.code x.number || list_any (λ here. here) x.kids
-
--- a pseudo register or the address of the locals stands in the tree
-abbrev pub names_homeless : Rtx → Bool
-names_homeless = fold-Rtx Bool homeless_step
-
-abbrev pub is_call : Kind → Bool
-is_call Call = true
-is_call _ = false
-
--- No pass gives registers their homes, makes a frame or saves what a call changes yet. So no form counts at output for an instruction that has
--- need of that.
-abbrev pub is_held : Insn → Bool
-is_held i = is_call i.kind || names_homeless i.pattern
-
 -- ---- lines
-
--- the name under which a form is shown
-abbrev pub name_at : List (List ℕ) → ℕ → List ℕ
-name_at names form = unwrap_or (slice_get names form) []
 
 -- function, uid, form and alternative
 abbrev pub line_of : List (List ℕ) → List ℕ → ℕ → ℕ → ℕ → List ℕ

@@ -5,7 +5,6 @@
 //! (`specs/Recog.antt`). The first instruction without one refuses the text, by its name.
 #![tactic(auto)]
 
-mod needs;
 mod recog;
 mod stages;
 

@@ -7,34 +7,13 @@ ghost use Rattle.recog_text.specs.Each.{EachComes};
 ghost use Rattle.recog_text.specs.Recog as spec;
 ghost use Rattle.recog_text.specs.Recog.{LowerComes, OutputComes};
 
-use crate::needs::{is_held, needs_form};
-use c_eval::Facts;
+use form_needs::{is_held, lower_facts, name_at, needs_form, output_facts};
 use md_desc::{Chosen, Description};
-use plain_data::{Items, Memory};
+use plain_data::Memory;
 use rtx_tree::{Insn, Name, Stage};
 use run_refusal::Refusal;
 use std::alloc::Global;
 use text_words::{print_count, print_text};
-
-fn lower_facts(alloc: Global) -> Facts
-    ensures { result ≡ spec.lower_facts }
-{
-    Facts {
-        reloaded: false,
-        new_pseudos: true,
-        dead: Items::new(alloc),
-    }
-}
-
-fn output_facts(alloc: Global) -> Facts
-    ensures { result ≡ spec.output_facts }
-{
-    Facts {
-        reloaded: true,
-        new_pseudos: false,
-        dead: Items::new(alloc),
-    }
-}
 
 fn unmatched(alloc: Global, stage: Stage, function: &Name, insn: &Insn) -> Result<Refusal, Memory>
     ensures { IfOk result (λ e. e ≡ spec.unmatched_at stage function.now insn.now) }
@@ -79,15 +58,6 @@ pub fn lower_insns(
         lower_insn(alloc, desc, function, insn)?;
     }
     Ok(())
-}
-
-fn name_at(names: &[Name], form: u32) -> &[u8]
-    ensures { result.now ≡ spec.name_at names.now form }
-{
-    match names.get(form as usize) {
-        Some(name) => name.bytes(),
-        None => b"",
-    }
 }
 
 /// Appends a text and what ends it.

@@ -1,7 +1,8 @@
 use Rattle.std.proofs.Common.{◌≡◌, true, false, [], refl, rules, subst}
 use Rattle.rtx_tree.specs.declared.stage.Stage.TheVariants.{Lower}
 use Rattle.md_desc.specs.Recog.{IsFirst, NoneMatches}
-use Rattle.recog_text.specs.Recog.{needs_form, LowerComes}
+use Rattle.form_needs.specs.Needs.{needs_form}
+use Rattle.recog_text.specs.Recog.{LowerComes}
 use Rattle.recog_text.proofs.Told.{told_unmatched}
 use Rattle.recog_text.proofs.stages.lower_insn.Goals as goal
 

@@ -2,7 +2,8 @@ use Rattle.std.proofs.Common.{◌≡◌, true, false, [], sym, rules, subst}
 use Rattle.std.proofs.lemmas.List.{append-nil}
 use Rattle.rtx_tree.specs.declared.stage.Stage.TheVariants.{Output}
 use Rattle.md_desc.specs.Recog.{IsChosen, NoneMatchesOut}
-use Rattle.recog_text.specs.Recog.{needs_form, is_held, line_of, OutputComes}
+use Rattle.form_needs.specs.Needs.{needs_form, is_held}
+use Rattle.recog_text.specs.Recog.{line_of, OutputComes}
 use Rattle.recog_text.proofs.Told.{told_unmatched}
 use Rattle.recog_text.proofs.stages.print_insn.Goals as goal
 

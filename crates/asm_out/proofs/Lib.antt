@@ -1,0 +1,9 @@
+pub mod Refusing
+pub mod PartLaws
+pub mod PlacesLaws
+pub mod Sorted
+pub mod LineLaws
+pub mod PlaceOne
+pub mod Calls
+pub mod WrittenLaws
+pub mod SpelledLaws

@@ -1,0 +1,64 @@
+//! What an instruction comes to by the form that is chosen for it.
+ghost use Rattle.std.specs.Prelude.{◌≡◌, true, false};
+ghost use Rattle.form_needs.specs.Needs as needs;
+ghost use Rattle.live.specs.Live.{AreLiveRows};
+ghost use Rattle.md_desc.specs.Recog.{IsChosen};
+ghost use Rattle.equate.specs.Views.{side_of};
+ghost use Rattle.asm_out.specs.Comes.{PlaceComes};
+ghost use Rattle.asm_out.specs.Outcome.{Gives};
+ghost use Rattle.asm_out.specs.machine.Steps as steps;
+
+use crate::compare::judge;
+use crate::lines::{code_piece, read_lines, text_of};
+use crate::piece::Piece;
+use crate::refusal::OutRefusal;
+use equate::Side;
+use live::live_after;
+use md_desc::{Chosen, Description};
+use plain_data::Items;
+use reg_rows::RegRow;
+use rtx_tree::{Function, Insn};
+use rv_text::Line;
+use std::alloc::Global;
+
+/// The lines of a side.
+fn lines_in(alloc: Global, side: Side) -> Items<Line>
+    ensures { result ≡ steps.lines_in side }
+{
+    match side {
+        Side::Insns { .. } => Items::new(alloc),
+        Side::Lines { lines, .. } => lines,
+    }
+}
+
+/// What an instruction at a place comes to by the chosen form: its lines, where they are equated with it over the registers that are live
+/// behind it. More lines than 32 bits count find no memory.
+pub fn chosen_piece(
+    alloc: Global,
+    description: &Description,
+    number: u32,
+    f: &Function,
+    rows: &[RegRow],
+    place: u32,
+    insn: &Insn,
+    chosen: &Chosen,
+) -> Result<Piece, OutRefusal>
+    requires rows { AreLiveRows f.now rows.now }
+    requires needs { needs.needs_form insn.now ≡ true }
+    requires free { needs.is_held insn.now ≡ false }
+    requires chosen { IsChosen description.now needs.output_facts insn.now.pattern chosen.now }
+    ensures { Gives result (PlaceComes description.now number f.now place insn.now) }
+{
+    let text = text_of(alloc, description, number, insn, chosen)?;
+    let lines = read_lines(alloc, text.as_slice())?;
+    if lines.len() > u32::MAX as usize {
+        return Err(OutRefusal::Memory);
+    }
+    let live = live_after(alloc, f, rows, place)?;
+    let side = Side::Lines {
+        function: number,
+        lines,
+    };
+    judge(alloc, description, chosen.form, insn, &side, &live)?;
+    Ok(code_piece(alloc, text.as_slice(), lines_in(alloc, side))?)
+}

@@ -1,0 +1,104 @@
+//! What stands for the items of a function's chain.
+ghost use Rattle.std.specs.Prelude.{◌≡◌, ◌∷◌, [], ◌<◌, ◌^◌, true, false, length};
+ghost use Rattle.form_needs.specs.Needs as needs;
+ghost use Rattle.live.specs.Live.{AreLiveRows};
+ghost use Rattle.asm_out.specs.Comes.{PlaceComes, PartComes, PartsCome, Place, places_from};
+ghost use Rattle.asm_out.specs.Outcome.{Gives, Appends};
+
+use crate::chosen::chosen_piece;
+use crate::frame::{label, only_text};
+use crate::piece::{Piece, append_piece};
+use crate::refusal::{OutRefusal, unmatched};
+use form_needs::{is_held, is_silent, needs_form, output_facts};
+use md_desc::Description;
+use reg_rows::RegRow;
+use rtx_tree::{Function, Insn, Kind};
+use rv_text::CodeItem;
+use std::alloc::Global;
+
+/// What an instruction at a place comes to.
+fn insn_piece(
+    alloc: Global,
+    description: &Description,
+    number: u32,
+    f: &Function,
+    rows: &[RegRow],
+    place: u32,
+    insn: &Insn,
+) -> Result<Piece, OutRefusal>
+    requires rows { AreLiveRows f.now rows.now }
+    requires needs { needs.needs_form insn.now ≡ true }
+    requires free { needs.is_held insn.now ≡ false }
+    ensures { Gives result (PlaceComes description.now number f.now place insn.now) }
+{
+    match description.recog_out(alloc, &insn.pattern, &output_facts(alloc))? {
+        Some(chosen) => chosen_piece(alloc, description, number, f, rows, place, insn, &chosen),
+        None => Err(unmatched(alloc, insn)?),
+    }
+}
+
+/// What an item at a place comes to.
+fn item_piece(
+    alloc: Global,
+    description: &Description,
+    number: u32,
+    f: &Function,
+    rows: &[RegRow],
+    place: u32,
+    insn: &Insn,
+) -> Result<Piece, OutRefusal>
+    requires { AreLiveRows f.now rows.now }
+    ensures { Gives result (PlaceComes description.now number f.now place insn.now) }
+{
+    if matches!(insn.kind, Kind::Label) {
+        return Ok(label(alloc, number, insn.uid)?);
+    }
+    if is_silent(insn) {
+        return Ok(only_text(alloc, Vec::new(alloc)));
+    }
+    if !needs_form(insn) || is_held(insn) {
+        return Err(unmatched(alloc, insn)?);
+    }
+    insn_piece(alloc, description, number, f, rows, place, insn)
+}
+
+/// Appends what stands for an item at a place.
+fn write_place(
+    alloc: Global,
+    description: &Description,
+    number: u32,
+    f: &Function,
+    rows: &[RegRow],
+    place: u32,
+    insn: &Insn,
+    out: &mut Vec<u8>,
+    items: &mut Vec<CodeItem>,
+) -> Result<(), OutRefusal>
+    requires { AreLiveRows f.now rows.now }
+    ensures { Appends out.old.items out.new.items items.old.items items.new.items result
+        (PartsCome (PartComes description.now number f.now) (length out.old.items) (Place place insn.now ∷ [])) }
+{
+    let piece = item_piece(alloc, description, number, f, rows, place, insn)?;
+    append_piece(piece, out, items)
+}
+
+/// Appends what stands for the items of the chain.
+pub fn write_places(
+    alloc: Global,
+    description: &Description,
+    number: u32,
+    f: &Function,
+    rows: &[RegRow],
+    out: &mut Vec<u8>,
+    items: &mut Vec<CodeItem>,
+) -> Result<(), OutRefusal>
+    requires rows { AreLiveRows f.now rows.now }
+    requires short { length f.now.insns < 2 ^ 32 }
+    ensures { Appends out.old.items out.new.items items.old.items items.new.items result
+        (PartsCome (PartComes description.now number f.now) (length out.old.items) (places_from 0 f.now.insns)) }
+{
+    for (place, insn) in f.insns.as_slice().iter().enumerate() {
+        write_place(alloc, description, number, f, rows, place as u32, insn, out, items)?;
+    }
+    Ok(())
+}

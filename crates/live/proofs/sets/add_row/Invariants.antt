@@ -1,0 +1,10 @@
+use Rattle.std.proofs.Common.{◌≡◌, ℕ, ◌-◌, ◌*◌, ◌&&◌, ◌||◌, ltb, length}
+use Rattle.rtx_tree.specs.RegSet.{has_reg}
+use Rattle.reg_rows.specs.Row.{has}
+use Rattle.live.proofs.sets.add_row.Given as goal
+
+abbrev pub invariant-loop-reg : goal.invariant-loop-reg
+invariant-loop-reg l = (other : ℕ) → has_reg l.set other ≡ (has_reg l.initial.set other || (ltb other l.reg && has l.row other))
+
+abbrev pub decreases-loop-reg : goal.decreases-loop-reg
+decreases-loop-reg l = length l.row * 64 - l.reg

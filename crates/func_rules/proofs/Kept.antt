@@ -81,17 +81,17 @@ unbroken : (rule : InsnRule) (f : Function) (insns : List Insn) → rule_faults_
 unbroken rule f [] none place i at = absurd (let nothing : ⊥ = cc in nothing)
 unbroken rule f (j ∷ insns) none place i at = elim (cases_Bool (breaks rule f j)) [
   | inl broken ↦ absurd (let is : fault (rule_number rule) j.uid ∷ rule_faults_in rule f insns ≡ [] = sym (rule_broken rule f j insns broken) ∙ none in let nothing : ⊥ = cc in nothing)
-  | inr kept ↦ by place at kept (sym (rule_kept rule f j insns kept) ∙ none)
+  | inr kept ↦ by place at kept (unbroken rule f insns (sym (rule_kept rule f j insns kept) ∙ none))
 ]
   where
-    by : (place : ℕ) → StandsAt (j ∷ insns) place i → breaks rule f j ≡ false → rule_faults_in rule f insns ≡ [] → breaks rule f i ≡ false
+    by : (place : ℕ) → StandsAt (j ∷ insns) place i → breaks rule f j ≡ false → ((place : ℕ) (i : Insn) → StandsAt insns place i → breaks rule f i ≡ false) → breaks rule f i ≡ false
     by zero at kept rest = let same : j ≡ i = cc in subst (λ k. breaks rule f k ≡ false) same kept
-    by (suc place) at kept rest = unbroken rule f insns rest place i at
+    by (suc place) at kept rest = rest place i at
 
 kept_where_ruled : (ruled kept : Bool) → (ruled && not kept) ≡ false → ruled ≡ true → kept ≡ true
-kept_where_ruled true true is yes = refl
-kept_where_ruled true false is yes = absurd (true≢false is)
-kept_where_ruled false kept is yes = absurd (false≢true yes)
+kept_where_ruled true true is here = refl
+kept_where_ruled true false is here = absurd (true≢false is)
+kept_where_ruled false kept is here = absurd (false≢true here)
 
 in_all : (f : Function) (rules : List InsnRule) → all_rule_faults f rules ≡ [] → AllByRecursion (λ rule. rule_faults f rule ≡ []) rules
 in_all f [] none = tt

@@ -1,5 +1,5 @@
 -- A function that isn't refused keeps each rule.
-use Rattle.std.proofs.Common.{◌≡◌, ℕ, zero, suc, ◌+◌, Bool, true, false, not, ◌&&◌, ◌||◌, List, [], ◌∷◌, ◌++◌, map, filter, take, cond, Option, Some, None, refl, sym, ap, subst, ◌∙◌, inl, inr, arith}
+use Rattle.std.proofs.Common.{◌≡◌, ℕ, zero, suc, ◌+◌, Bool, true, false, not, ◌&&◌, List, [], ◌∷◌, ◌++◌, take, Option, Some, None, refl, sym, subst, ◌∙◌, inl, inr, arith}
 use Rattle.std.specs.Prelude.{slice_get}
 use Rattle.std.specs.List.{AllByRecursion}
 use Rattle.std.proofs.lemmas.Bool.{cases_Bool, true≢false, false≢true}
@@ -9,7 +9,7 @@ use Rattle.rtl_func.specs.declared.fault.Fault.{Fault}
 use Rattle.rtl_func.specs.declared.rules.InsnRule.{InsnRule}
 use Rattle.rtl_func.specs.declared.rules.InsnRule.TheVariants.{LabelsStand, KindsAgree, ModesAgree, OneModeAPseudo, ArgumentRegisters, Calls, Parallels, StackVariables}
 use Rattle.rtl_func.specs.Faults.{fault, earlier, first_fault}
-use Rattle.rtl_func.specs.Rules.{uid_faults, rule_number, insn_rules, keeps, breaks, rule_faults_in, rule_faults, all_rule_faults, name_faults, has_own_name, faults_of}
+use Rattle.rtl_func.specs.Rules.{uid_faults, rule_number, insn_rules, keeps, breaks, rule_faults_in, rule_faults, all_rule_faults, name_faults, faults_of}
 use Rattle.rtl_func.specs.Uids.{is_ruled}
 use Rattle.rtl_func.proofs.FaultLaws.{rule_broken, rule_kept}
 use Rattle.run_refusal.specs.declared.refusal.Refusal.{Refusal}

@@ -1,2 +1,5 @@
 pub mod Kept
 pub mod Uids
+pub mod Mentions
+pub mod Nodes
+pub mod Arguments

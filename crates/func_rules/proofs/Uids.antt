@@ -1,14 +1,12 @@
 -- The uids of a function that keeps the rules: they differ, and each has 32 bits.
-use Rattle.std.proofs.Common.{◌≡◌, ℕ, zero, suc, ◌+◌, ◌<◌, ◌≤◌, ◌^◌, Bool, true, false, not, ◌&&◌, ◌||◌, ◌==◌, List, [], ◌∷◌, ◌++◌, map, filter, cond, Some, refl, sym, ap, subst, ◌∙◌, inl, inr, arith}
+use Rattle.std.proofs.Common.{◌≡◌, ℕ, zero, suc, ◌≤◌, Bool, true, false, not, ◌&&◌, ◌==◌, List, [], ◌∷◌, refl, sym, ap, subst, ◌∙◌, inl, inr}
 use Rattle.std.specs.Prelude.{nat_le}
 use Rattle.std.proofs.lemmas.Bool.{cases_Bool, true≢false, false≢true, and_parts, or_parts, eq-eqb, leb-true}
 use Rattle.rtx_tree.specs.declared.function.Insn.{Insn}
 use Rattle.rtx_tree.specs.declared.function.Function.{Function}
-use Rattle.rtl_func.specs.declared.fault.Fault.{Fault}
-use Rattle.rtl_func.specs.Faults.{fault}
 use Rattle.rtl_func.specs.Paths.{has_place}
-use Rattle.rtl_func.specs.Rules.{uid_faults, uid_fault}
-use Rattle.rtl_func.specs.Uids.{is_ruled, is_uid, uids_of, bad_uids}
+use Rattle.rtl_func.specs.Rules.{uid_fault}
+use Rattle.rtl_func.specs.Uids.{is_ruled, is_uid}
 use Rattle.rtl_func.proofs.FaultLaws.{uid_faults_in, uid_ruled, uid_other}
 use Rattle.func_rules.specs.Admitted.{IsAdmitted, StandsAt}
 use Rattle.func_rules.proofs.Kept.{both_empty, no_faults}

@@ -3,3 +3,4 @@ pub mod Uids
 pub mod Mentions
 pub mod Nodes
 pub mod Arguments
+pub mod Registers

@@ -4,3 +4,6 @@ pub mod Mentions
 pub mod Nodes
 pub mod Arguments
 pub mod Registers
+pub mod Chain
+pub mod Returning
+pub mod Exit

@@ -7,3 +7,4 @@ pub mod Registers
 pub mod Chain
 pub mod Returning
 pub mod Exit
+pub mod Added

@@ -8,3 +8,5 @@ pub mod Chain
 pub mod Returning
 pub mod Exit
 pub mod Added
+pub mod Reading
+pub mod Finished

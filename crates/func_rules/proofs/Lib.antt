@@ -10,3 +10,6 @@ pub mod Exit
 pub mod Added
 pub mod Reading
 pub mod Finished
+pub mod Marks
+pub mod Sorts
+pub mod Ready

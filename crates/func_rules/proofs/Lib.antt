@@ -13,3 +13,4 @@ pub mod Finished
 pub mod Marks
 pub mod Sorts
 pub mod Ready
+pub mod Jumps

@@ -1,5 +1,5 @@
 -- The jumps of a function that keeps the rules lead to labels that stand.
-use Rattle.std.proofs.Common.{◌≡◌, ℕ, Bool, true, ◌&&◌, not, List, [], ◌∷◌, Option, Some, None, ◌⊎◌, refl, sym, ap, subst, ◌∙◌, inl, inr}
+use Rattle.std.proofs.Common.{◌≡◌, ℕ, true, ◌&&◌, not, List, [], ◌∷◌, Option, Some, None, ◌⊎◌, refl, sym, ap, subst, ◌∙◌, inl, inr}
 use Rattle.std.specs.Prelude.{is_some, if◌then◌else◌}
 use Rattle.std.specs.List.{list_all}
 use Rattle.std.proofs.lemmas.Bool.{false≢true, and_parts, or_cases}
@@ -10,7 +10,6 @@ use Rattle.rtx_tree.specs.declared.code.Mode.{Mode}
 use Rattle.rtx_tree.specs.declared.function.Insn.{Insn}
 use Rattle.rtx_tree.specs.declared.tree.Rtx.{Rtx, out-Rtx}
 use Rattle.rtx_tree.specs.Patterns.{is_pc, is_pc_code, label_of, label_uid, place_of}
-use Rattle.rtx_tree.specs.Tree.{kids_of}
 use Rattle.rtl_func.specs.Kinds.{is_jump_by, uid_stands, label_stands}
 use Rattle.rtl_func.specs.Shapes.{class_at, mode_at, number_at, has_mode, is_place, is_place_class, is_place, is_bare, is_shaped, fits_row, is_set_to, is_choice, is_counter_class, is_label_class, is_comparison_class, is_jump_source_class}
 use Rattle.rtl_func.specs.Successors.{goes_to, branches_to, source_flow, source_flow_by, jump_flow_by}
@@ -18,7 +17,7 @@ use Rattle.rtl_func.specs.declared.flow.Flow.TheVariants.{Stops}
 use Rattle.reg_uses.specs.Uses.{is_return_code}
 use Rattle.func_rules.specs.Sorts.{Leads}
 use Rattle.func_rules.specs.Sorts as sorts
-use Rattle.func_rules.proofs.Nodes.{all_pass, pass_out}
+use Rattle.func_rules.proofs.Nodes.{all_pass, itself, within}
 
 -- ---- codes
 
@@ -44,12 +43,6 @@ there (Some x) is = (x, refl)
 there None is = absurd (false≢true is)
 
 -- ---- trees
-
-itself : (test : Rtx → Bool) (x : Rtx) → all_pass test x ≡ true → test x ≡ true
-itself test x all = (and_parts (test x) (list_all (all_pass test) (kids_of x)) (sym (pass_out test x) ∙ all)).0
-
-within : (test : Rtx → Bool) (x : Rtx) → all_pass test x ≡ true → list_all (all_pass test) (kids_of x) ≡ true
-within test x all = (and_parts (test x) (list_all (all_pass test) (kids_of x)) (sym (pass_out test x) ∙ all)).1
 
 fits_itself : (x : Rtx) → all_pass is_shaped x ≡ true → fits_row (class_at x) (mode_at x) (number_at x) (out-Rtx x).kids ≡ true
 fits_itself x shaped = (and_parts (is_bare (class_at x) (number_at x) (out-Rtx x).name) _ (itself is_shaped x shaped)).1

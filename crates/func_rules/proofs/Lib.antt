@@ -14,3 +14,4 @@ pub mod Marks
 pub mod Sorts
 pub mod Ready
 pub mod Jumps
+pub mod AllSorts

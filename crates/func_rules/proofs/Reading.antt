@@ -75,7 +75,7 @@ good_call : (t : Tree) (parts : Option InsnParts) → IfStands Good (call_by t p
 good_call t (Some parts) = then_stands (λ x. Unit {0}) Good (call_of parts.pattern) (λ x. parsed_map (call_with parts.uid x) (uses_of parts.rest))
     (any_stands (λ x. Unit {0}) (λ x. tt) (call_of parts.pattern))
     (λ x nothing. map_stands Good (call_with parts.uid x) (uses_of parts.rest)
-        (any_stands (λ uses. Good (call_with parts.uid x uses)) (λ uses. good_other (insn_with Call parts.uid uses x) call_is_none) (uses_of parts.rest)))
+    (any_stands (λ uses. Good (call_with parts.uid x uses)) (λ uses. good_other (insn_with Call parts.uid uses x) call_is_none) (uses_of parts.rest)))
 good_call t None = tt
 
 good_label : (t : Tree) (number : Option ℕ) → IfStands Good (label_by t number)
@@ -110,7 +110,7 @@ good_each : (read : Tree → Parsed (List Insn)) → ((t : Tree) → IfStands Go
 good_each read each [] = tt
 good_each read each (t ∷ trees) = then_stands Good Good (read t) (λ xs. parsed_map (λ ys. xs ++ ys) (each_joined read trees)) (each t)
     (λ xs good. map_stands Good (λ ys. xs ++ ys) (each_joined read trees)
-        (weaker xs good (each_joined read trees) (good_each read each trees)))
+    (weaker xs good (each_joined read trees) (good_each read each trees)))
   where
     weaker : (xs : List Insn) → Good xs → (p : Parsed (List Insn)) → IfStands Good p → IfStands (λ ys. Good (xs ++ ys)) p
     weaker xs good (stands ys) more = good_append xs ys good more

@@ -33,14 +33,20 @@ is_effect_itself : is_effect_class (class_of_code (out-Rtx return_rtx).code) ≡
 is_effect_itself = ap (λ (o : Rtx-F Rtx). is_effect_class (class_of_code o.code)) (out-roll-Rtx _)
 
 shaped : is_shaped return_rtx ≡ true
-shaped = ap (λ (o : Rtx-F Rtx). is_bare (class_of_code o.code) (cast_unsigned w64 o.number) o.name && fits_row (class_of_code o.code) o.mode (cast_unsigned w64 o.number) o.kids) (out-roll-Rtx _)
+shaped =
+    ap (λ (o : Rtx-F Rtx).
+    is_bare (class_of_code o.code) (cast_unsigned w64 o.number) o.name
+    && fits_row (class_of_code o.code) o.mode (cast_unsigned w64 o.number) o.kids)
+    (out-roll-Rtx _)
 
 no_stack : (locals : ℕ) → has_stack_variables locals return_rtx ≡ true
-no_stack locals = ap (λ (o : Rtx-F Rtx). not (is_stack_register (changed_by (class_of_code o.code) o.kids)) && sums_locals_by locals o.code o.kids) (out-roll-Rtx _)
+no_stack locals =
+    ap (λ (o : Rtx-F Rtx). not (is_stack_register (changed_by (class_of_code o.code) o.kids)) && sums_locals_by locals o.code o.kids) (out-roll-Rtx _)
 
 -- the return keeps each rule, in whatever function
 pub return_keeps : (f : Function) (insns : List Insn) (rule : InsnRule) → keeps rule f (return_insn insns) ≡ true
-return_keeps f insns LabelsStand = return_passes (label_stands f.insns) (ap (λ (o : Rtx-F Rtx). uid_stands f.insns (label_uid o.code o.kids)) (out-roll-Rtx _))
+return_keeps f insns LabelsStand =
+    return_passes (label_stands f.insns) (ap (λ (o : Rtx-F Rtx). uid_stands f.insns (label_uid o.code o.kids)) (out-roll-Rtx _))
 return_keeps f insns KindsAgree = ap (λ (o : Rtx-F Rtx). is_jump_by (class_of_code o.code) o.kids) (out-roll-Rtx _)
 return_keeps f insns ModesAgree =
     and_from _ (all_pass has_call_mode return_rtx)

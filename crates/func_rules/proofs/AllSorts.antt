@@ -48,7 +48,8 @@ module _ (f : Function) (is : IsWellFormed f) (place : ℕ) (i : Insn) (at : Sta
         | inr leads ↦ jumps same leads
       ]
   by_kind kind.Call same = calls same (sym (ap (λ k. kinds_agree k i.pattern) same) ∙ is.keep KindsAgree place i at (ap is_ruled_kind same))
-  by_kind kind.Label same = label same (sym (ap (λ k. kinds_agree k i.pattern) same) ∙ is.keep KindsAgree place i at (ap is_ruled_kind same))
+  by_kind kind.Label same =
+      label same (sym (ap (λ k. kinds_agree k i.pattern) same) ∙ is.keep KindsAgree place i at (ap is_ruled_kind same))
   by_kind kind.Barrier same = barrier same (is.barriers place i at same)
 
   -- what stands at a place is of one of the sorts
@@ -70,12 +71,15 @@ position_here test (y ∷ xs) start (suc place) x at passes alone = elim (cases_
   | inr fails ↦
       let next : start + 1 + place ≡ start + suc place = omega arith in
       ap (λ b. cond b (Some start) (position_from test (start + 1) xs)) fails
-      ∙ position_here test xs (start + 1) place x at passes (λ other z at' passes'. let more : suc other ≡ suc place = alone (suc other) z at' passes' in omega (arith, more))
+      ∙ position_here test xs (start + 1) place x at passes (λ other z at' passes'.
+      let more : suc other ≡ suc place = alone (suc other) z at' passes' in
+      omega (arith, more))
       ∙ ap Some next
 ]
 
 -- a label is the one that its uid names
-pub label_found : (insns : List Insn) → AreLabels insns → (place : ℕ) (i : Insn) → StandsAt insns place i → i.kind ≡ kind.Label → place_of i.uid insns ≡ Some place
+pub label_found : (insns : List Insn) → AreLabels insns → (place : ℕ) (i : Insn) → StandsAt insns place i → i.kind ≡ kind.Label →
+    place_of i.uid insns ≡ Some place
 label_found insns labels place i at is_one =
     position_here (is_label i.uid) insns 0 place i at (and_from (is_label_kind i.kind) (i.uid == i.uid) (ap is_label_kind is_one) (eq-eqb i.uid i.uid refl))
     (λ other j at' passes.

@@ -17,22 +17,29 @@ use Rattle.md_match.proofs.RtxInduction.{induction}
 use Rattle.func_rules.proofs.Nodes.{all_pass, pass_out}
 
 module _ (reg : ℕ) (hard : reg < 32) where
-  of_number : (n : ℤ) → n ≡ pos reg → is_hard_argument (register_by (class_of_code Reg) (cast_unsigned w64 n)) ≡ true → is_argument reg ≡ true
+  of_number : (n : ℤ) → n ≡ pos reg → is_hard_argument (register_by (class_of_code Reg) (cast_unsigned w64 n)) ≡ true →
+      is_argument reg ≡ true
   of_number n is argument =
       let same : cast_unsigned w64 (pos reg) ≡ reg = omega (arith, hard) in
-      elim (or_cases (nat_le 32 reg) (is_argument reg) (sym (ap (λ (r : ℕ). nat_le 32 r || is_argument r) same) ∙ sym (ap (λ (z : ℤ). is_hard_argument (register_by (class_of_code Reg) (cast_unsigned w64 z))) is) ∙ argument)) [
+      let one_of_both : (nat_le 32 reg || is_argument reg) ≡ true =
+      sym (ap (λ (r : ℕ). nat_le 32 r || is_argument r) same)
+      ∙ sym (ap (λ (z : ℤ). is_hard_argument (register_by (class_of_code Reg) (cast_unsigned w64 z))) is)
+      ∙ argument in
+      elim (or_cases (nat_le 32 reg) (is_argument reg) one_of_both) [
         | inl large ↦ absurd (let le : 32 ≤ reg = leb-true 32 reg large in omega (arith, le, hard))
         | inr one ↦ one
       ]
 
-  of_register : (c : Code) (n : ℤ) → is_reg_numbered c n reg ≡ true → is_hard_argument (register_by (class_of_code c) (cast_unsigned w64 n)) ≡ true → is_argument reg ≡ true
+  of_register : (c : Code) (n : ℤ) → is_reg_numbered c n reg ≡ true →
+      is_hard_argument (register_by (class_of_code c) (cast_unsigned w64 n)) ≡ true → is_argument reg ≡ true
   of_register Reg n is argument = of_number n ((Decides-int_eq n (pos reg)).0 is) argument
   of_register _ n is argument = absurd (false≢true is)
 
   abbrev Good : Rtx → Type 0
   Good x = all_pass has_argument x ≡ true → mentions_reg reg x ≡ true → is_argument reg ≡ true
 
-  of_parts : (parts : List Rtx) → AllByRecursion Good parts → list_all (all_pass has_argument) parts ≡ true → list_any (mentions_reg reg) parts ≡ true → is_argument reg ≡ true
+  of_parts : (parts : List Rtx) → AllByRecursion Good parts → list_all (all_pass has_argument) parts ≡ true →
+      list_any (mentions_reg reg) parts ≡ true → is_argument reg ≡ true
   of_parts [] all keep is = absurd (false≢true is)
   of_parts (x ∷ parts) all keep is =
       let kept = and_parts (all_pass has_argument x) (list_all (all_pass has_argument) parts) keep in

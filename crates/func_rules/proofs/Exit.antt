@@ -31,7 +31,8 @@ module _ (insns : List Insn) (last : Insn) (jump : last.kind ≡ kind.Jump) (ret
   next_within : (p q : ℕ) → p < length insns → p + 1 ≡ q → q < length longer
   next_within p q before is = let long = length_end insns last in omega (arith, before, is, long)
 
-  place_within : (o : Option ℕ) (q : ℕ) → ((place : ℕ) → o ≡ Some place → place < length longer) → has_place (option_to_list o) q ≡ true → q < length longer
+  place_within : (o : Option ℕ) (q : ℕ) → ((place : ℕ) → o ≡ Some place → place < length longer) →
+      has_place (option_to_list o) q ≡ true → q < length longer
   place_within None q within is = absurd (false≢true is)
   place_within (Some place) q within is = subst (λ n. n < length longer) (the_place place q is) (within place refl)
 
@@ -44,11 +45,16 @@ module _ (insns : List Insn) (last : Insn) (jump : last.kind ≡ kind.Jump) (ret
   ]
   flow_within Stops p q before is = absurd (false≢true is)
 
+  leads_nowhere : (p q : ℕ) (i : Insn) → last ≡ i → has_place (flow_places longer p (flow_of i)) q ≡ false
+  leads_nowhere p q i is =
+      ap (λ (j : Insn). has_place (flow_places longer p (flow_of j)) q) (sym is)
+      ∙ ap (λ flow. has_place (flow_places longer p flow) q) stops
+
   leads_within : (p q : ℕ) → leads longer p q ≡ true → q < length longer
   leads_within p q is = elim (slice_get_cases longer p).1 [
     | inl w ↦ elim (at_end insns last p w.0 w.2) [
       | inl before ↦ flow_within (flow_of w.0) p q (slice_get_within insns p w.0 before) (sym (ap (λ o. has_place (successors_by longer p o) q) w.2) ∙ is)
-      | inr end ↦ absurd (false≢true (sym (ap (λ o. has_place (successors_by longer p o) q) w.2 ∙ ap (λ (i : Insn). has_place (flow_places longer p (flow_of i)) q) (sym end.1) ∙ ap (λ flow. has_place (flow_places longer p flow) q) stops) ∙ is))
+      | inr end ↦ absurd (false≢true (sym (ap (λ o. has_place (successors_by longer p o) q) w.2 ∙ leads_nowhere p q w.0 end.1) ∙ is))
     ]
     | inr past ↦ absurd (false≢true (sym (ap (λ o. has_place (successors_by longer p o) q) past.1) ∙ is))
   ]

@@ -29,8 +29,14 @@ all_same p q same (x ∷ xs) = ap (λ b. b && list_all p xs) (same x) ∙ ap (λ
 mentions_end : (before insns : List Insn) → mentions (insns ++ return_insn before ∷ []) ≡ mentions insns
 mentions_end before [] = ap (λ l. l ++ []) return_mentions
 mentions_end before (i ∷ insns) = elim (cases_Bool (is_ruled i)) [
-  | inl ruled ↦ mentions_ruled i (insns ++ return_insn before ∷ []) ruled ∙ ap (λ rest. mentions_in i.pattern ++ rest) (mentions_end before insns) ∙ sym (mentions_ruled i insns ruled)
-  | inr other ↦ mentions_other i (insns ++ return_insn before ∷ []) other ∙ mentions_end before insns ∙ sym (mentions_other i insns other)
+  | inl ruled ↦
+      mentions_ruled i (insns ++ return_insn before ∷ []) ruled
+      ∙ ap (λ rest. mentions_in i.pattern ++ rest) (mentions_end before insns)
+      ∙ sym (mentions_ruled i insns ruled)
+  | inr other ↦
+      mentions_other i (insns ++ return_insn before ∷ []) other
+      ∙ mentions_end before insns
+      ∙ sym (mentions_other i insns other)
 ]
 
 module _ (f : Function) where
@@ -50,7 +56,8 @@ module _ (f : Function) where
   same_keeps LabelsStand i = all_same (label_stands longer.insns) (label_stands f.insns) (λ x. same_uid (label_of x)) (nodes_of i.pattern)
   same_keeps KindsAgree i = refl
   same_keeps ModesAgree i = refl
-  same_keeps OneModeAPseudo i = all_same (has_its_mode longer.insns) (has_its_mode f.insns) (λ x. same_mode (mention_of x)) (nodes_of i.pattern)
+  same_keeps OneModeAPseudo i =
+      all_same (has_its_mode longer.insns) (has_its_mode f.insns) (λ x. same_mode (mention_of x)) (nodes_of i.pattern)
   same_keeps ArgumentRegisters i = refl
   same_keeps Calls i = refl
   same_keeps Parallels i = refl
@@ -87,6 +94,7 @@ module _ (f : Function) where
   }
 
 -- a function that keeps the rules, with its finished chain
-pub well_formed_finished : (f : Function) (finished : List Insn) → IsFinished f.insns finished → IsWellFormed f → IsWellFormed (record f { insns = finished })
+pub well_formed_finished : (f : Function) (finished : List Insn) → IsFinished f.insns finished → IsWellFormed f →
+    IsWellFormed (record f { insns = finished })
 well_formed_finished f _ (IsFinished.returning reached) is = well_formed_longer f is
 well_formed_finished f _ (IsFinished.staying never) is = is

@@ -29,7 +29,8 @@ counter_is_pc : (c : Code) → is_counter_class (class_of_code c) ≡ true → i
 counter_is_pc Pc is = refl
 counter_is_pc _ is = absurd (false≢true is)
 
-label_has_uid : (c : Code) (mode : Mode) (reg : ℕ) (parts : List Rtx) → is_label_class (class_of_code c) ≡ true → fits_row (class_of_code c) mode reg parts ≡ true →
+label_has_uid : (c : Code) (mode : Mode) (reg : ℕ) (parts : List Rtx) → is_label_class (class_of_code c) ≡ true →
+    fits_row (class_of_code c) mode reg parts ≡ true →
     (uid : ℕ) × (label_uid c parts ≡ Some uid)
 label_has_uid LabelRef mode reg [] is fits = absurd (false≢true fits)
 label_has_uid LabelRef mode reg (u ∷ []) is fits = (_, refl)
@@ -57,7 +58,8 @@ module _ (insns : List Insn) where
   first_good x xs good = ((and_parts (all_pass is_shaped x) _ good.shaped).0, (and_parts (all_pass (label_stands insns) x) _ good.stand).0)
 
   rest_good : (x : Rtx) (xs : List Rtx) → AreGood (x ∷ xs) → AreGood xs
-  rest_good x xs good = record { shaped = (and_parts (all_pass is_shaped x) _ good.shaped).1; stand = (and_parts (all_pass (label_stands insns) x) _ good.stand).1 }
+  rest_good x xs good =
+      record { shaped = (and_parts (all_pass is_shaped x) _ good.shaped).1; stand = (and_parts (all_pass (label_stands insns) x) _ good.stand).1 }
 
   -- a label stands
   label_place : (x : Rtx) → is_label_class (class_at x) ≡ true → all_pass is_shaped x ≡ true → all_pass (label_stands insns) x ≡ true →
@@ -74,7 +76,8 @@ module _ (insns : List Insn) where
   branches_on o uid place is placed = subst (λ o. Leads insns (branches_to o)) (sym is) (sorts.branches uid place placed)
 
   -- a choice between a label and the next instruction
-  choice_leads : (test label other : Rtx) → is_choice test label other ≡ true → AreGood (test ∷ label ∷ other ∷ []) → Leads insns (if is_pc other then branches_to (label_of label) else Stops)
+  choice_leads : (test label other : Rtx) → is_choice test label other ≡ true → AreGood (test ∷ label ∷ other ∷ []) →
+      Leads insns (if is_pc other then branches_to (label_of label) else Stops)
   choice_leads test label other choice good =
       let both = and_parts (is_label_class (class_at label)) (is_counter_class (class_at other)) (and_parts (is_comparison_class (class_at test)) _ choice).1 in
       let of_label = first_good label (other ∷ []) (rest_good test (label ∷ other ∷ []) good) in
@@ -83,24 +86,28 @@ module _ (insns : List Insn) where
       (branches_on (label_of label) placed.0 placed.1 placed.2 placed.3)
 
   -- what the pc is set to
-  source_by : (c : Code) (mode : Mode) (reg : ℕ) (parts : List Rtx) (source : Rtx) → is_jump_source_class (class_of_code c) ≡ true → fits_row (class_of_code c) mode reg parts ≡ true → AreGood parts →
+  source_by : (c : Code) (mode : Mode) (reg : ℕ) (parts : List Rtx) (source : Rtx) → is_jump_source_class (class_of_code c) ≡ true →
+      fits_row (class_of_code c) mode reg parts ≡ true → AreGood parts →
       (is_label_class (class_of_code c) ≡ true → Leads insns (goes_to (label_of source))) → Leads insns (source_flow_by c parts source)
   source_by LabelRef mode reg parts source is fits good alone = alone refl
   source_by IfThenElse mode reg [] source is fits good alone = absurd (false≢true fits)
   source_by IfThenElse mode reg (a ∷ []) source is fits good alone = absurd (false≢true fits)
   source_by IfThenElse mode reg (a ∷ b ∷ []) source is fits good alone = absurd (false≢true fits)
-  source_by IfThenElse mode reg (test ∷ label ∷ other ∷ []) source is fits good alone = choice_leads test label other (and_parts (not (has_mode mode)) (is_choice test label other) fits).1 good
+  source_by IfThenElse mode reg (test ∷ label ∷ other ∷ []) source is fits good alone =
+      choice_leads test label other (and_parts (not (has_mode mode)) (is_choice test label other) fits).1 good
   source_by IfThenElse mode reg (a ∷ b ∷ c ∷ d ∷ rest) source is fits good alone = absurd (false≢true fits)
   source_by _ mode reg parts source is fits good alone = absurd (false≢true is)
 
-  source_leads : (source : Rtx) → is_jump_source_class (class_at source) ≡ true → all_pass is_shaped source ≡ true → all_pass (label_stands insns) source ≡ true → Leads insns (source_flow source)
+  source_leads : (source : Rtx) → is_jump_source_class (class_at source) ≡ true → all_pass is_shaped source ≡ true →
+      all_pass (label_stands insns) source ≡ true → Leads insns (source_flow source)
   source_leads source is shaped stand =
       source_by (out-Rtx source).code (mode_at source) (number_at source) (out-Rtx source).kids source is (fits_itself source shaped)
       (record { shaped = within is_shaped source shaped; stand = within (label_stands insns) source stand })
       (λ label. let placed = label_place source label shaped stand in goes_on (label_of source) placed.0 placed.1 placed.2 placed.3)
 
   -- a set of the pc
-  pc_leads : (target source : Rtx) → is_pc target ≡ true → is_set_to target source ≡ true → AreGood (target ∷ source ∷ []) → Leads insns (if is_pc target then source_flow source else Stops)
+  pc_leads : (target source : Rtx) → is_pc target ≡ true → is_set_to target source ≡ true → AreGood (target ∷ source ∷ []) →
+      Leads insns (if is_pc target then source_flow source else Stops)
   pc_leads target source pc set good =
       let of_source = first_good source [] (rest_good target (source ∷ []) good) in
       subst (λ b. Leads insns (if b then source_flow source else Stops)) (sym pc)
@@ -109,18 +116,21 @@ module _ (insns : List Insn) where
         | inr counter ↦ source_leads source (and_parts (is_counter_class (class_at target)) (is_jump_source_class (class_at source)) counter).1 of_source.0 of_source.1
       ])
 
-  jump_by : (c : Code) (mode : Mode) (reg : ℕ) (parts : List Rtx) → is_jump_by (class_of_code c) parts ≡ true → fits_row (class_of_code c) mode reg parts ≡ true → AreGood parts →
+  jump_by : (c : Code) (mode : Mode) (reg : ℕ) (parts : List Rtx) → is_jump_by (class_of_code c) parts ≡ true →
+      fits_row (class_of_code c) mode reg parts ≡ true → AreGood parts →
       (is_return_code c ≡ true) ⊎ Leads insns (jump_flow_by c parts)
   jump_by Return mode reg parts jump fits good = inl refl
   jump_by Set mode reg [] jump fits good = absurd (false≢true jump)
   jump_by Set mode reg (a ∷ []) jump fits good = absurd (false≢true fits)
-  jump_by Set mode reg (target ∷ source ∷ []) jump fits good = inr (pc_leads target source jump (and_parts (not (has_mode mode)) (is_set_to target source) fits).1 good)
+  jump_by Set mode reg (target ∷ source ∷ []) jump fits good =
+      inr (pc_leads target source jump (and_parts (not (has_mode mode)) (is_set_to target source) fits).1 good)
   jump_by Set mode reg (a ∷ b ∷ c ∷ []) jump fits good = absurd (false≢true fits)
   jump_by Set mode reg (a ∷ b ∷ c ∷ d ∷ rest) jump fits good = absurd (false≢true fits)
   jump_by _ mode reg parts jump fits good = absurd (false≢true jump)
 
   -- a jump is a return, or leads to a label
-  pub jump_leads : (x : Rtx) → is_jump_by (class_at x) (out-Rtx x).kids ≡ true → all_pass is_shaped x ≡ true → all_pass (label_stands insns) x ≡ true →
+  pub jump_leads : (x : Rtx) → is_jump_by (class_at x) (out-Rtx x).kids ≡ true → all_pass is_shaped x ≡ true →
+      all_pass (label_stands insns) x ≡ true →
       (is_return_code (out-Rtx x).code ≡ true) ⊎ Leads insns (jump_flow_by (out-Rtx x).code (out-Rtx x).kids)
   jump_leads x jump shaped stand =
       jump_by (out-Rtx x).code (mode_at x) (number_at x) (out-Rtx x).kids jump (fits_itself x shaped)

@@ -24,7 +24,8 @@ later_none : (a b : Option Refusal) → or_later a b ≡ None → (a ≡ None) �
 later_none None b is = (refl, is)
 later_none (Some e) b is = absurd (let nothing : ⊥ = cc in nothing)
 
-none_from : (functions : List Function) (start : ℕ) (rest : List Function) → refused_from functions start rest ≡ None → (index : ℕ) (f : Function) → slice_get rest index ≡ Some f → refused_at functions (start + index) f ≡ None
+none_from : (functions : List Function) (start : ℕ) (rest : List Function) → refused_from functions start rest ≡ None →
+    (index : ℕ) (f : Function) → slice_get rest index ≡ Some f → refused_at functions (start + index) f ≡ None
 none_from functions start [] none index f at = absurd (let nothing : ⊥ = cc in nothing)
 none_from functions start (g ∷ rest) none zero f at =
     let same : g ≡ f = cc in
@@ -35,7 +36,8 @@ none_from functions start (g ∷ rest) none (suc index) f at =
     subst (λ n. refused_at functions n f ≡ None) next (none_from functions (start + 1) rest (later_none _ _ none).1 index f at)
 
 -- each of some functions of which none is refused is admitted
-pub each_admitted : (functions : List Function) → first_refused functions ≡ None → (index : ℕ) (f : Function) → slice_get functions index ≡ Some f → IsAdmitted f
+pub each_admitted : (functions : List Function) → first_refused functions ≡ None → (index : ℕ) (f : Function) →
+    slice_get functions index ≡ Some f → IsAdmitted f
 each_admitted functions none index f at =
     let here : 0 + index ≡ index = omega arith in
     (take index functions, sym (refused_here functions index f at) ∙ subst (λ n. refused_at functions n f ≡ None) here (none_from functions 0 functions none index f at))
@@ -77,14 +79,19 @@ within_limits before f none = (later_none _ (limit_passed f) none).1
 
 -- ---- each rule
 
-unbroken : (rule : InsnRule) (f : Function) (insns : List Insn) → rule_faults_in rule f insns ≡ [] → (place : ℕ) (i : Insn) → StandsAt insns place i → breaks rule f i ≡ false
+unbroken : (rule : InsnRule) (f : Function) (insns : List Insn) → rule_faults_in rule f insns ≡ [] → (place : ℕ) (i : Insn) →
+    StandsAt insns place i → breaks rule f i ≡ false
 unbroken rule f [] none place i at = absurd (let nothing : ⊥ = cc in nothing)
 unbroken rule f (j ∷ insns) none place i at = elim (cases_Bool (breaks rule f j)) [
-  | inl broken ↦ absurd (let is : fault (rule_number rule) j.uid ∷ rule_faults_in rule f insns ≡ [] = sym (rule_broken rule f j insns broken) ∙ none in let nothing : ⊥ = cc in nothing)
+  | inl broken ↦ absurd (
+      let is : fault (rule_number rule) j.uid ∷ rule_faults_in rule f insns ≡ [] = sym (rule_broken rule f j insns broken) ∙ none in
+      let nothing : ⊥ = cc in
+      nothing)
   | inr kept ↦ by place at kept (unbroken rule f insns (sym (rule_kept rule f j insns kept) ∙ none))
 ]
   where
-    by : (place : ℕ) → StandsAt (j ∷ insns) place i → breaks rule f j ≡ false → ((place : ℕ) (i : Insn) → StandsAt insns place i → breaks rule f i ≡ false) → breaks rule f i ≡ false
+    by : (place : ℕ) → StandsAt (j ∷ insns) place i → breaks rule f j ≡ false →
+        ((place : ℕ) (i : Insn) → StandsAt insns place i → breaks rule f i ≡ false) → breaks rule f i ≡ false
     by zero at kept rest = let same : j ≡ i = cc in subst (λ k. breaks rule f k ≡ false) same kept
     by (suc place) at kept rest = rest place i at
 

@@ -24,7 +24,8 @@ use Rattle.func_rules.proofs.Registers.{defines_no_kept}
 
 -- ---- (parallel [])
 
-no_effects : (reg : ℕ) (c : Code) (parts : List Rtx) (x : Rtx) → is_nothing_by (class_of_code c) parts ≡ true → list_any (effect_defines reg) (effects_by c parts x) ≡ false
+no_effects : (reg : ℕ) (c : Code) (parts : List Rtx) (x : Rtx) → is_nothing_by (class_of_code c) parts ≡ true →
+    list_any (effect_defines reg) (effects_by c parts x) ≡ false
 no_effects reg Parallel [] x is = refl
 no_effects reg _ _ x is = absurd (false≢true is)
 
@@ -41,10 +42,14 @@ unruled : (k : Kind) → is_ruled_kind k ≡ false → k ≡ kind.Barrier
 unruled kind.Barrier is = refl
 unruled _ is = absurd (false≢true (sym is))
 
-barrier_defines : (f : Function) → IsWellFormed f → (place reg : ℕ) (i : Insn) → StandsAt f.insns place i → i.kind ≡ kind.Barrier → pattern_defines reg i.pattern ≡ false
-barrier_defines f is place reg i at barrier = ap (pattern_defines reg) (is.barriers place i at barrier) ∙ nothing_defines reg nothing_rtx nothing_is
+barrier_defines : (f : Function) → IsWellFormed f → (place reg : ℕ) (i : Insn) → StandsAt f.insns place i → i.kind ≡ kind.Barrier →
+    pattern_defines reg i.pattern ≡ false
+barrier_defines f is place reg i at barrier =
+    ap (pattern_defines reg) (is.barriers place i at barrier)
+    ∙ nothing_defines reg nothing_rtx nothing_is
 
-label_defines : (f : Function) → IsWellFormed f → (place reg : ℕ) (i : Insn) → StandsAt f.insns place i → i.kind ≡ kind.Label → pattern_defines reg i.pattern ≡ false
+label_defines : (f : Function) → IsWellFormed f → (place reg : ℕ) (i : Insn) → StandsAt f.insns place i → i.kind ≡ kind.Label →
+    pattern_defines reg i.pattern ≡ false
 label_defines f is place reg i at label =
     nothing_defines reg i.pattern (sym (ap (λ k. kinds_agree k i.pattern) label) ∙ is.keep KindsAgree place i at (ap is_ruled_kind label))
 

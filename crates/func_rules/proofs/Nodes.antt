@@ -14,7 +14,9 @@ all_pass test x = list_all test (nodes_of x)
 
 in_parts : (test : Rtx → Bool) (parts : List Rtx) → list_all test (flat_map nodes_of parts) ≡ list_all (all_pass test) parts
 in_parts test [] = refl
-in_parts test (x ∷ parts) = list_all-append test (nodes_of x) (flat_map nodes_of parts) ∙ ap (λ rest. all_pass test x && rest) (in_parts test parts)
+in_parts test (x ∷ parts) =
+    list_all-append test (nodes_of x) (flat_map nodes_of parts)
+    ∙ ap (λ rest. all_pass test x && rest) (in_parts test parts)
 
 -- the tree itself passes, and each tree within its parts
 pub pass_out : (test : Rtx → Bool) (x : Rtx) → all_pass test x ≡ (test x && list_all (all_pass test) (kids_of x))

@@ -34,7 +34,8 @@ map_stands : {A B : Type 0} (P : B → Type 0) (f : A → B) (p : Parsed A) → 
 map_stands P f (stands x) is = is
 map_stands P f (construct place name) is = tt
 
-then_stands : {A B : Type 0} (Q : A → Type 0) (P : B → Type 0) (p : Parsed A) (k : A → Parsed B) → IfStands Q p → ((x : A) → Q x → IfStands P (k x)) → IfStands P (parsed_then p k)
+then_stands : {A B : Type 0} (Q : A → Type 0) (P : B → Type 0) (p : Parsed A) (k : A → Parsed B) → IfStands Q p →
+    ((x : A) → Q x → IfStands P (k x)) → IfStands P (parsed_then p k)
 then_stands Q P (stands x) k is next = next x is
 then_stands Q P (construct place name) k is next = tt
 
@@ -72,7 +73,8 @@ good_insn kind other t (Some parts) = map_stands Good (λ x. insn_with kind part
 good_insn kind other t None = tt
 
 good_call : (t : Tree) (parts : Option InsnParts) → IfStands Good (call_by t parts)
-good_call t (Some parts) = then_stands (λ x. Unit {0}) Good (call_of parts.pattern) (λ x. parsed_map (call_with parts.uid x) (uses_of parts.rest))
+good_call t (Some parts) =
+    then_stands (λ x. Unit {0}) Good (call_of parts.pattern) (λ x. parsed_map (call_with parts.uid x) (uses_of parts.rest))
     (any_stands (λ x. Unit {0}) (λ x. tt) (call_of parts.pattern))
     (λ x nothing. map_stands Good (call_with parts.uid x) (uses_of parts.rest)
     (any_stands (λ uses. Good (call_with parts.uid x uses)) (λ uses. good_other (insn_with Call parts.uid uses x) call_is_none) (uses_of parts.rest)))
@@ -87,7 +89,8 @@ good_barrier = (λ is. refl, tt)
 
 good_entry : (t : Tree) (items : List Tree) → IfStands Good (entry_by t items)
 good_entry t [] = tt
-good_entry t (h ∷ parts) = by (is_word (codes "cinsn") h) (is_word (codes "cjump_insn") h) (is_word (codes "ccall_insn") h) (is_word (codes "clabel") h) (is_word (codes "cbarrier") h) (is_passed h)
+good_entry t (h ∷ parts) =
+    by (is_word (codes "cinsn") h) (is_word (codes "cjump_insn") h) (is_word (codes "ccall_insn") h) (is_word (codes "clabel") h) (is_word (codes "cbarrier") h) (is_passed h)
   where
     by : (plain jump call label barred passed : Bool) → IfStands Good
         (if plain then insn_by Plain t (insn_parts parts)
@@ -106,7 +109,8 @@ good_entry t (h ∷ parts) = by (is_word (codes "cinsn") h) (is_word (codes "cju
 
 -- ---- chains
 
-good_each : (read : Tree → Parsed (List Insn)) → ((t : Tree) → IfStands Good (read t)) → (trees : List Tree) → IfStands Good (each_joined read trees)
+good_each : (read : Tree → Parsed (List Insn)) → ((t : Tree) → IfStands Good (read t)) → (trees : List Tree) →
+    IfStands Good (each_joined read trees)
 good_each read each [] = tt
 good_each read each (t ∷ trees) = then_stands Good Good (read t) (λ xs. parsed_map (λ ys. xs ++ ys) (each_joined read trees)) (each t)
     (λ xs good. map_stands Good (λ ys. xs ++ ys) (each_joined read trees)
@@ -139,8 +143,10 @@ good_said t = by (is_vector t) (is_headed (codes "insn-chain") t) (is_headed (co
         else (if result then parsed_map says_result (crtl_of t) else stands says_nothing))))
     by true chain locals result = tt
     by false true locals result = map_stands GoodSaid says_chain (chain_of t) (good_chain t (chain_items (items_of t)))
-    by false false true result = map_stands GoodSaid says_locals (locals_of t) (any_stands (λ n. GoodSaid (says_locals n)) (λ n. tt) (locals_of t))
-    by false false false true = map_stands GoodSaid says_result (crtl_of t) (any_stands (λ r. GoodSaid (says_result r)) (λ r. tt) (crtl_of t))
+    by false false true result =
+        map_stands GoodSaid says_locals (locals_of t) (any_stands (λ n. GoodSaid (says_locals n)) (λ n. tt) (locals_of t))
+    by false false false true =
+        map_stands GoodSaid says_result (crtl_of t) (any_stands (λ r. GoodSaid (says_result r)) (λ r. tt) (crtl_of t))
     by false false false false = tt
 
 good_all_said : (trees : List Tree) → IfStands GoodSaid (all_said trees)
@@ -164,10 +170,12 @@ GoodFunctions = AllByRecursion GoodFunction
 
 good_functions : (trees : List Tree) → IfStands GoodFunctions (functions_in trees)
 good_functions [] = tt
-good_functions (t ∷ trees) = then_stands GoodFunction GoodFunctions (function_of t) (λ f. parsed_map (λ fs. f ∷ fs) (each_parsed function_of trees)) (good_function t (function_parts (items_of t)))
+good_functions (t ∷ trees) =
+    then_stands GoodFunction GoodFunctions (function_of t) (λ f. parsed_map (λ fs. f ∷ fs) (each_parsed function_of trees)) (good_function t (function_parts (items_of t)))
     (λ f good. map_stands GoodFunctions (λ fs. f ∷ fs) (each_parsed function_of trees) (weaker f good (each_parsed function_of trees) (good_functions trees)))
   where
-    weaker : (f : Function) → GoodFunction f → (p : Parsed (List Function)) → IfStands GoodFunctions p → IfStands (λ fs. GoodFunctions (f ∷ fs)) p
+    weaker : (f : Function) → GoodFunction f → (p : Parsed (List Function)) → IfStands GoodFunctions p →
+        IfStands (λ fs. GoodFunctions (f ∷ fs)) p
     weaker f good (stands fs) more = (good, more)
     weaker f good (construct place name) more = tt
 
@@ -179,6 +187,7 @@ at_place P (y ∷ xs) all zero x at = let same : y ≡ x = cc in subst P same al
 at_place P (y ∷ xs) all (suc place) x at = at_place P xs all.1 place x at
 
 -- the barriers of each function that is read do nothing
-pub read_barriers : (trees : List Tree) (functions : List Function) → functions_in trees ≡ stands functions → (index : ℕ) (f : Function) → slice_get functions index ≡ Some f → BarriersDoNothing f.insns
+pub read_barriers : (trees : List Tree) (functions : List Function) → functions_in trees ≡ stands functions →
+    (index : ℕ) (f : Function) → slice_get functions index ≡ Some f → BarriersDoNothing f.insns
 read_barriers trees functions read index f at =
     at_place DoesNothing f.insns (at_place GoodFunction functions (subst (IfStands GoodFunctions) read (good_functions trees)) index f at)

@@ -22,18 +22,22 @@ admitted_well_formed f admitted barriers = record {
   keep = keep_each f admitted;
   barriers = barriers;
   labels = record {
-    fit = λ place i at label. let within = is_within f admitted place i at (ap is_ruled_kind label) in let most = within.1 in omega (arith, most);
-    differ = λ p q i j at at' label label' same. uids_differ f admitted p q i j at at' (ap is_ruled_kind label) (ap is_ruled_kind label') same;
+    fit =
+        λ place i at label. let within = is_within f admitted place i at (ap is_ruled_kind label) in let most = within.1 in omega (arith, most);
+    differ =
+        λ p q i j at at' label label' same. uids_differ f admitted p q i j at at' (ap is_ruled_kind label) (ap is_ruled_kind label') same;
   };
 }
 
 -- a function of an input
-pub input_well_formed : (bytes : List ℕ) (functions : List Function) → IsInput bytes functions → (index : ℕ) (f : Function) → slice_get functions index ≡ Some f → IsWellFormed f
+pub input_well_formed : (bytes : List ℕ) (functions : List Function) → IsInput bytes functions → (index : ℕ) (f : Function) →
+    slice_get functions index ≡ Some f → IsWellFormed f
 input_well_formed bytes functions input index f at =
     admitted_well_formed f (each_admitted functions input.admitted index f at) (read_barriers input.trees functions input.stand index f at)
 
 -- with its finished chain it is ready for lines
-pub finished_ready : (f : Function) (finished : List Insn) → IsWellFormed f → IsFinished f.insns finished → IsReady (record f { insns = finished })
+pub finished_ready : (f : Function) (finished : List Insn) → IsWellFormed f → IsFinished f.insns finished →
+    IsReady (record f { insns = finished })
 finished_ready f finished is finish =
     let whole : Function = record f { insns = finished } in
     let kept : IsWellFormed whole = well_formed_finished f finished finish is in

@@ -32,12 +32,16 @@ pattern_keeps : (pattern : Rtx) (uses : List ArgUse) → argument_registers patt
 pattern_keeps pattern uses keep = (and_parts (all_pass rules.has_argument pattern) (list_all use_is_argument uses) keep).0
 
 -- a hard register that the pattern defines is one of a0 to a7
-pub defines_argument : (pattern : Rtx) (uses : List ArgUse) → argument_registers pattern uses ≡ true → (reg : ℕ) → reg < 32 → pattern_defines reg pattern ≡ true → is_argument reg ≡ true
-defines_argument pattern uses keep reg hard defines = stands_argument reg hard pattern (pattern_keeps pattern uses keep) (defined_stands reg pattern defines)
+pub defines_argument : (pattern : Rtx) (uses : List ArgUse) → argument_registers pattern uses ≡ true → (reg : ℕ) → reg < 32 →
+    pattern_defines reg pattern ≡ true → is_argument reg ≡ true
+defines_argument pattern uses keep reg hard defines =
+    stands_argument reg hard pattern (pattern_keeps pattern uses keep) (defined_stands reg pattern defines)
 
 -- and so is one that it uses
-pub uses_argument : (pattern : Rtx) (uses : List ArgUse) → argument_registers pattern uses ≡ true → (reg : ℕ) → reg < 32 → pattern_uses reg pattern ≡ true → is_argument reg ≡ true
-uses_argument pattern uses keep reg hard used = stands_argument reg hard pattern (pattern_keeps pattern uses keep) (used_stands reg pattern used)
+pub uses_argument : (pattern : Rtx) (uses : List ArgUse) → argument_registers pattern uses ≡ true → (reg : ℕ) → reg < 32 →
+    pattern_uses reg pattern ≡ true → is_argument reg ≡ true
+uses_argument pattern uses keep reg hard used =
+    stands_argument reg hard pattern (pattern_keeps pattern uses keep) (used_stands reg pattern used)
 
 -- ---- registers that a function preserves
 
@@ -59,7 +63,8 @@ turned true is here = false≢true is
 turned false is here = false≢true here
 
 -- none of ra, sp and s0 to s11 is defined
-pub defines_no_kept : (pattern : Rtx) (uses : List ArgUse) → argument_registers pattern uses ≡ true → (reg : ℕ) → has_reg kept_registers reg ≡ true → pattern_defines reg pattern ≡ false
+pub defines_no_kept : (pattern : Rtx) (uses : List ArgUse) → argument_registers pattern uses ≡ true → (reg : ℕ) →
+    has_reg kept_registers reg ≡ true → pattern_defines reg pattern ≡ false
 defines_no_kept pattern uses keep reg kept =
     let other = and_parts (nat_lt reg 32) (not (is_argument reg)) (one_of is_other kept_registers refl reg kept) in
     false_from_ne_true (pattern_defines reg pattern) (λ defines. turned (is_argument reg) other.1 (defines_argument pattern uses keep reg (ltb-true reg 32 other.0) defines))
@@ -71,7 +76,9 @@ any_in_map f [] = refl
 any_in_map f (x ∷ xs) = ap (λ rest. f x || rest) (any_in_map f xs)
 
 homeless_out : (x : Rtx) → names_homeless x ≡ (is_homeless (head_of x).code (head_of x).number || list_any names_homeless (kids_of x))
-homeless_out x = fold_out-Rtx Bool (names_step is_homeless) x ∙ ap (λ rest. is_homeless (head_of x).code (head_of x).number || rest) (any_in_map names_homeless (kids_of x))
+homeless_out x =
+    fold_out-Rtx Bool (names_step is_homeless) x
+    ∙ ap (λ rest. is_homeless (head_of x).code (head_of x).number || rest) (any_in_map names_homeless (kids_of x))
 
 module _ (reg : ℕ) (above : 31 < reg) where
   of_register : (c : Code) (n : ℤ) → is_reg_numbered c n reg ≡ true → is_homeless c n ≡ true
@@ -81,7 +88,8 @@ module _ (reg : ℕ) (above : 31 < reg) where
   abbrev Good : Rtx → Type 0
   Good x = mentions_reg reg x ≡ true → names_homeless x ≡ true
 
-  of_parts : (parts : List Rtx) → AllByRecursion Good parts → list_any (mentions_reg reg) parts ≡ true → list_any names_homeless parts ≡ true
+  of_parts : (parts : List Rtx) → AllByRecursion Good parts → list_any (mentions_reg reg) parts ≡ true →
+      list_any names_homeless parts ≡ true
   of_parts [] all is = absurd (false≢true is)
   of_parts (x ∷ parts) all is = elim (or_cases (mentions_reg reg x) (list_any (mentions_reg reg) parts) is) [
     | inl here ↦ or_left (names_homeless x) _ (all.0 here)
@@ -118,5 +126,6 @@ module _ (reg : ℕ) (above : 31 < reg) where
       (false_from_ne_true (pattern_uses reg i.pattern) (λ used. false≢true (sym homes ∙ stands_homeless i.pattern (used_stands reg i.pattern used))))
       (false_from_ne_true (has_argument reg i.uses) (none_handed i.uses (and_parts (all_pass rules.has_argument i.pattern) (list_all use_is_argument i.uses) keep).1))
 
-  pub window_uses_none : (i : Insn) → argument_registers i.pattern i.uses ≡ true → names_homeless i.pattern ≡ false → window_uses (i ∷ []) reg ≡ false
+  pub window_uses_none : (i : Insn) → argument_registers i.pattern i.uses ≡ true → names_homeless i.pattern ≡ false →
+      window_uses (i ∷ []) reg ≡ false
   window_uses_none i keep homes = or_from (insn_uses i reg) _ (uses_none i keep homes) (and_right (not (insn_defines i reg)) false refl)

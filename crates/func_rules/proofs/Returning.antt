@@ -32,9 +32,11 @@ use Rattle.func_rules.proofs.Chain.{same_labels, before_end, the_end, length_end
 -- the place of the first instruction is the same
 passed_end : (rest : List Insn) (last : Insn) (place : ℕ) → is_mark last.kind ≡ false → passed (rest ++ last ∷ []) place ≡ passed rest place
 passed_end [] last place no_mark = ap (λ b. if b then place + 1 else place) no_mark
-passed_end (i ∷ rest) last place no_mark = ap (λ (more : ℕ). if is_mark i.kind then more else place) (passed_end rest last (place + 1) no_mark)
+passed_end (i ∷ rest) last place no_mark =
+    ap (λ (more : ℕ). if is_mark i.kind then more else place) (passed_end rest last (place + 1) no_mark)
 
-dropped_end : (insns : List Insn) (last : Insn) (next place : ℕ) → is_mark last.kind ≡ false → passed (drop next (insns ++ last ∷ [])) place ≡ passed (drop next insns) place
+dropped_end : (insns : List Insn) (last : Insn) (next place : ℕ) → is_mark last.kind ≡ false →
+    passed (drop next (insns ++ last ∷ [])) place ≡ passed (drop next insns) place
 dropped_end [] last zero place no_mark = passed_end [] last place no_mark
 dropped_end [] last (suc next) place no_mark = ap (λ l. passed l place) (drop-nil next ∙ sym (drop-nil (suc next)))
 dropped_end (i ∷ insns) last zero place no_mark = passed_end (i ∷ insns) last place no_mark
@@ -47,7 +49,9 @@ module _ (f : Function) (last : Insn) (jump : last.kind ≡ kind.Jump) (returns 
 
   module _ (world : World) where
     leaves : (s : State) → jump_of world.symbols s.regs s.memory last.pattern ≡ Some Leaves
-    leaves s = ap (jump_of world.symbols s.regs s.memory) returns ∙ ap (λ (o : Rtx-F Rtx). jump_by o.code o.kids world.symbols s.regs s.memory) (out-roll-Rtx _)
+    leaves s =
+        ap (jump_of world.symbols s.regs s.memory) returns
+        ∙ ap (λ (o : Rtx-F Rtx). jump_by o.code o.kids world.symbols s.regs s.memory) (out-roll-Rtx _)
 
     same_jump : (s : State) (place : ℕ) (way : Option Way) → after_jump longer s place way ≡ after_jump f s place way
     same_jump s place None = refl
@@ -66,7 +70,8 @@ module _ (f : Function) (last : Insn) (jump : last.kind ≡ kind.Jump) (returns 
     returned : (place : ℕ) (s : State) → act_at (Some last) world longer place s ≡ after_return f.result s
     returned place s = ap (λ k. act k world longer last place s) jump ∙ ap (after_jump longer s place) (leaves s)
 
-    same_at : (place : ℕ) (s : State) → act_at (slice_get longer.insns place) world longer place s ≡ act_at (slice_get f.insns place) world f place s
+    same_at : (place : ℕ) (s : State) →
+        act_at (slice_get longer.insns place) world longer place s ≡ act_at (slice_get f.insns place) world f place s
     same_at place s = elim (slice_get_cases f.insns place).1 [
       | inl w ↦
           ap (λ o. act_at o world longer place s) (before_end f.insns last place w.0 w.2)
@@ -103,7 +108,8 @@ module _ (f : Function) (last : Insn) (jump : last.kind ≡ kind.Jump) (returns 
     same_ended Asked s = refl
     same_ended Undefined s = refl
 
-    same_on : (n : ℕ) (e : StepEnd) (t : State) → run world longer n t ≡ run world f n t → go_on longer e t (run world longer n) ≡ go_on f e t (run world f n)
+    same_on : (n : ℕ) (e : StepEnd) (t : State) → run world longer n t ≡ run world f n t →
+        go_on longer e t (run world longer n) ≡ go_on f e t (run world f n)
     same_on n e t rest =
         ap (λ r. if goes_on e then r else ended longer e t) rest
         ∙ ap (λ r. if goes_on e then run world f n t else r) (same_ended e t)
@@ -139,6 +145,7 @@ module _ (f : Function) (last : Insn) (jump : last.kind ≡ kind.Jump) (returns 
       (k.0, subst (λ t. t ≤ k.0) takes k.1, subst (λ o. SameOutcome f.result start o (lines.run items start world k.0)) runs k.2)
 
 -- a finished chain has the same runs
-pub same_unfinished : (least : ℕ) (f : Function) (finished : List Insn) (items : List CodeItem) → IsFinished f.insns finished → Same least (record f { insns = finished }) items → Same least f items
+pub same_unfinished : (least : ℕ) (f : Function) (finished : List Insn) (items : List CodeItem) → IsFinished f.insns finished →
+    Same least (record f { insns = finished }) items → Same least f items
 same_unfinished least f _ items (IsFinished.returning reached) same = same_without f (return_insn f.insns) refl refl least items same
 same_unfinished least f _ items (IsFinished.staying never) same = same

@@ -61,8 +61,10 @@ module _ (f : Function) (is : IsWellFormed f) (place : ℕ) (i : Insn) (at : Sta
     where
       by : (k : Kind) → i.kind ≡ k → is_label k ≡ false → (is_kind k && not (is_note (head_of i.pattern).code)) ≡ false → IsQuiet i
       by kind.Plain same other free = inr (same, note_is_quiet (head_of i.pattern).code (untold (is_note (head_of i.pattern).code) free))
-      by kind.Jump same other free = absurd (note_is_no_jump (head_of i.pattern).code (kids_of i.pattern) (untold (is_note (head_of i.pattern).code) free) (keeps_kind kind.Jump same refl))
-      by kind.Call same other free = absurd (note_is_no_call (head_of i.pattern).code (kids_of i.pattern) (untold (is_note (head_of i.pattern).code) free) (keeps_kind kind.Call same refl))
+      by kind.Jump same other free =
+          absurd (note_is_no_jump (head_of i.pattern).code (kids_of i.pattern) (untold (is_note (head_of i.pattern).code) free) (keeps_kind kind.Jump same refl))
+      by kind.Call same other free =
+          absurd (note_is_no_call (head_of i.pattern).code (kids_of i.pattern) (untold (is_note (head_of i.pattern).code) free) (keeps_kind kind.Call same refl))
       by kind.Label same other free = absurd (true≢false other)
       by kind.Barrier same other free = inl same
 
@@ -82,7 +84,8 @@ module _ (f : Function) (is : IsWellFormed f) (place : ℕ) (i : Insn) (at : Sta
       let of_kind = (and_parts (is_kind i.kind) (not (is_note (head_of i.pattern).code)) needed).0 in
       record {
         is_none = kind_no_mark i.kind of_kind;
-        hard = λ reg above. window_uses_none reg above i (is.keep ArgumentRegisters place i at (kind_is_ruled i.kind of_kind)) (or_parts (is_call i.kind) (names_homeless i.pattern) free).1;
+        hard =
+            λ reg above. window_uses_none reg above i (is.keep ArgumentRegisters place i at (kind_is_ruled i.kind of_kind)) (or_parts (is_call i.kind) (names_homeless i.pattern) free).1;
       }
 
   -- a call needs a form and is held

@@ -19,7 +19,8 @@ is_good false uid none = absurd (let nothing : ⊥ = cc in nothing)
 first_good : (before : List ℕ) (i : Insn) (rest : List Insn) → uid_faults_in before (i ∷ rest) ≡ [] → is_ruled i ≡ true →
     (is_uid i.uid ≡ true) × (has_place before i.uid ≡ false) × (uid_faults_in (i.uid ∷ before) rest ≡ [])
 first_good before i rest none ruled =
-    let both = both_empty (uid_fault (is_uid i.uid && not (has_place before i.uid)) i.uid) (uid_faults_in (i.uid ∷ before) rest) (sym (uid_ruled before i rest ruled) ∙ none) in
+    let both = both_empty (uid_fault (is_uid i.uid && not (has_place before i.uid)) i.uid) (uid_faults_in (i.uid ∷ before) rest)
+    (sym (uid_ruled before i rest ruled) ∙ none) in
     let good = and_parts (is_uid i.uid) (not (has_place before i.uid)) (is_good _ i.uid both.0) in
     (good.0, turned (has_place before i.uid) good.1, both.1)
   where
@@ -35,7 +36,8 @@ behind before i rest none = elim (cases_Bool (is_ruled i)) [
   | inr other ↦ (before, sym (uid_other before i rest other) ∙ none, λ uid out. out)
 ]
 
-good_at : (before : List ℕ) (insns : List Insn) → uid_faults_in before insns ≡ [] → (place : ℕ) (i : Insn) → StandsAt insns place i → is_ruled i ≡ true →
+good_at : (before : List ℕ) (insns : List Insn) → uid_faults_in before insns ≡ [] → (place : ℕ) (i : Insn) →
+    StandsAt insns place i → is_ruled i ≡ true →
     (is_uid i.uid ≡ true) × (has_place before i.uid ≡ false)
 good_at before [] none place i at ruled = absurd (let nothing : ⊥ = cc in nothing)
 good_at before (j ∷ insns) none zero i at ruled =
@@ -54,7 +56,8 @@ first_differs before i insns none ruled place j at ruled' same =
     let good = good_at (i.uid ∷ before) insns (first_good before i insns none ruled).2 place j at ruled' in
     true≢false (sym (eq-eqb i.uid j.uid same) ∙ (or_parts (i.uid == j.uid) (has_place before j.uid) good.1).0)
 
-differ : (before : List ℕ) (insns : List Insn) → uid_faults_in before insns ≡ [] → (p q : ℕ) (i j : Insn) → StandsAt insns p i → StandsAt insns q j →
+differ : (before : List ℕ) (insns : List Insn) → uid_faults_in before insns ≡ [] → (p q : ℕ) (i j : Insn) → StandsAt insns p i →
+    StandsAt insns q j →
     is_ruled i ≡ true → is_ruled j ≡ true → i.uid ≡ j.uid → p ≡ q
 differ before [] none p q i j at at' ruled ruled' same = absurd (let nothing : ⊥ = cc in nothing)
 differ before (k ∷ insns) none zero zero i j at at' ruled ruled' same = refl
@@ -70,12 +73,14 @@ differ before (k ∷ insns) none (suc p) (suc q) i j at at' ruled ruled' same =
 -- ---- of an admitted function
 
 -- two instructions or labels with one uid stand at one place
-pub uids_differ : (f : Function) → IsAdmitted f → (p q : ℕ) (i j : Insn) → StandsAt f.insns p i → StandsAt f.insns q j → is_ruled i ≡ true → is_ruled j ≡ true →
+pub uids_differ : (f : Function) → IsAdmitted f → (p q : ℕ) (i j : Insn) → StandsAt f.insns p i → StandsAt f.insns q j →
+    is_ruled i ≡ true → is_ruled j ≡ true →
     i.uid ≡ j.uid → p ≡ q
 uids_differ f admitted = differ [] f.insns (no_faults admitted.0 f admitted.1).uids
 
 -- a uid is from 1 to 2,147,483,647
-pub is_within : (f : Function) → IsAdmitted f → (place : ℕ) (i : Insn) → StandsAt f.insns place i → is_ruled i ≡ true → (1 ≤ i.uid) × (i.uid ≤ 2147483647)
+pub is_within : (f : Function) → IsAdmitted f → (place : ℕ) (i : Insn) → StandsAt f.insns place i → is_ruled i ≡ true →
+    (1 ≤ i.uid) × (i.uid ≤ 2147483647)
 is_within f admitted place i at ruled =
     let good = good_at [] f.insns (no_faults admitted.0 f admitted.1).uids place i at ruled in
     let both = and_parts (nat_le 1 i.uid) (nat_le i.uid 2147483647) good.0 in

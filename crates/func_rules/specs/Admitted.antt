@@ -29,7 +29,8 @@ BarriersDoNothing insns = (place : ℕ) (i : Insn) → StandsAt insns place i �
 -- a label has a number of 32 bits, and no other label has it
 pub record AreLabels (insns : List Insn) : Type 0 where
   pub fit : (place : ℕ) (i : Insn) → StandsAt insns place i → i.kind ≡ Label → IsUid i.uid
-  pub differ : (p q : ℕ) (i j : Insn) → StandsAt insns p i → StandsAt insns q j → i.kind ≡ Label → j.kind ≡ Label → i.uid ≡ j.uid → p ≡ q
+  pub differ : (p q : ℕ) (i j : Insn) → StandsAt insns p i → StandsAt insns q j → i.kind ≡ Label → j.kind ≡ Label →
+      i.uid ≡ j.uid → p ≡ q
 
 -- a function that keeps the rules; its chain may have the return at its end
 pub record IsWellFormed (f : Function) : Type 0 where

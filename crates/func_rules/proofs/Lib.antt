@@ -8,7 +8,9 @@ pub mod Chain
 pub mod Returning
 pub mod Exit
 pub mod Added
+pub mod Standing
 pub mod Reading
+pub mod Locals
 pub mod Finished
 pub mod Marks
 pub mod Sorts

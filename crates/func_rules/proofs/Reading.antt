@@ -1,5 +1,5 @@
 -- What is read from trees has barriers that do nothing.
-use Rattle.std.proofs.Common.{◌≡◌, ℕ, zero, suc, Bool, true, false, List, [], ◌∷◌, ◌++◌, Option, Some, None, refl, subst}
+use Rattle.std.proofs.Common.{◌≡◌, ℕ, Bool, true, false, List, [], ◌∷◌, ◌++◌, Option, Some, None, refl}
 use Rattle.std.specs.Prelude.{slice_get, if◌then◌else◌, codes}
 use Rattle.std.specs.List.{AllByRecursion}
 use Rattle.rtx_tree.specs.declared.function.Insn.{Insn}
@@ -10,7 +10,7 @@ use Rattle.rtx_tree.specs.Patterns.{nothing_rtx}
 use Rattle.lisp_read.specs.declared.tree.Tree.{Tree}
 use Rattle.lisp_read.specs.declared.position.Position.TheVariants.{Pattern}
 use Rattle.lisp_read.specs.Expression.{read_at}
-use Rattle.lisp_read.specs.Parsed.{Parsed, stands, construct, outside, parsed_map, parsed_then, each_parsed}
+use Rattle.lisp_read.specs.Parsed.{Parsed, stands, construct, outside, parsed_map}
 use Rattle.lisp_read.specs.Shape.{items_of, is_vector, is_word}
 use Rattle.rtl_read.specs.declared.parts.Said.{Said}
 use Rattle.rtl_read.specs.Call.{call_of, uses_of}
@@ -19,25 +19,7 @@ use Rattle.rtl_read.specs.Function.{locals_of, crtl_of, says_nothing, says_chain
 use Rattle.rtl_read.specs.Word.{is_headed}
 use Rattle.rtl_read.specs.Syntax.{functions_in}
 use Rattle.func_rules.specs.Admitted.{BarriersDoNothing}
-
--- ---- what stands for a tree, where something does
-
-abbrev IfStands : {A : Type 0} → (A → Type 0) → Parsed A → Type 0
-IfStands P (stands x) = P x
-IfStands P (construct place name) = Unit {0}
-
-any_stands : {A : Type 0} (P : A → Type 0) → ((x : A) → P x) → (p : Parsed A) → IfStands P p
-any_stands P is (stands x) = is x
-any_stands P is (construct place name) = tt
-
-map_stands : {A B : Type 0} (P : B → Type 0) (f : A → B) (p : Parsed A) → IfStands (λ x. P (f x)) p → IfStands P (parsed_map f p)
-map_stands P f (stands x) is = is
-map_stands P f (construct place name) is = tt
-
-then_stands : {A B : Type 0} (Q : A → Type 0) (P : B → Type 0) (p : Parsed A) (k : A → Parsed B) → IfStands Q p →
-    ((x : A) → Q x → IfStands P (k x)) → IfStands P (parsed_then p k)
-then_stands Q P (stands x) k is next = next x is
-then_stands Q P (construct place name) k is next = tt
+use Rattle.func_rules.proofs.Standing.{IfStands, any_stands, map_stands, then_stands, all_stand, at_place}
 
 -- ---- instructions
 
@@ -165,29 +147,8 @@ good_function : (t : Tree) (parts : Option (List ℕ × List Tree)) → IfStands
 good_function t (Some parts) = map_stands GoodFunction (function_from parts.0) (all_said parts.1) (good_all_said parts.1)
 good_function t None = tt
 
-abbrev GoodFunctions : List Function → Type 0
-GoodFunctions = AllByRecursion GoodFunction
-
-good_functions : (trees : List Tree) → IfStands GoodFunctions (functions_in trees)
-good_functions [] = tt
-good_functions (t ∷ trees) =
-    then_stands GoodFunction GoodFunctions (function_of t) (λ f. parsed_map (λ fs. f ∷ fs) (each_parsed function_of trees)) (good_function t (function_parts (items_of t)))
-    (λ f good. map_stands GoodFunctions (λ fs. f ∷ fs) (each_parsed function_of trees) (weaker f good (each_parsed function_of trees) (good_functions trees)))
-  where
-    weaker : (f : Function) → GoodFunction f → (p : Parsed (List Function)) → IfStands GoodFunctions p →
-        IfStands (λ fs. GoodFunctions (f ∷ fs)) p
-    weaker f good (stands fs) more = (good, more)
-    weaker f good (construct place name) more = tt
-
--- ---- by places
-
-at_place : {A : Type 0} (P : A → Type 0) (xs : List A) → AllByRecursion P xs → (place : ℕ) (x : A) → slice_get xs place ≡ Some x → P x
-at_place P [] all place x at = absurd (let nothing : ⊥ = cc in nothing)
-at_place P (y ∷ xs) all zero x at = let same : y ≡ x = cc in subst P same all.0
-at_place P (y ∷ xs) all (suc place) x at = at_place P xs all.1 place x at
-
 -- the barriers of each function that is read do nothing
 pub read_barriers : (trees : List Tree) (functions : List Function) → functions_in trees ≡ stands functions →
     (index : ℕ) (f : Function) → slice_get functions index ≡ Some f → BarriersDoNothing f.insns
 read_barriers trees functions read index f at =
-    at_place DoesNothing f.insns (at_place GoodFunction functions (subst (IfStands GoodFunctions) read (good_functions trees)) index f at)
+    at_place DoesNothing f.insns (at_place GoodFunction functions (all_stand GoodFunction function_of (λ t. good_function t (function_parts (items_of t))) trees functions read) index f at)

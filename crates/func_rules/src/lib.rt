@@ -1,6 +1,7 @@
 //! What the rules of well-formed functions give.
 //!
-//! There is no code here. `specs/Admitted.antt` says what a function of an input is that none refuses; the laws, in `proofs/`, say what
-//! is known of its labels, of the registers that its instructions use and define, of what each instruction is by its kind and pattern, and
-//! of the chain with the return at its end.
+//! There is no code here. `specs/Admitted.antt` says what a function is that keeps the rules, as one of an input does that none refuses;
+//! `specs/Sorts.antt` what stands at its places, and `specs/ForLines.antt` what its lines may count on. The laws, in `proofs/`, are that
+//! a function of an input keeps the rules, also with the return at the end of its chain; that this return changes no run; and what the
+//! rules give of labels, of jumps, and of the registers that instructions use and define.
 #![tactic(auto)]

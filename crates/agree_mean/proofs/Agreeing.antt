@@ -32,6 +32,7 @@ use Rattle.sym_insns.specs.Effects.{uid_in}
 use Rattle.sym_insns.specs.Run as insns_run
 use Rattle.sym_lines.specs.Run as lines_run
 use Rattle.sym_lines.specs.Run.{label_uid}
+use Rattle.sym_diff.specs.Registers.{is_live}
 use Rattle.sym_diff.specs.Compared.{target_term, arg_at, arg_beside}
 use Rattle.sym_diff.specs.Agree.{Agree, CallsAgree, SameCall}
 use Rattle.sym_mean.specs.Means.{EndMeans, CallMeans, ArgsMean, LeadsOn}
@@ -41,7 +42,6 @@ use Rattle.sym_mean.proofs.LastInsn.{HandsOver, EndsWell, ends_well}
 use Rattle.agree_mean.proofs.Windows.{window_keeps}
 use Rattle.agree_mean.proofs.LinesKeep.{lines_ordered}
 use Rattle.agree_mean.proofs.Calls.{same_args}
-use Rattle.agree_mean.proofs.Ends.{IsLiveIn}
 use Rattle.agree_mean.proofs.Told.{code_of, Told, tell}
 use Rattle.agree_mean.proofs.Does as does
 
@@ -85,9 +85,9 @@ uid_small uid x is = by (nat_lt uid (2 ^ 32)) refl is
     by true small is = (grind (arith, nat_tests, small), let same : uid ≡ x = cc in same)
     by false large is = absurd (let no : ⊥ = cc in no)
 
-module _ (number : ℕ) (insns : List Insn) (lines : List Line) (live : List ℕ) (a b : State) (runs_first : insns_run.run insns ≡ Runs a) (agree : Agree true live a b)
+module _ (number : ℕ) (insns : List Insn) (lines : List Line) (live : List ℕ) (Few : ℕ → Type 0) (a b : State) (runs_first : insns_run.run insns ≡ Runs a) (agree : Agree true live a b)
     (world : World) (ranges : List RangeAt) (regs : Regs) (memory : List MemByte) (m : RvState) (came : InsnsCome)
-    (starts : Starts insns (IsLiveIn live) world ranges regs memory m) (told : Told number insns lines a b world ranges regs memory m came) where
+    (starts : Starts insns Few world ranges regs memory m) (told : Told number insns lines a b world ranges regs memory m came) where
   abbrev done : LinesCome
   done = told.ran.done
 
@@ -168,21 +168,21 @@ module _ (number : ℕ) (insns : List Insn) (lines : List Line) (live : List ℕ
   same_end seen =
       ends_by a.call b.call refl agree.calls told.means.ending told.own_means.ending told.code_means.ending told.other_means.ending (λ call is. (ends_well insns a runs_first).hands_over call is) seen
 
--- lines whose symbolic state agrees with that of instructions do what they do
-pub agreeing_does : (number : ℕ) (insns : List Insn) (lines : List Line) (live : List ℕ) (a b : State) → insns_run.run insns ≡ Runs a → lines_run.run number lines ≡ Runs b → Agree true live a b →
-    DoSame number insns lines (IsLiveIn live)
-agreeing_does number insns lines live a b runs_first runs_second agree world ranges regs memory m came starts comes =
-    let told = tell number insns lines live a b runs_first runs_second agree world ranges regs memory m came starts comes in
+-- lines whose symbolic state agrees with that of instructions do what they do, over any of the registers that are live
+pub agreeing_does : (number : ℕ) (insns : List Insn) (lines : List Line) (live : List ℕ) (Few : ℕ → Type 0) → ((reg : ℕ) → Few reg → is_live live reg ≡ true) → (a b : State) → insns_run.run insns ≡ Runs a → lines_run.run number lines ≡ Runs b → Agree true live a b →
+    DoSame number insns lines Few
+agreeing_does number insns lines live Few few a b runs_first runs_second agree world ranges regs memory m came starts comes =
+    let told = tell number insns lines live Few a b runs_first runs_second agree world ranges regs memory m came starts comes in
     let keeps = window_keeps world.symbols ranges insns regs memory came comes in
     let ordered : IsOrdered told.ran.done.machine.memory = lines_ordered world lines m told.ran.done told.ran.comes starts.beside.second.memory.ordered in
-    let beside = does.beside number insns lines live a b runs_first agree world ranges regs memory m came starts told keeps ordered in
+    let beside = does.beside number insns lines live Few few a b runs_first agree world ranges regs memory m came starts told keeps ordered in
     record {
       done = told.ran.done;
       comes = told.ran.comes;
-      same_end = same_end number insns lines live a b runs_first agree world ranges regs memory m came starts told beside.visible_is;
+      same_end = same_end number insns lines live Few a b runs_first agree world ranges regs memory m came starts told beside.visible_is;
       beside = beside;
-      agree = does.agree_behind number insns lines live a b runs_first agree world ranges regs memory m came starts told;
-      kept = does.kept number insns lines live a b runs_first agree world ranges regs memory m came starts told;
-      return_address = does.kept_address number insns lines live a b runs_first agree world ranges regs memory m came starts told keeps;
+      agree = does.agree_behind number insns lines live Few few a b runs_first agree world ranges regs memory m came starts told;
+      kept = does.kept number insns lines live Few few a b runs_first agree world ranges regs memory m came starts told;
+      return_address = does.kept_address number insns lines live Few few a b runs_first agree world ranges regs memory m came starts told keeps;
       entry_is = told.ran.entry_is;
     }

@@ -44,7 +44,7 @@ use Rattle.sym_mean.proofs.Kept.{held_defined}
 use Rattle.agree_mean.proofs.Windows.{WindowKeeps, window_keeps}
 use Rattle.agree_mean.proofs.Twice as twice
 use Rattle.agree_mean.proofs.Behind.{cut, known_value, IsKnown, kept_behind, changed_behind, not_missing}
-use Rattle.agree_mean.proofs.Ends.{IsLiveIn, Left, not_passed, none_calls}
+use Rattle.agree_mean.proofs.Ends.{Left, not_passed, none_calls}
 use Rattle.agree_mean.proofs.Told.{Told}
 use Rattle.agree_mean.proofs.Visible.{all_bytes, same_seen, seen_same}
 
@@ -81,9 +81,9 @@ free_used reg is = by (is_call_used reg) is
     by true is = refl
     by false is = is
 
-module _ (number : ℕ) (insns : List Insn) (lines : List Line) (live : List ℕ) (a b : State) (runs_first : insns_run.run insns ≡ Runs a) (agree : Agree true live a b)
+module _ (number : ℕ) (insns : List Insn) (lines : List Line) (live : List ℕ) (Few : ℕ → Type 0) (few : (reg : ℕ) → Few reg → is_live live reg ≡ true) (a b : State) (runs_first : insns_run.run insns ≡ Runs a) (agree : Agree true live a b)
     (world : World) (ranges : List RangeAt) (regs : Regs) (memory : List MemByte) (m : RvState) (came : InsnsCome)
-    (starts : Starts insns (IsLiveIn live) world ranges regs memory m) (told : Told number insns lines a b world ranges regs memory m came) where
+    (starts : Starts insns Few world ranges regs memory m) (told : Told number insns lines a b world ranges regs memory m came) where
   -- ---- registers
 
   undefined : (reg : ℕ) (o : Option (Option Tree)) → held a.regs (suc reg) ≡ o → o ≡ None → window_defines insns (suc reg) ≡ false
@@ -93,7 +93,7 @@ module _ (number : ℕ) (insns : List Insn) (lines : List Line) (live : List ℕ
   unchanged reg None is none = refl
   unchanged reg (Some x) is none = absurd (let no : true ≡ false = sym (ap is_some is) ∙ held_defined insns a runs_first reg ∙ none in let no' : ⊥ = cc in no')
 
-  agree_by : (reg : ℕ) (first second : Option (Option Tree)) (w : Width) (value : ℕ) → held a.regs (suc reg) ≡ first → IsLiveIn live (suc reg) →
+  agree_by : (reg : ℕ) (first second : Option (Option Tree)) (w : Width) (value : ℕ) → held a.regs (suc reg) ≡ first → Few (suc reg) →
       ((t : Tree) → value_behind first (suc reg) ≡ Some t → Knows (value_behind second (suc reg)) t) →
       ShowsRegister told.v (first_of world.symbols regs memory) (left_at came.ending came.regs) first (suc reg) → ShowsNumber told.u m.regs told.ran.done.machine.regs second (suc reg) →
       reg_value (left_at came.ending came.regs) (suc reg) w ≡ Some value → reads told.ran.done.machine.regs (suc reg) w ≡ Some value
@@ -113,10 +113,10 @@ module _ (number : ℕ) (insns : List Insn) (lines : List Line) (live : List ℕ
   passed_by : (reg : ℕ) → IsKept came.ending reg → is_passed_over (one_calls a b) reg ≡ false
   passed_by reg kept = not_passed told.v ranges a b a.call b.call came came.ending reg refl told.means.ending agree.calls kept
 
-  pub agree_behind : (reg : ℕ) → IsLiveIn live reg → IsKept came.ending reg → Agrees came.regs told.ran.done.machine.regs reg
+  pub agree_behind : (reg : ℕ) → Few reg → IsKept came.ending reg → Agrees came.regs told.ran.done.machine.regs reg
   agree_behind zero lives kept w value is = let same : 0 ≡ value = cc in ap Some (zero_low w ∙ same)
   agree_behind (suc reg) lives kept w value is =
-      agree_by reg (held a.regs (suc reg)) (held b.regs (suc reg)) w value refl lives ((agree.registers (suc reg) (passed_by (suc reg) kept)).known lives)
+      agree_by reg (held a.regs (suc reg)) (held b.regs (suc reg)) w value refl lives ((agree.registers (suc reg) (passed_by (suc reg) kept)).known (few (suc reg) lives))
       (told.means.shows.registers reg) (told.left.registers reg (passed_by (suc reg) kept)) (left_same came.ending came.regs (suc reg) w kept ∙ is)
 
   -- ---- what the instructions leave alone

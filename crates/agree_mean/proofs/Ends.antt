@@ -35,7 +35,7 @@ use Rattle.sym_mean.specs.Means.{IsFirst, first_of, all_met, EndMeans, CallMeans
 use Rattle.sym_mean.proofs.Firsts.{first_shows}
 use Rattle.line_mean.specs.ShowsLine.{ShowsNumber, ShowsLine}
 use Rattle.line_mean.specs.EndsLines.{EndsLines, falls, goes, calls, IsBefore, LinesRun}
-use Rattle.sym_diff.specs.Registers.{is_live, one_calls, is_passed_over}
+use Rattle.sym_diff.specs.Registers.{one_calls, is_passed_over}
 use Rattle.sym_diff.specs.Agree.{Agree, CallsAgree}
 use Rattle.sym_mean.proofs.Left.{held_left}
 use Rattle.sym_mean.proofs.Used.{IsUsed, needs_used}
@@ -44,10 +44,6 @@ use Rattle.agree_mean.proofs.Codes.{symbol_number, symbol_is, symbol_word, byte_
 use Rattle.agree_mean.proofs.Twice as twice
 use Rattle.agree_mean.proofs.Covered.{all_covered}
 use Rattle.agree_mean.proofs.Covered as covered
-
--- a register that is live behind
-abbrev pub IsLiveIn : List ℕ → ℕ → Type 0
-IsLiveIn live reg = is_live live reg ≡ true
 
 -- ---- calls of both
 

@@ -37,7 +37,7 @@ use Rattle.sym_mean.specs.Means.{Means, IsFirst, first_of, all_met, EndMeans, Ca
 use Rattle.sym_mean.proofs.Firsts.{first_shows}
 use Rattle.line_mean.specs.ShowsLine.{ShowsNumber, ShowsLine}
 use Rattle.line_mean.specs.EndsLines.{EndsLines, falls, goes, calls, IsBefore, LinesRun}
-use Rattle.sym_diff.specs.Registers.{is_live, one_calls, is_passed_over}
+use Rattle.sym_diff.specs.Registers.{one_calls, is_passed_over}
 use Rattle.sym_diff.specs.Agree.{Agree, CallsAgree}
 use Rattle.sym_mean.proofs.Left.{held_left}
 use Rattle.sym_mean.proofs.Used.{IsUsed, needs_used}
@@ -47,7 +47,7 @@ use Rattle.agree_mean.proofs.Twice as twice
 use Rattle.agree_mean.proofs.Covered.{all_covered}
 use Rattle.agree_mean.proofs.Covered as covered
 use Rattle.agree_mean.proofs.Behind.{not_missing}
-use Rattle.agree_mean.proofs.Ends.{IsLiveIn, Left, word_by}
+use Rattle.agree_mean.proofs.Ends.{Left, word_by}
 
 -- what there is before the first line
 abbrev pub code_of : List SymbolAt → RvState → First
@@ -73,10 +73,10 @@ pub record Told (number : ℕ) (insns : List Insn) (lines : List Line) (a b : St
   pub ran : LinesRun u (code_of world.symbols m) m.regs world number lines b m
   pub left : Left u (code_of world.symbols m) m a b ran.done
 
-module _ (number : ℕ) (insns : List Insn) (lines : List Line) (live : List ℕ) (a b : State)
+module _ (number : ℕ) (insns : List Insn) (lines : List Line) (live : List ℕ) (Few : ℕ → Type 0) (a b : State)
     (runs_first : insns_run.run insns ≡ Runs a) (runs_second : lines_run.run number lines ≡ Runs b) (agree : Agree true live a b)
     (world : World) (ranges : List RangeAt) (regs : Regs) (memory : List MemByte) (m : RvState) (came : InsnsCome)
-    (starts : Starts insns (IsLiveIn live) world ranges regs memory m) (comes : insns_come world.symbols ranges insns regs memory ≡ Some came) where
+    (starts : Starts insns Few world ranges regs memory m) (comes : insns_come world.symbols ranges insns regs memory ≡ Some came) where
   -- the instructions on the registers that they use, by what the machine of lines holds
   abbrev pub coded : (other : ℕ) → RunMeans (code_valuation world.symbols m other) (first_of world.symbols (asked insns regs) memory) ranges a
       (twice.again world.symbols ranges insns regs memory m a came starts.symbols starts.beside.first starts.beside.within starts.used runs_first comes).come

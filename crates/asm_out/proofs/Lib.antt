@@ -4,5 +4,6 @@ pub mod PlacesLaws
 pub mod Sorted
 pub mod LineLaws
 pub mod PlaceOne
+pub mod Calls
 pub mod WrittenLaws
 pub mod SpelledLaws

@@ -20,7 +20,7 @@ use Rattle.equate.specs.Equated.{verdict}
 use Rattle.asm_out.specs.declared.piece.Piece.{Piece}
 use Rattle.asm_out.specs.declared.refusal.OutRefusal.{OutRefusal}
 use Rattle.asm_out.specs.Filled.{text_of, AreLinesOf}
-use Rattle.asm_out.specs.Refused.{unmatched, refused_by}
+use Rattle.asm_out.specs.Refused.{unmatched_insn, refused_by}
 use Rattle.asm_out.specs.Outcome.{Outcome, nothing}
 use Rattle.asm_out.specs.Comes.{IsTried, PlaceComes, code_piece, label_piece, Part, Opening, Place, Closing, PartComes, parts_of, FunctionComes}
 use Rattle.asm_out.proofs.LineLaws.{lines_one}
@@ -110,8 +110,8 @@ module _ (forms : List Entry) (number : ℕ) (f : Function) (place : ℕ) (i : I
   abbrev Body : Asked → Outcome → Type 0
   Body OfLabel o = o ≡ Ok (label_piece number i.uid)
   Body OfNothing o = o ≡ Ok nothing
-  Body OfRefusal o = o ≡ Err (unmatched i)
-  Body OfForm o = (NoneMatchesOut forms output_facts i.pattern × (o ≡ Err (unmatched i))) ⊎ IsCompared o
+  Body OfRefusal o = o ≡ Err (unmatched_insn i)
+  Body OfForm o = (NoneMatchesOut forms output_facts i.pattern × (o ≡ Err (unmatched_insn i))) ⊎ IsCompared o
 
   as_asked : (k : Asked) (o : Outcome) → asked i ≡ k → Body k o → Body (asked i) o
   as_asked k o is body = subst (λ k. Body k o) (sym is) body
@@ -122,11 +122,11 @@ module _ (forms : List Entry) (number : ℕ) (f : Function) (place : ℕ) (i : I
   body_of _ (PlaceComes.silent is) =
       as_asked OfNothing (Ok nothing) (silent_asks (is_label i.kind) (is_kind i.kind) (is_note (head_of i.pattern).code) (names_locals i.pattern) (is_held i) is) refl
   body_of _ (PlaceComes.framed is) =
-      as_asked OfRefusal (Err (unmatched i)) (framed_asks (is_label i.kind) (is_kind i.kind) (is_note (head_of i.pattern).code) (names_locals i.pattern) (is_held i) (apart_kinds i.kind) is) refl
+      as_asked OfRefusal (Err (unmatched_insn i)) (framed_asks (is_label i.kind) (is_kind i.kind) (is_note (head_of i.pattern).code) (names_locals i.pattern) (is_held i) (apart_kinds i.kind) is) refl
   body_of _ (PlaceComes.held needs is) =
-      as_asked OfRefusal (Err (unmatched i)) (held_asks (is_label i.kind) (is_kind i.kind) (is_note (head_of i.pattern).code) (names_locals i.pattern) (is_held i) (apart_kinds i.kind) needs is) refl
+      as_asked OfRefusal (Err (unmatched_insn i)) (held_asks (is_label i.kind) (is_kind i.kind) (is_note (head_of i.pattern).code) (names_locals i.pattern) (is_held i) (apart_kinds i.kind) needs is) refl
   body_of _ (PlaceComes.unmatched needs free none) =
-      as_asked OfForm (Err (unmatched i)) (form_asks (is_label i.kind) (is_kind i.kind) (is_note (head_of i.pattern).code) (names_locals i.pattern) (is_held i) (apart_kinds i.kind) needs free)
+      as_asked OfForm (Err (unmatched_insn i)) (form_asks (is_label i.kind) (is_kind i.kind) (is_note (head_of i.pattern).code) (names_locals i.pattern) (is_held i) (apart_kinds i.kind) needs free)
       (inl (none, refl))
   body_of _ (PlaceComes.refused c lines live e tried is) =
       as_asked OfForm (Err e) (form_asks (is_label i.kind) (is_kind i.kind) (is_note (head_of i.pattern).code) (names_locals i.pattern) (is_held i) (apart_kinds i.kind) tried.needs tried.free)
@@ -141,8 +141,8 @@ module _ (forms : List Entry) (number : ℕ) (f : Function) (place : ℕ) (i : I
   one_compared : (a b : Outcome) → IsCompared a → IsCompared b → a ≡ b
   one_compared a b x y =
       let c = chosen_one forms output_facts i.pattern x.c y.c x.tried.chosen y.tried.chosen in
-      let lines = lines_one (lines_of (text_of forms number i y.c)) x.lines y.lines (subst (λ (c : Chosen). AreLinesOf (text_of forms number i c) x.lines) c x.tried.lines) y.tried.lines in
-      let live = live_one f place x.live y.live x.tried.live y.tried.live in
+      let lines = lines_one (lines_of (text_of forms number i y.c)) x.lines y.lines (subst (λ (c : Chosen). AreLinesOf (text_of forms number i c) x.lines) c x.tried.read) y.tried.read in
+      let live = live_one f place x.live y.live x.tried.live_after y.tried.live_after in
       x.is ∙ (ap (λ (c : Chosen). compared c x.lines x.live) c ∙ (ap (λ (ls : List Line). compared y.c ls x.live) lines ∙ (ap (λ (rs : List ℕ). compared y.c y.lines rs) live ∙ sym y.is)))
 
   one_form : (a b : Outcome) → Body OfForm a → Body OfForm b → a ≡ b

@@ -1,6 +1,6 @@
 -- The text that is written spells its items.
 use Rattle.std.proofs.Common.{◌≡◌, ◌≢◌, ℕ, ◌+◌, ◌<◌, ◌^◌, Bool, true, false, eqb, eq-eqb, arith, List, [], ◌∷◌, ◌++◌, map, refl, sym, ap, subst, ◌∙◌, append_assoc}
-use Rattle.std.specs.Prelude.{AllZip}
+use Rattle.std.specs.List.{AllZip}
 use Rattle.std.proofs.lemmas.List.{append-nil}
 use Rattle.std.proofs.lemmas.Bool.{eqb-true, false≢true}
 use Rattle.rtx_tree.specs.declared.function.Insn.{Insn}
@@ -77,4 +77,4 @@ chain_spelled forms number f _ _ _ _ small (AreWritten.label place i insns text 
     (Spells.label number i.uid text items small uid (chain_spelled forms number f (place + 1) insns text items small more))
 chain_spelled forms number f _ _ _ _ small (AreWritten.silent place i insns text items is more) = chain_spelled forms number f (place + 1) insns text items small more
 chain_spelled forms number f _ _ _ _ small (AreWritten.lines place i insns c ls text items are more) =
-    insn_spelled (text_of forms number i c) text ls items are.lines (chain_spelled forms number f (place + 1) insns text items small more)
+    insn_spelled (text_of forms number i c) text ls items are.read (chain_spelled forms number f (place + 1) insns text items small more)

@@ -100,9 +100,9 @@ module _ (forms : List Entry) (number : ℕ) (f : Function) where
         needs = tried.needs;
         free = tried.free;
         chosen = tried.chosen;
-        lines = read_all (lines_of (text_of forms number i c)) lines tried.lines (equated_acting (i ∷ []) number lines live is);
+        read = read_all (lines_of (text_of forms number i c)) lines tried.read (equated_acting (i ∷ []) number lines live is);
         live = live;
-        live_after = tried.live;
+        live_after = tried.live_after;
         equated = is;
       })
       chain.are)

@@ -17,7 +17,7 @@ use Rattle.asm_out.specs.declared.piece.Piece.{Piece}
 use Rattle.asm_out.specs.declared.refusal.OutRefusal.{OutRefusal}
 use Rattle.asm_out.specs.Frame.{opening_lines, closing_line, label_line}
 use Rattle.asm_out.specs.Filled.{text_of, written, AreLinesOf}
-use Rattle.asm_out.specs.Refused.{unmatched, refused_by, too_long, most_output}
+use Rattle.asm_out.specs.Refused.{unmatched_insn, refused_by, too_long, most_output}
 use Rattle.asm_out.specs.Outcome.{Outcome, only_text, nothing, outcome_behind}
 
 -- ---- instructions
@@ -27,8 +27,8 @@ pub record IsTried (forms : List Entry) (number : ℕ) (f : Function) (place : �
   pub needs : needs_form i ≡ true
   pub free : is_held i ≡ false
   pub chosen : IsChosen forms output_facts i.pattern c
-  pub lines : AreLinesOf (text_of forms number i c) lines
-  pub live : AreLiveAfter f place live
+  pub read : AreLinesOf (text_of forms number i c) lines
+  pub live_after : AreLiveAfter f place live
 
 -- the text that is written for an instruction, with its lines
 abbrev pub code_piece : List Entry → ℕ → Insn → Chosen → List Line → Piece
@@ -42,9 +42,9 @@ label_piece number uid = record { text = label_line number uid; items = item.Lab
 pub data PlaceComes (forms : List Entry) (number : ℕ) (f : Function) (place : ℕ) (i : Insn) : Outcome → Type 0 where
   label : is_label i.kind ≡ true → i.uid < 2 ^ 32 → PlaceComes forms number f place i (Ok (label_piece number i.uid))
   silent : is_silent i ≡ true → PlaceComes forms number f place i (Ok nothing)
-  framed : is_framed i ≡ true → PlaceComes forms number f place i (Err (unmatched i))
-  held : needs_form i ≡ true → is_held i ≡ true → PlaceComes forms number f place i (Err (unmatched i))
-  unmatched : needs_form i ≡ true → is_held i ≡ false → NoneMatchesOut forms output_facts i.pattern → PlaceComes forms number f place i (Err (unmatched i))
+  framed : is_framed i ≡ true → PlaceComes forms number f place i (Err (unmatched_insn i))
+  held : needs_form i ≡ true → is_held i ≡ true → PlaceComes forms number f place i (Err (unmatched_insn i))
+  unmatched : needs_form i ≡ true → is_held i ≡ false → NoneMatchesOut forms output_facts i.pattern → PlaceComes forms number f place i (Err (unmatched_insn i))
   refused : (c : Chosen) (lines : List Line) (live : List ℕ) (e : OutRefusal) → IsTried forms number f place i c lines live →
       refused_by i.uid (name_at (names_of forms) c.form) (verdict (i ∷ []) (Lines number lines) live) ≡ Some e → PlaceComes forms number f place i (Err e)
   equated : (c : Chosen) (lines : List Line) (live : List ℕ) → IsTried forms number f place i c lines live → Equated (i ∷ []) (Lines number lines) live →

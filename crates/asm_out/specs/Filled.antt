@@ -1,5 +1,6 @@
 -- The lines that a form gives for an instruction: GCC Internals, "Output Template" and "Output Templates and Operand Substitution".
-use Rattle.std.specs.Prelude.{◌≡◌, ℕ, List, [], ◌∷◌, ◌++◌, Option, Some, None, Result, Ok, Err, slice_get, option_and_then, AllZip}
+use Rattle.std.specs.Prelude.{◌≡◌, ℕ, List, [], ◌∷◌, ◌++◌, Option, Some, None, Result, Ok, Err, slice_get, option_and_then}
+use Rattle.std.specs.List.{AllZip}
 use Rattle.rtx_tree.specs.declared.function.Insn.{Insn}
 use Rattle.md_text.specs.declared.template.Template.{Template}
 use Rattle.md_pattern.specs.declared.reason.Reason.{Reason}

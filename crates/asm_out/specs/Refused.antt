@@ -14,8 +14,8 @@ use Rattle.asm_out.specs.declared.refusal.OutRefusal.TheVariants as refusal
 abbrev pub most_output : ℕ
 most_output = 268435456
 
-abbrev pub unmatched : Insn → OutRefusal
-unmatched i = refusal.Unmatched i.uid i.pattern
+abbrev pub unmatched_insn : Insn → OutRefusal
+unmatched_insn i = refusal.Unmatched i.uid i.pattern
 
 abbrev pub too_long : OutRefusal
 too_long = refusal.Limit Output (most_output + 1)

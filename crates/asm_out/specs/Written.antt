@@ -1,6 +1,7 @@
 -- What is written of a function: its frame of lines, and in it for each label its line, and for each instruction that needs a form the filled template of
 -- the first that counts, the lines of which are equated with the instruction over what is live behind it.
-use Rattle.std.specs.Prelude.{◌≡◌, ◌<◌, ◌^◌, ℕ, ◌+◌, true, List, [], ◌∷◌, ◌++◌, map, AllZip}
+use Rattle.std.specs.Prelude.{◌≡◌, ◌<◌, ◌^◌, ℕ, ◌+◌, true, List, [], ◌∷◌, ◌++◌, map}
+use Rattle.std.specs.List.{AllZip}
 use Rattle.rtx_tree.specs.declared.function.Insn.{Insn}
 use Rattle.rtx_tree.specs.declared.function.Function.{Function}
 use Rattle.rv_text.specs.Text.{IsTextOf}
@@ -25,7 +26,7 @@ pub record AreInsnLines (forms : List Entry) (number : ℕ) (f : Function) (plac
   pub needs : needs_form i ≡ true
   pub free : is_held i ≡ false
   pub chosen : IsChosen forms output_facts i.pattern c
-  pub lines : AllZip IsTextOf (lines_of (text_of forms number i c)) lines
+  pub read : AllZip IsTextOf (lines_of (text_of forms number i c)) lines
   pub live : List ℕ
   pub live_after : AreLiveAfter f place live
   pub equated : Equated (i ∷ []) (Lines number lines) live

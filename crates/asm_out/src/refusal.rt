@@ -48,7 +48,7 @@ impl From<Memory> for OutRefusal {
 
 /// That no form counts for an instruction.
 pub(crate) fn unmatched(alloc: Global, insn: &Insn) -> Result<OutRefusal, Memory>
-    ensures { IfOk result (λ e. e ≡ spec.unmatched insn.now) }
+    ensures { IfOk result (λ e. e ≡ spec.unmatched_insn insn.now) }
 {
     Ok(OutRefusal::Unmatched {
         uid: insn.uid,

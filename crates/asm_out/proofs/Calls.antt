@@ -1,0 +1,52 @@
+-- What the calls have done, from what their parts did.
+use Rattle.std.proofs.Common.{◌≡◌, ℕ, ◌+◌, true, false, List, ◌∷◌, [], ◌++◌, length, Some, Ok, Err, Result, refl, sym, ap, subst, ◌∙◌}
+use Rattle.std.specs.Prelude.{if◌then◌else◌, nat_le}
+use Rattle.rtx_tree.specs.declared.function.Insn.{Insn}
+use Rattle.rtx_tree.specs.declared.function.Function.{Function}
+use Rattle.rv_text.specs.declared.line.Line.{Line}
+use Rattle.rv_text.specs.declared.line.CodeItem.{CodeItem}
+use Rattle.md_forms.specs.declared.form.Entry.{Entry}
+use Rattle.md_forms.specs.Forms.{names_of}
+use Rattle.md_desc.specs.declared.output.Chosen.{Chosen}
+use Rattle.form_needs.specs.Needs.{name_at}
+use Rattle.equate.specs.Side.{Lines}
+use Rattle.equate.specs.Verdict.{Verdict, Same}
+use Rattle.equate.specs.Equated.{verdict, Equated}
+use Rattle.asm_out.specs.declared.piece.Piece.{Piece}
+use Rattle.asm_out.specs.declared.refusal.OutRefusal.{OutRefusal}
+use Rattle.asm_out.specs.Refused.{most_output, too_long, refused_by, unmatched_insn}
+use Rattle.asm_out.specs.Outcome.{Outcome, RefusesWith, Gives, Appends}
+use Rattle.asm_out.specs.Comes.{IsTried, PlaceComes, code_piece, limited}
+use Rattle.asm_out.specs.machine.Steps.{IsRefusal, Judges}
+use Rattle.asm_out.proofs.Refusing.{refuses_map, refuses_as}
+
+-- a piece that is too long
+pub piece_too_long : (size : ℕ) (piece : Piece) (e : OutRefusal) → e ≡ too_long → nat_le (size + length piece.text) most_output ≡ false → RefusesWith e (λ o. o ≡ limited size (Ok piece))
+piece_too_long size piece e is past =
+    subst (λ (e : OutRefusal). RefusesWith e (λ o. o ≡ limited size (Ok piece))) (sym is) (ap (λ b. if b then Ok piece else Err too_long) (sym past))
+
+-- and one that is not
+pub piece_appended : (t t' : List ℕ) (i i' : List CodeItem) (piece : Piece) → nat_le (length t + length piece.text) most_output ≡ true → t' ≡ t ++ piece.text → i' ≡ i ++ piece.items →
+    Appends {A = Unit {0}} t t' i i' (Ok tt) (λ o. o ≡ limited (length t) (Ok piece))
+piece_appended t t' i i' piece room text items = (piece, ap (λ b. if b then Ok piece else Err too_long) (sym room), text, items)
+
+-- an instruction for which no form counts
+pub told_unmatched : (i : Insn) (e : OutRefusal) (P : Outcome → Type 0) → e ≡ unmatched_insn i → P (Err (unmatched_insn i)) → RefusesWith e P
+told_unmatched i e P is holds = subst (λ (e : OutRefusal). RefusesWith e P) (sym is) holds
+
+module _ (forms : List Entry) (number : ℕ) (f : Function) (place : ℕ) (i : Insn) (c : Chosen) (lines : List Line) (live : List ℕ) (tried : IsTried forms number f place i c lines live) where
+  -- a comparison that fails
+  refusal_comes : (o : Outcome) → IsRefusal i.uid (name_at (names_of forms) c.form) (verdict (i ∷ []) (Lines number lines) live) o → PlaceComes forms number f place i o
+  refusal_comes (Ok piece) is = absurd is
+  refusal_comes (Err e) is = PlaceComes.refused c lines live e tried is
+
+  pub judged_wrong : (e : OutRefusal) → RefusesWith e (IsRefusal i.uid (name_at (names_of forms) c.form) (verdict (i ∷ []) (Lines number lines) live)) → RefusesWith e (PlaceComes forms number f place i)
+  judged_wrong e r = refuses_map e (IsRefusal i.uid (name_at (names_of forms) c.form) (verdict (i ∷ []) (Lines number lines) live)) (PlaceComes forms number f place i) (λ e is. refusal_comes (Err e) is) r
+
+  -- and one that does not
+  pub judged_same : (piece : Piece) → Equated (i ∷ []) (Lines number lines) live → piece ≡ code_piece forms number i c lines → PlaceComes forms number f place i (Ok piece)
+  judged_same piece same is = subst (λ (p : Piece). PlaceComes forms number f place i (Ok p)) (sym is) (PlaceComes.equated c lines live tried same)
+
+-- what a verdict refuses, or the like
+pub judges_refused : (uid : ℕ) (rule : List ℕ) (v : Verdict) (e : OutRefusal) → refused_by uid rule v ≡ Some e → RefusesWith e (IsRefusal uid rule v)
+judges_refused uid rule v e is = refuses_as e (IsRefusal uid rule v) is

@@ -1,0 +1,17 @@
+pub mod Simulation
+pub mod Turns
+pub mod Memories
+pub mod Replies
+pub mod Leads
+pub mod Places
+pub mod Calls
+pub mod Steps
+pub mod Quiet
+pub mod Returns
+pub mod Sets
+pub mod Runs
+pub mod Entry
+pub mod Follow
+pub mod Kept
+pub mod Same
+pub mod Left

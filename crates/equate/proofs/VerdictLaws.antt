@@ -52,7 +52,7 @@ judged_different of_lines live (Runs a) (state.BadShape index) d h = cc
 judged_different of_lines live (Runs a) state.TooLarge d h = cc
 judged_different of_lines live (Runs a) (Runs b) d h = record { first = a; second = b; runs_first = refl; runs_second = refl; found_is = told_different (difference of_lines live a b) d h }
 
-verdict_same : (before : List Insn) (after : Side) (live : List ℕ) → verdict_spec before after live ≡ Same → both_return before after ≡ false → Alike before after live
+pub verdict_same : (before : List Insn) (after : Side) (live : List ℕ) → verdict_spec before after live ≡ Same → both_return before after ≡ false → Alike before after live
 verdict_same before after live h no_return =
     let e = sym (ap (λ b. if b then Same else judged (is_lines after) live (insns.run before) (run_side after)) no_return) ∙ h in
     let s = judged_same (is_lines after) live (insns.run before) (run_side after) e in

@@ -4,3 +4,4 @@ pub mod Equated
 pub mod Views
 pub mod Answers
 pub mod Told
+pub mod Sound

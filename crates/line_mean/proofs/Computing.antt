@@ -1,17 +1,17 @@
 -- What a line computes: the number of the term is what the line writes.
-use Rattle.std.proofs.Common.{◌≡◌, ℕ, zero, suc, ◌+◌, ◌*◌, ◌-◌, ◌/◌, ◌%◌, ◌^◌, ◌<◌, ◌≤◌, ◌==◌, nat_lt, Bool, true, false, cond, List, [], ◌∷◌, Option, Some, None, refl, sym, ◌∙◌, ap, subst, arith, tests}
-use Rattle.std.specs.Prelude.{ℤ, pos, negsuc, ◌*ℤ◌, if◌then◌else◌, bit_and, bit_or, bit_xor, option_map, option_and_then}
-use Rattle.std.specs.Int.{int_shr, cast_unsigned, w64}
-use Rattle.std.proofs.Math.Nat.{mod-mod, mod-lt, mod-eq_of_lt, div-lt_iff_lt-mul}
+use Rattle.std.proofs.Common.{◌≡◌, ℕ, zero, ◌-◌, ◌%◌, ◌^◌, ◌<◌, ◌≤◌, Bool, true, false, [], ◌∷◌, Some, refl, sym, ◌∙◌, ap, arith}
+use Rattle.std.specs.Prelude.{negsuc, if◌then◌else◌, bit_and, bit_xor}
+use Rattle.std.specs.Int.{cast_unsigned, w64}
+use Rattle.std.proofs.Math.Nat.{mod-mod, mod-eq_of_lt, div-lt_iff_lt-mul}
 use Rattle.std.proofs.lemmas.Nat.{pow_pos, mul-lt, and_mask, and_mod, or_mod, xor_mod}
 use lib.Bits.{xor_add_and}
 use Rattle.bits64.specs.declared.Width.{Width}
 use Rattle.bits64.specs.declared.Width.TheVariants.{W8, W16, W32, W64}
-use Rattle.bits64.specs.Words.{bits_of, low, signed, wrapped, high_signed, high_unsigned, high_mixed, sign_extended}
+use Rattle.bits64.specs.Words.{bits_of, low, signed, wrapped, high_unsigned, sign_extended}
 use Rattle.rv_text.specs.declared.action.Operation.{Operation}
 use Rattle.rv_text.specs.declared.action.Operation.TheVariants as op
 use Rattle.rv_text.specs.declared.action.Source.{Source}
-use Rattle.rv_text.specs.declared.action.Source.TheVariants.{First, Second, ReturnAddress, Immediate, Constant}
+use Rattle.rv_text.specs.declared.action.Source.TheVariants.{Constant}
 use Rattle.rv_line.specs.Step as line
 use Rattle.term_tree.specs.declared.head.Head.TheVariants as heads
 use Rattle.term_tree.specs.declared.head.Relation.TheVariants as relation
@@ -19,12 +19,11 @@ use Rattle.term_tree.specs.Tree.{Tree, width_of}
 use Rattle.term_tree.specs.Form.{same_width}
 use Rattle.term_mean.specs.Meaning.{Valuation, mean}
 use Rattle.term_mean.specs.Compared.{low_bits}
-use Rattle.term_mean.proofs.SumLaws.{mean-summed, mean-cut}
+use Rattle.term_mean.proofs.SumLaws.{mean-summed}
 use Rattle.term_mean.proofs.Widths.{width-summed}
 use Rattle.term_mean.proofs.CutLaws.{low-low}
 use Rattle.term_mean.proofs.NormalLaws.{mean-built}
-use Rattle.term_mean.proofs.NormalWidths.{width-built}
-use Rattle.term_mean.proofs.ComparedLaws.{mean-low_bits, width-low_bits}
+use Rattle.term_mean.proofs.ComparedLaws.{mean-low_bits}
 use Rattle.bits64.proofs.Readings.{by_half}
 use Rattle.sym_state.specs.Makers as makers
 use Rattle.sym_lines.specs.Compute as spec

@@ -1,7 +1,12 @@
 pub mod Accesses
+pub mod Before
 pub mod Computing
+pub mod Ends
+pub mod Leads
 pub mod Lines
 pub mod Reading
 pub mod Results
+pub mod Runs
 pub mod Setting
 pub mod Steps
+pub mod Tables

@@ -1,11 +1,10 @@
 -- What a line reads: a register that is set holds the number of its term.
-use Rattle.std.proofs.Common.{◌≡◌, ℕ, zero, suc, ◌+◌, ◌%◌, ◌^◌, ◌<◌, ◌&&◌, Bool, true, false, cond, List, [], ◌∷◌, ◌++◌, Option, Some, None, refl, sym, ◌∙◌, ap, subst, arith}
-use Rattle.std.specs.Prelude.{if◌then◌else◌, is_some, option_map, option_and_then}
+use Rattle.std.proofs.Common.{◌≡◌, ℕ, zero, suc, ◌%◌, ◌^◌, ◌&&◌, Bool, true, false, List, [], Option, Some, None, refl, sym, ◌∙◌, ap, arith}
+use Rattle.std.specs.Prelude.{if◌then◌else◌, is_some, option_map}
 use Rattle.std.specs.Int.{cast_unsigned, w64}
 use Rattle.std.proofs.Math.Nat.{mod-eq_of_lt}
-use Rattle.bits64.specs.declared.Width.{Width}
 use Rattle.bits64.specs.declared.Width.TheVariants.{W8, W64}
-use Rattle.bits64.specs.Words.{bits_of, low, sum_of}
+use Rattle.bits64.specs.Words.{bits_of, low}
 use Rattle.rv_text.specs.declared.line.Line.{Line}
 use Rattle.rv_text.specs.declared.action.Source.{Source}
 use Rattle.rv_text.specs.declared.action.Source.TheVariants.{First, Second, ReturnAddress, Immediate, Constant}
@@ -14,9 +13,8 @@ use Rattle.rv_line.specs.declared.state.RvState.{RvState}
 use Rattle.term_tree.specs.Tree.{Tree, width_of}
 use Rattle.term_tree.specs.Form.{narrower}
 use Rattle.term_mean.specs.Meaning.{Valuation, mean}
-use Rattle.term_mean.specs.Sums.{constant}
 use Rattle.term_mean.specs.Compared.{low_bits}
-use Rattle.term_mean.proofs.SumLaws.{mean-cut, mean-constant, mean-summed}
+use Rattle.term_mean.proofs.SumLaws.{mean-cut, mean-constant}
 use Rattle.term_mean.proofs.CutLaws.{low-low}
 use Rattle.term_mean.proofs.ComparedLaws.{mean-low_bits}
 use Rattle.sym_state.specs.State.{State, Need, own_register}
@@ -24,7 +22,6 @@ use Rattle.sym_state.specs.Registers.{held, term_held, need_of}
 use Rattle.sym_lines.specs.Step as spec
 use Rattle.sym_mean.specs.Needs as needs
 use Rattle.sym_mean.specs.Needs.{is_met, are_met}
-use Rattle.sym_mean.proofs.Values.{both_met}
 use Rattle.line_mean.specs.ShowsLine.{IsFirst, ShowsNumber, ShowsLine}
 
 module _ (v : Valuation) (f : needs.First) (first : List (Option ℕ)) (is_first : IsFirst v f first) where
@@ -77,7 +74,7 @@ module _ (v : Valuation) (f : needs.First) (first : List (Option ℕ)) (is_first
       by true = low_low (own_register reg)
       by false = low_low t
 
-  read_low : (s : State) (reg : ℕ) → low W64 (mean v (spec.register s.regs reg)) ≡ mean v (spec.register s.regs reg)
+  pub read_low : (s : State) (reg : ℕ) → low W64 (mean v (spec.register s.regs reg)) ≡ mean v (spec.register s.regs reg)
   read_low s zero = ap (low W64) (mean-constant v W64 0) ∙ sym (mean-constant v W64 0)
   read_low s (suc reg) = held_low (suc reg) (held s.regs (suc reg))
 

@@ -1,12 +1,12 @@
 -- What operations of lines make: the number of the term is the operation's result on the numbers of its parts.
-use Rattle.std.proofs.Common.{◌≡◌, ℕ, ◌+◌, ◌*◌, ◌-◌, ◌/◌, ◌%◌, ◌^◌, ◌<◌, ◌≤◌, ◌==◌, nat_lt, Bool, true, false, cond, List, [], ◌∷◌, Option, Some, None, refl, sym, ◌∙◌, ap, arith, tests}
-use Rattle.std.specs.Prelude.{ℤ, pos, negsuc, ◌-ℤ◌, ◌*ℤ◌, int_div, int_rem, int_lt, if◌then◌else◌, bit_and, bit_or, bit_xor}
+use Rattle.std.proofs.Common.{◌≡◌, ℕ, ◌+◌, ◌*◌, ◌-◌, ◌/◌, ◌%◌, ◌^◌, ◌==◌, nat_lt, sym, ◌∙◌, ap, arith}
+use Rattle.std.specs.Prelude.{ℤ, pos, ◌-ℤ◌, ◌*ℤ◌, int_div, int_rem, int_lt, if◌then◌else◌, bit_and, bit_or, bit_xor}
 use Rattle.std.specs.Int.{int_shr}
-use Rattle.std.proofs.Math.Nat.{add-mod, mod-mod, mod-lt, mod-eq_of_lt, div-le_self}
-use Rattle.std.proofs.lemmas.Nat.{pow_pos, mul-mod, and_mod, or_mod, xor_mod}
+use Rattle.std.proofs.Math.Nat.{add-mod, mod-mod}
+use Rattle.std.proofs.lemmas.Nat.{mul-mod, and_mod, or_mod, xor_mod}
 use Rattle.bits64.specs.declared.Width.{Width}
 use Rattle.bits64.specs.declared.Width.TheVariants.{W8, W16, W32, W64}
-use Rattle.bits64.specs.Words.{bits_of, low, signed, wrapped, sum_of, difference_of, product_of, high_signed, high_unsigned, high_mixed, quotient_signed, quotient_unsigned, remainder_signed, remainder_unsigned, shifted_left, shifted_right, shifted_arithmetic, less_signed, less_unsigned}
+use Rattle.bits64.specs.Words.{bits_of, low, signed, wrapped}
 use Rattle.rv_text.specs.declared.action.Operation.{Operation}
 use Rattle.rv_text.specs.declared.action.Operation.TheVariants as op
 use Rattle.rv_line.specs.Step as line

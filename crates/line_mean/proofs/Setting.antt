@@ -1,9 +1,6 @@
 -- A line that sets rd: the symbolic state with the term there shows the machine with its number there.
-use Rattle.std.proofs.Common.{◌≡◌, ◌≢◌, ℕ, zero, suc, ◌+◌, ◌<◌, ◌==◌, ◌&&◌, Bool, true, false, cond, List, [], ◌∷◌, ◌++◌, length, Option, Some, None, refl, sym, ◌∙◌, ap, subst, arith}
-use Rattle.std.specs.Prelude.{if◌then◌else◌, option_map, option_and_then}
-use Rattle.bits64.specs.declared.Width.{Width}
+use Rattle.std.proofs.Common.{◌≡◌, ◌≢◌, ℕ, zero, suc, ◌<◌, ◌==◌, Bool, true, false, List, Option, Some, None, refl, sym, ◌∙◌, ap, subst, arith}
 use Rattle.bits64.specs.declared.Width.TheVariants.{W64}
-use Rattle.bits64.specs.Words.{low}
 use Rattle.rv_line.specs.Step as line
 use Rattle.rv_line.specs.declared.state.RvState.{RvState}
 use Rattle.same_behaviour.proofs.Registers.{register_set, register_kept, length_written}
@@ -15,7 +12,7 @@ use Rattle.sym_mean.specs.Needs as needs
 use Rattle.sym_mean.proofs.Changes.{same_number, held_placed, held_kept}
 use Rattle.line_mean.specs.ShowsLine.{ShowsNumber, ShowsLine}
 
-differs : (a b : ℕ) → (a == b) ≡ false → a ≢ b
+pub differs : (a b : ℕ) → (a == b) ≡ false → a ≢ b
 differs a b is same = let yes : (a == b) ≡ true = grind (arith, same) in absurd (let no : ⊥ = cc in no)
 
 module _ (v : Valuation) (f : needs.First) (first : List (Option ℕ)) where

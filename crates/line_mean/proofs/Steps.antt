@@ -1,16 +1,14 @@
 -- The step of a line, action by action: where its needs are met it goes on, and the symbolic state after it shows the machine after it;
 -- where they are not it is stuck.
-use Rattle.std.proofs.Common.{◌≡◌, ℕ, zero, suc, ◌+◌, ◌<◌, ◌^◌, ◌==◌, ◌&&◌, Bool, true, false, cond, List, [], ◌∷◌, ◌++◌, length, Option, Some, None, refl, sym, ◌∙◌, ap, subst, arith}
-use Rattle.std.specs.Prelude.{if◌then◌else◌, is_some, option_map, option_and_then}
+use Rattle.std.proofs.Common.{◌≡◌, ℕ, suc, ◌<◌, ◌^◌, Bool, true, false, List, [], ◌∷◌, ◌++◌, length, Option, Some, None, refl, sym, ◌∙◌, ap, subst}
+use Rattle.std.specs.Prelude.{if◌then◌else◌, is_some}
 use Rattle.bits64.specs.declared.Width.{Width}
 use Rattle.bits64.specs.declared.Width.TheVariants.{W64}
-use Rattle.bits64.specs.Words.{bytes_of, low}
+use Rattle.bits64.specs.Words.{bytes_of}
 use Rattle.rtx_tree.specs.declared.machine.World.{World}
 use Rattle.rtx_tree.specs.declared.memories.MemByte.{MemByte}
 use Rattle.run_memory.specs.RunMemory.{number_at, with_number}
-use Rattle.run_memory.specs.Symbols.{symbol_address}
 use Rattle.rv_text.specs.declared.line.Line.{Line}
-use Rattle.rv_text.specs.declared.action.Action.{Action}
 use Rattle.rv_text.specs.declared.action.Action.TheVariants as action
 use Rattle.rv_text.specs.declared.action.Operation.{Operation}
 use Rattle.rv_text.specs.declared.action.Extension.{Extension}
@@ -26,22 +24,18 @@ use Rattle.term_tree.specs.Form.{same_width}
 use Rattle.term_mean.specs.Meaning.{Valuation, mean}
 use Rattle.term_mean.specs.Stores.{written}
 use Rattle.term_mean.specs.Compared.{low_bits}
-use Rattle.term_mean.specs.Normal.{built}
 use Rattle.term_mean.proofs.NormalWidths.{width-built}
-use Rattle.term_mean.proofs.Widths.{width-summed}
 use Rattle.term_mean.proofs.ComparedLaws.{width-low_bits}
-use Rattle.sym_state.specs.State.{State, Need, NeedAt, Access, Symbol, own_symbol, needs_at}
-use Rattle.sym_state.specs.Makers as makers
+use Rattle.sym_state.specs.State.{State, Need, Access, needs_at}
 use Rattle.sym_lines.specs.Compute as compute
 use Rattle.sym_lines.specs.Step as spec
 use Rattle.sym_mean.specs.Needs as needs
 use Rattle.sym_mean.specs.Needs.{are_met}
 use Rattle.sym_mean.specs.Shows.{ShowsMemory}
 use Rattle.sym_mean.proofs.Memories.{IsNext, stored_more, shows_stored}
-use Rattle.sym_mean.proofs.Operations.{Makes, below}
 use Rattle.line_mean.specs.ShowsLine.{IsFirst, ShowsLine}
 use Rattle.line_mean.proofs.Reading.{had}
-use Rattle.line_mean.proofs.Computing.{is_64, results_made, operated_width}
+use Rattle.line_mean.proofs.Computing.{is_64, operated_width}
 use Rattle.line_mean.proofs.Lines.{computed_had}
 use Rattle.line_mean.proofs.Accesses.{loaded_had, stored_had}
 use Rattle.line_mean.proofs.Setting.{rd_shows}
@@ -67,7 +61,7 @@ module _ (v : Valuation) (f : needs.First) (first : List (Option ℕ)) (is_first
   abbrev pub sets_to : Line → List Need → Tree → LineEnd × RvState
   sets_to l ns t = if are_met v f ns then (ends.Next, record m { regs = line.with_register m.regs l.rd (mean v t) }) else (ends.Stuck, m)
 
-  set_had : (l : Line) (ns : List Need) (t : Tree) → line.set_rd m l (had v f first is_first ns t) ≡ sets_to l ns t
+  pub set_had : (l : Line) (ns : List Need) (t : Tree) → line.set_rd m l (had v f first is_first ns t) ≡ sets_to l ns t
   set_had l ns t = by (are_met v f ns)
     where
       by : (b : Bool) → line.set_rd m l (if b then Some (mean v t) else None) ≡ (if b then (ends.Next, record m { regs = line.with_register m.regs l.rd (mean v t) }) else (ends.Stuck, m))

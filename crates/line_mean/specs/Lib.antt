@@ -1,1 +1,2 @@
+pub mod EndsLines
 pub mod ShowsLine

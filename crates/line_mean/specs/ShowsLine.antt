@@ -1,9 +1,9 @@
 -- When a symbolic state shows a machine of lines: each register that was changed holds the number of
 -- its term, each other one what it held at first, and memory is that behind the stores so far.
-use Rattle.std.specs.Prelude.{◌≡◌, ℕ, suc, ◌<◌, ◌^◌, List, length, Option, Some, None, option_map}
+use Rattle.std.specs.Prelude.{◌≡◌, ℕ, suc, ◌<◌, ◌^◌, List, length, Option, Some, None}
 use Rattle.bits64.specs.declared.Width.{Width}
 use Rattle.bits64.specs.declared.Width.TheVariants.{W64}
-use Rattle.bits64.specs.Words.{low}
+use Rattle.window_mean.specs.Beside.{reads}
 use Rattle.rv_line.specs.Step.{register}
 use Rattle.rv_line.specs.declared.state.RvState.{RvState}
 use Rattle.term_tree.specs.Tree.{Tree, width_of}
@@ -13,10 +13,6 @@ use Rattle.sym_state.specs.State.{State}
 use Rattle.sym_state.specs.Registers.{held}
 use Rattle.sym_mean.specs.Needs.{First}
 use Rattle.sym_mean.specs.Shows.{ShowsMemory}
-
--- what is read of a machine's register in a width: its low bits, where it is set
-abbrev pub reads : List (Option ℕ) → ℕ → Width → Option ℕ
-reads regs reg w = option_map (low w) (register regs reg)
 
 -- a register, by what was made of it; none is unset before a call
 abbrev pub ShowsNumber : Valuation → List (Option ℕ) → List (Option ℕ) → Option (Option Tree) → ℕ → Type 0

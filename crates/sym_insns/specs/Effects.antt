@@ -1,6 +1,6 @@
 -- What an instruction does to a symbolic state: GCC Internals, "Side Effect Expressions". All terms
 -- are made by the state before it; then all effects are made.
-use Rattle.std.specs.Prelude.{ℕ, ◌^◌, nat_lt, if◌then◌else◌, List, [], ◌∷◌, ◌++◌, map, Option, Some, None, option_and_then}
+use Rattle.std.specs.Prelude.{ℕ, ◌^◌, nat_lt, if◌then◌else◌, List, [], ◌∷◌, ◌++◌, map, Bool, Option, Some, None, is_some, option_and_then}
 use Rattle.bits64.specs.declared.Width.{Width}
 use Rattle.bits64.specs.declared.Width.TheVariants.{W8, W64}
 use Rattle.rtx_tree.specs.Patterns.{label_of}
@@ -151,6 +151,18 @@ jump_by _ parts source index s = jumps index always source s
 abbrev pub jump_source : List Rtx → Rtx → Rtx
 jump_source (place ∷ source ∷ []) x = source
 jump_source parts x = x
+
+-- the label of what the pc is set to
+abbrev pub label_by : Code → List Rtx → Rtx → Rtx
+label_by IfThenElse (test ∷ label ∷ other ∷ []) source = label
+label_by _ parts source = source
+
+abbrev pub jump_label : Rtx → Rtx
+jump_label source = label_by (out-Rtx source).code (out-Rtx source).kids source
+
+-- the uid of a jump's label has 32 bits
+abbrev pub has_target : Rtx → Bool
+has_target x = is_some (target_uid (jump_label (jump_source (out-Rtx x).kids x)))
 
 -- (set (pc) SOURCE)
 abbrev pub after_jump : ℕ → Rtx → State → State

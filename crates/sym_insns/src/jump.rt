@@ -74,6 +74,23 @@ fn jump_source(x: &Rtx) -> &Rtx
     }
 }
 
+/// The label of what the pc is set to.
+fn jump_label(source: &Rtx) -> &Rtx
+    ensures { result.now ≡ spec.jump_label source.now }
+{
+    match (source.code, source.kids.as_slice()) {
+        (Code::IfThenElse, [_test, label, _other]) => label,
+        _ => source,
+    }
+}
+
+/// Whether the uid of a jump's label has 32 bits.
+pub fn has_target(x: &Rtx) -> bool
+    ensures { result ≡ spec.has_target x.now }
+{
+    target_uid(jump_label(jump_source(x))).is_some()
+}
+
 /// Runs a jump by what the pc is set to.
 fn run_source(
     maker: &mut TermMaker,

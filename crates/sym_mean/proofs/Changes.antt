@@ -1,17 +1,11 @@
 -- Registers that are changed: what a register holds after one was set or unset, and that a symbolic state shows the state of a run
 -- after each of these, and after a store.
 use Rattle.std.proofs.lemmas.Bool.Decides.{nat_tests}
-use Rattle.std.proofs.Common.{◌≡◌, ◌≢◌, ℕ, zero, suc, ◌+◌, ◌<◌, ◌==◌, nat_lt, Bool, true, false, cond, List, [], ◌∷◌, ◌++◌, length, Option, Some, None, refl, sym, ◌∙◌, ap, subst, arith, tests}
-use Rattle.std.specs.Prelude.{if◌then◌else◌, option_and_then, is_some}
-use Rattle.std.specs.FinMap.{FinMap, get, insert, remove}
-use Rattle.std.specs.Ordering.{nat_cmp}
-use Rattle.bits64.specs.declared.Width.{Width}
-use Rattle.rtl_step.specs.Regs.{Regs, known_in, known_of, reg_value, with_reg, without_reg}
-use Rattle.rtl_step.specs.declared.regs.Known.{Known}
-use Rattle.term_tree.specs.Tree.{Tree, width_of}
-use Rattle.term_mean.specs.Meaning.{Valuation, mean}
+use Rattle.std.proofs.Common.{◌≡◌, ◌≢◌, ℕ, ◌==◌, nat_lt, Bool, true, false, cond, List, [], ◌∷◌, Option, Some, refl, sym, ◌∙◌, ap, arith, tests}
+use Rattle.std.specs.Prelude.{if◌then◌else◌}
+use Rattle.term_tree.specs.Tree.{Tree}
 use Rattle.sym_state.specs.State.{Changed}
-use Rattle.sym_state.specs.Registers.{changed, held, placed, put}
+use Rattle.sym_state.specs.Registers.{changed, held, placed}
 
 -- ---- what is held after a register is placed
 

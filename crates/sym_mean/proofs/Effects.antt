@@ -1,7 +1,6 @@
 -- The effect of a part of an instruction is the one that its symbolic effect stands for, where its needs are met; else it has none.
-use Rattle.std.proofs.Common.{◌≡◌, ℕ, ◌&&◌, Bool, true, false, cond, List, [], ◌∷◌, ◌++◌, map, Option, Some, None, refl, sym, ◌∙◌, ap}
+use Rattle.std.proofs.Common.{◌≡◌, ℕ, ◌&&◌, Bool, true, false, List, [], ◌∷◌, ◌++◌, Option, Some, None, refl, sym, ◌∙◌, ap}
 use Rattle.std.specs.Prelude.{if◌then◌else◌, is_some, option_map, option_and_then}
-use Rattle.std.specs.List.{list_all}
 use Rattle.bits64.specs.declared.Width.{Width}
 use Rattle.bits64.specs.declared.Width.TheVariants.{W64}
 use Rattle.rtx_tree.specs.declared.code.Code.{Code}
@@ -12,14 +11,13 @@ use Rattle.run_memory.specs.RunMemory.{load}
 use Rattle.rtl_step.specs.Regs.{Regs, known_of}
 use Rattle.rtl_step.specs.Value as rtl
 use Rattle.rtl_step.specs.Effect as effect
-use Rattle.rtl_step.specs.declared.effect.Effect.{Effect}
 use Rattle.rtl_step.specs.declared.effect.Effect.TheVariants as effects
-use Rattle.term_tree.specs.Tree.{Tree, width_of}
+use Rattle.term_tree.specs.Tree.{width_of}
 use Rattle.term_mean.specs.Meaning.{Valuation, mean}
-use Rattle.sym_state.specs.State.{State, Need, Access}
+use Rattle.sym_state.specs.State.{State, Access}
 use Rattle.sym_insns.specs.Value.{Made, made_of}
 use Rattle.sym_insns.specs.Effects as spec
-use Rattle.sym_mean.specs.Needs.{First, is_met, are_met, worth}
+use Rattle.sym_mean.specs.Needs.{First, are_met, worth}
 use Rattle.sym_mean.specs.Meant.{meant, effect_worth}
 use Rattle.sym_mean.specs.Shows.{IsOf, Shows}
 use Rattle.sym_mean.proofs.Parts.{has_load}

@@ -1,22 +1,19 @@
 -- A jump: where its needs are met it leads to its label where the condition's number is not 0, and on where it is.
-use Rattle.std.proofs.Common.{◌≡◌, ℕ, Bool, true, false, cond, List, [], ◌∷◌, map, Option, Some, None, refl, sym, ◌∙◌, ap}
-use Rattle.std.specs.Prelude.{if◌then◌else◌, option_map, option_and_then}
+use Rattle.std.proofs.Common.{◌≡◌, ℕ, Bool, true, false, List, [], ◌∷◌, map, Option, Some, None, refl, sym, ◌∙◌, ap}
+use Rattle.std.specs.Prelude.{if◌then◌else◌, option_map}
 use Rattle.bits64.specs.declared.Width.{Width}
 use Rattle.bits64.specs.declared.Width.TheVariants.{W8, W64}
 use Rattle.rtx_tree.specs.Code.{class_of_code}
-use Rattle.rtx_tree.specs.Patterns.{is_pc, label_of}
+use Rattle.rtx_tree.specs.Patterns.{label_of}
 use Rattle.rtx_tree.specs.declared.class.Class.{Class}
 use Rattle.rtx_tree.specs.declared.class.Class.TheVariants as class
 use Rattle.rtx_tree.specs.declared.code.Code.{Code}
-use Rattle.rtx_tree.specs.declared.code.Code.TheVariants as code
 use Rattle.rtx_tree.specs.declared.memories.MemByte.{MemByte}
 use Rattle.rtx_tree.specs.declared.machine.SymbolAt.{SymbolAt}
 use Rattle.rtx_tree.specs.declared.tree.Rtx.{Rtx, out-Rtx}
 use Rattle.rtl_step.specs.Regs.{Regs}
 use Rattle.rtl_step.specs.Value as rtl
 use Rattle.rtl_step.specs.Jump as jump
-use Rattle.rtl_step.specs.declared.jump.Way.{Way}
-use Rattle.rtl_step.specs.declared.jump.Way.TheVariants as way
 use Rattle.rtl_step.proofs.Values.{value_in}
 use Rattle.term_mean.specs.Meaning.{Valuation, mean}
 use Rattle.sym_state.specs.State.{State}

@@ -1,13 +1,13 @@
 -- A store: memory behind it is the valuation's next memory, and the stores so far are those that the valuation has.
-use Rattle.std.proofs.Common.{◌≡◌, ◌≢◌, ℕ, zero, suc, ◌+◌, ◌*◌, ◌-◌, ◌/◌, ◌%◌, ◌^◌, ◌<◌, ◌≤◌, ◌⊎◌, ⊎_elim, inl, inr, nat_lt, Bool, true, false, cond, List, [], ◌∷◌, ◌++◌, length, Option, Some, None, refl, sym, ◌∙◌, ap, subst, arith, tests}
+use Rattle.std.proofs.Common.{◌≡◌, ℕ, zero, suc, ◌+◌, ◌*◌, ◌-◌, ◌/◌, ◌%◌, ◌^◌, ◌<◌, ◌≤◌, inl, inr, nat_lt, Bool, true, false, List, [], ◌∷◌, ◌++◌, length, Option, Some, None, refl, sym, ◌∙◌, ap, subst, arith, tests}
 use Rattle.std.specs.Prelude.{is_some, if◌then◌else◌}
-use Rattle.std.proofs.Math.Nat.{mod-eq_of_lt, div-div-eq-div-mul, pow-succ'}
+use Rattle.std.proofs.Math.Nat.{div-div-eq-div-mul, pow-succ'}
 use Rattle.bits64.specs.declared.Width.{Width}
 use Rattle.bits64.specs.declared.Width.TheVariants.{W8, W16, W32, W64}
 use Rattle.bits64.specs.Words.{bytes_of}
 use Rattle.rtx_tree.specs.declared.memories.MemByte.{MemByte}
 use Rattle.rtx_tree.specs.Memories.{byte_at, with_byte}
-use Rattle.rtx_tree.proofs.MemoryWrites.{byte_at-with_byte, byte_at-with_byte_other, has-with_byte}
+use Rattle.rtx_tree.proofs.MemoryWrites.{byte_at-with_byte, has-with_byte}
 use Rattle.run_memory.specs.RunMemory.{number_at, with_number}
 use Rattle.run_memory.proofs.Laws.{Apart, has-with_number, byte_at-with_number_other}
 use Rattle.term_tree.specs.Tree.{width_of}
@@ -28,6 +28,10 @@ follow_more v n [] s follows next =
 follow_more v n (t ∷ stores) s follows next =
     let there : n + suc (length stores) ≡ suc n + length stores = omega arith in
     (follows.0, follow_more v (suc n) stores s follows.1 (subst (λ k. IsNext v k s) there next))
+
+pub one_more : (stores : List Store) (s : Store) → length (stores ++ s ∷ []) ≡ suc (length stores)
+one_more [] s = refl
+one_more (t ∷ stores) s = ap suc (one_more stores s)
 
 -- one store more
 pub stored_more : (v : Valuation) (stores : List Store) (s : Store) → Stored v stores → IsNext v (length stores) s → Stored v (stores ++ s ∷ [])

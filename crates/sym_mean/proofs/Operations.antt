@@ -1,13 +1,12 @@
 -- What operations on terms mean: each is the operation of the expression on the numbers of the terms.
-use Rattle.std.proofs.Common.{◌≡◌, ℕ, ◌+◌, ◌*◌, ◌-◌, ◌%◌, ◌^◌, ◌<◌, ◌≤◌, ◌==◌, ◌&&◌, not, Bool, true, false, cond, List, [], ◌∷◌, Option, Some, None, refl, sym, ◌∙◌, ap, arith, tests}
+use Rattle.std.proofs.Common.{◌≡◌, ℕ, ◌-◌, ◌%◌, ◌^◌, ◌<◌, ◌≤◌, ◌==◌, Bool, true, false, List, [], ◌∷◌, Option, Some, refl, sym, ◌∙◌, ap, arith}
 use Rattle.std.specs.Prelude.{ℤ, pos, negsuc, if◌then◌else◌, bit_and, bit_or, bit_xor}
 use Rattle.std.proofs.Math.Nat.{mod-lt, mod-le, mod-eq_of_lt, div-le_self}
 use Rattle.std.proofs.lemmas.Nat.{pow_pos, and_mask, and_mod, or_mod, xor_mod, or_comm}
 use lib.Bits.{xor_zero_r}
 use Rattle.bits64.specs.declared.Width.{Width}
 use Rattle.bits64.specs.declared.Width.TheVariants.{W8, W16, W32, W64}
-use Rattle.bits64.specs.Words.{bits_of, low, quotient_signed, quotient_unsigned, remainder_signed, remainder_unsigned, shifted_left, shifted_right, shifted_arithmetic, sign_extended, zero_extended, wrapped}
-use Rattle.rtx_tree.specs.declared.code.Code.{Code}
+use Rattle.bits64.specs.Words.{bits_of, low, quotient_signed, quotient_unsigned, remainder_signed, remainder_unsigned, sign_extended, zero_extended, wrapped}
 use Rattle.rtx_tree.specs.declared.code.Code.TheVariants as code
 use Rattle.rtl_step.specs.Value as rtl
 use Rattle.term_tree.specs.declared.head.Head.{Head}
@@ -19,7 +18,7 @@ use Rattle.term_tree.specs.Form.{same_width}
 use Rattle.term_mean.specs.Meaning.{Valuation, mean, truth, applied}
 use Rattle.term_mean.specs.Relations.{holds}
 use Rattle.term_mean.specs.Stores.{Store, Stored}
-use Rattle.term_mean.specs.Sums.{summed, constant}
+use Rattle.term_mean.specs.Sums.{constant}
 use Rattle.term_mean.specs.Less.{less_than}
 use Rattle.term_tree.specs.declared.head.Extension.TheVariants.{Zero, Sign}
 use Rattle.term_mean.specs.Compared.{compared}

@@ -1,9 +1,7 @@
 -- The numbers of parts: registers and loads.
-use Rattle.std.proofs.Common.{◌≡◌, ℕ, zero, suc, ◌+◌, ◌*◌, ◌-◌, ◌%◌, ◌^◌, ◌<◌, ◌≤◌, ◌&&◌, nat_le, nat_lt, Bool, true, false, cond, List, [], ◌∷◌, length, Option, Some, None, refl, sym, ◌∙◌, ap, subst, arith, tests}
+use Rattle.std.proofs.Common.{◌≡◌, ℕ, zero, suc, ◌+◌, ◌*◌, ◌%◌, ◌^◌, ◌<◌, ◌≤◌, ◌&&◌, nat_le, nat_lt, Bool, true, false, List, [], ◌∷◌, length, Option, Some, None, refl, sym, ◌∙◌, ap, subst, arith, tests}
 use Rattle.std.specs.Prelude.{is_some, option_map, option_and_then, if◌then◌else◌}
-use Rattle.std.specs.FinMap.{get}
-use Rattle.std.specs.Ordering.{nat_cmp}
-use Rattle.std.proofs.Math.Nat.{mod-lt, mod-eq_of_lt, pow-succ'}
+use Rattle.std.proofs.Math.Nat.{mod-eq_of_lt, pow-succ'}
 use Rattle.bits64.specs.declared.Width.{Width}
 use Rattle.bits64.specs.declared.Width.TheVariants.{W8, W16, W32, W64}
 use Rattle.bits64.specs.Words.{bits_of, bytes_of, low}
@@ -11,23 +9,20 @@ use Rattle.rtx_tree.specs.declared.memories.MemByte.{MemByte}
 use Rattle.rtx_tree.specs.Memories.{byte_at}
 use Rattle.run_memory.specs.RunMemory.{number_at, is_aligned, load}
 use Rattle.rtl_step.specs.Regs.{Regs, known_of, known_in, reg_value}
-use Rattle.rtl_step.specs.declared.regs.Known.{Known}
 use Rattle.term_tree.specs.declared.head.Head.TheVariants as heads
 use Rattle.term_tree.specs.Tree.{Tree, width_of}
-use Rattle.term_tree.specs.Form.{narrower}
 use Rattle.term_mean.specs.Meaning.{Valuation, mean, bytes_at}
 use Rattle.term_mean.specs.Stores.{Store, Stored}
-use Rattle.term_mean.specs.Sums.{constant}
 use Rattle.term_mean.specs.Compared.{low_bits}
 use Rattle.term_mean.proofs.SumLaws.{mean-cut, mean-constant}
 use Rattle.term_mean.proofs.CutLaws.{low-low}
 use Rattle.term_mean.proofs.ComparedLaws.{mean-low_bits}
 use Rattle.term_mean.proofs.NormalLaws.{mean-built}
-use Rattle.sym_state.specs.State.{State, Need, own_register}
-use Rattle.sym_state.specs.Registers.{held, term_held, need_of, read, read_needs}
-use Rattle.sym_insns.specs.Value.{Made, of_register, load_at}
-use Rattle.sym_mean.specs.Needs.{First, is_met, are_met, worth}
-use Rattle.sym_mean.specs.Shows.{IsOf, ShowsRegister, ShowsMemory, Shows}
+use Rattle.sym_state.specs.State.{State, own_register}
+use Rattle.sym_state.specs.Registers.{held, term_held, need_of}
+use Rattle.sym_insns.specs.Value.{of_register, load_at}
+use Rattle.sym_mean.specs.Needs.{First, worth}
+use Rattle.sym_mean.specs.Shows.{IsOf, ShowsRegister, ShowsMemory}
 
 -- ---- registers
 

@@ -1,5 +1,5 @@
 -- A plain instruction: it has effects exactly where its needs are met, and then the symbolic state after it shows the state after them.
-use Rattle.std.proofs.Common.{◌≡◌, ℕ, ◌&&◌, Bool, true, false, cond, List, [], ◌∷◌, ◌++◌, map, length, Option, Some, None, refl, sym, ◌∙◌, ap}
+use Rattle.std.proofs.Common.{◌≡◌, ℕ, ◌&&◌, Bool, true, false, List, [], ◌∷◌, ◌++◌, map, Option, Some, None, refl, sym, ◌∙◌, ap}
 use Rattle.std.specs.Prelude.{if◌then◌else◌, is_some, option_map, option_and_then}
 use Rattle.bits64.specs.declared.Width.{Width}
 use Rattle.bits64.specs.declared.Width.TheVariants.{W64}
@@ -12,7 +12,7 @@ use Rattle.rtl_step.specs.Regs.{Regs}
 use Rattle.rtl_step.specs.Value as rtl
 use Rattle.rtl_step.specs.Effect as effect
 use Rattle.rtl_step.specs.declared.effect.Effect.{Effect}
-use Rattle.term_tree.specs.Tree.{Tree, width_of}
+use Rattle.term_tree.specs.Tree.{width_of}
 use Rattle.term_mean.specs.Meaning.{Valuation, mean}
 use Rattle.term_mean.specs.Stores.{Store}
 use Rattle.sym_state.specs.State.{State, Need, Access}
@@ -24,6 +24,7 @@ use Rattle.sym_mean.specs.Shows.{IsOf, Shows}
 use Rattle.sym_mean.proofs.Values.{both_met, made_width}
 use Rattle.sym_mean.proofs.Effects.{effect_is}
 use Rattle.sym_mean.proofs.States.{HasAccess, LeadsOn, made_shows}
+use Rattle.sym_mean.proofs.Bools.{both_of}
 
 -- the needs of all effects, and the effects that they stand for
 abbrev pub all_needs : List spec.Effected → List Need
@@ -42,10 +43,6 @@ AllLeadOn v f stores (e ∷ es) = LeadsOn v f stores e.effect × AllLeadOn v f (
 abbrev AllHaveAccess : Valuation → First → List spec.Effected → Type 0
 AllHaveAccess v f [] = Unit {0}
 AllHaveAccess v f (e ∷ es) = HasAccess v f e.effect × AllHaveAccess v f es
-
-both_true : (a b : Bool) → (a && b) ≡ true → (a ≡ true) × (b ≡ true)
-both_true true b is = (refl, is)
-both_true false b is = absurd (let no : ⊥ = cc in no)
 
 make_all_shows : (v : Valuation) (f : First) (index : ℕ) (es : List spec.Effected) (s : State) (regs : Regs) (memory : List MemByte) → Shows v f s regs memory → AllHaveAccess v f es → AllLeadOn v f s.stores es →
     Shows v f (spec.make_all index es s) (effect.regs_after (all_meant v es) regs) (effect.memory_after (all_meant v es) memory)
@@ -101,9 +98,9 @@ module _ (v : Valuation) (f : First) (s : State) (regs : Regs) (memory : List Me
 
   stored_allowed : (address source : Made) (w : Width) → width_of source.term ≡ w → Allowed (spec.set_memory address source w)
   stored_allowed address source w width met =
-      let all = both_true (are_met v f source.needs) _ (sym (both_met v f source.needs (address.needs ++ Access address.term w ∷ [])) ∙ met) in
-      let later = both_true (are_met v f address.needs) _ (sym (both_met v f address.needs (Access address.term w ∷ [])) ∙ all.1) in
-      ap (λ u. is_some (load u f.memory (mean v address.term))) width ∙ (both_true (is_some (load w f.memory (mean v address.term))) true later.1).0
+      let all = both_of (are_met v f source.needs) _ (sym (both_met v f source.needs (address.needs ++ Access address.term w ∷ [])) ∙ met) in
+      let later = both_of (are_met v f address.needs) _ (sym (both_met v f address.needs (Access address.term w ∷ [])) ∙ all.1) in
+      ap (λ u. is_some (load u f.memory (mean v address.term))) width ∙ (both_of (is_some (load w f.memory (mean v address.term))) true later.1).0
 
   register_allowed : (o : Option ℕ) (m : Made) → Allowed (spec.set_register o m)
   register_allowed None m met = tt
@@ -139,13 +136,13 @@ module _ (v : Valuation) (f : First) (s : State) (regs : Regs) (memory : List Me
   all_allowed : (parts : List Rtx) → are_met v f (all_needs (effects_by_parts parts)) ≡ true → AllHaveAccess v f (effects_by_parts parts)
   all_allowed [] met = tt
   all_allowed (x ∷ parts) met =
-      let both = both_true _ _ (sym (both_met v f (spec.effect_of s.regs s.stores x).needs (all_needs (effects_by_parts parts))) ∙ met) in
+      let both = both_of _ _ (sym (both_met v f (spec.effect_of s.regs s.stores x).needs (all_needs (effects_by_parts parts))) ∙ met) in
       (effect_allowed x both.0, all_allowed parts both.1)
 
   effects_allowed : (c : Code) (x : Rtx) → are_met v f (all_needs (spec.effects_by c x s.regs s.stores)) ≡ true → AllHaveAccess v f (spec.effects_by c x s.regs s.stores)
   effects_allowed code.Parallel x met = all_allowed (out-Rtx x).kids met
   effects_allowed c x met =
-      let both = both_true _ _ (sym (both_met v f (spec.effect_of s.regs s.stores x).needs []) ∙ met) in (effect_allowed x both.0, tt)
+      let both = both_of _ _ (sym (both_met v f (spec.effect_of s.regs s.stores x).needs []) ∙ met) in (effect_allowed x both.0, tt)
 
   -- the state after a plain instruction whose needs are met
   pub plain_shows : (index : ℕ) (x : Rtx) → are_met v f (all_needs (spec.effects_of s.regs s.stores x)) ≡ true → AllLeadOn v f s.stores (spec.effects_of s.regs s.stores x) →

@@ -1,6 +1,6 @@
 -- A symbolic state shows the state of a run after an effect is made on both.
 use Rattle.std.proofs.lemmas.Cmp.{nat_cmp_total}
-use Rattle.std.proofs.Common.{◌≡◌, ◌≢◌, ℕ, zero, suc, ◌+◌, ◌==◌, ◌<◌, ◌^◌, Bool, true, false, cond, List, [], ◌∷◌, ◌++◌, length, Option, Some, None, refl, sym, ◌∙◌, ap, subst, rules, arith}
+use Rattle.std.proofs.Common.{◌≡◌, ◌≢◌, ℕ, zero, suc, ◌==◌, Bool, true, false, cond, List, length, Option, Some, None, refl, sym, ◌∙◌, ap, subst, rules, arith}
 use Rattle.std.specs.Prelude.{if◌then◌else◌, option_and_then, option_map, is_some, unwrap_or}
 use Rattle.std.specs.FinMap.{get, insert, remove, get-insert, get-remove, gets}
 use Rattle.std.specs.Ordering.{nat_cmp, eq_by_cmp}
@@ -8,7 +8,7 @@ use Rattle.bits64.specs.declared.Width.{Width}
 use Rattle.bits64.specs.Words.{bytes_of}
 use Rattle.rtx_tree.specs.declared.memories.MemByte.{MemByte}
 use Rattle.run_memory.specs.RunMemory.{number_at, is_aligned, load, store, with_number}
-use Rattle.rtl_step.specs.Regs.{Regs, known_in, known_of, reg_value, with_reg, without_reg}
+use Rattle.rtl_step.specs.Regs.{Regs, known_in, known_of, with_reg, without_reg}
 use Rattle.rtl_step.specs.Effect as effect
 use Rattle.rtl_step.specs.declared.regs.Known.{Known}
 use Rattle.term_tree.specs.Tree.{Tree, width_of}
@@ -19,10 +19,11 @@ use Rattle.sym_state.specs.Registers.{held, placed, put}
 use Rattle.sym_insns.specs.Effects as spec
 use Rattle.sym_mean.specs.Needs.{First}
 use Rattle.sym_mean.specs.Meant.{meant}
-use Rattle.sym_mean.specs.Shows.{IsOf, ShowsRegister, ShowsMemory, Shows}
+use Rattle.sym_mean.specs.Shows.{ShowsRegister, ShowsMemory, Shows}
 use Rattle.sym_mean.proofs.Changes.{same_number, held_placed, held_kept}
 use Rattle.sym_mean.proofs.Memories.{IsNext, stored_more, shows_stored}
 use Rattle.sym_mean.proofs.Parts.{has_load}
+use Rattle.sym_mean.proofs.Memories.{one_more}
 
 is_here : (t : ℕ) → eq_by_cmp nat_cmp t t ≡ true
 is_here t = search (rules, nat_cmp_total, gets)
@@ -37,7 +38,7 @@ differs a b is same = let yes : (a == b) ≡ true = grind (arith, same) in absur
 
 module _ (v : Valuation) (f : First) where
   -- what is shown of a register goes by what is known of it
-  shows_get : (regs regs' : Regs) (q : ℕ) (left : Option (Option Tree)) → get regs' (suc q) ≡ get regs (suc q) → ShowsRegister v f regs left (suc q) → ShowsRegister v f regs' left (suc q)
+  pub shows_get : (regs regs' : Regs) (q : ℕ) (left : Option (Option Tree)) → get regs' (suc q) ≡ get regs (suc q) → ShowsRegister v f regs left (suc q) → ShowsRegister v f regs' left (suc q)
   shows_get regs regs' q None same shows = λ w. ap (λ o. option_and_then (known_in w) o) same ∙ shows w
   shows_get regs regs' q (Some None) same shows = same ∙ shows
   shows_get regs regs' q (Some (Some t)) same shows = same ∙ shows
@@ -95,7 +96,7 @@ module _ (v : Valuation) (f : First) where
   LeadsOn stores (spec.Stores address value) = IsNext v (length stores) (address, value)
   LeadsOn stores _ = Unit {0}
 
-  has_number : (w : Width) (memory : List MemByte) (address : ℕ) → is_some (load w memory address) ≡ true → is_some (number_at memory address (bytes_of w)) ≡ true
+  pub has_number : (w : Width) (memory : List MemByte) (address : ℕ) → is_some (load w memory address) ≡ true → is_some (number_at memory address (bytes_of w)) ≡ true
   has_number w memory address is = by (is_aligned w address) is
     where
       by : (b : Bool) → is_some (if b then number_at memory address (bytes_of w) else None) ≡ true → is_some (number_at memory address (bytes_of w)) ≡ true
@@ -106,10 +107,6 @@ module _ (v : Valuation) (f : First) where
       unwrap_or (store w memory address value) memory ≡ with_number memory address (bytes_of w) value
   store_is w memory address value None there is = absurd (let no : ⊥ = cc in no)
   store_is w memory address value (Some old) there is = ap (λ (o : Option ℕ). unwrap_or (option_map (λ _. with_number memory address (bytes_of w) value) o) memory) there
-
-  one_more : (stores : List Store) (s : Store) → length (stores ++ s ∷ []) ≡ suc (length stores)
-  one_more [] s = refl
-  one_more (t ∷ stores) s = ap suc (one_more stores s)
 
   pub made_shows : (index : ℕ) (e : spec.Effected) (s : State) (regs : Regs) (memory : List MemByte) → Shows v f s regs memory → HasAccess e.effect → LeadsOn s.stores e.effect →
       Shows v f (spec.make index e s) (effect.reg_after (meant v e.effect) regs) (effect.bytes_after (meant v e.effect) memory)

@@ -1,20 +1,19 @@
 -- The value of an expression is the number of its term, where its needs are met; else it has none.
-use Rattle.std.proofs.Common.{◌≡◌, ℕ, zero, suc, ◌<◌, ◌^◌, ◌==◌, ◌&&◌, not, Bool, true, false, cond, List, [], ◌∷◌, ◌++◌, map, length, Option, Some, None, refl, sym, ◌∙◌, ap, subst}
+use Rattle.std.proofs.Common.{◌≡◌, ℕ, zero, suc, ◌<◌, ◌^◌, ◌==◌, ◌&&◌, not, Bool, true, false, List, [], ◌∷◌, ◌++◌, map, length, Option, Some, None, refl, sym, ◌∙◌, ap, subst}
 use Rattle.std.specs.Prelude.{ℤ, if◌then◌else◌, option_map, option_and_then, is_some}
 use Rattle.std.specs.Int.{cast_unsigned, w64}
-use Rattle.std.specs.List.{list_all, AllByRecursion}
 use Rattle.std.proofs.lemmas.List.Folds.{list_all-append}
 use Rattle.bits64.specs.declared.Width.{Width}
-use Rattle.bits64.specs.declared.Width.TheVariants.{W8, W64}
-use Rattle.bits64.specs.Words.{bits_of, low, quotient_signed, quotient_unsigned, remainder_signed, remainder_unsigned}
+use Rattle.bits64.specs.declared.Width.TheVariants.{W64}
+use Rattle.bits64.specs.Words.{low, quotient_signed, quotient_unsigned, remainder_signed, remainder_unsigned}
 use Rattle.rtx_tree.specs.Code.{class_of_code}
 use Rattle.rtx_tree.specs.declared.class.Class.{Class}
 use Rattle.rtx_tree.specs.declared.class.Class.TheVariants as class
 use Rattle.rtx_tree.specs.declared.code.Code.{Code}
 use Rattle.rtx_tree.specs.declared.code.Code.TheVariants as code
 use Rattle.rtx_tree.specs.declared.memories.MemByte.{MemByte}
-use Rattle.rtx_tree.specs.declared.tree.Rtx.{Rtx, out-Rtx, roll-Rtx}
-use Rattle.rtx_tree.specs.declared.tree.Rtx.TheFolds.{fold_out-Rtx, fold-roll-Rtx, ind-Rtx, map-Rtx}
+use Rattle.rtx_tree.specs.declared.tree.Rtx.{Rtx, roll-Rtx}
+use Rattle.rtx_tree.specs.declared.tree.Rtx.TheFolds.{fold-roll-Rtx, ind-Rtx, map-Rtx}
 use Rattle.rtx_tree.specs.declared.tree.Rtx.TheOpen.{Rtx-F}
 use Rattle.run_memory.specs.Symbols.{symbol_address}
 use Rattle.run_memory.specs.RunMemory.{load}
@@ -178,7 +177,7 @@ module _ (v : Valuation) (f : First) (s : State) (regs : Regs) (memory : List Me
     width_is = width-low_bits w (own_symbol name);
   }
 
-  read_width : (reg : ℕ) (w : Width) → width_of (read s.regs reg w) ≡ w
+  pub read_width : (reg : ℕ) (w : Width) → width_of (read s.regs reg w) ≡ w
   read_width zero w = refl
   read_width (suc reg) w = by (held s.regs (suc reg))
     where

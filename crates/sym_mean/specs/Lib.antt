@@ -1,3 +1,4 @@
 pub mod Meant
+pub mod Means
 pub mod Needs
 pub mod Shows

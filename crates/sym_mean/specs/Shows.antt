@@ -2,7 +2,6 @@
 -- its term, or is unset, each other one is as it was, and memory is that behind the stores so far.
 use Rattle.std.specs.Prelude.{◌≡◌, ℕ, suc, ◌<◌, ◌^◌, List, length, Option, Some, None, is_some}
 use Rattle.std.specs.FinMap.{get}
-use Rattle.std.specs.Ordering.{nat_cmp}
 use Rattle.bits64.specs.declared.Width.{Width}
 use Rattle.bits64.specs.Words.{low}
 use Rattle.rtx_tree.specs.declared.memories.MemByte.{MemByte}

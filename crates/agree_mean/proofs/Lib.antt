@@ -1,0 +1,12 @@
+pub mod Windows
+pub mod LinesKeep
+pub mod Codes
+pub mod Twice
+pub mod Covered
+pub mod Behind
+pub mod Ends
+pub mod Visible
+pub mod Told
+pub mod Calls
+pub mod Does
+pub mod Agreeing

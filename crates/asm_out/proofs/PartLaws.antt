@@ -38,12 +38,15 @@ pub behind_err : (a : Piece) (o : Outcome) (e : OutRefusal) → outcome_behind a
 behind_err a (Ok b) e h = cc
 behind_err a (Err d) e h = h
 
+abbrev Same : Outcome → Outcome → Type 0
+Same a b = a ≡ b
+
 -- what is within the limit is what came
 pub limited_ok : (size : ℕ) (o : Outcome) (piece : Piece) → limited size o ≡ Ok piece → (o ≡ Ok piece) × (size + length piece.text ≤ most_output)
 limited_ok size (Err e) piece h = cc
 limited_ok size (Ok a) piece h = go (nat_le (size + length a.text) most_output) refl h
   where
-    go : (b : Bool) → nat_le (size + length a.text) most_output ≡ b → (if b then Ok a else Err too_long) ≡ Ok piece → (Ok a ≡ Ok piece) × (size + length piece.text ≤ most_output)
+    go : (b : Bool) → nat_le (size + length a.text) most_output ≡ b → Same (if b then Ok a else Err too_long) (Ok piece) → Same (Ok a) (Ok piece) × (size + length piece.text ≤ most_output)
     go true is h = (h, let same : a ≡ piece = cc in subst (λ (p : Piece). size + length p.text ≤ most_output) same (leb-true (size + length a.text) most_output is))
     go false is h = cc
 

@@ -12,7 +12,7 @@ use Rattle.md_desc.specs.declared.output.Chosen.{Chosen}
 use Rattle.md_desc.specs.Recog.{IsChosen, NoneMatchesOut}
 use Rattle.md_output.specs.Filled.{lines_of}
 use Rattle.live.specs.Live.{AreLiveAfter}
-use Rattle.form_needs.specs.Needs.{is_kind, is_note, is_label, is_silent, is_framed, needs_form, is_held, names_locals, output_facts, name_at}
+use Rattle.form_needs.specs.Needs.{is_kind, is_note, is_label, needs_form, is_held, output_facts, name_at}
 use Rattle.form_needs.proofs.OneChosen.{chosen_one, chosen_not}
 use Rattle.equate.specs.Side.{Lines}
 use Rattle.equate.specs.Verdict.{Verdict}
@@ -35,49 +35,39 @@ data Asked : Type 0 where
   OfRefusal : Asked
   OfForm : Asked
 
--- by whether it is a label, an instruction, a note, one that names the locals, and one that is held
-abbrev asked_by : Bool → Bool → Bool → Bool → Bool → Asked
-asked_by true k n p h = OfLabel
-asked_by false false n p h = OfNothing
-asked_by false true true false h = OfNothing
-asked_by false true true true h = OfRefusal
-asked_by false true false p true = OfRefusal
-asked_by false true false p false = OfForm
+-- by whether it is a label, an instruction, a note, and held
+abbrev asked_by : Bool → Bool → Bool → Bool → Asked
+asked_by true k n h = OfLabel
+asked_by false false n h = OfNothing
+asked_by false true true h = OfNothing
+asked_by false true false true = OfRefusal
+asked_by false true false false = OfForm
 
-silent_asks : (l k n p h : Bool) → (not l && (not (k && not n) && not (k && (n && p)))) ≡ true → asked_by l k n p h ≡ OfNothing
-silent_asks true k n p h e = cc
-silent_asks false false n p h e = refl
-silent_asks false true true false h e = refl
-silent_asks false true true true h e = cc
-silent_asks false true false p h e = cc
+silent_asks : (l k n h : Bool) → (not l && not (k && not n)) ≡ true → asked_by l k n h ≡ OfNothing
+silent_asks true k n h e = cc
+silent_asks false false n h e = refl
+silent_asks false true true h e = refl
+silent_asks false true false h e = cc
 
-framed_asks : (l k n p h : Bool) → (l ≡ true → k ≡ false) → (k && (n && p)) ≡ true → asked_by l k n p h ≡ OfRefusal
-framed_asks true false n p h apart e = cc
-framed_asks true true n p h apart e = absurd (let none : true ≡ false = apart refl in let never : ⊥ = cc in never)
-framed_asks false false n p h apart e = cc
-framed_asks false true true true h apart e = refl
-framed_asks false true true false h apart e = cc
-framed_asks false true false p h apart e = cc
+held_asks : (l k n h : Bool) → (l ≡ true → k ≡ false) → (k && not n) ≡ true → h ≡ true → asked_by l k n h ≡ OfRefusal
+held_asks true false n h apart e held = cc
+held_asks true true n h apart e held = absurd (let none : true ≡ false = apart refl in let never : ⊥ = cc in never)
+held_asks false false n h apart e held = cc
+held_asks false true true h apart e held = cc
+held_asks false true false true apart e held = refl
+held_asks false true false false apart e held = cc
 
-held_asks : (l k n p h : Bool) → (l ≡ true → k ≡ false) → (k && not n) ≡ true → h ≡ true → asked_by l k n p h ≡ OfRefusal
-held_asks true false n p h apart e held = cc
-held_asks true true n p h apart e held = absurd (let none : true ≡ false = apart refl in let never : ⊥ = cc in never)
-held_asks false false n p h apart e held = cc
-held_asks false true true p h apart e held = cc
-held_asks false true false p true apart e held = refl
-held_asks false true false p false apart e held = cc
+form_asks : (l k n h : Bool) → (l ≡ true → k ≡ false) → (k && not n) ≡ true → h ≡ false → asked_by l k n h ≡ OfForm
+form_asks true false n h apart e free = cc
+form_asks true true n h apart e free = absurd (let none : true ≡ false = apart refl in let never : ⊥ = cc in never)
+form_asks false false n h apart e free = cc
+form_asks false true true h apart e free = cc
+form_asks false true false true apart e free = cc
+form_asks false true false false apart e free = refl
 
-form_asks : (l k n p h : Bool) → (l ≡ true → k ≡ false) → (k && not n) ≡ true → h ≡ false → asked_by l k n p h ≡ OfForm
-form_asks true false n p h apart e free = cc
-form_asks true true n p h apart e free = absurd (let none : true ≡ false = apart refl in let never : ⊥ = cc in never)
-form_asks false false n p h apart e free = cc
-form_asks false true true p h apart e free = cc
-form_asks false true false p true apart e free = cc
-form_asks false true false p false apart e free = refl
-
-label_asks : (l k n p h : Bool) → l ≡ true → asked_by l k n p h ≡ OfLabel
-label_asks true k n p h is = refl
-label_asks false k n p h is = cc
+label_asks : (l k n h : Bool) → l ≡ true → asked_by l k n h ≡ OfLabel
+label_asks true k n h is = refl
+label_asks false k n h is = cc
 
 apart_kinds : (k : Kind) → is_label k ≡ true → is_kind k ≡ false
 apart_kinds kind.Plain h = cc
@@ -87,7 +77,7 @@ apart_kinds kind.Label h = refl
 apart_kinds kind.Barrier h = cc
 
 abbrev asked : Insn → Asked
-asked i = asked_by (is_label i.kind) (is_kind i.kind) (is_note (head_of i.pattern).code) (names_locals i.pattern) (is_held i)
+asked i = asked_by (is_label i.kind) (is_kind i.kind) (is_note (head_of i.pattern).code) (is_held i)
 
 -- ---- what comes of each
 
@@ -118,21 +108,19 @@ module _ (forms : List Entry) (number : ℕ) (f : Function) (place : ℕ) (i : I
 
   body_of : (o : Outcome) → PlaceComes forms number f place i o → Body (asked i) o
   body_of _ (PlaceComes.label is small) =
-      as_asked OfLabel (Ok (label_piece number i.uid)) (label_asks (is_label i.kind) (is_kind i.kind) (is_note (head_of i.pattern).code) (names_locals i.pattern) (is_held i) is) refl
+      as_asked OfLabel (Ok (label_piece number i.uid)) (label_asks (is_label i.kind) (is_kind i.kind) (is_note (head_of i.pattern).code) (is_held i) is) refl
   body_of _ (PlaceComes.silent is) =
-      as_asked OfNothing (Ok nothing) (silent_asks (is_label i.kind) (is_kind i.kind) (is_note (head_of i.pattern).code) (names_locals i.pattern) (is_held i) is) refl
-  body_of _ (PlaceComes.framed is) =
-      as_asked OfRefusal (Err (unmatched_insn i)) (framed_asks (is_label i.kind) (is_kind i.kind) (is_note (head_of i.pattern).code) (names_locals i.pattern) (is_held i) (apart_kinds i.kind) is) refl
+      as_asked OfNothing (Ok nothing) (silent_asks (is_label i.kind) (is_kind i.kind) (is_note (head_of i.pattern).code) (is_held i) is) refl
   body_of _ (PlaceComes.held needs is) =
-      as_asked OfRefusal (Err (unmatched_insn i)) (held_asks (is_label i.kind) (is_kind i.kind) (is_note (head_of i.pattern).code) (names_locals i.pattern) (is_held i) (apart_kinds i.kind) needs is) refl
+      as_asked OfRefusal (Err (unmatched_insn i)) (held_asks (is_label i.kind) (is_kind i.kind) (is_note (head_of i.pattern).code) (is_held i) (apart_kinds i.kind) needs is) refl
   body_of _ (PlaceComes.unmatched needs free none) =
-      as_asked OfForm (Err (unmatched_insn i)) (form_asks (is_label i.kind) (is_kind i.kind) (is_note (head_of i.pattern).code) (names_locals i.pattern) (is_held i) (apart_kinds i.kind) needs free)
+      as_asked OfForm (Err (unmatched_insn i)) (form_asks (is_label i.kind) (is_kind i.kind) (is_note (head_of i.pattern).code) (is_held i) (apart_kinds i.kind) needs free)
       (inl (none, refl))
   body_of _ (PlaceComes.refused c lines live e tried is) =
-      as_asked OfForm (Err e) (form_asks (is_label i.kind) (is_kind i.kind) (is_note (head_of i.pattern).code) (names_locals i.pattern) (is_held i) (apart_kinds i.kind) tried.needs tried.free)
+      as_asked OfForm (Err e) (form_asks (is_label i.kind) (is_kind i.kind) (is_note (head_of i.pattern).code) (is_held i) (apart_kinds i.kind) tried.needs tried.free)
       (inr (record { c = c; lines = lines; live = live; tried = tried; is = sym (ap (λ r. outcome_by r (code_piece forms number i c lines)) is) }))
   body_of _ (PlaceComes.equated c lines live tried is) =
-      as_asked OfForm (Ok (code_piece forms number i c lines)) (form_asks (is_label i.kind) (is_kind i.kind) (is_note (head_of i.pattern).code) (names_locals i.pattern) (is_held i) (apart_kinds i.kind) tried.needs tried.free)
+      as_asked OfForm (Ok (code_piece forms number i c lines)) (form_asks (is_label i.kind) (is_kind i.kind) (is_note (head_of i.pattern).code) (is_held i) (apart_kinds i.kind) tried.needs tried.free)
       (inr (record { c = c; lines = lines; live = live; tried = tried;
         is = sym (ap (λ (v : Verdict). outcome_by (refused_by i.uid (name_at (names_of forms) c.form) v) (code_piece forms number i c lines)) is) }))
 

@@ -34,28 +34,39 @@ tabbed [] ls zipped some = absurd (some refl)
 tabbed (t ∷ texts) [] zipped some = absurd zipped
 tabbed (t ∷ texts) (line ∷ ls) zipped some = (tab_first t line zipped.0, zipped.1)
 
+-- what the rest of a text spells behind a front that is begun
+abbrev Rest : List ℕ → List ℕ → List CodeItem → Type 0
+Rest text rest items = (front : List ℕ) (ls : List Line) → AllZip IsTextOf (prefixed front (parts 10 text)) ls → Spells (front ++ (text ++ 10 ∷ rest)) (map item.Code ls ++ items)
+
+-- a line ends
+line_ends : (front : List ℕ) (b : ℕ) (text rest : List ℕ) (items : List CodeItem) (ls : List Line) → Rest text rest items → b ≡ 10 →
+    AllZip IsTextOf ((front ∷ []) ++ prefixed [] (parts 10 text)) ls → Spells (front ++ (b ∷ (text ++ 10 ∷ rest))) (map item.Code ls ++ items)
+line_ends front b text rest items [] behind is zipped = absurd zipped
+line_ends front b text rest items (line ∷ ls) behind is zipped =
+    subst (λ c. Spells (front ++ (c ∷ (text ++ 10 ∷ rest))) (item.Code line ∷ (map item.Code ls ++ items))) (sym is)
+    (Spells.line front line (text ++ 10 ∷ rest) (map item.Code ls ++ items) zipped.0 (behind [] ls zipped.1))
+
+-- one byte more
+byte_on : (front : List ℕ) (b : ℕ) (text rest : List ℕ) (items : List CodeItem) (ls : List Line) → Rest text rest items → AllZip IsTextOf (prefixed front (parts 10 (b ∷ text))) ls →
+    Spells (front ++ ((b ∷ text) ++ 10 ∷ rest)) (map item.Code ls ++ items)
+byte_on front b text rest items ls behind zipped = go (eqb b 10) refl
+  where
+    go : (here : Bool) → eqb b 10 ≡ here → Spells (front ++ ((b ∷ text) ++ 10 ∷ rest)) (map item.Code ls ++ items)
+    go true is =
+        line_ends front b text rest items ls behind (eqb-true b 10 is)
+        (subst (λ (ps : List (List ℕ)). AllZip IsTextOf ps ls) (sym (parts_cut 10 [] front (b ∷ text) 0 (prefixed front (parts 10 (b ∷ text))) (omega arith) (eqb-true b 10 is) refl)) zipped)
+    go false is =
+        subst (λ (bytes : List ℕ). Spells bytes (map item.Code ls ++ items)) (append_assoc front (b ∷ []) (text ++ 10 ∷ rest))
+        (behind (front ++ b ∷ []) ls
+        (subst (λ (ps : List (List ℕ)). AllZip IsTextOf ps ls)
+        (sym (parts_grow 10 [] front (b ∷ text) 0 (prefixed front (parts 10 (b ∷ text))) (omega arith) (λ same. false≢true (sym is ∙ eq-eqb b 10 same)) refl)) zipped))
+
 -- the lines of a text behind a front that is begun
 spells_parts : (front text rest : List ℕ) (ls : List Line) (items : List CodeItem) → AllZip IsTextOf (prefixed front (parts 10 text)) ls → Spells rest items → Spells (front ++ (text ++ 10 ∷ rest)) (map item.Code ls ++ items)
 spells_parts front [] rest [] items zipped more = absurd zipped
 spells_parts front [] rest (line ∷ []) items zipped more = Spells.line front line rest items (subst (λ t. IsTextOf t line) (append-nil front) zipped.0) more
 spells_parts front [] rest (line ∷ next ∷ ls) items zipped more = absurd zipped.1
-spells_parts front (b ∷ text) rest ls items zipped more = go (eqb b 10) refl
-  where
-    there : prefixed front (parts 10 (b ∷ text)) ≡ prefixed front (parts 10 (b ∷ text))
-    there = refl
-
-    ends : (ls : List Line) → b ≡ 10 → AllZip IsTextOf ((front ∷ []) ++ prefixed [] (parts 10 text)) ls → Spells (front ++ (b ∷ (text ++ 10 ∷ rest))) (map item.Code ls ++ items)
-    ends [] is zipped = absurd zipped
-    ends (line ∷ ls) is zipped =
-        subst (λ c. Spells (front ++ (c ∷ (text ++ 10 ∷ rest))) (item.Code line ∷ (map item.Code ls ++ items))) (sym is)
-        (Spells.line front line (text ++ 10 ∷ rest) (map item.Code ls ++ items) zipped.0 (spells_parts [] text rest ls items zipped.1 more))
-
-    go : (here : Bool) → eqb b 10 ≡ here → Spells (front ++ ((b ∷ text) ++ 10 ∷ rest)) (map item.Code ls ++ items)
-    go true is = ends ls (eqb-true b 10 is) (subst (λ ps. AllZip IsTextOf ps ls) (sym (parts_cut 10 [] front (b ∷ text) 0 (prefixed front (parts 10 (b ∷ text))) (omega arith) (eqb-true b 10 is) there)) zipped)
-    go false is =
-        subst (λ bytes. Spells bytes (map item.Code ls ++ items)) (append_assoc front (b ∷ []) (text ++ 10 ∷ rest))
-        (spells_parts (front ++ b ∷ []) text rest ls items
-        (subst (λ ps. AllZip IsTextOf ps ls) (sym (parts_grow 10 [] front (b ∷ text) 0 (prefixed front (parts 10 (b ∷ text))) (omega arith) (λ same. false≢true (sym is ∙ eq-eqb b 10 same)) there)) zipped) more)
+spells_parts front (b ∷ text) rest ls items zipped more = byte_on front b text rest items ls (λ front ls zipped. spells_parts front text rest ls items zipped more) zipped
 
 -- there is a first part
 some_parts : (text : List ℕ) → parts 10 text ≢ []

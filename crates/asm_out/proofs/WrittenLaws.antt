@@ -89,7 +89,6 @@ module _ (forms : List Entry) (number : ℕ) (f : Function) where
       put_first place i insns first rest piece (label_piece number i.uid) h both chain (AreWritten.label place i insns chain.body rest.items is small chain.are)
   grown place i insns _ first rest piece (PlaceComes.silent is) h both chain =
       put_first place i insns first rest piece nothing h both chain (AreWritten.silent place i insns chain.body rest.items is chain.are)
-  grown place i insns _ first rest piece (PlaceComes.framed is) h both chain = cc
   grown place i insns _ first rest piece (PlaceComes.held needs is) h both chain = cc
   grown place i insns _ first rest piece (PlaceComes.unmatched needs free none) h both chain = cc
   grown place i insns _ first rest piece (PlaceComes.refused c lines live e tried is) h both chain = cc

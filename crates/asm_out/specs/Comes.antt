@@ -10,7 +10,7 @@ use Rattle.md_forms.specs.declared.form.Entry.{Entry}
 use Rattle.md_forms.specs.Forms.{names_of}
 use Rattle.md_desc.specs.declared.output.Chosen.{Chosen}
 use Rattle.md_desc.specs.Recog.{IsChosen, NoneMatchesOut}
-use Rattle.form_needs.specs.Needs.{is_label, is_silent, is_framed, needs_form, is_held, output_facts, name_at}
+use Rattle.form_needs.specs.Needs.{is_label, is_silent, needs_form, is_held, output_facts, name_at}
 use Rattle.equate.specs.Side.{Lines}
 use Rattle.equate.specs.Equated.{verdict, Equated}
 use Rattle.asm_out.specs.declared.piece.Piece.{Piece}
@@ -42,7 +42,6 @@ label_piece number uid = record { text = label_line number uid; items = item.Lab
 pub data PlaceComes (forms : List Entry) (number : ℕ) (f : Function) (place : ℕ) (i : Insn) : Outcome → Type 0 where
   label : is_label i.kind ≡ true → i.uid < 2 ^ 32 → PlaceComes forms number f place i (Ok (label_piece number i.uid))
   silent : is_silent i ≡ true → PlaceComes forms number f place i (Ok nothing)
-  framed : is_framed i ≡ true → PlaceComes forms number f place i (Err (unmatched_insn i))
   held : needs_form i ≡ true → is_held i ≡ true → PlaceComes forms number f place i (Err (unmatched_insn i))
   unmatched : needs_form i ≡ true → is_held i ≡ false → NoneMatchesOut forms output_facts i.pattern → PlaceComes forms number f place i (Err (unmatched_insn i))
   refused : (c : Chosen) (lines : List Line) (live : List ℕ) (e : OutRefusal) → IsTried forms number f place i c lines live →

@@ -68,13 +68,30 @@ fn write_chain(
     write_places(alloc, description, number, f, rows.as_slice(), out, items)
 }
 
+/// Appends the parts of a function's text.
+fn write_parts(
+    alloc: Global,
+    description: &Description,
+    number: u32,
+    f: &Function,
+    out: &mut Vec<u8>,
+    items: &mut Vec<CodeItem>,
+) -> Result<(), OutRefusal>
+    ensures { Appends out.old.items out.new.items items.old.items items.new.items result
+        (FunctionComes description.now number f.now (length out.old.items)) }
+{
+    write_opening(alloc, f, out, items)?;
+    write_chain(alloc, description, number, f, out, items)?;
+    write_closing(alloc, f, out, items)
+}
+
 /// Appends the assembly of a function with a number, and the lines and labels that it spells: for each label its line, and for each
 /// instruction that needs a form the filled template of the first that counts at output, with the lowest enabled alternative that fits, where
 /// its lines are equated with the instruction. The chain is written as it stands. After a refusal what was appended before it stays.
 ///
 /// # Errors
 ///
-/// `Unmatched` at the first instruction for which no form counts, or that has need of a frame; `NotEquated`, or `Limit` of
+/// `Unmatched` at the first instruction for which no form counts; `NotEquated`, or `Limit` of
 /// `TermSize`, where its comparison fails; `Limit` of `Output` where the text were longer than an assembly may be; `Memory` where
 /// memory ran out.
 pub fn write_function(
@@ -96,7 +113,5 @@ pub fn write_function(
     ensures spelled { (forms : List Entry) (number : ℕ) (f : Function) (place : ℕ) (insns : List Insn) (text : List ℕ) (items : List CodeItem) →
         number < 2 ^ 32 → AreWritten forms number f place insns text items → Spells text items }
 {
-    write_opening(alloc, f, out, items)?;
-    write_chain(alloc, description, number, f, out, items)?;
-    write_closing(alloc, f, out, items)
+    write_parts(alloc, description, number, f, out, items)
 }

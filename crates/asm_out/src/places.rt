@@ -9,7 +9,7 @@ use crate::chosen::chosen_piece;
 use crate::frame::{label, only_text};
 use crate::piece::{Piece, append_piece};
 use crate::refusal::{OutRefusal, unmatched};
-use form_needs::{is_held, is_silent, needs_form, output_facts};
+use form_needs::{is_held, is_silent, output_facts};
 use md_desc::Description;
 use reg_rows::RegRow;
 use rtx_tree::{Function, Insn, Kind};
@@ -56,7 +56,7 @@ fn item_piece(
     if is_silent(insn) {
         return Ok(only_text(alloc, Vec::new(alloc)));
     }
-    if !needs_form(insn) || is_held(insn) {
+    if is_held(insn) {
         return Err(unmatched(alloc, insn)?);
     }
     insn_piece(alloc, description, number, f, rows, place, insn)

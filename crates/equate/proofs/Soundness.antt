@@ -1,10 +1,21 @@
 -- What is equated does the same.
-use Rattle.equate.specs.Side.{Lines}
+use Rattle.std.specs.Prelude.{◌≡◌, ℕ, true, false, List}
+use Rattle.rtx_tree.specs.declared.function.Insn.{Insn}
+use Rattle.rv_text.specs.declared.line.Line.{Line}
+use Rattle.sym_diff.specs.Registers.{is_live}
+use Rattle.window_mean.specs.Same.{DoSame}
+use Rattle.agree_mean.proofs.Agreeing.{agreeing_does}
+use Rattle.equate.specs.Side.{Lines, both_return}
+use Rattle.equate.specs.Equated.{Equated}
 use Rattle.equate.specs.Sound.{EquatedDoesSame}
 use Rattle.equate.proofs.VerdictLaws.{verdict_same}
-use Rattle.agree_mean.proofs.Agreeing.{agreeing_does}
 
-pub equated_does : EquatedDoesSame
-equated_does before number lines live equated other Few few =
+-- over any of the registers that are live
+pub few_do : (before : List Insn) (number : ℕ) (lines : List Line) (live : List ℕ) → Equated before (Lines number lines) live → both_return before (Lines number lines) ≡ false →
+    (Few : ℕ → Type 0) → ((reg : ℕ) → Few reg → is_live live reg ≡ true) → DoSame number before lines Few
+few_do before number lines live equated other Few few =
     let alike = verdict_same before (Lines number lines) live equated other in
     agreeing_does number before lines live Few few alike.first alike.second alike.runs_first alike.runs_second alike.agree
+
+pub equated_does : EquatedDoesSame
+equated_does before number lines live equated other = few_do before number lines live equated other (λ reg. is_live live reg ≡ true) (λ reg lives. lives)

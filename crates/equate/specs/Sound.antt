@@ -1,6 +1,6 @@
 -- What is equated does the same: lines of a function that are equated with instructions in whose place
--- they stand do what these do, over any of the registers that are live behind. One (return) and the
--- line that leads back to the caller are the case apart: neither leads on.
+-- they stand do what these do, over the registers that are live behind. One (return) and the line that
+-- leads back to the caller are the case apart: neither leads on.
 use Rattle.std.specs.Prelude.{◌≡◌, ℕ, true, false, List}
 use Rattle.rtx_tree.specs.declared.function.Insn.{Insn}
 use Rattle.rv_text.specs.declared.line.Line.{Line}
@@ -13,5 +13,4 @@ abbrev pub EquatedDoesSame : Type 0
 EquatedDoesSame =
     (before : List Insn) (number : ℕ) (lines : List Line) (live : List ℕ) →
     Equated before (Lines number lines) live → both_return before (Lines number lines) ≡ false →
-    (Few : ℕ → Type 0) → ((reg : ℕ) → Few reg → is_live live reg ≡ true) →
-    DoSame number before lines Few
+    DoSame number before lines (λ reg. is_live live reg ≡ true)

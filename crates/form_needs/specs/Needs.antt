@@ -1,6 +1,6 @@
 -- Which instructions need a form, what is asked of one, and what conditions know at each stage: GCC Internals, "Insns", "Side Effect
--- Expressions" (use, clobber), "Registers and Memory" (virtual-stack-vars) and "Frame Layout".
-use Rattle.std.specs.Prelude.{ℕ, ℤ, pos, Bool, true, false, not, ◌&&◌, ◌||◌, ◌==◌, nat_lt, List, [], slice_get, unwrap_or}
+-- Expressions" (use, clobber) and "Registers and Memory".
+use Rattle.std.specs.Prelude.{ℕ, ℤ, pos, Bool, true, false, not, ◌&&◌, ◌||◌, nat_lt, List, [], slice_get, unwrap_or}
 use Rattle.std.specs.List.{list_any}
 use Rattle.rtx_tree.specs.declared.code.Code.{Code}
 use Rattle.rtx_tree.specs.declared.code.Code.TheVariants.{Reg, Use, Clobber}
@@ -10,7 +10,6 @@ use Rattle.rtx_tree.specs.declared.function.Insn.{Insn}
 use Rattle.rtx_tree.specs.declared.tree.Rtx.{Rtx}
 use Rattle.rtx_tree.specs.declared.tree.Rtx.TheOpen.{Rtx-F}
 use Rattle.rtx_tree.specs.declared.tree.Rtx.TheFolds.{fold-Rtx}
-use Rattle.rtx_tree.specs.Registers.{virtual_stack_vars}
 use Rattle.rtx_tree.specs.Tree.{head_of}
 use Rattle.c_eval.specs.declared.facts.Facts.{Facts}
 
@@ -42,30 +41,17 @@ is_note _ = false
 abbrev pub needs_form : Insn → Bool
 needs_form i = is_kind i.kind && not (is_note (head_of i.pattern).code)
 
--- ---- registers that stand in an instruction
-
--- a register of which a test on codes and numbers holds stands in the tree
-abbrev pub names_step : (Code → ℤ → Bool) → Rtx-F Bool → Bool
-names_step is x = is x.code x.number || list_any (λ here. here) x.kids
-
 -- registers are 0 to 31; what comes behind is the address of the locals or a pseudo register
 abbrev pub is_homeless : Code → ℤ → Bool
 is_homeless Reg (pos n) = nat_lt 31 n
 is_homeless _ _ = false
 
+abbrev pub homeless_step : Rtx-F Bool → Bool
+homeless_step x = is_homeless x.code x.number || list_any (λ here. here) x.kids
+
 -- a pseudo register or the address of the locals stands in the tree
 abbrev pub names_homeless : Rtx → Bool
-names_homeless = fold-Rtx Bool (names_step is_homeless)
-
-abbrev pub is_locals : Code → ℤ → Bool
-is_locals Reg (pos n) = n == virtual_stack_vars
-is_locals _ _ = false
-
--- the address of the locals stands in the tree
-abbrev pub names_locals : Rtx → Bool
-names_locals = fold-Rtx Bool (names_step is_locals)
-
--- ---- what no pass gives yet
+names_homeless = fold-Rtx Bool homeless_step
 
 abbrev pub is_call : Kind → Bool
 is_call Call = true
@@ -76,17 +62,13 @@ is_call _ = false
 abbrev pub is_held : Insn → Bool
 is_held i = is_call i.kind || names_homeless i.pattern
 
--- a use or a clobber alone in which the address of the locals stands: there is no frame yet in which that would be a register
-abbrev pub is_framed : Insn → Bool
-is_framed i = is_kind i.kind && (is_note (head_of i.pattern).code && names_locals i.pattern)
-
 abbrev pub is_label : Kind → Bool
 is_label Label = true
 is_label _ = false
 
--- what gives nothing at output: a barrier, and a use or a clobber alone that needs no frame
+-- what gives nothing at output: a barrier, and a use or a clobber alone
 abbrev pub is_silent : Insn → Bool
-is_silent i = not (is_label i.kind) && (not (needs_form i) && not (is_framed i))
+is_silent i = not (is_label i.kind) && not (needs_form i)
 
 -- ---- forms
 

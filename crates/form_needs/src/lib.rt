@@ -1,12 +1,12 @@
 //! Which instructions need a form, and what conditions know.
 //!
 //! An instruction needs a form where it is none of labels, barriers, and a `use` or `clobber` alone ([`needs_form`]). Until passes give
-//! registers their homes and functions a frame, no form counts at output for an instruction that has need of them ([`is_held`],
-//! [`is_framed`]). The facts are those of conditions before registers have homes and after ([`lower_facts`], [`output_facts`]).
+//! registers their homes and functions a frame, no form counts at output for an instruction that has need of them ([`is_held`]).
+//! The facts are those of conditions before registers have homes and after ([`lower_facts`], [`output_facts`]).
 #![tactic(auto)]
 
 mod facts;
 mod needs;
 
 pub use facts::{lower_facts, name_at, output_facts};
-pub use needs::{is_framed, is_held, is_silent, needs_form};
+pub use needs::{is_held, is_silent, needs_form};

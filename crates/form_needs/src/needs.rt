@@ -3,7 +3,7 @@ ghost use Rattle.std.specs.Prelude.{◌≡◌};
 ghost use Rattle.rtx_tree.specs.Tree.{head_of};
 ghost use Rattle.form_needs.specs.Needs as spec;
 
-use rtx_tree::{Code, Insn, Kind, Rtx, VIRTUAL_STACK_VARS};
+use rtx_tree::{Code, Insn, Kind, Rtx};
 
 fn is_kind(kind: Kind) -> bool
     ensures { result ≡ spec.is_kind kind }
@@ -31,7 +31,7 @@ fn is_homeless(x: &Rtx) -> bool
 }
 
 /// Whether a pseudo register or the address of the locals stands in a tree.
-#[tactic(auto, using(crate::proofs::Named::homeless_out))]
+#[tactic(auto, using(crate::proofs::Homeless::homeless_out))]
 fn names_homeless(x: &Rtx) -> bool
     ensures { result ≡ spec.names_homeless x.now }
 {
@@ -46,28 +46,6 @@ fn names_homeless(x: &Rtx) -> bool
     false
 }
 
-fn is_locals(x: &Rtx) -> bool
-    ensures { result ≡ spec.is_locals (head_of x.now).code (head_of x.now).number }
-{
-    matches!(x.code, Code::Reg) && x.number == i64::from(VIRTUAL_STACK_VARS)
-}
-
-/// Whether the address of the locals stands in a tree.
-#[tactic(auto, using(crate::proofs::Named::locals_out))]
-fn names_locals(x: &Rtx) -> bool
-    ensures { result ≡ spec.names_locals x.now }
-{
-    if is_locals(x) {
-        return true;
-    }
-    for kid in x.kids.as_slice() {
-        if names_locals(kid) {
-            return true;
-        }
-    }
-    false
-}
-
 /// Whether an instruction has need of homes, of a frame, or of what a call saves.
 pub fn is_held(insn: &Insn) -> bool
     ensures { result ≡ spec.is_held insn.now }
@@ -75,16 +53,9 @@ pub fn is_held(insn: &Insn) -> bool
     matches!(insn.kind, Kind::Call) || names_homeless(&insn.pattern)
 }
 
-/// Whether an instruction is a `use` or `clobber` alone that has need of a frame.
-pub fn is_framed(insn: &Insn) -> bool
-    ensures { result ≡ spec.is_framed insn.now }
-{
-    is_kind(insn.kind) && is_note(insn.pattern.code) && names_locals(&insn.pattern)
-}
-
-/// Whether an instruction gives nothing at output: a barrier, and a `use` or `clobber` alone that has no need of a frame.
+/// Whether an instruction gives nothing at output: a barrier, and a `use` or `clobber` alone.
 pub fn is_silent(insn: &Insn) -> bool
     ensures { result ≡ spec.is_silent insn.now }
 {
-    !matches!(insn.kind, Kind::Label) && !needs_form(insn) && !is_framed(insn)
+    !matches!(insn.kind, Kind::Label) && !needs_form(insn)
 }

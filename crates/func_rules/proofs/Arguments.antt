@@ -13,7 +13,7 @@ use Rattle.rtx_tree.specs.Tree.{head_of, kids_of, is_reg_numbered, mentions_reg}
 use Rattle.rtx_tree.proofs.Trees.{mentions_out}
 use Rattle.rtl_func.specs.Calls.{is_argument, is_hard_argument, has_argument}
 use Rattle.rtl_func.specs.Modes.{register_by}
-use Rattle.md_match.proofs.RtxInduction.{induction}
+use Rattle.rtl_print.proofs.TreeText.{rtx_induction}
 use Rattle.func_rules.proofs.Nodes.{all_pass, pass_out}
 
 module _ (reg : ℕ) (hard : reg < 32) where
@@ -58,4 +58,4 @@ module _ (reg : ℕ) (hard : reg < 32) where
 
   -- a hard register that stands in a tree is one of a0 to a7
   pub stands_argument : (x : Rtx) → all_pass has_argument x ≡ true → mentions_reg reg x ≡ true → is_argument reg ≡ true
-  stands_argument = induction Good of_tree
+  stands_argument = rtx_induction Good of_tree

@@ -17,3 +17,4 @@ pub mod Sorts
 pub mod Ready
 pub mod Jumps
 pub mod AllSorts
+pub mod Lines

@@ -1,16 +1,11 @@
 -- The size of the locals of a function that is read has 32 bits.
-use Rattle.std.proofs.Common.{◌≡◌, ℕ, suc, ◌<◌, ◌^◌, ◌&&◌, max, fold, Bool, true, false, List, [], ◌∷◌, map, Option, Some, None, refl, sym, subst, arith}
+use Rattle.std.proofs.Common.{◌≡◌, ℕ, ◌<◌, ◌^◌, Bool, true, false, List, [], ◌∷◌, Option, Some, None, refl, subst, arith}
 use Rattle.std.specs.Prelude.{ℤ, pos, negsuc, nat_lt, slice_get, unwrap_or, codes, if◌then◌else◌}
-use Rattle.std.specs.List.{AllByRecursion}
 use Rattle.std.specs.Option.{option_or}
 use Rattle.std.proofs.lemmas.Bool.{ltb-true}
 use Rattle.std.proofs.lemmas.Option.{cond_some, option_and_then_some}
-use Rattle.rtx_tree.specs.declared.code.Code.{Code}
-use Rattle.rtx_tree.specs.declared.code.Code.TheVariants.{Plus}
 use Rattle.rtx_tree.specs.declared.function.Insn.{Insn}
 use Rattle.rtx_tree.specs.declared.function.Function.{Function}
-use Rattle.rtx_tree.specs.declared.tree.Rtx.{Rtx, out-Rtx}
-use Rattle.rtx_tree.specs.Tree.{kids_of}
 use Rattle.lisp_read.specs.declared.tree.Tree.{Tree}
 use Rattle.lisp_read.specs.Leaf.{below, uid_in}
 use Rattle.lisp_read.specs.Parsed.{Parsed, stands, construct, or_outside, outside, parsed_map}
@@ -19,53 +14,14 @@ use Rattle.text_words.specs.Words.{number_in}
 use Rattle.rtl_read.specs.declared.parts.Said.{Said}
 use Rattle.rtl_read.specs.Chain.{chain_of}
 use Rattle.rtl_read.specs.Function.{number_behind, locals_of, crtl_of, says_nothing, says_chain, says_locals, says_result, said_by, said_too, all_said, function_from, function_by, function_parts, function_of}
-use Rattle.rtl_read.specs.Locals.{is_stack_vars, is_constant, depth_of, depth_below, depth_by, depth_at, deepest_in, locals_in}
+use Rattle.rtl_read.specs.Locals.{locals_in}
 use Rattle.rtl_read.specs.Syntax.{functions_in}
 use Rattle.rtl_read.specs.Word.{number_of, is_headed}
-use Rattle.rtl_read.proofs.Depths.{deepest_out}
-use Rattle.md_match.proofs.RtxInduction.{induction}
+use Rattle.rtl_print.proofs.LocalsLess.{locals_less}
 use Rattle.func_rules.proofs.Standing.{IfStands, any_stands, map_stands, then_stands, all_stand, at_place}
 
 abbrev Fits : ℕ → Type 0
 Fits n = n < 2 ^ 32
-
--- ---- locals that aren't told
-
-depth_fits : (n : ℤ) → Fits (depth_of n)
-depth_fits (pos n) = omega arith
-depth_fits (negsuc n) = by (nat_lt (suc n) 4294967296) refl
-  where
-    by : (b : Bool) → nat_lt (suc n) 4294967296 ≡ b → Fits (if b then suc n else 0)
-    by true is = let small = ltb-true (suc n) 4294967296 is in omega (arith, small)
-    by false is = omega arith
-
-max_fits : (a b : ℕ) → Fits a → Fits b → Fits (max a b)
-max_fits a b fits fits' = grind arith
-
-below_fits : (a b : Rtx) → Fits (depth_below a b)
-below_fits a b = by (is_stack_vars a && is_constant b)
-  where
-    by : (c : Bool) → Fits (if c then depth_of (out-Rtx b).number else 0)
-    by true = depth_fits (out-Rtx b).number
-    by false = omega arith
-
-sum_fits : (c : Code) (parts : List Rtx) → Fits (depth_by c parts)
-sum_fits Plus (a ∷ b ∷ []) = max_fits (depth_below a b) (depth_below b a) (below_fits a b) (below_fits b a)
-sum_fits _ parts = omega arith
-
-abbrev DepthFits : Rtx → Type 0
-DepthFits x = Fits (deepest_in x)
-
-parts_fit : (parts : List Rtx) (start : ℕ) → Fits start → AllByRecursion DepthFits parts → Fits (fold max start (map deepest_in parts))
-parts_fit [] start fits all = fits
-parts_fit (x ∷ parts) start fits all = parts_fit parts (max start (deepest_in x)) (max_fits start (deepest_in x) fits all.0) all.1
-
-deepest_fits : (x : Rtx) → Fits (deepest_in x)
-deepest_fits = induction DepthFits (λ x all. subst Fits (sym (deepest_out x)) (parts_fit (kids_of x) (depth_at x) (sum_fits (out-Rtx x).code (out-Rtx x).kids) all))
-
-chain_fits : (insns : List Insn) (start : ℕ) → Fits start → Fits (fold max start (map (λ (i : Insn). deepest_in i.pattern) insns))
-chain_fits [] start fits = fits
-chain_fits (i ∷ insns) start fits = chain_fits insns (max start (deepest_in i.pattern)) (max_fits start (deepest_in i.pattern) fits (deepest_fits i.pattern))
 
 -- ---- locals that are told
 
@@ -143,12 +99,15 @@ good_all_said (t ∷ trees) = then_stands GoodSaid GoodSaid (said_by t) (λ firs
 abbrev LocalsFit : Function → Type 0
 LocalsFit f = Fits f.locals
 
+untold_fit : (insns : List Insn) → Fits (locals_in insns)
+untold_fit insns = let less = locals_less insns in omega (arith, less)
+
 fits_or : (o : Option ℕ) (n : ℕ) → ((m : ℕ) → o ≡ Some m → Fits m) → Fits n → Fits (unwrap_or o n)
 fits_or None n fits other = other
 fits_or (Some m) n fits other = fits m refl
 
 good_from : (name : List ℕ) (p : Parsed Said) → IfStands GoodSaid p → IfStands (λ said. LocalsFit (function_from name said)) p
-good_from name (stands said) good = fits_or said.locals (locals_in said.insns) good (chain_fits said.insns 0 (omega arith))
+good_from name (stands said) good = fits_or said.locals (locals_in said.insns) good (untold_fit said.insns)
 good_from name (construct place text) good = tt
 
 good_function : (t : Tree) (parts : Option (List ℕ × List Tree)) → IfStands LocalsFit (function_by t parts)

@@ -21,7 +21,7 @@ use Rattle.reg_uses.specs.Effects.{pattern_defines, pattern_uses}
 use Rattle.reg_uses.specs.Uses.{has_argument, insn_uses, insn_defines}
 use Rattle.window_mean.specs.Uses.{window_uses}
 use Rattle.form_needs.specs.Needs.{is_homeless, names_step, names_homeless}
-use Rattle.md_match.proofs.RtxInduction.{induction}
+use Rattle.rtl_print.proofs.TreeText.{rtx_induction}
 use Rattle.func_rules.proofs.Nodes.{all_pass}
 use Rattle.func_rules.proofs.Mentions.{defined_stands, used_stands}
 use Rattle.func_rules.proofs.Arguments.{stands_argument}
@@ -106,7 +106,7 @@ module _ (reg : ℕ) (above : 31 < reg) where
 
   -- a register above 31 that stands in a tree has no home
   pub stands_homeless : (x : Rtx) → mentions_reg reg x ≡ true → names_homeless x ≡ true
-  stands_homeless = induction Good of_tree
+  stands_homeless = rtx_induction Good of_tree
 
   is_no_argument : is_argument reg ≡ true → ⊥
   is_no_argument is = let le = leb-true reg 17 (and_parts (nat_le 10 reg) (nat_le reg 17) is).1 in omega (arith, le, above)

@@ -23,6 +23,7 @@ use Rattle.same_behaviour.specs.Lawful.{IsWord, IsByte, IsMemory, AreWords, IsLa
 use Rattle.same_behaviour.proofs.Entry.{same_or_not, visible_at_entry}
 use Rattle.window_mean.specs.Beside.{Agrees, Beside, IsMachine}
 use Rattle.window_same.proofs.Replies.{agrees_zero, held, register_at, low_in}
+use Rattle.window_same.proofs.Small.{is_here, is_other, ◌also◌}
 
 -- ---- a part of memory that goes by the addresses
 
@@ -39,7 +40,7 @@ module _ (test : ℕ → Bool) where
     where
       by_test : (is : Bool) → addresses (kept memory) ≡ filter test (addresses memory) →
           addresses (cond is (b ∷ kept memory) (kept memory)) ≡ cond is (b.address ∷ filter test (addresses memory)) (filter test
-              (addresses memory))
+          (addresses memory))
       by_test true rest = ap (λ xs. b.address ∷ xs) rest
       by_test false rest = rest
 
@@ -70,7 +71,7 @@ module _ (test : ℕ → Bool) where
 
       at_here : (is : Bool) → test b.address ≡ is → b.address ≡ address →
           (byte_at (kept memory) address ≡ Some byte → (byte_at memory address ≡ Some byte) × (test address ≡ true)) →
-              byte_at (cond is (b ∷ kept memory) (kept memory)) address ≡ Some byte →
+          byte_at (cond is (b ∷ kept memory) (kept memory)) address ≡ Some byte →
           (byte_at (b ∷ memory) address ≡ Some byte) × (test address ≡ true)
       at_here true is here later has = let yes : (b.address == address) ≡ true = grind (arith, nat_tests, here) in (
         ap (λ c. if c then Some b.byte else byte_at memory address) yes ∙
@@ -96,12 +97,6 @@ fits_all W64 = refl
 known_wide : (w : Width) (value : ℕ) → known_in w (known_of W64 value) ≡ Some (low w value)
 known_wide w value = ap (λ b. if b then Some (low w (low W64 value)) else None) (fits_all w) ∙ ap Some (low_in w W64 value (fits_all w))
 
-is_here : (n : ℕ) → eq_by_cmp nat_cmp n n ≡ true
-is_here n = grind (arith, nat_tests)
-
-is_other : (n k : ℕ) → k ≢ n → eq_by_cmp nat_cmp n k ≡ false
-is_other n k other = grind (arith, nat_tests, other)
-
 agrees_with : (regs : Regs) (code : List (Option ℕ)) (t value reg : ℕ) → reg < 32 → (t < 32 → register code t ≡ Some value) →
     Agrees regs code reg →
     Agrees (with_reg regs t (known_of W64 value)) code reg
@@ -109,7 +104,7 @@ agrees_with regs code zero value reg small holds agrees = agrees
 agrees_with regs code (suc t) value zero small holds agrees = agrees_zero (with_reg regs (suc t) (known_of W64 value)) code
 agrees_with regs code (suc t) value (suc reg) small holds agrees = λ w v known.
     let set : get (with_reg regs (suc t) (known_of W64 value)) (suc reg) ≡ (if eq_by_cmp nat_cmp (suc reg) (suc t) then Some
-        (known_of W64 value) else get regs (suc reg)) =
+    (known_of W64 value) else get regs (suc reg)) =
     get-insert nat_cmp_total regs (suc t) (known_of W64 value) (suc reg) in
     ⊎_elim
     (λ (same : suc t ≡ suc reg).
@@ -118,7 +113,7 @@ agrees_with regs code (suc t) value (suc reg) small holds agrees = λ w v known.
     (subst (λ n. eq_by_cmp nat_cmp n (suc t) ≡ true) same (is_here (suc t)))) ∙ known_wide w value in
     ap (option_map (low w)) (subst (λ n. register code n ≡ Some value) same (holds (omega (arith, small, same)))) ∙ sym here ∙ known)
     (λ other. agrees w v (sym (ap (option_and_then (known_in w)) (set ∙
-        ap (λ b. if b then Some (known_of W64 value) else get regs (suc reg))
+    ap (λ b. if b then Some (known_of W64 value) else get regs (suc reg))
     (is_other (suc reg) (suc t) other))) ∙ known))
     (same_or_not (suc t) (suc reg))
 
@@ -128,67 +123,23 @@ agrees_all : (entries : List (ℕ × ℕ)) (regs : Regs) (code : List (Option �
 agrees_all [] regs code reg small holds agrees = agrees
 agrees_all (entry ∷ rest) regs code reg small holds agrees =
     agrees_all rest (with_reg regs entry.0 (known_of W64 entry.1)) code reg small holds.1
-        (agrees_with regs code entry.0 entry.1 reg small holds.0 agrees)
+    (agrees_with regs code entry.0 entry.1 reg small holds.0 agrees)
 
 agrees_empty : (code : List (Option ℕ)) (reg : ℕ) → Agrees empty code reg
 agrees_empty code zero = agrees_zero empty code
 agrees_empty code (suc reg) = λ w v known. absurd (let none : ◌≡◌ {A = Option ℕ} None (Some v) = sym (ap (option_and_then (known_in w))
     (get-empty nat_cmp (suc reg))) ∙ known in let no : ⊥ = cc in no)
 
+set : {hard : Type 0} {o : Option ℕ} → hard → o ≡ o
+set hard = refl
+
 -- what the function knows of a hard register
 pub agrees_at_entry : (frame locals : ℕ) (start : Start) (reg : ℕ) → reg < 32 →
     Agrees (func.entry_regs (seen_by_rtl frame locals start)) (lines.entry_regs start) reg
 agrees_at_entry frame locals start reg small =
-    agrees_all (func.entry_values (seen_by_rtl frame locals start)) empty (lines.entry_regs start) reg small (
-      λ hard. refl,
-      (
-        λ hard. refl,
-        (
-          λ hard. refl,
-          (
-            λ hard. refl,
-            (
-              λ hard. refl,
-              (
-                λ hard. refl,
-                (
-                  λ hard. refl,
-                  (
-                    λ hard. refl,
-                    (
-                      λ hard. refl,
-                      (
-                        λ hard. refl,
-                        (
-                          λ hard. refl,
-                          (
-                            λ hard. refl,
-                            (
-                              λ hard. refl,
-                              (
-                                λ hard. refl,
-                                (
-                                  λ hard. refl,
-                                  (
-                                    λ hard. refl,
-                                    (λ hard. refl, (λ hard. refl, (λ hard. refl, (λ hard. refl, (λ hard. refl, (λ hard. refl,
-                                        (λ hard. absurd (omega (arith, hard)), tt))))))),
-                                  ),
-                                ),
-                              ),
-                            ),
-                          ),
-                        ),
-                      ),
-                    ),
-                  ),
-                ),
-              ),
-            ),
-          ),
-        ),
-      ),
-    )
+    agrees_all (func.entry_values (seen_by_rtl frame locals start)) empty (lines.entry_regs start) reg small
+    (set also set also set also set also set also set also set also set also set also set also set also set also set also set also set also
+    set also set also set also set also set also set also set also (λ hard. absurd (omega (arith, hard))) also tt)
     (agrees_empty (lines.entry_regs start) reg)
 
 -- ---- the machine
@@ -209,80 +160,12 @@ word_of regs zero number all is = let same : 0 ≡ number = cc in omega (arith, 
 word_of regs (suc reg) number all is = word_in regs (suc reg) number all (sym (register_at regs (suc reg) (omega arith)) ∙ is)
 
 entry_words : (start : Start) → AreWords start → AllWords (lines.entry_regs start)
-entry_words start w = let a = w.args in let s = w.saved in (
-  omega arith,
-  (
-    w.ra,
-    (
-      w.sp,
-      (
-        tt,
-        (
-          tt,
-          (
-            tt,
-            (
-              tt,
-              (
-                tt,
-                (
-                  s 0 (omega arith),
-                  (
-                    s 1 (omega arith),
-                    (
-                      a 0 (omega arith),
-                      (
-                        a 1 (omega arith),
-                        (
-                          a 2 (omega arith),
-                          (
-                            a 3 (omega arith),
-                            (
-                              a 4 (omega arith),
-                              (
-                                a 5 (omega arith),
-                                (
-                                  a 6 (omega arith),
-                                  (
-                                    a 7 (omega arith),
-                                    (
-                                      s 2 (omega arith),
-                                      (
-                                        s 3 (omega arith),
-                                        (
-                                          s 4 (omega arith),
-                                          (
-                                            s 5 (omega arith),
-                                            (
-                                              s 6 (omega arith),
-                                              (
-                                                s 7 (omega arith),
-                                                (s 8 (omega arith), (s 9 (omega arith), (s 10 (omega arith), (s 11 (omega arith), (tt,
-                                                    (tt, (tt, (tt, tt)))))))),
-                                              ),
-                                            ),
-                                          ),
-                                        ),
-                                      ),
-                                    ),
-                                  ),
-                                ),
-                              ),
-                            ),
-                          ),
-                        ),
-                      ),
-                    ),
-                  ),
-                ),
-              ),
-            ),
-          ),
-        ),
-      ),
-    ),
-  ),
-)
+entry_words start w = let a = w.args in let s = w.saved in
+    omega arith also w.ra also w.sp also tt also tt also tt also tt also tt also s 0 (omega arith) also s 1 (omega arith) also
+    a 0 (omega arith) also a 1 (omega arith) also a 2 (omega arith) also a 3 (omega arith) also a 4 (omega arith) also
+    a 5 (omega arith) also a 6 (omega arith) also a 7 (omega arith) also s 2 (omega arith) also s 3 (omega arith) also
+    s 4 (omega arith) also s 5 (omega arith) also s 6 (omega arith) also s 7 (omega arith) also s 8 (omega arith) also
+    s 9 (omega arith) also s 10 (omega arith) also s 11 (omega arith) also tt also tt also tt also tt also tt
 
 entry_machine : (frame locals : ℕ) (start : Start) → IsLawful frame locals start → IsMachine (lines.entry start)
 entry_machine frame locals start lawful = record {

@@ -68,7 +68,7 @@ module _ (number : ℕ) (f : Function) (marks : MarksAreEmpty f) (ending items :
       (k : ℕ) × (func.taken f seen world n ≤ k) × SameOutcome f.result start (func.run_of f seen world n) (lines.run items start world k)
   follows all ended lawful lawful_world keeping keeps n good = reached n (
       machine.follow Running CodeOutcome (turns.turn world start.visible items) stopped one Any world f Related Good
-          (SameOutcome f.result start)
+      (SameOutcome f.result start)
       (record {
         stops = λ s t related. related.calls_are;
         steps = step_follows number f marks ending items start world Keeps Good all ended lawful_world keeping;

@@ -1,5 +1,5 @@
 -- ra, sp and s0 to s11 as lists of registers, and what the lines of a window do to them.
-use Rattle.std.proofs.Common.{◌≡◌, ℕ, ◌<◌, ◌==◌, ◌||◌, ◌⊎◌, inl, inr, ⊎_elim, arith, Bool, true, false, List, [], ◌∷◌, Option, refl, sym, subst}
+use Rattle.std.proofs.Common.{◌≡◌, ℕ, ◌<◌, ◌==◌, ◌||◌, ◌&&◌, not, nat_lt, ◌⊎◌, inl, inr, ⊎_elim, arith, Bool, true, false, List, [], ◌∷◌, Option, refl, sym, subst}
 use Rattle.std.proofs.lemmas.Bool.Decides.{nat_tests}
 use Rattle.rtx_tree.specs.RegSet.{has_reg}
 use Rattle.rtx_tree.specs.Registers.{is_call_used}
@@ -14,6 +14,7 @@ use Rattle.rv_line.specs.declared.state.RvState.{RvState}
 use Rattle.window_mean.specs.Insns.{InsnsCome}
 use Rattle.window_mean.specs.Same.{LinesDo}
 use Rattle.window_mean.specs.Uses.{window_defines}
+use Rattle.window_same.proofs.Small.{◌also◌}
 
 abbrev pub OfEach : (ℕ → Type 0) → List ℕ → Type 0
 OfEach P [] = Unit {0}
@@ -33,8 +34,8 @@ IsPreserved reg = (reg ≡ 1) ⊎ (is_call_used reg ≡ false)
 
 pub kept_reg : (reg : ℕ) → has_reg kept_registers reg ≡ true → IsPreserved reg
 kept_reg reg is = each_in IsPreserved kept_registers reg
-    (inl refl, (inr refl, (inr refl, (inr refl, (inr refl, (inr refl, (inr refl, (inr refl, (inr refl, (inr refl, (inr refl, (inr refl,
-        (inr refl, (inr refl, tt)))))))))))))) is
+    (inl refl also inr refl also inr refl also inr refl also inr refl also inr refl also inr refl also inr refl also inr refl also
+    inr refl also inr refl also inr refl also inr refl also inr refl also tt) is
 
 pub saved_same : (a b : List (Option ℕ)) → ((reg : ℕ) → has_reg kept_registers reg ≡ true → register a reg ≡ register b reg) →
     lines.saved_of a ≡ lines.saved_of b
@@ -50,24 +51,20 @@ pub record IsHard (reg : ℕ) : Type 0 where
   pub no_result : reg ≡ 10 → ⊥
   pub below : reg < 32
 
-hard : (reg : ℕ) → 0 < reg → (reg ≡ 10 → ⊥) → reg < 32 → IsHard reg
-hard reg some no_result below = record { some = some; no_result = no_result; below = below }
+abbrev IsTested : ℕ → Type 0
+IsTested reg = nat_lt 0 reg && (nat_lt reg 32 && not (reg == 10)) ≡ true
+
+hard_of : (reg : ℕ) → IsTested reg → IsHard reg
+hard_of reg is = record {
+  some = grind (arith, nat_tests, is);
+  no_result = λ same. grind (arith, nat_tests, is, same);
+  below = grind (arith, nat_tests, is);
+}
 
 pub kept_hard : (reg : ℕ) → has_reg kept_registers reg ≡ true → IsHard reg
-kept_hard reg is = each_in IsHard kept_registers reg
-    (hard 1 (omega arith) (λ is. omega (arith, is)) (omega arith), (hard 2 (omega arith) (λ is. omega (arith, is)) (omega arith),
-    (hard 8 (omega arith) (λ is. omega (arith, is)) (omega arith),
-    (hard 9 (omega arith) (λ is. omega (arith, is)) (omega arith),
-    (hard 18 (omega arith) (λ is. omega (arith, is)) (omega arith),
-    (hard 19 (omega arith) (λ is. omega (arith, is)) (omega arith),
-    (hard 20 (omega arith) (λ is. omega (arith, is)) (omega arith),
-    (hard 21 (omega arith) (λ is. omega (arith, is)) (omega arith),
-    (hard 22 (omega arith) (λ is. omega (arith, is)) (omega arith),
-    (hard 23 (omega arith) (λ is. omega (arith, is)) (omega arith),
-    (hard 24 (omega arith) (λ is. omega (arith, is)) (omega arith),
-    (hard 25 (omega arith) (λ is. omega (arith, is)) (omega arith),
-    (hard 26 (omega arith) (λ is. omega (arith, is)) (omega arith),
-    (hard 27 (omega arith) (λ is. omega (arith, is)) (omega arith), tt)))))))))))))) is
+kept_hard reg is = hard_of reg (each_in IsTested kept_registers reg
+    (refl also refl also refl also refl also refl also refl also refl also refl also refl also refl also refl also refl also refl also
+    refl also tt) is)
 
 -- what no instruction of a window defines, its lines leave
 pub lines_keep : (number : ℕ) (insns : List Insn) (ls : List Line) (Live : ℕ → Type 0) (world : World) (ranges : List RangeAt) (m : RvState)

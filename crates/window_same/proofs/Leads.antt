@@ -23,6 +23,7 @@ use Rattle.rtl_func.specs.Successors as flows
 use Rattle.rtl_func.specs.Successors.{successors_of, successors_by, flow_of, flow_by, flow_places, jump_flow}
 use Rattle.rtl_func.specs.declared.flow.Flow.{Flow}
 use Rattle.rtl_func.specs.declared.flow.Flow.TheVariants.{Falls, Goes, Branches, Stops}
+use Rattle.window_same.proofs.Small.{or_true}
 
 -- ---- jumps
 
@@ -79,10 +80,6 @@ module _ (symbols : List SymbolAt) (regs : Regs) (memory : List MemByte) where
 is_here : (n : ℕ) → (n == n) ≡ true
 is_here n = grind (arith, nat_tests)
 
-or_true : (b : Bool) → (b || true) ≡ true
-or_true true = refl
-or_true false = refl
-
 -- the places to which an instruction leads, by what its pattern says
 places_are : (insns : List Insn) (p : ℕ) (i : Insn) (flow : Flow) → slice_get insns p ≡ Some i → flow_of i ≡ flow →
     successors_of insns p ≡ flow_places insns p flow
@@ -113,7 +110,7 @@ way_leads : (insns : List Insn) (p : ℕ) (w : Way) (flow : Flow) → IsWayOf w 
 way_leads insns p _ _ (falls uid) are = falls_on (leads_next insns p (flows.label_places insns uid) are)
 way_leads insns p _ _ (branches uid) are = goes_on uid (λ q at.
     ap (λ l. has_place l q) (are ∙ ap (λ o. (p + 1) ∷ option_to_list o) at) ∙ ap (λ b. (p + 1 == q) || (b || false)) (is_here q) ∙
-        or_true (p + 1 == q))
+    or_true (p + 1 == q))
 way_leads insns p _ _ (goes uid) are = goes_on uid (λ q at.
     ap (λ l. has_place l q) (are ∙ ap (λ o. option_to_list o) at) ∙ ap (λ b. b || false) (is_here q))
 way_leads insns p _ _ (leaves flow) are = leaves_it

@@ -56,6 +56,7 @@ use Rattle.window_same.proofs.Quiet.{quiet_leaves}
 use Rattle.window_same.proofs.Replies.{agrees_after}
 use Rattle.window_same.proofs.Sets.{plain_keeps, jump_defines, call_defines}
 use Rattle.window_same.proofs.Steps.{IsKeeping}
+use Rattle.window_same.proofs.Small.{or_true, and_none, ◌also◌}
 
 -- ---- an instruction that no `set` of the function sets
 
@@ -71,14 +72,6 @@ none_in p (y ∷ xs) (suc k) x none there = none_in p xs k x (rest (p y) none) t
     rest : (b : Bool) → b || list_any p xs ≡ false → list_any p xs ≡ false
     rest true is = absurd (let no : ⊥ = cc in no)
     rest false is = is
-
-or_true : (b : Bool) → (b || true) ≡ true
-or_true true = refl
-or_true false = refl
-
-and_none : (b : Bool) → b && false ≡ false
-and_none true = refl
-and_none false = refl
 
 -- ---- what an instruction comes to
 
@@ -170,14 +163,18 @@ module _ (number : ℕ) (f : Function) (marks : MarksAreEmpty f) (named : SetsAr
       slice_get f.insns place ≡ Some i → has_reg kept_registers reg ≡ true → function_sets f reg ≡ false →
       insns_come world.symbols start.visible (i ∷ []) regs memory ≡ Some came → ((reg : ℕ) → IsKept came.ending reg) →
       (is_call_kind k ≡ false) × KnownBefore world.symbols start.visible i reg regs came.regs
-  known_by kind.Plain place reg i regs memory came is there kept unset comes stays = (refl,
-      plain_known world.symbols start.visible i reg regs memory (effects_of world.symbols regs memory i.pattern) came refl
-      (one_is world.symbols start.visible i kind.Plain regs memory came is comes)
-      (λ es are. plain_keeps world.symbols regs memory i.pattern es reg are (named place i there is) (kept_hard reg kept).some
-      (sets_none place reg i there unset)))
-  known_by kind.Jump place reg i regs memory came is there kept unset comes stays = (refl,
-      jump_known world.symbols start.visible i reg regs memory (jump_of world.symbols regs memory i.pattern) came refl
-      (one_is world.symbols start.visible i kind.Jump regs memory came is comes))
+  known_by kind.Plain place reg i regs memory came is there kept unset comes stays = (
+    refl,
+    plain_known world.symbols start.visible i reg regs memory (effects_of world.symbols regs memory i.pattern) came refl
+        (one_is world.symbols start.visible i kind.Plain regs memory came is comes)
+        (λ es are. plain_keeps world.symbols regs memory i.pattern es reg are (named place i there is) (kept_hard reg kept).some
+        (sets_none place reg i there unset)),
+  )
+  known_by kind.Jump place reg i regs memory came is there kept unset comes stays = (
+    refl,
+    jump_known world.symbols start.visible i reg regs memory (jump_of world.symbols regs memory i.pattern) came refl
+        (one_is world.symbols start.visible i kind.Jump regs memory came is comes),
+  )
   known_by kind.Call place reg i regs memory came is there kept unset comes stays =
       let call = is_call world.symbols start.visible i reg regs memory came is comes in
       let kept_too : is_call_used 1 ≡ false = subst (λ e. IsKept e 1) call.ends (stays 1) in absurd (let no : ⊥ = cc in no)
@@ -185,9 +182,11 @@ module _ (number : ℕ) (f : Function) (marks : MarksAreEmpty f) (named : SetsAr
       let none = one_is world.symbols start.visible i kind.Label regs memory came is comes in absurd (let no : ⊥ = cc in no)
   known_by kind.Barrier place reg i regs memory came is there kept unset comes stays =
       let one = one_is world.symbols start.visible i kind.Barrier regs memory came is comes in
-      let here : come_to regs memory window.Falls ≡ came = cc in
-      (refl, subst (λ (c : InsnsCome). KnownBefore world.symbols start.visible i reg regs c.regs) here
-      (λ w v known. (marks place reg i there (ap is_mark is), known)))
+      let here : come_to regs memory window.Falls ≡ came = cc in (
+        refl,
+        subst (λ (c : InsnsCome). KnownBefore world.symbols start.visible i reg regs c.regs) here
+            (λ w v known. (marks place reg i there (ap is_mark is), known)),
+      )
 
   defines_none : (i : Insn) (reg : ℕ) → (is_call_kind i.kind && is_call_used reg) ≡ false → pattern_defines reg i.pattern ≡ false →
       window_defines (i ∷ []) reg ≡ false
@@ -212,7 +211,7 @@ module _ (number : ℕ) (f : Function) (marks : MarksAreEmpty f) (named : SetsAr
       agrees_after came.regs w reply does.done.machine reg does.beside.second.long (λ preserved. λ v value known.
       ap (option_map (low v)) (lines_keep number (i ∷ []) ls (IsLiveBehind f place) world start.visible m came does reg kept
       (defines_none i reg (ap (λ b. is_call_kind i.kind && b) preserved ∙
-          and_none (is_call_kind i.kind)) (is.defines (kept_hard reg kept).no_result))) ∙
+      and_none (is_call_kind i.kind)) (is.defines (kept_hard reg kept).no_result))) ∙
       keeps reg kept unset v value (subst (λ (regs : Regs). reg_value regs reg v ≡ Some value) is.regs_are known))
 
   keeps_quiet : (place : ℕ) (i : Insn) (regs : Regs) (memory : List MemByte) (m : RvState) (effects : List Effect) →
@@ -243,7 +242,7 @@ module _ (number : ℕ) (f : Function) (marks : MarksAreEmpty f) (named : SetsAr
       reg_value regs reg W64 ≡ Some x → register m.regs reg ≡ Some x
   returns_with regs m is_machine keeps used reg x kept known =
       whole (register m.regs reg) x (λ n. is_machine.words reg n) (agrees_by regs m reg
-          (function_sets f reg) refl kept keeps used W64 x known)
+      (function_sets f reg) refl kept keeps used W64 x known)
 
   one_of : (xs ys : List (Option ℕ)) (k : ℕ) (x y : Option ℕ) → xs ≡ ys → slice_get xs k ≡ Some x → slice_get ys k ≡ Some y → x ≡ y
   one_of xs ys k x y same at_x at_y = let both : ◌≡◌ {A = Option (Option ℕ)} (Some x) (Some y) = sym at_x ∙ ap (λ l. slice_get l k) same ∙
@@ -254,16 +253,16 @@ module _ (number : ℕ) (f : Function) (marks : MarksAreEmpty f) (named : SetsAr
       has_reg kept_registers reg ≡ true → register m.regs reg ≡ register (lines.entry_regs start) reg
   returns_all s m is_machine keeps used left reg kept =
       let at : (k reg x : ℕ) → has_reg kept_registers reg ≡ true → slice_get (func.kept_of s.regs) k ≡ Some (reg_value s.regs reg W64) →
-          slice_get (found start) k ≡ Some (Some x) → register m.regs reg ≡ Some x = λ k reg x kept at_x at_y.
-          returns_with s.regs m is_machine keeps used reg x kept
-          (one_of (func.kept_of s.regs) (found start) k (reg_value s.regs reg W64) (Some x) left at_x at_y) in
+      slice_get (found start) k ≡ Some (Some x) → register m.regs reg ≡ Some x = λ k reg x kept at_x at_y.
+      returns_with s.regs m is_machine keeps used reg x kept
+      (one_of (func.kept_of s.regs) (found start) k (reg_value s.regs reg W64) (Some x) left at_x at_y) in
       let saved : ℕ → ℕ = λ k. slice_index start.saved k in
       each_in (λ reg. register m.regs reg ≡ register (lines.entry_regs start) reg) kept_registers reg
-      (at 1 1 start.ra refl refl refl, (at 0 2 start.sp refl refl refl, (at 2 8 (saved 0) refl refl refl, (at 3 9 (saved 1) refl refl refl,
-      (at 4 18 (saved 2) refl refl refl, (at 5 19 (saved 3) refl refl refl, (at 6 20 (saved 4) refl refl refl,
-      (at 7 21 (saved 5) refl refl refl, (at 8 22 (saved 6) refl refl refl, (at 9 23 (saved 7) refl refl refl,
-      (at 10 24 (saved 8) refl refl refl, (at 11 25 (saved 9) refl refl refl, (at 12 26 (saved 10) refl refl refl,
-      (at 13 27 (saved 11) refl refl refl, tt)))))))))))))) kept
+      (at 1 1 start.ra refl refl refl also at 0 2 start.sp refl refl refl also at 2 8 (saved 0) refl refl refl also
+      at 3 9 (saved 1) refl refl refl also at 4 18 (saved 2) refl refl refl also at 5 19 (saved 3) refl refl refl also
+      at 6 20 (saved 4) refl refl refl also at 7 21 (saved 5) refl refl refl also at 8 22 (saved 6) refl refl refl also
+      at 9 23 (saved 7) refl refl refl also at 10 24 (saved 8) refl refl refl also at 11 25 (saved 9) refl refl refl also
+      at 12 26 (saved 10) refl refl refl also at 13 27 (saved 11) refl refl refl also tt) kept
 
   keeping : IsKeeping number f marks ending items start world Keeps Good
   keeping = record {

@@ -1,3 +1,4 @@
+pub mod Small
 pub mod Simulation
 pub mod Turns
 pub mod Memories

@@ -47,7 +47,7 @@ within_with : (memory other : List MemByte) (at byte : ℕ) → Within memory ot
     Within (with_byte memory at byte) (with_byte other at byte)
 within_with memory other at byte within address b has = ⊎_elim
     (λ (same : address ≡ at). subst
-        (λ a. byte_at (with_byte memory at byte) a ≡ Some b → byte_at (with_byte other at byte) a ≡ Some b) (sym same)
+    (λ a. byte_at (with_byte memory at byte) a ≡ Some b → byte_at (with_byte other at byte) a ≡ Some b) (sym same)
     (within_here memory other at byte b (byte_at memory at) refl within) has)
     (λ differ. byte_at-with_byte_other other at byte address differ ∙
     within address b (sym (byte_at-with_byte_other memory at byte address differ) ∙ has))
@@ -57,7 +57,7 @@ pub within_written : (writes memory other : List MemByte) → Within memory othe
 within_written [] memory other within = within
 within_written (w ∷ writes) memory other within =
     within_written writes (with_byte memory w.address w.byte) (with_byte other w.address w.byte)
-        (within_with memory other w.address w.byte within)
+    (within_with memory other w.address w.byte within)
 
 -- ---- what is seen of it
 
@@ -78,4 +78,4 @@ visible_written ranges [] memory other same = same
 visible_written ranges (w ∷ writes) memory other same =
     visible_written ranges writes (with_byte memory w.address w.byte) (with_byte other w.address w.byte)
     (visible_with ranges other w.address w.byte ∙ ap (λ m. with_byte m w.address w.byte) same ∙
-        sym (visible_with ranges memory w.address w.byte))
+    sym (visible_with ranges memory w.address w.byte))

@@ -130,7 +130,7 @@ module _ (number : ℕ) (f : Function) (marks : MarksAreEmpty f) (ending : List 
           (items_of.returning line jump return returns) are refl
       by_items _ (items_of.window lines window) later =
           stays i.kind i insns place (map Code lines ++ more) (map Code lines) more refl window.is_none is path
-              (items_of.window lines window) are refl
+          (items_of.window lines window) are refl
 
 -- ---- labels
 
@@ -206,7 +206,7 @@ module _ (number : ℕ) (f : Function) (ending : List CodeItem) (uid place : ℕ
   at_label first i insns more false here small label small' are is later =
       found_later first i insns (Label number i.uid ∷ more) more
       (ap (λ b. if b then Some more else behind_label (label_text number uid) more) (label_test number i.uid uid small' small ∙
-          here)) (later is)
+      here)) (later is)
 
   pub found : (first : ℕ) (insns : List Insn) (items : List CodeItem) → IsUid uid → AreItemsFrom number f ending first insns items →
       position_from (is_label uid) first insns ≡ Some place → FoundIn first insns items
@@ -231,4 +231,4 @@ module _ (number : ℕ) (f : Function) (ending : List CodeItem) (uid place : ℕ
           other (Code line ∷ []) (kind_is_none kind.Jump uid i jump refl) refl later
       by_items _ (items_of.window lines window) later =
           other (map Code lines) (kind_is_none i.kind uid i refl (unmarked i.kind window.is_none)) (behind_lines
-              (label_text number uid) lines more) later
+          (label_text number uid) lines more) later

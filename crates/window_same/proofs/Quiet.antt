@@ -1,6 +1,6 @@
 -- A `use` or a `clobber` alone: memory is as it was, and what is known behind it was known before, of a register that it does not define.
-use Rattle.std.proofs.Common.{◌≡◌, ℕ, zero, suc, ℤ, pos, ◌<◌, ◌==◌, ◌||◌, ◌&&◌, not, arith, Bool, true, false, List, [], ◌∷◌, Option, Some, None, refl, sym, ap, subst, ◌∙◌}
-use Rattle.std.proofs.lemmas.Bool.Decides.{nat_tests, Decides-int_eq}
+use Rattle.std.proofs.Common.{◌≡◌, ℕ, zero, suc, ℤ, pos, ◌<◌, ◌==◌, ◌&&◌, not, arith, Bool, true, false, List, [], ◌∷◌, Option, Some, None, refl, sym, ap, subst, ◌∙◌}
+use Rattle.std.proofs.lemmas.Bool.Decides.{Decides-int_eq}
 use Rattle.std.specs.Prelude.{option_map, option_and_then, if◌then◌else◌}
 use Rattle.std.specs.Int.{cast_unsigned, w64}
 use Rattle.std.specs.Cmp.{nat_cmp_total}
@@ -21,6 +21,7 @@ use Rattle.rtl_step.specs.declared.effect.Effect.TheVariants.{Nothing, Unsets}
 use Rattle.rtl_step.specs.declared.regs.Known.{Known}
 use Rattle.reg_uses.specs.Effects.{is_register, place_is_by, effect_defines_by, effects_by, pattern_defines, all_define}
 use Rattle.window_same.specs.Items.{is_quiet}
+use Rattle.window_same.proofs.Small.{is_here, and_none, and_right, or_none}
 
 -- ---- a register that is unset
 
@@ -32,31 +33,22 @@ none_of : (b : Bool) (o : Option Known) (w : Width) (v : ℕ) → option_and_the
 none_of true o w v is = absurd (let no : ⊥ = cc in no)
 none_of false o w v is = (refl, is)
 
-is_here : (n : ℕ) → eq_by_cmp nat_cmp n n ≡ true
-is_here n = grind (arith, nat_tests)
-
 -- what is known where one is unset was known before, and is of another
 known_without : (regs : Regs) (r reg : ℕ) (w : Width) (v : ℕ) → 0 < reg → reg_value (without_reg regs r) reg w ≡ Some v →
     (reg ≡ r → ⊥) × (reg_value regs reg w ≡ Some v)
 known_without regs r zero w v some is = absurd (omega (arith, some))
 known_without regs r (suc reg) w v some is =
     let parts = none_of (eq_by_cmp nat_cmp (suc reg) r) (get regs (suc reg)) w v (sym (ap (option_and_then (known_in w)) (removed regs r
-        (suc reg))) ∙ is) in
-    (λ same. let no : true ≡ false = sym (is_here (suc reg)) ∙
-        subst (λ x. eq_by_cmp nat_cmp (suc reg) x ≡ false) (sym same) parts.0 in let none : ⊥ = cc in none, parts.1)
+    (suc reg))) ∙ is) in (
+      λ same. let no : true ≡ false = sym (is_here (suc reg)) ∙
+          subst (λ x. eq_by_cmp nat_cmp (suc reg) x ≡ false) (sym same) parts.0 in let none : ⊥ = cc in none,
+      parts.1,
+    )
 
 -- ---- which register that is
 
 same_number : (n : ℤ) (reg : ℕ) → int_eq n (pos reg) ≡ true → n ≡ pos reg
 same_number n reg is = (Decides-int_eq n (pos reg)).0 is
-
-and_none : (b : Bool) → b && false ≡ false
-and_none true = refl
-and_none false = refl
-
-and_right : (a b : Bool) → a && b ≡ true → b ≡ true
-and_right true b both = both
-and_right false b both = cc
 
 above_zero : (reg : ℕ) (b : Bool) → not (reg == 0) && b ≡ true → 0 < reg
 above_zero zero b is = absurd (let no : ⊥ = cc in no)
@@ -161,10 +153,6 @@ module _ (symbols : List SymbolAt) (regs : Regs) (memory : List MemByte) where
   alone_of Clobber kids x quiet = refl
   alone_of _ kids x quiet = absurd (let no : ⊥ = cc in no)
 
-  or_none : (b : Bool) → b || false ≡ b
-  or_none true = refl
-  or_none false = refl
-
   pub record QuietLeaves (x : Rtx) (effects : List Effect) : Type 0 where
     pub memory_is : memory_after effects memory ≡ memory
     pub known : (reg : ℕ) (w : Width) (v : ℕ) → reg_value (regs_after effects regs) reg w ≡ Some v →
@@ -177,8 +165,8 @@ module _ (symbols : List SymbolAt) (regs : Regs) (memory : List MemByte) where
       let one = effects_are (step.effect_of symbols regs memory x) effects (sym (alone_in (out-Rtx x).code x quiet) ∙ is) in
       let leaves = quiet_by (out-Rtx x).code (out-Rtx x).kids one.0 quiet one.1 in
       let defines : (reg : ℕ) → pattern_defines reg x ≡ effect_defines_by reg (out-Rtx x).code (out-Rtx x).kids = λ reg.
-          ap (all_define reg) (alone_of (out-Rtx x).code (out-Rtx x).kids x quiet) ∙
-              or_none (effect_defines_by reg (out-Rtx x).code (out-Rtx x).kids) in
+      ap (all_define reg) (alone_of (out-Rtx x).code (out-Rtx x).kids x quiet) ∙
+      or_none (effect_defines_by reg (out-Rtx x).code (out-Rtx x).kids) in
       subst (QuietLeaves x) one.2 (record {
         memory_is = leaves.memory_is;
         known = λ reg w v known. let parts = leaves.known regs reg w v known in (defines reg ∙ parts.0, parts.1);

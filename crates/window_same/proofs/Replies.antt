@@ -27,6 +27,7 @@ use Rattle.same_behaviour.proofs.Entry.{same_or_not}
 use Rattle.same_behaviour.proofs.Registers.{register_set, register_kept, length_written}
 use Rattle.window_mean.specs.Beside.{Agrees, Beside, IsMachine}
 use Rattle.window_same.proofs.Memories.{memory_written, within_written, visible_written}
+use Rattle.window_same.proofs.Small.{is_here, is_other}
 
 -- ---- the code's registers
 
@@ -159,12 +160,6 @@ kept_by false o v value is = (refl, is)
 got_after : (regs : Regs) (w : Width) (a reg : ℕ) → get (regs_replied regs w a) reg ≡ (if eq_by_cmp nat_cmp reg 10 then Some
     (known_of w a) else get (preserved regs) reg)
 got_after regs w a reg = get-insert nat_cmp_total (preserved regs) 10 (known_of w a) reg
-
-is_here : (n : ℕ) → eq_by_cmp nat_cmp n n ≡ true
-is_here n = grind (arith, nat_tests)
-
-is_other : (n k : ℕ) → k ≢ n → eq_by_cmp nat_cmp n k ≡ false
-is_other n k other = grind (arith, nat_tests, other)
 
 pub agrees_after : (regs : Regs) (w : Width) (reply : Reply) (m : RvState) (reg : ℕ) → length m.regs ≡ 32 →
     (is_call_used reg ≡ false → Agrees regs m.regs reg) → Agrees (regs_replied regs w reply.value) (after_call reply m).regs reg

@@ -57,10 +57,7 @@ use Rattle.window_same.proofs.Steps as steps
 use Rattle.window_same.proofs.Steps.{IsKeeping}
 use Rattle.window_same.proofs.Turns as turns
 use Rattle.window_same.proofs.Turns.{at}
-
-or_true : (b : Bool) → (b || true) ≡ true
-or_true true = refl
-or_true false = refl
+use Rattle.window_same.proofs.Small.{or_true}
 
 module _ (number : ℕ) (f : Function) (marks : MarksAreEmpty f) (ending items : List CodeItem) (start : Start) (world : World)
     (Keeps : Regs → RvState → Type 0) (Good : Outcome → Type 0) (all : AreItemsFrom number f ending 0 f.insns items)
@@ -91,14 +88,14 @@ module _ (number : ℕ) (f : Function) (marks : MarksAreEmpty f) (ending items :
   returns_good : (s : State) (t : Running) (line : Line) (more : List CodeItem) → Related s t →
       ((reg : ℕ) → return_uses f reg ≡ true → reg < 32 → Agrees s.regs t.machine.regs reg) → next_line t.rest ≡ Some (line, more) →
       IsReturnLine line → rtl_step.has_result f.result s.regs ≡ true → rtl_step.step world f s ≡ (rtl_ends.Returned, s) → EndsGood s →
-          Simulates s t
+      Simulates s t
   returns_good s t line more related used next returns has stepped good =
       let back = keeping.returns s t.machine related.beside.second related.keeps used (good rtl_ends.Returned s stepped refl) in
       let line_is = line_returns world line t.machine returns (back.0 ∙ ap Some (sym related.entry_is)) in
       machine.ends_there rtl_ends.Returned s 0 t (lines.returned start.visible (at [] t.machine t.replies t.calls)) stepped refl
-          (machine.stays t) tt
+      (machine.stays t) tt
       (turns.line_turns world start.visible items t.replies t.calls t.rest line more t.machine t.machine ends.Returned next line_is)
-          (omega arith) (
+      (omega arith) (
         same_result f.result s.regs t.machine.regs has (λ some. used 10 (result_used f some) (omega arith)),
         (related.beside.visible_is ∙ ap (λ v. visible v s.memory) (sym related.visible_is)),
         related.calls_are,
@@ -123,11 +120,11 @@ module _ (number : ℕ) (f : Function) (marks : MarksAreEmpty f) (ending items :
   one_comes i k s came kind_is comes stays =
       let further : InsnsCome → Option InsnsCome = λ came. window.goes_on came.ending came (insns_come world.symbols start.visible []) in
       ap (λ k. option_and_then further (insn_comes k world.symbols start.visible i s.regs s.memory)) kind_is ∙
-          ap (option_and_then further) comes ∙ stays
+      ap (option_and_then further) comes ∙ stays
 
   module _ (s : State) (t : Running) (place : ℕ) (i : Insn) (insns : List Insn) (ls : List Line) (more : List CodeItem)
       (w : steps.Window number f marks ending items start world Keeps Good all ended lawful keeping s t place i insns ls more)
-          (good : EndsGood s) where
+      (good : EndsGood s) where
     there : slice_get f.insns place ≡ Some i
     there = get_dropped f.insns place i insns w.chain
 
@@ -146,7 +143,7 @@ module _ (number : ℕ) (f : Function) (marks : MarksAreEmpty f) (ending items :
 
     jump_comes : (took : Way) → jump_of world.symbols s.regs s.memory i.pattern ≡ Some took → i.kind ≡ kind.Jump →
         window.goes_on (window.end_of_way took) (come_to s.regs s.memory (window.end_of_way took))
-            (insns_come world.symbols start.visible []) ≡
+        (insns_come world.symbols start.visible []) ≡
         Some (come_to s.regs s.memory (window.end_of_way took)) →
         insns_come world.symbols start.visible (i ∷ []) s.regs s.memory ≡ Some (come_to s.regs s.memory (window.end_of_way took))
     jump_comes took is jump stays = one_comes i kind.Jump s (come_to s.regs s.memory (window.end_of_way took)) jump
@@ -197,7 +194,7 @@ module _ (number : ℕ) (f : Function) (marks : MarksAreEmpty f) (ending items :
     window_at kind.Call is = call_at (result_width i.pattern)
         (event_of world.symbols s.regs s.memory start.visible i.pattern i.uses) refl refl is
         (stepped kind.Call is ∙ ap (λ v. rtl_step.after_event world s place (result_width i.pattern)
-            (event_of world.symbols s.regs s.memory v i.pattern i.uses))
+        (event_of world.symbols s.regs s.memory v i.pattern i.uses))
         w.related.visible_is)
     window_at kind.Label is = absurd (let no : true ≡ false = sym (ap rtl_step.is_mark is) ∙
         w.lines_are.is_none in let none : ⊥ = cc in none)
@@ -217,12 +214,12 @@ module _ (number : ℕ) (f : Function) (marks : MarksAreEmpty f) (ending items :
       EndsGood s → Simulates s t
   quiet_at s t place i insns more None are related passed path chain agree plain quiet rest_are next good =
       absurd (never s s (step_insn s place i kind.Plain passed (get_dropped f.insns place i insns chain) plain ∙
-          ap (rtl_step.after_effects s place) are) good)
+      ap (rtl_step.after_effects s place) are) good)
   quiet_at s t place i insns more (Some effects) are related passed path chain agree plain quiet rest_are next good =
       let there = get_dropped f.insns place i insns chain in
       let inside = within_dropped f.insns place i insns chain in
       let leads_there = leads_on f.insns place i there (λ jumps. let no : kind.Plain ≡ kind.Jump = sym plain ∙
-          jumps in let none : ⊥ = cc in none) in
+      jumps in let none : ⊥ = cc in none) in
       let left = quiet_leaves world.symbols s.regs s.memory i.pattern effects quiet are in
       let after : State = record s { next = place + 1; regs = regs_after effects s.regs; memory = memory_after effects s.memory } in
       let related_after : Related after t = record {
@@ -236,7 +233,7 @@ module _ (number : ℕ) (f : Function) (marks : MarksAreEmpty f) (ending items :
         beside = subst (λ memory. Beside start.visible memory t.machine) (sym left.memory_is) related.beside;
         agree = λ reg lives small width value known. let before = left.known reg width value known in
             agree reg (live.Passing place (place + 1) i there
-                (quiet_defines i reg plain before.0) leads_there lives) small width value before.1;
+            (quiet_defines i reg plain before.0) leads_there lives) small width value before.1;
         visible_is = related.visible_is;
         calls_are = related.calls_are;
         replies_are = related.replies_are;
@@ -244,7 +241,7 @@ module _ (number : ℕ) (f : Function) (marks : MarksAreEmpty f) (ending items :
         keeps = keeping.quiet place i s.regs s.memory t.machine effects there plain quiet are related.keeps;
       } in
       machine.goes_on rtl_ends.Next after 0 t (step_insn s place i kind.Plain passed there plain ∙
-          ap (rtl_step.after_effects s place) are) refl
+      ap (rtl_step.after_effects s place) are) refl
       (machine.stays t) (omega arith) related_after
 
   -- ---- whatever stands there
@@ -261,11 +258,11 @@ module _ (number : ℕ) (f : Function) (marks : MarksAreEmpty f) (ending items :
       returns_by s t line more (rtl_step.has_result f.result s.regs) refl related
       (λ reg uses small. agree reg (live.AtUse place i there (returns_use i reg return uses)) small) next returns
       (step_insn s place i kind.Jump passed there jump ∙
-          ap (rtl_step.after_jump f s place) (leaves i world.symbols s.regs s.memory return)) good
+      ap (rtl_step.after_jump f s place) (leaves i world.symbols s.regs s.memory return)) good
 
   insn_at : (s : State) (t : Running) (place : ℕ) (i : Insn) (insns : List Insn) (own more : List CodeItem) → Related s t →
       rtl_step.place_from f.insns s.next ≡ place → Path f.insns 0 place → drop place f.insns ≡ i ∷ insns →
-          LiveAgree place s.regs t.machine →
+      LiveAgree place s.regs t.machine →
       rtl_step.is_mark i.kind ≡ false → AreItemsAt number f place i own → AreItemsFrom number f ending (place + 1) insns more →
       next_line t.rest ≡ next_line (own ++ more) → EndsGood s → Simulates s t
   insn_at s t place i insns _ more related passed path chain agree none (items_of.label label small) rest_are next good =
@@ -274,7 +271,7 @@ module _ (number : ℕ) (f : Function) (marks : MarksAreEmpty f) (ending items :
       absurd (let no : true ≡ false = sym (ap rtl_step.is_mark barrier) ∙ none in let nothing : ⊥ = cc in nothing)
   insn_at s t place i insns _ more related passed path chain agree none (items_of.quiet plain quiet) rest_are next good =
       quiet_at s t place i insns more
-          (effects_of world.symbols s.regs s.memory i.pattern) refl related passed path chain agree plain quiet rest_are next good
+      (effects_of world.symbols s.regs s.memory i.pattern) refl related passed path chain agree plain quiet rest_are next good
   insn_at s t place i insns _ more related passed path chain agree none (items_of.returning line jump return returns) rest_are next good =
       return_at s t place i insns line more related passed chain agree jump return returns next good
   insn_at s t place i insns _ more related passed path chain agree none (items_of.window ls lines_are) rest_are next good =

@@ -56,7 +56,7 @@ module _ (number : ℕ) (f : Function) (for_lines : IsForLines f) (calls_nothing
     defined = λ good. good refl;
     does = λ place i ls regs memory m came there comes stays does keeps reg kept.
         lines_keep number (i ∷ []) ls (IsLiveBehind f place) world start.visible m came does reg kept
-            (defines_none place reg i there kept) ∙ keeps reg kept;
+        (defines_none place reg i there kept) ∙ keeps reg kept;
     quiet = λ place i regs memory m effects there plain quiet are keeps. keeps;
     replied = λ place i ls regs memory m came event w reply there call comes ends does keeps. absurd (calls_nothing place i there call);
     returns = λ s m is_machine keeps used good. (keeps 1 refl, saved_same m.regs (lines.entry_regs start) keeps);
@@ -67,6 +67,6 @@ pub items_are_same : (number least : ℕ) (f : Function) (items : List CodeItem)
     Same least f items
 items_are_same number least f items for_lines calls_nothing are = λ frame start world n enough lawful lawful_world defined.
     follows number f for_lines.marks are.ending items frame start world
-        (AreKept number f for_lines calls_nothing are.ending items start world)
+    (AreKept number f for_lines calls_nothing are.ending items start world)
     (IsDefined number f for_lines calls_nothing are.ending items start world) are.are are.ends lawful lawful_world
     (keeping number f for_lines calls_nothing are.ending items start world) (λ reg kept. refl) n defined

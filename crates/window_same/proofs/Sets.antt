@@ -6,7 +6,7 @@ use Rattle.std.specs.Cmp.{nat_cmp_total}
 use Rattle.std.specs.FinMap.{get, get-insert}
 use Rattle.std.specs.List.{All, list_any}
 use Rattle.std.specs.Int.{cast_unsigned, w64}
-use Rattle.std.specs.Ordering.{int_eq, nat_cmp, eq_by_cmp}
+use Rattle.std.specs.Ordering.{int_eq}
 use Rattle.std.specs.Prelude.{option_map, option_and_then, is_some}
 use Rattle.bits64.specs.declared.Width.{Width}
 use Rattle.bits64.specs.declared.Width.TheVariants.{W64}
@@ -35,18 +35,16 @@ use Rattle.rtl_step.specs.declared.regs.Known.{Known}
 use Rattle.reg_uses.specs.Effects.{place_is, place_is_by, effect_defines_by, effect_sets_by, effect_defines, effect_sets, effects_of, effects_by, all_define, pattern_defines}
 use Rattle.window_same.specs.Left.{IsNamed, IsSetNamed}
 use Rattle.window_same.proofs.Quiet.{Leaves, quiet_by, no_register, unset_is}
+use Rattle.window_same.proofs.Small.{is_other, or_none, or_false}
 
 -- ---- a register that another one leaves alone
-
-is_other : (n k : ℕ) → (k ≡ n → ⊥) → eq_by_cmp nat_cmp n k ≡ false
-is_other n k other = grind (arith, nat_tests, other)
 
 known_with : (regs : Regs) (t reg : ℕ) (k : Known) (w : Width) → (t ≡ reg → ⊥) → reg_value (with_reg regs t k) reg w ≡ reg_value regs reg w
 known_with regs zero reg k w other = refl
 known_with regs (suc t) zero k w other = refl
 known_with regs (suc t) (suc reg) k w other = ap (option_and_then (known_in w))
     (get-insert nat_cmp_total regs (suc t) k (suc reg) ∙
-        ap (λ b. if b then Some k else get regs (suc reg)) (is_other (suc reg) (suc t) other))
+    ap (λ b. if b then Some k else get regs (suc reg)) (is_other (suc reg) (suc t) other))
 
 module _ (symbols : List SymbolAt) (regs : Regs) (memory : List MemByte) where
   -- what an effect leaves known of a register
@@ -63,13 +61,16 @@ module _ (symbols : List SymbolAt) (regs : Regs) (memory : List MemByte) where
   set_by : (place : Rtx) (reg : ℕ) (target value : Option ℕ) (w : Width) (e : Effect) → register_of place ≡ target → IsNamed place →
       0 < reg →
       place_is reg place ≡ false → of_two (λ t value. Some (Sets t (known_of w value))) target value ≡ Some e →
-          Keeps reg (place_is reg place) e
+      Keeps reg (place_is reg place) e
   set_by place reg None value w e target_is named some none is = absurd (let no : ⊥ = cc in no)
   set_by place reg (Some t) None w e target_is named some none is = absurd (let no : ⊥ = cc in no)
   set_by place reg (Some t) (Some value) w e target_is named some none is = let here : Sets t (known_of w value) ≡ e = cc in
       subst (Keeps reg (place_is reg place)) here
-      (λ before w' v known. (none, sym (known_with before t reg (known_of w value) w'
-          (sets_other place reg t named target_is some none)) ∙ known))
+      (λ before w' v known. (
+        none,
+        sym (known_with before t reg (known_of w value) w'
+            (sets_other place reg t named target_is some none)) ∙ known,
+      ))
 
   stored_by : (place : Rtx) (reg : ℕ) (b : Bool) (w : Width) (at value : ℕ) (e : Effect) → place_is reg place ≡ false →
       (if b then Some (Stores w at value) else None) ≡ Some e → Keeps reg (place_is reg place) e
@@ -79,7 +80,7 @@ module _ (symbols : List SymbolAt) (regs : Regs) (memory : List MemByte) where
 
   stores_by : (place : Rtx) (reg : ℕ) (at value : Option ℕ) (w : Width) (e : Effect) → place_is reg place ≡ false →
       of_two (λ at value. if is_some (load w memory at) then Some (Stores w at value) else None) at value ≡ Some e →
-          Keeps reg (place_is reg place) e
+      Keeps reg (place_is reg place) e
   stores_by place reg None value w e none is = absurd (let no : ⊥ = cc in no)
   stores_by place reg (Some at) None w e none is = absurd (let no : ⊥ = cc in no)
   stores_by place reg (Some at) (Some value) w e none is = stored_by place reg (is_some (load w memory at)) w at value e none is
@@ -115,10 +116,6 @@ module _ (symbols : List SymbolAt) (regs : Regs) (memory : List MemByte) where
 
   -- ---- all effects
 
-  or_false : (a b : Bool) → a || b ≡ false → (a ≡ false) × (b ≡ false)
-  or_false false b none = (refl, none)
-  or_false true b none = absurd (let no : ⊥ = cc in no)
-
   abbrev AllKeep : List Rtx → List Effect → ℕ → Type 0
   AllKeep xs es reg = (before : Regs) (w : Width) (v : ℕ) → reg_value (regs_after es before) reg w ≡ Some v →
       (all_define reg xs ≡ false) × (reg_value before reg w ≡ Some v)
@@ -138,7 +135,7 @@ module _ (symbols : List SymbolAt) (regs : Regs) (memory : List MemByte) where
   all_by : (x : Rtx) (xs : List Rtx) (es : List Effect) (reg : ℕ) (e : Option Effect) (rest : Option (List Effect)) →
       step.effect_of symbols regs memory x ≡ e → step.all_effects symbols regs memory xs ≡ rest →
       option_and_then (λ e. option_map (λ es. e ∷ es) rest) e ≡ Some es →
-          ((e : Effect) → step.effect_of symbols regs memory x ≡ Some e → Keeps reg (effect_defines reg x) e) →
+      ((e : Effect) → step.effect_of symbols regs memory x ≡ Some e → Keeps reg (effect_defines reg x) e) →
       ((es : List Effect) → step.all_effects symbols regs memory xs ≡ Some es → AllKeep xs es reg) → AllKeep (x ∷ xs) es reg
   all_by x xs es reg None rest e_is rest_is is first later = absurd (let no : ⊥ = cc in no)
   all_by x xs es reg (Some e) None e_is rest_is is first later = absurd (let no : ⊥ = cc in no)
@@ -181,10 +178,6 @@ module _ (symbols : List SymbolAt) (regs : Regs) (memory : List MemByte) where
   abbrev IsAlone : ℕ → Code → List Rtx → Type 0
   IsAlone reg code kids = ((x : Rtx) → effects_by code kids x ≡ x ∷ []) × (effect_defines_by reg code kids ≡ false)
 
-  or_none : (b : Bool) → b || false ≡ b
-  or_none true = refl
-  or_none false = refl
-
   alone_defines : (x : Rtx) (reg : ℕ) → IsAlone reg (out-Rtx x).code (out-Rtx x).kids → pattern_defines reg x ≡ false
   alone_defines x reg alone = ap (all_define reg) (alone.0 x) ∙ or_none (effect_defines reg x) ∙ alone.1
 
@@ -221,7 +214,7 @@ module _ (symbols : List SymbolAt) (regs : Regs) (memory : List MemByte) where
       (λ x. refl, result_by (out-Rtx place).code (out-Rtx place).kids place reg refl other result)
   set_call false place source x address reg result other is target =
       absurd (let none : ◌≡◌ {A = Option Rtx} None (Some address) = sym (ap (λ c. target_by c (out-Rtx x).kids) is) ∙
-          target in let no : ⊥ = cc in no)
+      target in let no : ⊥ = cc in no)
 
   call_alone : (code : Code) (kids : List Rtx) (x address : Rtx) (reg : ℕ) → (out-Rtx x).code ≡ code → (reg ≡ 10 → ⊥) →
       target_of (call_by code kids x) ≡ Some address → IsAlone reg code kids
@@ -230,13 +223,13 @@ module _ (symbols : List SymbolAt) (regs : Regs) (memory : List MemByte) where
       set_call (is_result place) place source x address reg refl other is target
   call_alone _ kids x address reg is other target =
       absurd (let none : ◌≡◌ {A = Option Rtx} None (Some address) = sym (ap (λ c. target_by c (out-Rtx x).kids) is) ∙
-          target in let no : ⊥ = cc in no)
+      target in let no : ⊥ = cc in no)
 
   call_by_target : (x : Rtx) (reg : ℕ) (target : Option Rtx) (args : Option (List ArgValue)) (ranges : List RangeAt) (event : CallEvent) →
       target_of (call_part x) ≡ target → (reg ≡ 10 → ⊥) →
       of_two (λ target args. Some (record { target = target; args = args; memory = visible ranges memory }))
       (option_and_then (λ target. option_and_then aligned_target (value_of symbols regs memory target W64)) target) args ≡ Some event →
-          pattern_defines reg x ≡ false
+      pattern_defines reg x ≡ false
   call_by_target x reg None args ranges event target_is other is = absurd (let no : ⊥ = cc in no)
   call_by_target x reg (Some address) args ranges event target_is other is =
       alone_defines x reg (call_alone (out-Rtx x).code (out-Rtx x).kids x address reg refl other target_is)

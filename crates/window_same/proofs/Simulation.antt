@@ -124,13 +124,13 @@ module _ (T O : Type 0) (turn : T → Turned T O) (stop : T → O) (weight : T �
         func.run world f (suc n) s ≡ func.run world f n s'
     step_goes n s e s' is on =
         ap (λ (x : Stepped). func.go_on f x.0 x.1 (func.run world f n)) is ∙
-            ap (λ b. if b then func.run world f n s' else func.ended f e s') on
+        ap (λ b. if b then func.run world f n s' else func.ended f e s') on
 
     step_ends : (n : ℕ) (s : State) (e : StepEnd) (s' : State) → step world f s ≡ (e, s') → func.goes_on e ≡ false →
         func.run world f (suc n) s ≡ func.ended f e s'
     step_ends n s e s' is over =
         ap (λ (x : Stepped). func.go_on f x.0 x.1 (func.run world f n)) is ∙
-            ap (λ b. if b then func.run world f n s' else func.ended f e s') over
+        ap (λ b. if b then func.run world f n s' else func.ended f e s') over
 
     -- what a step counts is taken
     taken_goes : (n : ℕ) (e : StepEnd) (s' : State) → func.goes_on e ≡ true →

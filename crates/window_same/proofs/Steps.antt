@@ -63,6 +63,7 @@ use Rattle.window_same.proofs.Simulation as machine
 use Rattle.window_same.proofs.Turns as turns
 use Rattle.window_same.proofs.Simulation.{added}
 use Rattle.window_same.proofs.Turns.{turned_as, at, Any, stopped, one, Passes}
+use Rattle.window_same.proofs.Small.{or_left, or_none}
 
 -- ---- ends of windows
 
@@ -103,14 +104,6 @@ used_by : (a b : Bool) → (a || (not b && false)) ≡ true → a ≡ true
 used_by true b is = refl
 used_by false true is = is
 used_by false false is = is
-
-or_left : (a b : Bool) → a ≡ true → (a || b) ≡ true
-or_left true b is = refl
-or_left false b is = absurd (let no : ⊥ = cc in no)
-
-or_none : (b : Bool) → (b || false) ≡ b
-or_none true = refl
-or_none false = refl
 
 hard_by : (reg : ℕ) (b : Bool) → nat_lt 31 reg ≡ b → (31 < reg → ⊥) → reg < 32
 hard_by reg true is none = absurd (none (grind (arith, nat_tests, is)))
@@ -285,7 +278,7 @@ module _ (number : ℕ) (f : Function) (marks : MarksAreEmpty f) (ending items :
       -- it falls through
       falls_by : (e : LinesEnd) → e ≡ window.Falls → Passes world start.visible items t.replies t.calls t.rest t.machine more after e →
           came.ending ≡ insn_end.Falls → rtl_step.step world f s ≡ (rtl_ends.Next, behind (place + 1)) →
-              leads f.insns place (place + 1) ≡ true → Simulates s t
+          leads f.insns place (place + 1) ≡ true → Simulates s t
       falls_by _ is (turns.falls k rest next led) ends stepped leads_there =
           machine.goes_on rtl_ends.Next (behind (place + 1)) k (at rest after t.replies t.calls) stepped refl led (omega arith)
           (related_behind (place + 1) rest (at_next rest leads_there next) leads_there (λ reg. subst (λ e. IsKept e reg) (sym ends) tt))
@@ -319,7 +312,7 @@ module _ (number : ℕ) (f : Function) (marks : MarksAreEmpty f) (ending items :
       goes_by : (uid q : ℕ) (e : LinesEnd) → e ≡ window.Goes (label_text number uid) →
           Passes world start.visible items t.replies t.calls t.rest t.machine more after e →
           came.ending ≡ insn_end.Goes uid → IsUid uid → place_of uid f.insns ≡ Some q →
-              rtl_step.step world f s ≡ (rtl_ends.Jumped, behind q) →
+          rtl_step.step world f s ≡ (rtl_ends.Jumped, behind q) →
           leads f.insns place q ≡ true → Simulates s t
       goes_by uid q _ is (turns.falls k rest next led) ends small at_q stepped leads_there = absurd (let no : ⊥ = cc in no)
       goes_by uid q _ is (turns.goes k rest m' target led end) ends small at_q stepped leads_there =
@@ -327,10 +320,10 @@ module _ (number : ℕ) (f : Function) (marks : MarksAreEmpty f) (ending items :
           let same : target ≡ label_text number uid = cc in
           let last : turn (at rest m' t.replies t.calls) ≡ machine.Goes (at label.0 after t.replies t.calls) =
           end ∙ ap (λ o. turned_as (lines.jumped o (at [] after t.replies t.calls))) (ap (λ target. behind_label target items) same ∙
-              label.1) in
+          label.1) in
           machine.goes_on rtl_ends.Jumped (behind q) (added k 1) (at label.0 after t.replies t.calls) stepped refl
           (then_one k t (at rest m' t.replies t.calls) (at label.0 after t.replies t.calls) led last) (one_at_least k t
-              (at rest m' t.replies t.calls) led)
+          (at rest m' t.replies t.calls) led)
           (related_behind q label.0 label.2 leads_there (λ reg. subst (λ e. IsKept e reg) (sym ends) tt))
       goes_by uid q _ is (turns.calls k rest m' target led end) ends small at_q stepped leads_there = absurd (let no : ⊥ = cc in no)
       goes_by uid q _ is turns.returns ends small at_q stepped leads_there = absurd (let no : ⊥ = cc in no)
@@ -353,7 +346,7 @@ module _ (number : ℕ) (f : Function) (marks : MarksAreEmpty f) (ending items :
       related_called : (event : CallEvent) (w' : Width) (target : ℕ) (reply : Reply) (left : List Reply) →
           came.ending ≡ insn_end.Calls event w' →
           SameCall event (call_of start.visible target after) → t.replies ≡ reply ∷ left → i.kind ≡ kind.Call →
-              leads f.insns place (place + 1) ≡ true →
+          leads f.insns place (place + 1) ≡ true →
           Related (called event w' reply) (at more (after_call reply after) left (t.calls ++ call_of start.visible target after ∷ []))
       related_called event w' target reply left ends same replies_are is_call leads_there =
           let gone : drop (length s.calls) world.replies ≡ reply ∷ left = sym w.related.replies_are ∙ replies_are in
@@ -378,12 +371,12 @@ module _ (number : ℕ) (f : Function) (marks : MarksAreEmpty f) (ending items :
           rtl_step.step world f s ≡ rtl_step.after_reply (behind s.next) place w' event (rtl_step.next_reply world s) →
           turns.Moves world start.visible items k t (at rest' m' t.replies t.calls) →
           turn (at rest' m' t.replies t.calls) ≡ turned_as (lines.called start.visible target more (at [] after t.replies t.calls)) →
-              Simulates s t
+          Simulates s t
       answered event w' target k rest' m' [] none ends same is_call leads_there stepped led end =
           let gone : drop (length s.calls) world.replies ≡ [] = sym w.related.replies_are ∙ none in
           let made : List CodeCall = t.calls ++ call_of start.visible target after ∷ [] in
           machine.ends_there rtl_ends.Asked (record (behind s.next) { calls = s.calls ++ event ∷ [] }) k (at rest' m' t.replies t.calls)
-              (code.Asked made)
+          (code.Asked made)
           (stepped ∙ ap (rtl_step.after_reply (behind s.next) place w' event) (get_past world.replies (length s.calls) gone)) refl led tt
           (end ∙ ap (λ left. turned_as (lines.replied left more (at [] after left made))) none)
           (one_at_least k t (at rest' m' t.replies t.calls) led)
@@ -394,15 +387,15 @@ module _ (number : ℕ) (f : Function) (marks : MarksAreEmpty f) (ending items :
           let t'' : Running = at more (after_call reply after) left made in
           machine.goes_on rtl_ends.Called (called event w' reply) (added k 1) t''
           (stepped ∙ ap (rtl_step.after_reply (behind s.next) place w' event) (get_dropped world.replies
-              (length s.calls) reply left gone)) refl
+          (length s.calls) reply left gone)) refl
           (then_one k t (at rest' m' t.replies t.calls) t'' led (end ∙
-              ap (λ left. turned_as (lines.replied left more (at [] after left made))) some))
+          ap (λ left. turned_as (lines.replied left more (at [] after left made))) some))
           (one_at_least k t (at rest' m' t.replies t.calls) led)
           (related_called event w' target reply left ends same some is_call leads_there)
 
       calls_by : (event : CallEvent) (w' : Width) (e : LinesEnd) (call : CallEnd start.visible after event e) →
           Passes world start.visible items t.replies t.calls t.rest t.machine more after e → came.ending ≡ insn_end.Calls event w' →
-              i.kind ≡ kind.Call →
+          i.kind ≡ kind.Call →
           leads f.insns place (place + 1) ≡ true →
           rtl_step.step world f s ≡ rtl_step.after_reply (behind s.next) place w' event (rtl_step.next_reply world s) → Simulates s t
       calls_by event w' _ call (turns.falls k rest next led) ends is_call leads_there stepped = let is = call.is in
@@ -412,7 +405,7 @@ module _ (number : ℕ) (f : Function) (marks : MarksAreEmpty f) (ending items :
       calls_by event w' _ call (turns.calls k rest m' target led end) ends is_call leads_there stepped =
           let is = call.is in let same : call.target ≡ target = cc in
           answered event w' target k rest m' t.replies refl ends (subst
-              (λ x. SameCall event (call_of start.visible x after)) same call.same_call)
+          (λ x. SameCall event (call_of start.visible x after)) same call.same_call)
           is_call leads_there stepped led end
       calls_by event w' _ call turns.returns ends is_call leads_there stepped = let is = call.is in absurd (let no : ⊥ = cc in no)
 

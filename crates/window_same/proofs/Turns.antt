@@ -26,6 +26,7 @@ use Rattle.window_mean.specs.Lines.{LinesEnd, LinesCome, lines_come, line_goes_o
 use Rattle.window_same.specs.Items.{is_call, calls_last}
 use Rattle.window_same.proofs.Simulation as machine
 use Rattle.window_same.proofs.Simulation.{Turned, turned_on}
+use Rattle.window_same.proofs.Small.{and_right}
 
 -- a turn of the run of lines
 abbrev pub turned_as : lines.Turn → Turned Running CodeOutcome
@@ -86,10 +87,6 @@ alone : (line l : Line) (ls : List Line) → is_call (action_of line) ≡ true �
 alone line l ls calls last =
     let both : not true && calls_last (l ∷ ls) ≡ true = sym (ap (λ b. not b && calls_last (l ∷ ls)) calls) ∙ last in cc
 
-and_right : (a b : Bool) → a && b ≡ true → b ≡ true
-and_right true b both = both
-and_right false b both = cc
-
 last_behind : (line : Line) (ls : List Line) → calls_last (line ∷ ls) ≡ true → calls_last ls ≡ true
 last_behind line [] last = refl
 last_behind line (l ∷ ls) last = and_right (not (is_call (action_of line))) (calls_last (l ∷ ls)) last
@@ -138,7 +135,7 @@ module _ (world : World) (ranges : List RangeAt) (items : List CodeItem) where
           Passes rest before more m window.Falls
       goes : (k : ℕ) (rest' : List CodeItem) (m' : RvState) (target : List ℕ) → Moves k (here rest before) (here rest' m') →
           turn (here rest' m') ≡ turned_as (lines.jumped (behind_label target items) (here [] m)) →
-              Passes rest before more m (window.Goes target)
+          Passes rest before more m (window.Goes target)
       calls : (k : ℕ) (rest' : List CodeItem) (m' : RvState) (target : ℕ) → Moves k (here rest before) (here rest' m') →
           turn (here rest' m') ≡ turned_as (lines.called ranges target more (here [] m)) → Passes rest before more m (window.Calls target)
       returns : Passes rest before more m window.Returns
@@ -247,7 +244,7 @@ module _ (world : World) (ranges : List RangeAt) (items : List CodeItem) where
         let whole : List CodeItem = Code line ∷ (map Code ls ++ more) in
         as_done whole m more (window.come_to after (window.Goes line.target)) done comes
         (goes 0 whole m line.target (machine.stays (here whole m)) (line_turns whole line
-            (map Code ls ++ more) m after ends.Jumped refl is))
+        (map Code ls ++ more) m after ends.Jumped refl is))
     by_end line ls more m after (ends.Called target) done last is comes later =
         as_done (Code line ∷ (map Code ls ++ more)) m more (window.come_to after (window.Calls target)) done comes
         (at_call line ls more m after target last is)

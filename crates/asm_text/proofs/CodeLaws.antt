@@ -1,5 +1,5 @@
 -- What a name comes to, it comes to alone, and a function with its code is one of the assembly's.
-use Rattle.std.proofs.Common.{◌≡◌, ℕ, Bool, true, false, List, Result, Ok, Err, Option, Some, None, is_some, refl, sym, ap, subst, ◌∙◌}
+use Rattle.std.proofs.Common.{◌≡◌, ℕ, true, List, length, Result, Ok, Err, Option, Some, None, is_some, refl, sym, ap, subst, ◌∙◌}
 use Rattle.std.specs.Prelude.{slice_get}
 use Rattle.rtx_tree.specs.declared.function.Function.{Function}
 use Rattle.rv_text.specs.declared.line.CodeItem.{CodeItem}
@@ -16,7 +16,7 @@ use Rattle.asm_text.specs.Assembly.{Outcome, AssemblyComes}
 use Rattle.asm_text.specs.Compile.{FunctionsCome, InputComes}
 use Rattle.asm_text.specs.Code.{Answer, Gives, place_named, has_named, IsCodedAt, NameComes, CodeComes, IsCoded}
 use Rattle.asm_text.proofs.OneAssembly.{one_assembly, one_coming, one_coming_of}
-use Rattle.asm_text.proofs.Laws.{is_assembly, are_parts}
+use Rattle.asm_text.proofs.Laws.{is_assembly, are_parts, parts_count}
 
 -- ---- one answer
 
@@ -70,6 +70,10 @@ module _ (forms : List Entry) where
   pub has_assembly : (functions : List Function) (o : Outcome) (a : Assembly) → o ≡ Ok a → FunctionsCome forms functions o → HasAssembly functions a
   has_assembly functions _ a is (FunctionsComeTo.refused e first) = absurd (let none : ⊥ = cc in none)
   has_assembly functions _ a is (FunctionsComeTo.admitted o none own) = record { admitted = none; own = subst (AssemblyComes forms functions) is own }
+
+  -- each of them has its part
+  pub parts_of : (functions : List Function) (a : Assembly) → FunctionsCome forms functions (Ok a) → length a.parts ≡ length functions
+  parts_of functions a comes = let has = has_assembly functions (Ok a) a refl comes in parts_count forms 0 functions a (is_assembly forms functions a has.own)
 
   coded_of : (bytes name : List ℕ) (c : Coded) (functions : List Function) (a : Answer) → IsRead bytes functions → a ≡ Ok c → NameComes forms functions name a → IsCoded forms bytes name c
   coded_of bytes name c functions _ reads is (NameComes.unnamed missing) = absurd (let none : ⊥ = cc in none)

@@ -90,4 +90,4 @@ within_from forms number size _ _ a within is (AreWritten.goes_on _ _ f function
 
 -- the text is no longer than an assembly may be
 pub is_within : (forms : List Entry) (functions : List Function) (a : Assembly) → AssemblyComes forms functions (Ok a) → length a.text ≤ most_output
-is_within forms functions a comes = within_from forms 0 0 functions (Ok a) a (omega arith) refl comes
+is_within forms functions a comes = let all : 0 + length a.text ≤ most_output = within_from forms 0 0 functions (Ok a) a (omega arith) refl comes in omega (arith, all)

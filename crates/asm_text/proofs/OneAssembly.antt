@@ -16,7 +16,7 @@ use Rattle.asm_text.specs.Compile.{FunctionsCome, InputComes}
 
 module _ (forms : List Entry) where
   not_both : {P : Type 0} (f : Function) (e : Refusal) (g : Function) → AfterComes forms f (Err e) → AfterComes forms f (Ok g) → P
-  not_both f e g refused after = absurd (let same : ◌≡◌ {A = Answer} (Err e) (Ok g) = one_after forms f (Err e) (Ok g) refused after in let never : ⊥ = cc in never)
+  not_both f e g wrong after = absurd (let same : ◌≡◌ {A = Answer} (Err e) (Ok g) = one_after forms f (Err e) (Ok g) wrong after in let never : ⊥ = cc in never)
 
   same_err : (e d : Refusal) → ◌≡◌ {A = Answer} (Err e) (Err d) → ◌≡◌ {A = PieceOutcome} (Err e) (Err d)
   same_err e d is = ap (λ (x : Refusal). Err x) (let same : e ≡ d = cc in same)

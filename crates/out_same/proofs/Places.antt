@@ -10,6 +10,7 @@ use Rattle.rtx_tree.specs.Tree.{head_of}
 use Rattle.rv_text.specs.declared.line.Line.{Line}
 use Rattle.rv_text.specs.declared.line.CodeItem.{CodeItem}
 use Rattle.rv_text.specs.declared.line.CodeItem.TheVariants as item
+use Rattle.md_desc.specs.declared.output.Chosen.{Chosen}
 use Rattle.md_forms.specs.declared.form.Entry.{Entry}
 use Rattle.live.specs.Live.{IsLiveAfter, AreLiveAfter}
 use Rattle.form_needs.specs.Needs.{is_kind, is_note, needs_form, is_held, is_label, is_silent}
@@ -33,7 +34,7 @@ compared f place live are reg behind =
     ap (λ b. b && has_reg live reg) small ∙ (are.each reg).1 behind.0
 
 module _ (forms : List Entry) (number : ℕ) (f : Function) (ready : IsReady f) where
-  lines_by : (place : ℕ) (i : Insn) (lines : List Line) (c : written.Chosen) → slice_get f.insns place ≡ Some i → AreInsnLines forms number f place i c lines → (b : Bool) → both_return (i ∷ []) (Lines number lines) ≡ b →
+  lines_by : (place : ℕ) (i : Insn) (lines : List Line) (c : Chosen) → slice_get f.insns place ≡ Some i → AreInsnLines forms number f place i c lines → (b : Bool) → both_return (i ∷ []) (Lines number lines) ≡ b →
       AreItemsAt number f place i (map item.Code lines)
   lines_by place i lines c stands are true returns =
       let back = both_returning number i lines returns in

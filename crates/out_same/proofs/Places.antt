@@ -17,7 +17,7 @@ use Rattle.form_needs.specs.Needs.{is_kind, is_note, needs_form, is_held, is_lab
 use Rattle.sym_diff.specs.Registers.{is_live}
 use Rattle.equate.specs.Side.{Lines, both_return}
 use Rattle.equate.proofs.VerdictLaws.{verdict_same}
-use Rattle.equate.proofs.Soundness.{equated_does}
+use Rattle.equate.proofs.Soundness.{few_do}
 use Rattle.asm_out.specs.Written as written
 use Rattle.asm_out.specs.Written.{AreInsnLines, AreWritten}
 use Rattle.window_same.specs.Items.{IsLiveBehind, AreItemsAt, AreItemsFrom}
@@ -46,7 +46,7 @@ module _ (forms : List Entry) (number : ℕ) (f : Function) (ready : IsReady f) 
         is_none = hard.is_none;
         last = runs_last number lines alike.second alike.runs_second;
         hard = hard.hard;
-        same = equated_does (i ∷ []) number lines are.live are.equated goes_on (IsLiveBehind f place) (compared f place are.live are.live_after);
+        same = few_do (i ∷ []) number lines are.live are.equated goes_on (IsLiveBehind f place) (compared f place are.live are.live_after);
       })
 
   -- ---- the others

@@ -1,23 +1,25 @@
 -- What the calls have done, from what their parts did.
-use Rattle.std.proofs.Common.{◌≡◌, ℕ, ◌+◌, true, false, List, ◌∷◌, [], ◌++◌, length, Some, Ok, Err, Result, refl, sym, ap, subst, ◌∙◌}
+use Rattle.std.proofs.Common.{◌≡◌, ℕ, ◌+◌, Bool, true, false, not, ◌&&◌, map, List, ◌∷◌, [], ◌++◌, length, Some, Ok, Err, refl, sym, ap, subst, ◌∙◌}
 use Rattle.std.specs.Prelude.{if◌then◌else◌, nat_le}
 use Rattle.rtx_tree.specs.declared.function.Insn.{Insn}
 use Rattle.rtx_tree.specs.declared.function.Function.{Function}
 use Rattle.rv_text.specs.declared.line.Line.{Line}
 use Rattle.rv_text.specs.declared.line.CodeItem.{CodeItem}
+use Rattle.rv_text.specs.declared.line.CodeItem.TheVariants as item
 use Rattle.md_forms.specs.declared.form.Entry.{Entry}
 use Rattle.md_forms.specs.Forms.{names_of}
 use Rattle.md_desc.specs.declared.output.Chosen.{Chosen}
 use Rattle.form_needs.specs.Needs.{name_at}
 use Rattle.equate.specs.Side.{Lines}
-use Rattle.equate.specs.Verdict.{Verdict, Same}
+use Rattle.equate.specs.Verdict.{Verdict}
 use Rattle.equate.specs.Equated.{verdict, Equated}
 use Rattle.asm_out.specs.declared.piece.Piece.{Piece}
 use Rattle.asm_out.specs.declared.refusal.OutRefusal.{OutRefusal}
+use Rattle.asm_out.specs.Filled.{text_of, written}
 use Rattle.asm_out.specs.Refused.{most_output, too_long, refused_by, unmatched_insn}
-use Rattle.asm_out.specs.Outcome.{Outcome, RefusesWith, Gives, Appends}
+use Rattle.asm_out.specs.Outcome.{Outcome, RefusesWith, Appends}
 use Rattle.asm_out.specs.Comes.{IsTried, PlaceComes, code_piece, limited}
-use Rattle.asm_out.specs.machine.Steps.{IsRefusal, Judges}
+use Rattle.asm_out.specs.machine.Steps.{IsRefusal}
 use Rattle.asm_out.proofs.Refusing.{refuses_map, refuses_as}
 
 -- a piece that is too long
@@ -46,6 +48,18 @@ module _ (forms : List Entry) (number : ℕ) (f : Function) (place : ℕ) (i : I
   -- and one that does not
   pub judged_same : (piece : Piece) → Equated (i ∷ []) (Lines number lines) live → piece ≡ code_piece forms number i c lines → PlaceComes forms number f place i (Ok piece)
   judged_same piece same is = subst (λ (p : Piece). PlaceComes forms number f place i (Ok p)) (sym is) (PlaceComes.equated c lines live tried same)
+
+-- the piece of an instruction, by its text and its lines
+pub code_piece_is : (forms : List Entry) (number : ℕ) (i : Insn) (c : Chosen) (lines ls : List Line) (t : List ℕ) (piece : Piece) →
+    piece ≡ record { text = written t; items = map item.Code ls } → t ≡ text_of forms number i c → ls ≡ lines → piece ≡ code_piece forms number i c lines
+code_piece_is forms number i c lines ls t piece is texts same =
+    is ∙ (ap (λ (t : List ℕ). record { text = written t; items = map item.Code ls }) texts ∙ ap (λ (ls : List Line). record { text = written (text_of forms number i c); items = map item.Code ls }) same)
+
+-- what is neither a label nor silent needs a form
+pub not_silent : (label needs : Bool) → label ≡ false → (not label && not needs) ≡ false → needs ≡ true
+not_silent true needs l s = cc
+not_silent false true l s = refl
+not_silent false false l s = cc
 
 -- what a verdict refuses, or the like
 pub judges_refused : (uid : ℕ) (rule : List ℕ) (v : Verdict) (e : OutRefusal) → refused_by uid rule v ≡ Some e → RefusesWith e (IsRefusal uid rule v)

@@ -4,6 +4,7 @@ pub mod PlacesLaws
 pub mod Sorted
 pub mod LineLaws
 pub mod PlaceOne
+pub mod ReadLaws
 pub mod Calls
 pub mod WrittenLaws
 pub mod SpelledLaws

@@ -1,9 +1,10 @@
 -- The lines of a text: which they are, and that each is a line of the table where they are equated with an instruction.
-use Rattle.std.proofs.Common.{◌≡◌, ◌≢◌, ℕ, ◌+◌, Bool, true, false, ◌&&◌, List, [], ◌∷◌, Option, Some, None, refl, sym, ap, subst, ◌∙◌}
-use Rattle.std.specs.Prelude.{if◌then◌else◌}
+use Rattle.std.proofs.Common.{◌≡◌, ◌≢◌, ℕ, ◌+◌, Bool, true, false, ◌&&◌, List, [], ◌∷◌, Option, Some, None, refl, sym, ap, ◌∙◌}
+use Rattle.std.specs.Prelude.{if◌then◌else◌, option_and_then}
 use Rattle.std.specs.List.{AllZip}
 use Rattle.rtx_tree.specs.declared.function.Insn.{Insn}
-use Rattle.rv_text.specs.Lines.{action_of}
+use Rattle.rv_text.specs.Table.{row_named, table}
+use Rattle.rv_text.specs.Lines.{is_of_row, action_of}
 use Rattle.rv_text.specs.Text.{IsTextOf}
 use Rattle.rv_text.specs.declared.action.Action.{Action}
 use Rattle.rv_text.specs.declared.line.Line.{Line}
@@ -16,7 +17,7 @@ use Rattle.sym_state.specs.State.{start}
 use Rattle.sym_insns.specs.Run as insns
 use Rattle.equate.specs.Verdict.{Same}
 use Rattle.equate.specs.Side.{Lines, returns_by, is_one_return, is_one_return_line, both_return}
-use Rattle.equate.specs.Equated.{judged, told, Equated}
+use Rattle.equate.specs.Equated.{judged, Equated}
 use Rattle.asm_out.specs.Filled.{IsReadAs, no_line}
 
 -- ---- one list of lines
@@ -49,11 +50,11 @@ fits_acting (Some a) rest h = λ is. let never : ⊥ = cc in never
 
 good_acting : (index : ℕ) (ls : List Line) → bad_from index ls ≡ None → AreActing ls
 good_acting index [] h = tt
-good_acting index (line ∷ ls) h = go (fits_action (action_of line) ls) refl h
+good_acting index (line ∷ ls) h = go (λ h. good_acting (index + 1) ls h) (fits_action (action_of line) ls) refl h
   where
-    go : (b : Bool) → fits_action (action_of line) ls ≡ b → (if b then bad_from (index + 1) ls else Some index) ≡ None → (action_of line ≢ None) × AreActing ls
-    go true is h = (fits_acting (action_of line) ls is, good_acting (index + 1) ls h)
-    go false is h = cc
+    go : (bad_from (index + 1) ls ≡ None → AreActing ls) → (b : Bool) → fits_action (action_of line) ls ≡ b → (if b then bad_from (index + 1) ls else Some index) ≡ None → (action_of line ≢ None) × AreActing ls
+    go rest true is h = (fits_acting (action_of line) ls is, rest h)
+    go rest false is h = cc
 
 runs_good : (bad : Option ℕ) (after : Option State) (s : State) → ran bad after ≡ Runs s → bad ≡ None
 runs_good (Some index) after s h = cc
@@ -90,10 +91,17 @@ equated_acting before number ls live h = go (both_return before (Lines number ls
         let runs = judged_runs true live (insns.run before) (lines.run number ls) h in
         good_acting 0 ls (runs_good (bad_line ls) (run_from number 0 ls start) runs.0 runs.1)
 
+none_named : row_named [] ≡ None
+unfolding table
+none_named = refl
+
+no_action : action_of no_line ≡ None
+no_action = ap (option_and_then (λ row. if is_of_row row no_line then Some row.action else None)) none_named
+
 -- so they are the texts' own
 read_acting : (text : List ℕ) (line : Line) → IsReadAs text line → action_of line ≢ None → IsTextOf text line
 read_acting text line (IsReadAs.spelled x) acts = x
-read_acting text line (IsReadAs.unread none is) acts = absurd (acts (ap action_of is))
+read_acting text line (IsReadAs.unread none is) acts = absurd (acts (ap action_of is ∙ no_action))
 
 pub read_all : (texts : List (List ℕ)) (ls : List Line) → AllZip IsReadAs texts ls → AreActing ls → AllZip IsTextOf texts ls
 read_all [] [] zipped acts = tt

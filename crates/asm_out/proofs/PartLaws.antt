@@ -1,5 +1,5 @@
 -- The parts of a function's text, one behind the other.
-use Rattle.std.proofs.Common.{◌≡◌, ℕ, ◌+◌, ◌≤◌, Bool, true, false, leb, List, [], ◌∷◌, ◌++◌, length, Result, Ok, Err, refl, sym, ap, subst, ◌∙◌, append_assoc, arith}
+use Rattle.std.proofs.Common.{◌≡◌, ℕ, ◌+◌, ◌≤◌, Bool, true, false, List, [], ◌∷◌, ◌++◌, length, Result, Ok, Err, refl, sym, ap, subst, ◌∙◌, append_assoc, arith}
 use Rattle.std.specs.Prelude.{if◌then◌else◌, nat_le}
 use Rattle.std.proofs.lemmas.List.{append-nil, length-append}
 use Rattle.std.proofs.lemmas.Bool.{leb-true}
@@ -38,15 +38,15 @@ pub behind_err : (a : Piece) (o : Outcome) (e : OutRefusal) → outcome_behind a
 behind_err a (Ok b) e h = cc
 behind_err a (Err d) e h = h
 
-abbrev Same : Outcome → Outcome → Type 0
-Same a b = a ≡ b
+abbrev pub Alike : Outcome → Outcome → Type 0
+Alike a b = a ≡ b
 
 -- what is within the limit is what came
 pub limited_ok : (size : ℕ) (o : Outcome) (piece : Piece) → limited size o ≡ Ok piece → (o ≡ Ok piece) × (size + length piece.text ≤ most_output)
 limited_ok size (Err e) piece h = cc
 limited_ok size (Ok a) piece h = go (nat_le (size + length a.text) most_output) refl h
   where
-    go : (b : Bool) → nat_le (size + length a.text) most_output ≡ b → Same (if b then Ok a else Err too_long) (Ok piece) → Same (Ok a) (Ok piece) × (size + length piece.text ≤ most_output)
+    go : (b : Bool) → nat_le (size + length a.text) most_output ≡ b → Alike (if b then Ok a else Err too_long) (Ok piece) → Alike (Ok a) (Ok piece) × (size + length piece.text ≤ most_output)
     go true is h = (h, let same : a ≡ piece = cc in subst (λ (p : Piece). size + length p.text ≤ most_output) same (leb-true (size + length a.text) most_output is))
     go false is h = cc
 
@@ -63,7 +63,7 @@ module _ (comes : Part → Outcome → Type 0) where
   then_by _ _ ys _ piece o (PartsCome.goes_on size p parts o' first rest here lim tail) h more =
       let last = behind_ok first rest piece h in
       let sizes : size + length piece.text ≡ (size + length first.text) + length last.0.text =
-          omega (arith, ap (λ (p : Piece). length p.text) last.2, length-append first.text last.0.text) in
+      omega (arith, ap (λ (p : Piece). length p.text) last.2, length-append first.text last.0.text) in
       let rest_come = then_by (size + length first.text) parts ys rest last.0 o tail last.1 (subst (λ n. PartsCome comes n ys o) sizes more) in
       subst (PartsCome comes size (p ∷ (parts ++ ys))) (sym (behind_joined first last.0 o) ∙ ap (λ (p : Piece). outcome_behind p o) last.2)
       (PartsCome.goes_on size p (parts ++ ys) o' first (outcome_behind last.0 o) here lim rest_come)

@@ -9,10 +9,9 @@ use Rattle.rv_text.specs.declared.line.Line.{Line}
 use Rattle.md_forms.specs.declared.form.Entry.{Entry}
 use Rattle.md_forms.specs.Forms.{names_of}
 use Rattle.md_desc.specs.declared.output.Chosen.{Chosen}
-use Rattle.md_desc.specs.Recog.{IsChosen, NoneMatchesOut}
+use Rattle.md_desc.specs.Recog.{NoneMatchesOut}
 use Rattle.md_output.specs.Filled.{lines_of}
-use Rattle.live.specs.Live.{AreLiveAfter}
-use Rattle.form_needs.specs.Needs.{is_kind, is_note, is_label, needs_form, is_held, output_facts, name_at}
+use Rattle.form_needs.specs.Needs.{is_kind, is_note, is_label, is_held, output_facts, name_at}
 use Rattle.form_needs.proofs.OneChosen.{chosen_one, chosen_not}
 use Rattle.equate.specs.Side.{Lines}
 use Rattle.equate.specs.Verdict.{Verdict}
@@ -121,8 +120,13 @@ module _ (forms : List Entry) (number : ℕ) (f : Function) (place : ℕ) (i : I
       (inr (record { c = c; lines = lines; live = live; tried = tried; is = sym (ap (λ r. outcome_by r (code_piece forms number i c lines)) is) }))
   body_of _ (PlaceComes.equated c lines live tried is) =
       as_asked OfForm (Ok (code_piece forms number i c lines)) (form_asks (is_label i.kind) (is_kind i.kind) (is_note (head_of i.pattern).code) (is_held i) (apart_kinds i.kind) tried.needs tried.free)
-      (inr (record { c = c; lines = lines; live = live; tried = tried;
-        is = sym (ap (λ (v : Verdict). outcome_by (refused_by i.uid (name_at (names_of forms) c.form) v) (code_piece forms number i c lines)) is) }))
+      (inr (record {
+        c = c;
+        lines = lines;
+        live = live;
+        tried = tried;
+        is = sym (ap (λ (v : Verdict). outcome_by (refused_by i.uid (name_at (names_of forms) c.form) v) (code_piece forms number i c lines)) is);
+      }))
 
   -- ---- one outcome
 

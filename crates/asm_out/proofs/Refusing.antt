@@ -1,5 +1,5 @@
 -- Refusals with a property.
-use Rattle.std.proofs.Common.{◌≡◌, Err, sym, subst}
+use Rattle.std.proofs.Common.{Err}
 use Rattle.asm_out.specs.declared.refusal.OutRefusal.{OutRefusal}
 use Rattle.asm_out.specs.declared.refusal.OutRefusal.TheVariants as refusal
 use Rattle.asm_out.specs.Outcome.{Outcome, RefusesWith}

@@ -1,6 +1,6 @@
 -- Increasing numbers are given by which they are.
 use Rattle.std.proofs.Common.{◌≡◌, ◌⊎◌, inl, inr, ℕ, suc, ◌+◌, ◌<◌, Bool, true, false, ◌||◌, eqb, List, [], ◌∷◌, refl, sym, ap, subst, ◌∙◌, eq-eqb, arith}
-use Rattle.std.specs.Prelude.{◌↔◌, slice_index}
+use Rattle.std.specs.Prelude.{slice_index}
 use Rattle.std.specs.List.Sorted.{IsStrictlyIncreasing}
 use Rattle.std.proofs.lemmas.Bool.{or_cases, or_left, eqb-true, false≢true}
 use Rattle.rtx_tree.specs.declared.function.Function.{Function}
@@ -39,7 +39,7 @@ same_sets (x ∷ xs) (y ∷ ys) up up' same =
     let first : x ≡ y = heads in
     let with_x : IsStrictlyIncreasing (x ∷ ys) = subst (λ z. IsStrictlyIncreasing (z ∷ ys)) (sym first) up' in
     let rest = same_sets xs ys (tail_up x xs up) (tail_up y ys up')
-        (λ reg. behind_first (eqb x reg) (has_reg xs reg) (has_reg ys reg) (not_behind x xs reg up) (not_behind x ys reg with_x) (same reg ∙ ap (λ z. eqb z reg || has_reg ys reg) (sym first))) in
+    (λ reg. behind_first (eqb x reg) (has_reg xs reg) (has_reg ys reg) (not_behind x xs reg up) (not_behind x ys reg with_x) (same reg ∙ ap (λ z. eqb z reg || has_reg ys reg) (sym first))) in
     ap (λ z. z ∷ xs) first ∙ ap (λ (zs : List ℕ). y ∷ zs) rest
   where
     in_other : (eqb y x ≡ true) ⊎ (has_reg ys x ≡ true)

@@ -1,5 +1,5 @@
 -- What a function comes to is what is written of it.
-use Rattle.std.proofs.Common.{◌≡◌, ℕ, ◌+◌, ◌≤◌, List, [], ◌∷◌, ◌++◌, length, map, Ok, Err, refl, sym, ap, subst, ◌∙◌, append_assoc, arith}
+use Rattle.std.proofs.Common.{◌≡◌, ℕ, ◌+◌, ◌≤◌, List, [], ◌∷◌, ◌++◌, length, Ok, refl, sym, ap, subst, ◌∙◌, append_assoc, arith}
 use Rattle.std.proofs.lemmas.List.{length-append}
 use Rattle.rtx_tree.specs.declared.function.Insn.{Insn}
 use Rattle.rtx_tree.specs.declared.function.Function.{Function}
@@ -7,14 +7,14 @@ use Rattle.rv_text.specs.declared.line.CodeItem.{CodeItem}
 use Rattle.md_forms.specs.declared.form.Entry.{Entry}
 use Rattle.md_output.specs.Filled.{lines_of}
 use Rattle.asm_out.specs.declared.piece.Piece.{Piece}
-use Rattle.asm_out.specs.Frame.{opening_lines, closing_line, framed}
+use Rattle.asm_out.specs.Frame.{opening_lines, closing_line}
 use Rattle.asm_out.specs.Filled.{text_of}
 use Rattle.asm_out.specs.Refused.{most_output}
-use Rattle.asm_out.specs.Outcome.{Outcome, nothing, only_text, joined, outcome_behind}
-use Rattle.asm_out.specs.Comes.{PlaceComes, label_piece, code_piece, Part, Opening, Place, Closing, PartComes, PartsCome, places_from, parts_of, limited, FunctionComes}
-use Rattle.asm_out.specs.Written.{AreInsnLines, AreWritten, IsWritten}
+use Rattle.asm_out.specs.Outcome.{Outcome, nothing, only_text, joined}
+use Rattle.asm_out.specs.Comes.{PlaceComes, label_piece, code_piece, Part, Opening, Place, Closing, PartComes, PartsCome, places_from, FunctionComes}
+use Rattle.asm_out.specs.Written.{AreWritten, IsWritten}
 use Rattle.asm_out.proofs.LineLaws.{read_all, equated_acting}
-use Rattle.asm_out.proofs.PartLaws.{joined_nothing, behind_ok, limited_ok, parts_within}
+use Rattle.asm_out.proofs.PartLaws.{Alike, joined_nothing, behind_ok, limited_ok, parts_within}
 
 -- the first of some parts came to a piece, and the others to another behind it
 record Cut (comes : Part → Outcome → Type 0) (size : ℕ) (p : Part) (parts : List Part) (piece : Piece) : Type 0 where
@@ -72,7 +72,7 @@ module _ (forms : List Entry) (number : ℕ) (f : Function) where
       }
 
   -- something more in front
-  put_first : (place : ℕ) (i : Insn) (insns : List Insn) (first rest piece made : Piece) → Ok made ≡ Ok first → joined first rest ≡ piece → (chain : Chain (place + 1) insns rest) →
+  put_first : (place : ℕ) (i : Insn) (insns : List Insn) (first rest piece made : Piece) → Alike (Ok made) (Ok first) → joined first rest ≡ piece → (chain : Chain (place + 1) insns rest) →
       AreWritten forms number f place (i ∷ insns) (made.text ++ chain.body) (made.items ++ rest.items) → Chain place (i ∷ insns) piece
   put_first place i insns first rest piece made h both chain are =
       let same : made ≡ first = cc in

@@ -22,8 +22,10 @@ use Rattle.asm_out.specs.Outcome.{Outcome, only_text, nothing, outcome_behind}
 
 -- ---- instructions
 
--- what is compared for an instruction at a place: the form that is chosen for it, the lines of its text, and the registers that are live behind it
-pub record IsTried (forms : List Entry) (number : ℕ) (f : Function) (place : ℕ) (i : Insn) (c : Chosen) (lines : List Line) (live : List ℕ) : Type 0 where
+-- what is compared for an instruction at a place: the form that is chosen for it, the lines of its text, and the registers that are live
+-- behind it
+pub record IsTried (forms : List Entry) (number : ℕ) (f : Function) (place : ℕ) (i : Insn)
+    (c : Chosen) (lines : List Line) (live : List ℕ) : Type 0 where
   pub needs : needs_form i ≡ true
   pub free : is_held i ≡ false
   pub chosen : IsChosen forms output_facts i.pattern c
@@ -37,16 +39,19 @@ code_piece forms number i c lines = record { text = written (text_of forms numbe
 abbrev pub label_piece : ℕ → ℕ → Piece
 label_piece number uid = record { text = label_line number uid; items = item.Label number uid ∷ [] }
 
--- What an item at a place of a function's chain comes to. A label has its line; a barrier, and a use or a clobber alone, nothing; an instruction the lines of
--- the first form that counts, where they are equated with it over the registers that are live behind it.
+-- What an item at a place of a function's chain comes to. A label has its line; a barrier, and a use or a clobber alone, nothing; an
+-- instruction the lines of the first form that counts, where they are equated with it over the registers that are live behind it.
 pub data PlaceComes (forms : List Entry) (number : ℕ) (f : Function) (place : ℕ) (i : Insn) : Outcome → Type 0 where
   label : is_label i.kind ≡ true → i.uid < 2 ^ 32 → PlaceComes forms number f place i (Ok (label_piece number i.uid))
   silent : is_silent i ≡ true → PlaceComes forms number f place i (Ok nothing)
   held : needs_form i ≡ true → is_held i ≡ true → PlaceComes forms number f place i (Err (unmatched_insn i))
-  unmatched : needs_form i ≡ true → is_held i ≡ false → NoneMatchesOut forms output_facts i.pattern → PlaceComes forms number f place i (Err (unmatched_insn i))
+  unmatched : needs_form i ≡ true → is_held i ≡ false → NoneMatchesOut forms output_facts i.pattern →
+      PlaceComes forms number f place i (Err (unmatched_insn i))
   refused : (c : Chosen) (lines : List Line) (live : List ℕ) (e : OutRefusal) → IsTried forms number f place i c lines live →
-      refused_by i.uid (name_at (names_of forms) c.form) (verdict (i ∷ []) (Lines number lines) live) ≡ Some e → PlaceComes forms number f place i (Err e)
-  equated : (c : Chosen) (lines : List Line) (live : List ℕ) → IsTried forms number f place i c lines live → Equated (i ∷ []) (Lines number lines) live →
+      refused_by i.uid (name_at (names_of forms) c.form) (verdict (i ∷ []) (Lines number lines) live) ≡ Some e →
+      PlaceComes forms number f place i (Err e)
+  equated : (c : Chosen) (lines : List Line) (live : List ℕ) → IsTried forms number f place i c lines live →
+      Equated (i ∷ []) (Lines number lines) live →
       PlaceComes forms number f place i (Ok (code_piece forms number i c lines))
 
 -- ---- functions
@@ -77,9 +82,11 @@ limited size (Err e) = Err e
 -- what parts come to behind a text of a size: their pieces in order, or the first refusal
 pub data PartsCome (comes : Part → Outcome → Type 0) : ℕ → List Part → Outcome → Type 0 where
   none : (size : ℕ) → PartsCome comes size [] (Ok nothing)
-  refused : (size : ℕ) (p : Part) (parts : List Part) (o : Outcome) (e : OutRefusal) → comes p o → limited size o ≡ Err e → PartsCome comes size (p ∷ parts) (Err e)
-  goes_on : (size : ℕ) (p : Part) (parts : List Part) (o : Outcome) (piece : Piece) (rest : Outcome) → comes p o → limited size o ≡ Ok piece →
-      PartsCome comes (size + length piece.text) parts rest → PartsCome comes size (p ∷ parts) (outcome_behind piece rest)
+  refused : (size : ℕ) (p : Part) (parts : List Part) (o : Outcome) (e : OutRefusal) → comes p o → limited size o ≡ Err e →
+      PartsCome comes size (p ∷ parts) (Err e)
+  goes_on : (size : ℕ) (p : Part) (parts : List Part) (o : Outcome) (piece : Piece) (rest : Outcome) → comes p o →
+      limited size o ≡ Ok piece → PartsCome comes (size + length piece.text) parts rest →
+      PartsCome comes size (p ∷ parts) (outcome_behind piece rest)
 
 -- what a function with a number comes to behind a text of a size
 abbrev pub FunctionComes : List Entry → ℕ → Function → ℕ → Outcome → Type 0

@@ -1,5 +1,5 @@
--- What is written of a function: its frame of lines, and in it for each label its line, and for each instruction that needs a form the filled template of
--- the first that counts, the lines of which are equated with the instruction over what is live behind it.
+-- What is written of a function: its frame of lines, and in it for each label its line, and for each instruction that needs a form the
+-- filled template of the first that counts, the lines of which are equated with the instruction over what is live behind it.
 use Rattle.std.specs.Prelude.{◌≡◌, ◌<◌, ◌^◌, ℕ, ◌+◌, true, false, List, [], ◌∷◌, ◌++◌, map}
 use Rattle.std.specs.List.{AllZip}
 use Rattle.rtx_tree.specs.declared.function.Insn.{Insn}
@@ -20,9 +20,10 @@ use Rattle.asm_out.specs.declared.piece.Piece.{Piece}
 use Rattle.asm_out.specs.Frame.{framed, label_line}
 use Rattle.asm_out.specs.Filled.{text_of, written}
 
--- the lines of an instruction at a place of a function: those of the filled template of the first form that counts, with the lowest enabled alternative that
--- fits; and they are equated with the instruction over the registers that are live behind it
-pub record AreInsnLines (forms : List Entry) (number : ℕ) (f : Function) (place : ℕ) (i : Insn) (c : Chosen) (lines : List Line) : Type 0 where
+-- the lines of an instruction at a place of a function: those of the filled template of the first form that counts, with the lowest
+-- enabled alternative that fits; and they are equated with the instruction over the registers that are live behind it
+pub record AreInsnLines (forms : List Entry) (number : ℕ) (f : Function) (place : ℕ) (i : Insn)
+    (c : Chosen) (lines : List Line) : Type 0 where
   pub needs : needs_form i ≡ true
   pub free : is_held i ≡ false
   pub chosen : IsChosen forms output_facts i.pattern c

@@ -86,8 +86,9 @@ fn write_parts(
 }
 
 /// Appends the assembly of a function with a number, and the lines and labels that it spells: for each label its line, and for each
-/// instruction that needs a form the filled template of the first that counts at output, with the lowest enabled alternative that fits, where
-/// its lines are equated with the instruction. The chain is written as it stands. After a refusal what was appended before it stays.
+/// instruction that needs a form the filled template of the first that counts at output, with the lowest enabled alternative that
+/// fits, where its lines are equated with the instruction. The chain is written as it stands. After a refusal what was appended
+/// before it stays.
 ///
 /// # Errors
 ///
@@ -110,8 +111,8 @@ pub fn write_function(
         FunctionComes forms number f size (Ok piece) → IsWritten forms number f piece }
     ensures within { (forms : List Entry) (number : ℕ) (f : Function) (size : ℕ) (piece : Piece) →
         FunctionComes forms number f size (Ok piece) → size + length piece.text ≤ most_output }
-    ensures spelled { (forms : List Entry) (number : ℕ) (f : Function) (place : ℕ) (insns : List Insn) (text : List ℕ) (items : List CodeItem) →
-        number < 2 ^ 32 → AreWritten forms number f place insns text items → Spells text items }
+    ensures spelled { (forms : List Entry) (number : ℕ) (f : Function) (place : ℕ) (insns : List Insn) (text : List ℕ)
+        (items : List CodeItem) → number < 2 ^ 32 → AreWritten forms number f place insns text items → Spells text items }
 {
     write_parts(alloc, description, number, f, out, items)
 }

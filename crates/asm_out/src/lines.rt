@@ -47,7 +47,14 @@ pub fn text_of(
     let mut text = Vec::new(alloc);
     if let Some(template) = template_at(description.forms().as_slice(), chosen.form) {
         let operands = &chosen.operands;
-        fill(template, chosen.alternative, operands, number, insn.uid, &mut text)?;
+        fill(
+            template,
+            chosen.alternative,
+            operands,
+            number,
+            insn.uid,
+            &mut text,
+        )?;
     }
     Ok(text)
 }

@@ -37,6 +37,12 @@ fn insn_piece(
     }
 }
 
+fn is_label(insn: &Insn) -> bool
+    ensures { result ≡ needs.is_label insn.now.kind }
+{
+    matches!(insn.kind, Kind::Label)
+}
+
 /// What an item at a place comes to.
 fn item_piece(
     alloc: Global,
@@ -50,7 +56,7 @@ fn item_piece(
     requires { AreLiveRows f.now rows.now }
     ensures { Gives result (PlaceComes description.now number f.now place insn.now) }
 {
-    if matches!(insn.kind, Kind::Label) {
+    if is_label(insn) {
         return Ok(label(alloc, number, insn.uid)?);
     }
     if is_silent(insn) {
@@ -98,7 +104,17 @@ pub fn write_places(
         (PartsCome (PartComes description.now number f.now) (length out.old.items) (places_from 0 f.now.insns)) }
 {
     for (place, insn) in f.insns.as_slice().iter().enumerate() {
-        write_place(alloc, description, number, f, rows, place as u32, insn, out, items)?;
+        write_place(
+            alloc,
+            description,
+            number,
+            f,
+            rows,
+            place as u32,
+            insn,
+            out,
+            items,
+        )?;
     }
     Ok(())
 }

@@ -57,8 +57,8 @@ abbrev pub is_call : Kind → Bool
 is_call Call = true
 is_call _ = false
 
--- No pass gives registers their homes, makes a frame or saves what a call changes yet. So no form counts at output for an instruction that has
--- need of that.
+-- No pass gives registers their homes, makes a frame or saves what a call changes yet. So no form counts at output for an instruction
+-- that has need of that.
 abbrev pub is_held : Insn → Bool
 is_held i = is_call i.kind || names_homeless i.pattern
 

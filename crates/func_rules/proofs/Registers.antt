@@ -20,7 +20,7 @@ use Rattle.rv_regs.specs.Registers.{kept_registers}
 use Rattle.reg_uses.specs.Effects.{pattern_defines, pattern_uses}
 use Rattle.reg_uses.specs.Uses.{has_argument, insn_uses, insn_defines}
 use Rattle.window_mean.specs.Uses.{window_uses}
-use Rattle.form_needs.specs.Needs.{is_homeless, names_step, names_homeless}
+use Rattle.form_needs.specs.Needs.{is_homeless, homeless_step, names_homeless}
 use Rattle.rtl_print.proofs.TreeText.{rtx_induction}
 use Rattle.func_rules.proofs.Nodes.{all_pass}
 use Rattle.func_rules.proofs.Mentions.{defined_stands, used_stands}
@@ -77,7 +77,7 @@ any_in_map f (x ∷ xs) = ap (λ rest. f x || rest) (any_in_map f xs)
 
 homeless_out : (x : Rtx) → names_homeless x ≡ (is_homeless (head_of x).code (head_of x).number || list_any names_homeless (kids_of x))
 homeless_out x =
-    fold_out-Rtx Bool (names_step is_homeless) x
+    fold_out-Rtx Bool homeless_step x
     ∙ ap (λ rest. is_homeless (head_of x).code (head_of x).number || rest) (any_in_map names_homeless (kids_of x))
 
 module _ (reg : ℕ) (above : 31 < reg) where

@@ -16,7 +16,7 @@ use Rattle.rtl_func.specs.Uids.{is_ruled_kind}
 use Rattle.rtl_step.specs.Step.{is_mark}
 use Rattle.window_same.specs.Items.{is_quiet}
 use Rattle.window_same.specs.ForLines.{CallsNothing}
-use Rattle.form_needs.specs.Needs.{is_kind, is_note, is_label, is_call, is_framed, needs_form, names_homeless, is_held, is_silent}
+use Rattle.form_needs.specs.Needs.{is_kind, is_note, is_label, is_call, needs_form, names_homeless, is_held, is_silent}
 use Rattle.func_rules.specs.Admitted.{StandsAt, IsWellFormed}
 use Rattle.func_rules.specs.ForLines.{UsesHard, IsQuiet, NoneHeld}
 use Rattle.func_rules.proofs.Registers.{window_uses_none}
@@ -56,8 +56,8 @@ module _ (f : Function) (is : IsWellFormed f) (place : ℕ) (i : Insn) (at : Sta
   -- what gives nothing at output
   pub silent_is_quiet : is_silent i ≡ true → IsQuiet i
   silent_is_quiet silent = by i.kind refl
-      (turned (is_label i.kind) (and_parts (not (is_label i.kind)) _ silent).0)
-      (turned (needs_form i) (and_parts (not (needs_form i)) (not (is_framed i)) (and_parts (not (is_label i.kind)) _ silent).1).0)
+      (turned (is_label i.kind) (and_parts (not (is_label i.kind)) (not (needs_form i)) silent).0)
+      (turned (needs_form i) (and_parts (not (is_label i.kind)) (not (needs_form i)) silent).1)
     where
       by : (k : Kind) → i.kind ≡ k → is_label k ≡ false → (is_kind k && not (is_note (head_of i.pattern).code)) ≡ false → IsQuiet i
       by kind.Plain same other free = inr (same, note_is_quiet (head_of i.pattern).code (untold (is_note (head_of i.pattern).code) free))

@@ -10,13 +10,14 @@ use Rattle.rtx_tree.specs.Tree.{head_of}
 use Rattle.rv_text.specs.declared.line.Line.{Line}
 use Rattle.rv_text.specs.declared.line.CodeItem.{CodeItem}
 use Rattle.rv_text.specs.declared.line.CodeItem.TheVariants as item
+use Rattle.md_desc.specs.declared.output.Chosen.{Chosen}
 use Rattle.md_forms.specs.declared.form.Entry.{Entry}
 use Rattle.live.specs.Live.{IsLiveAfter, AreLiveAfter}
 use Rattle.form_needs.specs.Needs.{is_kind, is_note, needs_form, is_held, is_label, is_silent}
 use Rattle.sym_diff.specs.Registers.{is_live}
 use Rattle.equate.specs.Side.{Lines, both_return}
 use Rattle.equate.proofs.VerdictLaws.{verdict_same}
-use Rattle.equate.proofs.Soundness.{equated_does}
+use Rattle.equate.proofs.Soundness.{few_do}
 use Rattle.asm_out.specs.Written as written
 use Rattle.asm_out.specs.Written.{AreInsnLines, AreWritten}
 use Rattle.window_same.specs.Items.{IsLiveBehind, AreItemsAt, AreItemsFrom}
@@ -33,7 +34,7 @@ compared f place live are reg behind =
     ap (λ b. b && has_reg live reg) small ∙ (are.each reg).1 behind.0
 
 module _ (forms : List Entry) (number : ℕ) (f : Function) (ready : IsReady f) where
-  lines_by : (place : ℕ) (i : Insn) (lines : List Line) (c : written.Chosen) → slice_get f.insns place ≡ Some i → AreInsnLines forms number f place i c lines → (b : Bool) → both_return (i ∷ []) (Lines number lines) ≡ b →
+  lines_by : (place : ℕ) (i : Insn) (lines : List Line) (c : Chosen) → slice_get f.insns place ≡ Some i → AreInsnLines forms number f place i c lines → (b : Bool) → both_return (i ∷ []) (Lines number lines) ≡ b →
       AreItemsAt number f place i (map item.Code lines)
   lines_by place i lines c stands are true returns =
       let back = both_returning number i lines returns in
@@ -45,7 +46,7 @@ module _ (forms : List Entry) (number : ℕ) (f : Function) (ready : IsReady f) 
         is_none = hard.is_none;
         last = runs_last number lines alike.second alike.runs_second;
         hard = hard.hard;
-        same = equated_does (i ∷ []) number lines are.live are.equated goes_on (IsLiveBehind f place) (compared f place are.live are.live_after);
+        same = few_do (i ∷ []) number lines are.live are.equated goes_on (IsLiveBehind f place) (compared f place are.live are.live_after);
       })
 
   -- ---- the others

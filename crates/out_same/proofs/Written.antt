@@ -24,7 +24,7 @@ written_is_same forms number least f finished piece well_formed is_finished writ
     let items : AreItems number whole piece.items = record {
       ending = [];
       ends = unreached ready.ends;
-      are = items_from forms number whole ready 0 finished written.body piece.items written.are (λ k i at. at);
+      are = items_from forms number whole ready 0 finished written.body piece.items written.are (λ k i at. let from_first : k ≡ 0 + k = omega arith in subst (λ n. slice_get finished n ≡ Some i) from_first at);
     } in
     same_unfinished least f finished piece.items is_finished
     (items_are_same number least whole piece.items ready.for_lines (ready.calls (none_held forms number whole ready 0 finished written.body piece.items written.are)) items)

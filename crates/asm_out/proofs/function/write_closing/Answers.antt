@@ -1,5 +1,4 @@
-use Rattle.std.proofs.Common.{List, Ok, ap, subst}
-use Rattle.rv_text.specs.declared.line.CodeItem.{CodeItem}
+use Rattle.std.proofs.Common.{Ok, ap}
 use Rattle.asm_out.specs.declared.piece.Piece.{Piece}
 use Rattle.asm_out.specs.Comes.{Closing, PartComes}
 use Rattle.asm_out.proofs.PartLaws.{part_appended}

@@ -98,6 +98,9 @@ own_listing listing.Memory = (λ is. cc, λ is. cc)
 pub listing_is_own : (e : ListRefusal) (told : Refusal) → told ≡ list_refused e → IsOwn (Err told)
 listing_is_own e told is = subst (λ (r : Refusal). IsOwn (Err r)) (sym is) (own_listing e)
 
+pub told_read : (P : Outcome → Type 0) (r : Result (Vec ℕ Global) Refusal) → GivesText r P → r ≡ Err refusal.ReadFault → ⊥
+told_read P r h is = subst (λ (x : Result (Vec ℕ Global) Refusal). GivesText x P) is h
+
 -- ---- descriptions
 
 list_refuses : (known : Source) (input : Option (List ℕ)) (name : Option (List ℕ)) (e : ListRefusal) → GivesList (ListComes known (described name)) (Err e) → Gives (Err (list_refused e)) (CommandComes known input (commands.List name))

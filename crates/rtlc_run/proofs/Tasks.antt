@@ -1,6 +1,6 @@
 -- What a task makes of the input, from what the description and the input gave.
 use Rattle.std.proofs.Common.{◌≡◌, ℕ, ◌<◌, List, length, Result, Ok, Err, Option, Some, None, Vec, refl, sym, subst, arith}
-use Rattle.std.specs.Prelude.{IfSome, IfOk}
+use Rattle.std.specs.Prelude.{IfSome}
 use Rattle.std.specs.declared.alloc.Global.{Global}
 use Rattle.std.specs.Io.KnownBytes.{Consumes, IsAtEnd}
 use Rattle.rtx_tree.specs.Limit.{most_bytes}
@@ -15,11 +15,11 @@ use Rattle.md_named.specs.Answers.{RefusesForms}
 use Rattle.func_input.specs.Input.{InputComesTo, RefusesWith}
 use Rattle.func_input.specs.Outcome.{Outcome}
 use Rattle.asm_text.specs.Assembly as assembly
-use Rattle.asm_text.specs.Compile.{InputComes, TextComes, Gives as GivesAssembly}
+use Rattle.asm_text.specs.Compile.{InputComes, TextComes}
 use Rattle.asm_text.specs.Code.{IsUnnamed, CodeComes, Gives as GivesCode}
 use Rattle.rtlc_run.specs.declared.program.Task.{Task}
 use Rattle.rtlc_run.specs.declared.program.Task.TheVariants as task
-use Rattle.rtlc_run.specs.Answer.{described, EvalComes, ByForms}
+use Rattle.rtlc_run.specs.Answer.{EvalComes, ByForms}
 use Rattle.rtlc_run.specs.machine.Steps.{Gives, InputRefused, IsOwn, TaskComes, Misuses, MisusesInput}
 use Rattle.rtlc_run.proofs.Commands.{of_input, gives_map}
 

@@ -25,7 +25,7 @@ ghost use Rattle.rtlc_words.specs.Words.{words_of};
 ghost use Rattle.rtlc_run.specs.Answer as spec;
 ghost use Rattle.rtlc_run.specs.Written.{WritesLines, WritesSame, WritesList, WritesForms, WritesOutcomes, Completes, CompletesFor, CompletesBy, IsDone};
 ghost use Rattle.rtlc_run.specs.machine.Steps.{Gives, IsOwn, InputRefused, TaskComes, Misuses, MisusesInput};
-ghost use Rattle.rtlc_run.specs.Answer.{EvalComes, ByForms, CommandComes, Answers, HasForms, IsMisused, reads_input, reads_files, IsKnownFor, MayBeAsked, Writes, WritesFront, IsRefused, Reports, HasCause, TellsCause, IsAnswered};
+ghost use Rattle.rtlc_run.specs.Answer.{EvalComes, RecogComes, ByForms, CommandComes, Answers, HasForms, IsMisused, reads_input, reads_files, IsKnownFor, MayBeAsked, Writes, WritesFront, IsRefused, Reports, HasCause, TellsCause, IsAnswered};
 
 use asm_text::{assembly_of, code_of};
 use byte_edge::{Files, ReadAll, Sink, Source, read_all, write_all_of};
@@ -85,6 +85,16 @@ fn assembled(alloc: Global, description: &Description, bytes: &[u8]) -> Result<V
     Ok(assembly.text.into_vec())
 }
 
+/// The forms of the instructions of the functions among bytes.
+fn recognised(alloc: Global, description: &Description, bytes: &[u8]) -> Result<Vec<u8>, Refusal>
+    requires { length bytes.now ≤ most_bytes }
+    ensures gives { Gives result (RecogComes description.now bytes.now) }
+    ensures own { IsOwn result }
+    ensures read { result ≢ Err Refusal.ReadFault }
+{
+    recog_of(alloc, description, bytes)
+}
+
 /// The outcomes of a function among bytes and of its code.
 fn outcomes_of(
     alloc: Global,
@@ -119,7 +129,7 @@ fn made(
 {
     match task {
         Task::Assemble => assembled(alloc, description, bytes),
-        Task::Recognise => recog_of(alloc, description, bytes),
+        Task::Recognise => recognised(alloc, description, bytes),
         Task::Try {
             function,
             steps,

@@ -1,4 +1,4 @@
-use Rattle.std.proofs.Common.{Ok, refl, ap}
+use Rattle.std.proofs.Common.{ℕ, List, Ok, ap}
 use Rattle.std.proofs.lemmas.Result.{err_from_is_err_and}
 use Rattle.asm_text.specs.Compile.{InputComes}
 use Rattle.rtlc_run.proofs.Tasks.{text_refused, refusal_is_own, refusal_read}
@@ -20,4 +20,4 @@ returns-in_err-assembly-clause-read c =
     rw (p.1, p.2) (refusal_read (InputComes c.args.description.now c.args.bytes.now) c.in_err-assembly.field-0.0 c.in_err-assembly.ensures.gives)
 
 pub returns-clause-gives : goal.returns-clause-gives
-returns-clause-gives c = (Ok c.in_ok-assembly.assembly, c.in_ok-assembly.ensures.gives, ap Ok c.into_vec.ensures)
+returns-clause-gives c = (Ok c.in_ok-assembly.assembly, c.in_ok-assembly.ensures.gives, ap (λ (t : List ℕ). Ok t) c.into_vec.ensures)

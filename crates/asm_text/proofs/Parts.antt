@@ -14,7 +14,7 @@ use Rattle.rv_text.proofs.Marks.{Lacks, cut_at}
 use Rattle.rv_text.proofs.Numbers.{and_true}
 use Rattle.rv_text.proofs.Reading.{found_name_has}
 use Rattle.rv_text.proofs.SpelledOnce.{spells_one}
-use Rattle.asm_text.specs.Assembly.{opening_lines, closing_line, framed}
+use Rattle.asm_out.specs.Frame.{opening_lines, closing_line, framed}
 use Rattle.asm_text.specs.Same.{AreParts}
 
 -- ---- a line that begins with a tab and a dot is none of the table's

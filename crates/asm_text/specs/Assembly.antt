@@ -1,95 +1,69 @@
--- The assembly of functions: for each function a frame of lines, and in it what stands for each item of its chain.
-use Rattle.std.specs.Prelude.{◌≡◌, ◌<◌, ◌^◌, ℕ, ◌+◌, List, [], ◌∷◌, ◌++◌, codes, Option, Some, None, Result, Ok, Err, IsOkAnd}
-use Rattle.rtx_tree.specs.declared.function.Kind.{Kind}
-use Rattle.rtx_tree.specs.declared.function.Kind.TheVariants.{Label, Barrier}
-use Rattle.rtx_tree.specs.declared.function.Insn.{Insn}
+-- The assembly of functions by a description: for each function, in order and numbered from 0, what it comes to at output.
+use Rattle.std.specs.Prelude.{◌≡◌, ◌<◌, ◌^◌, ℕ, ◌+◌, List, [], ◌∷◌, ◌++◌, length, Result, Ok, Err}
 use Rattle.rtx_tree.specs.declared.function.Function.{Function}
-use Rattle.rtx_tree.specs.declared.stage.Stage.TheVariants.{Lower}
-use Rattle.asm_table.specs.declared.forms.TableMatch.{TableMatch}
+use Rattle.rtx_tree.specs.declared.stage.Stage.TheVariants.{Output}
 use Rattle.run_refusal.specs.declared.refusal.Refusal.{Refusal}
 use Rattle.run_refusal.specs.declared.refusal.Refusal.TheVariants as refusal
-use Rattle.func_input.specs.Input.{RefusesWith}
-use Rattle.func_input.specs.Outcome.{Outcome, outcome_map, outcome_then}
-use Rattle.rtl_chain.specs.End.{IsFinished}
-use Rattle.asm_table.specs.Forms.{first_match}
-use Rattle.asm_table.specs.Template.{filled_line, label_item}
+use Rattle.md_forms.specs.declared.form.Entry.{Entry}
+use Rattle.func_after.specs.After.{AfterComes}
+use Rattle.asm_out.specs.declared.piece.Piece.{Piece}
+use Rattle.asm_out.specs.declared.refusal.OutRefusal.{OutRefusal}
+use Rattle.asm_out.specs.declared.refusal.OutRefusal.TheVariants as out_refusal
+use Rattle.asm_out.specs.Comes as out
+use Rattle.asm_out.specs.Outcome as out_of
+use Rattle.asm_text.specs.declared.assembly.Assembly.{Assembly}
 
--- the texts of some things, one behind the other, in their order
-abbrev pub each_text : {A : Type 0} → (A → Outcome) → List A → Outcome
-each_text text [] = Ok []
-each_text text (x ∷ xs) = outcome_then (text x) (each_text text xs)
+-- ---- one function
 
--- ---- instructions
+-- the refusal of a run for that of a function at output
+abbrev pub refused_for : List ℕ → OutRefusal → Refusal
+refused_for function (out_refusal.Unmatched uid insn) = refusal.Unmatched function uid Output insn
+refused_for function (out_refusal.NotEquated uid rule item left right) = refusal.NotEquated function uid rule item left right
+refused_for function (out_refusal.Limit which count) = refusal.Limit which count
+refused_for function out_refusal.Memory = refusal.Memory
 
-abbrev pub unmatched : List ℕ → Insn → Refusal
-unmatched function i = refusal.Unmatched function i.uid Lower i.pattern
+-- a text with its lines and labels, or a refusal of the run
+abbrev pub PieceOutcome : Type 0
+PieceOutcome = Result Piece Refusal
 
-abbrev pub line_by : ℕ → List ℕ → Insn → Option TableMatch → Outcome
-line_by number function i None = Err (unmatched function i)
-line_by number function i (Some m) = Ok (filled_line number m)
+abbrev pub told_for : List ℕ → out_of.Outcome → PieceOutcome
+told_for function (Ok piece) = Ok piece
+told_for function (Err e) = Err (refused_for function e)
 
--- what stands for an item of the chain: the line of the first form that matches an instruction, the line of a label, and nothing for a barrier
-abbrev pub item_by : Kind → ℕ → List ℕ → Insn → Outcome
-item_by Label number function i = Ok (label_item number i.uid)
-item_by Barrier number function i = Ok []
-item_by _ number function i = line_by number function i (first_match i)
+-- What a function with a number comes to behind a text of a size: what refuses it before output, or else what it comes to there.
+pub data FunctionComes (forms : List Entry) (number size : ℕ) (f : Function) : PieceOutcome → Type 0 where
+  refused : (e : Refusal) → AfterComes forms f (Err e) → FunctionComes forms number size f (Err e)
+  written : (g : Function) (o : out_of.Outcome) → AfterComes forms f (Ok g) → out.FunctionComes forms number g size o → FunctionComes forms number size f (told_for f.name o)
 
-abbrev pub item_text : ℕ → List ℕ → Insn → Outcome
-item_text number function i = item_by i.kind number function i
+-- ---- all
 
-abbrev pub body_text : ℕ → List ℕ → List Insn → Outcome
-body_text number function insns = each_text (item_text number function) insns
+abbrev pub nothing : Assembly
+nothing = record { text = []; parts = [] }
 
--- ---- functions
+-- the assembly of one function
+abbrev pub alone : Piece → Assembly
+alone piece = record { text = piece.text; parts = piece.items ∷ [] }
 
-abbrev pub section_lines : List ℕ
-section_lines = codes "\t.text\n\t.align\t2\n"
+-- an assembly and another behind it
+abbrev pub joined : Assembly → Assembly → Assembly
+joined a b = record { text = a.text ++ b.text; parts = a.parts ++ b.parts }
 
-abbrev pub global_line : List ℕ → List ℕ
-global_line name = codes "\t.globl\t" ++ (name ++ codes "\n")
+-- an assembly, or the first refusal on the way to it
+abbrev pub Outcome : Type 0
+Outcome = Result Assembly Refusal
 
-abbrev pub type_line : List ℕ → List ℕ
-type_line name = codes "\t.type\t" ++ (name ++ codes ", @function\n")
+abbrev pub outcome_behind : Assembly → Outcome → Outcome
+outcome_behind a (Ok rest) = Ok (joined a rest)
+outcome_behind a (Err e) = Err e
 
-abbrev pub label_line : List ℕ → List ℕ
-label_line name = name ++ codes ":\n"
+-- What some functions come to behind a text of a size, where the first has a number: their texts in order, or the first refusal. A function's number has
+-- 32 bits.
+pub data AreWritten (forms : List Entry) : ℕ → ℕ → List Function → Outcome → Type 0 where
+  none : (number size : ℕ) → AreWritten forms number size [] (Ok nothing)
+  refused : (number size : ℕ) (f : Function) (functions : List Function) (e : Refusal) → FunctionComes forms number size f (Err e) → AreWritten forms number size (f ∷ functions) (Err e)
+  goes_on : (number size : ℕ) (f : Function) (functions : List Function) (piece : Piece) (rest : Outcome) → number < 2 ^ 32 → FunctionComes forms number size f (Ok piece) →
+      AreWritten forms (number + 1) (size + length piece.text) functions rest → AreWritten forms number size (f ∷ functions) (outcome_behind (alone piece) rest)
 
-abbrev pub name_lines : List ℕ → List ℕ
-name_lines name = global_line name ++ (type_line name ++ label_line name)
-
--- the lines before the instructions of a function
-abbrev pub opening_lines : List ℕ → List ℕ
-opening_lines name = section_lines ++ name_lines name
-
--- the line behind them
-abbrev pub closing_line : List ℕ → List ℕ
-closing_line name = codes "\t.size\t" ++ (name ++ (codes ", .-" ++ (name ++ codes "\n")))
-
-abbrev pub framed : List ℕ → List ℕ → List ℕ
-framed name body = opening_lines name ++ (body ++ closing_line name)
-
--- the lines of a function's chain
-pub data IsBodyText (number : ℕ) (f : Function) : Outcome → Type 0 where
-  body : (finished : List Insn) → IsFinished f.insns finished → IsBodyText number f (body_text number f.name finished)
-
--- what a function with a number comes to: a frame of lines round those of its chain
-pub data IsFunctionText (number : ℕ) (f : Function) : Outcome → Type 0 where
-  text : (body : Outcome) → IsBodyText number f body → IsFunctionText number f (outcome_map (framed f.name) body)
-
--- What some functions come to, of which the first has a number: their texts in order, or the first refusal. A function's number has 32 bits.
-pub data AreTexts : ℕ → List Function → Outcome → Type 0 where
-  none : (number : ℕ) → AreTexts number [] (Ok [])
-  refused : (number : ℕ) (f : Function) (functions : List Function) (e : Refusal) → IsFunctionText number f (Err e) → AreTexts number (f ∷ functions) (Err e)
-  goes_on : (number : ℕ) (f : Function) (functions : List Function) (text : List ℕ) (rest : Outcome) → number < 2 ^ 32 → IsFunctionText number f (Ok text) → AreTexts (number + 1) functions rest →
-      AreTexts number (f ∷ functions) (outcome_map (λ more. text ++ more) rest)
-
--- ---- what a call that appends has done
-
--- it refused as it should, or memory ran out
-abbrev pub Refuses : Refusal → Outcome → Type 0
-Refuses e outcome = RefusesWith e (λ (refused : Outcome). outcome ≡ refused)
-
--- it appended the text, or it refused
-abbrev pub Appended : {A : Type 0} → List ℕ → List ℕ → Result A Refusal → Outcome → Type 0
-Appended old new (Ok x) outcome = IsOkAnd outcome (λ text. new ≡ old ++ text)
-Appended old new (Err e) outcome = Refuses e outcome
+-- the assembly of some functions, or the first refusal
+abbrev pub AssemblyComes : List Entry → List Function → Outcome → Type 0
+AssemblyComes forms = AreWritten forms 0 0

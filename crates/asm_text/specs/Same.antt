@@ -5,7 +5,7 @@ use Rattle.rtx_tree.specs.declared.function.Function.{Function}
 use Rattle.rv_text.specs.Body.{Spells}
 use Rattle.rv_text.specs.declared.line.CodeItem.{CodeItem}
 use Rattle.same_behaviour.specs.Same.{Same}
-use Rattle.asm_text.specs.Assembly.{framed}
+use Rattle.asm_out.specs.Frame.{framed}
 
 -- The parts of a text that are its functions', in order: between the `NAME:` line and the `.size` line of each stands what spells its items.
 pub data AreParts : List Function → List ℕ → List (List CodeItem) → Type 0 where

@@ -1,203 +1,119 @@
 //! The assembly of functions.
-ghost use Rattle.std.specs.Prelude.{◌≡◌, ◌↔◌, [], ◌∷◌, ◌++◌, OnOk, IfOk, IsTrue};
+ghost use Rattle.std.specs.Prelude.{◌≡◌, length};
+ghost use Rattle.func_input.specs.machine.Steps.{IsOrMemory};
 ghost use Rattle.asm_text.specs.Assembly as spec;
-ghost use Rattle.rtl_func.specs.Paths.{ReachesExit};
-ghost use Rattle.asm_table.specs.Forms as forms;
-ghost use Rattle.rtl_chain.specs.End.{return_insn};
-ghost use Rattle.func_input.specs.Outcome.{outcome_then};
-ghost use Rattle.func_input.specs.machine.Steps.{AppendedSome};
-ghost use Rattle.asm_text.specs.Assembly.{Appended, IsBodyText, IsFunctionText, AreTexts};
+ghost use Rattle.asm_text.specs.Assembly.{FunctionComes, AssemblyComes};
+ghost use Rattle.asm_text.specs.Compile.{Gives};
+ghost use Rattle.asm_text.specs.machine.Steps.{AppendsPiece, WrittenComes};
 
-use asm_table::{first_match, print_label_line, print_line};
+use asm_out::{OutRefusal, write_function};
+use func_after::after;
 use func_input::next_number;
-use plain_data::Memory;
-use rtl_chain::{is_ended, return_insn};
-use rtx_tree::{Function, Insn, Kind, Name, Stage};
+use md_desc::Description;
+use plain_data::Items;
+use rtx_tree::{Function, Name, Stage};
 use run_refusal::Refusal;
+use rv_text::CodeItem;
 use std::alloc::Global;
-use text_words::print_text;
 
-fn unmatched(alloc: Global, function: &Name, insn: &Insn) -> Result<Refusal, Memory>
-    ensures { IfOk result (λ e. e ≡ spec.unmatched function.now insn.now) }
-{
-    Ok(Refusal::Unmatched {
-        function: function.copy(alloc)?,
-        uid: insn.uid,
-        stage: Stage::Lower,
-        insn: insn.pattern.copy(alloc)?,
-    })
+/// Lines and labels, in order.
+pub type CodeItems = Items<CodeItem>;
+
+/// For each of some functions, in order, its lines and labels.
+pub type Parts = Items<CodeItems>;
+
+/// The assembly of some functions.
+#[derive(Drop)]
+pub struct Assembly {
+    /// Its text.
+    pub text: Name,
+    /// The lines and labels that the parts of the text spell, in the order of the functions.
+    pub parts: Parts,
 }
 
-/// Appends the line of an instruction.
-fn print_insn(
-    alloc: Global,
-    number: u32,
-    function: &Name,
-    insn: &Insn,
-    out: &mut Vec<u8>,
-) -> Result<(), Refusal>
-    ensures { Appended out.old.items out.new.items result (spec.line_by number function.now insn.now (forms.first_match insn.now)) }
+/// The refusal of the run for that of a function at output.
+fn refused_for(alloc: Global, function: &Name, refusal: OutRefusal) -> Refusal
+    ensures { IsOrMemory result (spec.refused_for function.now refusal) }
 {
-    match first_match(alloc, insn)? {
-        Some(found) => {
-            print_line(number, &found, out)?;
-            Ok(())
-        }
-        None => Err(unmatched(alloc, function, insn)?),
+    let Ok(function) = function.copy(alloc) else {
+        return Refusal::Memory;
+    };
+    match refusal {
+        OutRefusal::Unmatched { uid, insn } => Refusal::Unmatched {
+            function,
+            uid,
+            stage: Stage::Output,
+            insn,
+        },
+        OutRefusal::NotEquated {
+            uid,
+            rule,
+            item,
+            left,
+            right,
+        } => Refusal::NotEquated {
+            function,
+            uid,
+            rule,
+            item,
+            left,
+            right,
+        },
+        OutRefusal::Limit { which, count } => Refusal::Limit { which, count },
+        OutRefusal::Memory => Refusal::Memory,
     }
 }
 
-/// Appends what stands for an item of a chain.
-fn print_item(
+/// Appends the text and the items of a function as it comes to output, by the name of the function.
+fn write_after(
     alloc: Global,
-    number: u32,
-    function: &Name,
-    insn: &Insn,
-    out: &mut Vec<u8>,
-) -> Result<(), Refusal>
-    ensures { Appended out.old.items out.new.items result (spec.item_text number function.now insn.now) }
-{
-    match insn.kind {
-        Kind::Label => {
-            print_label_line(number, insn.uid, out)?;
-            Ok(())
-        }
-        Kind::Barrier => Ok(()),
-        Kind::Plain | Kind::Jump | Kind::Call => print_insn(alloc, number, function, insn, out),
-    }
-}
-
-#[tactic(auto, using(crate::proofs::Texts::goes_start, crate::proofs::Texts::goes_on, crate::proofs::Texts::goes_wrong, crate::proofs::Texts::goes_through))]
-fn print_items(
-    alloc: Global,
-    number: u32,
-    function: &Name,
-    insns: &[Insn],
-    out: &mut Vec<u8>,
-) -> Result<(), Refusal>
-    ensures { Appended out.old.items out.new.items result (spec.body_text number function.now insns.now) }
-{
-    for insn in insns {
-        print_item(alloc, number, function, insn, out)?;
-    }
-    Ok(())
-}
-
-/// Appends the lines of a chain, and that of the return behind them.
-fn print_returning(
-    alloc: Global,
-    number: u32,
-    function: &Name,
-    insns: &[Insn],
-    out: &mut Vec<u8>,
-) -> Result<(), Refusal>
-    ensures { Appended out.old.items out.new.items result (outcome_then (spec.body_text number function.now insns.now) (spec.item_text number function.now (return_insn insns.now))) }
-{
-    print_items(alloc, number, function, insns, out)?;
-    let end = return_insn(alloc, insns)?;
-    print_item(alloc, number, function, &end, out)
-}
-
-/// Appends the lines of a function's chain, with a return at its end where that is reached.
-fn print_chain(
-    alloc: Global,
+    description: &Description,
     number: u32,
     f: &Function,
-    reached: bool,
-    out: &mut Vec<u8>,
+    text: &mut Vec<u8>,
+    parts: &mut Parts,
 ) -> Result<(), Refusal>
-    requires { IsTrue reached ↔ ReachesExit f.now.insns }
-    ensures { AppendedSome out.old.items out.new.items result (IsBodyText number f.now) }
+    ensures { AppendsPiece text.old.items text.new.items parts.old parts.new result (WrittenComes description.now number (length text.old.items) f.now) }
 {
-    if reached {
-        print_returning(alloc, number, &f.name, f.insns.as_slice(), out)
-    } else {
-        print_items(alloc, number, &f.name, f.insns.as_slice(), out)
+    let mut items = Vec::new(alloc);
+    match write_function(alloc, description, number, f, text, &mut items) {
+        Ok(()) => Ok(parts.push(Items::from_vec(items))?),
+        Err(e) => Err(refused_for(alloc, &f.name, e)),
     }
 }
 
-fn print_body(alloc: Global, number: u32, f: &Function, out: &mut Vec<u8>) -> Result<(), Refusal>
-    ensures { AppendedSome out.old.items out.new.items result (IsBodyText number f.now) }
-{
-    let reached = is_ended(alloc, f)?;
-    print_chain(alloc, number, f, reached, out)
-}
-
-fn print_global(name: &[u8], out: &mut Vec<u8>) -> Result<(), Memory>
-    ensures { OnOk result (out.new.items ≡ out.old.items ++ spec.global_line name.now) }
-{
-    print_text(b"\t.globl\t", out)?;
-    print_text(name, out)?;
-    print_text(b"\n", out)
-}
-
-fn print_type(name: &[u8], out: &mut Vec<u8>) -> Result<(), Memory>
-    ensures { OnOk result (out.new.items ≡ out.old.items ++ spec.type_line name.now) }
-{
-    print_text(b"\t.type\t", out)?;
-    print_text(name, out)?;
-    print_text(b", @function\n", out)
-}
-
-fn print_name(name: &[u8], out: &mut Vec<u8>) -> Result<(), Memory>
-    ensures { OnOk result (out.new.items ≡ out.old.items ++ spec.label_line name.now) }
-{
-    print_text(name, out)?;
-    print_text(b":\n", out)
-}
-
-fn print_names(name: &[u8], out: &mut Vec<u8>) -> Result<(), Memory>
-    ensures { OnOk result (out.new.items ≡ out.old.items ++ spec.name_lines name.now) }
-{
-    print_global(name, out)?;
-    print_type(name, out)?;
-    print_name(name, out)
-}
-
-fn print_opening(name: &Name, out: &mut Vec<u8>) -> Result<(), Memory>
-    ensures { OnOk result (out.new.items ≡ out.old.items ++ spec.opening_lines name.now) }
-{
-    print_text(b"\t.text\n\t.align\t2\n", out)?;
-    print_names(name.bytes(), out)
-}
-
-fn print_closing(name: &Name, out: &mut Vec<u8>) -> Result<(), Memory>
-    ensures { OnOk result (out.new.items ≡ out.old.items ++ spec.closing_line name.now) }
-{
-    print_text(b"\t.size\t", out)?;
-    print_text(name.bytes(), out)?;
-    print_text(b", .-", out)?;
-    print_text(name.bytes(), out)?;
-    print_text(b"\n", out)
-}
-
-/// Appends the assembly of a function with a number.
-fn print_function(
+/// Appends the text and the items of a function with a number.
+fn write_next(
     alloc: Global,
+    description: &Description,
     number: u32,
     f: &Function,
-    out: &mut Vec<u8>,
+    text: &mut Vec<u8>,
+    parts: &mut Parts,
 ) -> Result<(), Refusal>
-    ensures { AppendedSome out.old.items out.new.items result (IsFunctionText number f.now) }
+    ensures { AppendsPiece text.old.items text.new.items parts.old parts.new result (FunctionComes description.now number (length text.old.items) f.now) }
 {
-    print_opening(&f.name, out)?;
-    print_body(alloc, number, f, out)?;
-    print_closing(&f.name, out)?;
-    Ok(())
+    let after = after(alloc, description, f)?;
+    write_after(alloc, description, number, &after, text, parts)
 }
 
-/// Appends the assembly of some functions, in order, each with its number from 0 on.
-pub fn print_program(
+/// The assembly of some functions, in order, each with its number from 0 on.
+pub(crate) fn assemble(
     alloc: Global,
+    description: &Description,
     functions: &[Function],
-    out: &mut Vec<u8>,
-) -> Result<(), Refusal>
-    ensures { AppendedSome out.old.items out.new.items result (AreTexts 0 functions.now) }
+) -> Result<Assembly, Refusal>
+    ensures { Gives result (AssemblyComes description.now functions.now) }
 {
+    let mut text = Vec::new(alloc);
+    let mut parts = Items::new(alloc);
     let mut number: u32 = 0;
     for f in functions {
-        print_function(alloc, number, f, out)?;
+        write_next(alloc, description, number, f, &mut text, &mut parts)?;
         number = next_number(number)?;
     }
-    Ok(())
+    Ok(Assembly {
+        text: Name::from_vec(text),
+        parts,
+    })
 }

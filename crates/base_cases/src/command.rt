@@ -16,15 +16,17 @@ fn show_described(command: &str, name: &Option<Name>, told: &mut Told) {
 /// Appends a command with all its parts, in one line.
 fn show(command: &Command, told: &mut Told) {
     match command {
-        Command::Asm => told.text("asm"),
+        Command::Asm { description } => show_described("asm", description, told),
         Command::List { description } => show_described("list", description, told),
         Command::Recog { description } => show_described("recog", description, told),
         Command::Eval {
+            description,
             function,
             steps,
             args,
         } => {
-            told.text("eval ");
+            show_described("eval", description, told);
+            told.text(" ");
             told.push(function.bytes());
             told.text(" for ");
             told.show(*steps);

@@ -14,6 +14,7 @@ refuses_map (refusal.Construct place name) P Q follows r = follows (refusal.Cons
 refuses_map (refusal.IllFormed function uid rule) P Q follows r = follows (refusal.IllFormed function uid rule) r
 refuses_map (refusal.Limit which count) P Q follows r = follows (refusal.Limit which count) r
 refuses_map (refusal.Unmatched function uid stage insn) P Q follows r = follows (refusal.Unmatched function uid stage insn) r
+refuses_map (refusal.NotEquated function uid rule item left right) P Q follows r = follows (refusal.NotEquated function uid rule item left right) r
 refuses_map refusal.ReadFault P Q follows r = absurd r
 refuses_map refusal.WriteFault P Q follows r = absurd r
 
@@ -26,5 +27,6 @@ made_refuses (refusal.Construct place name) made P holds is = subst (λ e. Refus
 made_refuses (refusal.IllFormed function uid rule) made P holds is = subst (λ e. RefusesWith e P) (sym is) holds
 made_refuses (refusal.Limit which count) made P holds is = subst (λ e. RefusesWith e P) (sym is) holds
 made_refuses (refusal.Unmatched function uid stage insn) made P holds is = subst (λ e. RefusesWith e P) (sym is) holds
+made_refuses (refusal.NotEquated function uid rule item left right) made P holds is = subst (λ e. RefusesWith e P) (sym is) holds
 made_refuses refusal.ReadFault made P holds is = subst (λ e. RefusesWith e P) (sym is) holds
 made_refuses refusal.WriteFault made P holds is = subst (λ e. RefusesWith e P) (sym is) holds

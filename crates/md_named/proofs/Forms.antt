@@ -30,6 +30,7 @@ of_trees source name trees (Err (refusal.Syntax file place)) come none = absurd 
 of_trees source name trees (Err (refusal.Construct place what)) come none = absurd none
 of_trees source name trees (Err (refusal.IllFormed function uid rule)) come none = absurd none
 of_trees source name trees (Err (refusal.Unmatched function uid stage insn)) come none = absurd none
+of_trees source name trees (Err (refusal.NotEquated function uid rule item left right)) come none = absurd none
 
 -- its files were refused
 pub of_refusal : (source : Source) (name : List ℕ) (e : SourceRefusal) (r : Refusal) → r ≡ source_refused e → Refuses e (DescriptionComes source name) → Gives (Err r) (FormsCome source name)

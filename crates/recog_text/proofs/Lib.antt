@@ -1,4 +1,3 @@
-pub mod Each
 pub mod One
 pub mod Told
 pub mod Line

@@ -1,3 +1,1 @@
-pub mod Each
 pub mod Recog
-pub mod machine

@@ -4,19 +4,16 @@ use Rattle.std.specs.Prelude.{◌≡◌, ℕ, true, false, List, [], ◌∷◌, 
 use Rattle.std.specs.Fmt.{decimal}
 use Rattle.rtx_tree.specs.declared.function.Insn.{Insn}
 use Rattle.rtx_tree.specs.declared.function.Function.{Function}
-use Rattle.rtx_tree.specs.declared.stage.Stage.{Stage}
-use Rattle.rtx_tree.specs.declared.stage.Stage.TheVariants.{Lower, Output}
+use Rattle.rtx_tree.specs.declared.stage.Stage.TheVariants.{Output}
 use Rattle.run_refusal.specs.declared.refusal.Refusal.{Refusal}
-use Rattle.run_refusal.specs.declared.refusal.Refusal.TheVariants as refusal
 use Rattle.md_forms.specs.declared.form.Entry.{Entry}
 use Rattle.md_forms.specs.Forms.{names_of}
-use Rattle.md_recog.specs.declared.recog.FormMatch.{FormMatch}
 use Rattle.md_desc.specs.declared.output.Chosen.{Chosen}
-use Rattle.md_desc.specs.Recog.{IsFirst, NoneMatches, IsChosen, NoneMatchesOut}
-use Rattle.form_needs.specs.Needs.{lower_facts, output_facts, needs_form, is_held, name_at}
-use Rattle.rtl_chain.specs.End.{IsFinished}
+use Rattle.md_desc.specs.Recog.{IsChosen, NoneMatchesOut}
+use Rattle.form_needs.specs.Needs.{needs_form, is_held, output_facts, name_at}
 use Rattle.func_input.specs.Outcome.{Outcome}
-use Rattle.recog_text.specs.Each.{EachComes}
+use Rattle.func_after.specs.Each.{EachComes}
+use Rattle.func_after.specs.After.{unmatched_at, AfterComes}
 
 -- ---- lines
 
@@ -25,15 +22,6 @@ abbrev pub line_of : List (List ℕ) → List ℕ → ℕ → ℕ → ℕ → Li
 line_of names function uid form alternative = function ++ (32 ∷ (decimal uid ++ (32 ∷ (name_at names form ++ (32 ∷ (decimal alternative ++ 10 ∷ []))))))
 
 -- ---- what an instruction comes to
-
-abbrev pub unmatched_at : Stage → List ℕ → Insn → Refusal
-unmatched_at stage function i = refusal.Unmatched function i.uid stage i.pattern
-
--- at lower: some form has to match it, whatever its alternatives
-pub data LowerComes (forms : List Entry) (function : List ℕ) (i : Insn) : Outcome → Type 0 where
-  free : needs_form i ≡ false → LowerComes forms function i (Ok [])
-  matched : (m : FormMatch) → needs_form i ≡ true → IsFirst forms lower_facts i.pattern 0 m → LowerComes forms function i (Ok [])
-  unmatched : needs_form i ≡ true → NoneMatches forms lower_facts i.pattern → LowerComes forms function i (Err (unmatched_at Lower function i))
 
 -- at output: the line of the first form that counts, with the lowest enabled alternative that fits
 pub data OutputComes (forms : List Entry) (function : List ℕ) (i : Insn) : Outcome → Type 0 where
@@ -46,9 +34,8 @@ pub data OutputComes (forms : List Entry) (function : List ℕ) (i : Insn) : Out
 
 -- a function: the first instruction of the finished chain that lower refuses, or else what all come to at output
 pub data FunctionComes (forms : List Entry) (f : Function) : Outcome → Type 0 where
-  refused : (finished : List Insn) (e : Refusal) → IsFinished f.insns finished → EachComes (LowerComes forms f.name) finished (Err e) → FunctionComes forms f (Err e)
-  printed : (finished : List Insn) (outcome : Outcome) → IsFinished f.insns finished → EachComes (LowerComes forms f.name) finished (Ok []) → EachComes (OutputComes forms f.name) finished outcome →
-      FunctionComes forms f outcome
+  refused : (e : Refusal) → AfterComes forms f (Err e) → FunctionComes forms f (Err e)
+  printed : (g : Function) (outcome : Outcome) → AfterComes forms f (Ok g) → EachComes (OutputComes forms f.name) g.insns outcome → FunctionComes forms f outcome
 
 -- some functions, one behind the other
 abbrev pub FunctionsCome : List Entry → List Function → Outcome → Type 0

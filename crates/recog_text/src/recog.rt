@@ -1,64 +1,24 @@
 //! The text of `recog`.
-ghost use Rattle.std.specs.Prelude.{◌≡◌, ◌≤◌, ◌++◌, [], ℕ, List, length};
-ghost use Rattle.rtx_tree.specs.declared.function.Function.{Function};
+ghost use Rattle.std.specs.Prelude.{◌≡◌, ◌≤◌, ℕ, List, length};
 ghost use Rattle.md_forms.specs.declared.form.Entry.{Entry};
 ghost use Rattle.md_forms.specs.Forms.{names_of};
 ghost use Rattle.rtx_tree.specs.Limit.{most_bytes};
 ghost use Rattle.func_input.specs.Input.{FunctionsComeTo, InputComesTo};
 ghost use Rattle.func_input.specs.Outcome.{Outcome, Gives};
 ghost use Rattle.func_input.specs.machine.Steps.{AppendedSome};
-ghost use Rattle.recog_text.specs.Each.{EachComes};
-ghost use Rattle.recog_text.specs.machine.Steps.{added};
-ghost use Rattle.recog_text.specs.Recog.{LowerComes, OutputComes, FunctionComes, FunctionsCome};
+ghost use Rattle.recog_text.specs.Recog.{FunctionComes, FunctionsCome};
 
-use crate::stages::{lower_insn, lower_insns, print_insn, print_insns};
+use crate::lines::print_insns;
+use func_after::after;
 use func_input::{check_functions, read_functions};
 use md_desc::Description;
 use md_forms::names_of;
-use rtl_chain::end_of;
-use rtx_tree::{Function, Insn, Name};
+use rtx_tree::{Function, Name};
 use run_refusal::Refusal;
 use std::alloc::Global;
 
-/// Checks at `lower` a chain and what is added at its end.
-#[tactic(auto, using(crate::proofs::Told::with_last, crate::proofs::Told::without_last))]
-fn lower_chain(
-    alloc: Global,
-    desc: &Description,
-    f: &Function,
-    end: &Option<Insn>,
-) -> Result<(), Refusal>
-    ensures { AppendedSome [] [] result (EachComes (LowerComes desc.now f.now.name) (f.now.insns ++ added end.now)) }
-{
-    lower_insns(alloc, desc, &f.name, f.insns.as_slice())?;
-    match end {
-        Some(end) => lower_insn(alloc, desc, &f.name, end),
-        None => Ok(()),
-    }
-}
-
-/// Appends the lines of a chain and of what is added at its end.
-#[tactic(auto, using(crate::proofs::Told::with_last, crate::proofs::Told::without_last))]
-fn print_chain(
-    alloc: Global,
-    desc: &Description,
-    names: &[Name],
-    f: &Function,
-    end: &Option<Insn>,
-    out: &mut Vec<u8>,
-) -> Result<(), Refusal>
-    requires { names.now ≡ names_of desc.now }
-    ensures { AppendedSome out.old.items out.new.items result (EachComes (OutputComes desc.now f.now.name) (f.now.insns ++ added end.now)) }
-{
-    print_insns(alloc, desc, names, &f.name, f.insns.as_slice(), out)?;
-    match end {
-        Some(end) => print_insn(alloc, desc, names, &f.name, end, out),
-        None => Ok(()),
-    }
-}
-
 /// Appends the lines of a function.
-#[tactic(auto, using(crate::proofs::Told::lower_refuses, crate::proofs::Told::function_comes))]
+#[tactic(auto, using(crate::proofs::Told::after_refuses, crate::proofs::Told::function_comes))]
 fn print_function(
     alloc: Global,
     desc: &Description,
@@ -69,13 +29,12 @@ fn print_function(
     requires { names.now ≡ names_of desc.now }
     ensures { AppendedSome out.old.items out.new.items result (FunctionComes desc.now f.now) }
 {
-    let end = end_of(alloc, f)?;
-    lower_chain(alloc, desc, f, &end)?;
-    print_chain(alloc, desc, names, f, &end, out)
+    let after = after(alloc, desc, f)?;
+    print_insns(alloc, desc, names, &f.name, after.insns.as_slice(), out)
 }
 
 /// Appends the lines of some functions.
-#[tactic(auto, using(crate::proofs::Each::makes_start, crate::proofs::Each::makes_on, crate::proofs::Each::makes_wrong, crate::proofs::Each::makes_all))]
+#[tactic(auto, using(func_after::proofs::Each::makes_start, func_after::proofs::Each::makes_on, func_after::proofs::Each::makes_wrong, func_after::proofs::Each::makes_all))]
 fn print_functions(
     alloc: Global,
     desc: &Description,

@@ -34,6 +34,7 @@ answers_of words known input (refusal.Construct place name) h r w m = h
 answers_of words known input (refusal.IllFormed function uid rule) h r w m = h
 answers_of words known input (refusal.Limit which count) h r w m = h
 answers_of words known input (refusal.Unmatched function uid stage insn) h r w m = h
+answers_of words known input (refusal.NotEquated function uid rule item left right) h r w m = h
 
 pub answered_err : (words : List (List ℕ)) (known : Source) (input : Option (List ℕ)) (e : Refusal) (status : ℕ) (output output' errors errors' : Option (List ℕ)) (faults faults' : ℕ) →
     IsRefused words known input e → (e ≡ refusal.ReadFault → ⊥) → (e ≡ refusal.WriteFault → ⊥) → (status ≡ 8 → ⊥) → Reports e status errors errors' faults faults' → output' ≡ output →
@@ -79,6 +80,7 @@ read_of (refusal.Construct place name) is = cc
 read_of (refusal.IllFormed function uid rule) is = cc
 read_of (refusal.Limit which count) is = cc
 read_of (refusal.Unmatched function uid stage insn) is = cc
+read_of (refusal.NotEquated function uid rule item left right) is = cc
 
 -- a status 6 was that of a fault of a read
 pub read_told : (e told : Refusal) (status : ℕ) → status ≡ status_of told → (told ≡ e) ⊎ ((told ≡ refusal.Memory) × (has_values e ≡ true)) → status ≡ 6 → e ≡ refusal.ReadFault

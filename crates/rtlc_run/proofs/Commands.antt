@@ -1,11 +1,9 @@
--- What a command comes to, from what reading, assembling and listing gave.
-use Rattle.std.proofs.Common.{◌≡◌, ℕ, ◌≤◌, ◌<◌, ◌++◌, List, [], length, Result, Ok, Err, Option, Some, None, Vec, refl, sym, ap, subst, ◌∙◌, arith}
+-- What a command comes to, from what reading and listing gave.
+use Rattle.std.proofs.Common.{◌≡◌, ℕ, ◌++◌, List, [], Result, Ok, Err, Option, Some, None, Vec, refl, sym, ap, subst, ◌∙◌}
 use Rattle.std.specs.Prelude.{IfSome}
 use Rattle.std.specs.declared.alloc.Global.{Global}
 use Rattle.std.proofs.lemmas.List.{append-nil}
 use Rattle.std.specs.Io.KnownBytes.{Consumes, IsAtEnd}
-use Rattle.rtx_tree.specs.declared.limit.Limit.{Limit}
-use Rattle.rtx_tree.specs.declared.limit.Limit.TheVariants as limit
 use Rattle.run_refusal.specs.declared.refusal.Refusal.{Refusal}
 use Rattle.run_refusal.specs.declared.refusal.Refusal.TheVariants as refusal
 use Rattle.md_source.specs.declared.refusal.SourceRefusal.TheVariants as source
@@ -16,16 +14,12 @@ use Rattle.md_list.specs.declared.refusal.ListRefusal.{ListRefusal}
 use Rattle.md_list.specs.declared.refusal.ListRefusal.TheVariants as listing
 use Rattle.md_list.specs.Listing.{ListComes}
 use Rattle.md_list.specs.Answers.{GivesList}
-use Rattle.rtx_tree.specs.Limit.{most_bytes}
-use Rattle.func_input.specs.Input.{InputComesTo}
 use Rattle.func_input.specs.Outcome.{Outcome}
 use Rattle.func_input.specs.Outcome.{Gives as GivesText}
-use Rattle.asm_text.specs.Compile.{InputComes}
-use Rattle.asm_text.specs.Code.{IsUnnamed, CodeComes, Gives as GivesCode}
 use Rattle.rtlc_words.specs.declared.command.Command.{Command}
 use Rattle.rtlc_words.specs.declared.command.Command.TheVariants as commands
 use Rattle.rtlc_words.specs.Words.{command_of}
-use Rattle.rtlc_run.specs.Answer.{described, list_refused, EvalComes, CommandComes, Answers, HasForms, IsMisused, MayBeAsked, IsRefused}
+use Rattle.rtlc_run.specs.Answer.{described, list_refused, CommandComes, Answers, HasForms, MayBeAsked, IsRefused}
 use Rattle.rtlc_run.specs.machine.Steps.{Gives, InputRefused, IsOwn}
 
 -- what was produced has any property that follows
@@ -40,6 +34,7 @@ gives_map (Err (refusal.Construct place name)) P Q follows h = follows (Err (ref
 gives_map (Err (refusal.IllFormed function uid rule)) P Q follows h = follows (Err (refusal.IllFormed function uid rule)) h
 gives_map (Err (refusal.Limit which count)) P Q follows h = follows (Err (refusal.Limit which count)) h
 gives_map (Err (refusal.Unmatched function uid stage insn)) P Q follows h = follows (Err (refusal.Unmatched function uid stage insn)) h
+gives_map (Err (refusal.NotEquated function uid rule item left right)) P Q follows h = follows (Err (refusal.NotEquated function uid rule item left right)) h
 
 -- so has what was told
 pub gives_text : (r : Result (Vec ℕ Global) Refusal) (P Q : Outcome → Type 0) → ((o : Outcome) → P o → Q o) → GivesText r P → Gives r Q
@@ -53,6 +48,7 @@ gives_text (Err (refusal.Construct place name)) P Q follows h = follows (Err (re
 gives_text (Err (refusal.IllFormed function uid rule)) P Q follows h = follows (Err (refusal.IllFormed function uid rule)) h
 gives_text (Err (refusal.Limit which count)) P Q follows h = follows (Err (refusal.Limit which count)) h
 gives_text (Err (refusal.Unmatched function uid stage insn)) P Q follows h = follows (Err (refusal.Unmatched function uid stage insn)) h
+gives_text (Err (refusal.NotEquated function uid rule item left right)) P Q follows h = follows (Err (refusal.NotEquated function uid rule item left right)) h
 
 -- ---- the input
 
@@ -65,83 +61,6 @@ pub of_input : (P : List ℕ → Type 0) (old new : Option (List ℕ)) (bytes : 
 of_input P None new bytes h p = tt
 of_input P (Some all) None bytes h p = absurd h.0
 of_input P (Some all) (Some rest) bytes h p = subst P (sym (all_read all rest bytes h.0 h.1)) p
-
-asm_comes : (known : Source) (left left' : Option (List ℕ)) (bytes : List ℕ) (o : Outcome) → Consumes left left' bytes × IsAtEnd left' → InputComes bytes o → CommandComes known left commands.Asm o
-asm_comes known left left' bytes o read comes = CommandComes.assembled o (of_input (λ (bs : List ℕ). InputComes bs o) left left' bytes read comes)
-
--- what the bytes that were read came to, `asm` comes to
-pub asm_produced : (known : Source) (left left' : Option (List ℕ)) (bytes : List ℕ) (r : Result (Vec ℕ Global) Refusal) → Consumes left left' bytes × IsAtEnd left' → GivesText r (InputComes bytes) → Gives r (CommandComes known left commands.Asm)
-asm_produced known left left' bytes r read h = gives_text r (InputComes bytes) (CommandComes known left commands.Asm) (λ o comes. asm_comes known left left' bytes o read comes) h
-
-too_long : (left : Option (List ℕ)) (count : ℕ) → InputRefused left (refusal.Limit limit.Text count) → IfSome left (λ bytes. InputComes bytes (Err (refusal.Limit limit.Text count)))
-too_long None count h = tt
-too_long (Some bytes) count h = subst (λ (n : ℕ). InputComes bytes (Err (refusal.Limit limit.Text n))) (sym h.0) (InputComesTo.too_long h.1)
-
-unread_limit : (known : Source) (left : Option (List ℕ)) (which : Limit) (count : ℕ) → InputRefused left (refusal.Limit which count) → Gives (Err (refusal.Limit which count)) (CommandComes known left commands.Asm)
-unread_limit known left limit.Text count h = CommandComes.assembled (Err (refusal.Limit limit.Text count)) (too_long left count h)
-unread_limit known left _ count h = absurd h
-
--- an input that was not read refuses `asm`
-pub asm_unread : (known : Source) (left : Option (List ℕ)) (e : Refusal) → InputRefused left e → Gives (Err e) (CommandComes known left commands.Asm)
-asm_unread known left refusal.Memory h = tt
-asm_unread known left refusal.ReadFault h = tt
-asm_unread known left (refusal.Limit which count) h = unread_limit known left which count h
-asm_unread known left _ h = absurd h
-
--- ---- eval
-
-eval_comes : (known : Source) (left left' : Option (List ℕ)) (bytes function : List ℕ) (steps : ℕ) (args : List ℕ) (o : Outcome) → Consumes left left' bytes × IsAtEnd left' → EvalComes bytes function steps args o →
-    CommandComes known left (commands.Eval function steps args) o
-eval_comes known left left' bytes function steps args o read comes = CommandComes.tries function steps args o (of_input (λ (bs : List ℕ). EvalComes bs function steps args o) left left' bytes read comes)
-
--- what the bytes that were read came to, `eval` comes to
-pub eval_produced : (known : Source) (left left' : Option (List ℕ)) (bytes function : List ℕ) (steps : ℕ) (args : List ℕ) (r : Result (Vec ℕ Global) Refusal) → Consumes left left' bytes × IsAtEnd left' →
-    Gives r (EvalComes bytes function steps args) → Gives r (CommandComes known left (commands.Eval function steps args))
-eval_produced known left left' bytes function steps args r read h =
-    gives_map r (EvalComes bytes function steps args) (CommandComes known left (commands.Eval function steps args)) (λ o comes. eval_comes known left left' bytes function steps args o read comes) h
-
--- bytes that are too many are no functions
-too_many : (bytes function : List ℕ) (steps : ℕ) (args : List ℕ) (count : ℕ) → count ≡ 16777217 → most_bytes < length bytes → EvalComes bytes function steps args (Err (refusal.Limit limit.Text count))
-too_many bytes function steps args count is long = (
-  Err (refusal.Limit limit.Text count),
-  CodeComes.unread (refusal.Limit limit.Text count) (λ functions read. let within = read.within in omega (arith, long, within))
-      (subst (λ (n : ℕ). InputComes bytes (Err (refusal.Limit limit.Text n))) (sym is) (InputComesTo.too_long long)),
-  refl,
-  tt,
-)
-
-too_many_left : (left : Option (List ℕ)) (function : List ℕ) (steps : ℕ) (args : List ℕ) (count : ℕ) → InputRefused left (refusal.Limit limit.Text count) →
-    IfSome left (λ bytes. EvalComes bytes function steps args (Err (refusal.Limit limit.Text count)))
-too_many_left None function steps args count h = tt
-too_many_left (Some bytes) function steps args count h = too_many bytes function steps args count h.0 h.1
-
-eval_limit : (known : Source) (left : Option (List ℕ)) (function : List ℕ) (steps : ℕ) (args : List ℕ) (which : Limit) (count : ℕ) → InputRefused left (refusal.Limit which count) →
-    Gives (Err (refusal.Limit which count)) (CommandComes known left (commands.Eval function steps args))
-eval_limit known left function steps args limit.Text count h = CommandComes.tries function steps args (Err (refusal.Limit limit.Text count)) (too_many_left left function steps args count h)
-eval_limit known left function steps args _ count h = absurd h
-
--- an input that was not read refuses `eval`
-pub eval_unread : (known : Source) (left : Option (List ℕ)) (function : List ℕ) (steps : ℕ) (args : List ℕ) (e : Refusal) → InputRefused left e → Gives (Err e) (CommandComes known left (commands.Eval function steps args))
-eval_unread known left function steps args refusal.Memory h = tt
-eval_unread known left function steps args refusal.ReadFault h = tt
-eval_unread known left function steps args (refusal.Limit which count) h = eval_limit known left function steps args which count h
-eval_unread known left function steps args _ h = absurd h
-
--- what refused the code refuses the outcomes
-pub code_refused : (bytes function : List ℕ) (steps : ℕ) (args : List ℕ) (e : Refusal) → GivesCode (Err e) (CodeComes bytes function) → Gives (Err e) (EvalComes bytes function steps args)
-code_refused bytes function steps args refusal.Memory h = tt
-code_refused bytes function steps args refusal.ReadFault h = absurd h
-code_refused bytes function steps args refusal.WriteFault h = absurd h
-code_refused bytes function steps args refusal.Usage h = (Err refusal.Usage, h, refl, tt)
-code_refused bytes function steps args (refusal.Syntax file place) h = (Err (refusal.Syntax file place), h, refl, tt)
-code_refused bytes function steps args (refusal.Construct place name) h = (Err (refusal.Construct place name), h, refl, tt)
-code_refused bytes function steps args (refusal.IllFormed name uid rule) h = (Err (refusal.IllFormed name uid rule), h, refl, tt)
-code_refused bytes function steps args (refusal.Limit which count) h = (Err (refusal.Limit which count), h, refl, tt)
-code_refused bytes function steps args (refusal.Unmatched name uid stage insn) h = (Err (refusal.Unmatched name uid stage insn), h, refl, tt)
-
--- the function that has no name is missing from the input
-pub misused : (left left' : Option (List ℕ)) (bytes function : List ℕ) (steps : ℕ) (args : List ℕ) → Consumes left left' bytes × IsAtEnd left' → IsUnnamed bytes function → IsMisused (Some (commands.Eval function steps args)) left
-misused left left' bytes function steps args read unnamed = of_input (λ (bs : List ℕ). IsUnnamed bs function) left left' bytes read unnamed
 
 -- ---- refusals that a command does not give
 
@@ -164,6 +83,7 @@ told_is_own P (Err (refusal.Construct place name)) h = (λ is. cc, λ is. cc)
 told_is_own P (Err (refusal.IllFormed function uid rule)) h = (λ is. cc, λ is. cc)
 told_is_own P (Err (refusal.Limit which count)) h = (λ is. cc, λ is. cc)
 told_is_own P (Err (refusal.Unmatched function uid stage insn)) h = (λ is. cc, λ is. cc)
+told_is_own P (Err (refusal.NotEquated function uid rule item left right)) h = (λ is. cc, λ is. cc)
 
 own_listing : (e : ListRefusal) → IsOwn (Err (list_refused e))
 own_listing (listing.Source (source.Syntax file place)) = (λ is. cc, λ is. cc)
@@ -177,6 +97,9 @@ own_listing listing.Memory = (λ is. cc, λ is. cc)
 
 pub listing_is_own : (e : ListRefusal) (told : Refusal) → told ≡ list_refused e → IsOwn (Err told)
 listing_is_own e told is = subst (λ (r : Refusal). IsOwn (Err r)) (sym is) (own_listing e)
+
+pub told_read : (P : Outcome → Type 0) (r : Result (Vec ℕ Global) Refusal) → GivesText r P → r ≡ Err refusal.ReadFault → ⊥
+told_read P r h is = subst (λ (x : Result (Vec ℕ Global) Refusal). GivesText x P) is h
 
 -- ---- descriptions
 
@@ -211,15 +134,13 @@ refused_has_cause words known input (refusal.Construct place name) h = h
 refused_has_cause words known input (refusal.IllFormed function uid rule) h = h
 refused_has_cause words known input (refusal.Limit which count) h = h
 refused_has_cause words known input (refusal.Unmatched function uid stage insn) h = h
+refused_has_cause words known input (refusal.NotEquated function uid rule item left right) h = h
 
 -- ---- what was asked
 
 may_ask_nothing : (known : Source) (c : Option Command) → MayBeAsked known c []
 may_ask_nothing known None = refl
-may_ask_nothing known (Some commands.Asm) = refl
-may_ask_nothing known (Some (commands.List name)) = AreNamed.none
-may_ask_nothing known (Some (commands.Recog name)) = AreNamed.none
-may_ask_nothing known (Some (commands.Eval function steps args)) = refl
+may_ask_nothing known (Some c) = AreNamed.none
 
 pub nothing_asked : (known : Source) (c : Option Command) (asked : Option (List (List ℕ))) → GrewBy (MayBeAsked known c) asked asked
 nothing_asked known c None = tt

@@ -1,5 +1,6 @@
 pub mod Commands
-pub mod Recognised
+pub mod Tasks
+pub mod Described
 pub mod Answered
 pub mod Runs
 pub mod Statuses

@@ -16,7 +16,7 @@ use Rattle.md_forms.specs.declared.form.Entry.{Entry}
 use Rattle.md_named.specs.Named.{source_refused, FormsCome}
 use Rattle.func_input.specs.Input.{InputComesTo}
 use Rattle.func_input.specs.Outcome.{Outcome}
-use Rattle.asm_text.specs.Compile.{InputComes}
+use Rattle.asm_text.specs.Compile.{TextComes}
 use Rattle.asm_text.specs.Code.{IsUnnamed, CodeComes}
 use Rattle.asm_text.specs.declared.code.Coded.{Coded}
 use Rattle.code_eval.specs.Eval.{eval_text, IsFair}
@@ -46,24 +46,30 @@ abbrev pub evaluated : ℕ → List ℕ → Result Coded Refusal → Outcome
 evaluated steps args (Ok c) = Ok (eval_text c.function c.items steps args)
 evaluated steps args (Err e) = Err e
 
--- `eval` over the bytes of an input: the outcomes of the function with a name, and of its code, where they are tried fairly
-abbrev pub EvalComes : List ℕ → List ℕ → ℕ → List ℕ → Outcome → Type 0
-EvalComes bytes function steps args outcome =
-    (answer : Result Coded Refusal) × CodeComes bytes function answer × (outcome ≡ evaluated steps args answer) ×
+-- `eval` over the bytes of an input: the outcomes of the function with a name, and of its code by some forms, where they are tried fairly
+abbrev pub EvalComes : List ℕ → ℕ → List ℕ → List Entry → List ℕ → Outcome → Type 0
+EvalComes function steps args forms bytes outcome =
+    (answer : Result Coded Refusal) × CodeComes forms bytes function answer × (outcome ≡ evaluated steps args answer) ×
     IfOk answer (λ c. IsFair c.function steps args)
 
--- `recog` over what is known of the files and of the input: the description first, and then what the functions of the input come to by its forms
-pub data RecogComes (files : Source) (input : Option (List ℕ)) (name : List ℕ) : Outcome → Type 0 where
-  refused : (e : Refusal) → FormsCome files name (Err e) → RecogComes files input name (Err e)
-  by_forms : (forms : List Entry) (outcome : Outcome) → FormsCome files name (Ok forms) → IfSome input (λ bytes. InputComesTo (FunctionsCome forms) bytes outcome) → RecogComes files input name outcome
+-- `recog` over the bytes of an input
+abbrev pub RecogComes : List Entry → List ℕ → Outcome → Type 0
+RecogComes forms bytes outcome = InputComesTo (FunctionsCome forms) bytes outcome
+
+-- A command over the functions of the input by a description, by what is known of the files and of the input: the description first, and then what the bytes
+-- of the input come to by its forms.
+pub data ByForms (comes : List Entry → List ℕ → Outcome → Type 0) (files : Source) (input : Option (List ℕ)) (name : List ℕ) : Outcome → Type 0 where
+  refused : (e : Refusal) → FormsCome files name (Err e) → ByForms comes files input name (Err e)
+  by_forms : (forms : List Entry) (outcome : Outcome) → FormsCome files name (Ok forms) → IfSome input (λ bytes. comes forms bytes outcome) → ByForms comes files input name outcome
 
 -- What a command comes to, by what is known of the bytes of the files and of the input. An input of which nothing is known may come
 -- to anything; `list` does not look at it.
 pub data CommandComes (files : Source) (input : Option (List ℕ)) : Command → Outcome → Type 0 where
-  assembled : (outcome : Outcome) → IfSome input (λ bytes. InputComes bytes outcome) → CommandComes files input commands.Asm outcome
+  assembled : (name : Option (List ℕ)) (outcome : Outcome) → ByForms TextComes files input (described name) outcome → CommandComes files input (commands.Asm name) outcome
   listed : (name : Option (List ℕ)) (r : Result (List ℕ) ListRefusal) → ListComes files (described name) r → CommandComes files input (commands.List name) (list_told r)
-  recognised : (name : Option (List ℕ)) (outcome : Outcome) → RecogComes files input (described name) outcome → CommandComes files input (commands.Recog name) outcome
-  tries : (function : List ℕ) (steps : ℕ) (args : List ℕ) (outcome : Outcome) → IfSome input (λ bytes. EvalComes bytes function steps args outcome) → CommandComes files input (commands.Eval function steps args) outcome
+  recognised : (name : Option (List ℕ)) (outcome : Outcome) → ByForms RecogComes files input (described name) outcome → CommandComes files input (commands.Recog name) outcome
+  tries : (name : Option (List ℕ)) (function : List ℕ) (steps : ℕ) (args : List ℕ) (outcome : Outcome) → ByForms (EvalComes function steps args) files input (described name) outcome →
+      CommandComes files input (commands.Eval name function steps args) outcome
 
 -- ---- answers
 
@@ -72,43 +78,46 @@ pub data Answers (words : List (List ℕ)) (files : Source) (input : Option (Lis
   usage : command_of words ≡ None → Answers words files input (Err refusal.Usage)
   spoken : (c : Command) (outcome : Outcome) → command_of words ≡ Some c → CommandComes files input c outcome → Answers words files input outcome
 
--- enough is known for one answer
-abbrev pub IsKnownFor : Source → Option (List ℕ) → Option Command → Type 0
-IsKnownFor files input None = Unit {0}
-IsKnownFor files input (Some commands.Asm) = IsSome input
-IsKnownFor files input (Some (commands.List name)) = IsKnown files (described name)
-IsKnownFor files input (Some (commands.Recog name)) = IsKnown files (described name) × IsSome input
-IsKnownFor files input (Some (commands.Eval function steps args)) = IsSome input
+-- the name of the description of a command
+abbrev pub description_of : Command → List ℕ
+description_of (commands.Asm name) = described name
+description_of (commands.List name) = described name
+description_of (commands.Recog name) = described name
+description_of (commands.Eval name function steps args) = described name
 
 -- whether the input is read
 abbrev pub reads_input : Option Command → Bool
-reads_input (Some commands.Asm) = true
-reads_input (Some (commands.Recog name)) = true
-reads_input (Some (commands.Eval function steps args)) = true
-reads_input _ = false
+reads_input None = false
+reads_input (Some (commands.List name)) = false
+reads_input (Some _) = true
 
 -- whether files may be asked
 abbrev pub reads_files : Option Command → Bool
-reads_files (Some (commands.List name)) = true
-reads_files (Some (commands.Recog name)) = true
-reads_files _ = false
+reads_files None = false
+reads_files (Some c) = true
+
+-- enough is known for one answer
+abbrev pub IsKnownFor : Source → Option (List ℕ) → Option Command → Type 0
+IsKnownFor files input None = Unit {0}
+IsKnownFor files input (Some (commands.List name)) = IsKnown files (described name)
+IsKnownFor files input (Some c) = IsKnown files (description_of c) × IsSome input
 
 -- the words are no command, or they name no function of the input
 abbrev pub IsMisused : Option Command → Option (List ℕ) → Type 0
 IsMisused None input = Unit {0}
-IsMisused (Some (commands.Eval function steps args)) input = IfSome input (λ bytes. IsUnnamed bytes function)
+IsMisused (Some (commands.Eval name function steps args)) input = IfSome input (λ bytes. IsUnnamed bytes function)
 IsMisused (Some _) input = ⊥
 
 -- what is known of the description before the input is read: it has come to its forms
 abbrev pub HasForms : Source → Option Command → Type 0
-HasForms files (Some (commands.Recog name)) = (forms : List Entry) × FormsCome files (described name) (Ok forms)
-HasForms files _ = Unit {0}
+HasForms files None = Unit {0}
+HasForms files (Some (commands.List name)) = Unit {0}
+HasForms files (Some c) = (forms : List Entry) × FormsCome files (description_of c) (Ok forms)
 
 -- the names that files may be asked for
 abbrev pub MayBeAsked : Source → Option Command → List (List ℕ) → Type 0
-MayBeAsked files (Some (commands.List name)) names = AreNamed files (described name) names
-MayBeAsked files (Some (commands.Recog name)) names = AreNamed files (described name) names
-MayBeAsked files _ names = names ≡ []
+MayBeAsked files None names = names ≡ []
+MayBeAsked files (Some c) names = AreNamed files (description_of c) names
 
 -- ---- what an answer is outside
 

@@ -9,16 +9,19 @@ use Rattle.md_list.specs.Listing.{ListComes}
 use Rattle.md_named.specs.Named.{FormsCome}
 use Rattle.recog_text.specs.Recog.{FunctionsCome}
 use Rattle.func_input.specs.Input.{IsInput}
-use Rattle.asm_text.specs.Lines.{IsAssembly, AllMatched}
+use Rattle.asm_text.specs.declared.assembly.Assembly.{Assembly}
+use Rattle.asm_text.specs.Assembly.{AssemblyComes}
+use Rattle.asm_text.specs.Lines.{IsAssembly}
 use Rattle.asm_text.specs.Same.{DoesSame}
 use Rattle.asm_text.specs.Code.{IsCoded, has_named}
 use Rattle.asm_text.specs.declared.code.Coded.{Coded}
 use Rattle.code_eval.specs.Start.{stack_room}
 use Rattle.code_eval.specs.Eval.{eval_text, IsFair, ComesToSame}
 
--- the assembly of the input was written, and nothing else
-abbrev pub WritesLines : Option (List ℕ) → Option (List ℕ) → Option (List ℕ) → Type 0
-WritesLines input old new = IfSome input (λ bytes. (functions : List Function) × IsInput bytes functions × (text : List ℕ) × IsAssembly 0 functions text × Appends old new text)
+-- the assembly of the input by a description was written, and nothing else
+abbrev pub WritesLines : Source → List ℕ → Option (List ℕ) → Option (List ℕ) → Option (List ℕ) → Type 0
+WritesLines files name input old new =
+    IfSome input (λ bytes. (forms : List Entry) × FormsCome files name (Ok forms) × (functions : List Function) × IsInput bytes functions × (a : Assembly) × IsAssembly forms 0 functions a × Appends old new a.text)
 
 -- and it does what the functions of the input do
 abbrev pub WritesSame : Option (List ℕ) → Option (List ℕ) → Option (List ℕ) → Type 0
@@ -30,11 +33,11 @@ pub record IsTried (c : Coded) (steps : ℕ) (args : List ℕ) : Type 0 where
   pub fair : IsFair c.function steps args
   pub same : c.function.locals ≤ stack_room → ComesToSame c.function c.items steps args
 
--- the outcomes of the function of the input with a name, and of the lines and labels that its part of the assembly spells, were
+-- the outcomes of the function of the input with a name, and of the lines and labels that its part of the assembly by a description spells, were
 -- written, and nothing else
-abbrev pub WritesOutcomes : Option (List ℕ) → List ℕ → ℕ → List ℕ → Option (List ℕ) → Option (List ℕ) → Type 0
-WritesOutcomes input function steps args old new =
-    IfSome input (λ bytes. (c : Coded) × IsCoded bytes function c × IsTried c steps args × Appends old new (eval_text c.function c.items steps args))
+abbrev pub WritesOutcomes : Source → List ℕ → Option (List ℕ) → List ℕ → ℕ → List ℕ → Option (List ℕ) → Option (List ℕ) → Type 0
+WritesOutcomes files name input function steps args old new =
+    IfSome input (λ bytes. (forms : List Entry) × FormsCome files name (Ok forms) × (c : Coded) × IsCoded forms bytes function c × IsTried c steps args × Appends old new (eval_text c.function c.items steps args))
 
 -- the list of a description was written, and nothing else
 abbrev pub WritesList : Source → List ℕ → Option (List ℕ) → Option (List ℕ) → Type 0
@@ -49,13 +52,15 @@ WritesForms files name input old new =
 abbrev pub IsDone : ℕ → Type 0
 IsDone status = (status ≡ 0) ⊎ (status ≡ 8)
 
--- an input of which each instruction is matched ends so
-abbrev pub Completes : Option (List ℕ) → ℕ → Type 0
-Completes input status = IfSome input (λ bytes. (functions : List Function) → IsInput bytes functions → AllMatched functions → IsDone status)
+-- an input that has an assembly by a description ends so
+abbrev pub Completes : Source → List ℕ → Option (List ℕ) → ℕ → Type 0
+Completes files name input status = (forms : List Entry) → FormsCome files name (Ok forms) →
+    IfSome input (λ bytes. (functions : List Function) (a : Assembly) → IsInput bytes functions → AssemblyComes forms functions (Ok a) → IsDone status)
 
 -- and so does one of which a function is tried that it has
-abbrev pub CompletesFor : Option (List ℕ) → List ℕ → ℕ → Type 0
-CompletesFor input function status = IfSome input (λ bytes. (functions : List Function) → IsInput bytes functions → AllMatched functions → has_named functions function ≡ true → IsDone status)
+abbrev pub CompletesFor : Source → List ℕ → Option (List ℕ) → List ℕ → ℕ → Type 0
+CompletesFor files name input function status = (forms : List Entry) → FormsCome files name (Ok forms) →
+    IfSome input (λ bytes. (functions : List Function) (a : Assembly) → IsInput bytes functions → AssemblyComes forms functions (Ok a) → has_named functions function ≡ true → IsDone status)
 
 -- and so does one of which each instruction has a form of a description
 abbrev pub CompletesBy : Source → List ℕ → Option (List ℕ) → ℕ → Type 0

@@ -11,10 +11,12 @@ ghost use Rattle.run_refusal.specs.declared.refusal.Refusal.TheVariants as refus
 ghost use Rattle.rtx_tree.specs.Limit.{most_bytes};
 ghost use Rattle.func_input.specs.Outcome.{Outcome};
 ghost use Rattle.asm_text.specs.Same.{AreParts};
+ghost use Rattle.asm_text.specs.Compile.{TextComes};
 ghost use Rattle.asm_text.specs.Code.{IsUnnamed};
 ghost use Rattle.md_source.specs.Source.{Source as Known};
 ghost use Rattle.md_source.specs.Asked.{AreNamed, GrewBy, IsKnown};
 ghost use Rattle.md_source.specs.Answers.{Agrees};
+ghost use Rattle.md_forms.specs.declared.form.Entry.{Entry};
 ghost use Rattle.md_list.specs.Listing.{ListComes};
 ghost use Rattle.md_named.specs.Named.{FormsCome};
 ghost use Rattle.rtlc_words.specs.declared.command.Command.TheVariants as commands;
@@ -22,8 +24,8 @@ ghost use Rattle.rtlc_words.specs.Words as spoken;
 ghost use Rattle.rtlc_words.specs.Words.{words_of};
 ghost use Rattle.rtlc_run.specs.Answer as spec;
 ghost use Rattle.rtlc_run.specs.Written.{WritesLines, WritesSame, WritesList, WritesForms, WritesOutcomes, Completes, CompletesFor, CompletesBy, IsDone};
-ghost use Rattle.rtlc_run.specs.machine.Steps.{Gives, IsOwn, InputRefused};
-ghost use Rattle.rtlc_run.specs.Answer.{EvalComes, CommandComes, Answers, HasForms, IsMisused, reads_input, reads_files, IsKnownFor, MayBeAsked, Writes, WritesFront, IsRefused, Reports, HasCause, TellsCause, IsAnswered};
+ghost use Rattle.rtlc_run.specs.machine.Steps.{Gives, IsOwn, InputRefused, TaskComes, Misuses, MisusesInput};
+ghost use Rattle.rtlc_run.specs.Answer.{EvalComes, RecogComes, ByForms, CommandComes, Answers, HasForms, IsMisused, reads_input, reads_files, IsKnownFor, MayBeAsked, Writes, WritesFront, IsRefused, Reports, HasCause, TellsCause, IsAnswered};
 
 use asm_text::{assembly_of, code_of};
 use byte_edge::{Files, ReadAll, Sink, Source, read_all, write_all_of};
@@ -57,50 +59,100 @@ fn input_bytes<S: Source>(alloc: Global, input: &mut S) -> Result<Vec<u8>, Refus
     }
 }
 
-/// The assembly of the input.
-fn assembled<S: Source>(alloc: Global, input: &mut S) -> Result<Vec<u8>, Refusal>
-    ensures gives { (known : Known) → Gives result (CommandComes known (S.left input.old) commands.Asm) }
+/// What is made of the functions of the input by a description.
+#[derive(Drop)]
+enum Task {
+    /// Their assembly.
+    Assemble,
+    /// The form of each instruction.
+    Recognise,
+    /// The outcomes of one of them and of its code.
+    Try {
+        function: Name,
+        steps: u16,
+        args: [u64; 8],
+    },
+}
+
+/// The text of the assembly of the functions among bytes.
+fn assembled(alloc: Global, description: &Description, bytes: &[u8]) -> Result<Vec<u8>, Refusal>
+    requires { length bytes.now ≤ most_bytes }
+    ensures gives { Gives result (TextComes description.now bytes.now) }
     ensures own { IsOwn result }
-    ensures fault { result ≡ Err Refusal.ReadFault → Rose (S.fault_count input.old) (S.fault_count input.new) }
-    ensures quiet { result ≢ Err Refusal.ReadFault → S.fault_count input.new ≡ S.fault_count input.old }
+    ensures read { result ≢ Err Refusal.ReadFault }
 {
-    let bytes = input_bytes(alloc, input)?;
-    assembly_of(alloc, &bytes)
+    let assembly = assembly_of(alloc, description, bytes)?;
+    Ok(assembly.text.into_vec())
+}
+
+/// The forms of the instructions of the functions among bytes.
+fn recognised(alloc: Global, description: &Description, bytes: &[u8]) -> Result<Vec<u8>, Refusal>
+    requires { length bytes.now ≤ most_bytes }
+    ensures gives { Gives result (RecogComes description.now bytes.now) }
+    ensures own { IsOwn result }
+    ensures read { result ≢ Err Refusal.ReadFault }
+{
+    recog_of(alloc, description, bytes)
 }
 
 /// The outcomes of a function among bytes and of its code.
 fn outcomes_of(
     alloc: Global,
+    description: &Description,
     bytes: &[u8],
     function: &Name,
     steps: u16,
     args: [u64; 8],
 ) -> Result<Vec<u8>, Refusal>
     requires { length bytes.now ≤ most_bytes }
-    ensures gives { Gives result (EvalComes bytes.now function.now steps args) }
+    ensures gives { Gives result (EvalComes function.now steps args description.now bytes.now) }
     ensures usage { result ≡ Err Refusal.Usage → IsUnnamed bytes.now function.now }
+    ensures unwritten { result ≢ Err Refusal.WriteFault }
     ensures read { result ≢ Err Refusal.ReadFault }
 {
-    let coded = code_of(alloc, bytes, function.bytes())?;
+    let coded = code_of(alloc, description, bytes, function.bytes())?;
     Ok(eval_text(alloc, &coded.function, coded.items.as_slice(), steps, args)?)
 }
 
-/// The outcomes of a function of the input and of its code.
-fn evaluated<S: Source>(
+/// What a task makes of bytes by a description.
+fn made(
+    alloc: Global,
+    description: &Description,
+    bytes: &[u8],
+    task: &Task,
+) -> Result<Vec<u8>, Refusal>
+    requires { length bytes.now ≤ most_bytes }
+    ensures gives { Gives result (TaskComes task.now description.now bytes.now) }
+    ensures usage { result ≡ Err Refusal.Usage → Misuses task.now bytes.now }
+    ensures unwritten { result ≢ Err Refusal.WriteFault }
+    ensures read { result ≢ Err Refusal.ReadFault }
+{
+    match task {
+        Task::Assemble => assembled(alloc, description, bytes),
+        Task::Recognise => recognised(alloc, description, bytes),
+        Task::Try {
+            function,
+            steps,
+            args,
+        } => outcomes_of(alloc, description, bytes, function, *steps, *args),
+    }
+}
+
+/// What a task makes of the input by a description.
+fn made_of<S: Source>(
     alloc: Global,
     input: &mut S,
-    function: &Name,
-    steps: u16,
-    args: [u64; 8],
+    description: &Description,
+    task: &Task,
 ) -> Result<Vec<u8>, Refusal>
-    ensures gives { (known : Known) → Gives result (CommandComes known (S.left input.old) (commands.Eval function.now steps args)) }
+    ensures gives { (known : Known) (name : List ℕ) → FormsCome known name (Ok description.now) → Gives result (ByForms (TaskComes task.now) known (S.left input.old) name) }
+    ensures usage { result ≡ Err Refusal.Usage → MisusesInput task.now (S.left input.old) }
     ensures unwritten { result ≢ Err Refusal.WriteFault }
-    ensures usage { result ≡ Err Refusal.Usage → IsMisused (Some (commands.Eval function.now steps args)) (S.left input.old) }
     ensures fault { result ≡ Err Refusal.ReadFault → Rose (S.fault_count input.old) (S.fault_count input.new) }
     ensures quiet { result ≢ Err Refusal.ReadFault → S.fault_count input.new ≡ S.fault_count input.old }
 {
     let bytes = input_bytes(alloc, input)?;
-    outcomes_of(alloc, &bytes, function, steps, args)
+    made(alloc, description, &bytes, task)
 }
 
 fn list_refused(refusal: ListRefusal) -> Refusal
@@ -140,39 +192,26 @@ fn listed<F: Files>(alloc: Global, files: &mut F, name: &Option<Name>) -> Result
     }
 }
 
-/// What is told of the instructions of the input by a description.
-fn recognised_by<S: Source>(
-    alloc: Global,
-    input: &mut S,
-    description: &Description,
-) -> Result<Vec<u8>, Refusal>
-    ensures gives { (known : Known) (name : Option (List ℕ)) → FormsCome known (spec.described name) (Ok description.now) → Gives result (CommandComes known (S.left input.old) (commands.Recog name)) }
-    ensures own { IsOwn result }
-    ensures fault { result ≡ Err Refusal.ReadFault → Rose (S.fault_count input.old) (S.fault_count input.new) }
-    ensures quiet { result ≢ Err Refusal.ReadFault → S.fault_count input.new ≡ S.fault_count input.old }
-{
-    let bytes = input_bytes(alloc, input)?;
-    recog_of(alloc, description, &bytes)
-}
-
-/// What is told of the instructions of the input by the description of a name, which is looked at first.
-fn recognised<F: Files, S: Source>(
+/// What a task makes of the input by the description of a name, which is looked at first.
+fn made_by<F: Files, S: Source>(
     alloc: Global,
     files: &mut F,
     input: &mut S,
     name: &Option<Name>,
+    task: &Task,
 ) -> Result<Vec<u8>, Refusal>
-    ensures gives { (known : Known) → Agrees known (F.holds files.old) → Gives result (CommandComes known (S.left input.old) (commands.Recog name.now)) }
+    ensures gives { (known : Known) → Agrees known (F.holds files.old) → Gives result (ByForms (TaskComes task.now) known (S.left input.old) (spec.described name.now)) }
     ensures asked { (known : Known) → Agrees known (F.holds files.old) → GrewBy (AreNamed known (spec.described name.now)) (F.asked files.old) (F.asked files.new) }
-    ensures own { IsOwn result }
+    ensures usage { result ≡ Err Refusal.Usage → MisusesInput task.now (S.left input.old) }
+    ensures unwritten { result ≢ Err Refusal.WriteFault }
     ensures behind { result ≡ Err Refusal.ReadFault → ¬ Rose (F.fault_count files.old) (F.fault_count files.new) →
-        (known : Known) → Agrees known (F.holds files.old) → HasForms known (Some (commands.Recog name.now)) }
+        (known : Known) → Agrees known (F.holds files.old) → (forms : List Entry) × FormsCome known (spec.described name.now) (Ok forms) }
     ensures fault { result ≡ Err Refusal.ReadFault → Rose (S.fault_count input.old) (S.fault_count input.new) ⊎ Rose (F.fault_count files.old) (F.fault_count files.new) }
     ensures quiet { result ≢ Err Refusal.ReadFault → S.fault_count input.new ≡ S.fault_count input.old }
     ensures calm { result ≢ Err Refusal.ReadFault → F.fault_count files.new ≡ F.fault_count files.old }
 {
     let description = description_of(alloc, files, described(name))?;
-    recognised_by(alloc, input, &description)
+    made_of(alloc, input, &description, task)
 }
 
 /// The text that a command comes to. The description is looked at where the command has one, the input where it reads it.
@@ -195,14 +234,26 @@ fn produced<F: Files, S: Source>(
     ensures input { reads_input (Some command) ≡ false → input.new ≡ input.old }
 {
     match command {
-        Command::Asm => assembled(alloc, input),
+        Command::Asm { description } => {
+            made_by(alloc, files, input, &description, &Task::Assemble)
+        }
         Command::List { description } => listed(alloc, files, &description),
-        Command::Recog { description } => recognised(alloc, files, input, &description),
+        Command::Recog { description } => {
+            made_by(alloc, files, input, &description, &Task::Recognise)
+        }
         Command::Eval {
+            description,
             function,
             steps,
             args,
-        } => evaluated(alloc, input, &function, steps, args),
+        } => {
+            let task = Task::Try {
+                function,
+                steps,
+                args,
+            };
+            made_by(alloc, files, input, &description, &task)
+        }
     }
 }
 
@@ -305,9 +356,8 @@ fn report<E: Sink>(alloc: Global, errors: &mut E, refusal: &Refusal) -> u8
     }
 }
 
-/// The whole program. `words` are those after the program's name: `asm`, `eval NAME STEPS` with up to eight numbers, or `list` or
-/// `recog` with `--md NAME` at most once. `files` are asked for a description that is named and for what it includes, `input` is read by all
-/// but `list`. The text is written to `output`, the line of a refusal to `errors`, and the exit status is given: 0, or that of the
+/// The whole program. `words` are those after the program's name: `asm`, `list`, `recog`, or `eval NAME STEPS` with up to eight numbers, and
+/// `--md NAME` at most once. `files` are asked for a description that is named and for what it includes, `input` is read by all but `list`. The text is written to `output`, the line of a refusal to `errors`, and the exit status is given: 0, or that of the
 /// [`Refusal`].
 ///
 /// A count rose in a call where it is greater after it than before, or stands after it at its last value. `Known` is what is known of the
@@ -332,17 +382,19 @@ pub fn run<F: Files, S: Source, K: Sink, E: Sink>(
     ensures one { (known : Known) (left : Option (List ℕ)) (a b : Outcome) → IsKnownFor known left (spoken.command_of (words_of words.now)) →
         Answers (words_of words.now) known left a → Answers (words_of words.now) known left b → a ≡ b }
 
-    // `asm`: the text of status 0 by its lines, and that an input of which a form matches each instruction has one.
-    ensures lines { spoken.command_of (words_of words.now) ≡ Some commands.Asm → result ≡ 0 →
-        WritesLines (S.left input.old) (K.taken output.old) (K.taken output.new) }
+    // `asm`: the text of status 0 by its lines, which are those of the description's forms; and an input that has an assembly is written.
+    ensures lines { (known : Known) → Agrees known (F.holds files.old) → (name : Option (List ℕ)) →
+        spoken.command_of (words_of words.now) ≡ Some (commands.Asm name) → result ≡ 0 →
+        WritesLines known (spec.described name) (S.left input.old) (K.taken output.old) (K.taken output.new) }
 
-    ensures complete { spoken.command_of (words_of words.now) ≡ Some commands.Asm →
+    ensures complete { (known : Known) → Agrees known (F.holds files.old) → (name : Option (List ℕ)) →
+        spoken.command_of (words_of words.now) ≡ Some (commands.Asm name) → IsKnown known (spec.described name) →
         ¬ Rose (F.fault_count files.old) (F.fault_count files.new) →
         ¬ Rose (S.fault_count input.old) (S.fault_count input.new) →
-        ¬ Rose (K.fault_count output.old) (K.fault_count output.new) → Completes (S.left input.old) result }
+        ¬ Rose (K.fault_count output.old) (K.fault_count output.new) → Completes known (spec.described name) (S.left input.old) result }
 
-    // What the text of status 0 does: the lines that it spells for each function do what the function does.
-    ensures behaves { spoken.command_of (words_of words.now) ≡ Some commands.Asm → result ≡ 0 →
+    // What the text of status 0 does: the lines that it spells for each function do what the function does, whatever the description.
+    ensures behaves { (name : Option (List ℕ)) → spoken.command_of (words_of words.now) ≡ Some (commands.Asm name) → result ≡ 0 →
         WritesSame (S.left input.old) (K.taken output.old) (K.taken output.new) }
 
     // And they are the only ones: of each text there is one list of lines and labels that it spells, and the text of some functions is cut
@@ -355,16 +407,16 @@ pub fn run<F: Files, S: Source, K: Sink, E: Sink>(
 
     // `eval`: the text of status 0 has the outcomes that are defined for a function, over the lines and labels that its part of the
     // assembly of the input spells; it is tried fairly, so that where its outcome has a value its lines come to the same one. And a
-    // function of an input of which a form matches each instruction has them.
-    ensures evaluates { (function : List ℕ) (steps : ℕ) (args : List ℕ) →
-        spoken.command_of (words_of words.now) ≡ Some (commands.Eval function steps args) → result ≡ 0 →
-        WritesOutcomes (S.left input.old) function steps args (K.taken output.old) (K.taken output.new) }
+    // function of an input that has an assembly has them.
+    ensures evaluates { (known : Known) → Agrees known (F.holds files.old) → (name : Option (List ℕ)) (function : List ℕ) (steps : ℕ) (args : List ℕ) →
+        spoken.command_of (words_of words.now) ≡ Some (commands.Eval name function steps args) → result ≡ 0 →
+        WritesOutcomes known (spec.described name) (S.left input.old) function steps args (K.taken output.old) (K.taken output.new) }
 
-    ensures tried { (function : List ℕ) (steps : ℕ) (args : List ℕ) →
-        spoken.command_of (words_of words.now) ≡ Some (commands.Eval function steps args) →
+    ensures tried { (known : Known) → Agrees known (F.holds files.old) → (name : Option (List ℕ)) (function : List ℕ) (steps : ℕ) (args : List ℕ) →
+        spoken.command_of (words_of words.now) ≡ Some (commands.Eval name function steps args) → IsKnown known (spec.described name) →
         ¬ Rose (F.fault_count files.old) (F.fault_count files.new) →
         ¬ Rose (S.fault_count input.old) (S.fault_count input.new) →
-        ¬ Rose (K.fault_count output.old) (K.fault_count output.new) → CompletesFor (S.left input.old) function result }
+        ¬ Rose (K.fault_count output.old) (K.fault_count output.new) → CompletesFor known (spec.described name) (S.left input.old) function result }
 
     // `list`: the text of status 0 is the list of the description's forms, and a description that has a list is listed.
     ensures lists { (known : Known) → Agrees known (F.holds files.old) → (name : Option (List ℕ)) →
@@ -390,7 +442,7 @@ pub fn run<F: Files, S: Source, K: Sink, E: Sink>(
         ¬ Rose (K.fault_count output.old) (K.fault_count output.new) → CompletesBy known (spec.described name) (S.left input.old) result }
 
     // Each status has its cause.
-    ensures statuses { Contains (0 ∷ 1 ∷ 2 ∷ 3 ∷ 6 ∷ 7 ∷ 8 ∷ []) result }
+    ensures statuses { Contains (0 ∷ 1 ∷ 2 ∷ 3 ∷ 5 ∷ 6 ∷ 7 ∷ 8 ∷ []) result }
     ensures ok { result ≡ 0 → (known : Known) → Agrees known (F.holds files.old) → Writes (words_of words.now) known (S.left input.old) (K.taken output.old) (K.taken output.new) }
     ensures usage { result ≡ 1 → IsMisused (spoken.command_of (words_of words.now)) (S.left input.old) }
     ensures cause { result ≢ 0 → (known : Known) → Agrees known (F.holds files.old) → HasCause (words_of words.now) known (S.left input.old) result }

@@ -87,12 +87,7 @@ args_in words = if nat_le (length words) 8 then all_of (map (λ place. number_or
 
 -- ---- commands
 
--- a command with nothing behind its name
-abbrev pub alone : Command → Option (List ℕ) → List (List ℕ) → Option Command
-alone command None [] = Some command
-alone command _ _ = None
-
--- the description of a command that takes one and no positional word
+-- the description of a command that takes no positional word
 abbrev pub only_description : Option (List ℕ) → List (List ℕ) → Option (Option (List ℕ))
 only_description name [] = Some name
 only_description name _ = None
@@ -100,20 +95,20 @@ only_description name _ = None
 abbrev pub with_description : (Option (List ℕ) → Command) → Option (List ℕ) → List (List ℕ) → Option Command
 with_description command name words = option_map command (only_description name words)
 
-abbrev pub eval_with : List ℕ → Option ℕ → Option (List ℕ) → Option Command
-eval_with function None args = None
-eval_with function (Some steps) None = None
-eval_with function (Some steps) (Some args) = Some (commands.Eval function steps args)
+abbrev pub eval_with : Option (List ℕ) → List ℕ → Option ℕ → Option (List ℕ) → Option Command
+eval_with description function None args = None
+eval_with description function (Some steps) None = None
+eval_with description function (Some steps) (Some args) = Some (commands.Eval description function steps args)
 
 -- the name of a function, a number of steps, and up to eight numbers, which are a0 to a7
 abbrev pub eval_by : Option (List ℕ) → List (List ℕ) → Option Command
-eval_by None (function ∷ steps ∷ args) = eval_with function (steps_in steps) (args_in args)
-eval_by _ _ = None
+eval_by description (function ∷ steps ∷ args) = eval_with description function (steps_in steps) (args_in args)
+eval_by description _ = None
 
 -- each command's name, and what it makes of a description and of positional words
 abbrev pub table : List (List ℕ × (Option (List ℕ) → List (List ℕ) → Option Command))
 table =
-    (codes "asm", alone commands.Asm)
+    (codes "asm", with_description (λ d. commands.Asm d))
     ∷ (codes "list", with_description (λ d. commands.List d))
     ∷ (codes "recog", with_description (λ d. commands.Recog d))
     ∷ (codes "eval", eval_by)

@@ -15,8 +15,11 @@ use std::alloc::Global;
 /// A command.
 #[derive(Drop)]
 pub enum Command {
-    /// The assembly of the functions of the input.
-    Asm,
+    /// The assembly of the functions of the input, by a description.
+    Asm {
+        /// The name that stands behind `--md`, if there is one.
+        description: Option<Name>,
+    },
     /// The list of the forms of a description.
     List {
         /// The name that stands behind `--md`, if there is one.
@@ -27,8 +30,10 @@ pub enum Command {
         /// The name that stands behind `--md`, if there is one.
         description: Option<Name>,
     },
-    /// The outcomes of a function and of its code.
+    /// The outcomes of a function and of its code, by a description.
     Eval {
+        /// The name that stands behind `--md`, if there is one.
+        description: Option<Name>,
         /// The function's name.
         function: Name,
         /// How many steps the function is run for, from 1 to 1,000.
@@ -36,16 +41,6 @@ pub enum Command {
         /// `a0` to `a7`.
         args: [u64; 8],
     },
-}
-
-/// A command with nothing behind its name.
-fn alone(command: Command, description: Option<&str>, words: &[&str]) -> Option<Command>
-    ensures { result ≡ spec.alone command (option_map (λ s. s.now) description.entry) (words_of words.now) }
-{
-    match (description, words) {
-        (None, []) => Some(command),
-        _ => None,
-    }
 }
 
 fn name_of(alloc: Global, text: Option<&str>) -> Result<Option<Name>, Memory>
@@ -57,7 +52,7 @@ fn name_of(alloc: Global, text: Option<&str>) -> Result<Option<Name>, Memory>
     }
 }
 
-/// The description of a command that takes one and no positional word, or `None` where there is such a word.
+/// The description of a command that takes no positional word, or `None` where there is such a word.
 fn described(
     alloc: Global,
     description: Option<&str>,
@@ -73,14 +68,16 @@ fn described(
 
 fn eval_with(
     alloc: Global,
+    description: Option<&str>,
     function: &str,
     steps: &str,
     args: &[&str],
 ) -> Result<Option<Command>, Memory>
-    ensures { IfOk result (λ command. command ≡ spec.eval_with function.now (spec.steps_in steps.now) (spec.args_in (words_of args.now))) }
+    ensures { IfOk result (λ command. command ≡ spec.eval_with (option_map (λ s. s.now) description.entry) function.now (spec.steps_in steps.now) (spec.args_in (words_of args.now))) }
 {
     match (steps_in(steps), args_in(args)) {
         (Some(steps), Some(args)) => Ok(Some(Command::Eval {
+            description: name_of(alloc, description)?,
             function: Name::of(alloc, function.as_bytes())?,
             steps,
             args,
@@ -96,8 +93,8 @@ fn eval_of(
 ) -> Result<Option<Command>, Memory>
     ensures { IfOk result (λ command. command ≡ spec.eval_by (option_map (λ s. s.now) description.entry) (words_of words.now)) }
 {
-    match (description, words) {
-        (None, [function, steps, args @ ..]) => eval_with(alloc, function, steps, args),
+    match words {
+        [function, steps, args @ ..] => eval_with(alloc, description, function, steps, args),
         _ => Ok(None),
     }
 }
@@ -112,7 +109,9 @@ fn command_by(
     ensures { IfOk result (λ command. command ≡ spec.command_by name.now (option_map (λ s. s.now) description.entry) (words_of words.now)) }
 {
     match name {
-        "asm" => Ok(alone(Command::Asm, description, words)),
+        "asm" => Ok(described(alloc, description, words)?.map(|description| Command::Asm {
+            description,
+        })),
         "list" => Ok(described(alloc, description, words)?.map(|description| Command::List {
             description,
         })),

@@ -8,6 +8,8 @@ use Rattle.rtx_tree.specs.declared.tree.Rtx.{Rtx}
 use Rattle.rtx_tree.specs.Limit.{limit_name}
 use Rattle.rtx_tree.specs.Stage.{stage_name}
 use Rattle.rtl_print.specs.Print.{printed}
+use Rattle.term_text.specs.declared.item.Item.{Item}
+use Rattle.term_text.specs.Item.{item_text}
 use Rattle.run_refusal.specs.declared.refusal.Refusal.{Refusal}
 use Rattle.run_refusal.specs.declared.refusal.Refusal.TheVariants as refusal
 
@@ -18,6 +20,7 @@ status_of (refusal.Construct place name) = 2
 status_of (refusal.IllFormed function uid rule) = 2
 status_of (refusal.Limit which count) = 2
 status_of (refusal.Unmatched function uid stage insn) = 3
+status_of (refusal.NotEquated function uid rule item left right) = 5
 status_of refusal.ReadFault = 6
 status_of refusal.WriteFault = 7
 status_of refusal.Memory = 8
@@ -29,6 +32,7 @@ has_values (refusal.Construct place name) = true
 has_values (refusal.IllFormed function uid rule) = true
 has_values (refusal.Limit which count) = true
 has_values (refusal.Unmatched function uid stage insn) = true
+has_values (refusal.NotEquated function uid rule item left right) = true
 has_values _ = false
 
 -- LINE:COLUMN
@@ -57,6 +61,20 @@ stage_text stage = codes "unmatched at " ++ (stage_name stage ++ codes ": ")
 abbrev pub unmatched_line : List ℕ → ℕ → Stage → Rtx → List ℕ
 unmatched_line function uid stage insn = at_text function uid ++ (stage_text stage ++ (printed insn ++ codes "\n"))
 
+-- not equated RULE:, and a space
+abbrev pub form_text : List ℕ → List ℕ
+form_text rule = codes "not equated " ++ (rule ++ codes ": ")
+
+abbrev pub both_text : List ℕ → List ℕ → List ℕ
+both_text left right = left ++ (codes " and " ++ (right ++ codes "\n"))
+
+-- ITEM: LEFT and RIGHT
+abbrev pub sides_text : Item → List ℕ → List ℕ → List ℕ
+sides_text item left right = item_text item ++ (codes ": " ++ both_text left right)
+
+abbrev pub not_equated_line : List ℕ → ℕ → List ℕ → Item → List ℕ → List ℕ → List ℕ
+not_equated_line function uid rule item left right = at_text function uid ++ (form_text rule ++ sides_text item left right)
+
 -- the line of a refusal, which ends with a newline
 abbrev pub line_of : Refusal → List ℕ
 line_of refusal.Usage = codes "rtlc: the words are not a command\n"
@@ -65,6 +83,7 @@ line_of (refusal.Construct place name) = construct_line place name
 line_of (refusal.IllFormed function uid rule) = rule_line function uid rule
 line_of (refusal.Limit which count) = limit_line which count
 line_of (refusal.Unmatched function uid stage insn) = unmatched_line function uid stage insn
+line_of (refusal.NotEquated function uid rule item left right) = not_equated_line function uid rule item left right
 line_of refusal.ReadFault = codes "rtlc: read fault\n"
 line_of refusal.WriteFault = codes "rtlc: write fault\n"
 line_of refusal.Memory = codes "rtlc: out of memory\n"

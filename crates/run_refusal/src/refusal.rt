@@ -10,59 +10,60 @@ use plain_data::Memory;
 use rtl_print::print_rtx;
 use rtx_tree::{Limit, Name, Place, Rtx, Stage};
 use std::alloc::Global;
+use term_text::{Item, print_item};
 use text_words::{print_count, print_text};
-use thiserror::Error;
 
 /// The line of want of memory, which takes none.
 pub const MEMORY_LINE: &[u8] = b"rtlc: out of memory\n";
 
 /// Why a run ends with another status than 0. Each value is one that the line of the refusal shows.
-#[derive(Debug, Drop, Error)]
+#[derive(Drop)]
 pub enum Refusal {
     /// Status 1: the words are no command.
-    #[error("the words are not a command")]
     Usage,
     /// Status 2: the bytes are no text; the place ends the longest prefix of them that begins one. `file` is `-` for the input.
-    #[error("syntax")]
     Syntax {
         file: Name,
         place: Place,
     },
     /// Status 2: the first tree of the input that is outside the language, with the first atom in it, or `-`.
-    #[error("construct")]
     Construct {
         place: Place,
         name: Name,
     },
     /// Status 2: a rule of a well-formed function fails at the instruction with this uid; 0 stands for the function.
-    #[error("ill-formed")]
     IllFormed {
         function: Name,
         uid: u32,
         rule: u8,
     },
     /// Status 2: a counted quantity passes its number.
-    #[error("limit")]
     Limit {
         which: Limit,
         count: u64,
     },
     /// Status 3: no form matches this instruction of the function.
-    #[error("unmatched")]
     Unmatched {
         function: Name,
         uid: u32,
         stage: Stage,
         insn: Rtx,
     },
+    /// Status 5: by this rule something would stand in the place of instructions, of which the first has this uid, and it is not known to do
+    /// the same: this item differs, with these texts of its two sides; `-` where a side has none.
+    NotEquated {
+        function: Name,
+        uid: u32,
+        rule: Name,
+        item: Item,
+        left: Name,
+        right: Name,
+    },
     /// Status 6: a read failed.
-    #[error("read fault")]
     ReadFault,
     /// Status 7: a write failed; what was written is a prefix of the text.
-    #[error("write fault")]
     WriteFault,
     /// Status 8: memory ran out.
-    #[error("out of memory")]
     Memory,
 }
 
@@ -86,6 +87,7 @@ pub fn status(refusal: &Refusal) -> u8
         Refusal::Syntax { .. } | Refusal::Construct { .. } | Refusal::IllFormed { .. } => 2,
         Refusal::Limit { .. } => 2,
         Refusal::Unmatched { .. } => 3,
+        Refusal::NotEquated { .. } => 5,
         Refusal::ReadFault => 6,
         Refusal::WriteFault => 7,
         Refusal::Memory => 8,
@@ -192,6 +194,49 @@ fn unmatched_line(
     print_insn(insn, out)
 }
 
+/// Prints `not equated RULE: `.
+fn print_form(rule: &Name, out: &mut Vec<u8>) -> Result<(), Memory>
+    ensures { OnOk result (out.new.items ≡ out.old.items ++ spec.form_text rule.now) }
+{
+    print_text(b"not equated ", out)?;
+    print_text(rule.bytes(), out)?;
+    print_text(b": ", out)
+}
+
+fn print_both(left: &Name, right: &Name, out: &mut Vec<u8>) -> Result<(), Memory>
+    ensures { OnOk result (out.new.items ≡ out.old.items ++ spec.both_text left.now right.now) }
+{
+    print_text(left.bytes(), out)?;
+    print_text(b" and ", out)?;
+    print_text(right.bytes(), out)?;
+    print_text(b"\n", out)
+}
+
+/// Prints `ITEM: LEFT and RIGHT`.
+fn print_sides(item: Item, left: &Name, right: &Name, out: &mut Vec<u8>) -> Result<(), Memory>
+    ensures { OnOk result (out.new.items ≡ out.old.items ++ spec.sides_text item left.now right.now) }
+{
+    print_item(item, out)?;
+    print_text(b": ", out)?;
+    print_both(left, right, out)
+}
+
+fn not_equated_line(
+    function: &Name,
+    uid: u32,
+    rule: &Name,
+    item: Item,
+    left: &Name,
+    right: &Name,
+    out: &mut Vec<u8>,
+) -> Result<(), Memory>
+    ensures { OnOk result (out.new.items ≡ out.old.items ++ spec.not_equated_line function.now uid rule.now item left.now right.now) }
+{
+    print_at(function, uid, out)?;
+    print_form(rule, out)?;
+    print_sides(item, left, right, out)
+}
+
 /// Appends the line of a refusal.
 fn print_line(refusal: &Refusal, out: &mut Vec<u8>) -> Result<(), Memory>
     ensures { OnOk result (out.new.items ≡ out.old.items ++ spec.line_of refusal.now) }
@@ -212,6 +257,14 @@ fn print_line(refusal: &Refusal, out: &mut Vec<u8>) -> Result<(), Memory>
             stage,
             insn,
         } => unmatched_line(function, *uid, *stage, insn, out),
+        Refusal::NotEquated {
+            function,
+            uid,
+            rule,
+            item,
+            left,
+            right,
+        } => not_equated_line(function, *uid, rule, *item, left, right, out),
         Refusal::ReadFault => print_text(b"rtlc: read fault\n", out),
         Refusal::WriteFault => print_text(b"rtlc: write fault\n", out),
         Refusal::Memory => print_text(b"rtlc: out of memory\n", out),

@@ -2,7 +2,7 @@ use Rattle.std.proofs.Common.{subst, arith}
 use Rattle.std.proofs.lemmas.List.{drop_all}
 use Rattle.std.proofs.lemmas.Result.{err_from_is_err_and}
 use Rattle.recog_text.specs.Recog.{FunctionComes}
-use Rattle.recog_text.proofs.Each.{Makes, makes_wrong, makes_all}
+use Rattle.func_after.proofs.Each.{Makes, makes_wrong, makes_all}
 use Rattle.recog_text.proofs.recog.print_functions.Goals as goal
 
 pub returns-in_err-print_function : goal.returns-in_err-print_function

@@ -1,6 +1,6 @@
 use Rattle.std.proofs.Common.{drop}
 use Rattle.recog_text.specs.Recog.{FunctionComes}
-use Rattle.recog_text.proofs.Each.{Makes}
+use Rattle.func_after.proofs.Each.{Makes}
 use Rattle.recog_text.proofs.recog.print_functions.Given as goal
 
 abbrev pub invariant-loop-f : goal.invariant-loop-f

@@ -1,21 +1,23 @@
+use Rattle.std.proofs.Common.{ℕ, List, Ok, ap}
 use Rattle.std.proofs.lemmas.Result.{err_from_is_err_and}
 use Rattle.asm_text.specs.Compile.{InputComes}
-use Rattle.rtlc_run.proofs.Commands.{asm_unread, asm_produced, unread_is_own, told_is_own}
+use Rattle.rtlc_run.proofs.Tasks.{text_refused, refusal_is_own, refusal_read}
 use Rattle.rtlc_run.proofs.program.assembled.Goals as goal
 
-pub returns-in_err-bytes-clause-gives : goal.returns-in_err-bytes-clause-gives
-returns-in_err-bytes-clause-gives g c =
+pub returns-in_err-assembly-clause-gives : goal.returns-in_err-assembly-clause-gives
+returns-in_err-assembly-clause-gives c =
     let p = err_from_is_err_and c.from_residual.result c.from_residual.ensures.1 in
-    λ known. rw (p.1, p.2) (asm_unread known (g.S.Source.left c.args.input.now) c.in_err-bytes.field-0.0 c.in_err-bytes.ensures.cause)
+    rw (p.1, p.2) (text_refused c.args.description.now c.args.bytes.now c.in_err-assembly.field-0.0 c.in_err-assembly.ensures.gives)
+
+pub returns-in_err-assembly-clause-own : goal.returns-in_err-assembly-clause-own
+returns-in_err-assembly-clause-own c =
+    let p = err_from_is_err_and c.from_residual.result c.from_residual.ensures.1 in
+    rw (p.1, p.2) (refusal_is_own (InputComes c.args.description.now c.args.bytes.now) c.in_err-assembly.field-0.0 c.in_err-assembly.ensures.gives)
+
+pub returns-in_err-assembly-clause-read : goal.returns-in_err-assembly-clause-read
+returns-in_err-assembly-clause-read c =
+    let p = err_from_is_err_and c.from_residual.result c.from_residual.ensures.1 in
+    rw (p.1, p.2) (refusal_read (InputComes c.args.description.now c.args.bytes.now) c.in_err-assembly.field-0.0 c.in_err-assembly.ensures.gives)
 
 pub returns-clause-gives : goal.returns-clause-gives
-returns-clause-gives g c = λ known.
-    asm_produced known (g.S.Source.left c.args.input.now) (g.S.Source.left c.input_bytes.new.input) c.in_ok-bytes.bytes.items c.assembly_of.result c.in_ok-bytes.ensures.all (rw c.deref.ensures.value at c.assembly_of.ensures.gives)
-
-pub returns-in_err-bytes-clause-own : goal.returns-in_err-bytes-clause-own
-returns-in_err-bytes-clause-own g c =
-    let p = err_from_is_err_and c.from_residual.result c.from_residual.ensures.1 in
-    rw (p.1, p.2) (unread_is_own (g.S.Source.left c.args.input.now) c.in_err-bytes.field-0.0 c.in_err-bytes.ensures.cause)
-
-pub returns-clause-own : goal.returns-clause-own
-returns-clause-own g c = told_is_own (InputComes c.in_ok-bytes.bytes.items) c.assembly_of.result (rw c.deref.ensures.value at c.assembly_of.ensures.gives)
+returns-clause-gives c = (Ok c.in_ok-assembly.assembly, c.in_ok-assembly.ensures.gives, ap (λ (t : List ℕ). Ok t) c.into_vec.ensures)

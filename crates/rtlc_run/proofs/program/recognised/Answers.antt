@@ -1,29 +1,14 @@
-use Rattle.std.proofs.Common.{ap, Err}
-use Rattle.std.proofs.lemmas.Result.{err_from_is_err_and}
-use Rattle.run_refusal.specs.declared.refusal.Refusal.{Refusal}
-use Rattle.run_refusal.specs.declared.refusal.Refusal.TheVariants as refusal
-use Rattle.rtlc_run.proofs.Answered.{err_back}
-use Rattle.rtlc_run.proofs.Commands.{nothing_known, nothing_agrees}
-use Rattle.rtlc_run.proofs.Recognised.{forms_refuse, forms_are_own}
+use Rattle.rtlc_run.specs.Answer.{RecogComes}
+use Rattle.rtlc_run.proofs.Commands.{gives_text, told_is_own, told_read}
 use Rattle.rtlc_run.proofs.program.recognised.Goals as goal
 
-pub returns-in_err-description-clause-gives : goal.returns-in_err-description-clause-gives
-returns-in_err-description-clause-gives g c =
-    let p = err_from_is_err_and c.from_residual.result c.from_residual.ensures.1 in
-    λ known agrees. rw (p.1, p.2) (forms_refuse known (g.S.Source.left c.args.input.now) c.args.name.now c.in_err-description.field-0.0 (rw c.described.ensures at (c.in_err-description.ensures.gives known agrees)))
-
-pub returns-in_err-description-clause-own : goal.returns-in_err-description-clause-own
-returns-in_err-description-clause-own g c =
-    let p = err_from_is_err_and c.from_residual.result c.from_residual.ensures.1 in
-    rw (p.1, p.2) (forms_are_own nothing_known c.described.result.now c.in_err-description.field-0.0 (c.in_err-description.ensures.gives nothing_known (nothing_agrees (g.F.Files.holds c.args.files.now))))
-
 pub returns-clause-gives : goal.returns-clause-gives
-returns-clause-gives g c = λ known agrees. c.recognised_by.ensures.gives known c.args.name.now (rw c.described.ensures at (c.in_ok-description.ensures.gives known agrees))
+returns-clause-gives c =
+    let comes = RecogComes c.args.description.now c.args.bytes.now in
+    gives_text c.recog_of.result comes comes (λ o own. own) c.recog_of.ensures.gives
 
-pub returns-in_err-description-clause-behind : goal.returns-in_err-description-clause-behind
-returns-in_err-description-clause-behind g c =
-    let p = err_from_is_err_and c.from_residual.result c.from_residual.ensures.1 in
-    λ read calm known agrees. absurd (calm (c.in_err-description.ensures.fault (ap (λ (e : Refusal). Err e) (err_back c.from_residual.result p.0 c.in_err-description.field-0.0 refusal.ReadFault p.1 p.2 read))))
+pub returns-clause-own : goal.returns-clause-own
+returns-clause-own c = told_is_own (RecogComes c.args.description.now c.args.bytes.now) c.recog_of.result c.recog_of.ensures.gives
 
-pub returns-clause-behind : goal.returns-clause-behind
-returns-clause-behind g c = λ read calm known agrees. (c.in_ok-description.description, rw c.described.ensures at (c.in_ok-description.ensures.gives known agrees))
+pub returns-clause-read : goal.returns-clause-read
+returns-clause-read c = told_read (RecogComes c.args.description.now c.args.bytes.now) c.recog_of.result c.recog_of.ensures.gives

@@ -39,17 +39,16 @@ pub returns-in-Err-clause-endless : goal.returns-in-Err-clause-endless
 returns-in-Err-clause-endless g c = takes_enough
 
 pub returns-in-Ok-clause-lines : goal.returns-in-Ok-clause-lines
-returns-in-Ok-clause-lines g c = λ is zero.
-    writes_lines (words_of c.args.words.now) (g.S.Source.left c.args.input.now) (g.K.Sink.taken c.args.output.now) (g.K.Sink.taken c.attempt.new.output) is (c.in-Ok.ensures.done nothing_known (nothing_agrees (g.F.Files.holds c.args.files.now)))
+returns-in-Ok-clause-lines g c = λ known agrees name is zero.
+    writes_lines (words_of c.args.words.now) known (g.S.Source.left c.args.input.now) (g.K.Sink.taken c.args.output.now) (g.K.Sink.taken c.attempt.new.output) name is (c.in-Ok.ensures.done known agrees)
 
 pub returns-in-Ok-clause-behaves : goal.returns-in-Ok-clause-behaves
-returns-in-Ok-clause-behaves g c = λ is zero. writes_same (g.S.Source.left c.args.input.now) (g.K.Sink.taken c.args.output.now) (g.K.Sink.taken c.attempt.new.output)
-    (writes_lines (words_of c.args.words.now) (g.S.Source.left c.args.input.now) (g.K.Sink.taken c.args.output.now) (g.K.Sink.taken c.attempt.new.output) is (c.in-Ok.ensures.done nothing_known (nothing_agrees (g.F.Files.holds c.args.files.now))))
+returns-in-Ok-clause-behaves g c = λ name is zero.
+    writes_same (words_of c.args.words.now) (g.S.Source.left c.args.input.now) (g.K.Sink.taken c.args.output.now) (g.K.Sink.taken c.attempt.new.output) name is (c.in-Ok.ensures.done nothing_known (nothing_agrees (g.F.Files.holds c.args.files.now)))
 
 pub returns-in-Ok-clause-evaluates : goal.returns-in-Ok-clause-evaluates
-returns-in-Ok-clause-evaluates g c = λ function steps args is zero.
-    writes_outcomes (words_of c.args.words.now) (g.S.Source.left c.args.input.now) (g.K.Sink.taken c.args.output.now) (g.K.Sink.taken c.attempt.new.output) function steps args is
-    (c.in-Ok.ensures.done nothing_known (nothing_agrees (g.F.Files.holds c.args.files.now)))
+returns-in-Ok-clause-evaluates g c = λ known agrees name function steps args is zero.
+    writes_outcomes (words_of c.args.words.now) known (g.S.Source.left c.args.input.now) (g.K.Sink.taken c.args.output.now) (g.K.Sink.taken c.attempt.new.output) name function steps args is (c.in-Ok.ensures.done known agrees)
 
 pub returns-in-Ok-clause-lists : goal.returns-in-Ok-clause-lists
 returns-in-Ok-clause-lists g c = λ known agrees name is zero.
@@ -68,24 +67,24 @@ returns-in-Err-clause-told g c = λ failed calm known agrees. (
 )
 
 pub returns-in-Err-clause-complete : goal.returns-in-Err-clause-complete
-returns-in-Err-clause-complete g c = λ is calm_files calm_in calm_out.
+returns-in-Err-clause-complete g c = λ known agrees name is enough calm_files calm_in calm_out.
     let not_read : c.in-Err.refusal ≡ refusal.ReadFault → ⊥ = λ same. ⊎_elim calm_in calm_files (c.in-Err.ensures.fault (ap (λ (e : Refusal). Err e) same)) in
     let not_write : c.in-Err.refusal ≡ refusal.WriteFault → ⊥ = λ same. calm_out (c.in-Err.ensures.write (ap (λ (e : Refusal). Err e) same)) in
-    completes (words_of c.args.words.now) (g.S.Source.left c.args.input.now) c.report.result (g.K.Sink.taken c.args.output.now) (g.K.Sink.taken c.attempt.new.output) (g.E.Sink.taken c.args.errors.now) (g.E.Sink.taken c.report.new.errors)
-    (g.E.Sink.fault_count c.args.errors.now) (g.E.Sink.fault_count c.report.new.errors) is
-    (λ other. answered_err (words_of c.args.words.now) nothing_known (g.S.Source.left c.args.input.now) c.in-Err.refusal c.report.result (g.K.Sink.taken c.args.output.now) (g.K.Sink.taken c.attempt.new.output) (g.E.Sink.taken c.args.errors.now) (g.E.Sink.taken c.report.new.errors)
-    (g.E.Sink.fault_count c.args.errors.now) (g.E.Sink.fault_count c.report.new.errors) (c.in-Err.ensures.cause nothing_known (nothing_agrees (g.F.Files.holds c.args.files.now)))
+    completes (words_of c.args.words.now) known name (g.S.Source.left c.args.input.now) c.report.result (g.K.Sink.taken c.args.output.now) (g.K.Sink.taken c.attempt.new.output) (g.E.Sink.taken c.args.errors.now) (g.E.Sink.taken c.report.new.errors)
+    (g.E.Sink.fault_count c.args.errors.now) (g.E.Sink.fault_count c.report.new.errors) is enough
+    (λ other. answered_err (words_of c.args.words.now) known (g.S.Source.left c.args.input.now) c.in-Err.refusal c.report.result (g.K.Sink.taken c.args.output.now) (g.K.Sink.taken c.attempt.new.output) (g.E.Sink.taken c.args.errors.now) (g.E.Sink.taken c.report.new.errors)
+    (g.E.Sink.fault_count c.args.errors.now) (g.E.Sink.fault_count c.report.new.errors) (c.in-Err.ensures.cause known agrees)
     not_read not_write other c.report.ensures
     (c.in-Err.ensures.nothing (λ same. not_write (err_of c.in-Err.refusal refusal.WriteFault same))))
 
 pub returns-in-Err-clause-tried : goal.returns-in-Err-clause-tried
-returns-in-Err-clause-tried g c = λ function steps args is calm_files calm_in calm_out.
+returns-in-Err-clause-tried g c = λ known agrees name function steps args is enough calm_files calm_in calm_out.
     let not_read : c.in-Err.refusal ≡ refusal.ReadFault → ⊥ = λ same. ⊎_elim calm_in calm_files (c.in-Err.ensures.fault (ap (λ (e : Refusal). Err e) same)) in
     let not_write : c.in-Err.refusal ≡ refusal.WriteFault → ⊥ = λ same. calm_out (c.in-Err.ensures.write (ap (λ (e : Refusal). Err e) same)) in
-    tried (words_of c.args.words.now) (g.S.Source.left c.args.input.now) function steps args c.report.result (g.K.Sink.taken c.args.output.now) (g.K.Sink.taken c.attempt.new.output) (g.E.Sink.taken c.args.errors.now) (g.E.Sink.taken c.report.new.errors)
-    (g.E.Sink.fault_count c.args.errors.now) (g.E.Sink.fault_count c.report.new.errors) is
-    (λ other. answered_err (words_of c.args.words.now) nothing_known (g.S.Source.left c.args.input.now) c.in-Err.refusal c.report.result (g.K.Sink.taken c.args.output.now) (g.K.Sink.taken c.attempt.new.output) (g.E.Sink.taken c.args.errors.now) (g.E.Sink.taken c.report.new.errors)
-    (g.E.Sink.fault_count c.args.errors.now) (g.E.Sink.fault_count c.report.new.errors) (c.in-Err.ensures.cause nothing_known (nothing_agrees (g.F.Files.holds c.args.files.now)))
+    tried (words_of c.args.words.now) known name (g.S.Source.left c.args.input.now) function steps args c.report.result (g.K.Sink.taken c.args.output.now) (g.K.Sink.taken c.attempt.new.output) (g.E.Sink.taken c.args.errors.now) (g.E.Sink.taken c.report.new.errors)
+    (g.E.Sink.fault_count c.args.errors.now) (g.E.Sink.fault_count c.report.new.errors) is enough
+    (λ other. answered_err (words_of c.args.words.now) known (g.S.Source.left c.args.input.now) c.in-Err.refusal c.report.result (g.K.Sink.taken c.args.output.now) (g.K.Sink.taken c.attempt.new.output) (g.E.Sink.taken c.args.errors.now) (g.E.Sink.taken c.report.new.errors)
+    (g.E.Sink.fault_count c.args.errors.now) (g.E.Sink.fault_count c.report.new.errors) (c.in-Err.ensures.cause known agrees)
     not_read not_write other c.report.ensures
     (c.in-Err.ensures.nothing (λ same. not_write (err_of c.in-Err.refusal refusal.WriteFault same))))
 

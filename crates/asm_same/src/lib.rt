@@ -1,0 +1,6 @@
+//! The assembly of an input does what its functions do.
+//!
+//! There is no code here. The laws, in `proofs/Same.antt`, are that the lines and labels that stand beside each part of an assembly have the
+//! behaviour of the function, whatever the description: so the text does what the functions do, and the code of a function of an
+//! input does what the function does.
+#![tactic(auto)]

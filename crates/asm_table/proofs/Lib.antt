@@ -1,4 +1,0 @@
-pub mod Matches
-pub mod FormLines
-pub mod JumpLines
-pub mod InsnLines

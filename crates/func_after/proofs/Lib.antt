@@ -1,0 +1,4 @@
+pub mod Each
+pub mod Told
+pub mod Finished
+pub mod OneAfter

@@ -1,0 +1,121 @@
+-- What a task makes of the input, from what the description and the input gave.
+use Rattle.std.proofs.Common.{◌≡◌, ℕ, ◌<◌, List, length, Result, Ok, Err, Option, Some, None, Vec, refl, sym, subst, arith}
+use Rattle.std.specs.Prelude.{IfSome}
+use Rattle.std.specs.declared.alloc.Global.{Global}
+use Rattle.std.specs.Io.KnownBytes.{Consumes, IsAtEnd}
+use Rattle.rtx_tree.specs.Limit.{most_bytes}
+use Rattle.rtx_tree.specs.declared.limit.Limit.{Limit}
+use Rattle.rtx_tree.specs.declared.limit.Limit.TheVariants as limit
+use Rattle.run_refusal.specs.declared.refusal.Refusal.{Refusal}
+use Rattle.run_refusal.specs.declared.refusal.Refusal.TheVariants as refusal
+use Rattle.md_source.specs.Source.{Source}
+use Rattle.md_forms.specs.declared.form.Entry.{Entry}
+use Rattle.md_named.specs.Named.{FormsCome}
+use Rattle.md_named.specs.Answers.{RefusesForms}
+use Rattle.func_input.specs.Input.{InputComesTo, RefusesWith}
+use Rattle.func_input.specs.Outcome.{Outcome}
+use Rattle.asm_text.specs.Assembly as assembly
+use Rattle.asm_text.specs.Compile.{InputComes, TextComes}
+use Rattle.asm_text.specs.Code.{IsUnnamed, CodeComes, Gives as GivesCode}
+use Rattle.rtlc_run.specs.declared.program.Task.{Task}
+use Rattle.rtlc_run.specs.declared.program.Task.TheVariants as task
+use Rattle.rtlc_run.specs.Answer.{EvalComes, ByForms}
+use Rattle.rtlc_run.specs.machine.Steps.{Gives, InputRefused, IsOwn, TaskComes, Misuses, MisusesInput}
+use Rattle.rtlc_run.proofs.Commands.{of_input, gives_map}
+
+-- ---- the description
+
+-- what refused the description refuses the task
+pub forms_refuse : (comes : List Entry → List ℕ → Outcome → Type 0) (known : Source) (left : Option (List ℕ)) (name : List ℕ) (e : Refusal) → RefusesForms e (FormsCome known name) → Gives (Err e) (ByForms comes known left name)
+forms_refuse comes known left name refusal.Memory h = tt
+forms_refuse comes known left name refusal.ReadFault h = tt
+forms_refuse comes known left name refusal.Usage h = absurd h
+forms_refuse comes known left name refusal.WriteFault h = absurd h
+forms_refuse comes known left name (refusal.Syntax file place) h = ByForms.refused (refusal.Syntax file place) h
+forms_refuse comes known left name (refusal.Construct place what) h = ByForms.refused (refusal.Construct place what) h
+forms_refuse comes known left name (refusal.IllFormed function uid rule) h = ByForms.refused (refusal.IllFormed function uid rule) h
+forms_refuse comes known left name (refusal.Limit which count) h = ByForms.refused (refusal.Limit which count) h
+forms_refuse comes known left name (refusal.Unmatched function uid stage insn) h = ByForms.refused (refusal.Unmatched function uid stage insn) h
+forms_refuse comes known left name (refusal.NotEquated function uid rule item l r) h = ByForms.refused (refusal.NotEquated function uid rule item l r) h
+
+pub forms_are_own : (known : Source) (name : List ℕ) (e : Refusal) → RefusesForms e (FormsCome known name) → IsOwn (Err e)
+forms_are_own known name refusal.Usage h = absurd h
+forms_are_own known name refusal.WriteFault h = absurd h
+forms_are_own known name _ h = (λ is. cc, λ is. cc)
+
+-- ---- an input that was not read
+
+-- bytes that are too many are no functions
+too_many : (t : Task) (forms : List Entry) (bytes : List ℕ) → most_bytes < length bytes → TaskComes t forms bytes (Err (refusal.Limit limit.Text 16777217))
+too_many task.Assemble forms bytes long = (Err (refusal.Limit limit.Text 16777217), InputComesTo.too_long long, refl)
+too_many task.Recognise forms bytes long = InputComesTo.too_long long
+too_many (task.Try function steps args) forms bytes long =
+    (Err (refusal.Limit limit.Text 16777217), CodeComes.unread (refusal.Limit limit.Text 16777217) (λ functions read. let within = read.within in omega (arith, long, within)) (InputComesTo.too_long long), refl, tt)
+
+too_many_left : (t : Task) (forms : List Entry) (left : Option (List ℕ)) (count : ℕ) → InputRefused left (refusal.Limit limit.Text count) → IfSome left (λ bytes. TaskComes t forms bytes (Err (refusal.Limit limit.Text count)))
+too_many_left t forms None count h = tt
+too_many_left t forms (Some bytes) count h = subst (λ (n : ℕ). TaskComes t forms bytes (Err (refusal.Limit limit.Text n))) (sym h.0) (too_many t forms bytes h.1)
+
+unread_limit : (t : Task) (known : Source) (left : Option (List ℕ)) (name : List ℕ) (forms : List Entry) (which : Limit) (count : ℕ) → FormsCome known name (Ok forms) → InputRefused left (refusal.Limit which count) →
+    Gives (Err (refusal.Limit which count)) (ByForms (TaskComes t) known left name)
+unread_limit t known left name forms limit.Text count come h = ByForms.by_forms forms (Err (refusal.Limit limit.Text count)) come (too_many_left t forms left count h)
+unread_limit t known left name forms _ count come h = absurd h
+
+-- an input that was not read refuses the task
+pub unread : (t : Task) (known : Source) (left : Option (List ℕ)) (name : List ℕ) (forms : List Entry) (e : Refusal) → FormsCome known name (Ok forms) → InputRefused left e → Gives (Err e) (ByForms (TaskComes t) known left name)
+unread t known left name forms refusal.Memory come h = tt
+unread t known left name forms refusal.ReadFault come h = tt
+unread t known left name forms (refusal.Limit which count) come h = unread_limit t known left name forms which count come h
+unread t known left name forms _ come h = absurd h
+
+-- ---- an input that was read
+
+-- what the bytes that were read came to, the task comes to
+pub task_produced : (t : Task) (known : Source) (left left' : Option (List ℕ)) (name : List ℕ) (forms : List Entry) (bytes : List ℕ) (r : Result (Vec ℕ Global) Refusal) → FormsCome known name (Ok forms) →
+    Consumes left left' bytes × IsAtEnd left' → Gives r (TaskComes t forms bytes) → Gives r (ByForms (TaskComes t) known left name)
+task_produced t known left left' name forms bytes r come read h =
+    gives_map r (TaskComes t forms bytes) (ByForms (TaskComes t) known left name) (λ o comes. ByForms.by_forms forms o come (of_input (λ (bs : List ℕ). TaskComes t forms bs o) left left' bytes read comes)) h
+
+-- the function that has no name is missing from the input
+pub misused : (t : Task) (left left' : Option (List ℕ)) (bytes : List ℕ) → Consumes left left' bytes × IsAtEnd left' → Misuses t bytes → MisusesInput t left
+misused task.Assemble left left' bytes read h = absurd h
+misused task.Recognise left left' bytes read h = absurd h
+misused (task.Try function steps args) left left' bytes read h = of_input (λ (bs : List ℕ). IsUnnamed bs function) left left' bytes read h
+
+-- ---- texts
+
+-- what refused the assembly refuses its text
+pub text_refused : (forms : List Entry) (bytes : List ℕ) (e : Refusal) → RefusesWith e (InputComes forms bytes) → Gives (Err e) (TextComes forms bytes)
+text_refused forms bytes refusal.Memory h = tt
+text_refused forms bytes refusal.Usage h = absurd h
+text_refused forms bytes refusal.ReadFault h = tt
+text_refused forms bytes refusal.WriteFault h = absurd h
+text_refused forms bytes (refusal.Syntax file place) h = (Err (refusal.Syntax file place), h, refl)
+text_refused forms bytes (refusal.Construct place name) h = (Err (refusal.Construct place name), h, refl)
+text_refused forms bytes (refusal.IllFormed function uid rule) h = (Err (refusal.IllFormed function uid rule), h, refl)
+text_refused forms bytes (refusal.Limit which count) h = (Err (refusal.Limit which count), h, refl)
+text_refused forms bytes (refusal.Unmatched function uid stage insn) h = (Err (refusal.Unmatched function uid stage insn), h, refl)
+text_refused forms bytes (refusal.NotEquated function uid rule item left right) h = (Err (refusal.NotEquated function uid rule item left right), h, refl)
+
+-- such a refusal is no fault, and none of the words
+pub refusal_is_own : (P : assembly.Outcome → Type 0) (e : Refusal) → RefusesWith e P → IsOwn (Err e)
+refusal_is_own P refusal.Usage h = absurd h
+refusal_is_own P refusal.WriteFault h = absurd h
+refusal_is_own P _ h = (λ is. cc, λ is. cc)
+
+pub refusal_read : (P : assembly.Outcome → Type 0) (e : Refusal) → RefusesWith e P → ◌≡◌ {A = Result (Vec ℕ Global) Refusal} (Err e) (Err refusal.ReadFault) → ⊥
+refusal_read P refusal.ReadFault h is = h
+refusal_read P _ h is = cc
+
+-- what refused the code refuses the outcomes
+pub code_refused : (forms : List Entry) (bytes function : List ℕ) (steps : ℕ) (args : List ℕ) (e : Refusal) → GivesCode (Err e) (CodeComes forms bytes function) → Gives (Err e) (EvalComes function steps args forms bytes)
+code_refused forms bytes function steps args refusal.Memory h = tt
+code_refused forms bytes function steps args refusal.ReadFault h = absurd h
+code_refused forms bytes function steps args refusal.WriteFault h = absurd h
+code_refused forms bytes function steps args refusal.Usage h = (Err refusal.Usage, h, refl, tt)
+code_refused forms bytes function steps args (refusal.Syntax file place) h = (Err (refusal.Syntax file place), h, refl, tt)
+code_refused forms bytes function steps args (refusal.Construct place name) h = (Err (refusal.Construct place name), h, refl, tt)
+code_refused forms bytes function steps args (refusal.IllFormed name uid rule) h = (Err (refusal.IllFormed name uid rule), h, refl, tt)
+code_refused forms bytes function steps args (refusal.Limit which count) h = (Err (refusal.Limit which count), h, refl, tt)
+code_refused forms bytes function steps args (refusal.Unmatched name uid stage insn) h = (Err (refusal.Unmatched name uid stage insn), h, refl, tt)
+code_refused forms bytes function steps args (refusal.NotEquated name uid rule item left right) h = (Err (refusal.NotEquated name uid rule item left right), h, refl, tt)

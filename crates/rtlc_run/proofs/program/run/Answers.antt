@@ -58,6 +58,13 @@ pub returns-in-Ok-clause-recognises : goal.returns-in-Ok-clause-recognises
 returns-in-Ok-clause-recognises g c = λ known agrees name is zero.
     writes_forms_of (words_of c.args.words.now) known (g.S.Source.left c.args.input.now) (g.K.Sink.taken c.args.output.now) (g.K.Sink.taken c.attempt.new.output) name is (c.in-Ok.ensures.done known agrees)
 
+pub returns-in-Err-clause-cause : goal.returns-in-Err-clause-cause
+returns-in-Err-clause-cause g c = λ failed known agrees. (
+  c.report.ensures.told,
+  sym c.report.ensures.status_is,
+  told_cause (words_of c.args.words.now) known (g.S.Source.left c.args.input.now) c.in-Err.refusal c.report.ensures.told c.report.ensures.which (c.in-Err.ensures.cause known agrees),
+)
+
 pub returns-in-Err-clause-told : goal.returns-in-Err-clause-told
 returns-in-Err-clause-told g c = λ failed calm known agrees. (
   c.report.ensures.told,

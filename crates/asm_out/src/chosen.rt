@@ -3,6 +3,7 @@ ghost use Rattle.std.specs.Prelude.{◌≡◌, true, false};
 ghost use Rattle.form_needs.specs.Needs as needs;
 ghost use Rattle.live.specs.Live.{AreLiveRows};
 ghost use Rattle.md_desc.specs.Recog.{IsChosen};
+ghost use Rattle.equate.specs.Views.{side_of};
 ghost use Rattle.asm_out.specs.Comes.{PlaceComes};
 ghost use Rattle.asm_out.specs.Outcome.{Gives};
 ghost use Rattle.asm_out.specs.machine.Steps as steps;

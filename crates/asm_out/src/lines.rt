@@ -1,5 +1,5 @@
 //! The lines that a form gives for an instruction.
-ghost use Rattle.std.specs.Prelude.{◌≡◌, IfOk, map};
+ghost use Rattle.std.specs.Prelude.{◌≡◌, ◌++◌, OnOk, IfOk, length, map, option_map};
 ghost use Rattle.std.specs.Option.{option_copied};
 ghost use Rattle.rv_text.specs.declared.line.CodeItem.TheVariants as item;
 ghost use Rattle.asm_out.specs.Filled as spec;

@@ -1,0 +1,6 @@
+//! What passes leave of a function so that lines can stand for it.
+//!
+//! There is no code here. `specs/Ready.antt` says what is asked of an instruction, by itself; so a pass that puts instructions in the place
+//! of others has to show it of the new ones alone. A function that keeps the rules has it, and one that has it is ready for lines when its
+//! chain is finished.
+#![tactic(auto)]

@@ -19,6 +19,11 @@ fn show(command: &Command, told: &mut Told) {
         Command::Asm { description } => show_described("asm", description, told),
         Command::List { description } => show_described("list", description, told),
         Command::Recog { description } => show_described("recog", description, told),
+        Command::Dump { description, pass } => {
+            show_described("dump", description, told);
+            told.text(" behind ");
+            told.text(pass.name());
+        }
         Command::Eval {
             description,
             function,

@@ -13,6 +13,9 @@ use Rattle.func_input.proofs.Inputs.{input_reached}
 use Rattle.func_input.proofs.One.{one_coming_to}
 use Rattle.recog_text.specs.Recog.{FunctionsCome}
 use Rattle.recog_text.proofs.One.{functions_one}
+use Rattle.dump_text.specs.Dump as dump
+use Rattle.dump_text.proofs.One as dump_one
+use Rattle.pass_name.specs.declared.pass.Pass.{Pass}
 use Rattle.asm_text.specs.declared.assembly.Assembly.{Assembly}
 use Rattle.asm_text.specs.declared.code.Coded.{Coded}
 use Rattle.asm_text.specs.Assembly as assembly
@@ -27,8 +30,8 @@ use Rattle.asm_text.proofs.CodeLaws.{one_code, code_coded}
 use Rattle.code_eval.specs.Start.{stack_room}
 use Rattle.code_eval.specs.Eval.{eval_text, IsFair}
 use Rattle.code_eval.proofs.Lawful.{agree}
-use Rattle.rtlc_run.specs.Answer.{evaluated, EvalComes, RecogComes, ByForms}
-use Rattle.rtlc_run.specs.Written.{WritesLines, WritesSame, WritesOutcomes, WritesForms}
+use Rattle.rtlc_run.specs.Answer.{evaluated, EvalComes, RecogComes, DumpComes, ByForms}
+use Rattle.rtlc_run.specs.Written.{WritesLines, WritesSame, WritesOutcomes, WritesForms, WritesDump}
 
 -- ---- one answer
 
@@ -66,6 +69,9 @@ text_one forms bytes a b p q = p.2 ∙ ap text_told (one_coming_of forms bytes p
 recog_one : IsOne RecogComes
 recog_one forms bytes a b p q = one_coming_to (FunctionsCome forms) bytes a b (functions_one forms) p q
 
+dumped_one : (pass : Pass) → IsOne (DumpComes pass)
+dumped_one pass forms bytes a b p q = one_coming_to (dump.FunctionsCome forms pass) bytes a b (dump_one.functions_one forms pass) p q
+
 trial_one : (function : List ℕ) (steps : ℕ) (args : List ℕ) → IsOne (EvalComes function steps args)
 trial_one function steps args forms bytes a b p q = p.2 ∙ ap (evaluated steps args) (one_code forms bytes function p.0 q.0 p.1 q.1) ∙ sym q.2
 
@@ -74,6 +80,9 @@ one_text known left name a b enough p q = one_by TextComes text_one known left n
 
 pub one_recog : (known : Source) (left : Option (List ℕ)) (name : List ℕ) (a b : Outcome) → IsKnown known name × IsSome left → ByForms RecogComes known left name a → ByForms RecogComes known left name b → a ≡ b
 one_recog known left name a b enough p q = one_by RecogComes recog_one known left name a b enough p q
+
+pub one_dump : (pass : Pass) (known : Source) (left : Option (List ℕ)) (name : List ℕ) (a b : Outcome) → IsKnown known name × IsSome left → ByForms (DumpComes pass) known left name a → ByForms (DumpComes pass) known left name b → a ≡ b
+one_dump pass known left name a b enough p q = one_by (DumpComes pass) (dumped_one pass) known left name a b enough p q
 
 pub one_trial : (function : List ℕ) (steps : ℕ) (args : List ℕ) (known : Source) (left : Option (List ℕ)) (name : List ℕ) (a b : Outcome) → IsKnown known name × IsSome left → ByForms (EvalComes function steps args) known left name a →
     ByForms (EvalComes function steps args) known left name b → a ≡ b
@@ -145,3 +154,9 @@ writes_forms known None old new name text comes appends = tt
 writes_forms known (Some bytes) old new name text comes appends =
     let by = reached RecogComes known bytes name text (Ok text) refl comes in
     let r = input_reached (FunctionsCome by.forms) bytes text (Ok text) refl by.own in (by.forms, by.come, r.functions, r.input, text, r.own, appends)
+
+pub writes_dump : (pass : Pass) (known : Source) (left old new : Option (List ℕ)) (name text : List ℕ) → ByForms (DumpComes pass) known left name (Ok text) → Appends old new text → WritesDump pass known name left old new
+writes_dump pass known None old new name text comes appends = tt
+writes_dump pass known (Some bytes) old new name text comes appends =
+    let by = reached (DumpComes pass) known bytes name text (Ok text) refl comes in
+    let r = input_reached (dump.FunctionsCome by.forms pass) bytes text (Ok text) refl by.own in (by.forms, by.come, r.functions, r.input, text, r.own, appends)

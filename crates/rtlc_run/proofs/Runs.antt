@@ -10,6 +10,9 @@ use Rattle.func_input.specs.Outcome.{Outcome}
 use Rattle.func_input.proofs.Inputs.{input_last}
 use Rattle.recog_text.specs.Recog.{FunctionsCome}
 use Rattle.recog_text.proofs.One.{functions_one}
+use Rattle.dump_text.specs.Dump as dump
+use Rattle.dump_text.proofs.One as dump_one
+use Rattle.pass_name.specs.declared.pass.Pass.{Pass}
 use Rattle.asm_text.specs.Assembly.{AssemblyComes}
 use Rattle.asm_text.specs.Compile.{TextComes, text_told}
 use Rattle.asm_text.proofs.OneAssembly.{one_assembly}
@@ -17,11 +20,11 @@ use Rattle.asm_text.proofs.CodeLaws.{code_has}
 use Rattle.rtlc_words.specs.declared.command.Command.{Command}
 use Rattle.rtlc_words.specs.declared.command.Command.TheVariants as commands
 use Rattle.rtlc_words.specs.Words.{command_of}
-use Rattle.rtlc_run.specs.Answer.{described, list_told, evaluated, EvalComes, RecogComes, ByForms, CommandComes, Answers, IsKnownFor, Writes, IsAnswered, status_of_answer}
-use Rattle.rtlc_run.specs.Written.{WritesLines, WritesSame, WritesOutcomes, WritesList, WritesForms, IsDone, Completes, CompletesFor, CompletesBy}
+use Rattle.rtlc_run.specs.Answer.{described, list_told, evaluated, EvalComes, RecogComes, DumpComes, ByForms, CommandComes, Answers, IsKnownFor, Writes, IsAnswered, status_of_answer}
+use Rattle.rtlc_run.specs.Written.{WritesLines, WritesSame, WritesOutcomes, WritesList, WritesForms, WritesDump, IsDone, Completes, CompletesFor, CompletesBy, CompletesDump}
 use Rattle.rtlc_run.proofs.Commands.{nothing_known}
 use Rattle.rtlc_run.proofs.Described as described_by
-use Rattle.rtlc_run.proofs.Described.{one_text, one_recog, one_trial, by_known}
+use Rattle.rtlc_run.proofs.Described.{one_text, one_recog, one_dump, one_trial, by_known}
 
 -- ---- the commands
 
@@ -29,19 +32,34 @@ asm_comes : (known : Source) (input : Option (List ℕ)) (name : Option (List �
 asm_comes known input name _ _ is (CommandComes.assembled other o h) = subst (λ (n : Option (List ℕ)). ByForms TextComes known input (described n) o) (let same : other ≡ name = cc in same) h
 asm_comes known input name _ _ is (CommandComes.listed other r h) = absurd (let none : ⊥ = cc in none)
 asm_comes known input name _ _ is (CommandComes.recognised other o h) = absurd (let none : ⊥ = cc in none)
+asm_comes known input name _ _ is (CommandComes.dumped other p o h) = absurd (let none : ⊥ = cc in none)
 asm_comes known input name _ _ is (CommandComes.tries other f s a o h) = absurd (let none : ⊥ = cc in none)
 
 list_comes : (known : Source) (input : Option (List ℕ)) (name : Option (List ℕ)) (c : Command) (o : Outcome) → c ≡ commands.List name → CommandComes known input c o → (r : Result (List ℕ) ListRefusal) × ListComes known (described name) r × (o ≡ list_told r)
 list_comes known input name _ _ is (CommandComes.assembled other o h) = absurd (let none : ⊥ = cc in none)
 list_comes known input name _ _ is (CommandComes.recognised other o h) = absurd (let none : ⊥ = cc in none)
+list_comes known input name _ _ is (CommandComes.dumped other p o h) = absurd (let none : ⊥ = cc in none)
 list_comes known input name _ _ is (CommandComes.tries other f s a o h) = absurd (let none : ⊥ = cc in none)
 list_comes known input name _ _ is (CommandComes.listed other r h) = (r, subst (λ (n : Option (List ℕ)). ListComes known (described n) r) (let same : other ≡ name = cc in same) h, refl)
 
 recog_comes : (known : Source) (input : Option (List ℕ)) (name : Option (List ℕ)) (c : Command) (o : Outcome) → c ≡ commands.Recog name → CommandComes known input c o → ByForms RecogComes known input (described name) o
 recog_comes known input name _ _ is (CommandComes.assembled other o h) = absurd (let none : ⊥ = cc in none)
 recog_comes known input name _ _ is (CommandComes.listed other r h) = absurd (let none : ⊥ = cc in none)
+recog_comes known input name _ _ is (CommandComes.dumped other p o h) = absurd (let none : ⊥ = cc in none)
 recog_comes known input name _ _ is (CommandComes.tries other f s a o h) = absurd (let none : ⊥ = cc in none)
 recog_comes known input name _ _ is (CommandComes.recognised other o h) = subst (λ (n : Option (List ℕ)). ByForms RecogComes known input (described n) o) (let same : other ≡ name = cc in same) h
+
+same_dump : (name name' : Option (List ℕ)) (pass pass' : Pass) → commands.Dump name pass ≡ commands.Dump name' pass' → (name ≡ name') × (pass ≡ pass')
+same_dump name name' pass pass' is = (cc, cc)
+
+dump_comes : (known : Source) (input : Option (List ℕ)) (name : Option (List ℕ)) (pass : Pass) (c : Command) (o : Outcome) → c ≡ commands.Dump name pass → CommandComes known input c o → ByForms (DumpComes pass) known input (described name) o
+dump_comes known input name pass _ _ is (CommandComes.assembled other o h) = absurd (let none : ⊥ = cc in none)
+dump_comes known input name pass _ _ is (CommandComes.listed other r h) = absurd (let none : ⊥ = cc in none)
+dump_comes known input name pass _ _ is (CommandComes.recognised other o h) = absurd (let none : ⊥ = cc in none)
+dump_comes known input name pass _ _ is (CommandComes.tries other f s a o h) = absurd (let none : ⊥ = cc in none)
+dump_comes known input name pass _ _ is (CommandComes.dumped other p o h) =
+    let same = same_dump other name p pass is in
+    subst (λ (n : Option (List ℕ)). ByForms (DumpComes pass) known input (described n) o) same.0 (subst (λ (q : Pass). ByForms (DumpComes q) known input (described other) o) same.1 h)
 
 same_trial : (name name' : Option (List ℕ)) (f f' : List ℕ) (steps steps' : ℕ) (args args' : List ℕ) → commands.Eval name f steps args ≡ commands.Eval name' f' steps' args' → (name ≡ name') × (f ≡ f') × (steps ≡ steps') × (args ≡ args')
 same_trial name name' f f' steps steps' args args' is = (cc, cc, cc, cc)
@@ -51,6 +69,7 @@ eval_comes : (known : Source) (input : Option (List ℕ)) (name : Option (List �
 eval_comes known input name function steps args _ _ is (CommandComes.assembled other o h) = absurd (let none : ⊥ = cc in none)
 eval_comes known input name function steps args _ _ is (CommandComes.listed other r h) = absurd (let none : ⊥ = cc in none)
 eval_comes known input name function steps args _ _ is (CommandComes.recognised other o h) = absurd (let none : ⊥ = cc in none)
+eval_comes known input name function steps args _ _ is (CommandComes.dumped other p o h) = absurd (let none : ⊥ = cc in none)
 eval_comes known input name function steps args _ _ is (CommandComes.tries other f s a o h) =
     let same = same_trial other name f function s steps a args is in
     subst (λ (n : Option (List ℕ)). ByForms (EvalComes function steps args) known input (described n) o) same.0
@@ -76,6 +95,11 @@ recog_answer : (words : List (List ℕ)) (known : Source) (input : Option (List 
 recog_answer words known input name _ is (Answers.usage none) = absurd (none_some (command_of words) (commands.Recog name) none is)
 recog_answer words known input name _ is (Answers.spoken c o is' comes) = recog_comes known input name c o (some_same (command_of words) c (commands.Recog name) is' is) comes
 
+dump_answer : (words : List (List ℕ)) (known : Source) (input : Option (List ℕ)) (name : Option (List ℕ)) (pass : Pass) (o : Outcome) → command_of words ≡ Some (commands.Dump name pass) → Answers words known input o →
+    ByForms (DumpComes pass) known input (described name) o
+dump_answer words known input name pass _ is (Answers.usage none) = absurd (none_some (command_of words) (commands.Dump name pass) none is)
+dump_answer words known input name pass _ is (Answers.spoken c o is' comes) = dump_comes known input name pass c o (some_same (command_of words) c (commands.Dump name pass) is' is) comes
+
 eval_answer : (words : List (List ℕ)) (known : Source) (input : Option (List ℕ)) (name : Option (List ℕ)) (function : List ℕ) (steps : ℕ) (args : List ℕ) (o : Outcome) → command_of words ≡ Some (commands.Eval name function steps args) →
     Answers words known input o → ByForms (EvalComes function steps args) known input (described name) o
 eval_answer words known input name function steps args _ is (Answers.usage none) = absurd (none_some (command_of words) (commands.Eval name function steps args) none is)
@@ -91,6 +115,8 @@ one_command known input c (commands.List name) a b enough is p q =
     let y = list_comes known input name (commands.List name) b refl q in
     x.2 ∙ ap list_told (one_list known (described name) x.0 y.0 enough x.1 y.1) ∙ sym y.2
 one_command known input c (commands.Recog name) a b enough is p q = one_recog known input (described name) a b enough (recog_comes known input name c a is p) (recog_comes known input name (commands.Recog name) b refl q)
+one_command known input c (commands.Dump name pass) a b enough is p q =
+    one_dump pass known input (described name) a b enough (dump_comes known input name pass c a is p) (dump_comes known input name pass (commands.Dump name pass) b refl q)
 one_command known input c (commands.Eval name function steps args) a b enough is p q =
     one_trial function steps args known input (described name) a b enough (eval_comes known input name function steps args c a is p) (eval_comes known input name function steps args (commands.Eval name function steps args) b refl q)
 
@@ -125,6 +151,10 @@ writes_list words known input old new name is h =
 
 pub writes_forms_of : (words : List (List ℕ)) (known : Source) (input old new : Option (List ℕ)) (name : Option (List ℕ)) → command_of words ≡ Some (commands.Recog name) → Writes words known input old new → WritesForms known (described name) input old new
 writes_forms_of words known input old new name is h = described_by.writes_forms known input old new (described name) h.0 (recog_answer words known input name (Ok h.0) is h.1) h.2
+
+pub writes_dump_of : (words : List (List ℕ)) (known : Source) (input old new : Option (List ℕ)) (name : Option (List ℕ)) (pass : Pass) → command_of words ≡ Some (commands.Dump name pass) → Writes words known input old new →
+    WritesDump pass known (described name) input old new
+writes_dump_of words known input old new name pass is h = described_by.writes_dump pass known input old new (described name) h.0 (dump_answer words known input name pass (Ok h.0) is h.1) h.2
 
 -- ---- what ends with a text
 
@@ -168,3 +198,11 @@ recognised words known name (Some bytes) status output output' errors errors' fa
     let answer = h other in
     let x = by_known RecogComes known bytes (described name) forms answer.0 enough come (recog_answer words known (Some bytes) name answer.0 is answer.1) in
     answer.2.status_is ∙ ap status_of_answer (functions_one forms functions answer.0 (Ok text) (input_last (FunctionsCome forms) bytes functions answer.0 input x) own))
+
+pub dumped : (words : List (List ℕ)) (known : Source) (name : Option (List ℕ)) (pass : Pass) (input : Option (List ℕ)) (status : ℕ) (output output' errors errors' : Option (List ℕ)) (faults faults' : ℕ) → command_of words ≡ Some (commands.Dump name pass) →
+    IsKnown known (described name) → ((status ≡ 8 → ⊥) → IsAnswered words known input status output output' errors errors' faults faults') → CompletesDump pass known (described name) input status
+dumped words known name pass None status output output' errors errors' faults faults' is enough h = λ forms come. tt
+dumped words known name pass (Some bytes) status output output' errors errors' faults faults' is enough h = λ forms come functions text input own. decided status (eqb status 8) refl (λ other.
+    let answer = h other in
+    let x = by_known (DumpComes pass) known bytes (described name) forms answer.0 enough come (dump_answer words known (Some bytes) name pass answer.0 is answer.1) in
+    answer.2.status_is ∙ ap status_of_answer (dump_one.functions_one forms pass functions answer.0 (Ok text) (input_last (dump.FunctionsCome forms pass) bytes functions answer.0 input x) own))

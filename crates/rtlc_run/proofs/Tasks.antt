@@ -49,6 +49,7 @@ forms_are_own known name _ h = (λ is. cc, λ is. cc)
 too_many : (t : Task) (forms : List Entry) (bytes : List ℕ) → most_bytes < length bytes → TaskComes t forms bytes (Err (refusal.Limit limit.Text 16777217))
 too_many task.Assemble forms bytes long = (Err (refusal.Limit limit.Text 16777217), InputComesTo.too_long long, refl)
 too_many task.Recognise forms bytes long = InputComesTo.too_long long
+too_many (task.Show pass) forms bytes long = InputComesTo.too_long long
 too_many (task.Try function steps args) forms bytes long =
     (Err (refusal.Limit limit.Text 16777217), CodeComes.unread (refusal.Limit limit.Text 16777217) (λ functions read. let within = read.within in omega (arith, long, within)) (InputComesTo.too_long long), refl, tt)
 
@@ -80,6 +81,7 @@ task_produced t known left left' name forms bytes r come read h =
 pub misused : (t : Task) (left left' : Option (List ℕ)) (bytes : List ℕ) → Consumes left left' bytes × IsAtEnd left' → Misuses t bytes → MisusesInput t left
 misused task.Assemble left left' bytes read h = absurd h
 misused task.Recognise left left' bytes read h = absurd h
+misused (task.Show pass) left left' bytes read h = absurd h
 misused (task.Try function steps args) left left' bytes read h = of_input (λ (bs : List ℕ). IsUnnamed bs function) left left' bytes read h
 
 -- ---- texts

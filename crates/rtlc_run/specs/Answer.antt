@@ -21,6 +21,8 @@ use Rattle.asm_text.specs.Code.{IsUnnamed, CodeComes}
 use Rattle.asm_text.specs.declared.code.Coded.{Coded}
 use Rattle.code_eval.specs.Eval.{eval_text, IsFair}
 use Rattle.recog_text.specs.Recog.{FunctionsCome}
+use Rattle.dump_text.specs.Dump as dump
+use Rattle.pass_name.specs.declared.pass.Pass.{Pass}
 use Rattle.rtlc_words.specs.declared.command.Command.{Command}
 use Rattle.rtlc_words.specs.declared.command.Command.TheVariants as commands
 use Rattle.rtlc_words.specs.Words.{command_of}
@@ -56,6 +58,10 @@ EvalComes function steps args forms bytes outcome =
 abbrev pub RecogComes : List Entry → List ℕ → Outcome → Type 0
 RecogComes forms bytes outcome = InputComesTo (FunctionsCome forms) bytes outcome
 
+-- `dump` over the bytes of an input
+abbrev pub DumpComes : Pass → List Entry → List ℕ → Outcome → Type 0
+DumpComes pass forms bytes outcome = InputComesTo (dump.FunctionsCome forms pass) bytes outcome
+
 -- A command over the functions of the input by a description, by what is known of the files and of the input: the description first, and then what the bytes
 -- of the input come to by its forms.
 pub data ByForms (comes : List Entry → List ℕ → Outcome → Type 0) (files : Source) (input : Option (List ℕ)) (name : List ℕ) : Outcome → Type 0 where
@@ -68,6 +74,7 @@ pub data CommandComes (files : Source) (input : Option (List ℕ)) : Command →
   assembled : (name : Option (List ℕ)) (outcome : Outcome) → ByForms TextComes files input (described name) outcome → CommandComes files input (commands.Asm name) outcome
   listed : (name : Option (List ℕ)) (r : Result (List ℕ) ListRefusal) → ListComes files (described name) r → CommandComes files input (commands.List name) (list_told r)
   recognised : (name : Option (List ℕ)) (outcome : Outcome) → ByForms RecogComes files input (described name) outcome → CommandComes files input (commands.Recog name) outcome
+  dumped : (name : Option (List ℕ)) (pass : Pass) (outcome : Outcome) → ByForms (DumpComes pass) files input (described name) outcome → CommandComes files input (commands.Dump name pass) outcome
   tries : (name : Option (List ℕ)) (function : List ℕ) (steps : ℕ) (args : List ℕ) (outcome : Outcome) → ByForms (EvalComes function steps args) files input (described name) outcome →
       CommandComes files input (commands.Eval name function steps args) outcome
 
@@ -83,6 +90,7 @@ abbrev pub description_of : Command → List ℕ
 description_of (commands.Asm name) = described name
 description_of (commands.List name) = described name
 description_of (commands.Recog name) = described name
+description_of (commands.Dump name pass) = described name
 description_of (commands.Eval name function steps args) = described name
 
 -- whether the input is read

@@ -8,6 +8,8 @@ use Rattle.md_forms.specs.declared.form.Entry.{Entry}
 use Rattle.md_list.specs.Listing.{ListComes}
 use Rattle.md_named.specs.Named.{FormsCome}
 use Rattle.recog_text.specs.Recog.{FunctionsCome}
+use Rattle.dump_text.specs.Dump as dump
+use Rattle.pass_name.specs.declared.pass.Pass.{Pass}
 use Rattle.func_input.specs.Input.{IsInput}
 use Rattle.asm_text.specs.declared.assembly.Assembly.{Assembly}
 use Rattle.asm_text.specs.Assembly.{AssemblyComes}
@@ -48,6 +50,11 @@ abbrev pub WritesForms : Source → List ℕ → Option (List ℕ) → Option (L
 WritesForms files name input old new =
     IfSome input (λ bytes. (forms : List Entry) × FormsCome files name (Ok forms) × (functions : List Function) × IsInput bytes functions × (text : List ℕ) × FunctionsCome forms functions (Ok text) × Appends old new text)
 
+-- the functions of the input as they are behind a pass were written, by the forms of a description, and nothing else
+abbrev pub WritesDump : Pass → Source → List ℕ → Option (List ℕ) → Option (List ℕ) → Option (List ℕ) → Type 0
+WritesDump pass files name input old new =
+    IfSome input (λ bytes. (forms : List Entry) × FormsCome files name (Ok forms) × (functions : List Function) × IsInput bytes functions × (text : List ℕ) × dump.FunctionsCome forms pass functions (Ok text) × Appends old new text)
+
 -- status 0, or want of memory
 abbrev pub IsDone : ℕ → Type 0
 IsDone status = (status ≡ 0) ⊎ (status ≡ 8)
@@ -66,3 +73,8 @@ CompletesFor files name input function status = (forms : List Entry) → FormsCo
 abbrev pub CompletesBy : Source → List ℕ → Option (List ℕ) → ℕ → Type 0
 CompletesBy files name input status = (forms : List Entry) → FormsCome files name (Ok forms) →
     IfSome input (λ bytes. (functions : List Function) (text : List ℕ) → IsInput bytes functions → FunctionsCome forms functions (Ok text) → IsDone status)
+
+-- and so does one whose functions have a text behind a pass
+abbrev pub CompletesDump : Pass → Source → List ℕ → Option (List ℕ) → ℕ → Type 0
+CompletesDump pass files name input status = (forms : List Entry) → FormsCome files name (Ok forms) →
+    IfSome input (λ bytes. (functions : List Function) (text : List ℕ) → IsInput bytes functions → dump.FunctionsCome forms pass functions (Ok text) → IsDone status)

@@ -19,21 +19,24 @@ ghost use Rattle.md_source.specs.Answers.{Agrees};
 ghost use Rattle.md_forms.specs.declared.form.Entry.{Entry};
 ghost use Rattle.md_list.specs.Listing.{ListComes};
 ghost use Rattle.md_named.specs.Named.{FormsCome};
+ghost use Rattle.pass_name.specs.declared.pass.Pass.{Pass};
 ghost use Rattle.rtlc_words.specs.declared.command.Command.TheVariants as commands;
 ghost use Rattle.rtlc_words.specs.Words as spoken;
 ghost use Rattle.rtlc_words.specs.Words.{words_of};
 ghost use Rattle.rtlc_run.specs.Answer as spec;
-ghost use Rattle.rtlc_run.specs.Written.{WritesLines, WritesSame, WritesList, WritesForms, WritesOutcomes, Completes, CompletesFor, CompletesBy, IsDone};
+ghost use Rattle.rtlc_run.specs.Written.{WritesLines, WritesSame, WritesList, WritesForms, WritesDump, WritesOutcomes, Completes, CompletesFor, CompletesBy, CompletesDump, IsDone};
 ghost use Rattle.rtlc_run.specs.machine.Steps.{Gives, IsOwn, InputRefused, TaskComes, Misuses, MisusesInput};
-ghost use Rattle.rtlc_run.specs.Answer.{EvalComes, RecogComes, ByForms, CommandComes, Answers, HasForms, IsMisused, reads_input, reads_files, IsKnownFor, MayBeAsked, Writes, WritesFront, IsRefused, Reports, HasCause, TellsCause, IsAnswered};
+ghost use Rattle.rtlc_run.specs.Answer.{EvalComes, RecogComes, DumpComes, ByForms, CommandComes, Answers, HasForms, IsMisused, reads_input, reads_files, IsKnownFor, MayBeAsked, Writes, WritesFront, IsRefused, Reports, HasCause, TellsCause, IsAnswered};
 
 use asm_text::{assembly_of, code_of};
 use byte_edge::{Files, ReadAll, Sink, Source, read_all, write_all_of};
 use code_eval::eval_text;
+use dump_text::dump_of;
 use md_desc::Description;
 use md_list::{ListRefusal, list};
 use md_named::{description_of, source_refused};
 use md_source::SHIPPED;
+use pass_name::Pass;
 use recog_text::recog_of;
 use rtlc_words::{Command, command_of};
 use rtx_tree::{Limit, MOST_BYTES, Name};
@@ -66,6 +69,10 @@ enum Task {
     Assemble,
     /// The form of each instruction.
     Recognise,
+    /// What they are behind a pass.
+    Show {
+        pass: Pass,
+    },
     /// The outcomes of one of them and of its code.
     Try {
         function: Name,
@@ -93,6 +100,21 @@ fn recognised(alloc: Global, description: &Description, bytes: &[u8]) -> Result<
     ensures read { result ≢ Err Refusal.ReadFault }
 {
     recog_of(alloc, description, bytes)
+}
+
+/// The functions among bytes as they are behind a pass.
+fn dumped(
+    alloc: Global,
+    description: &Description,
+    pass: Pass,
+    bytes: &[u8],
+) -> Result<Vec<u8>, Refusal>
+    requires { length bytes.now ≤ most_bytes }
+    ensures gives { Gives result (DumpComes pass description.now bytes.now) }
+    ensures own { IsOwn result }
+    ensures read { result ≢ Err Refusal.ReadFault }
+{
+    dump_of(alloc, description, pass, bytes)
 }
 
 /// The outcomes of a function among bytes and of its code.
@@ -130,6 +152,7 @@ fn made(
     match task {
         Task::Assemble => assembled(alloc, description, bytes),
         Task::Recognise => recognised(alloc, description, bytes),
+        Task::Show { pass } => dumped(alloc, description, *pass, bytes),
         Task::Try {
             function,
             steps,
@@ -240,6 +263,9 @@ fn produced<F: Files, S: Source>(
         Command::List { description } => listed(alloc, files, &description),
         Command::Recog { description } => {
             made_by(alloc, files, input, &description, &Task::Recognise)
+        }
+        Command::Dump { description, pass } => {
+            made_by(alloc, files, input, &description, &Task::Show { pass })
         }
         Command::Eval {
             description,
@@ -356,8 +382,8 @@ fn report<E: Sink>(alloc: Global, errors: &mut E, refusal: &Refusal) -> u8
     }
 }
 
-/// The whole program. `words` are those after the program's name: `asm`, `list`, `recog`, or `eval NAME STEPS` with up to eight numbers, and
-/// `--md NAME` at most once. `files` are asked for a description that is named and for what it includes, `input` is read by all but `list`. The text is written to `output`, the line of a refusal to `errors`, and the exit status is given: 0, or that of the
+/// The whole program. `words` are those after the program's name: `asm`, `list`, `recog`, `dump PASS`, or `eval NAME STEPS` with up to
+/// eight numbers, and `--md NAME` at most once. `files` are asked for a description that is named and for what it includes, `input` is read by all but `list`. The text is written to `output`, the line of a refusal to `errors`, and the exit status is given: 0, or that of the
 /// [`Refusal`].
 ///
 /// A count rose in a call where it is greater after it than before, or stands after it at its last value. `Known` is what is known of the
@@ -440,6 +466,18 @@ pub fn run<F: Files, S: Source, K: Sink, E: Sink>(
         ¬ Rose (F.fault_count files.old) (F.fault_count files.new) →
         ¬ Rose (S.fault_count input.old) (S.fault_count input.new) →
         ¬ Rose (K.fault_count output.old) (K.fault_count output.new) → CompletesBy known (spec.described name) (S.left input.old) result }
+
+    // `dump`: the text of status 0 has each function of the input as it is behind the pass, by the description's forms; and an input of which
+    // each function comes through the pass is told.
+    ensures dumps { (known : Known) → Agrees known (F.holds files.old) → (name : Option (List ℕ)) (pass : Pass) →
+        spoken.command_of (words_of words.now) ≡ Some (commands.Dump name pass) → result ≡ 0 →
+        WritesDump pass known (spec.described name) (S.left input.old) (K.taken output.old) (K.taken output.new) }
+
+    ensures dumped { (known : Known) → Agrees known (F.holds files.old) → (name : Option (List ℕ)) (pass : Pass) →
+        spoken.command_of (words_of words.now) ≡ Some (commands.Dump name pass) → IsKnown known (spec.described name) →
+        ¬ Rose (F.fault_count files.old) (F.fault_count files.new) →
+        ¬ Rose (S.fault_count input.old) (S.fault_count input.new) →
+        ¬ Rose (K.fault_count output.old) (K.fault_count output.new) → CompletesDump pass known (spec.described name) (S.left input.old) result }
 
     // Each status has its cause.
     ensures statuses { Contains (0 ∷ 1 ∷ 2 ∷ 3 ∷ 5 ∷ 6 ∷ 7 ∷ 8 ∷ []) result }

@@ -5,6 +5,7 @@ use Rattle.std.specs.Borrow.{Bor}
 use Rattle.std.specs.Str.{bytes_eq, chars}
 use Rattle.std.specs.Str.Parse.{digits_value, starts_with_minus}
 use Rattle.std.specs.Fmt.{decimal}
+use Rattle.pass_name.specs.Pass.{pass_named}
 use Rattle.rtlc_words.specs.declared.command.Command.{Command}
 use Rattle.rtlc_words.specs.declared.command.Command.TheVariants as commands
 
@@ -105,12 +106,18 @@ abbrev pub eval_by : Option (List ℕ) → List (List ℕ) → Option Command
 eval_by description (function ∷ steps ∷ args) = eval_with description function (steps_in steps) (args_in args)
 eval_by description _ = None
 
+-- the name of a pass
+abbrev pub dump_by : Option (List ℕ) → List (List ℕ) → Option Command
+dump_by description (name ∷ []) = option_map (λ pass. commands.Dump description pass) (pass_named name)
+dump_by description _ = None
+
 -- each command's name, and what it makes of a description and of positional words
 abbrev pub table : List (List ℕ × (Option (List ℕ) → List (List ℕ) → Option Command))
 table =
     (codes "asm", with_description (λ d. commands.Asm d))
     ∷ (codes "list", with_description (λ d. commands.List d))
     ∷ (codes "recog", with_description (λ d. commands.Recog d))
+    ∷ (codes "dump", dump_by)
     ∷ (codes "eval", eval_by)
     ∷ []
 

@@ -1,6 +1,7 @@
 //! The commands.
 ghost use Rattle.std.specs.Prelude.{◌≡◌, IfOk, None, Some, option_map};
 ghost use Rattle.clap.specs.Words.{found_of, rows_of, subcommand_rows_of};
+ghost use Rattle.pass_name.specs.Pass.{pass_named};
 ghost use Rattle.rtlc_words.specs.machine.Grammar.{arguments_of, command_found};
 ghost use Rattle.rtlc_words.specs.Words as spec;
 ghost use Rattle.rtlc_words.specs.Words.{words_of};
@@ -8,6 +9,7 @@ ghost use Rattle.rtlc_words.specs.Words.{words_of};
 use crate::grammar::parsed;
 use crate::numbers::{args_in, steps_in};
 use clap::ArgMatches;
+use pass_name::Pass;
 use plain_data::Memory;
 use rtx_tree::Name;
 use std::alloc::Global;
@@ -29,6 +31,13 @@ pub enum Command {
     Recog {
         /// The name that stands behind `--md`, if there is one.
         description: Option<Name>,
+    },
+    /// The functions of the input as they are behind a pass, by a description.
+    Dump {
+        /// The name that stands behind `--md`, if there is one.
+        description: Option<Name>,
+        /// The pass.
+        pass: Pass,
     },
     /// The outcomes of a function and of its code, by a description.
     Eval {
@@ -99,6 +108,35 @@ fn eval_of(
     }
 }
 
+fn dump_with(
+    alloc: Global,
+    description: Option<&str>,
+    name: &str,
+) -> Result<Option<Command>, Memory>
+    ensures { IfOk result (λ command. command ≡ option_map (λ pass. Command.Dump (option_map (λ s. s.now) description.entry) pass) (pass_named name.now)) }
+{
+    match Pass::named(name) {
+        Some(pass) => Ok(Some(Command::Dump {
+            description: name_of(alloc, description)?,
+            pass,
+        })),
+        None => Ok(None),
+    }
+}
+
+fn dump_of(
+    alloc: Global,
+    description: Option<&str>,
+    words: &[&str],
+) -> Result<Option<Command>, Memory>
+    ensures { IfOk result (λ command. command ≡ spec.dump_by (option_map (λ s. s.now) description.entry) (words_of words.now)) }
+{
+    match words {
+        [name] => dump_with(alloc, description, name),
+        _ => Ok(None),
+    }
+}
+
 /// The command of a name, with a description and positional words.
 fn command_by(
     alloc: Global,
@@ -118,6 +156,7 @@ fn command_by(
         "recog" => Ok(described(alloc, description, words)?.map(|description| Command::Recog {
             description,
         })),
+        "dump" => dump_of(alloc, description, words),
         "eval" => eval_of(alloc, description, words),
         _ => Ok(None),
     }

@@ -52,6 +52,7 @@ fn program<'a>(alloc: Global) -> Result<Command<'a>, AllocError>
     let program = with_command(program, alloc, "asm")?;
     let program = with_command(program, alloc, "list")?;
     let program = with_command(program, alloc, "recog")?;
+    let program = with_command(program, alloc, "dump")?;
     with_command(program, alloc, "eval")
 }
 

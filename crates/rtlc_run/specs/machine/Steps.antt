@@ -10,7 +10,7 @@ use Rattle.md_forms.specs.declared.form.Entry.{Entry}
 use Rattle.func_input.specs.Outcome.{Outcome}
 use Rattle.asm_text.specs.Compile.{TextComes}
 use Rattle.asm_text.specs.Code.{IsUnnamed}
-use Rattle.rtlc_run.specs.Answer.{EvalComes, RecogComes}
+use Rattle.rtlc_run.specs.Answer.{EvalComes, RecogComes, DumpComes}
 use Rattle.rtlc_run.specs.declared.program.Task.{Task}
 use Rattle.rtlc_run.specs.declared.program.Task.TheVariants as task
 
@@ -39,6 +39,7 @@ InputRefused input e = ⊥
 abbrev pub TaskComes : Task → List Entry → List ℕ → Outcome → Type 0
 TaskComes task.Assemble = TextComes
 TaskComes task.Recognise = RecogComes
+TaskComes (task.Show pass) = DumpComes pass
 TaskComes (task.Try function steps args) = EvalComes function steps args
 
 -- it names no function among the bytes

@@ -32,6 +32,18 @@ returns-in-Recog-clause-usage g c = rw c.in-Recog.is c.made_by-in-Recog.ensures.
 pub returns-in-Recog-clause-behind : goal.returns-in-Recog-clause-behind
 returns-in-Recog-clause-behind g c = λ read calm known agrees. rw c.in-Recog.is (c.made_by-in-Recog.ensures.behind read calm known agrees)
 
+pub returns-in-Dump-clause-gives : goal.returns-in-Dump-clause-gives
+returns-in-Dump-clause-gives g c = λ known agrees. rw c.in-Dump.is (gives_map c.made_by-in-Dump.result _ _ (λ o comes. CommandComes.dumped c.in-Dump.description c.in-Dump.pass o comes) (c.made_by-in-Dump.ensures.gives known agrees))
+
+pub returns-in-Dump-clause-asked : goal.returns-in-Dump-clause-asked
+returns-in-Dump-clause-asked g c = λ known agrees. rw c.in-Dump.is (c.made_by-in-Dump.ensures.asked known agrees)
+
+pub returns-in-Dump-clause-usage : goal.returns-in-Dump-clause-usage
+returns-in-Dump-clause-usage g c = rw c.in-Dump.is c.made_by-in-Dump.ensures.usage
+
+pub returns-in-Dump-clause-behind : goal.returns-in-Dump-clause-behind
+returns-in-Dump-clause-behind g c = λ read calm known agrees. rw c.in-Dump.is (c.made_by-in-Dump.ensures.behind read calm known agrees)
+
 pub returns-in-Eval-clause-gives : goal.returns-in-Eval-clause-gives
 returns-in-Eval-clause-gives g c = λ known agrees. rw c.in-Eval.is (gives_map c.made_by-in-Eval.result _ _ (λ o comes. CommandComes.tries c.in-Eval.description c.in-Eval.function c.in-Eval.steps c.in-Eval.args o comes) (c.made_by-in-Eval.ensures.gives known agrees))
 

@@ -7,7 +7,7 @@ use Rattle.asm_text.proofs.Parts.{one_cut}
 use Rattle.rtlc_words.specs.Words.{words_of}
 use Rattle.rtlc_run.proofs.Answered.{answered_err, err_of, told_cause, read_status, read_told}
 use Rattle.rtlc_run.proofs.Commands.{nothing_known, nothing_agrees}
-use Rattle.rtlc_run.proofs.Runs.{one_answer, writes_lines, writes_same, writes_outcomes, writes_list, writes_forms_of, completes, tried, listed, recognised}
+use Rattle.rtlc_run.proofs.Runs.{one_answer, writes_lines, writes_same, writes_outcomes, writes_list, writes_forms_of, writes_dump_of, completes, tried, listed, recognised, dumped}
 use Rattle.rtlc_run.proofs.Statuses.{status_is}
 use Rattle.rtlc_run.proofs.program.run.Goals as goal
 
@@ -57,6 +57,10 @@ returns-in-Ok-clause-lists g c = λ known agrees name is zero.
 pub returns-in-Ok-clause-recognises : goal.returns-in-Ok-clause-recognises
 returns-in-Ok-clause-recognises g c = λ known agrees name is zero.
     writes_forms_of (words_of c.args.words.now) known (g.S.Source.left c.args.input.now) (g.K.Sink.taken c.args.output.now) (g.K.Sink.taken c.attempt.new.output) name is (c.in-Ok.ensures.done known agrees)
+
+pub returns-in-Ok-clause-dumps : goal.returns-in-Ok-clause-dumps
+returns-in-Ok-clause-dumps g c = λ known agrees name pass is zero.
+    writes_dump_of (words_of c.args.words.now) known (g.S.Source.left c.args.input.now) (g.K.Sink.taken c.args.output.now) (g.K.Sink.taken c.attempt.new.output) name pass is (c.in-Ok.ensures.done known agrees)
 
 pub returns-in-Err-clause-cause : goal.returns-in-Err-clause-cause
 returns-in-Err-clause-cause g c = λ failed known agrees. (
@@ -111,6 +115,17 @@ returns-in-Err-clause-recognised g c = λ known agrees name is enough calm_files
     let not_read : c.in-Err.refusal ≡ refusal.ReadFault → ⊥ = λ same. ⊎_elim calm_in calm_files (c.in-Err.ensures.fault (ap (λ (e : Refusal). Err e) same)) in
     let not_write : c.in-Err.refusal ≡ refusal.WriteFault → ⊥ = λ same. calm_out (c.in-Err.ensures.write (ap (λ (e : Refusal). Err e) same)) in
     recognised (words_of c.args.words.now) known name (g.S.Source.left c.args.input.now) c.report.result (g.K.Sink.taken c.args.output.now) (g.K.Sink.taken c.attempt.new.output) (g.E.Sink.taken c.args.errors.now) (g.E.Sink.taken c.report.new.errors)
+    (g.E.Sink.fault_count c.args.errors.now) (g.E.Sink.fault_count c.report.new.errors) is enough
+    (λ other. answered_err (words_of c.args.words.now) known (g.S.Source.left c.args.input.now) c.in-Err.refusal c.report.result (g.K.Sink.taken c.args.output.now) (g.K.Sink.taken c.attempt.new.output) (g.E.Sink.taken c.args.errors.now) (g.E.Sink.taken c.report.new.errors)
+    (g.E.Sink.fault_count c.args.errors.now) (g.E.Sink.fault_count c.report.new.errors) (c.in-Err.ensures.cause known agrees)
+    not_read not_write other c.report.ensures
+    (c.in-Err.ensures.nothing (λ same. not_write (err_of c.in-Err.refusal refusal.WriteFault same))))
+
+pub returns-in-Err-clause-dumped : goal.returns-in-Err-clause-dumped
+returns-in-Err-clause-dumped g c = λ known agrees name pass is enough calm_files calm_in calm_out.
+    let not_read : c.in-Err.refusal ≡ refusal.ReadFault → ⊥ = λ same. ⊎_elim calm_in calm_files (c.in-Err.ensures.fault (ap (λ (e : Refusal). Err e) same)) in
+    let not_write : c.in-Err.refusal ≡ refusal.WriteFault → ⊥ = λ same. calm_out (c.in-Err.ensures.write (ap (λ (e : Refusal). Err e) same)) in
+    dumped (words_of c.args.words.now) known name pass (g.S.Source.left c.args.input.now) c.report.result (g.K.Sink.taken c.args.output.now) (g.K.Sink.taken c.attempt.new.output) (g.E.Sink.taken c.args.errors.now) (g.E.Sink.taken c.report.new.errors)
     (g.E.Sink.fault_count c.args.errors.now) (g.E.Sink.fault_count c.report.new.errors) is enough
     (λ other. answered_err (words_of c.args.words.now) known (g.S.Source.left c.args.input.now) c.in-Err.refusal c.report.result (g.K.Sink.taken c.args.output.now) (g.K.Sink.taken c.attempt.new.output) (g.E.Sink.taken c.args.errors.now) (g.E.Sink.taken c.report.new.errors)
     (g.E.Sink.fault_count c.args.errors.now) (g.E.Sink.fault_count c.report.new.errors) (c.in-Err.ensures.cause known agrees)

@@ -1,0 +1,38 @@
+-- What functions come to behind a pass is one outcome.
+use Rattle.std.proofs.Common.{◌≡◌, List, Ok, Err, refl, sym, ap, ◌∙◌}
+use Rattle.rtx_tree.specs.declared.function.Function.{Function}
+use Rattle.md_forms.specs.declared.form.Entry.{Entry}
+use Rattle.rtl_print.specs.Canonical.{printed_function}
+use Rattle.pass_name.specs.declared.pass.Pass.{Pass}
+use Rattle.func_input.specs.Outcome.{Outcome}
+use Rattle.func_after.specs.After.{Answer}
+use Rattle.func_after.proofs.Each.{one_each}
+use Rattle.dump_text.specs.Dump.{IsAfter, FunctionComes, FunctionsCome}
+
+-- a function is one thing behind a pass
+after_one : (forms : List Entry) (pass : Pass) (f : Function) (a b : Answer) → IsAfter forms f pass a → IsAfter forms f pass b → a ≡ b
+after_one forms _ f _ _ IsAfter.read IsAfter.read = refl
+
+-- what is told of an answer
+told : Answer → Outcome
+told (Ok g) = Ok (printed_function g)
+told (Err e) = Err e
+
+-- an outcome is told of an answer
+record Tells (forms : List Entry) (pass : Pass) (f : Function) (o : Outcome) : Type 0 where
+  pub answer : Answer
+  pub is_after : IsAfter forms f pass answer
+  pub is_told : o ≡ told answer
+
+tells : (forms : List Entry) (pass : Pass) (f : Function) (o : Outcome) → FunctionComes forms pass f o → Tells forms pass f o
+tells forms pass f _ (FunctionComes.refused e after) = record { answer = Err e; is_after = after; is_told = refl }
+tells forms pass f _ (FunctionComes.printed g after) = record { answer = Ok g; is_after = after; is_told = refl }
+
+function_one : (forms : List Entry) (pass : Pass) (f : Function) (a b : Outcome) → FunctionComes forms pass f a → FunctionComes forms pass f b → a ≡ b
+function_one forms pass f a b m n =
+    let one = tells forms pass f a m in
+    let other = tells forms pass f b n in
+    one.is_told ∙ ap told (after_one forms pass f one.answer other.answer one.is_after other.is_after) ∙ sym other.is_told
+
+pub functions_one : (forms : List Entry) (pass : Pass) (fs : List Function) (a b : Outcome) → FunctionsCome forms pass fs a → FunctionsCome forms pass fs b → a ≡ b
+functions_one forms pass fs a b m n = one_each (FunctionComes forms pass) (function_one forms pass) fs a b m n

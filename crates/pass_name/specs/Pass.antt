@@ -1,0 +1,13 @@
+-- The passes behind which a function can be shown, by their names: GCC Internals, "Passes and Files of the Compiler" ("RTL passes"). The
+-- names are this project's own.
+use Rattle.std.specs.Prelude.{ℕ, List, codes, Option, Some, None, if◌then◌else◌}
+use Rattle.std.specs.Str.{bytes_eq}
+use Rattle.pass_name.specs.declared.pass.Pass.{Pass}
+use Rattle.pass_name.specs.declared.pass.Pass.TheVariants.{Read}
+
+abbrev pub pass_name : Pass → List ℕ
+pass_name Read = codes "read"
+
+-- the pass with a name
+abbrev pub pass_named : List ℕ → Option Pass
+pass_named name = if bytes_eq name (pass_name Read) then Some Read else None

@@ -1,0 +1,31 @@
+//! Passes and their names.
+ghost use Rattle.std.specs.Prelude.{◌≡◌};
+ghost use Rattle.pass_name.specs.Pass as spec;
+
+/// A pass behind which a function can be shown, in the order in which they run.
+#[derive(Clone, Copy)]
+pub enum Pass {
+    /// None yet: the function as it was read.
+    Read,
+}
+
+impl Pass {
+    /// The pass's name, as `read`.
+    pub fn name(self) -> &'static str
+        ensures { result.now ≡ spec.pass_name self }
+    {
+        match self {
+            Pass::Read => "read",
+        }
+    }
+
+    /// The pass with a name, or `None` where there is none.
+    pub fn named(name: &str) -> Option<Pass>
+        ensures { result ≡ spec.pass_named name.now }
+    {
+        match name {
+            "read" => Some(Pass::Read),
+            _ => None,
+        }
+    }
+}

@@ -10,7 +10,7 @@ ghost use Rattle.equate.specs.Side as sides;
 ghost use Rattle.equate.specs.Equated as spec;
 ghost use Rattle.equate.specs.Views.{side_of};
 ghost use Rattle.equate.specs.Answers.{Gives};
-ghost use Rattle.equate.specs.Sound.{EquatedDoesSame};
+ghost use Rattle.equate.specs.Sound.{EquatedDoesSame, EquatedKeeps};
 ghost use Rattle.equate.specs.Told.{Tells};
 
 use crate::returns::both_return;
@@ -152,9 +152,9 @@ fn decided(
 }
 
 /// Whether instructions are equated with what stands in their place, over the registers that are live behind: the first item that
-/// fails, where one does. `Size` comes where a term that is met has too many nodes and no part is one that can't be compared. Lines that
-/// are the same do what the instructions do.
-#[tactic(auto, using(crate::proofs::VerdictLaws::telling, crate::proofs::Soundness::equated_does))]
+/// fails, where one does. `Size` comes where a term that is met has too many nodes and no part is one that can't be compared. What is the
+/// same, lines or instructions, does what the instructions do in whose place it stands.
+#[tactic(auto, using(crate::proofs::VerdictLaws::telling, crate::proofs::Soundness::equated_does, crate::proofs::Soundness::equated_keeps))]
 pub fn equate(
     alloc: Global,
     before: &[Insn],
@@ -166,6 +166,7 @@ pub fn equate(
     ensures gives { Gives result (spec.verdict before.now (side_of after.now) live.now) }
     ensures tells { Tells result before.now (side_of after.now) live.now }
     ensures sound { EquatedDoesSame }
+    ensures sound_insns { EquatedKeeps }
 {
     decided(alloc, before, after, live)
 }

@@ -1,0 +1,9 @@
+pub mod Numbers
+pub mod Covered
+pub mod Told
+pub mod Shapes
+pub mod Memories
+pub mod Calls
+pub mod Ends
+pub mod Behind
+pub mod Keeping

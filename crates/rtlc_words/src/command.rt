@@ -116,10 +116,10 @@ fn dump_with(
     ensures { IfOk result (λ command. command ≡ option_map (λ pass. Command.Dump (option_map (λ s. s.now) description.entry) pass) (pass_named name.now)) }
 {
     match Pass::named(name) {
-        Some(pass) => Ok(Some(Command::Dump {
-            description: name_of(alloc, description)?,
-            pass,
-        })),
+        Some(pass) => {
+            let description = name_of(alloc, description)?;
+            Ok(Some(Command::Dump { description, pass }))
+        }
         None => Ok(None),
     }
 }

@@ -14,7 +14,7 @@ after_one : (forms : List Entry) (pass : Pass) (f : Function) (a b : Answer) →
 after_one forms _ f _ _ IsAfter.read IsAfter.read = refl
 
 -- what is told of an answer
-told : Answer → Outcome
+abbrev told : Answer → Outcome
 told (Ok g) = Ok (printed_function g)
 told (Err e) = Err e
 

@@ -1,6 +1,7 @@
 //! Instructions made of patterns.
-ghost use Rattle.std.specs.Prelude.{◌≡◌, ◌+◌, ◌<◌, ◌^◌, length, IfOk};
+ghost use Rattle.std.specs.Prelude.{◌≡◌, IfOk};
 ghost use Rattle.new_insns.specs.Made as spec;
+ghost use Rattle.new_insns.specs.machine.Front as steps;
 
 use plain_data::{Items, Memory};
 use rtl_func::kinds_agree;
@@ -31,12 +32,7 @@ fn copy_uses(alloc: Global, uses: &[ArgUse]) -> Result<ArgUses, Memory>
 }
 
 /// The uses of a call in the place of a call.
-fn uses_between(
-    alloc: Global,
-    old: Kind,
-    new: Kind,
-    uses: &[ArgUse],
-) -> Result<ArgUses, Memory>
+fn uses_between(alloc: Global, old: Kind, new: Kind, uses: &[ArgUse]) -> Result<ArgUses, Memory>
     ensures { IfOk result (λ copies. copies ≡ spec.uses_between old new uses.now) }
 {
     match (old, new) {
@@ -59,17 +55,13 @@ fn insn_for(alloc: Global, old: &Insn, uid: u32, pattern: Rtx) -> Result<Insn, M
     })
 }
 
-/// The instructions that a sequence makes in the place of a window that ends with an instruction: the last has its uid, and the others
-/// take uids from a number on. Uids past 32 bits find no memory.
-pub fn insns_for(alloc: Global, old: &Insn, uid: u32, sequence: Kids) -> Result<Insns, Memory>
-    ensures { IfOk result (λ insns. insns ≡ spec.insns_for old.now uid sequence) }
+/// The instructions of patterns that stand in front of the last, with uids from a number on. Uids past 32 bits find no memory.
+#[tactic(auto, using(crate::proofs::FrontLaws::front_push))]
+fn front_for(alloc: Global, old: &Insn, uid: u32, patterns: Vec<Rtx>) -> Result<Insns, Memory>
+    ensures { IfOk result (λ insns. insns ≡ steps.front_for old.now uid patterns.items) }
 {
-    let mut patterns = sequence.into_vec();
     let mut insns = Items::new(alloc);
     let mut next = uid;
-    let Some(last) = patterns.pop() else {
-        return Ok(insns);
-    };
     for pattern in patterns {
         insns.push(insn_for(alloc, old, next, pattern)?)?;
         match next.checked_add(1) {
@@ -77,6 +69,20 @@ pub fn insns_for(alloc: Global, old: &Insn, uid: u32, sequence: Kids) -> Result<
             None => return Err(Memory),
         }
     }
+    Ok(insns)
+}
+
+/// The instructions that a sequence makes in the place of a window that ends with an instruction: the last has its uid, and the others
+/// take uids from a number on. Uids past 32 bits find no memory.
+#[tactic(auto, using(crate::proofs::FrontLaws::made_push))]
+pub fn insns_for(alloc: Global, old: &Insn, uid: u32, sequence: Kids) -> Result<Insns, Memory>
+    ensures { IfOk result (λ insns. insns ≡ spec.insns_for old.now uid sequence) }
+{
+    let mut patterns = sequence.into_vec();
+    let Some(last) = patterns.pop() else {
+        return Ok(Items::new(alloc));
+    };
+    let mut insns = front_for(alloc, old, uid, patterns)?;
     insns.push(insn_for(alloc, old, old.uid, last)?)?;
     Ok(insns)
 }

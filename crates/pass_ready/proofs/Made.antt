@@ -41,7 +41,7 @@ note_no_call Use parts is = refl
 note_no_call Clobber parts is = refl
 note_no_call _ parts is = absurd (false≢true is)
 
-kind_by : Bool → Bool → Kind
+abbrev kind_by : Bool → Bool → Kind
 kind_by jumps calls = if jumps then kind.Jump else (if calls then kind.Call else kind.Plain)
 
 -- ---- what an instruction uses, where none without a home stands in its pattern
@@ -81,9 +81,9 @@ module _ (old : Insn) (uid : ℕ) (x : Rtx) where
   made_no_mark = no_mark (is_jump_tree x) (is_call_tree x)
 
   no_label : (jumps calls : Bool) → kind_by jumps calls ≡ kind.Label → ⊥
-  no_label true calls is = let none : ⊥ = cc in none
-  no_label false true is = let none : ⊥ = cc in none
-  no_label false false is = let none : ⊥ = cc in none
+  no_label true calls is = absurd (let none : ⊥ = cc in none)
+  no_label false true is = absurd (let none : ⊥ = cc in none)
+  no_label false false is = absurd (let none : ⊥ = cc in none)
 
   -- what gives nothing at output is a use or a clobber, and so plain
   needs : (jumps calls note : Bool) → (is_kind (kind_by jumps calls) && not note) ≡ not note

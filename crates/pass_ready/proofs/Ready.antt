@@ -1,14 +1,19 @@
 -- A function that keeps the rules is ready; a replaced window keeps it so; and with its finished chain it can have lines.
-use Rattle.std.proofs.Common.{◌≡◌, ℕ, ◌||◌, true, false, List, [], ◌∷◌, ◌++◌, Some, refl, sym, ap, ◌∙◌}
+use Rattle.std.proofs.Common.{◌≡◌, ℕ, ◌||◌, not, true, false, List, [], ◌∷◌, ◌++◌, Some, refl, sym, ap, subst, ◌∙◌}
 use Rattle.std.specs.Prelude.{slice_get, take, drop}
-use Rattle.std.specs.List.{AllByRecursion}
-use Rattle.std.proofs.lemmas.Bool.{true≢false}
+use Rattle.std.specs.List.{AllByRecursion, list_any}
+use Rattle.std.proofs.lemmas.Bool.{true≢false, or_parts}
 use Rattle.rtx_tree.specs.declared.function.Insn.{Insn}
 use Rattle.rtx_tree.specs.declared.function.Function.{Function}
 use Rattle.rtx_tree.specs.declared.function.Kind.TheVariants as kind
+use Rattle.rtx_tree.specs.declared.code.Code.TheVariants.{Return}
+use Rattle.rtx_tree.specs.declared.tree.Rtx.{Rtx, out-roll-Rtx}
+use Rattle.rtx_tree.specs.declared.tree.Rtx.TheOpen.{Rtx-F}
 use Rattle.rtx_tree.specs.Patterns.{return_rtx}
+use Rattle.rtx_tree.specs.Tree.{head_of, kids_of}
+use Rattle.reg_uses.specs.Effects.{effects_by, effect_defines, effect_defines_by, pattern_defines}
 use Rattle.rtl_chain.specs.End.{return_insn, IsFinished}
-use Rattle.form_needs.specs.Needs.{is_call, is_held, names_homeless}
+use Rattle.form_needs.specs.Needs.{is_call, is_held, is_note, names_homeless, needs_form}
 use Rattle.new_insns.specs.Replaced.{replaced}
 use Rattle.func_rules.specs.Admitted.{StandsAt, IsWellFormed}
 use Rattle.func_rules.specs.ForLines.{NoneHeld, IsReady}
@@ -40,13 +45,24 @@ replaced_ready f first end new ready all =
 
 -- ---- the finished chain
 
+return_code : (head_of return_rtx).code ≡ Return
+return_code = ap (λ (o : Rtx-F Rtx). o.code) (out-roll-Rtx _)
+
+return_defines : (reg : ℕ) → pattern_defines reg return_rtx ≡ false
+return_defines reg =
+    subst (λ c. list_any (effect_defines reg) (effects_by c (kids_of return_rtx) return_rtx) ≡ false) (sym return_code)
+    (ap (λ c. effect_defines_by reg c (kids_of return_rtx) || false) return_code)
+
+return_needs : (insns : List Insn) → needs_form (return_insn insns) ≡ true
+return_needs insns = ap (λ c. not (is_note c)) return_code
+
 return_ready : (insns : List Insn) → IsInsnReady (return_insn insns)
 return_ready insns = record {
   marks = λ mark reg. absurd (true≢false (sym mark));
-  leaves = λ reg kept. refl;
+  leaves = λ reg kept. return_defines reg;
   label = λ is. absurd (let none : ⊥ = cc in none);
-  silent = λ is. absurd (true≢false (sym is));
-  formed = λ needed free. uses_hard (return_insn insns) refl refl refl;
+  silent = λ is. absurd (true≢false (sym is ∙ ap not (return_needs insns)));
+  formed = λ needed free. uses_hard (return_insn insns) refl refl (or_parts (is_call kind.Jump) (names_homeless return_rtx) free).1;
   call = λ is. absurd (let none : ⊥ = cc in none);
 }
 

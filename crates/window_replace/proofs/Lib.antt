@@ -5,3 +5,6 @@ pub mod Insns
 pub mod Machine
 pub mod Memory
 pub mod Replied
+pub mod Stands
+pub mod Twins
+pub mod Setting

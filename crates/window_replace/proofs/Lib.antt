@@ -8,3 +8,4 @@ pub mod Replied
 pub mod Stands
 pub mod Twins
 pub mod Setting
+pub mod Onward

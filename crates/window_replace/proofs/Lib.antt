@@ -9,3 +9,4 @@ pub mod Stands
 pub mod Twins
 pub mod Setting
 pub mod Onward
+pub mod Outside

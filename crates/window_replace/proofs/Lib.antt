@@ -10,3 +10,7 @@ pub mod Twins
 pub mod Setting
 pub mod Onward
 pub mod Outside
+pub mod Traverse
+pub mod Window
+pub mod Inside
+pub mod Walk

@@ -66,6 +66,7 @@ pub record Alike (c : Setting) (q : ℕ) (s t : State) : Type 0 where
 pub record Waits (c : Setting) (s0 s t : State) (rest : List Insn) (q other first : ℕ) : Type 0 where
   pub alike : Alike c first s0 t
   pub begins : drop first c.f.insns ≡ c.window ++ c.back
+  pub first_is : first + length c.window ≡ c.last + 1
   pub stands : Stands c.f.insns s.next (rest ++ c.back) q
   pub waiting : Stands (new_of c).insns t.next (c.new ++ c.back) other
   pub leads_on : leads_last rest ≡ true

@@ -29,7 +29,7 @@ natural_kids x natural = (both_of (is_natural (out-Rtx x).code (out-Rtx x).numbe
 
 -- ---- registers
 
-positive : (q : ℕ) → (suc q == 0) ≡ false
+pub positive : (q : ℕ) → (suc q == 0) ≡ false
 positive q = grind (arith, nat_tests)
 
 -- a register other than zero that stands in a tree is read

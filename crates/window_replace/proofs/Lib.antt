@@ -14,3 +14,4 @@ pub mod Traverse
 pub mod Window
 pub mod Inside
 pub mod Walk
+pub mod Replacing

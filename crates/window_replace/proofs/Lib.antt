@@ -1,0 +1,17 @@
+pub mod Known
+pub mod Trees
+pub mod Effects
+pub mod Insns
+pub mod Machine
+pub mod Memory
+pub mod Replied
+pub mod Stands
+pub mod Twins
+pub mod Setting
+pub mod Onward
+pub mod Outside
+pub mod Traverse
+pub mod Window
+pub mod Inside
+pub mod Walk
+pub mod Replacing

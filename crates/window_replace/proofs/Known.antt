@@ -22,7 +22,7 @@ use Rattle.rtl_step.specs.Regs.{Regs, reg_value}
 use Rattle.rtl_step.specs.Value as rtl
 use Rattle.rtl_step.specs.Value.{Reading, of_two, of_one, of_converted, of_compared, compared, converted, first_width, count_width, value_of}
 use Rattle.window_keep.specs.Same.{KnownToo}
-use Rattle.window_replace.specs.Natural.{is_natural, natural_step, all_natural}
+use Rattle.sym_insns.specs.Shape.{is_natural, natural_step, all_natural}
 
 -- ---- values
 

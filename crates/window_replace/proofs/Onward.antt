@@ -28,7 +28,7 @@ use Rattle.live.specs.Live.{IsLive}
 use Rattle.same_behaviour.specs.Lawful.{IsByte, IsMemory}
 use Rattle.func_keep.specs.Keeps.{IsMachineReply}
 use Rattle.func_keep.specs.Outcomes.{SameEvent, SameEvents, SameOutcome, KeptToo}
-use Rattle.func_keep.proofs.Events.{events_more}
+use Rattle.keep_compose.proofs.Events.{events_more}
 use Rattle.window_keep.specs.Same.{KnownToo}
 use Rattle.window_same.proofs.Memories.{memory_written}
 use Rattle.window_same.proofs.Returns.{result_used}

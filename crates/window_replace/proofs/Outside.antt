@@ -30,7 +30,7 @@ use Rattle.rtl_func.specs.Paths.{leads}
 use Rattle.reg_uses.specs.Effects.{pattern_uses, pattern_defines}
 use Rattle.reg_uses.specs.Uses.{insn_uses, insn_defines, has_argument, is_call_kind, is_return, is_return_code, return_uses}
 use Rattle.live.specs.Live.{IsLive, AtUse, Passing}
-use Rattle.func_keep.proofs.Events.{event_refl}
+use Rattle.keep_compose.proofs.Events.{event_refl}
 use Rattle.window_keep.specs.Same.{KnownToo}
 use Rattle.window_same.proofs.Leads as leads_by
 use Rattle.window_same.proofs.Leads.{LeadsBy, leads_on, jump_leads}

@@ -14,7 +14,7 @@ use Rattle.live.specs.Live.{IsLiveAfter}
 use Rattle.new_insns.specs.Replaced.{window, replaced}
 use Rattle.func_keep.specs.Keeps.{IsMachineStart, IsMachineWorld, Keeps, KeepsRun}
 use Rattle.func_keep.specs.Outcomes.{SameEvents, SameOutcome}
-use Rattle.func_keep.proofs.Events.{events_refl}
+use Rattle.keep_compose.proofs.Events.{events_refl}
 use Rattle.window_keep.specs.Same.{CanReplace}
 use Rattle.window_same.specs.ForLines.{MarksAreEmpty}
 use Rattle.window_same.proofs.Simulation as machine

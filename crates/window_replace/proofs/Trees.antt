@@ -8,7 +8,7 @@ use Rattle.rtx_tree.specs.declared.tree.Rtx.{Rtx, out-Rtx}
 use Rattle.rtx_tree.specs.declared.tree.Rtx.TheFolds.{fold_out-Rtx}
 use Rattle.rtx_tree.proofs.Trees.{mentions_out}
 use Rattle.reg_uses.specs.Effects.{is_register, reads}
-use Rattle.window_replace.specs.Natural.{is_natural, natural_step, all_natural}
+use Rattle.sym_insns.specs.Shape.{is_natural, natural_step, all_natural}
 use Rattle.window_replace.proofs.Known.{both_of, or_later}
 
 -- ---- numbers

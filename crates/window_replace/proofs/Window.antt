@@ -40,7 +40,7 @@ use Rattle.window_keep.specs.Same.{leads_last, is_plain}
 use Rattle.window_same.specs.Left.{IsNamed, IsSetNamed}
 use Rattle.window_same.proofs.Leads.{leads_on}
 use Rattle.window_same.proofs.Sets.{plain_keeps, jump_defines, call_defines}
-use Rattle.window_replace.specs.Natural.{is_natural, all_natural}
+use Rattle.sym_insns.specs.Shape.{is_natural, all_natural}
 use Rattle.window_replace.proofs.Known.{both_of, or_first, numbered}
 use Rattle.window_replace.proofs.Outside.{plain_defines, call_leaves, not_result}
 use Rattle.window_replace.proofs.Setting.{Setting}

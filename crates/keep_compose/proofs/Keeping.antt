@@ -8,7 +8,7 @@ use Rattle.func_mean.specs.declared.outcome.Outcome.{Outcome}
 use Rattle.func_mean.specs.declared.outcome.Outcome.TheVariants.{Undefined, Running, Asked, Returned}
 use Rattle.func_keep.specs.Outcomes.{SameOutcome}
 use Rattle.func_keep.specs.Keeps.{Keeps, KeepsRun, IsMachineStart, IsMachineWorld}
-use Rattle.func_keep.proofs.Events.{events_refl, events_trans, kept_trans}
+use Rattle.keep_compose.proofs.Events.{events_refl, events_trans, kept_trans}
 
 -- ---- outcomes
 

@@ -25,8 +25,8 @@ use Rattle.same_behaviour.specs.Same as same
 use Rattle.same_behaviour.specs.Same.{Same, SameFrom, SameCall, SameCalls, SameArg, SameArgs, SameResult}
 use Rattle.func_keep.specs.Outcomes.{SameEvent, SameEvents, SameOutcome}
 use Rattle.func_keep.specs.Keeps.{Keeps, IsMachineStart, IsMachineReply, IsMachineWorld}
-use Rattle.func_keep.proofs.Events.{beside}
-use Rattle.func_keep.proofs.Keeping.{has_value}
+use Rattle.keep_compose.proofs.Events.{beside}
+use Rattle.keep_compose.proofs.Keeping.{has_value}
 
 -- ---- a part of memory that goes by the addresses is a memory
 

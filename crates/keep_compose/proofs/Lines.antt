@@ -124,10 +124,10 @@ from_start f g items frame start world n keeps lawful lawful_world second some =
       two.0,
       omega (arith, few, enough),
       outcome_too f.result start (run_of f (seen f.locals) world n) (run_of g (seen f.locals) world one.0)
-      (lines.run items start world two.0) one.2
-      (subst (λ r. same.SameOutcome r start (run_of g (seen f.locals) world one.0) (lines.run items start world two.0)) keeps.result_is
-      (subst (λ l. same.SameOutcome g.result start (run_of g (seen l) world one.0) (lines.run items start world two.0)) keeps.locals_are
-      two.2)),
+          (lines.run items start world two.0) one.2
+          (subst (λ r. same.SameOutcome r start (run_of g (seen f.locals) world one.0) (lines.run items start world two.0)) keeps.result_is
+          (subst (λ l. same.SameOutcome g.result start (run_of g (seen l) world one.0) (lines.run items start world two.0)) keeps.locals_are
+          two.2)),
     )
 
 pub keeps_then_same : (least : ℕ) (f g : Function) (items : List CodeItem) → Keeps f g → Same least g items → Same least f items

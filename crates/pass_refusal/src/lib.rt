@@ -5,8 +5,8 @@
 //! item in which they differ (`specs/Refused.antt`).
 #![tactic(auto)]
 
-mod judge;
+mod compare;
 mod refusal;
 
-pub use judge::judge;
+pub use compare::judge;
 pub use refusal::{PassRefusal, unmatched};

@@ -1,0 +1,4 @@
+-- What the contracts of private functions alone cite.
+pub mod Layout
+pub mod Tasks
+pub mod Plans

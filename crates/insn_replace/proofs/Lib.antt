@@ -1,0 +1,4 @@
+pub mod Calls
+pub mod LiveLists
+pub mod MadeLaws
+pub mod OneReplaced

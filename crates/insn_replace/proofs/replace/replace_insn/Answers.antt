@@ -1,0 +1,23 @@
+use Rattle.std.proofs.lemmas.Result.{err_from_is_err_and}
+use Rattle.md_forms.specs.Forms.{names_of}
+use Rattle.form_needs.specs.Needs.{name_at}
+use Rattle.insn_replace.proofs.Calls.{refused_comes, replaced_comes}
+use Rattle.insn_replace.proofs.replace.replace_insn.Goals as goal
+
+pub returns-in_err-compare-clause-gives : goal.returns-in_err-compare-clause-gives
+returns-in_err-compare-clause-gives c =
+    let a = c.args in
+    let p = err_from_is_err_and c.from_residual-in_err-compare.result c.from_residual-in_err-compare.ensures.1 in
+    rw (p.1, p.2)
+    (refused_comes a.chain.now c.made.new.chain c.in_ok-insns.ensures.same a.place (name_at (names_of a.desc.now) a.form) a.sequence c.in_ok-insns.insns c.in_ok-insns.ensures.made
+    c.in_err-compare.field-0.0 c.in_err-compare.ensures.compares)
+
+pub returns-clause-gives : goal.returns-clause-gives
+returns-clause-gives c =
+    let a = c.args in
+    λ i here. (
+      replaced_comes a.chain.now c.made.new.chain c.in_ok-insns.ensures.same a.place (name_at (names_of a.desc.now) a.form) a.sequence c.in_ok-insns.insns c.in_ok-insns.ensures.made
+          c.compare.new.chain c.replace.new.self c.in_ok-end.end c.insns_in.result c.in_ok-compare.ensures.same c.in_ok-end.ensures c.insns_in.ensures c.in_ok-replace.ensures.replaced
+          c.in_ok-compare.ensures.compares i here,
+      c.in_ok-count.ensures,
+    )

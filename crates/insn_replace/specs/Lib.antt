@@ -1,0 +1,3 @@
+pub mod Done
+pub mod Replace
+pub mod machine

@@ -1,0 +1,45 @@
+-- The steps of the code, for the contracts of private functions.
+use Rattle.std.specs.Prelude.{◌≡◌, ℕ, ◌<◌, ◌^◌, true, List, [], ◌∷◌, Some, Result, Ok, Err, slice_get}
+use Rattle.rtx_tree.specs.declared.function.Insn.{Insn}
+use Rattle.rtx_tree.specs.declared.function.Function.{Function}
+use Rattle.rtx_tree.specs.declared.tree.Rtx.{Rtx}
+use Rattle.rtx_tree.specs.RegSet.{has_reg}
+use Rattle.live.specs.Live.{AreLiveAfter}
+use Rattle.equate.specs.Side.{Side}
+use Rattle.equate.specs.declared.verdict.Side as code
+use Rattle.equate.specs.declared.verdict.Side.TheVariants as sides
+use Rattle.equate.specs.Equated.{verdict, Equated}
+use Rattle.pass_refusal.specs.Outcome.{RefusesWith}
+use Rattle.pass_refusal.specs.Refused.{refused_by}
+use Rattle.pass_refusal.specs.declared.refusal.PassRefusal.{PassRefusal}
+use Rattle.insn_replace.specs.Replace as spec
+
+-- instructions are those that a sequence makes in the place of one of a function
+abbrev pub AreMade : Function → ℕ → List Rtx → List Insn → Type 0
+AreMade f place sequence insns = (i : Insn) → slice_get f.insns place ≡ Some i → insns ≡ spec.made f i sequence
+
+-- a side is equated with an instruction of a function, over what is live behind it
+pub record IsSame (f : Function) (place : ℕ) (i : Insn) (side : Side) : Type 0 where
+  pub live : List ℕ
+  pub live_after : AreLiveAfter f place live
+  pub small : (reg : ℕ) → has_reg live reg ≡ true → reg < 2 ^ 32
+  pub equated : Equated (i ∷ []) side live
+
+-- a comparison of them refuses
+pub record IsOther (f : Function) (place : ℕ) (i : Insn) (rule : List ℕ) (side : Side) (e : PassRefusal) : Type 0 where
+  pub live : List ℕ
+  pub live_after : AreLiveAfter f place live
+  pub refused : refused_by i.uid rule (verdict (i ∷ []) side live) ≡ Some e
+
+abbrev pub IsRefusal : Function → ℕ → Insn → List ℕ → Side → Result (Unit {0}) PassRefusal → Type 0
+IsRefusal f place i rule side (Ok done) = ⊥
+IsRefusal f place i rule side (Err e) = IsOther f place i rule side e
+
+abbrev pub Compares : Result (Unit {0}) PassRefusal → Function → ℕ → Insn → List ℕ → Side → Type 0
+Compares (Ok done) f place i rule side = IsSame f place i side
+Compares (Err e) f place i rule side = RefusesWith e (IsRefusal f place i rule side)
+
+-- the instructions of a side
+abbrev pub insns_in : code.Side → List Insn
+insns_in (sides.Insns insns) = insns
+insns_in (sides.Lines function lines) = []

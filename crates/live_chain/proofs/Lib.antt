@@ -1,0 +1,10 @@
+pub mod NumberLaws
+pub mod MoveLaws
+pub mod FlowLaws
+pub mod PassLaws
+pub mod CrossLaws
+pub mod RowLaws
+pub mod BehindLaws
+pub mod WindowLaws
+pub mod KeptLaws
+pub mod NarrowLaws

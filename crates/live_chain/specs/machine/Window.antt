@@ -1,0 +1,80 @@
+-- A window of a chain as it is seen from outside: GCC Internals, "Liveness information", "Insns" and "Jump Patterns".
+use Rattle.std.specs.Prelude.{◌≡◌, ℕ, ◌<◌, Bool, true, false, ◌||◌, ◌&&◌, not, List, [], ◌∷◌, length, drop}
+use Rattle.std.specs.List.{list_any}
+use Rattle.reg_rows.specs.Row.{has}
+use Rattle.reg_rows.specs.Table.{has_at}
+use Rattle.rtx_tree.specs.declared.function.Kind.{Kind}
+use Rattle.rtx_tree.specs.declared.function.Kind.TheVariants.{Jump}
+use Rattle.rtx_tree.specs.declared.function.Insn.{Insn}
+use Rattle.rtx_tree.specs.Patterns.{is_label_kind}
+use Rattle.rtx_tree.specs.RegSet.{has_reg}
+use Rattle.rv_regs.specs.Registers.{kept_registers}
+use Rattle.reg_uses.specs.Uses.{insn_uses, insn_defines, insn_sets, is_return}
+use Rattle.rtl_func.specs.declared.flow.Flow.{Flow}
+use Rattle.rtl_func.specs.declared.flow.Flow.TheVariants.{Falls}
+use Rattle.rtl_func.specs.Successors.{flow_of}
+
+-- the window asks for a register: it uses it before it defines it
+abbrev pub asks_for : List Insn → ℕ → Bool
+asks_for [] reg = false
+asks_for (i ∷ window) reg = insn_uses i reg || (not (insn_defines i reg) && asks_for window reg)
+
+-- an instruction of the window defines the register
+abbrev pub defines_in : List Insn → ℕ → Bool
+defines_in window reg = list_any (λ i. insn_defines i reg) window
+
+-- a `set` of the window sets the register
+abbrev pub sets_in : List Insn → ℕ → Bool
+sets_in window reg = list_any (insn_sets reg) window
+
+-- where the window leads: where its last instruction does, or on where there is none
+abbrev pub flow_behind : List Insn → Flow
+flow_behind [] = Falls
+flow_behind (i ∷ []) = flow_of i
+flow_behind (i ∷ j ∷ window) = flow_behind (j ∷ window)
+
+abbrev pub is_jump_kind : Kind → Bool
+is_jump_kind Jump = true
+is_jump_kind _ = false
+
+-- neither a label nor a return
+abbrev pub is_inner : Insn → Bool
+is_inner i = not (is_label_kind i.kind) && not (is_return i)
+
+-- the window is left at its end alone, by no return, and entered at its beginning alone
+abbrev pub leads_last : List Insn → Bool
+leads_last [] = true
+leads_last (i ∷ []) = is_inner i
+leads_last (i ∷ j ∷ window) = (is_inner i && not (is_jump_kind i.kind)) && leads_last (j ∷ window)
+
+-- two windows are entered and left alike: they lead to the same places, and set the same of the registers that a return uses where they
+-- are set
+pub record AreLikeEnds (old new : List Insn) : Type 0 where
+  pub old_leads : leads_last old ≡ true
+  pub new_leads : leads_last new ≡ true
+  pub flow : flow_behind old ≡ flow_behind new
+  pub sets : (reg : ℕ) → has_reg kept_registers reg ≡ true → sets_in old reg ≡ sets_in new reg
+
+-- they ask for the same registers, and of the others that are live behind they define the same
+pub record AreLikeDemands (old new : List Insn) (behind : ℕ → Bool) : Type 0 where
+  pub asks : (reg : ℕ) → asks_for old reg ≡ asks_for new reg
+  pub defines : (reg : ℕ) → asks_for old reg ≡ false → behind reg ≡ true → defines_in old reg ≡ defines_in new reg
+
+-- two windows are the same from outside, where these registers are live behind them
+pub record AreSameOutside (old new : List Insn) (behind : ℕ → Bool) : Type 0 where
+  pub ends : AreLikeEnds old new
+  pub demands : AreLikeDemands old new behind
+
+-- the register is live before the window, where these are live behind it
+abbrev pub is_live_before : List Insn → (ℕ → Bool) → ℕ → Bool
+is_live_before window behind reg = asks_for window reg || (not (defines_in window reg) && behind reg)
+
+-- the rows of what is live before each instruction of the window, where these are live behind it
+pub record AreRowsOf (window : List Insn) (behind : ℕ → Bool) (rows : List (List ℕ)) : Type 0 where
+  pub long : length rows ≡ length window
+  pub each : (k reg : ℕ) → k < length window → has_at rows k reg ≡ is_live_before (drop k window) behind reg
+
+-- the first of the rows, or the row behind them where there is none, has the register
+abbrev pub first_has : List (List ℕ) → List ℕ → ℕ → Bool
+first_has [] behind reg = has behind reg
+first_has (row ∷ rows) behind reg = has row reg

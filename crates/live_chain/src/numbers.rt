@@ -1,0 +1,35 @@
+//! The numbers that are kept of a chain.
+ghost use Rattle.std.specs.Prelude.{◌≡◌, ℕ, max, true, IfSome};
+
+/// Whether the greatest of some numbers tells what it is where one of them, `old`, becomes `new`: then
+/// it is the greater of it and `new`.
+fn tells(greatest: u64, old: u64, new: u64) -> bool
+    ensures { (others : ℕ) → greatest ≡ max others old → result ≡ true →
+        max greatest new ≡ max others new }
+{
+    old < greatest || greatest <= new
+}
+
+/// The greatest uid of a chain where that of a window becomes another, if it is known.
+pub fn uid_after(greatest: Option<u32>, old: u32, new: u32) -> Option<u32>
+    ensures { (others : ℕ) → IfSome greatest (λ g. g ≡ max others old) →
+        IfSome result (λ g. g ≡ max others new) }
+{
+    match greatest {
+        Some(greatest) if tells(u64::from(greatest), u64::from(old), u64::from(new)) => {
+            Some(greatest.max(new))
+        }
+        _ => None,
+    }
+}
+
+/// The next pseudo register of a chain where that of a window becomes another, if it is known.
+pub fn pseudo_after(next: Option<u64>, old: u64, new: u64) -> Option<u64>
+    ensures { (others : ℕ) → IfSome next (λ n. n ≡ max others old) →
+        IfSome result (λ n. n ≡ max others new) }
+{
+    match next {
+        Some(next) if tells(next, old, new) => Some(next.max(new)),
+        _ => None,
+    }
+}

@@ -1,0 +1,101 @@
+//! Windows of a chain as they are seen from outside.
+ghost use Rattle.std.specs.Prelude.{◌≡◌, ◌&&◌, not, true, MatchOption};
+ghost use Rattle.std.specs.List.{list_all};
+ghost use Rattle.rtx_tree.specs.Patterns as patterns;
+ghost use Rattle.rtl_func.specs.declared.flow.Flow.TheVariants.{Falls};
+ghost use Rattle.rtl_func.specs.Successors.{source_flow, jump_flow};
+ghost use Rattle.live_chain.specs.machine.Window as spec;
+
+use reg_uses::is_return;
+use rtx_tree::{Code, Insn, Kind, Rtx};
+
+/// Whether an instruction is neither a label nor a return.
+fn is_inner(insn: &Insn) -> bool
+    ensures { result ≡ spec.is_inner insn.now }
+{
+    !matches!(insn.kind, Kind::Label) && !is_return(insn)
+}
+
+fn is_jump(insn: &Insn) -> bool
+    ensures { result ≡ spec.is_jump_kind insn.now.kind }
+{
+    matches!(insn.kind, Kind::Jump)
+}
+
+/// Whether each of some instructions is neither a label nor a return, nor a jump.
+fn all_pass(insns: &[Insn]) -> bool
+    ensures { result ≡
+        list_all (λ i. spec.is_inner i && not (spec.is_jump_kind i.kind)) insns.now }
+{
+    insns.iter().all(|insn| is_inner(insn) && !is_jump(insn))
+}
+
+/// Whether a window is left at its end alone, by no return, and entered at its beginning alone.
+pub fn leads_last(window: &[Insn]) -> bool
+    ensures { result ≡ true → spec.leads_last window.now ≡ true }
+{
+    match window.split_last() {
+        None => true,
+        Some((last, before)) => is_inner(last) && all_pass(before),
+    }
+}
+
+/// Whether two trees stand for the same label.
+fn same_label(a: &Rtx, b: &Rtx) -> bool
+    ensures { result ≡ true → patterns.label_of a.now ≡ patterns.label_of b.now }
+{
+    match (a.label_uid(), b.label_uid()) {
+        (Some(a), Some(b)) => a == b,
+        (None, None) => true,
+        _ => false,
+    }
+}
+
+/// Whether the pc is seen to be set to the same places.
+fn same_source(a: &Rtx, b: &Rtx) -> bool
+    ensures { result ≡ true → source_flow a.now ≡ source_flow b.now }
+{
+    match (a.code, a.kids.as_slice(), b.code, b.kids.as_slice()) {
+        (Code::IfThenElse, [_, first, on], Code::IfThenElse, [_, second, on_too]) => {
+            on.is_pc() && on_too.is_pc() && same_label(first, second)
+        }
+        (Code::LabelRef, [first], Code::LabelRef, [second]) => first.number == second.number,
+        _ => false,
+    }
+}
+
+/// Whether two jumps are seen to lead to the same places.
+fn same_jump(a: &Rtx, b: &Rtx) -> bool
+    ensures { result ≡ true → jump_flow a.now ≡ jump_flow b.now }
+{
+    match (a.code, a.kids.as_slice(), b.code, b.kids.as_slice()) {
+        (Code::Set, [pc, first], Code::Set, [pc_too, second]) => {
+            pc.is_pc() && pc_too.is_pc() && same_source(first, second)
+        }
+        _ => false,
+    }
+}
+
+/// The pattern of the jump at the end of a window, if there is one.
+fn last_jump(window: &[Insn]) -> Option<&Rtx>
+    ensures { MatchOption result (spec.flow_behind window.now ≡ Falls)
+        (λ x. spec.flow_behind window.now ≡ jump_flow x.now) }
+{
+    let last = window.last()?;
+    if is_jump(last) {
+        Some(&last.pattern)
+    } else {
+        None
+    }
+}
+
+/// Whether two windows are seen to lead to the same places.
+pub fn same_flow(old: &[Insn], new: &[Insn]) -> bool
+    ensures { result ≡ true → spec.flow_behind old.now ≡ spec.flow_behind new.now }
+{
+    match (last_jump(old), last_jump(new)) {
+        (None, None) => true,
+        (Some(first), Some(second)) => same_jump(first, second),
+        _ => false,
+    }
+}

@@ -1,0 +1,124 @@
+-- What is kept of a function: its marks and, but for the new ones, its instructions.
+use Rattle.std.proofs.Common.{◌≡◌, ◌⊎◌, ⊎_elim, inl, inr, ℕ, ◌+◌, ◌&&◌, Bool, true, false, not, List, [], ◌∷◌, ◌++◌, take, drop, Option, Some, None, Ok, refl, sym, ap, subst, ◌∙◌}
+use Rattle.std.specs.Prelude.{slice_get, if◌then◌else◌, option_and_then}
+use Rattle.rtx_tree.specs.declared.tree.Rtx.{Rtx}
+use Rattle.rtx_tree.specs.declared.function.Insn.{Insn}
+use Rattle.rtx_tree.specs.declared.function.Function.{Function}
+use Rattle.rtl_chain.specs.Counts.{next_pseudo}
+use Rattle.md_forms.specs.declared.form.Entry.{Entry}
+use Rattle.md_forms.specs.Forms.{names_of}
+use Rattle.form_needs.specs.Needs.{is_kind, name_at}
+use Rattle.rtl_func.specs.Kinds.{kinds_agree}
+use Rattle.rtl_func.specs.Modes.{shapes_agree}
+use Rattle.sym_insns.specs.Shape.{is_shaped, all_natural}
+use Rattle.gen_emit.specs.declared.emission.Emission.{Emission}
+use Rattle.md_emit.specs.Emitted.{emitted_by}
+use Rattle.new_insns.specs.Replaced.{replaced}
+use Rattle.insn_replace.specs.Replace.{made, ReplacedComes}
+use Rattle.split.specs.declared.stage.SplitStage.{SplitStage}
+use Rattle.split.specs.declared.stage.SplitStage.TheVariants.{BeforeReload, AfterReload}
+use Rattle.split.specs.Split.{facts_of, is_admitted, admitted, IsSplit, SplitComes}
+use Rattle.split.specs.Left.{StandsIn, is_mark, marks, SameMarks, IsNew, AreOldOrNew, AreNatural}
+use Rattle.split.proofs.Made.{comes_to}
+use Rattle.split.proofs.Lists.{filter_none, same_filtered}
+use Rattle.split.proofs.Insns.{In, in_append, in_take, in_drop, all_in, is_kind_of, made_for, replaced_shaped}
+use Rattle.split.proofs.Left.{IsKept, kept}
+
+-- ---- marks
+
+not_mark : (i : Insn) → is_kind i.kind ≡ true → is_mark i ≡ false
+not_mark i is = ap not is
+
+made_kind : (f : Function) (i : Insn) (sequence : List Rtx) (j : Insn) → In (made f i sequence) j → is_kind j.kind ≡ true
+made_kind f i sequence j here =
+    let is = made_for i _ sequence j here in
+    subst (λ (k : Insn). is_kind k.kind ≡ true) (sym is.is) (is_kind_of is.pattern)
+
+replaced_marks : (f : Function) (place : ℕ) (i : Insn) (sequence : List Rtx) → slice_get f.insns place ≡ Some i → is_kind i.kind ≡ true → marks (replaced f place (place + 1) (made f i sequence)).insns ≡ marks f.insns
+replaced_marks f place i sequence at is =
+    same_filtered is_mark f.insns (made f i sequence) place i at (not_mark i is) (filter_none is_mark (made f i sequence) (λ k j there. not_mark j (made_kind f i sequence j (k, there))))
+
+module _ (forms : List Entry) (stage : SplitStage) where
+  marks_step : (f : Function) → IsKept forms stage (SameMarks f)
+  marks_step f g h place i form sequence at is comes same =
+      subst (SameMarks f) (sym (comes_to g h place i (name_at (names_of forms) form) sequence comes)) (record {
+        name_is = same.name_is;
+        marks_are = replaced_marks g place i sequence at is.splits.instruction ∙ same.marks_are;
+        locals_are = same.locals_are;
+        result_is = same.result_is;
+        result_reg_is = same.result_reg_is;
+      })
+
+  pub same_marks : (f g : Function) → SplitComes forms stage f (Ok g) → SameMarks f g
+  same_marks f g comes = kept forms stage (SameMarks f) (marks_step f) f g comes (record { name_is = refl; marks_are = refl; locals_are = refl; result_is = refl; result_reg_is = refl })
+
+  -- ---- instructions
+
+  admitted_all : (e : Emission) (sequence : List Rtx) → admitted stage e ≡ Some sequence → is_admitted stage sequence ≡ true
+  admitted_all e sequence gives = by (is_admitted stage e.sequence) refl gives
+    where
+      by : (b : Bool) → is_admitted stage e.sequence ≡ b → (if b then Some e.sequence else None) ≡ Some sequence → is_admitted stage sequence ≡ true
+      by true is same = subst (λ (s : List Rtx). is_admitted stage s ≡ true) (let one : e.sequence ≡ sequence = cc in one) is
+      by false is same = absurd (let never : ⊥ = cc in never)
+
+  given_admitted : (o : Option Emission) (sequence : List Rtx) → option_and_then (admitted stage) o ≡ Some sequence → is_admitted stage sequence ≡ true
+  given_admitted (Some e) sequence gives = admitted_all e sequence gives
+  given_admitted None sequence gives = absurd (let never : ⊥ = cc in never)
+
+  new_one : (g h : Function) (place : ℕ) (i : Insn) (form : ℕ) (sequence : List Rtx) (j : Insn) → IsSplit forms stage (next_pseudo g.insns) i form sequence →
+      ReplacedComes g place i (name_at (names_of forms) form) sequence (Ok h) → In (made g i sequence) j → IsNew stage j
+  new_one g h place i form sequence j is comes here =
+      let for = made_for i _ sequence j here in
+      let kind = made_kind g i sequence j here in
+      record {
+        instruction = kind;
+        shaped = replaced_shaped g h place i (name_at (names_of forms) form) sequence j comes here kind;
+        admitted = subst (λ (k : Insn). is_admitted stage (k.pattern ∷ []) ≡ true) (sym for.is)
+            (one_admitted stage sequence for.pattern (given_admitted (emitted_by forms (facts_of stage) form is.splits.operands (next_pseudo g.insns)) sequence is.splits.gives) for.from);
+      }
+    where
+      one_admitted : (s : SplitStage) (sequence : List Rtx) (x : Rtx) → is_admitted s sequence ≡ true → In sequence x → is_admitted s (x ∷ []) ≡ true
+      one_admitted BeforeReload sequence x all here = ap (λ b. b && true) (all_in _ sequence x all here)
+      one_admitted AfterReload sequence x all here = refl
+
+  -- an instruction behind a replaced one is an old one, or one that was made
+  parts_of : (f g : Function) (place : ℕ) (i : Insn) (rule : List ℕ) (sequence : List Rtx) (j : Insn) → ReplacedComes f place i rule sequence (Ok g) → StandsIn g j → StandsIn f j ⊎ In (made f i sequence) j
+  parts_of f g place i rule sequence j comes here =
+      by (in_append (take place f.insns) (made f i sequence ++ drop (place + 1) f.insns) j (subst (λ (k : Function). StandsIn k j) (comes_to f g place i rule sequence comes) here))
+    where
+      behind : In (made f i sequence) j ⊎ In (drop (place + 1) f.insns) j → StandsIn f j ⊎ In (made f i sequence) j
+      behind (inl new) = inr new
+      behind (inr old) = inl (in_drop (place + 1) f.insns j old)
+
+      by : In (take place f.insns) j ⊎ In (made f i sequence ++ drop (place + 1) f.insns) j → StandsIn f j ⊎ In (made f i sequence) j
+      by (inl front) = inl (in_take place f.insns j front)
+      by (inr rest) = behind (in_append (made f i sequence) (drop (place + 1) f.insns) j rest)
+
+  insns_step : (f : Function) → IsKept forms stage (AreOldOrNew stage f)
+  insns_step f g h place i form sequence at is comes so_far j here = ⊎_elim
+      (λ (old : StandsIn g j). so_far j old)
+      (λ (new : In (made g i sequence) j). inr (new_one g h place i form sequence j is comes new))
+      (parts_of g h place i (name_at (names_of forms) form) sequence j comes here)
+
+  pub old_or_new : (f g : Function) → SplitComes forms stage f (Ok g) → AreOldOrNew stage f g
+  old_or_new f g comes = kept forms stage (AreOldOrNew stage f) (insns_step f) f g comes (λ i here. inl here)
+
+  -- ---- registers
+
+  natural_part : (a b c d : Bool) → (a && (b && (c && d))) ≡ true → c ≡ true
+  natural_part true true true d e = refl
+  natural_part true true false d e = e
+  natural_part true false c d e = cc
+  natural_part false b c d e = cc
+
+  shaped_natural : (i : Insn) → is_shaped i ≡ true → all_natural i.pattern ≡ true
+  shaped_natural i is = natural_part (kinds_agree i.kind i.pattern) (shapes_agree i.pattern) (all_natural i.pattern) _ is
+
+  pub natural_step : IsKept forms stage AreNatural
+  natural_step f g place i form sequence at is comes natural j here = ⊎_elim
+      (λ (old : StandsIn f j). natural j old)
+      (λ (new : In (made f i sequence) j). shaped_natural j (replaced_shaped f g place i (name_at (names_of forms) form) sequence j comes new (made_kind f i sequence j new)))
+      (parts_of f g place i (name_at (names_of forms) form) sequence j comes here)
+
+  pub are_natural : (f g : Function) → AreNatural f → SplitComes forms stage f (Ok g) → AreNatural g
+  are_natural f g natural comes = kept forms stage AreNatural natural_step f g comes natural

@@ -1,0 +1,94 @@
+-- Instructions split by a description: GCC Internals, "Defining How to Split Instructions". Each instruction that a split form matches is
+-- replaced by what the form emits, and the new instructions are tried again.
+use Rattle.std.specs.Prelude.{◌≡◌, ℕ, ◌+◌, ◌<◌, ◌≤◌, Bool, true, if◌then◌else◌, List, [], ◌∷◌, ◌++◌, length, replicate, Option, Some, None, option_and_then, slice_get, Result, Ok, Err}
+use Rattle.rtx_tree.specs.declared.tree.Rtx.{Rtx}
+use Rattle.rtx_tree.specs.declared.limit.Limit.TheVariants.{SplitDepth}
+use Rattle.rtx_tree.specs.declared.function.Insn.{Insn}
+use Rattle.rtx_tree.specs.declared.function.Function.{Function}
+use Rattle.rtl_chain.specs.Counts.{next_pseudo}
+use Rattle.c_eval.specs.declared.facts.Facts.{Facts}
+use Rattle.md_match.specs.Pattern.{Ops}
+use Rattle.md_forms.specs.declared.form.Entry.{Entry}
+use Rattle.md_forms.specs.Forms.{names_of}
+use Rattle.md_pred.specs.Holds.{holds}
+use Rattle.md_recog.specs.declared.half.Half.TheVariants as half
+use Rattle.md_recog.specs.Recog.{MatchesAt}
+use Rattle.form_needs.specs.Needs.{is_kind, lower_facts, output_facts, name_at}
+use Rattle.gen_emit.specs.declared.emission.Emission.{Emission}
+use Rattle.md_emit.specs.Emitted.{emitted_by, keeps_to_arguments}
+use Rattle.insn_replace.specs.Replace.{ReplacedComes}
+use Rattle.pass_refusal.specs.declared.refusal.PassRefusal.{PassRefusal}
+use Rattle.pass_refusal.specs.declared.refusal.PassRefusal.TheVariants as refusal
+use Rattle.split.specs.declared.stage.SplitStage.{SplitStage}
+use Rattle.split.specs.declared.stage.SplitStage.TheVariants.{BeforeReload, AfterReload}
+
+-- ---- what forms make of an instruction
+
+abbrev pub facts_of : SplitStage → Facts
+facts_of BeforeReload = lower_facts
+facts_of AfterReload = output_facts
+
+-- before registers have homes, a sequence names no hard registers but those of arguments
+abbrev pub is_admitted : SplitStage → List Rtx → Bool
+is_admitted BeforeReload sequence = keeps_to_arguments sequence
+is_admitted AfterReload sequence = true
+
+-- the sequence that is emitted, if it is admitted
+abbrev pub admitted : SplitStage → Emission → Option (List Rtx)
+admitted stage e = if is_admitted stage e.sequence then Some e.sequence else None
+
+-- what a form puts in the place of an instruction that it matches with operands; nothing where it fails
+abbrev pub given_by : List Entry → SplitStage → ℕ → ℕ → Ops → Option (List Rtx)
+given_by forms stage next form operands = option_and_then (admitted stage) (emitted_by forms (facts_of stage) form operands next)
+
+-- A form splits an instruction into a sequence: its split half matches with operands, and the form does not fail. New pseudo registers are
+-- numbered from one on. Labels and barriers are never split; a use or a clobber alone may be.
+pub record Splits (forms : List Entry) (stage : SplitStage) (next : ℕ) (i : Insn) (form : ℕ) (sequence : List Rtx) : Type 0 where
+  pub instruction : is_kind i.kind ≡ true
+  pub operands : Ops
+  pub matches : MatchesAt (holds forms) (facts_of stage) half.Split (i.pattern ∷ []) forms form operands
+  pub gives : given_by forms stage next form operands ≡ Some sequence
+
+-- the first form that does
+pub record IsSplit (forms : List Entry) (stage : SplitStage) (next : ℕ) (i : Insn) (form : ℕ) (sequence : List Rtx) : Type 0 where
+  pub splits : Splits forms stage next i form sequence
+  pub first : (other : ℕ) (otherwise : List Rtx) → Splits forms stage next i other otherwise → form ≤ other
+
+-- no form does
+abbrev pub IsUnsplit : List Entry → SplitStage → ℕ → Insn → Type 0
+IsUnsplit forms stage next i = (form : ℕ) (sequence : List Rtx) → ¬ Splits forms stage next i form sequence
+
+-- ---- functions
+
+-- how many splits may follow from one another
+abbrev pub most_splits : ℕ
+most_splits = 8
+
+abbrev pub too_deep : PassRefusal
+too_deep = refusal.Limit SplitDepth (most_splits + 1)
+
+abbrev pub Answer : Type 0
+Answer = Result Function PassRefusal
+
+-- What a function comes to from a place on, where for each instruction from there on is said how many splits it follows from. An instruction
+-- that no form splits stays. Each other is replaced by the sequence of the first that does, where that is equated with it over what is live
+-- behind, and what stands there then is tried in its turn.
+pub data SplitFrom (forms : List Entry) (stage : SplitStage) : List ℕ → Function → ℕ → Answer → Type 0 where
+  done : (f : Function) (place : ℕ) → SplitFrom forms stage [] f place (Ok f)
+  stays : (depth : ℕ) (depths : List ℕ) (f : Function) (place : ℕ) (i : Insn) (answer : Answer) →
+      slice_get f.insns place ≡ Some i → IsUnsplit forms stage (next_pseudo f.insns) i →
+      SplitFrom forms stage depths f (place + 1) answer → SplitFrom forms stage (depth ∷ depths) f place answer
+  deep : (depth : ℕ) (depths : List ℕ) (f : Function) (place : ℕ) (i : Insn) (form : ℕ) (sequence : List Rtx) →
+      slice_get f.insns place ≡ Some i → IsSplit forms stage (next_pseudo f.insns) i form sequence → most_splits ≤ depth →
+      SplitFrom forms stage (depth ∷ depths) f place (Err too_deep)
+  refused : (depth : ℕ) (depths : List ℕ) (f : Function) (place : ℕ) (i : Insn) (form : ℕ) (sequence : List Rtx) (e : PassRefusal) →
+      slice_get f.insns place ≡ Some i → IsSplit forms stage (next_pseudo f.insns) i form sequence → depth < most_splits →
+      ReplacedComes f place i (name_at (names_of forms) form) sequence (Err e) → SplitFrom forms stage (depth ∷ depths) f place (Err e)
+  split : (depth : ℕ) (depths : List ℕ) (f g : Function) (place : ℕ) (i : Insn) (form : ℕ) (sequence : List Rtx) (answer : Answer) →
+      slice_get f.insns place ≡ Some i → IsSplit forms stage (next_pseudo f.insns) i form sequence → depth < most_splits →
+      ReplacedComes f place i (name_at (names_of forms) form) sequence (Ok g) →
+      SplitFrom forms stage (replicate (length sequence) (depth + 1) ++ depths) g place answer → SplitFrom forms stage (depth ∷ depths) f place answer
+
+-- what a function comes to
+abbrev pub SplitComes : List Entry → SplitStage → Function → Answer → Type 0
+SplitComes forms stage f answer = SplitFrom forms stage (replicate (length f.insns) 0) f 0 answer

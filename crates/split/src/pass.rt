@@ -1,0 +1,170 @@
+//! The pass over a function.
+ghost use Rattle.std.specs.Prelude.{◌≡◌, ◌+◌, ◌<◌, ◌≤◌, IfOk, Some, Ok, length, slice_get, List};
+ghost use Rattle.rtx_tree.specs.declared.function.Function.{Function};
+ghost use Rattle.rtx_tree.specs.declared.function.Insn.{Insn};
+ghost use Rattle.rtl_chain.specs.Counts.{next_pseudo};
+ghost use Rattle.md_forms.specs.declared.form.Entry.{Entry};
+ghost use Rattle.pass_refusal.specs.Outcome.{Gives};
+ghost use Rattle.split.specs.Split as spec;
+ghost use Rattle.split.specs.Split.{Answer, IsSplit, SplitComes, most_splits};
+ghost use Rattle.split.specs.Left.{AreLeft, SameMarks, AreOldOrNew, UidsDiffer, AreNatural};
+ghost use Rattle.split.specs.declared.stage.SplitStage.{SplitStage};
+ghost use Rattle.split.specs.machine.Runs.{FoundSplits, PlaceSplits, RunSplits};
+
+use crate::form::{FormSplit, first_split};
+use crate::stage::SplitStage;
+use insn_replace::replace_insn;
+use live_chain::LiveChain;
+use md_desc::Description;
+use pass_refusal::PassRefusal;
+use plain_data::Memory;
+use rtx_tree::{Function, Limit};
+use std::alloc::Global;
+
+/// How many splits may follow from one another.
+const MOST_SPLITS: u32 = 8;
+
+/// That more follow from one another.
+fn too_deep() -> PassRefusal
+    ensures { result ≡ spec.too_deep }
+{
+    PassRefusal::Limit {
+        which: Limit::SplitDepth,
+        count: u64::from(MOST_SPLITS) + 1,
+    }
+}
+
+/// The number of the next free pseudo register. One past 32 bits finds no memory.
+fn next_pseudo(chain: &mut LiveChain) -> Result<u32, Memory>
+    ensures next { IfOk result (λ next. next ≡ next_pseudo chain.old.insns) }
+    ensures same { chain.new ≡ chain.old }
+{
+    let next = chain.next_pseudo();
+    if next > u64::from(u32::MAX) {
+        return Err(Memory);
+    }
+    Ok(next as u32)
+}
+
+/// The place behind another. One past 32 bits finds no memory.
+fn place_behind(place: u32) -> Result<u32, Memory>
+    ensures { IfOk result (λ behind. behind ≡ place + 1) }
+{
+    match place.checked_add(1) {
+        Some(behind) => Ok(behind),
+        None => Err(Memory),
+    }
+}
+
+/// Puts what a form gives in the place of the instruction that it splits. Gives how many instructions that are.
+fn split_by(
+    alloc: Global,
+    desc: &Description,
+    stage: SplitStage,
+    chain: &mut LiveChain,
+    place: u32,
+    depth: u32,
+    found: FormSplit,
+) -> Result<u32, PassRefusal>
+    requires within { place < length chain.old.insns }
+    requires found { (i : Insn) → slice_get chain.old.insns place ≡ Some i → IsSplit desc.now stage (next_pseudo chain.old.insns) i found.form found.sequence }
+    ensures { FoundSplits desc.now stage depth chain.old place chain.new result }
+{
+    if depth >= MOST_SPLITS {
+        return Err(too_deep());
+    }
+    replace_insn(alloc, desc, found.form, chain, place, found.sequence)
+}
+
+/// Splits the instruction at a place, which follows from so many splits. Gives how many instructions stand in its place, or `None` where
+/// it stays.
+fn split_place(
+    alloc: Global,
+    desc: &Description,
+    stage: SplitStage,
+    chain: &mut LiveChain,
+    place: u32,
+    depth: u32,
+) -> Result<Option<u32>, PassRefusal>
+    requires { place < length chain.old.insns }
+    ensures { PlaceSplits desc.now stage depth chain.old place chain.new result }
+{
+    let next = next_pseudo(chain)?;
+    let insn = chain.function().insns.item(place as usize);
+    match first_split(alloc, desc, stage, next, insn)? {
+        Some(found) => {
+            let made = split_by(alloc, desc, stage, chain, place, depth, found)?;
+            Ok(Some(made))
+        }
+        None => Ok(None),
+    }
+}
+
+/// Splits so many instructions from a place on, which follow from so many splits, and what comes of them. Gives the place behind.
+fn split_run(
+    alloc: Global,
+    desc: &Description,
+    stage: SplitStage,
+    chain: &mut LiveChain,
+    place: u32,
+    count: u32,
+    depth: u32,
+) -> Result<u32, PassRefusal>
+    requires within { place + count ≤ length chain.old.insns }
+    requires depth { depth ≤ most_splits }
+    ensures { RunSplits desc.now stage count depth chain.old place chain.new result }
+{
+    let mut at = place;
+    let mut left = count;
+    while left > 0 {
+        match split_place(alloc, desc, stage, chain, at, depth)? {
+            Some(made) => at = split_run(alloc, desc, stage, chain, at, made, depth + 1)?,
+            None => at = place_behind(at)?,
+        }
+        left -= 1;
+    }
+    Ok(at)
+}
+
+/// Splits the instructions of a function.
+fn split_all(
+    alloc: Global,
+    desc: &Description,
+    f: Function,
+    stage: SplitStage,
+) -> Result<Function, PassRefusal>
+    ensures { Gives result (SplitComes desc.now stage f) }
+{
+    if f.insns.len() > u32::MAX as usize {
+        return Err(PassRefusal::Memory);
+    }
+    let count = f.insns.len() as u32;
+    let mut chain = LiveChain::of(f);
+    split_run(alloc, desc, stage, &mut chain, 0, count, 0)?;
+    Ok(chain.into_function())
+}
+
+/// Splits the instructions of a function: each that a split form of the description matches is replaced by the sequence of the first that
+/// does not fail, and the new instructions are tried again.
+///
+/// # Errors
+///
+/// `NotEquated`, or `Limit` of `TermSize`, where a sequence is not equated with the instruction in whose place it would stand; `Limit` of
+/// `SplitDepth` at the ninth split that follows from others; `Memory` where memory ran out.
+pub fn split(
+    alloc: Global,
+    desc: &Description,
+    f: Function,
+    stage: SplitStage,
+) -> Result<Function, PassRefusal>
+    ensures gives { Gives result (SplitComes desc.now stage f) }
+    ensures one { (forms : List Entry) (stage : SplitStage) (f : Function) (a b : Answer) →
+        SplitComes forms stage f a → SplitComes forms stage f b → a ≡ b }
+    ensures left { (forms : List Entry) (stage : SplitStage) (f g : Function) → SplitComes forms stage f (Ok g) → AreLeft forms stage g }
+    ensures marks { (forms : List Entry) (stage : SplitStage) (f g : Function) → SplitComes forms stage f (Ok g) → SameMarks f g }
+    ensures new { (forms : List Entry) (stage : SplitStage) (f g : Function) → SplitComes forms stage f (Ok g) → AreOldOrNew stage f g }
+    ensures uids { (forms : List Entry) (stage : SplitStage) (f g : Function) → UidsDiffer f → SplitComes forms stage f (Ok g) → UidsDiffer g }
+    ensures natural { (forms : List Entry) (stage : SplitStage) (f g : Function) → AreNatural f → SplitComes forms stage f (Ok g) → AreNatural g }
+{
+    split_all(alloc, desc, f, stage)
+}

@@ -1,0 +1,8 @@
+pub mod Joined
+pub mod Numbered
+pub mod Placeholders
+pub mod First
+pub mod Refusing
+pub mod Steps
+pub mod One
+pub mod ByPlan

@@ -1,0 +1,4 @@
+pub mod Settings
+pub mod Plan
+pub mod Lowered
+pub mod machine

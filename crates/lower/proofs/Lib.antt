@@ -1,0 +1,4 @@
+pub mod Until
+pub mod Matched
+pub mod Places
+pub mod OneLower

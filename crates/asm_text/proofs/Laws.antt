@@ -17,7 +17,7 @@ use Rattle.asm_text.specs.declared.assembly.Assembly.{Assembly}
 use Rattle.asm_text.specs.Assembly.{PieceOutcome, told_for, FunctionComes, Outcome, AreWritten, AssemblyComes, nothing, alone, joined, outcome_behind}
 use Rattle.asm_text.specs.Lines.{IsAssembly}
 use Rattle.asm_text.specs.Same.{AreParts}
-use Rattle.asm_text.proofs.Pieces.{after_name}
+use Rattle.func_after.proofs.Kept.{after_name}
 
 -- ---- one function
 

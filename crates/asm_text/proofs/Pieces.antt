@@ -8,7 +8,8 @@ use Rattle.md_forms.specs.declared.form.Entry.{Entry}
 use Rattle.func_input.specs.Input.{RefusesWith}
 use Rattle.func_input.specs.machine.Steps.{IsOrMemory}
 use Rattle.func_input.proofs.Refusing.{refuses_map, made_refuses}
-use Rattle.func_after.specs.After.{Answer, AfterComes, with_chain}
+use Rattle.func_after.specs.After.{AfterComes}
+use Rattle.func_after.proofs.Kept.{after_name}
 use Rattle.asm_out.specs.declared.piece.Piece.{Piece}
 use Rattle.asm_out.specs.declared.refusal.OutRefusal.{OutRefusal}
 use Rattle.asm_out.specs.declared.refusal.OutRefusal.TheVariants as out_refusal
@@ -35,11 +36,6 @@ pub piece_refused : (forms : List Entry) (number size : ℕ) (g : Function) (e :
 piece_refused forms number size g e told r is = made_refuses told (refused_for g.name e) (WrittenComes forms number size g) (told_refused forms number size g e r) is
 
 -- ---- a function
-
--- a function keeps its name
-pub after_name : (forms : List Entry) (f g : Function) (a : Answer) → a ≡ Ok g → AfterComes forms f a → g.name ≡ f.name
-after_name forms f g _ is (AfterComes.refused finished e finish low) = absurd (let none : ⊥ = cc in none)
-after_name forms f g _ is (AfterComes.lowered finished finish low) = let same : with_chain f finished ≡ g = cc in sym (ap (λ (h : Function). h.name) same)
 
 written_comes : (forms : List Entry) (number size : ℕ) (f g : Function) (told : PieceOutcome) → AfterComes forms f (Ok g) → WrittenComes forms number size g told → FunctionComes forms number size f told
 written_comes forms number size f g told after w =

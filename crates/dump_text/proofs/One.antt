@@ -5,13 +5,10 @@ use Rattle.md_forms.specs.declared.form.Entry.{Entry}
 use Rattle.rtl_print.specs.Canonical.{printed_function}
 use Rattle.pass_name.specs.declared.pass.Pass.{Pass}
 use Rattle.func_input.specs.Outcome.{Outcome}
-use Rattle.func_after.specs.After.{Answer}
+use Rattle.func_after.specs.After.{Answer, IsBehind}
+use Rattle.func_after.proofs.OneAfter.{behind_one}
 use Rattle.func_after.proofs.Each.{one_each}
-use Rattle.dump_text.specs.Dump.{IsAfter, FunctionComes, FunctionsCome}
-
--- a function is one thing behind a pass
-after_one : (forms : List Entry) (pass : Pass) (f : Function) (a b : Answer) → IsAfter forms f pass a → IsAfter forms f pass b → a ≡ b
-after_one forms _ f _ _ IsAfter.read IsAfter.read = refl
+use Rattle.dump_text.specs.Dump.{FunctionComes, FunctionsCome}
 
 -- what is told of an answer
 abbrev told : Answer → Outcome
@@ -21,7 +18,7 @@ told (Err e) = Err e
 -- an outcome is told of an answer
 record Tells (forms : List Entry) (pass : Pass) (f : Function) (o : Outcome) : Type 0 where
   pub answer : Answer
-  pub is_after : IsAfter forms f pass answer
+  pub is_after : IsBehind forms f pass answer
   pub is_told : o ≡ told answer
 
 tells : (forms : List Entry) (pass : Pass) (f : Function) (o : Outcome) → FunctionComes forms pass f o → Tells forms pass f o
@@ -32,7 +29,7 @@ function_one : (forms : List Entry) (pass : Pass) (f : Function) (a b : Outcome)
 function_one forms pass f a b m n =
     let one = tells forms pass f a m in
     let other = tells forms pass f b n in
-    one.is_told ∙ ap told (after_one forms pass f one.answer other.answer one.is_after other.is_after) ∙ sym other.is_told
+    one.is_told ∙ ap told (behind_one forms f pass one.answer other.answer one.is_after other.is_after) ∙ sym other.is_told
 
 pub functions_one : (forms : List Entry) (pass : Pass) (fs : List Function) (a b : Outcome) → FunctionsCome forms pass fs a → FunctionsCome forms pass fs b → a ≡ b
 functions_one forms pass fs a b m n = one_each (FunctionComes forms pass) (function_one forms pass) fs a b m n

@@ -1,24 +1,19 @@
 -- What `dump` tells of functions: each as it is behind a pass, in canonical text. GCC Internals, "Passes and Files of the Compiler" and
 -- "Insns".
-use Rattle.std.specs.Prelude.{◌≡◌, List, Ok, Err}
+use Rattle.std.specs.Prelude.{List, Ok, Err}
 use Rattle.rtx_tree.specs.declared.function.Function.{Function}
 use Rattle.run_refusal.specs.declared.refusal.Refusal.{Refusal}
 use Rattle.md_forms.specs.declared.form.Entry.{Entry}
 use Rattle.rtl_print.specs.Canonical.{printed_function}
 use Rattle.pass_name.specs.declared.pass.Pass.{Pass}
-use Rattle.pass_name.specs.declared.pass.Pass.TheVariants.{Read}
 use Rattle.func_input.specs.Outcome.{Outcome}
 use Rattle.func_after.specs.Each.{EachComes}
-use Rattle.func_after.specs.After.{Answer}
-
--- What a function is behind a pass, by the forms of a description, or the refusal of the pass. Behind none it is what was read.
-pub data IsAfter (forms : List Entry) (f : Function) : Pass → Answer → Type 0 where
-  read : IsAfter forms f Read (Ok f)
+use Rattle.func_after.specs.After.{IsBehind}
 
 -- a function: what refuses it on the way to the pass, or its text behind it
 pub data FunctionComes (forms : List Entry) (pass : Pass) (f : Function) : Outcome → Type 0 where
-  refused : (e : Refusal) → IsAfter forms f pass (Err e) → FunctionComes forms pass f (Err e)
-  printed : (g : Function) → IsAfter forms f pass (Ok g) → FunctionComes forms pass f (Ok (printed_function g))
+  refused : (e : Refusal) → IsBehind forms f pass (Err e) → FunctionComes forms pass f (Err e)
+  printed : (g : Function) → IsBehind forms f pass (Ok g) → FunctionComes forms pass f (Ok (printed_function g))
 
 -- some functions, one behind the other
 abbrev pub FunctionsCome : List Entry → Pass → List Function → Outcome → Type 0

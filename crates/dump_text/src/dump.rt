@@ -8,6 +8,7 @@ ghost use Rattle.func_input.specs.Outcome.{Outcome, Gives};
 ghost use Rattle.func_input.specs.machine.Steps.{AppendedSome};
 ghost use Rattle.dump_text.specs.Dump.{FunctionComes, FunctionsCome};
 
+use func_after::behind;
 use func_input::{check_functions, read_functions};
 use md_desc::Description;
 use pass_name::Pass;
@@ -18,6 +19,7 @@ use std::alloc::Global;
 
 /// Appends the text of a function behind a pass.
 fn dump_function(
+    alloc: Global,
     desc: &Description,
     pass: Pass,
     f: &Function,
@@ -25,14 +27,14 @@ fn dump_function(
 ) -> Result<(), Refusal>
     ensures { AppendedSome out.old.items out.new.items result (FunctionComes desc.now pass f.now) }
 {
-    match pass {
-        Pass::Read => Ok(print_function(f, out)?),
-    }
+    let g = behind(alloc, desc, f, pass)?;
+    Ok(print_function(&g, out)?)
 }
 
 /// Appends the texts of some functions.
 #[tactic(auto, using(func_after::proofs::Each::makes_start, func_after::proofs::Each::makes_on, func_after::proofs::Each::makes_wrong, func_after::proofs::Each::makes_all))]
 fn dump_functions(
+    alloc: Global,
     desc: &Description,
     pass: Pass,
     functions: &[Function],
@@ -41,7 +43,7 @@ fn dump_functions(
     ensures { AppendedSome out.old.items out.new.items result (FunctionsCome desc.now pass functions.now) }
 {
     for f in functions {
-        dump_function(desc, pass, f, out)?;
+        dump_function(alloc, desc, pass, f, out)?;
     }
     Ok(())
 }
@@ -56,7 +58,7 @@ fn dump_text(
     ensures { Gives result (FunctionsCome desc.now pass functions.now) }
 {
     let mut text = Vec::new(alloc);
-    dump_functions(desc, pass, functions, &mut text)?;
+    dump_functions(alloc, desc, pass, functions, &mut text)?;
     Ok(text)
 }
 
@@ -74,11 +76,13 @@ fn dump_read(
 }
 
 /// The functions of an input as they are behind a pass, in canonical text, by a description, or what refuses it: bytes that are no text, a
-/// tree outside the language, or a function that breaks a rule or passes a limit, in this order. An input has at most 16,777,216 bytes.
+/// tree outside the language, a function that breaks a rule or passes a limit, or what a pass refuses, in this order. An input has at most
+/// 16,777,216 bytes.
 ///
 /// # Errors
 ///
-/// `Syntax`, `Limit`, `Construct`, `IllFormed`; `Memory` where memory ran out.
+/// `Syntax`, `Limit`, `Construct`, `IllFormed`; as the passes up to that one tell them, `Unmatched`, `NotEquated` and `Limit`; `Memory` where
+/// memory ran out.
 pub fn dump_of(
     alloc: Global,
     desc: &Description,

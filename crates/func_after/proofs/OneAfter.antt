@@ -1,45 +1,56 @@
--- What a function is when it comes to output is one answer.
-use Rattle.std.proofs.Common.{◌≡◌, ℕ, Bool, true, false, List, [], Ok, Err, refl, sym, ap, subst, ◌∙◌}
+-- What a function is behind a pass, and when it comes to output, is one answer.
+use Rattle.std.proofs.Common.{◌≡◌, List, Result, Ok, Err, refl, sym, ap, subst, ◌∙◌}
 use Rattle.rtx_tree.specs.declared.function.Insn.{Insn}
 use Rattle.rtx_tree.specs.declared.function.Function.{Function}
+use Rattle.rtx_tree.specs.declared.stage.Stage.TheVariants as stage
 use Rattle.run_refusal.specs.declared.refusal.Refusal.{Refusal}
 use Rattle.md_forms.specs.declared.form.Entry.{Entry}
-use Rattle.form_needs.specs.Needs.{needs_form}
+use Rattle.pass_refusal.specs.declared.refusal.PassRefusal.{PassRefusal}
+use Rattle.pass_name.specs.declared.pass.Pass.{Pass}
+use Rattle.pass_name.specs.declared.pass.Pass.TheVariants.{Read, Lower, Split1}
+use Rattle.lower.specs.Lower.{LowerComes}
+use Rattle.lower.proofs.OneLower.{lower_one}
+use Rattle.split.specs.declared.stage.SplitStage.TheVariants.{BeforeReload}
+use Rattle.split.specs.Split.{SplitComes}
+use Rattle.split.proofs.One.{one_split}
 use Rattle.rtl_chain.specs.End.{IsFinished}
 use Rattle.rtl_chain.proofs.Ends.{finish_one}
-use Rattle.func_input.specs.Outcome.{Outcome}
-use Rattle.func_after.specs.Each.{EachComes}
-use Rattle.func_after.specs.After.{Answer, LowerComes, AfterComes, with_chain}
-use Rattle.func_after.proofs.Each.{one_each}
+use Rattle.func_after.specs.After.{Answer, told_for, IsBehind, AfterComes, with_chain}
 
-both : (b : Bool) → b ≡ true → b ≡ false → ⊥
-both b t f = let none : true ≡ false = sym t ∙ f in let never : ⊥ = cc in never
+module _ (forms : List Entry) (f : Function) where
+  ok_is : (g h : Function) → ◌≡◌ {A = Answer} (Ok g) (Ok h) → g ≡ h
+  ok_is g h is = cc
 
-module _ (es : List Entry) (function : List ℕ) (i : Insn) where
-  lower_one : (a b : Outcome) → LowerComes es function i a → LowerComes es function i b → a ≡ b
-  lower_one _ _ (LowerComes.free e) (LowerComes.free f) = refl
-  lower_one _ _ (LowerComes.free e) (LowerComes.matched m f first) = refl
-  lower_one _ _ (LowerComes.free e) (LowerComes.unmatched f none) = absurd (both (needs_form i) f e)
-  lower_one _ _ (LowerComes.matched m e first) (LowerComes.free f) = refl
-  lower_one _ _ (LowerComes.matched m e first) (LowerComes.matched n f other) = refl
-  lower_one _ _ (LowerComes.matched m e first) (LowerComes.unmatched f none) = absurd (none m.form m.operands first.matches)
-  lower_one _ _ (LowerComes.unmatched e none) (LowerComes.free f) = absurd (both (needs_form i) e f)
-  lower_one _ _ (LowerComes.unmatched e none) (LowerComes.matched m f first) = absurd (none m.form m.operands first.matches)
-  lower_one _ _ (LowerComes.unmatched e none) (LowerComes.unmatched f other) = refl
+  apart : {P : Type 0} (g : Function) (e : Refusal) → ◌≡◌ {A = Answer} (Ok g) (Err e) → P
+  apart g e is = absurd (let none : ⊥ = cc in none)
 
-module _ (es : List Entry) (f : Function) where
-  one_lower : (insns insns' : List Insn) (a b : Outcome) → IsFinished f.insns insns → IsFinished f.insns insns' → EachComes (LowerComes es f.name) insns a → EachComes (LowerComes es f.name) insns' b → a ≡ b
-  one_lower insns insns' a b finish finish' low low' =
-      one_each (LowerComes es f.name) (lower_one es f.name) insns' a b (subst (λ x. EachComes (LowerComes es f.name) x a) (finish_one f.insns insns insns' finish finish') low) low'
+  lowered_one : (a b : Answer) → IsBehind forms f Lower a → IsBehind forms f Lower b → a ≡ b
+  lowered_one _ _ (IsBehind.lowered r a comes is) (IsBehind.lowered s b comes' is') =
+      is ∙ ap (told_for f.name stage.Lower) (lower_one forms f r s comes comes') ∙ sym is'
 
-  same_err : (e d : Refusal) → ◌≡◌ {A = Outcome} (Err e) (Err d) → ◌≡◌ {A = Answer} (Err e) (Err d)
-  same_err e d is = ap (λ (x : Refusal). Err x) (let same : e ≡ d = cc in same)
+  split_one_behind : (a b : Answer) → IsBehind forms f Split1 a → IsBehind forms f Split1 b → a ≡ b
+  split_one_behind _ _ (IsBehind.unlowered e low) (IsBehind.unlowered d low') = lowered_one (Err e) (Err d) low low'
+  split_one_behind _ _ (IsBehind.unlowered e low) (IsBehind.split g r b low' comes is) = apart g e (lowered_one (Ok g) (Err e) low' low)
+  split_one_behind _ _ (IsBehind.split g r a low comes is) (IsBehind.unlowered e low') = apart g e (lowered_one (Ok g) (Err e) low low')
+  split_one_behind _ _ (IsBehind.split g r a low comes is) (IsBehind.split h s b low' comes' is') =
+      let same : g ≡ h = ok_is g h (lowered_one (Ok g) (Ok h) low low') in
+      is ∙ ap (told_for f.name stage.Split1) (one_split forms BeforeReload h r s (subst (λ (k : Function). SplitComes forms BeforeReload k r) same comes) comes') ∙ sym is'
 
-  apart : {P : Type 0} (e : Refusal) (t : List ℕ) → ◌≡◌ {A = Outcome} (Err e) (Ok t) → P
-  apart e t is = absurd (let never : ⊥ = cc in never)
+  pub behind_one : (pass : Pass) (a b : Answer) → IsBehind forms f pass a → IsBehind forms f pass b → a ≡ b
+  behind_one Read _ _ IsBehind.read IsBehind.read = refl
+  behind_one Lower a b m n = lowered_one a b m n
+  behind_one Split1 a b m n = split_one_behind a b m n
 
-  pub one_after : (a b : Answer) → AfterComes es f a → AfterComes es f b → a ≡ b
-  one_after _ _ (AfterComes.refused insns e finish low) (AfterComes.refused insns' d finish' low') = same_err e d (one_lower insns insns' (Err e) (Err d) finish finish' low low')
-  one_after _ _ (AfterComes.refused insns e finish low) (AfterComes.lowered insns' finish' low') = apart e [] (one_lower insns insns' (Err e) (Ok []) finish finish' low low')
-  one_after _ _ (AfterComes.lowered insns finish low) (AfterComes.refused insns' d finish' low') = apart d [] (one_lower insns' insns (Err d) (Ok []) finish' finish low' low)
-  one_after _ _ (AfterComes.lowered insns finish low) (AfterComes.lowered insns' finish' low') = ap (λ (x : List Insn). Ok (with_chain f x)) (finish_one f.insns insns insns' finish finish')
+  with_same : (g h : Function) (chain chain' : List Insn) → g ≡ h → IsFinished g.insns chain → IsFinished h.insns chain' → with_chain g chain ≡ with_chain h chain'
+  with_same g h chain chain' same finish finish' =
+      ap (λ (k : Function). with_chain k chain) same ∙ ap (with_chain h) (finish_one h.insns chain chain' (subst (λ (k : Function). IsFinished k.insns chain) same finish) finish')
+
+  after_one : (a b : Answer) → AfterComes forms f a → AfterComes forms f b → a ≡ b
+  after_one _ _ (AfterComes.refused e behind) (AfterComes.refused d behind') = split_one_behind (Err e) (Err d) behind behind'
+  after_one _ _ (AfterComes.refused e behind) (AfterComes.finished g chain behind' finish) = apart g e (split_one_behind (Ok g) (Err e) behind' behind)
+  after_one _ _ (AfterComes.finished g chain behind finish) (AfterComes.refused e behind') = apart g e (split_one_behind (Ok g) (Err e) behind behind')
+  after_one _ _ (AfterComes.finished g chain behind finish) (AfterComes.finished h chain' behind' finish') =
+      ap (λ (k : Function). Ok k) (with_same g h chain chain' (ok_is g h (split_one_behind (Ok g) (Ok h) behind behind')) finish finish')
+
+pub one_after : (forms : List Entry) (f : Function) (a b : Answer) → AfterComes forms f a → AfterComes forms f b → a ≡ b
+one_after forms f a b m n = after_one forms f a b m n

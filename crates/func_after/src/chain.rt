@@ -1,17 +1,10 @@
-//! The function with its finished chain.
-ghost use Rattle.std.specs.Prelude.{◌≡◌, List, IfOk};
-ghost use Rattle.rtl_chain.specs.End.{IsFinished};
-ghost use Rattle.rtx_tree.specs.declared.function.Function.{Function};
-ghost use Rattle.md_forms.specs.declared.form.Entry.{Entry};
-ghost use Rattle.func_after.specs.After as spec;
-ghost use Rattle.func_after.specs.After.{AfterComes, Gives};
+//! Functions once more, and their finished chains.
+ghost use Rattle.std.specs.Prelude.{◌≡◌, IfOk};
+ghost use Rattle.func_after.specs.machine.Chains.{Finishes};
 
-use crate::lower::lower_insns;
-use md_desc::Description;
 use plain_data::{Items, Memory};
 use rtl_chain::end_of;
 use rtx_tree::{ArgUse, ArgUses, Function, Insn, Insns};
-use run_refusal::Refusal;
 use std::alloc::Global;
 
 fn copy_uses(alloc: Global, uses: &[ArgUse]) -> Result<ArgUses, Memory>
@@ -45,43 +38,27 @@ fn copy_insns(alloc: Global, insns: &[Insn]) -> Result<Insns, Memory>
     Ok(copies)
 }
 
-/// A function's chain, with a return at its end where that is reached.
-#[tactic(auto, using(crate::proofs::Finished::with_end, crate::proofs::Finished::without_end))]
-fn finished(alloc: Global, f: &Function) -> Result<Insns, Memory>
-    ensures { IfOk result (IsFinished f.now.insns) }
-{
-    let mut insns = copy_insns(alloc, f.insns.as_slice())?;
-    match end_of(alloc, f)? {
-        Some(end) => insns.push(end)?,
-        None => {}
-    }
-    Ok(insns)
-}
-
-/// The function with another chain.
-fn with_chain(alloc: Global, f: &Function, insns: Insns) -> Result<Function, Memory>
-    ensures { IfOk result (λ g. g ≡ spec.with_chain f.now insns) }
+/// The same function once more.
+pub(crate) fn copy_function(alloc: Global, f: &Function) -> Result<Function, Memory>
+    ensures { IfOk result (λ copy. copy ≡ f.now) }
 {
     Ok(Function {
         name: f.name.copy(alloc)?,
-        insns,
+        insns: copy_insns(alloc, f.insns.as_slice())?,
         locals: f.locals,
         result: f.result,
         result_reg: f.result_reg,
     })
 }
 
-/// The function as it comes to output: with a return at the end of its chain where that is reached.
-///
-/// # Errors
-///
-/// `Unmatched` at `lower` for the first instruction that no form matches; `Memory` where memory ran out.
-#[tactic(auto, using(crate::proofs::Finished::lower_refuses))]
-pub fn after(alloc: Global, desc: &Description, f: &Function) -> Result<Function, Refusal>
-    ensures gives { Gives result (AfterComes desc.now f.now) }
-    ensures one { (forms : List Entry) (f : Function) (a b : spec.Answer) → AfterComes forms f a → AfterComes forms f b → a ≡ b }
+/// The function with a return at the end of its chain where that is reached.
+#[tactic(auto, using(crate::proofs::Finished::with_end, crate::proofs::Finished::without_end))]
+pub(crate) fn finished(alloc: Global, f: Function) -> Result<Function, Memory>
+    ensures { IfOk result (Finishes f) }
 {
-    let insns = finished(alloc, f)?;
-    lower_insns(alloc, desc, &f.name, insns.as_slice())?;
-    Ok(with_chain(alloc, f, insns)?)
+    let mut f = f;
+    if let Some(end) = end_of(alloc, &f)? {
+        f.insns.push(end)?;
+    }
+    Ok(f)
 }

@@ -1,11 +1,13 @@
-//! What a function is when it comes to output.
+//! What a function is behind each pass, and when it comes to output.
 //!
-//! [`after`] gives the function with its finished chain, of which some form of a description matches each instruction, or tells the first
-//! that none matches (`specs/After.antt`). `specs/Each.antt` says what some things come to, one behind the other.
+//! [`behind`] takes a function through the passes up to one, or tells what one of them refuses, by the function's name and the pass; [`after`]
+//! takes it through all, and finishes its chain (`specs/After.antt`). Each pass over a function keeps what the function does. `specs/Each.antt`
+//! says what some things come to, one behind the other.
 #![tactic(auto)]
 
 mod chain;
-mod lower;
+mod passes;
+mod refusal;
 
-pub use chain::after;
-pub use lower::unmatched;
+pub use passes::{after, behind};
+pub use refusal::unmatched;

@@ -1,4 +1,4 @@
--- What is written of a function that keeps the rules, with the return at its end, has the behaviour of the function.
+-- What is written of a function that is ready for lines, with the return at its end, has the behaviour of the function.
 use Rattle.std.proofs.Common.{◌≡◌, ℕ, ◌+◌, List, [], Some, subst, sym, arith}
 use Rattle.std.specs.Prelude.{slice_get}
 use Rattle.rtx_tree.specs.declared.function.Insn.{Insn}
@@ -11,16 +11,16 @@ use Rattle.asm_out.specs.declared.piece.Piece.{Piece}
 use Rattle.asm_out.specs.Written.{IsWritten}
 use Rattle.window_same.specs.Items.{AreItems}
 use Rattle.window_same.proofs.Same.{items_are_same}
-use Rattle.func_rules.specs.Admitted.{IsWellFormed}
-use Rattle.func_rules.proofs.Ready.{finished_ready}
+use Rattle.pass_ready.specs.Ready.{AreReady}
+use Rattle.pass_ready.proofs.Ready.{ready_finished}
 use Rattle.func_rules.proofs.Returning.{same_unfinished}
 use Rattle.out_same.proofs.Places.{items_from, none_held}
 
-pub written_is_same : (forms : List Entry) (number least : ℕ) (f : Function) (finished : List Insn) (piece : Piece) → IsWellFormed f → IsFinished f.insns finished →
+pub written_is_same : (forms : List Entry) (number least : ℕ) (f : Function) (finished : List Insn) (piece : Piece) → AreReady f → IsFinished f.insns finished →
     IsWritten forms number (record f { insns = finished }) piece → Same least f piece.items
-written_is_same forms number least f finished piece well_formed is_finished written =
+written_is_same forms number least f finished piece are_ready is_finished written =
     let whole : Function = record f { insns = finished } in
-    let ready = finished_ready f finished well_formed is_finished in
+    let ready = ready_finished f finished are_ready is_finished in
     let items : AreItems number whole piece.items = record {
       ending = [];
       ends = unreached ready.ends;

@@ -7,6 +7,10 @@ ghost use Rattle.pass_name.specs.Pass as spec;
 pub enum Pass {
     /// None yet: the function as it was read.
     Read,
+    /// Expansion into instructions of the machine.
+    Lower,
+    /// Splits before registers have homes.
+    Split1,
 }
 
 impl Pass {
@@ -16,6 +20,8 @@ impl Pass {
     {
         match self {
             Pass::Read => "read",
+            Pass::Lower => "lower",
+            Pass::Split1 => "split1",
         }
     }
 
@@ -25,6 +31,8 @@ impl Pass {
     {
         match name {
             "read" => Some(Pass::Read),
+            "lower" => Some(Pass::Lower),
+            "split1" => Some(Pass::Split1),
             _ => None,
         }
     }

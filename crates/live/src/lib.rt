@@ -13,7 +13,7 @@ mod sets;
 ghost use Rattle.std.specs.Prelude.{IfOk};
 ghost use Rattle.live.specs.Live.{AreLiveRows, IsLiveness};
 
-pub use crate::after::live_after;
+pub use crate::after::{live_after, live_after_by};
 use crate::nodes::nodes_of;
 use crate::sets::sets_of;
 use live_rows::live_rows;

@@ -1,5 +1,8 @@
 //! A function's chain as a graph.
 ghost use Rattle.std.specs.Prelude.{◌≡◌, ℕ, ◌<◌, ◌^◌, ◌||◌, ◌&&◌, IfOk, OnOk, Some, length, slice_get};
+ghost use Rattle.std.specs.Ordering.{nat_cmp};
+ghost use Rattle.std.specs.BTreeMap as map;
+ghost use Rattle.rtx_tree.specs.Patterns.{place_of};
 ghost use Rattle.rtx_tree.specs.RegSet.{has_reg};
 ghost use Rattle.reg_uses.specs.Uses as uses;
 ghost use Rattle.live.specs.machine.Nodes.{IsNodeOf, IsEndOf, AreNodes};
@@ -7,7 +10,7 @@ ghost use Rattle.live.specs.machine.Nodes.{IsNodeOf, IsEndOf, AreNodes};
 use live_rows::Node;
 use plain_data::{Items, Memory};
 use reg_uses::{Regs, insn_defines, insn_uses, is_return, return_uses};
-use rtl_func::successors;
+use rtl_func::{Labels, labels_of, successors_by};
 use rtx_tree::{Function, Insn};
 use std::alloc::Global;
 
@@ -34,16 +37,18 @@ fn uses_of(alloc: Global, insn: &Insn, returns: &[u32]) -> Result<Regs, Memory>
 fn node_of(
     alloc: Global,
     f: &Function,
+    labels: &Labels,
     at: u32,
     insn: &Insn,
     returns: &[u32],
 ) -> Result<Node, Memory>
     requires short { length f.now.insns < 2 ^ 32 }
+    requires labels { (uid : ℕ) → map.get nat_cmp labels.now uid ≡ place_of uid f.now.insns }
     requires place { slice_get f.now.insns at ≡ Some insn.now }
     requires returns { (reg : ℕ) → has_reg returns.now reg ≡ uses.return_uses f.now reg }
     ensures { IfOk result (λ node. IsNodeOf f.now at insn.now node) }
 {
-    let next = successors(f, at);
+    let next = successors_by(labels, f.insns.as_slice(), at);
     let uses = uses_of(alloc, insn, returns)?;
     let defines = insn_defines(alloc, insn)?;
     Ok(Node {
@@ -76,9 +81,10 @@ pub fn nodes_of(alloc: Global, f: &Function) -> Result<Items<Node>, Memory>
 {
     let returns = return_uses(alloc, f)?;
     let insns = f.insns.as_slice();
+    let labels = labels_of(alloc, insns)?;
     let mut nodes = Items::new(alloc);
     for at in 0..insns.len() {
-        let node = node_of(alloc, f, at as u32, &insns[at], returns.as_slice())?;
+        let node = node_of(alloc, f, &labels, at as u32, &insns[at], returns.as_slice())?;
         nodes.push(node)?;
     }
     let end = end_of(alloc, f, returns.as_slice())?;

@@ -1,6 +1,7 @@
 //! The graph of a function's chain, and whether a function is well formed.
 //!
-//! [`successors`] are the places to which an instruction leads; [`blocks`] are the basic blocks, which cover the chain; and
+//! [`successors`] are the places to which an instruction leads, [`successors_by`] those by the places of labels that [`labels_of`] gives;
+//! [`blocks`] are the basic blocks, which cover the chain; and
 //! [`reaches_exit`] says whether a path of successors leads from the first place to the exit, the place past the last. The search for
 //! it is linear but for the look-up of labels, which a map keeps. [`check`] tells the first place at which a function breaks one of ten
 //! rules: the lowest uid, and there the lowest rule. [`check_behind`] does so with the names of the functions in front known, and is
@@ -30,9 +31,10 @@ mod uids;
 pub use block_list::{Block, blocks};
 pub use calls::{call_result_agrees, call_target_agrees};
 pub use check_rules::{CheckRefusal, check, check_behind};
-pub use edges::successors;
+pub use edges::{successors, successors_by};
 pub use effects::parallels_change_once;
 pub use flow::Successors;
+pub use labels::{Labels, labels_of};
 pub use names::Names;
 pub use paths::reaches_exit;
 pub use trees::{

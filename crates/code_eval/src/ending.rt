@@ -15,17 +15,17 @@ use text_words::{print_count, print_text};
 pub enum Ending {
     /// A step or a line had no meaning.
     Undefined,
-    /// It goes on.
+    /// The run goes on.
     Running {
         /// How many calls were made.
         calls: u64,
     },
-    /// It waits for the reply to its last call.
+    /// The run waits for the reply to its last call.
     Asked {
         /// How many calls were made, with this one.
         calls: u64,
     },
-    /// It returned.
+    /// The run returned.
     Returned {
         /// The result, where there is one.
         value: Option<u64>,

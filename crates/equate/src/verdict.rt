@@ -38,7 +38,7 @@ pub enum Verdict {
     },
     /// A need that the instructions have not.
     Needs {
-        /// It is a need.
+        /// The need, as an item.
         item: Item,
         /// The need's register, address, divisor or symbol.
         term: Term,

@@ -38,7 +38,7 @@ fn copy_insns(alloc: Global, insns: &[Insn]) -> Result<Insns, Memory>
     Ok(copies)
 }
 
-/// The same function once more.
+/// A copy of a function.
 pub(crate) fn copy_function(alloc: Global, f: &Function) -> Result<Function, Memory>
     ensures { IfOk result (λ copy. copy ≡ f.now) }
 {

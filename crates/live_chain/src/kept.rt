@@ -85,7 +85,7 @@ fn rows_for(
     }
 }
 
-/// The same, if the function's rows are known.
+/// The rows of instructions in the place of a window, if the function's rows are known.
 pub fn rows_inside(
     alloc: Global,
     f: &Function,

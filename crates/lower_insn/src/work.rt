@@ -129,7 +129,7 @@ fn shown_uid(uids: Uids, made: bool, work: &Work) -> Result<u32, Memory>
     }
 }
 
-/// That no form counts for a pattern, which would be made next.
+/// The refusal of a pattern for which no form counts, and which would be made next.
 fn unmatched(uids: Uids, made: bool, work: &Work, x: Rtx) -> Result<PassRefusal, Memory>
     ensures { IfOk result (λ e. e ≡ spec.unmatched_at uids made (reverse work.now.parts) (length work.now.sequence) x) }
 {

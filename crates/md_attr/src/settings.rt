@@ -99,7 +99,7 @@ pub fn given_by<'a>(name: &[u8], settings: &'a [Attribute]) -> Option<&'a Items<
     None
 }
 
-/// That of an alternative, among the values that were given: one value alone is that of each.
+/// The value of an alternative, among those that were given: one value alone is that of each.
 pub fn value_at(alternative: usize, values: &[Name]) -> Option<&Name>
     ensures { option_copied result ≡ spec.value_at alternative values.now }
 {

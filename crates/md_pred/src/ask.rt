@@ -118,7 +118,7 @@ impl PredTable {
         }
     }
 
-    /// The same, the part with less behind it first.
+    /// Two parts joined, the one with less behind it asked first.
     #[cycle(ask)]
     fn lighter_first(&self, at: At, a: usize, b: usize, decides: bool, x: &Rtx) -> Step
         requires { at.place < length self.now.definitions.rows }
@@ -146,7 +146,7 @@ impl PredTable {
         }
     }
 
-    /// The same, the first part being what it comes to.
+    /// A part chosen by another, the chosen one being what it comes to.
     #[cycle(ask)]
     fn chosen_last(&self, at: At, a: usize, b: usize, c: usize, x: &Rtx) -> Step
         requires { at.place < length self.now.definitions.rows }

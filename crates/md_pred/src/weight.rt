@@ -62,9 +62,9 @@ fn targets_of(alloc: Global, definitions: &Definitions) -> Result<Vec<Option<usi
 enum Stage {
     /// Nobody has asked for it.
     New,
-    /// Those that it is made of come first.
+    /// The nodes that it is made of come first.
     Begun,
-    /// It is known.
+    /// The weight is known.
     Done,
 }
 

@@ -43,7 +43,7 @@ impl From<Memory> for PassRefusal {
     }
 }
 
-/// That no form counts for an instruction.
+/// The refusal of an instruction for which no form counts.
 pub fn unmatched(alloc: Global, insn: &Insn) -> Result<PassRefusal, Memory>
     ensures { IfOk result (λ e. e ≡ spec.unmatched_insn insn.now) }
 {

@@ -15,9 +15,9 @@ use rtx_tree::{ArgUse, Kind, Rtx};
 /// What a rule asks of each tree within a pattern.
 #[derive(Clone, Copy)]
 enum TreeRule {
-    /// It is no jump and no call.
+    /// The tree is no jump and no call.
     IsPlain,
-    /// It has the parts of its row of the table, the mode of a call's memory apart.
+    /// The tree has the parts of its row of the table, the mode of a call's memory apart.
     IsShaped,
     /// The memory of a call has mode SI.
     HasCallMode,

@@ -24,7 +24,7 @@ use std::alloc::Global;
 /// How many splits may follow from one another.
 const MOST_SPLITS: u32 = 8;
 
-/// That more follow from one another.
+/// The refusal of more splits that follow from one another.
 fn too_deep() -> PassRefusal
     ensures { result ≡ spec.too_deep }
 {

@@ -92,7 +92,7 @@ pub(crate) fn stored(
     maker.cut(w, &value)
 }
 
-/// That a register is set, where that is not known.
+/// The need that a register is set, where that is not known.
 fn register_need(regs: &SymRegs, reg: u8) -> Option<NeedOf>
     ensures { listed (option_map need_of result)
         ≡ spec.register_needs (map changed_of regs.now) reg }

@@ -6,7 +6,7 @@ use thiserror::Error;
 /// Why trees are no description.
 #[derive(Debug, Drop, Error)]
 pub enum DescRefusal {
-    /// They make more forms than a description may have.
+    /// The trees make more forms than a description may have.
     #[error("the description has too many forms")]
     Limit {
         /// The limit that was passed.

@@ -27,9 +27,9 @@ const MOST: usize = 30;
 /// The operands of a form by their numbers.
 #[derive(Drop)]
 pub struct Numbers {
-    /// Those of the patterns.
+    /// The operands of the patterns.
     pub matched: Items<u64>,
-    /// These, and those of the new sequence.
+    /// The operands of the patterns and of the new sequence.
     pub all: Items<u64>,
 }
 

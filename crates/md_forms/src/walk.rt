@@ -9,9 +9,9 @@ use std::alloc::Global;
 /// How far the walk has come with a definition.
 #[derive(Clone, Copy)]
 enum Stage {
-    /// It was not met.
+    /// The walk has not met it.
     New,
-    /// Those that it names come first.
+    /// The definitions that it names come first.
     Begun,
     /// Its depth was found, if it has one.
     Done,

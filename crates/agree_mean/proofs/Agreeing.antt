@@ -15,7 +15,7 @@ use Rattle.rtl_step.specs.declared.call.CallEvent.{CallEvent}
 use Rattle.rv_text.specs.Body.{label_text}
 use Rattle.rv_text.specs.declared.line.Line.{Line}
 use Rattle.rv_line.specs.declared.state.RvState.{RvState}
-use Rattle.same_behaviour.specs.Direct.{IsUid}
+use Rattle.same_behaviour.specs.Ending.{IsUid}
 use Rattle.term_tree.specs.Tree.{width_of}
 use Rattle.term_mean.specs.Meaning.{Valuation, mean}
 use Rattle.term_mean.specs.Sums.{constant}

@@ -7,14 +7,8 @@ pub mod Registers
 pub mod Chain
 pub mod Returning
 pub mod Exit
-pub mod Added
 pub mod Standing
 pub mod Reading
-pub mod Locals
-pub mod Finished
 pub mod Marks
 pub mod Sorts
 pub mod Ready
-pub mod Jumps
-pub mod AllSorts
-pub mod Lines

@@ -15,10 +15,9 @@ use Rattle.rtl_func.specs.Kinds.{is_jump_by, is_call_by, kinds_agree}
 use Rattle.rtl_func.specs.Uids.{is_ruled_kind}
 use Rattle.rtl_step.specs.Step.{is_mark}
 use Rattle.window_same.specs.Items.{is_quiet}
-use Rattle.window_same.specs.ForLines.{CallsNothing}
 use Rattle.form_needs.specs.Needs.{is_kind, is_note, is_label, is_call, needs_form, names_homeless, is_held, is_silent}
 use Rattle.func_rules.specs.Admitted.{StandsAt, IsWellFormed}
-use Rattle.func_rules.specs.ForLines.{UsesHard, IsQuiet, NoneHeld}
+use Rattle.func_rules.specs.ForLines.{UsesHard, IsQuiet}
 use Rattle.func_rules.proofs.Registers.{window_uses_none}
 
 -- ---- a use or a clobber
@@ -98,9 +97,3 @@ module _ (f : Function) (is : IsWellFormed f) (place : ℕ) (i : Insn) (at : Sta
       no_note : (b : Bool) → is_note (head_of i.pattern).code ≡ b → not b ≡ true
       no_note true note = absurd (note_is_no_call (head_of i.pattern).code (kids_of i.pattern) note (keeps_kind kind.Call call refl))
       no_note false note = refl
-
--- where nothing is held nothing is called
-pub none_called : (f : Function) → IsWellFormed f → NoneHeld f → CallsNothing f
-none_called f is free place i at call =
-    let held = call_is_held f is place i at call in
-    true≢false (sym held.1 ∙ free place i at held.0)

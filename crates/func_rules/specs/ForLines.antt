@@ -7,7 +7,7 @@ use Rattle.rtx_tree.specs.declared.function.Kind.TheVariants.{Plain, Label, Barr
 use Rattle.rtx_tree.specs.Tree.{head_of}
 use Rattle.rtl_step.specs.Step.{is_mark}
 use Rattle.rtl_func.specs.Paths.{ReachesExit}
-use Rattle.same_behaviour.specs.Direct.{IsUid}
+use Rattle.same_behaviour.specs.Ending.{IsUid}
 use Rattle.window_mean.specs.Uses.{window_uses}
 use Rattle.window_same.specs.Items.{is_quiet}
 use Rattle.window_same.specs.ForLines.{IsForLines, CallsNothing}

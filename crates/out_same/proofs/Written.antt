@@ -5,7 +5,7 @@ use Rattle.rtx_tree.specs.declared.function.Insn.{Insn}
 use Rattle.rtx_tree.specs.declared.function.Function.{Function}
 use Rattle.rtl_chain.specs.End.{IsFinished}
 use Rattle.md_forms.specs.declared.form.Entry.{Entry}
-use Rattle.same_behaviour.specs.Direct.{unreached}
+use Rattle.same_behaviour.specs.Ending.{unreached}
 use Rattle.same_behaviour.specs.Same.{Same}
 use Rattle.asm_out.specs.declared.piece.Piece.{Piece}
 use Rattle.asm_out.specs.Written.{IsWritten}

@@ -10,7 +10,7 @@ use Rattle.rtx_tree.specs.RegSet.{has_reg}
 use Rattle.rtl_step.specs.Step.{is_mark}
 use Rattle.rv_regs.specs.Registers.{kept_registers}
 use Rattle.reg_uses.specs.Effects.{pattern_defines}
-use Rattle.same_behaviour.specs.Direct.{IsUid}
+use Rattle.same_behaviour.specs.Ending.{IsUid}
 use Rattle.form_needs.specs.Needs.{needs_form, is_held, is_silent}
 use Rattle.func_rules.specs.ForLines.{UsesHard, IsQuiet}
 

@@ -7,10 +7,10 @@ ghost use Rattle.rv_text.specs.Text.{IsTextOf};
 use crate::line::Line;
 use crate::operand::Operand;
 use crate::table::row_named;
-use itoa::Buffer;
 use plain_data::Memory;
 use rtx_tree::{HARD_REGS, reg_name};
 use std::alloc::Global;
+use text_words::{print_number, print_text};
 
 fn print_register(reg: u8, out: &mut Vec<u8>) -> Result<(), Memory>
     ensures { OnOk result (out.new.items ≡ out.old.items ++ unwrap_or (spec.register_text reg) []) }
@@ -18,13 +18,6 @@ fn print_register(reg: u8, out: &mut Vec<u8>) -> Result<(), Memory>
     if reg < HARD_REGS {
         out.extend_from_slice(reg_name(reg).as_bytes())?;
     }
-    Ok(())
-}
-
-fn print_number(number: i64, out: &mut Vec<u8>) -> Result<(), Memory>
-    ensures { OnOk result (out.new.items ≡ out.old.items ++ signed_decimal number) }
-{
-    out.extend_from_slice(Buffer::new().format(number).as_bytes())?;
     Ok(())
 }
 
@@ -38,13 +31,6 @@ fn print_place(number: i64, reg: u8, out: &mut Vec<u8>) -> Result<(), Memory>
     Ok(())
 }
 
-fn print_bytes(bytes: &[u8], out: &mut Vec<u8>) -> Result<(), Memory>
-    ensures { OnOk result (out.new.items ≡ out.old.items ++ bytes.now) }
-{
-    out.extend_from_slice(bytes)?;
-    Ok(())
-}
-
 fn print_operand(operand: Operand, line: &Line, out: &mut Vec<u8>) -> Result<(), Memory>
     ensures { OnOk result (out.new.items ≡ out.old.items ++ spec.shown operand line.now) }
 {
@@ -54,8 +40,8 @@ fn print_operand(operand: Operand, line: &Line, out: &mut Vec<u8>) -> Result<(),
         Operand::Rt => print_register(line.rt, out),
         Operand::Number { .. } => print_number(line.imm, out),
         Operand::Place { .. } => print_place(line.imm, line.rs, out),
-        Operand::Target => print_bytes(line.target.bytes(), out),
-        Operand::Ra => print_bytes(b"ra", out),
+        Operand::Target => print_text(line.target.bytes(), out),
+        Operand::Ra => print_text(b"ra", out),
     }
 }
 
@@ -76,7 +62,7 @@ fn print_row(operands: &[Operand], line: &Line, out: &mut Vec<u8>) -> Result<(),
     ensures { OnOk result (out.new.items ≡ out.old.items ++ (9 ∷ (line.now.name ++ spec.shown_all 9 operands.now line.now))) }
 {
     out.push(b'\t')?;
-    print_bytes(line.name.bytes(), out)?;
+    print_text(line.name.bytes(), out)?;
     print_operands(operands, line, out)
 }
 

@@ -1,12 +1,4 @@
 pub mod Registers
-pub mod Insns
 pub mod Entry
-pub mod Follows
 pub mod Labels
-pub mod Jumps
 pub mod Places
-pub mod Results
-pub mod Direct
-pub mod Runs
-pub mod Same
-pub mod Reached

@@ -1,3 +1,3 @@
 pub mod Lawful
 pub mod Same
-pub mod Direct
+pub mod Ending

@@ -5,8 +5,8 @@ ghost use Rattle.term_text.specs.Item as spec;
 ghost use Rattle.term_text.specs.Text.{register_text};
 
 use crate::print::print_register;
-use itoa::Buffer;
 use plain_data::Memory;
+use text_words::print_count;
 
 /// An item in which two sides of a comparison can differ.
 #[derive(Clone, Copy)]
@@ -39,8 +39,7 @@ fn print_numbered(word: &[u8], index: u32, out: &mut Vec<u8>) -> Result<(), Memo
     ensures { OnOk result (out.new.items ≡ out.old.items ++ (word.now ++ decimal index)) }
 {
     out.extend_from_slice(word)?;
-    out.extend_from_slice(Buffer::new().format(index).as_bytes())?;
-    Ok(())
+    print_count(u64::from(index), out)
 }
 
 /// Appends an item's text, as `register a0` or `store 1`.

@@ -8,11 +8,11 @@ ghost use Rattle.term_tree.specs.View.{tree_of, atom_of};
 ghost use Rattle.term_text.specs.Text as spec;
 
 use bits64::{Width, sext};
-use itoa::Buffer;
 use plain_data::Memory;
 use rtx_tree::{Name, reg_name};
 use std::alloc::Global;
 use term_tree::{Atom, Head, Term};
+use text_words::{print_count, print_number};
 
 fn head_name(head: Head) -> &'static str
     ensures { result.now ≡ spec.head_name head }
@@ -45,19 +45,11 @@ fn head_name(head: Head) -> &'static str
     }
 }
 
-fn print_decimal(number: u64, out: &mut Vec<u8>) -> Result<(), Memory>
-    ensures { OnOk result (out.new.items ≡ out.old.items ++ decimal number) }
-{
-    let mut buffer = Buffer::new();
-    out.extend_from_slice(buffer.format(number).as_bytes())?;
-    Ok(())
-}
-
 fn print_pseudo(pseudo: u64, out: &mut Vec<u8>) -> Result<(), Memory>
     ensures { OnOk result (out.new.items ≡ out.old.items ++ (codes "<" ++ (decimal pseudo ++ codes ">"))) }
 {
     out.push(b'<')?;
-    print_decimal(pseudo, out)?;
+    print_count(pseudo, out)?;
     out.push(b'>')?;
     Ok(())
 }
@@ -83,12 +75,10 @@ fn signed_number(w: Width, number: u64) -> i64
 }
 
 /// A number of a width, signed.
-fn print_number(w: Width, number: u64, out: &mut Vec<u8>) -> Result<(), Memory>
+fn print_signed(w: Width, number: u64, out: &mut Vec<u8>) -> Result<(), Memory>
     ensures { OnOk result (out.new.items ≡ out.old.items ++ spec.number_text w number) }
 {
-    let mut buffer = Buffer::new();
-    out.extend_from_slice(buffer.format(signed_number(w, number)).as_bytes())?;
-    Ok(())
+    print_number(signed_number(w, number), out)
 }
 
 fn print_opened(head: Head, w: Width, out: &mut Vec<u8>) -> Result<(), Memory>
@@ -96,7 +86,7 @@ fn print_opened(head: Head, w: Width, out: &mut Vec<u8>) -> Result<(), Memory>
 {
     out.push(b'(')?;
     out.extend_from_slice(head_name(head).as_bytes())?;
-    print_decimal(u64::from(w.bits()), out)
+    print_count(u64::from(w.bits()), out)
 }
 
 /// The name of a symbol, and the number of a load's memory.
@@ -111,7 +101,7 @@ fn print_own(head: Head, number: u64, name: &[u8], out: &mut Vec<u8>) -> Result<
         }
         Head::Load => {
             out.push(b' ')?;
-            print_decimal(number, out)
+            print_count(number, out)
         }
         _ => Ok(()),
     }
@@ -174,7 +164,7 @@ fn print_sum(w: Width, constant: u64, atoms: &[Atom], out: &mut Vec<u8>) -> Resu
 {
     print_opened(Head::Sum, w, out)?;
     out.push(b' ')?;
-    print_number(w, constant, out)?;
+    print_signed(w, constant, out)?;
     print_atoms(w, atoms, out)?;
     out.push(b')')?;
     Ok(())
@@ -204,7 +194,7 @@ fn print_atom(w: Width, x: &Atom, out: &mut Vec<u8>) -> Result<(), Memory>
     ensures { OnOk result (out.new.items ≡ out.old.items ++ (codes " (" ++ (spec.number_text w (atom_of x.now).0 ++ (codes " " ++ (spec.text_of (atom_of x.now).1 ++ codes ")"))))) }
 {
     out.extend_from_slice(b" (")?;
-    print_number(w, x.coefficient, out)?;
+    print_signed(w, x.coefficient, out)?;
     out.push(b' ')?;
     print(&x.term, out)?;
     out.push(b')')?;

@@ -16,7 +16,7 @@ use Rattle.rv_line.specs.Step.{register}
 use Rattle.rv_line.specs.declared.state.RvState.{RvState}
 use Rattle.rv_text.specs.Body.{label_text}
 use Rattle.rv_text.specs.declared.line.Line.{Line}
-use Rattle.same_behaviour.specs.Direct.{IsUid}
+use Rattle.same_behaviour.specs.Ending.{IsUid}
 use Rattle.same_behaviour.specs.Lawful.{AreAddresses}
 use Rattle.same_behaviour.specs.Same.{SameCall}
 use Rattle.window_mean.specs.Insns as insns

@@ -13,7 +13,7 @@ use Rattle.rv_line.specs.Run as lines
 use Rattle.rv_line.specs.Run.{Running}
 use Rattle.rv_line.specs.declared.outcome.CodeOutcome.{CodeOutcome}
 use Rattle.rv_line.specs.declared.state.RvState.{RvState}
-use Rattle.same_behaviour.specs.Direct.{IsEnding}
+use Rattle.same_behaviour.specs.Ending.{IsEnding}
 use Rattle.same_behaviour.specs.Lawful.{IsLawful, IsLawfulWorld, seen_by_rtl}
 use Rattle.same_behaviour.specs.Same.{SameOutcome}
 use Rattle.window_same.specs.ForLines.{MarksAreEmpty}

@@ -19,7 +19,7 @@ use Rattle.rv_text.specs.declared.line.Line.{Line}
 use Rattle.rv_text.specs.declared.line.CodeItem.{CodeItem}
 use Rattle.rv_text.specs.declared.line.CodeItem.TheVariants.{Label, Code}
 use Rattle.rv_line.specs.Run.{next_line, behind_label}
-use Rattle.same_behaviour.specs.Direct.{IsUid}
+use Rattle.same_behaviour.specs.Ending.{IsUid}
 use Rattle.same_behaviour.proofs.Labels.{label_test}
 use Rattle.same_behaviour.proofs.Places.{get_dropped, drop_next, within_dropped}
 use Rattle.window_same.specs.ForLines.{MarksAreEmpty}

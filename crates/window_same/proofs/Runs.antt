@@ -36,8 +36,8 @@ use Rattle.rv_line.specs.Run.{Running, next_line}
 use Rattle.rv_line.specs.declared.state.RvState.{RvState}
 use Rattle.rv_line.specs.declared.state.LineEnd.TheVariants as ends
 use Rattle.run_memory.specs.RunMemory.{visible}
-use Rattle.same_behaviour.specs.Direct.{IsEnding}
-use Rattle.same_behaviour.specs.Direct as direct
+use Rattle.same_behaviour.specs.Ending.{IsEnding}
+use Rattle.same_behaviour.specs.Ending as endings
 use Rattle.same_behaviour.specs.Lawful.{IsLawfulWorld}
 use Rattle.same_behaviour.proofs.Places.{get_dropped, get_past, end_dropped, drop_next, within_dropped}
 use Rattle.window_mean.specs.Beside.{Agrees, Beside}
@@ -290,13 +290,13 @@ module _ (number : ℕ) (f : Function) (marks : MarksAreEmpty f) (ending items :
       Related s t →
       rtl_step.place_from f.insns s.next ≡ place → place ≤ length f.insns → Path f.insns 0 place → drop place f.insns ≡ [] →
       LiveAgree place s.regs t.machine → next_line t.rest ≡ next_line ending → EndsGood s → Simulates s t
-  end_at s t place _ is (direct.returning line returns) related passed within path chain agree next good =
+  end_at s t place _ is (endings.returning line returns) related passed within path chain agree next good =
       let last = end_dropped f.insns place within chain in
       returns_by s t line [] (rtl_step.has_result f.result s.regs) refl related
       (λ reg uses small. agree reg (subst (IsLive f reg) (sym last) (live.AtEnd uses)) small) (next ∙ ap next_line is) (ret returns)
       (steps.step_at number f marks ending items start world Keeps Good all ended lawful keeping s place passed ∙
       ap (λ o. rtl_step.act_at o world f place s) (get_past f.insns place chain)) good
-  end_at s t place _ is (direct.unreached never_there) related passed within path chain agree next good =
+  end_at s t place _ is (endings.unreached never_there) related passed within path chain agree next good =
       absurd (never_there (subst (Path f.insns 0) (end_dropped f.insns place within chain) path))
 
   stands_at : (s : State) (t : Running) (place : ℕ) → places.Stands number f marks ending place t.rest → Related s t →

@@ -41,7 +41,7 @@ use Rattle.rv_line.specs.declared.outcome.CodeCall.{CodeCall}
 use Rattle.rv_line.specs.declared.outcome.CodeOutcome.{CodeOutcome}
 use Rattle.rv_line.specs.declared.outcome.CodeOutcome.TheVariants as code
 use Rattle.rv_line.specs.declared.state.RvState.{RvState}
-use Rattle.same_behaviour.specs.Direct.{IsUid, IsEnding}
+use Rattle.same_behaviour.specs.Ending.{IsUid, IsEnding}
 use Rattle.same_behaviour.specs.Lawful.{IsLawfulReply, IsLawfulWorld}
 use Rattle.same_behaviour.specs.Same.{SameOutcome, SameCall, SameCalls, at_entry}
 use Rattle.same_behaviour.proofs.Places.{get_dropped, get_past, drop_next, within_dropped}

@@ -1,5 +1,8 @@
 //! What an instruction comes to by the form that is chosen for it.
-ghost use Rattle.std.specs.Prelude.{◌≡◌, true, false};
+ghost use Rattle.std.specs.Prelude.{◌≡◌, ◌<◌, ◌^◌, ℕ, true, false, length};
+ghost use Rattle.std.specs.Ordering.{nat_cmp};
+ghost use Rattle.std.specs.BTreeMap as map;
+ghost use Rattle.rtx_tree.specs.Patterns.{place_of};
 ghost use Rattle.form_needs.specs.Needs as needs;
 ghost use Rattle.live.specs.Live.{AreLiveRows};
 ghost use Rattle.md_desc.specs.Recog.{IsChosen};
@@ -13,10 +16,11 @@ use crate::lines::{code_piece, read_lines, text_of};
 use crate::piece::Piece;
 use crate::refusal::OutRefusal;
 use equate::Side;
-use live::live_after;
+use live::live_after_by;
 use md_desc::{Chosen, Description};
 use plain_data::Items;
 use reg_rows::RegRow;
+use rtl_func::Labels;
 use rtx_tree::{Function, Insn};
 use rv_text::Line;
 use std::alloc::Global;
@@ -38,11 +42,14 @@ pub fn chosen_piece(
     description: &Description,
     number: u32,
     f: &Function,
+    labels: &Labels,
     rows: &[RegRow],
     place: u32,
     insn: &Insn,
     chosen: &Chosen,
 ) -> Result<Piece, OutRefusal>
+    requires short { length f.now.insns < 2 ^ 32 }
+    requires labels { (uid : ℕ) → map.get nat_cmp labels.now uid ≡ place_of uid f.now.insns }
     requires rows { AreLiveRows f.now rows.now }
     requires needs { needs.needs_form insn.now ≡ true }
     requires free { needs.is_held insn.now ≡ false }
@@ -54,7 +61,7 @@ pub fn chosen_piece(
     if lines.len() > u32::MAX as usize {
         return Err(OutRefusal::Memory);
     }
-    let live = live_after(alloc, f, rows, place)?;
+    let live = live_after_by(alloc, f, labels, rows, place)?;
     let side = Side::Lines {
         function: number,
         lines,

@@ -17,6 +17,7 @@ use crate::places::write_places;
 use crate::refusal::OutRefusal;
 use live::live_rows_of;
 use md_desc::Description;
+use rtl_func::labels_of;
 use rtx_tree::Function;
 use rv_text::CodeItem;
 use std::alloc::Global;
@@ -64,8 +65,18 @@ fn write_chain(
     if f.insns.len() > u32::MAX as usize {
         return Err(OutRefusal::Memory);
     }
+    let labels = labels_of(alloc, f.insns.as_slice())?;
     let rows = live_rows_of(alloc, f)?;
-    write_places(alloc, description, number, f, rows.as_slice(), out, items)
+    write_places(
+        alloc,
+        description,
+        number,
+        f,
+        &labels,
+        rows.as_slice(),
+        out,
+        items,
+    )
 }
 
 /// Appends the parts of a function's text.

@@ -1,5 +1,8 @@
 //! What stands for the items of a function's chain.
-ghost use Rattle.std.specs.Prelude.{◌≡◌, ◌∷◌, [], ◌<◌, ◌^◌, true, false, length};
+ghost use Rattle.std.specs.Prelude.{◌≡◌, ◌∷◌, [], ◌<◌, ◌^◌, ℕ, true, false, length};
+ghost use Rattle.std.specs.Ordering.{nat_cmp};
+ghost use Rattle.std.specs.BTreeMap as map;
+ghost use Rattle.rtx_tree.specs.Patterns.{place_of};
 ghost use Rattle.form_needs.specs.Needs as needs;
 ghost use Rattle.live.specs.Live.{AreLiveRows};
 ghost use Rattle.asm_out.specs.Comes.{PlaceComes, PartComes, PartsCome, Place, places_from};
@@ -12,6 +15,7 @@ use crate::refusal::{OutRefusal, unmatched};
 use form_needs::{is_held, is_silent, output_facts};
 use md_desc::Description;
 use reg_rows::RegRow;
+use rtl_func::Labels;
 use rtx_tree::{Function, Insn, Kind};
 use rv_text::CodeItem;
 use std::alloc::Global;
@@ -22,17 +26,30 @@ fn insn_piece(
     description: &Description,
     number: u32,
     f: &Function,
+    labels: &Labels,
     rows: &[RegRow],
     place: u32,
     insn: &Insn,
 ) -> Result<Piece, OutRefusal>
+    requires short { length f.now.insns < 2 ^ 32 }
+    requires labels { (uid : ℕ) → map.get nat_cmp labels.now uid ≡ place_of uid f.now.insns }
     requires rows { AreLiveRows f.now rows.now }
     requires needs { needs.needs_form insn.now ≡ true }
     requires free { needs.is_held insn.now ≡ false }
     ensures { Gives result (PlaceComes description.now number f.now place insn.now) }
 {
     match description.recog_out(alloc, &insn.pattern, &output_facts(alloc))? {
-        Some(chosen) => chosen_piece(alloc, description, number, f, rows, place, insn, &chosen),
+        Some(chosen) => chosen_piece(
+            alloc,
+            description,
+            number,
+            f,
+            labels,
+            rows,
+            place,
+            insn,
+            &chosen,
+        ),
         None => Err(unmatched(alloc, insn)?),
     }
 }
@@ -49,11 +66,14 @@ fn item_piece(
     description: &Description,
     number: u32,
     f: &Function,
+    labels: &Labels,
     rows: &[RegRow],
     place: u32,
     insn: &Insn,
 ) -> Result<Piece, OutRefusal>
-    requires { AreLiveRows f.now rows.now }
+    requires short { length f.now.insns < 2 ^ 32 }
+    requires labels { (uid : ℕ) → map.get nat_cmp labels.now uid ≡ place_of uid f.now.insns }
+    requires rows { AreLiveRows f.now rows.now }
     ensures { Gives result (PlaceComes description.now number f.now place insn.now) }
 {
     if is_label(insn) {
@@ -65,7 +85,7 @@ fn item_piece(
     if is_held(insn) {
         return Err(unmatched(alloc, insn)?);
     }
-    insn_piece(alloc, description, number, f, rows, place, insn)
+    insn_piece(alloc, description, number, f, labels, rows, place, insn)
 }
 
 /// Appends what stands for an item at a place.
@@ -74,17 +94,20 @@ fn write_place(
     description: &Description,
     number: u32,
     f: &Function,
+    labels: &Labels,
     rows: &[RegRow],
     place: u32,
     insn: &Insn,
     out: &mut Vec<u8>,
     items: &mut Vec<CodeItem>,
 ) -> Result<(), OutRefusal>
-    requires { AreLiveRows f.now rows.now }
+    requires short { length f.now.insns < 2 ^ 32 }
+    requires labels { (uid : ℕ) → map.get nat_cmp labels.now uid ≡ place_of uid f.now.insns }
+    requires rows { AreLiveRows f.now rows.now }
     ensures { Appends out.old.items out.new.items items.old.items items.new.items result
         (PartsCome (PartComes description.now number f.now) (length out.old.items) (Place place insn.now ∷ [])) }
 {
-    let piece = item_piece(alloc, description, number, f, rows, place, insn)?;
+    let piece = item_piece(alloc, description, number, f, labels, rows, place, insn)?;
     append_piece(piece, out, items)
 }
 
@@ -94,12 +117,14 @@ pub fn write_places(
     description: &Description,
     number: u32,
     f: &Function,
+    labels: &Labels,
     rows: &[RegRow],
     out: &mut Vec<u8>,
     items: &mut Vec<CodeItem>,
 ) -> Result<(), OutRefusal>
-    requires rows { AreLiveRows f.now rows.now }
     requires short { length f.now.insns < 2 ^ 32 }
+    requires labels { (uid : ℕ) → map.get nat_cmp labels.now uid ≡ place_of uid f.now.insns }
+    requires rows { AreLiveRows f.now rows.now }
     ensures { Appends out.old.items out.new.items items.old.items items.new.items result
         (PartsCome (PartComes description.now number f.now) (length out.old.items) (places_from 0 f.now.insns)) }
 {
@@ -109,6 +134,7 @@ pub fn write_places(
             description,
             number,
             f,
+            labels,
             rows,
             place as u32,
             insn,

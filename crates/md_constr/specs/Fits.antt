@@ -6,6 +6,7 @@ use Rattle.std.specs.Option.{option_map_or}
 use Rattle.rtx_tree.specs.declared.tree.Rtx.{Rtx}
 use Rattle.rtx_tree.specs.Operands.{operand_at}
 use Rattle.rtx_tree.specs.Tree.{mentions_reg}
+use Rattle.md_operand.specs.Operand.{is_far}
 use Rattle.c_eval.specs.Value.{same_tree}
 use Rattle.pred_rows.specs.Tests.{Accepts}
 use Rattle.md_text.specs.declared.constraint.Member.{Member}
@@ -14,7 +15,7 @@ use Rattle.md_text.specs.declared.constraint.Alternative.{Alternative}
 use Rattle.md_forms.specs.declared.form.OperandConstraint.{OperandConstraint}
 use Rattle.md_forms.specs.declared.form.Entry.{Entry}
 use Rattle.md_attr.specs.Alternatives.{form_at}
-use Rattle.md_constr.specs.Inputs.{inputs_of, changed_of}
+use Rattle.md_constr.specs.Inputs.{operands_of, inputs_of, changed_of}
 use Rattle.md_constr.specs.Admits.{letter_admits, register_of, name_admits}
 
 -- the operands that defined constraints admit, by the constraints' names
@@ -53,6 +54,15 @@ shares_register inputs operands n x = option_map_or (is_shared inputs operands n
 -- the pattern changes it, and it is changed before all inputs are taken
 abbrev pub is_early : List ℕ → OperandConstraint → Alternative → Bool
 is_early changed k a = a.early && list_any (λ number. number == k.operand) changed
+
+-- ---- memory at far addresses
+
+-- the operand with a number is memory at a far address, which no load and no store reaches by itself
+abbrev pub is_far_at : List (Option Rtx) → ℕ → Bool
+is_far_at operands n = option_map_or is_far (operand_at operands n) false
+
+abbrev pub none_far : List (Option Rtx) → List ℕ → Bool
+none_far operands numbers = list_all (λ n. not (is_far_at operands n)) numbers
 
 -- ---- operands
 
@@ -93,15 +103,23 @@ constraint_admits named operands alternative x k = admits_among named operands x
 
 -- ---- forms
 
+-- all operands with these numbers and constraints fit: none is memory at a far address, and each that has a constraint fits it
+abbrev pub fit_together : Named → List ℕ → List ℕ → List ℕ → List (Option Rtx) → ℕ → List OperandConstraint → Bool
+fit_together named numbers inputs changed operands alternative ks = none_far operands numbers && all_fit named inputs changed operands alternative ks
+
+-- the operand with a number fits: it is no memory at a far address, and fits each of its constraints
+abbrev pub fits_alone : Named → List ℕ → List ℕ → List (Option Rtx) → ℕ → ℕ → List OperandConstraint → Bool
+fits_alone named inputs changed operands alternative number ks = not (is_far_at operands number) && each_of number (operand_fits named inputs changed operands alternative) ks
+
 -- whether operands fit an alternative of the accepted form with an index
 abbrev pub fits : List Entry → Accepts → ℕ → ℕ → List (Option Rtx) → Bool
 fits forms accepts form alternative operands =
-    option_map_or (λ f. all_fit (name_admits forms accepts) (inputs_of f) (changed_of f) operands alternative f.constraints) (form_at forms form) false
+    option_map_or (λ f. fit_together (name_admits forms accepts) (operands_of f) (inputs_of f) (changed_of f) operands alternative f.constraints) (form_at forms form) false
 
 -- whether the operand with a number fits an alternative of the accepted form with an index
 abbrev pub number_fits : List Entry → Accepts → ℕ → ℕ → List (Option Rtx) → ℕ → Bool
 number_fits forms accepts form alternative operands number =
-    option_map_or (λ f. each_of number (operand_fits (name_admits forms accepts) (inputs_of f) (changed_of f) operands alternative) f.constraints) (form_at forms form) false
+    option_map_or (λ f. fits_alone (name_admits forms accepts) (inputs_of f) (changed_of f) operands alternative number f.constraints) (form_at forms form) false
 
 -- whether the constraint of the operand with a number admits a tree in an alternative of the accepted form with an index
 abbrev pub number_admits : List Entry → Accepts → ℕ → ℕ → List (Option Rtx) → ℕ → Rtx → Bool

@@ -102,6 +102,10 @@ changed_in pattern = flat_map changed_by (effects_of pattern)
 abbrev pub inputs_of : Form → List ℕ
 inputs_of f = flat_map inputs_in f.patterns
 
+-- the operands that stand in a form's patterns, scratches apart, each as often as it stands there
+abbrev pub operands_of : Form → List ℕ
+operands_of f = flat_map taken_in f.patterns
+
 -- the operands that a form's patterns set or clobber
 abbrev pub changed_of : Form → List ℕ
 changed_of f = flat_map changed_in f.patterns

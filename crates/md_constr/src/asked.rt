@@ -9,6 +9,7 @@ use crate::admits::{letter_admits, register_of};
 use crate::meanings::Meanings;
 use c_eval::Preds;
 use md_forms::OperandConstraint;
+use md_operand::is_far;
 use md_text::{Alternative, Member};
 use rtx_tree::{Operands, Rtx, same};
 
@@ -21,6 +22,8 @@ pub struct Asked<'a, P: Preds> {
     pub preds: &'a P,
     /// The operands of the form.
     pub operands: &'a Operands,
+    /// The numbers of the operands in the form's patterns.
+    pub numbers: &'a [u64],
     /// The numbers of the form's inputs.
     pub inputs: &'a [u64],
     /// The numbers of the operands that the form changes.
@@ -64,6 +67,22 @@ fn is_shared(inputs: &[u64], operands: &Operands, own: u64, reg: u32) -> bool
     ensures { result ≡ spec.is_shared inputs.now operands.now own reg }
 {
     inputs.iter().any(|input| *input != own && mentions_at(operands, reg, *input))
+}
+
+/// Whether the operand with a number is memory at a far address.
+fn is_far_at(operands: &Operands, number: u64) -> bool
+    ensures { result ≡ spec.is_far_at operands.now number }
+{
+    match operands.get(number as usize) {
+        Some(x) => is_far(x),
+        None => false,
+    }
+}
+
+fn none_far(operands: &Operands, numbers: &[u64]) -> bool
+    ensures { result ≡ spec.none_far operands.now numbers.now }
+{
+    numbers.iter().all(|number| !is_far_at(operands, *number))
 }
 
 impl<P: Preds> Asked<'_, P> {
@@ -137,13 +156,19 @@ impl<P: Preds> Asked<'_, P> {
         }
     }
 
-    /// Whether the operands of some constraints fit.
-    pub fn all_fit(&self, constraints: &[OperandConstraint]) -> bool
+    fn all_fit(&self, constraints: &[OperandConstraint]) -> bool
         ensures { result ≡ spec.all_fit (tables.name_admits_in self.now.meanings.now (P.accepts self.now.preds.now)) self.now.inputs.now self.now.changed.now self.now.operands.now self.now.alternative constraints.now }
     {
         constraints
             .iter()
             .all(|constraint| self.operand_fits(constraint))
+    }
+
+    /// Whether all operands fit, of which some have these constraints.
+    pub fn fit_together(&self, constraints: &[OperandConstraint]) -> bool
+        ensures { result ≡ spec.fit_together (tables.name_admits_in self.now.meanings.now (P.accepts self.now.preds.now)) self.now.numbers.now self.now.inputs.now self.now.changed.now self.now.operands.now self.now.alternative constraints.now }
+    {
+        none_far(self.operands, self.numbers) && self.all_fit(constraints)
     }
 
     fn constraint_admits(&self, constraint: &OperandConstraint, x: &Rtx) -> bool
@@ -158,12 +183,18 @@ impl<P: Preds> Asked<'_, P> {
         }
     }
 
-    /// Whether the operand with a number fits, by each of its constraints.
-    pub fn number_fits(&self, constraints: &[OperandConstraint], number: u32) -> bool
+    fn each_fits(&self, constraints: &[OperandConstraint], number: u32) -> bool
         ensures { result ≡ spec.each_of number (spec.operand_fits (tables.name_admits_in self.now.meanings.now (P.accepts self.now.preds.now)) self.now.inputs.now self.now.changed.now self.now.operands.now self.now.alternative) constraints.now }
     {
         constraints.iter().all(|constraint| constraint.operand != number
             || self.operand_fits(constraint))
+    }
+
+    /// Whether the operand with a number fits, by each of its constraints.
+    pub fn fits_alone(&self, constraints: &[OperandConstraint], number: u32) -> bool
+        ensures { result ≡ spec.fits_alone (tables.name_admits_in self.now.meanings.now (P.accepts self.now.preds.now)) self.now.inputs.now self.now.changed.now self.now.operands.now self.now.alternative number constraints.now }
+    {
+        !is_far_at(self.operands, u64::from(number)) && self.each_fits(constraints, number)
     }
 
     /// Whether a tree is admitted in the place of the operand with a number, by each of its constraints.

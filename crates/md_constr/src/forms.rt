@@ -4,7 +4,7 @@ ghost use Rattle.md_forms.specs.Checks as checks;
 ghost use Rattle.md_constr.specs.machine.Tables as tables;
 
 use crate::copies::constraints_copy;
-use crate::inputs::{changed_of, inputs_of};
+use crate::inputs::{changed_of, inputs_of, operands_of};
 use md_forms::{Entry, Form, OperandConstraint};
 use plain_data::{Items, Memory};
 use std::alloc::Global;
@@ -16,6 +16,8 @@ pub struct FormConstraints {
     pub accepted: bool,
     /// The constraints of its operands, in the order of the text.
     pub constraints: Items<OperandConstraint>,
+    /// The numbers of the operands in its patterns.
+    pub operands: Items<u64>,
     /// The numbers of its inputs.
     pub inputs: Items<u64>,
     /// The numbers of the operands that it sets or clobbers.
@@ -42,6 +44,7 @@ fn constraints_in(alloc: Global, form: &Form) -> Result<FormConstraints, Memory>
     Ok(FormConstraints {
         accepted: true,
         constraints: constraints_copy(alloc, form.constraints.as_slice())?,
+        operands: operands_of(alloc, form)?,
         inputs: inputs_of(alloc, form)?,
         changed: changed_of(alloc, form)?,
         alternatives: alternatives(form.constraints.as_slice()),
@@ -56,6 +59,7 @@ fn constraints_of(alloc: Global, entry: &Entry) -> Result<FormConstraints, Memor
         Err(_) => Ok(FormConstraints {
             accepted: false,
             constraints: Items::new(alloc),
+            operands: Items::new(alloc),
             inputs: Items::new(alloc),
             changed: Items::new(alloc),
             alternatives: 0,

@@ -175,6 +175,15 @@ pub fn inputs_of(alloc: Global, form: &Form) -> Result<Numbers, Memory>
     Ok(numbers)
 }
 
+/// The numbers of the operands in a form's patterns, scratches apart.
+pub fn operands_of(alloc: Global, form: &Form) -> Result<Numbers, Memory>
+    ensures { IfOk result (λ operands. operands ≡ spec.operands_of form.now) }
+{
+    let mut numbers = Items::new(alloc);
+    push_each_taken(form.patterns.as_slice(), &mut numbers)?;
+    Ok(numbers)
+}
+
 /// The numbers of the operands that a form sets or clobbers.
 pub fn changed_of(alloc: Global, form: &Form) -> Result<Numbers, Memory>
     ensures { IfOk result (λ changed. changed ≡ spec.changed_of form.now) }

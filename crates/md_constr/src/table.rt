@@ -52,11 +52,12 @@ impl Constraints {
             meanings: &self.meanings,
             preds,
             operands,
+            numbers: found.operands.as_slice(),
             inputs: found.inputs.as_slice(),
             changed: found.changed.as_slice(),
             alternative: alternative as usize,
         };
-        found.accepted && asked.all_fit(found.constraints.as_slice())
+        found.accepted && asked.fit_together(found.constraints.as_slice())
     }
 
     fn fits_in<P: Preds>(&self, preds: &P, form: u32, alternative: u32, operands: &Operands) -> bool
@@ -82,11 +83,12 @@ impl Constraints {
             meanings: &self.meanings,
             preds,
             operands,
+            numbers: found.operands.as_slice(),
             inputs: found.inputs.as_slice(),
             changed: found.changed.as_slice(),
             alternative: alternative as usize,
         };
-        found.accepted && asked.number_fits(found.constraints.as_slice(), number)
+        found.accepted && asked.fits_alone(found.constraints.as_slice(), number)
     }
 
     fn number_fits_in<P: Preds>(
@@ -120,6 +122,7 @@ impl Constraints {
             meanings: &self.meanings,
             preds,
             operands,
+            numbers: found.operands.as_slice(),
             inputs: found.inputs.as_slice(),
             changed: found.changed.as_slice(),
             alternative: alternative as usize,
@@ -156,8 +159,8 @@ impl Constraints {
     }
 }
 
-/// Whether operands fit an alternative of an accepted form: each operand that has a constraint meets one of its members there, and an
-/// earlyclobber output shares no register with an input. It takes no memory.
+/// Whether operands fit an alternative of an accepted form: no operand of its patterns is memory at a far address, each operand that has a
+/// constraint meets one of its members there, and an earlyclobber output shares no register with an input. It takes no memory.
 #[tactic(auto, using(crate::proofs::TableLaws::fits_same))]
 pub fn fits<P: Preds>(
     table: &Constraints,
@@ -171,8 +174,8 @@ pub fn fits<P: Preds>(
     table.fits_in(preds, form, alternative, operands)
 }
 
-/// Whether the operand with a number fits an alternative of an accepted form, by itself: it meets a member of its constraint there, and shares
-/// no register with an input if it is an earlyclobber output. It takes no memory.
+/// Whether the operand with a number fits an alternative of an accepted form, by itself: it is no memory at a far address, meets a member of
+/// its constraint there, and shares no register with an input if it is an earlyclobber output. It takes no memory.
 #[tactic(auto, using(crate::proofs::TableLaws::number_fits_same))]
 pub fn operand_fits<P: Preds>(
     table: &Constraints,
@@ -188,7 +191,7 @@ pub fn operand_fits<P: Preds>(
 }
 
 /// Whether the constraint of the operand with a number admits a tree in an alternative of an accepted form. A digit admits what is the same as
-/// the operand that it names. It takes no memory.
+/// the operand that it names, and the letter `m` memory at a far address too. It takes no memory.
 #[tactic(auto, using(crate::proofs::TableLaws::number_admits_same))]
 pub fn operand_admits<P: Preds>(
     table: &Constraints,

@@ -8,7 +8,7 @@ use Rattle.rtx_tree.specs.declared.code.Mode.{Mode}
 use Rattle.rtx_tree.specs.declared.code.Mode.TheVariants.{Void, QI, HI, SI, DI}
 use Rattle.rtx_tree.specs.declared.tree.Rtx.{Rtx, out-Rtx}
 use Rattle.rtx_tree.specs.Code.{mode_name}
-use Rattle.md_operand.specs.Addresses.{is_legitimate_address, is_frame_reference, is_base}
+use Rattle.md_operand.specs.Addresses.{is_legitimate_address, is_far_address, is_frame_reference, is_base}
 use Rattle.md_operand.specs.declared.own.Own.{Own}
 use Rattle.md_operand.specs.declared.own.Own.TheVariants as own
 
@@ -57,6 +57,14 @@ is_memory_by _ kids = false
 -- memory at a legitimate address
 abbrev pub is_memory : Rtx → Bool
 is_memory x = is_memory_by (out-Rtx x).code (out-Rtx x).kids
+
+abbrev pub is_far_by : Code → List Rtx → Bool
+is_far_by Mem (address ∷ []) = is_far_address address
+is_far_by _ kids = false
+
+-- memory at a far address
+abbrev pub is_far : Rtx → Bool
+is_far x = is_far_by (out-Rtx x).code (out-Rtx x).kids
 
 abbrev pub is_comparison_code : Code → Bool
 is_comparison_code Eq = true

@@ -2,7 +2,7 @@
 ghost use Rattle.std.specs.Prelude.{◌≡◌};
 ghost use Rattle.md_operand.specs.Operand as spec;
 
-use crate::addresses::{is_base, legitimate_address};
+use crate::addresses::{far_address, is_base, legitimate_address};
 use rtx_tree::{Code, Mode, Rtx};
 
 /// Whether a mode accepts another: a mode that is none accepts every mode.
@@ -57,6 +57,19 @@ pub fn is_memory(x: &Rtx) -> bool
     match x.code {
         Code::Mem => match x.kids.as_slice() {
             [address] => legitimate_address(address),
+            _ => false,
+        },
+        _ => false,
+    }
+}
+
+/// Whether it is memory at a far address.
+pub fn is_far(x: &Rtx) -> bool
+    ensures { result ≡ spec.is_far x.now }
+{
+    match x.code {
+        Code::Mem => match x.kids.as_slice() {
+            [address] => far_address(address),
             _ => false,
         },
         _ => false,

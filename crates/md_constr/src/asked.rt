@@ -1,11 +1,12 @@
 //! Whether operands fit.
-ghost use Rattle.std.specs.Prelude.{◌≡◌, ◌==◌};
+ghost use Rattle.std.specs.Prelude.{◌≡◌};
 ghost use Rattle.std.specs.List.{list_any};
 ghost use Rattle.c_eval.specs.Value.{same_tree};
 ghost use Rattle.md_constr.specs.Fits as spec;
 ghost use Rattle.md_constr.specs.machine.Tables as tables;
 
-use crate::admits::{letter_admits, register_of};
+use crate::admits::letter_admits;
+use crate::early::clashes_in;
 use crate::meanings::Meanings;
 use c_eval::Preds;
 use md_forms::OperandConstraint;
@@ -45,28 +46,6 @@ fn is_same(operands: &Operands, number: u8, x: &Rtx) -> bool
         Some(other) => same_tree(x, other),
         None => false,
     }
-}
-
-fn mentions_at(operands: &Operands, reg: u32, number: u64) -> bool
-    ensures { result ≡ spec.mentions_at operands.now reg number }
-{
-    match operands.get(number as usize) {
-        Some(x) => x.mentions(reg),
-        None => false,
-    }
-}
-
-fn is_among(numbers: &[u64], own: u64) -> bool
-    ensures { result ≡ list_any (λ number. number == own) numbers.now }
-{
-    numbers.iter().any(|number| *number == own)
-}
-
-/// Whether an input other than an operand mentions a register.
-fn is_shared(inputs: &[u64], operands: &Operands, own: u64, reg: u32) -> bool
-    ensures { result ≡ spec.is_shared inputs.now operands.now own reg }
-{
-    inputs.iter().any(|input| *input != own && mentions_at(operands, reg, *input))
 }
 
 /// Whether the operand with a number is memory at a far address.
@@ -109,29 +88,19 @@ impl<P: Preds> Asked<'_, P> {
         members.is_empty() || self.one_admits(x, members)
     }
 
-    fn shares_register(&self, number: u64, x: &Rtx) -> bool
-        ensures { result ≡ spec.shares_register self.now.inputs.now self.now.operands.now number x.now }
-    {
-        match register_of(x) {
-            Some(reg) => is_shared(self.inputs, self.operands, number, reg),
-            None => false,
-        }
-    }
-
-    /// Whether an operand is changed before all inputs are taken.
-    fn is_early(&self, constraint: &OperandConstraint, alternative: &Alternative) -> bool
-        ensures { result ≡ spec.is_early self.now.changed.now constraint.now alternative.now }
-    {
-        alternative.early && is_among(self.changed, u64::from(constraint.operand))
-    }
-
     /// Whether an operand fits an alternative of its constraint.
     fn fits_in(&self, constraint: &OperandConstraint, x: &Rtx, alternative: &Alternative) -> bool
         ensures { result ≡ spec.fits_in (tables.name_admits_in self.now.meanings.now (P.accepts self.now.preds.now)) self.now.inputs.now self.now.changed.now self.now.operands.now constraint.now x.now alternative.now }
     {
         self.meets(x, alternative.members.as_slice())
-            && !(self.is_early(constraint, alternative)
-                && self.shares_register(u64::from(constraint.operand), x))
+            && !clashes_in(
+                self.inputs,
+                self.changed,
+                self.operands,
+                constraint,
+                x,
+                alternative,
+            )
     }
 
     fn fits_at(&self, constraint: &OperandConstraint, x: &Rtx) -> bool

@@ -16,4 +16,4 @@ mod recog;
 pub use half::{Half, is_instruction};
 pub use matching::match_insns;
 pub use md_match::Steps;
-pub use recog::{FormMatch, first_match};
+pub use recog::{FormMatch, first_match, match_at};

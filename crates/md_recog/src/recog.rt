@@ -23,7 +23,7 @@ pub struct FormMatch {
 }
 
 /// The match of the form at a place.
-fn match_at<P: Preds, L: Ledger>(
+pub fn match_at<P: Preds, L: Ledger>(
     alloc: Global,
     forms: &[Entry],
     half: Half,

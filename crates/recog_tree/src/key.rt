@@ -1,6 +1,5 @@
 //! The key of an instruction, and that of a form.
 ghost use Rattle.std.specs.Prelude.{◌≡◌};
-ghost use Rattle.c_eval.specs.Value.{is_a};
 ghost use Rattle.c_eval.specs.Value as value;
 ghost use Rattle.recog_tree.specs.Key as spec;
 

@@ -1,5 +1,5 @@
 //! The keys of a description's forms.
-ghost use Rattle.std.specs.Prelude.{◌≡◌, ◌^◌, ◌<◌, IfOk, List, MatchOption, length, map};
+ghost use Rattle.std.specs.Prelude.{◌≡◌, ◌^◌, ◌<◌, IfOk, MatchOption, length, map};
 ghost use Rattle.recog_tree.specs.Key as spec;
 ghost use Rattle.recog_tree.specs.machine.Tables.{AreTablesOf, NoneTried, IsNext};
 ghost use Rattle.recog_tree.specs.machine.Tables as machine;

@@ -16,8 +16,9 @@ use md_attr::{Attributes, enabled, has_alternative};
 use md_constr::{Constraints, fits, operand_admits, operand_fits};
 use md_forms::Forms;
 use md_pred::PredTable;
-use md_recog::{FormMatch, Half, Steps, first_match};
+use md_recog::{FormMatch, Steps};
 use plain_data::Memory;
+use recog_tree::{Tables, recog};
 use rtx_tree::{Operands, Rtx};
 use std::alloc::Global;
 use std::marker::{Brand, Model};
@@ -30,6 +31,7 @@ pub struct Description {
     preds: PredTable,
     constraints: Constraints,
     attributes: Attributes,
+    tables: Tables,
 }
 
 impl Model for Description {
@@ -45,7 +47,7 @@ impl Model for Description {
 
     ghost view = { λ description. description.forms };
 
-    ghost invariant = { λ description. AreTablesOf description.forms description.preds description.constraints description.attributes };
+    ghost invariant = { λ description. AreTablesOf description.forms description.preds description.constraints description.attributes description.tables };
 }
 
 impl Description {
@@ -57,11 +59,13 @@ impl Description {
         let preds = PredTable::of(alloc, &forms)?;
         let constraints = Constraints::of(alloc, &forms)?;
         let attributes = Attributes::of(alloc, &forms)?;
+        let tables = Tables::of(alloc, &forms)?;
         Ok(Description {
             forms,
             preds,
             constraints,
             attributes,
+            tables,
         })
     }
 
@@ -176,13 +180,14 @@ impl Description {
         ensures small { IfOk result (λ r. IfSome r (λ m. m.form < most_forms)) }
     {
         let mut steps = Steps::<L>::new(blank);
-        first_match(
+        let forms = self.forms.as_slice();
+        recog(
             alloc,
-            self.forms.as_slice(),
-            Half::Insn,
-            &[insn],
-            facts,
+            &self.tables,
+            forms,
             &self.preds,
+            insn,
+            facts,
             from,
             &mut steps,
         )

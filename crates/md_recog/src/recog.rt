@@ -22,8 +22,8 @@ pub struct FormMatch {
     pub operands: Operands,
 }
 
-/// The match of the form at a place.
-fn match_at<P: Preds, L: Ledger>(
+/// The match of the form at a place, of which a half matches instructions, or `None` exactly where it does not. It takes one step at most.
+pub fn match_at<P: Preds, L: Ledger>(
     alloc: Global,
     forms: &[Entry],
     half: Half,

@@ -1,0 +1,4 @@
+mod Parts
+mod Effects
+pub mod KeyLaw
+pub mod Found

@@ -1,0 +1,94 @@
+-- The key by which the forms that may match an instruction are found: its code, and the code of its source. GCC Internals, "RTL Template",
+-- "Side Effect Expressions" (`set`, `parallel`) and "Pattern Ordering".
+use Rattle.std.specs.Prelude.{Bool, true, false, not, ◌&&◌, ◌||◌, List, [], ◌∷◌, ℕ, Option, Some, None, Result, Ok, Err, option_map, option_and_then, slice_get, if◌then◌else◌}
+use Rattle.rtx_tree.specs.declared.code.Code.{Code}
+use Rattle.rtx_tree.specs.declared.code.Code.TheVariants.{Set, Parallel}
+use Rattle.rtx_tree.specs.declared.tree.Rtx.{Rtx}
+use Rattle.rtx_tree.specs.Tree.{head_of, kids_of}
+use Rattle.c_eval.specs.Value.{same_code, is_a}
+use Rattle.md_match.specs.declared.role.Role.{Role}
+use Rattle.md_match.specs.declared.role.Role.TheVariants.{Itself}
+use Rattle.md_match.specs.Pattern.{role_of}
+use Rattle.md_pattern.specs.declared.reason.Reason.{Reason}
+use Rattle.md_forms.specs.declared.form.Form.{Form}
+use Rattle.md_forms.specs.declared.form.Entry.{Entry}
+use Rattle.md_recog.specs.Recog.{is_instruction}
+use Rattle.recog_tree.specs.declared.key.Key.{Key}
+
+-- ---- the key of an expression, an instruction or a pattern of one
+
+abbrev pub is_itself : Role → Bool
+is_itself Itself = true
+is_itself _ = false
+
+-- one of the five codes that stand for other expressions in a pattern
+abbrev pub is_wild : Code → Bool
+is_wild code = not (is_itself (role_of code))
+
+abbrev pub code_of : Rtx → Code
+code_of x = (head_of x).code
+
+-- the code of the part with a number, where there is one
+abbrev pub part_code : Rtx → ℕ → Option Code
+part_code x number = option_map code_of (slice_get (kids_of x) number)
+
+abbrev pub own_code : Code → Option Code
+own_code code = if is_wild code then Some code else None
+
+-- The source of one effect: the code of what a `set` sets to. What stands for other expressions may stand for a `set` of any source, so its
+-- own code counts; any other effect has no source.
+abbrev pub effect_source : Rtx → Option Code
+effect_source x = if is_a Set x then part_code x 1 else own_code (code_of x)
+
+-- in a `parallel` the source of the first effect counts
+abbrev pub source_of : Rtx → Option Code
+source_of x = if is_a Parallel x then option_and_then effect_source (slice_get (kids_of x) 0) else effect_source x
+
+abbrev pub key_of : Rtx → Key
+key_of x = record { code = code_of x; source = source_of x }
+
+-- ---- which instructions have the key of a pattern
+
+-- a code of a pattern lets the code of an instruction through
+abbrev pub fits_code : Code → Code → Bool
+fits_code pattern insn = is_wild pattern || same_code pattern insn
+
+abbrev pub fits_source : Option Code → Option Code → Bool
+fits_source (Some pattern) (Some insn) = fits_code pattern insn
+fits_source (Some pattern) None = is_wild pattern
+fits_source None (Some insn) = false
+fits_source None None = true
+
+-- A pattern has an instruction's key where its code stands for any other, or is the instruction's and its source's code stands for any
+-- other or is that of the instruction's source.
+abbrev pub has_key : Key → Key → Bool
+has_key pattern insn = is_wild pattern.code || (same_code pattern.code insn.code && fits_source pattern.source insn.source)
+
+-- ---- which forms are tried
+
+-- the pattern of a form that has one alone
+abbrev pub only_pattern : List Rtx → Option Rtx
+only_pattern [] = None
+only_pattern (p ∷ []) = Some p
+only_pattern (p ∷ q ∷ ps) = None
+
+-- the key of a form that defines an instruction
+abbrev pub form_key : Form → Option Key
+form_key form = if is_instruction form.head then option_map key_of (only_pattern form.patterns) else None
+
+abbrev pub judged_key : Result Form Reason → Option Key
+judged_key (Ok form) = form_key form
+judged_key (Err reason) = None
+
+-- a form that is set aside has none
+abbrev pub entry_key : Entry → Option Key
+entry_key entry = judged_key entry.form
+
+-- whether what has a key, if it has one, is tried for an instruction with another
+abbrev pub is_tried_by : Key → Option Key → Bool
+is_tried_by insn None = false
+is_tried_by insn (Some pattern) = has_key pattern insn
+
+-- whether a form is tried for an instruction: it defines one, and its pattern has the instruction's key
+abbrev pub is_tried : Rtx → Entry → Bool
+is_tried insn entry = is_tried_by (key_of insn) (entry_key entry)

@@ -1,0 +1,134 @@
+//! The key of an instruction, and that of a form.
+ghost use Rattle.std.specs.Prelude.{◌≡◌};
+ghost use Rattle.c_eval.specs.Value as value;
+ghost use Rattle.recog_tree.specs.Key as spec;
+
+use md_forms::{Entry, Form};
+use md_match::{Role, role_of};
+use md_recog::is_instruction;
+use rtx_tree::{Code, Rtx};
+
+/// By what forms are found: a code, with the code of a source.
+#[derive(Clone, Copy)]
+pub struct Key {
+    /// The code of the whole expression.
+    pub code: Code,
+    /// The code of its source, where it has one.
+    pub source: Option<Code>,
+}
+
+/// Whether an expression of this code stands for others in a pattern.
+fn is_wild(code: Code) -> bool
+    ensures { result ≡ spec.is_wild code }
+{
+    !matches!(role_of(code), Role::Itself)
+}
+
+fn same_code(a: Code, b: Code) -> bool
+    ensures { result ≡ value.same_code a b }
+{
+    a.same(b)
+}
+
+/// The code of the part with a number.
+fn part_code(x: &Rtx, number: usize) -> Option<Code>
+    ensures { result ≡ spec.part_code x.now number }
+{
+    match x.kids.as_slice().get(number) {
+        Some(part) => Some(part.code),
+        None => None,
+    }
+}
+
+/// The code of the source of one effect.
+fn effect_source(x: &Rtx) -> Option<Code>
+    ensures { result ≡ spec.effect_source x.now }
+{
+    if same_code(x.code, Code::Set) {
+        return part_code(x, 1);
+    }
+    if is_wild(x.code) { Some(x.code) } else { None }
+}
+
+/// The code of the source of an instruction.
+fn source_of(x: &Rtx) -> Option<Code>
+    ensures { result ≡ spec.source_of x.now }
+{
+    if !same_code(x.code, Code::Parallel) {
+        return effect_source(x);
+    }
+    match x.kids.as_slice().get(0) {
+        Some(first) => effect_source(first),
+        None => None,
+    }
+}
+
+/// The key of an instruction, or of a pattern of one.
+pub fn key_of(x: &Rtx) -> Key
+    ensures { result ≡ spec.key_of x.now }
+{
+    Key {
+        code: x.code,
+        source: source_of(x),
+    }
+}
+
+fn fits_code(pattern: Code, insn: Code) -> bool
+    ensures { result ≡ spec.fits_code pattern insn }
+{
+    is_wild(pattern) || same_code(pattern, insn)
+}
+
+fn fits_source(pattern: Option<Code>, insn: Option<Code>) -> bool
+    ensures { result ≡ spec.fits_source pattern insn }
+{
+    match pattern {
+        Some(pattern) => match insn {
+            Some(insn) => fits_code(pattern, insn),
+            None => is_wild(pattern),
+        },
+        None => insn.is_none(),
+    }
+}
+
+/// Whether a pattern's key is that of an instruction.
+fn has_key(pattern: Key, insn: Key) -> bool
+    ensures { result ≡ spec.has_key pattern insn }
+{
+    if is_wild(pattern.code) {
+        return true;
+    }
+    same_code(pattern.code, insn.code) && fits_source(pattern.source, insn.source)
+}
+
+/// Whether what has a key, if it has one, is tried for an instruction with another.
+pub fn is_tried_by(insn: Key, pattern: Option<Key>) -> bool
+    ensures { result ≡ spec.is_tried_by insn pattern }
+{
+    match pattern {
+        Some(pattern) => has_key(pattern, insn),
+        None => false,
+    }
+}
+
+fn form_key(form: &Form) -> Option<Key>
+    ensures { result ≡ spec.form_key form.now }
+{
+    if !is_instruction(form.head) {
+        return None;
+    }
+    match form.patterns.as_slice() {
+        [pattern] => Some(key_of(pattern)),
+        _ => None,
+    }
+}
+
+/// The key of a form that defines an instruction.
+pub fn entry_key(entry: &Entry) -> Option<Key>
+    ensures { result ≡ spec.entry_key entry.now }
+{
+    match &entry.form {
+        Ok(form) => form_key(form),
+        Err(_) => None,
+    }
+}

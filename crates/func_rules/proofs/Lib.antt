@@ -14,6 +14,7 @@ pub mod Locals
 pub mod Finished
 pub mod Marks
 pub mod Sorts
+pub mod Vars
 pub mod Ready
 pub mod Jumps
 pub mod AllSorts

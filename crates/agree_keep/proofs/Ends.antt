@@ -40,7 +40,7 @@ same_way false false target ending first second = refl
 same_way true false target ending first second = falls_or_goes second.0 ending first second.1
 same_way false true target ending first second = falls_or_goes first.0 ending second first.1
 
-widths_differ : {A : Type 0} → W64 ≡ W8 → A
+pub widths_differ : {A : Type 0} → W64 ≡ W8 → A
 widths_differ same = absurd (let no : ⊥ = cc in no)
 
 uid_small : (uid x : ℕ) → uid_in uid ≡ Some x → (uid < 2 ^ 32) × (uid ≡ x)
@@ -59,7 +59,7 @@ shown_uid uid other first second same =
     nowhere : Valuation
     nowhere = record { reg = λ reg. 0; sym = λ name. 0; memory = λ number address. 0 }
 
-one_target : (uid other : ℕ) (first second : Option ℕ) → uid_in uid ≡ first → uid_in other ≡ second → target_term first ≡ target_term second → (first ≡ None → ⊥) → uid ≡ other
+pub one_target : (uid other : ℕ) (first second : Option ℕ) → uid_in uid ≡ first → uid_in other ≡ second → target_term first ≡ target_term second → (first ≡ None → ⊥) → uid ≡ other
 one_target uid other None second is is' same some = absurd (some refl)
 one_target uid other (Some x) None is is' same some = widths_differ (ap width_of same)
 one_target uid other (Some x) (Some y) is is' same some =

@@ -9,6 +9,7 @@ use Rattle.func_mean.specs.Run.{run_of, taken}
 use Rattle.func_mean.specs.declared.outcome.Outcome.TheVariants.{Undefined}
 use Rattle.same_behaviour.specs.Lawful.{AreWords, AreAddresses, IsWord, IsByte, IsMemory}
 use Rattle.func_keep.specs.Outcomes.{SameOutcome}
+use Rattle.func_keep.specs.Ends.{EndsAtExit}
 
 -- ---- starts and worlds of a machine
 
@@ -28,11 +29,13 @@ pub record IsMachineWorld (world : World) : Type 0 where
 
 -- ---- keeping
 
--- The run of n steps of the first has no value, or some steps of the second come to the same and take as many jumps and calls at least.
+-- The run of n steps of the first has no value, or some steps of the second come to the same, take as many jumps and calls at least, and
+-- return at the end of the chain only where the n do.
 abbrev pub KeepsRun : Function → Function → Start → World → ℕ → Type 0
 KeepsRun f g start world n =
     run_of f start world n ≢ Undefined →
-    (m : ℕ) × (taken f start world n ≤ taken g start world m) × SameOutcome (run_of f start world n) (run_of g start world m)
+    (m : ℕ) × (taken f start world n ≤ taken g start world m) × SameOutcome (run_of f start world n) (run_of g start world m) ×
+    (EndsAtExit g start world m → EndsAtExit f start world n)
 
 -- the second function does what the first does
 pub record Keeps (f g : Function) : Type 0 where

@@ -11,4 +11,8 @@ pub mod Standing
 pub mod Reading
 pub mod Marks
 pub mod Sorts
+pub mod Jumps
+pub mod AllSorts
+pub mod Added
+pub mod Vars
 pub mod Ready

@@ -35,7 +35,7 @@ passed_end [] last place no_mark = ap (λ b. if b then place + 1 else place) no_
 passed_end (i ∷ rest) last place no_mark =
     ap (λ (more : ℕ). if is_mark i.kind then more else place) (passed_end rest last (place + 1) no_mark)
 
-dropped_end : (insns : List Insn) (last : Insn) (next place : ℕ) → is_mark last.kind ≡ false →
+pub dropped_end : (insns : List Insn) (last : Insn) (next place : ℕ) → is_mark last.kind ≡ false →
     passed (drop next (insns ++ last ∷ [])) place ≡ passed (drop next insns) place
 dropped_end [] last zero place no_mark = passed_end [] last place no_mark
 dropped_end [] last (suc next) place no_mark = ap (λ l. passed l place) (drop-nil next ∙ sym (drop-nil (suc next)))
@@ -44,7 +44,7 @@ dropped_end (i ∷ insns) last (suc next) place no_mark = dropped_end insns last
 
 module _ (f : Function) (last : Insn) (jump : last.kind ≡ kind.Jump) (returns : last.pattern ≡ return_rtx) where
   -- the function with one more return at its end
-  abbrev longer : Function
+  abbrev pub longer : Function
   longer = record f { insns = f.insns ++ last ∷ [] }
 
   module _ (world : World) where
@@ -93,7 +93,7 @@ module _ (f : Function) (last : Insn) (jump : last.kind ≡ kind.Jump) (returns 
         not_before : (place short long : ℕ) → short ≤ place → (place ≡ short → ⊥) → long ≡ suc short → long ≤ place
         not_before place short long le apart is = grind arith
 
-    same_step : (s : State) → step world longer s ≡ step world f s
+    pub same_step : (s : State) → step world longer s ≡ step world f s
     same_step s =
         ap (λ place. act_at (slice_get longer.insns place) world longer place s) (dropped_end f.insns last s.next s.next (ap is_mark jump))
         ∙ same_at (place_from f.insns s.next) s
@@ -114,7 +114,7 @@ module _ (f : Function) (last : Insn) (jump : last.kind ≡ kind.Jump) (returns 
         ap (λ r. if goes_on e then r else ended longer e t) rest
         ∙ ap (λ r. if goes_on e then run world f n t else r) (same_ended e t)
 
-    same_run : (n : ℕ) (s : State) → run world longer n s ≡ run world f n s
+    pub same_run : (n : ℕ) (s : State) → run world longer n s ≡ run world f n s
     same_run zero s = refl
     same_run (suc n) s =
         ap (λ (e : Stepped). go_on longer e.0 e.1 (run world longer n)) (same_step s)
@@ -129,7 +129,7 @@ module _ (f : Function) (last : Insn) (jump : last.kind ≡ kind.Jump) (returns 
     taken_same n Asked t rest = refl
     taken_same n Undefined t rest = refl
 
-    same_taken : (n : ℕ) (s : State) → taken_from world longer n s ≡ taken_from world f n s
+    pub same_taken : (n : ℕ) (s : State) → taken_from world longer n s ≡ taken_from world f n s
     same_taken zero s = refl
     same_taken (suc n) s =
         ap (λ (e : Stepped). taken_on e.0 e.1 (taken_from world longer n)) (same_step s)

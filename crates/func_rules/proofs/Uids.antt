@@ -1,12 +1,14 @@
 -- The uids of a function that keeps the rules: they differ, and each has 32 bits.
-use Rattle.std.proofs.Common.{◌≡◌, ℕ, zero, suc, ◌≤◌, Bool, true, false, not, ◌&&◌, ◌==◌, List, [], ◌∷◌, refl, sym, ap, subst, ◌∙◌, inl, inr}
+use Rattle.std.proofs.Common.{◌≡◌, ℕ, zero, suc, ◌≤◌, Bool, true, false, not, ◌&&◌, ◌==◌, if◌then◌else◌, List, [], ◌∷◌, map, refl, sym, ap, subst, ◌∙◌, inl, inr}
 use Rattle.std.specs.Prelude.{nat_le}
-use Rattle.std.proofs.lemmas.Bool.{cases_Bool, true≢false, false≢true, and_parts, or_parts, eq-eqb, leb-true}
+use Rattle.std.specs.List.{AllByRecursion, IsDistinct}
+use Rattle.std.proofs.lemmas.Bool.{cases_Bool, true≢false, false≢true, false_from_ne_true, and_parts, or_parts, or_left, or_right, eq-eqb, eqb-true, leb-true}
 use Rattle.rtx_tree.specs.declared.function.Insn.{Insn}
 use Rattle.rtx_tree.specs.declared.function.Function.{Function}
 use Rattle.rtl_func.specs.Paths.{has_place}
+use Rattle.rtl_func.specs.Faults.{fault}
 use Rattle.rtl_func.specs.Rules.{uid_fault}
-use Rattle.rtl_func.specs.Uids.{is_ruled, is_uid}
+use Rattle.rtl_func.specs.Uids.{is_ruled, is_uid, bad_uids, uids_of}
 use Rattle.rtl_func.proofs.FaultLaws.{uid_faults_in, uid_ruled, uid_other}
 use Rattle.func_rules.specs.Admitted.{IsAdmitted, StandsAt}
 use Rattle.func_rules.proofs.Kept.{both_empty, no_faults}
@@ -85,3 +87,45 @@ is_within f admitted place i at ruled =
     let good = good_at [] f.insns (no_faults admitted.0 f admitted.1).uids place i at ruled in
     let both = and_parts (nat_le 1 i.uid) (nat_le i.uid 2147483647) good.0 in
     (leb-true 1 i.uid both.0, leb-true i.uid 2147483647 both.1)
+
+-- ---- all of them
+
+none_bad : (bad : List ℕ) → map (fault 1) bad ≡ [] → bad ≡ []
+none_bad [] is = refl
+none_bad (uid ∷ bad) is = absurd (let nothing : ⊥ = cc in nothing)
+
+-- the first is none of those before, and the rest is good behind it
+first_is_new : (before : List ℕ) (uid : ℕ) (uids : List ℕ) → bad_uids before (uid ∷ uids) ≡ [] →
+    (has_place before uid ≡ false) × (bad_uids (uid ∷ before) uids ≡ [])
+first_is_new before uid uids none = by (is_uid uid && not (has_place before uid)) refl none
+  where
+    turned : (b : Bool) → not b ≡ true → b ≡ false
+    turned true is = absurd (false≢true is)
+    turned false is = refl
+
+    by : (good : Bool) → (is_uid uid && not (has_place before uid)) ≡ good →
+        (if good then bad_uids (uid ∷ before) uids else uid ∷ bad_uids (uid ∷ before) uids) ≡ [] →
+        (has_place before uid ≡ false) × (bad_uids (uid ∷ before) uids ≡ [])
+    by true good rest = (turned (has_place before uid) (and_parts (is_uid uid) (not (has_place before uid)) good).1, rest)
+    by false bad rest = absurd (let nothing : ⊥ = cc in nothing)
+
+-- one of those before differs from all behind
+apart : (before uids : List ℕ) (x : ℕ) → bad_uids before uids ≡ [] → has_place before x ≡ true → AllByRecursion (λ y. (x == y) ≡ false) uids
+apart before [] x none has = tt
+apart before (y ∷ uids) x none has =
+    let first = first_is_new before y uids none in (
+      false_from_ne_true (x == y) (λ same. true≢false (sym (subst (λ u. has_place before u ≡ true) (eqb-true x y same) has) ∙ first.0)),
+      apart (y ∷ before) uids x first.1 (or_right (y == x) (has_place before x) has),
+    )
+
+distinct : (before uids : List ℕ) → bad_uids before uids ≡ [] → IsDistinct ◌==◌ uids
+unfolding IsDistinct
+distinct before [] none = tt
+distinct before (uid ∷ uids) none =
+    let first = first_is_new before uid uids none in
+    (apart (uid ∷ before) uids uid first.1 (or_left (uid == uid) (has_place before uid) (eq-eqb uid uid refl)), distinct (uid ∷ before) uids first.1)
+
+-- no two of the uids are the same
+pub uids_distinct : (f : Function) → IsAdmitted f → IsDistinct ◌==◌ (uids_of f.insns)
+uids_distinct f admitted =
+    distinct [] (uids_of f.insns) (none_bad (bad_uids [] (uids_of f.insns)) (no_faults admitted.0 f admitted.1).uids)

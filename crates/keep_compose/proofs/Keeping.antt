@@ -47,7 +47,7 @@ pub keeps_refl : (f : Function) → Keeps f f
 keeps_refl f = record {
   locals_are = refl;
   result_is = refl;
-  runs = λ start world n machine world_is some. (n, omega arith, outcome_refl (run_of f start world n) some);
+  runs = λ start world n machine world_is some. (n, omega arith, outcome_refl (run_of f start world n) some, λ ends. ends);
 }
 
 runs_trans : (f g h : Function) → Keeps f g → Keeps g h → (start : Start) (world : World) (n : ℕ) → IsMachineStart start →
@@ -60,6 +60,7 @@ runs_trans f g h first second start world n is_start is_world some =
       more.0,
       omega (arith, few, few'),
       outcome_trans (run_of f start world n) (run_of g start world one.0) (run_of h start world more.0) one.2 more.2,
+      λ ends. one.3 (more.3 ends),
     )
 
 pub keeps_trans : (f g h : Function) → Keeps f g → Keeps g h → Keeps f h

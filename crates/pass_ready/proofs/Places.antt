@@ -27,3 +27,8 @@ module _ {A : Type 0} (P : A → Type 0) where
   pub all_at : (xs : List A) → ((place : ℕ) (x : A) → slice_get xs place ≡ Some x → P x) → AllByRecursion P xs
   all_at [] each = tt
   all_at (x ∷ xs) each = (each zero x refl, all_at xs (λ place y at. each (suc place) y at))
+
+-- what holds of all is enough for another property of all
+pub all_weaker : {A : Type 0} (P Q : A → Type 0) → ((x : A) → P x → Q x) → (xs : List A) → AllByRecursion P xs → AllByRecursion Q xs
+all_weaker P Q step [] all = tt
+all_weaker P Q step (x ∷ xs) all = (step x all.0, all_weaker P Q step xs all.1)

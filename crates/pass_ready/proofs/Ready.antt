@@ -66,7 +66,7 @@ return_ready insns = record {
   call = λ is. absurd (let none : ⊥ = cc in none);
 }
 
-all_finished : (insns finished : List Insn) → IsFinished insns finished → AllByRecursion IsInsnReady insns → AllByRecursion IsInsnReady finished
+pub all_finished : (insns finished : List Insn) → IsFinished insns finished → AllByRecursion IsInsnReady insns → AllByRecursion IsInsnReady finished
 all_finished insns _ (IsFinished.returning reached) ready = all_joined IsInsnReady insns (return_insn insns ∷ []) ready (return_ready insns, tt)
 all_finished insns _ (IsFinished.staying never) ready = ready
 

@@ -1,6 +1,6 @@
 -- What an instruction does by registers it does by others, of which as much is known where it uses them; and of a register that it
 -- defines as much is known behind it.
-use Rattle.std.proofs.Common.{◌≡◌, ℕ, zero, suc, ◌&&◌, ◌||◌, if◌then◌else◌, Bool, true, false, List, [], ◌∷◌, Option, Some, None, refl, sym, ap, subst, ◌∙◌}
+use Rattle.std.proofs.Common.{◌≡◌, ℕ, zero, suc, ◌||◌, if◌then◌else◌, Bool, true, false, List, [], ◌∷◌, Option, Some, None, refl, sym, ap, subst, ◌∙◌}
 use Rattle.std.specs.Cmp.{nat_cmp_total}
 use Rattle.std.specs.FinMap.{get, get-insert, get-remove}
 use Rattle.std.specs.Int.{cast_unsigned, w64}
@@ -9,7 +9,7 @@ use Rattle.std.specs.Ordering.{nat_cmp, eq_by_cmp}
 use Rattle.std.specs.Prelude.{option_and_then, option_map, is_some}
 use Rattle.bits64.specs.declared.Width.{Width}
 use Rattle.bits64.specs.declared.Width.TheVariants.{W64}
-use Rattle.rtx_tree.specs.Tree.{kids_of, mentions_reg, is_reg_numbered}
+use Rattle.rtx_tree.specs.Tree.{kids_of, mentions_reg}
 use Rattle.rtx_tree.specs.declared.code.Code.{Code}
 use Rattle.rtx_tree.specs.declared.code.Code.TheVariants.{Reg, Subreg, Mem, Scratch, Set, Use, Clobber, Parallel}
 use Rattle.rtx_tree.specs.declared.machine.SymbolAt.{SymbolAt}
@@ -18,7 +18,7 @@ use Rattle.rtx_tree.specs.declared.tree.Rtx.{Rtx, out-Rtx}
 use Rattle.run_memory.specs.RunMemory.{load}
 use Rattle.rtl_step.specs.Effect as step
 use Rattle.rtl_step.specs.Effect.{reg_after, regs_after, register_of, register_by, inner_number, address_of, address_part}
-use Rattle.rtl_step.specs.Regs.{Regs, known_in, known_of, reg_value, with_reg, without_reg}
+use Rattle.rtl_step.specs.Regs.{Regs, known_in, known_of, with_reg, without_reg}
 use Rattle.rtl_step.specs.Value.{width_of, value_of, of_two}
 use Rattle.rtl_step.specs.declared.effect.Effect.{Effect}
 use Rattle.rtl_step.specs.declared.effect.Effect.TheVariants.{Nothing, Sets, Unsets, Stores}

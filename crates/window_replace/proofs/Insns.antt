@@ -1,9 +1,9 @@
 -- Jumps and calls by registers of which as much is known where they use them: they go the same way, and call the same.
-use Rattle.std.proofs.Common.{◌≡◌, ℕ, suc, ◌==◌, ◌&&◌, ◌||◌, if◌then◌else◌, Bool, true, false, List, [], ◌∷◌, Option, Some, None, refl, sym, ap, subst, ◌∙◌}
+use Rattle.std.proofs.Common.{◌≡◌, ℕ, suc, ◌==◌, ◌||◌, if◌then◌else◌, Bool, true, false, List, [], ◌∷◌, Option, Some, None, refl, sym, ap, subst, ◌∙◌}
 use Rattle.std.proofs.Common.{arith}
 use Rattle.std.proofs.lemmas.Bool.Decides.{nat_tests}
 use Rattle.std.specs.List.{list_all, list_any}
-use Rattle.std.specs.Prelude.{option_and_then, option_map}
+use Rattle.std.specs.Prelude.{option_and_then}
 use Rattle.bits64.specs.declared.Width.{Width}
 use Rattle.bits64.specs.declared.Width.TheVariants.{W64}
 use Rattle.rtx_tree.specs.Patterns.{is_pc, label_of}
@@ -21,10 +21,8 @@ use Rattle.rtl_step.specs.Effect.{address_part}
 use Rattle.rtl_step.specs.Jump as jump
 use Rattle.rtl_step.specs.Jump.{jump_of}
 use Rattle.rtl_step.specs.Regs.{Regs, reg_value}
-use Rattle.rtl_step.specs.Value.{width_of, value_of, of_two}
+use Rattle.rtl_step.specs.Value.{width_of, value_of}
 use Rattle.rtl_step.specs.declared.call.ArgValue.{ArgValue}
-use Rattle.rtl_step.specs.declared.call.CallEvent.{CallEvent}
-use Rattle.rtl_step.specs.declared.jump.Way.{Way}
 use Rattle.reg_uses.specs.Effects.{reads, place_reads, effect_uses_by, effects_by, all_use, pattern_uses}
 use Rattle.reg_uses.specs.Uses.{has_argument}
 use Rattle.window_keep.specs.Same.{KnownToo}

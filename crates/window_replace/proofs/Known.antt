@@ -1,6 +1,6 @@
 -- What has a value by registers has it by others of which as much is known.
 use Rattle.std.proofs.lemmas.Bool.Decides.{nat_tests}
-use Rattle.std.proofs.Common.{◌≡◌, ℕ, zero, suc, ◌==◌, ◌&&◌, ◌||◌, not, Bool, true, false, List, [], ◌∷◌, map, Option, Some, None, refl, sym, ◌∙◌, ap, subst, arith, tests}
+use Rattle.std.proofs.Common.{◌≡◌, ℕ, zero, suc, ◌==◌, ◌&&◌, ◌||◌, Bool, true, false, List, [], ◌∷◌, map, Option, Some, None, refl, sym, ◌∙◌, ap, subst, arith, tests}
 use Rattle.std.specs.Prelude.{ℤ, pos, negsuc, option_and_then, option_map}
 use Rattle.std.specs.Int.{cast_unsigned, w64}
 use Rattle.std.specs.List.{list_all, list_any}
@@ -14,11 +14,11 @@ use Rattle.rtx_tree.specs.declared.code.Code.{Code}
 use Rattle.rtx_tree.specs.declared.code.Code.TheVariants as code
 use Rattle.rtx_tree.specs.declared.machine.SymbolAt.{SymbolAt}
 use Rattle.rtx_tree.specs.declared.memories.MemByte.{MemByte}
-use Rattle.rtx_tree.specs.declared.tree.Rtx.{Rtx, roll-Rtx, out-Rtx}
-use Rattle.rtx_tree.specs.declared.tree.Rtx.TheFolds.{fold-roll-Rtx, fold_out-Rtx, ind-Rtx, map-Rtx}
+use Rattle.rtx_tree.specs.declared.tree.Rtx.{Rtx, roll-Rtx}
+use Rattle.rtx_tree.specs.declared.tree.Rtx.TheFolds.{fold-roll-Rtx, ind-Rtx, map-Rtx}
 use Rattle.rtx_tree.specs.declared.tree.Rtx.TheOpen.{Rtx-F}
 use Rattle.run_memory.specs.RunMemory.{load}
-use Rattle.rtl_step.specs.Regs.{Regs, reg_value}
+use Rattle.rtl_step.specs.Regs.{Regs}
 use Rattle.rtl_step.specs.Value as rtl
 use Rattle.rtl_step.specs.Value.{Reading, of_two, of_one, of_converted, of_compared, compared, converted, first_width, count_width, value_of}
 use Rattle.window_keep.specs.Same.{KnownToo}

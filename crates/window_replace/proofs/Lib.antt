@@ -14,4 +14,5 @@ pub mod Traverse
 pub mod Window
 pub mod Inside
 pub mod Walk
+pub mod Ends
 pub mod Replacing

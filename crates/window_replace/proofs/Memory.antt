@@ -1,5 +1,5 @@
 -- What a step of a function writes into a memory leaves a memory.
-use Rattle.std.proofs.Common.{◌≡◌, ℕ, zero, suc, ◌<◌, ◌^◌, ◌%◌, ◌/◌, ◌+◌, ◌==◌, arith, if◌then◌else◌, Bool, true, false, List, [], ◌∷◌, Option, Some, None}
+use Rattle.std.proofs.Common.{ℕ, zero, suc, ◌<◌, ◌^◌, ◌%◌, ◌/◌, ◌+◌, ◌==◌, arith, if◌then◌else◌, Bool, true, false, List, [], ◌∷◌, Option, Some, None}
 use Rattle.std.specs.Prelude.{unwrap_or, option_map}
 use Rattle.std.proofs.lemmas.List.Elements.{All-map, All-weaker}
 use Rattle.bits64.specs.declared.Width.{Width}
@@ -7,7 +7,7 @@ use Rattle.bits64.specs.Words.{bytes_of}
 use Rattle.rtx_tree.specs.Memories.{with_byte, with_byte_here}
 use Rattle.rtx_tree.specs.declared.memories.MemByte.{MemByte}
 use Rattle.rtx_tree.proofs.MemoryPlaces.{ordered_stays}
-use Rattle.run_memory.specs.RunMemory.{load, store, with_number}
+use Rattle.run_memory.specs.RunMemory.{load, with_number}
 use Rattle.rtl_step.specs.Effect.{bytes_after, memory_after}
 use Rattle.rtl_step.specs.declared.effect.Effect.{Effect}
 use Rattle.rtl_step.specs.declared.effect.Effect.TheVariants.{Nothing, Sets, Unsets, Stores}

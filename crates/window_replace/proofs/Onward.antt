@@ -1,5 +1,5 @@
 -- What both runs do at once: they go on, are at a call, or return.
-use Rattle.std.proofs.Common.{◌≡◌, ℕ, zero, suc, ◌+◌, ◌≤◌, ◌==◌, ◌||◌, ◌&&◌, arith, if◌then◌else◌, Bool, true, false, drop, length, map, List, [], ◌∷◌, ◌++◌, Option, Some, None, refl, sym, ap, subst, ◌∙◌}
+use Rattle.std.proofs.Common.{◌≡◌, ℕ, zero, suc, ◌+◌, ◌≤◌, ◌==◌, ◌&&◌, arith, if◌then◌else◌, Bool, true, false, drop, length, List, [], ◌∷◌, Option, Some, None, refl, sym, ap, subst, ◌∙◌}
 use Rattle.std.specs.Prelude.{slice_get, option_and_then, is_some}
 use Rattle.std.specs.List.{All}
 use Rattle.std.proofs.lemmas.List.Elements.{All-head, All-tail}
@@ -12,21 +12,22 @@ use Rattle.rtx_tree.specs.declared.code.Mode.{Mode}
 use Rattle.rtx_tree.specs.declared.function.Insn.{Insn}
 use Rattle.rtx_tree.specs.declared.machine.Reply.{Reply}
 use Rattle.run_memory.specs.RunMemory.{visible, written}
-use Rattle.rtl_step.specs.Call.{regs_replied}
 use Rattle.rtl_step.specs.Regs.{Regs, reg_value}
 use Rattle.rtl_step.specs.Step as rtl
-use Rattle.rtl_step.specs.Step.{step, after_goes, after_reply, next_reply, after_return, has_result, result_of}
+use Rattle.rtl_step.specs.Step.{Stepped, step, after_goes, after_reply, next_reply, after_return, has_result, result_of}
 use Rattle.rtl_step.specs.Value.{width_of}
 use Rattle.rtl_step.specs.declared.call.CallEvent.{CallEvent}
 use Rattle.rtl_step.specs.declared.step.State.{State}
 use Rattle.rtl_step.specs.declared.step.StepEnd.{StepEnd}
 use Rattle.rtl_step.specs.declared.step.StepEnd.TheVariants as ends
 use Rattle.func_mean.specs.Run as func
+use Rattle.func_mean.specs.Run.{goes_on}
 use Rattle.rv_regs.specs.Registers.{kept_registers}
 use Rattle.reg_uses.specs.Uses.{function_sets, return_uses}
 use Rattle.live.specs.Live.{IsLive}
-use Rattle.same_behaviour.specs.Lawful.{IsByte, IsMemory}
+use Rattle.same_behaviour.specs.Lawful.{IsMemory}
 use Rattle.func_keep.specs.Keeps.{IsMachineReply}
+use Rattle.func_keep.specs.Ends.{is_past}
 use Rattle.func_keep.specs.Outcomes.{SameEvent, SameEvents, SameOutcome, KeptToo}
 use Rattle.keep_compose.proofs.Events.{events_more}
 use Rattle.window_keep.specs.Same.{KnownToo}
@@ -38,9 +39,10 @@ use Rattle.window_same.proofs.Small.{◌also◌}
 use Rattle.window_replace.proofs.Known.{or_later}
 use Rattle.window_replace.proofs.Machine.{turn_ends, one_weighs, then_one}
 use Rattle.window_replace.proofs.Replied.{replied_too}
-use Rattle.window_replace.proofs.Setting.{Setting, new_of, Alike, Related, outside, Moves, Simulates, EndsWell, Onward}
+use Rattle.window_replace.proofs.Setting.{Setting, new_of, Alike, Related, outside, Past, Moves, Simulates, EndsWell, Onward}
 use Rattle.window_replace.proofs.Stands.{Stands, stands_at}
-use Rattle.window_replace.proofs.Twins.{Both, twin}
+use Rattle.window_replace.proofs.Twins.{twin}
+use Rattle.window_replace.specs.Replaced.{AreReplaced}
 
 -- ---- what a list has
 
@@ -79,7 +81,7 @@ kept_too a b (r ∷ regs) all (suc i) number is = kept_too a b regs all.1 i numb
 module _ (c : Setting) where
   -- a step without a value
   pub never : (s s' : State) → step c.world c.f s ≡ (ends.Undefined, s') → EndsWell c s → ⊥
-  never s s' is well = well ends.Undefined s' is refl refl
+  never s s' is well = well.good ends.Undefined s' is refl refl
 
   pub go_both : (s s' t t1 t' : State) (e : StepEnd) (k : ℕ) → step c.world c.f s ≡ (e, s') → func.goes_on e ≡ true → Moves c k t t1 →
       step c.world (new_of c) t1 ≡ (e, t') → Related c s' t' → Simulates c s t
@@ -89,14 +91,17 @@ module _ (c : Setting) where
 
   pub end_both : (s s' t t1 t' : State) (e : StepEnd) (k : ℕ) → step c.world c.f s ≡ (e, s') → func.goes_on e ≡ false →
       Moves c k t t1 → step c.world (new_of c) t1 ≡ (e, t') → SameOutcome (func.ended c.f e s') (func.ended (new_of c) e t') →
-      Simulates c s t
-  end_both s s' t t1 t' e k is over led is' same =
-      machine.ends_there e s' k t1 (func.ended (new_of c) e t') is over led tt (turn_ends c.world (new_of c) t1 t' e is' over)
-      (one_weighs c.world (new_of c) k t t1 t' e led is') same
+      (is_past (new_of c) t1 ≡ true → Past c) → Simulates c s t
+  end_both s s' t t1 t' e k is over led is' same past =
+      machine.ends_there e s' k t1 (func.ended (new_of c) e t', is_past (new_of c) t1) is over led tt (turn_ends c.world (new_of c) t1 t' e is' over)
+      (one_weighs c.world (new_of c) k t t1 t' e led is') (same, past)
+
+  pub not_there : (t : State) → is_past (new_of c) t ≡ false → is_past (new_of c) t ≡ true → Past c
+  not_there t before past = absurd (let no : true ≡ false = sym past ∙ before in let none : ⊥ = cc in none)
 
   -- ---- places that correspond
 
-  pub onward_at : (xs ys : List Insn) (q other : ℕ) → Both c.window c.new c.back xs ys → drop q c.f.insns ≡ xs →
+  pub onward_at : (xs ys : List Insn) (q other : ℕ) → AreReplaced c.f q xs ys → drop q c.f.insns ≡ xs →
       q ≤ length c.f.insns → drop other (new_of c).insns ≡ ys → other ≤ length (new_of c).insns → Onward c q other
   onward_at xs ys q other both there within there' within' s t at at' alike =
       outside xs ys q other both (subst (λ n. Stands c.f.insns n xs q) (sym at) (stands_at c.f.insns q xs there within))
@@ -109,15 +114,13 @@ module _ (c : Setting) where
   pub label_onward : (uid q : ℕ) → place_of uid c.f.insns ≡ Some q →
       (other : ℕ) × (place_of uid (new_of c).insns ≡ Some other) × Onward c q other
   label_onward uid q is =
-      let at = twin uid c.window c.new c.back c.replace.before_leads c.replace.after_leads 0 c.front q
-      (sym (ap (place_of uid) c.chain_is) ∙ is) in
+      let at = twin uid c.f c.f.insns c.insns 0 0 0 q c.replaced is in
       let here : q ≡ at.by = at.place_is ∙ from_zero at.by in (
         at.by_other,
         at.other_is ∙ ap Some (from_zero at.by_other),
-        onward_at (drop at.by (c.front ++ (c.window ++ c.back))) (drop at.by_other (new_of c).insns) q at.by_other at.both
-            (ap (λ n. drop n c.f.insns) here ∙ ap (drop at.by) c.chain_is)
-            (subst (λ n. n ≤ length c.f.insns) (sym here) (subst (λ insns. at.by ≤ length insns) (sym c.chain_is) at.within))
-            refl at.within_other,
+        onward_at (drop at.by c.f.insns) (drop at.by_other (new_of c).insns) q at.by_other
+            (subst (λ p. AreReplaced c.f p (drop at.by c.f.insns) (drop at.by_other c.insns)) (sym at.place_is) at.both)
+            (ap (λ n. drop n c.f.insns) here) (subst (λ n. n ≤ length c.f.insns) (sym here) at.within) refl at.within_other,
       )
 
   -- both states at other places
@@ -176,11 +179,11 @@ module _ (c : Setting) where
 
   calls_by : (s t t1 : State) (k q other : ℕ) (event event' : CallEvent) (w : Width) (o : Option Reply) → next_reply c.world s ≡ o →
       step c.world c.f s ≡ after_reply s q w event o → Moves c k t t1 → step c.world (new_of c) t1 ≡ after_reply t1 other w event' o →
-      SameEvent event event' → AtCall s t1 q → Onward c (q + 1) (other + 1) → Simulates c s t
-  calls_by s t t1 k q other event event' w None none is led is' same at onward =
+      SameEvent event event' → AtCall s t1 q → Onward c (q + 1) (other + 1) → is_past (new_of c) t1 ≡ false → Simulates c s t
+  calls_by s t t1 k q other event event' w None none is led is' same at onward before =
       end_both s (rtl.asked s event).1 t t1 (rtl.asked t1 event').1 ends.Asked k is refl led is'
-      (events_more s.calls t1.calls event event' at.calls_are same)
-  calls_by s t t1 k q other event event' w (Some reply) some is led is' same at onward =
+      (events_more s.calls t1.calls event event' at.calls_are same) (not_there t1 before)
+  calls_by s t t1 k q other event event' w (Some reply) some is led is' same at onward before =
       go_both s (rtl.replied s q w event reply).1 t t1 (rtl.replied t1 other w event' reply).1 ends.Called k is refl led is'
       (onward (rtl.replied s q w event reply).1 (rtl.replied t1 other w event' reply).1 refl refl
       (behind_reply s t1 q other w event event' reply at same
@@ -190,10 +193,10 @@ module _ (c : Setting) where
   pub calls_both : (s t t1 : State) (k q other : ℕ) (event event' : CallEvent) (w : Width) →
       step c.world c.f s ≡ after_reply s q w event (next_reply c.world s) → Moves c k t t1 →
       step c.world (new_of c) t1 ≡ after_reply t1 other w event' (next_reply c.world t1) → SameEvent event event' → AtCall s t1 q →
-      Onward c (q + 1) (other + 1) → Simulates c s t
-  calls_both s t t1 k q other event event' w is led is' same at onward =
+      Onward c (q + 1) (other + 1) → is_past (new_of c) t1 ≡ false → Simulates c s t
+  calls_both s t t1 k q other event event' w is led is' same at onward before =
       calls_by s t t1 k q other event event' w (next_reply c.world s) refl is led
-      (is' ∙ ap (λ n. after_reply t1 other w event' (slice_get c.world.replies n)) at.calls_are.long) same at onward
+      (is' ∙ ap (λ n. after_reply t1 other w event' (slice_get c.world.replies n)) at.calls_are.long) same at onward before
 
   -- ---- returns
 
@@ -213,10 +216,11 @@ module _ (c : Setting) where
 
   returns_by : (s t : State) (q : ℕ) (has : Bool) → has_result c.f.result s.regs ≡ has → Alike c q s t →
       ((reg : ℕ) → return_uses c.f reg ≡ true → KnownToo s.regs t.regs reg) → step c.world c.f s ≡ after_return c.f.result s →
-      step c.world (new_of c) t ≡ after_return c.f.result t → EndsWell c s → Simulates c s t
-  returns_by s t q false none alike used is is' well =
+      step c.world (new_of c) t ≡ after_return c.f.result t → EndsWell c s →
+      (is_past (new_of c) t ≡ true → goes_on (step c.world c.f s).0 ≡ false → Past c) → Simulates c s t
+  returns_by s t q false none alike used is is' well past =
       absurd (never s s (is ∙ ap (λ b. if b then (ends.Returned, s) else (ends.Undefined, s)) none) well)
-  returns_by s t q true has alike used is is' well =
+  returns_by s t q true has alike used is is' well past =
       let result = same_result c.f.result s.regs t.regs (λ some. used 10 (result_used c.f some)) has in
       let has' = has_too c.f.result s.regs t.regs result has in
       end_both s s t t t ends.Returned 0 (is ∙ ap (λ b. if b then (ends.Returned, s) else (ends.Undefined, s)) has) refl
@@ -225,10 +229,12 @@ module _ (c : Setting) where
         ap (λ ranges. visible ranges t.memory) alike.visible_is ∙ ap (visible s.visible) alike.memory_is,
         alike.calls_are,
         kept_too s.regs t.regs func.kept_registers (all_kept s t q alike used),
-      )
+      ) (λ ends_there. past ends_there (ap (λ (x : Stepped). goes_on x.0) (is ∙
+      ap (λ b. if b then (ends.Returned, s) else (ends.Undefined, s)) has)))
 
   -- both return
   pub returns_both : (s t : State) (q : ℕ) → Alike c q s t →
       ((reg : ℕ) → return_uses c.f reg ≡ true → KnownToo s.regs t.regs reg) → step c.world c.f s ≡ after_return c.f.result s →
-      step c.world (new_of c) t ≡ after_return c.f.result t → EndsWell c s → Simulates c s t
-  returns_both s t q alike used is is' well = returns_by s t q (has_result c.f.result s.regs) refl alike used is is' well
+      step c.world (new_of c) t ≡ after_return c.f.result t → EndsWell c s →
+      (is_past (new_of c) t ≡ true → goes_on (step c.world c.f s).0 ≡ false → Past c) → Simulates c s t
+  returns_both s t q alike used is is' well past = returns_by s t q (has_result c.f.result s.regs) refl alike used is is' well past

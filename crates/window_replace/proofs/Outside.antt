@@ -18,7 +18,7 @@ use Rattle.rtl_step.specs.Effect.{effects_of, regs_after, memory_after}
 use Rattle.rtl_step.specs.Jump as jump
 use Rattle.rtl_step.specs.Jump.{jump_of}
 use Rattle.rtl_step.specs.Regs.{Regs}
-use Rattle.rtl_step.specs.Step.{step, act, after_effects, after_goes, after_jump, after_event, after_reply, next_reply, is_mark}
+use Rattle.rtl_step.specs.Step.{step, act, after_effects, after_jump, after_event, is_mark}
 use Rattle.rtl_step.specs.Value.{of_two, value_of}
 use Rattle.rtl_step.specs.declared.call.CallEvent.{CallEvent}
 use Rattle.rtl_step.specs.declared.effect.Effect.{Effect}
@@ -30,6 +30,7 @@ use Rattle.rtl_func.specs.Paths.{leads}
 use Rattle.reg_uses.specs.Effects.{pattern_uses, pattern_defines}
 use Rattle.reg_uses.specs.Uses.{insn_uses, insn_defines, has_argument, is_call_kind, is_return, is_return_code, return_uses}
 use Rattle.live.specs.Live.{IsLive, AtUse, Passing}
+use Rattle.func_keep.specs.Ends.{is_past}
 use Rattle.keep_compose.proofs.Events.{event_refl}
 use Rattle.window_keep.specs.Same.{KnownToo}
 use Rattle.window_same.proofs.Leads as leads_by
@@ -41,9 +42,9 @@ use Rattle.window_replace.proofs.Insns.{jump_too, event_too}
 use Rattle.window_replace.proofs.Known.{or_first, or_later}
 use Rattle.window_replace.proofs.Memory.{memory_effects}
 use Rattle.window_replace.proofs.Onward as onward
-use Rattle.window_replace.proofs.Onward.{never, go_both, falls_both, jumps_both, calls_both, returns_both}
+use Rattle.window_replace.proofs.Onward.{never, not_there, go_both, falls_both, jumps_both, calls_both, returns_both}
 use Rattle.window_replace.proofs.Setting.{Setting, new_of, Alike, Simulates, EndsWell, Onward}
-use Rattle.window_replace.proofs.Stands.{Stands, step_is, there_is}
+use Rattle.window_replace.proofs.Stands.{Stands, step_is, there_is, not_past}
 
 -- ---- what leaves a function is a return
 
@@ -111,7 +112,7 @@ call_not : kind.Call ≢ kind.Jump
 call_not is = cc
 
 module _ (c : Setting) (s t : State) (q other : ℕ) (i : Insn) (there : slice_get c.f.insns q ≡ Some i) (alike : Alike c q s t)
-    (go_on : Onward c (q + 1) (other + 1)) (well : EndsWell c s) where
+    (go_on : Onward c (q + 1) (other + 1)) (well : EndsWell c s) (before : is_past (new_of c) t ≡ false) where
   abbrev symbols : List SymbolAt
   symbols = c.world.symbols
 
@@ -193,6 +194,7 @@ module _ (c : Setting) (s t : State) (q other : ℕ) (i : Insn) (there : slice_g
   way_by _ leads_by.leaves_it goes goes' jumps is is' =
       returns_both c s t q alike (λ reg uses. return_known reg (leaves_is symbols s.regs s.memory i goes) uses)
       (is ∙ ap (after_jump c.f s q) goes) (is' ∙ ap (after_jump (new_of c) t other) goes') well
+      (λ past over. not_there c t before past)
 
   jump_by : (o : Option Way) → jump_of symbols s.regs s.memory i.pattern ≡ o → i.kind ≡ kind.Jump →
       step c.world c.f s ≡ act kind.Jump c.world c.f i q s →
@@ -233,7 +235,7 @@ module _ (c : Setting) (s t : State) (q other : ℕ) (i : Insn) (there : slice_g
       event_too symbols s.regs t.regs s.memory s.visible i.pattern i.uses (c.natural q i there) uses_known args_known event is_event in
       calls_both c s t t 0 q other event event w is (machine.stays t)
       (is' ∙ ap (λ w. after_event c.world t other w (event_of symbols t.regs t.memory t.visible i.pattern i.uses)) width_is ∙
-      ap (after_event c.world t other (Some w)) too) (event_refl event) (at_call event is_event calls) go_on
+      ap (after_event c.world t other (Some w)) too) (event_refl event) (at_call event is_event calls) go_on before
 
   -- ---- whatever it is
 
@@ -251,5 +253,6 @@ pub insn_both : (c : Setting) (s t : State) (q other : ℕ) (i : Insn) (xs ys : 
     Stands (new_of c).insns t.next (i ∷ ys) other → is_mark i.kind ≡ false → Alike c q s t → Onward c (q + 1) (other + 1) →
     EndsWell c s → Simulates c s t
 insn_both c s t q other i xs ys stands stands' none alike go_on well =
-    by_kind c s t q other i (there_is c.f.insns s.next i xs q stands) alike go_on well i.kind refl none
+    by_kind c s t q other i (there_is c.f.insns s.next i xs q stands) alike go_on well
+    (not_past (new_of c) t i ys other i.kind stands' none refl) i.kind refl none
     (step_is c.world c.f s i xs q i.kind stands none refl) (step_is c.world (new_of c) t i ys other i.kind stands' none refl)

@@ -1,13 +1,13 @@
 -- What is known of registers behind a reply.
-use Rattle.std.proofs.Common.{◌≡◌, ℕ, zero, suc, ◌==◌, not, cond, if◌then◌else◌, Bool, true, false, Option, Some, None, refl, sym, ap, ◌∙◌}
+use Rattle.std.proofs.Common.{◌≡◌, ℕ, zero, suc, not, cond, if◌then◌else◌, Bool, true, false, Option, Some, None, refl, sym, ap, ◌∙◌}
 use Rattle.std.specs.Cmp.{nat_cmp_total}
 use Rattle.std.specs.FinMap.{get, get-insert}
 use Rattle.std.specs.Ordering.{nat_cmp, eq_by_cmp}
 use Rattle.std.specs.Prelude.{option_and_then}
 use Rattle.bits64.specs.declared.Width.{Width}
 use Rattle.rtx_tree.specs.Registers.{is_call_used}
-use Rattle.rtl_step.specs.Call.{regs_replied, result_register}
-use Rattle.rtl_step.specs.Regs.{Regs, known_in, known_of, reg_value, preserved}
+use Rattle.rtl_step.specs.Call.{regs_replied}
+use Rattle.rtl_step.specs.Regs.{Regs, known_in, known_of, preserved}
 use Rattle.rtl_step.specs.declared.regs.Known.{Known}
 use Rattle.rtl_step.proofs.Registers.{get_kept}
 use Rattle.window_keep.specs.Same.{KnownToo}

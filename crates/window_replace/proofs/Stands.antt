@@ -1,12 +1,13 @@
 -- Where the run of a function stands in its chain: labels and barriers are passed over.
-use Rattle.std.proofs.Common.{◌≡◌, ◌≢◌, ℕ, ◌+◌, ◌≤◌, ◌<◌, arith, if◌then◌else◌, Bool, true, false, drop, length, List, [], ◌∷◌, Option, Some, None, refl, sym, ap, ◌∙◌}
-use Rattle.std.specs.Prelude.{slice_get}
+use Rattle.std.proofs.Common.{◌≡◌, ℕ, ◌+◌, ◌≤◌, arith, if◌then◌else◌, true, false, drop, length, List, [], ◌∷◌, Option, Some, None, ap, ◌∙◌, Bool}
+use Rattle.std.specs.Prelude.{not, is_some, slice_get}
 use Rattle.rtx_tree.specs.declared.function.Function.{Function}
 use Rattle.rtx_tree.specs.declared.function.Insn.{Insn}
 use Rattle.rtx_tree.specs.declared.function.Kind.{Kind}
 use Rattle.rtx_tree.specs.declared.machine.World.{World}
 use Rattle.rtl_step.specs.Step.{step, act, act_at, after_return, is_mark, passed, place_from}
 use Rattle.rtl_step.specs.declared.step.State.{State}
+use Rattle.func_keep.specs.Ends.{is_past}
 use Rattle.same_behaviour.proofs.Places.{get_dropped, get_past, end_dropped, drop_next, within_dropped}
 
 -- The rest of a chain begins at a place, and the first instruction from another place on is the rest's first.
@@ -66,3 +67,21 @@ step_returns world f s q stands = step_at world f s q None stands.passes (get_pa
 
 pub end_is : (insns : List Insn) (next q : ℕ) → Stands insns next [] q → q ≡ length insns
 end_is insns next q s = end_dropped insns q s.within s.there
+
+-- ---- the end of the chain
+
+abbrev is_none : Option Insn → Bool
+is_none o = not (is_some o)
+
+past_by : (f : Function) (s : State) (q : ℕ) (o : Option Insn) → place_from f.insns s.next ≡ q → slice_get f.insns q ≡ o →
+    is_past f s ≡ is_none o
+past_by f s q o is there = ap (λ p. is_none (slice_get f.insns p)) is ∙ ap is_none there
+
+pub not_past : (f : Function) (s : State) (i : Insn) (rest : List Insn) (q : ℕ) (k : Kind) → Stands f.insns s.next (i ∷ rest) q →
+    is_mark k ≡ false → i.kind ≡ k → is_past f s ≡ false
+not_past f s i rest q k stands none is =
+    past_by f s q (Some i) (stands.passes ∙ ap (λ b. if b then passed rest (q + 1) else q) (ap is_mark is ∙ none))
+    (there_is f.insns s.next i rest q stands)
+
+pub past_end : (f : Function) (s : State) (q : ℕ) → Stands f.insns s.next [] q → is_past f s ≡ true
+past_end f s q stands = past_by f s q None stands.passes (get_past f.insns q stands.there)

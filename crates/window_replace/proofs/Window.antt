@@ -16,8 +16,7 @@ use Rattle.rtx_tree.specs.declared.machine.RangeAt.{RangeAt}
 use Rattle.rtx_tree.specs.declared.memories.MemByte.{MemByte}
 use Rattle.rtx_tree.specs.declared.tree.Rtx.{Rtx, out-Rtx}
 use Rattle.rtl_step.specs.Call.{event_of, result_width}
-use Rattle.rtl_step.specs.Effect as step
-use Rattle.rtl_step.specs.Effect.{effects_of, regs_after, memory_after, register_of, register_by, inner_number}
+use Rattle.rtl_step.specs.Effect.{effects_of, regs_after, memory_after, register_by, inner_number}
 use Rattle.rtl_step.specs.Jump.{jump_of}
 use Rattle.rtl_step.specs.Regs.{Regs, reg_value}
 use Rattle.rtl_step.specs.Step.{is_mark}
@@ -29,7 +28,7 @@ use Rattle.rtl_step.specs.declared.jump.Way.TheVariants as way
 use Rattle.rtl_func.specs.Paths.{leads}
 use Rattle.reg_uses.specs.Effects as uses
 use Rattle.reg_uses.specs.Effects.{place_is, place_is_by, pattern_defines}
-use Rattle.reg_uses.specs.Uses.{insn_uses, insn_defines, insn_sets, function_sets, is_call_kind}
+use Rattle.reg_uses.specs.Uses.{insn_uses, insn_defines, insn_sets, function_sets}
 use Rattle.live.specs.Live.{IsLive, IsLiveAfter, AtUse, Passing}
 use Rattle.same_behaviour.proofs.Places.{get_dropped, drop_next}
 use Rattle.window_mean.specs.Insns as window
@@ -92,7 +91,7 @@ named_in Parallel x natural = all_named (kids_of x) (natural_kids x natural)
 named_in _ x natural = all_named (x ∷ []) (ap (λ b. b && true) natural)
 
 -- each `set` of a pattern names its register
-sets_named : (x : Rtx) → all_natural x ≡ true → All PartNamed (uses.effects_of x)
+pub sets_named : (x : Rtx) → all_natural x ≡ true → All PartNamed (uses.effects_of x)
 sets_named x natural = named_in (out-Rtx x).code x natural
 
 -- ---- small laws
@@ -124,15 +123,15 @@ plain_jumps_not kind.Jump is = absurd (let no : ⊥ = cc in no)
 plain_jumps_not kind.Call is = absurd (let no : ⊥ = cc in no)
 plain_jumps_not kind.Label is = absurd (let no : ⊥ = cc in no)
 
-module _ (c : Setting) where
+module _ (c : Setting) (back : List Insn) (end : ℕ) where
   -- the rest of the window from a place on
   abbrev Rest : List Insn → ℕ → Type 0
-  Rest rest q = drop q c.f.insns ≡ rest ++ c.back
+  Rest rest q = drop q c.f.insns ≡ rest ++ back
 
   -- one that is not the last leads to the next
   goes_next : (i j : Insn) (rest : List Insn) (q : ℕ) → Rest (i ∷ j ∷ rest) q → leads_last (i ∷ j ∷ rest) ≡ true →
       leads c.f.insns q (q + 1) ≡ true
-  goes_next i j rest q at led = leads_on c.f.insns q i (get_dropped c.f.insns q i (j ∷ (rest ++ c.back)) at)
+  goes_next i j rest q at led = leads_on c.f.insns q i (get_dropped c.f.insns q i (j ∷ (rest ++ back)) at)
       (plain_jumps_not i.kind (both_of (is_plain i.kind) _ led).0)
 
   -- ---- what a window uses is live before it
@@ -141,12 +140,12 @@ module _ (c : Setting) where
       leads_last (i ∷ rest) ≡ true → b || (not (insn_defines i reg) && window_uses rest reg) ≡ true →
       (window_uses rest reg ≡ true → IsLive c.f reg (q + 1)) → IsLive c.f reg q
   uses_by i rest q reg true is at led some later =
-      AtUse q i (get_dropped c.f.insns q i (rest ++ c.back) at) (or_first (insn_uses i reg) _ is)
+      AtUse q i (get_dropped c.f.insns q i (rest ++ back) at) (or_first (insn_uses i reg) _ is)
   uses_by i [] q reg false is at led some later =
       absurd (let no : false ≡ true = (both_of (not (insn_defines i reg)) false some).1 in let none : ⊥ = cc in none)
   uses_by i (j ∷ rest) q reg false is at led some later =
       let both = both_of (not (insn_defines i reg)) _ some in
-      Passing q (q + 1) i (get_dropped c.f.insns q i (j ∷ (rest ++ c.back)) at) (not_true (insn_defines i reg) both.0)
+      Passing q (q + 1) i (get_dropped c.f.insns q i (j ∷ (rest ++ back)) at) (not_true (insn_defines i reg) both.0)
       (goes_next i j rest q at led) (later both.1)
     where
       not_true : (b : Bool) → not b ≡ true → b ≡ false
@@ -158,21 +157,21 @@ module _ (c : Setting) where
   uses_live [] q reg at led some = absurd (let no : ⊥ = cc in no)
   uses_live (i ∷ rest) q reg at led some =
       uses_by i rest q reg (insn_uses i reg) refl at led some
-      (λ more. uses_live rest (q + 1) reg (drop_next c.f.insns q i (rest ++ c.back) at) (rest_leads i rest led) more)
+      (λ more. uses_live rest (q + 1) reg (drop_next c.f.insns q i (rest ++ back) at) (rest_leads i rest led) more)
 
   -- ---- what is live behind a window and not defined in it is live before it
 
   pub passed_live : (rest : List Insn) (q reg : ℕ) → Rest rest q → leads_last rest ≡ true → 0 < length rest →
-      q + length rest ≡ c.last + 1 → IsLiveAfter c.f reg c.last → window_defines rest reg ≡ false → IsLive c.f reg q
+      q + length rest ≡ end + 1 → IsLiveAfter c.f reg end → window_defines rest reg ≡ false → IsLive c.f reg q
   passed_live [] q reg at led some last lives none = absurd (omega (arith, some))
   passed_live (i ∷ []) q reg at led some last lives none =
-      let here : c.last ≡ q = omega (arith, last) in
-      Passing q lives.0 i (get_dropped c.f.insns q i c.back at) (either_false (insn_defines i reg) false none).0
+      let here : end ≡ q = omega (arith, last) in
+      Passing q lives.0 i (get_dropped c.f.insns q i back at) (either_false (insn_defines i reg) false none).0
       (subst (λ p. leads c.f.insns p lives.0 ≡ true) here lives.1) lives.2
   passed_live (i ∷ j ∷ rest) q reg at led some last lives none =
       let both = either_false (insn_defines i reg) _ none in
-      Passing q (q + 1) i (get_dropped c.f.insns q i (j ∷ (rest ++ c.back)) at) both.0 (goes_next i j rest q at led)
-      (passed_live (j ∷ rest) (q + 1) reg (drop_next c.f.insns q i (j ∷ (rest ++ c.back)) at) (rest_leads i (j ∷ rest) led)
+      Passing q (q + 1) i (get_dropped c.f.insns q i (j ∷ (rest ++ back)) at) both.0 (goes_next i j rest q at led)
+      (passed_live (j ∷ rest) (q + 1) reg (drop_next c.f.insns q i (j ∷ (rest ++ back)) at) (rest_leads i (j ∷ rest) led)
       (omega arith) (omega (arith, last)) lives both.1)
 
   -- ---- of a register that no `set` sets no more is known behind a window, and then the window does not define it
@@ -268,6 +267,6 @@ module _ (c : Setting) where
         let same : come_to regs memory window.Falls ≡ came = cc in
         (refl, ap (λ (x : InsnsCome). reg_value x.regs reg w) same ∙ known)
     window_left (i ∷ rest) q regs memory at led comes =
-        left_by i rest q regs memory (get_dropped c.f.insns q i (rest ++ c.back) at)
-        (λ regs memory more. window_left rest (q + 1) regs memory (drop_next c.f.insns q i (rest ++ c.back) at)
+        left_by i rest q regs memory (get_dropped c.f.insns q i (rest ++ back) at)
+        (λ regs memory more. window_left rest (q + 1) regs memory (drop_next c.f.insns q i (rest ++ back) at)
         (rest_leads i rest led) more) i.kind refl led comes

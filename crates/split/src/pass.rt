@@ -4,10 +4,12 @@ ghost use Rattle.rtx_tree.specs.declared.function.Function.{Function};
 ghost use Rattle.rtx_tree.specs.declared.function.Insn.{Insn};
 ghost use Rattle.rtl_chain.specs.Counts.{next_pseudo};
 ghost use Rattle.md_forms.specs.declared.form.Entry.{Entry};
+ghost use Rattle.pass_ready.specs.Left.{SameMarks};
+ghost use Rattle.pass_ready.specs.Reloadable.{UidsDiffer};
 ghost use Rattle.pass_refusal.specs.Outcome.{Gives};
 ghost use Rattle.split.specs.Split as spec;
 ghost use Rattle.split.specs.Split.{Answer, IsSplit, SplitComes, most_splits};
-ghost use Rattle.split.specs.Left.{AreLeft, SameMarks, AreOldOrNew, UidsDiffer, AreNatural};
+ghost use Rattle.split.specs.Left.{AreLeft, AreOldOrNew, AreNatural};
 ghost use Rattle.split.specs.declared.stage.SplitStage.{SplitStage};
 ghost use Rattle.split.specs.machine.Runs.{FoundSplits, PlaceSplits, RunSplits};
 

@@ -2,20 +2,19 @@
 use Rattle.std.proofs.Common.{◌≡◌, ℕ, ◌+◌, zero, suc, true, List, Ok, Some, refl, sym, subst}
 use Rattle.std.specs.Prelude.{slice_get}
 use Rattle.rtx_tree.specs.declared.function.Function.{Function}
-use Rattle.rtx_tree.specs.declared.function.Insn.{Insn}
 use Rattle.rv_text.specs.declared.line.CodeItem.{CodeItem}
 use Rattle.md_forms.specs.declared.form.Entry.{Entry}
 use Rattle.func_input.specs.Input.{IsInput}
-use Rattle.func_rules.specs.Admitted.{IsWellFormed}
+use Rattle.func_rules.proofs.Kept.{each_admitted}
 use Rattle.func_rules.proofs.Ready.{input_well_formed}
+use Rattle.func_rules.proofs.Uids.{uids_distinct}
+use Rattle.pass_name.specs.declared.pass.Pass.TheVariants.{Split1}
+use Rattle.insn_keep.specs.Sound.{IsSound}
+use Rattle.insn_keep.proofs.Inputs.{input_sound}
 use Rattle.func_after.specs.After.{Answer, AfterComes, with_chain}
-use Rattle.func_after.proofs.Kept.{split_is}
-use Rattle.keep_compose.proofs.Keeping.{keeps_trans}
+use Rattle.func_after.proofs.Keeping.{behind_kept}
 use Rattle.keep_compose.proofs.Lines.{keeps_then_same}
-use Rattle.pass_keep.proofs.Inputs.{input_sound}
-use Rattle.pass_keep.proofs.Passes.{lower_keeps, split_keeps}
 use Rattle.read_natural.proofs.Natural.{input_natural}
-use Rattle.sym_insns.specs.Shape.{all_natural}
 use Rattle.asm_out.specs.declared.piece.Piece.{Piece}
 use Rattle.asm_out.specs.Written.{IsWritten}
 use Rattle.out_same.proofs.Written.{written_is_same}
@@ -29,36 +28,34 @@ use Rattle.asm_text.proofs.Laws.{are_parts}
 
 -- ---- one function
 
--- what is asked of the functions of an input
-pub record IsGood (f : Function) : Type 0 where
-  pub rules : IsWellFormed f
-  pub natural : (place : ℕ) (i : Insn) → slice_get f.insns place ≡ Some i → all_natural i.pattern ≡ true
-
 -- what is written of a function has its behaviour
-written_same : (forms : List Entry) (number : ℕ) (f g : Function) (a : Answer) (piece : Piece) → IsGood f → a ≡ Ok g → AfterComes forms f a → IsWritten forms number g piece → Same (frame_size f.locals) f piece.items
-written_same forms number f g _ piece good is (AfterComes.refused e behind) written = absurd (let none : ⊥ = cc in none)
-written_same forms number f g _ piece good is (AfterComes.finished h chain behind finish) written =
+written_same : (forms : List Entry) (number : ℕ) (f g : Function) (a : Answer) (piece : Piece) → IsSound f → a ≡ Ok g → AfterComes forms f a → IsWritten forms number g piece → Same (frame_size f.locals) f piece.items
+written_same forms number f g _ piece sound is (AfterComes.refused e behind) written = absurd (let none : ⊥ = cc in none)
+written_same forms number f g _ piece sound is (AfterComes.finished h chain behind finish) written =
     let same : g ≡ with_chain h chain = (let back : with_chain h chain ≡ g = cc in sym back) in
-    let once = split_is forms f h (Ok h) refl behind in
-    let lowered = lower_keeps forms f once.between (input_sound f good.rules good.natural) once.lowers in
-    let split = split_keeps forms once.between h lowered.sound once.splits in
-    keeps_then_same (frame_size f.locals) f h piece.items (keeps_trans f once.between h lowered.keeps split.keeps)
-    (written_is_same forms number (frame_size f.locals) h chain piece split.sound.ready finish (subst (λ (k : Function). IsWritten forms number k piece) same written))
+    let kept = behind_kept forms Split1 f h sound behind in
+    keeps_then_same (frame_size f.locals) f h piece.items kept.keeps
+    (written_is_same forms number (frame_size f.locals) h chain piece kept.sound.ready finish (subst (λ (k : Function). IsWritten forms number k piece) same written))
 
 -- ---- all
 
--- each of some functions is so
-abbrev AreGood : List Function → Type 0
-AreGood functions = (index : ℕ) (f : Function) → slice_get functions index ≡ Some f → IsGood f
+abbrev AreSound : List Function → Type 0
+AreSound functions = (index : ℕ) (f : Function) → slice_get functions index ≡ Some f → IsSound f
 
-are_same : (forms : List Entry) (number : ℕ) (functions : List Function) (a : Assembly) → AreGood functions → IsAssembly forms number functions a → AreSame functions a.parts
+-- each function of an input is sound
+pub input_are_sound : (bytes : List ℕ) (functions : List Function) → IsInput bytes functions → AreSound functions
+input_are_sound bytes functions input index f at =
+    input_sound f (input_well_formed bytes functions input index f at) (uids_distinct f (each_admitted functions input.admitted index f at))
+    (input_natural bytes functions input index f at)
+
+are_same : (forms : List Entry) (number : ℕ) (functions : List Function) (a : Assembly) → AreSound functions → IsAssembly forms number functions a → AreSame functions a.parts
 are_same forms number _ _ keep (IsAssembly.none _) = AreSame.none
 are_same forms number _ _ keep (IsAssembly.function _ f g functions piece rest small after written others) =
     AreSame.function f functions piece.items rest.parts (written_same forms number f g (Ok g) piece (keep 0 f refl) refl after written)
     (are_same forms (number + 1) functions rest (λ index h at. keep (suc index) h at) others)
 
 parts_are_same : (forms : List Entry) (bytes : List ℕ) (functions : List Function) (a : Assembly) → IsInput bytes functions → IsAssembly forms 0 functions a → AreSame functions a.parts
-parts_are_same forms bytes functions a input assembly = are_same forms 0 functions a (λ index f at. record { rules = input_well_formed bytes functions input index f at; natural = input_natural bytes functions input index f at }) assembly
+parts_are_same forms bytes functions a input assembly = are_same forms 0 functions a (input_are_sound bytes functions input) assembly
 
 -- the text does what the functions do
 pub input_does_same : (forms : List Entry) (bytes : List ℕ) (functions : List Function) (a : Assembly) → IsInput bytes functions → IsAssembly forms 0 functions a → DoesSame functions a.text

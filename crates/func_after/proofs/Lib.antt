@@ -4,3 +4,4 @@ pub mod Finished
 pub mod BehindLaws
 pub mod OneAfter
 pub mod Kept
+pub mod Keeping

@@ -1,8 +1,10 @@
 //! The passes over a function, one behind the other.
-ghost use Rattle.std.specs.Prelude.{◌≡◌, List};
+ghost use Rattle.std.specs.Prelude.{◌≡◌, List, Ok};
 ghost use Rattle.rtx_tree.specs.declared.function.Function.{Function};
 ghost use Rattle.md_forms.specs.declared.form.Entry.{Entry};
+ghost use Rattle.pass_name.specs.declared.pass.Pass.{Pass};
 ghost use Rattle.pass_name.specs.declared.pass.Pass.TheVariants as passes;
+ghost use Rattle.insn_keep.specs.Sound.{IsSound, PassKeeps};
 ghost use Rattle.func_after.specs.After as spec;
 ghost use Rattle.func_after.specs.After.{IsBehind, AfterComes, Gives};
 
@@ -66,10 +68,12 @@ pub fn behind(
 /// # Errors
 ///
 /// As [`behind`] says for the last pass.
-#[tactic(auto, using(crate::proofs::Finished::after_refused, crate::proofs::Finished::after_gave, crate::proofs::OneAfter::one_after))]
+#[tactic(auto, using(crate::proofs::Finished::after_refused, crate::proofs::Finished::after_gave, crate::proofs::OneAfter::one_after, crate::proofs::Keeping::behind_kept, crate::proofs::Keeping::after_kept))]
 pub fn after(alloc: Global, desc: &Description, f: &Function) -> Result<Function, Refusal>
     ensures gives { Gives result (AfterComes desc.now f.now) }
     ensures one { (forms : List Entry) (f : Function) (a b : spec.Answer) → AfterComes forms f a → AfterComes forms f b → a ≡ b }
+    ensures each_pass { (forms : List Entry) (pass : Pass) (f g : Function) → IsSound f → IsBehind forms f pass (Ok g) → PassKeeps f g }
+    ensures kept { (forms : List Entry) (f h : Function) → IsSound f → AfterComes forms f (Ok h) → PassKeeps f h }
 {
     let g = split_first(alloc, desc, f)?;
     Ok(finished(alloc, g)?)

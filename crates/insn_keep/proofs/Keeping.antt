@@ -1,40 +1,55 @@
 -- An instruction replaced by a sequence that is equated with it.
 use Rattle.std.proofs.Common.{◌≡◌, ℕ, ◌+◌, ◌-◌, ◌^◌, ◌&&◌, ◌<◌, ◌≤◌, Bool, true, false, List, [], ◌∷◌, ◌++◌, length, nat_lt, Result, Ok, Some, refl, sym, ap, subst, ◌∙◌, arith, tests}
 use Rattle.std.specs.Prelude.{slice_get, take, drop, if◌then◌else◌}
-use Rattle.std.specs.List.{AllByRecursion}
-use Rattle.std.proofs.lemmas.Bool.{and_parts, and_right}
+use Rattle.std.specs.List.{list_all, AllByRecursion}
+use Rattle.std.proofs.lemmas.Bool.{true≢false, and_parts, and_from, and_right}
 use Rattle.std.proofs.lemmas.Bool.Decides.{nat_tests}
 use Rattle.rtx_tree.specs.RegSet.{has_reg}
+use Rattle.rtx_tree.specs.declared.function.ArgUse.{ArgUse}
 use Rattle.rtx_tree.specs.declared.function.Insn.{Insn}
 use Rattle.rtx_tree.specs.declared.function.Function.{Function}
+use Rattle.rtx_tree.specs.declared.function.Kind.{Kind}
 use Rattle.rtx_tree.specs.declared.function.Kind.TheVariants as kind
 use Rattle.rtx_tree.specs.declared.tree.Rtx.{Rtx}
 use Rattle.rtl_func.specs.Kinds.{is_jump_tree, is_call_tree}
-use Rattle.live.specs.Live.{IsLiveAfter, AreLiveAfter}
+use Rattle.rtl_func.specs.Calls.{has_argument, use_is_argument, argument_registers}
+use Rattle.rtl_func.specs.Nodes.{nodes_of}
 use Rattle.rtl_chain.specs.Counts.{greatest_uid}
-use Rattle.sym_insns.specs.Shape.{all_natural}
-use Rattle.func_rules.proofs.Registers.{defines_no_kept}
-use Rattle.rtl_func.specs.Calls.{argument_registers}
+use Rattle.live.specs.Live.{IsLiveAfter, AreLiveAfter}
 use Rattle.sym_diff.specs.Registers.{is_live}
+use Rattle.sym_mean.proofs.Kept.{natural_insn}
+use Rattle.form_needs.specs.Needs.{is_kind}
 use Rattle.pass_refusal.specs.declared.refusal.PassRefusal.{PassRefusal}
-use Rattle.new_insns.specs.Made.{kind_of, insn_for, insns_for}
+use Rattle.new_insns.specs.Made.{kind_of, uses_between, insn_for, insns_for}
 use Rattle.new_insns.specs.Replaced.{window, replaced}
 use Rattle.equate.specs.Side.{Insns, is_one_return, both_return}
 use Rattle.equate.specs.Equated.{Equated}
+use Rattle.equate.specs.Told.{Alike}
 use Rattle.equate.proofs.VerdictLaws.{verdict_same}
 use Rattle.equate.proofs.Soundness.{few_keep}
 use Rattle.insn_replace.specs.Replace.{made, ReplacedComes}
 use Rattle.func_keep.specs.Keeps.{Keeps}
+use Rattle.keep_compose.proofs.Keeping.{keeps_refl, keeps_trans}
 use Rattle.window_keep.specs.Same.{CanReplace}
+use Rattle.window_same.specs.ForLines.{MarksAreEmpty}
+use Rattle.window_replace.specs.Natural.{RegistersAreNatural}
 use Rattle.window_replace.proofs.Replacing.{replaced_keeps}
+use Rattle.func_rules.proofs.Registers.{defines_no_kept}
 use Rattle.md_emit.specs.Emitted.{keeps_to_arguments}
+use Rattle.pass_ready.specs.Left.{SameMarks}
 use Rattle.pass_ready.specs.Ready.{LeavesKept, IsInsnReady}
+use Rattle.pass_ready.specs.Reloadable.{IsInsnReloadable, LeadsWithin}
 use Rattle.pass_ready.proofs.Places.{all_joined, all_taken, all_dropped, at_place}
 use Rattle.pass_ready.proofs.Made.{all_made_ready}
 use Rattle.pass_ready.proofs.Ready.{replaced_ready}
-use Rattle.insn_keep.specs.Sound.{IsPlainInsn, IsSound}
+use Rattle.insn_keep.specs.Sound.{IsSound, PassKeeps}
+use Rattle.insn_keep.proofs.Jumps.{new_lead}
+use Rattle.insn_keep.proofs.Labels.{all_within_too}
+use Rattle.insn_keep.proofs.Marks.{no_mark, made_kind, replaced_same, same_refl, same_trans}
+use Rattle.insn_keep.proofs.Shapes.{IsNoBarrier, IsShaped, runs_shaped}
+use Rattle.insn_keep.proofs.Uids.{replaced_differ}
+use Rattle.insn_keep.proofs.Vars.{LeavesVars, leaves_alone, all_leave}
 use Rattle.insn_keep.proofs.Windows.{at_within, window_one}
-use Rattle.insn_keep.proofs.Shapes.{IsNoBarrier, runs_natural}
 
 -- ---- the instructions that are made
 
@@ -54,46 +69,54 @@ none_barriers old uid (x ∷ y ∷ more) = (made_no_barrier old uid x, none_barr
 abbrev pub Keep : Rtx → Type 0
 Keep x = keeps_to_arguments (x ∷ []) ≡ true
 
-abbrev IsNatural : Insn → Type 0
-IsNatural i = all_natural i.pattern ≡ true
+-- a call in the place of a call is handed what that was
+handed_over : (a b : Kind) (uses : List ArgUse) → list_all use_is_argument uses ≡ true → list_all use_is_argument (uses_between a b uses) ≡ true
+handed_over kind.Call kind.Call uses all = all
+handed_over _ _ uses all = refl
 
-all_plain : (old : Insn) (uid : ℕ) (sequence : List Rtx) → AllByRecursion Keep sequence → AllByRecursion IsNatural (insns_for old uid sequence) → AllByRecursion IsPlainInsn (insns_for old uid sequence)
-all_plain old uid [] keep natural = tt
-all_plain old uid (x ∷ []) keep natural = (record { natural = natural.0; arguments = keep.0 }, tt)
-all_plain old uid (x ∷ y ∷ more) keep natural = (record { natural = natural.0; arguments = keep.0 }, all_plain old (uid + 1) (y ∷ more) keep.1 natural.1)
+one_reloadable : (old : Insn) (uid : ℕ) (x : Rtx) → list_all use_is_argument old.uses ≡ true → Keep x → IsShaped (insn_for old uid x) →
+    LeavesVars (insn_for old uid x) → IsInsnReloadable (insn_for old uid x)
+one_reloadable old uid x handed keep shaped leaves = record {
+  shaped = λ none. shaped;
+  empty = λ mark. absurd (true≢false (sym mark ∙ made_kind x));
+  natural = natural_insn (insn_for old uid x) shaped;
+  arguments = λ none.
+      let own = (and_parts (argument_registers x []) true keep).0 in
+      and_from (list_all has_argument (nodes_of x)) (list_all use_is_argument (uses_between old.kind (kind_of x) old.uses))
+      (and_parts (list_all has_argument (nodes_of x)) true own).0 (handed_over old.kind (kind_of x) old.uses handed);
+  vars = leaves;
+}
+
+all_reloadable : (old : Insn) (uid : ℕ) (sequence : List Rtx) → list_all use_is_argument old.uses ≡ true → AllByRecursion Keep sequence →
+    AllByRecursion IsShaped (insns_for old uid sequence) → AllByRecursion LeavesVars (insns_for old uid sequence) →
+    AllByRecursion IsInsnReloadable (insns_for old uid sequence)
+all_reloadable old uid [] handed keep shaped leave = tt
+all_reloadable old uid (x ∷ []) handed keep shaped leave = (one_reloadable old old.uid x handed keep.0 shaped.0 leave.0, tt)
+all_reloadable old uid (x ∷ y ∷ more) handed keep shaped leave =
+    (one_reloadable old uid x handed keep.0 shaped.0 leave.0, all_reloadable old (uid + 1) (y ∷ more) handed keep.1 shaped.1 leave.1)
 
 -- ---- what a sequence that keeps to a0 to a7 leaves
 
 leaves : (x : Rtx) → Keep x → LeavesKept x
 leaves x keep = defines_no_kept x [] (and_parts (argument_registers x []) true keep).0
 
-all_leave : (sequence : List Rtx) → AllByRecursion Keep sequence → AllByRecursion LeavesKept sequence
-all_leave [] keep = tt
-all_leave (x ∷ sequence) keep = (leaves x keep.0, all_leave sequence keep.1)
+all_leave_kept : (sequence : List Rtx) → AllByRecursion Keep sequence → AllByRecursion LeavesKept sequence
+all_leave_kept [] keep = tt
+all_leave_kept (x ∷ sequence) keep = (leaves x keep.0, all_leave_kept sequence keep.1)
 
 -- ---- the function with the sequence
 
 no_line : (before after : List Insn) → both_return before (Insns after) ≡ false
 no_line before after = and_right (is_one_return before) false refl
 
-module _ (f : Function) (sound : IsSound f) (place : ℕ) (i : Insn) (at : slice_get f.insns place ≡ Some i) (sequence : List Rtx) (keep : AllByRecursion Keep sequence) (live : List ℕ)
-    (are : AreLiveAfter f place live) (small : (reg : ℕ) → has_reg live reg ≡ true → reg < 2 ^ 32) (equated : Equated (i ∷ []) (Insns (made f i sequence)) live) where
+module _ (f : Function) (place : ℕ) (i : Insn) (at : slice_get f.insns place ≡ Some i) (sequence : List Rtx) (live : List ℕ)
+    (are : AreLiveAfter f place live) (small : (reg : ℕ) → has_reg live reg ≡ true → reg < 2 ^ 32)
+    (equated : Equated (i ∷ []) (Insns (made f i sequence)) live) where
   abbrev new : List Insn
   new = made f i sequence
 
   abbrev after : Function
   after = replaced f place (place + 1) new
-
-  natural : AllByRecursion IsNatural new
-  natural = let alike = verdict_same (i ∷ []) (Insns new) live equated (no_line (i ∷ []) new) in
-      runs_natural new alike.second (none_barriers i (greatest_uid f.insns + 1) sequence) alike.runs_second
-
-  after_sound : IsSound after
-  after_sound = record {
-    ready = replaced_ready f place (place + 1) new sound.ready (all_made_ready i (greatest_uid f.insns + 1) sequence (all_leave sequence keep));
-    plain = all_joined IsPlainInsn (take place f.insns) (new ++ drop (place + 1) f.insns) (all_taken IsPlainInsn place f.insns sound.plain)
-        (all_joined IsPlainInsn new (drop (place + 1) f.insns) (all_plain i (greatest_uid f.insns + 1) sequence keep natural) (all_dropped IsPlainInsn (place + 1) f.insns sound.plain));
-  }
 
   -- what is live behind the window
   abbrev Live : ℕ → Type 0
@@ -107,20 +130,98 @@ module _ (f : Function) (sound : IsSound f) (place : ℕ) (i : Insn) (at : slice
       let low : nat_lt reg (2 ^ 32) ≡ true = grind (arith, nat_tests, below) in
       ap (λ b. b && has_reg live reg) low ∙ has
 
-  after_keeps : Keeps f after
-  after_keeps =
+  after_keeps : MarksAreEmpty f → RegistersAreNatural f → Keeps f after
+  after_keeps marks natural =
       let within = at_within f.insns place i at in
-      replaced_keeps f place (place + 1) new (omega arith) (omega (arith, within))
-      (λ p reg j there mark. (at_place IsInsnReady f.insns sound.ready p j there).marks mark reg)
-      (λ p j there. (at_place IsPlainInsn f.insns sound.plain p j there).natural)
+      replaced_keeps f place (place + 1) new (omega arith) (omega (arith, within)) marks natural
       (subst (λ w. CanReplace w new Live) (sym (window_one f place i at)) (few_keep (i ∷ []) new live equated Live compared))
 
--- what a replaced instruction leaves
-pub record Keeping (f g : Function) : Type 0 where
-  pub keeps : Keeps f g
-  pub sound : IsSound g
+  alike : Alike (i ∷ []) (Insns new) live
+  alike = verdict_same (i ∷ []) (Insns new) live equated (no_line (i ∷ []) new)
 
-pub insn_keeps : (f : Function) (place : ℕ) (i : Insn) (rule : List ℕ) (sequence : List Rtx) (g : Function) → IsSound f → slice_get f.insns place ≡ Some i → AllByRecursion Keep sequence →
-    ReplacedComes f place i rule sequence (Ok g) → Keeping f g
-insn_keeps f place i rule sequence _ sound at keep (ReplacedComes.replaced live are small equated) =
-    record { keeps = after_keeps f sound place i at sequence keep live are small equated; sound = after_sound f sound place i at sequence keep live are small equated }
+  module _ (sound : IsSound f) (is : is_kind i.kind ≡ true) (keep : AllByRecursion Keep sequence) where
+    own : IsInsnReloadable i
+    own = at_place IsInsnReloadable f.insns sound.reloadable.each place i at
+
+    handed : list_all use_is_argument i.uses ≡ true
+    handed = (and_parts (list_all has_argument (nodes_of i.pattern)) (list_all use_is_argument i.uses) (own.arguments (no_mark i.kind is))).1
+
+    reloadable : AllByRecursion IsInsnReloadable new
+    reloadable = all_reloadable i (greatest_uid f.insns + 1) sequence handed keep
+        (runs_shaped new alike.second (none_barriers i (greatest_uid f.insns + 1) sequence) alike.runs_second)
+        (all_leave (i ∷ []) new live alike.first alike.second alike.runs_first alike.runs_second alike.agree (leaves_alone i own.vars))
+
+    same_marks : SameMarks f after
+    same_marks = replaced_same f place i i (greatest_uid f.insns + 1) sequence at is
+
+    lead : AllByRecursion (LeadsWithin f.insns) new
+    lead = new_lead f.insns i new live alike.first alike.second alike.runs_first alike.runs_second alike.agree
+        (at_place (LeadsWithin f.insns) f.insns sound.reloadable.jumps place i at)
+
+    lead_behind : AllByRecursion (LeadsWithin after.insns) after.insns
+    lead_behind = all_within_too f.insns after.insns after.insns same_marks.marks_are
+        (all_joined (LeadsWithin f.insns) (take place f.insns) (new ++ drop (place + 1) f.insns)
+        (all_taken (LeadsWithin f.insns) place f.insns sound.reloadable.jumps)
+        (all_joined (LeadsWithin f.insns) new (drop (place + 1) f.insns) lead (all_dropped (LeadsWithin f.insns) (place + 1) f.insns sound.reloadable.jumps)))
+
+    after_sound : IsSound after
+    after_sound = record {
+      ready = replaced_ready f place (place + 1) new sound.ready (all_made_ready i (greatest_uid f.insns + 1) sequence (all_leave_kept sequence keep));
+      reloadable = record {
+        each = all_joined IsInsnReloadable (take place f.insns) (new ++ drop (place + 1) f.insns) (all_taken IsInsnReloadable place f.insns sound.reloadable.each)
+            (all_joined IsInsnReloadable new (drop (place + 1) f.insns) reloadable (all_dropped IsInsnReloadable (place + 1) f.insns sound.reloadable.each));
+        jumps = lead_behind;
+        uids = replaced_differ f place i sequence at is sound.reloadable.uids;
+      };
+    }
+
+    after_kept : PassKeeps f after
+    after_kept = record {
+      keeps = after_keeps (λ p reg j there mark. (at_place IsInsnReady f.insns sound.ready p j there).marks mark reg)
+          (λ p j there. (at_place IsInsnReloadable f.insns sound.reloadable.each p j there).natural);
+      sound = after_sound;
+      same = same_marks;
+    }
+
+-- a function does what it did with an instruction replaced, whatever registers this names
+pub replaced_does : (f : Function) (place : ℕ) (i : Insn) (rule : List ℕ) (sequence : List Rtx) (g : Function) → MarksAreEmpty f →
+    RegistersAreNatural f → slice_get f.insns place ≡ Some i → ReplacedComes f place i rule sequence (Ok g) → Keeps f g
+replaced_does f place i rule sequence _ marks natural at (ReplacedComes.replaced live are small equated) =
+    after_keeps f place i at sequence live are small equated marks natural
+
+-- a replaced instruction keeps the function
+pub insn_kept : (f : Function) (place : ℕ) (i : Insn) (rule : List ℕ) (sequence : List Rtx) (g : Function) → IsSound f →
+    slice_get f.insns place ≡ Some i → is_kind i.kind ≡ true → AllByRecursion Keep sequence → ReplacedComes f place i rule sequence (Ok g) →
+    PassKeeps f g
+insn_kept f place i rule sequence _ sound at is keep (ReplacedComes.replaced live are small equated) =
+    after_kept f place i at sequence live are small equated sound is keep
+
+-- and leaves the labels and barriers, whatever the function is
+pub insn_same : (f : Function) (place : ℕ) (i : Insn) (rule : List ℕ) (sequence : List Rtx) (g : Function) → slice_get f.insns place ≡ Some i →
+    is_kind i.kind ≡ true → ReplacedComes f place i rule sequence (Ok g) → SameMarks f g
+insn_same f place i rule sequence _ at is (ReplacedComes.replaced live are small equated) =
+    replaced_same f place i i (greatest_uid f.insns + 1) sequence at is
+
+-- an instruction names of the hard registers a0 to a7 alone
+pub pattern_keeps : (i : Insn) → is_kind i.kind ≡ true → IsInsnReloadable i → Keep i.pattern
+pattern_keeps i is one =
+    ap (λ b. (b && true) && true) (and_parts (list_all has_argument (nodes_of i.pattern)) (list_all use_is_argument i.uses) (one.arguments (no_mark i.kind is))).0
+
+-- a sequence that keeps to a0 to a7 does so tree by tree
+pub each_keeps : (sequence : List Rtx) → keeps_to_arguments sequence ≡ true → AllByRecursion Keep sequence
+each_keeps [] keep = tt
+each_keeps (x ∷ sequence) keep =
+    let parts = and_parts (argument_registers x []) (list_all (λ y. argument_registers y []) sequence) keep in
+    (ap (λ b. b && true) parts.0, each_keeps sequence parts.1)
+
+-- ---- one behind the other
+
+pub kept_refl : (f : Function) → IsSound f → PassKeeps f f
+kept_refl f sound = record { keeps = keeps_refl f; sound = sound; same = same_refl f }
+
+pub kept_trans : (f g h : Function) → PassKeeps f g → PassKeeps g h → PassKeeps f h
+kept_trans f g h first second = record {
+  keeps = keeps_trans f g h first.keeps second.keeps;
+  sound = second.sound;
+  same = same_trans f g h first.same second.same;
+}

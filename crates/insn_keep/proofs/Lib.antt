@@ -1,3 +1,11 @@
+pub mod Lists
 pub mod Windows
 pub mod Shapes
+pub mod Vars
+pub mod Uids
+pub mod Marks
+pub mod Labels
+pub mod Jumps
 pub mod Keeping
+pub mod Inputs
+pub mod Finished

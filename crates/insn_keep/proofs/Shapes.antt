@@ -1,4 +1,4 @@
--- Instructions that can be compared have registers of natural numbers.
+-- Instructions that can be compared have the shapes that the codes ask for, and registers of natural numbers.
 use Rattle.std.proofs.Common.{◌≡◌, ℕ, ◌+◌, ◌&&◌, Bool, true, false, List, [], ◌∷◌, None, refl, ◌∙◌, ap, sym}
 use Rattle.std.specs.List.{AllByRecursion}
 use Rattle.rtx_tree.specs.declared.function.Insn.{Insn}
@@ -6,29 +6,28 @@ use Rattle.rtx_tree.specs.declared.function.Kind.{Kind}
 use Rattle.rtx_tree.specs.declared.function.Kind.TheVariants as kind
 use Rattle.sym_state.specs.State.{State, Runs, start}
 use Rattle.sym_insns.specs.Run.{run_from, run}
-use Rattle.sym_insns.specs.Shape.{is_shaped, fits_kind, is_end, bad_from, bad_insn, all_natural}
+use Rattle.sym_insns.specs.Shape.{is_shaped, fits_kind, is_end, bad_from, bad_insn}
 use Rattle.sym_mean.proofs.Bools.{both_of}
-use Rattle.sym_mean.proofs.Kept.{natural_insn}
 use Rattle.sym_mean.proofs.Ways.{fits_all, does_run}
 
 -- it is no barrier
 abbrev pub IsNoBarrier : Insn → Type 0
 IsNoBarrier i = i.kind ≡ kind.Barrier → ⊥
 
-abbrev IsNatural : Insn → Type 0
-IsNatural i = all_natural i.pattern ≡ true
+abbrev pub IsShaped : Insn → Type 0
+IsShaped i = is_shaped i ≡ true
 
-shaped : (k : Kind) (i : Insn) (last : Bool) → (k ≡ kind.Barrier → ⊥) → fits_kind k i last ≡ true → is_shaped i ≡ true
+shaped : (k : Kind) (i : Insn) (last : Bool) → (k ≡ kind.Barrier → ⊥) → fits_kind k i last ≡ true → IsShaped i
 shaped kind.Plain i last other fits = fits
 shaped kind.Jump i last other fits = (both_of (is_shaped i) _ fits).0
 shaped kind.Call i last other fits = (both_of (is_shaped i) last fits).0
 shaped kind.Barrier i last other fits = absurd (other refl)
 shaped kind.Label i last other fits = absurd (let no : ⊥ = cc in no)
 
-natural_from : (insns : List Insn) (index : ℕ) → AllByRecursion IsNoBarrier insns → bad_from index insns ≡ None → AllByRecursion IsNatural insns
-natural_from [] index other bad = tt
-natural_from (i ∷ insns) index other bad =
-    let fits = fits_all index i insns bad in (natural_insn i (shaped i.kind i (is_end insns) other.0 fits.here), natural_from insns (index + 1) other.1 fits.rest)
+shaped_from : (insns : List Insn) (index : ℕ) → AllByRecursion IsNoBarrier insns → bad_from index insns ≡ None → AllByRecursion IsShaped insns
+shaped_from [] index other bad = tt
+shaped_from (i ∷ insns) index other bad =
+    let fits = fits_all index i insns bad in (shaped i.kind i (is_end insns) other.0 fits.here, shaped_from insns (index + 1) other.1 fits.rest)
 
-pub runs_natural : (insns : List Insn) (s : State) → AllByRecursion IsNoBarrier insns → run insns ≡ Runs s → AllByRecursion IsNatural insns
-runs_natural insns s other runs = natural_from insns 0 other (does_run (bad_insn insns) (run_from 0 insns start) s runs).fits
+pub runs_shaped : (insns : List Insn) (s : State) → AllByRecursion IsNoBarrier insns → run insns ≡ Runs s → AllByRecursion IsShaped insns
+runs_shaped insns s other runs = shaped_from insns 0 other (does_run (bad_insn insns) (run_from 0 insns start) s runs).fits

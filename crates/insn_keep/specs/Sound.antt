@@ -1,17 +1,18 @@
--- What is asked of a function in which instructions are replaced before registers have homes: GCC Internals, "Registers and Memory".
-use Rattle.std.specs.Prelude.{◌≡◌, true, [], ◌∷◌}
-use Rattle.std.specs.List.{AllByRecursion}
-use Rattle.rtx_tree.specs.declared.function.Insn.{Insn}
+-- What holds of a function between the passes before registers have homes, and what a pass keeps: GCC Internals, "Passes and Files of the
+-- Compiler" and "Registers and Memory".
 use Rattle.rtx_tree.specs.declared.function.Function.{Function}
-use Rattle.sym_insns.specs.Shape.{all_natural}
-use Rattle.md_emit.specs.Emitted.{keeps_to_arguments}
+use Rattle.func_keep.specs.Keeps.{Keeps}
 use Rattle.pass_ready.specs.Ready.{AreReady}
+use Rattle.pass_ready.specs.Reloadable.{IsReloadable}
+use Rattle.pass_ready.specs.Left.{SameMarks}
 
--- the numbers of its registers are natural ones, and of the hard registers it names a0 to a7 alone
-pub record IsPlainInsn (i : Insn) : Type 0 where
-  pub natural : all_natural i.pattern ≡ true
-  pub arguments : keeps_to_arguments (i.pattern ∷ []) ≡ true
-
+-- lines can stand for it, and it can be reloaded
 pub record IsSound (f : Function) : Type 0 where
   pub ready : AreReady f
-  pub plain : AllByRecursion IsPlainInsn f.insns
+  pub reloadable : IsReloadable f
+
+-- The second does what the first does, is sound, and has the labels and barriers of the first.
+pub record PassKeeps (f g : Function) : Type 0 where
+  pub keeps : Keeps f g
+  pub sound : IsSound g
+  pub same : SameMarks f g

@@ -2,3 +2,4 @@ pub mod Until
 pub mod Matched
 pub mod Places
 pub mod OneLower
+pub mod Kept

@@ -5,6 +5,8 @@ ghost use Rattle.rtx_tree.specs.declared.function.Insn.{Insn};
 ghost use Rattle.rtl_chain.specs.Counts as counts;
 ghost use Rattle.md_forms.specs.declared.form.Entry.{Entry};
 ghost use Rattle.pass_refusal.specs.Outcome.{Gives};
+ghost use Rattle.insn_keep.specs.Sound.{IsSound, PassKeeps};
+ghost use Rattle.pass_ready.specs.Left.{SameMarks};
 ghost use Rattle.lower.specs.Lower.{Answer, AreMatched, LowerComes, LowersIn};
 ghost use Rattle.lower.specs.machine.Steps.{PlaceLowers};
 
@@ -84,11 +86,13 @@ fn lower_place(
 ///
 /// `Unmatched` where no form can make an instruction; `NotEquated`, or `Limit` of `TermSize`, where what would stand in its place is not
 /// equated with it; `Memory` where memory ran out.
-#[tactic(auto, using(crate::proofs::OneLower::lower_one, crate::proofs::Matched::lower_matched))]
+#[tactic(auto, using(crate::proofs::OneLower::lower_one, crate::proofs::Matched::lower_matched, crate::proofs::Kept::lower_same, crate::proofs::Kept::lower_kept))]
 pub fn lower(alloc: Global, desc: &Description, f: Function) -> Result<Function, PassRefusal>
     ensures gives { Gives result (LowerComes desc.now f) }
     ensures one { (forms : List Entry) (f : Function) (a b : Answer) → LowerComes forms f a → LowerComes forms f b → a ≡ b }
     ensures matched { (forms : List Entry) (f g : Function) → LowerComes forms f (Ok g) → AreMatched forms g }
+    ensures marks { (forms : List Entry) (f g : Function) → LowerComes forms f (Ok g) → SameMarks f g }
+    ensures kept { (forms : List Entry) (f g : Function) → IsSound f → LowerComes forms f (Ok g) → PassKeeps f g }
 {
     let mut chain = LiveChain::of(f);
     let mut place: u32 = 0;

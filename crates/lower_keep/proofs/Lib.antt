@@ -5,4 +5,3 @@ pub mod Prepared
 pub mod Sequence
 pub mod Made
 pub mod Arguments
-pub mod Frame

@@ -1,6 +1,6 @@
--- The instructions in the place of one that was lowered: none is a label or a barrier, and no register in them has a number that is none.
+-- No register in a sequence that takes the place of an instruction has a number that is none.
 use Rattle.std.proofs.Common.{◌≡◌, ℕ, ◌+◌, Bool, true, false, List, [], ◌∷◌, None, refl}
-use Rattle.std.specs.Prelude.{if◌then◌else◌, Result, Ok, Err}
+use Rattle.std.specs.Prelude.{Ok}
 use Rattle.std.specs.List.{list_all, AllByRecursion}
 use Rattle.std.proofs.lemmas.Bool.{true≢false, and_right}
 use Rattle.rtx_tree.specs.declared.function.Function.{Function}
@@ -9,10 +9,8 @@ use Rattle.rtx_tree.specs.declared.function.Kind.{Kind}
 use Rattle.rtx_tree.specs.declared.function.Kind.TheVariants as kind
 use Rattle.rtx_tree.specs.declared.tree.Rtx.{Rtx}
 use Rattle.rtl_chain.specs.Counts.{greatest_uid}
-use Rattle.rtl_func.specs.Kinds.{is_jump_tree, is_call_tree}
 use Rattle.rtl_step.specs.Step.{is_mark}
 use Rattle.new_insns.specs.Made.{kind_of, insn_for, insns_for}
-use Rattle.new_insns.specs.Replaced.{replaced}
 use Rattle.equate.specs.Equated.{Equated}
 use Rattle.equate.specs.Side.{Insns, is_one_return}
 use Rattle.equate.proofs.VerdictLaws.{verdict_same}
@@ -22,26 +20,9 @@ use Rattle.sym_state.specs.State.{start}
 use Rattle.sym_mean.proofs.Bools.{both_of}
 use Rattle.sym_mean.proofs.Kept.{natural_insn}
 use Rattle.sym_mean.proofs.Ways.{fits_all, does_run}
-use Rattle.pass_refusal.specs.declared.refusal.PassRefusal.{PassRefusal}
 use Rattle.insn_replace.specs.Replace.{made, ReplacedComes}
+use Rattle.insn_keep.proofs.Marks.{made_kind}
 use Rattle.lower_keep.proofs.Keeping.{all_passes}
-
--- ---- their kinds
-
-pub made_kind : (x : Rtx) → is_mark (kind_of x) ≡ false
-made_kind x = by (is_jump_tree x) (is_call_tree x)
-  where
-    by : (jumps calls : Bool) → is_mark (if jumps then kind.Jump else (if calls then kind.Call else kind.Plain)) ≡ false
-    by true calls = refl
-    by false true = refl
-    by false false = refl
-
--- what holds of an instruction of each pattern of a sequence holds of those that it makes
-pub made_each : (old : Insn) (Q : Rtx → Type 0) (P : Insn → Type 0) → ((uid : ℕ) (x : Rtx) → Q x → P (insn_for old uid x)) →
-    (uid : ℕ) (xs : List Rtx) → AllByRecursion Q xs → AllByRecursion P (insns_for old uid xs)
-made_each old Q P step uid [] all = tt
-made_each old Q P step uid (x ∷ []) all = (step old.uid x all.0, tt)
-made_each old Q P step uid (x ∷ y ∷ more) all = (step uid x all.0, made_each old Q P step (uid + 1) (y ∷ more) all.1)
 
 -- ---- the numbers of their registers
 
@@ -70,10 +51,6 @@ natural_sequence old uid (x ∷ y ∷ more) index fits =
 -- ---- what stands in the place of an instruction
 
 module _ (f : Function) (place : ℕ) (i : Insn) (sequence : List Rtx) where
-  abbrev pub Stands : Result Function PassRefusal → Type 0
-  Stands (Ok g) = (replaced f place (place + 1) (made f i sequence) ≡ g) × AllByRecursion IsNatural sequence
-  Stands (Err e) = Unit {0}
-
   -- what is equated can be compared
   equated_natural : (live : List ℕ) → Equated (i ∷ []) (Insns (made f i sequence)) live → AllByRecursion IsNatural sequence
   equated_natural live equated =
@@ -81,11 +58,6 @@ module _ (f : Function) (place : ℕ) (i : Insn) (sequence : List Rtx) where
       let alike = verdict_same (i ∷ []) (Insns new) live equated (and_right (is_one_return (i ∷ [])) false refl) in
       natural_sequence i (greatest_uid f.insns + 1) sequence 0 (does_run (bad_insn new) (run_from 0 new start) alike.second alike.runs_second).fits
 
-  -- the function has its instructions, and no register in it has a number that is none
-  pub stands : (rule : List ℕ) (answer : Result Function PassRefusal) → ReplacedComes f place i rule sequence answer → Stands answer
-  stands rule _ (ReplacedComes.refused live e are is) = tt
-  stands rule _ (ReplacedComes.replaced live are small equated) = (refl, equated_natural live equated)
-
   -- the numbers of the registers of a sequence that takes the place of an instruction are natural ones
   pub replaced_natural : (rule : List ℕ) (g : Function) → ReplacedComes f place i rule sequence (Ok g) → list_all all_natural sequence ≡ true
-  replaced_natural rule g comes = all_passes all_natural sequence (stands rule (Ok g) comes).1
+  replaced_natural rule _ (ReplacedComes.replaced live are small equated) = all_passes all_natural sequence (equated_natural live equated)

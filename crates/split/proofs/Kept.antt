@@ -1,10 +1,10 @@
 -- What is kept of a function: its marks and, but for the new ones, its instructions.
-use Rattle.std.proofs.Common.{◌≡◌, ◌⊎◌, ⊎_elim, inl, inr, ℕ, ◌+◌, ◌&&◌, Bool, true, false, not, List, [], ◌∷◌, ◌++◌, take, drop, Option, Some, None, Ok, refl, sym, ap, subst, ◌∙◌}
+use Rattle.std.proofs.Common.{◌≡◌, ◌⊎◌, ⊎_elim, inl, inr, ℕ, ◌+◌, ◌&&◌, Bool, true, false, List, [], ◌∷◌, ◌++◌, take, drop, Option, Some, None, Ok, refl, sym, ap, subst, ◌∙◌}
 use Rattle.std.specs.Prelude.{slice_get, if◌then◌else◌, option_and_then}
 use Rattle.rtx_tree.specs.declared.tree.Rtx.{Rtx}
 use Rattle.rtx_tree.specs.declared.function.Insn.{Insn}
 use Rattle.rtx_tree.specs.declared.function.Function.{Function}
-use Rattle.rtl_chain.specs.Counts.{next_pseudo}
+use Rattle.rtl_chain.specs.Counts.{greatest_uid, next_pseudo}
 use Rattle.md_forms.specs.declared.form.Entry.{Entry}
 use Rattle.md_forms.specs.Forms.{names_of}
 use Rattle.form_needs.specs.Needs.{is_kind, name_at}
@@ -15,42 +15,32 @@ use Rattle.gen_emit.specs.declared.emission.Emission.{Emission}
 use Rattle.md_emit.specs.Emitted.{emitted_by}
 use Rattle.new_insns.specs.Replaced.{replaced}
 use Rattle.insn_replace.specs.Replace.{made, ReplacedComes}
+use Rattle.pass_ready.specs.Left.{SameMarks}
+use Rattle.insn_keep.proofs.Marks.{replaced_same, same_refl, same_trans}
 use Rattle.split.specs.declared.stage.SplitStage.{SplitStage}
 use Rattle.split.specs.declared.stage.SplitStage.TheVariants.{BeforeReload, AfterReload}
 use Rattle.split.specs.Split.{facts_of, is_admitted, admitted, IsSplit, SplitComes}
-use Rattle.split.specs.Left.{StandsIn, is_mark, marks, SameMarks, IsNew, AreOldOrNew, AreNatural}
+use Rattle.split.specs.Left.{StandsIn, IsNew, AreOldOrNew, AreNatural}
 use Rattle.split.proofs.Made.{comes_to}
-use Rattle.split.proofs.Lists.{filter_none, same_filtered}
 use Rattle.split.proofs.Insns.{In, in_append, in_take, in_drop, all_in, is_kind_of, made_for, replaced_shaped}
 use Rattle.split.proofs.Left.{IsKept, kept}
 
 -- ---- marks
 
-not_mark : (i : Insn) → is_kind i.kind ≡ true → is_mark i ≡ false
-not_mark i is = ap not is
-
-made_kind : (f : Function) (i : Insn) (sequence : List Rtx) (j : Insn) → In (made f i sequence) j → is_kind j.kind ≡ true
+pub made_kind : (f : Function) (i : Insn) (sequence : List Rtx) (j : Insn) → In (made f i sequence) j → is_kind j.kind ≡ true
 made_kind f i sequence j here =
     let is = made_for i _ sequence j here in
     subst (λ (k : Insn). is_kind k.kind ≡ true) (sym is.is) (is_kind_of is.pattern)
 
-replaced_marks : (f : Function) (place : ℕ) (i : Insn) (sequence : List Rtx) → slice_get f.insns place ≡ Some i → is_kind i.kind ≡ true → marks (replaced f place (place + 1) (made f i sequence)).insns ≡ marks f.insns
-replaced_marks f place i sequence at is =
-    same_filtered is_mark f.insns (made f i sequence) place i at (not_mark i is) (filter_none is_mark (made f i sequence) (λ k j there. not_mark j (made_kind f i sequence j (k, there))))
-
 module _ (forms : List Entry) (stage : SplitStage) where
   marks_step : (f : Function) → IsKept forms stage (SameMarks f)
   marks_step f g h place i form sequence at is comes same =
-      subst (SameMarks f) (sym (comes_to g h place i (name_at (names_of forms) form) sequence comes)) (record {
-        name_is = same.name_is;
-        marks_are = replaced_marks g place i sequence at is.splits.instruction ∙ same.marks_are;
-        locals_are = same.locals_are;
-        result_is = same.result_is;
-        result_reg_is = same.result_reg_is;
-      })
+      subst (SameMarks f) (sym (comes_to g h place i (name_at (names_of forms) form) sequence comes))
+      (same_trans f g (replaced g place (place + 1) (made g i sequence)) same
+      (replaced_same g place i i (greatest_uid g.insns + 1) sequence at is.splits.instruction))
 
   pub same_marks : (f g : Function) → SplitComes forms stage f (Ok g) → SameMarks f g
-  same_marks f g comes = kept forms stage (SameMarks f) (marks_step f) f g comes (record { name_is = refl; marks_are = refl; locals_are = refl; result_is = refl; result_reg_is = refl })
+  same_marks f g comes = kept forms stage (SameMarks f) (marks_step f) f g comes (same_refl f)
 
   -- ---- instructions
 
@@ -82,7 +72,7 @@ module _ (forms : List Entry) (stage : SplitStage) where
       one_admitted AfterReload sequence x all here = refl
 
   -- an instruction behind a replaced one is an old one, or one that was made
-  parts_of : (f g : Function) (place : ℕ) (i : Insn) (rule : List ℕ) (sequence : List Rtx) (j : Insn) → ReplacedComes f place i rule sequence (Ok g) → StandsIn g j → StandsIn f j ⊎ In (made f i sequence) j
+  pub parts_of : (f g : Function) (place : ℕ) (i : Insn) (rule : List ℕ) (sequence : List Rtx) (j : Insn) → ReplacedComes f place i rule sequence (Ok g) → StandsIn g j → StandsIn f j ⊎ In (made f i sequence) j
   parts_of f g place i rule sequence j comes here =
       by (in_append (take place f.insns) (made f i sequence ++ drop (place + 1) f.insns) j (subst (λ (k : Function). StandsIn k j) (comes_to f g place i rule sequence comes) here))
     where

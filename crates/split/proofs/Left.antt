@@ -17,7 +17,7 @@ use Rattle.split.specs.declared.stage.SplitStage.{SplitStage}
 use Rattle.split.specs.Split.{Answer, IsSplit, SplitFrom, SplitComes}
 use Rattle.split.specs.Left.{IsLeft, AreLeft}
 use Rattle.split.proofs.Made.{comes_to, replaced_behind}
-use Rattle.split.proofs.Lists.{before_it}
+use Rattle.insn_keep.proofs.Lists.{before_it}
 use Rattle.split.proofs.One.{same_at}
 
 module _ (forms : List Entry) (stage : SplitStage) where

@@ -1,9 +1,9 @@
 pub mod Forms
 pub mod Made
-pub mod Lists
 pub mod Insns
 pub mod Running
 pub mod One
 pub mod Left
 pub mod Kept
 pub mod Uids
+pub mod Sound

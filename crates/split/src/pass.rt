@@ -4,11 +4,17 @@ ghost use Rattle.rtx_tree.specs.declared.function.Function.{Function};
 ghost use Rattle.rtx_tree.specs.declared.function.Insn.{Insn};
 ghost use Rattle.rtl_chain.specs.Counts.{next_pseudo};
 ghost use Rattle.md_forms.specs.declared.form.Entry.{Entry};
+ghost use Rattle.pass_ready.specs.Left.{SameMarks};
+ghost use Rattle.pass_ready.specs.Reloadable.{UidsDiffer};
 ghost use Rattle.pass_refusal.specs.Outcome.{Gives};
+ghost use Rattle.func_keep.specs.Keeps.{Keeps};
+ghost use Rattle.window_same.specs.ForLines.{MarksAreEmpty};
+ghost use Rattle.insn_keep.specs.Sound.{IsSound, PassKeeps};
 ghost use Rattle.split.specs.Split as spec;
 ghost use Rattle.split.specs.Split.{Answer, IsSplit, SplitComes, most_splits};
-ghost use Rattle.split.specs.Left.{AreLeft, SameMarks, AreOldOrNew, UidsDiffer, AreNatural};
+ghost use Rattle.split.specs.Left.{AreLeft, AreOldOrNew, AreNatural};
 ghost use Rattle.split.specs.declared.stage.SplitStage.{SplitStage};
+ghost use Rattle.split.specs.declared.stage.SplitStage.TheVariants.{BeforeReload};
 ghost use Rattle.split.specs.machine.Runs.{FoundSplits, PlaceSplits, RunSplits};
 
 use crate::form::{FormSplit, first_split};
@@ -165,6 +171,8 @@ pub fn split(
     ensures new { (forms : List Entry) (stage : SplitStage) (f g : Function) → SplitComes forms stage f (Ok g) → AreOldOrNew stage f g }
     ensures uids { (forms : List Entry) (stage : SplitStage) (f g : Function) → UidsDiffer f → SplitComes forms stage f (Ok g) → UidsDiffer g }
     ensures natural { (forms : List Entry) (stage : SplitStage) (f g : Function) → AreNatural f → SplitComes forms stage f (Ok g) → AreNatural g }
+    ensures does { (forms : List Entry) (stage : SplitStage) (f g : Function) → MarksAreEmpty f → AreNatural f → SplitComes forms stage f (Ok g) → Keeps f g }
+    ensures kept { (forms : List Entry) (f g : Function) → IsSound f → SplitComes forms BeforeReload f (Ok g) → PassKeeps f g }
 {
     split_all(alloc, desc, f, stage)
 }

@@ -2,6 +2,7 @@ use Rattle.split.proofs.One.{one_split}
 use Rattle.split.proofs.Left.{all_left}
 use Rattle.split.proofs.Kept.{same_marks, old_or_new, are_natural}
 use Rattle.split.proofs.Uids.{uids_differ}
+use Rattle.split.proofs.Sound.{split_does, split_kept}
 use Rattle.split.proofs.pass.split.Goals as goal
 
 pub returns-clause-one : goal.returns-clause-one
@@ -21,3 +22,9 @@ returns-clause-uids c = λ forms stage f g differ comes. uids_differ forms stage
 
 pub returns-clause-natural : goal.returns-clause-natural
 returns-clause-natural c = λ forms stage f g natural comes. are_natural forms stage f g natural comes
+
+pub returns-clause-does : goal.returns-clause-does
+returns-clause-does c = λ forms stage f g marks natural comes. split_does forms stage f g marks natural comes
+
+pub returns-clause-kept : goal.returns-clause-kept
+returns-clause-kept c = λ forms f g sound comes. split_kept forms f g sound comes

@@ -6,6 +6,7 @@ use Rattle.std.specs.Option.{option_map_or}
 use Rattle.rtx_tree.specs.declared.tree.Rtx.{Rtx}
 use Rattle.rtx_tree.specs.Operands.{operand_at}
 use Rattle.rtx_tree.specs.Tree.{mentions_reg}
+use Rattle.md_operand.specs.Operand.{is_far}
 use Rattle.c_eval.specs.Value.{same_tree}
 use Rattle.pred_rows.specs.Tests.{Accepts}
 use Rattle.md_text.specs.declared.constraint.Member.{Member}
@@ -14,7 +15,7 @@ use Rattle.md_text.specs.declared.constraint.Alternative.{Alternative}
 use Rattle.md_forms.specs.declared.form.OperandConstraint.{OperandConstraint}
 use Rattle.md_forms.specs.declared.form.Entry.{Entry}
 use Rattle.md_attr.specs.Alternatives.{form_at}
-use Rattle.md_constr.specs.Inputs.{inputs_of, changed_of}
+use Rattle.md_constr.specs.Inputs.{operands_of, inputs_of, changed_of}
 use Rattle.md_constr.specs.Admits.{letter_admits, register_of, name_admits}
 
 -- the operands that defined constraints admit, by the constraints' names
@@ -54,12 +55,31 @@ shares_register inputs operands n x = option_map_or (is_shared inputs operands n
 abbrev pub is_early : List ℕ → OperandConstraint → Alternative → Bool
 is_early changed k a = a.early && list_any (λ number. number == k.operand) changed
 
+-- an operand in an alternative of its constraint is an earlyclobber output that shares a register with an input
+abbrev pub clashes_in : List ℕ → List ℕ → List (Option Rtx) → OperandConstraint → Rtx → Alternative → Bool
+clashes_in inputs changed operands k x a = is_early changed k a && shares_register inputs operands k.operand x
+
+abbrev pub clashes_at : List ℕ → List ℕ → List (Option Rtx) → ℕ → OperandConstraint → Rtx → Bool
+clashes_at inputs changed operands alternative k x = option_map_or (clashes_in inputs changed operands k x) (slice_get k.constraint alternative) false
+
+abbrev pub operand_clashes : List ℕ → List ℕ → List (Option Rtx) → ℕ → OperandConstraint → Bool
+operand_clashes inputs changed operands alternative k = option_map_or (clashes_at inputs changed operands alternative k) (operand_at operands k.operand) false
+
+-- ---- memory at far addresses
+
+-- the operand with a number is memory at a far address, which no load and no store reaches by itself
+abbrev pub is_far_at : List (Option Rtx) → ℕ → Bool
+is_far_at operands n = option_map_or is_far (operand_at operands n) false
+
+abbrev pub none_far : List (Option Rtx) → List ℕ → Bool
+none_far operands numbers = list_all (λ n. not (is_far_at operands n)) numbers
+
 -- ---- operands
 
 -- an operand fits an alternative of its constraint: it meets a member, and shares no register with an input if it is an earlyclobber
 -- output
 abbrev pub fits_in : Named → List ℕ → List ℕ → List (Option Rtx) → OperandConstraint → Rtx → Alternative → Bool
-fits_in named inputs changed operands k x a = meets named operands x a.members && not (is_early changed k a && shares_register inputs operands k.operand x)
+fits_in named inputs changed operands k x a = meets named operands x a.members && not (clashes_in inputs changed operands k x a)
 
 -- a constraint without alternatives is none, and accepts anything
 abbrev pub fits_among : Named → List ℕ → List ℕ → List (Option Rtx) → OperandConstraint → Rtx → ℕ → List Alternative → Bool
@@ -91,19 +111,57 @@ admits_among named operands x alternative (a ∷ more) = option_map_or (λ a. me
 abbrev pub constraint_admits : Named → List (Option Rtx) → ℕ → Rtx → OperandConstraint → Bool
 constraint_admits named operands alternative x k = admits_among named operands x alternative k.constraint
 
+-- what holds of one of the constraints of the operand with a number
+abbrev pub some_of : ℕ → (OperandConstraint → Bool) → List OperandConstraint → Bool
+some_of number p ks = list_any (λ k. k.operand == number && p k) ks
+
+-- a member is the digit of an operand
+abbrev pub is_digit : ℕ → Member → Bool
+is_digit other (member.Same n) = n == other
+is_digit other _ = false
+
+abbrev pub has_digit : ℕ → Alternative → Bool
+has_digit other a = list_any (is_digit other) a.members
+
+-- a digit of an operand stands among the members of a constraint in an alternative
+abbrev pub digit_stands : ℕ → ℕ → OperandConstraint → Bool
+digit_stands alternative other k = option_map_or (has_digit other) (slice_get k.constraint alternative) false
+
 -- ---- forms
+
+-- all operands with these numbers and constraints fit: none is memory at a far address, and each that has a constraint fits it
+abbrev pub fit_together : Named → List ℕ → List ℕ → List ℕ → List (Option Rtx) → ℕ → List OperandConstraint → Bool
+fit_together named numbers inputs changed operands alternative ks = none_far operands numbers && all_fit named inputs changed operands alternative ks
+
+-- the operand with a number fits: it is no memory at a far address, and fits each of its constraints
+abbrev pub fits_alone : Named → List ℕ → List ℕ → List (Option Rtx) → ℕ → ℕ → List OperandConstraint → Bool
+fits_alone named inputs changed operands alternative number ks = not (is_far_at operands number) && each_of number (operand_fits named inputs changed operands alternative) ks
 
 -- whether operands fit an alternative of the accepted form with an index
 abbrev pub fits : List Entry → Accepts → ℕ → ℕ → List (Option Rtx) → Bool
 fits forms accepts form alternative operands =
-    option_map_or (λ f. all_fit (name_admits forms accepts) (inputs_of f) (changed_of f) operands alternative f.constraints) (form_at forms form) false
+    option_map_or (λ f. fit_together (name_admits forms accepts) (operands_of f) (inputs_of f) (changed_of f) operands alternative f.constraints) (form_at forms form) false
 
 -- whether the operand with a number fits an alternative of the accepted form with an index
 abbrev pub number_fits : List Entry → Accepts → ℕ → ℕ → List (Option Rtx) → ℕ → Bool
 number_fits forms accepts form alternative operands number =
-    option_map_or (λ f. each_of number (operand_fits (name_admits forms accepts) (inputs_of f) (changed_of f) operands alternative) f.constraints) (form_at forms form) false
+    option_map_or (λ f. fits_alone (name_admits forms accepts) (inputs_of f) (changed_of f) operands alternative number f.constraints) (form_at forms form) false
 
 -- whether the constraint of the operand with a number admits a tree in an alternative of the accepted form with an index
 abbrev pub number_admits : List Entry → Accepts → ℕ → ℕ → List (Option Rtx) → ℕ → Rtx → Bool
 number_admits forms accepts form alternative operands number x =
     option_map_or (λ f. each_of number (constraint_admits (name_admits forms accepts) operands alternative x) f.constraints) (form_at forms form) false
+
+-- what a constraint admits where digits don't count: a member other than a digit admits the tree, or the alternative is empty. Where no
+-- operands are given, no digit names one
+abbrev pub number_admits_apart : List Entry → Accepts → ℕ → ℕ → ℕ → Rtx → Bool
+number_admits_apart forms accepts form alternative number x = number_admits forms accepts form alternative [] number x
+
+-- whether the constraint of the operand with a number has the digit of another in an alternative of the accepted form with an index
+abbrev pub number_names : List Entry → ℕ → ℕ → ℕ → ℕ → Bool
+number_names forms form alternative number other = option_map_or (λ f. some_of number (digit_stands alternative other) f.constraints) (form_at forms form) false
+
+-- whether the operand with a number is an earlyclobber output there that shares a register with an input
+abbrev pub number_clashes : List Entry → ℕ → ℕ → List (Option Rtx) → ℕ → Bool
+number_clashes forms form alternative operands number =
+    option_map_or (λ f. some_of number (operand_clashes (inputs_of f) (changed_of f) operands alternative) f.constraints) (form_at forms form) false

@@ -82,6 +82,14 @@ changed_by_parts _ parts = []
 abbrev pub changed_by : Rtx → List ℕ
 changed_by x = changed_by_parts (head_of x).code (kids_of x)
 
+-- the operand that a set alone changes
+abbrev pub set_by_parts : Code → List Rtx → List ℕ
+set_by_parts Set (target ∷ source ∷ []) = changed_at target
+set_by_parts _ parts = []
+
+abbrev pub set_by : Rtx → List ℕ
+set_by x = set_by_parts (head_of x).code (kids_of x)
+
 -- ---- forms
 
 -- the effects of a pattern: those of a parallel, or itself
@@ -98,10 +106,21 @@ inputs_in pattern = flat_map taken_by (effects_of pattern)
 abbrev pub changed_in : Rtx → List ℕ
 changed_in pattern = flat_map changed_by (effects_of pattern)
 
+abbrev pub outputs_in : Rtx → List ℕ
+outputs_in pattern = flat_map set_by (effects_of pattern)
+
 -- the inputs of a form: the operands whose values its patterns take
 abbrev pub inputs_of : Form → List ℕ
 inputs_of f = flat_map inputs_in f.patterns
 
+-- the operands that stand in a form's patterns, scratches apart, each as often as it stands there
+abbrev pub operands_of : Form → List ℕ
+operands_of f = flat_map taken_in f.patterns
+
 -- the operands that a form's patterns set or clobber
 abbrev pub changed_of : Form → List ℕ
 changed_of f = flat_map changed_in f.patterns
+
+-- the outputs of a form: the operands that its patterns set
+abbrev pub outputs_of : Form → List ℕ
+outputs_of f = flat_map outputs_in f.patterns

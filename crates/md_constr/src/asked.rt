@@ -1,14 +1,16 @@
 //! Whether operands fit.
-ghost use Rattle.std.specs.Prelude.{◌≡◌, ◌==◌};
+ghost use Rattle.std.specs.Prelude.{◌≡◌};
 ghost use Rattle.std.specs.List.{list_any};
 ghost use Rattle.c_eval.specs.Value.{same_tree};
 ghost use Rattle.md_constr.specs.Fits as spec;
 ghost use Rattle.md_constr.specs.machine.Tables as tables;
 
-use crate::admits::{letter_admits, register_of};
+use crate::admits::letter_admits;
+use crate::early::clashes_in;
 use crate::meanings::Meanings;
 use c_eval::Preds;
 use md_forms::OperandConstraint;
+use md_operand::is_far;
 use md_text::{Alternative, Member};
 use rtx_tree::{Operands, Rtx, same};
 
@@ -21,6 +23,8 @@ pub struct Asked<'a, P: Preds> {
     pub preds: &'a P,
     /// The operands of the form.
     pub operands: &'a Operands,
+    /// The numbers of the operands in the form's patterns.
+    pub numbers: &'a [u64],
     /// The numbers of the form's inputs.
     pub inputs: &'a [u64],
     /// The numbers of the operands that the form changes.
@@ -44,26 +48,20 @@ fn is_same(operands: &Operands, number: u8, x: &Rtx) -> bool
     }
 }
 
-fn mentions_at(operands: &Operands, reg: u32, number: u64) -> bool
-    ensures { result ≡ spec.mentions_at operands.now reg number }
+/// Whether the operand with a number is memory at a far address.
+fn is_far_at(operands: &Operands, number: u64) -> bool
+    ensures { result ≡ spec.is_far_at operands.now number }
 {
     match operands.get(number as usize) {
-        Some(x) => x.mentions(reg),
+        Some(x) => is_far(x),
         None => false,
     }
 }
 
-fn is_among(numbers: &[u64], own: u64) -> bool
-    ensures { result ≡ list_any (λ number. number == own) numbers.now }
+fn none_far(operands: &Operands, numbers: &[u64]) -> bool
+    ensures { result ≡ spec.none_far operands.now numbers.now }
 {
-    numbers.iter().any(|number| *number == own)
-}
-
-/// Whether an input other than an operand mentions a register.
-fn is_shared(inputs: &[u64], operands: &Operands, own: u64, reg: u32) -> bool
-    ensures { result ≡ spec.is_shared inputs.now operands.now own reg }
-{
-    inputs.iter().any(|input| *input != own && mentions_at(operands, reg, *input))
+    numbers.iter().all(|number| !is_far_at(operands, *number))
 }
 
 impl<P: Preds> Asked<'_, P> {
@@ -90,29 +88,19 @@ impl<P: Preds> Asked<'_, P> {
         members.is_empty() || self.one_admits(x, members)
     }
 
-    fn shares_register(&self, number: u64, x: &Rtx) -> bool
-        ensures { result ≡ spec.shares_register self.now.inputs.now self.now.operands.now number x.now }
-    {
-        match register_of(x) {
-            Some(reg) => is_shared(self.inputs, self.operands, number, reg),
-            None => false,
-        }
-    }
-
-    /// Whether an operand is changed before all inputs are taken.
-    fn is_early(&self, constraint: &OperandConstraint, alternative: &Alternative) -> bool
-        ensures { result ≡ spec.is_early self.now.changed.now constraint.now alternative.now }
-    {
-        alternative.early && is_among(self.changed, u64::from(constraint.operand))
-    }
-
     /// Whether an operand fits an alternative of its constraint.
     fn fits_in(&self, constraint: &OperandConstraint, x: &Rtx, alternative: &Alternative) -> bool
         ensures { result ≡ spec.fits_in (tables.name_admits_in self.now.meanings.now (P.accepts self.now.preds.now)) self.now.inputs.now self.now.changed.now self.now.operands.now constraint.now x.now alternative.now }
     {
         self.meets(x, alternative.members.as_slice())
-            && !(self.is_early(constraint, alternative)
-                && self.shares_register(u64::from(constraint.operand), x))
+            && !clashes_in(
+                self.inputs,
+                self.changed,
+                self.operands,
+                constraint,
+                x,
+                alternative,
+            )
     }
 
     fn fits_at(&self, constraint: &OperandConstraint, x: &Rtx) -> bool
@@ -137,13 +125,19 @@ impl<P: Preds> Asked<'_, P> {
         }
     }
 
-    /// Whether the operands of some constraints fit.
-    pub fn all_fit(&self, constraints: &[OperandConstraint]) -> bool
+    fn all_fit(&self, constraints: &[OperandConstraint]) -> bool
         ensures { result ≡ spec.all_fit (tables.name_admits_in self.now.meanings.now (P.accepts self.now.preds.now)) self.now.inputs.now self.now.changed.now self.now.operands.now self.now.alternative constraints.now }
     {
         constraints
             .iter()
             .all(|constraint| self.operand_fits(constraint))
+    }
+
+    /// Whether all operands fit, of which some have these constraints.
+    pub fn fit_together(&self, constraints: &[OperandConstraint]) -> bool
+        ensures { result ≡ spec.fit_together (tables.name_admits_in self.now.meanings.now (P.accepts self.now.preds.now)) self.now.numbers.now self.now.inputs.now self.now.changed.now self.now.operands.now self.now.alternative constraints.now }
+    {
+        none_far(self.operands, self.numbers) && self.all_fit(constraints)
     }
 
     fn constraint_admits(&self, constraint: &OperandConstraint, x: &Rtx) -> bool
@@ -158,12 +152,18 @@ impl<P: Preds> Asked<'_, P> {
         }
     }
 
-    /// Whether the operand with a number fits, by each of its constraints.
-    pub fn number_fits(&self, constraints: &[OperandConstraint], number: u32) -> bool
+    fn each_fits(&self, constraints: &[OperandConstraint], number: u32) -> bool
         ensures { result ≡ spec.each_of number (spec.operand_fits (tables.name_admits_in self.now.meanings.now (P.accepts self.now.preds.now)) self.now.inputs.now self.now.changed.now self.now.operands.now self.now.alternative) constraints.now }
     {
         constraints.iter().all(|constraint| constraint.operand != number
             || self.operand_fits(constraint))
+    }
+
+    /// Whether the operand with a number fits, by each of its constraints.
+    pub fn fits_alone(&self, constraints: &[OperandConstraint], number: u32) -> bool
+        ensures { result ≡ spec.fits_alone (tables.name_admits_in self.now.meanings.now (P.accepts self.now.preds.now)) self.now.inputs.now self.now.changed.now self.now.operands.now self.now.alternative number constraints.now }
+    {
+        !is_far_at(self.operands, u64::from(number)) && self.each_fits(constraints, number)
     }
 
     /// Whether a tree is admitted in the place of the operand with a number, by each of its constraints.

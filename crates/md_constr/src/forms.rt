@@ -4,9 +4,12 @@ ghost use Rattle.md_forms.specs.Checks as checks;
 ghost use Rattle.md_constr.specs.machine.Tables as tables;
 
 use crate::copies::constraints_copy;
-use crate::inputs::{changed_of, inputs_of};
+use crate::digits::digit_stands;
+use crate::early::operand_clashes;
+use crate::inputs::{changed_of, inputs_of, operands_of};
 use md_forms::{Entry, Form, OperandConstraint};
 use plain_data::{Items, Memory};
+use rtx_tree::Operands;
 use std::alloc::Global;
 
 /// What a form asks of its operands.
@@ -16,12 +19,34 @@ pub struct FormConstraints {
     pub accepted: bool,
     /// The constraints of its operands, in the order of the text.
     pub constraints: Items<OperandConstraint>,
+    /// The numbers of the operands in its patterns.
+    pub operands: Items<u64>,
     /// The numbers of its inputs.
     pub inputs: Items<u64>,
     /// The numbers of the operands that it sets or clobbers.
     pub changed: Items<u64>,
     /// How many alternatives it has.
     pub alternatives: usize,
+}
+
+impl FormConstraints {
+    /// Whether the constraint of the operand with a number has the digit of another in an alternative.
+    pub fn names(&self, alternative: usize, number: u32, other: u32) -> bool
+        ensures { result ≡ tables.found_number_names alternative number other self.now }
+    {
+        self.constraints.as_slice().iter().any(|constraint| constraint.operand == number
+            && digit_stands(alternative, other, constraint))
+    }
+
+    /// Whether the operand with a number is an earlyclobber output in an alternative that shares a register with an input.
+    pub fn clashes(&self, alternative: usize, operands: &Operands, number: u32) -> bool
+        ensures { result ≡ tables.found_number_clashes alternative operands.now number self.now }
+    {
+        let inputs = self.inputs.as_slice();
+        let changed = self.changed.as_slice();
+        self.constraints.as_slice().iter().any(|constraint| constraint.operand == number
+            && operand_clashes(inputs, changed, operands, alternative, constraint))
+    }
 }
 
 /// How many alternatives a form has.
@@ -42,6 +67,7 @@ fn constraints_in(alloc: Global, form: &Form) -> Result<FormConstraints, Memory>
     Ok(FormConstraints {
         accepted: true,
         constraints: constraints_copy(alloc, form.constraints.as_slice())?,
+        operands: operands_of(alloc, form)?,
         inputs: inputs_of(alloc, form)?,
         changed: changed_of(alloc, form)?,
         alternatives: alternatives(form.constraints.as_slice()),
@@ -56,6 +82,7 @@ fn constraints_of(alloc: Global, entry: &Entry) -> Result<FormConstraints, Memor
         Err(_) => Ok(FormConstraints {
             accepted: false,
             constraints: Items::new(alloc),
+            operands: Items::new(alloc),
             inputs: Items::new(alloc),
             changed: Items::new(alloc),
             alternatives: 0,

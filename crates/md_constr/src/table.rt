@@ -52,11 +52,12 @@ impl Constraints {
             meanings: &self.meanings,
             preds,
             operands,
+            numbers: found.operands.as_slice(),
             inputs: found.inputs.as_slice(),
             changed: found.changed.as_slice(),
             alternative: alternative as usize,
         };
-        found.accepted && asked.all_fit(found.constraints.as_slice())
+        found.accepted && asked.fit_together(found.constraints.as_slice())
     }
 
     fn fits_in<P: Preds>(&self, preds: &P, form: u32, alternative: u32, operands: &Operands) -> bool
@@ -82,11 +83,12 @@ impl Constraints {
             meanings: &self.meanings,
             preds,
             operands,
+            numbers: found.operands.as_slice(),
             inputs: found.inputs.as_slice(),
             changed: found.changed.as_slice(),
             alternative: alternative as usize,
         };
-        found.accepted && asked.number_fits(found.constraints.as_slice(), number)
+        found.accepted && asked.fits_alone(found.constraints.as_slice(), number)
     }
 
     fn number_fits_in<P: Preds>(
@@ -120,6 +122,7 @@ impl Constraints {
             meanings: &self.meanings,
             preds,
             operands,
+            numbers: found.operands.as_slice(),
             inputs: found.inputs.as_slice(),
             changed: found.changed.as_slice(),
             alternative: alternative as usize,
@@ -146,6 +149,30 @@ impl Constraints {
         }
     }
 
+    fn number_names_in(&self, form: u32, alternative: u32, number: u32, other: u32) -> bool
+        ensures { result ≡ tables.number_names_in self.now form alternative number other }
+    {
+        match self.constraints_of(form) {
+            Some(found) => found.names(alternative as usize, number, other),
+            None => false,
+        }
+    }
+
+    fn number_clashes_in(
+        &self,
+        form: u32,
+        alternative: u32,
+        operands: &Operands,
+        number: u32,
+    ) -> bool
+        ensures { result ≡ tables.number_clashes_in self.now form alternative operands.now number }
+    {
+        match self.constraints_of(form) {
+            Some(found) => found.clashes(alternative as usize, operands, number),
+            None => false,
+        }
+    }
+
     fn alternatives_in(&self, form: u32) -> usize
         ensures { result ≡ tables.alternatives_in self.now form }
     {
@@ -156,8 +183,8 @@ impl Constraints {
     }
 }
 
-/// Whether operands fit an alternative of an accepted form: each operand that has a constraint meets one of its members there, and an
-/// earlyclobber output shares no register with an input. It takes no memory.
+/// Whether operands fit an alternative of an accepted form: no operand of its patterns is memory at a far address, each operand that has a
+/// constraint meets one of its members there, and an earlyclobber output shares no register with an input. It takes no memory.
 #[tactic(auto, using(crate::proofs::TableLaws::fits_same))]
 pub fn fits<P: Preds>(
     table: &Constraints,
@@ -171,8 +198,8 @@ pub fn fits<P: Preds>(
     table.fits_in(preds, form, alternative, operands)
 }
 
-/// Whether the operand with a number fits an alternative of an accepted form, by itself: it meets a member of its constraint there, and shares
-/// no register with an input if it is an earlyclobber output. It takes no memory.
+/// Whether the operand with a number fits an alternative of an accepted form, by itself: it is no memory at a far address, meets a member of
+/// its constraint there, and shares no register with an input if it is an earlyclobber output. It takes no memory.
 #[tactic(auto, using(crate::proofs::TableLaws::number_fits_same))]
 pub fn operand_fits<P: Preds>(
     table: &Constraints,
@@ -188,7 +215,7 @@ pub fn operand_fits<P: Preds>(
 }
 
 /// Whether the constraint of the operand with a number admits a tree in an alternative of an accepted form. A digit admits what is the same as
-/// the operand that it names. It takes no memory.
+/// the operand that it names, and the letter `m` memory at a far address too. It takes no memory.
 #[tactic(auto, using(crate::proofs::TableLaws::number_admits_same))]
 pub fn operand_admits<P: Preds>(
     table: &Constraints,
@@ -202,6 +229,53 @@ pub fn operand_admits<P: Preds>(
     ensures { (forms : List Entry) → tables.AreConstraintsOf table.now forms → result ≡ spec.number_admits forms (P.accepts preds.now) form alternative operands.now number x.now }
 {
     table.number_admits_in(preds, form, alternative, operands, number, x)
+}
+
+/// Whether a member other than a digit of the constraint of the operand with a number admits a tree in an alternative of an accepted form, or
+/// the alternative has no members. It takes no memory.
+#[tactic(auto, using(crate::proofs::TableLaws::number_admits_same, crate::proofs::TableLaws::number_admits_apart_same))]
+pub fn operand_admits_apart<P: Preds>(
+    alloc: Global,
+    table: &Constraints,
+    preds: &P,
+    form: u32,
+    alternative: u32,
+    number: u32,
+    x: &Rtx,
+) -> bool
+    ensures { (forms : List Entry) → tables.AreConstraintsOf table.now forms → result ≡ spec.number_admits_apart forms (P.accepts preds.now) form alternative number x.now }
+{
+    let none = Operands::new(alloc);
+    table.number_admits_in(preds, form, alternative, &none, number, x)
+}
+
+/// Whether the constraint of the operand with a number has the digit of another in an alternative of an accepted form. It takes no memory.
+#[tactic(auto, using(crate::proofs::TableLaws::number_names_same))]
+pub fn operand_names(
+    table: &Constraints,
+    form: u32,
+    alternative: u32,
+    number: u32,
+    other: u32,
+) -> bool
+    ensures { (forms : List Entry) → tables.AreConstraintsOf table.now forms → result ≡ spec.number_names forms form alternative number other }
+{
+    table.number_names_in(form, alternative, number, other)
+}
+
+/// Whether the operand with a number is an earlyclobber output in an alternative of an accepted form that shares a register with an input. It
+/// takes no memory.
+#[tactic(auto, using(crate::proofs::TableLaws::number_clashes_same))]
+pub fn operand_clashes(
+    table: &Constraints,
+    form: u32,
+    alternative: u32,
+    operands: &Operands,
+    number: u32,
+) -> bool
+    ensures { (forms : List Entry) → tables.AreConstraintsOf table.now forms → result ≡ spec.number_clashes forms form alternative operands.now number }
+{
+    table.number_clashes_in(form, alternative, operands, number)
 }
 
 /// How many alternatives an accepted form has, 1 where it has no constraints. The greatest `u32` stands for more, of which no form has

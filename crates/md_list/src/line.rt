@@ -1,21 +1,12 @@
 //! The lines of forms.
 ghost use Rattle.std.specs.Prelude.{◌≡◌, ◌++◌, OnOk, length};
-ghost use Rattle.std.specs.Fmt.{decimal};
 ghost use Rattle.md_list.specs.Listing as spec;
 
-use itoa::Buffer;
 use md_forms::{Entry, Form};
 use md_pattern::Judged;
 use plain_data::Memory;
 use rtx_tree::Name;
-
-fn print_number(number: u64, out: &mut Vec<u8>) -> Result<(), Memory>
-    ensures { OnOk result (out.new.items ≡ out.old.items ++ decimal number) }
-{
-    let mut buffer = Buffer::new();
-    out.extend_from_slice(buffer.format(number).as_bytes())?;
-    Ok(())
-}
+use text_words::print_count;
 
 /// Appends `ok`, or `aside` with the number of the reason.
 fn print_verdict(form: &Judged<Form>, out: &mut Vec<u8>) -> Result<(), Memory>
@@ -28,7 +19,7 @@ fn print_verdict(form: &Judged<Form>, out: &mut Vec<u8>) -> Result<(), Memory>
         }
         Err(reason) => {
             out.extend_from_slice(b"aside ")?;
-            print_number(u64::from(reason.number()), out)
+            print_count(u64::from(reason.number()), out)
         }
     }
 }
@@ -43,7 +34,7 @@ fn print_words(
 ) -> Result<(), Memory>
     ensures { OnOk result (out.new.items ≡ out.old.items ++ spec.line_with index head.now name.now form.now) }
 {
-    print_number(index, out)?;
+    print_count(index, out)?;
     out.push(b' ')?;
     out.extend_from_slice(head)?;
     out.push(b' ')?;

@@ -7,11 +7,15 @@ use Rattle.rtx_tree.specs.declared.code.Code.TheVariants.{Reg, ConstInt, Plus}
 use Rattle.rtx_tree.specs.declared.tree.Rtx.{Rtx, out-Rtx}
 use Rattle.rtx_tree.specs.Registers.{virtual_stack_vars}
 use Rattle.rtx_tree.specs.Tree.{is_reg_numbered}
+use Rattle.rv_regs.specs.Registers.{stack_pointer}
 
 -- ---- the parts of addresses
 
 abbrev pub is_stack_vars : Rtx → Bool
 is_stack_vars x = is_reg_numbered (out-Rtx x).code (out-Rtx x).number virtual_stack_vars
+
+abbrev pub is_stack_pointer : Rtx → Bool
+is_stack_pointer x = is_reg_numbered (out-Rtx x).code (out-Rtx x).number stack_pointer
 
 abbrev pub is_base_at : Code → ℤ → Bool
 is_base_at Reg number = not (int_eq number (pos virtual_stack_vars))
@@ -24,6 +28,10 @@ is_base x = is_base_at (out-Rtx x).code (out-Rtx x).number
 -- an offset for which a load and a store have room: 12 bits, signed
 abbrev pub is_near : ℤ → Bool
 is_near offset = int_le (negsuc 2047) offset && int_le offset (pos 2047)
+
+-- an offset for which they have none
+abbrev pub is_beyond : ℤ → Bool
+is_beyond offset = not (is_near offset)
 
 -- any offset
 abbrev pub is_any : ℤ → Bool
@@ -55,5 +63,10 @@ is_near_address x = is_base x || is_sum is_base is_near x
 abbrev pub is_frame_reference : Rtx → Bool
 is_frame_reference x = is_stack_vars x || is_sum is_stack_vars is_any x
 
+-- a place of the frame past what an offset reaches: the sum of sp and an offset below -2048 or above 2047. No load and no store addresses
+-- it by itself
+abbrev pub is_far_address : Rtx → Bool
+is_far_address x = is_sum is_stack_pointer is_beyond x
+
 abbrev pub is_legitimate_address : Rtx → Bool
-is_legitimate_address x = is_near_address x || is_frame_reference x
+is_legitimate_address x = is_near_address x || (is_frame_reference x || is_far_address x)

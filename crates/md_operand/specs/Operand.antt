@@ -3,12 +3,14 @@
 use Rattle.std.specs.Prelude.{ℕ, ℤ, pos, negsuc, int_le, Bool, true, false, ◌&&◌, ◌||◌, List, [], ◌∷◌, Option, Some, None, if◌then◌else◌, codes}
 use Rattle.std.specs.Str.{bytes_eq}
 use Rattle.rtx_tree.specs.declared.code.Code.{Code}
-use Rattle.rtx_tree.specs.declared.code.Code.TheVariants.{Reg, ConstInt, SymbolRef, Mem, Subreg, Eq, Ne, Lt, Le, Gt, Ge, Ltu, Leu, Gtu, Geu}
+use Rattle.rtx_tree.specs.declared.code.Code.TheVariants.{Reg, ConstInt, SymbolRef, Mem, Subreg}
 use Rattle.rtx_tree.specs.declared.code.Mode.{Mode}
 use Rattle.rtx_tree.specs.declared.code.Mode.TheVariants.{Void, QI, HI, SI, DI}
+use Rattle.rtx_tree.specs.declared.class.Class.{Class}
+use Rattle.rtx_tree.specs.declared.class.Class.TheVariants.{Comparison}
 use Rattle.rtx_tree.specs.declared.tree.Rtx.{Rtx, out-Rtx}
-use Rattle.rtx_tree.specs.Code.{mode_name}
-use Rattle.md_operand.specs.Addresses.{is_legitimate_address, is_frame_reference, is_base}
+use Rattle.rtx_tree.specs.Code.{class_of_code, mode_name}
+use Rattle.md_operand.specs.Addresses.{is_legitimate_address, is_far_address, is_frame_reference, is_base}
 use Rattle.md_operand.specs.declared.own.Own.{Own}
 use Rattle.md_operand.specs.declared.own.Own.TheVariants as own
 
@@ -58,18 +60,21 @@ is_memory_by _ kids = false
 abbrev pub is_memory : Rtx → Bool
 is_memory x = is_memory_by (out-Rtx x).code (out-Rtx x).kids
 
+abbrev pub is_far_by : Code → List Rtx → Bool
+is_far_by Mem (address ∷ []) = is_far_address address
+is_far_by _ kids = false
+
+-- memory at a far address
+abbrev pub is_far : Rtx → Bool
+is_far x = is_far_by (out-Rtx x).code (out-Rtx x).kids
+
+abbrev pub is_comparison_class : Class → Bool
+is_comparison_class Comparison = true
+is_comparison_class _ = false
+
+-- a code of the class of comparisons
 abbrev pub is_comparison_code : Code → Bool
-is_comparison_code Eq = true
-is_comparison_code Ne = true
-is_comparison_code Lt = true
-is_comparison_code Le = true
-is_comparison_code Gt = true
-is_comparison_code Ge = true
-is_comparison_code Ltu = true
-is_comparison_code Leu = true
-is_comparison_code Gtu = true
-is_comparison_code Geu = true
-is_comparison_code _ = false
+is_comparison_code c = is_comparison_class (class_of_code c)
 
 abbrev pub is_comparison : Rtx → Bool
 is_comparison x = is_comparison_code (out-Rtx x).code

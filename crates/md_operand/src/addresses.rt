@@ -3,11 +3,18 @@ ghost use Rattle.std.specs.Prelude.{◌≡◌};
 ghost use Rattle.md_operand.specs.Addresses as spec;
 
 use rtx_tree::{Code, Rtx, VIRTUAL_STACK_VARS};
+use rv_regs::STACK_POINTER;
 
 fn is_stack_vars(x: &Rtx) -> bool
     ensures { result ≡ spec.is_stack_vars x.now }
 {
     matches!(x.code, Code::Reg) && x.number == i64::from(VIRTUAL_STACK_VARS)
+}
+
+fn is_stack_pointer(x: &Rtx) -> bool
+    ensures { result ≡ spec.is_stack_pointer x.now }
+{
+    matches!(x.code, Code::Reg) && x.number == i64::from(STACK_POINTER)
 }
 
 /// Whether an expression is a register other than `virtual-stack-vars`.
@@ -30,6 +37,13 @@ fn is_near_constant(x: &Rtx) -> bool
     is_constant(x) && x.number >= -2048 && x.number <= 2047
 }
 
+/// Whether an expression is a constant of more than 12 bits, signed.
+fn is_beyond_constant(x: &Rtx) -> bool
+    ensures { result ≡ spec.is_constant spec.is_beyond x.now }
+{
+    is_constant(x) && !(x.number >= -2048 && x.number <= 2047)
+}
+
 /// Whether an expression is what a load or a store addresses by itself.
 fn is_near_address(x: &Rtx) -> bool
     ensures { result ≡ spec.is_near_address x.now }
@@ -50,10 +64,20 @@ pub fn frame_reference(x: &Rtx) -> bool
     }
 }
 
+/// Whether an expression is a far address: the sum of `sp` and a constant below -2048 or above 2047, in this order.
+pub fn far_address(x: &Rtx) -> bool
+    ensures { result ≡ spec.is_far_address x.now }
+{
+    match (x.code, x.kids.as_slice()) {
+        (Code::Plus, [base, offset]) => is_stack_pointer(base) && is_beyond_constant(offset),
+        _ => false,
+    }
+}
+
 /// Whether an expression is a legitimate address: a register other than `virtual-stack-vars`, the sum of such a one and a constant
-/// from -2048 to 2047, in this order, or a [`frame_reference`]. The modes of its parts are not looked at.
+/// from -2048 to 2047, in this order, a [`frame_reference`], or a [`far_address`]. The modes of its parts are not looked at.
 pub fn legitimate_address(x: &Rtx) -> bool
     ensures { result ≡ spec.is_legitimate_address x.now }
 {
-    is_near_address(x) || frame_reference(x)
+    is_near_address(x) || frame_reference(x) || far_address(x)
 }

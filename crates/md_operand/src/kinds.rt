@@ -2,8 +2,8 @@
 ghost use Rattle.std.specs.Prelude.{◌≡◌};
 ghost use Rattle.md_operand.specs.Operand as spec;
 
-use crate::addresses::{is_base, legitimate_address};
-use rtx_tree::{Code, Mode, Rtx};
+use crate::addresses::{far_address, is_base, legitimate_address};
+use rtx_tree::{Class, Code, Mode, Rtx};
 
 /// Whether a mode accepts another: a mode that is none accepts every mode.
 pub fn accepts_mode(wanted: Mode, mode: Mode) -> bool
@@ -63,21 +63,22 @@ pub fn is_memory(x: &Rtx) -> bool
     }
 }
 
-/// Whether it is one of the ten comparisons.
+/// Whether it is memory at a far address.
+pub fn is_far(x: &Rtx) -> bool
+    ensures { result ≡ spec.is_far x.now }
+{
+    match x.code {
+        Code::Mem => match x.kids.as_slice() {
+            [address] => far_address(address),
+            _ => false,
+        },
+        _ => false,
+    }
+}
+
+/// Whether it is a comparison.
 pub fn is_comparison(x: &Rtx) -> bool
     ensures { result ≡ spec.is_comparison x.now }
 {
-    matches!(
-        x.code,
-        Code::Eq
-            | Code::Ne
-            | Code::Lt
-            | Code::Le
-            | Code::Gt
-            | Code::Ge
-            | Code::Ltu
-            | Code::Leu
-            | Code::Gtu
-            | Code::Geu
-    )
+    matches!(x.code.class(), Class::Comparison)
 }

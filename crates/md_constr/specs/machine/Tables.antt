@@ -18,8 +18,8 @@ use Rattle.md_constr.specs.declared.meanings.Meanings.{Meanings}
 use Rattle.md_constr.specs.declared.forms.FormConstraints.{FormConstraints}
 use Rattle.md_constr.specs.declared.table.Constraints.{Constraints}
 use Rattle.md_constr.specs.Admits.{class_admits, form_admits, name_admits}
-use Rattle.md_constr.specs.Inputs.{inputs_of, changed_of}
-use Rattle.md_constr.specs.Fits.{Named, each_of, operand_fits, constraint_admits, all_fit}
+use Rattle.md_constr.specs.Inputs.{operands_of, inputs_of, changed_of}
+use Rattle.md_constr.specs.Fits.{Named, each_of, constraint_admits, fit_together, fits_alone, some_of, digit_stands, operand_clashes}
 
 -- ---- what a name means in a table
 
@@ -46,11 +46,11 @@ entry_admits e accepts x = option_map_or (λ f. form_admits accepts f x) (accept
 -- ---- the table of some forms
 
 abbrev pub constraints_in : Form → FormConstraints
-constraints_in f = record { accepted = true; constraints = f.constraints; inputs = inputs_of f; changed = changed_of f; alternatives = alternatives f.constraints }
+constraints_in f = record { accepted = true; constraints = f.constraints; operands = operands_of f; inputs = inputs_of f; changed = changed_of f; alternatives = alternatives f.constraints }
 
 -- a form that is set aside asks for nothing
 abbrev pub none_asked : FormConstraints
-none_asked = record { accepted = false; constraints = []; inputs = []; changed = []; alternatives = 0 }
+none_asked = record { accepted = false; constraints = []; operands = []; inputs = []; changed = []; alternatives = 0 }
 
 abbrev pub constraints_by : Result Form Reason → FormConstraints
 constraints_by (Ok f) = constraints_in f
@@ -64,13 +64,13 @@ constraints_of e = constraints_by e.form
 
 -- whether operands fit an alternative of a form that stands in a table
 abbrev pub found_fits : Named → ℕ → List (Option Rtx) → FormConstraints → Bool
-found_fits named alternative operands c = c.accepted && all_fit named c.inputs c.changed operands alternative c.constraints
+found_fits named alternative operands c = c.accepted && fit_together named c.operands c.inputs c.changed operands alternative c.constraints
 
 abbrev pub fits_in : Constraints → Accepts → ℕ → ℕ → List (Option Rtx) → Bool
 fits_in table accepts form alternative operands = option_map_or (found_fits (name_admits_in table.meanings accepts) alternative operands) (slice_get table.forms form) false
 
 abbrev pub found_number_fits : Named → ℕ → List (Option Rtx) → ℕ → FormConstraints → Bool
-found_number_fits named alternative operands number c = c.accepted && each_of number (operand_fits named c.inputs c.changed operands alternative) c.constraints
+found_number_fits named alternative operands number c = c.accepted && fits_alone named c.inputs c.changed operands alternative number c.constraints
 
 abbrev pub number_fits_in : Constraints → Accepts → ℕ → ℕ → List (Option Rtx) → ℕ → Bool
 number_fits_in table accepts form alternative operands number = option_map_or (found_number_fits (name_admits_in table.meanings accepts) alternative operands number) (slice_get table.forms form) false
@@ -80,6 +80,18 @@ found_number_admits named alternative operands number x c = c.accepted && each_o
 
 abbrev pub number_admits_in : Constraints → Accepts → ℕ → ℕ → List (Option Rtx) → ℕ → Rtx → Bool
 number_admits_in table accepts form alternative operands number x = option_map_or (found_number_admits (name_admits_in table.meanings accepts) alternative operands number x) (slice_get table.forms form) false
+
+abbrev pub found_number_names : ℕ → ℕ → ℕ → FormConstraints → Bool
+found_number_names alternative number other c = some_of number (digit_stands alternative other) c.constraints
+
+abbrev pub number_names_in : Constraints → ℕ → ℕ → ℕ → ℕ → Bool
+number_names_in table form alternative number other = option_map_or (found_number_names alternative number other) (slice_get table.forms form) false
+
+abbrev pub found_number_clashes : ℕ → List (Option Rtx) → ℕ → FormConstraints → Bool
+found_number_clashes alternative operands number c = some_of number (operand_clashes c.inputs c.changed operands alternative) c.constraints
+
+abbrev pub number_clashes_in : Constraints → ℕ → ℕ → List (Option Rtx) → ℕ → Bool
+number_clashes_in table form alternative operands number = option_map_or (found_number_clashes alternative operands number) (slice_get table.forms form) false
 
 abbrev pub alternatives_in : Constraints → ℕ → ℕ
 alternatives_in table form = option_map_or (λ c. c.alternatives) (slice_get table.forms form) 0

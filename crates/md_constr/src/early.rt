@@ -1,0 +1,95 @@
+//! Outputs that are changed before all inputs are taken.
+ghost use Rattle.std.specs.Prelude.{◌≡◌, ◌==◌};
+ghost use Rattle.std.specs.List.{list_any};
+ghost use Rattle.md_constr.specs.Fits as spec;
+
+use crate::admits::register_of;
+use md_forms::OperandConstraint;
+use md_text::Alternative;
+use rtx_tree::{Operands, Rtx};
+
+fn mentions_at(operands: &Operands, reg: u32, number: u64) -> bool
+    ensures { result ≡ spec.mentions_at operands.now reg number }
+{
+    match operands.get(number as usize) {
+        Some(x) => x.mentions(reg),
+        None => false,
+    }
+}
+
+fn is_among(numbers: &[u64], own: u64) -> bool
+    ensures { result ≡ list_any (λ number. number == own) numbers.now }
+{
+    numbers.iter().any(|number| *number == own)
+}
+
+/// Whether an input other than an operand mentions a register.
+fn is_shared(inputs: &[u64], operands: &Operands, own: u64, reg: u32) -> bool
+    ensures { result ≡ spec.is_shared inputs.now operands.now own reg }
+{
+    inputs.iter().any(|input| *input != own && mentions_at(operands, reg, *input))
+}
+
+/// Whether a register shares itself with an input other than an operand.
+fn shares_register(inputs: &[u64], operands: &Operands, own: u64, x: &Rtx) -> bool
+    ensures { result ≡ spec.shares_register inputs.now operands.now own x.now }
+{
+    match register_of(x) {
+        Some(reg) => is_shared(inputs, operands, own, reg),
+        None => false,
+    }
+}
+
+/// Whether an operand is changed before all inputs are taken.
+fn is_early(changed: &[u64], constraint: &OperandConstraint, alternative: &Alternative) -> bool
+    ensures { result ≡ spec.is_early changed.now constraint.now alternative.now }
+{
+    alternative.early && is_among(changed, u64::from(constraint.operand))
+}
+
+/// Whether an operand is an earlyclobber output in an alternative of its constraint that shares a register with an input.
+pub fn clashes_in(
+    inputs: &[u64],
+    changed: &[u64],
+    operands: &Operands,
+    constraint: &OperandConstraint,
+    x: &Rtx,
+    alternative: &Alternative,
+) -> bool
+    ensures { result ≡ spec.clashes_in inputs.now changed.now operands.now constraint.now x.now alternative.now }
+{
+    is_early(changed, constraint, alternative)
+        && shares_register(inputs, operands, u64::from(constraint.operand), x)
+}
+
+fn clashes_at(
+    inputs: &[u64],
+    changed: &[u64],
+    operands: &Operands,
+    alternative: usize,
+    constraint: &OperandConstraint,
+    x: &Rtx,
+) -> bool
+    ensures { result ≡ spec.clashes_at inputs.now changed.now operands.now alternative constraint.now x.now }
+{
+    match constraint.constraint.as_slice().get(alternative) {
+        Some(alternative) => clashes_in(inputs, changed, operands, constraint, x, alternative),
+        None => false,
+    }
+}
+
+/// Whether the operand of a constraint, where there is one, is such an output.
+pub fn operand_clashes(
+    inputs: &[u64],
+    changed: &[u64],
+    operands: &Operands,
+    alternative: usize,
+    constraint: &OperandConstraint,
+) -> bool
+    ensures { result ≡ spec.operand_clashes inputs.now changed.now operands.now alternative constraint.now }
+{
+    match operands.get(constraint.operand as usize) {
+        Some(x) => clashes_at(inputs, changed, operands, alternative, constraint, x),
+        None => false,
+    }
+}

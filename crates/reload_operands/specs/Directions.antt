@@ -3,10 +3,10 @@
 use Rattle.std.specs.Prelude.{ℕ, ◌==◌, Bool, List, [], ◌∷◌}
 use Rattle.std.specs.List.{list_any, flat_map}
 use Rattle.rtx_tree.specs.declared.code.Code.{Code}
-use Rattle.rtx_tree.specs.declared.code.Code.TheVariants.{Set, Clobber}
+use Rattle.rtx_tree.specs.declared.code.Code.TheVariants.{Clobber}
 use Rattle.rtx_tree.specs.declared.tree.Rtx.{Rtx}
 use Rattle.rtx_tree.specs.Tree.{head_of, kids_of}
-use Rattle.md_constr.specs.Inputs.{effects_of, inputs_in, changed_at}
+use Rattle.md_constr.specs.Inputs.{effects_of, inputs_in, outputs_in, changed_at}
 
 abbrev pub has_number : ℕ → List ℕ → Bool
 has_number k numbers = list_any (λ n. n == k) numbers
@@ -15,16 +15,9 @@ has_number k numbers = list_any (λ n. n == k) numbers
 abbrev pub is_input : Rtx → ℕ → Bool
 is_input pattern k = has_number k (inputs_in pattern)
 
-abbrev pub set_by_parts : Code → List Rtx → List ℕ
-set_by_parts Set (target ∷ source ∷ []) = changed_at target
-set_by_parts _ parts = []
-
-abbrev pub set_by : Rtx → List ℕ
-set_by effect = set_by_parts (head_of effect).code (kids_of effect)
-
 -- an output: an operand that a `set` of the pattern sets, or of which it sets the low part
 abbrev pub is_output : Rtx → ℕ → Bool
-is_output pattern k = has_number k (flat_map set_by (effects_of pattern))
+is_output pattern k = has_number k (outputs_in pattern)
 
 abbrev pub clobbered_by_parts : Code → List Rtx → List ℕ
 clobbered_by_parts Clobber (target ∷ []) = changed_at target

@@ -1,0 +1,7 @@
+pub mod Opened
+pub mod PutLaws
+pub mod InsideLaws
+pub mod NumberLaws
+pub mod OrderLaws
+pub mod GiverLaws
+pub mod ChangeLaws

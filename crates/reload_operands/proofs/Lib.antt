@@ -3,5 +3,6 @@ pub mod PutLaws
 pub mod InsideLaws
 pub mod NumberLaws
 pub mod OrderLaws
+pub mod RisingLaws
 pub mod GiverLaws
 pub mod ChangeLaws

@@ -5,7 +5,6 @@ use Rattle.std.specs.List.{cons_option, filter_map, list_any}
 use Rattle.std.specs.Option.{option_map_or}
 use Rattle.std.proofs.lemmas.List.{drop_all}
 use Rattle.rtx_tree.specs.declared.tree.Rtx.{Rtx}
-use Rattle.rtx_tree.specs.Tree.{mentions_reg}
 use Rattle.reload_operands.specs.Changes.{is_other_memory, any_other_memory}
 use Rattle.reload_operands.proofs.Opened.{opened}
 

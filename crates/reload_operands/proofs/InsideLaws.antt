@@ -8,7 +8,7 @@ use Rattle.rtx_tree.specs.Tree.{head_of, kids_of}
 use Rattle.md_match.specs.declared.role.Role.{Role}
 use Rattle.md_match.specs.declared.role.Role.TheVariants.{Operand, Operator, Itself}
 use Rattle.md_match.specs.Pattern.{role_of}
-use Rattle.reload_operands.specs.Put.{Inside, is_lowpart, any_inside, is_inside, inside_parts, inside_as, inside_step, inside_low}
+use Rattle.reload_operands.specs.Put.{Inside, is_lowpart, any_inside, is_inside, inside_as, inside_step, inside_low}
 use Rattle.reload_operands.proofs.Opened.{opened}
 
 pub inside_out : (k : ℕ) (p : Rtx) (inside : Bool) (x : Rtx) → inside_low k p inside x ≡ inside_as k (role_of (head_of p).code) (head_of p).number (map (inside_low k) (kids_of p)) inside x

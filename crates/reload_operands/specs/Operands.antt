@@ -1,6 +1,6 @@
 -- What reload knows of the operands of an instruction: GCC Internals, "RTL Template", "Simple Constraints" and "RTL passes" (reload). The
 -- instruction is matched where references to the frame are put in and homes are not; with its homes it is handed in too.
-use Rattle.std.specs.Prelude.{ℕ, ℤ, pos, negsuc, Bool, true, false, ◌==◌, nat_lt, List, [], ◌∷◌, Option, Some, None, if◌then◌else◌, is_some, codes}
+use Rattle.std.specs.Prelude.{ℕ, ℤ, pos, negsuc, Bool, true, false, ◌==◌, nat_lt, List, [], ◌∷◌, Option, Some, if◌then◌else◌, is_some, codes}
 use Rattle.std.specs.List.{find, flat_map}
 use Rattle.std.specs.Str.{bytes_eq}
 use Rattle.rtx_tree.specs.declared.code.Code.{Code}

@@ -1,6 +1,6 @@
 -- New trees in the places of operands, and operands that stand in low parts: GCC Internals, "RTL Template" and "Registers and Memory"
 -- (`subreg`). An operand's places are those of the `match_operand` or `match_scratch` that gives it, and of its dups.
-use Rattle.std.specs.Prelude.{ℕ, ℤ, pos, Bool, true, false, ◌&&◌, ◌||◌, ◌==◌, List, [], ◌∷◌, length, if◌then◌else◌, unwrap_or}
+use Rattle.std.specs.Prelude.{ℕ, ℤ, pos, Bool, true, false, ◌&&◌, ◌||◌, ◌==◌, List, ◌∷◌, length, if◌then◌else◌, unwrap_or}
 use Rattle.std.specs.Ordering.{int_eq}
 use Rattle.rtx_tree.specs.declared.code.Code.{Code}
 use Rattle.rtx_tree.specs.declared.code.Code.TheVariants.{Subreg}

@@ -1,4 +1,4 @@
-use Rattle.std.proofs.Common.{rules, sym, ◌∙◌}
+use Rattle.std.proofs.Common.{sym, ◌∙◌}
 use Rattle.std.proofs.lemmas.Result.{IfOk-weaker}
 use Rattle.reload_operands.proofs.PutLaws.{made_operator, made_itself}
 use Rattle.reload_operands.proofs.news.+putting.Goals as goal

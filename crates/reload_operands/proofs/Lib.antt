@@ -1,0 +1,8 @@
+pub mod Opened
+pub mod PutLaws
+pub mod InsideLaws
+pub mod NumberLaws
+pub mod OrderLaws
+pub mod RisingLaws
+pub mod GiverLaws
+pub mod ChangeLaws

@@ -1,0 +1,20 @@
+-- Two lists from a place on.
+use Rattle.std.proofs.Common.{◌≡◌, ℕ, suc, ◌+◌, ◌<◌, List, [], ◌∷◌, ◌++◌, length, drop, get_or, add-one, sym, ap, ◌∙◌, append_assoc}
+use Rattle.std.specs.List.{flat_map}
+use Rattle.std.proofs.Math.Seq.{drop-cons}
+use Rattle.std.proofs.lemmas.List.{append-nil}
+
+-- what stands at a place, and what stands behind it
+pub opened : {X : Type 0} (xs : List X) (i : ℕ) (x : X) → i < length xs → x ≡ get_or xs i x → drop i xs ≡ x ∷ drop (i + 1) xs
+opened xs i x h e = rw add-one (drop-cons xs i x h ∙ ap (λ y. y ∷ drop (suc i) xs) (sym e))
+
+-- ---- what is appended for each of some things
+
+-- it was appended for one more
+pub pushed_next : {X A : Type 0} (f : X → List A) (xs : List X) (i : ℕ) (x : X) (out more whole : List A) →
+    i < length xs → x ≡ get_or xs i x → more ≡ out ++ f x → out ++ flat_map f (drop i xs) ≡ whole → more ++ flat_map f (drop (i + 1) xs) ≡ whole
+pushed_next f xs i x out more whole within is made h =
+    rw made (append_assoc out (f x) (flat_map f (drop (i + 1) xs)) ∙ (sym (ap (λ ys. out ++ flat_map f ys) (opened xs i x within is)) ∙ h))
+
+pub pushed_ends : {A : Type 0} (out whole : List A) → out ++ [] ≡ whole → out ≡ whole
+pushed_ends out whole h = sym (append-nil out) ∙ h

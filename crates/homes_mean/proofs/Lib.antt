@@ -1,0 +1,11 @@
+pub mod Stores
+pub mod Grows
+pub mod Trees
+pub mod Offsets
+pub mod Registers
+pub mod Placing
+pub mod Becoming
+pub mod HomesApart
+pub mod Setting
+pub mod After
+pub mod Plain

@@ -1,0 +1,56 @@
+-- What an instruction and its effects become where its registers have homes: GCC Internals, "RTL passes" (reload) and "Side Effect
+-- Expressions".
+use Rattle.std.specs.Prelude.{◌≡◌, ◌⊎◌, ◌+◌, ℕ, true, false, List, [], ◌∷◌, Some, slice_get}
+use Rattle.bits64.specs.declared.Width.{Width}
+use Rattle.rtx_tree.specs.Registers.{virtual_stack_vars}
+use Rattle.rtx_tree.specs.Tree.{mentions_reg}
+use Rattle.rtx_tree.specs.declared.function.Function.{Function}
+use Rattle.rtx_tree.specs.declared.function.Insn.{Insn}
+use Rattle.rtx_tree.specs.declared.tree.Rtx.{Rtx}
+use Rattle.rtl_step.specs.Regs.{known_of}
+use Rattle.rtl_step.specs.declared.effect.Effect.{Effect}
+use Rattle.rtl_step.specs.declared.effect.Effect.TheVariants.{Nothing, Sets, Unsets, Stores}
+use Rattle.rtl_step.specs.declared.regs.Known.{Known}
+use Rattle.reg_uses.specs.Uses.{insn_defines, has_argument}
+use Rattle.rtl_func.specs.Calls.{is_argument}
+use Rattle.window_replace.specs.Natural.{RegistersAreNatural}
+use Rattle.assign.specs.declared.home.Home.TheVariants.{Hard, Slot}
+use Rattle.assign.specs.declared.home.HomeOf.{HomeOf}
+use Rattle.assign.specs.declared.places.Layout.{Layout}
+use Rattle.reload_homes.specs.FrameRefs.{framed}
+use Rattle.reload_homes.specs.Homes.{home_of, homed, slot_offset}
+use Rattle.homes_mean.specs.Stands.{has_home}
+
+-- ---- instructions
+
+-- a tree with its frame references put in, and then the homes of its registers
+abbrev pub placed : List HomeOf → Layout → Rtx → Rtx
+placed homes layout x = homed homes layout (framed layout.size x)
+
+-- What is asked of a function: its registers have natural numbers; of the hard ones it names a0 to a7 alone, and virtual-stack-vars,
+-- which it changes nowhere.
+pub record CanBePlaced (f : Function) : Type 0 where
+  pub natural : RegistersAreNatural f
+  pub named : (place reg : ℕ) (i : Insn) → slice_get f.insns place ≡ Some i → mentions_reg reg i.pattern ≡ true →
+      (reg ≡ virtual_stack_vars) ⊎ (has_home reg ≡ true)
+  pub passed : (place reg : ℕ) (i : Insn) → slice_get f.insns place ≡ Some i → has_argument reg i.uses ≡ true → is_argument reg ≡ true
+  pub vars : (place : ℕ) (i : Insn) → slice_get f.insns place ≡ Some i → insn_defines i virtual_stack_vars ≡ false
+
+-- ---- effects
+
+-- What an effect becomes, where the frame has this lowest address: a register that is set is set in its home, which is a store of as many
+-- bits where that is a slot; one that is unset is unset, or its slot is left; a store stays.
+pub data BecomesInHomes (homes : List HomeOf) (layout : Layout) (base : ℕ) : Effect → Effect → Type 0 where
+  sets : (reg hard : ℕ) (known : Known) → home_of homes reg ≡ Hard hard → BecomesInHomes homes layout base (Sets reg known) (Sets hard known)
+  fills : (reg : ℕ) (w : Width) (value : ℕ) → home_of homes reg ≡ Slot →
+      BecomesInHomes homes layout base (Sets reg (known_of w value)) (Stores w (base + slot_offset layout reg) value)
+  unsets : (reg hard : ℕ) → home_of homes reg ≡ Hard hard → BecomesInHomes homes layout base (Unsets reg) (Unsets hard)
+  leaves : (reg : ℕ) → home_of homes reg ≡ Slot → BecomesInHomes homes layout base (Unsets reg) Nothing
+  stores : (w : Width) (at value : ℕ) → BecomesInHomes homes layout base (Stores w at value) (Stores w at value)
+  nothing : BecomesInHomes homes layout base Nothing Nothing
+
+-- each of some effects, in order
+pub data AllInHomes (homes : List HomeOf) (layout : Layout) (base : ℕ) : List Effect → List Effect → Type 0 where
+  none : AllInHomes homes layout base [] []
+  one_more : (e e' : Effect) (es es' : List Effect) → BecomesInHomes homes layout base e e' → AllInHomes homes layout base es es' →
+      AllInHomes homes layout base (e ∷ es) (e' ∷ es')

@@ -1,0 +1,5 @@
+pub mod Put
+pub mod Directions
+pub mod Bases
+pub mod Changes
+pub mod Operands

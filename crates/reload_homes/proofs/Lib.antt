@@ -1,0 +1,4 @@
+pub mod Wrapping
+pub mod Rewrites
+pub mod Lookups
+pub mod OrderedLaws

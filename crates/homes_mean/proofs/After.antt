@@ -31,7 +31,7 @@ use Rattle.window_mean.specs.Beside.{Within}
 use Rattle.window_keep.specs.Same.{KnownToo}
 use Rattle.window_same.proofs.Replies.{low_in}
 use Rattle.assign.specs.Frame.{is_home, lives_in, saved_for_calls}
-use Rattle.assign.specs.Frame as layout
+use Rattle.assign.specs.Frame as frames
 use Rattle.assign.specs.declared.home.Home.{Home}
 use Rattle.assign.specs.declared.home.Home.TheVariants.{Hard, Slot}
 use Rattle.assign.specs.declared.home.HomeOf.{HomeOf}
@@ -97,7 +97,15 @@ pub record Holds (c : Setting) (place : ℕ) (waits : ℕ → Bool) (b : Both) :
 
 -- ---- numbers
 
-from_ends : (a n b k : ℕ) → ((place : ℕ) → a ≤ place → place < a + n → b ≤ place → place < b + k → ⊥) → 0 < n → 0 < k → Apart a n b k
+abbrev NeverBoth : ℕ → ℕ → ℕ → ℕ → Type 0
+NeverBoth a n b k = (place : ℕ) → a ≤ place → place < a + n → b ≤ place → place < b + k → ⊥
+
+meet : (a n b k : ℕ) → NeverBoth a n b k → 0 < n → 0 < k → (o : Bool) → nat_le a b ≡ o → b < a + n → a < b + k → ⊥
+meet a n b k never some more true is first second = let less : a ≤ b = grind (arith, nat_tests, is) in never b less first (omega arith) (omega (arith, more))
+meet a n b k never some more false is first second = let less : b < a = grind (arith, nat_tests, is) in never a (omega arith) (omega (arith, some)) (omega (arith, less)) second
+
+-- two ranges with no place in common are apart
+from_ends : (a n b k : ℕ) → NeverBoth a n b k → 0 < n → 0 < k → Apart a n b k
 from_ends a n b k never some more = by (nat_le (a + n) b) (nat_le (b + k) a) refl refl
   where
     by : (p q : Bool) → nat_le (a + n) b ≡ p → nat_le (b + k) a ≡ q → Apart a n b k
@@ -106,11 +114,7 @@ from_ends a n b k never some more = by (nat_le (a + n) b) (nat_le (b + k) a) ref
     by false false below above =
         let first : b < a + n = grind (arith, nat_tests, below) in
         let second : a < b + k = grind (arith, nat_tests, above) in
-        absurd (meet (nat_le a b) refl first second)
-      where
-        meet : (o : Bool) → nat_le a b ≡ o → b < a + n → a < b + k → ⊥
-        meet true is first second = let less : a ≤ b = grind (arith, nat_tests, is) in never b less first (omega arith) (omega (arith, more))
-        meet false is first second = let less : b < a = grind (arith, nat_tests, is) in never a (omega arith) (omega (arith, some)) (omega (arith, less)) second
+        absurd (meet a n b k never some more (nat_le a b) refl first second)
 
 some_bytes : (w : Width) → 0 < bytes_of w
 some_bytes W8 = omega arith
@@ -190,10 +194,10 @@ turn : (b : Bool) → not b ≡ true → b ≡ true → ⊥
 turn true is here = false≢true is
 turn false is here = false≢true here
 
-in_locals : (sp : ℕ) (start : Start) (locals address : ℕ) → start.sp ≡ sp → locals ≤ sp → is_visible (locals_range start locals) address ≡ true →
+in_locals : (start : Start) (locals address : ℕ) → locals ≤ start.sp → is_visible (locals_range start locals) address ≡ true →
     is_below_sp start locals address ≡ true
-in_locals sp start zero address is fits seen = absurd (false≢true seen)
-in_locals sp start (suc n) address is fits seen = grind (arith, nat_tests, seen, fits, is)
+in_locals start zero address fits seen = absurd (false≢true seen)
+in_locals start (suc n) address fits seen = grind (arith, nat_tests, seen, fits)
 
 module _ (c : Setting) where
   abbrev slot_at : ℕ → ℕ
@@ -215,7 +219,7 @@ module _ (c : Setting) where
   listed_saved : (hard k : ℕ) (x : HomeOf) → slice_get c.homes k ≡ Some x → x.home ≡ Hard hard → has_reg saved_registers hard ≡ true →
       has_reg (map (λ (s : SavedAt). s.reg) c.layout.saved) hard ≡ true
   listed_saved hard k x at is has =
-      let lives : is_home c.homes hard ≡ true = any_at (lives_in hard) c.homes k x at (ap (λ home. layout.is_in hard home) is ∙ eq-eqb hard hard refl) in
+      let lives : is_home c.homes hard ≡ true = any_at (lives_in hard) c.homes k x at (ap (λ home. frames.is_in hard home) is ∙ eq-eqb hard hard refl) in
       ap (λ regs. has_reg regs hard) c.frame.saved
       ∙ later_has (saved_for_calls c.f.insns) (filter (is_home c.homes) saved_registers) hard (filter_has (is_home c.homes) saved_registers hard has lives)
 
@@ -241,16 +245,16 @@ module _ (c : Setting) where
       ∙ ap (λ b. b || is_visible (locals_range c.start c.f.locals) address) (c.lawful.apart address inside)
       ∙ false_from_ne_true (is_visible (locals_range c.start c.f.locals) address)
       (λ seen. let fits = c.lawful.holds in let above = c.lawful.above_zero in
-      false≢true (sym other ∙ in_locals c.start.sp c.start c.f.locals address refl (omega (arith, fits, above)) seen))
+      false≢true (sym other ∙ in_locals c.start c.f.locals address (omega (arith, fits, above)) seen))
 
   -- a byte of a slot is in the slots
   pub slot_in : (reg address : ℕ) → home_of c.homes reg ≡ Slot → slot_at reg ≤ address → address < slot_at reg + 8 → in_slots c.layout (base c) address ≡ true
   slot_in reg address is least most =
       let slot = slot_is c.f c.homes c.layout c.frame reg is in
-      let offset = slot.2.1.1 in
+      let offset = slot.4 in
       let first : base c + slot.1.offset ≤ address = omega (arith, least, offset) in
       let second : address < base c + slot.1.offset + 8 = omega (arith, most, offset) in
-      any_mapped (is_in address) (λ (s : SlotAt). record { address = base c + s.offset; length = 8 }) c.layout.slots slot.0 slot.1 slot.2.0
+      any_mapped (is_in address) (λ (s : SlotAt). record { address = base c + s.offset; length = 8 }) c.layout.slots slot.0 slot.1 slot.2
       (grind (arith, nat_tests, first, second))
 
   -- what stands in a home stays where the home does

@@ -184,7 +184,7 @@ module _ (homes : List HomeOf) (layout : Layout) (m : Machines) (are : AreHomed 
   pub record Fits (x : Rtx) : Type 0 where
     pub natural : all_natural x ≡ true
     pub named : (reg : ℕ) → mentions_reg reg x ≡ true → (reg ≡ 32) ⊎ m.Named reg
-    pub used : (reg : ℕ) → effect_uses reg x ≡ true → (reg ≡ 32) ⊎ m.Counts reg
+    pub used : (reg : ℕ) → m.Named reg → effect_uses reg x ≡ true → m.Counts reg
     pub vars : effect_defines 32 x ≡ false
 
   -- what it becomes
@@ -197,10 +197,6 @@ module _ (homes : List HomeOf) (layout : Layout) (m : Machines) (are : AreHomed 
     pub stored : (w : Width) (at value : ℕ) → e ≡ Stores w at value → is_some (load w m.memory at) ≡ true
     -- it changes each register that the element defines
     pub only : (reg : ℕ) → effect_defines reg x ≡ true → changed_by e ≡ Some reg
-
-  some_is : (reg : ℕ) → (reg ≡ 32) ⊎ m.Named reg → 0 < reg
-  some_is reg (inl vars) = omega (arith, vars)
-  some_is reg (inr named) = are.positive reg named
 
   -- ---- a `set` of a register
 
@@ -306,8 +302,10 @@ module _ (homes : List HomeOf) (layout : Layout) (m : Machines) (are : AreHomed 
     uses_is reg = ap (λ c. effect_uses_by reg c (kids_of x) x) is.code ∙ ap (λ kids. effect_uses_by reg Set kids x) is.kids
 
     source_known : KnownIn source
-    source_known reg has =
-        fits.used reg (uses_is reg ∙ or_later (place_reads reg place) _ (reads_it reg source (some_is reg (fits.named reg (in_source reg has))) has))
+    source_known reg has = elim (fits.named reg (in_source reg has)) [
+      | inl vars ↦ inl vars
+      | inr named ↦ inr (fits.used reg named (uses_is reg ∙ or_later (place_reads reg place) _ (reads_it reg source (are.positive reg named) has)))
+    ]
 
     natural_parts : (all_natural place ≡ true) × (all_natural source ≡ true)
     natural_parts =
@@ -333,8 +331,11 @@ module _ (homes : List HomeOf) (layout : Layout) (m : Machines) (are : AreHomed 
     address_known a at reg has =
         let parts = place_code (out-Rtx place).code (out-Rtx place).kids a at in
         let stands = mentions_kid place reg (ap (list_any (mentions_reg reg)) parts.1 ∙ or_first (mentions_reg reg a) false has) in
-        fits.used reg (uses_is reg ∙ or_first (place_reads reg place) _
-        (ap (λ c. place_reads_by reg c place) parts.0 ∙ reads_it reg place (some_is reg (fits.named reg (in_place reg stands))) stands))
+        elim (fits.named reg (in_place reg stands)) [
+          | inl vars ↦ inl vars
+          | inr named ↦ inr (fits.used reg named (uses_is reg ∙ or_first (place_reads reg place) _
+              (ap (λ c. place_reads_by reg c place) parts.0 ∙ reads_it reg place (are.positive reg named) stands)))
+        ]
 
     address_natural : (a : Rtx) → address_of place ≡ Some a → all_natural a ≡ true
     address_natural a at =
@@ -353,19 +354,19 @@ module _ (homes : List HomeOf) (layout : Layout) (m : Machines) (are : AreHomed 
     register_becomes w e wide has =
         let parts = sets_is (register_of place) (value_of m.symbols m.regs m.memory source w) w e has in
         let reg = parts.0 in
-        let t = target place reg natural_parts.0 parts.2.0 in
+        let t = target place reg natural_parts.0 parts.2 in
         let named = target_named reg t in
         let mode = (head_of place).mode in
-        let inside = set_in mode (put source) w reg parts.1 (home_of homes reg) refl named.1 (source_stays.values w parts.1 parts.2.1.0) in
+        let inside = set_in mode (put source) w reg parts.1 (home_of homes reg) refl named.1 (source_stays.values w parts.1 parts.3) in
         let there : set_effect m.symbols m.others m.other (put place) (put source) ≡ Some inside.0 =
             ap (λ p. set_effect m.symbols m.others m.other p (put source)) (target_put place reg named.0 t)
             ∙ ap (λ w. option_and_then (set_place (address_of (place_for homes layout mode reg)) m.symbols m.others m.other (place_for homes layout mode reg) (put source)) w)
             (ap width_of (mode_of_place homes layout m are mode reg (home_of homes reg)) ∙ wide)
-            ∙ inside.1.0 in
-        subst (λ e. Becomes x e (effect_of m.symbols m.others m.other (put x))) parts.2.1.1 (record {
+            ∙ inside.1 in
+        subst (λ e. Becomes x e (effect_of m.symbols m.others m.other (put x))) parts.4 (record {
           effect = inside.0;
           is = set_put ∙ there;
-          becomes = inside.1.1;
+          becomes = inside.2;
           named = λ other same. subst m.Named (changed_one reg other same) named.1;
           defines = λ other same. subst (λ r. effect_defines r x ≡ true) (changed_one reg other same)
               (defines_is reg ∙ target_defined place reg (are.positive reg named.1) t);
@@ -382,17 +383,17 @@ module _ (homes : List HomeOf) (layout : Layout) (m : Machines) (are : AreHomed 
             ap (λ o. option_and_then (set_place o m.symbols m.others m.other (put place) (put source)) (width_of (head_of (put place)).mode)) (memory_address place a at)
             ∙ ap (option_and_then (set_memory m.symbols m.others m.other (put a) (put source))) (ap width_of (mode_put place a at) ∙ wide)
             ∙ ap (λ o. of_two (λ at value. if is_some (load w m.other at) then Some (Stores w at value) else None) o (value_of m.symbols m.others m.other (put source) w))
-            (address_stays.values W64 parts.0 parts.2.0)
+            (address_stays.values W64 parts.0 parts.2)
             ∙ ap (λ o. of_two (λ at value. if is_some (load w m.other at) then Some (Stores w at value) else None) (Some parts.0) o)
-            (source_stays.values w parts.1 parts.2.1.0)
-            ∙ ap (λ b. if b then Some (Stores w parts.0 parts.1) else None) (loads_too w parts.0 (load w m.memory parts.0) refl parts.2.1.1.0) in
-        subst (λ e. Becomes x e (effect_of m.symbols m.others m.other (put x))) parts.2.1.1.1 (record {
+            (source_stays.values w parts.1 parts.3)
+            ∙ ap (λ b. if b then Some (Stores w parts.0 parts.1) else None) (loads_too w parts.0 (load w m.memory parts.0) refl parts.4) in
+        subst (λ e. Becomes x e (effect_of m.symbols m.others m.other (put x))) parts.5 (record {
           effect = Stores w parts.0 parts.1;
           is = set_put ∙ there;
           becomes = placed_effect.stores w parts.0 parts.1;
           named = λ other same. absurd (let no : ⊥ = cc in no);
           defines = λ other same. absurd (let no : ⊥ = cc in no);
-          stored = λ v at value same. stored_there w v parts.0 at parts.1 value same parts.2.1.1.0;
+          stored = λ v at value same. stored_there w v parts.0 at parts.1 value same parts.4;
           only = λ other is_it. absurd (no_target Mem place other (place_code (out-Rtx place).code (out-Rtx place).kids a at).0 refl (sym (defines_is other) ∙ is_it));
         })
 
@@ -474,13 +475,13 @@ module _ (homes : List HomeOf) (layout : Layout) (m : Machines) (are : AreHomed 
         let parts = unsets_is (register_of place) e has in
         let reg = parts.0 in
         let natural : all_natural place ≡ true = (both_of (all_natural place) _ (sym (ap (list_all all_natural) is.kids) ∙ natural_kids x fits.natural)).0 in
-        let t = target place reg natural parts.1.0 in
+        let t = target place reg natural parts.1 in
         let named = clobbered_named reg t in
         let inside = clobbers_nothing (head_of place).mode reg (home_of homes reg) refl named.1 in
-        subst (λ e. Becomes x e (effect_of m.symbols m.others m.other (put x))) parts.1.1 (record {
+        subst (λ e. Becomes x e (effect_of m.symbols m.others m.other (put x))) parts.2 (record {
           effect = inside.0;
-          is = one_put Clobber x place refl is ∙ ap clobber_effect (target_put place reg named.0 t) ∙ inside.1.0;
-          becomes = inside.1.1;
+          is = one_put Clobber x place refl is ∙ ap clobber_effect (target_put place reg named.0 t) ∙ inside.1;
+          becomes = inside.2;
           named = λ other same. subst m.Named (changed_one reg other same) named.1;
           defines = λ other same. subst (λ r. effect_defines r x ≡ true) (changed_one reg other same)
               (defines_place reg ∙ target_defined place reg (are.positive reg named.1) t);

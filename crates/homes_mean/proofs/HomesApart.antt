@@ -35,7 +35,7 @@ listed key (x ∷ xs) n = by (key x == n) refl
     by : (b : Bool) → (key x == n) ≡ b → Listed key (x ∷ xs) n (cond b (Some x) (find (λ x. key x == n) xs)) ⊎ (cond b (Some x) (find (λ x. key x == n) xs) ≡ None)
     by true is = inl (0, x, refl, eqb-true (key x) n is, refl)
     by false is = elim (listed key xs n) [
-      | inl found ↦ inl (suc found.0, found.1, found.2.0, found.2.1.0, found.2.1.1)
+      | inl found ↦ inl (suc found.0, found.1, found.2, found.3, found.4)
       | inr none ↦ inr none
     ]
 
@@ -45,7 +45,7 @@ listed key (x ∷ xs) n = by (key x == n) refl
 pub home_is : (homes : List HomeOf) (reg : ℕ) →
     ((k : ℕ) × (x : HomeOf) × (slice_get homes k ≡ Some x) × (register x ≡ reg) × (home_of homes reg ≡ x.home)) ⊎ (home_of homes reg ≡ Hard reg)
 home_is homes reg = elim (listed register homes reg) [
-  | inl found ↦ inl (found.0, found.1, found.2.0, found.2.1.0, ap (λ o. option_map_or (λ (x : HomeOf). x.home) o (Hard reg)) found.2.1.1)
+  | inl found ↦ inl (found.0, found.1, found.2, found.3, ap (λ o. option_map_or (λ (x : HomeOf). x.home) o (Hard reg)) found.4)
   | inr none ↦ inr (ap (λ o. option_map_or (λ (x : HomeOf). x.home) o (Hard reg)) none)
 ]
 
@@ -165,7 +165,7 @@ module _ (f : Function) (homes : List HomeOf) (layout : Layout) (frame : IsFrame
         let place = mapped_at (λ (s : SlotAt). s.pseudo) layout.slots slot.0 x.pseudo (ap (λ (ps : List ℕ). slice_get ps slot.0) frame.slots ∙ slot.1) in
         elim (listed (λ (s : SlotAt). pseudo s.pseudo) layout.slots reg) [
           | inl (i, s, there, number, found) ↦ (i, s, there, number, ap (λ o. option_map_or (λ (s : SlotAt). s.offset) o 0) found)
-          | inr none ↦ absurd (found_some (λ (s : SlotAt). pseudo s.pseudo) layout.slots slot.0 reg place.0 place.1.0 (ap pseudo place.1.1 ∙ same) none)
+          | inr none ↦ absurd (found_some (λ (s : SlotAt). pseudo s.pseudo) layout.slots slot.0 reg place.0 place.1 (ap pseudo place.2 ∙ same) none)
         ]
     | inr itself ↦ absurd (no_slot reg (sym itself ∙ is))
   ]
@@ -190,8 +190,8 @@ module _ (f : Function) (homes : List HomeOf) (layout : Layout) (frame : IsFrame
   of_offset : (P : ℕ → Type 0) → All P (offsets layout) → (reg : ℕ) → home_of homes reg ≡ Slot → P (slot_offset layout reg)
   of_offset P all reg is =
       let slot = slot_is reg is in
-      let place = offset_at layout.saved layout.slots slot.0 slot.1 slot.2.0 in
-      subst P (place.1 ∙ sym slot.2.1.1) (all (length layout.saved + slot.0) 0 place.0)
+      let place = offset_at layout.saved layout.slots slot.0 slot.1 slot.2 in
+      subst P (place.1 ∙ sym slot.4) (all (length layout.saved + slot.0) 0 place.0)
 
   -- a slot is aligned, and stands within the frame and below the locals
   pub slot_aligned : (reg : ℕ) → home_of homes reg ≡ Slot → slot_offset layout reg % 8 ≡ 0
@@ -205,12 +205,12 @@ module _ (f : Function) (homes : List HomeOf) (layout : Layout) (frame : IsFrame
   slots_apart a b differ is_a is_b =
       let s = slot_is a is_a in
       let t = slot_is b is_b in
-      let first = offset_at layout.saved layout.slots s.0 s.1 s.2.0 in
-      let second = offset_at layout.saved layout.slots t.0 t.1 t.2.0 in
-      let at_a = first.1 ∙ sym s.2.1.1 in
-      let at_b = second.1 ∙ sym t.2.1.1 in
+      let first = offset_at layout.saved layout.slots s.0 s.1 s.2 in
+      let second = offset_at layout.saved layout.slots t.0 t.1 t.2 in
+      let at_a = first.1 ∙ sym s.4 in
+      let at_b = second.1 ∙ sym t.4 in
       ⊎_elim
-      (λ (same : s.0 ≡ t.0). absurd (differ (sym s.2.1.0 ∙ (ap (λ (x : SlotAt). pseudo x.pseudo) (same_Some s.1 t.1 (sym s.2.0 ∙ (ap (slice_get layout.slots) same ∙ t.2.0))) ∙ t.2.1.0))))
+      (λ (same : s.0 ≡ t.0). absurd (differ (sym s.3 ∙ (ap (λ (x : SlotAt). pseudo x.pseudo) (same_Some s.1 t.1 (sym s.2 ∙ (ap (slice_get layout.slots) same ∙ t.2))) ∙ t.3))))
       (λ (other : s.0 ≢ t.0). ⊎_elim
       (λ (less : s.0 < t.0). let below = frame.apart (length layout.saved + s.0) (length layout.saved + t.0) 0 (omega (arith, less)) second.0 in
       inr (subst (λ n. slot_offset layout b + 8 ≤ n) at_a (subst (λ n. n + 8 ≤ get_or (offsets layout) (length layout.saved + s.0) 0) at_b below)))

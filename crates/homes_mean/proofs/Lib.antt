@@ -5,6 +5,7 @@ pub mod Offsets
 pub mod Registers
 pub mod Placing
 pub mod Becoming
+pub mod Jumps
 pub mod HomesApart
 pub mod Setting
 pub mod After

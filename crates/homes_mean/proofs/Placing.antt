@@ -23,7 +23,6 @@ use Rattle.rtx_tree.proofs.Trees.{head_of-tree, kids_of-tree, mentions_out}
 use Rattle.run_memory.specs.RunMemory.{load}
 use Rattle.rtl_step.specs.Regs.{Regs, reg_value}
 use Rattle.rtl_step.specs.Value.{Reading, width_of, value_of, of_one}
-use Rattle.rtl_print.proofs.TreeText.{rtx_induction}
 use Rattle.md_operand.specs.Addresses.{is_stack_vars, is_constant, is_constant_at, is_any}
 use Rattle.sym_insns.specs.Shape.{is_natural, all_natural}
 use Rattle.window_mean.specs.Beside.{Within}
@@ -40,7 +39,7 @@ use Rattle.homes_mean.specs.Stands.{content_in}
 use Rattle.homes_mean.specs.Placed.{placed}
 use Rattle.homes_mean.proofs.Grows.{AllRead, leaf_too, value_grows}
 use Rattle.homes_mean.proofs.Offsets.{from_sp_is, known_each, low_cast_sum, sum_low}
-use Rattle.homes_mean.proofs.Trees.{register_code, numbered, as_read, value_at, reg_is, mem_is, reg_alone, const_alone, lowpart_is, plus_is}
+use Rattle.homes_mean.proofs.Trees.{tree_induction, register_code, numbered, as_read, value_at, reg_is, mem_is, reg_alone, const_alone, lowpart_is, plus_is}
 
 -- ---- two machines of which the second has the registers of the first in their homes
 
@@ -377,7 +376,7 @@ module _ (homes : List HomeOf) (layout : Layout) (m : Machines) (are : AreHomed 
   found_stays x reg none natural known kids is = elim (which (head_of x).code (head_of x).number (kids_of x) reg is) [
     | inl here ↦ register_stays x reg none here.0 here.1 natural (placed_register x reg none is)
         (which_counts x reg none here.0 here.1 (known reg (mentions_itself x reg here.0 here.1)))
-    | inr low ↦ lowpart_stays x low.0 reg low.1 low.2.0 low.2.1 (placed_register x reg none is) (only_kid x low.0 low.2.0 kids)
+    | inr low ↦ lowpart_stays x low.0 reg low.1 low.2 low.3 (placed_register x reg none is) (only_kid x low.0 low.2 kids)
   ]
 
   step : (x : Rtx) → AllByRecursion P (kids_of x) → P x
@@ -394,4 +393,4 @@ module _ (homes : List HomeOf) (layout : Layout) (m : Machines) (are : AreHomed 
 
   -- with homes put in a tree keeps its mode and its values
   pub placed_stays : (x : Rtx) → all_natural x ≡ true → IsKnown x → Stays x
-  placed_stays = rtx_induction P step
+  placed_stays = tree_induction P step

@@ -28,7 +28,6 @@ use Rattle.rtl_func.specs.Paths.{leads}
 use Rattle.reg_uses.specs.Effects.{effect_uses, effect_defines, effects_by, effects_of, pattern_uses, pattern_defines}
 use Rattle.reg_uses.specs.Uses.{insn_uses, insn_defines, is_call_kind}
 use Rattle.live.specs.Live.{AtUse, Passing, IsLiveAfter}
-use Rattle.func_rules.proofs.Mentions.{used_stands}
 use Rattle.sym_insns.specs.Shape.{all_natural}
 use Rattle.window_replace.proofs.Trees.{natural_kids, mentions_kid}
 use Rattle.window_same.proofs.Small.{or_none}
@@ -53,12 +52,12 @@ one_of : (o : Option Effect) (es : List Effect) → option_map (λ (e : Effect).
 one_of None es is = absurd (let no : ⊥ = cc in no)
 one_of (Some e) es is = (e, refl, let same : e ∷ [] ≡ es = cc in same)
 
-first_of : (o : Option Effect) (rest : Option (List Effect)) (es : List Effect) →
+front_of : (o : Option Effect) (rest : Option (List Effect)) (es : List Effect) →
     option_and_then (λ e. option_map (λ es. e ∷ es) rest) o ≡ Some es →
     (e : Effect) × (more : List Effect) × (o ≡ Some e) × (rest ≡ Some more) × (e ∷ more ≡ es)
-first_of None rest es is = absurd (let no : ⊥ = cc in no)
-first_of (Some e) None es is = absurd (let no : ⊥ = cc in no)
-first_of (Some e) (Some more) es is = (e, more, refl, refl, let same : e ∷ more ≡ es = cc in same)
+front_of None rest es is = absurd (let no : ⊥ = cc in no)
+front_of (Some e) None es is = absurd (let no : ⊥ = cc in no)
+front_of (Some e) (Some more) es is = (e, more, refl, refl, let same : e ∷ more ≡ es = cc in same)
 
 -- ---- an instruction at a place
 
@@ -139,11 +138,11 @@ module _ (c : Setting) (place : ℕ) (i : Insn) (at : slice_get c.f.insns place 
       | inr home ↦ inr (record { has = home })
     ]
 
-    counted : (reg : ℕ) → pattern_uses reg i.pattern ≡ true → (reg ≡ 32) ⊎ IsCounted c.f place reg
-    counted reg uses = elim (named_of reg (used_stands reg i.pattern uses)) [
-      | inl vars ↦ inl vars
-      | inr named ↦ inr (record { named = named; live = AtUse place i at (or_left (insn_uses i reg) _ (or_left (pattern_uses reg i.pattern) _ uses)) })
-    ]
+    counted : (reg : ℕ) → IsNamed reg → pattern_uses reg i.pattern ≡ true → IsCounted c.f place reg
+    counted reg named uses = record {
+      named = named;
+      live = AtUse place i at (or_left (insn_uses i reg) _ (or_left (pattern_uses reg i.pattern) _ uses));
+    }
 
     defined_by : (reg : ℕ) → pattern_defines reg i.pattern ≡ true → insn_defines i reg ≡ true
     defined_by reg is = or_left (pattern_defines reg i.pattern) _ is
@@ -159,7 +158,7 @@ module _ (c : Setting) (place : ℕ) (i : Insn) (at : slice_get c.f.insns place 
     fits_of x is = record {
       natural = is.natural_too;
       named = λ reg has. named_of reg (is.mentioned reg has);
-      used = λ reg uses. counted reg (is.used reg uses);
+      used = λ reg named uses. counted reg named (is.used reg uses);
       vars = false_from_ne_true (effect_defines 32 x) (λ defines. false≢true (sym (c.can.vars place i at) ∙ defined_by 32 (is.defined 32 defines)));
     }
 
@@ -188,12 +187,12 @@ module _ (c : Setting) (place : ℕ) (i : Insn) (at : slice_get c.f.insns place 
         let none : [] ≡ es = cc in
         subst (λ es. AllBecome [] es (Some [])) none (record { these = []; is = refl; made = made_none; only = λ reg has. absurd (false≢true has) })
     all_become (x ∷ xs) es are_elements is =
-        let parts = first_of (effect_of m.symbols m.regs m.memory x) (all_effects m.symbols m.regs m.memory xs) es is in
+        let parts = front_of (effect_of m.symbols m.regs m.memory x) (all_effects m.symbols m.regs m.memory xs) es is in
         let e = parts.0 in
         let more = parts.1 in
-        let first = element_becomes c.homes c.layout m are x e (fits_of x are_elements.0) parts.2.0 in
-        let rest = all_become xs more are_elements.1 parts.2.1.0 in
-        subst (λ es. AllBecome (x ∷ xs) es (all_effects m.symbols m.others m.other (map put (x ∷ xs)))) parts.2.1.1 (record {
+        let first = element_becomes c.homes c.layout m are x e (fits_of x are_elements.0) parts.2 in
+        let rest = all_become xs more are_elements.1 parts.3 in
+        subst (λ es. AllBecome (x ∷ xs) es (all_effects m.symbols m.others m.other (map put (x ∷ xs)))) parts.4 (record {
           these = first.effect ∷ rest.these;
           is = ap (λ o. option_and_then (λ e. option_map (λ es. e ∷ es) (all_effects m.symbols m.others m.other (map put xs))) o) first.is
               ∙ ap (option_map (λ es. first.effect ∷ es)) rest.is;
@@ -255,8 +254,8 @@ module _ (c : Setting) (place : ℕ) (i : Insn) (at : slice_get c.f.insns place 
             used = λ reg has. ap (list_any (effect_uses reg)) elements ∙ alone reg (effect_uses reg) has;
             defined = λ reg has. ap (list_any (effect_defines reg)) elements ∙ alone reg (effect_defines reg) has;
         } in
-        let first = element_becomes c.homes c.layout m are i.pattern parts.0 (fits_of i.pattern element) parts.1.0 in
-        subst Plainly parts.1.1 (record {
+        let first = element_becomes c.homes c.layout m are i.pattern parts.0 (fits_of i.pattern element) parts.1 in
+        subst Plainly parts.2 (record {
           these = first.effect ∷ [];
           is = single m.symbols m.others m.other (put i.pattern) first.effect first.is;
           made = made_more parts.0 first.effect [] [] (made_of i.pattern parts.0 _ element first) made_none;

@@ -1,8 +1,9 @@
 -- The values of small trees: a register, a constant, a sum, and memory at an address.
-use Rattle.std.proofs.Common.{◌≡◌, ℕ, true, false, List, [], ◌∷◌, map, Option, Some, refl, sym, ap, ◌∙◌}
+use Rattle.std.proofs.Common.{◌≡◌, ℕ, true, false, List, [], ◌∷◌, map, Option, Some, refl, sym, ap, subst, ◌∙◌}
 use Rattle.std.proofs.lemmas.Bool.{false≢true}
 use Rattle.std.proofs.lemmas.Bool.Decides.{Decides-int_eq}
 use Rattle.std.specs.Int.{cast_unsigned, w64}
+use Rattle.std.specs.List.{AllByRecursion}
 use Rattle.std.specs.Prelude.{ℤ, pos}
 use Rattle.bits64.specs.Words.{low, sum_of}
 use Rattle.bits64.specs.declared.Width.{Width}
@@ -15,13 +16,27 @@ use Rattle.rtx_tree.specs.declared.code.Code.TheVariants.{Reg, ConstInt, Plus, M
 use Rattle.rtx_tree.specs.declared.code.Mode.{Mode}
 use Rattle.rtx_tree.specs.declared.machine.SymbolAt.{SymbolAt}
 use Rattle.rtx_tree.specs.declared.memories.MemByte.{MemByte}
-use Rattle.rtx_tree.specs.declared.tree.Rtx.{Rtx, out-Rtx, out-roll-Rtx}
+use Rattle.rtx_tree.specs.declared.tree.Rtx.{Rtx, out-Rtx, roll-Rtx, out-roll-Rtx}
+use Rattle.rtx_tree.specs.declared.tree.Rtx.TheFolds.{ind-Rtx}
 use Rattle.rtx_tree.specs.declared.tree.Rtx.TheOpen.{Rtx-F}
 use Rattle.run_memory.specs.RunMemory.{load}
 use Rattle.rtl_step.specs.Regs.{Regs, reg_value}
 use Rattle.rtl_step.specs.Value.{Reading, width_of, value_by, value_of, of_one, of_two}
 use Rattle.rtl_step.proofs.Values.{value_read}
 use Rattle.window_replace.proofs.Known.{Too}
+
+-- ---- induction
+
+all_of : (P : Rtx → Type 0) (ys : List ((x : Rtx) × P x)) → AllByRecursion P (map (λ (y : (x : Rtx) × P x). y.0) ys)
+all_of P [] = tt
+all_of P (y ∷ ys) = (y.1, all_of P ys)
+
+-- what holds of each tree whose parts it holds of
+pub tree_induction : (P : Rtx → Type 0) → ((x : Rtx) → AllByRecursion P (out-Rtx x).kids → P x) → (x : Rtx) → P x
+tree_induction P step = ind-Rtx P (λ x y is.
+    step (roll-Rtx x) (subst (λ (o : Rtx-F Rtx). AllByRecursion P o.kids) (sym (out-roll-Rtx x)) (subst (λ (z : Rtx-F Rtx). AllByRecursion P z.kids) is (all_of P y.kids))))
+
+-- ---- registers
 
 -- the code of a register's class
 pub register_code : (c : Code) → class_of_code c ≡ class.Register → c ≡ Reg

@@ -1,11 +1,15 @@
 -- What an instruction and its effects become where its registers have homes: GCC Internals, "RTL passes" (reload) and "Side Effect
 -- Expressions".
-use Rattle.std.specs.Prelude.{◌≡◌, ◌⊎◌, ◌+◌, ℕ, true, false, List, [], ◌∷◌, Some, slice_get}
+use Rattle.std.specs.List.{list_all}
+use Rattle.std.specs.Prelude.{◌≡◌, ◌⊎◌, ◌+◌, ℕ, Bool, true, false, List, [], ◌∷◌, Some, slice_get}
 use Rattle.bits64.specs.declared.Width.{Width}
 use Rattle.rtx_tree.specs.Registers.{virtual_stack_vars}
-use Rattle.rtx_tree.specs.Tree.{mentions_reg}
+use Rattle.rtx_tree.specs.Tree.{head_of, kids_of, mentions_reg}
+use Rattle.rtx_tree.specs.declared.code.Code.{Code}
+use Rattle.rtx_tree.specs.declared.code.Code.TheVariants.{IfThenElse, Set}
 use Rattle.rtx_tree.specs.declared.function.Function.{Function}
 use Rattle.rtx_tree.specs.declared.function.Insn.{Insn}
+use Rattle.rtx_tree.specs.declared.function.Kind.TheVariants.{Jump}
 use Rattle.rtx_tree.specs.declared.tree.Rtx.{Rtx}
 use Rattle.rtl_step.specs.Regs.{known_of}
 use Rattle.rtl_step.specs.declared.effect.Effect.{Effect}
@@ -13,6 +17,7 @@ use Rattle.rtl_step.specs.declared.effect.Effect.TheVariants.{Nothing, Sets, Uns
 use Rattle.rtl_step.specs.declared.regs.Known.{Known}
 use Rattle.reg_uses.specs.Uses.{insn_defines, has_argument}
 use Rattle.rtl_func.specs.Calls.{is_argument}
+use Rattle.md_operand.specs.Addresses.{is_constant, is_any}
 use Rattle.window_replace.specs.Natural.{RegistersAreNatural}
 use Rattle.assign.specs.declared.home.Home.TheVariants.{Hard, Slot}
 use Rattle.assign.specs.declared.home.HomeOf.{HomeOf}
@@ -27,14 +32,29 @@ use Rattle.homes_mean.specs.Stands.{has_home}
 abbrev pub placed : List HomeOf → Layout → Rtx → Rtx
 placed homes layout x = homed homes layout (framed layout.size x)
 
+-- the label that a jump goes to, in (set (pc) LABEL) and in (set (pc) (if_then_else TEST LABEL (pc)))
+abbrev pub source_label : Code → List Rtx → Rtx → Rtx
+source_label IfThenElse (test ∷ label ∷ other ∷ []) source = label
+source_label _ kids source = source
+
+abbrev pub label_by : Code → List Rtx → Rtx → Rtx
+label_by Set (place ∷ source ∷ []) x = source_label (head_of source).code (kids_of source) source
+label_by _ kids x = x
+
+-- its parts are constants: (label_ref UID)
+abbrev pub names_constant : Rtx → Bool
+names_constant label = list_all (is_constant is_any) (kids_of label)
+
 -- What is asked of a function: its registers have natural numbers; of the hard ones it names a0 to a7 alone, and virtual-stack-vars,
--- which it changes nowhere.
+-- which it changes nowhere; and labels are told by constants.
 pub record CanBePlaced (f : Function) : Type 0 where
   pub natural : RegistersAreNatural f
   pub named : (place reg : ℕ) (i : Insn) → slice_get f.insns place ≡ Some i → mentions_reg reg i.pattern ≡ true →
       (reg ≡ virtual_stack_vars) ⊎ (has_home reg ≡ true)
   pub passed : (place reg : ℕ) (i : Insn) → slice_get f.insns place ≡ Some i → has_argument reg i.uses ≡ true → is_argument reg ≡ true
   pub vars : (place : ℕ) (i : Insn) → slice_get f.insns place ≡ Some i → insn_defines i virtual_stack_vars ≡ false
+  pub labels : (place : ℕ) (i : Insn) → slice_get f.insns place ≡ Some i → i.kind ≡ Jump →
+      names_constant (label_by (head_of i.pattern).code (kids_of i.pattern) i.pattern) ≡ true
 
 -- ---- effects
 

@@ -172,16 +172,16 @@ one_has test (x ∷ xs) reg all has =
 
 filter_has : (p : ℕ → Bool) (xs : List ℕ) (reg : ℕ) → has_reg xs reg ≡ true → p reg ≡ true → has_reg (filter p xs) reg ≡ true
 filter_has p [] reg has is = absurd (false≢true has)
-filter_has p (x ∷ xs) reg has is = by (p x) refl
+filter_has p (x ∷ xs) reg has is = by (p x) refl (λ more. filter_has p xs reg more is)
   where
-    by : (b : Bool) → p x ≡ b → has_reg (cond b (x ∷ filter p xs) (filter p xs)) reg ≡ true
-    by true kept = elim (or_cases (x == reg) (has_reg xs reg) has) [
+    by : (b : Bool) → p x ≡ b → (has_reg xs reg ≡ true → has_reg (filter p xs) reg ≡ true) → has_reg (cond b (x ∷ filter p xs) (filter p xs)) reg ≡ true
+    by true kept rest = elim (or_cases (x == reg) (has_reg xs reg) has) [
       | inl here ↦ or_left (x == reg) _ here
-      | inr more ↦ or_right (x == reg) _ (filter_has p xs reg more is)
+      | inr more ↦ or_right (x == reg) _ (rest more)
     ]
-    by false dropped = elim (or_cases (x == reg) (has_reg xs reg) has) [
+    by false dropped rest = elim (or_cases (x == reg) (has_reg xs reg) has) [
       | inl here ↦ absurd (false≢true (sym dropped ∙ ap p (eqb-true x reg here) ∙ is))
-      | inr more ↦ filter_has p xs reg more is
+      | inr more ↦ rest more
     ]
 
 later_has : (xs ys : List ℕ) (reg : ℕ) → has_reg ys reg ≡ true → has_reg (xs ++ ys) reg ≡ true
@@ -204,7 +204,7 @@ module _ (c : Setting) where
   slot_at reg = base c + slot_offset c.layout reg
 
   no_vars : (reg : ℕ) → IsNamed reg → reg ≡ 32 → ⊥
-  no_vars reg named is = false≢true (sym (sym (ap has_home is) ∙ named.has))
+  no_vars reg named is = false≢true (sym (ap has_home is) ∙ named.has)
 
   pub some_reg : (reg : ℕ) → IsNamed reg → 0 < reg
   some_reg reg named = let least = home_least reg named.has in omega (arith, least)
@@ -291,7 +291,7 @@ module _ (c : Setting) where
         ])
         (same_or_not reg r)
 
-    sets_step : (waits : ℕ → Bool) (reg hard : ℕ) (known : Known) (b : Both) → home_of c.homes reg ≡ Hard hard → IsNamed reg →
+    pub sets_step : (waits : ℕ → Bool) (reg hard : ℕ) (known : Known) (b : Both) → home_of c.homes reg ≡ Hard hard → IsNamed reg →
         insn_defines i reg ≡ true → Holds c place (WaitsToo reg waits) b → Holds c place waits (after (Sets reg known) (Sets hard known) b)
     sets_step waits reg hard known b home named defines h = record {
       values = each_value waits reg b (after (Sets reg known) (Sets hard known) b) h here rest;
@@ -322,7 +322,7 @@ module _ (c : Setting) where
             (λ h2 is_r. with_other b.others hard h2 known w (other_hard reg r hard h2 other defines live home is_r)) (λ slot. refl)
             ∙ held w v (sym (with_other b.regs reg r known w other) ∙ is)
 
-    unsets_step : (waits : ℕ → Bool) (reg hard : ℕ) (b : Both) → home_of c.homes reg ≡ Hard hard → IsNamed reg →
+    pub unsets_step : (waits : ℕ → Bool) (reg hard : ℕ) (b : Both) → home_of c.homes reg ≡ Hard hard → IsNamed reg →
         insn_defines i reg ≡ true → Holds c place (WaitsToo reg waits) b → Holds c place waits (after (Unsets reg) (Unsets hard) b)
     unsets_step waits reg hard b home named defines h = record {
       values = each_value waits reg b (after (Unsets reg) (Unsets hard) b) h here rest;
@@ -347,7 +347,7 @@ module _ (c : Setting) where
             ∙ held w v (sym (without_other b.regs reg r w other) ∙ is)
 
     -- a register that lives in a slot is unset, and its slot is left
-    leaves_step : (waits : ℕ → Bool) (reg : ℕ) (b : Both) → IsNamed reg → Holds c place (WaitsToo reg waits) b → Holds c place waits (after (Unsets reg) Nothing b)
+    pub leaves_step : (waits : ℕ → Bool) (reg : ℕ) (b : Both) → IsNamed reg → Holds c place (WaitsToo reg waits) b → Holds c place waits (after (Unsets reg) Nothing b)
     leaves_step waits reg b named h = record {
       values = each_value waits reg b (after (Unsets reg) Nothing b) h
           (λ w v is. absurd (let no : ◌≡◌ {A = Option ℕ} None (Some v) = sym (without_here b.regs reg w (some_reg reg named)) ∙ is in let never : ⊥ = cc in never))
@@ -378,7 +378,7 @@ module _ (c : Setting) where
         is_below_sp c.start c.f.locals address ≡ false → is_some (byte_at b.memory address) ≡ true → ⊥
     no_byte waits b h address inside other there = false≢true (sym other ∙ h.outside address there inside)
 
-    fills_step : (waits : ℕ → Bool) (reg : ℕ) (w : Width) (value : ℕ) (b : Both) → home_of c.homes reg ≡ Slot → IsNamed reg →
+    pub fills_step : (waits : ℕ → Bool) (reg : ℕ) (w : Width) (value : ℕ) (b : Both) → home_of c.homes reg ≡ Slot → IsNamed reg →
         Holds c place (WaitsToo reg waits) b → Holds c place waits (after (Sets reg (known_of w value)) (Stores w (slot_at reg) value) b)
     fills_step waits reg w value b home named h = record {
       values = each_value waits reg b b' h here rest;
@@ -450,7 +450,7 @@ module _ (c : Setting) where
 
     -- ---- a store of the function
 
-    stores_step : (waits : ℕ → Bool) (w : Width) (place_at value : ℕ) (b : Both) → is_some (load w b.memory place_at) ≡ true →
+    pub stores_step : (waits : ℕ → Bool) (w : Width) (place_at value : ℕ) (b : Both) → is_some (load w b.memory place_at) ≡ true →
         Holds c place waits b → Holds c place waits (after (Stores w place_at value) (Stores w place_at value) b)
     stores_step waits w place_at value b there h = record {
       values = λ r named live. elim (h.values r named live) [

@@ -23,9 +23,8 @@ use Rattle.rtl_step.specs.declared.effect.Effect.{Effect}
 use Rattle.rtl_step.specs.declared.effect.Effect.TheVariants.{Nothing, Sets, Unsets, Stores}
 use Rattle.reg_uses.specs.Effects.{is_register, reads, place_is, place_is_by, place_reads, place_reads_by, effect_uses, effect_uses_by, effect_defines, effect_defines_by}
 use Rattle.md_operand.specs.Addresses.{is_stack_vars}
-use Rattle.sym_insns.specs.Shape.{is_natural, all_natural}
 use Rattle.window_replace.proofs.Known.{both_of, or_first, or_later}
-use Rattle.window_replace.proofs.Trees.{natural_here, natural_kids, mentions_kid}
+use Rattle.window_replace.proofs.Trees.{mentions_kid}
 use Rattle.assign.specs.declared.home.Home.{Home}
 use Rattle.assign.specs.declared.home.Home.TheVariants.{Hard, Slot}
 use Rattle.assign.specs.declared.home.HomeOf.{HomeOf}
@@ -33,10 +32,11 @@ use Rattle.assign.specs.declared.places.Layout.{Layout}
 use Rattle.reload_homes.specs.FrameRefs.{offset_by, frame_offset, framed}
 use Rattle.reload_homes.specs.Homes.{home_of, slot_offset, place_by, place_for, register_numbered}
 use Rattle.reload_homes.proofs.Rewrites.{framed_over}
-use Rattle.homes_mean.specs.Placed.{placed, BecomesInHomes}
+use Rattle.homes_mean.specs.Placed.{is_sized, all_sized, placed, BecomesInHomes}
 use Rattle.homes_mean.specs.Placed as placed_effect
 use Rattle.homes_mean.proofs.Grows.{load_too}
-use Rattle.homes_mean.proofs.Placing.{Machines, AreHomed, Stays, parts_register, placed_register, placed_over, placed_stays, mode_of_place, slot_at, mentions_itself, word_number}
+use Rattle.homes_mean.proofs.Placing.{Machines, AreHomed, Stays, parts_register, placed_register, placed_over, placed_stays, mode_of_place, slot_at, mentions_itself}
+use Rattle.homes_mean.proofs.Trees.{sized_here, sized_kids}
 
 -- the register that an effect changes
 abbrev pub changed_by : Effect → Option ℕ
@@ -86,37 +86,36 @@ module _ (homes : List HomeOf) (layout : Layout) (m : Machines) (are : AreHomed 
 
   -- a register, by its number; or the low part of one
   data Target (x : Rtx) (reg : ℕ) : Type 0 where
-    whole : (head_of x).code ≡ Reg → (head_of x).number ≡ pos reg → Target x reg
-    part : (inner : Rtx) → (head_of x).code ≡ Subreg → kids_of x ≡ inner ∷ [] → (head_of inner).code ≡ Reg → (head_of inner).number ≡ pos reg → Target x reg
+    is_reg : (head_of x).code ≡ Reg → (head_of x).number ≡ pos reg → Target x reg
+    is_part : (inner : Rtx) → (head_of x).code ≡ Subreg → kids_of x ≡ inner ∷ [] → (head_of inner).code ≡ Reg → (head_of inner).number ≡ pos reg → Target x reg
 
-  number_is : (n : ℤ) (reg : ℕ) → is_natural Reg n ≡ true → Some (cast_unsigned w64 n) ≡ Some reg → n ≡ pos reg
-  number_is (pos k) reg natural is =
-      let same : cast_unsigned w64 (pos k) ≡ reg = cc in
-      ap pos (sym (word_number k natural) ∙ same)
-  number_is (negsuc k) reg natural is = absurd (false≢true natural)
+  number_is : (n : ℤ) (reg : ℕ) → is_sized Reg n ≡ true → Some (cast_unsigned w64 n) ≡ Some reg → n ≡ pos reg
+  number_is (pos k) reg sized is =
+      let same : k ≡ reg = cc in ap pos same
+  number_is (negsuc k) reg sized is = absurd (false≢true sized)
 
-  inner_is : (c : Code) (n : ℤ) (reg : ℕ) → is_natural c n ≡ true → inner_number c n ≡ Some reg → (c ≡ Reg) × (n ≡ pos reg)
-  inner_is Reg n reg natural is = (refl, number_is n reg natural is)
-  inner_is _ n reg natural is = absurd (let no : ⊥ = cc in no)
+  inner_is : (c : Code) (n : ℤ) (reg : ℕ) → is_sized c n ≡ true → inner_number c n ≡ Some reg → (c ≡ Reg) × (n ≡ pos reg)
+  inner_is Reg n reg sized is = (refl, number_is n reg sized is)
+  inner_is _ n reg sized is = absurd (let no : ⊥ = cc in no)
 
-  inner_natural : (x inner : Rtx) → kids_of x ≡ inner ∷ [] → all_natural x ≡ true → all_natural inner ≡ true
-  inner_natural x inner is natural = (both_of (all_natural inner) _ (sym (ap (list_all all_natural) is) ∙ natural_kids x natural)).0
+  inner_sized : (x inner : Rtx) → kids_of x ≡ inner ∷ [] → all_sized x ≡ true → all_sized inner ≡ true
+  inner_sized x inner is sized = (both_of (all_sized inner) _ (sym (ap (list_all all_sized) is) ∙ sized_kids x sized)).0
 
-  target_by : (c : Code) (x : Rtx) (kids : List Rtx) (reg : ℕ) → (head_of x).code ≡ c → kids_of x ≡ kids → all_natural x ≡ true →
+  target_by : (c : Code) (x : Rtx) (kids : List Rtx) (reg : ℕ) → (head_of x).code ≡ c → kids_of x ≡ kids → all_sized x ≡ true →
       step.register_by c (head_of x).number kids ≡ Some reg → Target x reg
-  target_by Reg x kids reg is are_kids natural has =
-      whole is (number_is (head_of x).number reg (sym (ap (λ c. is_natural c (head_of x).number) is) ∙ natural_here x natural) has)
-  target_by Subreg x (inner ∷ []) reg is are_kids natural has =
-      let here = inner_is (head_of inner).code (head_of inner).number reg (natural_here inner (inner_natural x inner are_kids natural)) has in
-      part inner is are_kids here.0 here.1
-  target_by _ x kids reg is are_kids natural has = absurd (let no : ⊥ = cc in no)
+  target_by Reg x kids reg is are_kids sized has =
+      is_reg is (number_is (head_of x).number reg (sym (ap (λ c. is_sized c (head_of x).number) is) ∙ sized_here x sized) has)
+  target_by Subreg x (inner ∷ []) reg is are_kids sized has =
+      let here = inner_is (head_of inner).code (head_of inner).number reg (sized_here inner (inner_sized x inner are_kids sized)) has in
+      is_part inner is are_kids here.0 here.1
+  target_by _ x kids reg is are_kids sized has = absurd (let no : ⊥ = cc in no)
 
-  target : (x : Rtx) (reg : ℕ) → all_natural x ≡ true → register_of x ≡ Some reg → Target x reg
-  target x reg natural has = target_by (head_of x).code x (kids_of x) reg refl refl natural has
+  target : (x : Rtx) (reg : ℕ) → all_sized x ≡ true → register_of x ≡ Some reg → Target x reg
+  target x reg sized has = target_by (head_of x).code x (kids_of x) reg refl refl sized has
 
   target_mentioned : (x : Rtx) (reg : ℕ) → Target x reg → mentions_reg reg x ≡ true
-  target_mentioned x reg (whole is number) = mentions_itself x reg is number
-  target_mentioned x reg (part inner is are_kids inner_code number) =
+  target_mentioned x reg (is_reg is number) = mentions_itself x reg is number
+  target_mentioned x reg (is_part inner is are_kids inner_code number) =
       mentions_kid x reg (ap (list_any (mentions_reg reg)) are_kids ∙ or_first (mentions_reg reg inner) false (mentions_itself inner reg inner_code number))
 
   registered : (x : Rtx) (reg : ℕ) → 0 < reg → (head_of x).code ≡ Reg → (head_of x).number ≡ pos reg → is_register reg x ≡ true
@@ -127,8 +126,8 @@ module _ (homes : List HomeOf) (layout : Layout) (m : Machines) (are : AreHomed 
       ∙ (Decides-int_eq (pos reg) (pos reg)).1 refl
 
   target_defined : (x : Rtx) (reg : ℕ) → 0 < reg → Target x reg → place_is reg x ≡ true
-  target_defined x reg some (whole is number) = ap (λ c. place_is_by reg c (kids_of x) x) is ∙ registered x reg some is number
-  target_defined x reg some (part inner is are_kids inner_code number) =
+  target_defined x reg some (is_reg is number) = ap (λ c. place_is_by reg c (kids_of x) x) is ∙ registered x reg some is number
+  target_defined x reg some (is_part inner is are_kids inner_code number) =
       ap (λ c. place_is_by reg c (kids_of x) x) is ∙ ap (λ kids. place_is_by reg Subreg kids x) are_kids ∙ registered inner reg some inner_code number
 
   same_target : (x : Rtx) (reg other : ℕ) → (head_of x).code ≡ Reg → (head_of x).number ≡ pos reg → is_register other x ≡ true → reg ≡ other
@@ -141,9 +140,9 @@ module _ (homes : List HomeOf) (layout : Layout) (m : Machines) (are : AreHomed 
 
   -- it is the only one that the place is
   target_only : (x : Rtx) (reg other : ℕ) → Target x reg → place_is other x ≡ true → reg ≡ other
-  target_only x reg other (whole is number) here =
+  target_only x reg other (is_reg is number) here =
       same_target x reg other is number (sym (ap (λ c. place_is_by other c (kids_of x) x) is) ∙ here)
-  target_only x reg other (part inner is are_kids inner_code number) here =
+  target_only x reg other (is_part inner is are_kids inner_code number) here =
       same_target inner reg other inner_code number
       (sym (ap (λ c. place_is_by other c (kids_of x) x) is ∙ ap (λ kids. place_is_by other Subreg kids x) are_kids) ∙ here)
 
@@ -164,10 +163,10 @@ module _ (homes : List HomeOf) (layout : Layout) (m : Machines) (are : AreHomed 
 
   -- it becomes what stands for it
   target_put : (x : Rtx) (reg : ℕ) → (reg ≡ 32 → ⊥) → Target x reg → put x ≡ place_for homes layout (head_of x).mode reg
-  target_put x reg other (whole is number) =
+  target_put x reg other (is_reg is number) =
       placed_register homes layout m are x reg (no_vars x reg is number other)
       (ap (λ c. parts_register c (head_of x).number (map (framed layout.size) (kids_of x))) is ∙ ap (λ (n : ℤ). register_numbered Reg n) number)
-  target_put x reg other (part inner is are_kids inner_code number) =
+  target_put x reg other (is_part inner is are_kids inner_code number) =
       let inside : framed layout.size inner ≡ tree_of (head_of inner) (map (framed layout.size) (kids_of inner)) =
           framed_over layout.size inner (no_vars inner reg inner_code number other) in
       let heads = ap head_of inside ∙ head_of-tree (head_of inner) (map (framed layout.size) (kids_of inner)) in
@@ -182,7 +181,7 @@ module _ (homes : List HomeOf) (layout : Layout) (m : Machines) (are : AreHomed 
 
   -- what is asked of an element
   pub record Fits (x : Rtx) : Type 0 where
-    pub natural : all_natural x ≡ true
+    pub sized : all_sized x ≡ true
     pub named : (reg : ℕ) → mentions_reg reg x ≡ true → (reg ≡ 32) ⊎ m.Named reg
     pub used : (reg : ℕ) → m.Named reg → effect_uses reg x ≡ true → m.Counts reg
     pub vars : effect_defines 32 x ≡ false
@@ -206,13 +205,11 @@ module _ (homes : List HomeOf) (layout : Layout) (m : Machines) (are : AreHomed 
       (e : Effect) × (set_place (address_of (place_by layout mode reg home)) m.symbols m.others m.other (place_by layout mode reg home) source w ≡ Some e)
       × BecomesInHomes homes layout m.base (Sets reg (known_of w value)) e
   set_in mode source w reg value (Hard hard) home named has =
-      let word : cast_unsigned w64 (pos hard) ≡ hard = let small = are.hard reg hard named home in omega (arith, small) in
       (
         Sets hard (known_of w value),
         ap (λ (o : Rtx-F Rtx). set_place (address_part o.code o.kids) m.symbols m.others m.other (reg_of mode hard) source w) (out-roll-Rtx _)
             ∙ ap (λ (o : Rtx-F Rtx). of_two (λ reg value. Some (Sets reg (known_of w value))) (step.register_by o.code o.number o.kids) (value_of m.symbols m.others m.other source w)) (out-roll-Rtx _)
-            ∙ ap (λ o. of_two (λ reg value. Some (Sets reg (known_of w value))) (Some (cast_unsigned w64 (pos hard))) o) has
-            ∙ ap (λ r. Some (Sets r (known_of w value))) word,
+            ∙ ap (λ o. of_two (λ reg value. Some (Sets reg (known_of w value))) (Some hard) o) has,
         placed_effect.sets reg hard (known_of w value) home,
       )
   set_in mode source w reg value Slot home named has = (
@@ -307,13 +304,13 @@ module _ (homes : List HomeOf) (layout : Layout) (m : Machines) (are : AreHomed 
       | inr named ↦ inr (fits.used reg named (uses_is reg ∙ or_later (place_reads reg place) _ (reads_it reg source (are.positive reg named) has)))
     ]
 
-    natural_parts : (all_natural place ≡ true) × (all_natural source ≡ true)
-    natural_parts =
-        let both = both_of (all_natural place) _ (sym (ap (list_all all_natural) is.kids) ∙ natural_kids x fits.natural) in
-        (both.0, (both_of (all_natural source) _ both.1).0)
+    sized_parts : (all_sized place ≡ true) × (all_sized source ≡ true)
+    sized_parts =
+        let both = both_of (all_sized place) _ (sym (ap (list_all all_sized) is.kids) ∙ sized_kids x fits.sized) in
+        (both.0, (both_of (all_sized source) _ both.1).0)
 
     source_stays : Stays homes layout m are source
-    source_stays = placed_stays homes layout m are source natural_parts.1 source_known
+    source_stays = placed_stays homes layout m are source sized_parts.1 source_known
 
     defines_is : (reg : ℕ) → effect_defines reg x ≡ place_is reg place
     defines_is reg = ap (λ c. effect_defines_by reg c (kids_of x)) is.code ∙ ap (λ kids. effect_defines_by reg Set kids) is.kids
@@ -337,10 +334,10 @@ module _ (homes : List HomeOf) (layout : Layout) (m : Machines) (are : AreHomed 
               (ap (λ c. place_reads_by reg c place) parts.0 ∙ reads_it reg place (are.positive reg named) stands)))
         ]
 
-    address_natural : (a : Rtx) → address_of place ≡ Some a → all_natural a ≡ true
-    address_natural a at =
+    address_sized : (a : Rtx) → address_of place ≡ Some a → all_sized a ≡ true
+    address_sized a at =
         let parts = place_code (out-Rtx place).code (out-Rtx place).kids a at in
-        (both_of (all_natural a) _ (sym (ap (list_all all_natural) parts.1) ∙ natural_kids place natural_parts.0)).0
+        (both_of (all_sized a) _ (sym (ap (list_all all_sized) parts.1) ∙ sized_kids place sized_parts.0)).0
 
     -- the element with homes put in
     set_put : effect_of m.symbols m.others m.other (put x) ≡ set_effect m.symbols m.others m.other (put place) (put source)
@@ -354,7 +351,7 @@ module _ (homes : List HomeOf) (layout : Layout) (m : Machines) (are : AreHomed 
     register_becomes w e wide has =
         let parts = sets_is (register_of place) (value_of m.symbols m.regs m.memory source w) w e has in
         let reg = parts.0 in
-        let t = target place reg natural_parts.0 parts.2 in
+        let t = target place reg sized_parts.0 parts.2 in
         let named = target_named reg t in
         let mode = (head_of place).mode in
         let inside = set_in mode (put source) w reg parts.1 (home_of homes reg) refl named.1 (source_stays.values w parts.1 parts.3) in
@@ -378,7 +375,7 @@ module _ (homes : List HomeOf) (layout : Layout) (m : Machines) (are : AreHomed 
         set_memory m.symbols m.regs m.memory a source w ≡ Some e → Becomes x e (effect_of m.symbols m.others m.other (put x))
     memory_becomes a w e at wide has =
         let parts = stores_is (value_of m.symbols m.regs m.memory a W64) (value_of m.symbols m.regs m.memory source w) w e has in
-        let address_stays = placed_stays homes layout m are a (address_natural a at) (address_known a at) in
+        let address_stays = placed_stays homes layout m are a (address_sized a at) (address_known a at) in
         let there : set_effect m.symbols m.others m.other (put place) (put source) ≡ Some (Stores w parts.0 parts.1) =
             ap (λ o. option_and_then (set_place o m.symbols m.others m.other (put place) (put source)) (width_of (head_of (put place)).mode)) (memory_address place a at)
             ∙ ap (option_and_then (set_memory m.symbols m.others m.other (put a) (put source))) (ap width_of (mode_put place a at) ∙ wide)
@@ -413,12 +410,10 @@ module _ (homes : List HomeOf) (layout : Layout) (m : Machines) (are : AreHomed 
   clobbers_nothing : (mode : Mode) (reg : ℕ) (home : Home) → home_of homes reg ≡ home → m.Named reg →
       (e : Effect) × (clobber_effect (place_by layout mode reg home) ≡ Some e) × BecomesInHomes homes layout m.base (Unsets reg) e
   clobbers_nothing mode reg (Hard hard) home named =
-      let word : cast_unsigned w64 (pos hard) ≡ hard = let small = are.hard reg hard named home in omega (arith, small) in
       (
         Unsets hard,
         ap (λ (o : Rtx-F Rtx). clobber_by o.code (register_of (reg_of mode hard))) (out-roll-Rtx _)
-            ∙ ap (λ (o : Rtx-F Rtx). option_map Unsets (step.register_by o.code o.number o.kids)) (out-roll-Rtx _)
-            ∙ ap (λ r. Some (Unsets r)) word,
+            ∙ ap (λ (o : Rtx-F Rtx). option_map Unsets (step.register_by o.code o.number o.kids)) (out-roll-Rtx _),
         placed_effect.unsets reg hard home,
       )
   clobbers_nothing mode reg Slot home named = (
@@ -474,8 +469,8 @@ module _ (homes : List HomeOf) (layout : Layout) (m : Machines) (are : AreHomed 
     unset_becomes e has =
         let parts = unsets_is (register_of place) e has in
         let reg = parts.0 in
-        let natural : all_natural place ≡ true = (both_of (all_natural place) _ (sym (ap (list_all all_natural) is.kids) ∙ natural_kids x fits.natural)).0 in
-        let t = target place reg natural parts.1 in
+        let sized : all_sized place ≡ true = (both_of (all_sized place) _ (sym (ap (list_all all_sized) is.kids) ∙ sized_kids x fits.sized)).0 in
+        let t = target place reg sized parts.1 in
         let named = clobbered_named reg t in
         let inside = clobbers_nothing (head_of place).mode reg (home_of homes reg) refl named.1 in
         subst (λ e. Becomes x e (effect_of m.symbols m.others m.other (put x))) parts.2 (record {

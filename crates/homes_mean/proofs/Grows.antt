@@ -22,7 +22,7 @@ use Rattle.window_replace.proofs.Known.{Too, too_then, too_two}
 -- what the one memory has, the other has
 pub number_too : (memory other : List MemByte) → Within memory other → (address count : ℕ) →
     Too (number_at memory address count) (number_at other address count)
-number_too memory other within address zero v is = is
+number_too memory other within address zero = λ v is. is
 number_too memory other within address (suc count) =
     too_two (λ byte rest. Some (byte + 256 * rest)) (byte_at memory address) (byte_at other address)
     (number_at memory (address + 1) count) (number_at other (address + 1) count)

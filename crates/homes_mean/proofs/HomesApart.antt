@@ -4,7 +4,7 @@ use Rattle.std.proofs.lemmas.Bool.{false≢true, and_parts, eqb-true, leb-true}
 use Rattle.std.proofs.lemmas.Option.{same_Some, none-some}
 use Rattle.std.specs.List.{find, list_all}
 use Rattle.std.specs.Option.{option_map_or}
-use Rattle.std.specs.Prelude.{slice_get, nat_le, All}
+use Rattle.std.specs.Prelude.{slice_get, nat_le, option_map, unwrap_or, All}
 use Rattle.rtx_tree.specs.Registers.{pseudo}
 use Rattle.rtx_tree.specs.declared.function.Function.{Function}
 use Rattle.rv_regs.specs.Registers.{allocation_order}
@@ -29,15 +29,13 @@ Listed {A} key xs n o = (k : ℕ) × (x : A) × (slice_get xs k ≡ Some x) × (
 -- of items by number, the first with a number, or none
 listed : {A : Type 0} (key : A → ℕ) (xs : List A) (n : ℕ) →
     Listed key xs n (find (λ x. key x == n) xs) ⊎ (find (λ x. key x == n) xs ≡ None)
-listed key [] n = inr refl
-listed key (x ∷ xs) n = by (key x == n) refl
+listed {A = A} key [] n = inr refl
+listed {A = A} key (x ∷ xs) n = by (key x == n) refl (listed key xs n)
   where
-    by : (b : Bool) → (key x == n) ≡ b → Listed key (x ∷ xs) n (cond b (Some x) (find (λ x. key x == n) xs)) ⊎ (cond b (Some x) (find (λ x. key x == n) xs) ≡ None)
-    by true is = inl (0, x, refl, eqb-true (key x) n is, refl)
-    by false is = elim (listed key xs n) [
-      | inl found ↦ inl (suc found.0, found.1, found.2, found.3, found.4)
-      | inr none ↦ inr none
-    ]
+    by : (b : Bool) → (key x == n) ≡ b → Listed key xs n (find (λ x. key x == n) xs) ⊎ (find (λ x. key x == n) xs ≡ None) → Listed key (x ∷ xs) n (cond b (Some x) (find (λ x. key x == n) xs)) ⊎ (cond b (Some x) (find (λ x. key x == n) xs) ≡ None)
+    by true is rest = inl (0, x, refl, eqb-true (key x) n is, refl)
+    by false is (inl found) = inl (suc found.0, found.1, found.2, found.3, found.4)
+    by false is (inr none) = inr none
 
 -- ---- homes
 
@@ -45,8 +43,8 @@ listed key (x ∷ xs) n = by (key x == n) refl
 pub home_is : (homes : List HomeOf) (reg : ℕ) →
     ((k : ℕ) × (x : HomeOf) × (slice_get homes k ≡ Some x) × (register x ≡ reg) × (home_of homes reg ≡ x.home)) ⊎ (home_of homes reg ≡ Hard reg)
 home_is homes reg = elim (listed register homes reg) [
-  | inl found ↦ inl (found.0, found.1, found.2, found.3, ap (λ o. option_map_or (λ (x : HomeOf). x.home) o (Hard reg)) found.4)
-  | inr none ↦ inr (ap (λ o. option_map_or (λ (x : HomeOf). x.home) o (Hard reg)) none)
+  | inl found ↦ inl (found.0, found.1, found.2, found.3, ap (λ o. unwrap_or (option_map (λ (x : HomeOf). x.home) o) (Hard reg)) found.4)
+  | inr none ↦ inr (ap (λ o. unwrap_or (option_map (λ (x : HomeOf). x.home) o) (Hard reg)) none)
 ]
 
 pub same_hard : (a b : ℕ) → Hard a ≡ Hard b → a ≡ b
@@ -140,8 +138,8 @@ mapped_at g (x ∷ xs) (suc i) y at = mapped_at g xs i y at
 
 -- something has the number, so the first is found
 found_some : {A : Type 0} (key : A → ℕ) (xs : List A) (i n : ℕ) (x : A) → slice_get xs i ≡ Some x → key x ≡ n → find (λ x. key x == n) xs ≡ None → ⊥
-found_some key [] i n x at is none = none-some x at
-found_some key (y ∷ xs) zero n x at is none = by (key y == n) refl none
+found_some {A = A} key [] i n x at is none = none-some x at
+found_some {A = A} key (y ∷ xs) zero n x at is none = by (key y == n) refl none
   where
     here : key y ≡ n
     here = ap key (same_Some y x at) ∙ is
@@ -149,11 +147,11 @@ found_some key (y ∷ xs) zero n x at is none = by (key y == n) refl none
     by : (b : Bool) → (key y == n) ≡ b → cond b (Some y) (find (λ x. key x == n) xs) ≡ None → ⊥
     by true test none = let no : ⊥ = cc in no
     by false test none = false≢true (sym test ∙ eq-eqb (key y) n here)
-found_some key (y ∷ xs) (suc i) n x at is none = by (key y == n) none
+found_some {A = A} key (y ∷ xs) (suc i) n x at is none = by (key y == n) none (found_some key xs i n x at is)
   where
-    by : (b : Bool) → cond b (Some y) (find (λ x. key x == n) xs) ≡ None → ⊥
-    by true none = let no : ⊥ = cc in no
-    by false none = found_some key xs i n x at is none
+    by : (b : Bool) → cond b (Some y) (find (λ x. key x == n) xs) ≡ None → (find (λ x. key x == n) xs ≡ None → ⊥) → ⊥
+    by true none rest = let no : ⊥ = cc in no
+    by false none rest = rest none
 
 module _ (f : Function) (homes : List HomeOf) (layout : Layout) (frame : IsFrame f homes layout) where
   -- the slot of a register that lives in one

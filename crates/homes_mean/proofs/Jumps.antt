@@ -20,13 +20,13 @@ use Rattle.rtl_step.specs.Value.{value_of, of_two}
 use Rattle.rtl_step.specs.declared.jump.Way.{Way}
 use Rattle.rtl_step.specs.declared.jump.Way.TheVariants.{Goes}
 use Rattle.md_operand.specs.Addresses.{is_constant, is_constant_at, is_any}
-use Rattle.sym_insns.specs.Shape.{all_natural}
 use Rattle.window_replace.proofs.Known.{both_of, or_first}
-use Rattle.window_replace.proofs.Trees.{natural_kids, mentions_kid}
+use Rattle.window_replace.proofs.Trees.{mentions_kid}
 use Rattle.assign.specs.declared.home.HomeOf.{HomeOf}
 use Rattle.assign.specs.declared.places.Layout.{Layout}
-use Rattle.homes_mean.specs.Placed.{placed, source_label, label_by, names_constant}
+use Rattle.homes_mean.specs.Placed.{all_sized, placed, source_label, label_by, names_constant}
 use Rattle.homes_mean.proofs.Becoming.{is_over, over}
+use Rattle.homes_mean.proofs.Trees.{sized_kids}
 use Rattle.homes_mean.proofs.Placing.{Machines, AreHomed, placed_stays}
 
 constant_code : (c : Code) (n : ℤ) → is_constant_at is_any c n ≡ true → c ≡ ConstInt
@@ -103,14 +103,14 @@ module _ (homes : List HomeOf) (layout : Layout) (m : Machines) (are : AreHomed 
   branch_parts (Some h) None w is = absurd (let no : ⊥ = cc in no)
   branch_parts (Some h) (Some l) w is = (h, l, refl, refl, let same : chosen h l ≡ w = cc in same)
 
-  branch_goes : (source test label other : Rtx) (w : Way) → IsBranch source test label other → all_natural source ≡ true → KnownIn source →
+  branch_goes : (source test label other : Rtx) (w : Way) → IsBranch source test label other → all_sized source ≡ true → KnownIn source →
       names_constant label ≡ true → is_pc other ≡ true → branch m.symbols m.regs m.memory test label ≡ Some w →
       way_of m.symbols m.others m.other (put source) ≡ Some w
-  branch_goes source test label other w is natural known constant pc has =
+  branch_goes source test label other w is sized known constant pc has =
       let parts = branch_parts (value_of m.symbols m.regs m.memory test W64) (label_of label) w has in
-      let naturals : list_all all_natural (test ∷ label ∷ other ∷ []) ≡ true = sym (ap (list_all all_natural) is.kids) ∙ natural_kids source natural in
-      let test_natural : all_natural test ≡ true = (both_of (all_natural test) _ naturals).0 in
-      let stays = placed_stays homes layout m are test test_natural
+      let sizes : list_all all_sized (test ∷ label ∷ other ∷ []) ≡ true = sym (ap (list_all all_sized) is.kids) ∙ sized_kids source sized in
+      let test_sized : all_sized test ≡ true = (both_of (all_sized test) _ sizes).0 in
+      let stays = placed_stays homes layout m are test test_sized
           (λ reg stands. known reg (mentions_kid source reg (ap (list_any (mentions_reg reg)) is.kids ∙ or_first (mentions_reg reg test) _ stands))) in
       ap (way_of m.symbols m.others m.other) (over homes layout m are source (ap is_over is.code))
       ∙ ap (λ (o : Rtx-F Rtx). way_by o.code o.kids (tree_of (head_of source) (map put (kids_of source))) m.symbols m.others m.other) (out-roll-Rtx _)
@@ -125,13 +125,13 @@ module _ (homes : List HomeOf) (layout : Layout) (m : Machines) (are : AreHomed 
   if_some true o w is = (refl, is)
   if_some false o w is = absurd (let no : ⊥ = cc in no)
 
-  source_by : (c : Code) (kids : List Rtx) (source : Rtx) (w : Way) → (head_of source).code ≡ c → kids_of source ≡ kids → all_natural source ≡ true →
+  source_by : (c : Code) (kids : List Rtx) (source : Rtx) (w : Way) → (head_of source).code ≡ c → kids_of source ≡ kids → all_sized source ≡ true →
       KnownIn source → names_constant (source_label c kids source) ≡ true → way_by c kids source m.symbols m.regs m.memory ≡ Some w →
       way_of m.symbols m.others m.other (put source) ≡ Some w
-  source_by IfThenElse (test ∷ label ∷ other ∷ []) source w is are_kids natural known constant has =
+  source_by IfThenElse (test ∷ label ∷ other ∷ []) source w is are_kids sized known constant has =
       let parts = if_some (is_pc other) (branch m.symbols m.regs m.memory test label) w has in
-      branch_goes source test label other w (record { code = is; kids = are_kids }) natural known constant parts.0 parts.1
-  source_by _ kids source w is are_kids natural known constant has = label_goes source w constant has
+      branch_goes source test label other w (record { code = is; kids = are_kids }) sized known constant parts.0 parts.1
+  source_by _ kids source w is are_kids sized known constant has = label_goes source w constant has
 
   -- ---- jumps
 
@@ -139,39 +139,39 @@ module _ (homes : List HomeOf) (layout : Layout) (m : Machines) (are : AreHomed 
     code : (head_of x).code ≡ Set
     kids : kids_of x ≡ place ∷ source ∷ []
 
-  set_goes : (x place source : Rtx) (w : Way) → IsSetPc x place source → all_natural x ≡ true → KnownIn source →
+  set_goes : (x place source : Rtx) (w : Way) → IsSetPc x place source → all_sized x ≡ true → KnownIn source →
       names_constant (source_label (head_of source).code (kids_of source) source) ≡ true →
       is_pc place ≡ true → way_of m.symbols m.regs m.memory source ≡ Some w → jump_of m.symbols m.others m.other (put x) ≡ Some w
-  set_goes x place source w is natural known constant pc has =
-      let naturals : list_all all_natural (place ∷ source ∷ []) ≡ true = sym (ap (list_all all_natural) is.kids) ∙ natural_kids x natural in
-      let source_natural : all_natural source ≡ true = (both_of (all_natural source) _ (both_of (all_natural place) _ naturals).1).0 in
+  set_goes x place source w is sized known constant pc has =
+      let sizes : list_all all_sized (place ∷ source ∷ []) ≡ true = sym (ap (list_all all_sized) is.kids) ∙ sized_kids x sized in
+      let source_sized : all_sized source ≡ true = (both_of (all_sized source) _ (both_of (all_sized place) _ sizes).1).0 in
       ap (jump_of m.symbols m.others m.other) (over homes layout m are x (ap is_over is.code))
       ∙ ap (λ (o : Rtx-F Rtx). jump_by o.code o.kids m.symbols m.others m.other) (out-roll-Rtx _)
       ∙ ap (λ c. jump_by c (map put (kids_of x)) m.symbols m.others m.other) is.code
       ∙ ap (λ kids. jump_by Set (map put kids) m.symbols m.others m.other) is.kids
       ∙ ap (λ b. if b then way_of m.symbols m.others m.other (put source) else None) (pc_put place pc)
-      ∙ source_by (head_of source).code (kids_of source) source w refl refl source_natural known constant has
+      ∙ source_by (head_of source).code (kids_of source) source w refl refl source_sized known constant has
 
   -- what the pc is set to has to be known
   abbrev SourceKnown : Code → List Rtx → Type 0
   SourceKnown Set (place ∷ source ∷ []) = KnownIn source
   SourceKnown _ kids = Unit {0}
 
-  jump_goes : (c : Code) (kids : List Rtx) (x : Rtx) (w : Way) → (head_of x).code ≡ c → kids_of x ≡ kids → all_natural x ≡ true →
+  jump_goes : (c : Code) (kids : List Rtx) (x : Rtx) (w : Way) → (head_of x).code ≡ c → kids_of x ≡ kids → all_sized x ≡ true →
       SourceKnown c kids → names_constant (label_by c kids x) ≡ true → jump_by c kids m.symbols m.regs m.memory ≡ Some w →
       jump_of m.symbols m.others m.other (put x) ≡ Some w
-  jump_goes Return kids x w is are_kids natural known constant has =
+  jump_goes Return kids x w is are_kids sized known constant has =
       ap (jump_of m.symbols m.others m.other) (over homes layout m are x (ap is_over is))
       ∙ ap (λ (o : Rtx-F Rtx). jump_by o.code o.kids m.symbols m.others m.other) (out-roll-Rtx _)
       ∙ ap (λ c. jump_by c (map put (kids_of x)) m.symbols m.others m.other) is
       ∙ has
-  jump_goes Set (place ∷ source ∷ []) x w is are_kids natural known constant has =
+  jump_goes Set (place ∷ source ∷ []) x w is are_kids sized known constant has =
       let parts = if_some (is_pc place) (way_of m.symbols m.regs m.memory source) w has in
-      set_goes x place source w (record { code = is; kids = are_kids }) natural known constant parts.0 parts.1
-  jump_goes _ kids x w is are_kids natural known constant has = absurd (let no : ⊥ = cc in no)
+      set_goes x place source w (record { code = is; kids = are_kids }) sized known constant parts.0 parts.1
+  jump_goes _ kids x w is are_kids sized known constant has = absurd (let no : ⊥ = cc in no)
 
   -- a jump with homes put in goes the same way
-  pub jump_put : (x : Rtx) (w : Way) → all_natural x ≡ true → SourceKnown (head_of x).code (kids_of x) →
+  pub jump_put : (x : Rtx) (w : Way) → all_sized x ≡ true → SourceKnown (head_of x).code (kids_of x) →
       names_constant (label_by (head_of x).code (kids_of x) x) ≡ true →
       jump_of m.symbols m.regs m.memory x ≡ Some w → jump_of m.symbols m.others m.other (put x) ≡ Some w
-  jump_put x w natural known constant has = jump_goes (head_of x).code (kids_of x) x w refl refl natural known constant has
+  jump_put x w sized known constant has = jump_goes (head_of x).code (kids_of x) x w refl refl sized known constant has

@@ -10,3 +10,5 @@ pub mod HomesApart
 pub mod Setting
 pub mod After
 pub mod Plain
+pub mod Returns
+pub mod Entry

@@ -1,9 +1,11 @@
 -- Sums with sp, in each width.
-use Rattle.std.proofs.Common.{◌≡◌, ℕ, zero, suc, ◌+◌, ◌%◌, ◌^◌, Bool, true, false, List, [], ◌∷◌, Option, Some, None, refl, sym, ap, ◌∙◌, arith}
+use Rattle.std.proofs.Common.{◌≡◌, ℕ, zero, suc, ◌+◌, ◌-◌, ◌*◌, ◌%◌, ◌^◌, Bool, true, false, List, [], ◌∷◌, Option, Some, None, refl, sym, ap, ◌∙◌, arith}
 use Rattle.std.proofs.lemmas.Bool.Decides.{Decides-int_eq}
-use Rattle.std.proofs.lemmas.Int.{ints, of_z-to_z}
+use Rattle.std.proofs.lemmas.Bool.{ltb-true}
+use Rattle.std.proofs.lemmas.Int.{ints, of_z-to_z, int_rem_euclid_is}
 use Rattle.std.specs.FinMap.{get}
-use Rattle.std.specs.Int.{cast_unsigned, int_wrap, w64}
+use Rattle.std.specs.Int.{cast_signed, cast_unsigned, int_wrap, w64}
+use Rattle.std.specs.Int.RustNames.{unsigned_abs}
 use Rattle.std.specs.Ordering.{int_eq}
 use Rattle.std.specs.Prelude.{ℤ, pos, negsuc, ◌+ℤ◌, option_and_then, nat_le, if◌then◌else◌}
 use Rattle.bits64.specs.Words.{bits_of, low, sum_of}
@@ -17,22 +19,35 @@ use Rattle.rtx_tree.specs.declared.memories.MemByte.{MemByte}
 use Rattle.rtl_step.specs.Regs.{Regs, known_in, reg_value}
 use Rattle.rtl_step.specs.Value.{value_of, of_two}
 use Rattle.rtl_step.specs.declared.regs.Known.{Known}
+use Rattle.text_words.specs.Words.{fits_i64}
 use Rattle.reload_homes.specs.FrameRefs.{from_sp}
 use Rattle.homes_mean.proofs.Trees.{reg_is, const_is, sum_is}
 
 -- ---- numbers
 
-pub cast_wrapped : (n : ℤ) → cast_unsigned w64 (int_wrap w64 n) ≡ cast_unsigned w64 n
+-- a number that wraps, by a natural one that it differs from by a multiple of 2^64
+wrap_of : (n : ℤ) (times m : ℕ) → n +ℤ pos (times * 2 ^ 64) ≡ pos m → cast_unsigned w64 (int_wrap w64 n) ≡ m % 2 ^ 64
 unfolding int_wrap
-cast_wrapped (pos n) = of_z-to_z w64 (n % 2 ^ 64) (omega arith)
-cast_wrapped (negsuc n) = of_z-to_z w64 (2 ^ 64 - 1 - n % 2 ^ 64) (omega arith)
+wrap_of n times m is =
+    ap (λ r. cast_unsigned w64 (cast_signed w64 (unsigned_abs r))) (int_rem_euclid_is n (pos (2 ^ 64)) (2 ^ 64) times m (omega arith) refl is)
+    ∙ of_z-to_z w64 (m % 2 ^ 64) (omega arith)
 
--- the low bits of a sum with a number that is cast
-pub low_cast_sum : (w : Width) (below above : ℕ) (n : ℤ) → low w (below + cast_unsigned w64 (pos above +ℤ n)) ≡ low w (below + above + cast_unsigned w64 n)
-low_cast_sum W8 below above n = omega (arith, ints)
-low_cast_sum W16 below above n = omega (arith, ints)
-low_cast_sum W32 below above n = omega (arith, ints)
-low_cast_sum W64 below above n = omega (arith, ints)
+pub wrap_natural : (a : ℕ) → cast_unsigned w64 (int_wrap w64 (pos a)) ≡ a % 2 ^ 64
+wrap_natural a = wrap_of (pos a) 0 a (omega (arith, ints))
+
+-- a sum with a number of 64 signed bits
+pub wrap_sum : (a : ℕ) (n : ℤ) → fits_i64 n ≡ true → cast_unsigned w64 (int_wrap w64 (pos a +ℤ n)) ≡ (a + cast_unsigned w64 n) % 2 ^ 64
+wrap_sum a (pos k) fits = wrap_of (pos a +ℤ pos k) 0 (a + k) (omega (arith, ints))
+wrap_sum a (negsuc k) fits =
+    let less = ltb-true k 9223372036854775808 fits in
+    wrap_of (pos a +ℤ negsuc k) 1 (a + (2 ^ 64 - suc k)) (omega (arith, ints, less))
+
+-- the low bits of a sum with one that is cut to 64 bits
+pub low_cut : (w : Width) (below a : ℕ) → low w (below + a % 2 ^ 64) ≡ low w (below + a)
+low_cut W8 below a = omega arith
+low_cut W16 below a = omega arith
+low_cut W32 below a = omega arith
+low_cut W64 below a = omega arith
 
 pub sum_low : (w : Width) (a b : ℕ) → sum_of w (low w a) (low w b) ≡ low w (a + b)
 sum_low W8 a b = omega arith
@@ -100,5 +115,5 @@ module _ (symbols : List SymbolAt) (regs : Regs) (memory : List MemByte) (base :
       ∙ ap (λ o. of_two (λ a b. Some (sum_of w a b)) (Some (low w base)) o) (const_is symbols regs memory n w)
       ∙ ap Some (sum_low w base (cast_unsigned w64 n))
 
-  pub from_sp_is : (mode : Mode) (n : ℤ) (w : Width) → value_of symbols regs memory (from_sp mode n) w ≡ Some (low w (base + cast_unsigned w64 n))
-  from_sp_is mode n w = sp_sum mode (int_wrap w64 n) (int_eq (int_wrap w64 n) (pos 0)) w refl ∙ ap (λ a. Some (low w (base + a))) (cast_wrapped n)
+  pub from_sp_is : (mode : Mode) (n : ℤ) (w : Width) → value_of symbols regs memory (from_sp mode n) w ≡ Some (low w (base + cast_unsigned w64 (int_wrap w64 n)))
+  from_sp_is mode n w = sp_sum mode (int_wrap w64 n) (int_eq (int_wrap w64 n) (pos 0)) w refl

@@ -1,6 +1,6 @@
 -- Where what is known of registers stands in their homes, a tree with homes put in has the value of the tree.
 use Rattle.std.proofs.Common.{◌≡◌, ◌≢◌, ℕ, ◌+◌, ◌<◌, ◌≤◌, ◌^◌, ◌&&◌, ◌⊎◌, inl, inr, Bool, true, false, List, [], ◌∷◌, map, Option, Some, None, refl, sym, ap, subst, ◌∙◌, arith}
-use Rattle.std.proofs.lemmas.Bool.{false≢true, and_parts, ltb-true}
+use Rattle.std.proofs.lemmas.Bool.{false≢true, and_parts}
 use Rattle.std.proofs.lemmas.Bool.Decides.{Decides-int_eq}
 use Rattle.std.specs.Int.{cast_unsigned, int_wrap, w64}
 use Rattle.std.specs.List.{AllByRecursion, list_all, list_any}
@@ -24,10 +24,10 @@ use Rattle.run_memory.specs.RunMemory.{load}
 use Rattle.rtl_step.specs.Regs.{Regs, reg_value}
 use Rattle.rtl_step.specs.Value.{Reading, width_of, value_of, of_one}
 use Rattle.md_operand.specs.Addresses.{is_stack_vars, is_constant, is_constant_at, is_any}
-use Rattle.sym_insns.specs.Shape.{is_natural, all_natural}
+use Rattle.text_words.specs.Words.{fits_i64}
 use Rattle.window_mean.specs.Beside.{Within}
 use Rattle.window_replace.proofs.Known.{Too, too_two, or_first, or_later}
-use Rattle.window_replace.proofs.Trees.{natural_here, natural_kids, mentions_kid}
+use Rattle.window_replace.proofs.Trees.{mentions_kid}
 use Rattle.assign.specs.declared.home.Home.{Home}
 use Rattle.assign.specs.declared.home.Home.TheVariants.{Hard, Slot}
 use Rattle.assign.specs.declared.home.HomeOf.{HomeOf}
@@ -36,10 +36,10 @@ use Rattle.reload_homes.specs.FrameRefs.{from_sp, offset_by, frame_offset, frame
 use Rattle.reload_homes.specs.Homes.{home_of, slot_offset, slot_address, place_by, place_for, register_numbered, register_in, register_by, register_at, homed}
 use Rattle.reload_homes.proofs.Rewrites.{framed_reference, framed_over, homed_register, homed_over}
 use Rattle.homes_mean.specs.Stands.{content_in}
-use Rattle.homes_mean.specs.Placed.{placed}
+use Rattle.homes_mean.specs.Placed.{is_sized, all_sized, placed}
 use Rattle.homes_mean.proofs.Grows.{AllRead, leaf_too, value_grows}
-use Rattle.homes_mean.proofs.Offsets.{from_sp_is, known_each, low_cast_sum, sum_low}
-use Rattle.homes_mean.proofs.Trees.{tree_induction, register_code, numbered, as_read, value_at, reg_is, mem_is, reg_alone, const_alone, lowpart_is, plus_is}
+use Rattle.homes_mean.proofs.Offsets.{wrap_natural, wrap_sum, low_cut, from_sp_is, known_each, sum_low}
+use Rattle.homes_mean.proofs.Trees.{tree_induction, sized_here, sized_kids, register_code, numbered, as_read, value_at, reg_is, mem_is, reg_alone, const_alone, lowpart_is, plus_is}
 
 -- ---- two machines of which the second has the registers of the first in their homes
 
@@ -67,7 +67,6 @@ pub record AreHomed (homes : List HomeOf) (layout : Layout) (m : Machines) : Typ
       Too (reg_value m.regs reg w) (content_in layout m.base m.others m.other reg (home_of homes reg) w)
   pub named : (reg : ℕ) → m.Counts reg → m.Named reg
   pub positive : (reg : ℕ) → m.Named reg → 0 < reg
-  pub hard : (reg hard : ℕ) → m.Named reg → home_of homes reg ≡ Hard hard → hard < 2 ^ 64
   pub slot : (reg : ℕ) → m.Named reg → home_of homes reg ≡ Slot → slot_offset layout reg ≤ layout.size
   -- a slot has room for a store in each width
   pub there : (reg : ℕ) → m.Named reg → home_of homes reg ≡ Slot → (w : Width) →
@@ -117,9 +116,6 @@ mentions_itself x reg is number =
     ∙ or_first (is_reg_numbered (head_of x).code (head_of x).number reg) _
     (ap (λ c. is_reg_numbered c (head_of x).number reg) is ∙ ap (λ (n : ℤ). is_reg_numbered Reg n reg) number ∙ same_itself reg)
 
-pub word_number : (reg : ℕ) → is_natural Reg (pos reg) ≡ true → cast_unsigned w64 (pos reg) ≡ reg
-word_number reg small = let less = ltb-true reg (2 ^ 63) small in omega (arith, less)
-
 module _ (homes : List HomeOf) (layout : Layout) (m : Machines) (are : AreHomed homes layout m) where
   abbrev pub fr : Rtx → Rtx
   fr = framed layout.size
@@ -151,27 +147,23 @@ module _ (homes : List HomeOf) (layout : Layout) (m : Machines) (are : AreHomed 
   any_mode mode other reg Slot w =
       mem_is m.symbols m.others m.other mode (slot_address layout reg) w ∙ sym (mem_is m.symbols m.others m.other other (slot_address layout reg) w)
 
-  same_word : (a : ℕ) → a < 2 ^ 64 → low W64 (a) ≡ a
-  same_word a fits = omega (arith, fits)
-
   pub slot_at : (reg : ℕ) → slot_offset layout reg ≤ layout.size → value_too (slot_address layout reg) W64 ≡ Some (m.base + slot_offset layout reg)
   slot_at reg fits =
       from_sp_is m.symbols m.others m.other m.base are.pointer DI (pos (slot_offset layout reg)) W64
+      ∙ ap (λ a. Some (low W64 (m.base + a))) (wrap_natural (slot_offset layout reg))
       ∙ ap Some (omega (arith, fits, are.frame, are.word))
 
   -- it is what stands in the home
-  place_is : (mode : Mode) (reg : ℕ) (home : Home) (w : Width) → ((hard : ℕ) → home ≡ Hard hard → hard < 2 ^ 64) →
-      (home ≡ Slot → slot_offset layout reg ≤ layout.size) →
+  place_is : (mode : Mode) (reg : ℕ) (home : Home) (w : Width) → (home ≡ Slot → slot_offset layout reg ≤ layout.size) →
       value_too (place_by layout mode reg home) w ≡ content_in layout m.base m.others m.other reg home w
-  place_is mode reg (Hard hard) w small fits =
-      reg_is m.symbols m.others m.other mode hard w ∙ ap (λ r. reg_value m.others r w) (same_word hard (small hard refl))
-  place_is mode reg Slot w small fits =
+  place_is mode reg (Hard hard) w fits = reg_is m.symbols m.others m.other mode hard w
+  place_is mode reg Slot w fits =
       mem_is m.symbols m.others m.other mode (slot_address layout reg) w ∙ ap (of_one (load w m.other)) (slot_at reg (fits refl))
 
   pub place_counts : (mode : Mode) (reg : ℕ) (w : Width) → m.Named reg →
       value_too (place_for homes layout mode reg) w ≡ content_in layout m.base m.others m.other reg (home_of homes reg) w
   place_counts mode reg w named =
-      place_is mode reg (home_of homes reg) w (λ hard is. are.hard reg hard named is) (λ is. are.slot reg named is)
+      place_is mode reg (home_of homes reg) w (λ is. are.slot reg named is)
 
   -- ---- references to the frame
 
@@ -240,14 +232,26 @@ module _ (homes : List HomeOf) (layout : Layout) (m : Machines) (are : AreHomed 
       let both = added (is_stack_vars x) (pos 0) c off in
       λ v has. ap (λ (z : ℤ). Some (low w (m.top + cast_unsigned w64 z))) (sym both.1) ∙ sym (plus_nothing w) ∙ vars_alone x w both.0 v has
 
-  reference_stays : (x : Rtx) (c : ℤ) → frame_offset x ≡ Some c → Stays x
-  reference_stays x c is = record {
+  -- its constant has 64 bits
+  constant_fits : (code : Code) (x : Rtx) (kids : List Rtx) (c : ℤ) → (out-Rtx x).kids ≡ kids → all_sized x ≡ true → offset_by code x kids ≡ Some c → fits_i64 c ≡ true
+  constant_fits Plus x (a ∷ b ∷ []) c are_kids sized off =
+      let both = added (is_stack_vars a && is_constant is_any b) (head_of b).number c off in
+      let tests = and_parts (is_stack_vars a) (is_constant is_any b) both.0 in
+      let code = constant_code (out-Rtx b).code (out-Rtx b).number tests.1 in
+      let kids : list_all all_sized (a ∷ b ∷ []) ≡ true = sym (ap (list_all all_sized) are_kids) ∙ sized_kids x sized in
+      let here = sized_here b (and_parts (all_sized b) true (and_parts (all_sized a) (all_sized b && true) kids).1).0 in
+      ap fits_i64 (sym both.1) ∙ sym (ap (λ c. is_sized c (out-Rtx b).number) code) ∙ here
+  constant_fits _ x kids c are_kids sized off = ap fits_i64 (sym (added (is_stack_vars x) (pos 0) c off).1)
+
+  reference_stays : (x : Rtx) (c : ℤ) → all_sized x ≡ true → frame_offset x ≡ Some c → Stays x
+  reference_stays x c sized is = record {
     mode_is = ap (λ y. (head_of y).mode) (placed_reference x c is) ∙ mode_by (head_of x).mode (int_wrap w64 (pos layout.size +ℤ c)) (int_eq (int_wrap w64 (pos layout.size +ℤ c)) (pos 0));
     values = λ w v has.
         ap (λ y. value_too y w) (placed_reference x c is)
         ∙ from_sp_is m.symbols m.others m.other m.base are.pointer (head_of x).mode (pos layout.size +ℤ c) w
-        ∙ ap Some (low_cast_sum w m.base layout.size c)
-        ∙ ap (λ top. Some (low w (top + cast_unsigned w64 c))) are.frame
+        ∙ ap (λ a. Some (low w (m.base + a))) (wrap_sum layout.size c (constant_fits (out-Rtx x).code x (out-Rtx x).kids c refl sized is))
+        ∙ ap Some (low_cut w m.base (layout.size + cast_unsigned w64 c))
+        ∙ ap (λ a. Some (low w a)) (let frame = are.frame in omega (arith, frame))
         ∙ reference_by (out-Rtx x).code x (out-Rtx x).kids c w refl refl is v has;
   }
 
@@ -289,18 +293,15 @@ module _ (homes : List HomeOf) (layout : Layout) (m : Machines) (are : AreHomed 
       absurd (let no : Some (pos 0) ≡ None = sym (is_vars x is (number ∙ ap pos vars)) ∙ none in let never : ⊥ = cc in never)
   which_counts x reg none is number (inr counts) = counts
 
-  register_stays : (x : Rtx) (reg : ℕ) → frame_offset x ≡ None → (head_of x).code ≡ Reg → (head_of x).number ≡ pos reg → all_natural x ≡ true →
+  register_stays : (x : Rtx) (reg : ℕ) → frame_offset x ≡ None → (head_of x).code ≡ Reg → (head_of x).number ≡ pos reg →
       placed homes layout x ≡ place_for homes layout (head_of x).mode reg → m.Counts reg → Stays x
-  register_stays x reg none is number natural becomes counts =
-      let small : is_natural Reg (pos reg) ≡ true = sym (ap (λ c. is_natural c (head_of x).number) is ∙ ap (λ (n : ℤ). is_natural Reg n) number) ∙ natural_here x natural in
-      record {
-        mode_is = ap (λ y. (head_of y).mode) becomes ∙ mode_of_place (head_of x).mode reg (home_of homes reg);
-        values = λ w v has.
-            ap (λ y. value_too y w) becomes
-            ∙ place_counts (head_of x).mode reg w (are.named reg counts)
-            ∙ are.values reg counts w v
-            (ap (λ r. reg_value m.regs r w) (sym (word_number reg small)) ∙ reg_alone m.symbols m.regs m.memory x (pos reg) w is number v has);
-      }
+  register_stays x reg none is number becomes counts = record {
+    mode_is = ap (λ y. (head_of y).mode) becomes ∙ mode_of_place (head_of x).mode reg (home_of homes reg);
+    values = λ w v has.
+        ap (λ y. value_too y w) becomes
+        ∙ place_counts (head_of x).mode reg w (are.named reg counts)
+        ∙ are.values reg counts w v (reg_alone m.symbols m.regs m.memory x (pos reg) w is number v has);
+  }
 
   -- the low part of one
   lowpart_stays : (x inner : Rtx) (reg : ℕ) → (head_of x).code ≡ Subreg → kids_of x ≡ inner ∷ [] → register_in (fr inner) ≡ Some reg →
@@ -351,19 +352,19 @@ module _ (homes : List HomeOf) (layout : Layout) (m : Machines) (are : AreHomed 
   which Reg n kids reg is = inl (numbered_reg Reg n reg is)
   which _ n kids reg is = absurd (let no : ⊥ = cc in no)
 
-  no_register : (c : Code) (n : ℤ) (kids : List Rtx) → parts_register c n kids ≡ None → is_natural c n ≡ true → c ≡ Reg → ⊥
-  no_register Reg (pos k) kids none natural same = let no : ⊥ = cc in no
-  no_register Reg (negsuc k) kids none natural same = false≢true natural
-  no_register _ n kids none natural same = let no : ⊥ = cc in no
+  no_register : (c : Code) (n : ℤ) (kids : List Rtx) → parts_register c n kids ≡ None → is_sized c n ≡ true → c ≡ Reg → ⊥
+  no_register Reg (pos k) kids none sized same = let no : ⊥ = cc in no
+  no_register Reg (negsuc k) kids none sized same = false≢true sized
+  no_register _ n kids none sized same = let no : ⊥ = cc in no
 
   abbrev P : Rtx → Type 0
-  P x = all_natural x ≡ true → IsKnown x → Stays x
+  P x = all_sized x ≡ true → IsKnown x → Stays x
 
-  kids_stay : (kids : List Rtx) → AllByRecursion P kids → list_all all_natural kids ≡ true →
+  kids_stay : (kids : List Rtx) → AllByRecursion P kids → list_all all_sized kids ≡ true →
       ((reg : ℕ) → list_any (mentions_reg reg) kids ≡ true → (reg ≡ 32) ⊎ m.Counts reg) → AllByRecursion Stays kids
-  kids_stay [] all natural known = tt
-  kids_stay (x ∷ kids) all natural known =
-      let both = and_parts (all_natural x) (list_all all_natural kids) natural in (
+  kids_stay [] all sized known = tt
+  kids_stay (x ∷ kids) all sized known =
+      let both = and_parts (all_sized x) (list_all all_sized kids) sized in (
         all.0 both.0 (λ reg is. known reg (or_first (mentions_reg reg x) _ is)),
         kids_stay kids all.1 both.1 (λ reg is. known reg (or_later (mentions_reg reg x) _ is)),
       )
@@ -371,26 +372,26 @@ module _ (homes : List HomeOf) (layout : Layout) (m : Machines) (are : AreHomed 
   only_kid : (x inner : Rtx) → kids_of x ≡ inner ∷ [] → AllByRecursion Stays (kids_of x) → Stays inner
   only_kid x inner is all = (subst (AllByRecursion Stays) is all).0
 
-  found_stays : (x : Rtx) (reg : ℕ) → frame_offset x ≡ None → all_natural x ≡ true → IsKnown x → AllByRecursion Stays (kids_of x) →
+  found_stays : (x : Rtx) (reg : ℕ) → frame_offset x ≡ None → IsKnown x → AllByRecursion Stays (kids_of x) →
       parts_register (head_of x).code (head_of x).number (framed_kids x) ≡ Some reg → Stays x
-  found_stays x reg none natural known kids is = elim (which (head_of x).code (head_of x).number (kids_of x) reg is) [
-    | inl here ↦ register_stays x reg none here.0 here.1 natural (placed_register x reg none is)
+  found_stays x reg none known kids is = elim (which (head_of x).code (head_of x).number (kids_of x) reg is) [
+    | inl here ↦ register_stays x reg none here.0 here.1 (placed_register x reg none is)
         (which_counts x reg none here.0 here.1 (known reg (mentions_itself x reg here.0 here.1)))
     | inr low ↦ lowpart_stays x low.0 reg low.1 low.2 low.3 (placed_register x reg none is) (only_kid x low.0 low.2 kids)
   ]
 
   step : (x : Rtx) → AllByRecursion P (kids_of x) → P x
-  step x all natural known = by (frame_offset x) (parts_register (head_of x).code (head_of x).number (framed_kids x)) refl refl
+  step x all sized known = by (frame_offset x) (parts_register (head_of x).code (head_of x).number (framed_kids x)) refl refl
     where
       kids : AllByRecursion Stays (kids_of x)
-      kids = kids_stay (kids_of x) all (natural_kids x natural) (λ reg is. known reg (mentions_kid x reg is))
+      kids = kids_stay (kids_of x) all (sized_kids x sized) (λ reg is. known reg (mentions_kid x reg is))
 
       by : (offset : Option ℤ) (register : Option ℕ) → frame_offset x ≡ offset →
           parts_register (head_of x).code (head_of x).number (framed_kids x) ≡ register → Stays x
-      by (Some c) register is reg = reference_stays x c is
-      by None (Some reg) none is = found_stays x reg none natural known kids is
-      by None None none is = over_stays x (no_register (head_of x).code (head_of x).number (framed_kids x) is (natural_here x natural)) (placed_over x none is) kids
+      by (Some c) register is reg = reference_stays x c sized is
+      by None (Some reg) none is = found_stays x reg none known kids is
+      by None None none is = over_stays x (no_register (head_of x).code (head_of x).number (framed_kids x) is (sized_here x sized)) (placed_over x none is) kids
 
   -- with homes put in a tree keeps its mode and its values
-  pub placed_stays : (x : Rtx) → all_natural x ≡ true → IsKnown x → Stays x
+  pub placed_stays : (x : Rtx) → all_sized x ≡ true → IsKnown x → Stays x
   placed_stays = tree_induction P step

@@ -28,13 +28,13 @@ use Rattle.rtl_func.specs.Paths.{leads}
 use Rattle.reg_uses.specs.Effects.{effect_uses, effect_defines, effects_by, effects_of, pattern_uses, pattern_defines}
 use Rattle.reg_uses.specs.Uses.{insn_uses, insn_defines, is_call_kind}
 use Rattle.live.specs.Live.{AtUse, Passing, IsLiveAfter}
-use Rattle.sym_insns.specs.Shape.{all_natural}
-use Rattle.window_replace.proofs.Trees.{natural_kids, mentions_kid}
+use Rattle.window_replace.proofs.Trees.{mentions_kid}
 use Rattle.window_same.proofs.Small.{or_none}
-use Rattle.homes_mean.specs.Placed.{placed, BecomesInHomes, AllInHomes}
+use Rattle.homes_mean.specs.Placed.{all_sized, placed, BecomesInHomes, AllInHomes}
 use Rattle.homes_mean.specs.Placed as effects
 use Rattle.homes_mean.proofs.After.{Both, after, Holds, IsIn, changes_it, changes, later, sets_step, unsets_step, leaves_step, fills_step, stores_step}
 use Rattle.homes_mean.proofs.Becoming.{changed_by, is_over, over, Fits, Becomes, element_becomes}
+use Rattle.homes_mean.proofs.Trees.{sized_kids}
 use Rattle.homes_mean.proofs.Placing.{Machines, AreHomed}
 use Rattle.homes_mean.proofs.Setting.{Setting, IsNamed, IsCounted, base, StandsIn, machines, are_homed}
 
@@ -63,13 +63,13 @@ front_of (Some e) (Some more) es is = (e, more, refl, refl, let same : e ∷ mor
 
 module _ (c : Setting) (place : ℕ) (i : Insn) (at : slice_get c.f.insns place ≡ Some i) where
   -- an effect and what it becomes
-  record Made (memory : List MemByte) (e e' : Effect) : Type 0 where
-    becomes : BecomesInHomes c.homes c.layout (base c) e e'
-    named : (reg : ℕ) → changed_by e ≡ Some reg → IsNamed reg
-    defines : (reg : ℕ) → changed_by e ≡ Some reg → insn_defines i reg ≡ true
-    stored : (w : Width) (at value : ℕ) → e ≡ Stores w at value → is_some (load w memory at) ≡ true
+  pub record Made (memory : List MemByte) (e e' : Effect) : Type 0 where
+    pub becomes : BecomesInHomes c.homes c.layout (base c) e e'
+    pub named : (reg : ℕ) → changed_by e ≡ Some reg → IsNamed reg
+    pub defines : (reg : ℕ) → changed_by e ≡ Some reg → insn_defines i reg ≡ true
+    pub stored : (w : Width) (at value : ℕ) → e ≡ Stores w at value → is_some (load w memory at) ≡ true
 
-  data AllMade (memory : List MemByte) : List Effect → List Effect → Type 0 where
+  pub data AllMade (memory : List MemByte) : List Effect → List Effect → Type 0 where
     made_none : AllMade memory [] []
     made_more : (e e' : Effect) (es es' : List Effect) → Made memory e e' → AllMade memory es es' → AllMade memory (e ∷ es) (e' ∷ es')
 
@@ -129,8 +129,8 @@ module _ (c : Setting) (place : ℕ) (i : Insn) (at : slice_get c.f.insns place 
     abbrev put : Rtx → Rtx
     put = placed c.homes c.layout
 
-    natural : all_natural i.pattern ≡ true
-    natural = c.can.natural place i at
+    sized : all_sized i.pattern ≡ true
+    sized = c.can.sized place i at
 
     named_of : (reg : ℕ) → mentions_reg reg i.pattern ≡ true → (reg ≡ 32) ⊎ IsNamed reg
     named_of reg has = elim (c.can.named place reg i at has) [
@@ -149,14 +149,14 @@ module _ (c : Setting) (place : ℕ) (i : Insn) (at : slice_get c.f.insns place 
 
     -- an element of the pattern
     record IsElement (x : Rtx) : Type 0 where
-      natural_too : all_natural x ≡ true
+      sized_too : all_sized x ≡ true
       mentioned : (reg : ℕ) → mentions_reg reg x ≡ true → mentions_reg reg i.pattern ≡ true
       used : (reg : ℕ) → effect_uses reg x ≡ true → pattern_uses reg i.pattern ≡ true
       defined : (reg : ℕ) → effect_defines reg x ≡ true → pattern_defines reg i.pattern ≡ true
 
     fits_of : (x : Rtx) → IsElement x → Fits c.homes c.layout m are x
     fits_of x is = record {
-      natural = is.natural_too;
+      sized = is.sized_too;
       named = λ reg has. named_of reg (is.mentioned reg has);
       used = λ reg named uses. counted reg named (is.used reg uses);
       vars = false_from_ne_true (effect_defines 32 x) (λ defines. false≢true (sym (c.can.vars place i at) ∙ defined_by 32 (is.defined 32 defines)));
@@ -172,11 +172,11 @@ module _ (c : Setting) (place : ℕ) (i : Insn) (at : slice_get c.f.insns place 
 
     -- ---- its effects
 
-    record AllBecome (xs : List Rtx) (es : List Effect) (o : Option (List Effect)) : Type 0 where
-      these : List Effect
-      is : o ≡ Some these
-      made : AllMade s.memory es these
-      only : (reg : ℕ) → list_any (effect_defines reg) xs ≡ true → later es reg ≡ true
+    pub record AllBecome (xs : List Rtx) (es : List Effect) (o : Option (List Effect)) : Type 0 where
+      pub these : List Effect
+      pub is : o ≡ Some these
+      pub made : AllMade s.memory es these
+      pub only : (reg : ℕ) → list_any (effect_defines reg) xs ≡ true → later es reg ≡ true
 
     changed_it : (e : Effect) (reg : ℕ) → changed_by e ≡ Some reg → changes e reg ≡ true
     changed_it e reg is = ap (λ o. changes_it o reg) is ∙ eq-eqb reg reg refl
@@ -207,15 +207,15 @@ module _ (c : Setting) (place : ℕ) (i : Insn) (at : slice_get c.f.insns place 
     alone : (reg : ℕ) (does : Rtx → Bool) → does i.pattern ≡ true → list_any does (i.pattern ∷ []) ≡ true
     alone reg does is = or_left (does i.pattern) false is
 
-    kids_are : (kids : List Rtx) → list_all all_natural kids ≡ true →
+    kids_are : (kids : List Rtx) → list_all all_sized kids ≡ true →
         ((reg : ℕ) → list_any (mentions_reg reg) kids ≡ true → mentions_reg reg i.pattern ≡ true) →
         ((reg : ℕ) → list_any (effect_uses reg) kids ≡ true → pattern_uses reg i.pattern ≡ true) →
         ((reg : ℕ) → list_any (effect_defines reg) kids ≡ true → pattern_defines reg i.pattern ≡ true) → AllByRecursion IsElement kids
-    kids_are [] natural mentioned used defined = tt
-    kids_are (x ∷ kids) natural mentioned used defined =
-        let both = and_parts (all_natural x) (list_all all_natural kids) natural in (
+    kids_are [] sized mentioned used defined = tt
+    kids_are (x ∷ kids) sized mentioned used defined =
+        let both = and_parts (all_sized x) (list_all all_sized kids) sized in (
           record {
-            natural_too = both.0;
+            sized_too = both.0;
             mentioned = λ reg has. mentioned reg (or_left (mentions_reg reg x) _ has);
             used = λ reg has. used reg (or_left (effect_uses reg x) _ has);
             defined = λ reg has. defined reg (or_left (effect_defines reg x) _ has);
@@ -230,7 +230,7 @@ module _ (c : Setting) (place : ℕ) (i : Insn) (at : slice_get c.f.insns place 
     parallel_become : (es : List Effect) → (out-Rtx i.pattern).code ≡ Parallel → all_effects m.symbols m.regs m.memory (kids_of i.pattern) ≡ Some es → Plainly es
     parallel_become es code is =
         let elements : effects_of i.pattern ≡ kids_of i.pattern = ap (λ c. effects_by c (kids_of i.pattern) i.pattern) code in
-        let kids = kids_are (kids_of i.pattern) (natural_kids i.pattern natural) (λ reg has. mentions_kid i.pattern reg has)
+        let kids = kids_are (kids_of i.pattern) (sized_kids i.pattern sized) (λ reg has. mentions_kid i.pattern reg has)
             (λ reg has. ap (list_any (effect_uses reg)) elements ∙ has) (λ reg has. ap (list_any (effect_defines reg)) elements ∙ has) in
         let all = all_become (kids_of i.pattern) es kids is in
         let tree = over c.homes c.layout m are i.pattern (ap is_over code) in
@@ -249,7 +249,7 @@ module _ (c : Setting) (place : ℕ) (i : Insn) (at : slice_get c.f.insns place 
     one_become es elements is =
         let parts = one_of (effect_of m.symbols m.regs m.memory i.pattern) es is in
         let element : IsElement i.pattern = record {
-            natural_too = natural;
+            sized_too = sized;
             mentioned = λ reg has. has;
             used = λ reg has. ap (list_any (effect_uses reg)) elements ∙ alone reg (effect_uses reg) has;
             defined = λ reg has. ap (list_any (effect_defines reg)) elements ∙ alone reg (effect_defines reg) has;

@@ -1,8 +1,8 @@
 -- Two states at a place of a function whose registers have homes, as two machines of which the second has the registers in their homes.
-use Rattle.std.proofs.Common.{◌≡◌, ℕ, ◌+◌, ◌-◌, ◌%◌, ◌<◌, ◌≤◌, ◌^◌, ◌&&◌, inl, inr, true, false, List, arith}
-use Rattle.std.proofs.lemmas.Bool.{and_parts, or_cases, leb-true, ltb-true}
+use Rattle.std.proofs.Common.{◌≡◌, ℕ, ◌+◌, ◌-◌, ◌%◌, ◌<◌, ◌≤◌, inl, inr, true, false, List, arith}
+use Rattle.std.proofs.lemmas.Bool.{and_parts, or_cases, leb-true}
 use Rattle.std.proofs.lemmas.Bool.Decides.{nat_tests}
-use Rattle.std.specs.Prelude.{nat_le, nat_lt, is_some}
+use Rattle.std.specs.Prelude.{nat_le, is_some}
 use Rattle.bits64.specs.declared.Width.{Width}
 use Rattle.rtx_tree.specs.Registers.{pseudo}
 use Rattle.rtx_tree.specs.declared.function.Function.{Function}
@@ -15,14 +15,14 @@ use Rattle.live.specs.Live.{IsLive}
 use Rattle.same_behaviour.specs.Lawful.{IsLawful, is_below_sp}
 use Rattle.assign.specs.Frame.{IsFrame}
 use Rattle.assign.specs.Homes.{AreHomes}
-use Rattle.assign.specs.declared.home.Home.TheVariants.{Hard, Slot}
+use Rattle.assign.specs.declared.home.Home.TheVariants.{Slot}
 use Rattle.assign.specs.declared.home.HomeOf.{HomeOf}
 use Rattle.assign.specs.declared.places.Layout.{Layout}
 use Rattle.reload_homes.specs.Homes.{home_of, slot_offset}
 use Rattle.homes_mean.specs.Kept.{base_of}
 use Rattle.homes_mean.specs.Placed.{CanBePlaced}
 use Rattle.homes_mean.specs.Stands.{has_home, Stands}
-use Rattle.homes_mean.proofs.HomesApart.{hard_home, below_itself, slot_aligned, slot_within}
+use Rattle.homes_mean.proofs.HomesApart.{below_itself, slot_aligned, slot_within}
 use Rattle.homes_mean.proofs.Placing.{Machines, AreHomed}
 use Rattle.homes_mean.proofs.Stores.{slot_there}
 
@@ -68,15 +68,9 @@ machines c place s u = record {
 
 -- a register that has a home is one of a0 to a7, or a pseudo
 pub home_least : (reg : ℕ) → has_home reg ≡ true → 10 ≤ reg
-home_least reg is = elim (or_cases (is_argument reg) (nat_le (pseudo 0) reg && nat_lt reg (2 ^ 63)) is) [
+home_least reg is = elim (or_cases (is_argument reg) (nat_le (pseudo 0) reg) is) [
   | inl argument ↦ leb-true 10 reg (and_parts (nat_le 10 reg) (nat_le reg 17) argument).0
-  | inr above ↦ let more = leb-true 64 reg (and_parts (nat_le (pseudo 0) reg) (nat_lt reg (2 ^ 63)) above).0 in omega (arith, more)
-]
-
-pub home_small : (reg : ℕ) → has_home reg ≡ true → reg < 2 ^ 63
-home_small reg is = elim (or_cases (is_argument reg) (nat_le (pseudo 0) reg && nat_lt reg (2 ^ 63)) is) [
-  | inl argument ↦ let most = leb-true reg 17 (and_parts (nat_le 10 reg) (nat_le reg 17) argument).1 in omega (arith, most)
-  | inr above ↦ ltb-true reg (2 ^ 63) (and_parts (nat_le (pseudo 0) reg) (nat_lt reg (2 ^ 63)) above).1
+  | inr above ↦ let more = leb-true 64 reg above in omega (arith, more)
 ]
 
 module _ (c : Setting) where
@@ -85,13 +79,6 @@ module _ (c : Setting) where
 
   base_even : base c % 8 ≡ 0
   base_even = let above = c.lawful.above_zero in let sp = c.lawful.aligned in let size = c.frame.size_aligned in omega (arith, above, sp, size)
-
-  -- a home that is a hard register
-  pub hard_small : (reg hard : ℕ) → IsNamed reg → home_of c.homes reg ≡ Hard hard → hard < 2 ^ 64
-  hard_small reg hard named is = elim (hard_home c.f c.homes c.are_homes reg hard is) [
-    | inl among ↦ let most = among.1 in omega (arith, most)
-    | inr same ↦ let small = home_small reg named.has in omega (arith, same, small)
-  ]
 
   -- the bytes of a slot are some of the frame, below the locals
   pub slot_below : (reg place : ℕ) → home_of c.homes reg ≡ Slot → base c + slot_offset c.layout reg ≤ place →
@@ -130,7 +117,6 @@ module _ (c : Setting) where
       values = λ reg counts w v is. stands.values reg counts.named.has counts.live w v is;
       named = λ reg counts. counts.named;
       positive = λ reg named. let least = home_least reg named.has in omega (arith, least);
-      hard = hard_small;
       slot = λ reg named is. let within = slot_within c.f c.homes c.layout c.frame reg is in omega (arith, within);
       there = λ reg named is w. slot_room reg is w;
     }

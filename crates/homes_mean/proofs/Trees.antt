@@ -1,9 +1,9 @@
 -- The values of small trees: a register, a constant, a sum, and memory at an address.
-use Rattle.std.proofs.Common.{◌≡◌, ℕ, true, false, List, [], ◌∷◌, map, Option, Some, refl, sym, ap, subst, ◌∙◌}
-use Rattle.std.proofs.lemmas.Bool.{false≢true}
+use Rattle.std.proofs.Common.{◌≡◌, ℕ, ◌&&◌, Bool, true, List, [], ◌∷◌, map, Option, Some, refl, sym, ap, subst, ◌∙◌}
+use Rattle.std.proofs.lemmas.Bool.{false≢true, and_parts}
 use Rattle.std.proofs.lemmas.Bool.Decides.{Decides-int_eq}
 use Rattle.std.specs.Int.{cast_unsigned, w64}
-use Rattle.std.specs.List.{AllByRecursion}
+use Rattle.std.specs.List.{AllByRecursion, list_all}
 use Rattle.std.specs.Prelude.{ℤ, pos}
 use Rattle.bits64.specs.Words.{low, sum_of}
 use Rattle.bits64.specs.declared.Width.{Width}
@@ -17,13 +17,14 @@ use Rattle.rtx_tree.specs.declared.code.Mode.{Mode}
 use Rattle.rtx_tree.specs.declared.machine.SymbolAt.{SymbolAt}
 use Rattle.rtx_tree.specs.declared.memories.MemByte.{MemByte}
 use Rattle.rtx_tree.specs.declared.tree.Rtx.{Rtx, out-Rtx, roll-Rtx, out-roll-Rtx}
-use Rattle.rtx_tree.specs.declared.tree.Rtx.TheFolds.{ind-Rtx}
+use Rattle.rtx_tree.specs.declared.tree.Rtx.TheFolds.{fold_out-Rtx, ind-Rtx}
 use Rattle.rtx_tree.specs.declared.tree.Rtx.TheOpen.{Rtx-F}
 use Rattle.run_memory.specs.RunMemory.{load}
 use Rattle.rtl_step.specs.Regs.{Regs, reg_value}
 use Rattle.rtl_step.specs.Value.{Reading, width_of, value_by, value_of, of_one, of_two}
 use Rattle.rtl_step.proofs.Values.{value_read}
 use Rattle.window_replace.proofs.Known.{Too}
+use Rattle.homes_mean.specs.Placed.{is_sized, sized_step, all_sized}
 
 -- ---- induction
 
@@ -35,6 +36,21 @@ all_of P (y ∷ ys) = (y.1, all_of P ys)
 pub tree_induction : (P : Rtx → Type 0) → ((x : Rtx) → AllByRecursion P (out-Rtx x).kids → P x) → (x : Rtx) → P x
 tree_induction P step = ind-Rtx P (λ x y is.
     step (roll-Rtx x) (subst (λ (o : Rtx-F Rtx). AllByRecursion P o.kids) (sym (out-roll-Rtx x)) (subst (λ (z : Rtx-F Rtx). AllByRecursion P z.kids) is (all_of P y.kids))))
+
+-- ---- numbers
+
+all_of_map : {A : Type 0} (f : A → Bool) (xs : List A) → list_all (λ here. here) (map f xs) ≡ list_all f xs
+all_of_map f [] = refl
+all_of_map f (x ∷ xs) = ap (λ rest. f x && rest) (all_of_map f xs)
+
+sized_out : (x : Rtx) → all_sized x ≡ (is_sized (out-Rtx x).code (out-Rtx x).number && list_all all_sized (out-Rtx x).kids)
+sized_out x = fold_out-Rtx Bool sized_step x ∙ ap (λ rest. is_sized (out-Rtx x).code (out-Rtx x).number && rest) (all_of_map all_sized (out-Rtx x).kids)
+
+pub sized_here : (x : Rtx) → all_sized x ≡ true → is_sized (out-Rtx x).code (out-Rtx x).number ≡ true
+sized_here x sized = (and_parts (is_sized (out-Rtx x).code (out-Rtx x).number) (list_all all_sized (out-Rtx x).kids) (sym (sized_out x) ∙ sized)).0
+
+pub sized_kids : (x : Rtx) → all_sized x ≡ true → list_all all_sized (out-Rtx x).kids ≡ true
+sized_kids x sized = (and_parts (is_sized (out-Rtx x).code (out-Rtx x).number) (list_all all_sized (out-Rtx x).kids) (sym (sized_out x) ∙ sized)).1
 
 -- ---- registers
 

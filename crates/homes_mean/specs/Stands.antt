@@ -1,7 +1,7 @@
 -- How a function whose registers have homes stands beside the function with its pseudo registers, at a place: GCC Internals, "RTL passes"
 -- (reload) and "Liveness information". Of each live register whatever is known stands in its home; memory has what it had, and the room
 -- of the frame besides; the caller sees the same of both.
-use Rattle.std.specs.Prelude.{◌≡◌, ◌+◌, ◌^◌, ℕ, nat_le, nat_lt, ◌||◌, ◌&&◌, Bool, true, List, Option, Some, IsSome}
+use Rattle.std.specs.Prelude.{◌≡◌, ◌+◌, ℕ, nat_le, ◌||◌, Bool, true, List, Option, Some, IsSome}
 use Rattle.bits64.specs.declared.Width.{Width}
 use Rattle.bits64.specs.declared.Width.TheVariants.{W64}
 use Rattle.rtx_tree.specs.Memories.{byte_at}
@@ -25,9 +25,9 @@ use Rattle.homes_mean.specs.Kept.{base_of, IsKept}
 
 -- ---- what stands in a home
 
--- one of a0 to a7, which live in themselves, or a pseudo, whose number is below 2^63
+-- one of a0 to a7, which live in themselves, or a pseudo
 abbrev pub has_home : ℕ → Bool
-has_home reg = is_argument reg || (nat_le (pseudo 0) reg && nat_lt reg (2 ^ 63))
+has_home reg = is_argument reg || nat_le (pseudo 0) reg
 
 abbrev pub content_in : Layout → ℕ → Regs → List MemByte → ℕ → Home → Width → Option ℕ
 content_in layout base regs memory reg (Hard hard) w = reg_value regs hard w

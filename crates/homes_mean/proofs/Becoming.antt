@@ -1,6 +1,6 @@
 -- What an effect of an instruction becomes where its registers have homes.
 use Rattle.std.proofs.Common.{◌≡◌, ◌≢◌, ℕ, zero, suc, ◌<◌, ◌+◌, ◌==◌, ◌&&◌, ◌||◌, not, ◌⊎◌, inl, inr, Bool, true, false, List, [], ◌∷◌, map, Option, Some, None, refl, sym, ap, subst, ◌∙◌, arith}
-use Rattle.std.proofs.lemmas.Bool.{false≢true, false_from_ne_true}
+use Rattle.std.proofs.lemmas.Bool.{false≢true, and_parts, or_left, or_right, false_from_ne_true}
 use Rattle.std.proofs.lemmas.Bool.Decides.{Decides-int_eq, nat_tests}
 use Rattle.std.specs.Int.{cast_unsigned, w64}
 use Rattle.std.specs.List.{list_all, list_any}
@@ -23,8 +23,6 @@ use Rattle.rtl_step.specs.declared.effect.Effect.{Effect}
 use Rattle.rtl_step.specs.declared.effect.Effect.TheVariants.{Nothing, Sets, Unsets, Stores}
 use Rattle.reg_uses.specs.Effects.{is_register, reads, place_is, place_is_by, place_reads, place_reads_by, effect_uses, effect_uses_by, effect_defines, effect_defines_by}
 use Rattle.md_operand.specs.Addresses.{is_stack_vars}
-use Rattle.window_replace.proofs.Known.{both_of, or_first, or_later}
-use Rattle.window_replace.proofs.Trees.{mentions_kid}
 use Rattle.assign.specs.declared.home.Home.{Home}
 use Rattle.assign.specs.declared.home.Home.TheVariants.{Hard, Slot}
 use Rattle.assign.specs.declared.home.HomeOf.{HomeOf}
@@ -36,7 +34,7 @@ use Rattle.homes_mean.specs.Placed.{is_sized, all_sized, placed, BecomesInHomes}
 use Rattle.homes_mean.specs.Placed as placed_effect
 use Rattle.homes_mean.proofs.Grows.{load_too}
 use Rattle.homes_mean.proofs.Placing.{Machines, AreHomed, Stays, parts_register, placed_register, placed_over, placed_stays, mode_of_place, slot_at, mentions_itself}
-use Rattle.homes_mean.proofs.Trees.{sized_here, sized_kids}
+use Rattle.homes_mean.proofs.Trees.{sized_here, sized_kids, mentions_kid}
 
 -- the register that an effect changes
 abbrev pub changed_by : Effect → Option ℕ
@@ -99,7 +97,7 @@ module _ (homes : List HomeOf) (layout : Layout) (m : Machines) (are : AreHomed 
   inner_is _ n reg sized is = absurd (let no : ⊥ = cc in no)
 
   inner_sized : (x inner : Rtx) → kids_of x ≡ inner ∷ [] → all_sized x ≡ true → all_sized inner ≡ true
-  inner_sized x inner is sized = (both_of (all_sized inner) _ (sym (ap (list_all all_sized) is) ∙ sized_kids x sized)).0
+  inner_sized x inner is sized = (and_parts (all_sized inner) _ (sym (ap (list_all all_sized) is) ∙ sized_kids x sized)).0
 
   target_by : (c : Code) (x : Rtx) (kids : List Rtx) (reg : ℕ) → (head_of x).code ≡ c → kids_of x ≡ kids → all_sized x ≡ true →
       step.register_by c (head_of x).number kids ≡ Some reg → Target x reg
@@ -116,7 +114,7 @@ module _ (homes : List HomeOf) (layout : Layout) (m : Machines) (are : AreHomed 
   target_mentioned : (x : Rtx) (reg : ℕ) → Target x reg → mentions_reg reg x ≡ true
   target_mentioned x reg (is_reg is number) = mentions_itself x reg is number
   target_mentioned x reg (is_part inner is are_kids inner_code number) =
-      mentions_kid x reg (ap (list_any (mentions_reg reg)) are_kids ∙ or_first (mentions_reg reg inner) false (mentions_itself inner reg inner_code number))
+      mentions_kid x reg (ap (list_any (mentions_reg reg)) are_kids ∙ or_left (mentions_reg reg inner) false (mentions_itself inner reg inner_code number))
 
   registered : (x : Rtx) (reg : ℕ) → 0 < reg → (head_of x).code ≡ Reg → (head_of x).number ≡ pos reg → is_register reg x ≡ true
   registered x reg some is number =
@@ -133,8 +131,8 @@ module _ (homes : List HomeOf) (layout : Layout) (m : Machines) (are : AreHomed 
   same_target : (x : Rtx) (reg other : ℕ) → (head_of x).code ≡ Reg → (head_of x).number ≡ pos reg → is_register other x ≡ true → reg ≡ other
   same_target x reg other is number here =
       let test : is_reg_numbered Reg (pos reg) other ≡ true =
-          sym (ap (λ c. is_reg_numbered c (head_of x).number other) is ∙ ap (λ (n : ℤ). is_reg_numbered Reg n other) number)
-          ∙ (both_of (not (other == 0)) (is_reg_numbered (head_of x).code (head_of x).number other) here).1 in
+      sym (ap (λ c. is_reg_numbered c (head_of x).number other) is ∙ ap (λ (n : ℤ). is_reg_numbered Reg n other) number)
+      ∙ (and_parts (not (other == 0)) (is_reg_numbered (head_of x).code (head_of x).number other) here).1 in
       let same = (Decides-int_eq (pos reg) (pos other)).0 test in
       (let e : reg ≡ other = cc in e)
 
@@ -150,7 +148,7 @@ module _ (homes : List HomeOf) (layout : Layout) (m : Machines) (are : AreHomed 
   no_target : (c : Code) (x : Rtx) (reg : ℕ) → (head_of x).code ≡ c → is_over c ≡ true → place_is reg x ≡ true → ⊥
   no_target c x reg is over here =
       no_register_by c (head_of x).number reg over
-      (ap (λ c. is_reg_numbered c (head_of x).number reg) (sym is) ∙ (both_of (not (reg == 0)) (is_reg_numbered (head_of x).code (head_of x).number reg)
+      (ap (λ c. is_reg_numbered c (head_of x).number reg) (sym is) ∙ (and_parts (not (reg == 0)) (is_reg_numbered (head_of x).code (head_of x).number reg)
       (sym (ap (λ c. place_is_by reg c (kids_of x) x) is ∙ itself_by c (kids_of x) reg x over) ∙ here)).1)
     where
       itself_by : (c : Code) (kids : List Rtx) (reg : ℕ) (x : Rtx) → is_over c ≡ true → place_is_by reg c kids x ≡ is_register reg x
@@ -168,7 +166,7 @@ module _ (homes : List HomeOf) (layout : Layout) (m : Machines) (are : AreHomed 
       (ap (λ c. parts_register c (head_of x).number (map (framed layout.size) (kids_of x))) is ∙ ap (λ (n : ℤ). register_numbered Reg n) number)
   target_put x reg other (is_part inner is are_kids inner_code number) =
       let inside : framed layout.size inner ≡ tree_of (head_of inner) (map (framed layout.size) (kids_of inner)) =
-          framed_over layout.size inner (no_vars inner reg inner_code number other) in
+      framed_over layout.size inner (no_vars inner reg inner_code number other) in
       let heads = ap head_of inside ∙ head_of-tree (head_of inner) (map (framed layout.size) (kids_of inner)) in
       placed_register homes layout m are x reg (ap (λ c. offset_by c x (kids_of x)) is ∙ ap (λ b. if b then Some (pos 0) else None) (ap (λ c. is_reg_numbered c (head_of x).number 32) is))
       (ap (λ c. parts_register c (head_of x).number (map (framed layout.size) (kids_of x))) is
@@ -204,14 +202,13 @@ module _ (homes : List HomeOf) (layout : Layout) (m : Machines) (are : AreHomed 
       value_of m.symbols m.others m.other source w ≡ Some value →
       (e : Effect) × (set_place (address_of (place_by layout mode reg home)) m.symbols m.others m.other (place_by layout mode reg home) source w ≡ Some e)
       × BecomesInHomes homes layout m.base (Sets reg (known_of w value)) e
-  set_in mode source w reg value (Hard hard) home named has =
-      (
-        Sets hard (known_of w value),
-        ap (λ (o : Rtx-F Rtx). set_place (address_part o.code o.kids) m.symbols m.others m.other (reg_of mode hard) source w) (out-roll-Rtx _)
-            ∙ ap (λ (o : Rtx-F Rtx). of_two (λ reg value. Some (Sets reg (known_of w value))) (step.register_by o.code o.number o.kids) (value_of m.symbols m.others m.other source w)) (out-roll-Rtx _)
-            ∙ ap (λ o. of_two (λ reg value. Some (Sets reg (known_of w value))) (Some hard) o) has,
-        placed_effect.sets reg hard (known_of w value) home,
-      )
+  set_in mode source w reg value (Hard hard) home named has = (
+    Sets hard (known_of w value),
+    ap (λ (o : Rtx-F Rtx). set_place (address_part o.code o.kids) m.symbols m.others m.other (reg_of mode hard) source w) (out-roll-Rtx _)
+        ∙ ap (λ (o : Rtx-F Rtx). of_two (λ reg value. Some (Sets reg (known_of w value))) (step.register_by o.code o.number o.kids) (value_of m.symbols m.others m.other source w)) (out-roll-Rtx _)
+        ∙ ap (λ o. of_two (λ reg value. Some (Sets reg (known_of w value))) (Some hard) o) has,
+    placed_effect.sets reg hard (known_of w value) home,
+  )
   set_in mode source w reg value Slot home named has = (
     Stores w (m.base + slot_offset layout reg) value,
     ap (λ (o : Rtx-F Rtx). set_place (address_part o.code o.kids) m.symbols m.others m.other (place_by layout mode reg Slot) source w) (out-roll-Rtx _)
@@ -290,10 +287,10 @@ module _ (homes : List HomeOf) (layout : Layout) (m : Machines) (are : AreHomed 
 
   module _ (x place source : Rtx) (is : IsSet x place source) (fits : Fits x) where
     in_place : (reg : ℕ) → mentions_reg reg place ≡ true → mentions_reg reg x ≡ true
-    in_place reg has = mentions_kid x reg (ap (list_any (mentions_reg reg)) is.kids ∙ or_first (mentions_reg reg place) _ has)
+    in_place reg has = mentions_kid x reg (ap (list_any (mentions_reg reg)) is.kids ∙ or_left (mentions_reg reg place) _ has)
 
     in_source : (reg : ℕ) → mentions_reg reg source ≡ true → mentions_reg reg x ≡ true
-    in_source reg has = mentions_kid x reg (ap (list_any (mentions_reg reg)) is.kids ∙ or_later (mentions_reg reg place) _ (or_first (mentions_reg reg source) _ has))
+    in_source reg has = mentions_kid x reg (ap (list_any (mentions_reg reg)) is.kids ∙ or_right (mentions_reg reg place) _ (or_left (mentions_reg reg source) _ has))
 
     uses_is : (reg : ℕ) → effect_uses reg x ≡ (place_reads reg place || reads reg source)
     uses_is reg = ap (λ c. effect_uses_by reg c (kids_of x) x) is.code ∙ ap (λ kids. effect_uses_by reg Set kids x) is.kids
@@ -301,13 +298,13 @@ module _ (homes : List HomeOf) (layout : Layout) (m : Machines) (are : AreHomed 
     source_known : KnownIn source
     source_known reg has = elim (fits.named reg (in_source reg has)) [
       | inl vars ↦ inl vars
-      | inr named ↦ inr (fits.used reg named (uses_is reg ∙ or_later (place_reads reg place) _ (reads_it reg source (are.positive reg named) has)))
+      | inr named ↦ inr (fits.used reg named (uses_is reg ∙ or_right (place_reads reg place) _ (reads_it reg source (are.positive reg named) has)))
     ]
 
     sized_parts : (all_sized place ≡ true) × (all_sized source ≡ true)
     sized_parts =
-        let both = both_of (all_sized place) _ (sym (ap (list_all all_sized) is.kids) ∙ sized_kids x fits.sized) in
-        (both.0, (both_of (all_sized source) _ both.1).0)
+        let both = and_parts (all_sized place) _ (sym (ap (list_all all_sized) is.kids) ∙ sized_kids x fits.sized) in
+        (both.0, (and_parts (all_sized source) _ both.1).0)
 
     source_stays : Stays homes layout m are source
     source_stays = placed_stays homes layout m are source sized_parts.1 source_known
@@ -318,26 +315,28 @@ module _ (homes : List HomeOf) (layout : Layout) (m : Machines) (are : AreHomed 
     -- of a register that is a target
     target_named : (reg : ℕ) → Target place reg → (reg ≡ 32 → ⊥) × m.Named reg
     target_named reg t =
-        let other : reg ≡ 32 → ⊥ = λ same. false≢true (sym fits.vars ∙ defines_is 32 ∙ target_defined place 32 (omega arith) (subst (Target place) same t)) in
-        (other, elim (fits.named reg (in_place reg (target_mentioned place reg t))) [
-          | inl vars ↦ absurd (other vars)
-          | inr named ↦ named
-        ])
+        let other : reg ≡ 32 → ⊥ = λ same. false≢true (sym fits.vars ∙ defines_is 32 ∙ target_defined place 32 (omega arith) (subst (Target place) same t)) in (
+          other,
+          elim (fits.named reg (in_place reg (target_mentioned place reg t))) [
+            | inl vars ↦ absurd (other vars)
+            | inr named ↦ named
+          ],
+        )
 
     address_known : (a : Rtx) → address_of place ≡ Some a → KnownIn a
     address_known a at reg has =
         let parts = place_code (out-Rtx place).code (out-Rtx place).kids a at in
-        let stands = mentions_kid place reg (ap (list_any (mentions_reg reg)) parts.1 ∙ or_first (mentions_reg reg a) false has) in
+        let stands = mentions_kid place reg (ap (list_any (mentions_reg reg)) parts.1 ∙ or_left (mentions_reg reg a) false has) in
         elim (fits.named reg (in_place reg stands)) [
           | inl vars ↦ inl vars
-          | inr named ↦ inr (fits.used reg named (uses_is reg ∙ or_first (place_reads reg place) _
+          | inr named ↦ inr (fits.used reg named (uses_is reg ∙ or_left (place_reads reg place) _
               (ap (λ c. place_reads_by reg c place) parts.0 ∙ reads_it reg place (are.positive reg named) stands)))
         ]
 
     address_sized : (a : Rtx) → address_of place ≡ Some a → all_sized a ≡ true
     address_sized a at =
         let parts = place_code (out-Rtx place).code (out-Rtx place).kids a at in
-        (both_of (all_sized a) _ (sym (ap (list_all all_sized) parts.1) ∙ sized_kids place sized_parts.0)).0
+        (and_parts (all_sized a) _ (sym (ap (list_all all_sized) parts.1) ∙ sized_kids place sized_parts.0)).0
 
     -- the element with homes put in
     set_put : effect_of m.symbols m.others m.other (put x) ≡ set_effect m.symbols m.others m.other (put place) (put source)
@@ -356,10 +355,10 @@ module _ (homes : List HomeOf) (layout : Layout) (m : Machines) (are : AreHomed 
         let mode = (head_of place).mode in
         let inside = set_in mode (put source) w reg parts.1 (home_of homes reg) refl named.1 (source_stays.values w parts.1 parts.3) in
         let there : set_effect m.symbols m.others m.other (put place) (put source) ≡ Some inside.0 =
-            ap (λ p. set_effect m.symbols m.others m.other p (put source)) (target_put place reg named.0 t)
-            ∙ ap (λ w. option_and_then (set_place (address_of (place_for homes layout mode reg)) m.symbols m.others m.other (place_for homes layout mode reg) (put source)) w)
-            (ap width_of (mode_of_place homes layout m are mode reg (home_of homes reg)) ∙ wide)
-            ∙ inside.1 in
+        ap (λ p. set_effect m.symbols m.others m.other p (put source)) (target_put place reg named.0 t)
+        ∙ ap (λ w. option_and_then (set_place (address_of (place_for homes layout mode reg)) m.symbols m.others m.other (place_for homes layout mode reg) (put source)) w)
+        (ap width_of (mode_of_place homes layout m are mode reg (home_of homes reg)) ∙ wide)
+        ∙ inside.1 in
         subst (λ e. Becomes x e (effect_of m.symbols m.others m.other (put x))) parts.4 (record {
           effect = inside.0;
           is = set_put ∙ there;
@@ -377,13 +376,13 @@ module _ (homes : List HomeOf) (layout : Layout) (m : Machines) (are : AreHomed 
         let parts = stores_is (value_of m.symbols m.regs m.memory a W64) (value_of m.symbols m.regs m.memory source w) w e has in
         let address_stays = placed_stays homes layout m are a (address_sized a at) (address_known a at) in
         let there : set_effect m.symbols m.others m.other (put place) (put source) ≡ Some (Stores w parts.0 parts.1) =
-            ap (λ o. option_and_then (set_place o m.symbols m.others m.other (put place) (put source)) (width_of (head_of (put place)).mode)) (memory_address place a at)
-            ∙ ap (option_and_then (set_memory m.symbols m.others m.other (put a) (put source))) (ap width_of (mode_put place a at) ∙ wide)
-            ∙ ap (λ o. of_two (λ at value. if is_some (load w m.other at) then Some (Stores w at value) else None) o (value_of m.symbols m.others m.other (put source) w))
-            (address_stays.values W64 parts.0 parts.2)
-            ∙ ap (λ o. of_two (λ at value. if is_some (load w m.other at) then Some (Stores w at value) else None) (Some parts.0) o)
-            (source_stays.values w parts.1 parts.3)
-            ∙ ap (λ b. if b then Some (Stores w parts.0 parts.1) else None) (loads_too w parts.0 (load w m.memory parts.0) refl parts.4) in
+        ap (λ o. option_and_then (set_place o m.symbols m.others m.other (put place) (put source)) (width_of (head_of (put place)).mode)) (memory_address place a at)
+        ∙ ap (option_and_then (set_memory m.symbols m.others m.other (put a) (put source))) (ap width_of (mode_put place a at) ∙ wide)
+        ∙ ap (λ o. of_two (λ at value. if is_some (load w m.other at) then Some (Stores w at value) else None) o (value_of m.symbols m.others m.other (put source) w))
+        (address_stays.values W64 parts.0 parts.2)
+        ∙ ap (λ o. of_two (λ at value. if is_some (load w m.other at) then Some (Stores w at value) else None) (Some parts.0) o)
+        (source_stays.values w parts.1 parts.3)
+        ∙ ap (λ b. if b then Some (Stores w parts.0 parts.1) else None) (loads_too w parts.0 (load w m.memory parts.0) refl parts.4) in
         subst (λ e. Becomes x e (effect_of m.symbols m.others m.other (put x))) parts.5 (record {
           effect = Stores w parts.0 parts.1;
           is = set_put ∙ there;
@@ -409,13 +408,12 @@ module _ (homes : List HomeOf) (layout : Layout) (m : Machines) (are : AreHomed 
 
   clobbers_nothing : (mode : Mode) (reg : ℕ) (home : Home) → home_of homes reg ≡ home → m.Named reg →
       (e : Effect) × (clobber_effect (place_by layout mode reg home) ≡ Some e) × BecomesInHomes homes layout m.base (Unsets reg) e
-  clobbers_nothing mode reg (Hard hard) home named =
-      (
-        Unsets hard,
-        ap (λ (o : Rtx-F Rtx). clobber_by o.code (register_of (reg_of mode hard))) (out-roll-Rtx _)
-            ∙ ap (λ (o : Rtx-F Rtx). option_map Unsets (step.register_by o.code o.number o.kids)) (out-roll-Rtx _),
-        placed_effect.unsets reg hard home,
-      )
+  clobbers_nothing mode reg (Hard hard) home named = (
+    Unsets hard,
+    ap (λ (o : Rtx-F Rtx). clobber_by o.code (register_of (reg_of mode hard))) (out-roll-Rtx _)
+        ∙ ap (λ (o : Rtx-F Rtx). option_map Unsets (step.register_by o.code o.number o.kids)) (out-roll-Rtx _),
+    placed_effect.unsets reg hard home,
+  )
   clobbers_nothing mode reg Slot home named = (
     Nothing,
     ap (λ (o : Rtx-F Rtx). clobber_by o.code (register_of (place_by layout mode reg Slot))) (out-roll-Rtx _),
@@ -459,17 +457,19 @@ module _ (homes : List HomeOf) (layout : Layout) (m : Machines) (are : AreHomed 
     clobbered_named : (reg : ℕ) → Target place reg → (reg ≡ 32 → ⊥) × m.Named reg
     clobbered_named reg t =
         let other : reg ≡ 32 → ⊥ = λ same. false≢true (sym fits.vars ∙ defines_place 32 ∙ target_defined place 32 (omega arith) (subst (Target place) same t)) in
-        let stands : mentions_reg reg x ≡ true = mentions_kid x reg (ap (list_any (mentions_reg reg)) is.kids ∙ or_first (mentions_reg reg place) false (target_mentioned place reg t)) in
-        (other, elim (fits.named reg stands) [
-          | inl vars ↦ absurd (other vars)
-          | inr named ↦ named
-        ])
+        let stands : mentions_reg reg x ≡ true = mentions_kid x reg (ap (list_any (mentions_reg reg)) is.kids ∙ or_left (mentions_reg reg place) false (target_mentioned place reg t)) in (
+          other,
+          elim (fits.named reg stands) [
+            | inl vars ↦ absurd (other vars)
+            | inr named ↦ named
+          ],
+        )
 
     unset_becomes : (e : Effect) → option_map Unsets (register_of place) ≡ Some e → Becomes x e (effect_of m.symbols m.others m.other (put x))
     unset_becomes e has =
         let parts = unsets_is (register_of place) e has in
         let reg = parts.0 in
-        let sized : all_sized place ≡ true = (both_of (all_sized place) _ (sym (ap (list_all all_sized) is.kids) ∙ sized_kids x fits.sized)).0 in
+        let sized : all_sized place ≡ true = (and_parts (all_sized place) _ (sym (ap (list_all all_sized) is.kids) ∙ sized_kids x fits.sized)).0 in
         let t = target place reg sized parts.1 in
         let named = clobbered_named reg t in
         let inside = clobbers_nothing (head_of place).mode reg (home_of homes reg) refl named.1 in

@@ -2,7 +2,6 @@
 -- sp lowered.
 use Rattle.std.proofs.Common.{◌≡◌, ◌≢◌, ℕ, zero, suc, ◌+◌, ◌-◌, ◌^◌, ◌<◌, ◌≤◌, ◌==◌, ◌&&◌, ◌||◌, not, ◌⊎◌, inl, inr, ⊎_elim, Bool, true, false, cond, List, [], ◌∷◌, ◌++◌, Option, Some, None, refl, sym, ap, subst, ◌∙◌, arith, eq-eqb, map}
 use Rattle.std.proofs.lemmas.Bool.{false≢true, and_parts, or_cases, eqb-true, leb-true, ltb-true, false_from_ne_true}
-
 use Rattle.std.specs.FinMap.{empty, get-empty}
 use Rattle.std.specs.List.{filter, list_all}
 use Rattle.std.specs.Ordering.{nat_cmp}
@@ -210,7 +209,7 @@ module _ (c : Setting) where
   unsaved_no_sp : (r : ℕ) → is_unsaved c.layout r ≡ true → 2 ≡ r → ⊥
   unsaved_no_sp r unsaved same =
       let two : has_reg (1 ∷ saved_registers) 2 ≡ true =
-          ap (has_reg (1 ∷ saved_registers)) same ∙ (and_parts (has_reg (1 ∷ saved_registers) r) (not (has_reg (map (λ (s : SavedAt). s.reg) c.layout.saved) r)) unsaved).0 in
+      ap (has_reg (1 ∷ saved_registers)) same ∙ (and_parts (has_reg (1 ∷ saved_registers) r) (not (has_reg (map (λ (s : SavedAt). s.reg) c.layout.saved) r)) unsaved).0 in
       false≢true two
 
   pub entry_stands : StandsIn c 0 (entry_of seen) (entry_of low_start)

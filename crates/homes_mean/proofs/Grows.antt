@@ -15,7 +15,7 @@ use Rattle.rtl_step.specs.Regs.{Regs}
 use Rattle.rtl_step.specs.Value as rtl
 use Rattle.rtl_step.specs.Value.{Reading, of_two, of_one, of_converted, of_compared, compared, converted, first_width, count_width}
 use Rattle.window_mean.specs.Beside.{Within}
-use Rattle.window_replace.proofs.Known.{Too, too_then, too_two}
+use Rattle.window_keep.proofs.Too.{Too, too_then, too_two}
 
 -- ---- loads
 

@@ -1,6 +1,6 @@
 -- A jump with homes put in goes the same way.
 use Rattle.std.proofs.Common.{◌≡◌, ℕ, ◌⊎◌, Bool, true, false, List, [], ◌∷◌, map, Option, Some, None, refl, sym, ap, ◌∙◌}
-use Rattle.std.proofs.lemmas.Bool.{false≢true, and_parts}
+use Rattle.std.proofs.lemmas.Bool.{false≢true, and_parts, or_left}
 use Rattle.std.specs.Int.{cast_unsigned, w64}
 use Rattle.std.specs.List.{list_all, list_any}
 use Rattle.std.specs.Prelude.{ℤ, option_map, if◌then◌else◌}
@@ -20,13 +20,11 @@ use Rattle.rtl_step.specs.Value.{value_of, of_two}
 use Rattle.rtl_step.specs.declared.jump.Way.{Way}
 use Rattle.rtl_step.specs.declared.jump.Way.TheVariants.{Goes}
 use Rattle.md_operand.specs.Addresses.{is_constant, is_constant_at, is_any}
-use Rattle.window_replace.proofs.Known.{both_of, or_first}
-use Rattle.window_replace.proofs.Trees.{mentions_kid}
 use Rattle.assign.specs.declared.home.HomeOf.{HomeOf}
 use Rattle.assign.specs.declared.places.Layout.{Layout}
 use Rattle.homes_mean.specs.Placed.{all_sized, placed, source_label, label_by, names_constant}
 use Rattle.homes_mean.proofs.Becoming.{is_over, over}
-use Rattle.homes_mean.proofs.Trees.{sized_kids}
+use Rattle.homes_mean.proofs.Trees.{sized_kids, mentions_kid}
 use Rattle.homes_mean.proofs.Placing.{Machines, AreHomed, placed_stays}
 
 constant_code : (c : Code) (n : ℤ) → is_constant_at is_any c n ≡ true → c ≡ ConstInt
@@ -60,7 +58,7 @@ module _ (homes : List HomeOf) (layout : Layout) (m : Machines) (are : AreHomed 
       let parts = label_parts (head_of x).code (kids_of x) uid is in
       let k = parts.0 in
       let code : (head_of k).code ≡ ConstInt =
-          constant_code (head_of k).code (head_of k).number (and_parts (is_constant is_any k) true (sym (ap (list_all (is_constant is_any)) parts.2) ∙ constant)).0 in
+      constant_code (head_of k).code (head_of k).number (and_parts (is_constant is_any k) true (sym (ap (list_all (is_constant is_any)) parts.2) ∙ constant)).0 in
       ap label_of (over homes layout m are x (ap is_over parts.1))
       ∙ ap (λ (o : Rtx-F Rtx). label_uid o.code o.kids) (out-roll-Rtx _)
       ∙ ap (λ c. label_uid c (map put (kids_of x))) parts.1
@@ -109,9 +107,9 @@ module _ (homes : List HomeOf) (layout : Layout) (m : Machines) (are : AreHomed 
   branch_goes source test label other w is sized known constant pc has =
       let parts = branch_parts (value_of m.symbols m.regs m.memory test W64) (label_of label) w has in
       let sizes : list_all all_sized (test ∷ label ∷ other ∷ []) ≡ true = sym (ap (list_all all_sized) is.kids) ∙ sized_kids source sized in
-      let test_sized : all_sized test ≡ true = (both_of (all_sized test) _ sizes).0 in
+      let test_sized : all_sized test ≡ true = (and_parts (all_sized test) _ sizes).0 in
       let stays = placed_stays homes layout m are test test_sized
-          (λ reg stands. known reg (mentions_kid source reg (ap (list_any (mentions_reg reg)) is.kids ∙ or_first (mentions_reg reg test) _ stands))) in
+      (λ reg stands. known reg (mentions_kid source reg (ap (list_any (mentions_reg reg)) is.kids ∙ or_left (mentions_reg reg test) _ stands))) in
       ap (way_of m.symbols m.others m.other) (over homes layout m are source (ap is_over is.code))
       ∙ ap (λ (o : Rtx-F Rtx). way_by o.code o.kids (tree_of (head_of source) (map put (kids_of source))) m.symbols m.others m.other) (out-roll-Rtx _)
       ∙ ap (λ c. way_by c (map put (kids_of source)) (tree_of (head_of source) (map put (kids_of source))) m.symbols m.others m.other) is.code
@@ -144,7 +142,7 @@ module _ (homes : List HomeOf) (layout : Layout) (m : Machines) (are : AreHomed 
       is_pc place ≡ true → way_of m.symbols m.regs m.memory source ≡ Some w → jump_of m.symbols m.others m.other (put x) ≡ Some w
   set_goes x place source w is sized known constant pc has =
       let sizes : list_all all_sized (place ∷ source ∷ []) ≡ true = sym (ap (list_all all_sized) is.kids) ∙ sized_kids x sized in
-      let source_sized : all_sized source ≡ true = (both_of (all_sized source) _ (both_of (all_sized place) _ sizes).1).0 in
+      let source_sized : all_sized source ≡ true = (and_parts (all_sized source) _ (and_parts (all_sized place) _ sizes).1).0 in
       ap (jump_of m.symbols m.others m.other) (over homes layout m are x (ap is_over is.code))
       ∙ ap (λ (o : Rtx-F Rtx). jump_by o.code o.kids m.symbols m.others m.other) (out-roll-Rtx _)
       ∙ ap (λ c. jump_by c (map put (kids_of x)) m.symbols m.others m.other) is.code

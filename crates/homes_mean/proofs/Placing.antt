@@ -1,6 +1,6 @@
 -- Where what is known of registers stands in their homes, a tree with homes put in has the value of the tree.
 use Rattle.std.proofs.Common.{◌≡◌, ◌≢◌, ℕ, ◌+◌, ◌<◌, ◌≤◌, ◌^◌, ◌&&◌, ◌⊎◌, inl, inr, Bool, true, false, List, [], ◌∷◌, map, Option, Some, None, refl, sym, ap, subst, ◌∙◌, arith}
-use Rattle.std.proofs.lemmas.Bool.{false≢true, and_parts}
+use Rattle.std.proofs.lemmas.Bool.{false≢true, and_parts, or_left, or_right}
 use Rattle.std.proofs.lemmas.Bool.Decides.{Decides-int_eq}
 use Rattle.std.specs.Int.{cast_unsigned, int_wrap, w64}
 use Rattle.std.specs.List.{AllByRecursion, list_all, list_any}
@@ -26,8 +26,7 @@ use Rattle.rtl_step.specs.Value.{Reading, width_of, value_of, of_one}
 use Rattle.md_operand.specs.Addresses.{is_stack_vars, is_constant, is_constant_at, is_any}
 use Rattle.text_words.specs.Words.{fits_i64}
 use Rattle.window_mean.specs.Beside.{Within}
-use Rattle.window_replace.proofs.Known.{Too, too_two, or_first, or_later}
-use Rattle.window_replace.proofs.Trees.{mentions_kid}
+use Rattle.window_keep.proofs.Too.{Too, too_two}
 use Rattle.assign.specs.declared.home.Home.{Home}
 use Rattle.assign.specs.declared.home.Home.TheVariants.{Hard, Slot}
 use Rattle.assign.specs.declared.home.HomeOf.{HomeOf}
@@ -39,7 +38,7 @@ use Rattle.homes_mean.specs.Stands.{content_in}
 use Rattle.homes_mean.specs.Placed.{is_sized, all_sized, placed}
 use Rattle.homes_mean.proofs.Grows.{AllRead, leaf_too, value_grows}
 use Rattle.homes_mean.proofs.Offsets.{wrap_natural, wrap_sum, low_cut, from_sp_is, known_each, sum_low}
-use Rattle.homes_mean.proofs.Trees.{tree_induction, sized_here, sized_kids, register_code, numbered, as_read, value_at, reg_is, mem_is, reg_alone, const_alone, lowpart_is, plus_is}
+use Rattle.homes_mean.proofs.Trees.{tree_induction, sized_here, sized_kids, register_code, numbered, as_read, value_at, reg_is, mem_is, reg_alone, const_alone, lowpart_is, plus_is, mentions_kid}
 
 -- ---- two machines of which the second has the registers of the first in their homes
 
@@ -113,7 +112,7 @@ same_itself reg = (Decides-int_eq (pos reg) (pos reg)).1 refl
 pub mentions_itself : (x : Rtx) (reg : ℕ) → (head_of x).code ≡ Reg → (head_of x).number ≡ pos reg → mentions_reg reg x ≡ true
 mentions_itself x reg is number =
     mentions_out reg x
-    ∙ or_first (is_reg_numbered (head_of x).code (head_of x).number reg) _
+    ∙ or_left (is_reg_numbered (head_of x).code (head_of x).number reg) _
     (ap (λ c. is_reg_numbered c (head_of x).number reg) is ∙ ap (λ (n : ℤ). is_reg_numbered Reg n reg) number ∙ same_itself reg)
 
 module _ (homes : List HomeOf) (layout : Layout) (m : Machines) (are : AreHomed homes layout m) where
@@ -225,8 +224,8 @@ module _ (homes : List HomeOf) (layout : Layout) (m : Machines) (are : AreHomed 
       let both = added (is_stack_vars a && is_constant is_any b) (head_of b).number c off in
       let tests = and_parts (is_stack_vars a) (is_constant is_any b) both.0 in
       let sums = too_two (λ m n. Some (sum_of w m n)) (value a w) (Some (low w m.top)) (value b w) (Some (low w (cast_unsigned w64 c)))
-          (vars_alone a w tests.0)
-          (const_alone m.symbols m.regs m.memory b c w (constant_code (out-Rtx b).code (out-Rtx b).number tests.1) both.1) in
+      (vars_alone a w tests.0)
+      (const_alone m.symbols m.regs m.memory b c w (constant_code (out-Rtx b).code (out-Rtx b).number tests.1) both.1) in
       λ v has. ap Some (sym (sum_low w m.top (cast_unsigned w64 c))) ∙ sums v (sym (plus_is m.symbols m.regs m.memory x a b w is are_kids) ∙ has)
   reference_by _ x kids c w is are_kids off =
       let both = added (is_stack_vars x) (pos 0) c off in
@@ -308,7 +307,7 @@ module _ (homes : List HomeOf) (layout : Layout) (m : Machines) (are : AreHomed 
       placed homes layout x ≡ place_for homes layout (head_of x).mode reg → Stays inner → Stays x
   lowpart_stays x inner reg is are_kids has_reg becomes stays =
       let inside : placed homes layout inner ≡ place_for homes layout (head_of (fr inner)).mode reg =
-          homed_register homes layout (fr inner) reg (register_itself (fr inner) reg has_reg) in
+      homed_register homes layout (fr inner) reg (register_itself (fr inner) reg has_reg) in
       record {
         mode_is = ap (λ y. (head_of y).mode) becomes ∙ mode_of_place (head_of x).mode reg (home_of homes reg);
         values = λ w v has.
@@ -365,8 +364,8 @@ module _ (homes : List HomeOf) (layout : Layout) (m : Machines) (are : AreHomed 
   kids_stay [] all sized known = tt
   kids_stay (x ∷ kids) all sized known =
       let both = and_parts (all_sized x) (list_all all_sized kids) sized in (
-        all.0 both.0 (λ reg is. known reg (or_first (mentions_reg reg x) _ is)),
-        kids_stay kids all.1 both.1 (λ reg is. known reg (or_later (mentions_reg reg x) _ is)),
+        all.0 both.0 (λ reg is. known reg (or_left (mentions_reg reg x) _ is)),
+        kids_stay kids all.1 both.1 (λ reg is. known reg (or_right (mentions_reg reg x) _ is)),
       )
 
   only_kid : (x inner : Rtx) → kids_of x ≡ inner ∷ [] → AllByRecursion Stays (kids_of x) → Stays inner

@@ -28,13 +28,12 @@ use Rattle.rtl_func.specs.Paths.{leads}
 use Rattle.reg_uses.specs.Effects.{effect_uses, effect_defines, effects_by, effects_of, pattern_uses, pattern_defines}
 use Rattle.reg_uses.specs.Uses.{insn_uses, insn_defines, is_call_kind}
 use Rattle.live.specs.Live.{AtUse, Passing, IsLiveAfter}
-use Rattle.window_replace.proofs.Trees.{mentions_kid}
 use Rattle.window_same.proofs.Small.{or_none}
 use Rattle.homes_mean.specs.Placed.{all_sized, placed, BecomesInHomes, AllInHomes}
 use Rattle.homes_mean.specs.Placed as effects
 use Rattle.homes_mean.proofs.After.{Both, after, Holds, IsIn, changes_it, changes, later, sets_step, unsets_step, leaves_step, fills_step, stores_step}
 use Rattle.homes_mean.proofs.Becoming.{changed_by, is_over, over, Fits, Becomes, element_becomes}
-use Rattle.homes_mean.proofs.Trees.{sized_kids}
+use Rattle.homes_mean.proofs.Trees.{sized_kids, mentions_kid}
 use Rattle.homes_mean.proofs.Placing.{Machines, AreHomed}
 use Rattle.homes_mean.proofs.Setting.{Setting, IsNamed, IsCounted, base, StandsIn, machines, are_homed}
 
@@ -231,7 +230,7 @@ module _ (c : Setting) (place : ℕ) (i : Insn) (at : slice_get c.f.insns place 
     parallel_become es code is =
         let elements : effects_of i.pattern ≡ kids_of i.pattern = ap (λ c. effects_by c (kids_of i.pattern) i.pattern) code in
         let kids = kids_are (kids_of i.pattern) (sized_kids i.pattern sized) (λ reg has. mentions_kid i.pattern reg has)
-            (λ reg has. ap (list_any (effect_uses reg)) elements ∙ has) (λ reg has. ap (list_any (effect_defines reg)) elements ∙ has) in
+        (λ reg has. ap (list_any (effect_uses reg)) elements ∙ has) (λ reg has. ap (list_any (effect_defines reg)) elements ∙ has) in
         let all = all_become (kids_of i.pattern) es kids is in
         let tree = over c.homes c.layout m are i.pattern (ap is_over code) in
         record {
@@ -249,10 +248,10 @@ module _ (c : Setting) (place : ℕ) (i : Insn) (at : slice_get c.f.insns place 
     one_become es elements is =
         let parts = one_of (effect_of m.symbols m.regs m.memory i.pattern) es is in
         let element : IsElement i.pattern = record {
-            sized_too = sized;
-            mentioned = λ reg has. has;
-            used = λ reg has. ap (list_any (effect_uses reg)) elements ∙ alone reg (effect_uses reg) has;
-            defined = λ reg has. ap (list_any (effect_defines reg)) elements ∙ alone reg (effect_defines reg) has;
+          sized_too = sized;
+          mentioned = λ reg has. has;
+          used = λ reg has. ap (list_any (effect_uses reg)) elements ∙ alone reg (effect_uses reg) has;
+          defined = λ reg has. ap (list_any (effect_defines reg)) elements ∙ alone reg (effect_defines reg) has;
         } in
         let first = element_becomes c.homes c.layout m are i.pattern parts.0 (fits_of i.pattern element) parts.1 in
         subst Plainly parts.2 (record {

@@ -1,15 +1,15 @@
 -- The values of small trees: a register, a constant, a sum, and memory at an address.
 use Rattle.std.proofs.Common.{◌≡◌, ℕ, ◌&&◌, Bool, true, List, [], ◌∷◌, map, Option, Some, refl, sym, ap, subst, ◌∙◌}
-use Rattle.std.proofs.lemmas.Bool.{false≢true, and_parts}
+use Rattle.std.proofs.lemmas.Bool.{false≢true, and_parts, or_right}
 use Rattle.std.proofs.lemmas.Bool.Decides.{Decides-int_eq}
 use Rattle.std.specs.Int.{cast_unsigned, w64}
-use Rattle.std.specs.List.{AllByRecursion, list_all}
+use Rattle.std.specs.List.{AllByRecursion, list_all, list_any}
 use Rattle.std.specs.Prelude.{ℤ, pos}
 use Rattle.bits64.specs.Words.{low, sum_of}
 use Rattle.bits64.specs.declared.Width.{Width}
 use Rattle.bits64.specs.declared.Width.TheVariants.{W64}
 use Rattle.rtx_tree.specs.Code.{class_of_code}
-use Rattle.rtx_tree.specs.Tree.{reg_of, const_of, node_of, is_reg_numbered}
+use Rattle.rtx_tree.specs.Tree.{reg_of, const_of, node_of, is_reg_numbered, mentions_reg}
 use Rattle.rtx_tree.specs.declared.class.Class.TheVariants as class
 use Rattle.rtx_tree.specs.declared.code.Code.{Code}
 use Rattle.rtx_tree.specs.declared.code.Code.TheVariants.{Reg, ConstInt, Plus, Mem, Subreg}
@@ -19,11 +19,12 @@ use Rattle.rtx_tree.specs.declared.memories.MemByte.{MemByte}
 use Rattle.rtx_tree.specs.declared.tree.Rtx.{Rtx, out-Rtx, roll-Rtx, out-roll-Rtx}
 use Rattle.rtx_tree.specs.declared.tree.Rtx.TheFolds.{fold_out-Rtx, ind-Rtx}
 use Rattle.rtx_tree.specs.declared.tree.Rtx.TheOpen.{Rtx-F}
+use Rattle.rtx_tree.proofs.Trees.{mentions_out}
 use Rattle.run_memory.specs.RunMemory.{load}
 use Rattle.rtl_step.specs.Regs.{Regs, reg_value}
 use Rattle.rtl_step.specs.Value.{Reading, width_of, value_by, value_of, of_one, of_two}
 use Rattle.rtl_step.proofs.Values.{value_read}
-use Rattle.window_replace.proofs.Known.{Too}
+use Rattle.window_keep.proofs.Too.{Too}
 use Rattle.homes_mean.specs.Placed.{is_sized, sized_step, all_sized}
 
 -- ---- induction
@@ -53,6 +54,10 @@ pub sized_kids : (x : Rtx) → all_sized x ≡ true → list_all all_sized (out-
 sized_kids x sized = (and_parts (is_sized (out-Rtx x).code (out-Rtx x).number) (list_all all_sized (out-Rtx x).kids) (sym (sized_out x) ∙ sized)).1
 
 -- ---- registers
+
+-- a register that stands in a part stands in the tree
+pub mentions_kid : (x : Rtx) (reg : ℕ) → list_any (mentions_reg reg) (out-Rtx x).kids ≡ true → mentions_reg reg x ≡ true
+mentions_kid x reg is = mentions_out reg x ∙ or_right (is_reg_numbered (out-Rtx x).code (out-Rtx x).number reg) _ is
 
 -- the code of a register's class
 pub register_code : (c : Code) → class_of_code c ≡ class.Register → c ≡ Reg

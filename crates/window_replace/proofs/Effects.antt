@@ -27,7 +27,8 @@ use Rattle.reg_uses.specs.Effects.{is_register, reads, place_is, place_is_by, pl
 use Rattle.window_keep.specs.Same.{KnownToo}
 use Rattle.window_same.proofs.Small.{is_here}
 use Rattle.sym_insns.specs.Shape.{is_natural, all_natural}
-use Rattle.window_replace.proofs.Known.{Too, too_map, too_two, both_of, or_first, or_later, number_of, Had, values_too}
+use Rattle.window_keep.proofs.Too.{Too, too_map, too_two}
+use Rattle.window_replace.proofs.Known.{both_of, or_first, or_later, number_of, Had, values_too}
 use Rattle.window_replace.proofs.Trees.{natural_here, natural_kids, reads_it, mentions_kid, is_it}
 
 -- ---- what is known behind an effect

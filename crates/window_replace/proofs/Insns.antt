@@ -29,7 +29,8 @@ use Rattle.reg_uses.specs.Effects.{reads, place_reads, effect_uses_by, effects_b
 use Rattle.reg_uses.specs.Uses.{has_argument}
 use Rattle.window_keep.specs.Same.{KnownToo}
 use Rattle.sym_insns.specs.Shape.{all_natural}
-use Rattle.window_replace.proofs.Known.{Too, too_then, too_map, too_two, both_of, or_first, or_later, Had, values_too}
+use Rattle.window_keep.proofs.Too.{Too, too_then, too_map, too_two}
+use Rattle.window_replace.proofs.Known.{both_of, or_first, or_later, Had, values_too}
 use Rattle.window_replace.proofs.Trees.{natural_kids, reads_it, mentions_kid}
 use Rattle.window_replace.proofs.Effects.{AsMuch}
 

@@ -1,7 +1,7 @@
 -- What has a value by registers has it by others of which as much is known.
 use Rattle.std.proofs.lemmas.Bool.Decides.{nat_tests}
 use Rattle.std.proofs.Common.{◌≡◌, ℕ, zero, suc, ◌==◌, ◌&&◌, ◌||◌, not, Bool, true, false, List, [], ◌∷◌, map, Option, Some, None, refl, sym, ◌∙◌, ap, subst, arith, tests}
-use Rattle.std.specs.Prelude.{ℤ, pos, negsuc, option_and_then, option_map}
+use Rattle.std.specs.Prelude.{ℤ, pos, negsuc, option_and_then}
 use Rattle.std.specs.Int.{cast_unsigned, w64}
 use Rattle.std.specs.List.{list_all, list_any}
 use Rattle.bits64.specs.declared.Width.{Width}
@@ -22,28 +22,8 @@ use Rattle.rtl_step.specs.Regs.{Regs, reg_value}
 use Rattle.rtl_step.specs.Value as rtl
 use Rattle.rtl_step.specs.Value.{Reading, of_two, of_one, of_converted, of_compared, compared, converted, first_width, count_width, value_of}
 use Rattle.window_keep.specs.Same.{KnownToo}
+use Rattle.window_keep.proofs.Too.{Too, too_then, too_two}
 use Rattle.sym_insns.specs.Shape.{is_natural, natural_step, all_natural}
-
--- ---- values
-
--- where the first has a value, the second has it
-abbrev pub Too : {A : Type 0} → Option A → Option A → Type 0
-Too {A} a b = (v : A) → a ≡ Some v → b ≡ Some v
-
-pub too_then : {A B : Type 0} (g : A → Option B) (a b : Option A) → Too a b → Too (option_and_then g a) (option_and_then g b)
-too_then g None b too v is = absurd (let no : ⊥ = cc in no)
-too_then g (Some x) b too v is = ap (option_and_then g) (too x refl) ∙ is
-
-pub too_map : {A B : Type 0} (g : A → B) (a b : Option A) → Too a b → Too (option_map g a) (option_map g b)
-too_map g None b too v is = absurd (let no : ⊥ = cc in no)
-too_map g (Some x) b too v is = ap (option_map g) (too x refl) ∙ is
-
-pub too_two : {A B C : Type 0} (g : A → B → Option C) (a a' : Option A) (b b' : Option B) → Too a a' → Too b b' →
-    Too (of_two g a b) (of_two g a' b')
-too_two g None a' b b' first second v is = absurd (let no : ⊥ = cc in no)
-too_two g (Some x) a' None b' first second v is = absurd (let no : ⊥ = cc in no)
-too_two g (Some x) a' (Some y) b' first second v is =
-    ap (λ o. of_two g o b') (first x refl) ∙ ap (of_two g (Some x)) (second y refl) ∙ is
 
 -- ---- truths
 

@@ -59,9 +59,14 @@ no_part Reg n kids over = absurd (false≢true over)
 no_part Subreg n kids over = absurd (false≢true over)
 no_part _ n kids over = refl
 
-positive_test : (reg : ℕ) → 0 < reg → not (reg == 0) ≡ true
+pub positive_test : (reg : ℕ) → 0 < reg → not (reg == 0) ≡ true
 positive_test zero some = absurd (omega (arith, some))
 positive_test (suc reg) some = grind (arith, nat_tests)
+
+-- the address of a place in memory
+pub place_code : (c : Code) (kids : List Rtx) (a : Rtx) → address_part c kids ≡ Some a → (c ≡ Mem) × (kids ≡ a ∷ [])
+place_code Mem (b ∷ []) a is = (refl, let same : b ≡ a = cc in ap (λ x. x ∷ []) same)
+place_code _ kids a is = absurd (let no : ⊥ = cc in no)
 
 module _ (homes : List HomeOf) (layout : Layout) (m : Machines) (are : AreHomed homes layout m) where
   abbrev put : Rtx → Rtx
@@ -83,7 +88,7 @@ module _ (homes : List HomeOf) (layout : Layout) (m : Machines) (are : AreHomed 
       ∙ false_from_ne_true (is_reg_numbered Reg (pos reg) 32) (λ yes. let same = (Decides-int_eq (pos reg) (pos 32)).0 yes in other (let e : reg ≡ 32 = cc in e)))
 
   -- a register, by its number; or the low part of one
-  data Target (x : Rtx) (reg : ℕ) : Type 0 where
+  pub data Target (x : Rtx) (reg : ℕ) : Type 0 where
     is_reg : (head_of x).code ≡ Reg → (head_of x).number ≡ pos reg → Target x reg
     is_part : (inner : Rtx) → (head_of x).code ≡ Subreg → kids_of x ≡ inner ∷ [] → (head_of inner).code ≡ Reg → (head_of inner).number ≡ pos reg → Target x reg
 
@@ -108,7 +113,7 @@ module _ (homes : List HomeOf) (layout : Layout) (m : Machines) (are : AreHomed 
       is_part inner is are_kids here.0 here.1
   target_by _ x kids reg is are_kids sized has = absurd (let no : ⊥ = cc in no)
 
-  target : (x : Rtx) (reg : ℕ) → all_sized x ≡ true → register_of x ≡ Some reg → Target x reg
+  pub target : (x : Rtx) (reg : ℕ) → all_sized x ≡ true → register_of x ≡ Some reg → Target x reg
   target x reg sized has = target_by (head_of x).code x (kids_of x) reg refl refl sized has
 
   target_mentioned : (x : Rtx) (reg : ℕ) → Target x reg → mentions_reg reg x ≡ true
@@ -160,7 +165,7 @@ module _ (homes : List HomeOf) (layout : Layout) (m : Machines) (are : AreHomed 
       no_register_by _ n reg over is = false≢true is
 
   -- it becomes what stands for it
-  target_put : (x : Rtx) (reg : ℕ) → (reg ≡ 32 → ⊥) → Target x reg → put x ≡ place_for homes layout (head_of x).mode reg
+  pub target_put : (x : Rtx) (reg : ℕ) → (reg ≡ 32 → ⊥) → Target x reg → put x ≡ place_for homes layout (head_of x).mode reg
   target_put x reg other (is_reg is number) =
       placed_register homes layout m are x reg (no_vars x reg is number other)
       (ap (λ c. parts_register c (head_of x).number (map (framed layout.size) (kids_of x))) is ∙ ap (λ (n : ℤ). register_numbered Reg n) number)
@@ -229,17 +234,12 @@ module _ (homes : List HomeOf) (layout : Layout) (m : Machines) (are : AreHomed 
   changed_one : (reg other : ℕ) → ◌≡◌ {A = Option ℕ} (Some reg) (Some other) → reg ≡ other
   changed_one reg other is = cc
 
-  -- the address of a place in memory
-  place_code : (c : Code) (kids : List Rtx) (a : Rtx) → address_part c kids ≡ Some a → (c ≡ Mem) × (kids ≡ a ∷ [])
-  place_code Mem (b ∷ []) a is = (refl, let same : b ≡ a = cc in ap (λ x. x ∷ []) same)
-  place_code _ kids a is = absurd (let no : ⊥ = cc in no)
-
   memory_put : (place a : Rtx) → address_of place ≡ Some a → put place ≡ tree_of (head_of place) (put a ∷ [])
   memory_put place a is =
       let parts = place_code (out-Rtx place).code (out-Rtx place).kids a is in
       over place (ap is_over parts.0) ∙ ap (λ kids. tree_of (head_of place) (map put kids)) parts.1
 
-  memory_address : (place a : Rtx) → address_of place ≡ Some a → address_of (put place) ≡ Some (put a)
+  pub memory_address : (place a : Rtx) → address_of place ≡ Some a → address_of (put place) ≡ Some (put a)
   memory_address place a is =
       let parts = place_code (out-Rtx place).code (out-Rtx place).kids a is in
       ap address_of (memory_put place a is)
@@ -274,7 +274,7 @@ module _ (homes : List HomeOf) (layout : Layout) (m : Machines) (are : AreHomed 
 
   -- ---- what the parts of an element read
 
-  reads_it : (reg : ℕ) (x : Rtx) → 0 < reg → mentions_reg reg x ≡ true → reads reg x ≡ true
+  pub reads_it : (reg : ℕ) (x : Rtx) → 0 < reg → mentions_reg reg x ≡ true → reads reg x ≡ true
   reads_it reg x some is = ap (λ b. b && mentions_reg reg x) (positive_test reg some) ∙ is
 
   abbrev KnownIn : Rtx → Type 0

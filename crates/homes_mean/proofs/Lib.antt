@@ -12,3 +12,4 @@ pub mod After
 pub mod Plain
 pub mod Returns
 pub mod Entry
+pub mod CallTrees

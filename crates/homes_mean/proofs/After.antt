@@ -122,7 +122,7 @@ some_bytes W16 = omega arith
 some_bytes W32 = omega arith
 some_bytes W64 = omega arith
 
-eight_bytes : (w : Width) → bytes_of w ≤ 8
+pub eight_bytes : (w : Width) → bytes_of w ≤ 8
 eight_bytes W8 = omega arith
 eight_bytes W16 = omega arith
 eight_bytes W32 = omega arith
@@ -151,7 +151,7 @@ stored w memory at value (Some old) is there = ap (λ o. unwrap_or (option_map (
 
 -- ---- lists
 
-any_at : {A : Type 0} (p : A → Bool) (xs : List A) (i : ℕ) (x : A) → slice_get xs i ≡ Some x → p x ≡ true → list_any p xs ≡ true
+pub any_at : {A : Type 0} (p : A → Bool) (xs : List A) (i : ℕ) (x : A) → slice_get xs i ≡ Some x → p x ≡ true → list_any p xs ≡ true
 any_at p [] i x at is = absurd (none-some x at)
 any_at p (y ∷ xs) zero x at is = or_left (p y) (list_any p xs) (ap p (same_Some y x at) ∙ is)
 any_at p (y ∷ xs) (suc i) x at is = or_right (p y) (list_any p xs) (any_at p xs i x at is)
@@ -161,7 +161,7 @@ any_mapped p g [] i x at is = absurd (none-some x at)
 any_mapped p g (y ∷ xs) zero x at is = or_left (p (g y)) (list_any p (map g xs)) (ap (λ y. p (g y)) (same_Some y x at) ∙ is)
 any_mapped p g (y ∷ xs) (suc i) x at is = or_right (p (g y)) (list_any p (map g xs)) (any_mapped p g xs i x at is)
 
-one_has : (test : ℕ → Bool) (xs : List ℕ) (reg : ℕ) → list_all test xs ≡ true → has_reg xs reg ≡ true → test reg ≡ true
+pub one_has : (test : ℕ → Bool) (xs : List ℕ) (reg : ℕ) → list_all test xs ≡ true → has_reg xs reg ≡ true → test reg ≡ true
 one_has test [] reg all has = absurd (false≢true has)
 one_has test (x ∷ xs) reg all has =
     let both = and_parts (test x) (list_all test xs) all in
@@ -258,7 +258,7 @@ module _ (c : Setting) where
       (grind (arith, nat_tests, first, second))
 
   -- what stands in a home stays where the home does
-  content_same : (reg : ℕ) (home : Home) (w : Width) (others others' : Regs) (other other' : List MemByte) →
+  pub content_same : (reg : ℕ) (home : Home) (w : Width) (others others' : Regs) (other other' : List MemByte) →
       ((hard : ℕ) → home ≡ Hard hard → reg_value others' hard w ≡ reg_value others hard w) →
       (home ≡ Slot → load w other' (slot_at reg) ≡ load w other (slot_at reg)) →
       content_in c.layout (base c) others' other' reg home w ≡ content_in c.layout (base c) others other reg home w

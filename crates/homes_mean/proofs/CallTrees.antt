@@ -191,7 +191,7 @@ module _ (homes : List HomeOf) (layout : Layout) (m : Machines) (are : AreHomed 
       let part : target_of (call_part (put x)) ≡ Some (put t) = ap target_of (part_put x (call_part x) tree sized) ∙ target_in (call_part x) t at in
       let stays = placed_stays homes layout m are t (target_sized (call_part x) t at (part_sized x (call_part x) tree sized)) (known t refl) in
       λ v is. ap (λ o. option_and_then (λ target. option_and_then aligned_target (value_of m.symbols m.others m.other target W64)) o) part
-          ∙ too_then aligned_target (value_of m.symbols m.regs m.memory t W64) (value_of m.symbols m.others m.other (put t) W64) (stays.values W64) v is
+      ∙ too_then aligned_target (value_of m.symbols m.regs m.memory t W64) (value_of m.symbols m.others m.other (put t) W64) (stays.values W64) v is
 
   -- what the called function sees
   pub event_put : (ranges ranges' : List RangeAt) (x : Rtx) (uses : List ArgUse) → all_sized x ≡ true →

@@ -13,3 +13,5 @@ pub mod Plain
 pub mod Returns
 pub mod Entry
 pub mod CallTrees
+pub mod Replies
+pub mod Calls

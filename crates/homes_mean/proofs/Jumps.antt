@@ -68,7 +68,7 @@ module _ (homes : List HomeOf) (layout : Layout) (m : Machines) (are : AreHomed 
 
   -- ---- where the pc is set to
 
-  abbrev KnownIn : Rtx → Type 0
+  abbrev pub KnownIn : Rtx → Type 0
   KnownIn x = (reg : ℕ) → mentions_reg reg x ≡ true → (reg ≡ 32) ⊎ m.Counts reg
 
   goes_parts : (o : Option ℕ) (w : Way) → option_map Goes o ≡ Some w → (uid : ℕ) × (o ≡ Some uid) × (Goes uid ≡ w)
@@ -151,7 +151,7 @@ module _ (homes : List HomeOf) (layout : Layout) (m : Machines) (are : AreHomed 
       ∙ source_by (head_of source).code (kids_of source) source w refl refl source_sized known constant has
 
   -- what the pc is set to has to be known
-  abbrev SourceKnown : Code → List Rtx → Type 0
+  abbrev pub SourceKnown : Code → List Rtx → Type 0
   SourceKnown Set (place ∷ source ∷ []) = KnownIn source
   SourceKnown _ kids = Unit {0}
 

@@ -15,3 +15,4 @@ pub mod Entry
 pub mod CallTrees
 pub mod Replies
 pub mod Calls
+pub mod Onward

@@ -21,6 +21,7 @@ use Rattle.reg_uses.specs.Uses.{insn_defines, has_argument}
 use Rattle.rtl_func.specs.Calls.{is_argument}
 use Rattle.md_operand.specs.Addresses.{is_constant, is_any}
 use Rattle.text_words.specs.Words.{fits_i64}
+use Rattle.window_same.specs.ForLines.{MarksAreEmpty}
 use Rattle.assign.specs.declared.home.Home.TheVariants.{Hard, Slot}
 use Rattle.assign.specs.declared.home.HomeOf.{HomeOf}
 use Rattle.assign.specs.declared.places.Layout.{Layout}
@@ -62,7 +63,7 @@ abbrev pub names_constant : Rtx → Bool
 names_constant label = list_all (is_constant is_any) (kids_of label)
 
 -- What is asked of a function: its numbers have their sizes; of the hard registers it names a0 to a7 alone, and virtual-stack-vars,
--- which it changes nowhere; and labels are told by constants.
+-- which it changes nowhere; labels are told by constants, and labels and barriers define nothing.
 pub record CanBePlaced (f : Function) : Type 0 where
   pub sized : (place : ℕ) (i : Insn) → slice_get f.insns place ≡ Some i → all_sized i.pattern ≡ true
   pub named : (place reg : ℕ) (i : Insn) → slice_get f.insns place ≡ Some i → mentions_reg reg i.pattern ≡ true →
@@ -71,6 +72,7 @@ pub record CanBePlaced (f : Function) : Type 0 where
   pub vars : (place : ℕ) (i : Insn) → slice_get f.insns place ≡ Some i → insn_defines i virtual_stack_vars ≡ false
   pub labels : (place : ℕ) (i : Insn) → slice_get f.insns place ≡ Some i → i.kind ≡ Jump →
       names_constant (label_by (head_of i.pattern).code (kids_of i.pattern) i.pattern) ≡ true
+  pub marks : MarksAreEmpty f
 
 -- ---- effects
 

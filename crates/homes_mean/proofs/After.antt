@@ -209,7 +209,7 @@ module _ (c : Setting) where
   pub some_reg : (reg : ℕ) → IsNamed reg → 0 < reg
   some_reg reg named = let least = home_least reg named.has in omega (arith, least)
 
-  hard_least : (reg hard : ℕ) → IsNamed reg → home_of c.homes reg ≡ Hard hard → 5 ≤ hard
+  pub hard_least : (reg hard : ℕ) → IsNamed reg → home_of c.homes reg ≡ Hard hard → 5 ≤ hard
   hard_least reg hard named is = elim (hard_home c.f c.homes c.are_homes reg hard is) [
     | inl among ↦ among.0
     | inr same ↦ let least = home_least reg named.has in omega (arith, same, least)
@@ -223,7 +223,7 @@ module _ (c : Setting) where
       ap (λ regs. has_reg regs hard) c.frame.saved
       ∙ later_has (saved_for_calls c.f.insns) (filter (is_home c.homes) saved_registers) hard (filter_has (is_home c.homes) saved_registers hard has lives)
 
-  unsaved_no_home : (reg hard : ℕ) → IsNamed reg → home_of c.homes reg ≡ Hard hard → is_unsaved c.layout hard ≡ true → ⊥
+  pub unsaved_no_home : (reg hard : ℕ) → IsNamed reg → home_of c.homes reg ≡ Hard hard → is_unsaved c.layout hard ≡ true → ⊥
   unsaved_no_home reg hard named is unsaved =
       let both = and_parts (has_reg (1 ∷ saved_registers) hard) (not (has_reg (map (λ (s : SavedAt). s.reg) c.layout.saved) hard)) unsaved in
       elim (home_is c.homes reg) [

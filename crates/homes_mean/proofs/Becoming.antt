@@ -196,6 +196,7 @@ module _ (homes : List HomeOf) (layout : Layout) (m : Machines) (are : AreHomed 
     pub becomes : BecomesInHomes homes layout m.base e effect
     pub named : (reg : ℕ) → changed_by e ≡ Some reg → m.Named reg
     pub defines : (reg : ℕ) → changed_by e ≡ Some reg → effect_defines reg x ≡ true
+    pub mentioned : (reg : ℕ) → changed_by e ≡ Some reg → mentions_reg reg x ≡ true
     pub stored : (w : Width) (at value : ℕ) → e ≡ Stores w at value → is_some (load w m.memory at) ≡ true
     -- it changes each register that the element defines
     pub only : (reg : ℕ) → effect_defines reg x ≡ true → changed_by e ≡ Some reg
@@ -366,6 +367,7 @@ module _ (homes : List HomeOf) (layout : Layout) (m : Machines) (are : AreHomed 
           named = λ other same. subst m.Named (changed_one reg other same) named.1;
           defines = λ other same. subst (λ r. effect_defines r x ≡ true) (changed_one reg other same)
               (defines_is reg ∙ target_defined place reg (are.positive reg named.1) t);
+          mentioned = λ other same. subst (λ r. mentions_reg r x ≡ true) (changed_one reg other same) (in_place reg (target_mentioned place reg t));
           stored = λ w at value same. absurd (let no : ⊥ = cc in no);
           only = λ other is_it. ap (λ r. Some r) (target_only place reg other t (sym (defines_is other) ∙ is_it));
         })
@@ -389,6 +391,7 @@ module _ (homes : List HomeOf) (layout : Layout) (m : Machines) (are : AreHomed 
           becomes = placed_effect.stores w parts.0 parts.1;
           named = λ other same. absurd (let no : ⊥ = cc in no);
           defines = λ other same. absurd (let no : ⊥ = cc in no);
+          mentioned = λ other same. absurd (let no : ⊥ = cc in no);
           stored = λ v at value same. stored_there w v parts.0 at parts.1 value same parts.4;
           only = λ other is_it. absurd (no_target Mem place other (place_code (out-Rtx place).code (out-Rtx place).kids a at).0 refl (sym (defines_is other) ∙ is_it));
         })
@@ -446,6 +449,7 @@ module _ (homes : List HomeOf) (layout : Layout) (m : Machines) (are : AreHomed 
         becomes = placed_effect.nothing;
         named = λ other changed. absurd (let no : ⊥ = cc in no);
         defines = λ other changed. absurd (let no : ⊥ = cc in no);
+        mentioned = λ other changed. absurd (let no : ⊥ = cc in no);
         stored = λ w at value same. absurd (let no : ⊥ = cc in no);
         only = λ other is_it. absurd (none other is_it);
       })
@@ -480,6 +484,8 @@ module _ (homes : List HomeOf) (layout : Layout) (m : Machines) (are : AreHomed 
           named = λ other same. subst m.Named (changed_one reg other same) named.1;
           defines = λ other same. subst (λ r. effect_defines r x ≡ true) (changed_one reg other same)
               (defines_place reg ∙ target_defined place reg (are.positive reg named.1) t);
+          mentioned = λ other same. subst (λ r. mentions_reg r x ≡ true) (changed_one reg other same)
+              (mentions_kid x reg (ap (list_any (mentions_reg reg)) is.kids ∙ or_left (mentions_reg reg place) false (target_mentioned place reg t)));
           stored = λ w at value same. absurd (let no : ⊥ = cc in no);
           only = λ other is_it. ap (λ r. Some r) (target_only place reg other t (sym (defines_place other) ∙ is_it));
         })

@@ -1,10 +1,11 @@
 -- Homes: which registers they are, where slots stand, and that registers which conflict have different homes.
-use Rattle.std.proofs.Common.{◌≡◌, ◌≢◌, ℕ, zero, suc, ◌+◌, ◌%◌, ◌<◌, ◌≤◌, ◌==◌, ◌&&◌, ◌⊎◌, inl, inr, ⊎_elim, Bool, true, false, cond, List, [], ◌∷◌, ◌++◌, map, length, get_or, Option, Some, None, refl, sym, ap, subst, ◌∙◌, arith, eq-eqb}
+use Rattle.std.proofs.Common.{◌≡◌, ◌≢◌, ℕ, zero, suc, ◌+◌, ◌%◌, ◌<◌, ◌≤◌, ◌==◌, ◌||◌, ◌⊎◌, inl, inr, ⊎_elim, Bool, true, false, cond, List, [], ◌∷◌, ◌++◌, map, length, get_or, Option, Some, None, refl, sym, ap, subst, ◌∙◌, arith, eq-eqb}
 use Rattle.std.proofs.lemmas.Bool.{false≢true, and_parts, eqb-true, leb-true}
 use Rattle.std.proofs.lemmas.Option.{same_Some, none-some}
 use Rattle.std.specs.List.{find, list_all}
 use Rattle.std.specs.Option.{option_map_or}
 use Rattle.std.specs.Prelude.{slice_get, nat_le, option_map, unwrap_or, All}
+use Rattle.rtx_tree.specs.RegSet.{has_reg}
 use Rattle.rtx_tree.specs.Registers.{pseudo}
 use Rattle.rtx_tree.specs.declared.function.Function.{Function}
 use Rattle.rv_regs.specs.Registers.{allocation_order}
@@ -12,7 +13,7 @@ use Rattle.reg_conflicts.specs.Conflicts.{Conflict}
 use Rattle.same_behaviour.proofs.Entry.{same_or_not}
 use Rattle.run_memory.proofs.Laws.{Apart}
 use Rattle.assign.specs.Frame.{offsets, slot_by, slots_of, IsFrame}
-use Rattle.assign.specs.Homes.{register, AreHomes}
+use Rattle.assign.specs.Homes.{register, pseudos, AreHomes}
 use Rattle.assign.specs.declared.home.Home.{Home}
 use Rattle.assign.specs.declared.home.Home.TheVariants.{Hard, Slot}
 use Rattle.assign.specs.declared.home.HomeOf.{HomeOf}
@@ -20,6 +21,7 @@ use Rattle.assign.specs.declared.places.Layout.{Layout}
 use Rattle.assign.specs.declared.places.SavedAt.{SavedAt}
 use Rattle.assign.specs.declared.places.SlotAt.{SlotAt}
 use Rattle.reload_homes.specs.Homes.{home_of, slot_offset}
+use Rattle.homes_mean.specs.Tame.{may_be_home}
 
 -- ---- the first that is listed
 
@@ -55,23 +57,23 @@ no_slot a is = cc
 
 -- ---- registers that may be homes
 
--- t0 to t2, s0 and s1, a0 to a7, s2 to s11
-abbrev may_be_home : ℕ → Bool
-may_be_home reg = nat_le 5 reg && nat_le reg 27
-
 one_of : (test : ℕ → Bool) (xs : List ℕ) (i n : ℕ) → list_all test xs ≡ true → slice_get xs i ≡ Some n → test n ≡ true
 one_of test [] i n all at = absurd (none-some n at)
 one_of test (x ∷ xs) zero n all at = subst (λ n. test n ≡ true) (same_Some x n at) (and_parts (test x) (list_all test xs) all).0
 one_of test (x ∷ xs) (suc i) n all at = one_of test xs i n (and_parts (test x) (list_all test xs) all).1 at
 
 module _ (f : Function) (homes : List HomeOf) (are : AreHomes f homes) where
+  -- a hard home that is listed is a register of the order
+  pub order_home : (k hard : ℕ) (x : HomeOf) → slice_get homes k ≡ Some x → x.home ≡ Hard hard → (5 ≤ hard) × (hard ≤ 27)
+  order_home k hard x at is =
+      let first = are.first k x hard at is in
+      let both = and_parts (nat_le 5 hard) (nat_le hard 27) (one_of may_be_home allocation_order first.0 hard refl first.1) in
+      (leb-true 5 hard both.0, leb-true hard 27 both.1)
+
   -- a hard home is a register of the order, or the register itself
   pub hard_home : (reg hard : ℕ) → home_of homes reg ≡ Hard hard → ((5 ≤ hard) × (hard ≤ 27)) ⊎ (hard ≡ reg)
   hard_home reg hard is = elim (home_is homes reg) [
-    | inl (k, x, at, same, home) ↦
-        let first = are.first k x hard at (sym home ∙ is) in
-        let both = and_parts (nat_le 5 hard) (nat_le hard 27) (one_of may_be_home allocation_order first.0 hard refl first.1) in
-        inl (leb-true 5 hard both.0, leb-true hard 27 both.1)
+    | inl (k, x, at, same, home) ↦ inl (order_home k hard x at (sym home ∙ is))
     | inr itself ↦ inr (sym (same_hard reg hard (sym itself ∙ is)))
   ]
 
@@ -153,6 +155,24 @@ found_some {A = A} key (y ∷ xs) (suc i) n x at is none = by (key y == n) none 
     by true none rest = let no : ⊥ = cc in no
     by false none rest = rest none
 
+-- a pseudo that stands in the function is listed
+has_pseudo : (homes : List HomeOf) (k : ℕ) → has_reg (pseudos homes) k ≡ true → (j : ℕ) × (x : HomeOf) × (slice_get homes j ≡ Some x) × (x.pseudo ≡ k)
+has_pseudo [] k has = absurd (false≢true has)
+has_pseudo (y ∷ homes) k has = by (y.pseudo == k) refl has (has_pseudo homes k)
+  where
+    by : (b : Bool) → (y.pseudo == k) ≡ b → b || has_reg (pseudos homes) k ≡ true →
+        (has_reg (pseudos homes) k ≡ true → (j : ℕ) × (x : HomeOf) × (slice_get homes j ≡ Some x) × (x.pseudo ≡ k)) →
+        (j : ℕ) × (x : HomeOf) × (slice_get (y ∷ homes) j ≡ Some x) × (x.pseudo ≡ k)
+    by true is has rest = (0, y, refl, eqb-true y.pseudo k is)
+    by false is has rest = let more = rest has in (suc more.0, more.1, more.2, more.3)
+
+pub listed_home : (homes : List HomeOf) (k : ℕ) → has_reg (pseudos homes) k ≡ true →
+    (j : ℕ) × (x : HomeOf) × (slice_get homes j ≡ Some x) × (home_of homes (pseudo k) ≡ x.home)
+listed_home homes k has = elim (listed register homes (pseudo k)) [
+  | inl found ↦ (found.0, found.1, found.2, ap (λ o. unwrap_or (option_map (λ (x : HomeOf). x.home) o) (Hard (pseudo k))) found.4)
+  | inr none ↦ let there = has_pseudo homes k has in absurd (found_some register homes there.0 (pseudo k) there.1 there.2 (ap pseudo there.3) none)
+]
+
 module _ (f : Function) (homes : List HomeOf) (layout : Layout) (frame : IsFrame f homes layout) where
   -- the slot of a register that lives in one
   pub slot_is : (reg : ℕ) → home_of homes reg ≡ Slot →
@@ -184,6 +204,12 @@ module _ (f : Function) (homes : List HomeOf) (layout : Layout) (frame : IsFrame
       let less = rest.0 in
       let sum : suc (length saved) + i ≡ suc (length saved + i) = omega arith in
       (omega (arith, less), ap (λ n. get_or (a.offset ∷ (map (λ (s : SavedAt). s.offset) saved ++ map (λ (s : SlotAt). s.offset) slots)) n 0) sum ∙ rest.1)
+
+  -- what holds of all offsets holds of that of each slot
+  pub of_slot : (P : ℕ → Type 0) → All P (offsets layout) → (i : ℕ) (s : SlotAt) → slice_get layout.slots i ≡ Some s → P s.offset
+  of_slot P all i s at =
+      let place = offset_at layout.saved layout.slots i s at in
+      subst P place.1 (all (length layout.saved + i) 0 place.0)
 
   of_offset : (P : ℕ → Type 0) → All P (offsets layout) → (reg : ℕ) → home_of homes reg ≡ Slot → P (slot_offset layout reg)
   of_offset P all reg is =

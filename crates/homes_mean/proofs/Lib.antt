@@ -16,3 +16,4 @@ pub mod CallTrees
 pub mod Replies
 pub mod Calls
 pub mod Onward
+pub mod Tamed

@@ -66,6 +66,7 @@ module _ (c : Setting) (place : ℕ) (i : Insn) (at : slice_get c.f.insns place 
     pub becomes : BecomesInHomes c.homes c.layout (base c) e e'
     pub named : (reg : ℕ) → changed_by e ≡ Some reg → IsNamed reg
     pub defines : (reg : ℕ) → changed_by e ≡ Some reg → insn_defines i reg ≡ true
+    pub mentioned : (reg : ℕ) → changed_by e ≡ Some reg → mentions_reg reg i.pattern ≡ true
     pub stored : (w : Width) (at value : ℕ) → e ≡ Stores w at value → is_some (load w memory at) ≡ true
 
   pub data AllMade (memory : List MemByte) : List Effect → List Effect → Type 0 where
@@ -166,6 +167,7 @@ module _ (c : Setting) (place : ℕ) (i : Insn) (at : slice_get c.f.insns place 
       becomes = becomes.becomes;
       named = becomes.named;
       defines = λ reg same. defined_by reg (is.defined reg (becomes.defines reg same));
+      mentioned = λ reg same. is.mentioned reg (becomes.mentioned reg same);
       stored = becomes.stored;
     }
 
@@ -326,6 +328,7 @@ module _ (c : Setting) (place : ℕ) (i : Insn) (at : slice_get c.f.insns place 
       pub these : List Effect
       pub is : step.effects_of c.world.symbols u.regs u.memory (placed c.homes c.layout i.pattern) ≡ Some these
       pub becomes : AllInHomes c.homes c.layout (base c) es these
+      pub made : AllMade s.memory es these
       pub stands_behind : (q next next' : ℕ) → leads c.f.insns place q ≡ true → StandsIn c q (state_of s next es) (state_of u next' these)
 
     -- wherever it has effects, it has them with homes put in, and the states behind it stand beside each other
@@ -336,5 +339,6 @@ module _ (c : Setting) (place : ℕ) (i : Insn) (at : slice_get c.f.insns place 
           these = all.these;
           is = all.is;
           becomes = in_homes s.memory es all.these all.made;
+          made = all.made;
           stands_behind = behind es all.these all.made all.only;
         }

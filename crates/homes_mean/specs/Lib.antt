@@ -1,3 +1,4 @@
 pub mod Kept
 pub mod Stands
 pub mod Placed
+pub mod Tame

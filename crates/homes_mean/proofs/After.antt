@@ -97,7 +97,7 @@ pub record Holds (c : Setting) (place : ℕ) (waits : ℕ → Bool) (b : Both) :
 
 -- ---- numbers
 
-abbrev NeverBoth : ℕ → ℕ → ℕ → ℕ → Type 0
+abbrev pub NeverBoth : ℕ → ℕ → ℕ → ℕ → Type 0
 NeverBoth a n b k = (place : ℕ) → a ≤ place → place < a + n → b ≤ place → place < b + k → ⊥
 
 meet : (a n b k : ℕ) → NeverBoth a n b k → 0 < n → 0 < k → (o : Bool) → nat_le a b ≡ o → b < a + n → a < b + k → ⊥
@@ -105,7 +105,7 @@ meet a n b k never some more true is first second = let less : a ≤ b = grind (
 meet a n b k never some more false is first second = let less : b < a = grind (arith, nat_tests, is) in never a (omega arith) (omega (arith, some)) (omega (arith, less)) second
 
 -- two ranges with no place in common are apart
-from_ends : (a n b k : ℕ) → NeverBoth a n b k → 0 < n → 0 < k → Apart a n b k
+pub from_ends : (a n b k : ℕ) → NeverBoth a n b k → 0 < n → 0 < k → Apart a n b k
 from_ends a n b k never some more = by (nat_le (a + n) b) (nat_le (b + k) a) refl refl
   where
     by : (p q : Bool) → nat_le (a + n) b ≡ p → nat_le (b + k) a ≡ q → Apart a n b k
@@ -116,7 +116,7 @@ from_ends a n b k never some more = by (nat_le (a + n) b) (nat_le (b + k) a) ref
         let second : a < b + k = grind (arith, nat_tests, above) in
         absurd (meet a n b k never some more (nat_le a b) refl first second)
 
-some_bytes : (w : Width) → 0 < bytes_of w
+pub some_bytes : (w : Width) → 0 < bytes_of w
 some_bytes W8 = omega arith
 some_bytes W16 = omega arith
 some_bytes W32 = omega arith
@@ -156,7 +156,7 @@ any_at p [] i x at is = absurd (none-some x at)
 any_at p (y ∷ xs) zero x at is = or_left (p y) (list_any p xs) (ap p (same_Some y x at) ∙ is)
 any_at p (y ∷ xs) (suc i) x at is = or_right (p y) (list_any p xs) (any_at p xs i x at is)
 
-any_mapped : {A B : Type 0} (p : B → Bool) (g : A → B) (xs : List A) (i : ℕ) (x : A) → slice_get xs i ≡ Some x → p (g x) ≡ true → list_any p (map g xs) ≡ true
+pub any_mapped : {A B : Type 0} (p : B → Bool) (g : A → B) (xs : List A) (i : ℕ) (x : A) → slice_get xs i ≡ Some x → p (g x) ≡ true → list_any p (map g xs) ≡ true
 any_mapped p g [] i x at is = absurd (none-some x at)
 any_mapped p g (y ∷ xs) zero x at is = or_left (p (g y)) (list_any p (map g xs)) (ap (λ y. p (g y)) (same_Some y x at) ∙ is)
 any_mapped p g (y ∷ xs) (suc i) x at is = or_right (p (g y)) (list_any p (map g xs)) (any_mapped p g xs i x at is)

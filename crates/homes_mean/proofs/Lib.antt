@@ -17,3 +17,4 @@ pub mod Replies
 pub mod Calls
 pub mod Onward
 pub mod Tamed
+pub mod Staying

@@ -83,13 +83,13 @@ module _ (c : Setting) (place : ℕ) (i : Insn) (at : slice_get c.f.insns place 
       SourceKnown c.homes c.layout (machines c place s u) (are_homed c place s u stands) code kids
   source_known Set (target ∷ source ∷ []) is are = λ reg has. elim (named_of reg (mentions_kid i.pattern reg
       (ap (list_any (mentions_reg reg)) are ∙ or_right (mentions_reg reg target) _ (or_left (mentions_reg reg source) false has)))) [
-    | inl vars ↦ inl vars
-    | inr named ↦ inr (record {
-      named = named;
-      live = AtUse place i at (or_left (insn_uses i reg) _ (or_left (pattern_uses reg i.pattern) _
-          (source_uses target source reg is are (let least = home_least reg named.has in omega (arith, least)) has)));
-    })
-  ]
+        | inl vars ↦ inl vars
+        | inr named ↦ inr (record {
+          named = named;
+          live = AtUse place i at (or_left (insn_uses i reg) _ (or_left (pattern_uses reg i.pattern) _
+              (source_uses target source reg is are (let least = home_least reg named.has in omega (arith, least)) has)));
+        })
+      ]
   source_known _ kids is are = tt
 
   -- it goes the same way

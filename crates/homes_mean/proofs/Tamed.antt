@@ -9,6 +9,7 @@ use Rattle.bits64.specs.declared.Width.{Width}
 use Rattle.rtx_tree.specs.Registers.{pseudo}
 use Rattle.rtx_tree.specs.Tree.{mentions_reg}
 use Rattle.rtx_tree.specs.declared.function.Insn.{Insn}
+use Rattle.rtx_tree.specs.declared.function.Kind.TheVariants as kind
 use Rattle.run_memory.specs.RunMemory.{load, is_in}
 use Rattle.rtl_step.specs.declared.effect.Effect.{Effect}
 use Rattle.rtl_step.specs.declared.effect.Effect.TheVariants.{Stores}
@@ -27,7 +28,7 @@ use Rattle.homes_mean.specs.Tame.{IsFree, IsOutside, IsTame}
 use Rattle.homes_mean.specs.Tame as tame
 use Rattle.homes_mean.proofs.After.{any_at, unsaved_no_home}
 use Rattle.homes_mean.proofs.HomesApart.{hard_home, order_home, listed_home, slot_is, of_slot}
-use Rattle.homes_mean.proofs.Plain.{Made, AllMade, made_none, made_more}
+use Rattle.homes_mean.proofs.Plain.{Made, AllMade, made_none, made_more, PlainDoes}
 use Rattle.homes_mean.proofs.Setting.{Setting, IsNamed, base, StandsIn, frame_is}
 use Rattle.homes_mean.proofs.Stores.{load_each}
 
@@ -82,7 +83,7 @@ module _ (c : Setting) where
         | inr above ↦
             let number = number_of reg (leb-true 64 reg above) in
             let stands : has_reg (pseudos c.homes) (reg - 64) ≡ true =
-                c.are_homes.named (reg - 64) ∙ any_at (λ (j : Insn). mentions_reg (pseudo (reg - 64)) j.pattern) c.f.insns place i at (ap (λ r. mentions_reg r i.pattern) (sym number) ∙ mentioned) in
+            c.are_homes.named (reg - 64) ∙ any_at (λ (j : Insn). mentions_reg (pseudo (reg - 64)) j.pattern) c.f.insns place i at (ap (λ r. mentions_reg r i.pattern) (sym number) ∙ mentioned) in
             let home = listed_home c.homes (reg - 64) stands in
             order_home c.f c.homes c.are_homes home.0 hard home.1 home.2 (sym home.3 ∙ (ap (home_of c.homes) (sym number) ∙ is))
       ]
@@ -121,3 +122,7 @@ module _ (c : Setting) where
       pub all_tame : (es es' : List Effect) → AllMade c place i at s.memory es es' → AllTame c es'
       all_tame _ _ made_none = tame_none
       all_tame _ _ (made_more e e' es es' made rest) = tame_more e' es' (one_tame e e' made.becomes made) (all_tame es es' rest)
+
+      -- those of a plain instruction
+      pub plain_tame : (plain : i.kind ≡ kind.Plain) (es : List Effect) (does : PlainDoes c place i at plain s u stands es) → AllTame c does.these
+      plain_tame plain es does = all_tame es does.these does.made

@@ -79,10 +79,12 @@ pub record CanBePlaced (f : Function) : Type 0 where
 -- What an effect becomes, where the frame has this lowest address: a register that is set is set in its home, which is a store of as many
 -- bits where that is a slot; one that is unset is unset, or its slot is left; a store stays.
 pub data BecomesInHomes (homes : List HomeOf) (layout : Layout) (base : ℕ) : Effect → Effect → Type 0 where
-  sets : (reg hard : ℕ) (known : Known) → home_of homes reg ≡ Hard hard → BecomesInHomes homes layout base (Sets reg known) (Sets hard known)
+  sets : (reg hard : ℕ) (known : Known) → home_of homes reg ≡ Hard hard →
+      BecomesInHomes homes layout base (Sets reg known) (Sets hard known)
   fills : (reg : ℕ) (w : Width) (value : ℕ) → home_of homes reg ≡ Slot →
       BecomesInHomes homes layout base (Sets reg (known_of w value)) (Stores w (base + slot_offset layout reg) value)
-  unsets : (reg hard : ℕ) → home_of homes reg ≡ Hard hard → BecomesInHomes homes layout base (Unsets reg) (Unsets hard)
+  unsets : (reg hard : ℕ) → home_of homes reg ≡ Hard hard →
+      BecomesInHomes homes layout base (Unsets reg) (Unsets hard)
   leaves : (reg : ℕ) → home_of homes reg ≡ Slot → BecomesInHomes homes layout base (Unsets reg) Nothing
   stores : (w : Width) (at value : ℕ) → BecomesInHomes homes layout base (Stores w at value) (Stores w at value)
   nothing : BecomesInHomes homes layout base Nothing Nothing

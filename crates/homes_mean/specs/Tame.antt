@@ -24,11 +24,14 @@ pub record IsFree (layout : Layout) (reg : ℕ) : Type 0 where
 -- bytes in no slot, and in the frame none but the locals
 pub record IsOutside (layout : Layout) (locals : ℕ) (start : Start) (at count : ℕ) : Type 0 where
   pub no_slot : (address : ℕ) → at ≤ address → address < at + count → in_slots layout (base_of layout start) address ≡ false
-  pub local : (address : ℕ) → at ≤ address → address < at + count → is_below_sp start layout.size address ≡ true → is_below_sp start locals address ≡ true
+  pub local : (address : ℕ) → at ≤ address → address < at + count → is_below_sp start layout.size address ≡ true →
+      is_below_sp start locals address ≡ true
 
 pub data IsTame (layout : Layout) (locals : ℕ) (start : Start) : Effect → Type 0 where
   sets : (reg : ℕ) (known : Known) → IsFree layout reg → IsTame layout locals start (Sets reg known)
   unsets : (reg : ℕ) → IsFree layout reg → IsTame layout locals start (Unsets reg)
-  fills : (w : Width) (i value : ℕ) (slot : SlotAt) → slice_get layout.slots i ≡ Some slot → IsTame layout locals start (Stores w (base_of layout start + slot.offset) value)
-  stores : (w : Width) (at value : ℕ) → IsOutside layout locals start at (bytes_of w) → IsTame layout locals start (Stores w at value)
+  fills : (w : Width) (i value : ℕ) (slot : SlotAt) → slice_get layout.slots i ≡ Some slot →
+      IsTame layout locals start (Stores w (base_of layout start + slot.offset) value)
+  stores : (w : Width) (at value : ℕ) → IsOutside layout locals start at (bytes_of w) →
+      IsTame layout locals start (Stores w at value)
   nothing : IsTame layout locals start Nothing

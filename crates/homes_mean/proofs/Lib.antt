@@ -18,3 +18,4 @@ pub mod Calls
 pub mod Onward
 pub mod Tamed
 pub mod Staying
+pub mod Knowing

@@ -2,3 +2,4 @@ pub mod Kept
 pub mod Stands
 pub mod Placed
 pub mod Tame
+pub mod Knows

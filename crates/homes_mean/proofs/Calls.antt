@@ -41,7 +41,7 @@ use Rattle.homes_mean.proofs.CallTrees.{target_used, event_put}
 use Rattle.homes_mean.proofs.HomesApart.{hard_home, homes_apart, below_itself}
 use Rattle.homes_mean.proofs.Placing.{AreHomed}
 use Rattle.homes_mean.proofs.Replies.{replied_here, replied_known, replied_kept, unseen_byte, unseen_load}
-use Rattle.homes_mean.proofs.Setting.{Setting, IsNamed, IsCounted, base, StandsIn, machines, are_homed, home_least, slot_below, slot_no_local}
+use Rattle.homes_mean.proofs.Setting.{Setting, named_of, IsCounted, base, StandsIn, machines, are_homed, home_least, slot_below, slot_no_local}
 
 module _ (c : Setting) (place : ℕ) (i : Insn) (at : slice_get c.f.insns place ≡ Some i) (call : i.kind ≡ kind.Call) (s u : State) (stands : StandsIn c place s u) where
   abbrev are : AreHomed c.homes c.layout (machines c place s u)
@@ -52,16 +52,10 @@ module _ (c : Setting) (place : ℕ) (i : Insn) (at : slice_get c.f.insns place 
 
   -- ---- the event
 
-  named_of : (reg : ℕ) → mentions_reg reg i.pattern ≡ true → (reg ≡ 32) ⊎ IsNamed reg
-  named_of reg has = elim (c.can.named place reg i at has) [
-    | inl vars ↦ inl vars
-    | inr home ↦ inr (record { has = home })
-  ]
-
   target_known : (t : Rtx) → target_of (call_part i.pattern) ≡ Some t → (reg : ℕ) → mentions_reg reg t ≡ true → (reg ≡ 32) ⊎ IsCounted c.f place reg
   target_known t is reg has =
       let used = target_used i.pattern t reg is has in
-      elim (named_of reg used.0) [
+      elim (named_of c place i at reg used.0) [
         | inl vars ↦ inl vars
         | inr named ↦ inr (record {
           named = named;

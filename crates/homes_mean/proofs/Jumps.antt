@@ -3,7 +3,7 @@ use Rattle.std.proofs.Common.{◌≡◌, ℕ, ◌⊎◌, Bool, true, false, List
 use Rattle.std.proofs.lemmas.Bool.{false≢true, and_parts, or_left}
 use Rattle.std.specs.Int.{cast_unsigned, w64}
 use Rattle.std.specs.List.{list_all, list_any}
-use Rattle.std.specs.Prelude.{ℤ, option_map, if◌then◌else◌}
+use Rattle.std.specs.Prelude.{option_map, if◌then◌else◌}
 use Rattle.bits64.specs.declared.Width.TheVariants.{W64}
 use Rattle.rtx_tree.specs.Patterns.{is_pc, is_pc_code, label_uid, label_of}
 use Rattle.rtx_tree.specs.Tree.{head_of, kids_of, tree_of, mentions_reg}
@@ -19,17 +19,13 @@ use Rattle.rtl_step.specs.Regs.{Regs}
 use Rattle.rtl_step.specs.Value.{value_of, of_two}
 use Rattle.rtl_step.specs.declared.jump.Way.{Way}
 use Rattle.rtl_step.specs.declared.jump.Way.TheVariants.{Goes}
-use Rattle.md_operand.specs.Addresses.{is_constant, is_constant_at, is_any}
+use Rattle.md_operand.specs.Addresses.{is_constant, is_any}
 use Rattle.assign.specs.declared.home.HomeOf.{HomeOf}
 use Rattle.assign.specs.declared.places.Layout.{Layout}
 use Rattle.homes_mean.specs.Placed.{all_sized, placed, source_label, label_by, names_constant}
 use Rattle.homes_mean.proofs.Becoming.{is_over, over}
-use Rattle.homes_mean.proofs.Trees.{sized_kids, mentions_kid}
+use Rattle.homes_mean.proofs.Trees.{constant_code, sized_kids, mentions_kid}
 use Rattle.homes_mean.proofs.Placing.{Machines, AreHomed, placed_stays}
-
-constant_code : (c : Code) (n : ℤ) → is_constant_at is_any c n ≡ true → c ≡ ConstInt
-constant_code ConstInt n is = refl
-constant_code _ n is = absurd (false≢true is)
 
 pc_code : (c : Code) → is_pc_code c ≡ true → c ≡ Pc
 pc_code Pc is = refl

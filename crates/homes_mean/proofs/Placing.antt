@@ -12,7 +12,7 @@ use Rattle.bits64.specs.declared.Width.TheVariants.{W64}
 use Rattle.rtx_tree.specs.Code.{class_of_code}
 use Rattle.rtx_tree.specs.Tree.{head_of, kids_of, tree_of, node_of, reg_of, const_of, is_reg_numbered, mentions_reg}
 use Rattle.rtx_tree.specs.declared.code.Code.{Code}
-use Rattle.rtx_tree.specs.declared.code.Code.TheVariants.{Reg, Subreg, Plus, ConstInt}
+use Rattle.rtx_tree.specs.declared.code.Code.TheVariants.{Reg, Subreg, Plus}
 use Rattle.rtx_tree.specs.declared.code.Mode.{Mode}
 use Rattle.rtx_tree.specs.declared.code.Mode.TheVariants.{DI}
 use Rattle.rtx_tree.specs.declared.machine.SymbolAt.{SymbolAt}
@@ -23,7 +23,7 @@ use Rattle.rtx_tree.proofs.Trees.{head_of-tree, kids_of-tree, mentions_out}
 use Rattle.run_memory.specs.RunMemory.{load}
 use Rattle.rtl_step.specs.Regs.{Regs, reg_value}
 use Rattle.rtl_step.specs.Value.{Reading, width_of, value_of, of_one}
-use Rattle.md_operand.specs.Addresses.{is_stack_vars, is_constant, is_constant_at, is_any}
+use Rattle.md_operand.specs.Addresses.{is_stack_vars, is_constant, is_any}
 use Rattle.text_words.specs.Words.{fits_i64}
 use Rattle.window_mean.specs.Beside.{Within}
 use Rattle.window_keep.proofs.Too.{Too, too_two}
@@ -38,7 +38,7 @@ use Rattle.homes_mean.specs.Stands.{content_in}
 use Rattle.homes_mean.specs.Placed.{is_sized, all_sized, placed}
 use Rattle.homes_mean.proofs.Grows.{AllRead, leaf_too, value_grows}
 use Rattle.homes_mean.proofs.Offsets.{wrap_natural, wrap_sum, low_cut, from_sp_is, known_each, sum_low}
-use Rattle.homes_mean.proofs.Trees.{tree_induction, sized_here, sized_kids, register_code, numbered, as_read, value_at, reg_is, mem_is, reg_alone, const_alone, lowpart_is, plus_is, mentions_kid}
+use Rattle.homes_mean.proofs.Trees.{constant_code, tree_induction, sized_here, sized_kids, register_code, numbered, as_read, value_at, reg_is, mem_is, reg_alone, const_alone, lowpart_is, plus_is, mentions_kid}
 
 -- ---- two machines of which the second has the registers of the first in their homes
 
@@ -205,10 +205,6 @@ module _ (homes : List HomeOf) (layout : Layout) (m : Machines) (are : AreHomed 
   vars_alone x w is =
       let here = numbered (out-Rtx x).code (out-Rtx x).number 32 is in
       λ v has. sym (known_each m.regs 32 m.top w are.vars) ∙ reg_alone m.symbols m.regs m.memory x (pos 32) w here.0 here.1 v has
-
-  constant_code : (c : Code) (n : ℤ) → is_constant_at is_any c n ≡ true → c ≡ ConstInt
-  constant_code ConstInt n is = refl
-  constant_code _ n is = absurd (false≢true is)
 
   added : (b : Bool) (n c : ℤ) → (if b then Some n else None) ≡ Some c → (b ≡ true) × (n ≡ c)
   added true n c is = (refl, let same : n ≡ c = cc in same)

@@ -35,7 +35,7 @@ use Rattle.homes_mean.proofs.After.{Both, after, Holds, IsIn, changes_it, change
 use Rattle.homes_mean.proofs.Becoming.{changed_by, is_over, over, Fits, Becomes, element_becomes}
 use Rattle.homes_mean.proofs.Trees.{sized_kids, mentions_kid}
 use Rattle.homes_mean.proofs.Placing.{Machines, AreHomed}
-use Rattle.homes_mean.proofs.Setting.{Setting, IsNamed, IsCounted, base, StandsIn, machines, are_homed}
+use Rattle.homes_mean.proofs.Setting.{Setting, IsNamed, named_of, IsCounted, base, StandsIn, machines, are_homed}
 
 -- ---- the effects of one element
 
@@ -132,12 +132,6 @@ module _ (c : Setting) (place : ℕ) (i : Insn) (at : slice_get c.f.insns place 
     sized : all_sized i.pattern ≡ true
     sized = c.can.sized place i at
 
-    named_of : (reg : ℕ) → mentions_reg reg i.pattern ≡ true → (reg ≡ 32) ⊎ IsNamed reg
-    named_of reg has = elim (c.can.named place reg i at has) [
-      | inl vars ↦ inl vars
-      | inr home ↦ inr (record { has = home })
-    ]
-
     counted : (reg : ℕ) → IsNamed reg → pattern_uses reg i.pattern ≡ true → IsCounted c.f place reg
     counted reg named uses = record {
       named = named;
@@ -157,7 +151,7 @@ module _ (c : Setting) (place : ℕ) (i : Insn) (at : slice_get c.f.insns place 
     fits_of : (x : Rtx) → IsElement x → Fits c.homes c.layout m are x
     fits_of x is = record {
       sized = is.sized_too;
-      named = λ reg has. named_of reg (is.mentioned reg has);
+      named = λ reg has. named_of c place i at reg (is.mentioned reg has);
       used = λ reg named uses. counted reg named (is.used reg uses);
       vars = false_from_ne_true (effect_defines 32 x) (λ defines. false≢true (sym (c.can.vars place i at) ∙ defined_by 32 (is.defined 32 defines)));
     }
@@ -212,9 +206,9 @@ module _ (c : Setting) (place : ℕ) (i : Insn) (at : slice_get c.f.insns place 
         ((reg : ℕ) → list_any (mentions_reg reg) kids ≡ true → mentions_reg reg i.pattern ≡ true) →
         ((reg : ℕ) → list_any (effect_uses reg) kids ≡ true → pattern_uses reg i.pattern ≡ true) →
         ((reg : ℕ) → list_any (effect_defines reg) kids ≡ true → pattern_defines reg i.pattern ≡ true) → AllByRecursion IsElement kids
-    kids_are [] sized mentioned used defined = tt
-    kids_are (x ∷ kids) sized mentioned used defined =
-        let both = and_parts (all_sized x) (list_all all_sized kids) sized in (
+    kids_are [] sizes mentioned used defined = tt
+    kids_are (x ∷ kids) sizes mentioned used defined =
+        let both = and_parts (all_sized x) (list_all all_sized kids) sizes in (
           record {
             sized_too = both.0;
             mentioned = λ reg has. mentioned reg (or_left (mentions_reg reg x) _ has);

@@ -1,11 +1,13 @@
 -- Two states at a place of a function whose registers have homes, as two machines of which the second has the registers in their homes.
-use Rattle.std.proofs.Common.{◌≡◌, ℕ, ◌+◌, ◌-◌, ◌%◌, ◌<◌, ◌≤◌, inl, inr, true, false, List, arith}
+use Rattle.std.proofs.Common.{◌≡◌, ℕ, ◌+◌, ◌-◌, ◌%◌, ◌<◌, ◌≤◌, ◌⊎◌, inl, inr, true, false, List, Some, arith}
 use Rattle.std.proofs.lemmas.Bool.{and_parts, or_cases, leb-true}
 use Rattle.std.proofs.lemmas.Bool.Decides.{nat_tests}
-use Rattle.std.specs.Prelude.{nat_le, is_some}
+use Rattle.std.specs.Prelude.{nat_le, is_some, slice_get}
 use Rattle.bits64.specs.declared.Width.{Width}
 use Rattle.rtx_tree.specs.Registers.{pseudo}
+use Rattle.rtx_tree.specs.Tree.{mentions_reg}
 use Rattle.rtx_tree.specs.declared.function.Function.{Function}
+use Rattle.rtx_tree.specs.declared.function.Insn.{Insn}
 use Rattle.rtx_tree.specs.declared.machine.Start.{Start}
 use Rattle.rtx_tree.specs.declared.machine.World.{World}
 use Rattle.run_memory.specs.RunMemory.{load}
@@ -71,6 +73,14 @@ pub home_least : (reg : ℕ) → has_home reg ≡ true → 10 ≤ reg
 home_least reg is = elim (or_cases (is_argument reg) (nat_le (pseudo 0) reg) is) [
   | inl argument ↦ leb-true 10 reg (and_parts (nat_le 10 reg) (nat_le reg 17) argument).0
   | inr above ↦ let more = leb-true 64 reg above in omega (arith, more)
+]
+
+-- a register that stands in an instruction is virtual-stack-vars, or has a home
+pub named_of : (c : Setting) (place : ℕ) (i : Insn) → slice_get c.f.insns place ≡ Some i → (reg : ℕ) → mentions_reg reg i.pattern ≡ true →
+    (reg ≡ 32) ⊎ IsNamed reg
+named_of c place i at reg has = elim (c.can.named place reg i at has) [
+  | inl vars ↦ inl vars
+  | inr home ↦ inr (record { has = home })
 ]
 
 module _ (c : Setting) where

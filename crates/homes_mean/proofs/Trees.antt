@@ -24,6 +24,7 @@ use Rattle.run_memory.specs.RunMemory.{load}
 use Rattle.rtl_step.specs.Regs.{Regs, reg_value}
 use Rattle.rtl_step.specs.Value.{Reading, width_of, value_by, value_of, of_one, of_two}
 use Rattle.rtl_step.proofs.Values.{value_read}
+use Rattle.md_operand.specs.Addresses.{is_constant_at, is_any}
 use Rattle.window_keep.proofs.Too.{Too}
 use Rattle.homes_mean.specs.Placed.{is_sized, sized_step, all_sized}
 
@@ -63,6 +64,11 @@ mentions_kid x reg is = mentions_out reg x ∙ or_right (is_reg_numbered (out-Rt
 pub register_code : (c : Code) → class_of_code c ≡ class.Register → c ≡ Reg
 register_code Reg is = refl
 register_code _ is = absurd (let no : ⊥ = cc in no)
+
+-- a constant
+pub constant_code : (c : Code) (n : ℤ) → is_constant_at is_any c n ≡ true → c ≡ ConstInt
+constant_code ConstInt n is = refl
+constant_code _ n is = absurd (false≢true is)
 
 -- a register with a number
 pub numbered : (c : Code) (n : ℤ) (reg : ℕ) → is_reg_numbered c n reg ≡ true → (c ≡ Reg) × (n ≡ pos reg)

@@ -2,12 +2,14 @@
 use Rattle.std.proofs.Common.{◌≡◌, ℕ, ◌+◌, ◌≤◌, not, inl, inr, Bool, true, false, ◌∷◌, map, Some, refl, sym, ap, subst, ◌∙◌, arith}
 use Rattle.std.proofs.lemmas.Bool.{false≢true, and_parts, or_cases, leb-true}
 use Rattle.std.proofs.lemmas.Bool.Decides.{nat_tests}
-use Rattle.std.specs.Prelude.{is_some, nat_le}
+use Rattle.std.specs.Prelude.{is_some, nat_le, slice_get}
 use Rattle.bits64.specs.declared.Width.{Width}
 use Rattle.bits64.specs.declared.Width.TheVariants.{W64}
 use Rattle.rtx_tree.specs.Memories.{byte_at}
 use Rattle.rtx_tree.specs.RegSet.{has_reg}
 use Rattle.rtx_tree.specs.Registers.{pseudo}
+use Rattle.rtx_tree.specs.Tree.{mentions_reg}
+use Rattle.rtx_tree.specs.declared.function.Insn.{Insn}
 use Rattle.run_memory.specs.RunMemory.{load, visible}
 use Rattle.rtl_step.specs.declared.step.State.{State}
 use Rattle.rtl_func.specs.Calls.{is_argument}
@@ -19,10 +21,12 @@ use Rattle.assign.specs.declared.places.SavedAt.{SavedAt}
 use Rattle.reload_homes.specs.Homes.{home_of, slot_offset}
 use Rattle.homes_mean.specs.Kept.{is_unsaved}
 use Rattle.homes_mean.specs.Knows.{is_scratch, KnowsMore}
+use Rattle.homes_mean.specs.Placed.{placed}
 use Rattle.homes_mean.specs.Stands.{content_in, has_home}
 use Rattle.homes_mean.proofs.After.{one_has}
 use Rattle.homes_mean.proofs.HomesApart.{hard_home}
-use Rattle.homes_mean.proofs.Setting.{Setting, base, StandsIn}
+use Rattle.homes_mean.proofs.Naming.{puts_homes}
+use Rattle.homes_mean.proofs.Setting.{Setting, named_of, base, StandsIn, machines, are_homed}
 
 turned : (b : Bool) → not b ≡ true → b ≡ false
 turned true is = absurd (false≢true is)
@@ -67,3 +71,12 @@ module _ (c : Setting) where
         room = λ address inside other free. ap (λ m. byte_at m address) more.memory_is ∙ stands.kept.room address inside other free;
       };
     }
+
+-- an instruction with homes put in names none of t3 to t6
+pub names_no_scratch : (c : Setting) (place : ℕ) (i : Insn) → slice_get c.f.insns place ≡ Some i → (s u : State) → StandsIn c place s u → (r : ℕ) →
+    mentions_reg r (placed c.homes c.layout i.pattern) ≡ true → is_scratch r ≡ false
+names_no_scratch c place i at s u stands r has =
+    elim (puts_homes c.homes c.layout (machines c place s u) (are_homed c place s u stands) i.pattern (c.can.sized place i at) (named_of c place i at) r has) [
+      | inl sp ↦ ap is_scratch (sym sp)
+      | inr (reg, named, home) ↦ home_no_scratch c reg r named.has home
+    ]

@@ -18,4 +18,5 @@ pub mod Calls
 pub mod Onward
 pub mod Tamed
 pub mod Staying
+pub mod Naming
 pub mod Knowing

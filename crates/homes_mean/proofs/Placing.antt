@@ -99,7 +99,7 @@ numbered_reg Reg (negsuc k) reg is = absurd (let no : ⊥ = cc in no)
 numbered_reg _ n reg is = absurd (let no : ⊥ = cc in no)
 
 -- a register by itself
-register_itself : (x : Rtx) (reg : ℕ) → register_in x ≡ Some reg → register_at x ≡ Some reg
+pub register_itself : (x : Rtx) (reg : ℕ) → register_in x ≡ Some reg → register_at x ≡ Some reg
 register_itself x reg is = by (head_of x).code ((numbered_reg (head_of x).code (head_of x).number reg is).0) ∙ is
   where
     by : (c : Code) → c ≡ Reg → register_by c x (kids_of x) ≡ register_in x
@@ -198,7 +198,7 @@ module _ (homes : List HomeOf) (layout : Layout) (m : Machines) (are : AreHomed 
   mode_by mode n true = ap (λ (o : Rtx-F Rtx). o.mode) (out-roll-Rtx _)
   mode_by mode n false = ap (λ (o : Rtx-F Rtx). o.mode) (out-roll-Rtx _)
 
-  placed_reference : (x : Rtx) (c : ℤ) → frame_offset x ≡ Some c → placed homes layout x ≡ from_sp (head_of x).mode (pos layout.size +ℤ c)
+  pub placed_reference : (x : Rtx) (c : ℤ) → frame_offset x ≡ Some c → placed homes layout x ≡ from_sp (head_of x).mode (pos layout.size +ℤ c)
   placed_reference x c is = ap hm (framed_reference layout.size x c is) ∙ homed_from_sp (head_of x).mode (pos layout.size +ℤ c)
 
   vars_alone : (x : Rtx) (w : Width) → is_stack_vars x ≡ true → Too (value x w) (Some (low w m.top))
@@ -278,7 +278,7 @@ module _ (homes : List HomeOf) (layout : Layout) (m : Machines) (are : AreHomed 
   abbrev pub IsKnown : Rtx → Type 0
   IsKnown x = (reg : ℕ) → mentions_reg reg x ≡ true → (reg ≡ 32) ⊎ m.Counts reg
 
-  is_vars : (x : Rtx) → (head_of x).code ≡ Reg → (head_of x).number ≡ pos 32 → frame_offset x ≡ Some (pos 0)
+  pub is_vars : (x : Rtx) → (head_of x).code ≡ Reg → (head_of x).number ≡ pos 32 → frame_offset x ≡ Some (pos 0)
   is_vars x is number =
       ap (λ c. offset_by c x (kids_of x)) is
       ∙ ap (λ b. if b then Some (pos 0) else None) (ap (λ c. is_reg_numbered c (head_of x).number 32) is ∙ ap (λ (n : ℤ). is_reg_numbered Reg n 32) number)
@@ -341,13 +341,13 @@ module _ (homes : List HomeOf) (layout : Layout) (m : Machines) (are : AreHomed 
 
   -- ---- each tree
 
-  which : (c : Code) (n : ℤ) (kids : List Rtx) (reg : ℕ) → parts_register c n (map fr kids) ≡ Some reg →
+  pub which : (c : Code) (n : ℤ) (kids : List Rtx) (reg : ℕ) → parts_register c n (map fr kids) ≡ Some reg →
       ((c ≡ Reg) × (n ≡ pos reg)) ⊎ ((inner : Rtx) × (c ≡ Subreg) × (kids ≡ inner ∷ []) × (register_in (fr inner) ≡ Some reg))
   which Subreg n (inner ∷ []) reg is = inr (inner, refl, refl, is)
   which Reg n kids reg is = inl (numbered_reg Reg n reg is)
   which _ n kids reg is = absurd (let no : ⊥ = cc in no)
 
-  no_register : (c : Code) (n : ℤ) (kids : List Rtx) → parts_register c n kids ≡ None → is_sized c n ≡ true → c ≡ Reg → ⊥
+  pub no_register : (c : Code) (n : ℤ) (kids : List Rtx) → parts_register c n kids ≡ None → is_sized c n ≡ true → c ≡ Reg → ⊥
   no_register Reg (pos k) kids none sized same = let no : ⊥ = cc in no
   no_register Reg (negsuc k) kids none sized same = false≢true sized
   no_register _ n kids none sized same = let no : ⊥ = cc in no

@@ -16,3 +16,4 @@ pub mod Prologue
 pub mod Epilogue
 pub mod Keeping
 pub mod Framed
+pub mod Laid

@@ -3,18 +3,15 @@
 //! [`assembly_of`] reads the bytes as functions and checks them (`func_input`), and gives their assembly: for each function its frame of
 //! lines with the filled template of the first form that counts for each instruction (`specs/Compile.antt`, `Assembly.antt`, over
 //! `asm_out`). Laws over these definitions say that the lines are as `specs/Lines.antt` tells them, that each part of the text spells the
-//! lines and labels that stand beside it, and that these do what the functions do (`Same.antt`). [`compile`] gives the assembly of functions,
-//! and [`Assembly::summary`] what was compiled, in numbers.
+//! lines and labels that stand beside it, and that these do what the functions do (`Same.antt`). [`compile`] gives the assembly of functions.
 //!
 //! [`code_of`] gives one function of an input with the lines and labels that its part of the assembly spells (`specs/Code.antt`).
 #![tactic(auto)]
 
 mod assembly;
 mod code;
-mod counts;
 mod input;
 
 pub use assembly::{Assembly, CodeItems, Parts};
 pub use code::{Coded, code_of};
-pub use compile_summary::Summary;
 pub use input::{assembly_of, compile};

@@ -1,4 +1,4 @@
-use Rattle.std.proofs.Common.{ap, Err}
+use Rattle.std.proofs.Common.{ap, Err, inl}
 use Rattle.std.proofs.lemmas.Result.{err_from_is_err_and}
 use Rattle.run_refusal.specs.declared.refusal.Refusal.{Refusal}
 use Rattle.run_refusal.specs.declared.refusal.Refusal.TheVariants as refusal
@@ -36,3 +36,6 @@ returns-in_err-description-clause-behind g c =
 
 pub returns-clause-behind : goal.returns-clause-behind
 returns-clause-behind g c = λ read calm known agrees. (c.in_ok-description.description, rw c.described.ensures at (c.in_ok-description.ensures.gives known agrees))
+
+pub returns-clause-fault : goal.returns-clause-fault
+returns-clause-fault g c = λ is. inl (c.made_of.ensures.fault is)

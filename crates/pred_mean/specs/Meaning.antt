@@ -1,0 +1,82 @@
+-- What the predicates of a description are, in the words of trees alone: what their tests are, which of them are accepted, and which
+-- operands they accept.
+use Rattle.std.specs.Prelude.{◌≡◌, ◌↔◌, ℕ, Bool, true, false, ◌&&◌, List, Option, Some, None, Result, Ok, Err, find}
+use Rattle.rtx_tree.specs.declared.code.Mode.{Mode}
+use Rattle.rtx_tree.specs.declared.constants.Constant.{Constant}
+use Rattle.rtx_tree.specs.declared.tree.Rtx.{Rtx}
+use Rattle.lisp_read.specs.declared.tree.Tree.{Tree}
+use Rattle.md_iter.specs.declared.substitution.Instance.{Instance}
+use Rattle.md_pattern.specs.declared.reason.Reason.{Reason}
+use Rattle.md_pattern.specs.declared.reason.Reason.TheVariants as reason
+use Rattle.pred_expr.specs.declared.question.Test.{Test}
+use Rattle.pred_expr.specs.Test.{IsTest, test_of, predicates_of}
+use Rattle.md_draft.specs.declared.draft.Draft.{Draft}
+use Rattle.md_draft.specs.declared.head.FormHead.{FormHead}
+use Rattle.md_draft.specs.Reasons.{head_of}
+use Rattle.md_forms.specs.declared.form.Form.{Form}
+use Rattle.md_forms.specs.Names.{predicates_named}
+use Rattle.md_forms.specs.Tables.{defines_predicate}
+use Rattle.md_forms.specs.Checks.{has_reason}
+use Rattle.md_forms.specs.Forms.{forms_of}
+use Rattle.md_forms.specs.Reasons.{tables_in, judged_in}
+use Rattle.md_operand.specs.declared.own.Own.{Own}
+use Rattle.md_operand.specs.Operand.{accepts, own_named}
+use Rattle.pred_rows.specs.Tests.{Accepts, test_holds}
+use Rattle.md_pred.specs.Holds.{holds, mode_fits}
+use Rattle.pred_mean.specs.Accepted.{IsDefinition, defines, IsAccepted, AreAccepted}
+
+-- ---- tests
+
+-- What a tree is read as is the test that it is, by the cases of IsTest; it is one test, and where it is set aside it is none.
+pub record TestsAreRead (constants : List Constant) : Type 0 where
+  pub read : (t : Tree) (x : Test) → (test_of constants t ≡ Ok x) ↔ IsTest constants t x
+  pub one : (t : Tree) (x y : Test) → IsTest constants t x → IsTest constants t y → x ≡ y
+  pub aside : (t : Tree) (r : Reason) → test_of constants t ≡ Err r → (x : Test) → IsTest constants t x → ⊥
+
+-- ---- forms
+
+-- A definition that is not set aside: its tree is one, the predicates that its test names are accepted, and this is what its form
+-- says.
+pub record Stands (constants : List Constant) (forms : List Instance) (form : Instance) (h : FormHead) (f : Form) : Type 0 where
+  pub test : Test
+  pub definition : IsDefinition constants form.tree h test
+  pub accepted : AreAccepted constants forms (predicates_of test)
+  pub head_is : f.head ≡ h
+  pub test_is : f.test ≡ Some test
+
+-- The definitions of predicates that are not set aside are those that stand; the first of a name is not where the predicate is
+-- accepted. A form of any head is set aside for its predicates exactly where it names one that is not accepted.
+pub record AreJudged (constants : List Constant) (forms : List Instance) : Type 0 where
+  pub taken : (form : Instance) (h : FormHead) (f : Form) → head_of form.tree ≡ Some h → defines_predicate (Some h) ≡ true →
+      judged_in constants forms form ≡ Ok f → Stands constants forms form h f
+  pub stands : (form : Instance) (h : FormHead) (test : Test) → IsDefinition constants form.tree h test →
+      AreAccepted constants forms (predicates_of test) → (f : Form) × (judged_in constants forms form ≡ Ok f)
+  pub first : (name : List ℕ) (form : Instance) → own_named name ≡ None → find (defines name) forms ≡ Some form →
+      IsAccepted constants forms name ↔ ((f : Form) × (judged_in constants forms form ≡ Ok f))
+  pub named : (d : Draft) → (has_reason (tables_in constants forms) d reason.Predicate ≡ false) ↔
+      AreAccepted constants forms (predicates_named d)
+
+-- ---- what predicates accept
+
+-- Predicates mean what their definitions say: one that the manual has answers itself; an accepted one accepts what its test says, in
+-- which each predicate that it names means the same again; any other accepts nothing.
+pub record AreMeant (constants : List Constant) (forms : List Instance) (accepted : Accepts) : Type 0 where
+  pub own : (name : List ℕ) (o : Own) (x : Rtx) (m : Mode) → own_named name ≡ Some o → accepted name x m ≡ accepts o m x
+  pub tested : (name : List ℕ) (form : Instance) (h : FormHead) (test : Test) (x : Rtx) (m : Mode) →
+      own_named name ≡ None → find (defines name) forms ≡ Some form →
+      IsDefinition constants form.tree h test → AreAccepted constants forms (predicates_of test) →
+      accepted name x m ≡ (mode_fits h m x && test_holds accepted x m test)
+  pub aside : (name : List ℕ) (x : Rtx) (m : Mode) → (IsAccepted constants forms name → ⊥) → accepted name x m ≡ false
+
+-- What `holds` gives for the forms of a description means this, and nothing else does: the rounds that compute it suffice.
+pub record HoldsAreMeant (constants : List Constant) (forms : List Instance) : Type 0 where
+  pub are : AreMeant constants forms (holds (forms_of constants forms))
+  pub alone : (other : Accepts) → AreMeant constants forms other → (name : List ℕ) (x : Rtx) (m : Mode) →
+      other name x m ≡ holds (forms_of constants forms) name x m
+
+-- ---- all of it
+
+pub record PredicatesAre (constants : List Constant) (forms : List Instance) : Type 0 where
+  pub tests : TestsAreRead constants
+  pub judged : AreJudged constants forms
+  pub meant : HoldsAreMeant constants forms

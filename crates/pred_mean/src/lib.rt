@@ -1,0 +1,2 @@
+//! What the predicates of a description are.
+#![tactic(auto)]

@@ -1,11 +1,14 @@
 //! The description of a name.
 ghost use Rattle.std.specs.Prelude.{◌≡◌, ◌≢◌, ◌↔◌, ℕ, List, Result, Err};
 ghost use Rattle.byte_edge.specs.Causes.{Rose};
+ghost use Rattle.rtx_tree.specs.declared.constants.Constant.{Constant};
+ghost use Rattle.md_iter.specs.declared.substitution.Instance.{Instance};
 ghost use Rattle.md_source.specs.Source.{Source};
 ghost use Rattle.md_source.specs.Asked.{AreNamed, GrewBy, IsKnown};
 ghost use Rattle.md_source.specs.Answers.{Agrees};
 ghost use Rattle.md_forms.specs.declared.form.Entry.{Entry};
 ghost use Rattle.run_refusal.specs.declared.refusal.Refusal.{Refusal};
+ghost use Rattle.pred_mean.specs.Meaning.{PredicatesAre};
 ghost use Rattle.md_named.specs.Named as spec;
 ghost use Rattle.md_named.specs.Answers.{Gives};
 ghost use Rattle.md_named.specs.machine.Steps.{DescribesRun};
@@ -70,6 +73,10 @@ pub fn description_of<F: Files>(
     // By files of which all that the description is made of is known, it comes to one answer.
     ensures one { (source : Source) → IsKnown source name.now → (a b : Result (List Entry) Refusal) →
         spec.FormsCome source name.now a → spec.FormsCome source name.now b → a ≡ b }
+
+    // The predicates of forms are what the trees of their definitions say: which tests these are, which predicates are accepted, and
+    // which operands those accept.
+    ensures predicates { (constants : List Constant) (forms : List Instance) → PredicatesAre constants forms }
 
     // Files are asked only for what is named, and stay as they are.
     ensures asked { (source : Source) → Agrees source (F.holds files.old) → GrewBy (AreNamed source name.now) (F.asked files.old) (F.asked files.new) }

@@ -1,5 +1,5 @@
 -- A definition is not set aside exactly where its tree is one and the predicates that its test names are accepted.
-use Rattle.std.proofs.Common.{◌≡◌, ℕ, Bool, true, false, true≢false, not, ◌&&◌, List, [], ◌∷◌, Option, Some, None, Result, Ok, Err, if◌then◌else◌, refl, sym, ap, subst, ◌∙◌}
+use Rattle.std.proofs.Common.{◌≡◌, ◌⊎◌, inl, inr, ℕ, Bool, true, false, true≢false, not, ◌&&◌, List, [], ◌∷◌, Option, Some, None, Result, Ok, Err, if◌then◌else◌, refl, sym, ap, subst, ◌∙◌}
 use Rattle.std.specs.Prelude.{◌↔◌, Contains}
 use Rattle.std.specs.List.{find, list_all}
 use Rattle.rtx_tree.specs.declared.constants.Constant.{Constant}
@@ -27,6 +27,7 @@ use Rattle.pred_mean.specs.Meaning.{Stands, AreJudged}
 use Rattle.pred_mean.proofs.Lists.{each_passes, all_pass}
 use Rattle.pred_mean.proofs.Drafts.{draft_with, by_head, IsRead, of_definition, is_definition}
 use Rattle.pred_mean.proofs.Firsts.{found_defines}
+use Rattle.pred_mean.proofs.Cycles.{ends}
 use Rattle.pred_mean.proofs.Known.{names_are, HasHead, head_there, known_is}
 
 aside : {A : Type 0} (r : Reason) (f : A) → ◌≡◌ {A = Result A Reason} (Err r) (Ok f) → ⊥
@@ -80,6 +81,13 @@ module _ (constants : List Constant) (forms : List Instance) where
 
   named : (d : Draft) → (has_reason tables d reason.Predicate ≡ false) ↔ AreAccepted constants forms (predicates_named d)
   named d = (λ e. (all_known d).0 (not_false (predicates_known tables d) e), λ all. ap not ((all_known d).1 all))
+
+  either : (name : List ℕ) → IsAccepted constants forms name ⊎ (IsAccepted constants forms name → ⊥)
+  either name = by_known (known name) refl
+    where
+      by_known : (b : Bool) → known name ≡ b → IsAccepted constants forms name ⊎ (IsAccepted constants forms name → ⊥)
+      by_known true is = inl ((known_is constants forms name).0 is)
+      by_known false is = inr (λ accepted. true≢false (sym ((known_is constants forms name).1 accepted) ∙ is))
 
   -- ---- a definition
 
@@ -141,4 +149,6 @@ module _ (constants : List Constant) (forms : List Instance) where
     stands = λ form h x def all. (form_by h x, stands_so form h x def all);
     first = λ name form none found. (accepted_taken name form none found, λ some. taken_accepted name form some.0 found some.1);
     named = named;
+    either = either;
+    ends = ends constants forms;
   }

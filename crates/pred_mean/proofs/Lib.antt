@@ -2,6 +2,7 @@ pub mod Lists
 pub mod Rounds
 pub mod Drafts
 pub mod Firsts
+pub mod Cycles
 pub mod Known
 pub mod Judged
 pub mod Meant

@@ -1,6 +1,6 @@
 -- Which predicates of a description are accepted: GCC Internals, "Machine-Independent Predicates" and "Defining Machine-Specific
 -- Predicates". No rounds stand here: a predicate is accepted by steps that come to an end, so one that reaches itself is not.
-use Rattle.std.specs.Prelude.{◌≡◌, ℕ, Bool, true, ◌&&◌, List, [], ◌∷◌, Option, Some, Contains, find}
+use Rattle.std.specs.Prelude.{◌≡◌, ℕ, Bool, true, ◌&&◌, List, [], ◌∷◌, Option, Some, None, Contains, find}
 use Rattle.rtx_tree.specs.declared.constants.Constant.{Constant}
 use Rattle.lisp_read.specs.declared.tree.Tree.{Tree}
 use Rattle.lisp_read.specs.Shape.{string_of, items_of}
@@ -45,3 +45,20 @@ pub data IsAccepted (constants : List Constant) (forms : List Instance) : List �
 
 abbrev pub AreAccepted : List Constant → List Instance → List (List ℕ) → Type 0
 AreAccepted constants forms names = (used : List ℕ) → Contains names used → IsAccepted constants forms used
+
+-- ---- what a predicate reaches
+
+-- The test of the first definition of a predicate names another. One that every description has asks for none.
+pub record Asks (constants : List Constant) (forms : List Instance) (name used : List ℕ) : Type 0 where
+  pub form : Instance
+  pub head : FormHead
+  pub test : Test
+  pub other : own_named name ≡ None
+  pub first : find (defines name) forms ≡ Some form
+  pub definition : IsDefinition constants form.tree head test
+  pub names : Contains (predicates_of test) used
+
+-- by one step or more
+pub data Reaches (constants : List Constant) (forms : List Instance) : List ℕ → List ℕ → Type 0 where
+  one : (name used : List ℕ) → Asks constants forms name used → Reaches constants forms name used
+  more : (name used far : List ℕ) → Asks constants forms name used → Reaches constants forms used far → Reaches constants forms name far

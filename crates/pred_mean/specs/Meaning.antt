@@ -1,6 +1,6 @@
 -- What the predicates of a description are, in the words of trees alone: what their tests are, which of them are accepted, and which
 -- operands they accept.
-use Rattle.std.specs.Prelude.{◌≡◌, ◌↔◌, ℕ, Bool, true, false, ◌&&◌, List, Option, Some, None, Result, Ok, Err, find}
+use Rattle.std.specs.Prelude.{◌≡◌, ◌↔◌, ◌⊎◌, ℕ, Bool, true, false, ◌&&◌, List, Option, Some, None, Result, Ok, Err, find}
 use Rattle.rtx_tree.specs.declared.code.Mode.{Mode}
 use Rattle.rtx_tree.specs.declared.constants.Constant.{Constant}
 use Rattle.rtx_tree.specs.declared.tree.Rtx.{Rtx}
@@ -23,7 +23,7 @@ use Rattle.md_operand.specs.declared.own.Own.{Own}
 use Rattle.md_operand.specs.Operand.{accepts, own_named}
 use Rattle.pred_rows.specs.Tests.{Accepts, test_holds}
 use Rattle.md_pred.specs.Holds.{holds, mode_fits}
-use Rattle.pred_mean.specs.Accepted.{IsDefinition, defines, IsAccepted, AreAccepted}
+use Rattle.pred_mean.specs.Accepted.{IsDefinition, defines, IsAccepted, AreAccepted, Reaches}
 
 -- ---- tests
 
@@ -45,7 +45,8 @@ pub record Stands (constants : List Constant) (forms : List Instance) (form : In
   pub test_is : f.test ≡ Some test
 
 -- The definitions of predicates that are not set aside are those that stand; the first of a name is not where the predicate is
--- accepted. A form of any head is set aside for its predicates exactly where it names one that is not accepted.
+-- accepted. A form of any head is set aside for its predicates exactly where it names one that is not accepted. A predicate is accepted
+-- or not, and an accepted one does not reach itself.
 pub record AreJudged (constants : List Constant) (forms : List Instance) : Type 0 where
   pub taken : (form : Instance) (h : FormHead) (f : Form) → head_of form.tree ≡ Some h → defines_predicate (Some h) ≡ true →
       judged_in constants forms form ≡ Ok f → Stands constants forms form h f
@@ -55,6 +56,8 @@ pub record AreJudged (constants : List Constant) (forms : List Instance) : Type 
       IsAccepted constants forms name ↔ ((f : Form) × (judged_in constants forms form ≡ Ok f))
   pub named : (d : Draft) → (has_reason (tables_in constants forms) d reason.Predicate ≡ false) ↔
       AreAccepted constants forms (predicates_named d)
+  pub either : (name : List ℕ) → IsAccepted constants forms name ⊎ (IsAccepted constants forms name → ⊥)
+  pub ends : (name : List ℕ) → IsAccepted constants forms name → Reaches constants forms name name → ⊥
 
 -- ---- what predicates accept
 

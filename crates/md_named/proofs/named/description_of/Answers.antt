@@ -1,4 +1,5 @@
 use Rattle.std.proofs.Common.{subst}
+use Rattle.pred_mean.proofs.Predicates.{predicates_are}
 use Rattle.md_named.specs.machine.Steps.{DescribesRun}
 use Rattle.md_named.proofs.Forms.{of_trees, of_refusal, one_answer}
 use Rattle.md_named.proofs.named.description_of.Goals as goal
@@ -15,3 +16,9 @@ returns-in-Err-clause-gives g c = λ source agrees. of_refusal source c.args.nam
 
 pub returns-in-Err-clause-one : goal.returns-in-Err-clause-one
 returns-in-Err-clause-one g c = λ source known a b p q. one_answer source c.args.name.now a b known p q
+
+pub returns-in-Ok-clause-predicates : goal.returns-in-Ok-clause-predicates
+returns-in-Ok-clause-predicates g c = predicates_are
+
+pub returns-in-Err-clause-predicates : goal.returns-in-Err-clause-predicates
+returns-in-Err-clause-predicates g c = predicates_are

@@ -1,5 +1,8 @@
--- The own text of a definition is in order exactly where its tree is a definition, and then it says its test and nothing else.
-use Rattle.std.proofs.Common.{◌≡◌, ℕ, ◌<◌, ◌≤◌, Bool, true, false, true≢false, ◌&&◌, List, [], ◌∷◌, Option, Some, None, Result, Ok, Err, length, option_and_then, nat_le, if◌then◌else◌, refl, sym, ap, subst, ◌∙◌, arith}
+-- The own text of a definition is in order exactly where its tree is a definition, and then it says
+-- its test and nothing else.
+use Rattle.std.proofs.Common.{◌≡◌, ℕ, Bool, true, false, true≢false, ◌&&◌, List, [], ◌∷◌}
+use Rattle.std.proofs.Common.{Option, Some, None, Result, Ok, Err, length, option_and_then}
+use Rattle.std.proofs.Common.{refl, sym, ap, ◌∙◌, arith}
 use Rattle.std.specs.Option.{is_some}
 use Rattle.std.proofs.lemmas.Bool.{and_parts, leb-true}
 use Rattle.rtx_tree.specs.declared.constants.Constant.{Constant}
@@ -12,7 +15,7 @@ use Rattle.md_pattern.specs.declared.reason.Reason.TheVariants as reason
 use Rattle.md_pattern.specs.Reason.{judged_map}
 use Rattle.md_pattern.specs.Pattern.{no_patterns}
 use Rattle.pred_expr.specs.declared.question.Test.{Test}
-use Rattle.pred_expr.specs.Test.{IsTest, test_of}
+use Rattle.pred_expr.specs.Test.{test_of}
 use Rattle.pred_expr.specs.Texts.{always, nothing}
 use Rattle.pred_expr.proofs.Tests.{read_is}
 use Rattle.md_draft.specs.declared.head.FormHead.{FormHead}
@@ -25,7 +28,8 @@ use Rattle.md_draft.specs.Patterns as patterns
 use Rattle.md_draft.specs.Conditions as conditions
 use Rattle.md_draft.specs.Outputs as outputs
 use Rattle.md_draft.specs.Parts as parts
-use Rattle.md_draft.specs.Draft.{matched_in, made_in, printed_in, defined_in, whole_draft, draft_in, draft_by, headed, entry_by, head_in, name_in}
+use Rattle.md_draft.specs.Draft.{matched_in, made_in, printed_in, defined_in, whole_draft, draft_in}
+use Rattle.md_draft.specs.Draft.{draft_by, headed, entry_by, head_in, name_in}
 use Rattle.md_draft.specs.Reasons.{head_of}
 use Rattle.md_forms.specs.Tables.{defines_predicate}
 use Rattle.md_forms.specs.Forms.{draft_entry}
@@ -53,7 +57,8 @@ same_draft : (d e : Draft) → ◌≡◌ {A = Result Draft Reason} (Ok d) (Ok e)
 same_draft d e same = cc
 
 -- a head that defines a predicate is one of two
-pub by_head : (P : FormHead → Type 0) → P head.Predicate → P head.SpecialPredicate → (h : FormHead) → defines_predicate (Some h) ≡ true → P h
+pub by_head : (P : FormHead → Type 0) → P head.Predicate → P head.SpecialPredicate →
+    (h : FormHead) → defines_predicate (Some h) ≡ true → P h
 by_head P one other head.Predicate is = one
 by_head P one other head.SpecialPredicate is = other
 by_head P one other _ is = absurd (true≢false (sym is))
@@ -62,8 +67,12 @@ module _ (constants : List Constant) (values : List (List ℕ)) (a n t : Tree) w
   abbrev ts : List Tree
   ts = a ∷ n ∷ t ∷ []
 
-  by_read : (h : FormHead) → defines_predicate (Some h) ≡ true → (r : Result Test Reason) → test_of constants t ≡ r → whole_draft constants values h ts ≡ judged_map (draft_with h) r
-  unfolding whole_draft matched_in made_in printed_in defined_in patterns.patterns_in patterns.sequence_in conditions.condition_in conditions.split_condition_in conditions.statements_in outputs.output_in parts.attributes_in parts.test_in parts.class_in parts.values_in parts.default_in
+  by_read : (h : FormHead) → defines_predicate (Some h) ≡ true → (r : Result Test Reason) →
+      test_of constants t ≡ r → whole_draft constants values h ts ≡ judged_map (draft_with h) r
+  unfolding whole_draft matched_in made_in printed_in defined_in patterns.patterns_in
+      patterns.sequence_in conditions.condition_in conditions.split_condition_in
+      conditions.statements_in outputs.output_in parts.attributes_in parts.test_in parts.class_in
+      parts.values_in parts.default_in
   by_read head.Predicate is (Ok x) read = rw read refl
   by_read head.Predicate is (Err r) read = rw read refl
   by_read head.SpecialPredicate is (Ok x) read = rw read refl
@@ -71,10 +80,14 @@ module _ (constants : List Constant) (values : List (List ℕ)) (a n t : Tree) w
   by_read _ is r read = absurd (true≢false (sym is))
 
   -- the draft is that of the test
-  at_parts : (name : List ℕ) → string_of n ≡ Some name → (h : FormHead) → defines_predicate (Some h) ≡ true → draft_in constants values h ts ≡ judged_map (draft_with h) (test_of constants t)
+  at_parts : (name : List ℕ) → string_of n ≡ Some name → (h : FormHead) →
+      defines_predicate (Some h) ≡ true →
+      draft_in constants values h ts ≡ judged_map (draft_with h) (test_of constants t)
   unfolding draft_in
-  at_parts name named head.Predicate is = rw named (by_read head.Predicate is (test_of constants t) refl)
-  at_parts name named head.SpecialPredicate is = rw named (by_read head.SpecialPredicate is (test_of constants t) refl)
+  at_parts name named head.Predicate is = rw named
+      (by_read head.Predicate is (test_of constants t) refl)
+  at_parts name named head.SpecialPredicate is =
+      rw named (by_read head.SpecialPredicate is (test_of constants t) refl)
   at_parts name named _ is = absurd (true≢false (sym is))
 
 -- ---- as many parts as a definition has
@@ -93,9 +106,18 @@ three (a ∷ []) e = absurd (true≢false (sym e))
 three (a ∷ n ∷ []) e = absurd (true≢false (sym e))
 three (a ∷ n ∷ t ∷ []) e = by_name (string_of n) refl e
   where
-    by_name : (o : Option (List ℕ)) → string_of n ≡ o → (is_some o && true) ≡ true → Parts (a ∷ n ∷ t ∷ [])
+    by_name : (o : Option (List ℕ)) → string_of n ≡ o → (is_some o && true) ≡ true →
+        Parts (a ∷ n ∷ t ∷ [])
     by_name None is h = absurd (true≢false (sym h))
-    by_name (Some name) is h = record { first = a; second = n; third = t; name = name; items = refl; named = is }
+    by_name (Some name) is h = record {
+      first = a;
+      second = n;
+      third = t;
+      name = name;
+      items =
+          refl;
+      named = is;
+    }
 three (a ∷ n ∷ t ∷ u ∷ us) e =
     let few = leb-true (length (a ∷ n ∷ t ∷ u ∷ us)) 3 (and_parts _ _ (and_parts _ _ e).1).0 in
     absurd (omega (arith, few))
@@ -110,7 +132,9 @@ module _ (constants : List Constant) (form : Instance) where
   unfolding head_named headed
   head_is = by_text (head_in trees)
     where
-      by_text : (o : Option (List ℕ)) → head_named (entry_by constants form.conditions o trees).head ≡ option_and_then head_named o
+      by_text : (o : Option (List ℕ)) →
+          head_named (entry_by constants form.conditions o trees).head
+          ≡ option_and_then head_named o
       by_text None = refl
       by_text (Some text) = refl
 
@@ -118,24 +142,31 @@ module _ (constants : List Constant) (form : Instance) where
   unfolding headed
   name_is = by_text (head_in trees)
     where
-      by_text : (o : Option (List ℕ)) → (entry_by constants form.conditions o trees).name ≡ name_in trees
+      by_text : (o : Option (List ℕ)) →
+          (entry_by constants form.conditions o trees).name ≡ name_in trees
       by_text None = refl
       by_text (Some text) = refl
 
   module _ (h : FormHead) where
-    draft_is : head_of form.tree ≡ Some h → (draft_entry constants form).draft ≡ draft_in constants form.conditions h trees
+    draft_is : head_of form.tree ≡ Some h →
+        (draft_entry constants form).draft ≡ draft_in constants form.conditions h trees
     unfolding headed
     draft_is is = by_text (head_in trees) is
       where
-        by_text : (o : Option (List ℕ)) → option_and_then head_named o ≡ Some h → (entry_by constants form.conditions o trees).draft ≡ draft_in constants form.conditions h trees
+        by_text : (o : Option (List ℕ)) → option_and_then head_named o ≡ Some h →
+            (entry_by constants form.conditions o trees).draft
+            ≡ draft_in constants form.conditions h trees
         by_text None e = absurd (no_some h e)
-        by_text (Some text) e = ap (λ (o : Option FormHead). draft_by constants form.conditions o trees) e
+        by_text (Some text) e =
+            ap (λ (o : Option FormHead). draft_by constants form.conditions o trees) e
 
-    pub of_definition : (x : Test) → IsDefinition constants form.tree h x → (draft_entry constants form).draft ≡ Ok (draft_with h x)
+    pub of_definition : (x : Test) → IsDefinition constants form.tree h x →
+        (draft_entry constants form).draft ≡ Ok (draft_with h x)
     of_definition x is =
         let read : test_of constants is.third ≡ Ok x = (read_is constants is.third x).1 is.tested in
         draft_is is.head ∙ ap (draft_in constants form.conditions h) is.items
-        ∙ at_parts constants form.conditions is.first is.second is.third is.name is.named h is.defines
+        ∙ at_parts constants form.conditions is.first is.second is.third is.name is.named h
+        is.defines
         ∙ ap (judged_map (draft_with h)) read
 
     -- the own text of the form is in order: it is a definition with a test
@@ -144,11 +175,14 @@ module _ (constants : List Constant) (form : Instance) where
       pub definition : IsDefinition constants form.tree h test
       pub draft : d ≡ draft_with h test
 
-    pub is_definition : (d : Draft) → head_of form.tree ≡ Some h → defines_predicate (Some h) ≡ true → (draft_entry constants form).draft ≡ Ok d → IsRead d
+    pub is_definition : (d : Draft) → head_of form.tree ≡ Some h →
+        defines_predicate (Some h) ≡ true → (draft_entry constants form).draft ≡ Ok d → IsRead d
     unfolding draft_in
-    is_definition d is defines drafted = by_whole (is_whole predicate trees) refl (sym (draft_is is) ∙ drafted)
+    is_definition d is defines drafted = by_whole (is_whole predicate trees) refl
+        (sym (draft_is is) ∙ drafted)
       where
-        by_test : (p : Parts trees) (r : Result Test Reason) → test_of constants p.third ≡ r → judged_map (draft_with h) r ≡ Ok d → IsRead d
+        by_test : (p : Parts trees) (r : Result Test Reason) → test_of constants p.third ≡ r →
+            judged_map (draft_with h) r ≡ Ok d → IsRead d
         by_test p (Err r) read e = absurd (aside r d e)
         by_test p (Ok x) read e = record {
           test = x;
@@ -166,14 +200,24 @@ module _ (constants : List Constant) (form : Instance) where
           draft = sym (same_draft (draft_with h x) d e);
         }
 
+        read_as : (p : Parts trees) →
+            draft_in constants form.conditions h (p.first ∷ p.second ∷ p.third ∷ [])
+            ≡ judged_map (draft_with h) (test_of constants p.third)
+        read_as p =
+            at_parts constants form.conditions p.first p.second p.third p.name p.named h defines
+
         by_parts : Parts trees → draft_in constants form.conditions h trees ≡ Ok d → IsRead d
         by_parts p e =
             by_test p (test_of constants p.third) refl
-            (sym (at_parts constants form.conditions p.first p.second p.third p.name p.named h defines) ∙ sym (ap (draft_in constants form.conditions h) p.items) ∙ e)
+            (sym (read_as p) ∙ sym (ap (draft_in constants form.conditions h) p.items) ∙ e)
 
         whole_is : is_whole (layout_of h) trees ≡ is_whole predicate trees
-        whole_is = by_head (λ (k : FormHead). is_whole (layout_of k) trees ≡ is_whole predicate trees) refl refl h defines
+        whole_is =
+            by_head (λ (k : FormHead). is_whole (layout_of k) trees ≡ is_whole predicate trees)
+            refl refl h defines
 
-        by_whole : (b : Bool) → is_whole predicate trees ≡ b → draft_in constants form.conditions h trees ≡ Ok d → IsRead d
+        by_whole : (b : Bool) → is_whole predicate trees ≡ b →
+            draft_in constants form.conditions h trees ≡ Ok d → IsRead d
         by_whole true whole e = by_parts (three trees whole) e
-        by_whole false wrong e = absurd (aside reason.Parts d (sym (rw (whole_is ∙ wrong) refl) ∙ e))
+        by_whole false wrong e =
+            absurd (aside reason.Parts d (sym (rw (whole_is ∙ wrong) refl) ∙ e))

@@ -1,15 +1,14 @@
 -- The first definition of a name: as a tree, as a draft and as a form.
-use Rattle.std.proofs.Common.{◌≡◌, ℕ, Bool, true, false, ◌&&◌, cond, List, [], ◌∷◌, Option, Some, None, Result, Ok, Err, map, option_map, refl, sym, ap, ◌∙◌}
+use Rattle.std.proofs.Common.{◌≡◌, ℕ, Bool, true, false, cond, List, [], ◌∷◌, Option, Some}
+use Rattle.std.proofs.Common.{None, Result, Ok, Err, map, option_map, refl, sym, ap, ◌∙◌}
 use Rattle.std.specs.List.{find, filter_map}
 use Rattle.std.specs.Str.{bytes_eq}
 use Rattle.rtx_tree.specs.declared.constants.Constant.{Constant}
 use Rattle.lisp_read.specs.Shape.{items_of}
 use Rattle.md_iter.specs.declared.substitution.Instance.{Instance}
 use Rattle.md_pattern.specs.declared.reason.Reason.{Reason}
-use Rattle.md_draft.specs.declared.head.FormHead.{FormHead}
 use Rattle.md_draft.specs.declared.draft.Draft.{Draft}
 use Rattle.md_draft.specs.declared.draft.DraftEntry.{DraftEntry}
-use Rattle.md_draft.specs.Head.{head_named}
 use Rattle.md_draft.specs.Draft.{name_in}
 use Rattle.md_draft.specs.Reasons.{head_of}
 use Rattle.md_forms.specs.declared.form.Entry.{Entry}
@@ -19,7 +18,6 @@ use Rattle.md_forms.specs.Tables.{defines_predicate, predicate_draft, predicate_
 use Rattle.md_forms.specs.Forms.{draft_entry, finished}
 use Rattle.md_forms.proofs.TextKeys.{same_text}
 use Rattle.md_pred.specs.Holds as holds
-use Rattle.md_pred.specs.Holds.{is_named}
 use Rattle.md_pred.proofs.Firsts.{named}
 use Rattle.pred_mean.specs.Accepted.{defines}
 use Rattle.pred_mean.proofs.Drafts.{head_is, name_is}
@@ -35,15 +33,23 @@ module _ (constants : List Constant) (name : List ℕ) where
   -- ---- as a form
 
   module _ (tables : Tables) where
-    defines_same : (form : Instance) → holds.defines name (finished tables (entry form)) ≡ defines name form
+    defines_same : (form : Instance) →
+        holds.defines name (finished tables (entry form)) ≡ defines name form
     defines_same form = rw (head_is constants form) (rw (name_is constants form) refl)
 
-    pub first_form : (forms : List Instance) → find (holds.defines name) (map (finished tables) (map entry forms)) ≡ option_map (λ form. finished tables (entry form)) (find (defines name) forms)
+    abbrev made : Instance → Entry
+    made form = finished tables (entry form)
+
+    abbrev FindsMade : List Instance → Type 0
+    FindsMade fs =
+        find (holds.defines name) (map (finished tables) (map entry fs))
+        ≡ option_map made (find (defines name) fs)
+
+    pub first_form : (forms : List Instance) → FindsMade forms
     first_form [] = refl
     first_form (f ∷ fs) = by_test (defines name f) refl (first_form fs)
       where
-        by_test : (b : Bool) → defines name f ≡ b → find (holds.defines name) (map (finished tables) (map entry fs)) ≡ option_map (λ form. finished tables (entry form)) (find (defines name) fs)
-            → find (holds.defines name) (map (finished tables) (map entry (f ∷ fs))) ≡ option_map (λ form. finished tables (entry form)) (find (defines name) (f ∷ fs))
+        by_test : (b : Bool) → defines name f ≡ b → FindsMade fs → FindsMade (f ∷ fs)
         by_test true is rest = rw (defines_same f ∙ is) (rw is refl)
         by_test false is rest = rw (defines_same f ∙ is) (rw is rest)
 
@@ -52,31 +58,41 @@ module _ (constants : List Constant) (name : List ℕ) where
   abbrev kept : Instance → PredicateDraft
   kept form = predicate_draft name (entry form).draft
 
-  abbrev Rest : List Instance → Type 0
-  Rest fs = find (named name) (filter_map predicate_of (map entry fs)) ≡ option_map kept (find (defines name) fs)
+  abbrev FindsKept : List Instance → Type 0
+  FindsKept fs =
+      find (named name) (filter_map predicate_of (map entry fs))
+      ≡ option_map kept (find (defines name) fs)
 
-  pub first_draft : (forms : List Instance) → Rest forms
+  pub first_draft : (forms : List Instance) → FindsKept forms
   first_draft [] = refl
   first_draft (f ∷ fs) = by_head (defines_predicate (head_of f.tree)) refl (first_draft fs)
     where
-      by_test : (own : List ℕ) (b : Bool) → defines_predicate (head_of f.tree) ≡ true → name_in (items_of f.tree) ≡ Some own → bytes_eq own name ≡ b → Rest fs → Rest (f ∷ fs)
+      by_test : (own : List ℕ) (b : Bool) → defines_predicate (head_of f.tree) ≡ true →
+          name_in (items_of f.tree) ≡ Some own → bytes_eq own name ≡ b → FindsKept fs → FindsKept (f ∷ fs)
       by_test own true is there same rest =
           let text : own ≡ name = same_text own name same in
-          rw (head_is constants f) (rw (name_is constants f) (rw is (rw there (rw (draft_name own (entry f).draft) (rw same (ap (λ (n : List ℕ). Some (predicate_draft n (entry f).draft)) text))))))
+          rw (head_is constants f) (rw (name_is constants f)
+          (rw is
+          (rw there (rw (draft_name own (entry f).draft)
+          (rw same (ap (λ (n : List ℕ). Some (predicate_draft n (entry f).draft)) text))))))
       by_test own false is there same rest =
-          rw (head_is constants f) (rw (name_is constants f) (rw is (rw there (rw (draft_name own (entry f).draft) (rw same rest)))))
+          rw (head_is constants f) (rw (name_is constants f)
+          (rw is (rw there (rw (draft_name own (entry f).draft) (rw same rest)))))
 
-      by_name : (o : Option (List ℕ)) → defines_predicate (head_of f.tree) ≡ true → name_in (items_of f.tree) ≡ o → Rest fs → Rest (f ∷ fs)
-      by_name None is there rest = rw (head_is constants f) (rw (name_is constants f) (rw is (rw there rest)))
+      by_name : (o : Option (List ℕ)) → defines_predicate (head_of f.tree) ≡ true →
+          name_in (items_of f.tree) ≡ o → FindsKept fs → FindsKept (f ∷ fs)
+      by_name None is there rest = rw (head_is constants f)
+          (rw (name_is constants f) (rw is (rw there rest)))
       by_name (Some own) is there rest = by_test own (bytes_eq own name) is there refl rest
 
-      by_head : (b : Bool) → defines_predicate (head_of f.tree) ≡ b → Rest fs → Rest (f ∷ fs)
+      by_head : (b : Bool) → defines_predicate (head_of f.tree) ≡ b → FindsKept fs → FindsKept (f ∷ fs)
       by_head true is rest = by_name (name_in (items_of f.tree)) is refl rest
       by_head false is rest = rw (head_is constants f) (rw is rest)
 
   -- ---- what is found
 
-  pub found_defines : (forms : List Instance) (form : Instance) → find (defines name) forms ≡ Some form → defines name form ≡ true
+  pub found_defines : (forms : List Instance) (form : Instance) →
+      find (defines name) forms ≡ Some form → defines name form ≡ true
   found_defines [] form is = absurd (none_some is)
     where
       none_some : ◌≡◌ {A = Option Instance} None (Some form) → ⊥
@@ -86,7 +102,8 @@ module _ (constants : List Constant) (name : List ℕ) where
       some_is : (x y : Instance) → Some x ≡ Some y → x ≡ y
       some_is x y e = cc
 
-      by_test : (b : Bool) → defines name f ≡ b → (find (defines name) fs ≡ Some form → defines name form ≡ true)
+      by_test : (b : Bool) → defines name f ≡ b →
+          (find (defines name) fs ≡ Some form → defines name form ≡ true)
           → cond b (Some f) (find (defines name) fs) ≡ Some form → defines name form ≡ true
       by_test true here rest e = ap (defines name) (sym (some_is f form e)) ∙ here
       by_test false here rest e = rest e

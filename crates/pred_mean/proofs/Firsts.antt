@@ -20,7 +20,7 @@ use Rattle.md_forms.proofs.TextKeys.{same_text}
 use Rattle.md_pred.specs.Holds as holds
 use Rattle.md_pred.proofs.Firsts.{named}
 use Rattle.pred_mean.specs.Accepted.{defines}
-use Rattle.pred_mean.proofs.Drafts.{head_is, name_is}
+use Rattle.pred_mean.proofs.Definitions.{head_is, name_is}
 
 draft_name : (name : List ℕ) (r : Result Draft Reason) → (predicate_draft name r).name ≡ name
 draft_name name (Ok d) = refl

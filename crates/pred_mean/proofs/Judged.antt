@@ -30,10 +30,12 @@ use Rattle.md_operand.specs.Operand.{own_named}
 use Rattle.pred_mean.specs.Accepted.{IsDefinition, defines, IsAccepted, AreAccepted}
 use Rattle.pred_mean.specs.Meaning.{Stands, AreJudged}
 use Rattle.pred_mean.proofs.Lists.{each_passes, all_pass}
-use Rattle.pred_mean.proofs.Drafts.{draft_with, IsRead, of_definition, is_definition}
+use Rattle.pred_mean.proofs.Drafts.{draft_with}
+use Rattle.pred_mean.proofs.Definitions.{IsRead, of_definition, is_definition}
 use Rattle.pred_mean.proofs.Firsts.{found_defines}
 use Rattle.pred_mean.proofs.Cycles.{ends}
-use Rattle.pred_mean.proofs.Known.{names_are, head_there, known_is}
+use Rattle.pred_mean.proofs.Names.{names_are, head_there}
+use Rattle.pred_mean.proofs.Known.{known_is}
 
 aside : {A : Type 0} (r : Reason) (f : A) → ◌≡◌ {A = Result A Reason} (Err r) (Ok f) → ⊥
 aside r f e = cc

@@ -1,28 +1,23 @@
 -- What is known within the rounds of a description is what is accepted.
 use Rattle.std.proofs.Common.{◌≡◌, ℕ, zero, suc, ◌≤◌, Bool, true, false, true≢false}
-use Rattle.std.proofs.Common.{◌||◌, List, [], ◌∷◌, ◌++◌, Option, Some, None, Result, Ok, Err, map}
+use Rattle.std.proofs.Common.{◌||◌, List, [], ◌∷◌, Option, Some, None, Result, Ok, Err, map}
 use Rattle.std.proofs.Common.{option_map, length, refl, sym, ap, subst, ◌∙◌, arith}
 use Rattle.std.specs.Prelude.{◌↔◌, Contains}
-use Rattle.std.specs.List.{find, filter_map, flat_map, list_all}
+use Rattle.std.specs.List.{find, filter_map, list_all}
 use Rattle.std.proofs.lemmas.Bool.{and_parts}
 use Rattle.rtx_tree.specs.declared.constants.Constant.{Constant}
-use Rattle.c_words.specs.declared.head.CondHead.{CondHead}
-use Rattle.c_cond.specs.declared.tree.Tree.TheFolds.{fold-roll-Tree}
-use Rattle.c_cond.specs.Tree.{heads_step, heads_of, leaf}
 use Rattle.md_iter.specs.declared.substitution.Instance.{Instance}
 use Rattle.md_pattern.specs.declared.reason.Reason.{Reason}
 use Rattle.pred_expr.specs.declared.question.Test.{Test}
 use Rattle.pred_expr.specs.Test.{predicates_of}
-use Rattle.pred_expr.specs.Texts.{always, nothing}
 use Rattle.md_draft.specs.declared.head.FormHead.{FormHead}
 use Rattle.md_draft.specs.declared.draft.Draft.{Draft}
 use Rattle.md_draft.specs.declared.draft.DraftEntry.{DraftEntry}
-use Rattle.md_draft.specs.Reasons.{head_of}
 use Rattle.md_forms.specs.declared.tables.PredicateDraft.{PredicateDraft}
-use Rattle.md_forms.specs.Names.{predicate_of_head, predicates_called, predicates_named}
+use Rattle.md_forms.specs.Names.{predicates_named}
 use Rattle.md_forms.specs.Predicates.{is_own, is_known, is_sound, accepted_within}
 use Rattle.md_forms.specs.Tables as tables
-use Rattle.md_forms.specs.Tables.{defines_predicate, predicate_draft, tables_of}
+use Rattle.md_forms.specs.Tables.{predicate_draft, tables_of}
 use Rattle.md_forms.specs.Forms.{draft_entry}
 use Rattle.md_forms.specs.Reasons.{tables_in}
 use Rattle.md_operand.specs.declared.own.Own.{Own}
@@ -33,7 +28,9 @@ use Rattle.pred_mean.specs.Accepted.{IsDefinition, defines, IsAccepted}
 use Rattle.pred_mean.proofs.Lists.{each_passes, all_pass}
 use Rattle.pred_mean.proofs.Rounds as rounds
 use Rattle.pred_mean.proofs.Rounds.{passes_accepted, enough}
-use Rattle.pred_mean.proofs.Drafts.{draft_with, of_definition, is_definition}
+use Rattle.pred_mean.proofs.Names.{names_are, head_there}
+use Rattle.pred_mean.proofs.Drafts.{draft_with}
+use Rattle.pred_mean.proofs.Definitions.{of_definition, is_definition}
 use Rattle.pred_mean.proofs.Firsts.{first_draft, found_defines}
 
 or_cases : (a b : Bool) → (a || b) ≡ true → (a ≡ true → ⊥) → b ≡ true
@@ -43,40 +40,6 @@ or_cases false b h none = h
 or_right : (a b : Bool) → b ≡ true → (a || b) ≡ true
 or_right true b h = refl
 or_right false b h = h
-
--- ---- what a definition names
-
-heads_leaf : (k : CondHead) → heads_of (leaf k) ≡ k ∷ []
-heads_leaf k = fold-roll-Tree (List CondHead) heads_step (record { head = k; parts = [] })
-
-called_always : predicates_called always ≡ []
-called_always = ap (flat_map predicate_of_head) (heads_leaf _)
-
-called_nothing : predicates_called nothing ≡ []
-called_nothing = ap (flat_map predicate_of_head) (heads_leaf _)
-
--- the predicates of its test alone
-pub names_are : (h : FormHead) (x : Test) → predicates_named (draft_with h x) ≡ predicates_of x
-unfolding predicates_named
-names_are h x =
-    ap (λ (l : List (List ℕ)). l ++ (l ++ (predicates_called nothing ++ predicates_of x)))
-    called_always
-    ∙ ap (λ (l : List (List ℕ)). l ++ predicates_of x) called_nothing
-
--- a head is there that defines a predicate
-pub record HasHead (form : Instance) : Type 0 where
-  pub head : FormHead
-  pub is : head_of form.tree ≡ Some head
-  pub defines : defines_predicate (Some head) ≡ true
-
-pub head_there : (name : List ℕ) (form : Instance) → defines name form ≡ true → HasHead form
-head_there name form e = by_head (head_of form.tree) refl
-    (and_parts (defines_predicate (head_of form.tree)) _ e).0
-  where
-    by_head : (o : Option FormHead) → head_of form.tree ≡ o → defines_predicate o ≡ true →
-        HasHead form
-    by_head None is h = absurd (true≢false (sym h))
-    by_head (Some k) is h = record { head = k; is = is; defines = h }
 
 fewer : {X Y : Type 0} (f : X → Option Y) (xs : List X) → length (filter_map f xs) ≤ length xs
 fewer f [] = omega arith

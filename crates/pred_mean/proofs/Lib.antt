@@ -1,6 +1,8 @@
 pub mod Lists
 pub mod Rounds
 pub mod Drafts
+pub mod Definitions
+pub mod Names
 pub mod Firsts
 pub mod Cycles
 pub mod Known

@@ -23,7 +23,7 @@ use Rattle.md_pred.proofs.Told.{told}
 use Rattle.pred_mean.specs.Accepted.{defines, IsAccepted}
 use Rattle.pred_mean.specs.Meaning.{Stands, AreMeant, HoldsAreMeant}
 use Rattle.pred_mean.proofs.Firsts.{first_form, found_defines}
-use Rattle.pred_mean.proofs.Known.{head_there}
+use Rattle.pred_mean.proofs.Names.{head_there}
 use Rattle.pred_mean.proofs.Judged.{stands_so, taken, taken_accepted, are_judged}
 
 none_some : {A : Type 0} (x : A) → ◌≡◌ {A = Option A} None (Some x) → ⊥

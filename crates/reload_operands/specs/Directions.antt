@@ -1,12 +1,12 @@
 -- Inputs and outputs, by the pattern: GCC Internals, "RTL Template" and "Side Effect Expressions". What a `set`, a `clobber` and any other
 -- effect take and change is what constraints ask of (`md_constr`, specs/Inputs.antt).
-use Rattle.std.specs.Prelude.{ℕ, ◌==◌, Bool, List, [], ◌∷◌}
+use Rattle.std.specs.Prelude.{ℕ, ◌==◌, Bool, true, false, ◌&&◌, List, [], ◌∷◌}
 use Rattle.std.specs.List.{list_any, flat_map}
 use Rattle.rtx_tree.specs.declared.code.Code.{Code}
-use Rattle.rtx_tree.specs.declared.code.Code.TheVariants.{Clobber}
+use Rattle.rtx_tree.specs.declared.code.Code.TheVariants.{Clobber, MatchOperator, MatchOpDup}
 use Rattle.rtx_tree.specs.declared.tree.Rtx.{Rtx}
 use Rattle.rtx_tree.specs.Tree.{head_of, kids_of}
-use Rattle.md_constr.specs.Inputs.{effects_of, inputs_in, outputs_in, changed_at}
+use Rattle.md_constr.specs.Inputs.{effects_of, inputs_in, outputs_in, changed_at, taken_in}
 
 abbrev pub has_number : ℕ → List ℕ → Bool
 has_number k numbers = list_any (λ n. n == k) numbers
@@ -29,3 +29,18 @@ clobbered_by effect = clobbered_by_parts (head_of effect).code (kids_of effect)
 -- an operand that a `clobber` of the pattern names
 abbrev pub is_clobbered : Rtx → ℕ → Bool
 is_clobbered pattern k = has_number k (flat_map clobbered_by (effects_of pattern))
+
+-- ---- what an operator hides
+
+abbrev pub is_operator_code : Code → Bool
+is_operator_code MatchOperator = true
+is_operator_code MatchOpDup = true
+is_operator_code _ = false
+
+-- an effect of a pattern is an operator, and an operand with a number stands inside it or is it
+abbrev pub hides : ℕ → Rtx → Bool
+hides k effect = is_operator_code (head_of effect).code && has_number k (taken_in effect)
+
+-- An operand stands inside an effect of which the pattern doesn't say what it takes and what it changes.
+abbrev pub is_hidden : Rtx → ℕ → Bool
+is_hidden pattern k = list_any (hides k) (effects_of pattern)

@@ -178,3 +178,28 @@ pub fn is_clobbered(pattern: &Rtx, number: u32) -> bool
 {
     any_effect_clobbers(effects_of(pattern), number)
 }
+
+fn is_operator(effect: &Rtx) -> bool
+    ensures { result ≡ spec.is_operator_code (head_of effect.now).code }
+{
+    matches!(effect.code, Code::MatchOperator | Code::MatchOpDup)
+}
+
+fn hides(effect: &Rtx, number: u32) -> bool
+    ensures { result ≡ spec.hides number effect.now }
+{
+    is_operator(effect) && takes(effect, number)
+}
+
+fn any_hides(effects: &[Rtx], number: u32) -> bool
+    ensures { result ≡ list_any (spec.hides number) effects.now }
+{
+    effects.iter().any(|effect| hides(effect, number))
+}
+
+/// Whether an operand stands inside an effect that an operator of the pattern matches as a whole.
+pub fn is_hidden(pattern: &Rtx, number: u32) -> bool
+    ensures { result ≡ spec.is_hidden pattern.now number }
+{
+    any_hides(effects_of(pattern), number)
+}

@@ -31,6 +31,9 @@ pub struct Operand {
     pub is_output: bool,
     /// Whether the pattern clobbers it.
     pub is_clobbered: bool,
+    /// Whether it stands inside an effect that an operator of the pattern matches as a whole: it is no input and no output then, though the
+    /// instruction may take it and change it.
+    pub is_hidden: bool,
     /// Whether it is a register, or the low part of one, that lives in a slot.
     pub in_slot: bool,
     /// Whether it has a place inside a low part.

@@ -1,0 +1,3 @@
+pub mod LeastLaws
+pub mod SoundLaws
+pub mod Chosen

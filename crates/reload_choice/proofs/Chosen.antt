@@ -1,5 +1,6 @@
 -- The plan that is kept is the one that is asked for, and is sound.
-use Rattle.std.proofs.Common.{◌≡◌, ◌↔◌, ℕ, Bool, List, Option, Some, None, IfSome, refl, sym, ap, subst, ◌∙◌, rules}
+use Rattle.std.proofs.Common.{◌≡◌, ◌↔◌, ℕ, Bool, List, Option, Some, None, Result, IfOk, IfSome, refl, sym, ap, subst, ◌∙◌, rules}
+use Rattle.std.proofs.lemmas.Result.{IfOk-weaker}
 use Rattle.md_forms.specs.declared.form.OperandConstraint.{OperandConstraint}
 use Rattle.md_forms.specs.declared.form.Entry.{Entry}
 use Rattle.md_attr.specs.Alternatives.{alternatives_of}
@@ -15,29 +16,43 @@ use Rattle.reload_choice.proofs.SoundLaws.{sound_at}
 
 module _ (forms : List Entry) (form : ℕ) (given : Given) where
   -- what the code keeps, over the constraints that it has looked up and what it has found replaceable
-  kept_is : (constraints : List OperandConstraint) (formed : List Bool) → constraints ≡ constraints_of forms form → formed ≡ formed_of given → (r : Option Plan) →
-      r ≡ best_upto (plan_among forms form constraints given formed) (alternatives_of forms form) → r ≡ best_upto (plan_at forms form given) (alternatives_of forms form)
-  kept_is constraints formed same_constraints same_formed r is =
+  abbrev pub IsKept : List OperandConstraint → List Bool → Option Plan → Type 0
+  IsKept constraints formed o = o ≡ best_upto (plan_among forms form constraints given formed) (alternatives_of forms form)
+
+  kept_is : (constraints : List OperandConstraint) (formed : List Bool) → constraints ≡ constraints_of forms form → formed ≡ formed_of given → (o : Option Plan) →
+      IsKept constraints formed o → o ≡ best_upto (plan_at forms form given) (alternatives_of forms form)
+  kept_is constraints formed same_constraints same_formed o is =
       is ∙ (ap (λ (c : List OperandConstraint). best_upto (plan_among forms form c given formed) (alternatives_of forms form)) same_constraints ∙
       ap (λ (f : List Bool). best_upto (plan_among forms form (constraints_of forms form) given f) (alternatives_of forms form)) same_formed)
-
-  pub chosen : (constraints : List OperandConstraint) (formed : List Bool) → constraints ≡ constraints_of forms form → formed ≡ formed_of given → (r : Option Plan) →
-      r ≡ best_upto (plan_among forms form constraints given formed) (alternatives_of forms form) → (plan : Plan) → (r ≡ Some plan) ↔ IsChosen forms form given plan
-  chosen constraints formed same_constraints same_formed r is plan =
-      subst (λ (o : Option Plan). (o ≡ Some plan) ↔ IsChosen forms form given plan) (sym (kept_is constraints formed same_constraints same_formed r is))
-      (best_is (plan_at forms form given) (alternatives_of forms form) plan)
-
-  pub none_chosen : (constraints : List OperandConstraint) (formed : List Bool) → constraints ≡ constraints_of forms form → formed ≡ formed_of given → (r : Option Plan) →
-      r ≡ best_upto (plan_among forms form constraints given formed) (alternatives_of forms form) → r ≡ None → NoneReaches forms form given
-  none_chosen constraints formed same_constraints same_formed r is none =
-      none_is (plan_at forms form given) (alternatives_of forms form) (sym (kept_is constraints formed same_constraints same_formed r is) ∙ none)
 
   sound_some : (o : Option Plan) → ((plan : Plan) → o ≡ Some plan → IsSoundPlan given plan) → IfSome o (IsSoundPlan given)
   sound_some None each = search rules
   sound_some (Some plan) each = each plan refl
 
-  pub sound_chosen : (constraints : List OperandConstraint) (formed : List Bool) → constraints ≡ constraints_of forms form → formed ≡ formed_of given → (r : Option Plan) →
-      r ≡ best_upto (plan_among forms form constraints given formed) (alternatives_of forms form) → IfSome r (IsSoundPlan given)
-  sound_chosen constraints formed same_constraints same_formed r is = sound_some r (λ plan some.
-      let best = (chosen constraints formed same_constraints same_formed r is plan).0 some in
+  one_is : (o : Option Plan) → o ≡ best_upto (plan_at forms form given) (alternatives_of forms form) → (plan : Plan) → (o ≡ Some plan) ↔ IsChosen forms form given plan
+  one_is o is plan =
+      subst (λ (p : Option Plan). (p ≡ Some plan) ↔ IsChosen forms form given plan) (sym is) (best_is (plan_at forms form given) (alternatives_of forms form) plan)
+
+  sound_is : (o : Option Plan) → o ≡ best_upto (plan_at forms form given) (alternatives_of forms form) → IfSome o (IsSoundPlan given)
+  sound_is o is = sound_some o (λ plan some.
+      let best = (one_is o is plan).0 some in
       sound_at forms form given best.0 plan best.1.here)
+
+  -- what the code gives
+
+  pub chosen : {E : Type 0} (r : Result (Option Plan) E) (constraints : List OperandConstraint) (formed : List Bool) → constraints ≡ constraints_of forms form → formed ≡ formed_of given →
+      IfOk r (IsKept constraints formed) → IfOk r (λ o. (plan : Plan) → (o ≡ Some plan) ↔ IsChosen forms form given plan)
+  chosen r constraints formed same_constraints same_formed kept =
+      IfOk-weaker r (IsKept constraints formed) (λ o. (plan : Plan) → (o ≡ Some plan) ↔ IsChosen forms form given plan)
+      (λ o is. one_is o (kept_is constraints formed same_constraints same_formed o is)) kept
+
+  pub none_chosen : {E : Type 0} (r : Result (Option Plan) E) (constraints : List OperandConstraint) (formed : List Bool) → constraints ≡ constraints_of forms form → formed ≡ formed_of given →
+      IfOk r (IsKept constraints formed) → IfOk r (λ o. o ≡ None → NoneReaches forms form given)
+  none_chosen r constraints formed same_constraints same_formed kept =
+      IfOk-weaker r (IsKept constraints formed) (λ o. o ≡ None → NoneReaches forms form given)
+      (λ o is none. none_is (plan_at forms form given) (alternatives_of forms form) (sym (kept_is constraints formed same_constraints same_formed o is) ∙ none)) kept
+
+  pub sound_chosen : {E : Type 0} (r : Result (Option Plan) E) (constraints : List OperandConstraint) (formed : List Bool) → constraints ≡ constraints_of forms form → formed ≡ formed_of given →
+      IfOk r (IsKept constraints formed) → IfOk r (λ o. IfSome o (IsSoundPlan given))
+  sound_chosen r constraints formed same_constraints same_formed kept =
+      IfOk-weaker r (IsKept constraints formed) (λ o. IfSome o (IsSoundPlan given)) (λ o is. sound_is o (kept_is constraints formed same_constraints same_formed o is)) kept

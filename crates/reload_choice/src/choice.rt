@@ -10,7 +10,7 @@ ghost use Rattle.reload_choice.specs.machine.Least as least;
 
 use crate::cost::cost_of;
 use crate::given::{Given, Plan};
-use crate::movable::{formed_of, is_suited};
+use crate::movable::{formed_of, is_reached};
 use md_desc::Description;
 use md_forms::{Entry, OperandConstraint};
 use plain_data::{Items, Memory};
@@ -29,7 +29,7 @@ fn planned(
     ensures { IfOk result (λ plan. plan ≡ spec.plan_if (is_reachable (fit.asks_by asked.now.desc.now asked.now.form asked.now.constraints.now asked.now.alternative) asked.now.operands.now given.now fits.now formed.now parts) asked.now.constraints.now asked.now.alternative parts) }
 {
     let asks = asks_of(asked.alloc, parts.as_slice())?;
-    if asks.len() > 4 || !is_suited(asked, given, fits, formed, parts.as_slice())? {
+    if asks.len() > 4 || !is_reached(asked, given, fits, formed, parts.as_slice())? {
         return Ok(None);
     }
     let cost = cost_of(
@@ -88,7 +88,7 @@ impl Choice<'_> {
     }
 
     /// The best plan. More alternatives than have a number are wanted as memory is.
-    #[tactic(auto, using(crate::proofs::LeastLaws::keeps_first, crate::proofs::LeastLaws::keeps_next, crate::proofs::LeastLaws::keeps_whole))]
+    #[tactic(auto, using(crate::proofs::LeastLaws::keeps_first, crate::proofs::LeastLaws::keeps_whole))]
     fn best(&self) -> Result<Option<Plan>, Memory>
         ensures { IfOk result (λ plan. plan ≡ least.best_upto (spec.plan_among self.now.desc.now self.now.form self.now.constraints.now self.now.given.now self.now.formed.now) (alternatives_of self.now.desc.now self.now.form)) }
     {
@@ -139,7 +139,6 @@ fn constraints_at(desc: &Description, form: u32) -> &[OperandConstraint]
 
 /// The plan of the alternative of a form that costs least, of several such the one with the lowest number, or `None` exactly where no
 /// enabled alternative is reachable.
-#[tactic(auto, using(crate::proofs::Chosen::chosen, crate::proofs::Chosen::none_chosen, crate::proofs::Chosen::sound_chosen))]
 pub fn best_plan(
     alloc: Global,
     desc: &Description,

@@ -8,7 +8,7 @@ use crate::given::{Given, Plan};
 use crate::news::news_of;
 use plain_data::{Items, Memory};
 use reload_fit::{address_on, on_register, slot_far};
-use reload_moves::{Move, asks_of, moves_after, moves_before};
+use reload_moves::{Move, Part, asks_of, moves_after, moves_before};
 use reload_operands::{Base, Operand, put};
 use rtx_tree::{Code, Kids, Mode, Rtx};
 use std::alloc::Global;
@@ -160,15 +160,22 @@ pub fn insns_before(alloc: Global, given: &Given, plan: &Plan) -> Result<Kids, M
     all_insns(alloc, given.operands.as_slice(), moves.as_slice())
 }
 
+/// The instruction with all that is new in it.
+pub fn between(alloc: Global, given: &Given, parts: &[Part]) -> Result<Rtx, Memory>
+    requires { length (asks_of parts.now) ≤ 4 }
+    ensures { IfOk result (λ insn. insn ≡ spec.between given.now.pattern given.now.operands parts.now given.now.insn) }
+{
+    let asks = asks_of(alloc, parts)?;
+    let news = news_of(alloc, asks.as_slice(), given.operands.as_slice(), parts)?;
+    put(alloc, &given.pattern, &news, &given.insn)
+}
+
 /// The instruction of a plan.
 pub fn insn_between(alloc: Global, given: &Given, plan: &Plan) -> Result<Rtx, Memory>
     requires { length (asks_of plan.now.parts) ≤ 4 }
     ensures { IfOk result (λ insn. insn ≡ spec.between given.now.pattern given.now.operands plan.now.parts given.now.insn) }
 {
-    let parts = plan.parts.as_slice();
-    let asks = asks_of(alloc, parts)?;
-    let news = news_of(alloc, asks.as_slice(), given.operands.as_slice(), parts)?;
-    put(alloc, &given.pattern, &news, &given.insn)
+    between(alloc, given, plan.parts.as_slice())
 }
 
 /// The instructions after the one of a plan.

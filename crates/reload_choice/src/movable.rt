@@ -1,11 +1,13 @@
 //! What can be moved.
-ghost use Rattle.std.specs.Prelude.{◌≡◌, map, IfOk};
+ghost use Rattle.std.specs.Prelude.{◌≡◌, ◌≤◌, ◌&&◌, length, map, IfOk};
 ghost use Rattle.c_eval.specs.Value.{same_mode, same_tree};
 ghost use Rattle.rtx_tree.specs.Tree.{head_of};
 ghost use Rattle.reload_fit.specs.Fitting as fit;
+ghost use Rattle.reload_moves.specs.Registers.{asks_of};
 ghost use Rattle.reload_choice.specs.Movable as spec;
 
 use crate::given::Given;
+use crate::insns::between;
 use plain_data::{Items, Memory};
 use reload_fit::Asked;
 use reload_moves::{Fitting, Part, is_marked, is_result};
@@ -57,11 +59,7 @@ pub fn formed_of(alloc: Global, given: &Given) -> Result<Items<bool>, Memory>
 fn can_be_replaced(formed: &[bool], place: usize, x: &Operand) -> bool
     ensures { result ≡ spec.can_be_replaced formed.now place x.now }
 {
-    !x.is_operator
-        && !x.is_hidden
-        && is_mode(x.mode)
-        && !x.in_lowpart
-        && is_marked(formed, place)
+    !x.is_operator && !x.is_hidden && is_mode(x.mode) && !x.in_lowpart && is_marked(formed, place)
 }
 
 fn is_memory(x: &Rtx) -> bool
@@ -265,8 +263,8 @@ fn all_may_move(
     Ok(are_all(row.as_slice()))
 }
 
-/// Whether an alternative is reachable, if four registers suffice.
-pub fn is_suited(
+/// Whether operands may share, results may be moved, and what is moved can be moved.
+fn is_suited(
     asked: &Asked,
     given: &Given,
     fits: &[Fitting],
@@ -277,6 +275,33 @@ pub fn is_suited(
 {
     if all_share_well(given.operands.as_slice(), parts) && all_good(given, parts) {
         all_may_move(asked, fits, formed, parts)
+    } else {
+        Ok(false)
+    }
+}
+
+/// Whether the instruction is within the table of codes, and of its kind, with all that is new in it.
+fn stays_formed(alloc: Global, given: &Given, parts: &[Part]) -> Result<bool, Memory>
+    requires { length (asks_of parts.now) ≤ 4 }
+    ensures { IfOk result (λ formed. formed ≡ spec.stays_formed given.now parts.now) }
+{
+    let insn = between(alloc, given, parts)?;
+    Ok(is_formed_as(given.kind, &insn))
+}
+
+/// Whether an alternative is reachable. Four registers suffice.
+pub fn is_reached(
+    asked: &Asked,
+    given: &Given,
+    fits: &[Fitting],
+    formed: &[bool],
+    parts: &[Part],
+) -> Result<bool, Memory>
+    requires { length (asks_of parts.now) ≤ 4 }
+    ensures { IfOk result (λ reached. reached ≡ (spec.is_suited (fit.asks_by asked.now.desc.now asked.now.form asked.now.constraints.now asked.now.alternative) asked.now.operands.now given.now fits.now formed.now parts.now && spec.stays_formed given.now parts.now)) }
+{
+    if is_suited(asked, given, fits, formed, parts)? {
+        stays_formed(asked.alloc, given, parts)
     } else {
         Ok(false)
     }

@@ -1,3 +1,7 @@
 pub mod LeastLaws
+pub mod RoundLaws
+pub mod HolderLaws
+pub mod DigitLaws
+pub mod PartLaws
 pub mod SoundLaws
 pub mod Chosen

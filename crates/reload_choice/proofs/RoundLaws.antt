@@ -15,8 +15,10 @@ there (x ∷ xs) zero h = (x, refl)
 there (x ∷ xs) (suc i) h = there xs i (omega (arith, h))
 
 -- a mark that a test gives
-pub mark_of : {X : Type 0} (test : X → Bool) (xs : List X) (i : ℕ) (x : X) → slice_get xs i ≡ Some x → is_marked (map test xs) i ≡ test x
-mark_of test xs i x at = ap (λ (o : Option Bool). unwrap_or o false) (slice_get-map test xs i ∙ ap (λ (o : Option _). option_map test o) at)
+pub mark_of : {X : Type 0} (test : X → Bool) (xs : List X) (i : ℕ) (x : X) →
+    slice_get xs i ≡ Some x → is_marked (map test xs) i ≡ test x
+mark_of test xs i x at = ap (λ (o : Option Bool). unwrap_or o false)
+    (slice_get-map test xs i ∙ ap (λ (o : Option _). option_map test o) at)
 
 pub marked_within : (row : List Bool) (i : ℕ) → is_marked row i ≡ true → i < length row
 marked_within [] i m = absurd (let never : ⊥ = cc in never)
@@ -47,42 +49,59 @@ same_length (a ∷ row) [] g = absurd g
 same_length (a ∷ row) (b ∷ next) g = omega (arith, same_length row next g.1)
 
 -- it is the same, or has more marks
-more_or_same : (row next : List Bool) → Grows row next → (row ≡ next) ⊎ (marks_in row < marks_in next)
+more_or_same : (row next : List Bool) → Grows row next →
+    (row ≡ next) ⊎ (marks_in row < marks_in next)
 more_or_same [] [] g = inl refl
 more_or_same [] (b ∷ next) g = absurd g
 more_or_same (a ∷ row) [] g = absurd g
-more_or_same (true ∷ row) (true ∷ next) g = ⊎_elim (λ e. inl (ap (λ (r : List Bool). true ∷ r) e)) (λ more. inr (omega (arith, more))) (more_or_same row next g.1)
-more_or_same (true ∷ row) (false ∷ next) g = absurd (let e : false ≡ true = g.0 refl in let never : ⊥ = cc in never)
-more_or_same (false ∷ row) (true ∷ next) g = ⊎_elim (λ e. inr (omega (arith, ap marks_in e))) (λ more. inr (omega (arith, more))) (more_or_same row next g.1)
-more_or_same (false ∷ row) (false ∷ next) g = ⊎_elim (λ e. inl (ap (λ (r : List Bool). false ∷ r) e)) (λ more. inr (omega (arith, more))) (more_or_same row next g.1)
+more_or_same (true ∷ row) (true ∷ next) g = ⊎_elim (λ e. inl (ap (λ (r : List Bool). true ∷ r) e))
+    (λ more. inr (omega (arith, more))) (more_or_same row next g.1)
+more_or_same (true ∷ row) (false ∷ next) g =
+    absurd (let e : false ≡ true = g.0 refl in let never : ⊥ = cc in never)
+more_or_same (false ∷ row) (true ∷ next) g = ⊎_elim (λ e. inr (omega (arith, ap marks_in e)))
+    (λ more. inr (omega (arith, more))) (more_or_same row next g.1)
+more_or_same (false ∷ row) (false ∷ next) g =
+    ⊎_elim (λ e. inl (ap (λ (r : List Bool). false ∷ r) e)) (λ more. inr (omega (arith, more)))
+    (more_or_same row next g.1)
 
 full_stays : (row next : List Bool) → Grows row next → length row ≤ marks_in row → row ≡ next
-full_stays row next g full = ⊎_elim (λ e. e) (λ more. absurd (omega (arith, more, full, marks_within next, same_length row next g))) (more_or_same row next g)
+full_stays row next g full = ⊎_elim
+    (λ e. e)
+    (λ more. absurd (omega (arith, more, full, marks_within next, same_length row next g)))
+    (more_or_same row next g)
 
-grows_by : (row next : List Bool) → length row ≡ length next → ((i : ℕ) → is_marked row i ≡ true → is_marked next i ≡ true) → Grows row next
+grows_by : (row next : List Bool) → length row ≡ length next →
+    ((i : ℕ) → is_marked row i ≡ true → is_marked next i ≡ true) → Grows row next
 grows_by [] [] e h = tt
 grows_by [] (b ∷ next) e h = absurd (omega (arith, e))
 grows_by (a ∷ row) [] e h = absurd (omega (arith, e))
-grows_by (a ∷ row) (b ∷ next) e h = (h zero, grows_by row next (omega (arith, e)) (λ i m. h (suc i) m))
+grows_by (a ∷ row) (b ∷ next) e h =
+    (h zero, grows_by row next (omega (arith, e)) (λ i m. h (suc i) m))
 
 -- ---- rounds
 
-module _ (step : List Bool → List Bool) (n : ℕ) (grow : (row : List Bool) → length row ≡ n → Grows row (step row)) where
-  rounds_stay : (more : List Fitting) (row : List Bool) → step row ≡ row → rounds step more row ≡ row
+module _ (step : List Bool → List Bool) (n : ℕ)
+    (grow : (row : List Bool) → length row ≡ n → Grows row (step row)) where
+  rounds_stay : (more : List Fitting) (row : List Bool) → step row ≡ row →
+      rounds step more row ≡ row
   rounds_stay [] row e = refl
   rounds_stay (f ∷ more) row e = ap (rounds step more) e ∙ rounds_stay more row e
 
   long_on : (row : List Bool) → length row ≡ n → length (step row) ≡ n
   long_on row long = sym (same_length row (step row) (grow row long)) ∙ long
 
-  rounds_settle : (more : List Fitting) (row : List Bool) → length row ≡ n → n ≤ marks_in row + length more → step (rounds step more row) ≡ rounds step more row
-  rounds_settle [] row long enough = sym (full_stays row (step row) (grow row long) (omega (arith, long, enough)))
+  rounds_settle : (more : List Fitting) (row : List Bool) → length row ≡ n →
+      n ≤ marks_in row + length more → step (rounds step more row) ≡ rounds step more row
+  rounds_settle [] row long enough =
+      sym (full_stays row (step row) (grow row long) (omega (arith, long, enough)))
   rounds_settle (f ∷ more) row long enough = ⊎_elim
-      (λ e. let end : rounds step (f ∷ more) row ≡ row = rounds_stay (f ∷ more) row (sym e) in ap step end ∙ (sym e ∙ sym end))
+      (λ e. let end : rounds step (f ∷ more) row ≡ row = rounds_stay (f ∷ more) row (sym e) in
+          ap step end ∙ (sym e ∙ sym end))
       (λ gains. rounds_settle more (step row) (long_on row long) (omega (arith, gains, enough)))
       (more_or_same row (step row) (grow row long))
 
-  rounds_long : (more : List Fitting) (row : List Bool) → length row ≡ n → length (rounds step more row) ≡ n
+  rounds_long : (more : List Fitting) (row : List Bool) → length row ≡ n →
+      length (rounds step more row) ≡ n
   rounds_long [] row long = long
   rounds_long (f ∷ more) row long = rounds_long more (step row) (long_on row long)
 
@@ -94,10 +113,13 @@ InOrder fits = (i : ℕ) (f : Fitting) → slice_get fits i ≡ Some f → f.pla
 
 module _ (fits : List Fitting) (order : InOrder fits) where
   round_grows : (row : List Bool) → length row ≡ length fits → Grows row (round fits row)
-  round_grows row long = grows_by row (round fits row) (long ∙ sym (length-map fits (is_moved_next fits row))) (λ i m.
-      let at = there fits i (omega (arith, marked_within row i m, long)) in
+  round_grows row long = grows_by row (round fits row)
+      (long ∙ sym (length-map fits (is_moved_next fits row)))
+      (λ i m. let at = there fits i (omega (arith, marked_within row i m, long)) in
       mark_of (is_moved_next fits row) fits i at.0 at.1 ∙
-      or_left (is_marked row at.0.place) (is_torn row at.0 || is_drawn fits row at.0.place) (ap (is_marked row) (order i at.0 at.1) ∙ m))
+      or_left (is_marked row at.0.place) (is_torn row at.0 || is_drawn fits row at.0.place)
+          (ap (is_marked row) (order i at.0 at.1) ∙ m))
 
   pub moved_settled : round fits (moved_in fits) ≡ moved_in fits
-  moved_settled = rounds_settle (round fits) (length fits) round_grows fits (those_that_move fits) (length-map fits (λ (f : Fitting). moves f.standing)) (omega arith)
+  moved_settled = rounds_settle (round fits) (length fits) round_grows fits (those_that_move fits)
+      (length-map fits (λ (f : Fitting). moves f.standing)) (omega arith)

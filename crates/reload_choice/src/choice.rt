@@ -3,9 +3,9 @@ ghost use Rattle.std.specs.Prelude.{◌≡◌, ◌↔◌, ◌≤◌, Some, None,
 ghost use Rattle.md_attr.specs.Alternatives.{alternatives_of};
 ghost use Rattle.reload_choice.specs.declared.given.Plan.{Plan};
 ghost use Rattle.reload_choice.specs.Choice as spec;
-ghost use Rattle.reload_choice.specs.Movable.{formed_of, is_reachable};
 ghost use Rattle.reload_choice.specs.Sound.{IsSoundPlan};
 ghost use Rattle.reload_fit.specs.Fitting as fit;
+ghost use Rattle.reload_choice.specs.machine.Asked.{plan_in, plan_of, planned_in};
 ghost use Rattle.reload_choice.specs.machine.Least as least;
 
 use crate::cost::cost_of;
@@ -26,7 +26,7 @@ fn planned(
     formed: &[bool],
     parts: Items<Part>,
 ) -> Result<Option<Plan>, Memory>
-    ensures { IfOk result (λ plan. plan ≡ spec.plan_if (is_reachable (fit.asks_by asked.now.desc.now asked.now.form asked.now.constraints.now asked.now.alternative) asked.now.operands.now given.now fits.now formed.now parts) asked.now.constraints.now asked.now.alternative parts) }
+    ensures { IfOk result (λ plan. plan ≡ planned_in asked.now given.now fits.now formed.now parts) }
 {
     let asks = asks_of(asked.alloc, parts.as_slice())?;
     if asks.len() > 4 || !is_reached(asked, given, fits, formed, parts.as_slice())? {
@@ -44,7 +44,7 @@ fn planned(
 
 /// The plan of an alternative that is enabled, where it is reachable.
 fn plan_by(asked: &Asked, given: &Given, formed: &[bool]) -> Result<Option<Plan>, Memory>
-    ensures { IfOk result (λ plan. plan ≡ spec.plan_by (fit.asks_by asked.now.desc.now asked.now.form asked.now.constraints.now asked.now.alternative) asked.now.constraints.now asked.now.operands.now given.now formed.now asked.now.alternative) }
+    ensures { IfOk result (λ plan. plan ≡ plan_in asked.now given.now formed.now) }
 {
     let fits = asked.fittings()?;
     let parts = parts_of(asked.alloc, fits.as_slice())?;
@@ -64,7 +64,7 @@ struct Choice<'a> {
 
 impl Choice<'_> {
     fn plan_in(&self, alternative: u32) -> Result<Option<Plan>, Memory>
-        ensures { IfOk result (λ plan. plan ≡ spec.plan_by (fit.asks_by self.now.desc.now self.now.form self.now.constraints.now alternative) self.now.constraints.now self.now.given.now.operands self.now.given.now self.now.formed.now alternative) }
+        ensures { IfOk result (λ plan. plan ≡ plan_of self.now.desc.now self.now.form self.now.constraints.now self.now.given.now self.now.formed.now alternative) }
     {
         let asked = Asked {
             alloc: self.alloc,

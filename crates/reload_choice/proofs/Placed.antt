@@ -8,6 +8,8 @@ use Rattle.reload_operands.specs.declared.operand.Operand.{Operand}
 use Rattle.reload_moves.specs.declared.moves.Move.{Move}
 use Rattle.reload_choice.specs.Insns.{insns_at, at_place}
 
-pub none_placed : (operands : List Operand) (place : ℕ) (step : Move) (insns : List Rtx) → length operands ≤ place → insns ≡ insns ++ at_place operands place step
+pub none_placed : (operands : List Operand) (place : ℕ) (step : Move) (insns : List Rtx) →
+    length operands ≤ place → insns ≡ insns ++ at_place operands place step
 none_placed operands place step insns past =
-    sym (ap (λ (o : Option Operand). insns ++ option_map_or (insns_at step) o []) (slice_get_past operands place past) ∙ append-nil insns)
+    let none = slice_get_past operands place past in
+    sym (ap (λ (o : Option Operand). insns ++ option_map_or (insns_at step) o []) none ∙ append-nil insns)

@@ -6,6 +6,8 @@ use Rattle.reload_choice.proofs.choice.Choice.best.Goals as goal
 
 pub alternatives-preserved : goal.alternatives-preserved
 alternatives-preserved c =
-    keeps_next (plan_among c.args.self.now.desc.now c.args.self.now.form c.args.self.now.constraints.now c.args.self.now.given.now c.args.self.now.formed.now)
-    (alternatives_of c.args.self.now.desc.now c.args.self.now.form) c.alternatives.alternative c.in-Some.next c.alternatives.best c.in_ok-plan.plan c.better-best.result
-    c.alternatives.invariant (c.has_alternative.ensures.0 (search rules)) (search rules) c.in_ok-plan.ensures c.better-best.ensures
+    let choice = c.args.self.now in
+    keeps_next (plan_among choice.desc.now choice.form choice.constraints.now choice.given.now choice.formed.now)
+    (alternatives_of choice.desc.now choice.form) c.alternatives.alternative c.in-Some.next c.alternatives.best
+    c.in_ok-plan.plan c.better-best.result c.alternatives.invariant (c.has_alternative.ensures.0 (search rules)) (search rules)
+    c.in_ok-plan.ensures c.better-best.ensures

@@ -8,7 +8,7 @@ use Rattle.reload_fit.specs.Fitting.{constraints_of}
 use Rattle.reload_choice.specs.declared.given.Given.{Given}
 use Rattle.reload_choice.specs.declared.given.Plan.{Plan}
 use Rattle.reload_choice.specs.Movable.{formed_of}
-use Rattle.reload_choice.specs.Choice.{plan_among, plan_at, IsBest, IsChosen, NoneReaches}
+use Rattle.reload_choice.specs.Choice.{plan_among, plan_at, IsChosen, NoneReaches}
 use Rattle.reload_choice.specs.Sound.{IsSoundPlan}
 use Rattle.reload_choice.specs.machine.Least.{best_upto}
 use Rattle.reload_choice.proofs.LeastLaws.{best_is, none_is}

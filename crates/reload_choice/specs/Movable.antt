@@ -1,6 +1,6 @@
 -- Which operands can be moved, and when an alternative is reachable: GCC Internals, "RTL passes" (reload), "Side Effect Expressions" (what an
 -- instruction changes) and "Simple Constraints".
-use Rattle.std.specs.Prelude.{ℕ, nat_le, ◌==◌, Bool, true, false, not, ◌&&◌, ◌||◌, List, [], ◌∷◌, map, length, is_some, slice_get}
+use Rattle.std.specs.Prelude.{ℕ, nat_le, ◌==◌, Bool, true, false, not, ◌&&◌, ◌||◌, List, [], map, length, is_some, slice_get}
 use Rattle.std.specs.List.{list_all}
 use Rattle.std.specs.Option.{option_map_or}
 use Rattle.rtx_tree.specs.declared.code.Mode.{Mode}

@@ -1,5 +1,5 @@
 //! The best alternative.
-ghost use Rattle.std.specs.Prelude.{◌≡◌, ◌↔◌, ◌≤◌, Some, None, IfOk, IfSome};
+ghost use Rattle.std.specs.Prelude.{◌≡◌, ◌↔◌, Some, None, IfOk, IfSome};
 ghost use Rattle.md_attr.specs.Alternatives.{alternatives_of};
 ghost use Rattle.reload_choice.specs.declared.given.Plan.{Plan};
 ghost use Rattle.reload_choice.specs.Choice as spec;

@@ -1,6 +1,5 @@
 //! What an alternative costs.
 ghost use Rattle.std.specs.Prelude.{◌≡◌, ◌+◌, ◌≤◌, length, IfOk};
-ghost use Rattle.std.specs.List.{count_by};
 ghost use Rattle.reload_choice.specs.Choice as spec;
 
 use md_forms::OperandConstraint;

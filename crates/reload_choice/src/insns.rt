@@ -1,6 +1,5 @@
 //! The instructions of a plan.
-ghost use Rattle.std.specs.Prelude.{◌≡◌, ◌≤◌, [], ◌∷◌, ◌++◌, length, IfOk, OnOk};
-ghost use Rattle.rv_regs.specs.Registers.{stack_pointer};
+ghost use Rattle.std.specs.Prelude.{◌≡◌, ◌≤◌, ◌++◌, length, IfOk, OnOk};
 ghost use Rattle.reload_choice.specs.Insns as spec;
 ghost use Rattle.reload_moves.specs.Registers.{asks_of};
 

@@ -15,7 +15,7 @@ use Rattle.assign.specs.declared.home.HomeOf.{HomeOf}
 use Rattle.assign.specs.declared.places.Layout.{Layout}
 use Rattle.reload_homes.specs.Homes.{homed}
 use Rattle.reload_operands.specs.Put.{in_lowpart}
-use Rattle.reload_operands.specs.Directions.{is_input, is_output, is_clobbered}
+use Rattle.reload_operands.specs.Directions.{is_input, is_output, is_clobbered, is_hidden}
 use Rattle.reload_operands.specs.Bases.{in_slot, base_of}
 use Rattle.reload_operands.specs.Changes.{changes_address, other_memory}
 use Rattle.reload_operands.specs.declared.operand.Operand.{Operand}
@@ -76,6 +76,7 @@ operand_for pattern placed with_homes homes layout k p x = record {
   is_input = is_input pattern k;
   is_output = is_output pattern k;
   is_clobbered = is_clobbered pattern k;
+  is_hidden = is_hidden pattern k;
   in_slot = in_slot homes x;
   in_lowpart = in_lowpart pattern placed k;
   base = base_of homes layout x;

@@ -178,3 +178,62 @@ pub fn is_clobbered(pattern: &Rtx, number: u32) -> bool
 {
     any_effect_clobbers(effects_of(pattern), number)
 }
+
+fn is_operator(effect: &Rtx) -> bool
+    ensures { result ≡ spec.is_operator_code (head_of effect.now).code }
+{
+    matches!(effect.code, Code::MatchOperator | Code::MatchOpDup)
+}
+
+fn is_scratch_here(x: &Rtx, number: u32) -> bool
+    ensures { result ≡ spec.has_number number (spec.scratch_here (head_of x.now).code (head_of x.now).number) }
+{
+    match x.code {
+        Code::MatchScratch => is_numbered(x, number),
+        _ => false,
+    }
+}
+
+/// Whether an operand is a scratch of an expression of a pattern.
+#[tactic(auto, using(crate::proofs::NumberLaws::scratches_out))]
+fn has_scratch(x: &Rtx, number: u32) -> bool
+    ensures { result ≡ spec.has_number number (spec.scratches_in x.now) }
+{
+    if is_scratch_here(x, number) {
+        return true;
+    }
+    for kid in x.kids.as_slice() {
+        if has_scratch(kid, number) {
+            return true;
+        }
+    }
+    false
+}
+
+fn reads_scratch(effect: &Rtx, number: u32) -> bool
+    ensures { result ≡ spec.reads_scratch number (head_of effect.now).code effect.now }
+{
+    match effect.code {
+        Code::Clobber => false,
+        _ => has_scratch(effect, number),
+    }
+}
+
+fn hides(effect: &Rtx, number: u32) -> bool
+    ensures { result ≡ spec.hides number effect.now }
+{
+    (is_operator(effect) && takes(effect, number)) || reads_scratch(effect, number)
+}
+
+fn any_hides(effects: &[Rtx], number: u32) -> bool
+    ensures { result ≡ list_any (spec.hides number) effects.now }
+{
+    effects.iter().any(|effect| hides(effect, number))
+}
+
+/// Whether an operand stands inside an effect of which the pattern doesn't say what it does with it.
+pub fn is_hidden(pattern: &Rtx, number: u32) -> bool
+    ensures { result ≡ spec.is_hidden pattern.now number }
+{
+    any_hides(effects_of(pattern), number)
+}

@@ -8,7 +8,7 @@ ghost use Rattle.reload_operands.specs.Operands as spec;
 
 use crate::bases::{base_of, in_slot};
 use crate::changes::{changes_address, other_memory};
-use crate::directions::{is_clobbered, is_input, is_output};
+use crate::directions::{is_clobbered, is_hidden, is_input, is_output};
 use crate::giver::giver;
 use crate::inside::in_lowpart;
 use crate::numbers::numbers_of;
@@ -80,6 +80,7 @@ fn operand_for(
         is_input: is_input(pattern, number),
         is_output: is_output(pattern, number),
         is_clobbered: is_clobbered(pattern, number),
+        is_hidden: is_hidden(pattern, number),
         in_slot: in_slot(homes, x),
         in_lowpart: in_lowpart(pattern, placed, number),
         base,

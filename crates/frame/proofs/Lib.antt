@@ -1,0 +1,4 @@
+pub mod Pushes
+pub mod Finished
+pub mod Trying
+pub mod One

@@ -1,0 +1,4 @@
+pub mod Reload
+pub mod Outcome
+pub mod Windows
+pub mod machine

@@ -1,0 +1,10 @@
+pub mod LeastLaws
+pub mod Placed
+pub mod PlanLaws
+pub mod RoundLaws
+pub mod HolderLaws
+pub mod DigitLaws
+pub mod PartLaws
+pub mod ReachedLaws
+pub mod SoundLaws
+pub mod Chosen

@@ -1,0 +1,3 @@
+pub mod Addressed
+pub mod Fitting
+pub mod Taken

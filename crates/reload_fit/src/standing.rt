@@ -1,0 +1,249 @@
+//! How operands stand.
+ghost use Rattle.std.specs.Prelude.{◌≡◌, ◌==◌, ◌++◌, [], IfOk, OnOk};
+ghost use Rattle.std.specs.List.{position_from, cons_option};
+ghost use Rattle.std.specs.Option.{option_copied};
+ghost use Rattle.c_eval.specs.Value.{same_tree};
+ghost use Rattle.rtx_tree.specs.Tree.{head_of};
+ghost use Rattle.reload_fit.specs.Addressed as addressed;
+ghost use Rattle.reload_fit.specs.Fitting as spec;
+
+use crate::addressed::{far_offset, on_register, slot_far};
+use crate::asked::{Asked, has_address_letter, has_digit, is_early, number_in, shares_register};
+use md_operand::is_far;
+use md_text::{Alternative, Member};
+use plain_data::{Items, Memory};
+use reload_moves::{Digit, Fitting, Needs, Standing};
+use reload_operands::{Base, Operand};
+use rtx_tree::{Code, Rtx, same};
+use std::alloc::Global;
+
+fn same_tree(x: &Rtx, y: &Rtx) -> bool
+    ensures { result ≡ same_tree x.now y.now }
+{
+    same(x, y)
+}
+
+fn is_memory(x: &Rtx) -> bool
+    ensures { result ≡ spec.is_memory_code (head_of x.now).code }
+{
+    matches!(x.code, Code::Mem)
+}
+
+fn has_address(asked: Option<&Alternative>, x: &Operand) -> bool
+    ensures { result ≡ spec.has_address (option_copied asked.entry) x.now }
+{
+    is_memory(&x.tree) || x.is_address || has_address_letter(asked)
+}
+
+/// Whether a slot holds the base of an operand's address.
+fn is_based(asked: Option<&Alternative>, x: &Operand) -> bool
+    ensures { result ≡ spec.is_based (option_copied asked.entry) x.now }
+{
+    x.base.is_some() && !x.is_operator && has_address(asked, x)
+}
+
+/// An operand with t3 in its address, where a slot holds its base or it is far.
+fn shown(alloc: Global, asked: Option<&Alternative>, x: &Operand) -> Result<Rtx, Memory>
+    ensures { IfOk result (λ tree. tree ≡ spec.shown (option_copied asked.entry) x.now) }
+{
+    if is_based(asked, x) || is_far(&x.tree) {
+        on_register(alloc, 28, x)
+    } else {
+        x.tree.copy(alloc)
+    }
+}
+
+fn clashes(asked: Option<&Alternative>, operands: &[Operand], x: &Operand) -> bool
+    ensures { result ≡ spec.clashes (option_copied asked.entry) operands.now x.now }
+{
+    is_early(asked) && (x.is_output || x.is_clobbered) && shares_register(operands, x)
+}
+
+fn is_part_of_slot(x: &Operand) -> bool
+    ensures { result ≡ spec.is_part_of_slot x.now }
+{
+    x.in_slot && x.in_lowpart
+}
+
+fn is_lost(x: &Operand) -> bool
+    ensures { result ≡ spec.is_lost x.now }
+{
+    x.is_operator && (x.is_scratch || is_far(&x.tree))
+}
+
+/// How an operand stands, by whether its constraint admits it.
+fn standing_by(
+    asked: Option<&Alternative>,
+    operands: &[Operand],
+    x: &Operand,
+    is_admitted: bool,
+) -> Standing
+    ensures { result ≡ spec.standing_by (option_copied asked.entry) operands.now x.now is_admitted }
+{
+    if clashes(asked, operands, x)
+        || is_part_of_slot(x)
+        || is_lost(x)
+        || (x.is_scratch && is_admitted)
+    {
+        return Standing::Moves;
+    }
+    if x.is_operator {
+        return Standing::Stays;
+    }
+    if is_admitted {
+        return if is_far(&x.tree) {
+            Standing::Far
+        } else {
+            Standing::Stays
+        };
+    }
+    if has_digit(asked) {
+        Standing::Tied
+    } else {
+        Standing::Moves
+    }
+}
+
+fn slot_far_of(base: Option<Base>) -> Option<i64>
+    ensures { result ≡ spec.slot_far_of base }
+{
+    match base {
+        Some(base) => slot_far(base),
+        None => None,
+    }
+}
+
+fn needs_of(asked: Option<&Alternative>, x: &Operand) -> Needs
+    ensures { result ≡ spec.needs_of (option_copied asked.entry) x.now }
+{
+    Needs {
+        is_input: x.is_input,
+        is_output: x.is_output,
+        has_base: is_based(asked, x),
+        slot_far: slot_far_of(x.base),
+        far: far_offset(&x.tree),
+    }
+}
+
+/// Where the operand with a number stands.
+fn place_of(operands: &[Operand], number: u32) -> Option<usize>
+    ensures { result ≡ position_from (λ y. y.number == number) 0 operands.now }
+{
+    operands.iter().position(|y| y.number == number)
+}
+
+fn is_same_at(operands: &[Operand], place: usize, x: &Operand) -> bool
+    ensures { result ≡ spec.is_same_at operands.now place x.now }
+{
+    match operands.get(place) {
+        Some(y) => !x.is_scratch && same_tree(&x.tree, &y.tree),
+        None => false,
+    }
+}
+
+fn digit_at(operands: &[Operand], x: &Operand, place: usize) -> Digit
+    ensures { result ≡ spec.digit_at operands.now x.now place }
+{
+    Digit {
+        place,
+        same: is_same_at(operands, place, x),
+    }
+}
+
+fn digit_of(operands: &[Operand], x: &Operand, number: u32) -> Option<Digit>
+    ensures { result ≡ spec.digit_of operands.now x.now number }
+{
+    match place_of(operands, number) {
+        Some(place) => Some(digit_at(operands, x, place)),
+        None => None,
+    }
+}
+
+fn digit_in(operands: &[Operand], x: &Operand, member: &Member) -> Option<Digit>
+    ensures { result ≡ spec.digit_in operands.now x.now member.now }
+{
+    match number_in(member) {
+        Some(number) => digit_of(operands, x, u32::from(number)),
+        None => None,
+    }
+}
+
+fn push_digit(
+    operands: &[Operand],
+    x: &Operand,
+    member: &Member,
+    digits: &mut Items<Digit>,
+) -> Result<(), Memory>
+    ensures { OnOk result (digits.new ≡ digits.old ++ cons_option (spec.digit_in operands.now x.now member.now) []) }
+{
+    match digit_in(operands, x, member) {
+        Some(digit) => digits.push(digit),
+        None => Ok(()),
+    }
+}
+
+fn push_digits(
+    operands: &[Operand],
+    x: &Operand,
+    members: &[Member],
+    digits: &mut Items<Digit>,
+) -> Result<(), Memory>
+    ensures { OnOk result (digits.new ≡ digits.old ++ spec.digits_among operands.now x.now members.now) }
+{
+    for member in members {
+        push_digit(operands, x, member, digits)?;
+    }
+    Ok(())
+}
+
+/// The operands that the digits of an operand name.
+fn digits_of(
+    alloc: Global,
+    asked: Option<&Alternative>,
+    operands: &[Operand],
+    x: &Operand,
+) -> Result<Items<Digit>, Memory>
+    ensures { IfOk result (λ digits. digits ≡ spec.digits_of (option_copied asked.entry) operands.now x.now) }
+{
+    let mut digits = Items::new(alloc);
+    match asked {
+        Some(a) => push_digits(operands, x, a.members.as_slice(), &mut digits)?,
+        None => (),
+    }
+    Ok(digits)
+}
+
+impl Asked<'_> {
+    fn is_admitted(&self, x: &Operand) -> Result<bool, Memory>
+        ensures { IfOk result (λ admitted. admitted ≡ spec.is_admitted (spec.asks_by self.now.desc.now self.now.form self.now.constraints.now self.now.alternative) x.now) }
+    {
+        let tree = shown(self.alloc, self.asked(x.number), x)?;
+        Ok(self.admits(x.number, &tree))
+    }
+
+    fn fitting_at(&self, place: usize, x: &Operand) -> Result<Fitting, Memory>
+        ensures { IfOk result (λ f. f ≡ spec.fitting_at (spec.asks_by self.now.desc.now self.now.form self.now.constraints.now self.now.alternative) self.now.operands.now place x.now) }
+    {
+        let is_admitted = self.is_admitted(x)?;
+        let asked = self.asked(x.number);
+        Ok(Fitting {
+            place,
+            standing: standing_by(asked, self.operands, x, is_admitted),
+            digits: digits_of(self.alloc, asked, self.operands, x)?,
+            needs: needs_of(asked, x),
+        })
+    }
+
+    /// How each operand stands in the alternative.
+    #[tactic(auto, using(crate::proofs::FittingLaws::fittings_next))]
+    pub fn fittings(&self) -> Result<Items<Fitting>, Memory>
+        ensures { IfOk result (λ fits. fits ≡ spec.fittings_of (spec.asks_by self.now.desc.now self.now.form self.now.constraints.now self.now.alternative) self.now.operands.now) }
+    {
+        let mut fits = Items::new(self.alloc);
+        for x in self.operands {
+            let fit = self.fitting_at(fits.len(), x)?;
+            fits.push(fit)?;
+        }
+        Ok(fits)
+    }
+}

@@ -30,8 +30,8 @@ fittings_next asks operands xs i x fits new f whole within is made pushed h =
     let rest = λ (n : ℕ). fittings_from asks operands n (drop (i + 1) xs) in
     let long : length new ≡ length fits + 1 = ap length pushed ∙ length-append fits (f ∷ []) in
     let here : fits ++ fittings_from asks operands (length fits) (drop i xs) ≡ fits ++ fitting_at asks operands (length fits) x ∷ rest (length fits + 1) =
-        at_drop_more (λ ys. fits ++ fittings_from asks operands (length fits) ys) xs i x within ∙
-        ap (λ (y : Operand). fits ++ fitting_at asks operands (length fits) y ∷ rest (length fits + 1)) (sym is) in
+    at_drop_more (λ ys. fits ++ fittings_from asks operands (length fits) ys) xs i x within ∙
+    ap (λ (y : Operand). fits ++ fitting_at asks operands (length fits) y ∷ rest (length fits + 1)) (sym is) in
     ap (λ (n : ℕ). new ++ rest n) long ∙
     (ap (λ (l : List Fitting). l ++ rest (length fits + 1)) pushed ∙
     (append_assoc fits (f ∷ []) (rest (length fits + 1)) ∙

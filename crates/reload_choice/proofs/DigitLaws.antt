@@ -35,7 +35,7 @@ same_alike : (x y z : Rtx) → same_tree x y ≡ true → same_tree y z ≡ same
 same_alike x y z same = one_answer (same_tree y z) (same_tree x z) (λ apart.
     let different : x ≡ y → ⊥ = λ e. apart (ap (λ (t : Rtx). same_tree t z) (sym e)) in
     let refused : false ≡ same_tree x y = tree_is x y false
-        (λ t. absurd (let never : ⊥ = cc in never), λ e. absurd (different e)) in
+    (λ t. absurd (let never : ⊥ = cc in never), λ e. absurd (different e)) in
     let never : ⊥ = cc in never)
 
 -- ---- digits
@@ -140,7 +140,7 @@ module _ (asks : Asks) (operands : List Operand) where
   are_within i f at =
       let found = fitting_here i f at in
       each_weaker (IsTrueOf operands found.0) (IsWithin (length (fittings_of asks operands)))
-          (λ d is. omega (arith, is.within, as_many)) f.digits (each_true i f at found.0 found.1)
+      (λ d is. omega (arith, is.within, as_many)) f.digits (each_true i f at found.0 found.1)
 
   -- whether the operand at a place is the same as a tree
   abbrev pub is_alike : Rtx → ℕ → Bool
@@ -156,9 +156,9 @@ module _ (asks : Asks) (operands : List Operand) where
       IsTrueOf operands x d → d.same ≡ true → is_alike tree d.place ≡ is_alike tree i
   alike_by tree i x of d is same =
       let tests = and_parts (not x.is_scratch) (option_map_or (λ y. same_tree x.tree y.tree)
-          (slice_get operands d.place) false) (sym is.same ∙ same) in
+      (slice_get operands d.place) false) (sym is.same ∙ same) in
       alike_at tree x (slice_get operands d.place) tests.1 ∙
-          sym (ap (λ (o : Option Operand). option_map_or (λ y. same_tree y.tree tree) o false) of)
+      sym (ap (λ (o : Option Operand). option_map_or (λ y. same_tree y.tree tree) o false) of)
 
   -- an operand and one that a digit of it names as the same are the same as the same trees
   pub are_alike : (tree : Rtx) (i : ℕ) (f : Fitting) →
@@ -167,5 +167,5 @@ module _ (asks : Asks) (operands : List Operand) where
   are_alike tree i f at =
       let found = fitting_here i f at in
       each_weaker (IsTrueOf operands found.0)
-          (λ d. d.same ≡ true → is_alike tree d.place ≡ is_alike tree i)
-          (alike_by tree i found.0 found.1) f.digits (each_true i f at found.0 found.1)
+      (λ d. d.same ≡ true → is_alike tree d.place ≡ is_alike tree i)
+      (alike_by tree i found.0 found.1) f.digits (each_true i f at found.0 found.1)

@@ -40,23 +40,23 @@ found_digit Has test (e ∷ more) each d found =
 
 -- what each link keeps, the holder keeps
 module _ {X : Type 0} (value : ℕ → X) (next : ℕ → ℕ) (keeps : (i : ℕ) → value (next i) ≡ value i)
-    where
-  end_keeps : (more : List Fitting) (i : ℕ) → value (end_of next more i) ≡ value i
-  end_keeps [] i = refl
-  end_keeps (f ∷ more) i = end_keeps more (next i) ∙ keeps i
+  where
+    end_keeps : (more : List Fitting) (i : ℕ) → value (end_of next more i) ≡ value i
+    end_keeps [] i = refl
+    end_keeps (f ∷ more) i = end_keeps more (next i) ∙ keeps i
 
-  min_keeps : (a b i : ℕ) → value a ≡ value i → value b ≡ value i → value (min a b) ≡ value i
-  min_keeps a b i first second = ⊎_elim
-      (λ less. let is : min a b ≡ a = omega (arith, less) in ap value is ∙ first)
-      (λ more. let is : min a b ≡ b = omega (arith, more) in ap value is ∙ second)
-      (cases_lt a b)
+    min_keeps : (a b i : ℕ) → value a ≡ value i → value b ≡ value i → value (min a b) ≡ value i
+    min_keeps a b i first second = ⊎_elim
+        (λ less. let is : min a b ≡ a = omega (arith, less) in ap value is ∙ first)
+        (λ more. let is : min a b ≡ b = omega (arith, more) in ap value is ∙ second)
+        (cases_lt a b)
 
-  least_keeps : (more : List Fitting) (least i : ℕ) → value least ≡ value i →
-      value (least_on next more least i) ≡ value i
-  least_keeps [] least i e = e
-  least_keeps (f ∷ more) least i e =
-      least_keeps more (min least (next i)) (next i)
-          (min_keeps least (next i) (next i) (e ∙ sym (keeps i)) refl) ∙ keeps i
+    least_keeps : (more : List Fitting) (least i : ℕ) → value least ≡ value i →
+        value (least_on next more least i) ≡ value i
+    least_keeps [] least i e = e
+    least_keeps (f ∷ more) least i e =
+        least_keeps more (min least (next i)) (next i)
+        (min_keeps least (next i) (next i) (e ∙ sym (keeps i)) refl) ∙ keeps i
 
 pub holder_keeps : {X : Type 0} (value : ℕ → X) (fits : List Fitting) (moved : List Bool) →
     ((i : ℕ) → value (link fits moved i) ≡ value i) →
@@ -64,7 +64,7 @@ pub holder_keeps : {X : Type 0} (value : ℕ → X) (fits : List Fitting) (moved
 holder_keeps value fits moved keeps i =
     let end = end_of (link fits moved) fits i in
     least_keeps value (link fits moved) keeps fits end end refl ∙
-        end_keeps value (link fits moved) keeps fits i
+    end_keeps value (link fits moved) keeps fits i
 
 -- ---- marks
 
@@ -89,24 +89,24 @@ module _ (fits : List Fitting) (moved : List Bool) (order : InOrder fits) (withi
       f.digits ≡ d ∷ more → is_marked moved d.place ≡ true
   first_marked i f d more at tied marked is =
       let bound : d.place < length fits =
-          (subst (EachDigit (IsWithin (length fits))) is (within i f at)).0 in
+      (subst (EachDigit (IsWithin (length fits))) is (within i f at)).0 in
       let named = there fits d.place bound in
       let torn = and_from (is_tied f.standing) (is_marked moved f.place || are_other moved f.digits)
-          tied (or_left (is_marked moved f.place) (are_other moved f.digits) marked) in
+      tied (or_left (is_marked moved f.place) (are_other moved f.digits) marked) in
       let first = ap (names_first d.place) is ∙ eq-eqb d.place d.place refl in
       let drawn = any_at (draws moved d.place) fits i f at
-          (and_from (is_torn moved f) (names_first d.place f.digits) torn first) in
+      (and_from (is_torn moved f) (names_first d.place f.digits) torn first) in
       let drawn_there = ap (is_drawn fits moved) (order d.place named.0 named.1) ∙ drawn in
       mark_is d.place named.0 named.1 ∙
       or_right (is_marked moved named.0.place)
-          (is_torn moved named.0 || is_drawn fits moved named.0.place)
-          (or_right (is_torn moved named.0) (is_drawn fits moved named.0.place) drawn_there)
+      (is_torn moved named.0 || is_drawn fits moved named.0.place)
+      (or_right (is_torn moved named.0) (is_drawn fits moved named.0.place) drawn_there)
 
   -- by its first digit, or else by the first that is kept
   named_mark : (i : ℕ) (f : Fitting) → slice_get fits i ≡ Some f → is_tied f.standing ≡ true →
       (t : Bool) → is_marked moved f.place ≡ t →
       is_marked moved
-          (unwrap_or (if t then first_of f.digits else kept_of moved f.digits) f.place) ≡ t
+      (unwrap_or (if t then first_of f.digits else kept_of moved f.digits) f.place) ≡ t
   named_mark i f at tied true marked = by_first f.digits refl
     where
       by_first : (ds : List Digit) → f.digits ≡ ds →
@@ -120,14 +120,14 @@ module _ (fits : List Fitting) (moved : List Bool) (order : InOrder fits) (withi
       by_kept None none = unmarked
       by_kept (Some d) found =
           let kept = (found_digit (IsWithin (length fits)) (is_kept moved) f.digits (within i f at)
-              d found).0 in
+          d found).0 in
           not-true (is_marked moved d.place)
-              (and_parts d.same (not (is_marked moved d.place)) kept).1
+          (and_parts d.same (not (is_marked moved d.place)) kept).1
 
   link_of_mark : (i : ℕ) (f : Fitting) → slice_get fits i ≡ Some f → (t : Bool) →
       is_tied f.standing ≡ t →
       is_marked moved (if t then unwrap_or (named_by moved f) f.place else f.place) ≡
-          is_marked moved f.place
+      is_marked moved f.place
   link_of_mark i f at true tied = named_mark i f at tied (is_marked moved f.place) refl
   link_of_mark i f at false loose = refl
 
@@ -170,7 +170,7 @@ module _ (fits : List Fitting) (moved : List Bool) (order : InOrder fits) (withi
         by_kept None none = ap value (order i f at)
         by_kept (Some d) found =
             let kept = found_digit (λ (d : Digit). d.same ≡ true → value d.place ≡ value i)
-                (is_kept moved) f.digits (same i f at) d found in
+            (is_kept moved) f.digits (same i f at) d found in
             kept.1 (and_parts d.same (not (is_marked moved d.place)) kept.0).0
 
     link_of_value : (i : ℕ) (f : Fitting) → slice_get fits i ≡ Some f →
@@ -178,8 +178,8 @@ module _ (fits : List Fitting) (moved : List Bool) (order : InOrder fits) (withi
         value (if t then unwrap_or (named_by moved f) f.place else f.place) ≡ value i
     link_of_value i f at unmarked true tied =
         ap (λ (t : Bool). value
-            (unwrap_or (if t then first_of f.digits else kept_of moved f.digits) f.place))
-            unmarked ∙
+        (unwrap_or (if t then first_of f.digits else kept_of moved f.digits) f.place))
+        unmarked ∙
         kept_value i f at unmarked
     link_of_value i f at unmarked false loose = ap value (order i f at)
 
@@ -208,11 +208,11 @@ module _ (fits : List Fitting) (moved : List Bool) (order : InOrder fits) (withi
     kept_together i j one unmarked =
         let also : is_marked moved j ≡ false = sym (marked_together i j one) ∙ unmarked in
         let alike : shown i ≡ shown j =
-            sym (holder_keeps shown fits moved link_shown i) ∙
-                (ap shown one ∙ holder_keeps shown fits moved link_shown j) in
+        sym (holder_keeps shown fits moved link_shown i) ∙
+        (ap shown one ∙ holder_keeps shown fits moved link_shown j) in
         let first : shown_by (is_marked moved i) i ≡ Some (value i) =
-            ap (λ (t : Bool). shown_by t i) unmarked in
+        ap (λ (t : Bool). shown_by t i) unmarked in
         let second : shown_by (is_marked moved j) j ≡ Some (value j) =
-            ap (λ (t : Bool). shown_by t j) also in
+        ap (λ (t : Bool). shown_by t j) also in
         let both : Some (value i) ≡ Some (value j) = sym first ∙ (alike ∙ second) in
         let end : value i ≡ value j = cc in end

@@ -93,7 +93,7 @@ module _ (asks : Asks) (operands : List Operand) where
   parts_together i j p q at_p at_q one =
       moved_here i p at_p ∙
       (marked_together fits moved (in_order asks operands) (are_within asks operands)
-          (moved_settled fits (in_order asks operands)) i j (one_holder i j p q at_p at_q one) ∙
+      (moved_settled fits (in_order asks operands)) i j (one_holder i j p q at_p at_q one) ∙
       sym (moved_here j q at_q))
 
   -- and those that aren't moved are the same
@@ -103,14 +103,14 @@ module _ (asks : Asks) (operands : List Operand) where
       same_tree x.tree y.tree ≡ true
   parts_kept i j p q x y at_p of_p at_q of_q one stays =
       let alike : is_alike asks operands y.tree i ≡ is_alike asks operands y.tree j =
-          kept_together fits moved (in_order asks operands) (are_within asks operands)
-              (moved_settled fits (in_order asks operands)) (is_alike asks operands y.tree)
-              (are_alike asks operands y.tree) i j
-              (one_holder i j p q at_p at_q one) (sym (moved_here i p at_p) ∙ stays) in
+      kept_together fits moved (in_order asks operands) (are_within asks operands)
+      (moved_settled fits (in_order asks operands)) (is_alike asks operands y.tree)
+      (are_alike asks operands y.tree) i j
+      (one_holder i j p q at_p at_q one) (sym (moved_here i p at_p) ∙ stays) in
       let at_x : is_alike asks operands y.tree i ≡ same_tree x.tree y.tree =
-          ap (λ (o : Option Operand). option_map_or (λ z. same_tree z.tree y.tree) o false)
-          (operand_here i p x at_p of_p) in
+      ap (λ (o : Option Operand). option_map_or (λ z. same_tree z.tree y.tree) o false)
+      (operand_here i p x at_p of_p) in
       let at_y : is_alike asks operands y.tree j ≡ same_tree y.tree y.tree =
-          ap (λ (o : Option Operand). option_map_or (λ z. same_tree z.tree y.tree) o false)
-          (operand_here j q y at_q of_q) in
+      ap (λ (o : Option Operand). option_map_or (λ z. same_tree z.tree y.tree) o false)
+      (operand_here j q y at_q of_q) in
       sym at_x ∙ (alike ∙ (at_y ∙ same_itself y.tree))

@@ -40,7 +40,7 @@ all_mapped : {X : Type 0} (test : X → Bool) (xs : List X) (i : ℕ) (x : X) �
     list_all (λ mark. mark) (map test xs) ≡ true → slice_get xs i ≡ Some x → test x ≡ true
 all_mapped test xs i x all at =
     all_at (λ mark. mark) (map test xs) i (test x) all
-        (slice_get-map test xs i ∙ ap (λ (o : Option _). option_map test o) at)
+    (slice_get-map test xs i ∙ ap (λ (o : Option _). option_map test o) at)
 
 marked_at : {X : Type 0} (test : X → Bool) (xs : List X) (i : ℕ) (x : X) →
     is_marked (map test xs) i ≡ true → slice_get xs i ≡ Some x → test x ≡ true
@@ -61,7 +61,7 @@ replaced_by : (given : Given) (place : ℕ) (x : Operand) → slice_get given.op
 replaced_by given place x of can =
     let marked = is_marked (formed_of given) place in
     let one = both (not x.is_operator)
-        (not x.is_hidden && (is_mode x.mode && (not x.in_lowpart && marked))) can in
+    (not x.is_hidden && (is_mode x.mode && (not x.in_lowpart && marked))) can in
     let two = both (not x.is_hidden) (is_mode x.mode && (not x.in_lowpart && marked)) one.1 in
     let three = both (is_mode x.mode) (not x.in_lowpart && marked) two.1 in
     let four = both (not x.in_lowpart) marked three.1 in
@@ -105,23 +105,23 @@ module _ (asks : Asks) (given : Given) (fits : List Fitting) (parts : List Part)
       let with_all = all_at (shares_with_all given.operands parts) parts i p good.0 at_p in
       let well = all_at (shares_well given.operands p) parts j q with_all at_q in
       let two =
-          second_of (share p q) (at_both given.operands p.place q.place may_share) well shares in
+      second_of (share p q) (at_both given.operands p.place q.place may_share) well shares in
       let here = λ (z : Operand).
-          option_map_or (may_share z) (slice_get given.operands q.place) false in
+      option_map_or (may_share z) (slice_get given.operands q.place) false in
       found_at (may_share x) (slice_get given.operands q.place) y
-          (found_at here (slice_get given.operands p.place) x two of_p) of_q
+      (found_at here (slice_get given.operands p.place) x two of_p) of_q
 
   pub replaced : (i : ℕ) (p : Part) (x : Operand) → slice_get parts i ≡ Some p →
       slice_get given.operands p.place ≡ Some x → p.is_moved ≡ true → CanBeReplaced given x
   replaced i p x at_p of_p moved =
       let may = all_mapped (part_may_move asks given.operands fits (formed_of given)) parts i p
-          suited.1 at_p in
+      suited.1 at_p in
       let at = second_of p.is_moved (may_move_at asks given.operands fits (formed_of given) p.place)
-          may moved in
+      may moved in
       let here = found_at (may_move asks given.operands fits (formed_of given) p.place)
-          (slice_get given.operands p.place) x at of_p in
+      (slice_get given.operands p.place) x at of_p in
       replaced_by given p.place x of_p (both (can_be_replaced (formed_of given) p.place x)
-          (takes_register asks given.operands fits p.place x.mode) here).0
+      (takes_register asks given.operands fits p.place x.mode) here).0
 
   pub well : (i : ℕ) (p : Part) (x : Operand) → slice_get parts i ≡ Some p →
       slice_get given.operands p.place ≡ Some x →
@@ -129,4 +129,4 @@ module _ (asks : Asks) (given : Given) (fits : List Fitting) (parts : List Part)
   well i p x at_p of_p =
       let here = all_at (part_is_good given) parts i p good.1 at_p in
       both (is_clear p x) (part_may_end given p x) (found_at (part_at_is_good given p)
-          (slice_get given.operands p.place) x here of_p)
+      (slice_get given.operands p.place) x here of_p)

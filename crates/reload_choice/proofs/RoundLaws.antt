@@ -96,7 +96,7 @@ module _ (step : List Bool → List Bool) (n : ℕ)
       sym (full_stays row (step row) (grow row long) (omega (arith, long, enough)))
   rounds_settle (f ∷ more) row long enough = ⊎_elim
       (λ e. let end : rounds step (f ∷ more) row ≡ row = rounds_stay (f ∷ more) row (sym e) in
-          ap step end ∙ (sym e ∙ sym end))
+      ap step end ∙ (sym e ∙ sym end))
       (λ gains. rounds_settle more (step row) (long_on row long) (omega (arith, gains, enough)))
       (more_or_same row (step row) (grow row long))
 
@@ -118,7 +118,7 @@ module _ (fits : List Fitting) (order : InOrder fits) where
       (λ i m. let at = there fits i (omega (arith, marked_within row i m, long)) in
       mark_of (is_moved_next fits row) fits i at.0 at.1 ∙
       or_left (is_marked row at.0.place) (is_torn row at.0 || is_drawn fits row at.0.place)
-          (ap (is_marked row) (order i at.0 at.1) ∙ m))
+      (ap (is_marked row) (order i at.0 at.1) ∙ m))
 
   pub moved_settled : round fits (moved_in fits) ≡ moved_in fits
   moved_settled = rounds_settle (round fits) (length fits) round_grows fits (those_that_move fits)

@@ -24,7 +24,7 @@ use Rattle.reload_choice.proofs.ReachedLaws.{CanBeReplaced, second_of, few, shar
 abbrev IsReached : Asks → Given → Type 0
 IsReached asks given =
     is_reachable asks given.operands given (fittings_of asks given.operands) (formed_of given)
-        (parts_of (fittings_of asks given.operands)) ≡ true
+    (parts_of (fittings_of asks given.operands)) ≡ true
 
 module _ (asks : Asks) (given : Given) (reached : IsReached asks given) where
   abbrev parts_here : List Part
@@ -73,9 +73,9 @@ module _ (asks : Asks) (given : Given) (reached : IsReached asks given) where
 sound_if : (asks : Asks) (given : Given) (constraints : List OperandConstraint) (alternative : ℕ)
     (t : Bool) (plan : Plan) →
     is_reachable asks given.operands given (fittings_of asks given.operands) (formed_of given)
-        (parts_of (fittings_of asks given.operands)) ≡ t →
+    (parts_of (fittings_of asks given.operands)) ≡ t →
     plan_if t constraints alternative (parts_of (fittings_of asks given.operands)) ≡ Some plan →
-        IsSoundPlan given plan
+    IsSoundPlan given plan
 sound_if asks given constraints alternative true plan reached is =
     let made = plan_with constraints alternative (parts_of (fittings_of asks given.operands)) in
     subst (IsSoundPlan given) (same_Some made plan is) (sound_parts asks given reached made.cost)
@@ -85,12 +85,12 @@ sound_if asks given constraints alternative false plan reached is =
 sound_by : (asks : Asks) (given : Given) (constraints : List OperandConstraint) (alternative : ℕ)
     (plan : Plan) →
     plan_by asks constraints given.operands given (formed_of given) alternative ≡ Some plan →
-        IsSoundPlan given plan
+    IsSoundPlan given plan
 sound_by asks given constraints alternative plan is =
     sound_if asks given constraints alternative
-        (is_reachable asks given.operands given (fittings_of asks given.operands) (formed_of given)
-            (parts_of (fittings_of asks given.operands)))
-        plan refl is
+    (is_reachable asks given.operands given (fittings_of asks given.operands) (formed_of given)
+    (parts_of (fittings_of asks given.operands)))
+    plan refl is
 
 -- the plan of an alternative is sound
 pub sound_at : (forms : List Entry) (form : ℕ) (given : Given) (alternative : ℕ) (plan : Plan) →

@@ -235,7 +235,6 @@ impl Asked<'_> {
     }
 
     /// How each operand stands in the alternative.
-    #[tactic(auto, using(crate::proofs::FittingLaws::fittings_next))]
     pub fn fittings(&self) -> Result<Items<Fitting>, Memory>
         ensures { IfOk result (λ fits. fits ≡ spec.fittings_of (spec.asks_by self.now.desc.now self.now.form self.now.constraints.now self.now.alternative) self.now.operands.now) }
     {

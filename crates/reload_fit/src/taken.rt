@@ -37,17 +37,19 @@ impl Asked<'_> {
         self.admits_through(fits, row, &x)
     }
 
+    fn takes_one(&self, fits: &[Fitting], row: &[bool], mode: Mode) -> bool
+        ensures { result ≡ spec.takes_one (fit.asks_by self.now.desc.now self.now.form self.now.constraints.now self.now.alternative) self.now.operands.now fits.now row.now mode }
+    {
+        self.takes(fits, row, mode, 28)
+            || (self.takes(fits, row, mode, 29)
+                || (self.takes(fits, row, mode, 30) || self.takes(fits, row, mode, 31)))
+    }
+
     /// Whether the constraint of the operand at a place admits one of t3 to t6 in a mode, by itself or through digits.
     pub fn takes_register(&self, fits: &[Fitting], place: usize, mode: Mode) -> Result<bool, Memory>
         ensures { IfOk result (λ taken. taken ≡ spec.takes_register (fit.asks_by self.now.desc.now self.now.form self.now.constraints.now self.now.alternative) self.now.operands.now fits.now place mode) }
     {
         let row = led_from(self.alloc, fits, place)?;
-        let row = row.as_slice();
-        Ok(
-            self.takes(fits, row, mode, 28)
-                || self.takes(fits, row, mode, 29)
-                || self.takes(fits, row, mode, 30)
-                || self.takes(fits, row, mode, 31),
-        )
+        Ok(self.takes_one(fits, row.as_slice(), mode))
     }
 }

@@ -1,4 +1,4 @@
--- What a function comes to with a frame is one answer, and what it comes to keeps what it does.
+-- What a function comes to with a frame is one answer.
 use Rattle.std.proofs.Common.{◌≡◌, ℕ, ◌<◌, ◌≤◌, true, List, [], ◌∷◌, ◌++◌, length, Ok, Err, refl, sym, ap, subst, ◌∙◌, arith}
 use Rattle.std.proofs.lemmas.List.Elements.{All-head, All-tail}
 use Rattle.rtx_tree.specs.declared.function.Function.{Function}
@@ -8,10 +8,7 @@ use Rattle.md_forms.specs.declared.form.Entry.{Entry}
 use Rattle.md_desc.specs.Recog.{NoneMatches}
 use Rattle.form_needs.specs.Needs.{output_facts}
 use Rattle.assign.specs.declared.places.Layout.{Layout}
-use Rattle.window_replace.specs.Natural.{RegistersAreNatural}
 use Rattle.frame_mean.specs.Frame.{framed_insns, with_insns, next_uid, IsFramed}
-use Rattle.frame_mean.specs.Keeps.{IsLaidOut, KeepsInFrame}
-use Rattle.frame_mean.proofs.Framed.{keeps_in_frame}
 use Rattle.pass_refusal.specs.Refused.{unmatched_insn}
 use Rattle.frame.specs.Framed.{Answer, most_frame, is_new, IsMatched, IsMatchedIfNew, AreMatched, IsFirstUnmatched, FrameComes}
 
@@ -72,13 +69,3 @@ frame_one forms f layout _ _ (FrameComes.framed g small framed matched) (FrameCo
     (subst (λ (k : Function). IsFirstUnmatched forms (next_uid f.insns) k.insns j) (framed_one layout f h g framed' framed) is)
 frame_one forms f layout _ _ (FrameComes.framed g small framed matched) (FrameComes.framed h small' framed' matched') =
     ap (λ (k : Function). Ok k) (framed_one layout f g h framed framed')
-
--- what it comes to, it is with a frame
-is_framed : (forms : List Entry) (f g : Function) (layout : Layout) (a : Answer) → a ≡ Ok g → FrameComes forms f layout a → IsFramed layout f g
-is_framed forms f g layout _ is (FrameComes.large large) = absurd (let no : ⊥ = cc in no)
-is_framed forms f g layout _ is (FrameComes.unmatched h i small framed first) = absurd (let no : ⊥ = cc in no)
-is_framed forms f g layout _ is (FrameComes.framed h small framed matched) = let same : h ≡ g = cc in subst (IsFramed layout f) same framed
-
-pub frame_keeps : (forms : List Entry) (f g : Function) (layout : Layout) → IsLaidOut f.locals layout → RegistersAreNatural f →
-    FrameComes forms f layout (Ok g) → KeepsInFrame f layout g
-frame_keeps forms f g layout out natural comes = keeps_in_frame f layout g out natural (is_framed forms f g layout (Ok g) refl comes)

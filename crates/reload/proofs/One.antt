@@ -34,7 +34,7 @@ module _ (forms : List Entry) where
   stuck_not : {P : Type 0} (moves before : List Rtx) (x : Rtx) → IsStuck forms moves before x → All (IsMatched forms) moves → P
   stuck_not moves before x a matched = all_clash before a.behind x (subst (All (IsMatched forms)) a.moves_are matched) a.unmatched
 
-  refusal_of : ℕ → List Rtx → Rtx → ReloadRefusal
+  abbrev refusal_of : ℕ → List Rtx → Rtx → ReloadRefusal
   refusal_of uid before x = refusal.Unmatched (uid + length before) x
 
   first_by : (uid : ℕ) (before before' behind behind' : List Rtx) (x y : Rtx) → before ++ x ∷ behind ≡ before' ++ y ∷ behind' →

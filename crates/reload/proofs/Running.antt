@@ -92,13 +92,13 @@ window_long uid i before x after =
     omega (arith, whole, front, back)
 
 module _ (forms : List Entry) (uid : ℕ) (i : Insn) (given : Given) (plan : Plan) where
-  before : List Rtx
+  abbrev before : List Rtx
   before = insns_before given.operands plan.parts
 
-  after : List Rtx
+  abbrev after : List Rtx
   after = insns_after given.operands plan.parts
 
-  new_pattern : Rtx
+  abbrev new_pattern : Rtx
   new_pattern = between given.pattern given.operands plan.parts given.insn
 
   pub is_between : (old front middle new : List Insn) (next end : ℕ) → AreMoved forms uid before old front next → middle ≡ front ++ with_pattern i new_pattern ∷ [] →

@@ -72,12 +72,21 @@ module _ (forms : List Entry) (homes : List HomeOf) (layout : Layout) (uid : ℕ
 
 -- ---- the function
 
-module _ (forms : List Entry) (homes : List HomeOf) (layout : Layout) (f : Function) (uid : ℕ) (is_next : uid ≡ next_uid f.insns) where
-  from_next : (answer : InsnAnswer) → ChainReloads forms homes layout uid f.insns answer → FunctionReloads forms homes layout f (function_of f answer)
-  from_next answer is = FunctionReloads.comes answer (subst (λ (n : ℕ). ChainReloads forms homes layout n f.insns answer) is_next is)
+module _ (forms : List Entry) (homes : List HomeOf) (layout : Layout) (f : Function) (uid : ℕ) (insns chain : List Insn)
+    (same : insns ≡ f.insns) (is_next : uid ≡ next_uid insns) (is_chain : chain ≡ f.insns) where
+  from_next : (answer : InsnAnswer) → ChainReloads forms homes layout uid chain answer →
+      FunctionReloads forms homes layout f (function_of f answer)
+  from_next answer made =
+      FunctionReloads.comes answer
+      (subst (λ (n : ℕ). ChainReloads forms homes layout n f.insns answer) (is_next ∙ ap next_uid same)
+      (subst (λ (js : List Insn). ChainReloads forms homes layout uid js answer) is_chain made))
 
-  pub reload_refused : (e : ReloadRefusal) → RefusesAs e (λ d. ChainReloads forms homes layout uid f.insns (Err d)) → RefusesAs e (λ d. FunctionReloads forms homes layout f (Err d))
-  reload_refused e r = refuses_map e (λ d. ChainReloads forms homes layout uid f.insns (Err d)) (λ d. FunctionReloads forms homes layout f (Err d)) (λ d is. from_next (Err d) is) r
+  pub reload_refused : (e : ReloadRefusal) → RefusesAs e (λ d. ChainReloads forms homes layout uid chain (Err d)) →
+      RefusesAs e (λ d. FunctionReloads forms homes layout f (Err d))
+  reload_refused e r =
+      refuses_map e (λ d. ChainReloads forms homes layout uid chain (Err d)) (λ d. FunctionReloads forms homes layout f (Err d))
+      (λ d made. from_next (Err d) made) r
 
-  pub reload_gave : (insns : List Insn) (g : Function) → g ≡ with_insns f insns → ChainReloads forms homes layout uid f.insns (Ok insns) → FunctionReloads forms homes layout f (Ok g)
-  reload_gave insns g is comes = subst (λ (h : Function). FunctionReloads forms homes layout f (Ok h)) (sym is) (from_next (Ok insns) comes)
+  pub reload_gave : (new : List Insn) (g : Function) → g ≡ with_insns f new → ChainReloads forms homes layout uid chain (Ok new) →
+      FunctionReloads forms homes layout f (Ok g)
+  reload_gave new g is made = subst (λ (h : Function). FunctionReloads forms homes layout f (Ok h)) (sym is) (from_next (Ok new) made)

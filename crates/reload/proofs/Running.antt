@@ -1,7 +1,7 @@
 -- Moves and instructions are added, one behind the other.
 use Rattle.std.proofs.Common.{◌≡◌, ℕ, suc, add-one, ◌+◌, ◌≤◌, ◌<◌, List, [], ◌∷◌, ◌++◌, length, take, drop, get_or, Result, Ok, Err, refl, sym, ap, subst, ◌∙◌, append_assoc, arith}
 use Rattle.std.specs.List.{All}
-use Rattle.std.proofs.lemmas.List.{append-nil, length-append, take-append-drop}
+use Rattle.std.proofs.lemmas.List.{append-nil, length-append, take-append-drop, drop_all}
 use Rattle.std.proofs.Math.Seq.{take-suc, drop-cons}
 use Rattle.std.proofs.lemmas.List.Elements.{All-nil, All-cons, All-append}
 use Rattle.rtx_tree.specs.declared.function.Function.{Function}
@@ -192,5 +192,8 @@ module _ (forms : List Entry) (homes : List HomeOf) (layout : Layout) (uid : ℕ
       RefusesAs e (λ d. InsnReloads forms homes layout next i (Err d)) → RefusesAs e (λ d. ChainReloads forms homes layout uid chain (Err d))
   makes_wrong_at k insns i next e within at makes r = makes_wrong insns (drop (k + 1) chain) i next e (subst (Makes insns next) (dropped_at chain k i within at) makes) r
 
-  pub makes_all : (insns : List Insn) (next : ℕ) → Makes insns next [] → ChainReloads forms homes layout uid chain (Ok insns)
-  makes_all insns next makes = subst (λ (all : List Insn). ChainReloads forms homes layout uid chain (Ok all)) (append-nil insns) (makes (Ok []) (ChainReloads.none next))
+  pub makes_all : (k : ℕ) (insns : List Insn) (next : ℕ) → length chain ≤ k → Makes insns next (drop k chain) →
+      ChainReloads forms homes layout uid chain (Ok insns)
+  makes_all k insns next past makes =
+      subst (λ (all : List Insn). ChainReloads forms homes layout uid chain (Ok all)) (append-nil insns)
+      (subst (Makes insns next) (drop_all k chain past) makes (Ok []) (ChainReloads.none next))

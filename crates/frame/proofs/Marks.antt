@@ -12,7 +12,8 @@ use Rattle.rtl_step.specs.Step as step
 use Rattle.rtl_chain.specs.End.{return_insn, IsFinished}
 use Rattle.pass_ready.specs.Left.{is_mark, marks, SameMarks}
 use Rattle.assign.specs.declared.places.Layout.{Layout}
-use Rattle.frame_mean.specs.Frame.{prologue, epilogue, plain_insns, return_with, leaving, left_uid, returns_by, returns, left_at_returns, next_uid, IsFramed}
+use Rattle.frame_mean.specs.Frame.{prologue, epilogue, plain_insns, return_with, leaving, left_uid, returns_by}
+use Rattle.frame_mean.specs.Frame.{returns, left_at_returns, next_uid, IsFramed}
 
 pub both_marks : (xs ys : List Insn) → marks (xs ++ ys) ≡ marks xs ++ marks ys
 both_marks xs ys = filter-append is_mark xs ys

@@ -14,7 +14,8 @@ use Rattle.frame.specs.Framed.{Answer, most_frame, is_new, IsMatched, IsMatchedI
 
 framed_one : (layout : Layout) (f g h : Function) → IsFramed layout f g → IsFramed layout f h → g ≡ h
 framed_one layout f g h a b =
-    a.framed_is ∙ ap (λ chain. with_insns f (framed_insns layout (next_uid f.insns) chain)) (finish_one f.insns a.chain b.chain a.finished b.finished) ∙
+    a.framed_is ∙ ap (λ chain. with_insns f (framed_insns layout (next_uid f.insns) chain))
+    (finish_one f.insns a.chain b.chain a.finished b.finished) ∙
     sym b.framed_is
 
 module _ (forms : List Entry) (first : ℕ) where
@@ -52,7 +53,8 @@ module _ (forms : List Entry) (first : ℕ) where
 too_far : {P : Type 0} (layout : Layout) → most_frame < layout.size → layout.size ≤ most_frame → P
 too_far layout large small = absurd (omega (arith, large, small))
 
-pub frame_one : (forms : List Entry) (f : Function) (layout : Layout) (a b : Answer) → FrameComes forms f layout a → FrameComes forms f layout b → a ≡ b
+pub frame_one : (forms : List Entry) (f : Function) (layout : Layout) (a b : Answer) → FrameComes forms f layout a →
+    FrameComes forms f layout b → a ≡ b
 frame_one forms f layout _ _ (FrameComes.large large) (FrameComes.large large') = refl
 frame_one forms f layout _ _ (FrameComes.large large) (FrameComes.unmatched g i small framed is) = too_far layout large small
 frame_one forms f layout _ _ (FrameComes.large large) (FrameComes.framed g small framed matched) = too_far layout large small

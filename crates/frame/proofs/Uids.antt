@@ -1,5 +1,6 @@
 -- Uids that differ still do when a function gets its frame: new instructions have those behind the greatest.
-use Rattle.std.proofs.Common.{◌≡◌, ℕ, ◌+◌, ◌≤◌, ◌<◌, Bool, true, false, List, [], ◌∷◌, ◌++◌, length, refl, sym, ap, subst, ◌∙◌, append_assoc, arith}
+use Rattle.std.proofs.Common.{◌≡◌, ℕ, ◌+◌, ◌≤◌, ◌<◌, Bool, true, false, List, [], ◌∷◌, ◌++◌, length, refl, sym, ap}
+use Rattle.std.proofs.Common.{subst, ◌∙◌, append_assoc, arith}
 use Rattle.std.specs.Prelude.{◌==◌, if◌then◌else◌}
 use Rattle.std.specs.List.{AllByRecursion, IsDistinct}
 use Rattle.std.proofs.lemmas.Bool.Decides.{nat_tests}
@@ -11,9 +12,12 @@ use Rattle.rtl_chain.specs.End.{return_insn, IsFinished}
 use Rattle.pass_ready.specs.Reloadable.{UidsDiffer}
 use Rattle.pass_ready.proofs.Places.{all_joined}
 use Rattle.assign.specs.declared.places.Layout.{Layout}
-use Rattle.frame_mean.specs.Frame.{prologue, epilogue, plain_insns, return_with, leaving, left_uid, returns, left_at_returns, next_uid, IsFramed}
+use Rattle.frame_mean.specs.Frame.{prologue, epilogue, plain_insns, return_with, leaving, left_uid, returns}
+use Rattle.frame_mean.specs.Frame.{left_at_returns, next_uid, IsFramed}
 use Rattle.frame_mean.proofs.Chain.{return_is}
-use Rattle.frame_mean.proofs.PlainUids.{Apart, Below, all_both, all_split, below_apart, distinct_back, uids_both, own_of, own_differs, own_apart, own_below, low_uids, plain_uids, plain_apart, plain_differ}
+use Rattle.frame_mean.proofs.PlainUids.{Apart, Below, all_both, all_split, below_apart, distinct_back, uids_both}
+use Rattle.frame_mean.proofs.PlainUids.{own_of, own_differs, own_apart, own_below, low_uids, plain_uids, plain_apart}
+use Rattle.frame_mean.proofs.PlainUids.{plain_differ}
 
 -- ---- the uids of a chain whose returns are made anew
 
@@ -27,9 +31,10 @@ IsFar x i = returns i ≡ false → is_ruled_kind i.kind ≡ true → (x == i.ui
 
 low_far : (x uid : ℕ) (insns : List Insn) → uid ≤ x → AllByRecursion (IsLow uid) insns → AllByRecursion (IsFar x) insns
 low_far x uid [] above low = tt
-low_far x uid (i ∷ insns) above low =
-    (λ stays ruled. let here : i.uid < uid = low.0 stays ruled in grind (arith, nat_tests, here, above),
-    low_far x uid insns above low.1)
+low_far x uid (i ∷ insns) above low = (
+  λ stays ruled. let here : i.uid < uid = low.0 stays ruled in grind (arith, nat_tests, here, above),
+  low_far x uid insns above low.1,
+)
 
 low_more : (n m : ℕ) (insns : List Insn) → n ≤ m → AllByRecursion (IsLow n) insns → AllByRecursion (IsLow m) insns
 low_more n m [] less low = tt
@@ -47,9 +52,10 @@ apart_far x i zs false apart ruled = absurd (let never : ⊥ = cc in never)
 all_far : (x : ℕ) (insns : List Insn) → Apart x (uids_of insns) → AllByRecursion (IsFar x) insns
 all_far x [] apart = tt
 all_far x (i ∷ insns) apart =
-    let here : Apart x (own_of (is_ruled_kind i.kind) i ++ uids_of insns) = subst (Apart x) (uids_both (i ∷ []) insns) apart in
-    (λ stays ruled. apart_far x i (uids_of insns) (is_ruled_kind i.kind) here ruled,
-    all_far x insns (all_split (λ y. (x == y) ≡ false) (own_of (is_ruled_kind i.kind) i) (uids_of insns) here).1)
+    let here : Apart x (own_of (is_ruled_kind i.kind) i ++ uids_of insns) = subst (Apart x) (uids_both (i ∷ []) insns) apart in (
+      λ stays ruled. apart_far x i (uids_of insns) (is_ruled_kind i.kind) here ruled,
+      all_far x insns (all_split (λ y. (x == y) ≡ false) (own_of (is_ruled_kind i.kind) i) (uids_of insns) here).1,
+    )
 
 -- ---- the frame is left
 

@@ -135,8 +135,8 @@ pub fn frame(
     ensures one { (forms : List Entry) (f : Function) (layout : Layout) (a b : Answer) →
         FrameComes forms f layout a → FrameComes forms f layout b → a ≡ b }
 
-    // In the frame of a layout in which all have a place of their own it does what the function does in one that others make and leave, and
-    // its caller finds sp, ra and s0 to s11 as they were.
+    // In the frame of a layout in which all have a place of their own it does what the function does in one that others
+    // make and leave, and its caller finds sp, ra and s0 to s11 as they were.
     ensures keeps { (forms : List Entry) (f g : Function) (layout : Layout) → IsLaidOut f.locals layout → RegistersAreNatural f →
         FrameComes forms f layout (Ok g) → KeepsInFrame f layout g }
 

@@ -1,5 +1,6 @@
 -- Uids that differ still do when a function's registers get homes: moves have those behind the greatest.
-use Rattle.std.proofs.Common.{◌≡◌, ℕ, ◌+◌, ◌≤◌, ◌<◌, Bool, true, false, List, [], ◌∷◌, ◌++◌, length, Ok, refl, sym, ap, subst, ◌∙◌, append_assoc, arith}
+use Rattle.std.proofs.Common.{◌≡◌, ℕ, ◌+◌, ◌≤◌, ◌<◌, Bool, true, false, List, [], ◌∷◌, ◌++◌, length, Ok, refl, sym}
+use Rattle.std.proofs.Common.{ap, subst, ◌∙◌, append_assoc, arith}
 use Rattle.std.specs.Prelude.{◌==◌}
 use Rattle.std.specs.List.{IsDistinct}
 use Rattle.rtx_tree.specs.declared.tree.Rtx.{Rtx}
@@ -12,7 +13,9 @@ use Rattle.pass_ready.specs.Reloadable.{UidsDiffer}
 use Rattle.assign.specs.declared.home.HomeOf.{HomeOf}
 use Rattle.assign.specs.declared.places.Layout.{Layout}
 use Rattle.frame_mean.specs.Frame.{plain_insns, next_uid}
-use Rattle.frame_mean.proofs.PlainUids.{Apart, Below, all_both, all_split, below_apart, below_more, distinct_back, uids_both, own_of, own_differs, own_apart, own_below, low_uids, plain_uids, plain_apart, plain_differ}
+use Rattle.frame_mean.proofs.PlainUids.{Apart, Below, all_both, all_split, below_apart, below_more, distinct_back}
+use Rattle.frame_mean.proofs.PlainUids.{uids_both, own_of, own_differs, own_apart, own_below, low_uids, plain_uids}
+use Rattle.frame_mean.proofs.PlainUids.{plain_apart, plain_differ}
 use Rattle.reload.specs.Reload.{window_by, FunctionReloads}
 use Rattle.reload.specs.Windows.{AreWindows}
 use Rattle.reload.proofs.Running.{window_long}
@@ -67,7 +70,7 @@ module _ (forms : List Entry) (homes : List HomeOf) (layout : Layout) where
       let later = plain_uids (uid + length a.before) a.after in
       let behind = chain_apart x next insns rest more (omega (arith, less, ends)) parts.1 in
       let after = all_both P later (uids_of rest)
-          (plain_apart x (uid + length a.before) a.after (omega (arith, less))) behind in
+      (plain_apart x (uid + length a.before) a.after (omega (arith, less))) behind in
       let own = all_both P (uids_of (i ∷ [])) (later ++ uids_of rest) parts.0 after in
       subst (Apart x) (sym (among_uids uid i window rest a))
       (all_both P (plain_uids uid a.before) (uids_of (i ∷ []) ++ (later ++ uids_of rest)) (plain_apart x uid a.before less) own)
@@ -109,8 +112,9 @@ module _ (forms : List Entry) (homes : List HomeOf) (layout : Layout) where
       let lows = all_split (λ u. u < uid) own (uids_of insns) (subst (Below uid) (uids_both (i ∷ []) insns) low) in
       let whole : IsDistinct ◌==◌ (own ++ uids_of insns) = subst (IsDistinct ◌==◌) (uids_both (i ∷ []) insns) differ in
       let behind = chain_differs next insns rest more (below_more uid next (uids_of insns) (omega (arith, ends)) lows.1)
-          (distinct_back own (uids_of insns) whole) in
-      window_differs uid next i insns window rest a free more lows.0 lows.1 (λ ruled. own_apart (is_ruled_kind i.kind) i (uids_of insns) ruled whole)
+      (distinct_back own (uids_of insns) whole) in
+      window_differs uid next i insns window rest a free more lows.0 lows.1
+      (λ ruled. own_apart (is_ruled_kind i.kind) i (uids_of insns) ruled whole)
       behind
 
 -- ---- a function

@@ -21,7 +21,8 @@ use Rattle.reload_choice.specs.Insns.{between, insns_before, insns_after}
 use Rattle.reload_choice.specs.Sound.{IsSoundPlan}
 use Rattle.reload_choice.proofs.SoundLaws.{sound_at}
 use Rattle.reload.specs.declared.refusal.ReloadRefusal.{ReloadRefusal}
-use Rattle.reload.specs.Reload.{with_homes, alone, given_by, window_by, IsMatch, InsnAnswer, MatchReloads, InsnReloads, chain_behind, ChainReloads, Answer, function_of, FunctionReloads}
+use Rattle.reload.specs.Reload.{with_homes, alone, given_by, window_by, IsMatch, InsnAnswer, MatchReloads}
+use Rattle.reload.specs.Reload.{InsnReloads, chain_behind, ChainReloads, Answer, function_of, FunctionReloads}
 use Rattle.reload.specs.Windows.{IsWindow, AreWindows, HasWindows}
 
 -- ---- an instruction

@@ -58,8 +58,8 @@ fn with_insns(f: Function, insns: Insns) -> Function
     }
 }
 
-/// The function with homes put in and moves where forms of the description ask for them. Moves take the uids after the greatest, in their order;
-/// uids past 32 bits find no memory. Homes and slots are in increasing number, as `assign` gives them.
+/// The function with homes put in and moves where forms of the description ask for them. Moves take the uids after the greatest, in
+/// their order; uids past 32 bits find no memory. Homes and slots are in increasing number, as `assign` gives them.
 ///
 /// # Errors
 ///

@@ -13,7 +13,7 @@ returns-in_err-try_all-clause-gives c =
     let a = c.args in
     let g = c.in_ok-g.g in
     let framed = framed_is a.desc.now a.f a.layout.now c.in_ok-whole.whole g c.in_ok-first.first c.as_slice.result.now
-        c.as_slice.ensures.value c.in_ok-first.ensures c.in_ok-whole.ensures c.in_ok-g.ensures in
+    c.as_slice.ensures.value c.in_ok-first.ensures c.in_ok-whole.ensures c.in_ok-g.ensures in
     rw (p.1, p.2)
     (refused a.desc.now a.f a.layout.now c.in_ok-whole.whole g c.in_ok-first.first c.as_slice.result.now c.as_slice.ensures.value
     c.in_ok-first.ensures c.as_slice-2.result.now c.in_err-try_all.field-0.0 c.as_slice-2.ensures.value
@@ -24,7 +24,7 @@ returns-clause-gives c =
     let a = c.args in
     let g = c.in_ok-g.g in
     let framed = framed_is a.desc.now a.f a.layout.now c.in_ok-whole.whole g c.in_ok-first.first c.as_slice.result.now
-        c.as_slice.ensures.value c.in_ok-first.ensures c.in_ok-whole.ensures c.in_ok-g.ensures in
+    c.as_slice.ensures.value c.in_ok-first.ensures c.in_ok-whole.ensures c.in_ok-g.ensures in
     gave a.desc.now a.f a.layout.now c.in_ok-whole.whole g c.in_ok-first.first c.as_slice.result.now c.as_slice.ensures.value
     c.in_ok-first.ensures c.as_slice-2.result.now c.in_ok-try_all.field-0 c.as_slice-2.ensures.value
     c.if-layout-gt-MOST_FRAME.false framed c.in_ok-try_all.ensures

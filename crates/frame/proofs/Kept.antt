@@ -1,4 +1,5 @@
--- What a function comes to with a frame keeps what the function does, its labels and barriers, and that uids differ.
+-- What a function comes to with a frame keeps what the function does, its labels and barriers, and
+-- that uids differ.
 use Rattle.std.proofs.Common.{◌≡◌, List, Ok, refl, subst}
 use Rattle.rtx_tree.specs.declared.function.Function.{Function}
 use Rattle.md_forms.specs.declared.form.Entry.{Entry}
@@ -17,13 +18,15 @@ module _ (forms : List Entry) (f g : Function) (layout : Layout) where
   framed_by : (a : Answer) → a ≡ Ok g → FrameComes forms f layout a → IsFramed layout f g
   framed_by _ is (FrameComes.large large) = absurd (let no : ⊥ = cc in no)
   framed_by _ is (FrameComes.unmatched h i small framed first) = absurd (let no : ⊥ = cc in no)
-  framed_by _ is (FrameComes.framed h small framed matched) = let same : h ≡ g = cc in subst (IsFramed layout f) same framed
+  framed_by _ is (FrameComes.framed h small framed matched) = let same : h ≡ g = cc in
+      subst (IsFramed layout f) same framed
 
   -- what it comes to, it is with a frame
   is_framed : FrameComes forms f layout (Ok g) → IsFramed layout f g
   is_framed comes = framed_by (Ok g) refl comes
 
-  pub frame_keeps : IsLaidOut f.locals layout → RegistersAreNatural f → FrameComes forms f layout (Ok g) → KeepsInFrame f layout g
+  pub frame_keeps : IsLaidOut f.locals layout → RegistersAreNatural f →
+      FrameComes forms f layout (Ok g) → KeepsInFrame f layout g
   frame_keeps out natural comes = keeps_in_frame f layout g out natural (is_framed comes)
 
   pub frame_marks : FrameComes forms f layout (Ok g) → SameMarks f g

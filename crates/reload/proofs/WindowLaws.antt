@@ -1,5 +1,6 @@
 -- What stands in the place of each instruction, once a function's registers have homes.
-use Rattle.std.proofs.Common.{◌≡◌, ℕ, ◌+◌, ◌&&◌, not, Bool, true, false, List, [], ◌∷◌, ◌++◌, length, Result, Ok, Err, refl, ap}
+use Rattle.std.proofs.Common.{◌≡◌, ℕ, ◌+◌, ◌&&◌, not, Bool, true, false, List, [], ◌∷◌, ◌++◌}
+use Rattle.std.proofs.Common.{length, Result, Ok, Err, refl, ap}
 use Rattle.std.specs.Prelude.{if◌then◌else◌, IfOk}
 use Rattle.rtx_tree.specs.declared.function.Function.{Function}
 use Rattle.rtx_tree.specs.declared.function.Insn.{Insn}
@@ -21,19 +22,22 @@ use Rattle.reload_choice.specs.Insns.{between, insns_before, insns_after}
 use Rattle.reload_choice.specs.Sound.{IsSoundPlan}
 use Rattle.reload_choice.proofs.SoundLaws.{sound_at}
 use Rattle.reload.specs.declared.refusal.ReloadRefusal.{ReloadRefusal}
-use Rattle.reload.specs.Reload.{with_homes, alone, given_by, window_by, IsMatch, InsnAnswer, MatchReloads}
-use Rattle.reload.specs.Reload.{InsnReloads, chain_behind, ChainReloads, Answer, function_of, FunctionReloads}
+use Rattle.reload.specs.Reload.{with_homes, alone, given_by, window_by, IsMatch, InsnAnswer}
+use Rattle.reload.specs.Reload.{MatchReloads, InsnReloads, chain_behind, ChainReloads, Answer}
+use Rattle.reload.specs.Reload.{function_of, FunctionReloads}
 use Rattle.reload.specs.Windows.{IsWindow, AreWindows, HasWindows}
 
 -- ---- an instruction
 
 -- the plan of the best alternative is sound
-chosen_sound : (forms : List Entry) (form : ℕ) (given : Given) (plan : Plan) → IsChosen forms form given plan → IsSoundPlan given plan
+chosen_sound : (forms : List Entry) (form : ℕ) (given : Given) (plan : Plan) →
+    IsChosen forms form given plan → IsSoundPlan given plan
 chosen_sound forms form given plan is = sound_at forms form given is.0 plan is.1.here
 
 module _ (forms : List Entry) (homes : List HomeOf) (layout : Layout) (uid : ℕ) (i : Insn) where
-  match_window : (form : ℕ) (pattern : Rtx) (found : Ops) (answer : InsnAnswer) → needs_form i ≡ true →
-      IsMatch forms layout i form pattern found → MatchReloads forms form (given_by homes layout i pattern found) uid i answer →
+  match_window : (form : ℕ) (pattern : Rtx) (found : Ops) (answer : InsnAnswer) →
+      needs_form i ≡ true → IsMatch forms layout i form pattern found →
+      MatchReloads forms form (given_by homes layout i pattern found) uid i answer →
       IfOk answer (IsWindow forms homes layout uid i)
   match_window form pattern found _ needs m (MatchReloads.unsatisfied none) = tt
   match_window form pattern found _ needs m (MatchReloads.stuck plan before x is stuck) = tt
@@ -41,10 +45,12 @@ module _ (forms : List Entry) (homes : List HomeOf) (layout : Layout) (uid : ℕ
       IsWindow.made form pattern found plan needs m
       (chosen_sound forms form (given_by homes layout i pattern found) plan is) matched
 
-  insn_window : (answer : InsnAnswer) → InsnReloads forms homes layout uid i answer → IfOk answer (IsWindow forms homes layout uid i)
+  insn_window : (answer : InsnAnswer) → InsnReloads forms homes layout uid i answer →
+      IfOk answer (IsWindow forms homes layout uid i)
   insn_window _ (InsnReloads.stays free) = IsWindow.stays free
   insn_window _ (InsnReloads.unmatched needs none) = tt
-  insn_window _ (InsnReloads.matched form pattern found answer needs m x) = match_window form pattern found answer needs m x
+  insn_window _ (InsnReloads.matched form pattern found answer needs m x) =
+      match_window form pattern found answer needs m x
 
 -- ---- a chain, and a function
 
@@ -57,12 +63,14 @@ module _ (forms : List Entry) (homes : List HomeOf) (layout : Layout) where
       AreWindows.one_more uid next i insns window rest is free more
   behind_windows uid next i insns window (Err e) is free more = tt
 
-  chain_windows : (uid : ℕ) (insns : List Insn) (answer : InsnAnswer) → ChainReloads forms homes layout uid insns answer →
+  chain_windows : (uid : ℕ) (insns : List Insn) (answer : InsnAnswer) →
+      ChainReloads forms homes layout uid insns answer →
       IfOk answer (AreWindows forms homes layout uid insns)
   chain_windows _ _ _ (ChainReloads.none uid) = AreWindows.none uid
   chain_windows _ _ _ (ChainReloads.refused uid i insns e x) = tt
   chain_windows _ _ _ (ChainReloads.goes_on uid next i insns window rest x free more) =
-      behind_windows uid next i insns window rest (insn_window forms homes layout uid i (Ok window) x) free
+      behind_windows uid next i insns window rest
+      (insn_window forms homes layout uid i (Ok window) x) free
       (chain_windows next insns rest more)
 
   function_windows : (f : Function) (answer : InsnAnswer) →
@@ -83,7 +91,8 @@ reload_windows forms homes layout f g is = comes_windows forms homes layout f (O
 
 -- ---- what a window is
 
--- the instruction with another pattern between moves; a label and a barrier have none and are as they were
+-- the instruction with another pattern between moves; a label and a barrier have none and are as
+-- they were
 pub record IsAmong (uid : ℕ) (i : Insn) (window : List Insn) : Type 0 where
   pub before : List Rtx
   pub pattern : Rtx
@@ -91,7 +100,8 @@ pub record IsAmong (uid : ℕ) (i : Insn) (window : List Insn) : Type 0 where
   pub window_is : window ≡ window_by uid i before pattern after
   pub mark_stays : is_mark i.kind ≡ true → pattern ≡ i.pattern
 
-mark_or_kind : {P : Type 0} (kind : Kind) (note : Bool) → is_mark kind ≡ true → (is_kind kind && not note) ≡ true → P
+mark_or_kind : {P : Type 0} (kind : Kind) (note : Bool) → is_mark kind ≡ true →
+    (is_kind kind && not note) ≡ true → P
 mark_or_kind Plain note mark needs = absurd (let never : ⊥ = cc in never)
 mark_or_kind Jump note mark needs = absurd (let never : ⊥ = cc in never)
 mark_or_kind Call note mark needs = absurd (let never : ⊥ = cc in never)
@@ -102,7 +112,8 @@ mark_or_kind Barrier note mark needs = absurd (let never : ⊥ = cc in never)
 mark_needs : {P : Type 0} (i : Insn) → is_mark i.kind ≡ true → needs_form i ≡ true → P
 mark_needs i mark needs = mark_or_kind i.kind (is_note (head_of i.pattern).code) mark needs
 
-pub among : (forms : List Entry) (homes : List HomeOf) (layout : Layout) (uid : ℕ) (i : Insn) (window : List Insn) →
+pub among : (forms : List Entry) (homes : List HomeOf) (layout : Layout) (uid : ℕ) (i : Insn)
+    (window : List Insn) →
     IsWindow forms homes layout uid i window → IsAmong uid i window
 among forms homes layout uid i _ (IsWindow.stays free) = record {
   before = [];

@@ -6,5 +6,6 @@ pub returns-in_err-try_insn : goal.returns-in_err-try_insn
 returns-in_err-try_insn c =
     let p = err_from_is_err_and c.from_residual.result c.from_residual.ensures.1 in
     rw (p.1, p.2)
-    (refused_at c.args.desc.now c.args.first c.args.insns.now c.loop-insn.insn-index c.insn-item.result c.in_err-try_insn.field-0.0
+    (refused_at c.args.desc.now c.args.first c.args.insns.now c.loop-insn.insn-index
+    c.insn-item.result c.in_err-try_insn.field-0.0
     c.loop-insn-test.true c.insn-item.is c.loop-insn.invariant c.in_err-try_insn.ensures)

@@ -1,8 +1,9 @@
 -- New instructions are tried, one behind the other.
-use Rattle.std.proofs.Common.{◌≡◌, ℕ, suc, add-one, ◌+◌, ◌<◌, ◌≤◌, true, false, List, [], ◌∷◌, ◌++◌}
+use Rattle.std.proofs.Common.{◌≡◌, ℕ, suc, add-one, ◌+◌, ◌<◌, ◌≤◌, true, List, [], ◌∷◌, ◌++◌}
 use Rattle.std.proofs.Common.{length, take, drop, get_or, Ok, Err, sym, ap, subst, ◌∙◌, arith}
 use Rattle.std.proofs.lemmas.Bool.Decides.{nat_tests}
-use Rattle.std.proofs.lemmas.List.{take-append-drop}
+use Rattle.std.proofs.lemmas.List.{take-append-drop, take_more, take_all}
+use Rattle.std.proofs.lemmas.List.Elements.{All-nil, All-cons, All-append}
 use Rattle.std.proofs.Math.Seq.{drop-cons}
 use Rattle.rtx_tree.specs.declared.function.Function.{Function}
 use Rattle.rtx_tree.specs.declared.function.Insn.{Insn}
@@ -14,7 +15,7 @@ use Rattle.pass_refusal.specs.declared.refusal.PassRefusal.{PassRefusal}
 use Rattle.pass_refusal.proofs.Refusing.{refuses_map}
 use Rattle.frame.specs.Framed.{is_new, most_frame, IsMatchedIfNew, AreMatched, FrameComes}
 use Rattle.frame.specs.Framed.{too_large}
-use Rattle.frame.specs.machine.Steps.{Finishes, Tried, RefusesInsn, RefusesFirst, TriesInsn}
+use Rattle.frame.specs.machine.Steps.{Finishes, Tried, RefusesInsn, RefusesFirst}
 use Rattle.frame.specs.machine.Steps.{TriesAll}
 
 -- an instruction that is not new need not be matched
@@ -50,6 +51,21 @@ parted_at insns k i within is =
     sym (take-append-drop k insns) ∙
     ap (λ (behind : List Insn). take k insns ++ behind)
     (rw add-one (drop-cons insns k i within ∙ ap (λ (j : Insn). j ∷ drop (suc k) insns) (sym is)))
+
+-- as far as a loop has come
+pub matched_more : (forms : List Entry) (first : ℕ) (insns : List Insn) (k : ℕ) (i : Insn) →
+    k < length insns → i ≡ get_or insns k i → AreMatched forms first (take k insns) →
+    IsMatchedIfNew forms first i → AreMatched forms first (take (k + 1) insns)
+matched_more forms first insns k i within is matched one =
+    subst (AreMatched forms first)
+    (sym (take_more insns k i within ∙ ap (λ (j : Insn). take k insns ++ j ∷ []) (sym is)))
+    (All-append (IsMatchedIfNew forms first) (take k insns) (i ∷ []) matched
+    (All-cons (IsMatchedIfNew forms first) i [] one (All-nil (IsMatchedIfNew forms first))))
+
+pub matched_all : (forms : List Entry) (first : ℕ) (insns : List Insn) (k : ℕ) → length insns ≤ k →
+    AreMatched forms first (take k insns) → AreMatched forms first insns
+matched_all forms first insns k past matched =
+    subst (AreMatched forms first) (take_all k insns past) matched
 
 pub refused_at : (forms : List Entry) (first : ℕ) (insns : List Insn) (k : ℕ) (i : Insn)
     (e : PassRefusal) → k < length insns →

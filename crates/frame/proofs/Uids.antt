@@ -16,7 +16,7 @@ use Rattle.assign.specs.declared.places.Layout.{Layout}
 use Rattle.frame_mean.specs.Frame.{prologue, epilogue, plain_insns, return_with, leaving, left_uid}
 use Rattle.frame_mean.specs.Frame.{returns, left_at_returns, next_uid, IsFramed}
 use Rattle.frame_mean.proofs.Chain.{return_is}
-use Rattle.frame_mean.proofs.PlainUids.{Apart, Below, all_both, all_split, below_apart}
+use Rattle.frame_mean.proofs.PlainUids.{Apart, Below, all_both, all_split}
 use Rattle.frame_mean.proofs.PlainUids.{distinct_back, uids_both, own_of, own_differs, own_apart}
 use Rattle.frame_mean.proofs.PlainUids.{own_below, low_uids, plain_uids, plain_apart, plain_differ}
 

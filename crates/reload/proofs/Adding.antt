@@ -1,6 +1,6 @@
 -- What an instruction comes to is added.
-use Rattle.std.proofs.Common.{◌≡◌, ℕ, ◌+◌, true, false, List, [], ◌∷◌, ◌++◌, length, get_or, Result, Ok, Err, refl}
-use Rattle.std.proofs.Common.{sym, ap, subst, ◌∙◌, arith}
+use Rattle.std.proofs.Common.{◌≡◌, ℕ, true, false, List, [], ◌∷◌, ◌++◌, length, get_or, Ok, Err}
+use Rattle.std.proofs.Common.{refl, sym, ap, subst, ◌∙◌}
 use Rattle.rtx_tree.specs.declared.function.Function.{Function}
 use Rattle.rtx_tree.specs.declared.function.Insn.{Insn}
 use Rattle.rtx_tree.specs.declared.tree.Rtx.{Rtx}
@@ -19,8 +19,9 @@ use Rattle.reload_choice.specs.Choice.{IsChosen, NoneReaches}
 use Rattle.reload.specs.declared.refusal.ReloadRefusal.{ReloadRefusal}
 use Rattle.reload.specs.declared.refusal.ReloadRefusal.TheVariants as refusal
 use Rattle.reload.specs.Outcome.{RefusesAs}
-use Rattle.reload.specs.Reload.{placed, alone, given_of, patterns_at, moves_of, window_of, InsnAnswer, MatchReloads}
-use Rattle.reload.specs.Reload.{InsnReloads, ChainReloads, function_of, FunctionReloads}
+use Rattle.reload.specs.Reload.{placed, alone, given_of, patterns_at, moves_of, window_of}
+use Rattle.reload.specs.Reload.{InsnAnswer, MatchReloads, InsnReloads, ChainReloads, function_of}
+use Rattle.reload.specs.Reload.{FunctionReloads}
 use Rattle.reload.specs.machine.Added.{Added, AreStuck, AddsWindow, IsAdded, Adds}
 use Rattle.reload.proofs.Matching.{pattern_one}
 use Rattle.reload.proofs.Running.{refuses_map, adds_map}

@@ -1,29 +1,25 @@
 -- Moves and instructions are added, one behind the other.
 use Rattle.std.proofs.Common.{◌≡◌, ℕ, suc, add-one, ◌+◌, ◌≤◌, ◌<◌, List, [], ◌∷◌, ◌++◌, length, take, drop, get_or}
-use Rattle.std.proofs.Common.{Result, Ok, Err, refl, sym, ap, subst, ◌∙◌, append_assoc, arith}
-use Rattle.std.specs.List.{All}
+use Rattle.std.proofs.Common.{Ok, Err, refl, sym, ap, subst, ◌∙◌, append_assoc, arith}
 use Rattle.std.proofs.lemmas.List.{append-nil, length-append, take-append-drop, drop_all}
 use Rattle.std.proofs.Math.Seq.{take-suc, drop-cons}
 use Rattle.std.proofs.lemmas.List.Elements.{All-nil, All-cons, All-append}
-use Rattle.rtx_tree.specs.declared.function.Function.{Function}
 use Rattle.rtx_tree.specs.declared.function.Insn.{Insn}
 use Rattle.rtx_tree.specs.declared.tree.Rtx.{Rtx}
 use Rattle.rtx_tree.specs.Patterns.{with_pattern}
 use Rattle.md_forms.specs.declared.form.Entry.{Entry}
-use Rattle.md_desc.specs.Recog.{NoneMatches}
-use Rattle.form_needs.specs.Needs.{lower_facts}
 use Rattle.assign.specs.declared.home.HomeOf.{HomeOf}
 use Rattle.assign.specs.declared.places.Layout.{Layout}
-use Rattle.frame_mean.specs.Frame.{plain_with, plain_insns, next_uid}
+use Rattle.frame_mean.specs.Frame.{plain_with, plain_insns}
 use Rattle.reload_choice.specs.declared.given.Given.{Given}
 use Rattle.reload_choice.specs.declared.given.Plan.{Plan}
 use Rattle.reload_choice.specs.Insns.{between, insns_before, insns_after}
 use Rattle.reload.specs.declared.refusal.ReloadRefusal.{ReloadRefusal}
 use Rattle.reload.specs.declared.refusal.ReloadRefusal.TheVariants as refusal
-use Rattle.reload.specs.Outcome.{RefusesAs, Gives}
-use Rattle.reload.specs.Reload.{moves_of, window_by, window_of, IsMatched, IsStuck, InsnAnswer, InsnReloads}
-use Rattle.reload.specs.Reload.{chain_behind, ChainReloads, Answer, function_of, FunctionReloads}
-use Rattle.reload.specs.machine.Added.{Added, IsMoved, IsUnmoved, AreMoved, AreStuck, AddsMove, AddsMoves, IsBetween}
+use Rattle.reload.specs.Outcome.{RefusesAs}
+use Rattle.reload.specs.Reload.{moves_of, window_by, IsMatched, InsnAnswer, InsnReloads}
+use Rattle.reload.specs.Reload.{chain_behind, ChainReloads}
+use Rattle.reload.specs.machine.Added.{Added, IsMoved, IsUnmoved, AreMoved, AreStuck, AddsMoves, IsBetween}
 use Rattle.reload.specs.machine.Added.{AddsWindow, IsAdded, Adds}
 
 -- a refusal of one is a refusal of the other

@@ -1,6 +1,6 @@
 -- What stands in the place of each instruction, once a function's registers have homes.
-use Rattle.std.proofs.Common.{◌≡◌, ℕ, ◌+◌, ◌&&◌, not, Bool, true, false, List, [], ◌∷◌, ◌++◌}
-use Rattle.std.proofs.Common.{length, Result, Ok, Err, refl, ap}
+use Rattle.std.proofs.Common.{◌≡◌, ℕ, ◌+◌, ◌&&◌, not, Bool, true, List, [], ◌∷◌, length, Ok, Err}
+use Rattle.std.proofs.Common.{refl, ap}
 use Rattle.std.specs.Prelude.{if◌then◌else◌, IfOk}
 use Rattle.rtx_tree.specs.declared.function.Function.{Function}
 use Rattle.rtx_tree.specs.declared.function.Insn.{Insn}
@@ -21,7 +21,6 @@ use Rattle.reload_choice.specs.Choice.{IsChosen}
 use Rattle.reload_choice.specs.Insns.{between, insns_before, insns_after}
 use Rattle.reload_choice.specs.Sound.{IsSoundPlan}
 use Rattle.reload_choice.proofs.SoundLaws.{sound_at}
-use Rattle.reload.specs.declared.refusal.ReloadRefusal.{ReloadRefusal}
 use Rattle.reload.specs.Reload.{with_homes, alone, given_by, window_by, IsMatch, InsnAnswer}
 use Rattle.reload.specs.Reload.{MatchReloads, InsnReloads, chain_behind, ChainReloads, Answer}
 use Rattle.reload.specs.Reload.{function_of, FunctionReloads}

@@ -2,7 +2,7 @@
 -- "Pattern Ordering" and "Multiple Alternative Constraints". Each instruction is matched anew with its references to the
 -- frame put in, while its registers are still those that predicates know; then it has its homes, and moves before it and
 -- behind it.
-use Rattle.std.specs.Prelude.{◌≡◌, ℕ, ◌+◌, Bool, true, false, if◌then◌else◌, List, [], ◌∷◌, ◌++◌, length, Some, Result, Ok, Err, slice_get}
+use Rattle.std.specs.Prelude.{◌≡◌, ℕ, ◌+◌, true, false, if◌then◌else◌, List, [], ◌∷◌, ◌++◌, length, Result, Ok, Err, slice_get}
 use Rattle.std.specs.Option.{option_map_or}
 use Rattle.std.specs.List.{All}
 use Rattle.rtx_tree.specs.declared.function.Function.{Function}

@@ -1,4 +1,4 @@
-use Rattle.std.proofs.Common.{◌≡◌, ◌∙◌, ap, ◌++◌, [], ◌∷◌, arith}
+use Rattle.std.proofs.Common.{◌∙◌, ap, ◌++◌, [], ◌∷◌, arith}
 use Rattle.rtx_tree.specs.declared.tree.Rtx.{Rtx}
 use Rattle.frame_mean.specs.Frame.{plain_with}
 use Rattle.frame.proofs.Pushes.{put_more}

@@ -1,6 +1,5 @@
-use Rattle.std.proofs.Common.{◌≡◌, ◌∙◌, ap, length, List, get_or, arith}
+use Rattle.std.proofs.Common.{◌∙◌, ap, length, List, get_or, arith}
 use Rattle.rtx_tree.specs.declared.tree.Rtx.{Rtx}
-use Rattle.reload.specs.Reload.{patterns_at}
 use Rattle.reload.proofs.Adding.{has_pattern, match_added}
 use Rattle.reload.proofs.insn.add_match.Goals as goal
 

@@ -1,5 +1,5 @@
--- What a function comes to with a frame is one answer, and what it comes to keeps what it does.
-use Rattle.std.proofs.Common.{◌≡◌, ℕ, ◌<◌, ◌≤◌, true, List, [], ◌∷◌, ◌++◌, length, Ok, Err, refl, sym, ap, subst, ◌∙◌, arith}
+-- What a function comes to with a frame is one answer.
+use Rattle.std.proofs.Common.{◌≡◌, ℕ, ◌<◌, ◌≤◌, true, List, [], ◌∷◌, ◌++◌, Ok, Err, refl, sym, ap, subst, ◌∙◌, arith}
 use Rattle.std.proofs.lemmas.List.Elements.{All-head, All-tail}
 use Rattle.rtx_tree.specs.declared.function.Function.{Function}
 use Rattle.rtx_tree.specs.declared.function.Insn.{Insn}
@@ -8,16 +8,14 @@ use Rattle.md_forms.specs.declared.form.Entry.{Entry}
 use Rattle.md_desc.specs.Recog.{NoneMatches}
 use Rattle.form_needs.specs.Needs.{output_facts}
 use Rattle.assign.specs.declared.places.Layout.{Layout}
-use Rattle.window_replace.specs.Natural.{RegistersAreNatural}
 use Rattle.frame_mean.specs.Frame.{framed_insns, with_insns, next_uid, IsFramed}
-use Rattle.frame_mean.specs.Keeps.{IsLaidOut, KeepsInFrame}
-use Rattle.frame_mean.proofs.Framed.{keeps_in_frame}
 use Rattle.pass_refusal.specs.Refused.{unmatched_insn}
-use Rattle.frame.specs.Framed.{Answer, most_frame, is_new, IsMatched, IsMatchedIfNew, AreMatched, IsFirstUnmatched, FrameComes}
+use Rattle.frame.specs.Framed.{Answer, most_frame, is_new, IsMatchedIfNew, AreMatched, IsFirstUnmatched, FrameComes}
 
 framed_one : (layout : Layout) (f g h : Function) → IsFramed layout f g → IsFramed layout f h → g ≡ h
 framed_one layout f g h a b =
-    a.framed_is ∙ ap (λ chain. with_insns f (framed_insns layout (next_uid f.insns) chain)) (finish_one f.insns a.chain b.chain a.finished b.finished) ∙
+    a.framed_is ∙ ap (λ chain. with_insns f (framed_insns layout (next_uid f.insns) chain))
+    (finish_one f.insns a.chain b.chain a.finished b.finished) ∙
     sym b.framed_is
 
 module _ (forms : List Entry) (first : ℕ) where
@@ -55,7 +53,8 @@ module _ (forms : List Entry) (first : ℕ) where
 too_far : {P : Type 0} (layout : Layout) → most_frame < layout.size → layout.size ≤ most_frame → P
 too_far layout large small = absurd (omega (arith, large, small))
 
-pub frame_one : (forms : List Entry) (f : Function) (layout : Layout) (a b : Answer) → FrameComes forms f layout a → FrameComes forms f layout b → a ≡ b
+pub frame_one : (forms : List Entry) (f : Function) (layout : Layout) (a b : Answer) → FrameComes forms f layout a →
+    FrameComes forms f layout b → a ≡ b
 frame_one forms f layout _ _ (FrameComes.large large) (FrameComes.large large') = refl
 frame_one forms f layout _ _ (FrameComes.large large) (FrameComes.unmatched g i small framed is) = too_far layout large small
 frame_one forms f layout _ _ (FrameComes.large large) (FrameComes.framed g small framed matched) = too_far layout large small
@@ -72,13 +71,3 @@ frame_one forms f layout _ _ (FrameComes.framed g small framed matched) (FrameCo
     (subst (λ (k : Function). IsFirstUnmatched forms (next_uid f.insns) k.insns j) (framed_one layout f h g framed' framed) is)
 frame_one forms f layout _ _ (FrameComes.framed g small framed matched) (FrameComes.framed h small' framed' matched') =
     ap (λ (k : Function). Ok k) (framed_one layout f g h framed framed')
-
--- what it comes to, it is with a frame
-is_framed : (forms : List Entry) (f g : Function) (layout : Layout) (a : Answer) → a ≡ Ok g → FrameComes forms f layout a → IsFramed layout f g
-is_framed forms f g layout _ is (FrameComes.large large) = absurd (let no : ⊥ = cc in no)
-is_framed forms f g layout _ is (FrameComes.unmatched h i small framed first) = absurd (let no : ⊥ = cc in no)
-is_framed forms f g layout _ is (FrameComes.framed h small framed matched) = let same : h ≡ g = cc in subst (IsFramed layout f) same framed
-
-pub frame_keeps : (forms : List Entry) (f g : Function) (layout : Layout) → IsLaidOut f.locals layout → RegistersAreNatural f →
-    FrameComes forms f layout (Ok g) → KeepsInFrame f layout g
-frame_keeps forms f g layout out natural comes = keeps_in_frame f layout g out natural (is_framed forms f g layout (Ok g) refl comes)

@@ -1,5 +1,6 @@
 -- Patterns and items, and one more behind them.
-use Rattle.std.proofs.Common.{◌≡◌, ℕ, ◌+◌, ◌<◌, if◌then◌else◌, Bool, true, false, List, [], ◌∷◌, ◌++◌, length, take, get_or, refl, sym, ap, ◌∙◌, append_assoc, arith}
+use Rattle.std.proofs.Common.{◌≡◌, ℕ, ◌+◌, ◌<◌, if◌then◌else◌, Bool, true, false, List, [], ◌∷◌, ◌++◌, length, take}
+use Rattle.std.proofs.Common.{get_or, refl, sym, ap, ◌∙◌, append_assoc, arith}
 use Rattle.std.proofs.lemmas.List.{append-nil, take_more, length-take-le}
 use Rattle.rtx_tree.specs.declared.function.Insn.{Insn}
 use Rattle.rtx_tree.specs.declared.tree.Rtx.{Rtx}
@@ -13,7 +14,8 @@ plain_push uid [] x next is = let e : uid ≡ next = omega (arith, is) in ap (λ
 plain_push uid (y ∷ ys) x next is =
     ap (λ (more : List Insn). plain_with uid y ∷ more) (plain_push (uid + 1) ys x next (omega (arith, is)))
 
-by_item : (layout : Layout) (uid : ℕ) (b : Bool) (i : Insn) → returns i ≡ b → left_at_returns layout uid (i ∷ []) ≡ item_by (epilogue layout) uid i
+by_item : (layout : Layout) (uid : ℕ) (b : Bool) (i : Insn) → returns i ≡ b →
+    left_at_returns layout uid (i ∷ []) ≡ item_by (epilogue layout) uid i
 by_item layout uid true i is =
     ap (λ b. if b then leaving layout uid ++ [] else i ∷ []) is ∙ append-nil (leaving layout uid) ∙
     sym (ap (λ b. if b then leaving layout uid else i ∷ []) is)
@@ -21,29 +23,35 @@ by_item layout uid false i is =
     ap (λ b. if b then leaving layout uid ++ [] else i ∷ []) is ∙ sym (ap (λ b. if b then leaving layout uid else i ∷ []) is)
 
 by_first : (layout : Layout) (uid : ℕ) (b : Bool) (j : Insn) (xs : List Insn) (i : Insn) → returns j ≡ b →
-    ((uid : ℕ) → left_at_returns layout uid (xs ++ i ∷ []) ≡ left_at_returns layout uid xs ++ item_by (epilogue layout) (uids_by (epilogue layout) uid xs) i) →
+    ((uid : ℕ) → left_at_returns layout uid (xs ++ i ∷ []) ≡ left_at_returns layout uid xs ++ item_by (epilogue layout)
+    (uids_by (epilogue layout) uid xs) i) →
     left_at_returns layout uid (j ∷ xs ++ i ∷ []) ≡
     left_at_returns layout uid (j ∷ xs) ++ item_by (epilogue layout) (uids_by (epilogue layout) uid (j ∷ xs)) i
 by_first layout uid true j xs i is later =
     let left = left_uid layout uid in
-    ap (λ b. if b then leaving layout uid ++ left_at_returns layout left (xs ++ i ∷ []) else j ∷ left_at_returns layout uid (xs ++ i ∷ [])) is ∙
+    ap (λ b. if b then leaving layout uid ++ left_at_returns layout left (xs ++ i ∷ []) else j ∷ left_at_returns layout uid
+    (xs ++ i ∷ [])) is ∙
     ap (λ rest. leaving layout uid ++ rest) (later left) ∙
-    sym (append_assoc (leaving layout uid) (left_at_returns layout left xs) (item_by (epilogue layout) (uids_by (epilogue layout) left xs) i)) ∙
+    sym (append_assoc (leaving layout uid) (left_at_returns layout left xs)
+    (item_by (epilogue layout) (uids_by (epilogue layout) left xs) i)) ∙
     sym (ap (λ b. (if b then leaving layout uid ++ left_at_returns layout left xs else j ∷ left_at_returns layout uid xs) ++
     item_by (epilogue layout) (uids_by (epilogue layout) (if b then left else uid) xs) i) is)
 by_first layout uid false j xs i is later =
     let left = left_uid layout uid in
-    ap (λ b. if b then leaving layout uid ++ left_at_returns layout left (xs ++ i ∷ []) else j ∷ left_at_returns layout uid (xs ++ i ∷ [])) is ∙
+    ap (λ b. if b then leaving layout uid ++ left_at_returns layout left (xs ++ i ∷ []) else j ∷ left_at_returns layout uid
+    (xs ++ i ∷ [])) is ∙
     ap (λ (rest : List Insn). j ∷ rest) (later uid) ∙
     sym (ap (λ b. (if b then leaving layout uid ++ left_at_returns layout left xs else j ∷ left_at_returns layout uid xs) ++
     item_by (epilogue layout) (uids_by (epilogue layout) (if b then left else uid) xs) i) is)
 
 pub left_push : (layout : Layout) (uid : ℕ) (xs : List Insn) (i : Insn) →
-    left_at_returns layout uid (xs ++ i ∷ []) ≡ left_at_returns layout uid xs ++ item_by (epilogue layout) (uids_by (epilogue layout) uid xs) i
+    left_at_returns layout uid (xs ++ i ∷ []) ≡ left_at_returns layout uid xs ++ item_by (epilogue layout)
+    (uids_by (epilogue layout) uid xs) i
 left_push layout uid [] i = by_item layout uid (returns i) i refl
 left_push layout uid (j ∷ xs) i = by_first layout uid (returns j) j xs i refl (λ uid. left_push layout uid xs i)
 
-pub uids_push : (left : List Rtx) (uid : ℕ) (xs : List Insn) (i : Insn) → uids_by left uid (xs ++ i ∷ []) ≡ uid_by left (uids_by left uid xs) i
+pub uids_push : (left : List Rtx) (uid : ℕ) (xs : List Insn) (i : Insn) →
+    uids_by left uid (xs ++ i ∷ []) ≡ uid_by left (uids_by left uid xs) i
 uids_push left uid [] i = refl
 uids_push left uid (j ∷ xs) i = uids_push left (uid_by left uid j) xs i
 

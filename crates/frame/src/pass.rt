@@ -9,6 +9,8 @@ ghost use Rattle.assign.specs.declared.places.Layout.{Layout};
 ghost use Rattle.window_replace.specs.Natural.{RegistersAreNatural};
 ghost use Rattle.frame_mean.specs.Frame as spec;
 ghost use Rattle.frame_mean.specs.Keeps.{IsLaidOut, KeepsInFrame};
+ghost use Rattle.pass_ready.specs.Left.{SameMarks};
+ghost use Rattle.pass_ready.specs.Reloadable.{UidsDiffer};
 ghost use Rattle.pass_refusal.specs.Outcome.{Gives};
 ghost use Rattle.frame.specs.Framed as framed;
 ghost use Rattle.frame.specs.Framed.{Answer, FrameComes};
@@ -94,11 +96,13 @@ fn is_matched(alloc: Global, desc: &Description, insn: &Insn) -> Result<bool, Me
 fn try_insn(alloc: Global, desc: &Description, first: u32, insn: &Insn) -> Result<(), PassRefusal>
     ensures { TriesInsn desc.now first insn.now result }
 {
-    if insn.uid < first || is_matched(alloc, desc, insn)? {
-        Ok(())
-    } else {
-        Err(unmatched(alloc, insn)?)
+    if insn.uid < first {
+        return Ok(());
     }
+    if is_matched(alloc, desc, insn)? {
+        return Ok(());
+    }
+    Err(unmatched(alloc, insn)?)
 }
 
 /// That some form matches each instruction that has a uid from one on.
@@ -117,17 +121,29 @@ fn try_all(alloc: Global, desc: &Description, first: u32, insns: &[Insn]) -> Res
 ///
 /// `Limit` of `Frame` where the frame is too large, before all else; `Unmatched` where no form matches a new instruction, for the first;
 /// `Memory` where memory ran out.
+#[tactic(auto, using(crate::proofs::One::frame_one, crate::proofs::Kept::frame_keeps, crate::proofs::Kept::frame_marks, crate::proofs::Kept::frame_uids))]
 pub fn frame(
     alloc: Global,
     desc: &Description,
     f: Function,
     layout: &Layout,
 ) -> Result<Function, PassRefusal>
+    // What is told is given; a refusal is the one that is told.
     ensures gives { Gives result (FrameComes desc.now f layout.now) }
+
+    // A function comes to one thing.
     ensures one { (forms : List Entry) (f : Function) (layout : Layout) (a b : Answer) →
         FrameComes forms f layout a → FrameComes forms f layout b → a ≡ b }
+
+    // In the frame of a layout in which all have a place of their own it does what the function does in one that others
+    // make and leave, and its caller finds sp, ra and s0 to s11 as they were.
     ensures keeps { (forms : List Entry) (f g : Function) (layout : Layout) → IsLaidOut f.locals layout → RegistersAreNatural f →
         FrameComes forms f layout (Ok g) → KeepsInFrame f layout g }
+
+    // Labels and barriers stay, and uids that differ still do.
+    ensures marks { (forms : List Entry) (f g : Function) (layout : Layout) → FrameComes forms f layout (Ok g) → SameMarks f g }
+    ensures uids { (forms : List Entry) (f g : Function) (layout : Layout) → UidsDiffer f →
+        FrameComes forms f layout (Ok g) → UidsDiffer g }
 {
     if layout.size > MOST_FRAME {
         return Err(too_large(layout));

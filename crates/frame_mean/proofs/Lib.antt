@@ -18,3 +18,4 @@ pub mod Epilogue
 pub mod Keeping
 pub mod Framed
 pub mod Laid
+pub mod PlainUids

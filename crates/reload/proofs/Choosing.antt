@@ -18,8 +18,10 @@ module _ (forms : List Entry) (form : ℕ) (given : Given) where
   pub chosen_one : (p q : Plan) → IsChosen forms form given p → IsChosen forms form given q → p ≡ q
   chosen_one p q a b = ⊎_elim
       (λ order. ⊎_elim
-      (λ below. absurd (let less = b.1.lowest a.0 p below a.1.here in let most = a.1.least b.0 q b.1.below b.1.here in let never : ⊥ = omega (arith, less, most) in never))
-      (λ above. absurd (let less = a.1.lowest b.0 q above b.1.here in let most = b.1.least a.0 p a.1.below a.1.here in let never : ⊥ = omega (arith, less, most) in never))
+      (λ below. absurd (let less = b.1.lowest a.0 p below a.1.here in let most =
+      a.1.least b.0 q b.1.below b.1.here in let never : ⊥ = omega (arith, less, most) in never))
+      (λ above. absurd (let less = a.1.lowest b.0 q above b.1.here in let most =
+      b.1.least a.0 p a.1.below a.1.here in let never : ⊥ = omega (arith, less, most) in never))
       order)
       (λ same. same_some p q (plan_at forms form given a.0) a.1.here (ap (plan_at forms form given) same ∙ b.1.here))
       (order a.0 b.0)

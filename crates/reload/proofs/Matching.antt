@@ -1,5 +1,6 @@
 -- An instruction is matched by one form with one list of operands, and that form has one pattern.
-use Rattle.std.proofs.Common.{◌≡◌, ◌⊎◌, ⊎_elim, inl, inr, ℕ, ◌<◌, Bool, true, false, List, [], ◌∷◌, length, Some, Ok, refl, sym, ap, subst, ◌∙◌, arith}
+use Rattle.std.proofs.Common.{◌≡◌, ◌⊎◌, ⊎_elim, inl, inr, ℕ, ◌<◌, Bool, true, false, List, [], ◌∷◌, length, Some, Ok}
+use Rattle.std.proofs.Common.{refl, sym, ap, subst, ◌∙◌, arith}
 use Rattle.std.specs.Prelude.{◌↔◌, Option, None, Result, Err, slice_get, IfOk, MatchBool, MatchOption}
 use Rattle.std.specs.Option.{option_map_or}
 use Rattle.std.proofs.lemmas.Bool.{cases_lt}
@@ -24,7 +25,8 @@ use Rattle.reload.specs.Reload.{placed, patterns_in, patterns_by, patterns_at, I
 
 pub order : (a b : ℕ) → ((a < b) ⊎ (b < a)) ⊎ (a ≡ b)
 order a b =
-    ⊎_elim (λ below. inl (inl below)) (λ reached. ⊎_elim (λ above. inl (inr above)) (λ other. inr (omega (arith, reached, other))) (cases_lt b a)) (cases_lt a b)
+    ⊎_elim (λ below. inl (inl below)) (λ reached. ⊎_elim (λ above. inl (inr above)) (λ other. inr (omega (arith, reached, other)))
+    (cases_lt b a)) (cases_lt a b)
 
 -- ---- one pattern
 
@@ -37,7 +39,8 @@ shape_one : (ps : List Rtx) (x : Rtx) (o : Ops) → Matches ps (x ∷ []) o → 
 shape_one ps x o m = one_long ps (as_many ps (x ∷ []) o (record { made = m.made; fit = m.suits.asked }))
 
 -- a form that matches an instruction has one pattern
-pub pattern_one : (forms : List Entry) (facts : Facts) (x : Rtx) (form : ℕ) (o : Ops) → MatchesAt forms facts x form o → (p : Rtx) × (patterns_at forms form ≡ p ∷ [])
+pub pattern_one : (forms : List Entry) (facts : Facts) (x : Rtx) (form : ℕ) (o : Ops) → MatchesAt forms facts x form o →
+    (p : Rtx) × (patterns_at forms form ≡ p ∷ [])
 pattern_one forms facts x form o m =
     let one = shape_one m.matches.says.patterns x o m.matches.matches.matches.shape in
     let here : patterns_at forms form ≡ patterns_in m.entry = ap (λ e. option_map_or patterns_in e []) m.at in
@@ -49,20 +52,25 @@ pattern_one forms facts x form o m =
 abbrev pub Recognizes : List Entry → Facts → Rtx → Option FormMatch → Type 0
 Recognizes forms facts x o = MatchOption o (NoneMatches forms facts x) (λ m. IsFirst forms facts x 0 m)
 
-some_or_none : (forms : List Entry) (facts : Facts) (x : Rtx) (o : Option FormMatch) → ((m : FormMatch) → (o ≡ Some m) ↔ IsFirst forms facts x 0 m) → (o ≡ None → NoneMatches forms facts x) → Recognizes forms facts x o
+some_or_none : (forms : List Entry) (facts : Facts) (x : Rtx) (o : Option FormMatch) →
+    ((m : FormMatch) → (o ≡ Some m) ↔ IsFirst forms facts x 0 m) → (o ≡ None → NoneMatches forms facts x) → Recognizes forms facts x o
 some_or_none forms facts x (Some m) first none = (first m).0 refl
 some_or_none forms facts x None first none = none refl
 
 pub recognizes : {E : Type 0} (forms : List Entry) (facts other : Facts) (x : Rtx) (r : Result (Option FormMatch) E) → facts ≡ other →
-    IfOk r (λ o. (m : FormMatch) → (o ≡ Some m) ↔ IsFirst forms facts x 0 m) → IfOk r (λ o. o ≡ None → NoneMatches forms facts x) → IfOk r (Recognizes forms other x)
-recognizes forms facts other x (Ok o) same first none = subst (λ (f : Facts). Recognizes forms f x o) same (some_or_none forms facts x o first none)
+    IfOk r (λ o. (m : FormMatch) → (o ≡ Some m) ↔ IsFirst forms facts x 0 m) →
+    IfOk r (λ o. o ≡ None → NoneMatches forms facts x) → IfOk r (Recognizes forms other x)
+recognizes forms facts other x (Ok o) same first none =
+    subst (λ (f : Facts). Recognizes forms f x o) same (some_or_none forms facts x o first none)
 recognizes forms facts other x (Err e) same first none = tt
 
-pub found_matched : (forms : List Entry) (x : Rtx) (o : Option FormMatch) (m : FormMatch) → o ≡ Some m → Recognizes forms lower_facts x o → IsMatched forms x
+pub found_matched : (forms : List Entry) (x : Rtx) (o : Option FormMatch) (m : FormMatch) → o ≡ Some m →
+    Recognizes forms lower_facts x o → IsMatched forms x
 found_matched forms x (Some n) m same is = record { form = n.form; operands = n.operands; matches = is.matches }
 found_matched forms x None m same is = absurd (let never : ⊥ = cc in never)
 
-pub found_none : (forms : List Entry) (x : Rtx) (o : Option FormMatch) → o ≡ None → Recognizes forms lower_facts x o → NoneMatches forms lower_facts x
+pub found_none : (forms : List Entry) (x : Rtx) (o : Option FormMatch) → o ≡ None → Recognizes forms lower_facts x o →
+    NoneMatches forms lower_facts x
 found_none forms x (Some n) same is = absurd (let never : ⊥ = cc in never)
 found_none forms x None same is = is
 
@@ -87,12 +95,15 @@ module _ (forms : List Entry) (facts : Facts) (x : Rtx) where
   pub first_not : {P : Type 0} (m : FormMatch) → IsFirst forms facts x 0 m → NoneMatches forms facts x → P
   first_not m a none = absurd (none m.form m.operands a.matches)
 
-module _ (forms : List Entry) (layout : Layout) (i : Insn) (form other : ℕ) (p q : Rtx) (o r : Ops) (a : IsMatch forms layout i form p o) (b : IsMatch forms layout i other q r) where
+module _ (forms : List Entry) (layout : Layout) (i : Insn) (form other : ℕ) (p q : Rtx) (o r : Ops)
+    (a : IsMatch forms layout i form p o) (b : IsMatch forms layout i other q r) where
   pub same_form : form ≡ other
-  same_form = form_one forms lower_facts (placed layout i) (record { form = form; operands = o }) (record { form = other; operands = r }) a.first b.first
+  same_form = form_one forms lower_facts (placed layout i) (record { form = form; operands = o })
+      (record { form = other; operands = r }) a.first b.first
 
   pub same_operands : o ≡ r
-  same_operands = operands_one forms lower_facts (placed layout i) (record { form = form; operands = o }) (record { form = other; operands = r }) a.first b.first
+  same_operands = operands_one forms lower_facts (placed layout i) (record { form = form; operands = o })
+      (record { form = other; operands = r }) a.first b.first
 
   pub same_pattern : p ≡ q
   same_pattern =

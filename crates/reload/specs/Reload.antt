@@ -1,7 +1,8 @@
--- What a function comes to when its registers have homes, by a description: GCC Internals, "RTL passes" (reload), "Pattern Ordering" and
--- "Multiple Alternative Constraints". Each instruction is matched anew with its references to the frame put in, while its registers are still
--- those that predicates know; then it has its homes, and moves before it and behind it.
-use Rattle.std.specs.Prelude.{◌≡◌, ℕ, ◌+◌, Bool, true, false, if◌then◌else◌, List, [], ◌∷◌, ◌++◌, length, Some, Result, Ok, Err, slice_get}
+-- What a function comes to when its registers have homes, by a description: GCC Internals, "RTL passes" (reload),
+-- "Pattern Ordering" and "Multiple Alternative Constraints". Each instruction is matched anew with its references to the
+-- frame put in, while its registers are still those that predicates know; then it has its homes, and moves before it and
+-- behind it.
+use Rattle.std.specs.Prelude.{◌≡◌, ℕ, ◌+◌, true, false, if◌then◌else◌, List, [], ◌∷◌, ◌++◌, length, Result, Ok, Err, slice_get}
 use Rattle.std.specs.Option.{option_map_or}
 use Rattle.std.specs.List.{All}
 use Rattle.rtx_tree.specs.declared.function.Function.{Function}
@@ -104,7 +105,8 @@ window_by uid i before pattern after = plain_insns uid before ++ (with_pattern i
 
 abbrev pub window_of : ℕ → Insn → Given → Plan → List Insn
 window_of uid i given plan =
-    window_by uid i (insns_before given.operands plan.parts) (between given.pattern given.operands plan.parts given.insn) (insns_after given.operands plan.parts)
+    window_by uid i (insns_before given.operands plan.parts) (between given.pattern given.operands plan.parts given.insn)
+    (insns_after given.operands plan.parts)
 
 -- ---- an instruction reloaded, where uids are free from one on
 
@@ -114,7 +116,8 @@ InsnAnswer = Result (List Insn) ReloadRefusal
 -- one that a form matches, by what is chosen from
 pub data MatchReloads (forms : List Entry) (form : ℕ) (given : Given) (uid : ℕ) (i : Insn) : InsnAnswer → Type 0 where
   -- no alternative of the form is reachable
-  unsatisfied : NoneReaches forms form given → MatchReloads forms form given uid i (Err (refusal.Unsatisfied i.uid (name_at (names_of forms) form) given.insn))
+  unsatisfied : NoneReaches forms form given → MatchReloads forms form given uid i
+      (Err (refusal.Unsatisfied i.uid (name_at (names_of forms) form) given.insn))
   -- no form matches one of its moves
   stuck : (plan : Plan) (before : List Rtx) (x : Rtx) → IsChosen forms form given plan → IsStuck forms (moves_of given plan) before x →
       MatchReloads forms form given uid i (Err (refusal.Unmatched (uid + length before) x))
@@ -129,7 +132,8 @@ pub data InsnReloads (forms : List Entry) (homes : List HomeOf) (layout : Layout
   unmatched : needs_form i ≡ true → NoneMatches forms lower_facts (placed layout i) →
       InsnReloads forms homes layout uid i (Err (refusal.Unmatched i.uid (placed layout i)))
   -- a form matches it
-  matched : (form : ℕ) (pattern : Rtx) (found : Ops) (answer : InsnAnswer) → needs_form i ≡ true → IsMatch forms layout i form pattern found →
+  matched : (form : ℕ) (pattern : Rtx) (found : Ops) (answer : InsnAnswer) → needs_form i ≡ true →
+      IsMatch forms layout i form pattern found →
       MatchReloads forms form (given_by homes layout i pattern found) uid i answer → InsnReloads forms homes layout uid i answer
 
 -- ---- a chain, and a function

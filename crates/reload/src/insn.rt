@@ -103,7 +103,8 @@ fn add_match(
     requires needs { needs.needs_form insn.now ≡ true }
     requires placed { placed.now ≡ spec.placed setting.now.layout.now insn.now }
     requires first { IsFirst setting.now.desc.now needs.lower_facts placed.now 0 found.now }
-    ensures { Adds (spec.InsnReloads setting.now.desc.now setting.now.homes.now setting.now.layout.now uid insn.now) uid insns.old insns.new result }
+    ensures { Adds (spec.InsnReloads setting.now.desc.now setting.now.homes.now setting.now.layout.now uid insn.now)
+        uid insns.old insns.new result }
 {
     let pattern = &patterns_at(setting.desc, found.form)[0];
     let given = setting.given(insn.kind, placed, pattern, &found.operands)?;
@@ -119,7 +120,8 @@ fn add_needing(
 ) -> Result<u32, ReloadRefusal>
     requires ordered { AreOrdered setting.now.homes.now setting.now.layout.now }
     requires needs { needs.needs_form insn.now ≡ true }
-    ensures { Adds (spec.InsnReloads setting.now.desc.now setting.now.homes.now setting.now.layout.now uid insn.now) uid insns.old insns.new result }
+    ensures { Adds (spec.InsnReloads setting.now.desc.now setting.now.homes.now setting.now.layout.now uid insn.now)
+        uid insns.old insns.new result }
 {
     let placed = setting.placed(insn)?;
     match setting.first_match(&placed)? {
@@ -157,7 +159,8 @@ pub(crate) fn add_insn(
     insns: &mut Insns,
 ) -> Result<u32, ReloadRefusal>
     requires { AreOrdered setting.now.homes.now setting.now.layout.now }
-    ensures { Adds (spec.InsnReloads setting.now.desc.now setting.now.homes.now setting.now.layout.now uid insn.now) uid insns.old insns.new result }
+    ensures { Adds (spec.InsnReloads setting.now.desc.now setting.now.homes.now setting.now.layout.now uid insn.now)
+        uid insns.old insns.new result }
 {
     if needs_form(insn) {
         return add_needing(setting, uid, insn, insns);

@@ -4,11 +4,13 @@ ghost use Rattle.rtx_tree.specs.declared.function.Function.{Function};
 ghost use Rattle.md_forms.specs.declared.form.Entry.{Entry};
 ghost use Rattle.assign.specs.declared.home.HomeOf.{HomeOf};
 ghost use Rattle.assign.specs.declared.places.Layout.{Layout};
+ghost use Rattle.pass_ready.specs.Left.{SameMarks};
+ghost use Rattle.pass_ready.specs.Reloadable.{UidsDiffer};
 ghost use Rattle.frame_mean.specs.Frame as frames;
 ghost use Rattle.reload_homes.specs.Homes.{AreOrdered};
 ghost use Rattle.reload.specs.Outcome.{Gives};
 ghost use Rattle.reload.specs.Reload as spec;
-ghost use Rattle.reload.specs.Windows.{HasWindows, UidsDiffer, marks};
+ghost use Rattle.reload.specs.Windows.{HasWindows};
 
 use crate::insn::add_insn;
 use crate::refusal::ReloadRefusal;
@@ -56,14 +58,14 @@ fn with_insns(f: Function, insns: Insns) -> Function
     }
 }
 
-/// The function with homes put in and moves where forms of the description ask for them. Moves take the uids after the greatest, in their order;
-/// uids past 32 bits find no memory. Homes and slots are in increasing number, as `assign` gives them.
+/// The function with homes put in and moves where forms of the description ask for them. Moves take the uids after the greatest, in
+/// their order; uids past 32 bits find no memory. Homes and slots are in increasing number, as `assign` gives them.
 ///
 /// # Errors
 ///
 /// For the first instruction that is refused: `Unmatched` where no form matches it, or one of its moves, which has the uid then that it would
 /// have; `Unsatisfied` where no alternative of its form is reachable. `Memory` where memory ran out.
-#[tactic(auto, using(crate::proofs::One::reload_one, crate::proofs::WindowLaws::reload_windows, crate::proofs::Chains::reload_marks, crate::proofs::Chains::reload_uids))]
+#[tactic(auto, using(crate::proofs::One::reload_one, crate::proofs::WindowLaws::reload_windows, crate::proofs::Marks::reload_marks, crate::proofs::Uids::reload_uids))]
 pub fn reload(
     alloc: Global,
     desc: &Description,
@@ -79,13 +81,13 @@ pub fn reload(
     ensures one { (forms : List Entry) (homes : List HomeOf) (layout : Layout) (f : Function) (a b : spec.Answer) →
         spec.FunctionReloads forms homes layout f a → spec.FunctionReloads forms homes layout f b → a ≡ b }
 
-    // Each instruction stands between its moves, which some forms match as one has matched the instruction.
+    // Each instruction that needs a form stands between the moves of a sound plan, and each other alone with its homes.
     ensures windows { (forms : List Entry) (homes : List HomeOf) (layout : Layout) (f g : Function) →
-        spec.FunctionReloads forms homes layout f (Ok g) → HasWindows forms layout f g }
+        spec.FunctionReloads forms homes layout f (Ok g) → HasWindows forms homes layout f g }
 
     // Labels and barriers stay, and uids that differ still do.
     ensures marks { (forms : List Entry) (homes : List HomeOf) (layout : Layout) (f g : Function) →
-        spec.FunctionReloads forms homes layout f (Ok g) → marks g.insns ≡ marks f.insns }
+        spec.FunctionReloads forms homes layout f (Ok g) → SameMarks f g }
     ensures uids { (forms : List Entry) (homes : List HomeOf) (layout : Layout) (f g : Function) →
         UidsDiffer f → spec.FunctionReloads forms homes layout f (Ok g) → UidsDiffer g }
 {

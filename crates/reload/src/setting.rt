@@ -43,14 +43,16 @@ impl Setting<'_> {
 
     /// The first form that matches a tree, before registers have homes.
     pub fn first_match(&self, x: &Rtx) -> Result<Option<FormMatch>, Memory>
-        ensures { IfOk result (λ r. MatchOption r (NoneMatches self.now.desc.now needs.lower_facts x.now) (λ m. IsFirst self.now.desc.now needs.lower_facts x.now 0 m)) }
+        ensures { IfOk result (λ r. MatchOption r (NoneMatches self.now.desc.now needs.lower_facts x.now)
+            (λ m. IsFirst self.now.desc.now needs.lower_facts x.now 0 m)) }
     {
         self.desc.recog(self.alloc, x, &lower_facts(self.alloc))
     }
 
     /// Whether some form does.
     pub fn is_matched(&self, x: &Rtx) -> Result<bool, Memory>
-        ensures { IfOk result (λ b. MatchBool b (spec.IsMatched self.now.desc.now x.now) (NoneMatches self.now.desc.now needs.lower_facts x.now)) }
+        ensures { IfOk result (λ b. MatchBool b (spec.IsMatched self.now.desc.now x.now)
+            (NoneMatches self.now.desc.now needs.lower_facts x.now)) }
     {
         match self.first_match(x)? {
             Some(_) => Ok(true),
@@ -67,7 +69,8 @@ impl Setting<'_> {
         found: &Operands,
     ) -> Result<Given, Memory>
         requires { AreOrdered self.now.homes.now self.now.layout.now }
-        ensures { IfOk result (λ given. given ≡ spec.given_of self.now.homes.now self.now.layout.now kind placed.now pattern.now found.now) }
+        ensures { IfOk result (λ given.
+            given ≡ spec.given_of self.now.homes.now self.now.layout.now kind placed.now pattern.now found.now) }
     {
         let insn = self.homed(placed)?;
         let operands = operands_of(

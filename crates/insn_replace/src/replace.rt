@@ -49,7 +49,7 @@ fn made(alloc: Global, chain: &mut LiveChain, place: u32, sequence: Kids) -> Res
     let Some(uid) = chain.greatest_uid().checked_add(1) else {
         return Err(Memory);
     };
-    let old = chain.function().insns.item(place as usize);
+    let old = chain.insn(place);
     insns_for(alloc, old, uid, sequence)
 }
 
@@ -69,7 +69,7 @@ fn compare(
     ensures same { chain.new ≡ chain.old }
 {
     let live = chain.live_after(alloc, place)?;
-    let insn = chain.function().insns.item(place as usize);
+    let insn = chain.insn(place);
     judge(
         alloc,
         desc,

@@ -7,4 +7,5 @@ pub mod RowLaws
 pub mod BehindLaws
 pub mod WindowLaws
 pub mod KeptLaws
+pub mod LeadLaws
 pub mod NarrowLaws

@@ -1,7 +1,7 @@
 -- The greatest of a chain's numbers, where a window is replaced.
-use Rattle.std.proofs.Common.{◌≡◌, ℕ, ◌-◌, ◌≤◌, List, [], ◌∷◌, ◌++◌, map, take, drop, Option, sym, ap, subst, ◌∙◌, arith}
+use Rattle.std.proofs.Common.{◌≡◌, ℕ, ◌-◌, ◌≤◌, List, [], ◌∷◌, ◌++◌, map, reverse, take, drop, Option, refl, sym, ap, subst, ◌∙◌, arith}
 use Rattle.std.specs.Prelude.{max, slice_range, IfSome}
-use Rattle.std.proofs.lemmas.List.{map-append, drop-drop, take-append-drop}
+use Rattle.std.proofs.lemmas.List.{map-append, drop-drop, take-append-drop, reverse-append}
 use Rattle.rtl_chain.specs.Counts.{greatest}
 
 max_assoc : (a b c : ℕ) → max (max a b) c ≡ max a (max b c)
@@ -13,6 +13,20 @@ max_swap a b c = grind arith
 greatest-append : (xs ys : List ℕ) → greatest (xs ++ ys) ≡ max (greatest xs) (greatest ys)
 greatest-append [] ys = grind arith
 greatest-append (x ∷ xs) ys = ap (max x) (greatest-append xs ys) ∙ sym (max_assoc x (greatest xs) (greatest ys))
+
+greatest-reverse : {X : Type 0} (m : X → ℕ) (xs : List X) → greatest (map m (reverse xs)) ≡ greatest (map m xs)
+greatest-reverse m [] = refl
+greatest-reverse m (x ∷ xs) =
+    ap (λ l. greatest (map m l)) (reverse-append (x ∷ []) xs) ∙
+    (ap greatest (map-append m (reverse xs) (x ∷ [])) ∙
+    (greatest-append (map m (reverse xs)) (m x ∷ []) ∙ (ap (λ n. max n (max (m x) 0)) (greatest-reverse m xs) ∙ grind arith)))
+
+-- the greatest of a measure, by those of two parts of which the second is in reverse
+pub greatest_parts : {X : Type 0} (m : X → ℕ) (whole front back : List X) → whole ≡ front ++ reverse back →
+    max (greatest (map m front)) (greatest (map m back)) ≡ greatest (map m whole)
+greatest_parts m whole front back is =
+    ap (max (greatest (map m front))) (sym (greatest-reverse m back)) ∙
+    (sym (ap greatest (map-append m front (reverse back)) ∙ greatest-append (map m front) (map m (reverse back))) ∙ ap (λ l. greatest (map m l)) (sym is))
 
 -- the greatest of a measure, by that of what is outside a window and that of the window
 pub greatest_round : {X : Type 0} (m : X → ℕ) (front window back : List X) → greatest (map m (front ++ (window ++ back))) ≡ max (max (greatest (map m front)) (greatest (map m back))) (greatest (map m window))

@@ -1,5 +1,5 @@
 -- What the contracts of private functions alone cite.
 pub mod Kept
+pub mod Whole
 pub mod Window
 pub mod Demand
-pub mod Narrow

@@ -2,13 +2,15 @@
 ghost use Rattle.std.specs.Prelude.{◌≡◌, ℕ, ◌*◌, ◌/◌, ◌%◌, ◌<◌, ◌^◌, ◌==◌, ◌||◌, ◌&&◌, ◌↔◌};
 ghost use Rattle.std.specs.Prelude.{true, IfOk, OnOk, length, slice_index};
 ghost use Rattle.reg_rows.specs.Row.{has};
+ghost use Rattle.rtx_tree.specs.declared.function.Function.{Function};
 ghost use Rattle.live_rows.specs.machine.Rows.{at_place};
 ghost use Rattle.live.specs.Live.{AreLiveRows, IsLiveAfter};
 
+use crate::leads::successors;
+use gap_list::GapList;
 use plain_data::Memory;
 use reg_rows::RegRow;
-use rtl_func::successors;
-use rtx_tree::Function;
+use rtx_tree::Insn;
 use std::alloc::Global;
 
 const WORD: usize = u64::BITS as usize;
@@ -56,39 +58,46 @@ fn add_row(row: &RegRow, to: &mut RegRow) -> Result<(), Memory>
 }
 
 /// The row of a place, if it is one, and else no register.
-fn copy_at(alloc: Global, rows: &[RegRow], place: Option<u32>) -> Result<RegRow, Memory>
+fn copy_at(alloc: Global, rows: &GapList<RegRow>, place: Option<u32>) -> Result<RegRow, Memory>
     ensures { IfOk result (λ row. (reg : ℕ) → has row reg ≡ at_place place rows.now reg) }
 {
     let Some(place) = place else {
         return Ok(RegRow::empty(alloc));
     };
-    match rows.get(place as usize) {
-        Some(row) => Ok(row.copy(alloc)?),
-        None => Ok(RegRow::empty(alloc)),
+    if (place as usize) < rows.len() {
+        rows.item(place as usize).copy(alloc)
+    } else {
+        Ok(RegRow::empty(alloc))
     }
 }
 
 /// Adds the row of a place, if it is one.
-fn add_at(rows: &[RegRow], place: Option<u32>, to: &mut RegRow) -> Result<(), Memory>
+fn add_at(rows: &GapList<RegRow>, place: Option<u32>, to: &mut RegRow) -> Result<(), Memory>
     ensures { OnOk result ((reg : ℕ) →
         has to.new reg ≡ (has to.old reg || at_place place rows.now reg)) }
 {
     let Some(place) = place else {
         return Ok(());
     };
-    match rows.get(place as usize) {
-        Some(row) => add_row(row, to),
-        None => Ok(()),
+    if (place as usize) < rows.len() {
+        add_row(rows.item(place as usize), to)
+    } else {
+        Ok(())
     }
 }
 
 /// The registers that are live after a place, by the rows of what is live before each.
-pub fn row_after(alloc: Global, f: &Function, rows: &[RegRow], place: u32) -> Result<RegRow, Memory>
-    requires short { length f.now.insns < 2 ^ 32 }
-    requires rows { AreLiveRows f.now rows.now }
-    ensures { IfOk result (λ row. (reg : ℕ) → (has row reg ≡ true) ↔ IsLiveAfter f.now reg place) }
+pub fn row_after(
+    alloc: Global,
+    insns: &GapList<Insn>,
+    rows: &GapList<RegRow>,
+    place: u32,
+) -> Result<RegRow, Memory>
+    requires { length insns.now < 2 ^ 32 }
+    ensures { (f : Function) → f.insns ≡ insns.now → AreLiveRows f rows.now →
+        IfOk result (λ row. (reg : ℕ) → (has row reg ≡ true) ↔ IsLiveAfter f reg place) }
 {
-    let next = successors(f, place);
+    let next = successors(insns, place);
     let mut row = copy_at(alloc, rows, next.first)?;
     add_at(rows, next.second, &mut row)?;
     Ok(row)

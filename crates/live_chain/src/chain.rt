@@ -1,30 +1,35 @@
 //! A function with what is known of it.
-ghost use Rattle.std.specs.Prelude.{◌≡◌, ◌≤◌, ◌<◌, ◌^◌, ℕ, true, length, IfOk, OnOk, OnErr};
+ghost use Rattle.std.specs.Prelude.{◌≡◌, ◌≤◌, ◌<◌, ◌^◌, ℕ, true, Some, length, slice_get, IfOk, OnOk, OnErr};
 ghost use Rattle.rtx_tree.specs.RegSet.{has_reg};
-ghost use Rattle.live.specs.Live.{AreLiveAfter};
+ghost use Rattle.live.specs.Live.{AreLiveAfter, AreLiveRows};
 ghost use Rattle.new_insns.specs.Replaced.{replaced};
 ghost use Rattle.rtl_chain.specs.Counts as counts;
+ghost use Rattle.live_chain.specs.machine.Whole.{with_chain};
 
 use crate::kept::{rows_inside, rows_joined};
 use crate::narrow::live_behind;
-use crate::numbers::{pseudo_after, uid_after};
-use crate::splice::put_between;
+use crate::numbers::{pseudo_after, pseudo_of, uid_after, uid_of};
+use gap_list::GapList;
 use live::live_rows_of;
 use plain_data::{Items, Memory};
 use reg_rows::RegRow;
 use rtl_chain::{greatest_uid, next_pseudo};
-use rtx_tree::{Function, Insns, RegSet};
+use rtx_tree::{Function, Insn, Insns, RegSet};
 use std::alloc::Global;
 use std::marker::Model;
+use std::mem;
 
 /// A function, with what is known of it while windows of its chain are replaced: the registers that
 /// are live at its places, its greatest uid, its next free pseudo register. Contracts see the
-/// function.
+/// function. Its chain and the rows have a gap, which stands behind the window that was replaced
+/// last.
 #[derive(Drop)]
 pub struct LiveChain {
-    function: Function,
+    /// The function without its chain.
+    frame: Function,
+    insns: GapList<Insn>,
     /// The rows of the registers that are live before each place and before the end, if known.
-    rows: Option<Items<RegRow>>,
+    rows: Option<GapList<RegRow>>,
     greatest: Option<u32>,
     next: Option<u64>,
 }
@@ -32,43 +37,79 @@ pub struct LiveChain {
 impl Model for LiveChain {
     ghost use Rattle.rtx_tree.specs.declared.function.Function.{Function};
     ghost use Rattle.rtx_tree.specs.contracts.function.Function as function_type;
+    ghost use Rattle.live_chain.specs.machine.Whole.{with_chain};
     ghost use Rattle.live_chain.specs.machine.Kept.{IsKept};
 
     ghost Value = { Function };
 
     ghost coded = { function_type.the_row.coded };
 
-    ghost view = { λ c. c.function };
+    ghost view = { λ c. with_chain c.frame c.insns };
 
-    ghost invariant = { λ c. IsKept c.function c.rows c.greatest c.next };
+    ghost invariant = { λ c. IsKept (with_chain c.frame c.insns) c.rows c.greatest c.next };
+}
+
+/// The rows of the function, computed anew.
+fn rows_anew(
+    alloc: Global,
+    frame: &mut Function,
+    insns: &mut GapList<Insn>,
+) -> Result<GapList<RegRow>, Memory>
+    ensures rows { IfOk result (AreLiveRows (with_chain frame.old insns.old)) }
+    ensures same { with_chain frame.new insns.new ≡ with_chain frame.old insns.old }
+{
+    frame.insns = insns.take_all(alloc)?;
+    let rows = live_rows_of(alloc, frame);
+    *insns = GapList::of(alloc, mem::replace(&mut frame.insns, Items::new(alloc)));
+    Ok(GapList::of(alloc, Items::from_vec(rows?)))
 }
 
 impl LiveChain {
     /// A function of which nothing is known yet. It takes no memory.
-    pub fn of(function: Function) -> LiveChain
+    pub fn of(alloc: Global, function: Function) -> LiveChain
         ensures { result ≡ function }
     {
+        let mut frame = function;
+        let insns = mem::replace(&mut frame.insns, Items::new(alloc));
         LiveChain {
-            function,
+            frame,
+            insns: GapList::of(alloc, insns),
             rows: None,
             greatest: None,
             next: None,
         }
     }
 
-    /// The function.
-    pub fn function(&self) -> &Function
-        ensures { result.now ≡ self.now }
+    /// How many places the chain has.
+    pub fn len(&self) -> usize
+        ensures { result ≡ length self.now.insns }
     {
-        &self.function
+        self.insns.len()
+    }
+
+    /// The instruction at a place.
+    pub fn insn(&self, place: u32) -> &Insn
+        requires { place < length self.now.insns }
+        ensures { slice_get self.now.insns place ≡ Some result.now }
+    {
+        self.insns.item(place as usize)
     }
 
     /// The function, no longer kept.
-    pub fn into_function(self) -> Function
-        ensures { result ≡ self }
+    ///
+    /// # Errors
+    ///
+    /// `Memory` where memory ran out.
+    pub fn into_function(self, alloc: Global) -> Result<Function, Memory>
+        ensures { IfOk result (λ f. f ≡ self) }
     {
-        let LiveChain { function, .. } = self;
-        function
+        let LiveChain {
+            mut frame,
+            mut insns,
+            ..
+        } = self;
+        frame.insns = insns.take_all(alloc)?;
+        Ok(frame)
     }
 
     /// The registers that are live after a place. A chain of 2^32 places or more finds no memory, and neither do registers whose numbers
@@ -84,9 +125,9 @@ impl LiveChain {
     {
         let rows = match self.rows.take() {
             Some(rows) => rows,
-            None => Items::from_vec(live_rows_of(alloc, &self.function)?),
+            None => rows_anew(alloc, &mut self.frame, &mut self.insns)?,
         };
-        let live = live_behind(alloc, &self.function, rows.as_slice(), place);
+        let live = live_behind(alloc, &self.insns, &rows, place);
         self.rows = Some(rows);
         live
     }
@@ -99,7 +140,7 @@ impl LiveChain {
         match self.greatest {
             Some(uid) => uid,
             None => {
-                let uid = greatest_uid(self.function.insns.as_slice());
+                let uid = uid_of(&self.insns);
                 self.greatest = Some(uid);
                 uid
             }
@@ -115,7 +156,7 @@ impl LiveChain {
         match self.next {
             Some(next) => next,
             None => {
-                let next = next_pseudo(self.function.insns.as_slice());
+                let next = pseudo_of(&self.insns);
                 self.next = Some(next);
                 next
             }
@@ -134,7 +175,11 @@ impl LiveChain {
         ensures replaced { OnOk result (self.new ≡ replaced self.old first end new) }
         ensures kept { OnErr result (self.new ≡ self.old) }
     {
-        let old = &self.function.insns.as_slice()[first as usize..end as usize];
+        self.insns.move_gap(end as usize)?;
+        // with the gap at its end the window stands in one piece
+        let Some(old) = self.insns.between(first as usize, end as usize) else {
+            return Err(Memory);
+        };
         let greatest = uid_after(
             self.greatest,
             greatest_uid(old),
@@ -143,15 +188,15 @@ impl LiveChain {
         let next = pseudo_after(self.next, next_pseudo(old), next_pseudo(new.as_slice()));
         let inside = rows_inside(
             alloc,
-            &self.function,
+            &self.insns,
             &self.rows,
             first,
             end,
+            old,
             new.as_slice(),
         )?;
-        let insns = &mut self.function.insns;
-        put_between(alloc, insns, first as usize, end as usize, new)?;
-        self.rows = rows_joined(alloc, self.rows.take(), first, end, inside);
+        self.insns.splice(first as usize, end as usize, new)?;
+        self.rows = rows_joined(self.rows.take(), first, end, inside);
         self.greatest = greatest;
         self.next = next;
         Ok(())

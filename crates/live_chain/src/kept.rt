@@ -1,5 +1,5 @@
 //! Rows that are kept where a window is replaced.
-ghost use Rattle.std.specs.Prelude.{◌≡◌, ◌≤◌, ◌<◌, ◌^◌, true, length, IfOk, IfSome};
+ghost use Rattle.std.specs.Prelude.{◌≡◌, ◌≤◌, ◌<◌, ◌^◌, true, length, slice_range, IfOk, IfSome};
 ghost use Rattle.std.specs.List.{splice};
 ghost use Rattle.rtx_tree.specs.declared.function.Function.{Function};
 ghost use Rattle.reg_rows.specs.Row.{has};
@@ -10,12 +10,12 @@ ghost use Rattle.live_chain.specs.machine.Window.{AreLikeEnds, AreLikeDemands, A
 use crate::behind::row_after;
 use crate::demand::{ask_alike, define_alike, demand_of};
 use crate::sets::same_sets;
-use crate::splice::put_between;
 use crate::window::{leads_last, same_flow};
 use crate::within::rows_within;
+use gap_list::GapList;
 use plain_data::{Items, Memory};
 use reg_rows::RegRow;
-use rtx_tree::{Function, Insn};
+use rtx_tree::Insn;
 use std::alloc::Global;
 
 /// Whether two windows are seen to be entered and left alike.
@@ -61,23 +61,24 @@ fn are_same_outside(
 /// they are.
 fn rows_for(
     alloc: Global,
-    f: &Function,
-    rows: &[RegRow],
+    insns: &GapList<Insn>,
+    rows: &GapList<RegRow>,
     first: u32,
     end: u32,
+    old: &[Insn],
     new: &[Insn],
 ) -> Result<Option<Items<RegRow>>, Memory>
     requires order { first ≤ end }
-    requires within { end ≤ length f.now.insns }
-    requires rows { AreLiveRows f.now rows.now }
-    ensures { IfOk result (λ inside. IfSome inside (λ inside.
-        AreLiveRows (replaced f.now first end new.now) (splice rows.now first end inside))) }
+    requires within { end ≤ length insns.now }
+    requires old { old.now ≡ slice_range insns.now first end }
+    ensures { (f : Function) → f.insns ≡ insns.now → AreLiveRows f rows.now →
+        IfOk result (λ inside. IfSome inside (λ inside.
+        AreLiveRows (replaced f first end new.now) (splice rows.now first end inside))) }
 {
-    if first == end || f.insns.len() > u32::MAX as usize {
+    if first == end || insns.len() > u32::MAX as usize {
         return Ok(None);
     }
-    let old = &f.insns.as_slice()[first as usize..end as usize];
-    let behind = row_after(alloc, f, rows, end - 1)?;
+    let behind = row_after(alloc, insns, rows, end - 1)?;
     if are_same_outside(alloc, old, new, &behind)? {
         Ok(Some(rows_within(alloc, new, &behind)?))
     } else {
@@ -88,20 +89,22 @@ fn rows_for(
 /// The rows of instructions in the place of a window, if the function's rows are known.
 pub fn rows_inside(
     alloc: Global,
-    f: &Function,
-    rows: &Option<Items<RegRow>>,
+    insns: &GapList<Insn>,
+    rows: &Option<GapList<RegRow>>,
     first: u32,
     end: u32,
+    old: &[Insn],
     new: &[Insn],
 ) -> Result<Option<Items<RegRow>>, Memory>
     requires order { first ≤ end }
-    requires within { end ≤ length f.now.insns }
-    requires rows { IfSome rows.now (AreLiveRows f.now) }
-    ensures { IfOk result (λ inside. IfSome inside (λ inside. IfSome rows.now (λ rows.
-        AreLiveRows (replaced f.now first end new.now) (splice rows first end inside)))) }
+    requires within { end ≤ length insns.now }
+    requires old { old.now ≡ slice_range insns.now first end }
+    ensures { (f : Function) → f.insns ≡ insns.now → IfSome rows.now (AreLiveRows f) →
+        IfOk result (λ inside. IfSome inside (λ inside. IfSome rows.now (λ rows.
+        AreLiveRows (replaced f first end new.now) (splice rows first end inside)))) }
 {
     match rows {
-        Some(rows) => rows_for(alloc, f, rows.as_slice(), first, end, new),
+        Some(rows) => rows_for(alloc, insns, rows, first, end, old, new),
         None => Ok(None),
     }
 }
@@ -109,12 +112,11 @@ pub fn rows_inside(
 /// The rows with others in the place of a window's, if both are known. Where memory runs out they
 /// are no longer known.
 pub fn rows_joined(
-    alloc: Global,
-    rows: Option<Items<RegRow>>,
+    rows: Option<GapList<RegRow>>,
     first: u32,
     end: u32,
     inside: Option<Items<RegRow>>,
-) -> Option<Items<RegRow>>
+) -> Option<GapList<RegRow>>
     requires order { first ≤ end }
     requires within { IfSome rows (λ rows. end ≤ length rows) }
     ensures { (f : Function) →
@@ -123,7 +125,7 @@ pub fn rows_joined(
 {
     let mut rows = rows?;
     let inside = inside?;
-    match put_between(alloc, &mut rows, first as usize, end as usize, inside) {
+    match rows.splice(first as usize, end as usize, inside) {
         Ok(()) => Some(rows),
         Err(_) => None,
     }

@@ -13,10 +13,10 @@ mod behind;
 mod chain;
 mod demand;
 mod kept;
+mod leads;
 mod narrow;
 mod numbers;
 mod sets;
-mod splice;
 mod window;
 mod within;
 

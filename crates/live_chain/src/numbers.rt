@@ -1,5 +1,28 @@
 //! The numbers that are kept of a chain.
 ghost use Rattle.std.specs.Prelude.{◌≡◌, ℕ, max, true, IfSome};
+ghost use Rattle.rtl_chain.specs.Counts as counts;
+
+use gap_list::GapList;
+use rtl_chain::{greatest_uid, next_pseudo};
+use rtx_tree::Insn;
+
+/// The greatest uid of a chain, or 0 where there is none.
+#[tactic(auto, using(crate::proofs::NumberLaws::greatest_parts))]
+pub fn uid_of(insns: &GapList<Insn>) -> u32
+    ensures { result ≡ counts.greatest_uid insns.now }
+{
+    let (front, back) = insns.parts();
+    greatest_uid(front).max(greatest_uid(back))
+}
+
+/// The next pseudo register of a chain, or 0 where it names none.
+#[tactic(auto, using(crate::proofs::NumberLaws::greatest_parts))]
+pub fn pseudo_of(insns: &GapList<Insn>) -> u64
+    ensures { result ≡ counts.next_pseudo insns.now }
+{
+    let (front, back) = insns.parts();
+    next_pseudo(front).max(next_pseudo(back))
+}
 
 /// Whether the greatest of some numbers tells what it is where one of them, `old`, becomes `new`: then
 /// it is the greater of it and `new`.

@@ -71,7 +71,7 @@ fn lower_place(
 {
     let next = next_pseudo(chain)?;
     let greatest = chain.greatest_uid();
-    let insn = chain.function().insns.item(place as usize);
+    let insn = chain.insn(place);
     match lower_insn::lowered(alloc, desc, insn, greatest, next)? {
         Some(made) => put_lowered(alloc, desc, chain, place, made),
         None => Ok(behind(place, 1)?),
@@ -94,10 +94,10 @@ pub fn lower(alloc: Global, desc: &Description, f: Function) -> Result<Function,
     ensures marks { (forms : List Entry) (f g : Function) → LowerComes forms f (Ok g) → SameMarks f g }
     ensures kept { (forms : List Entry) (f g : Function) → IsSound f → LowerComes forms f (Ok g) → PassKeeps f g }
 {
-    let mut chain = LiveChain::of(f);
+    let mut chain = LiveChain::of(alloc, f);
     let mut place: u32 = 0;
-    while (place as usize) < chain.function().insns.len() {
+    while (place as usize) < chain.len() {
         place = lower_place(alloc, desc, &mut chain, place)?;
     }
-    Ok(chain.into_function())
+    Ok(chain.into_function(alloc)?)
 }

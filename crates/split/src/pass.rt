@@ -96,7 +96,7 @@ fn split_place(
     ensures { PlaceSplits desc.now stage depth chain.old place chain.new result }
 {
     let next = next_pseudo(chain)?;
-    let insn = chain.function().insns.item(place as usize);
+    let insn = chain.insn(place);
     match first_split(alloc, desc, stage, next, insn)? {
         Some(found) => {
             let made = split_by(alloc, desc, stage, chain, place, depth, found)?;
@@ -145,9 +145,9 @@ fn split_all(
         return Err(PassRefusal::Memory);
     }
     let count = f.insns.len() as u32;
-    let mut chain = LiveChain::of(f);
+    let mut chain = LiveChain::of(alloc, f);
     split_run(alloc, desc, stage, &mut chain, 0, count, 0)?;
-    Ok(chain.into_function())
+    Ok(chain.into_function(alloc)?)
 }
 
 /// Splits the instructions of a function: each that a split form of the description matches is replaced by the sequence of the first that

@@ -10,5 +10,5 @@ returns-in_err-split_run c =
 
 pub returns : goal.returns
 returns c =
-    whole_split c.args.desc.now c.args.stage c.args.f c.of-chain.result c.split_run.new.chain c.into_function.result c.len-count.result c.in_ok-split_run.field-0 c.of-chain.ensures c.into_function.ensures
+    whole_split c.args.desc.now c.args.stage c.args.f c.of-chain.result c.split_run.new.chain c.in_ok-into_function.field-0 c.len-count.result c.in_ok-split_run.field-0 c.of-chain.ensures c.in_ok-into_function.ensures
     c.len-count.ensures c.in_ok-split_run.ensures

@@ -1,5 +1,5 @@
 -- What constraints admit, and one operand more behind those whose standing is known.
-use Rattle.std.proofs.Common.{◌≡◌, ℕ, ◌+◌, ◌<◌, Bool, Option, List, [], ◌∷◌, ◌++◌, length, drop, get_or, refl, sym, ap, ◌∙◌, append_assoc}
+use Rattle.std.proofs.Common.{◌≡◌, ℕ, ◌+◌, ◌<◌, Bool, Option, List, [], ◌∷◌, ◌++◌, length, drop, get_or, sym, ap, ◌∙◌, append_assoc}
 use Rattle.std.proofs.lemmas.List.{at_drop_more, length-append}
 use Rattle.rtx_tree.specs.declared.tree.Rtx.{Rtx}
 use Rattle.md_forms.specs.declared.form.Entry.{Entry}
@@ -11,18 +11,21 @@ use Rattle.reload_moves.specs.declared.fitting.Fitting.{Fitting}
 use Rattle.reload_fit.specs.Fitting.{Asks, asks_by, fitting_at, fittings_from}
 
 -- where no operand is known, a digit admits nothing
-pub admits_nothing : (forms : List Entry) (form : ℕ) (constraints : List OperandConstraint) (alternative number : ℕ)
-    (x : Rtx) (operands : List (Option Rtx)) (b : Bool) →
+pub admits_nothing : (forms : List Entry) (form : ℕ) (constraints : List OperandConstraint)
+    (alternative number : ℕ) (x : Rtx) (operands : List (Option Rtx)) (b : Bool) →
     b ≡ number_admits forms (holds forms) form alternative operands number x → operands ≡ [] →
     b ≡ (asks_by forms form constraints alternative).admits number x
 admits_nothing forms form constraints alternative number x operands b is none =
-    is ∙ ap (λ (found : List (Option Rtx)). number_admits forms (holds forms) form alternative found number x) none
+    is ∙
+    ap (λ (found : List (Option Rtx)).
+    number_admits forms (holds forms) form alternative found number x) none
 
--- one that is the same is admitted alike
-pub admits_same : (asks : Asks) (number : ℕ) (x y : Rtx) (b : Bool) → b ≡ asks.admits number x → x ≡ y →
-    b ≡ asks.admits number y
+-- trees that are one are admitted alike
+pub admits_same : (asks : Asks) (number : ℕ) (x y : Rtx) (b : Bool) →
+    b ≡ asks.admits number x → x ≡ y → b ≡ asks.admits number y
 admits_same asks number x y b is same = is ∙ ap (asks.admits number) same
 
+-- one operand more
 pub fittings_next : (asks : Asks) (operands xs : List Operand) (i : ℕ) (x : Operand) (fits new : List Fitting) (f : Fitting) (whole : List Fitting) →
     i < length xs → x ≡ get_or xs i x → f ≡ fitting_at asks operands (length fits) x → new ≡ fits ++ f ∷ [] →
     fits ++ fittings_from asks operands (length fits) (drop i xs) ≡ whole → new ++ fittings_from asks operands (length new) (drop (i + 1) xs) ≡ whole

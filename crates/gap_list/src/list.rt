@@ -1,5 +1,6 @@
 //! A list with a gap.
-ghost use Rattle.std.specs.Prelude.{◌≡◌, ◌<◌, ◌≤◌, ◌++◌, [], length, reverse, slice_get, slice_range, Some, IfOk, IfSome, OnOk, OnErr};
+ghost use Rattle.std.specs.Prelude.{◌≡◌, ◌<◌, ◌≤◌, ◌++◌, [], length, reverse, slice_get, slice_range};
+ghost use Rattle.std.specs.Prelude.{Some, IfOk, IfSome, OnOk, OnErr};
 ghost use Rattle.std.specs.List.{splice};
 
 use crate::parts::shift;
@@ -108,7 +109,8 @@ impl<T> GapList<T> {
 }
 
 impl<T: Drop> GapList<T> {
-    /// Puts new elements in the place of those between two places, and moves the gap behind them. After `Memory` the list is as before.
+    /// Puts new elements in the place of those between two places, and moves the gap behind them.
+    /// After `Memory` the list is as before.
     ///
     /// # Errors
     ///

@@ -1,5 +1,7 @@
-//! The two parts of a list with a gap: the elements before the gap in order, and those behind it, the last first.
-ghost use Rattle.std.specs.Prelude.{◌≡◌, ◌+◌, ◌≤◌, ◌++◌, length, reverse, vec_len, vec_capacity, OnOk};
+//! The two parts of a list with a gap: the elements before the gap in order, and those behind it, the
+//! last first.
+ghost use Rattle.std.specs.Prelude.{◌≡◌, ◌+◌, ◌≤◌, ◌++◌, length, reverse};
+ghost use Rattle.std.specs.Prelude.{vec_len, vec_capacity, OnOk};
 
 use plain_data::Memory;
 

@@ -19,14 +19,16 @@ greatest-reverse m [] = refl
 greatest-reverse m (x ∷ xs) =
     ap (λ l. greatest (map m l)) (reverse-append (x ∷ []) xs) ∙
     (ap greatest (map-append m (reverse xs) (x ∷ [])) ∙
-    (greatest-append (map m (reverse xs)) (m x ∷ []) ∙ (ap (λ n. max n (max (m x) 0)) (greatest-reverse m xs) ∙ grind arith)))
+    (greatest-append (map m (reverse xs)) (m x ∷ []) ∙
+    (ap (λ n. max n (max (m x) 0)) (greatest-reverse m xs) ∙ grind arith)))
 
 -- the greatest of a measure, by those of two parts of which the second is in reverse
 pub greatest_parts : {X : Type 0} (m : X → ℕ) (whole front back : List X) → whole ≡ front ++ reverse back →
     max (greatest (map m front)) (greatest (map m back)) ≡ greatest (map m whole)
 greatest_parts m whole front back is =
     ap (max (greatest (map m front))) (sym (greatest-reverse m back)) ∙
-    (sym (ap greatest (map-append m front (reverse back)) ∙ greatest-append (map m front) (map m (reverse back))) ∙ ap (λ l. greatest (map m l)) (sym is))
+    (sym (ap greatest (map-append m front (reverse back)) ∙ greatest-append (map m front) (map m (reverse back))) ∙
+    ap (λ l. greatest (map m l)) (sym is))
 
 -- the greatest of a measure, by that of what is outside a window and that of the window
 pub greatest_round : {X : Type 0} (m : X → ℕ) (front window back : List X) → greatest (map m (front ++ (window ++ back))) ≡ max (max (greatest (map m front)) (greatest (map m back))) (greatest (map m window))

@@ -1,5 +1,6 @@
 //! A function with what is known of it.
-ghost use Rattle.std.specs.Prelude.{◌≡◌, ◌≤◌, ◌<◌, ◌^◌, ℕ, true, Some, length, slice_get, IfOk, OnOk, OnErr};
+ghost use Rattle.std.specs.Prelude.{◌≡◌, ◌≤◌, ◌<◌, ◌^◌, ℕ, true, Some, length, slice_get};
+ghost use Rattle.std.specs.Prelude.{IfOk, OnOk, OnErr};
 ghost use Rattle.rtx_tree.specs.RegSet.{has_reg};
 ghost use Rattle.live.specs.Live.{AreLiveAfter, AreLiveRows};
 ghost use Rattle.new_insns.specs.Replaced.{replaced};
@@ -112,8 +113,8 @@ impl LiveChain {
         Ok(frame)
     }
 
-    /// The registers that are live after a place. A chain of 2^32 places or more finds no memory, and neither do registers whose numbers
-    /// have more than 32 bits.
+    /// The registers that are live after a place. A chain of 2^32 places or more finds no memory, and
+    /// neither do registers whose numbers have more than 32 bits.
     ///
     /// # Errors
     ///

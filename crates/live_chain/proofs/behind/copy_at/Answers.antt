@@ -7,10 +7,14 @@ use Rattle.live_chain.proofs.BehindLaws.{has_none}
 use Rattle.live_chain.proofs.behind.copy_at.Goals as goal
 
 pub returns-in_default : goal.returns-in_default
-returns-in_default c reg = ap (λ l. has l reg) c.empty.ensures ∙ (has_none reg ∙ sym (ap (λ p. at_place p c.args.rows.now reg) c.in_default.is))
+returns-in_default c reg =
+    ap (λ l. has l reg) c.empty.ensures ∙
+    (has_none reg ∙ sym (ap (λ p. at_place p c.args.rows.now reg) c.in_default.is))
 
 pub returns-else-place-len : goal.returns-else-place-len
 returns-else-place-len c reg =
     let past : length c.args.rows.now ≤ c.in-Some.place = omega (arith, c.len.ensures, c.if-place-len.false) in
     ap (λ l. has l reg) c.empty-else-place-len.ensures ∙
-    (has_none reg ∙ (ap (λ o. at_row o reg) (sym (slice_get_past c.args.rows.now c.in-Some.place past)) ∙ sym (ap (λ p. at_place p c.args.rows.now reg) c.in-Some.is)))
+    (has_none reg ∙
+    (ap (λ o. at_row o reg) (sym (slice_get_past c.args.rows.now c.in-Some.place past)) ∙
+    sym (ap (λ p. at_place p c.args.rows.now reg) c.in-Some.is)))

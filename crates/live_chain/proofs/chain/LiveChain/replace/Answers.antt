@@ -10,16 +10,23 @@ pub invariant_of-self-2 : goal.invariant_of-self-2
 invariant_of-self-2 c =
     let a = c.args in
     let was = c.self.inside in
+    let f = with_chain was.frame was.insns in
     let all = c.splice.new.self in
-    let same : all ≡ splice was.insns a.first a.end a.new = c.in_ok-splice.ensures.ok ∙ ap (λ l. splice l a.first a.end a.new) c.move_gap.ensures in
+    let same : all ≡ splice was.insns a.first a.end a.new =
+    c.in_ok-splice.ensures.ok ∙ ap (λ l. splice l a.first a.end a.new) c.move_gap.ensures in
     record {
-      live = live_joined (with_chain was.frame was.insns) (with_chain was.frame all) a.first a.end c.as_slice-3.result.now a.new was.rows c.take.result c.in_ok-inside.inside c.rows_joined.result
-          c.as_slice-3.ensures.value c.take.ensures.value (ap (with_chain was.frame) same) (c.in_ok-inside.ensures (with_chain was.frame was.insns) (sym c.move_gap.ensures) c.self.invariant.live)
-          c.rows_joined.ensures;
-      uid = known_after (λ i. i.uid) was.insns c.move_gap.new.self c.in-Some.old.now a.new c.as_slice.result.now all a.first a.end c.greatest_uid.result
-          c.greatest_uid-2.result was.greatest c.uid_after-greatest.result c.requires.order c.move_gap.ensures c.in-Some.ensures c.as_slice.ensures.value
-          same c.greatest_uid.ensures c.greatest_uid-2.ensures c.self.invariant.uid c.uid_after-greatest.ensures;
-      pseudo = known_after (λ i. next_pseudo_in i.pattern) was.insns c.move_gap.new.self c.in-Some.old.now a.new c.as_slice-2.result.now all a.first a.end
-          c.next_pseudo.result c.next_pseudo-2.result was.next c.pseudo_after-next.result c.requires.order c.move_gap.ensures c.in-Some.ensures c.as_slice-2.ensures.value
-          same c.next_pseudo.ensures c.next_pseudo-2.ensures c.self.invariant.pseudo c.pseudo_after-next.ensures;
+      live = live_joined f (with_chain was.frame all) a.first a.end c.as_slice-3.result.now a.new was.rows
+          c.take.result c.in_ok-inside.inside c.rows_joined.result c.as_slice-3.ensures.value
+          c.take.ensures.value (ap (with_chain was.frame) same)
+          (c.in_ok-inside.ensures f (sym c.move_gap.ensures) c.self.invariant.live) c.rows_joined.ensures;
+      uid = known_after (λ i. i.uid) was.insns c.move_gap.new.self c.in-Some.old.now a.new
+          c.as_slice.result.now all a.first a.end c.greatest_uid.result c.greatest_uid-2.result was.greatest
+          c.uid_after-greatest.result c.requires.order c.move_gap.ensures c.in-Some.ensures
+          c.as_slice.ensures.value same c.greatest_uid.ensures c.greatest_uid-2.ensures c.self.invariant.uid
+          c.uid_after-greatest.ensures;
+      pseudo = known_after (λ i. next_pseudo_in i.pattern) was.insns c.move_gap.new.self c.in-Some.old.now a.new
+          c.as_slice-2.result.now all a.first a.end c.next_pseudo.result c.next_pseudo-2.result was.next
+          c.pseudo_after-next.result c.requires.order c.move_gap.ensures c.in-Some.ensures
+          c.as_slice-2.ensures.value same c.next_pseudo.ensures c.next_pseudo-2.ensures c.self.invariant.pseudo
+          c.pseudo_after-next.ensures;
     }

@@ -1,6 +1,0 @@
-pub mod Spare
-pub mod Places
-pub mod Straight
-pub mod Held
-pub mod Onwards
-pub mod Tame

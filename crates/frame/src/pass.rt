@@ -121,7 +121,7 @@ fn try_all(alloc: Global, desc: &Description, first: u32, insns: &[Insn]) -> Res
 ///
 /// `Limit` of `Frame` where the frame is too large, before all else; `Unmatched` where no form matches a new instruction, for the first;
 /// `Memory` where memory ran out.
-#[tactic(auto, using(crate::proofs::One::frame_one, crate::proofs::Kept::frame_keeps, crate::proofs::Kept::frame_marks, crate::proofs::Kept::frame_uids))]
+#[tactic(auto, using(crate::proofs::One::frame_one, crate::proofs::Kept::frame_marks, crate::proofs::Kept::frame_uids))]
 pub fn frame(
     alloc: Global,
     desc: &Description,

@@ -1,4 +1,5 @@
 use Rattle.std.proofs.lemmas.Result.{err_from_is_err_and}
+use Rattle.frame.proofs.Kept.{frame_keeps}
 use Rattle.frame.proofs.Trying.{large_refused, framed_is, gave, refused}
 use Rattle.frame.proofs.pass.frame.Goals as goal
 
@@ -35,3 +36,27 @@ returns-clause-gives c =
     c.as_slice.ensures.value
     c.in_ok-first.ensures c.as_slice-2.result.now c.in_ok-try_all.field-0 c.as_slice-2.ensures.value
     c.if-layout-gt-MOST_FRAME.false framed c.in_ok-try_all.ensures
+
+pub returns-then-layout-gt-MOST_FRAME-clause-keeps : goal.returns-then-layout-gt-MOST_FRAME-clause-keeps
+returns-then-layout-gt-MOST_FRAME-clause-keeps c =
+    λ forms f g layout out natural comes. frame_keeps forms f g layout out natural comes
+
+pub returns-in_err-first-clause-keeps : goal.returns-in_err-first-clause-keeps
+returns-in_err-first-clause-keeps c =
+    λ forms f g layout out natural comes. frame_keeps forms f g layout out natural comes
+
+pub returns-in_err-whole-clause-keeps : goal.returns-in_err-whole-clause-keeps
+returns-in_err-whole-clause-keeps c =
+    λ forms f g layout out natural comes. frame_keeps forms f g layout out natural comes
+
+pub returns-in_err-g-clause-keeps : goal.returns-in_err-g-clause-keeps
+returns-in_err-g-clause-keeps c =
+    λ forms f g layout out natural comes. frame_keeps forms f g layout out natural comes
+
+pub returns-in_err-try_all-clause-keeps : goal.returns-in_err-try_all-clause-keeps
+returns-in_err-try_all-clause-keeps c =
+    λ forms f g layout out natural comes. frame_keeps forms f g layout out natural comes
+
+pub returns-clause-keeps : goal.returns-clause-keeps
+returns-clause-keeps c =
+    λ forms f g layout out natural comes. frame_keeps forms f g layout out natural comes

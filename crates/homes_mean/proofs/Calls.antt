@@ -66,7 +66,7 @@ module _ (c : Setting) (place : ℕ) (i : Insn) (at : slice_get c.f.insns place 
 
   argument_known : (reg : ℕ) → has_argument reg i.uses ≡ true → (w : Width) → Too (reg_value s.regs reg w) (reg_value u.regs reg w)
   argument_known reg has w v is =
-      let argument = c.can.passed place reg i at has in
+      let argument = c.can.passed place reg i at call has in
       let most = leb-true reg 17 (and_parts (nat_le 10 reg) (nat_le reg 17) argument).1 in
       let live : IsLive c.f reg place = AtUse place i at (or_left (insn_uses i reg) _ (or_right (pattern_uses reg i.pattern) _ has)) in
       sym (ap (λ home. content_in c.layout (base c) u.regs u.memory reg home w) (below_itself c.f c.homes c.are_homes reg (omega (arith, most))))

@@ -9,7 +9,7 @@ use Rattle.rtx_tree.specs.declared.code.Code.{Code}
 use Rattle.rtx_tree.specs.declared.code.Code.TheVariants.{Reg, ConstInt, IfThenElse, Set}
 use Rattle.rtx_tree.specs.declared.function.Function.{Function}
 use Rattle.rtx_tree.specs.declared.function.Insn.{Insn}
-use Rattle.rtx_tree.specs.declared.function.Kind.TheVariants.{Jump}
+use Rattle.rtx_tree.specs.declared.function.Kind.TheVariants.{Jump, Call}
 use Rattle.rtx_tree.specs.declared.tree.Rtx.{Rtx}
 use Rattle.rtx_tree.specs.declared.tree.Rtx.TheFolds.{fold-Rtx}
 use Rattle.rtx_tree.specs.declared.tree.Rtx.TheOpen.{Rtx-F}
@@ -62,13 +62,14 @@ label_by _ kids x = x
 abbrev pub names_constant : Rtx → Bool
 names_constant label = list_all (is_constant is_any) (kids_of label)
 
--- What is asked of a function: its numbers have their sizes; of the hard registers it names a0 to a7 alone, and virtual-stack-vars,
--- which it changes nowhere; labels are told by constants, and labels and barriers define nothing.
+-- What is asked of a function: its numbers have their sizes; of the hard registers it names a0 to a7 alone, which alone its calls are handed,
+-- and virtual-stack-vars, which it changes nowhere; labels are told by constants, and labels and barriers define nothing.
 pub record CanBePlaced (f : Function) : Type 0 where
   pub sized : (place : ℕ) (i : Insn) → slice_get f.insns place ≡ Some i → all_sized i.pattern ≡ true
   pub named : (place reg : ℕ) (i : Insn) → slice_get f.insns place ≡ Some i → mentions_reg reg i.pattern ≡ true →
       (reg ≡ virtual_stack_vars) ⊎ (has_home reg ≡ true)
-  pub passed : (place reg : ℕ) (i : Insn) → slice_get f.insns place ≡ Some i → has_argument reg i.uses ≡ true → is_argument reg ≡ true
+  pub passed : (place reg : ℕ) (i : Insn) → slice_get f.insns place ≡ Some i → i.kind ≡ Call → has_argument reg i.uses ≡ true →
+      is_argument reg ≡ true
   pub vars : (place : ℕ) (i : Insn) → slice_get f.insns place ≡ Some i → insn_defines i virtual_stack_vars ≡ false
   pub labels : (place : ℕ) (i : Insn) → slice_get f.insns place ≡ Some i → i.kind ≡ Jump →
       names_constant (label_by (head_of i.pattern).code (kids_of i.pattern) i.pattern) ≡ true

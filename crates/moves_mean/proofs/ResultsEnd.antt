@@ -1,0 +1,134 @@
+-- Behind an instruction each result that is moved ends where it is to end, one after the other.
+use Rattle.std.proofs.Common.{◌≡◌, ◌≢◌, ◌⊎◌, inl, inr, ℕ, zero, suc, if◌then◌else◌, Bool, true, false, List, [], ◌∷◌, ◌++◌, map, Option, Some, None, refl, sym, ap, subst, ◌∙◌}
+use Rattle.std.proofs.lemmas.List.Concat.{flat_map-append}
+use Rattle.std.specs.List.{flat_map}
+use Rattle.std.specs.Prelude.{slice_get}
+use Rattle.rtx_tree.specs.declared.machine.SymbolAt.{SymbolAt}
+use Rattle.rtx_tree.specs.declared.memories.MemByte.{MemByte}
+use Rattle.rtx_tree.specs.declared.tree.Rtx.{Rtx}
+use Rattle.rtl_step.specs.Effect.{reg_after, regs_after, bytes_after, memory_after}
+use Rattle.rtl_step.specs.Regs.{Regs}
+use Rattle.rtl_step.specs.declared.effect.Effect.{Effect}
+use Rattle.reload_operands.specs.declared.operand.Operand.{Operand}
+use Rattle.reload_moves.specs.Moves.{out_store, out_moves}
+use Rattle.reload_moves.specs.Registers.{is_result}
+use Rattle.reload_moves.specs.declared.ask.Ask.{Ask}
+use Rattle.reload_moves.specs.declared.moves.Move.{Move}
+use Rattle.reload_moves.specs.declared.part.Part.{Part}
+use Rattle.reload_choice.specs.Insns.{insns_of, all_insns}
+use Rattle.moves_mean.specs.Held.{Held, Holds}
+use Rattle.moves_mean.specs.Spare.{is_spare, KnowsRest, KeepsRest}
+use Rattle.moves_mean.proofs.Endings.{EndsFrom, EndedNear, nothing, ends, near}
+use Rattle.moves_mean.proofs.Ends.{IsOnRest, Ended}
+use Rattle.moves_mean.proofs.Fetches.{IsFresh}
+use Rattle.moves_mean.proofs.Keyed.{Keyed, effects_in, with_kept, kept_of, last_by, last_of, with_last, out_of}
+use Rattle.moves_mean.proofs.ResultKeys.{result_places}
+use Rattle.moves_mean.proofs.ResultsHeld.{last_cases}
+use Rattle.moves_mean.proofs.Window.{memory_both, regs_both}
+
+-- ---- effects that are all some of others
+
+abbrev pub Among : Effect → List Effect → Type 0
+Among e [] = ⊥
+Among e (o ∷ os) = (e ≡ o) ⊎ Among e os
+
+abbrev pub AllAmong : List Effect → List Effect → Type 0
+AllAmong [] es = Unit {0}
+AllAmong (d ∷ ds) es = Among d es × AllAmong ds es
+
+more_among : (ds es : List Effect) (e : Effect) → AllAmong ds es → AllAmong ds (e ∷ es)
+more_among [] es e all = tt
+more_among (d ∷ ds) es e all = (inr all.0, more_among ds es e all.1)
+
+both_among : (ds os es : List Effect) → AllAmong ds es → AllAmong os es → AllAmong (ds ++ os) es
+both_among [] os es all all' = all'
+both_among (d ∷ ds) os es all all' = (all.0, both_among ds os es all.1 all')
+
+-- what is kept is among them
+pub kept_among : (xs : List Keyed) → AllAmong (kept_of xs) (effects_in xs)
+kept_among [] = tt
+kept_among (x ∷ xs) = by x.key (more_among (kept_of xs) (effects_in xs) x.effect (kept_among xs))
+  where
+    by : (key : Option ℕ) → AllAmong (kept_of xs) (x.effect ∷ effects_in xs) → AllAmong (with_kept key x.effect (kept_of xs)) (x.effect ∷ effects_in xs)
+    by None rest = (inl refl, rest)
+    by (Some k) rest = rest
+
+-- and so is the last of an operand
+pub last_among : (xs : List Keyed) (k : ℕ) (e : Effect) → last_of xs k ≡ Some e → Among e (effects_in xs)
+last_among [] k e is = absurd (let no : ⊥ = cc in no)
+last_among (x ∷ xs) k e is = elim (last_cases (last_of xs k) x.key k x.effect e is) [
+  | inl later ↦ inr (last_among xs k e later)
+  | inr here ↦ inl (sym here.1)
+]
+
+-- a state's registers and memory behind some of the effects
+pub record Reached (es : List Effect) (regs : Regs) (m : List MemByte) (r0 : Regs) (n : List MemByte) : Type 0 where
+  pub made : List Effect
+  pub among : AllAmong made es
+  pub regs_are : r0 ≡ regs_after made regs
+  pub memory_is : n ≡ memory_after made m
+
+pub reached_more : (es : List Effect) (regs : Regs) (m : List MemByte) (r0 : Regs) (n : List MemByte) (o : Effect) → Among o es → Reached es regs m r0 n →
+    Reached es regs m (reg_after o r0) (bytes_after o n)
+reached_more es regs m r0 n o among r = record {
+  made = r.made ++ o ∷ [];
+  among = both_among r.made (o ∷ []) es r.among (among, tt);
+  regs_are = ap (reg_after o) r.regs_are ∙ sym (regs_both r.made (o ∷ []) regs);
+  memory_is = ap (bytes_after o) r.memory_is ∙ sym (memory_both r.made (o ∷ []) m);
+}
+
+module _ (symbols : List SymbolAt) (Told : Regs → List MemByte → Type 0)
+    (spared : (r r' : Regs) (m : List MemByte) → KeepsRest r r' → Told r m → Told r' m) (operands : List Operand) (asks : List Ask)
+    (keyed : List Keyed) (regs : Regs) (m : List MemByte) (hs : List Held) where
+  abbrev pub ReachedHere : Regs → List MemByte → Type 0
+  ReachedHere = Reached (effects_in keyed) regs m
+
+  abbrev pub code_of : Part → List Rtx
+  code_of p = all_insns operands (out_store asks p)
+
+  -- by an instruction alone
+  abbrev pub EndsNear : Part → Effect → Type 0
+  EndsNear p o = (r0 r : Regs) (n : List MemByte) → ReachedHere r0 n → KnowsRest r0 r → Told r n → Holds r hs → EndedNear symbols Told spared (code_of p) r n o
+
+  -- by one at a far base
+  pub record EndsFar (p : Part) (o : Effect) : Type 0 where
+    pub far : ℕ
+    pub spare : is_spare far ≡ true
+    pub fresh : IsFresh symbols [] far hs
+    pub one : (r0 r : Regs) (n : List MemByte) → ReachedHere r0 n → KnowsRest r0 r → Told r n → Holds r hs → Ended symbols Told spared (code_of p) r n o far
+
+  pub record EndsAt (p : Part) : Type 0 where
+    pub effect : Effect
+    pub last : last_of keyed p.place ≡ Some effect
+    pub rest : IsOnRest effect
+    pub code : EndsNear p effect ⊎ EndsFar p effect
+
+  one_end : (p : Part) (e : EndsAt p) (os : List Effect) (more : List Rtx) (r0 : Regs) (n : List MemByte) → ReachedHere r0 n →
+      EndsFrom symbols Told spared hs (reg_after e.effect r0) (bytes_after e.effect n) os more → EndsFrom symbols Told spared hs r0 n (e.effect ∷ os) (code_of p ++ more)
+  one_end p e os more r0 n reached later = elim e.code [
+    | inl one ↦ near r0 n e.effect os (code_of p) more e.rest (λ r knows told holds. one r0 r n reached knows told holds) later
+    | inr f ↦ ends r0 n e.effect os (code_of p) more f.far f.spare f.fresh e.rest (λ r knows told holds. f.one r0 r n reached knows told holds) later
+  ]
+
+  pub results_end : (ps : List Part) → ((i : ℕ) (p : Part) → slice_get ps i ≡ Some p → is_result p ≡ true → EndsAt p) → (r0 : Regs) (n : List MemByte) →
+      ReachedHere r0 n → EndsFrom symbols Told spared hs r0 n (out_of keyed (result_places ps)) (all_insns operands (flat_map (out_moves asks) ps))
+  results_end [] each r0 n reached = nothing r0 n
+  results_end (p ∷ ps) each r0 n reached = by (is_result p) refl (λ r0 n reached. results_end ps (λ i q at. each (suc i) q at) r0 n reached)
+    where
+      by : (b : Bool) → is_result p ≡ b →
+          ((r0 : Regs) (n : List MemByte) → ReachedHere r0 n → EndsFrom symbols Told spared hs r0 n (out_of keyed (result_places ps)) (all_insns operands (flat_map (out_moves asks) ps))) →
+          EndsFrom symbols Told spared hs r0 n (out_of keyed (result_places (p ∷ ps))) (all_insns operands (flat_map (out_moves asks) (p ∷ ps)))
+      by true is rest =
+          let e = each 0 p refl is in
+          let later = rest (reg_after e.effect r0) (bytes_after e.effect n)
+          (reached_more (effects_in keyed) regs m r0 n e.effect (last_among keyed p.place e.effect e.last) reached) in
+          subst (λ b. EndsFrom symbols Told spared hs r0 n (out_of keyed (if b then p.place ∷ result_places ps else result_places ps))
+          (all_insns operands ((if b then out_store asks p else []) ++ flat_map (out_moves asks) ps))) (sym is)
+          (subst (λ o. EndsFrom symbols Told spared hs r0 n (with_last o (out_of keyed (result_places ps)))
+          (all_insns operands (out_store asks p ++ flat_map (out_moves asks) ps))) (sym e.last)
+          (subst (EndsFrom symbols Told spared hs r0 n (e.effect ∷ out_of keyed (result_places ps)))
+          (sym (flat_map-append (insns_of operands) (out_store asks p) (flat_map (out_moves asks) ps)))
+          (one_end p e (out_of keyed (result_places ps)) (all_insns operands (flat_map (out_moves asks) ps)) r0 n reached later)))
+      by false is rest =
+          subst (λ b. EndsFrom symbols Told spared hs r0 n (out_of keyed (if b then p.place ∷ result_places ps else result_places ps))
+          (all_insns operands ((if b then out_store asks p else []) ++ flat_map (out_moves asks) ps))) (sym is) (rest r0 n reached)

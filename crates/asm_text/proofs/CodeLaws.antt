@@ -128,6 +128,7 @@ module _ (forms : List Entry) where
   name_refused functions name place (refusal.IllFormed function uid rule) named h = NameComes.refused place (refusal.IllFormed function uid rule) named h
   name_refused functions name place (refusal.Limit which count) named h = NameComes.refused place (refusal.Limit which count) named h
   name_refused functions name place (refusal.Unmatched function uid stage insn) named h = NameComes.refused place (refusal.Unmatched function uid stage insn) named h
+  name_refused functions name place (refusal.Unsatisfied function uid form insn) named h = NameComes.refused place (refusal.Unsatisfied function uid form insn) named h
   name_refused functions name place (refusal.NotEquated function uid rule item left right) named h = NameComes.refused place (refusal.NotEquated function uid rule item left right) named h
 
   -- what refuses the bytes before they are functions refuses the name
@@ -141,6 +142,7 @@ module _ (forms : List Entry) where
   unread_refused bytes name (refusal.IllFormed function uid rule) never h = CodeComes.unread (refusal.IllFormed function uid rule) (never (λ is. cc)) h
   unread_refused bytes name (refusal.Limit which count) never h = CodeComes.unread (refusal.Limit which count) (never (λ is. cc)) h
   unread_refused bytes name (refusal.Unmatched function uid stage insn) never h = CodeComes.unread (refusal.Unmatched function uid stage insn) (never (λ is. cc)) h
+  unread_refused bytes name (refusal.Unsatisfied function uid form insn) never h = CodeComes.unread (refusal.Unsatisfied function uid form insn) (never (λ is. cc)) h
   unread_refused bytes name (refusal.NotEquated function uid rule item left right) never h = CodeComes.unread (refusal.NotEquated function uid rule item left right) (never (λ is. cc)) h
 
 -- what a name came to among the functions, it comes to in the bytes
@@ -155,4 +157,5 @@ gives_map (Err (refusal.Construct place name)) P Q follows h = follows (Err (ref
 gives_map (Err (refusal.IllFormed function uid rule)) P Q follows h = follows (Err (refusal.IllFormed function uid rule)) h
 gives_map (Err (refusal.Limit which count)) P Q follows h = follows (Err (refusal.Limit which count)) h
 gives_map (Err (refusal.Unmatched function uid stage insn)) P Q follows h = follows (Err (refusal.Unmatched function uid stage insn)) h
+gives_map (Err (refusal.Unsatisfied function uid form insn)) P Q follows h = follows (Err (refusal.Unsatisfied function uid form insn)) h
 gives_map (Err (refusal.NotEquated function uid rule item left right)) P Q follows h = follows (Err (refusal.NotEquated function uid rule item left right)) h

@@ -94,7 +94,7 @@ fn write_next(
     ensures { AppendsPiece text.old.items text.new.items parts.old parts.new result (FunctionComes description.now number (length text.old.items) f.now) }
 {
     let after = after(alloc, description, f)?;
-    write_after(alloc, description, number, &after, text, parts)
+    write_after(alloc, description, number, &after.function, text, parts)
 }
 
 /// The assembly of some functions, in order, each with its number from 0 on.

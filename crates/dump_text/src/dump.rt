@@ -27,8 +27,8 @@ fn dump_function(
 ) -> Result<(), Refusal>
     ensures { AppendedSome out.old.items out.new.items result (FunctionComes desc.now pass f.now) }
 {
-    let g = behind(alloc, desc, f, pass)?;
-    Ok(print_function(&g, out)?)
+    let made = behind(alloc, desc, f, pass)?;
+    Ok(print_function(&made.function, out)?)
 }
 
 /// Appends the texts of some functions.

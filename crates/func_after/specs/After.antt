@@ -1,6 +1,6 @@
--- What a function is behind each pass, and when it comes to output: GCC Internals, "Passes and Files of the Compiler" ("RTL passes"). A pass
--- goes on with what the one before it leaves, and what one refuses is told by the function's name and the pass.
-use Rattle.std.specs.Prelude.{◌≡◌, ℕ, List, Result, Ok, Err}
+-- What the passes make of a function, one behind the other: GCC Internals, "Passes and Files of the Compiler" ("RTL passes"). A pass goes on
+-- with what the one before it leaves, and what one refuses is told by the function's name and the pass.
+use Rattle.std.specs.Prelude.{◌≡◌, ℕ, List, [], ◌∷◌, Result, Ok, Err}
 use Rattle.rtx_tree.specs.declared.function.Insn.{Insn}
 use Rattle.rtx_tree.specs.declared.function.Function.{Function}
 use Rattle.rtx_tree.specs.declared.stage.Stage.{Stage}
@@ -11,16 +11,36 @@ use Rattle.md_forms.specs.declared.form.Entry.{Entry}
 use Rattle.pass_refusal.specs.declared.refusal.PassRefusal.{PassRefusal}
 use Rattle.pass_refusal.specs.declared.refusal.PassRefusal.TheVariants as passes
 use Rattle.pass_name.specs.declared.pass.Pass.{Pass}
-use Rattle.pass_name.specs.declared.pass.Pass.TheVariants.{Read, Lower, Split1}
+use Rattle.pass_name.specs.declared.pass.Pass.TheVariants.{Read, Lower, Split1, Reload, Frame, Split2}
 use Rattle.lower.specs.Lower.{LowerComes}
-use Rattle.split.specs.declared.stage.SplitStage.TheVariants.{BeforeReload}
+use Rattle.split.specs.declared.stage.SplitStage.TheVariants.{BeforeReload, AfterReload}
 use Rattle.split.specs.Split.{SplitComes}
-use Rattle.rtl_chain.specs.End.{IsFinished}
+use Rattle.assign.specs.Frame.{layout_of}
+use Rattle.assign.specs.Homes.{AreHomes}
+use Rattle.assign.specs.declared.home.HomeOf.{HomeOf}
+use Rattle.assign.specs.declared.places.Layout.{Layout}
+use Rattle.insn_sizes.specs.Sizes.{EachSized}
+use Rattle.reload.specs.Reload.{FunctionReloads}
+use Rattle.reload.specs.declared.refusal.ReloadRefusal.{ReloadRefusal}
+use Rattle.reload.specs.declared.refusal.ReloadRefusal.TheVariants as reloading
+use Rattle.frame.specs.Framed.{FrameComes}
 use Rattle.func_input.specs.Input.{RefusesWith}
+use Rattle.func_after.specs.declared.made.Made.{Made}
 
--- a function, or a refusal
+-- ---- what was made so far
+
+-- a function as it was read; its frame is not laid out yet
+abbrev pub as_read : Function → Made
+as_read f = record { function = f; layout = record { size = 0; slots = []; saved = [] } }
+
+abbrev pub with_function : Made → Function → Made
+with_function m g = record m { function = g }
+
+-- what was made, or a refusal
 abbrev pub Answer : Type 0
-Answer = Result Function Refusal
+Answer = Result Made Refusal
+
+-- ---- refusals
 
 -- the refusal of an instruction of a function at a stage
 abbrev pub unmatched_at : Stage → List ℕ → Insn → Refusal
@@ -33,29 +53,70 @@ refused_for function at (passes.NotEquated uid rule item left right) = refusal.N
 refused_for function at (passes.Limit which count) = refusal.Limit which count
 refused_for function at passes.Memory = refusal.Memory
 
-abbrev pub told_for : List ℕ → Stage → Result Function PassRefusal → Answer
-told_for function at (Ok g) = Ok g
-told_for function at (Err e) = Err (refused_for function at e)
+-- and for that of a function whose registers get no homes
+abbrev pub unreloaded_for : List ℕ → ReloadRefusal → Refusal
+unreloaded_for function (reloading.Unmatched uid insn) = refusal.Unmatched function uid stage.Reload insn
+unreloaded_for function (reloading.Unsatisfied uid form insn) = refusal.Unsatisfied function uid form insn
+unreloaded_for function reloading.Memory = refusal.Memory
 
--- What a function is behind a pass, by the forms of a description, or what a pass on the way there refuses. Behind none it is what was read.
-pub data IsBehind (forms : List Entry) (f : Function) : Pass → Answer → Type 0 where
-  read : IsBehind forms f Read (Ok f)
-  lowered : (r : Result Function PassRefusal) (answer : Answer) → LowerComes forms f r → answer ≡ told_for f.name stage.Lower r →
-      IsBehind forms f Lower answer
-  unlowered : (e : Refusal) → IsBehind forms f Lower (Err e) → IsBehind forms f Split1 (Err e)
-  split : (g : Function) (r : Result Function PassRefusal) (answer : Answer) → IsBehind forms f Lower (Ok g) → SplitComes forms BeforeReload g r →
-      answer ≡ told_for f.name stage.Split1 r → IsBehind forms f Split1 answer
+-- ---- one pass
 
--- the function with another chain
-abbrev pub with_chain : Function → List Insn → Function
-with_chain f insns = record f { insns = insns }
+-- what was made, with another function
+abbrev pub told_for : Made → Stage → Result Function PassRefusal → Answer
+told_for m at (Ok g) = Ok (with_function m g)
+told_for m at (Err e) = Err (refused_for m.function.name at e)
 
--- What comes to output: the function behind the last pass, with its finished chain.
-pub data AfterComes (forms : List Entry) (f : Function) : Answer → Type 0 where
-  refused : (e : Refusal) → IsBehind forms f Split1 (Err e) → AfterComes forms f (Err e)
-  finished : (g : Function) (chain : List Insn) → IsBehind forms f Split1 (Ok g) → IsFinished g.insns chain → AfterComes forms f (Ok (with_chain g chain))
+-- and with the layout of its frame
+abbrev pub told_reloaded : List ℕ → Layout → Result Function ReloadRefusal → Answer
+told_reloaded name layout (Ok g) = Ok (record { function = g; layout = layout })
+told_reloaded name layout (Err e) = Err (unreloaded_for name e)
+
+-- What a pass makes of what was made, by the forms of a description, or what it refuses. Registers have the homes that are defined for the
+-- function as it comes to reload; of its constants each has 64 signed bits.
+pub data PassComes (forms : List Entry) (m : Made) : Pass → Answer → Type 0 where
+  reads : PassComes forms m Read (Ok m)
+  lowers : (r : Result Function PassRefusal) (answer : Answer) → LowerComes forms m.function r → answer ≡ told_for m stage.Lower r →
+      PassComes forms m Lower answer
+  splits_first : (r : Result Function PassRefusal) (answer : Answer) → SplitComes forms BeforeReload m.function r →
+      answer ≡ told_for m stage.Split1 r → PassComes forms m Split1 answer
+  reloads : (homes : List HomeOf) (r : Result Function ReloadRefusal) (answer : Answer) → AreHomes m.function homes →
+      EachSized m.function.insns → FunctionReloads forms homes (layout_of m.function homes) m.function r →
+      answer ≡ told_reloaded m.function.name (layout_of m.function homes) r → PassComes forms m Reload answer
+  frames : (r : Result Function PassRefusal) (answer : Answer) → FrameComes forms m.function m.layout r →
+      answer ≡ told_for m stage.Frame r → PassComes forms m Frame answer
+  splits_again : (r : Result Function PassRefusal) (answer : Answer) → SplitComes forms AfterReload m.function r →
+      answer ≡ told_for m stage.Split2 r → PassComes forms m Split2 answer
+
+-- ---- one behind the other
+
+-- what some passes make, in their order, or the first refusal
+pub data PassesCome (forms : List Entry) : List Pass → Made → Answer → Type 0 where
+  done : (m : Made) → PassesCome forms [] m (Ok m)
+  refused : (pass : Pass) (others : List Pass) (m : Made) (e : Refusal) → PassComes forms m pass (Err e) →
+      PassesCome forms (pass ∷ others) m (Err e)
+  goes_on : (pass : Pass) (others : List Pass) (m next : Made) (answer : Answer) → PassComes forms m pass (Ok next) →
+      PassesCome forms others next answer → PassesCome forms (pass ∷ others) m answer
+
+-- the passes up to one
+abbrev pub passes_up_to : Pass → List Pass
+passes_up_to Read = []
+passes_up_to Lower = Lower ∷ []
+passes_up_to Split1 = Lower ∷ Split1 ∷ []
+passes_up_to Reload = Lower ∷ Split1 ∷ Reload ∷ []
+passes_up_to Frame = Lower ∷ Split1 ∷ Reload ∷ Frame ∷ []
+passes_up_to Split2 = Lower ∷ Split1 ∷ Reload ∷ Frame ∷ Split2 ∷ []
+
+-- what a function is behind a pass, or what a pass on the way there refuses
+abbrev pub IsBehind : List Entry → Function → Pass → Answer → Type 0
+IsBehind forms f pass = PassesCome forms (passes_up_to pass) (as_read f)
+
+-- what comes to output: the function behind the last pass
+abbrev pub AfterComes : List Entry → Function → Answer → Type 0
+AfterComes forms f = IsBehind forms f Split2
+
+-- ---- what a call has done
 
 -- what is told is given; a refusal is the one that is told; want of memory is free
 abbrev pub Gives : Answer → (Answer → Type 0) → Type 0
-Gives (Ok f) P = P (Ok f)
+Gives (Ok m) P = P (Ok m)
 Gives (Err e) P = RefusesWith e P

@@ -1,13 +1,15 @@
-//! What a function is behind each pass, and when it comes to output.
+//! What the passes make of a function, one behind the other.
 //!
 //! [`behind`] takes a function through the passes up to one, or tells what one of them refuses, by the function's name and the pass; [`after`]
-//! takes it through all, and finishes its chain (`specs/After.antt`). A function that is sound is kept by each pass, and with its finished
-//! chain too (`insn_keep`). `specs/Each.antt` says what some things come to, one behind the other.
+//! takes it through all (`specs/After.antt`). What was made so far is a [`Made`]: the function, and the layout of its frame once it is
+//! reloaded. `specs/Each.antt` says what some things come to, one behind the other.
 #![tactic(auto)]
 
-mod chain;
+mod made;
+mod pass;
 mod passes;
 mod refusal;
 
+pub use made::Made;
 pub use passes::{after, behind};
 pub use refusal::unmatched;

@@ -1,10 +1,10 @@
 //! What is told of an instruction, and of a pass.
 ghost use Rattle.std.specs.Prelude.{◌≡◌, IfOk};
-ghost use Rattle.func_input.specs.machine.Steps.{IsOrMemory};
 ghost use Rattle.func_after.specs.After as spec;
 
 use pass_refusal::PassRefusal;
 use plain_data::Memory;
+use reload::ReloadRefusal;
 use rtx_tree::{Insn, Name, Stage};
 use run_refusal::Refusal;
 use std::alloc::Global;
@@ -27,17 +27,9 @@ pub fn unmatched(
 }
 
 /// The refusal of the run for that of a pass over a function.
-pub(crate) fn refused_for(
-    alloc: Global,
-    function: &Name,
-    stage: Stage,
-    refusal: PassRefusal,
-) -> Refusal
-    ensures { IsOrMemory result (spec.refused_for function.now stage refusal) }
+pub(crate) fn refused_for(function: Name, stage: Stage, refusal: PassRefusal) -> Refusal
+    ensures { result ≡ spec.refused_for function stage refusal }
 {
-    let Ok(function) = function.copy(alloc) else {
-        return Refusal::Memory;
-    };
     match refusal {
         PassRefusal::Unmatched { uid, insn } => Refusal::Unmatched {
             function,
@@ -61,5 +53,26 @@ pub(crate) fn refused_for(
         },
         PassRefusal::Limit { which, count } => Refusal::Limit { which, count },
         PassRefusal::Memory => Refusal::Memory,
+    }
+}
+
+/// The refusal of the run for that of a function whose registers get no homes.
+pub(crate) fn unreloaded_for(function: Name, refusal: ReloadRefusal) -> Refusal
+    ensures { result ≡ spec.unreloaded_for function refusal }
+{
+    match refusal {
+        ReloadRefusal::Unmatched { uid, insn } => Refusal::Unmatched {
+            function,
+            uid,
+            stage: Stage::Reload,
+            insn,
+        },
+        ReloadRefusal::Unsatisfied { uid, form, insn } => Refusal::Unsatisfied {
+            function,
+            uid,
+            form,
+            insn,
+        },
+        ReloadRefusal::Memory => Refusal::Memory,
     }
 }

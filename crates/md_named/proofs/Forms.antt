@@ -30,6 +30,7 @@ of_trees source name trees (Err (refusal.Syntax file place)) come none = absurd 
 of_trees source name trees (Err (refusal.Construct place what)) come none = absurd none
 of_trees source name trees (Err (refusal.IllFormed function uid rule)) come none = absurd none
 of_trees source name trees (Err (refusal.Unmatched function uid stage insn)) come none = absurd none
+of_trees source name trees (Err (refusal.Unsatisfied function uid form insn)) come none = absurd none
 of_trees source name trees (Err (refusal.NotEquated function uid rule item left right)) come none = absurd none
 
 -- its files were refused

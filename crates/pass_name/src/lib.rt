@@ -1,7 +1,7 @@
 //! The passes behind which a function can be shown.
 //!
-//! A [`Pass`] has a name (`specs/Pass.antt`). A function is read, lowered, and split a first time; the passes to
-//! come each have their place behind that.
+//! A [`Pass`] has a name (`specs/Pass.antt`). A function is read, lowered, split a first time, reloaded, given its
+//! frame, and split a second time.
 #![tactic(auto)]
 
 mod pass;

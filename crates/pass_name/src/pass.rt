@@ -11,6 +11,12 @@ pub enum Pass {
     Lower,
     /// Splits before registers have homes.
     Split1,
+    /// Homes of registers, and the moves that forms ask for.
+    Reload,
+    /// The stack frame: prologue and epilogues.
+    Frame,
+    /// Splits once registers have homes.
+    Split2,
 }
 
 impl Pass {
@@ -22,6 +28,9 @@ impl Pass {
             Pass::Read => "read",
             Pass::Lower => "lower",
             Pass::Split1 => "split1",
+            Pass::Reload => "reload",
+            Pass::Frame => "frame",
+            Pass::Split2 => "split2",
         }
     }
 
@@ -33,6 +42,9 @@ impl Pass {
             "read" => Some(Pass::Read),
             "lower" => Some(Pass::Lower),
             "split1" => Some(Pass::Split1),
+            "reload" => Some(Pass::Reload),
+            "frame" => Some(Pass::Frame),
+            "split2" => Some(Pass::Split2),
             _ => None,
         }
     }

@@ -34,6 +34,7 @@ answers_of words known input (refusal.Construct place name) h r w m = h
 answers_of words known input (refusal.IllFormed function uid rule) h r w m = h
 answers_of words known input (refusal.Limit which count) h r w m = h
 answers_of words known input (refusal.Unmatched function uid stage insn) h r w m = h
+answers_of words known input (refusal.Unsatisfied function uid form insn) h r w m = h
 answers_of words known input (refusal.NotEquated function uid rule item left right) h r w m = h
 
 pub answered_err : (words : List (List ℕ)) (known : Source) (input : Option (List ℕ)) (e : Refusal) (status : ℕ) (output output' errors errors' : Option (List ℕ)) (faults faults' : ℕ) →
@@ -80,6 +81,7 @@ read_of (refusal.Construct place name) is = cc
 read_of (refusal.IllFormed function uid rule) is = cc
 read_of (refusal.Limit which count) is = cc
 read_of (refusal.Unmatched function uid stage insn) is = cc
+read_of (refusal.Unsatisfied function uid form insn) is = cc
 read_of (refusal.NotEquated function uid rule item left right) is = cc
 
 -- a status 6 was that of a fault of a read

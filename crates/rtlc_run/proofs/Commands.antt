@@ -34,6 +34,7 @@ gives_map (Err (refusal.Construct place name)) P Q follows h = follows (Err (ref
 gives_map (Err (refusal.IllFormed function uid rule)) P Q follows h = follows (Err (refusal.IllFormed function uid rule)) h
 gives_map (Err (refusal.Limit which count)) P Q follows h = follows (Err (refusal.Limit which count)) h
 gives_map (Err (refusal.Unmatched function uid stage insn)) P Q follows h = follows (Err (refusal.Unmatched function uid stage insn)) h
+gives_map (Err (refusal.Unsatisfied function uid form insn)) P Q follows h = follows (Err (refusal.Unsatisfied function uid form insn)) h
 gives_map (Err (refusal.NotEquated function uid rule item left right)) P Q follows h = follows (Err (refusal.NotEquated function uid rule item left right)) h
 
 -- so has what was told
@@ -48,6 +49,7 @@ gives_text (Err (refusal.Construct place name)) P Q follows h = follows (Err (re
 gives_text (Err (refusal.IllFormed function uid rule)) P Q follows h = follows (Err (refusal.IllFormed function uid rule)) h
 gives_text (Err (refusal.Limit which count)) P Q follows h = follows (Err (refusal.Limit which count)) h
 gives_text (Err (refusal.Unmatched function uid stage insn)) P Q follows h = follows (Err (refusal.Unmatched function uid stage insn)) h
+gives_text (Err (refusal.Unsatisfied function uid form insn)) P Q follows h = follows (Err (refusal.Unsatisfied function uid form insn)) h
 gives_text (Err (refusal.NotEquated function uid rule item left right)) P Q follows h = follows (Err (refusal.NotEquated function uid rule item left right)) h
 
 -- ---- the input
@@ -83,6 +85,7 @@ told_is_own P (Err (refusal.Construct place name)) h = (λ is. cc, λ is. cc)
 told_is_own P (Err (refusal.IllFormed function uid rule)) h = (λ is. cc, λ is. cc)
 told_is_own P (Err (refusal.Limit which count)) h = (λ is. cc, λ is. cc)
 told_is_own P (Err (refusal.Unmatched function uid stage insn)) h = (λ is. cc, λ is. cc)
+told_is_own P (Err (refusal.Unsatisfied function uid form insn)) h = (λ is. cc, λ is. cc)
 told_is_own P (Err (refusal.NotEquated function uid rule item left right)) h = (λ is. cc, λ is. cc)
 
 own_listing : (e : ListRefusal) → IsOwn (Err (list_refused e))
@@ -134,6 +137,7 @@ refused_has_cause words known input (refusal.Construct place name) h = h
 refused_has_cause words known input (refusal.IllFormed function uid rule) h = h
 refused_has_cause words known input (refusal.Limit which count) h = h
 refused_has_cause words known input (refusal.Unmatched function uid stage insn) h = h
+refused_has_cause words known input (refusal.Unsatisfied function uid form insn) h = h
 refused_has_cause words known input (refusal.NotEquated function uid rule item left right) h = h
 
 -- ---- what was asked

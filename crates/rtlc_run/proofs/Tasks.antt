@@ -36,6 +36,7 @@ forms_refuse comes known left name (refusal.Construct place what) h = ByForms.re
 forms_refuse comes known left name (refusal.IllFormed function uid rule) h = ByForms.refused (refusal.IllFormed function uid rule) h
 forms_refuse comes known left name (refusal.Limit which count) h = ByForms.refused (refusal.Limit which count) h
 forms_refuse comes known left name (refusal.Unmatched function uid stage insn) h = ByForms.refused (refusal.Unmatched function uid stage insn) h
+forms_refuse comes known left name (refusal.Unsatisfied function uid form insn) h = ByForms.refused (refusal.Unsatisfied function uid form insn) h
 forms_refuse comes known left name (refusal.NotEquated function uid rule item l r) h = ByForms.refused (refusal.NotEquated function uid rule item l r) h
 
 pub forms_are_own : (known : Source) (name : List ℕ) (e : Refusal) → RefusesForms e (FormsCome known name) → IsOwn (Err e)
@@ -97,6 +98,7 @@ text_refused forms bytes (refusal.Construct place name) h = (Err (refusal.Constr
 text_refused forms bytes (refusal.IllFormed function uid rule) h = (Err (refusal.IllFormed function uid rule), h, refl)
 text_refused forms bytes (refusal.Limit which count) h = (Err (refusal.Limit which count), h, refl)
 text_refused forms bytes (refusal.Unmatched function uid stage insn) h = (Err (refusal.Unmatched function uid stage insn), h, refl)
+text_refused forms bytes (refusal.Unsatisfied function uid form insn) h = (Err (refusal.Unsatisfied function uid form insn), h, refl)
 text_refused forms bytes (refusal.NotEquated function uid rule item left right) h = (Err (refusal.NotEquated function uid rule item left right), h, refl)
 
 -- such a refusal is no fault, and none of the words
@@ -120,4 +122,5 @@ code_refused forms bytes function steps args (refusal.Construct place name) h = 
 code_refused forms bytes function steps args (refusal.IllFormed name uid rule) h = (Err (refusal.IllFormed name uid rule), h, refl, tt)
 code_refused forms bytes function steps args (refusal.Limit which count) h = (Err (refusal.Limit which count), h, refl, tt)
 code_refused forms bytes function steps args (refusal.Unmatched name uid stage insn) h = (Err (refusal.Unmatched name uid stage insn), h, refl, tt)
+code_refused forms bytes function steps args (refusal.Unsatisfied name uid form insn) h = (Err (refusal.Unsatisfied name uid form insn), h, refl, tt)
 code_refused forms bytes function steps args (refusal.NotEquated name uid rule item left right) h = (Err (refusal.NotEquated name uid rule item left right), h, refl, tt)

@@ -480,7 +480,7 @@ pub fn run<F: Files, S: Source, K: Sink, E: Sink>(
         ¬ Rose (K.fault_count output.old) (K.fault_count output.new) → CompletesDump pass known (spec.described name) (S.left input.old) result }
 
     // Each status has its cause.
-    ensures statuses { Contains (0 ∷ 1 ∷ 2 ∷ 3 ∷ 5 ∷ 6 ∷ 7 ∷ 8 ∷ []) result }
+    ensures statuses { Contains (0 ∷ 1 ∷ 2 ∷ 3 ∷ 4 ∷ 5 ∷ 6 ∷ 7 ∷ 8 ∷ []) result }
     ensures ok { result ≡ 0 → (known : Known) → Agrees known (F.holds files.old) → Writes (words_of words.now) known (S.left input.old) (K.taken output.old) (K.taken output.new) }
     ensures usage { result ≡ 1 → IsMisused (spoken.command_of (words_of words.now)) (S.left input.old) }
     ensures cause { result ≢ 0 → (known : Known) → Agrees known (F.holds files.old) → HasCause (words_of words.now) known (S.left input.old) result }

@@ -20,6 +20,7 @@ status_of (refusal.Construct place name) = 2
 status_of (refusal.IllFormed function uid rule) = 2
 status_of (refusal.Limit which count) = 2
 status_of (refusal.Unmatched function uid stage insn) = 3
+status_of (refusal.Unsatisfied function uid form insn) = 4
 status_of (refusal.NotEquated function uid rule item left right) = 5
 status_of refusal.ReadFault = 6
 status_of refusal.WriteFault = 7
@@ -32,6 +33,7 @@ has_values (refusal.Construct place name) = true
 has_values (refusal.IllFormed function uid rule) = true
 has_values (refusal.Limit which count) = true
 has_values (refusal.Unmatched function uid stage insn) = true
+has_values (refusal.Unsatisfied function uid form insn) = true
 has_values (refusal.NotEquated function uid rule item left right) = true
 has_values _ = false
 
@@ -61,6 +63,13 @@ stage_text stage = codes "unmatched at " ++ (stage_name stage ++ codes ": ")
 abbrev pub unmatched_line : List ℕ → ℕ → Stage → Rtx → List ℕ
 unmatched_line function uid stage insn = at_text function uid ++ (stage_text stage ++ (printed insn ++ codes "\n"))
 
+-- unsatisfied FORM:, and a space
+abbrev pub unsatisfied_text : List ℕ → List ℕ
+unsatisfied_text form = codes "unsatisfied " ++ (form ++ codes ": ")
+
+abbrev pub unsatisfied_line : List ℕ → ℕ → List ℕ → Rtx → List ℕ
+unsatisfied_line function uid form insn = at_text function uid ++ (unsatisfied_text form ++ (printed insn ++ codes "\n"))
+
 -- not equated RULE:, and a space
 abbrev pub form_text : List ℕ → List ℕ
 form_text rule = codes "not equated " ++ (rule ++ codes ": ")
@@ -83,6 +92,7 @@ line_of (refusal.Construct place name) = construct_line place name
 line_of (refusal.IllFormed function uid rule) = rule_line function uid rule
 line_of (refusal.Limit which count) = limit_line which count
 line_of (refusal.Unmatched function uid stage insn) = unmatched_line function uid stage insn
+line_of (refusal.Unsatisfied function uid form insn) = unsatisfied_line function uid form insn
 line_of (refusal.NotEquated function uid rule item left right) = not_equated_line function uid rule item left right
 line_of refusal.ReadFault = codes "rtlc: read fault\n"
 line_of refusal.WriteFault = codes "rtlc: write fault\n"

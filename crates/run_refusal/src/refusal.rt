@@ -49,6 +49,13 @@ pub enum Refusal {
         stage: Stage,
         insn: Rtx,
     },
+    /// Status 4: no enabled alternative of the form that matches this instruction of the function is reachable; it is shown with its homes.
+    Unsatisfied {
+        function: Name,
+        uid: u32,
+        form: Name,
+        insn: Rtx,
+    },
     /// Status 5: by this rule something would stand in the place of instructions, of which the first has this uid, and it is not known to do
     /// the same: this item differs, with these texts of its two sides; `-` where a side has none.
     NotEquated {
@@ -87,6 +94,7 @@ pub fn status(refusal: &Refusal) -> u8
         Refusal::Syntax { .. } | Refusal::Construct { .. } | Refusal::IllFormed { .. } => 2,
         Refusal::Limit { .. } => 2,
         Refusal::Unmatched { .. } => 3,
+        Refusal::Unsatisfied { .. } => 4,
         Refusal::NotEquated { .. } => 5,
         Refusal::ReadFault => 6,
         Refusal::WriteFault => 7,
@@ -194,6 +202,29 @@ fn unmatched_line(
     print_insn(insn, out)
 }
 
+/// Prints `unsatisfied FORM: `.
+fn print_unsatisfied(form: &Name, out: &mut Vec<u8>) -> Result<(), Memory>
+    ensures { OnOk result (out.new.items ≡ out.old.items ++ spec.unsatisfied_text form.now) }
+{
+    print_text(b"unsatisfied ", out)?;
+    print_text(form.bytes(), out)?;
+    print_text(b": ", out)
+}
+
+fn unsatisfied_line(
+    function: &Name,
+    uid: u32,
+    form: &Name,
+    insn: &Rtx,
+    out: &mut Vec<u8>,
+) -> Result<(), Memory>
+    ensures { OnOk result (out.new.items ≡ out.old.items ++ spec.unsatisfied_line function.now uid form.now insn.now) }
+{
+    print_at(function, uid, out)?;
+    print_unsatisfied(form, out)?;
+    print_insn(insn, out)
+}
+
 /// Prints `not equated RULE: `.
 fn print_form(rule: &Name, out: &mut Vec<u8>) -> Result<(), Memory>
     ensures { OnOk result (out.new.items ≡ out.old.items ++ spec.form_text rule.now) }
@@ -257,6 +288,12 @@ fn print_line(refusal: &Refusal, out: &mut Vec<u8>) -> Result<(), Memory>
             stage,
             insn,
         } => unmatched_line(function, *uid, *stage, insn, out),
+        Refusal::Unsatisfied {
+            function,
+            uid,
+            form,
+            insn,
+        } => unsatisfied_line(function, *uid, form, insn, out),
         Refusal::NotEquated {
             function,
             uid,

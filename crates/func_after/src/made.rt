@@ -1,11 +1,20 @@
-//! Functions once more, and their finished chains.
+//! What the passes have made of a function.
 ghost use Rattle.std.specs.Prelude.{◌≡◌, IfOk};
-ghost use Rattle.func_after.specs.machine.Chains.{Finishes};
+ghost use Rattle.func_after.specs.After as spec;
 
+use assign::Layout;
 use plain_data::{Items, Memory};
-use rtl_chain::end_of;
 use rtx_tree::{ArgUse, ArgUses, Function, Insn, Insns};
 use std::alloc::Global;
+
+/// What the passes have made of a function.
+#[derive(Drop)]
+pub struct Made {
+    /// The function, as it is now.
+    pub function: Function,
+    /// The layout of its frame, once its registers have homes.
+    pub layout: Layout,
+}
 
 fn copy_uses(alloc: Global, uses: &[ArgUse]) -> Result<ArgUses, Memory>
     ensures { IfOk result (λ copies. copies ≡ uses.now) }
@@ -39,7 +48,7 @@ fn copy_insns(alloc: Global, insns: &[Insn]) -> Result<Insns, Memory>
 }
 
 /// A copy of a function.
-pub(crate) fn copy_function(alloc: Global, f: &Function) -> Result<Function, Memory>
+fn copy_function(alloc: Global, f: &Function) -> Result<Function, Memory>
     ensures { IfOk result (λ copy. copy ≡ f.now) }
 {
     Ok(Function {
@@ -51,14 +60,21 @@ pub(crate) fn copy_function(alloc: Global, f: &Function) -> Result<Function, Mem
     })
 }
 
-/// The function with a return at the end of its chain where that is reached.
-#[tactic(auto, using(crate::proofs::Finished::with_end, crate::proofs::Finished::without_end))]
-pub(crate) fn finished(alloc: Global, f: Function) -> Result<Function, Memory>
-    ensures { IfOk result (Finishes f) }
+fn no_layout(alloc: Global) -> Layout
+    ensures { result ≡ record { size = 0; slots = []; saved = [] } }
 {
-    let mut f = f;
-    if let Some(end) = end_of(alloc, &f)? {
-        f.insns.push(end)?;
+    Layout {
+        size: 0,
+        slots: Items::new(alloc),
+        saved: Items::new(alloc),
     }
-    Ok(f)
+}
+
+/// A function as it was read, before any pass.
+pub(crate) fn as_read(alloc: Global, f: &Function) -> Result<Made, Memory>
+    ensures { IfOk result (λ m. m ≡ spec.as_read f.now) }
+{
+    let function = copy_function(alloc, f)?;
+    let layout = no_layout(alloc);
+    Ok(Made { function, layout })
 }

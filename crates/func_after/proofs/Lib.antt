@@ -1,7 +1,7 @@
 pub mod Each
 pub mod Told
-pub mod Finished
-pub mod BehindLaws
+pub mod PassLaws
+pub mod PassesLaws
 pub mod OneAfter
 pub mod Kept
-pub mod Keeping
+pub mod Stages

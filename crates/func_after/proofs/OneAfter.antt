@@ -1,56 +1,65 @@
--- What a function is behind a pass, and when it comes to output, is one answer.
-use Rattle.std.proofs.Common.{◌≡◌, List, Result, Ok, Err, refl, sym, ap, subst, ◌∙◌}
-use Rattle.rtx_tree.specs.declared.function.Insn.{Insn}
+-- What passes make of a function is one answer.
+use Rattle.std.proofs.Common.{◌≡◌, List, [], ◌∷◌, Ok, Err, refl, sym, ap, subst, ◌∙◌}
 use Rattle.rtx_tree.specs.declared.function.Function.{Function}
 use Rattle.rtx_tree.specs.declared.stage.Stage.TheVariants as stage
 use Rattle.run_refusal.specs.declared.refusal.Refusal.{Refusal}
 use Rattle.md_forms.specs.declared.form.Entry.{Entry}
-use Rattle.pass_refusal.specs.declared.refusal.PassRefusal.{PassRefusal}
 use Rattle.pass_name.specs.declared.pass.Pass.{Pass}
-use Rattle.pass_name.specs.declared.pass.Pass.TheVariants.{Read, Lower, Split1}
-use Rattle.lower.specs.Lower.{LowerComes}
+use Rattle.pass_name.specs.declared.pass.Pass.TheVariants.{Split2}
 use Rattle.lower.proofs.OneLower.{lower_one}
-use Rattle.split.specs.declared.stage.SplitStage.TheVariants.{BeforeReload}
-use Rattle.split.specs.Split.{SplitComes}
+use Rattle.split.specs.declared.stage.SplitStage.TheVariants.{BeforeReload, AfterReload}
 use Rattle.split.proofs.One.{one_split}
-use Rattle.rtl_chain.specs.End.{IsFinished}
-use Rattle.rtl_chain.proofs.Ends.{finish_one}
-use Rattle.func_after.specs.After.{Answer, told_for, IsBehind, AfterComes, with_chain}
+use Rattle.assign.specs.Frame.{layout_of}
+use Rattle.assign.specs.Homes.{AreHomes}
+use Rattle.assign.specs.declared.home.HomeOf.{HomeOf}
+use Rattle.assign.proofs.OneLaws.{only}
+use Rattle.reload.specs.Reload.{FunctionReloads}
+use Rattle.reload.proofs.One.{reload_one}
+use Rattle.frame.proofs.One.{frame_one}
+use Rattle.func_after.specs.declared.made.Made.{Made}
+use Rattle.func_after.specs.After.{Answer, told_for, told_reloaded, as_read, passes_up_to, PassComes, PassesCome, IsBehind, AfterComes}
 
-module _ (forms : List Entry) (f : Function) where
-  ok_is : (g h : Function) → ◌≡◌ {A = Answer} (Ok g) (Ok h) → g ≡ h
-  ok_is g h is = cc
+module _ (forms : List Entry) where
+  pass_one : (m : Made) (pass : Pass) (a b : Answer) → PassComes forms m pass a → PassComes forms m pass b → a ≡ b
+  pass_one m _ _ _ PassComes.reads PassComes.reads = refl
+  pass_one m _ _ _ (PassComes.lowers r a comes is) (PassComes.lowers s b comes' is') =
+      is ∙ ap (told_for m stage.Lower) (lower_one forms m.function r s comes comes') ∙ sym is'
+  pass_one m _ _ _ (PassComes.splits_first r a comes is) (PassComes.splits_first s b comes' is') =
+      is ∙ ap (told_for m stage.Split1) (one_split forms BeforeReload m.function r s comes comes') ∙ sym is'
+  pass_one m _ _ _ (PassComes.reloads homes r a are sized comes is) (PassComes.reloads homes' s b are' sized' comes' is') =
+      let same : homes ≡ homes' = only m.function homes homes' are are' in
+      is
+      ∙ ap (told_reloaded m.function.name (layout_of m.function homes))
+      (reload_one forms homes (layout_of m.function homes) m.function r s comes
+      (subst (λ (h : List HomeOf). FunctionReloads forms h (layout_of m.function h) m.function s) (sym same) comes'))
+      ∙ ap (λ (h : List HomeOf). told_reloaded m.function.name (layout_of m.function h) s) same
+      ∙ sym is'
+  pass_one m _ _ _ (PassComes.frames r a comes is) (PassComes.frames s b comes' is') =
+      is ∙ ap (told_for m stage.Frame) (frame_one forms m.function m.layout r s comes comes') ∙ sym is'
+  pass_one m _ _ _ (PassComes.splits_again r a comes is) (PassComes.splits_again s b comes' is') =
+      is ∙ ap (told_for m stage.Split2) (one_split forms AfterReload m.function r s comes comes') ∙ sym is'
 
-  apart : {P : Type 0} (g : Function) (e : Refusal) → ◌≡◌ {A = Answer} (Ok g) (Err e) → P
-  apart g e is = absurd (let none : ⊥ = cc in none)
+  ok_is : (m n : Made) → ◌≡◌ {A = Answer} (Ok m) (Ok n) → m ≡ n
+  ok_is m n is = cc
 
-  lowered_one : (a b : Answer) → IsBehind forms f Lower a → IsBehind forms f Lower b → a ≡ b
-  lowered_one _ _ (IsBehind.lowered r a comes is) (IsBehind.lowered s b comes' is') =
-      is ∙ ap (told_for f.name stage.Lower) (lower_one forms f r s comes comes') ∙ sym is'
+  apart : {P : Type 0} (m : Made) (e : Refusal) → ◌≡◌ {A = Answer} (Ok m) (Err e) → P
+  apart m e is = absurd (let none : ⊥ = cc in none)
 
-  split_one_behind : (a b : Answer) → IsBehind forms f Split1 a → IsBehind forms f Split1 b → a ≡ b
-  split_one_behind _ _ (IsBehind.unlowered e low) (IsBehind.unlowered d low') = lowered_one (Err e) (Err d) low low'
-  split_one_behind _ _ (IsBehind.unlowered e low) (IsBehind.split g r b low' comes is) = apart g e (lowered_one (Ok g) (Err e) low' low)
-  split_one_behind _ _ (IsBehind.split g r a low comes is) (IsBehind.unlowered e low') = apart g e (lowered_one (Ok g) (Err e) low low')
-  split_one_behind _ _ (IsBehind.split g r a low comes is) (IsBehind.split h s b low' comes' is') =
-      let same : g ≡ h = ok_is g h (lowered_one (Ok g) (Ok h) low low') in
-      is ∙ ap (told_for f.name stage.Split1) (one_split forms BeforeReload h r s (subst (λ (k : Function). SplitComes forms BeforeReload k r) same comes) comes') ∙ sym is'
+  passes_one : (passes : List Pass) (m : Made) (a b : Answer) → PassesCome forms passes m a → PassesCome forms passes m b → a ≡ b
+  passes_one _ _ _ _ (PassesCome.done m) (PassesCome.done _) = refl
+  passes_one _ _ _ _ (PassesCome.refused pass others m e comes) (PassesCome.refused _ _ _ d comes') = pass_one m pass (Err e) (Err d) comes comes'
+  passes_one _ _ _ _ (PassesCome.refused pass others m e comes) (PassesCome.goes_on _ _ _ next b comes' rest) =
+      apart next e (pass_one m pass (Ok next) (Err e) comes' comes)
+  passes_one _ _ _ _ (PassesCome.goes_on pass others m next a comes rest) (PassesCome.refused _ _ _ e comes') =
+      apart next e (pass_one m pass (Ok next) (Err e) comes comes')
+  passes_one _ _ _ _ (PassesCome.goes_on pass others m next a comes rest) (PassesCome.goes_on _ _ _ next' b comes' rest') =
+      let same : next ≡ next' = ok_is next next' (pass_one m pass (Ok next) (Ok next') comes comes') in
+      passes_one others next' a b (subst (λ (n : Made). PassesCome forms others n a) same rest) rest'
 
-  pub behind_one : (pass : Pass) (a b : Answer) → IsBehind forms f pass a → IsBehind forms f pass b → a ≡ b
-  behind_one Read _ _ IsBehind.read IsBehind.read = refl
-  behind_one Lower a b m n = lowered_one a b m n
-  behind_one Split1 a b m n = split_one_behind a b m n
+-- what a function is behind a pass
+pub one_behind : (forms : List Entry) (f : Function) (pass : Pass) (a b : Answer) → IsBehind forms f pass a → IsBehind forms f pass b → a ≡ b
+one_behind forms f pass a b m n = passes_one forms (passes_up_to pass) (as_read f) a b m n
 
-  with_same : (g h : Function) (chain chain' : List Insn) → g ≡ h → IsFinished g.insns chain → IsFinished h.insns chain' → with_chain g chain ≡ with_chain h chain'
-  with_same g h chain chain' same finish finish' =
-      ap (λ (k : Function). with_chain k chain) same ∙ ap (with_chain h) (finish_one h.insns chain chain' (subst (λ (k : Function). IsFinished k.insns chain) same finish) finish')
-
-  after_one : (a b : Answer) → AfterComes forms f a → AfterComes forms f b → a ≡ b
-  after_one _ _ (AfterComes.refused e behind) (AfterComes.refused d behind') = split_one_behind (Err e) (Err d) behind behind'
-  after_one _ _ (AfterComes.refused e behind) (AfterComes.finished g chain behind' finish) = apart g e (split_one_behind (Ok g) (Err e) behind' behind)
-  after_one _ _ (AfterComes.finished g chain behind finish) (AfterComes.refused e behind') = apart g e (split_one_behind (Ok g) (Err e) behind behind')
-  after_one _ _ (AfterComes.finished g chain behind finish) (AfterComes.finished h chain' behind' finish') =
-      ap (λ (k : Function). Ok k) (with_same g h chain chain' (ok_is g h (split_one_behind (Ok g) (Ok h) behind behind')) finish finish')
-
+-- and when it comes to output
 pub one_after : (forms : List Entry) (f : Function) (a b : Answer) → AfterComes forms f a → AfterComes forms f b → a ≡ b
-one_after forms f a b m n = after_one forms f a b m n
+one_after forms f a b m n = passes_one forms (passes_up_to Split2) (as_read f) a b m n

@@ -17,6 +17,7 @@ use run_refusal::Refusal;
 use split::{SplitStage, split};
 use std::alloc::Global;
 
+#[tactic(auto, using(crate::proofs::PassLaws::lower_gave, crate::proofs::PassLaws::lower_refused))]
 fn lowered(alloc: Global, desc: &Description, m: Made) -> Result<Made, Refusal>
     ensures { Gives result (PassComes desc.now m passes.Lower) }
 {
@@ -28,6 +29,7 @@ fn lowered(alloc: Global, desc: &Description, m: Made) -> Result<Made, Refusal>
     }
 }
 
+#[tactic(auto, using(crate::proofs::PassLaws::split_first_gave, crate::proofs::PassLaws::split_first_refused))]
 fn split_first(alloc: Global, desc: &Description, m: Made) -> Result<Made, Refusal>
     ensures { Gives result (PassComes desc.now m passes.Split1) }
 {
@@ -39,6 +41,7 @@ fn split_first(alloc: Global, desc: &Description, m: Made) -> Result<Made, Refus
     }
 }
 
+#[tactic(auto, using(crate::proofs::PassLaws::reload_gave, crate::proofs::PassLaws::reload_refused, reload_homes::proofs::OrderedLaws::ordered))]
 fn reloaded(alloc: Global, desc: &Description, m: Made) -> Result<Made, Refusal>
     ensures { Gives result (PassComes desc.now m passes.Reload) }
 {
@@ -54,6 +57,7 @@ fn reloaded(alloc: Global, desc: &Description, m: Made) -> Result<Made, Refusal>
     }
 }
 
+#[tactic(auto, using(crate::proofs::PassLaws::frame_gave, crate::proofs::PassLaws::frame_refused))]
 fn framed(alloc: Global, desc: &Description, m: Made) -> Result<Made, Refusal>
     ensures { Gives result (PassComes desc.now m passes.Frame) }
 {
@@ -65,6 +69,7 @@ fn framed(alloc: Global, desc: &Description, m: Made) -> Result<Made, Refusal>
     }
 }
 
+#[tactic(auto, using(crate::proofs::PassLaws::split_again_gave, crate::proofs::PassLaws::split_again_refused))]
 fn split_again(alloc: Global, desc: &Description, m: Made) -> Result<Made, Refusal>
     ensures { Gives result (PassComes desc.now m passes.Split2) }
 {

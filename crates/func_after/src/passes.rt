@@ -42,6 +42,7 @@ fn passes_up_to(pass: Pass) -> &'static [Pass]
 ///
 /// As the passes tell them: `Unmatched`, `Unsatisfied`, `NotEquated`, and `Limit` of `TermSize`, `SplitDepth` or `Frame`; `Memory` where
 /// memory ran out.
+#[tactic(auto, using(crate::proofs::PassesLaws::makes_start, crate::proofs::PassesLaws::makes_on, crate::proofs::PassesLaws::makes_wrong, crate::proofs::PassesLaws::makes_all))]
 pub fn behind(
     alloc: Global,
     desc: &Description,
@@ -62,8 +63,13 @@ pub fn behind(
 /// # Errors
 ///
 /// As [`behind`] says for the last pass.
+#[tactic(auto, using(crate::proofs::OneAfter::one_after))]
 pub fn after(alloc: Global, desc: &Description, f: &Function) -> Result<Made, Refusal>
+    // What is told is given; a refusal is the one that is told.
     ensures gives { Gives result (AfterComes desc.now f.now) }
+
+    // A function comes to one thing.
+    ensures one { (forms : List Entry) (f : Function) (a b : spec.Answer) → AfterComes forms f a → AfterComes forms f b → a ≡ b }
 {
     behind(alloc, desc, f, Pass::Split2)
 }

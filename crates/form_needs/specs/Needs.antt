@@ -53,14 +53,9 @@ homeless_step x = is_homeless x.code x.number || list_any (λ here. here) x.kids
 abbrev pub names_homeless : Rtx → Bool
 names_homeless = fold-Rtx Bool homeless_step
 
-abbrev pub is_call : Kind → Bool
-is_call Call = true
-is_call _ = false
-
--- No pass gives registers their homes, makes a frame or saves what a call changes yet. So no form counts at output for an instruction
--- that has need of that.
+-- A register that is none of the machine has no place in a line: no form counts at output for an instruction that names one.
 abbrev pub is_held : Insn → Bool
-is_held i = is_call i.kind || names_homeless i.pattern
+is_held i = names_homeless i.pattern
 
 abbrev pub is_label : Kind → Bool
 is_label Label = true

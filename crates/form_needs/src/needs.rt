@@ -46,11 +46,11 @@ fn names_homeless(x: &Rtx) -> bool
     false
 }
 
-/// Whether an instruction has need of homes, of a frame, or of what a call saves.
+/// Whether an instruction names a pseudo register or the address of the locals, which have no place in a line.
 pub fn is_held(insn: &Insn) -> bool
     ensures { result ≡ spec.is_held insn.now }
 {
-    matches!(insn.kind, Kind::Call) || names_homeless(&insn.pattern)
+    names_homeless(&insn.pattern)
 }
 
 /// Whether an instruction gives nothing at output: a barrier, and a `use` or `clobber` alone.

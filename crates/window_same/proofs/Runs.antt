@@ -47,7 +47,6 @@ use Rattle.window_same.specs.Items.{AreItemsAt, AreItemsFrom, IsReturnLine, is_q
 use Rattle.window_same.specs.Items as items_of
 use Rattle.window_same.proofs.Leads as leads_by
 use Rattle.window_same.proofs.Leads.{LeadsBy, leads_on, jump_leads}
-use Rattle.window_same.proofs.Places.{At}
 use Rattle.window_same.proofs.Places as places
 use Rattle.window_same.proofs.Quiet.{quiet_leaves}
 use Rattle.window_same.proofs.Returns.{leaves, line_returns, result_used, same_result}

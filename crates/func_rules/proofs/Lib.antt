@@ -6,11 +6,9 @@ pub mod Arguments
 pub mod Registers
 pub mod Chain
 pub mod Returning
-pub mod Exit
 pub mod Standing
 pub mod Reading
 pub mod Marks
-pub mod Sorts
 pub mod Jumps
 pub mod AllSorts
 pub mod Added

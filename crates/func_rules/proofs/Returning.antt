@@ -1,5 +1,5 @@
 -- A return at the end of a chain changes no run.
-use Rattle.std.proofs.Common.{◌≡◌, ℕ, zero, suc, ◌+◌, ◌≤◌, false, drop, List, [], ◌∷◌, ◌++◌, length, Option, Some, None, refl, sym, ap, subst, ◌∙◌, inl, inr, arith}
+use Rattle.std.proofs.Common.{◌≡◌, ℕ, zero, suc, ◌+◌, ◌≤◌, false, drop, List, [], ◌∷◌, ◌++◌, length, Option, Some, None, refl, sym, ap, ◌∙◌, inl, inr, arith}
 use Rattle.std.proofs.Math.Seq.{drop-nil}
 use Rattle.std.specs.Prelude.{slice_get, if◌then◌else◌}
 use Rattle.std.proofs.lemmas.Bool.{cases_eq}
@@ -19,12 +19,7 @@ use Rattle.rtl_step.specs.Step.{Stepped, step, act, act_at, after_jump, after_go
 use Rattle.rtl_step.specs.declared.step.State.{State}
 use Rattle.rtl_step.specs.declared.step.StepEnd.{StepEnd}
 use Rattle.rtl_step.specs.declared.step.StepEnd.TheVariants.{Next, Jumped, Called, Returned, Asked, Undefined}
-use Rattle.func_mean.specs.Run.{go_on, ended, goes_on, run, run_of, taken, taken_from, taken_on, entry_of}
-use Rattle.rv_text.specs.declared.line.CodeItem.{CodeItem}
-use Rattle.rv_line.specs.Run as lines
-use Rattle.same_behaviour.specs.Same.{Same, SameOutcome}
-use Rattle.same_behaviour.specs.Lawful.{seen_by_rtl}
-use Rattle.rtl_chain.specs.End.{return_insn, IsFinished}
+use Rattle.func_mean.specs.Run.{go_on, ended, goes_on, run, taken_from, taken_on}
 use Rattle.func_rules.proofs.Chain.{same_labels, before_end, the_end, length_end}
 
 -- ---- one step
@@ -134,18 +129,3 @@ module _ (f : Function) (last : Insn) (jump : last.kind ≡ kind.Jump) (returns 
     same_taken (suc n) s =
         ap (λ (e : Stepped). taken_on e.0 e.1 (taken_from world longer n)) (same_step s)
         ∙ taken_same n (step world f s).0 (step world f s).1 (same_taken n (step world f s).1)
-
-  -- what has the behaviour of the longer one has that of the other
-  pub same_without : (least : ℕ) (items : List CodeItem) → Same least longer items → Same least f items
-  same_without least items same frame start world n room lawful lawful_world defined =
-      let seen = seen_by_rtl frame f.locals start in
-      let runs : run_of longer seen world n ≡ run_of f seen world n = same_run world n (entry_of seen) in
-      let takes : taken longer seen world n ≡ taken f seen world n = same_taken world n (entry_of seen) in
-      let k = same frame start world n room lawful lawful_world (λ nothing. defined (sym runs ∙ nothing)) in
-      (k.0, subst (λ t. t ≤ k.0) takes k.1, subst (λ o. SameOutcome f.result start o (lines.run items start world k.0)) runs k.2)
-
--- a finished chain has the same runs
-pub same_unfinished : (least : ℕ) (f : Function) (finished : List Insn) (items : List CodeItem) → IsFinished f.insns finished →
-    Same least (record f { insns = finished }) items → Same least f items
-same_unfinished least f _ items (IsFinished.returning reached) same = same_without f (return_insn f.insns) refl refl least items same
-same_unfinished least f _ items (IsFinished.staying never) same = same

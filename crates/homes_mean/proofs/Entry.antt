@@ -220,7 +220,7 @@ module _ (c : Setting) where
     outside = λ address there inside. not_in (is_below_sp c.start size address) (is_below_sp c.start locals address)
         (if_some (is_seen address) (byte_at c.start.memory address) (sym (ap is_some (kept_byte is_seen c.start.memory address)) ∙ there)) inside;
     room = c.lawful.present;
-    seen = visible_at_entry size locals c.start c.lawful;
+    seen = visible_at_entry size locals locals c.start (omega arith) c.lawful;
     ranges = refl;
     ranges_too = refl;
     calls = refl;

@@ -23,7 +23,7 @@ use Rattle.func_rules.specs.Admitted.{IsWellFormed}
 use Rattle.func_rules.specs.Sorts as sorts
 use Rattle.func_rules.specs.Sorts.{IsSort}
 use Rattle.func_rules.proofs.AllSorts.{sort_of}
-use Rattle.func_rules.proofs.Marks.{for_lines}
+use Rattle.func_rules.proofs.Marks.{marks_are_empty}
 use Rattle.func_rules.proofs.Vars.{leaves_vars}
 use Rattle.pass_ready.specs.Reloadable.{IsInsnReloadable, LeadsWithin, UidsDiffer}
 use Rattle.pass_ready.proofs.Places.{all_at}
@@ -103,7 +103,7 @@ module _ (f : Function) (rules : IsWellFormed f) (natural : (place : ℕ) (i : I
     empty = empty_by i.kind refl;
     natural = natural place i at;
     arguments = λ none. absurd (true≢false (sym mark ∙ none));
-    vars = (for_lines f rules).marks place virtual_stack_vars i at mark;
+    vars = marks_are_empty f rules place virtual_stack_vars i at mark;
   }
 
   insn_reloadable : (mark : Bool) → is_mark i.kind ≡ mark → IsInsnReloadable i

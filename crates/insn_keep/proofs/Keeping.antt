@@ -34,10 +34,9 @@ use Rattle.window_keep.specs.Same.{CanReplace}
 use Rattle.window_same.specs.ForLines.{MarksAreEmpty}
 use Rattle.window_replace.specs.Natural.{RegistersAreNatural}
 use Rattle.window_replace.proofs.Replacing.{replaced_keeps}
-use Rattle.func_rules.proofs.Registers.{defines_no_kept}
 use Rattle.md_emit.specs.Emitted.{keeps_to_arguments}
 use Rattle.pass_ready.specs.Left.{SameMarks}
-use Rattle.pass_ready.specs.Ready.{LeavesKept, IsInsnReady}
+use Rattle.pass_ready.specs.Ready.{IsInsnReady}
 use Rattle.pass_ready.specs.Reloadable.{IsInsnReloadable, LeadsWithin}
 use Rattle.pass_ready.proofs.Places.{all_joined, all_taken, all_dropped, at_place}
 use Rattle.pass_ready.proofs.Made.{all_made_ready}
@@ -94,15 +93,6 @@ all_reloadable old uid [] handed keep shaped leave = tt
 all_reloadable old uid (x ∷ []) handed keep shaped leave = (one_reloadable old old.uid x handed keep.0 shaped.0 leave.0, tt)
 all_reloadable old uid (x ∷ y ∷ more) handed keep shaped leave =
     (one_reloadable old uid x handed keep.0 shaped.0 leave.0, all_reloadable old (uid + 1) (y ∷ more) handed keep.1 shaped.1 leave.1)
-
--- ---- what a sequence that keeps to a0 to a7 leaves
-
-leaves : (x : Rtx) → Keep x → LeavesKept x
-leaves x keep = defines_no_kept x [] (and_parts (argument_registers x []) true keep).0
-
-all_leave_kept : (sequence : List Rtx) → AllByRecursion Keep sequence → AllByRecursion LeavesKept sequence
-all_leave_kept [] keep = tt
-all_leave_kept (x ∷ sequence) keep = (leaves x keep.0, all_leave_kept sequence keep.1)
 
 -- ---- the function with the sequence
 
@@ -166,7 +156,7 @@ module _ (f : Function) (place : ℕ) (i : Insn) (at : slice_get f.insns place �
 
     after_sound : IsSound after
     after_sound = record {
-      ready = replaced_ready f place (place + 1) new sound.ready (all_made_ready i (greatest_uid f.insns + 1) sequence (all_leave_kept sequence keep));
+      ready = replaced_ready f place (place + 1) new sound.ready (all_made_ready i (greatest_uid f.insns + 1) sequence);
       reloadable = record {
         each = all_joined IsInsnReloadable (take place f.insns) (new ++ drop (place + 1) f.insns) (all_taken IsInsnReloadable place f.insns sound.reloadable.each)
             (all_joined IsInsnReloadable new (drop (place + 1) f.insns) reloadable (all_dropped IsInsnReloadable (place + 1) f.insns sound.reloadable.each));

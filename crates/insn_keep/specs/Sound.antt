@@ -6,7 +6,7 @@ use Rattle.pass_ready.specs.Ready.{AreReady}
 use Rattle.pass_ready.specs.Reloadable.{IsReloadable}
 use Rattle.pass_ready.specs.Left.{SameMarks}
 
--- lines can stand for it, and it can be reloaded
+-- what lines ask of each instruction, and that it can be reloaded
 pub record IsSound (f : Function) : Type 0 where
   pub ready : AreReady f
   pub reloadable : IsReloadable f

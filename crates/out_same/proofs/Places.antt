@@ -1,19 +1,18 @@
 -- What is written at the places of a function is what stands there.
-use Rattle.std.proofs.Common.{◌≡◌, ℕ, zero, suc, ◌+◌, ◌^◌, ◌<◌, ◌⊎◌, inl, inr, ◌&&◌, not, nat_lt, Bool, true, false, List, [], ◌∷◌, ◌++◌, map, Option, Some, None, refl, sym, ◌∙◌, ap, subst, arith, tests}
+use Rattle.std.proofs.Common.{◌≡◌, ℕ, suc, ◌+◌, ◌^◌, inl, inr, ◌&&◌, nat_lt, Bool, true, false, List, [], ◌∷◌, map, Some, refl, sym, ◌∙◌, ap, subst, arith, tests}
 use Rattle.std.specs.Prelude.{slice_get}
 use Rattle.rtx_tree.specs.declared.function.Insn.{Insn}
 use Rattle.rtx_tree.specs.declared.function.Function.{Function}
 use Rattle.rtx_tree.specs.declared.function.Kind.{Kind}
 use Rattle.rtx_tree.specs.declared.function.Kind.TheVariants as kind
 use Rattle.rtx_tree.specs.RegSet.{has_reg}
-use Rattle.rtx_tree.specs.Tree.{head_of}
 use Rattle.rv_text.specs.declared.line.Line.{Line}
 use Rattle.rv_text.specs.declared.line.CodeItem.{CodeItem}
 use Rattle.rv_text.specs.declared.line.CodeItem.TheVariants as item
 use Rattle.md_desc.specs.declared.output.Chosen.{Chosen}
 use Rattle.md_forms.specs.declared.form.Entry.{Entry}
-use Rattle.live.specs.Live.{IsLiveAfter, AreLiveAfter}
-use Rattle.form_needs.specs.Needs.{is_kind, is_note, needs_form, is_held, is_label, is_silent}
+use Rattle.live.specs.Live.{AreLiveAfter}
+use Rattle.form_needs.specs.Needs.{is_label}
 use Rattle.sym_diff.specs.Registers.{is_live}
 use Rattle.equate.specs.Side.{Lines, both_return}
 use Rattle.equate.proofs.VerdictLaws.{verdict_same}
@@ -22,7 +21,9 @@ use Rattle.asm_out.specs.Written as written
 use Rattle.asm_out.specs.Written.{AreInsnLines, AreWritten}
 use Rattle.window_same.specs.Items.{IsLiveBehind, AreItemsAt, AreItemsFrom}
 use Rattle.window_same.specs.Items as items
-use Rattle.func_rules.specs.ForLines.{UsesHard, IsQuiet, NoneHeld, IsReady}
+use Rattle.func_rules.specs.ForLines.{IsQuiet}
+use Rattle.pass_ready.proofs.Places.{at_place}
+use Rattle.out_same.specs.Ready.{IsInsnWritable, AreWritable}
 use Rattle.out_same.proofs.Shapes.{runs_last, both_returning}
 
 -- ---- an instruction with lines
@@ -33,14 +34,17 @@ compared f place live are reg behind =
     let small : nat_lt reg (2 ^ 32) ≡ true = grind (arith, tests, behind.1) in
     ap (λ b. b && has_reg live reg) small ∙ (are.each reg).1 behind.0
 
-module _ (forms : List Entry) (number : ℕ) (f : Function) (ready : IsReady f) where
+module _ (forms : List Entry) (number : ℕ) (f : Function) (ready : AreWritable f) where
+  one_is : (place : ℕ) (i : Insn) → slice_get f.insns place ≡ Some i → IsInsnWritable i
+  one_is place i stands = at_place IsInsnWritable f.insns ready place i stands
+
   lines_by : (place : ℕ) (i : Insn) (lines : List Line) (c : Chosen) → slice_get f.insns place ≡ Some i → AreInsnLines forms number f place i c lines → (b : Bool) → both_return (i ∷ []) (Lines number lines) ≡ b →
       AreItemsAt number f place i (map item.Code lines)
   lines_by place i lines c stands are true returns =
       let back = both_returning number i lines returns in
       subst (λ l. AreItemsAt number f place i (map item.Code l)) (sym back.lines_are) (items.returning back.line back.is_jump back.is_return back.returns)
   lines_by place i lines c stands are false goes_on =
-      let hard = ready.formed place i stands are.needs are.free in
+      let hard = (one_is place i stands).formed are.needs are.free in
       let alike = verdict_same (i ∷ []) (Lines number lines) are.live are.equated goes_on in
       items.window lines (record {
         is_none = hard.is_none;
@@ -72,31 +76,12 @@ module _ (forms : List Entry) (number : ℕ) (f : Function) (ready : IsReady f) 
   later : (place : ℕ) (i : Insn) (insns : List Insn) → Stand place (i ∷ insns) → Stand (place + 1) insns
   later place i insns stand k j at = let e : place + suc k ≡ place + 1 + k = omega arith in subst (λ n. slice_get f.insns n ≡ Some j) e (stand (suc k) j at)
 
-  pub items_from : (place : ℕ) (insns : List Insn) (text : List ℕ) (its : List CodeItem) → AreWritten forms number f place insns text its → Stand place insns → AreItemsFrom number f [] place insns its
+  pub items_from : (place : ℕ) (insns : List Insn) (text : List ℕ) (its : List CodeItem) → AreWritten forms number f place insns text its → Stand place insns → AreItemsFrom number f place insns its
   items_from _ _ _ _ (written.none place) stand = items.end place
   items_from _ _ _ _ (written.label place i insns text its is small rest) stand =
       items.next place i insns (item.Label number i.uid ∷ []) its (items.label (label_kind i.kind is) small) (items_from (place + 1) insns text its rest (later place i insns stand))
   items_from _ _ _ _ (written.silent place i insns text its is rest) stand =
-      items.next place i insns [] its (quiet_by place i (ready.silent place i (here place i insns stand) is)) (items_from (place + 1) insns text its rest (later place i insns stand))
+      items.next place i insns [] its (quiet_by place i ((one_is place i (here place i insns stand)).silent is)) (items_from (place + 1) insns text its rest (later place i insns stand))
   items_from _ _ _ _ (written.lines place i insns c lines text its are rest) stand =
       items.next place i insns (map item.Code lines) its (lines_by place i lines c (here place i insns stand) are (both_return (i ∷ []) (Lines number lines)) refl)
       (items_from (place + 1) insns text its rest (later place i insns stand))
-
-  -- ---- nothing that is written is held
-
-  no_form : {A : Type 0} (i : Insn) → is_label i.kind ≡ true → needs_form i ≡ true → A
-  no_form i is needs = absurd (let no : false ≡ true = sym (ap (λ k. is_kind k && not (is_note (head_of i.pattern).code)) (label_kind i.kind is)) ∙ needs in let no' : ⊥ = cc in no')
-
-  silent_none : {A : Type 0} (label needs : Bool) → (not label && not needs) ≡ true → needs ≡ true → A
-  silent_none true needs silent is = absurd (let no : ⊥ = cc in no)
-  silent_none false true silent is = absurd (let no : ⊥ = cc in no)
-  silent_none false false silent is = absurd (let no : ⊥ = cc in no)
-
-  pub none_held : (place : ℕ) (insns : List Insn) (text : List ℕ) (its : List CodeItem) → AreWritten forms number f place insns text its → (k : ℕ) (i : Insn) → slice_get insns k ≡ Some i → needs_form i ≡ true → is_held i ≡ false
-  none_held _ _ _ _ (written.none place) k i at needs = absurd (let no : ⊥ = cc in no)
-  none_held _ _ _ _ (written.label place j insns text its is small rest) zero i at needs = let same : j ≡ i = cc in no_form i (ap (λ (x : Insn). is_label x.kind) (sym same) ∙ is) needs
-  none_held _ _ _ _ (written.label place j insns text its is small rest) (suc k) i at needs = none_held (place + 1) insns text its rest k i at needs
-  none_held _ _ _ _ (written.silent place j insns text its is rest) zero i at needs = let same : j ≡ i = cc in silent_none (is_label i.kind) (needs_form i) (ap is_silent (sym same) ∙ is) needs
-  none_held _ _ _ _ (written.silent place j insns text its is rest) (suc k) i at needs = none_held (place + 1) insns text its rest k i at needs
-  none_held _ _ _ _ (written.lines place j insns c lines text its are rest) zero i at needs = let same : j ≡ i = cc in ap is_held (sym same) ∙ are.free
-  none_held _ _ _ _ (written.lines place j insns c lines text its are rest) (suc k) i at needs = none_held (place + 1) insns text its rest k i at needs

@@ -35,14 +35,21 @@ in_locals : (start : Start) (locals address : ℕ) → locals ≤ start.sp → i
 in_locals start zero address fits is = absurd (let none : ⊥ = cc in none)
 in_locals start (suc n) address fits is = grind (arith, nat_tests, is, fits)
 
-stays : (frame locals : ℕ) (start : Start) (lawful : IsLawful frame locals start) (address : ℕ) (b : Bool) → locals ≤ frame → is_below_sp start frame address ≡ b → is_visible (lawful.ranges ++ locals_range start locals) address ≡ true →
-    (not b || is_below_sp start locals address) ≡ true
-stays frame locals start lawful address false fits room is = refl
-stays frame locals start lawful address true fits room is =
-    in_locals start locals address (omega (arith, fits, lawful.above_zero)) (any_of_both (is_in address) lawful.ranges (locals_range start locals) is (lawful.apart address room))
+further : (start : Start) (locals size address : ℕ) → locals ≤ size → is_below_sp start locals address ≡ true → is_below_sp start size address ≡ true
+further start locals size address holds is = grind (arith, nat_tests, holds, is)
 
--- of what is visible it sees all
-pub visible_at_entry : (frame locals : ℕ) (start : Start) → IsLawful frame locals start →
-    visible start.visible start.memory ≡ visible start.visible (seen_by_rtl frame locals start).memory
-visible_at_entry frame locals start lawful = sym (kept (λ (b : MemByte). is_visible start.visible b.address) (λ b. not (is_below_sp start frame b.address) || is_below_sp start locals b.address) start.memory
-    (λ b is. stays frame locals start lawful b.address (is_below_sp start frame b.address) lawful.holds refl (sym (ap (λ ranges. is_visible ranges b.address) lawful.visible_is) ∙ is)))
+stays : (frame locals size : ℕ) (start : Start) → locals ≤ size → (lawful : IsLawful frame locals start) (address : ℕ) (b : Bool) → is_below_sp start frame address ≡ b →
+    is_visible (lawful.ranges ++ locals_range start locals) address ≡ true → (not b || is_below_sp start size address) ≡ true
+stays frame locals size start holds lawful address false room is = refl
+stays frame locals size start holds lawful address true room is =
+    let small = lawful.holds in
+    let room_is = lawful.above_zero in
+    further start locals size address holds (in_locals start locals address (omega (arith, small, room_is))
+    (any_of_both (is_in address) lawful.ranges (locals_range start locals) is (lawful.apart address room)))
+
+-- of what is visible it sees all, where it sees its locals
+pub visible_at_entry : (frame locals size : ℕ) (start : Start) → locals ≤ size → IsLawful frame locals start →
+    visible start.visible start.memory ≡ visible start.visible (seen_by_rtl frame size start).memory
+visible_at_entry frame locals size start holds lawful = sym (kept (λ (b : MemByte). is_visible start.visible b.address)
+    (λ b. not (is_below_sp start frame b.address) || is_below_sp start size b.address) start.memory
+    (λ b is. stays frame locals size start holds lawful b.address (is_below_sp start frame b.address) refl (sym (ap (λ ranges. is_visible ranges b.address) lawful.visible_is) ∙ is)))

@@ -79,6 +79,13 @@ module _ (c : Setting) where
   Reaches n s t = machine.Reaches State End (turn c.world (new_of c)) (stop c.world (new_of c)) (weight c.world (new_of c))
       (Any c.world (new_of c)) c.world c.f Follows HasValue (SameEnding c) n s t
 
+  runs_good : (n : ℕ) → run_of c.f c.start c.world n ≢ outcomes.Undefined →
+      machine.RunsGood State End (turn c.world (new_of c)) (stop c.world (new_of c)) (weight c.world (new_of c)) (Any c.world (new_of c))
+      c.world c.f Follows HasValue (SameEnding c) n (entry_of c.start)
+  runs_good n some =
+      machine.runs_good State End (turn c.world (new_of c)) (stop c.world (new_of c)) (weight c.world (new_of c))
+      (Any c.world (new_of c)) c.world c.f Follows HasValue (SameEnding c) n (entry_of c.start) (λ last same. some)
+
   reaches : (n : ℕ) → IsMachineStart c.start → run_of c.f c.start c.world n ≢ outcomes.Undefined →
       Reaches n (entry_of c.start) (entry_of c.start)
   reaches n is some =
@@ -87,7 +94,7 @@ module _ (c : Setting) where
       (record {
         stops = λ s t follows. (told_same s t follows.0, λ no. absurd (let none : ⊥ = cc in none));
         steps = λ s t follows good. reached_on s t follows.1 (step_follows c s t follows.0 (ends_well s follows.1 good));
-      }) n (entry_of c.start) (entry_of c.start) (related_at_entry is, here) some
+      }) n (entry_of c.start) (entry_of c.start) (related_at_entry is, here) (runs_good n some)
 
   -- the new run has ended past its last instruction only where the old one has
   ends_only : (n m : ℕ) → SameOutcome (run_of c.f c.start c.world n) (run_of (new_of c) c.start c.world m) →

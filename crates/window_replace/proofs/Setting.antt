@@ -90,8 +90,9 @@ pub data Related (c : Setting) (s t : State) : Type 0 where
 
 -- ---- the steps of the one and the turns of the other
 
-abbrev pub HasValue : Outcome → Type 0
-HasValue outcome = outcome ≢ Undefined
+-- wherever the run ends, its outcome has a value
+abbrev pub HasValue : State → Outcome → Type 0
+HasValue s outcome = outcome ≢ Undefined
 
 -- the old function's run ends past its last instruction, sooner or later
 abbrev pub Past : Setting → Type 0

@@ -1,5 +1,5 @@
 -- The two machines at entry: they stand beside each other, and what the function knows of a hard register the code has.
-use Rattle.std.proofs.Common.{◌≡◌, ◌≢◌, ℕ, zero, suc, ◌<◌, ◌==◌, ◌||◌, not, arith, cond, if◌then◌else◌, ⊎_elim, Bool, true, false, List, [], ◌∷◌, map, Option, Some, None, refl, sym, ap, subst, ◌∙◌}
+use Rattle.std.proofs.Common.{◌≡◌, ◌≢◌, ℕ, zero, suc, ◌≤◌, ◌<◌, ◌==◌, ◌||◌, not, arith, cond, if◌then◌else◌, ⊎_elim, Bool, true, false, List, [], ◌∷◌, map, Option, Some, None, refl, sym, ap, subst, ◌∙◌}
 use Rattle.std.proofs.lemmas.Bool.Decides.{nat_tests}
 use Rattle.std.proofs.lemmas.List.Elements.{All-filter}
 use Rattle.std.proofs.lemmas.List.Kept.{IsStrictlyIncreasing-filter}
@@ -134,10 +134,10 @@ set : {hard : Type 0} {o : Option ℕ} → hard → o ≡ o
 set hard = refl
 
 -- what the function knows of a hard register
-pub agrees_at_entry : (frame locals : ℕ) (start : Start) (reg : ℕ) → reg < 32 →
-    Agrees (func.entry_regs (seen_by_rtl frame locals start)) (lines.entry_regs start) reg
-agrees_at_entry frame locals start reg small =
-    agrees_all (func.entry_values (seen_by_rtl frame locals start)) empty (lines.entry_regs start) reg small
+pub agrees_at_entry : (frame size : ℕ) (start : Start) (reg : ℕ) → reg < 32 →
+    Agrees (func.entry_regs (seen_by_rtl frame size start)) (lines.entry_regs start) reg
+agrees_at_entry frame size start reg small =
+    agrees_all (func.entry_values (seen_by_rtl frame size start)) empty (lines.entry_regs start) reg small
     (set also set also set also set also set also set also set also set also set also set also set also set also set also set also set also
     set also set also set also set also set also set also set also (λ hard. absurd (omega (arith, hard))) also tt)
     (agrees_empty (lines.entry_regs start) reg)
@@ -174,12 +174,12 @@ entry_machine frame locals start lawful = record {
   memory = lawful.memory;
 }
 
-pub beside_at_entry : (frame locals : ℕ) (start : Start) → IsLawful frame locals start →
-    Beside start.visible (seen_by_rtl frame locals start).memory (lines.entry start)
-beside_at_entry frame locals start lawful =
-    let stays : ℕ → Bool = λ address. not (is_below_sp start frame address) || is_below_sp start locals address in record {
+pub beside_at_entry : (frame locals size : ℕ) (start : Start) → locals ≤ size → IsLawful frame locals start →
+    Beside start.visible (seen_by_rtl frame size start).memory (lines.entry start)
+beside_at_entry frame locals size start holds lawful =
+    let stays : ℕ → Bool = λ address. not (is_below_sp start frame address) || is_below_sp start size address in record {
       first = memory_kept stays start.memory lawful.memory;
       second = entry_machine frame locals start lawful;
       within = λ address byte has. (within_kept stays start.memory address byte has).0;
-      visible_is = visible_at_entry frame locals start lawful;
+      visible_is = visible_at_entry frame locals size start holds lawful;
     }

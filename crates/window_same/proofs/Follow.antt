@@ -1,5 +1,5 @@
 -- The items of a function follow each of its runs, from entry on, whatever has to be kept.
-use Rattle.std.proofs.Common.{ℕ, ◌≤◌, arith, List, [], refl, subst}
+use Rattle.std.proofs.Common.{◌≡◌, ℕ, ◌≤◌, arith, List, [], refl, subst}
 use Rattle.rtx_tree.specs.declared.machine.Start.{Start}
 use Rattle.rtx_tree.specs.declared.machine.World.{World}
 use Rattle.rtx_tree.specs.declared.function.Function.{Function}
@@ -7,13 +7,12 @@ use Rattle.rtl_step.specs.Regs.{Regs}
 use Rattle.rtl_step.specs.declared.step.State.{State}
 use Rattle.func_mean.specs.Run as func
 use Rattle.func_mean.specs.declared.outcome.Outcome.{Outcome}
-use Rattle.rtl_func.specs.Paths.{ReachesExit, Here}
+use Rattle.func_keep.specs.Ends.{is_past, ends_past}
 use Rattle.rv_text.specs.declared.line.CodeItem.{CodeItem}
 use Rattle.rv_line.specs.Run as lines
 use Rattle.rv_line.specs.Run.{Running}
 use Rattle.rv_line.specs.declared.outcome.CodeOutcome.{CodeOutcome}
 use Rattle.rv_line.specs.declared.state.RvState.{RvState}
-use Rattle.same_behaviour.specs.Ending.{IsEnding}
 use Rattle.same_behaviour.specs.Lawful.{IsLawful, IsLawfulWorld, seen_by_rtl}
 use Rattle.same_behaviour.specs.Same.{SameOutcome}
 use Rattle.window_same.specs.ForLines.{MarksAreEmpty}
@@ -26,20 +25,20 @@ use Rattle.window_same.proofs.Steps.{IsKeeping}
 use Rattle.window_same.proofs.Turns as turns
 use Rattle.window_same.proofs.Turns.{at, Any, stopped, one}
 
-module _ (number : ℕ) (f : Function) (marks : MarksAreEmpty f) (ending items : List CodeItem) (frame : ℕ) (start : Start) (world : World)
-    (Keeps : Regs → RvState → Type 0) (Good : Outcome → Type 0) where
+module _ (number : ℕ) (f : Function) (marks : MarksAreEmpty f) (items : List CodeItem) (frame size : ℕ) (start : Start) (world : World)
+    (Keeps : Regs → RvState → Type 0) (Good : State → Outcome → Type 0) where
   abbrev seen : Start
-  seen = seen_by_rtl frame f.locals start
+  seen = seen_by_rtl frame size start
 
   abbrev Related : State → Running → Type 0
-  Related s t = steps.Related number f marks ending items start world Keeps Good s t
+  Related s t = steps.Related number f marks items start world Keeps Good s t
 
-  related_at_entry : AreItemsFrom number f ending 0 f.insns items → IsLawful frame f.locals start →
+  related_at_entry : AreItemsFrom number f 0 f.insns items → f.locals ≤ size → IsLawful frame f.locals start →
       Keeps (func.entry_regs seen) (lines.entry start) → Related (func.entry_of seen) (at items (lines.entry start) world.replies [])
-  related_at_entry all lawful keeps = record {
-    place = record { within = omega arith; path = Here 0; there = items; are = all; same = refl };
-    beside = beside_at_entry frame f.locals start lawful;
-    agree = λ reg lives small. agrees_at_entry frame f.locals start reg small;
+  related_at_entry all holds lawful keeps = record {
+    place = record { there = items; are = all; same = refl };
+    beside = beside_at_entry frame f.locals size start holds lawful;
+    agree = λ reg lives small. agrees_at_entry frame size start reg small;
     visible_is = refl;
     calls_are = (refl, λ i event call is there. absurd (let no : ⊥ = cc in no));
     replies_are = refl;
@@ -50,6 +49,17 @@ module _ (number : ℕ) (f : Function) (marks : MarksAreEmpty f) (ending items :
   abbrev Reaches : ℕ → State → Running → Type 0
   Reaches n s t = machine.Reaches Running CodeOutcome (turns.turn world start.visible items) stopped one Any world f Related Good
       (SameOutcome f.result start) n s t
+
+  abbrev pub RunsGood : ℕ → State → Type 0
+  RunsGood n s = machine.RunsGood Running CodeOutcome (turns.turn world start.visible items) stopped one Any world f Related Good
+      (SameOutcome f.result start) n s
+
+  -- a run ends well, where its outcome is good in the state in which its last step is made
+  pub good_runs : (n : ℕ) →
+      ((last : State) → ends_past world f n (func.entry_of seen) ≡ is_past f last → Good last (func.run_of f seen world n)) →
+      RunsGood n (func.entry_of seen)
+  good_runs n good = machine.runs_good Running CodeOutcome (turns.turn world start.visible items) stopped one Any world f Related Good
+      (SameOutcome f.result start) n (func.entry_of seen) good
 
   reached : (n : ℕ) → Reaches n (func.entry_of seen) (at items (lines.entry start) world.replies []) →
       (k : ℕ) × (func.taken f seen world n ≤ k) × SameOutcome f.result start (func.run_of f seen world n) (lines.run items start world k)
@@ -62,14 +72,14 @@ module _ (number : ℕ) (f : Function) (marks : MarksAreEmpty f) (ending items :
             (turns.run_is world start.visible items reaches.turns (at items (lines.entry start) world.replies [])) reaches.same,
       )
 
-  pub follows : AreItemsFrom number f ending 0 f.insns items → IsEnding (ReachesExit f.insns) ending → IsLawful frame f.locals start →
-      IsLawfulWorld start world → IsKeeping number f marks ending items start world Keeps Good →
-      Keeps (func.entry_regs seen) (lines.entry start) → (n : ℕ) → Good (func.run_of f seen world n) →
+  pub follows : AreItemsFrom number f 0 f.insns items → f.locals ≤ size → IsLawful frame f.locals start →
+      IsLawfulWorld start world → IsKeeping number f marks items start world Keeps Good →
+      Keeps (func.entry_regs seen) (lines.entry start) → (n : ℕ) → RunsGood n (func.entry_of seen) →
       (k : ℕ) × (func.taken f seen world n ≤ k) × SameOutcome f.result start (func.run_of f seen world n) (lines.run items start world k)
-  follows all ended lawful lawful_world keeping keeps n good = reached n (
+  follows all holds lawful lawful_world keeping keeps n good = reached n (
       machine.follow Running CodeOutcome (turns.turn world start.visible items) stopped one Any world f Related Good
       (SameOutcome f.result start)
       (record {
         stops = λ s t related. related.calls_are;
-        steps = step_follows number f marks ending items start world Keeps Good all ended lawful_world keeping;
-      }) n (func.entry_of seen) (at items (lines.entry start) world.replies []) (related_at_entry all lawful keeps) good)
+        steps = step_follows number f marks items start world Keeps Good all lawful_world keeping;
+      }) n (func.entry_of seen) (at items (lines.entry start) world.replies []) (related_at_entry all holds lawful keeps) good)

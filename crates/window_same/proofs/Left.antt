@@ -1,5 +1,6 @@
 -- The items of a function that may set the registers of its caller have its behaviour, in each run that leaves them as it found them.
 use Rattle.std.proofs.Common.{◌≡◌, ◌≢◌, ℕ, zero, suc, ◌<◌, ◌^◌, ◌||◌, ◌&&◌, Bool, true, false, List, [], ◌∷◌, Option, Some, None, refl, sym, ap, subst, ◌∙◌}
+use Rattle.std.proofs.lemmas.Bool.{false_from_ne_true}
 use Rattle.std.specs.List.{list_any}
 use Rattle.std.specs.Prelude.{slice_get, slice_index, option_map, option_and_then}
 use Rattle.bits64.specs.Words.{low}
@@ -31,6 +32,7 @@ use Rattle.rtl_step.specs.declared.step.State.{State}
 use Rattle.func_mean.specs.Run as func
 use Rattle.func_mean.specs.declared.outcome.Outcome.{Outcome}
 use Rattle.func_mean.specs.declared.outcome.Outcome.TheVariants as rtl
+use Rattle.func_keep.specs.Ends.{is_past, ends_past}
 use Rattle.rv_regs.specs.Registers.{kept_registers}
 use Rattle.reg_uses.specs.Effects.{pattern_defines}
 use Rattle.reg_uses.specs.Uses.{insn_sets, is_call_kind, is_result, function_sets, return_uses}
@@ -40,6 +42,7 @@ use Rattle.rv_line.specs.Run as lines
 use Rattle.rv_line.specs.Run.{after_call}
 use Rattle.rv_line.specs.Step.{register}
 use Rattle.rv_line.specs.declared.state.RvState.{RvState}
+use Rattle.same_behaviour.specs.Lawful.{seen_by_rtl}
 use Rattle.same_behaviour.proofs.Registers.{low_same}
 use Rattle.window_mean.specs.Beside.{Agrees, IsMachine}
 use Rattle.window_mean.specs.Insns as window
@@ -50,7 +53,7 @@ use Rattle.window_same.specs.ForLines.{MarksAreEmpty}
 use Rattle.window_same.specs.Items.{AreItems, IsLiveBehind, is_quiet}
 use Rattle.window_same.specs.Left.{found, LeavesAsFound, SameWhereLeft, SetsAreNamed}
 use Rattle.window_same.proofs.Entry.{agrees_at_entry}
-use Rattle.window_same.proofs.Follow.{follows}
+use Rattle.window_same.proofs.Follow.{good_runs, follows}
 use Rattle.window_same.proofs.Kept.{each_in, kept_hard, lines_keep, saved_same}
 use Rattle.window_same.proofs.Quiet.{quiet_leaves}
 use Rattle.window_same.proofs.Replies.{agrees_after}
@@ -145,14 +148,15 @@ module _ (symbols : List SymbolAt) (ranges : List RangeAt) where
       call_comes i reg regs memory (event_of symbols regs memory ranges i.pattern i.uses) (result_width i.pattern) came refl
       (one_is i kind.Call regs memory came call comes)
 
-module _ (number : ℕ) (f : Function) (marks : MarksAreEmpty f) (named : SetsAreNamed f) (ending items : List CodeItem) (start : Start)
+module _ (number : ℕ) (f : Function) (marks : MarksAreEmpty f) (named : SetsAreNamed f) (items : List CodeItem) (start : Start)
     (world : World) where
   -- of those that no `set` of the function sets the code has what is known
   abbrev Keeps : Regs → RvState → Type 0
   Keeps regs m = (reg : ℕ) → has_reg kept_registers reg ≡ true → function_sets f reg ≡ false → Agrees regs m.regs reg
 
-  abbrev Good : Outcome → Type 0
-  Good outcome = (outcome ≢ rtl.Undefined) × LeavesAsFound start outcome
+  -- an end with a value, that leaves what was found, before the end of the chain
+  abbrev Good : State → Outcome → Type 0
+  Good s outcome = ((outcome ≢ rtl.Undefined) × LeavesAsFound start outcome) × (is_past f s ≡ false)
 
   sets_none : (place reg : ℕ) (i : Insn) → slice_get f.insns place ≡ Some i → function_sets f reg ≡ false → insn_sets reg i ≡ false
   sets_none place reg i there unset = none_in (insn_sets reg) f.insns place i unset there
@@ -264,22 +268,28 @@ module _ (number : ℕ) (f : Function) (marks : MarksAreEmpty f) (named : SetsAr
       at 9 23 (saved 7) refl refl refl also at 10 24 (saved 8) refl refl refl also at 11 25 (saved 9) refl refl refl also
       at 12 26 (saved 10) refl refl refl also at 13 27 (saved 11) refl refl refl also tt) kept
 
-  keeping : IsKeeping number f marks ending items start world Keeps Good
+  keeping : IsKeeping number f marks items start world Keeps Good
   keeping = record {
-    defined = λ good. good.0 refl;
+    defined = λ s good. good.0.0 refl;
+    stands = λ s outcome good. good.1;
     does = keeps_on;
     quiet = λ place i regs memory m effects there plain quiet are keeps. keeps_quiet place i regs memory m effects quiet are keeps;
     replied = λ place i ls regs memory m came event w reply there call comes ends does keeps.
         keeps_replied place i ls regs memory m came w reply call comes does keeps;
-    returns = λ s m is_machine keeps used good. let all = returns_all s m is_machine keeps used good.1 in
+    returns = λ s m is_machine keeps used good. let all = returns_all s m is_machine keeps used good.0.1 in
         (all 1 refl, saved_same m.regs (lines.entry_regs start) all);
   }
 
--- the items of a function have its behaviour in each run that leaves sp, ra and s0 to s11 as it found them
-pub items_are_same_where_left : (number least : ℕ) (f : Function) (items : List CodeItem) → MarksAreEmpty f → SetsAreNamed f →
-    AreItems number f items → SameWhereLeft least f items
-items_are_same_where_left number least f items marks named are = λ frame start world n enough lawful lawful_world left defined.
-    follows number f marks are.ending items frame start world (Keeps number f marks named are.ending items start world)
-    (Good number f marks named are.ending items start world) are.are are.ends lawful lawful_world
-    (keeping number f marks named are.ending items start world)
-    (λ reg kept unset. agrees_at_entry frame f.locals start reg (kept_hard reg kept).below) n (defined, left)
+-- the items of a function do what it does in each run that leaves sp, ra and s0 to s11 as it found them, and returns before the end of
+-- the chain
+pub items_are_same_where_left : (number : ℕ) (f : Function) (items : List CodeItem) → MarksAreEmpty f → SetsAreNamed f →
+    AreItems number f items → SameWhereLeft f items
+items_are_same_where_left number f items marks named are =
+    λ frame size start world n holds within lawful lawful_world defined left returns.
+    let Keep : Regs → RvState → Type 0 = Keeps number f marks named items start world in
+    let Ends : State → Outcome → Type 0 = Good number f marks named items start world in
+    follows number f marks items frame size start world Keep Ends are holds lawful lawful_world
+    (keeping number f marks named items start world)
+    (λ reg kept unset. agrees_at_entry frame size start reg (kept_hard reg kept).below) n
+    (good_runs number f marks items frame size start world Keep Ends n
+    (λ last same. ((defined, left), sym same ∙ false_from_ne_true (ends_past world f n (func.entry_of (seen_by_rtl frame size start))) returns)))

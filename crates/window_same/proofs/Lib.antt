@@ -14,5 +14,4 @@ pub mod Runs
 pub mod Entry
 pub mod Follow
 pub mod Kept
-pub mod Same
 pub mod Left

@@ -1,5 +1,5 @@
 -- Places of a function, and its items from there on.
-use Rattle.std.proofs.Common.{◌≡◌, ◌≢◌, ℕ, suc, ◌+◌, ◌≤◌, ◌<◌, ◌&&◌, ◌||◌, ◌==◌, cond, arith, if◌then◌else◌, Bool, true, false, drop, length, List, [], ◌∷◌, ◌++◌, map, Some, refl, sym, ap, subst, ◌∙◌}
+use Rattle.std.proofs.Common.{◌≡◌, ◌≢◌, ℕ, suc, ◌+◌, ◌&&◌, ◌||◌, ◌==◌, cond, arith, if◌then◌else◌, Bool, true, false, drop, List, [], ◌∷◌, ◌++◌, map, Some, refl, sym, ap, subst, ◌∙◌}
 use Rattle.std.specs.Prelude.{slice_get}
 use Rattle.std.specs.List.{position_from}
 use Rattle.rtx_tree.specs.Registers.{is_call_used}
@@ -10,7 +10,6 @@ use Rattle.rtx_tree.specs.declared.function.Kind.{Kind}
 use Rattle.rtx_tree.specs.declared.function.Kind.TheVariants as kind
 use Rattle.rtl_step.specs.Step as rtl_step
 use Rattle.rtl_step.specs.Step.{is_mark}
-use Rattle.rtl_func.specs.Paths.{Path}
 use Rattle.reg_uses.specs.Uses.{insn_defines, is_call_kind}
 use Rattle.live.specs.Live as live
 use Rattle.live.specs.Live.{IsLive}
@@ -21,11 +20,11 @@ use Rattle.rv_text.specs.declared.line.CodeItem.TheVariants.{Label, Code}
 use Rattle.rv_line.specs.Run.{next_line, behind_label}
 use Rattle.same_behaviour.specs.Ending.{IsUid}
 use Rattle.same_behaviour.proofs.Labels.{label_test}
-use Rattle.same_behaviour.proofs.Places.{get_dropped, drop_next, within_dropped}
+use Rattle.same_behaviour.proofs.Places.{get_dropped, drop_next}
 use Rattle.window_same.specs.ForLines.{MarksAreEmpty}
 use Rattle.window_same.specs.Items.{AreItemsAt, AreItemsFrom}
 use Rattle.window_same.specs.Items as items_of
-use Rattle.window_same.proofs.Leads.{leads_on, further}
+use Rattle.window_same.proofs.Leads.{leads_on}
 
 -- ---- kinds
 
@@ -48,20 +47,18 @@ mark_calls_not kind.Call marks = absurd (let no : ⊥ = cc in no)
 mark_calls_not kind.Label marks = refl
 mark_calls_not kind.Barrier marks = refl
 
-module _ (number : ℕ) (f : Function) (marks : MarksAreEmpty f) (ending : List CodeItem) where
-  -- a place to which a path leads, and the items from there on, up to labels
+module _ (number : ℕ) (f : Function) (marks : MarksAreEmpty f) where
+  -- the items from a place on, up to labels
   pub record At (place : ℕ) (rest : List CodeItem) : Type 0 where
-    pub within : place ≤ length f.insns
-    pub path : Path f.insns 0 place
     pub there : List CodeItem
-    pub are : AreItemsFrom number f ending place (drop place f.insns) there
+    pub are : AreItemsFrom number f place (drop place f.insns) there
     pub same : next_line rest ≡ next_line there
 
   -- what stands at a place that is no label or barrier
   pub data Stands (place : ℕ) (rest : List CodeItem) : Type 0 where
-    at_end : drop place f.insns ≡ [] → place ≤ length f.insns → Path f.insns 0 place → next_line rest ≡ next_line ending → Stands place rest
-    at_insn : (i : Insn) (insns : List Insn) (own more : List CodeItem) → drop place f.insns ≡ i ∷ insns → Path f.insns 0 place →
-        is_mark i.kind ≡ false → AreItemsAt number f place i own → AreItemsFrom number f ending (place + 1) insns more →
+    at_end : drop place f.insns ≡ [] → Stands place rest
+    at_insn : (i : Insn) (insns : List Insn) (own more : List CodeItem) → drop place f.insns ≡ i ∷ insns →
+        is_mark i.kind ≡ false → AreItemsAt number f place i own → AreItemsFrom number f (place + 1) insns more →
         next_line rest ≡ next_line (own ++ more) → Stands place rest
 
   -- the first such place from there on; what is live before it is live before the labels and barriers in front of it
@@ -72,19 +69,19 @@ module _ (number : ℕ) (f : Function) (marks : MarksAreEmpty f) (ending : List 
     pub lives : (reg : ℕ) → IsLive f reg place' → IsLive f reg place
 
   stays : (k : Kind) (i : Insn) (insns : List Insn) (place : ℕ) (rest own more : List CodeItem) → i.kind ≡ k → is_mark k ≡ false →
-      drop place f.insns ≡ i ∷ insns → Path f.insns 0 place → AreItemsAt number f place i own →
-      AreItemsFrom number f ending (place + 1) insns more → next_line rest ≡ next_line (own ++ more) → Passed (i ∷ insns) place rest
-  stays k i insns place rest own more kind_is none is path own_are are same = record {
+      drop place f.insns ≡ i ∷ insns → AreItemsAt number f place i own →
+      AreItemsFrom number f (place + 1) insns more → next_line rest ≡ next_line (own ++ more) → Passed (i ∷ insns) place rest
+  stays k i insns place rest own more kind_is none is own_are are same = record {
     place' = place;
     passed_is = kind_passes k i insns place false kind_is none;
-    stands = at_insn i insns own more is path (mark_is k i kind_is ∙ none) own_are are same;
+    stands = at_insn i insns own more is (mark_is k i kind_is ∙ none) own_are are same;
     lives = λ reg lives. lives;
   }
 
   pub restand : (place : ℕ) (rest items : List CodeItem) → next_line rest ≡ next_line items → Stands place items → Stands place rest
-  restand place rest items same (at_end none within path next) = at_end none within path (same ∙ next)
-  restand place rest items same (at_insn i insns own more is path mark own_are are next) =
-      at_insn i insns own more is path mark own_are are (same ∙ next)
+  restand place rest items same (at_end none) = at_end none
+  restand place rest items same (at_insn i insns own more is mark own_are are next) =
+      at_insn i insns own more is mark own_are are (same ∙ next)
 
   mark_defines_none : (place reg : ℕ) (i : Insn) → slice_get f.insns place ≡ Some i → is_mark i.kind ≡ true → insn_defines i reg ≡ false
   mark_defines_none place reg i there mark =
@@ -102,18 +99,16 @@ module _ (number : ℕ) (f : Function) (marks : MarksAreEmpty f) (ending : List 
         (leads_on f.insns place i there (λ jumps. mark_jumps_not k mark (sym is ∙ jumps))) (later.lives reg lives);
   }
 
-  pub passes : (insns : List Insn) (items : List CodeItem) (place : ℕ) → drop place f.insns ≡ insns → place ≤ length f.insns →
-      Path f.insns 0 place → AreItemsFrom number f ending place insns items → Passed insns place items
-  passes _ _ place is within path (items_of.end _) = record {
+  pub passes : (insns : List Insn) (items : List CodeItem) (place : ℕ) → drop place f.insns ≡ insns →
+      AreItemsFrom number f place insns items → Passed insns place items
+  passes _ _ place is (items_of.end _) = record {
     place' = place;
     passed_is = refl;
-    stands = at_end is within path refl;
+    stands = at_end is;
     lives = λ reg lives. lives;
   }
-  passes _ _ place is within path (items_of.next _ i insns own more at are) = by_items own at
-      (λ mark. let inside = within_dropped f.insns place i insns is in let there = get_dropped f.insns place i insns is in
-      passes insns more (place + 1) (drop_next f.insns place i insns is) (omega (arith, inside))
-      (further f.insns 0 place (place + 1) path (leads_on f.insns place i there (mark_jumps_not i.kind mark))) are)
+  passes _ _ place is (items_of.next _ i insns own more at are) = by_items own at
+      (λ mark. passes insns more (place + 1) (drop_next f.insns place i insns is) are)
     where
       by_items : (own : List CodeItem) → AreItemsAt number f place i own → (is_mark i.kind ≡ true → Passed insns (place + 1) more) →
           Passed (i ∷ insns) place (own ++ more)
@@ -124,12 +119,12 @@ module _ (number : ℕ) (f : Function) (marks : MarksAreEmpty f) (ending : List 
           mark_passes kind.Barrier i insns place more more barrier refl (get_dropped f.insns place i insns is) refl
           (later (mark_is kind.Barrier i barrier))
       by_items _ (items_of.quiet plain quiet) later =
-          stays kind.Plain i insns place more [] more plain refl is path (items_of.quiet plain quiet) are refl
+          stays kind.Plain i insns place more [] more plain refl is (items_of.quiet plain quiet) are refl
       by_items _ (items_of.returning line jump return returns) later =
-          stays kind.Jump i insns place (Code line ∷ more) (Code line ∷ []) more jump refl is path
+          stays kind.Jump i insns place (Code line ∷ more) (Code line ∷ []) more jump refl is
           (items_of.returning line jump return returns) are refl
       by_items _ (items_of.window lines window) later =
-          stays i.kind i insns place (map Code lines ++ more) (map Code lines) more refl window.is_none is path
+          stays i.kind i insns place (map Code lines ++ more) (map Code lines) more refl window.is_none is
           (items_of.window lines window) are refl
 
 -- ---- labels
@@ -152,20 +147,19 @@ behind_lines target [] items = refl
 behind_lines target (line ∷ lines) items = behind_lines target lines items
 
 -- where a label stands among the instructions, and what follows it among the items
-pub record Found (number : ℕ) (f : Function) (ending : List CodeItem) (uid first place : ℕ) (insns : List Insn)
+pub record Found (number : ℕ) (f : Function) (uid first place : ℕ) (insns : List Insn)
     (items : List CodeItem) : Type 0 where
   pub by : ℕ
   pub place_is : place ≡ first + by
   pub rest : List CodeItem
   pub behind : behind_label (label_text number uid) items ≡ Some rest
   pub there : List CodeItem
-  pub are : AreItemsFrom number f ending place (drop by insns) there
+  pub are : AreItemsFrom number f place (drop by insns) there
   pub same : next_line rest ≡ next_line there
-  pub within : by < length insns
 
-module _ (number : ℕ) (f : Function) (ending : List CodeItem) (uid place : ℕ) where
+module _ (number : ℕ) (f : Function) (uid place : ℕ) where
   abbrev FoundIn : ℕ → List Insn → List CodeItem → Type 0
-  FoundIn first insns items = Found number f ending uid first place insns items
+  FoundIn first insns items = Found number f uid first place insns items
 
   abbrev FoundBehind : ℕ → List Insn → List CodeItem → Type 0
   FoundBehind first insns items = position_from (is_label uid) (first + 1) insns ≡ Some place → FoundIn (first + 1) insns items
@@ -182,11 +176,10 @@ module _ (number : ℕ) (f : Function) (ending : List CodeItem) (uid place : ℕ
     there = later.there;
     are = later.are;
     same = later.same;
-    within = let inside = later.within in omega (arith, inside);
   }
 
   at_label : (first : ℕ) (i : Insn) (insns : List Insn) (more : List CodeItem) (here : Bool) → (i.uid == uid) ≡ here → IsUid uid →
-      i.kind ≡ kind.Label → IsUid i.uid → AreItemsFrom number f ending (first + 1) insns more →
+      i.kind ≡ kind.Label → IsUid i.uid → AreItemsFrom number f (first + 1) insns more →
       cond here (Some first) (position_from (is_label uid) (first + 1) insns) ≡ Some place →
       FoundBehind first insns more →
       FoundIn first (i ∷ insns) (Label number i.uid ∷ more)
@@ -198,17 +191,16 @@ module _ (number : ℕ) (f : Function) (ending : List CodeItem) (uid place : ℕ
         behind = ap (λ b. if b then Some more else behind_label (label_text number uid) more) (label_test number i.uid uid small' small ∙
             here);
         there = Label number i.uid ∷ more;
-        are = subst (λ p. AreItemsFrom number f ending p (i ∷ insns) (Label number i.uid ∷ more)) same
+        are = subst (λ p. AreItemsFrom number f p (i ∷ insns) (Label number i.uid ∷ more)) same
             (items_of.next first i insns (Label number i.uid ∷ []) more (items_of.label label small') are);
         same = refl;
-        within = omega arith;
       }
   at_label first i insns more false here small label small' are is later =
       found_later first i insns (Label number i.uid ∷ more) more
       (ap (λ b. if b then Some more else behind_label (label_text number uid) more) (label_test number i.uid uid small' small ∙
       here)) (later is)
 
-  pub found : (first : ℕ) (insns : List Insn) (items : List CodeItem) → IsUid uid → AreItemsFrom number f ending first insns items →
+  pub found : (first : ℕ) (insns : List Insn) (items : List CodeItem) → IsUid uid → AreItemsFrom number f first insns items →
       position_from (is_label uid) first insns ≡ Some place → FoundIn first insns items
   found first _ _ small (items_of.end _) is = absurd (let no : ⊥ = cc in no)
   found first _ _ small (items_of.next _ i insns own more at are) is = by_items own at (found (first + 1) insns more small are)

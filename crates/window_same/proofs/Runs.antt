@@ -1,6 +1,6 @@
 -- Each step of a function is followed by the turns of what stands for its instruction.
-use Rattle.std.proofs.Common.{◌≡◌, ℕ, ◌+◌, ◌≤◌, ◌<◌, ◌||◌, ◌&&◌, arith, if◌then◌else◌, Bool, true, false, drop, length, List, [], ◌∷◌, ◌++◌, Option, Some, None, refl, sym, ap, subst, ◌∙◌}
-use Rattle.std.specs.Prelude.{slice_get, option_map, option_and_then}
+use Rattle.std.proofs.Common.{◌≡◌, ℕ, ◌+◌, ◌<◌, ◌||◌, ◌&&◌, not, arith, if◌then◌else◌, Bool, true, false, drop, List, [], ◌∷◌, ◌++◌, Option, Some, None, refl, sym, ap, subst, ◌∙◌}
+use Rattle.std.specs.Prelude.{slice_get, is_some, option_map, option_and_then}
 use Rattle.bits64.specs.declared.Width.{Width}
 use Rattle.rtx_tree.specs.Tree.{head_of}
 use Rattle.rtx_tree.specs.Patterns.{place_of}
@@ -22,13 +22,14 @@ use Rattle.rtl_step.specs.declared.jump.Way.{Way}
 use Rattle.rtl_step.specs.declared.jump.Way.TheVariants as way
 use Rattle.rtl_step.specs.declared.step.State.{State}
 use Rattle.rtl_step.specs.declared.step.StepEnd.TheVariants as rtl_ends
+use Rattle.func_mean.specs.Run as func
 use Rattle.func_mean.specs.declared.outcome.Outcome.{Outcome}
-use Rattle.rtl_func.specs.Paths.{ReachesExit, Path, leads}
+use Rattle.func_keep.specs.Ends.{is_past}
+use Rattle.rtl_func.specs.Paths.{leads}
 use Rattle.rtx_tree.specs.Registers.{is_call_used}
 use Rattle.reg_uses.specs.Effects.{pattern_defines}
 use Rattle.reg_uses.specs.Uses.{insn_uses, insn_defines, is_return, return_uses, is_call_kind}
 use Rattle.live.specs.Live as live
-use Rattle.live.specs.Live.{IsLive}
 use Rattle.rv_text.specs.declared.line.Line.{Line}
 use Rattle.rv_text.specs.declared.line.CodeItem.{CodeItem}
 use Rattle.rv_line.specs.Run as lines
@@ -36,19 +37,16 @@ use Rattle.rv_line.specs.Run.{Running, next_line}
 use Rattle.rv_line.specs.declared.state.RvState.{RvState}
 use Rattle.rv_line.specs.declared.state.LineEnd.TheVariants as ends
 use Rattle.run_memory.specs.RunMemory.{visible}
-use Rattle.same_behaviour.specs.Ending.{IsEnding}
-use Rattle.same_behaviour.specs.Ending as endings
 use Rattle.same_behaviour.specs.Lawful.{IsLawfulWorld}
-use Rattle.same_behaviour.proofs.Places.{get_dropped, get_past, end_dropped, drop_next, within_dropped}
+use Rattle.same_behaviour.proofs.Places.{get_dropped, get_past, drop_next}
 use Rattle.window_mean.specs.Beside.{Agrees, Beside}
 use Rattle.window_mean.specs.Insns as window
 use Rattle.window_mean.specs.Insns.{InsnsCome, insns_come, insn_comes, come_to}
 use Rattle.window_same.specs.ForLines.{MarksAreEmpty}
-use Rattle.window_same.specs.Items.{AreItemsAt, AreItemsFrom, AreLinesAt, IsReturnLine, ret, is_quiet}
+use Rattle.window_same.specs.Items.{AreItemsAt, AreItemsFrom, IsReturnLine, is_quiet}
 use Rattle.window_same.specs.Items as items_of
 use Rattle.window_same.proofs.Leads as leads_by
-use Rattle.window_same.proofs.Leads.{LeadsBy, leads_on, jump_leads, further}
-use Rattle.window_same.proofs.Places.{At}
+use Rattle.window_same.proofs.Leads.{LeadsBy, leads_on, jump_leads}
 use Rattle.window_same.proofs.Places as places
 use Rattle.window_same.proofs.Quiet.{quiet_leaves}
 use Rattle.window_same.proofs.Returns.{leaves, line_returns, result_used, same_result}
@@ -59,29 +57,28 @@ use Rattle.window_same.proofs.Turns as turns
 use Rattle.window_same.proofs.Turns.{at}
 use Rattle.window_same.proofs.Small.{or_true}
 
-module _ (number : ℕ) (f : Function) (marks : MarksAreEmpty f) (ending items : List CodeItem) (start : Start) (world : World)
-    (Keeps : Regs → RvState → Type 0) (Good : Outcome → Type 0) (all : AreItemsFrom number f ending 0 f.insns items)
-    (ended : IsEnding (ReachesExit f.insns) ending) (lawful : IsLawfulWorld start world)
-    (keeping : IsKeeping number f marks ending items start world Keeps Good) where
+module _ (number : ℕ) (f : Function) (marks : MarksAreEmpty f) (items : List CodeItem) (start : Start) (world : World)
+    (Keeps : Regs → RvState → Type 0) (Good : State → Outcome → Type 0) (all : AreItemsFrom number f 0 f.insns items)
+    (lawful : IsLawfulWorld start world) (keeping : IsKeeping number f marks items start world Keeps Good) where
   abbrev pub Related : State → Running → Type 0
-  Related s t = steps.Related number f marks ending items start world Keeps Good s t
+  Related s t = steps.Related number f marks items start world Keeps Good s t
 
   abbrev Simulates : State → Running → Type 0
-  Simulates s t = steps.Simulates number f marks ending items start world Keeps Good s t
+  Simulates s t = steps.Simulates number f marks items start world Keeps Good s t
 
   abbrev EndsGood : State → Type 0
-  EndsGood s = steps.EndsGood number f marks ending items start world Keeps Good s
+  EndsGood s = steps.EndsGood number f marks items start world Keeps Good s
 
   abbrev LiveAgree : ℕ → Regs → RvState → Type 0
-  LiveAgree place regs m = steps.LiveAgree number f marks ending items start world Keeps Good place regs m
+  LiveAgree place regs m = steps.LiveAgree number f marks items start world Keeps Good place regs m
 
   step_insn : (s : State) (place : ℕ) (i : Insn) (k : Kind) → rtl_step.place_from f.insns s.next ≡ place →
       slice_get f.insns place ≡ Some i →
       i.kind ≡ k → rtl_step.step world f s ≡ rtl_step.act k world f i place s
-  step_insn = steps.step_insn number f marks ending items start world Keeps Good all ended lawful keeping
+  step_insn = steps.step_insn number f marks items start world Keeps Good all lawful keeping
 
   never : (s s' : State) → rtl_step.step world f s ≡ (rtl_ends.Undefined, s') → EndsGood s → ⊥
-  never = steps.never number f marks ending items start world Keeps Good all ended lawful keeping
+  never = steps.never number f marks items start world Keeps Good all lawful keeping
 
   -- ---- returns
 
@@ -123,7 +120,7 @@ module _ (number : ℕ) (f : Function) (marks : MarksAreEmpty f) (ending items :
       ap (option_and_then further) comes ∙ stays
 
   module _ (s : State) (t : Running) (place : ℕ) (i : Insn) (insns : List Insn) (ls : List Line) (more : List CodeItem)
-      (w : steps.Window number f marks ending items start world Keeps Good all ended lawful keeping s t place i insns ls more)
+      (w : steps.Window number f marks items start world Keeps Good all lawful keeping s t place i insns ls more)
       (good : EndsGood s) where
     there : slice_get f.insns place ≡ Some i
     there = get_dropped f.insns place i insns w.chain
@@ -136,7 +133,7 @@ module _ (number : ℕ) (f : Function) (marks : MarksAreEmpty f) (ending items :
     plain_at None are plain = absurd (never s s (stepped kind.Plain plain ∙ ap (rtl_step.after_effects s place) are) good)
     plain_at (Some effects) are plain =
         let came : InsnsCome = window.come_after s.regs s.memory effects in
-        steps.falls_on number f marks ending items start world Keeps Good all ended lawful keeping s t place i insns ls more w came
+        steps.falls_on number f marks items start world Keeps Good all lawful keeping s t place i insns ls more w came
         (one_comes i kind.Plain s came plain (ap (option_map (window.come_after s.regs s.memory)) are) refl) refl
         (stepped kind.Plain plain ∙ ap (rtl_step.after_effects s place) are)
         (leads_on f.insns place i there (λ jumps. let no : kind.Plain ≡ kind.Jump = sym plain ∙ jumps in let none : ⊥ = cc in none))
@@ -154,21 +151,21 @@ module _ (number : ℕ) (f : Function) (marks : MarksAreEmpty f) (ending items :
     goes_at uid None none is jump leads_there =
         absurd (never s s (stepped kind.Jump jump ∙ ap (rtl_step.after_jump f s place) is ∙ ap (rtl_step.after_goes s) none) good)
     goes_at uid (Some q) at_q is jump leads_there =
-        steps.goes_on number f marks ending items start world Keeps Good all ended lawful keeping s t place i insns ls more w
+        steps.goes_on number f marks items start world Keeps Good all lawful keeping s t place i insns ls more w
         (come_to s.regs s.memory (window.Goes uid)) (jump_comes (way.Goes uid) is jump refl) uid q refl at_q
         (stepped kind.Jump jump ∙ ap (rtl_step.after_jump f s place) is ∙ ap (rtl_step.after_goes s) at_q) (leads_there q at_q)
 
     way_at : (took : Way) → LeadsBy f.insns place took → jump_of world.symbols s.regs s.memory i.pattern ≡ Some took →
         i.kind ≡ kind.Jump → Simulates s t
     way_at _ (leads_by.falls_on leads_there) is jump =
-        steps.falls_on number f marks ending items start world Keeps Good all ended lawful keeping s t place i insns ls more w
+        steps.falls_on number f marks items start world Keeps Good all lawful keeping s t place i insns ls more w
         (come_to s.regs s.memory window.Falls) (jump_comes way.Falls is jump refl) refl
         (stepped kind.Jump jump ∙ ap (rtl_step.after_jump f s place) is) leads_there
     way_at _ (leads_by.goes_on uid leads_there) is jump = goes_at uid (place_of uid f.insns) refl is jump leads_there
     way_at _ leads_by.leaves_it is jump =
         let came : InsnsCome = come_to s.regs s.memory window.Returns in
         let does = w.lines_are.same world start.visible s.regs s.memory t.machine came
-        (steps.starts number f marks ending items start world Keeps Good all ended lawful keeping s t place i insns ls more w)
+        (steps.starts number f marks items start world Keeps Good all lawful keeping s t place i insns ls more w)
         (jump_comes way.Leaves is jump refl) in
         absurd (steps.end_returns number start.visible does.done.machine window.Returns does.done.ending does.same_end refl)
 
@@ -183,7 +180,7 @@ module _ (number : ℕ) (f : Function) (marks : MarksAreEmpty f) (ending items :
     call_at (Some w') None width_is event_is call is = absurd (never s s is good)
     call_at (Some w') (Some event) width_is event_is call is =
         let came : InsnsCome = come_to s.regs s.memory (window.Calls event w') in
-        steps.calls_on number f marks ending items start world Keeps Good all ended lawful keeping s t place i insns ls more w came
+        steps.calls_on number f marks items start world Keeps Good all lawful keeping s t place i insns ls more w came
         (one_comes i kind.Call s came call
         (ap (λ o. of_two (λ event w. Some (come_to s.regs s.memory (window.Calls event w))) o (result_width i.pattern)) event_is ∙
         ap (of_two (λ event w. Some (come_to s.regs s.memory (window.Calls event w))) (Some event)) width_is) refl) event w' refl call is
@@ -209,25 +206,22 @@ module _ (number : ℕ) (f : Function) (marks : MarksAreEmpty f) (ending items :
 
   quiet_at : (s : State) (t : Running) (place : ℕ) (i : Insn) (insns : List Insn) (more : List CodeItem) (effects : Option (List Effect)) →
       effects_of world.symbols s.regs s.memory i.pattern ≡ effects → Related s t → rtl_step.place_from f.insns s.next ≡ place →
-      Path f.insns 0 place → drop place f.insns ≡ i ∷ insns → LiveAgree place s.regs t.machine → i.kind ≡ kind.Plain →
-      is_quiet (head_of i.pattern).code ≡ true → AreItemsFrom number f ending (place + 1) insns more → next_line t.rest ≡ next_line more →
+      drop place f.insns ≡ i ∷ insns → LiveAgree place s.regs t.machine → i.kind ≡ kind.Plain →
+      is_quiet (head_of i.pattern).code ≡ true → AreItemsFrom number f (place + 1) insns more → next_line t.rest ≡ next_line more →
       EndsGood s → Simulates s t
-  quiet_at s t place i insns more None are related passed path chain agree plain quiet rest_are next good =
+  quiet_at s t place i insns more None are related passed chain agree plain quiet rest_are next good =
       absurd (never s s (step_insn s place i kind.Plain passed (get_dropped f.insns place i insns chain) plain ∙
       ap (rtl_step.after_effects s place) are) good)
-  quiet_at s t place i insns more (Some effects) are related passed path chain agree plain quiet rest_are next good =
+  quiet_at s t place i insns more (Some effects) are related passed chain agree plain quiet rest_are next good =
       let there = get_dropped f.insns place i insns chain in
-      let inside = within_dropped f.insns place i insns chain in
       let leads_there = leads_on f.insns place i there (λ jumps. let no : kind.Plain ≡ kind.Jump = sym plain ∙
       jumps in let none : ⊥ = cc in none) in
       let left = quiet_leaves world.symbols s.regs s.memory i.pattern effects quiet are in
       let after : State = record s { next = place + 1; regs = regs_after effects s.regs; memory = memory_after effects s.memory } in
       let related_after : Related after t = record {
         place = record {
-          within = omega (arith, inside);
-          path = further f.insns 0 place (place + 1) path leads_there;
           there = more;
-          are = subst (λ insns. AreItemsFrom number f ending (place + 1) insns more) (sym (drop_next f.insns place i insns chain)) rest_are;
+          are = subst (λ insns. AreItemsFrom number f (place + 1) insns more) (sym (drop_next f.insns place i insns chain)) rest_are;
           same = next;
         };
         beside = subst (λ memory. Beside start.visible memory t.machine) (sym left.memory_is) related.beside;
@@ -261,24 +255,23 @@ module _ (number : ℕ) (f : Function) (marks : MarksAreEmpty f) (ending items :
       ap (rtl_step.after_jump f s place) (leaves i world.symbols s.regs s.memory return)) good
 
   insn_at : (s : State) (t : Running) (place : ℕ) (i : Insn) (insns : List Insn) (own more : List CodeItem) → Related s t →
-      rtl_step.place_from f.insns s.next ≡ place → Path f.insns 0 place → drop place f.insns ≡ i ∷ insns →
+      rtl_step.place_from f.insns s.next ≡ place → drop place f.insns ≡ i ∷ insns →
       LiveAgree place s.regs t.machine →
-      rtl_step.is_mark i.kind ≡ false → AreItemsAt number f place i own → AreItemsFrom number f ending (place + 1) insns more →
+      rtl_step.is_mark i.kind ≡ false → AreItemsAt number f place i own → AreItemsFrom number f (place + 1) insns more →
       next_line t.rest ≡ next_line (own ++ more) → EndsGood s → Simulates s t
-  insn_at s t place i insns _ more related passed path chain agree none (items_of.label label small) rest_are next good =
+  insn_at s t place i insns _ more related passed chain agree none (items_of.label label small) rest_are next good =
       absurd (let no : true ≡ false = sym (ap rtl_step.is_mark label) ∙ none in let nothing : ⊥ = cc in nothing)
-  insn_at s t place i insns _ more related passed path chain agree none (items_of.barrier barrier) rest_are next good =
+  insn_at s t place i insns _ more related passed chain agree none (items_of.barrier barrier) rest_are next good =
       absurd (let no : true ≡ false = sym (ap rtl_step.is_mark barrier) ∙ none in let nothing : ⊥ = cc in nothing)
-  insn_at s t place i insns _ more related passed path chain agree none (items_of.quiet plain quiet) rest_are next good =
+  insn_at s t place i insns _ more related passed chain agree none (items_of.quiet plain quiet) rest_are next good =
       quiet_at s t place i insns more
-      (effects_of world.symbols s.regs s.memory i.pattern) refl related passed path chain agree plain quiet rest_are next good
-  insn_at s t place i insns _ more related passed path chain agree none (items_of.returning line jump return returns) rest_are next good =
+      (effects_of world.symbols s.regs s.memory i.pattern) refl related passed chain agree plain quiet rest_are next good
+  insn_at s t place i insns _ more related passed chain agree none (items_of.returning line jump return returns) rest_are next good =
       return_at s t place i insns line more related passed chain agree jump return returns next good
-  insn_at s t place i insns _ more related passed path chain agree none (items_of.window ls lines_are) rest_are next good =
+  insn_at s t place i insns _ more related passed chain agree none (items_of.window ls lines_are) rest_are next good =
       window_at s t place i insns ls more (record {
         related = related;
         passed = passed;
-        path = path;
         chain = chain;
         agree = agree;
         lines_are = lines_are;
@@ -286,30 +279,33 @@ module _ (number : ℕ) (f : Function) (marks : MarksAreEmpty f) (ending items :
         next = next;
       }) good i.kind refl
 
-  end_at : (s : State) (t : Running) (place : ℕ) (ending' : List CodeItem) → ending ≡ ending' → IsEnding (ReachesExit f.insns) ending' →
-      Related s t →
-      rtl_step.place_from f.insns s.next ≡ place → place ≤ length f.insns → Path f.insns 0 place → drop place f.insns ≡ [] →
-      LiveAgree place s.regs t.machine → next_line t.rest ≡ next_line ending → EndsGood s → Simulates s t
-  end_at s t place _ is (endings.returning line returns) related passed within path chain agree next good =
-      let last = end_dropped f.insns place within chain in
-      returns_by s t line [] (rtl_step.has_result f.result s.regs) refl related
-      (λ reg uses small. agree reg (subst (IsLive f reg) (sym last) (live.AtEnd uses)) small) (next ∙ ap next_line is) (ret returns)
-      (steps.step_at number f marks ending items start world Keeps Good all ended lawful keeping s place passed ∙
-      ap (λ o. rtl_step.act_at o world f place s) (get_past f.insns place chain)) good
-  end_at s t place _ is (endings.unreached never_there) related passed within path chain agree next good =
-      absurd (never_there (subst (Path f.insns 0) (end_dropped f.insns place within chain) path))
+  -- a run that ends well doesn't end past the last instruction
+  end_by : (s : State) (b : Bool) → rtl_step.has_result f.result s.regs ≡ b →
+      rtl_step.step world f s ≡ rtl_step.after_return f.result s → is_past f s ≡ true → EndsGood s → ⊥
+  end_by s true has stepped past good =
+      let stands = keeping.stands s (func.returned f s) (good rtl_ends.Returned s (stepped ∙
+      ap (λ b. if b then (rtl_ends.Returned, s) else (rtl_ends.Undefined, s)) has) refl) in
+      let no : true ≡ false = sym past ∙ stands in let none : ⊥ = cc in none
+  end_by s false has stepped past good =
+      never s s (stepped ∙ ap (λ b. if b then (rtl_ends.Returned, s) else (rtl_ends.Undefined, s)) has) good
 
-  stands_at : (s : State) (t : Running) (place : ℕ) → places.Stands number f marks ending place t.rest → Related s t →
+  end_at : (s : State) (place : ℕ) → rtl_step.place_from f.insns s.next ≡ place → drop place f.insns ≡ [] → EndsGood s → ⊥
+  end_at s place passed chain good =
+      let none : slice_get f.insns (rtl_step.place_from f.insns s.next) ≡ None =
+      ap (slice_get f.insns) passed ∙ get_past f.insns place chain in
+      end_by s (rtl_step.has_result f.result s.regs) refl (ap (λ o. rtl_step.act_at o world f (rtl_step.place_from f.insns s.next) s) none)
+      (ap (λ o. not (is_some o)) none) good
+
+  stands_at : (s : State) (t : Running) (place : ℕ) → places.Stands number f marks place t.rest → Related s t →
       rtl_step.place_from f.insns s.next ≡ place → LiveAgree place s.regs t.machine → EndsGood s → Simulates s t
-  stands_at s t place (places.at_end chain within path next) related passed agree good =
-      end_at s t place ending refl ended related passed within path chain agree next good
-  stands_at s t place (places.at_insn i insns own more chain path none own_are rest_are next) related passed agree good =
-      insn_at s t place i insns own more related passed path chain agree none own_are rest_are next good
+  stands_at s t place (places.at_end chain) related passed agree good = absurd (end_at s place passed chain good)
+  stands_at s t place (places.at_insn i insns own more chain none own_are rest_are next) related passed agree good =
+      insn_at s t place i insns own more related passed chain agree none own_are rest_are next good
 
   -- each step is followed
   pub step_follows : (s : State) (t : Running) → Related s t → EndsGood s → Simulates s t
   step_follows s t related good =
       let here = related.place in
-      let passing = places.passes number f marks ending (drop s.next f.insns) here.there s.next refl here.within here.path here.are in
-      stands_at s t passing.place' (places.restand number f marks ending passing.place' t.rest here.there here.same passing.stands) related
+      let passing = places.passes number f marks (drop s.next f.insns) here.there s.next refl here.are in
+      stands_at s t passing.place' (places.restand number f marks passing.place' t.rest here.there here.same passing.stands) related
       passing.passed_is (λ reg lives small. related.agree reg (passing.lives reg lives) small) good

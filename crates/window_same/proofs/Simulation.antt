@@ -11,6 +11,7 @@ use Rattle.rtl_step.specs.declared.step.StepEnd.TheVariants as ends
 use Rattle.func_mean.specs.Run as func
 use Rattle.func_mean.specs.declared.outcome.Outcome.{Outcome}
 use Rattle.func_mean.specs.declared.outcome.Outcome.TheVariants as outcomes
+use Rattle.func_keep.specs.Ends.{is_past, ends_past}
 
 -- ---- machines
 
@@ -88,8 +89,10 @@ module _ (T O : Type 0) (turn : T → Turned T O) (stop : T → O) (weight : T �
 
   -- ---- a function that is followed
 
-  -- `Good` is what is asked of the function's outcome, `Same` what the two outcomes have in common
-  module _ (world : World) (f : Function) (Related : State → T → Type 0) (Good : Outcome → Type 0) (Same : Outcome → O → Type 0) where
+  -- `Good` is what is asked of the function's outcome and of the state in which the last step is made, `Same` what the two outcomes have in
+  -- common
+  module _ (world : World) (f : Function) (Related : State → T → Type 0) (Good : State → Outcome → Type 0)
+      (Same : Outcome → O → Type 0) where
     -- What the machine does beside a step of the function: it moves on to a state that is related to the one behind the step, or it
     -- ends where the step ends. It takes as many turns at least, by their weight, as the step counts.
     pub data Simulates (s : State) (t : T) : Type 0 where
@@ -100,7 +103,14 @@ module _ (T O : Type 0) (turn : T → Turned T O) (stop : T → O) (weight : T �
 
     -- where a step ends the run, its outcome is good
     abbrev pub EndsGood : State → Type 0
-    EndsGood s = (e : StepEnd) (s' : State) → step world f s ≡ (e, s') → func.goes_on e ≡ false → Good (func.ended f e s')
+    EndsGood s = (e : StepEnd) (s' : State) → step world f s ≡ (e, s') → func.goes_on e ≡ false → Good s (func.ended f e s')
+
+    -- where a step ends a run, its outcome is good
+    pub data RunsGood : ℕ → State → Type 0 where
+      done : (s : State) → RunsGood 0 s
+      goes : (n : ℕ) (s : State) → func.goes_on (step world f s).0 ≡ true → RunsGood n (step world f s).1 → RunsGood (suc n) s
+      last_step : (n : ℕ) (s : State) → func.goes_on (step world f s).0 ≡ false →
+          Good s (func.ended f (step world f s).0 (step world f s).1) → RunsGood (suc n) s
 
     -- what is said of the steps
     pub record IsFollowed : Type 0 where
@@ -178,21 +188,54 @@ module _ (T O : Type 0) (turn : T → Turned T O) (stop : T → O) (weight : T �
       through = through_on k 1 t t' turns (last 0 t' outcome as_asked end);
     }
 
-    abbrev Later : ℕ → Type 0
-    Later n = (s : State) (t : T) → Related s t → Good (func.run world f n s) → Reaches n s t
+    -- ---- good runs
 
-    beside : (n : ℕ) (s : State) (t : T) → Good (func.run world f (suc n) s) → Later n → Simulates s t → Reaches (suc n) s t
-    beside n s t good later (goes_on e s' k t' is on turns few related) =
-        both_go n s t e s' k t' is on turns few (later s' t' related (subst Good (step_goes n s e s' is on) good))
-    beside n s t good later (ends_there e s' k t' outcome is over turns as_asked end few same) =
-        both_end n s t e s' k t' outcome is over turns as_asked end few same
+    past_by : (n : ℕ) (s : State) (b : Bool) → func.goes_on (step world f s).0 ≡ b →
+        ends_past world f (suc n) s ≡ (if b then ends_past world f n (step world f s).1 else is_past f s)
+    past_by n s b is = ap (λ b. if b then ends_past world f n (step world f s).1 else is_past f s) is
+
+    -- the outcome of a run is good in the state in which its last step is made, wherever that is
+    abbrev GoodAtLast : ℕ → State → Type 0
+    GoodAtLast n s = (last : State) → ends_past world f n s ≡ is_past f last → Good last (func.run world f n s)
+
+    good_by : (n : ℕ) (s : State) (b : Bool) → func.goes_on (step world f s).0 ≡ b → GoodAtLast (suc n) s →
+        (GoodAtLast n (step world f s).1 → RunsGood n (step world f s).1) → RunsGood (suc n) s
+    good_by n s true on good later =
+        goes n s on (later (λ last same. subst (Good last) (step_goes n s (step world f s).0 (step world f s).1 refl on)
+        (good last (past_by n s true on ∙ same))))
+    good_by n s false ends_it good later =
+        last_step n s ends_it (subst (Good s) (step_ends n s (step world f s).0 (step world f s).1 refl ends_it)
+        (good s (past_by n s false ends_it)))
+
+    pub runs_good : (n : ℕ) (s : State) → GoodAtLast n s → RunsGood n s
+    runs_good zero s good = done s
+    runs_good (suc n) s good = good_by n s (func.goes_on (step world f s).0) refl good (runs_good n (step world f s).1)
 
     -- whether a step goes on or not, it ends well where it ends
-    ends_well : (n : ℕ) (s : State) (b : Bool) → func.goes_on (step world f s).0 ≡ b → Good (func.run world f (suc n) s) → EndsGood s
-    ends_well n s true on good = vacuous s (step world f s).0 (step world f s).1 refl on
-    ends_well n s false over good = λ e s' is ends_it. subst Good (step_ends n s e s' is ends_it) good
+    ends_well : (n : ℕ) (s : State) → RunsGood (suc n) s → EndsGood s
+    ends_well _ _ (goes n s on rest) = vacuous s (step world f s).0 (step world f s).1 refl on
+    ends_well _ _ (last_step n s ends_it good) = λ e s' is ends'.
+        subst (λ (x : Stepped). Good s (func.ended f x.0 x.1)) is good
 
-    -- the machine follows each run
+    -- what is left of a run behind a step that goes on
+    good_behind : (n : ℕ) (s : State) (e : StepEnd) (s' : State) → step world f s ≡ (e, s') → func.goes_on e ≡ true → RunsGood (suc n) s →
+        RunsGood n s'
+    good_behind _ _ e s' is on (goes n s on' rest) = subst (λ (x : Stepped). RunsGood n x.1) is rest
+    good_behind _ _ e s' is on (last_step n s ends_it good) =
+        absurd (let both : true ≡ false = sym on ∙ sym (ap (λ (x : Stepped). func.goes_on x.0) is) ∙ ends_it in let no : ⊥ = cc in no)
+
+    -- ---- all runs
+
+    abbrev Later : ℕ → Type 0
+    Later n = (s : State) (t : T) → Related s t → RunsGood n s → Reaches n s t
+
+    beside : (n : ℕ) (s : State) (t : T) → RunsGood (suc n) s → Later n → Simulates s t → Reaches (suc n) s t
+    beside n s t good later (goes_on e s' k t' is on turns few related) =
+        both_go n s t e s' k t' is on turns few (later s' t' related (good_behind n s e s' is on good))
+    beside n s t good later (ends_there e s' k t' outcome is ends_it turns as_asked end few same) =
+        both_end n s t e s' k t' outcome is ends_it turns as_asked end few same
+
+    -- the machine follows each run that ends well
     pub follow : IsFollowed → (n : ℕ) → Later n
     follow followed zero s t related good = record {
       turns = 0;
@@ -201,4 +244,4 @@ module _ (T O : Type 0) (turn : T → Turned T O) (stop : T → O) (weight : T �
       through = none t;
     }
     follow followed (suc n) s t related good =
-        beside n s t good (follow followed n) (followed.steps s t related (ends_well n s (func.goes_on (step world f s).0) refl good))
+        beside n s t good (follow followed n) (followed.steps s t related (ends_well n s good))

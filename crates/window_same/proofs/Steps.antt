@@ -26,10 +26,11 @@ use Rattle.rtl_step.specs.declared.step.StepEnd.TheVariants as rtl_ends
 use Rattle.func_mean.specs.Run as func
 use Rattle.func_mean.specs.declared.outcome.Outcome.{Outcome}
 use Rattle.func_mean.specs.declared.outcome.Outcome.TheVariants as rtl
-use Rattle.rtl_func.specs.Paths.{ReachesExit, Path, leads}
+use Rattle.func_keep.specs.Ends.{is_past}
+use Rattle.rtl_func.specs.Paths.{leads}
 use Rattle.reg_uses.specs.Uses.{insn_uses, insn_defines, return_uses}
 use Rattle.live.specs.Live as live
-use Rattle.live.specs.Live.{IsLive, IsLiveAfter}
+use Rattle.live.specs.Live.{IsLive}
 use Rattle.rv_text.specs.Body.{label_text}
 use Rattle.rv_text.specs.declared.line.Line.{Line}
 use Rattle.rv_text.specs.declared.line.CodeItem.{CodeItem}
@@ -41,10 +42,10 @@ use Rattle.rv_line.specs.declared.outcome.CodeCall.{CodeCall}
 use Rattle.rv_line.specs.declared.outcome.CodeOutcome.{CodeOutcome}
 use Rattle.rv_line.specs.declared.outcome.CodeOutcome.TheVariants as code
 use Rattle.rv_line.specs.declared.state.RvState.{RvState}
-use Rattle.same_behaviour.specs.Ending.{IsUid, IsEnding}
+use Rattle.same_behaviour.specs.Ending.{IsUid}
 use Rattle.same_behaviour.specs.Lawful.{IsLawfulReply, IsLawfulWorld}
 use Rattle.same_behaviour.specs.Same.{SameOutcome, SameCall, SameCalls, at_entry}
-use Rattle.same_behaviour.proofs.Places.{get_dropped, get_past, drop_next, within_dropped}
+use Rattle.same_behaviour.proofs.Places.{get_dropped, get_past, drop_next}
 use Rattle.window_mean.specs.Beside.{Agrees, Beside, IsMachine}
 use Rattle.window_mean.specs.Insns as insn_end
 use Rattle.window_mean.specs.Insns.{InsnsEnd, InsnsCome, insns_come}
@@ -56,7 +57,7 @@ use Rattle.window_mean.specs.Uses.{window_uses}
 use Rattle.window_same.specs.ForLines.{MarksAreEmpty}
 use Rattle.window_same.specs.Items.{AreItemsFrom, AreLinesAt, IsLiveBehind, is_quiet}
 use Rattle.window_same.proofs.Calls.{same_more, length_more, next_is}
-use Rattle.window_same.proofs.Leads.{further, leads_on}
+use Rattle.window_same.proofs.Leads.{leads_on}
 use Rattle.window_same.proofs.Places.{At, found}
 use Rattle.window_same.proofs.Replies.{beside_after, agrees_after}
 use Rattle.window_same.proofs.Simulation as machine
@@ -116,15 +117,15 @@ hard_is reg b hard uses = hard_by reg (nat_lt 31 reg) refl (λ above. let no : t
 
 -- ---- the run of a function and that of its items
 
-module _ (number : ℕ) (f : Function) (marks : MarksAreEmpty f) (ending items : List CodeItem) (start : Start) (world : World)
-    (Keeps : Regs → RvState → Type 0) (Good : Outcome → Type 0) where
+module _ (number : ℕ) (f : Function) (marks : MarksAreEmpty f) (items : List CodeItem) (start : Start) (world : World)
+    (Keeps : Regs → RvState → Type 0) (Good : State → Outcome → Type 0) where
   abbrev pub LiveAgree : ℕ → Regs → RvState → Type 0
   LiveAgree place regs m = (reg : ℕ) → IsLive f reg place → reg < 32 → Agrees regs m.regs reg
 
   -- How the machine stands beside the function: it is at the same place; what is live there agrees, and memory; the calls are the same,
   -- and as many replies are left; and it keeps what has to be kept.
   pub record Related (s : State) (t : Running) : Type 0 where
-    pub place : At number f marks ending s.next t.rest
+    pub place : At number f marks s.next t.rest
     pub beside : Beside start.visible s.memory t.machine
     pub agree : LiveAgree s.next s.regs t.machine
     pub visible_is : s.visible ≡ start.visible
@@ -133,9 +134,10 @@ module _ (number : ℕ) (f : Function) (marks : MarksAreEmpty f) (ending items :
     pub entry_is : t.machine.entry_ra ≡ start.ra
     pub keeps : Keeps s.regs t.machine
 
-  -- What has to be kept stays so in each step, and is enough for a return.
+  -- A good end has a value and isn't past the last instruction; and what has to be kept stays so in each step, and is enough for a return.
   pub record IsKeeping : Type 0 where
-    pub defined : Good rtl.Undefined → ⊥
+    pub defined : (s : State) → Good s rtl.Undefined → ⊥
+    pub stands : (s : State) (outcome : Outcome) → Good s outcome → is_past f s ≡ false
     pub does : (place : ℕ) (i : Insn) (ls : List Line) (regs : Regs) (memory : List MemByte) (m : RvState) (came : InsnsCome) →
         slice_get f.insns place ≡ Some i → insns_come world.symbols start.visible (i ∷ []) regs memory ≡ Some came →
         ((reg : ℕ) → IsKept came.ending reg) → (does : LinesDo number (i ∷ []) ls (IsLiveBehind f place) world start.visible m came) →
@@ -150,7 +152,7 @@ module _ (number : ℕ) (f : Function) (marks : MarksAreEmpty f) (ending items :
         Keeps (regs_replied came.regs w reply.value) (after_call reply does.done.machine)
     pub returns : (s : State) (m : RvState) → IsMachine m → Keeps s.regs m →
         ((reg : ℕ) → return_uses f reg ≡ true → reg < 32 → Agrees s.regs m.regs reg) →
-        Good (func.returned f s) → (register m.regs 1 ≡ Some start.ra) × (lines.saved_of m.regs ≡ at_entry start)
+        Good s (func.returned f s) → (register m.regs 1 ≡ Some start.ra) × (lines.saved_of m.regs ≡ at_entry start)
 
   abbrev pub turn : Running → machine.Turned Running CodeOutcome
   turn s = turns.turn world start.visible items s
@@ -175,7 +177,7 @@ module _ (number : ℕ) (f : Function) (marks : MarksAreEmpty f) (ending items :
   one_at_least k t t' led =
       let weights = machine.weigh_on Running CodeOutcome turn stopped one Any k 1 t t' led in omega (arith, weights)
 
-  module _ (all : AreItemsFrom number f ending 0 f.insns items) (ended : IsEnding (ReachesExit f.insns) ending)
+  module _ (all : AreItemsFrom number f 0 f.insns items)
       (lawful : IsLawfulWorld start world) (keeping : IsKeeping) where
     -- ---- steps
 
@@ -191,7 +193,7 @@ module _ (number : ℕ) (f : Function) (marks : MarksAreEmpty f) (ending items :
 
     -- a step without a value
     pub never : (s s' : State) → rtl_step.step world f s ≡ (rtl_ends.Undefined, s') → EndsGood s → ⊥
-    never s s' is good = keeping.defined (good rtl_ends.Undefined s' is refl)
+    never s s' is good = keeping.defined s (good rtl_ends.Undefined s' is refl)
 
     -- ---- the lines of an instruction
 
@@ -200,11 +202,10 @@ module _ (number : ℕ) (f : Function) (marks : MarksAreEmpty f) (ending items :
         (more : List CodeItem) : Type 0 where
       pub related : Related s t
       pub passed : rtl_step.place_from f.insns s.next ≡ place
-      pub path : Path f.insns 0 place
       pub chain : drop place f.insns ≡ i ∷ insns
       pub agree : LiveAgree place s.regs t.machine
       pub lines_are : AreLinesAt number f place i ls
-      pub rest_are : AreItemsFrom number f ending (place + 1) insns more
+      pub rest_are : AreItemsFrom number f (place + 1) insns more
       pub next : next_line t.rest ≡ next_line (map Code ls ++ more)
 
     pub starts : (s : State) (t : Running) (place : ℕ) (i : Insn) (insns : List Insn) (ls : List Line) (more : List CodeItem) →
@@ -251,7 +252,7 @@ module _ (number : ℕ) (f : Function) (marks : MarksAreEmpty f) (ending items :
       abbrev behind : ℕ → State
       behind q = record s { next = q; regs = came.regs; memory = came.memory }
 
-      related_behind : (q : ℕ) (rest : List CodeItem) → At number f marks ending q rest → leads f.insns place q ≡ true →
+      related_behind : (q : ℕ) (rest : List CodeItem) → At number f marks q rest → leads f.insns place q ≡ true →
           ((reg : ℕ) → IsKept came.ending reg) → Related (behind q) (at rest after t.replies t.calls)
       related_behind q rest at_q leads_there kept = record {
         place = at_q;
@@ -264,13 +265,10 @@ module _ (number : ℕ) (f : Function) (marks : MarksAreEmpty f) (ending items :
         keeps = keeps kept;
       }
 
-      at_next : (rest : List CodeItem) → leads f.insns place (place + 1) ≡ true → next_line rest ≡ next_line more →
-          At number f marks ending (place + 1) rest
-      at_next rest leads_there next = let inside = within_dropped f.insns place i insns w.chain in record {
-        within = omega (arith, inside);
-        path = further f.insns 0 place (place + 1) w.path leads_there;
+      at_next : (rest : List CodeItem) → next_line rest ≡ next_line more → At number f marks (place + 1) rest
+      at_next rest next = record {
         there = more;
-        are = subst (λ insns. AreItemsFrom number f ending (place + 1) insns more) (sym
+        are = subst (λ insns. AreItemsFrom number f (place + 1) insns more) (sym
             (drop_next f.insns place i insns w.chain)) w.rest_are;
         same = next;
       }
@@ -281,7 +279,7 @@ module _ (number : ℕ) (f : Function) (marks : MarksAreEmpty f) (ending items :
           leads f.insns place (place + 1) ≡ true → Simulates s t
       falls_by _ is (turns.falls k rest next led) ends stepped leads_there =
           machine.goes_on rtl_ends.Next (behind (place + 1)) k (at rest after t.replies t.calls) stepped refl led (omega arith)
-          (related_behind (place + 1) rest (at_next rest leads_there next) leads_there (λ reg. subst (λ e. IsKept e reg) (sym ends) tt))
+          (related_behind (place + 1) rest (at_next rest next) leads_there (λ reg. subst (λ e. IsKept e reg) (sym ends) tt))
       falls_by _ is (turns.goes k rest m' target led end) ends stepped leads_there = absurd (let no : ⊥ = cc in no)
       falls_by _ is (turns.calls k rest m' target led end) ends stepped leads_there = absurd (let no : ⊥ = cc in no)
       falls_by _ is turns.returns ends stepped leads_there = absurd (let no : ⊥ = cc in no)
@@ -292,19 +290,16 @@ module _ (number : ℕ) (f : Function) (marks : MarksAreEmpty f) (ending items :
           (end_falls number start.visible after came.ending does.done.ending does.same_end ends) passes ends
 
       -- it goes to a label
-      at_label : (uid q : ℕ) → IsUid uid → place_of uid f.insns ≡ Some q → leads f.insns place q ≡ true →
-          (rest : List CodeItem) × (behind_label (label_text number uid) items ≡ Some rest) × At number f marks ending q rest
-      at_label uid q small at_q leads_there =
-          let label = found number f ending uid q 0 f.insns items small all at_q in
-          let here : label.by ≡ q = let is = label.place_is in omega (arith, is) in
-          let inside = label.within in (
+      at_label : (uid q : ℕ) → IsUid uid → place_of uid f.insns ≡ Some q →
+          (rest : List CodeItem) × (behind_label (label_text number uid) items ≡ Some rest) × At number f marks q rest
+      at_label uid q small at_q =
+          let label = found number f uid q 0 f.insns items small all at_q in
+          let here : label.by ≡ q = let is = label.place_is in omega (arith, is) in (
             label.rest,
             label.behind,
             record {
-              within = omega (arith, inside, here);
-              path = further f.insns 0 place q w.path leads_there;
               there = label.there;
-              are = subst (λ by. AreItemsFrom number f ending q (drop by f.insns) label.there) here label.are;
+              are = subst (λ by. AreItemsFrom number f q (drop by f.insns) label.there) here label.are;
               same = label.same;
             },
           )
@@ -316,7 +311,7 @@ module _ (number : ℕ) (f : Function) (marks : MarksAreEmpty f) (ending items :
           leads f.insns place q ≡ true → Simulates s t
       goes_by uid q _ is (turns.falls k rest next led) ends small at_q stepped leads_there = absurd (let no : ⊥ = cc in no)
       goes_by uid q _ is (turns.goes k rest m' target led end) ends small at_q stepped leads_there =
-          let label = at_label uid q small at_q leads_there in
+          let label = at_label uid q small at_q in
           let same : target ≡ label_text number uid = cc in
           let last : turn (at rest m' t.replies t.calls) ≡ machine.Goes (at label.0 after t.replies t.calls) =
           end ∙ ap (λ o. turned_as (lines.jumped o (at [] after t.replies t.calls))) (ap (λ target. behind_label target items) same ∙
@@ -351,7 +346,7 @@ module _ (number : ℕ) (f : Function) (marks : MarksAreEmpty f) (ending items :
       related_called event w' target reply left ends same replies_are is_call leads_there =
           let gone : drop (length s.calls) world.replies ≡ reply ∷ left = sym w.related.replies_are ∙ replies_are in
           let lawful_reply = next_is (IsLawfulReply start) world.replies left (length s.calls) reply lawful.replies (sym gone) in record {
-            place = at_next more leads_there refl;
+            place = at_next more refl;
             beside = beside_after start.visible came.memory reply after lawful_reply.value lawful_reply.bytes does.beside;
             agree = λ reg lives small. agrees_after came.regs w' reply after reg does.beside.second.long
                 (λ kept. does.agree reg ((place + 1, leads_there, lives), small) (subst (λ e. IsKept e reg) (sym ends) kept));

@@ -9,7 +9,6 @@ use Rattle.rtx_tree.specs.declared.function.Insn.{Insn}
 use Rattle.rtx_tree.specs.declared.function.Function.{Function}
 use Rattle.rtx_tree.specs.declared.function.Kind.TheVariants as kind
 use Rattle.rtl_step.specs.Step.{is_mark}
-use Rattle.rtl_func.specs.Paths.{ReachesExit}
 use Rattle.reg_uses.specs.Uses.{is_return}
 use Rattle.live.specs.Live.{IsLiveAfter}
 use Rattle.rv_text.specs.Lines.{action_of}
@@ -19,7 +18,7 @@ use Rattle.rv_text.specs.declared.action.Source.TheVariants.{First, ReturnAddres
 use Rattle.rv_text.specs.declared.line.Line.{Line}
 use Rattle.rv_text.specs.declared.line.CodeItem.{CodeItem}
 use Rattle.rv_text.specs.declared.line.CodeItem.TheVariants.{Label, Code}
-use Rattle.same_behaviour.specs.Ending.{IsUid, IsEnding}
+use Rattle.same_behaviour.specs.Ending.{IsUid}
 use Rattle.window_mean.specs.Same.{DoSame}
 use Rattle.window_mean.specs.Uses.{window_uses}
 
@@ -70,14 +69,12 @@ pub data AreItemsAt (number : ℕ) (f : Function) (place : ℕ) (i : Insn) : Lis
 
 -- ---- the whole
 
--- the items of the rest of a chain, which begins at a place, and behind them an ending
-pub data AreItemsFrom (number : ℕ) (f : Function) (ending : List CodeItem) : ℕ → List Insn → List CodeItem → Type 0 where
-  end : (place : ℕ) → AreItemsFrom number f ending place [] ending
+-- the items of the rest of a chain, which begins at a place
+pub data AreItemsFrom (number : ℕ) (f : Function) : ℕ → List Insn → List CodeItem → Type 0 where
+  end : (place : ℕ) → AreItemsFrom number f place [] []
   next : (place : ℕ) (i : Insn) (insns : List Insn) (items rest : List CodeItem) → AreItemsAt number f place i items →
-      AreItemsFrom number f ending (place + 1) insns rest → AreItemsFrom number f ending place (i ∷ insns) (items ++ rest)
+      AreItemsFrom number f (place + 1) insns rest → AreItemsFrom number f place (i ∷ insns) (items ++ rest)
 
--- The items of a function. Nothing stands behind them where no path of its instructions leads to the end.
-pub record AreItems (number : ℕ) (f : Function) (items : List CodeItem) : Type 0 where
-  pub ending : List CodeItem
-  pub ends : IsEnding (ReachesExit f.insns) ending
-  pub are : AreItemsFrom number f ending 0 f.insns items
+-- The items of a function. Nothing stands behind them: it is no matter of the items where a run returns at the end of the chain.
+abbrev pub AreItems : ℕ → Function → List CodeItem → Type 0
+AreItems number f items = AreItemsFrom number f 0 f.insns items

@@ -1,6 +1,6 @@
--- Same behaviour where a run leaves to its caller what it found, of a function that may set and restore it: RISC-V ELF psABI, "Integer
--- Register Convention" (ra holds the return address; a function preserves sp and s0 to s11).
-use Rattle.std.specs.Prelude.{◌≡◌, ℕ, ◌≤◌, ◌<◌, true, List, [], ◌∷◌, map, slice_get, slice_index, Option, Some}
+-- Same behaviour where a run leaves to its caller what it found, of a function that has its frame: RISC-V ELF psABI, "Integer Register
+-- Convention" (ra holds the return address; a function preserves sp and s0 to s11) and "Integer Calling Convention" (the stack).
+use Rattle.std.specs.Prelude.{◌≡◌, ◌≢◌, ℕ, ◌≤◌, ◌<◌, true, List, [], ◌∷◌, map, slice_get, slice_index, Option, Some}
 use Rattle.std.specs.List.{All}
 use Rattle.rtx_tree.specs.Tree.{head_of, kids_of}
 use Rattle.rtx_tree.specs.declared.code.Code.{Code}
@@ -12,13 +12,15 @@ use Rattle.rtx_tree.specs.declared.machine.Start.{Start}
 use Rattle.rtx_tree.specs.declared.machine.World.{World}
 use Rattle.rtx_tree.specs.declared.tree.Rtx.{Rtx}
 use Rattle.rtl_step.specs.Effect.{register_of}
-use Rattle.func_mean.specs.Run.{run_of}
+use Rattle.func_mean.specs.Run.{run_of, taken}
 use Rattle.func_mean.specs.declared.outcome.Outcome.{Outcome}
-use Rattle.func_mean.specs.declared.outcome.Outcome.TheVariants.{Returned}
+use Rattle.func_mean.specs.declared.outcome.Outcome.TheVariants.{Returned, Undefined}
+use Rattle.func_keep.specs.Ends.{EndsAtExit}
 use Rattle.reg_uses.specs.Effects.{effects_of, place_is}
 use Rattle.rv_text.specs.declared.line.CodeItem.{CodeItem}
+use Rattle.rv_line.specs.Run as lines
 use Rattle.same_behaviour.specs.Lawful.{IsLawful, IsLawfulWorld, seen_by_rtl}
-use Rattle.same_behaviour.specs.Same.{SameFrom}
+use Rattle.same_behaviour.specs.Same.{SameOutcome}
 
 -- what sp, ra and s0 to s11 hold at entry
 abbrev pub found : Start → List (Option ℕ)
@@ -30,11 +32,14 @@ abbrev pub LeavesAsFound : Start → Outcome → Type 0
 LeavesAsFound start (Returned value memory events kept) = kept ≡ found start
 LeavesAsFound start _ = Unit {0}
 
--- the same behaviour, in each run of the function that leaves them so
-abbrev pub SameWhereLeft : ℕ → Function → List CodeItem → Type 0
-SameWhereLeft least f items = (frame : ℕ) (start : Start) (world : World) (n : ℕ) → least ≤ frame →
+-- The items of a function do what it does, where of the room below sp so much is there for it, its locals at least, in each run
+-- that has a value, leaves sp, ra and s0 to s11 as it found them, and never returns at the end of the chain.
+abbrev pub SameWhereLeft : Function → List CodeItem → Type 0
+SameWhereLeft f items = (frame size : ℕ) (start : Start) (world : World) (n : ℕ) → f.locals ≤ size → size ≤ frame →
     IsLawful frame f.locals start → IsLawfulWorld start world →
-    LeavesAsFound start (run_of f (seen_by_rtl frame f.locals start) world n) → SameFrom frame f items start world n
+    let seen = seen_by_rtl frame size start in
+    run_of f seen world n ≢ Undefined → LeavesAsFound start (run_of f seen world n) → ¬ EndsAtExit f seen world n →
+    (k : ℕ) × (taken f seen world n ≤ k) × SameOutcome f.result start (run_of f seen world n) (lines.run items start world k)
 
 -- ---- what is asked of the function
 

@@ -29,8 +29,8 @@ use Rattle.whole_mean.proofs.Whole.{whole_same}
 size_holds : (locals : ℕ) (saved slots : List ℕ) → locals ≤ frame_size locals saved slots
 size_holds locals saved slots = omega arith
 
--- f0 is the function that was read, f3 that behind lowering and the first split, f4 that with homes, f5 that with its frame too, and f6 that
--- behind the second split
+-- f0 is the function that was read, f3 that behind lowering and the first split, f4 that with homes, f5 that with its frame too, and f6
+-- that behind the second split
 pub made_same : (constants : List Constant) (instances : List Instance) (f0 f3 f4 f5 f6 : Function) (homes : List HomeOf) (layout : Layout)
     (items : List CodeItem) →
     let forms = forms_of constants instances in

@@ -1,6 +1,6 @@
--- A start of whose room below sp only the nearest bytes are there: a function with its locals among them sees of it what it sees of the start,
--- and where the start is lawful with a frame of all the room, this one is with a frame of the bytes that are there.
-use Rattle.std.proofs.Common.{◌≡◌, ℕ, ◌+◌, ◌≤◌, ◌&&◌, ◌||◌, not, arith, cond, Bool, true, false, List, [], ◌∷◌, refl, sym, ap, subst, ◌∙◌}
+-- A start of whose room below sp only the nearest bytes are there: a function with its locals among them sees of it what it sees of the
+-- start, and where the start is lawful with a frame of all the room, this one is with a frame of the bytes that are there.
+use Rattle.std.proofs.Common.{◌≡◌, ℕ, ◌≤◌, ◌&&◌, ◌||◌, not, arith, cond, Bool, true, false, List, [], ◌∷◌, refl, ap, ◌∙◌}
 use Rattle.std.proofs.lemmas.Bool.{false≢true}
 use Rattle.std.proofs.lemmas.Bool.Decides.{nat_tests}
 use Rattle.std.proofs.lemmas.List.Elements.{All-weaker}
@@ -12,8 +12,8 @@ use Rattle.rtx_tree.specs.declared.machine.Start.{Start}
 use Rattle.rtx_tree.specs.declared.machine.World.{World}
 use Rattle.rtx_tree.specs.declared.memories.MemByte.{MemByte}
 use Rattle.same_behaviour.specs.Lawful.{IsLawful, IsLawfulReply, IsLawfulWorld, is_below_sp, seen_by_rtl}
-use Rattle.func_keep.specs.Keeps.{IsMachineStart, IsMachineWorld}
-use Rattle.keep_compose.proofs.Lines.{memory_kept, world_is_machine}
+use Rattle.func_keep.specs.Keeps.{IsMachineStart}
+use Rattle.keep_compose.proofs.Lines.{memory_kept}
 use Rattle.window_same.proofs.Small.{or_true}
 use Rattle.homes_mean.proofs.Entry.{kept_byte}
 
@@ -52,7 +52,8 @@ module _ (frame size locals : ℕ) (start : Start) (holds : locals ≤ size) (en
   -- a function sees of it what it sees of the start
   pub near_seen : seen_by_rtl size locals near ≡ seen_by_rtl frame locals start
   near_seen = ap (λ (memory : List MemByte). record start { vars = start.sp; memory = memory })
-      (filtered_twice (λ (b : MemByte). is_near b.address) (λ b. not (is_below_sp start size b.address) || is_below_sp start locals b.address)
+      (filtered_twice (λ (b : MemByte). is_near b.address)
+      (λ b. not (is_below_sp start size b.address) || is_below_sp start locals b.address)
       (λ b. not (is_below_sp start frame b.address) || is_below_sp start locals b.address) start.memory
       (λ b. passes_both (is_below_sp start frame b.address) (is_below_sp start size b.address) (is_below_sp start locals b.address)
       (below_more locals size b.address holds) (below_more size frame b.address enough)))
@@ -99,6 +100,3 @@ module _ (frame size locals : ℕ) (start : Start) (holds : locals ≤ size) (en
 
     pub near_machine : IsMachineStart near
     near_machine = record { words = near_lawful.words; vars = lawful.words.sp; memory = near_lawful.memory }
-
-    pub near_machine_world : (world : World) → IsLawfulWorld start world → IsMachineWorld world
-    near_machine_world world is = world_is_machine start world is

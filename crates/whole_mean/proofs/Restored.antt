@@ -1,5 +1,6 @@
 -- What a function with its frame comes to, which restores what its caller had in sp, ra and s0 to s11, and what comes to the same as that.
 use Rattle.std.proofs.Common.{◌≡◌, ◌≢◌, ℕ, zero, suc, arith, length, List, [], ◌∷◌, map, Option, Some, refl, sym, ap, subst, ◌∙◌}
+use Rattle.std.specs.Prelude.{slice_index}
 use Rattle.rtx_tree.specs.declared.code.Mode.{Mode}
 use Rattle.rtx_tree.specs.declared.function.Function.{Function}
 use Rattle.rtx_tree.specs.declared.machine.Start.{Start}
@@ -56,14 +57,18 @@ same_known (x ∷ numbers) (y ∷ others) long too =
     ap (λ y. y ∷ others) same ∙
     ap (λ ys. Some x ∷ ys) (same_known numbers others (omega (arith, long)) (λ i number at. too (suc i) number at))
 
+-- what is found in sp, ra and s0 to s11
+abbrev numbers_found : Start → List ℕ
+numbers_found start = start.sp ∷ start.ra ∷ map (λ k. slice_index start.saved k) (0 ∷ 1 ∷ 2 ∷ 3 ∷ 4 ∷ 5 ∷ 6 ∷ 7 ∷ 8 ∷ 9 ∷ 10 ∷ 11 ∷ [])
+
 -- What comes to the same as what restores what was found leaves it so, by whichever start of the same registers.
 pub left_as_found : (start other : Start) (x y z : Outcome) → found other ≡ found start → Restores other x y → SameOutcome y z →
     HasFourteen z → LeavesAsFound start z
 left_as_found start other x y (Running c) is restores same has = tt
 left_as_found start other x y (Asked c) is restores same has = tt
 left_as_found start other x y Undefined is restores same has = tt
-left_as_found start other (Returned value memory a kept) (Returned value' memory' b kept') (Returned value'' memory'' c kept'') is restores same
-    has = same_known _ kept'' has (subst (λ k. KeptToo k kept'') restores.3 same.3) ∙ is
+left_as_found start other (Returned value memory a kept) (Returned value' memory' b kept') (Returned value'' memory'' c kept'') is restores
+    same has = same_known (numbers_found other) kept'' has (subst (λ k. KeptToo k kept'') restores.3 same.3) ∙ is
 left_as_found start other x (Running b) (Returned value'' memory'' c kept'') is restores same has = absurd same
 left_as_found start other x (Asked b) (Returned value'' memory'' c kept'') is restores same has = absurd same
 left_as_found start other x Undefined (Returned value'' memory'' c kept'') is restores same has = absurd same

@@ -13,9 +13,9 @@ use Rattle.same_behaviour.specs.Lawful.{IsLawful, IsLawfulWorld, seen_by_rtl}
 use Rattle.same_behaviour.specs.Same.{SameOutcome}
 use Rattle.window_same.specs.Left.{LeavesAsFound}
 
--- From a lawful start in a lawful world the function sees as many bytes of the room below sp as it makes a frame of, and its locals are among
--- them. Where its run of n steps has a value, leaves to the caller what was found, and doesn't return at the end of the chain, the code
--- reaches the same outcome in some k lines, which are as many at least as the jumps and calls that the function took.
+-- From a lawful start in a lawful world the function sees as many bytes of the room below sp as it makes a frame of, and its locals are
+-- among them. Where its run of n steps has a value, leaves to the caller what was found, and doesn't return at the end of the chain, the
+-- code reaches the same outcome in some k lines, which are as many at least as the jumps and calls that the function took.
 abbrev pub SameWhereLeft : Function → List CodeItem → Type 0
 SameWhereLeft f items = (frame size : ℕ) (start : Start) (world : World) (n : ℕ) → f.locals ≤ size → size ≤ frame →
     IsLawful frame f.locals start → IsLawfulWorld start world →

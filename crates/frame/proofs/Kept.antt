@@ -22,7 +22,7 @@ module _ (forms : List Entry) (f g : Function) (layout : Layout) where
       subst (IsFramed layout f) same framed
 
   -- what it comes to, it is with a frame
-  is_framed : FrameComes forms f layout (Ok g) → IsFramed layout f g
+  pub is_framed : FrameComes forms f layout (Ok g) → IsFramed layout f g
   is_framed comes = framed_by (Ok g) refl comes
 
   pub frame_keeps : IsLaidOut f.locals layout → RegistersAreNatural f →

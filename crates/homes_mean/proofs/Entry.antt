@@ -116,7 +116,7 @@ other_vars w start sp x y r before other = found_through w (first_entries start 
 
 -- ---- a part of memory
 
-kept_byte : (test : ℕ → Bool) (memory : List MemByte) (address : ℕ) →
+pub kept_byte : (test : ℕ → Bool) (memory : List MemByte) (address : ℕ) →
     byte_at (filter (λ (b : MemByte). test b.address) memory) address ≡ (if test address then byte_at memory address else None)
 kept_byte test [] address = by (test address)
   where

@@ -47,7 +47,7 @@ module _ (test : ℕ → Bool) where
       by_test true rest = ap (λ xs. b.address ∷ xs) rest
       by_test false rest = rest
 
-  memory_kept : (memory : List MemByte) → IsMemory memory → IsMemory (kept memory)
+  pub memory_kept : (memory : List MemByte) → IsMemory memory → IsMemory (kept memory)
   memory_kept memory is = record {
     ordered = let P : List ℕ → Type 0 = λ xs. IsStrictlyIncreasing xs in
         subst P (sym (addresses_kept memory)) (IsStrictlyIncreasing-filter test (addresses memory) is.ordered);
@@ -97,7 +97,7 @@ calls_too events others calls one two = (
 
 -- ---- outcomes
 
-outcome_too : (mode : Option Mode) (start : Start) (x y : Outcome) (z : CodeOutcome) → SameOutcome x y → same.SameOutcome mode start y z →
+pub outcome_too : (mode : Option Mode) (start : Start) (x y : Outcome) (z : CodeOutcome) → SameOutcome x y → same.SameOutcome mode start y z →
     same.SameOutcome mode start x z
 outcome_too mode start (rtl.Running a) (rtl.Running b) (code.Running c) one two = calls_too a b c one two
 outcome_too mode start (rtl.Asked a) (rtl.Asked b) (code.Asked c) one two = calls_too a b c one two

@@ -1,0 +1,4 @@
+pub mod Nearer
+pub mod Restored
+pub mod Whole
+pub mod Made

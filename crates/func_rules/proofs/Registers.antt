@@ -49,7 +49,7 @@ uses_argument pattern uses keep reg hard used =
 abbrev is_other : ℕ → Bool
 is_other reg = nat_lt reg 32 && not (is_argument reg)
 
-one_of : (test : ℕ → Bool) (regs : List ℕ) → list_all test regs ≡ true → (reg : ℕ) → has_reg regs reg ≡ true → test reg ≡ true
+pub one_of : (test : ℕ → Bool) (regs : List ℕ) → list_all test regs ≡ true → (reg : ℕ) → has_reg regs reg ≡ true → test reg ≡ true
 one_of test [] all reg is = absurd (false≢true is)
 one_of test (r ∷ regs) all reg is =
     let both = and_parts (test r) (list_all test regs) all in
@@ -108,7 +108,7 @@ module _ (reg : ℕ) (above : 31 < reg) where
   pub stands_homeless : (x : Rtx) → mentions_reg reg x ≡ true → names_homeless x ≡ true
   stands_homeless = rtx_induction Good of_tree
 
-  is_no_argument : is_argument reg ≡ true → ⊥
+  pub is_no_argument : is_argument reg ≡ true → ⊥
   is_no_argument is = let le = leb-true reg 17 (and_parts (nat_le 10 reg) (nat_le reg 17) is).1 in omega (arith, le, above)
 
   none_handed : (uses : List ArgUse) → list_all use_is_argument uses ≡ true → has_argument reg uses ≡ true → ⊥

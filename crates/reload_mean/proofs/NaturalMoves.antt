@@ -57,7 +57,7 @@ reg_natural mode r few =
     let test : nat_lt r (2 ^ 63) ≡ true = grind (arith, nat_tests, few) in
     natural_tree (record { code = code.Reg; mode = mode; number = pos r; name = [] }) [] test refl
 
-const_natural : (n : ℤ) → all_natural (const_of n) ≡ true
+pub const_natural : (n : ℤ) → all_natural (const_of n) ≡ true
 const_natural n = natural_tree (record { code = code.ConstInt; mode = Void; number = n; name = [] })
     [] refl refl
 
@@ -65,7 +65,7 @@ pair : (a b : Rtx) → all_natural a ≡ true → all_natural b ≡ true →
     list_all all_natural (a ∷ b ∷ []) ≡ true
 pair a b is more = both (all_natural a) _ is (both (all_natural b) true more refl)
 
-sum_natural : (a b : Rtx) → all_natural a ≡ true → all_natural b ≡ true →
+pub sum_natural : (a b : Rtx) → all_natural a ≡ true → all_natural b ≡ true →
     all_natural (node_of code.Plus DI (a ∷ b ∷ [])) ≡ true
 sum_natural a b is more = natural_tree (record {
   code = code.Plus;
@@ -75,7 +75,7 @@ sum_natural a b is more = natural_tree (record {
       [];
 }) (a ∷ b ∷ []) refl (pair a b is more)
 
-set_natural : (a b : Rtx) → all_natural a ≡ true → all_natural b ≡ true →
+pub set_natural : (a b : Rtx) → all_natural a ≡ true → all_natural b ≡ true →
     all_natural (set_of a b) ≡ true
 set_natural a b is more = natural_tree (record {
   code = code.Set;

@@ -34,7 +34,7 @@ use Rattle.reload_mean.proofs.JumpLabels.{labels_constant}
 
 -- ---- one instruction
 
-handed : (uses : List ArgUse) (reg : ℕ) → list_all use_is_argument uses ≡ true →
+pub handed : (uses : List ArgUse) (reg : ℕ) → list_all use_is_argument uses ≡ true →
     has_argument reg uses ≡ true → is_argument reg ≡ true
 handed [] reg all has = absurd (false≢true has)
 handed (u ∷ uses) reg all has =

@@ -22,7 +22,7 @@ use Rattle.reload.specs.Windows.{HasWindows}
 use Rattle.reload_mean.specs.Homes.{NumbersAreSized}
 use Rattle.reload_mean.proofs.Linked.{HavePlainAddresses}
 use Rattle.reload_mean.proofs.WithFrame.{described_with_frame}
-use Rattle.whole_mean.specs.Whole.{SameWhereLeft}
+use Rattle.window_same.specs.Left.{SameWhereLeft}
 use Rattle.whole_mean.proofs.Whole.{whole_same}
 
 -- the locals are part of the frame

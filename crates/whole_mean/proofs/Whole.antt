@@ -18,7 +18,7 @@ use Rattle.keep_compose.proofs.Lines.{seen_is_machine, world_is_machine, outcome
 use Rattle.assign.specs.declared.places.Layout.{Layout}
 use Rattle.frame_mean.specs.Keeps.{Restores}
 use Rattle.reload_mean.specs.Keeps.{KeepsWithFrame}
-use Rattle.whole_mean.specs.Whole.{SameWhereLeft}
+use Rattle.window_same.specs.Left.{SameWhereLeft}
 use Rattle.whole_mean.proofs.Nearer.{near_seen, near_lawful, near_world, near_machine}
 use Rattle.whole_mean.proofs.Restored.{run_has, left_as_found, restored_value, restored_too}
 

@@ -90,7 +90,7 @@ abbrev pub AreThere : List MemByte → List Effect → Type 0
 AreThere memory [] = Unit {0}
 AreThere memory (e ∷ es) = IsThere memory e × AreThere memory es
 
-stored : (w : Width) (memory : List MemByte) (at v : ℕ) (o : Option ℕ) → load w memory at ≡ o → is_some o ≡ true →
+pub stored : (w : Width) (memory : List MemByte) (at v : ℕ) (o : Option ℕ) → load w memory at ≡ o → is_some o ≡ true →
     unwrap_or (store w memory at v) memory ≡ with_number memory at (bytes_of w) v
 stored w memory at v None is there = absurd (let no : ⊥ = cc in no)
 stored w memory at v (Some x) is there = ap (λ o. unwrap_or (option_map (λ _. with_number memory at (bytes_of w) v) o) memory) is

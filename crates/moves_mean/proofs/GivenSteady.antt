@@ -1,5 +1,6 @@
--- The address of a result that has neither a base nor a far one is the same behind the effects of its instruction.
-use Rattle.std.proofs.Common.{◌≡◌, ◌≢◌, ◌⊎◌, inl, inr, ℕ, ◌&&◌, ◌||◌, not, if◌then◌else◌, Bool, true, false, List, [], ◌∷◌, Option, Some, None, refl, sym, ap, subst, ◌∙◌}
+-- The address of a result that has neither a base nor a far one: that of a slot is the same behind the effects of its instruction; and of one in other
+-- memory the instruction leaves the registers.
+use Rattle.std.proofs.Common.{◌≡◌, ◌≢◌, ◌⊎◌, inl, inr, ℕ, ◌&&◌, ◌||◌, not, if◌then◌else◌, Bool, true, false, List, [], ◌∷◌, map, Option, Some, None, refl, sym, ap, subst, ◌∙◌}
 use Rattle.std.proofs.lemmas.Bool.{and_parts}
 use Rattle.std.specs.FinMap.{get}
 use Rattle.std.specs.Int.{int_wrap, w64}
@@ -9,6 +10,7 @@ use Rattle.std.specs.Ordering.{int_eq}
 use Rattle.std.specs.Prelude.{ℤ, pos, is_some, slice_get, option_map, option_and_then}
 use Rattle.bits64.specs.declared.Width.TheVariants.{W64}
 use Rattle.rtx_tree.specs.Code.{class_of_code}
+use Rattle.rtx_tree.specs.Operands.{operand_at}
 use Rattle.rtx_tree.specs.Tree.{RtxHead, head_of, kids_of, mentions_reg, node_of, reg_of, const_of}
 use Rattle.rtx_tree.specs.declared.code.Code.{Code}
 use Rattle.rtx_tree.specs.declared.code.Code.TheVariants as code
@@ -34,16 +36,18 @@ use Rattle.assign.specs.declared.home.HomeOf.{HomeOf}
 use Rattle.assign.specs.declared.places.Layout.{Layout}
 use Rattle.reload_homes.specs.FrameRefs.{from_sp}
 use Rattle.reload_homes.specs.Homes.{home_of, homed, place_by, register_at, slot_address, slot_offset}
-use Rattle.reload_homes.proofs.Rewrites.{homed_register}
+use Rattle.reload_homes.proofs.Rewrites.{homed_register, homed_over}
 use Rattle.reload_operands.specs.Bases.{is_slot, in_slot, lives_in_slot}
 use Rattle.reload_operands.specs.Changes as changes
-use Rattle.reload_operands.specs.Changes.{changed_register, changes_in, is_hard, is_memory_code}
+use Rattle.reload_operands.specs.Changes.{changed_register, changes_in, is_hard, is_memory_code, other_memory}
 use Rattle.reload_operands.specs.declared.operand.Operand.{Operand}
 use Rattle.reload_moves.specs.Registers.{is_result}
 use Rattle.reload_moves.specs.declared.part.Part.{Part}
+use Rattle.reload_fit.specs.Fitting as fits
 use Rattle.reload_choice.specs.Movable.{may_land, is_plain}
 use Rattle.reload_choice.specs.Sound.{IsPart, IsSoundPlan}
 use Rattle.reload_choice.specs.declared.given.Plan.{Plan}
+use Rattle.homes_mean.proofs.Becoming.{place_code}
 use Rattle.moves_mean.specs.Spare.{NamesNoSpare, KnowsRest}
 use Rattle.moves_mean.proofs.AllSoles.{end_parts}
 use Rattle.moves_mean.proofs.Chosen.{given}
@@ -56,6 +60,7 @@ use Rattle.moves_mean.proofs.ResultsEnd.{Among, AllAmong, Reached}
 use Rattle.moves_mean.proofs.RowsThere.{alone_front}
 use Rattle.moves_mean.proofs.SmallTrees.{in_sp}
 use Rattle.moves_mean.proofs.SteadyAddress.{Leaves, AllLeave, all_leave, IsSteady, no_memory_class, is_no_memory, steady}
+use Rattle.moves_mean.proofs.Touches.{one_kid}
 use Rattle.moves_mean.proofs.WholeTurns.{is_parallel}
 
 -- ---- the elements of an instruction
@@ -63,11 +68,11 @@ use Rattle.moves_mean.proofs.WholeTurns.{is_parallel}
 parallel_list : (x : Rtx) → (head_of x).code ≡ code.Parallel → inputs.effects_of x ≡ kids_of x
 parallel_list x is = ap (λ c. inputs.effects_by c x (kids_of x)) is
 
-other_list : (c : Code) (x : Rtx) → (head_of x).code ≡ c → c ≢ code.Parallel → inputs.effects_of x ≡ x ∷ []
+pub other_list : (c : Code) (x : Rtx) → (head_of x).code ≡ c → c ≢ code.Parallel → inputs.effects_of x ≡ x ∷ []
 other_list code.Parallel x is other = absurd (other refl)
 other_list _ x is other = ap (λ c. inputs.effects_by c x (kids_of x)) is
 
-other_effects : (symbols : List SymbolAt) (regs : Regs) (m : List MemByte) (c : Code) (x : Rtx) → (head_of x).code ≡ c → c ≢ code.Parallel →
+pub other_effects : (symbols : List SymbolAt) (regs : Regs) (m : List MemByte) (c : Code) (x : Rtx) → (head_of x).code ≡ c → c ≢ code.Parallel →
     effects_of symbols regs m x ≡ one_effect symbols regs m x
 other_effects symbols regs m code.Parallel x is other = absurd (other refl)
 other_effects symbols regs m _ x is other = ap (λ c. effects_by c x symbols regs m) is
@@ -123,20 +128,36 @@ slot_register : (homes : List HomeOf) (o : Option ℕ) → option_map_or (lives_
 slot_register homes None is = absurd (let no : ⊥ = cc in no)
 slot_register homes (Some reg) is = (reg, (refl, is_slot_home (home_of homes reg) is))
 
--- what lands in memory that is no slot changes no hard register of its address
-landed : (slot memory other address : Bool) → (slot || (not memory || (not other && not address))) ≡ true → slot ≡ false → memory ≡ true → address ≡ false
+-- what lands in memory that is no slot changes neither other memory nor its address
+landed : (slot memory other address : Bool) → (slot || (not memory || (not other && not address))) ≡ true → slot ≡ false → memory ≡ true →
+    (other ≡ false) × (address ≡ false)
 landed true memory other address is no_slot has = absurd (let no : ⊥ = cc in no)
 landed false false other address is no_slot has = absurd (let no : ⊥ = cc in no)
-landed false true other true is no_slot has = by other is
-  where
-    by : (other : Bool) → (not other && false) ≡ true → true ≡ false
-    by true is = absurd (let no : ⊥ = cc in no)
-    by false is = absurd (let no : ⊥ = cc in no)
-landed false true other false is no_slot has = refl
+landed false true true address is no_slot has = absurd (let no : ⊥ = cc in no)
+landed false true false true is no_slot has = absurd (let no : ⊥ = cc in no)
+landed false true false false is no_slot has = (refl, refl)
 
-first_none : (a b : Bool) → a || b ≡ false → a ≡ false
-first_none true b is = absurd (let no : ⊥ = cc in no)
-first_none false b is = refl
+neither : (a b : Bool) → a || b ≡ false → (a ≡ false) × (b ≡ false)
+neither true b is = absurd (let no : ⊥ = cc in no)
+neither false b is = (refl, is)
+
+address_alike : (c : Code) (kids : List Rtx) → changes.address_by c kids ≡ address_part c kids
+address_alike code.Mem [] = refl
+address_alike code.Mem (a ∷ []) = refl
+address_alike code.Mem (a ∷ b ∷ kids) = refl
+address_alike _ kids = refl
+
+-- ---- the address of an operand
+
+address_kid : (x : Operand) (a : Rtx) → address_of x.tree ≡ Some a → kids_of x.tree ≡ a ∷ []
+address_kid x a is = (place_code (head_of x.tree).code (kids_of x.tree) a is).1
+
+pub address_natural : (x : Operand) (a : Rtx) → IsOperand x → address_of x.tree ≡ Some a → all_natural a ≡ true
+address_natural x a good is = (and_parts (all_natural a) true (ap (list_all all_natural) (sym (address_kid x a is)) ∙ natural_kids x.tree good.natural)).0
+
+pub address_quiet : (x : Operand) (a : Rtx) → IsOperand x → address_of x.tree ≡ Some a → NamesNoSpare a
+address_quiet x a good is reg has =
+    good.quiet reg (mentions_kid x.tree reg (ap (list_any (mentions_reg reg)) (address_kid x a is) ∙ ap (λ b. b || false) has))
 
 module _ (homes : List HomeOf) (layout : Layout) (kind : Kind) (w pattern : Rtx) (found : Ops) (plan : Plan)
     (sound : IsSoundPlan (given homes layout kind w pattern found plan) plan) (symbols : List SymbolAt) (regs : Regs) (m : List MemByte) (es : List Effect)
@@ -145,10 +166,7 @@ module _ (homes : List HomeOf) (layout : Layout) (kind : Kind) (w pattern : Rtx)
   abbrev hm : Rtx → Rtx
   hm = homed homes layout
 
-  -- a result without a base has no memory in its address, where it is memory that is no slot
-  abbrev pub HaveAddresses : Type 0
-  HaveAddresses = (i : ℕ) (p : Part) (x : Operand) (a : Rtx) → IsPart (given homes layout kind w pattern found plan) plan i p x → is_result p ≡ true → p.needs.has_base ≡ false →
-      x.in_slot ≡ false → address_of x.tree ≡ Some a → all_pass is_no_memory a ≡ true
+  -- ---- a result that is a slot
 
   slot_steady : (was a : Rtx) (reg : ℕ) → register_at was ≡ Some reg → home_of homes reg ≡ Slot → address_of (hm was) ≡ Some a → IsSteady es a
   slot_steady was a reg at home is =
@@ -162,72 +180,81 @@ module _ (homes : List HomeOf) (layout : Layout) (kind : Kind) (w pattern : Rtx)
         left = λ q has. subst (λ q. AllLeave q es) (in_sp DI (int_eq n (pos 0)) n q has) pointer;
       })
 
-  other_steady : (x : Operand) (was a : Rtx) → x.tree ≡ hm was → x.in_slot ≡ false →
-      x.changed_address ≡ changes.changes_address homes w (hm w) (is_some (x.base)) was (hm was) →
-      may_land x ≡ true → address_of x.tree ≡ Some a → all_pass is_no_memory a ≡ true → IsSteady es a
-  other_steady x was a tree no_slot changed lands is free =
+  -- its address has its value behind some of the effects
+  pub slot_there : (i : ℕ) (p : Part) (x : Operand) (a : Rtx) (at : ℕ) → IsPart (given homes layout kind w pattern found plan) plan i p x → IsOperand x → x.in_slot ≡ true →
+      address_of x.tree ≡ Some a → value_of symbols regs m a W64 ≡ Some at → (r0 r : Regs) (n : List MemByte) → Reached es regs m r0 n → KnowsRest r0 r →
+      value_of symbols r n a W64 ≡ Some at
+  slot_there i p x a at part good in_slot' is there r0 r n reached knows =
+      let o = operand_of_match pattern found w (hm w) homes layout p.place x part.of in
+      let reg = slot_register homes (register_at o.was) (sym (ap (λ (x : Operand). x.in_slot) o.operand_is) ∙ in_slot') in
+      steady symbols regs m es r0 r n (λ q leave. ap (λ r. get r q) reached.regs_are ∙ all_leave q reached.made regs (some_leave q reached.made es reached.among leave))
+      knows a W64 at (slot_steady o.was a reg.0 reg.1.0 reg.1.1 (ap address_of (sym (ap (λ (x : Operand). x.tree) o.operand_is)) ∙ is))
+      (address_natural x a good is) (address_quiet x a good is) there
+
+  -- ---- a result in other memory
+
+  -- its address before homes were put in, and what the instruction leaves of it
+  pub record IsElsewhere (x : Operand) (a : Rtx) : Type 0 where
+    pub was : Rtx
+    pub found_is : operand_at found x.number ≡ Some was
+    pub address : Rtx
+    pub memory : (head_of was).code ≡ code.Mem
+    pub kid : kids_of was ≡ address ∷ []
+    pub homed_is : homed homes layout address ≡ a
+    pub left : (q : ℕ) → mentions_reg q a ≡ true → AllLeave q es
+    pub slots : changes_in (lives_in_slot homes) w address ≡ false
+    pub alone : other_memory pattern w x.number ≡ false
+
+  hard_none : (was a : Rtx) (reg : ℕ) (h : Home) → register_at was ≡ Some reg → home_of homes reg ≡ h → in_slot homes was ≡ false → address_of (hm was) ≡ Some a → ⊥
+  hard_none was a reg Slot at home none is =
+      let e : true ≡ false = sym (ap is_slot home) ∙ sym (ap (λ o. option_map_or (lives_in_slot homes) o false) at) ∙ none in let no : ⊥ = cc in no
+  hard_none was a reg (Hard h) at home none is =
+      let tree : hm was ≡ place_by layout (head_of was).mode reg (Hard h) = homed_register homes layout was reg at ∙ ap (place_by layout (head_of was).mode reg) home in
+      let e : ◌≡◌ {A = Option Rtx} None (Some a) =
+      sym (ap (λ (o : Rtx-F Rtx). address_part o.code o.kids) (out-roll-Rtx _)) ∙ sym (ap address_of tree) ∙ is in let no : ⊥ = cc in no
+
+  memory_was : (was a : Rtx) (o : Option ℕ) → register_at was ≡ o → in_slot homes was ≡ false → address_of (hm was) ≡ Some a →
+      ((head_of was).code ≡ code.Mem) × ((b : Rtx) × ((kids_of was ≡ b ∷ []) × (hm b ≡ a)))
+  memory_was was a (Some reg) at none is = absurd (hard_none was a reg (home_of homes reg) at refl none is)
+  memory_was was a None at none is =
+      let tree = homed_over homes layout was at in
+      let parts = place_code (head_of was).code (map hm (kids_of was)) a
+      (sym (ap address_of tree ∙ ap (λ (o : Rtx-F Rtx). address_part o.code o.kids) (out-roll-Rtx _)) ∙ is) in
+      (parts.0, one_kid hm (kids_of was) a parts.1)
+
+  elsewhere_by : (x : Operand) (was a : Rtx) → operand_at found x.number ≡ Some was → x.tree ≡ hm was → x.in_slot ≡ in_slot homes was → x.other_memory ≡ other_memory pattern w x.number →
+      x.changed_address ≡ changes.changes_address homes w (hm w) (is_some x.base) was (hm was) → is_some x.base ≡ false →
+      may_land x ≡ true → x.in_slot ≡ false → address_of x.tree ≡ Some a → IsElsewhere x a
+  elsewhere_by x was a found_is tree slot_is other_is changed based lands no_slot is =
+      let t = memory_was was a (register_at was) refl (sym slot_is ∙ no_slot) (ap address_of (sym tree) ∙ is) in
       let memory : (head_of x.tree).code ≡ code.Mem = memory_code_of (head_of x.tree).code (kids_of x.tree) a is in
-      let none : x.changed_address ≡ false = landed x.in_slot (is_memory_code (head_of x.tree).code) x.other_memory x.changed_address lands no_slot (ap is_memory_code memory) in
-      let address : changes.address_of (hm was) ≡ Some a = ap changes.address_of (sym tree) ∙ there (head_of x.tree).code (kids_of x.tree) is in
-      record {
-        no_memory = free;
+      let land = landed x.in_slot (is_memory_code (head_of x.tree).code) x.other_memory x.changed_address lands no_slot (ap is_memory_code memory) in
+      let none = neither _ _ (sym changed ∙ land.1) in
+      let there : changes.address_of (hm was) ≡ Some a = address_alike (head_of (hm was)).code (kids_of (hm was)) ∙ ap address_of (sym tree) ∙ is in
+      let before : changes.address_of was ≡ Some t.1.0 = ap (λ c. changes.address_by c (kids_of was)) t.0 ∙ ap (changes.address_by code.Mem) t.1.1.0 in record {
+        was = was;
+        found_is = found_is;
+        address = t.1.0;
+        memory = t.0;
+        kid = t.1.1.0;
+        homed_is = t.1.1.1;
         left = insn_leaves symbols regs m (hm w) a es natural does hard
-            (sym (ap (λ o. option_map_or (changes_in is_hard (hm w)) o false) address) ∙ first_none _ _ (sym changed ∙ none));
+            (sym (ap (λ o. option_map_or (changes_in is_hard (hm w)) o false) there) ∙ none.0);
+        slots = sym (ap (λ b. not b && option_map_or (changes_in (lives_in_slot homes) w) (changes.address_of was) false) based ∙
+            ap (λ o. option_map_or (changes_in (lives_in_slot homes) w) o false) before) ∙ none.1;
+        alone = sym other_is ∙ land.0;
       }
-    where
-      there : (c : Code) (kids : List Rtx) → address_part c kids ≡ Some a → changes.address_by c kids ≡ Some a
-      there code.Mem (b ∷ []) is = is
-      there code.Mem [] is = absurd (let no : ⊥ = cc in no)
-      there code.Mem (b ∷ c ∷ kids) is = absurd (let no : ⊥ = cc in no)
-      there _ kids is = absurd (let no : ⊥ = cc in no)
 
-  -- its address is steady
-  pub result_steady : HaveAddresses → (i : ℕ) (p : Part) (x : Operand) (a : Rtx) → IsPart (given homes layout kind w pattern found plan) plan i p x → is_result p ≡ true →
-      p.needs.has_base ≡ false → address_of x.tree ≡ Some a → IsSteady es a
-  result_steady have i p x a part result no_base is = by x.in_slot refl
-    where
-      by : (b : Bool) → x.in_slot ≡ b → IsSteady es a
-      by true in_slot' =
-          let o = operand_of_match pattern found w (hm w) homes layout p.place x part.of in
-          let r = slot_register homes (register_at o.was) (sym (ap (λ (x : Operand). x.in_slot) o.operand_is) ∙ in_slot') in
-          slot_steady o.was a r.0 r.1.0 r.1.1 (ap address_of (sym (ap (λ (x : Operand). x.tree) o.operand_is)) ∙ is)
-      by false no_slot =
-          let o = operand_of_match pattern found w (hm w) homes layout p.place x part.of in
-          let g = given homes layout kind w pattern found plan in
-          other_steady x o.was a (ap (λ (x : Operand). x.tree) o.operand_is) no_slot
-          (ap (λ (x : Operand). x.changed_address) o.operand_is ∙
-          ap (λ b. changes.changes_address homes w (hm w) (is_some b) o.was (hm o.was)) (sym (ap (λ (x : Operand). x.base) o.operand_is)))
-          (end_parts (is_plain kind) g.whole.twice_before g.whole.twice_after x.is_clobbered (may_land x) (sound.results i p x part result)).lands
-          is (have i p x a part result no_base no_slot is)
-
-  -- so it has its value behind some of the effects
-  pub address_there : HaveAddresses → (i : ℕ) (p : Part) (x : Operand) (a : Rtx) (at : ℕ) → IsPart (given homes layout kind w pattern found plan) plan i p x → IsOperand x →
-      is_result p ≡ true → p.needs.has_base ≡ false → address_of x.tree ≡ Some a → value_of symbols regs m a W64 ≡ Some at →
-      (r0 r : Regs) (n : List MemByte) → Reached es regs m r0 n → KnowsRest r0 r → value_of symbols r n a W64 ≡ Some at
-  address_there have i p x a at part good result no_base is there r0 r n reached knows =
-      steady symbols regs m es r0 r n left knows a W64 at (result_steady have i p x a part result no_base is) a_natural a_quiet there
-    where
-      kids : kids_of x.tree ≡ a ∷ []
-      kids = by (head_of x.tree).code (kids_of x.tree) is
-        where
-          by : (c : Code) (kids : List Rtx) → address_part c kids ≡ Some a → kids ≡ a ∷ []
-          by code.Mem (b ∷ []) is = let same : b ≡ a = cc in ap (λ b. b ∷ []) same
-          by code.Mem [] is = absurd (let no : ⊥ = cc in no)
-          by code.Mem (b ∷ c ∷ kids) is = absurd (let no : ⊥ = cc in no)
-          by _ kids is = absurd (let no : ⊥ = cc in no)
-
-      a_natural : all_natural a ≡ true
-      a_natural = (and_parts (all_natural a) true (ap (list_all all_natural) (sym kids) ∙ natural_kids x.tree good.natural)).0
-
-      a_quiet : NamesNoSpare a
-      a_quiet reg has = good.quiet reg (mentions_kid_of reg has)
-        where
-          first : (b : Bool) → b ≡ true → b || false ≡ true
-          first true is = refl
-          first false is = absurd (let no : ⊥ = cc in no)
-
-          mentions_kid_of : (reg : ℕ) → mentions_reg reg a ≡ true → mentions_reg reg x.tree ≡ true
-          mentions_kid_of reg has = mentions_kid x.tree reg (ap (list_any (mentions_reg reg)) kids ∙ first (mentions_reg reg a) has)
-
-      left : (q : ℕ) → AllLeave q es → get r0 q ≡ get regs q
-      left q leave = ap (λ r. get r q) reached.regs_are ∙ all_leave q reached.made regs (some_leave q reached.made es reached.among leave)
+  pub elsewhere : (i : ℕ) (p : Part) (x : Operand) (a : Rtx) → IsPart (given homes layout kind w pattern found plan) plan i p x → is_result p ≡ true →
+      p.needs.has_base ≡ false → x.in_slot ≡ false → address_of x.tree ≡ Some a → IsElsewhere x a
+  elsewhere i p x a part result no_base no_slot is =
+      let o = operand_of_match pattern found w (hm w) homes layout p.place x part.of in
+      let g = given homes layout kind w pattern found plan in
+      let moved = (and_parts p.is_moved p.needs.is_output result).0 in
+      let memory : (head_of x.tree).code ≡ code.Mem = memory_code_of (head_of x.tree).code (kids_of x.tree) a is in
+      elsewhere_by x o.was a o.found_is (ap (λ (x : Operand). x.tree) o.operand_is) (ap (λ (x : Operand). x.in_slot) o.operand_is)
+      (ap (λ (x : Operand). x.other_memory) o.operand_is)
+      (ap (λ (x : Operand). x.changed_address) o.operand_is ∙
+      ap (λ b. changes.changes_address homes w (hm w) (is_some b) o.was (hm o.was)) (sym (ap (λ (x : Operand). x.base) o.operand_is)))
+      ((sound.says i p x part).unbased no_base (sound.operator i p x part moved) (ap fits.is_memory_code memory))
+      (end_parts (is_plain kind) g.whole.twice_before g.whole.twice_after x.is_clobbered (may_land x) (sound.results i p x part result)).lands no_slot is

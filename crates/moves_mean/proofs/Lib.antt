@@ -95,6 +95,11 @@ pub mod SoleRows
 pub mod AllSoles
 pub mod ResultsOrderly
 pub mod SteadyAddress
+pub mod StandingRegisters
+pub mod StillSlots
+pub mod OldAddresses
+pub mod SparedRows
+pub mod LateAddress
 pub mod ResultsHeld
 pub mod ResultsEnd
 pub mod LeftRegisters

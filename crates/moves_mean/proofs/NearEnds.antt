@@ -33,8 +33,8 @@ use Rattle.moves_mean.proofs.Endings.{EndedNear}
 use Rattle.moves_mean.proofs.Keyed.{Keyed, effects_in}
 use Rattle.moves_mean.proofs.Nodes.{all_pass}
 use Rattle.moves_mean.proofs.OutEffects.{IsPlaceSet, in_register, in_memory, IsOut, StandsOut, set_again, own_value, set_effects, there_after, among_there, all_there, ends_near}
-use Rattle.moves_mean.proofs.SteadyAddress.{Leaves, AllLeave, all_leave, AreLeft, IsSteady, steady}
-use Rattle.moves_mean.proofs.ResultsEnd.{Among, AllAmong, Reached, ReachedHere, EndsNear, code_of}
+use Rattle.moves_mean.proofs.SteadyAddress.{Leaves, AllLeave, all_leave, AreLeft}
+use Rattle.moves_mean.proofs.ResultsEnd.{Among, AllAmong, Reached, ReachedBy, EndsNear, code_of}
 
 -- ---- registers that effects leave
 
@@ -52,12 +52,6 @@ pub reached_left : (es : List Effect) (regs : Regs) (m : List MemByte) (r0 : Reg
 reached_left es regs m r0 n reached q leave =
     ap (λ (r : Regs). get r q) reached.regs_are ∙ all_leave q reached.made regs (some_left q reached.made es reached.among leave)
 
--- The address of a place is steady.
-pub record IsLeftPlace (es : List Effect) (t : Rtx) : Type 0 where
-  pub steady : (a : Rtx) → address_of t ≡ Some a → IsSteady es a
-  pub natural : (a : Rtx) → address_of t ≡ Some a → all_natural a ≡ true
-  pub quiet : (a : Rtx) → address_of t ≡ Some a → NamesNoSpare a
-
 module _ (symbols : List SymbolAt) (regs : Regs) (m : List MemByte) (es : List Effect) (there : AreThere m es) where
   -- an effect that is among them is there still
   pub there_still : (r0 : Regs) (n : List MemByte) (o : Effect) → Reached es regs m r0 n → Among o es → IsThere n o
@@ -73,20 +67,6 @@ module _ (symbols : List SymbolAt) (regs : Regs) (m : List MemByte) (es : List E
   stands_out t t' w v _ r n (in_register reg none is) here same too = (ap address_of (same none) ∙ none, (ap register_of (same none) ∙ is, refl))
   stands_out t t' w v _ r n (in_memory a at is address has) here same too =
       let a' = too a at is address in (a'.0, (a'.1.0, (a'.1.1, (here, (refl, refl)))))
-
-  -- a place that stays
-  pub left_stands : (t : Rtx) (w : Width) (v : ℕ) (o : Effect) (r0 r : Regs) (n : List MemByte) → IsPlaceSet symbols regs m t w v o → Among o es →
-      Reached es regs m r0 n → KnowsRest r0 r → IsLeftPlace es t → StandsOut symbols r n t t w v o
-  left_stands t w v o r0 r n set among reached knows left =
-      stands_out t t w v o r n set (there_still r0 n o reached among) (λ none. refl)
-      (λ a at is address. (
-        a,
-        (
-          is,
-          steady symbols regs m es r0 r n (reached_left es regs m r0 n reached) knows a W64 at (left.steady a is) (left.natural a is)
-              (left.quiet a is) address,
-        ),
-      ))
 
 -- ---- the instruction
 
@@ -108,7 +88,7 @@ module _ (symbols : List SymbolAt) (Told : Regs → List MemByte → Type 0)
       (out : IsOut symbols regs m x.tree s o) → own_of asks p ≢ 0 → low out.width out.value ≡ out.value →
       ((r : Regs) → Holds r hs → get r (own_of asks p) ≡ Some (known_of out.width out.value)) → Stays symbols Told spared o →
       (width_of (mode_at (reached (out_base asks p) x)) ≡ Some out.width) →
-      ((r0 r : Regs) (n : List MemByte) → Reached (effects_in keyed) regs m r0 n → KnowsRest r0 r → Holds r hs →
+      ((r0 r : Regs) (n : List MemByte) → ReachedBy symbols Told spared operands asks keyed regs m hs p r0 n → KnowsRest r0 r → Holds r hs →
       StandsOut symbols r n x.tree (reached (out_base asks p) x) out.width out.value o) →
       EndsNear symbols Told spared operands asks keyed regs m hs p o
   near_end p x s o of near out some fits gives stays wide stands = λ r0 r n reach knows told holds.

@@ -48,7 +48,7 @@ use Rattle.moves_mean.proofs.Nodes.{all_pass, pass_out}
 use Rattle.moves_mean.proofs.OnRegister.{IsOperand, based_mode, based_class, based_new, far_mode, far_class, far_new}
 use Rattle.moves_mean.proofs.OutEffects.{IsPlaceSet, in_register, in_memory, IsOut, StandsOut, set_again, own_value, set_effects}
 use Rattle.moves_mean.proofs.Registers.{value_alike}
-use Rattle.moves_mean.proofs.ResultsEnd.{Among, Reached, EndsFar}
+use Rattle.moves_mean.proofs.ResultsEnd.{Among, reached_all, EndsFar}
 use Rattle.moves_mean.proofs.SetWidth.{binary_none}
 use Rattle.moves_mean.proofs.SteadyAddress.{AllLeave, no_memory_class, is_no_memory, memory_free}
 
@@ -163,12 +163,12 @@ module _ (symbols : List SymbolAt) (Told : Regs → List MemByte → Type 0)
         subst (λ code. Ended symbols Told spared code r n o (end_far_of asks p)) (sym (far_code_is operands asks p x k of far))
         (far_end symbols Told spared (out_insn (own_of asks p) (Some (end_far_of asks p)) x) r n o (end_far_of asks p) sp k spare (spare_some (end_far_of asks p) spare)
         (spare_no_pointer (end_far_of asks p) spare)
-        (knows 2 refl W64 sp (value_alike regs r0 2 W64 (reached_left (effects_in keyed) regs m r0 n reach 2 left) ∙ pointer))
+        (knows 2 refl W64 sp (value_alike regs r0 2 W64 (reached_left (effects_in keyed) regs m r0 n (reached_all p.place keyed regs m r0 n reach) 2 left) ∙ pointer))
         (λ r' made others.
         set_effects symbols r' n (on_register (end_far_of asks p) x) (reg_of x.mode (own_of asks p)) o
         (set_again symbols r' n x.tree (on_register (end_far_of asks p) x) (reg_of x.mode (own_of asks p)) out.width out.value o
         (far_mode x k (end_far_of asks p) good far_is' ∙ out.wide)
         (own_value symbols r' n x.mode (own_of asks p) out.width out.value some (others (own_of asks p) apart ∙ gives r holds) fits)
         (far_stands symbols regs m sp pointer small is_memory x k (end_far_of asks p) out.width out.value o r' n good far_is' (spare_some (end_far_of asks p) spare) made
-        out.place (there_still symbols regs m (effects_in keyed) there r0 n o reach among)))) stays told);
+        out.place (there_still symbols regs m (effects_in keyed) there r0 n o (reached_all p.place keyed regs m r0 n reach) among)))) stays told);
   }

@@ -132,30 +132,30 @@ module _ (homes : List HomeOf) (layout : Layout) (kind : Kind) (w pattern : Rtx)
   apart_by v v' _ _ idle idle before after out out' sole = tt
   apart_by v v' _ _ idle (sets reg' h' known' a' b') before after out out' sole = tt
   apart_by v v' _ _ idle (unsets reg' h' a' b') before after out out' sole = tt
-  apart_by v v' _ _ idle (slot reg' value' width' a' home') before after out out' sole = tt
+  apart_by v v' _ _ idle (slot reg' value' width' a' d' home') before after out out' sole = tt
   apart_by v v' _ _ idle (other t' s' width' at' value' is' are' memory') before after out out' sole = tt
   apart_by v v' _ _ (sets reg h known a b) idle before after out out' sole = tt
   apart_by v v' _ _ (sets reg h known a b) (sets reg' h' known' a' b') before after out out' sole = λ same. after h h' b b' same
   apart_by v v' _ _ (sets reg h known a b) (unsets reg' h' a' b') before after out out' sole = λ same. after h h' b b' same
-  apart_by v v' _ _ (sets reg h known a b) (slot reg' value' width' a' home') before after out out' sole = tt
+  apart_by v v' _ _ (sets reg h known a b) (slot reg' value' width' a' d' home') before after out out' sole = tt
   apart_by v v' _ _ (sets reg h known a b) (other t' s' width' at' value' is' are' memory') before after out out' sole = tt
   apart_by v v' _ _ (unsets reg h a b) idle before after out out' sole = tt
   apart_by v v' _ _ (unsets reg h a b) (sets reg' h' known' a' b') before after out out' sole = λ same. after h h' b b' same
   apart_by v v' _ _ (unsets reg h a b) (unsets reg' h' a' b') before after out out' sole = tt
-  apart_by v v' _ _ (unsets reg h a b) (slot reg' value' width' a' home') before after out out' sole = tt
+  apart_by v v' _ _ (unsets reg h a b) (slot reg' value' width' a' d' home') before after out out' sole = tt
   apart_by v v' _ _ (unsets reg h a b) (other t' s' width' at' value' is' are' memory') before after out out' sole = tt
-  apart_by v v' _ _ (slot reg value width a home) idle before after out out' sole = tt
-  apart_by v v' _ _ (slot reg value width a home) (sets reg' h' known' a' b') before after out out' sole = tt
-  apart_by v v' _ _ (slot reg value width a home) (unsets reg' h' a' b') before after out out' sole = tt
-  apart_by v v' _ _ (slot reg value width a home) (slot reg' value' width' a' home') before after out out' sole =
+  apart_by v v' _ _ (slot reg value width a d home) idle before after out out' sole = tt
+  apart_by v v' _ _ (slot reg value width a d home) (sets reg' h' known' a' b') before after out out' sole = tt
+  apart_by v v' _ _ (slot reg value width a d home) (unsets reg' h' a' b') before after out out' sole = tt
+  apart_by v v' _ _ (slot reg value width a d home) (slot reg' value' width' a' d' home') before after out out' sole =
       fewer _ _ _ _ (eight_bytes width) (eight_bytes width') (slots_apart reg reg' (before reg reg' a a') home home')
-  apart_by v v' _ _ (slot reg value width a home) (other t' s' width' at' value' is' are' memory') before after out
+  apart_by v v' _ _ (slot reg value width a d home) (other t' s' width' at' value' is' are' memory') before after out
       out' sole = fewer _ _ _ _ (eight_bytes width) (whole_bytes (bytes_of width'))
       (turned _ _ _ _ (out' t' s' width' at' value' is' are' memory' refl reg home))
   apart_by v v' _ _ (other t s width at value is are memory) idle before after out out' sole = tt
   apart_by v v' _ _ (other t s width at value is are memory) (sets reg' h' known' a' b') before after out out' sole = tt
   apart_by v v' _ _ (other t s width at value is are memory) (unsets reg' h' a' b') before after out out' sole = tt
-  apart_by v v' _ _ (other t s width at value is are memory) (slot reg' value' width' a' home') before after out out'
+  apart_by v v' _ _ (other t s width at value is are memory) (slot reg' value' width' a' d' home') before after out out'
       sole = fewer _ _ _ _ (whole_bytes (bytes_of width)) (eight_bytes width') (out t s width at value is are memory refl reg' home')
   apart_by v v' _ _ (other t s width at value is are memory) (other t' s' width' at' value' is' are' memory') before
       after out out' sole = absurd (sole (record { target = t; source = s; is_set = is; are = are; memory = memory })

@@ -98,7 +98,7 @@ reg_no_memory size t register memory = by (frame_offset t) refl
 
 -- ---- elements
 
-has_effect : (symbols : List SymbolAt) (regs : Regs) (m : List MemByte) (y : Rtx) (e : Effect) → effect_of symbols regs m y ≡ Some e → is_effect y ≡ true
+pub has_effect : (symbols : List SymbolAt) (regs : Regs) (m : List MemByte) (y : Rtx) (e : Effect) → effect_of symbols regs m y ≡ Some e → is_effect y ≡ true
 has_effect symbols regs m y e does = elim (effect_code (head_of y).code (kids_of y) symbols regs m e does) [
   | inl s ↦ ap (λ c. is_effect_class (class_of_code c)) s.0
   | inr more ↦ elim more [
@@ -107,7 +107,7 @@ has_effect symbols regs m y e does = elim (effect_code (head_of y).code (kids_of
   ]
 ]
 
-two_kids : (f : Rtx → Rtx) (xs : List Rtx) (t s : Rtx) → map f xs ≡ t ∷ s ∷ [] → (a : Rtx) × ((b : Rtx) × ((xs ≡ a ∷ b ∷ []) × (f a ≡ t)))
+pub two_kids : (f : Rtx → Rtx) (xs : List Rtx) (t s : Rtx) → map f xs ≡ t ∷ s ∷ [] → (a : Rtx) × ((b : Rtx) × ((xs ≡ a ∷ b ∷ []) × (f a ≡ t)))
 two_kids f [] t s is = absurd (let no : ⊥ = cc in no)
 two_kids f (a ∷ []) t s is = absurd (let no : ⊥ = cc in no)
 two_kids f (a ∷ b ∷ []) t s is = (a, (b, (refl, (let same : f a ≡ t = cc in same))))

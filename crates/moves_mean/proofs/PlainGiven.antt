@@ -94,7 +94,7 @@ module _ (c : Setting) where
     slot_value reg home = slot_at c.homes c.layout (machines c place s u) (are_homed c place s u stands) reg
         (let within = slot_within c.f c.homes c.layout c.frame reg home in omega (arith, within))
 
-    effect : is_effect i.pattern ≡ true
+    pub effect : is_effect i.pattern ≡ true
     effect = (and_parts (is_effect i.pattern) (list_all is_shaped (nodes_of i.pattern)) is.shaped).0
 
     pub w_effect : is_effect (w c place i at pattern found plan is) ≡ true

@@ -26,16 +26,16 @@ use Rattle.moves_mean.proofs.AllOrderly.{EachOutside}
 use Rattle.moves_mean.proofs.Chosen.{given}
 use Rattle.moves_mean.proofs.Fetching.{Fetching}
 use Rattle.moves_mean.proofs.GivenNews.{own, mode, tree, Free}
-use Rattle.moves_mean.proofs.GivenSteady.{address_there}
 use Rattle.moves_mean.proofs.Keeping.{Stay}
 use Rattle.moves_mean.proofs.Keyed.{Keyed}
 use Rattle.moves_mean.proofs.Keying.{with_keys, AreOnRest}
+use Rattle.moves_mean.proofs.LateAddress.{address_late}
 use Rattle.moves_mean.proofs.Leads.{G, Here, Told, spared, d, plain_fetch, ResultsMayEnd, plain_leads_over}
 use Rattle.moves_mean.proofs.OutsideSlots.{AllAway}
 use Rattle.moves_mean.proofs.PlainGiven.{all_hard, each_rest, slots_are_apart, slot_value, w_effect, plain_away}
 use Rattle.moves_mean.proofs.PlainInner.{other, Effects, plain_keyed}
 use Rattle.moves_mean.proofs.PlainWindow.{ComesTo, tame_stay}
-use Rattle.moves_mean.proofs.Reloaded.{IsReloaded, HasPlainAddresses, w, x, w_natural, x_natural, x_quiet, x_whole}
+use Rattle.moves_mean.proofs.Reloaded.{IsReloaded, w, x, w_natural, x_natural, x_quiet, x_whole}
 use Rattle.moves_mean.proofs.ResultBases.{bases, bases_spare, bases_hold, based, far_end_here}
 use Rattle.moves_mean.proofs.ResultEnds.{each_ends}
 use Rattle.moves_mean.proofs.ResultsEnd.{Among}
@@ -47,8 +47,7 @@ use Rattle.moves_mean.proofs.Window.{AllStay}
 module _ (c : Setting) (place : ℕ) (i : Insn) (at : slice_get c.f.insns place ≡ Some i) (pattern : Rtx) (found : Ops) (plan : Plan)
     (is : IsReloaded c i pattern found plan) (s u : State) (stands : StandsIn c place s u) (memory : IsMemory u.memory)
     (told : Stay c.f.locals c.layout c.start u u.regs u.memory) (other_function : Function)
-    (plain : i.kind ≡ kind.Plain) (es : List Effect) (does : effects_of c.world.symbols s.regs s.memory i.pattern ≡ Some es)
-    (addresses : HasPlainAddresses c i pattern found plan) where
+    (plain : i.kind ≡ kind.Plain) (es : List Effect) (does : effects_of c.world.symbols s.regs s.memory i.pattern ≡ Some es) where
   abbrev W : Rtx
   W = w c place i at pattern found plan is
 
@@ -114,9 +113,9 @@ module _ (c : Setting) (place : ℕ) (i : Insn) (at : slice_get c.f.insns place 
       (w_effect c place i at pattern found plan is s u stands) (w_natural c place i at pattern found plan is) stay
       (bases c.homes c.layout i.kind W pattern found plan c.world.symbols u.regs u.memory (base c) F H plain
       (x_natural c place i at pattern found plan is) (x_quiet c place i at pattern found plan is) (x_whole c place i at pattern found plan is) T S D.these D.is)
-      (λ j p o a v part result no_base is_a value r0 r n reached knows.
-      address_there c.homes c.layout i.kind W pattern found plan is.sound c.world.symbols u.regs u.memory D.these (x_natural c place i at pattern found plan is) D.is hard.0 hard.1
-      addresses j p o a v part (F.operands p.place o part.of) result no_base is_a value r0 r n reached knows)
+      (λ j p o a v part result no_base is_a value last r0 r n reached knows.
+      address_late c place i at pattern found plan is s u stands plain es does D j p o a v part (F.operands p.place o part.of) result no_base is_a value
+      K.keys last K.keyed.same r0 r n reached knows K.which)
       (based c.homes c.layout i.kind W pattern found plan c.world.symbols u.regs u.memory (base c) F H plain
       (x_natural c place i at pattern found plan is) (x_quiet c place i at pattern found plan is) (x_whole c place i at pattern found plan is) T S D.these D.is)
       (far_end_here c.homes c.layout i.kind W pattern found plan c.world.symbols u.regs u.memory (base c) F H plain

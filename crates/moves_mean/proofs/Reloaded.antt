@@ -45,7 +45,6 @@ use Rattle.moves_mean.proofs.HomedTrees.{homed_natural, homed_whole}
 use Rattle.moves_mean.proofs.InputPlaces.{no_operator_of}
 use Rattle.moves_mean.proofs.NewTrees.{is_whole}
 use Rattle.moves_mean.proofs.Nodes.{all_pass}
-use Rattle.moves_mean.proofs.SteadyAddress.{is_no_memory}
 use Rattle.moves_mean.proofs.TakenThere.{IsAt}
 
 -- what is known of an instruction: it is within the table of codes, a pattern matches it where references to the frame are put in, and a plan
@@ -60,12 +59,6 @@ pub record IsReloaded (c : Setting) (i : Insn) (pattern : Rtx) (found : Ops) (pl
   pub operators : (j : ℕ) (x : Operand) →
       slice_get (chosen_from c.homes c.layout i.kind (framed c.layout.size i.pattern) pattern found).operands j ≡ Some x →
       x.is_operator ≡ false → all_pass (no_operator_of x.number) pattern ≡ true
-
--- A result without a base has no memory in its address, where it is memory that is no slot.
-abbrev pub HasPlainAddresses : Setting → Insn → Rtx → Ops → Plan → Type 0
-HasPlainAddresses c i pattern found plan = (j : ℕ) (p : Part) (x : Operand) (a : Rtx) →
-    IsPart (chosen_from c.homes c.layout i.kind (framed c.layout.size i.pattern) pattern found) plan j p x → is_result p ≡ true → p.needs.has_base ≡ false →
-    x.in_slot ≡ false → address_of x.tree ≡ Some a → all_pass is_no_memory a ≡ true
 
 module _ (c : Setting) where
   -- ---- homes
@@ -112,7 +105,7 @@ module _ (c : Setting) where
     abbrev pub g : Given
     g = chosen_from c.homes c.layout i.kind w pattern found
 
-    shaped_nodes : all_pass is_shaped i.pattern ≡ true
+    pub shaped_nodes : all_pass is_shaped i.pattern ≡ true
     shaped_nodes = (and_parts (is_effect i.pattern) (list_all is_shaped (nodes_of i.pattern)) is.shaped).1
 
     pub w_shaped : all_pass is_shaped w ≡ true

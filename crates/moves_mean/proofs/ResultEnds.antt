@@ -52,7 +52,7 @@ use Rattle.moves_mean.proofs.OutEffects.{IsOut, set_out, StandsOut}
 use Rattle.moves_mean.proofs.OwnHeld.{none_last, one_stays, own_held, own_gives}
 use Rattle.moves_mean.proofs.PlainInner.{g, Effects, plain_keyed}
 use Rattle.moves_mean.proofs.ResultRows.{Key, keyed_row}
-use Rattle.moves_mean.proofs.ResultsEnd.{Among, AllAmong, last_among, Reached, EndsNear, EndsFar}
+use Rattle.moves_mean.proofs.ResultsEnd.{Among, AllAmong, last_among, besides, Reached, reached_all, EndsNear, EndsFar}
 use Rattle.moves_mean.proofs.ResultsHeld.{IsLast, last_row}
 use Rattle.moves_mean.proofs.ResultsMayEnd.{list, hs}
 use Rattle.moves_mean.proofs.ResultsOrderly.{placed_keys}
@@ -130,7 +130,7 @@ module _ (homes : List HomeOf) (layout : Layout) (kind : Kind) (w pattern : Rtx)
 
     module _ (stay : AllStay symbols Told spared es) (bases : Part → List Held)
         (steady : (i : ℕ) (p : Part) (x : OperandOf) (a : Rtx) (v : ℕ) → Part' i p x → is_result p ≡ true → p.needs.has_base ≡ false → address_of x.tree ≡ Some a →
-        value_of symbols regs m a W64 ≡ Some v → (r0 r : Regs) (n : List MemByte) → Reached es regs m r0 n → KnowsRest r0 r → value_of symbols r n a W64 ≡ Some v)
+        value_of symbols regs m a W64 ≡ Some v → IsLast xs p.place → (r0 r : Regs) (n : List MemByte) → Reached (besides p.place xs) regs m r0 n → KnowsRest r0 r → value_of symbols r n a W64 ≡ Some v)
         (based : (i : ℕ) (p : Part) (x : OperandOf) (s : Rtx) (e : Effect) → Part' i p x → is_result p ≡ true → p.needs.has_base ≡ true →
         (out : IsOut symbols regs m x.tree s e) → (r : Regs) (n : List MemByte) → IsThere n e → Holds r (bases p) →
         StandsOut symbols r n x.tree (on_register (base_of asks p) x) out.width out.value e) where
@@ -151,7 +151,7 @@ module _ (homes : List HomeOf) (layout : Layout) (kind : Kind) (w pattern : Rtx)
       -- where what stands for the operand is its place
       near_by : (i : ℕ) (p : Part) (x : OperandOf) → Part' i p x → is_result p ≡ true → (l : IsLast xs p.place) → (o : OutOf x l.effect) → p.needs.far ≡ None →
           (b : Option ℕ) → out_base asks p ≡ b → width_of (mode_at (reached b x)) ≡ width_of (mode_at x.tree) →
-          ((r0 r : Regs) (n : List MemByte) → Reached es regs m r0 n → KnowsRest r0 r → Holds r (bases p) → IsThere n l.effect →
+          ((r0 r : Regs) (n : List MemByte) → Reached (besides p.place xs) regs m r0 n → KnowsRest r0 r → Holds r (bases p) → IsThere n l.effect →
           StandsOut symbols r n x.tree (reached b x) o.out.width o.out.value l.effect) → Near p l.effect
       near_by i p x part is l o near b b_is mode stands =
           let own_there = own_spare homes layout kind w pattern found plan f.sound i p part.stands (and_parts p.is_moved p.needs.is_output is).0 in
@@ -163,8 +163,8 @@ module _ (homes : List HomeOf) (layout : Layout) (kind : Kind) (w pattern : Rtx)
           (one_stays symbols Told spared l.effect es (subst (Among l.effect) k'.keyed.same (last_among xs p.place l.effect l.is)) stay)
           (ap (λ b. width_of (mode_at (reached b x))) b_is ∙ mode ∙ o.out.wide)
           (λ r0 r n reach knows holds. subst (λ b. StandsOut symbols r n x.tree (reached b x) o.out.width o.out.value l.effect) (sym b_is)
-          (let reach' : Reached es regs m r0 n = subst (λ es. Reached es regs m r0 n) k'.keyed.same reach in
-          stands r0 r n reach' knows (list_gives i p part.stands is r holds).1
+          (let reach' : Reached es regs m r0 n = subst (λ es. Reached es regs m r0 n) k'.keyed.same (reached_all p.place xs regs m r0 n reach) in
+          stands r0 r n reach knows (list_gives i p part.stands is r holds).1
           (there_still symbols regs m es (effects_there symbols regs m (hm w) es does) r0 n l.effect reach'
           (subst (Among l.effect) k'.keyed.same (last_among xs p.place l.effect l.is)))))
 
@@ -186,7 +186,7 @@ module _ (homes : List HomeOf) (layout : Layout) (kind : Kind) (w pattern : Rtx)
               (ap (λ far. if is_some far then Some (end_far_of asks p) else (if p.needs.has_base then Some (base_of asks p) else None)) is_far ∙
               ap (λ b. if b then Some (base_of asks p) else None) is_based) refl
               (λ r0 r n reach knows holds there. stands_out symbols regs m es (effects_there symbols regs m (hm w) es does) o.0.tree o.0.tree out.out.width out.out.value l.effect r n
-              out.out.place there (λ none. refl) (λ a v is_a value. (a, (is_a, steady i p o.0 a v o.1 is is_based is_a value r0 r n reach knows)))))
+              out.out.place there (λ none. refl) (λ a v is_a value. (a, (is_a, steady i p o.0 a v o.1 is is_based is_a value l r0 r n reach knows)))))
           by None true is_far is_based =
               let b = some_base o.0.base ((f.sound.says i p o.0 o.1).base is_based) in
               inl (near_by i p o.0 o.1 is l out is_far (Some (base_of asks p))

@@ -49,9 +49,9 @@ use Rattle.moves_mean.proofs.OwnHeld as held
 use Rattle.moves_mean.proofs.OwnHeld.{no_places, none_last, some_stay, own_held, own_holds}
 use Rattle.moves_mean.proofs.PlainAround.{keyed, MayEnd, none_end}
 use Rattle.moves_mean.proofs.PlainInner.{g, other, Effects, plain_keyed}
-use Rattle.moves_mean.proofs.ResultKeys.{result_places}
+use Rattle.moves_mean.proofs.ResultKeys.{result_places, results_distinct}
 use Rattle.moves_mean.proofs.ResultRows.{Key}
-use Rattle.moves_mean.proofs.ResultsEnd.{Among, AllAmong, kept_among, last_among, Reached, EndsNear, EndsFar, EndsAt, results_end}
+use Rattle.moves_mean.proofs.ResultsEnd.{Among, AllAmong, kept_among, last_among, kept_besides, EndsNear, EndsFar, EndsAt, results_end}
 use Rattle.moves_mean.proofs.ResultsHeld.{IsLast, IsHeldBy, results_held}
 use Rattle.moves_mean.proofs.ResultsOrderly.{placed_keys, results_orderly}
 use Rattle.moves_mean.proofs.RowsThere.{AllRows, all_rows}
@@ -172,8 +172,8 @@ module _ (homes : List HomeOf) (layout : Layout) (kind : Kind) (w pattern : Rtx)
               last = l.is;
               rest = on l.effect (subst (Among l.effect) k'.keyed.same (last_among xs p.place l.effect l.is));
               code = ends i p stands is l;
-            }) (regs_after (kept_of xs) regs) (memory_after (kept_of xs) m)
-            (record { made = kept_of xs; among = kept_among xs; regs_are = refl; memory_is = refl });
+            }) (results_distinct plan.parts f.sound.in_order) (regs_after (kept_of xs) regs) (memory_after (kept_of xs) m)
+            (record { made = kept_of xs; besides_each = λ j inside. kept_besides j xs; regs_are = refl; memory_is = refl });
       }
 
     -- they end

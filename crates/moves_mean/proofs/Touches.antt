@@ -37,6 +37,8 @@ use Rattle.assign.specs.declared.places.Layout.{Layout}
 use Rattle.reload_homes.specs.Homes.{home_of, slot_offset, slot_address, place_by, register_at, homed}
 use Rattle.reload_homes.specs.Homes as places
 use Rattle.reload_homes.proofs.Rewrites.{homed_register, homed_over}
+use Rattle.reload_operands.specs.Changes as changes
+use Rattle.reload_operands.specs.Changes.{target_by}
 use Rattle.moves_mean.proofs.ElementTurns.{effect_code}
 use Rattle.moves_mean.proofs.HomedQuiet.{RegisterCase, whole, low, case_of}
 use Rattle.moves_mean.proofs.HomedTrees.{low_placed}
@@ -44,6 +46,12 @@ use Rattle.moves_mean.proofs.Nodes as nodes
 use Rattle.moves_mean.proofs.Nodes.{all_pass}
 use Rattle.moves_mean.proofs.SetWidth.{set_width}
 use Rattle.moves_mean.proofs.SmallTrees.{natural_out}
+
+-- what one tree comes of
+pub one_kid : (f : Rtx → Rtx) (xs : List Rtx) (x : Rtx) → map f xs ≡ x ∷ [] → (t : Rtx) × ((xs ≡ t ∷ []) × (f t ≡ x))
+one_kid f [] x is = absurd (let no : ⊥ = cc in no)
+one_kid f (t ∷ []) x is = (t, (refl, (let same : f t ≡ x = cc in same)))
+one_kid f (t ∷ s ∷ xs) x is = absurd (let no : ⊥ = cc in no)
 
 -- ---- the register that an effect changes
 
@@ -136,7 +144,7 @@ module _ (homes : List HomeOf) (layout : Layout) (symbols : List SymbolAt) (regs
     idle : Touch v Nothing
     sets : (reg h : ℕ) (known : Known) → changed_register v ≡ Some reg → changed_register (hm v) ≡ Some h → Touch v (Sets h known)
     unsets : (reg h : ℕ) → changed_register v ≡ Some reg → changed_register (hm v) ≡ Some h → Touch v (Unsets h)
-    slot : (reg value : ℕ) (width : Width) → changed_register v ≡ Some reg → home_of homes reg ≡ Slot →
+    slot : (reg value : ℕ) (width : Width) → changed_register v ≡ Some reg → changes.changed_register v ≡ Some reg → home_of homes reg ≡ Slot →
         Touch v (Stores width (sp + slot_offset layout reg) value)
     other : (t s : Rtx) (width : Width) (at value : ℕ) → (head_of v).code ≡ code.Set → kids_of v ≡ t ∷ s ∷ [] →
         (head_of t).code ≡ code.Mem →
@@ -244,7 +252,8 @@ module _ (homes : List HomeOf) (layout : Layout) (symbols : List SymbolAt) (regs
       let same : Some k.0 ≡ Some (sp + slot_offset layout reg) = sym k.1.1.0 ∙ slot_is reg home in
       let place : k.0 ≡ sp + slot_offset layout reg = cc in
       subst (Touch v) (sym (k.1.1.1 ∙ ap (λ at. Stores w.0 at k.1.0) place))
-      (slot reg k.1.0 w.0 (changed_is v t (s ∷ []) reg (ap is_changing_code is) are (case_of t reg at)) home)
+      (slot reg k.1.0 w.0 (changed_is v t (s ∷ []) reg (ap is_changing_code is) are (case_of t reg at))
+      (ap (λ c. option_and_then register_at (target_by c (kids_of v))) is ∙ ap (λ ks. option_and_then register_at (target_by code.Set ks)) are ∙ at) home)
 
   -- a set of memory
   set_other_touch : (v t s : Rtx) (e : Effect) (o : Option Rtx) → (head_of v).code ≡ code.Set →
@@ -316,11 +325,6 @@ module _ (homes : List HomeOf) (layout : Layout) (symbols : List SymbolAt) (regs
   clobber_by_target v t e None is are none at shaped natural does =
       clobber_other_touch v t e (head_of (hm t)).code (register_of (hm t)) at shaped natural refl does
 
-  one_kid : (xs : List Rtx) (x : Rtx) → map hm xs ≡ x ∷ [] → (t : Rtx) × ((xs ≡ t ∷ []) × (hm t ≡ x))
-  one_kid [] x is = absurd (let no : ⊥ = cc in no)
-  one_kid (t ∷ []) x is = (t, (refl, (let same : hm t ≡ x = cc in same)))
-  one_kid (t ∷ s ∷ xs) x is = absurd (let no : ⊥ = cc in no)
-
   two_kids : (xs : List Rtx) (x y : Rtx) → map hm xs ≡ x ∷ y ∷ [] → (t : Rtx) ×
       ((s : Rtx) × ((xs ≡ t ∷ s ∷ []) × ((hm t ≡ x) × (hm s ≡ y))))
   two_kids [] x y is = absurd (let no : ⊥ = cc in no)
@@ -351,7 +355,7 @@ module _ (homes : List HomeOf) (layout : Layout) (symbols : List SymbolAt) (regs
 
       clobber_case : (x : Rtx) → (head_of (hm v)).code ≡ code.Clobber → kids_of (hm v) ≡ x ∷ [] → Touch v e
       clobber_case x is are =
-          let k = one_kid (kids_of v) x (sym (kids_there v none) ∙ are) in
+          let k = one_kid hm (kids_of v) x (sym (kids_there v none) ∙ are) in
           let good = inside v k.0 [] k.1.0 shaped natural in
           let does' : clobber_effect x ≡ Some e = sym (ap (λ c. effect_by c (kids_of (hm v)) symbols regs m) is ∙
           ap (λ ks. effect_by code.Clobber ks symbols regs m) are) ∙ does in

@@ -1,16 +1,17 @@
 -- What the parts of an alternative say of their operands: each stands at its operand's place, and
 -- those with one holder stay or go together.
-use Rattle.std.proofs.Common.{◌≡◌, ℕ, zero, suc, Bool, true, false, not, ◌&&◌, List, [], ◌∷◌, length, map, Option, Some, slice_get, refl, sym, ap, subst, ◌∙◌}
+use Rattle.std.proofs.Common.{◌≡◌, ℕ, zero, suc, Bool, true, false, not, ◌&&◌, ◌||◌, List, [], ◌∷◌, length, map, Option, Some, slice_get, refl, sym, ap, subst, ◌∙◌}
 use Rattle.std.specs.Prelude.{is_some}
 use Rattle.std.specs.Option.{option_map_or}
 use Rattle.std.proofs.lemmas.Bool.{and_parts}
 use Rattle.std.proofs.lemmas.List.{length-map}
+use Rattle.rtx_tree.specs.declared.tree.Rtx.{out-Rtx}
 use Rattle.c_eval.specs.Value.{same_tree}
 use Rattle.reload_operands.specs.declared.operand.Operand.{Operand}
 use Rattle.reload_moves.specs.declared.fitting.Fitting.{Fitting}
 use Rattle.reload_moves.specs.declared.part.Part.{Part}
 use Rattle.reload_moves.specs.Moved.{is_marked, holder_of, moved_in, part_of, parts_of}
-use Rattle.reload_fit.specs.Fitting.{Asks, has_address, fitting_at, fittings_of}
+use Rattle.reload_fit.specs.Fitting.{Asks, has_address_letter, has_address, is_memory_code, fitting_at, fittings_of}
 use Rattle.reload_choice.specs.Sound.{SaysOf}
 use Rattle.reload_choice.proofs.RoundLaws.{moved_settled}
 use Rattle.reload_choice.proofs.HolderLaws.{marked_together, kept_together}
@@ -21,6 +22,14 @@ mapped_from : {X Y : Type 0} (f : X → Y) (xs : List X) (i : ℕ) (y : Y) →
 mapped_from f [] i y at = absurd (let never : ⊥ = cc in never)
 mapped_from f (x ∷ xs) zero y at = (x, refl, let same : y ≡ f x = cc in same)
 mapped_from f (x ∷ xs) (suc i) y at = mapped_from f xs i y at
+
+-- what is memory has no base where it needs none
+base_none : (base operator memory more : Bool) → base && (not operator && (memory || more)) ≡ false →
+    operator ≡ false → memory ≡ true → base ≡ false
+base_none true true memory more is other has = absurd (let never : ⊥ = cc in never)
+base_none true false true more is other has = absurd (let never : ⊥ = cc in never)
+base_none true false false more is other has = absurd (let never : ⊥ = cc in never)
+base_none false operator memory more is other has = refl
 
 module _ (asks : Asks) (operands : List Operand) where
   abbrev fits : List Fitting
@@ -70,6 +79,9 @@ module _ (asks : Asks) (operands : List Operand) where
     slot_far = refl;
     base = λ based. (and_parts (is_some x.base)
         (not x.is_operator && has_address (asks.asked x.number) x) based).0;
+    unbased = λ none other memory. base_none (is_some x.base) x.is_operator
+        (is_memory_code (out-Rtx x.tree).code)
+        (x.is_address || has_address_letter (asks.asked x.number)) none other memory;
   }
 
   pub part_says : (i : ℕ) (p : Part) (x : Operand) → slice_get parts i ≡ Some p →

@@ -1,6 +1,7 @@
 -- What meaning needs of a plan: GCC Internals, "RTL passes" (reload), "Side Effect Expressions" (`parallel`: all sources are taken before
 -- anything is changed). Of constraints, digits and cost meaning needs nothing.
 use Rattle.std.specs.Prelude.{◌≡◌, ℕ, ◌≤◌, Bool, true, false, Some, is_some, length, slice_get}
+use Rattle.rtx_tree.specs.declared.tree.Rtx.{out-Rtx}
 use Rattle.c_eval.specs.Value.{same_tree}
 use Rattle.reload_operands.specs.declared.operand.Operand.{Operand}
 use Rattle.reload_moves.specs.declared.part.Part.{Part}
@@ -10,7 +11,7 @@ use Rattle.reload_choice.specs.declared.given.Plan.{Plan}
 use Rattle.reload_moves.specs.Registers.{asks_of, is_asked, register_for, is_result}
 use Rattle.reload_choice.specs.Movable.{is_mode, is_formed, stays_formed, may_end, may_share, share, is_clear}
 use Rattle.reload_fit.specs.Addressed.{far_offset}
-use Rattle.reload_fit.specs.Fitting.{slot_far_of}
+use Rattle.reload_fit.specs.Fitting.{is_memory_code, slot_far_of}
 
 -- a part of the plan, with its operand
 pub record IsPart (given : Given) (plan : Plan) (at : ℕ) (p : Part) (x : Operand) : Type 0 where
@@ -24,6 +25,8 @@ pub record SaysOf (p : Part) (x : Operand) : Type 0 where
   pub far : p.needs.far ≡ far_offset x.tree
   pub slot_far : p.needs.slot_far ≡ slot_far_of x.base
   pub base : p.needs.has_base ≡ true → is_some x.base ≡ true
+  -- memory that is no operator has a register for its base where a slot holds it
+  pub unbased : p.needs.has_base ≡ false → x.is_operator ≡ false → is_memory_code (out-Rtx x.tree).code ≡ true → is_some x.base ≡ false
 
 pub record IsSoundPlan (given : Given) (plan : Plan) : Type 0 where
   -- each operand has its part, in their order

@@ -5,8 +5,6 @@ use Rattle.std.specs.Prelude.{slice_get}
 use Rattle.rtx_tree.specs.declared.function.Function.{Function}
 use Rattle.rtx_tree.specs.declared.function.Insn.{Insn}
 use Rattle.rtx_tree.specs.declared.tree.Rtx.{Rtx}
-use Rattle.form_needs.specs.Needs.{needs_form}
-use Rattle.rtl_step.specs.Effect.{address_of}
 use Rattle.rtl_step.specs.declared.step.State.{State}
 use Rattle.md_match.specs.Pattern.{Ops}
 use Rattle.md_forms.specs.declared.form.Entry.{Entry}
@@ -17,12 +15,9 @@ use Rattle.assign.specs.declared.places.Layout.{Layout}
 use Rattle.pass_ready.specs.Reloadable.{IsReloadable}
 use Rattle.homes_mean.proofs.Setting.{Setting, StandsIn}
 use Rattle.reload_operands.specs.declared.operand.Operand.{Operand}
-use Rattle.reload_moves.specs.Registers.{is_result}
-use Rattle.reload_moves.specs.declared.part.Part.{Part}
 use Rattle.reload_choice.specs.Insns.{between, insns_before, insns_after}
-use Rattle.reload_choice.specs.Sound.{IsPart, IsSoundPlan}
 use Rattle.reload_choice.specs.declared.given.Plan.{Plan}
-use Rattle.reload.specs.Reload.{placed, given_by, patterns_at, IsMatch}
+use Rattle.reload.specs.Reload.{placed, given_by, patterns_at}
 use Rattle.reload.specs.Windows.{HasWindows}
 use Rattle.moves_mean.specs.Places.{is_leaf}
 use Rattle.moves_mean.proofs.CallInner.{plan_results}
@@ -32,9 +27,8 @@ use Rattle.moves_mean.proofs.Leads as leads
 use Rattle.moves_mean.proofs.Nodes.{all_pass}
 use Rattle.moves_mean.proofs.PlainAround.{none_behind}
 use Rattle.moves_mean.proofs.PlainLeads.{plain_leads}
-use Rattle.moves_mean.proofs.Reloaded.{IsReloaded, HasPlainAddresses}
+use Rattle.moves_mean.proofs.Reloaded.{IsReloaded}
 use Rattle.moves_mean.proofs.ResultKeys.{none_places}
-use Rattle.moves_mean.proofs.SteadyAddress.{is_no_memory}
 use Rattle.reload_mean.specs.Homes.{HasHomes, NumbersAreSized}
 use Rattle.reload_mean.specs.Keeps.{KeepsUnderHomes}
 use Rattle.reload_mean.proofs.Chain.{windows_keep}
@@ -54,19 +48,6 @@ pub record PatternsAreSound (forms : List Entry) : Type 0 where
       slice_get (given_by homes layout i pattern found).operands j ≡ Some x →
       x.is_operator ≡ false →
       all_pass (no_operator_of x.number) pattern ≡ true
-
--- What is asked of a function with homes: a result that is moved, whose address has no base, has no
--- memory in its address, where it is memory that is no slot.
-abbrev pub HavePlainAddresses : List Entry → Function → List HomeOf → Layout → Type 0
-HavePlainAddresses forms f homes layout = (place : ℕ) (i : Insn) (form : ℕ) (pattern : Rtx)
-    (found : Ops)
-    (plan : Plan) → slice_get f.insns place ≡ Some i → needs_form i ≡ true →
-    IsMatch forms layout i form pattern found →
-    IsSoundPlan (given_by homes layout i pattern found) plan →
-    (j : ℕ) (p : Part) (x : Operand) (a : Rtx) →
-    IsPart (given_by homes layout i pattern found) plan j p x → is_result p ≡ true →
-    p.needs.has_base ≡ false → x.in_slot ≡ false → address_of x.tree ≡ Some a →
-    all_pass is_no_memory a ≡ true
 
 module _ (forms : List Entry) (patterns : PatternsAreSound forms) where
   planned : (c : Setting) (i : Insn) (form : ℕ) (pattern : Rtx) (found : Ops) (plan : Plan) →
@@ -90,16 +71,16 @@ module _ (forms : List Entry) (patterns : PatternsAreSound forms) where
   moves_lead : (c : Setting) (g : Function) (place : ℕ) (i : Insn)
       (at : slice_get c.f.insns place ≡ Some i) (form : ℕ) (pattern : Rtx) (found : Ops)
       (plan : Plan) →
-      IsPlanned forms c i form pattern found plan → HasPlainAddresses c i pattern found plan →
+      IsPlanned forms c i form pattern found plan →
       let given = given_by c.homes c.layout i pattern found in
       MovesLead c g place i at (insns_before given.operands plan.parts)
       (between given.pattern given.operands plan.parts given.insn)
       (insns_after given.operands plan.parts)
-  moves_lead = λ c g place i at form pattern found plan p addresses.
+  moves_lead = λ c g place i at form pattern found plan p.
       let is = planned c i form pattern found plan p in record {
         plain_leads = λ plain s u stands memory es does insns rest q are there.
             plain_leads c place i at pattern found plan is s u stands memory
-            (told_at c place s u stands) g plain es does addresses insns rest q are there;
+            (told_at c place s u stands) g plain es does insns rest q are there;
         jump_leads = λ jump s u stands memory way goes insns rest q are there.
             let m = leads.jump_leads c place i at pattern found plan is s u stands memory
             (told_at c place s u stands) g jump way goes insns rest q are there in record {
@@ -137,9 +118,8 @@ module _ (forms : List Entry) (patterns : PatternsAreSound forms) where
   -- instructions stand between the moves of sound plans.
   pub reloaded_keeps : (f g : Function) (homes : List HomeOf) (layout : Layout) → AreHomes f homes →
       IsFrame f homes layout → IsReloadable f → NumbersAreSized f →
-      HavePlainAddresses forms f homes layout →
       HasWindows forms homes layout f g → KeepsUnderHomes f layout g
-  reloaded_keeps f g homes layout are frame is sized addresses windows =
+  reloaded_keeps f g homes layout are frame is sized windows =
       let has : HasHomes f homes layout = record {
         are_homes = are;
         frame = frame;
@@ -149,5 +129,4 @@ module _ (forms : List Entry) (patterns : PatternsAreSound forms) where
       (λ start world lawful lawful_world place i at form pattern found plan needs match sound.
       let c = setting_of f homes layout has start world lawful in
       moves_lead c g place i at form pattern found plan
-      (planned_of forms c is place i at form pattern found plan needs match sound)
-      (addresses place i form pattern found plan at needs match sound))
+      (planned_of forms c is place i at form pattern found plan needs match sound))

@@ -15,20 +15,19 @@ use Rattle.reload.specs.Windows.{HasWindows}
 use Rattle.reload_mean.specs.Homes.{NumbersAreSized}
 use Rattle.reload_mean.specs.Keeps.{KeepsUnderHomes, KeepsWithFrame}
 use Rattle.reload_mean.proofs.Composing.{keeps_with_frame}
-use Rattle.reload_mean.proofs.Linked.{HavePlainAddresses, reloaded_keeps}
+use Rattle.reload_mean.proofs.Linked.{reloaded_keeps}
 use Rattle.reload_mean.proofs.SoundPatterns.{patterns_are_sound}
 
 module _ (constants : List Constant) (forms : List Instance) (f g : Function) (homes : List HomeOf)
     (layout : Layout) (are : AreHomes f homes) (frame : IsFrame f homes layout)
     (is : IsReloadable f)
-    (sized : NumbersAreSized f) (addresses : HavePlainAddresses (forms_of constants forms) f homes
-    layout)
+    (sized : NumbersAreSized f)
     (windows : HasWindows (forms_of constants forms) homes layout f g) where
   -- in a frame that others make
   pub described_keeps : KeepsUnderHomes f layout g
   described_keeps = reloaded_keeps (forms_of constants forms) (patterns_are_sound constants forms) f
       g homes
-      layout are frame is sized addresses windows
+      layout are frame is sized windows
 
   -- in its own frame
   pub described_with_frame : (h : Function) → KeepsInFrame g layout h → KeepsWithFrame f layout h

@@ -5,3 +5,4 @@ pub mod PassesLaws
 pub mod OneAfter
 pub mod Kept
 pub mod Stages
+pub mod Keeping

@@ -3,7 +3,10 @@ ghost use Rattle.std.specs.Prelude.{◌≡◌, List, Ok};
 ghost use Rattle.rtx_tree.specs.declared.function.Function.{Function};
 ghost use Rattle.md_forms.specs.declared.form.Entry.{Entry};
 ghost use Rattle.func_after.specs.After as spec;
+ghost use Rattle.insn_keep.specs.Sound.{IsSound};
 ghost use Rattle.func_after.specs.After.{IsBehind, AfterComes, Gives};
+ghost use Rattle.func_after.specs.Leads.{IsDescribed, LeadsToLines};
+ghost use Rattle.func_after.specs.declared.made.Made.{Made};
 
 use crate::made::{Made, as_read};
 use crate::pass::passed;
@@ -63,13 +66,16 @@ pub fn behind(
 /// # Errors
 ///
 /// As [`behind`] says for the last pass.
-#[tactic(auto, using(crate::proofs::OneAfter::one_after))]
+#[tactic(auto, using(crate::proofs::OneAfter::one_after, crate::proofs::Keeping::after_leads))]
 pub fn after(alloc: Global, desc: &Description, f: &Function) -> Result<Made, Refusal>
     // What is told is given; a refusal is the one that is told.
     ensures gives { Gives result (AfterComes desc.now f.now) }
 
     // A function comes to one thing.
     ensures one { (forms : List Entry) (f : Function) (a b : spec.Answer) → AfterComes forms f a → AfterComes forms f b → a ≡ b }
+
+    // By the forms of a description, lines that do what a sound function then does have the behaviour of the function.
+    ensures leads { (forms : List Entry) (f : Function) (m : Made) → IsDescribed forms → IsSound f → AfterComes forms f (Ok m) → LeadsToLines f m }
 {
     behind(alloc, desc, f, Pass::Split2)
 }

@@ -25,7 +25,7 @@ use Rattle.window_same.specs.Left.{SameWhereLeft}
 use Rattle.whole_mean.proofs.Whole.{whole_same}
 
 -- the locals are part of the frame
-size_holds : (locals : ℕ) (saved slots : List ℕ) → locals ≤ frame_size locals saved slots
+pub size_holds : (locals : ℕ) (saved slots : List ℕ) → locals ≤ frame_size locals saved slots
 size_holds locals saved slots = omega arith
 
 -- f0 is the function that was read, f3 that behind lowering and the first split, f4 that with homes, f5 that with its frame too, and f6

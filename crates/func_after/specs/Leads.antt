@@ -1,0 +1,25 @@
+-- That what the passes make of a function leads to lines with its behaviour: GCC Internals, "Passes and Files of the Compiler".
+use Rattle.std.specs.Prelude.{◌≡◌, ℕ, ◌≤◌, List}
+use Rattle.rtx_tree.specs.declared.constants.Constant.{Constant}
+use Rattle.rtx_tree.specs.declared.function.Function.{Function}
+use Rattle.rv_text.specs.declared.line.CodeItem.{CodeItem}
+use Rattle.md_iter.specs.declared.substitution.Instance.{Instance}
+use Rattle.md_forms.specs.declared.form.Entry.{Entry}
+use Rattle.md_forms.specs.Forms.{forms_of}
+use Rattle.same_behaviour.specs.Same.{Same}
+use Rattle.window_same.specs.Left.{SameWhereLeft}
+use Rattle.out_same.specs.Ready.{AreWritable}
+use Rattle.frame.specs.Framed.{most_frame}
+use Rattle.func_after.specs.declared.made.Made.{Made}
+
+-- the forms are those of a description
+abbrev pub IsDescribed : List Entry → Type 0
+IsDescribed forms = (constants : List Constant) × (instances : List Instance) × (forms ≡ forms_of constants instances)
+
+-- Lines can stand for what was made; its frame holds the locals, and is no larger than a frame may be; and lines that do what it does,
+-- where it leaves all as it found it, have the behaviour of the function.
+pub record LeadsToLines (f : Function) (m : Made) : Type 0 where
+  pub writable : AreWritable m.function
+  pub holds : f.locals ≤ m.layout.size
+  pub small : m.layout.size ≤ most_frame
+  pub same : (items : List CodeItem) → SameWhereLeft m.function items → Same m.layout.size f items

@@ -17,5 +17,6 @@ pub written_is_same : (forms : List Entry) (number : ℕ) (f : Function) (piece 
 written_is_same forms number f piece ready written =
     let items : AreItems number f piece.items = items_from forms number f ready 0 f.insns written.body piece.items written.are
     (λ k i at. let from_first : k ≡ 0 + k = omega arith in subst (λ n. slice_get f.insns n ≡ Some i) from_first at) in
-    items_are_same_where_left number f piece.items (λ place reg i at mark. (at_place IsInsnWritable f.insns ready place i at).marks mark reg)
+    items_are_same_where_left number f piece.items
+    (λ place reg i at mark. (at_place IsInsnWritable f.insns ready place i at).marks mark reg)
     (λ place i at. (at_place IsInsnWritable f.insns ready place i at).named) items

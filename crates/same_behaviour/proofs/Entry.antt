@@ -35,11 +35,12 @@ in_locals : (start : Start) (locals address : ℕ) → locals ≤ start.sp → i
 in_locals start zero address fits is = absurd (let none : ⊥ = cc in none)
 in_locals start (suc n) address fits is = grind (arith, nat_tests, is, fits)
 
-further : (start : Start) (locals size address : ℕ) → locals ≤ size → is_below_sp start locals address ≡ true → is_below_sp start size address ≡ true
+further : (start : Start) (locals size address : ℕ) → locals ≤ size → is_below_sp start locals address ≡ true →
+    is_below_sp start size address ≡ true
 further start locals size address holds is = grind (arith, nat_tests, holds, is)
 
-stays : (frame locals size : ℕ) (start : Start) → locals ≤ size → (lawful : IsLawful frame locals start) (address : ℕ) (b : Bool) → is_below_sp start frame address ≡ b →
-    is_visible (lawful.ranges ++ locals_range start locals) address ≡ true → (not b || is_below_sp start size address) ≡ true
+stays : (frame locals size : ℕ) (start : Start) → locals ≤ size → (lawful : IsLawful frame locals start) (address : ℕ) (b : Bool) →
+    is_below_sp start frame address ≡ b → is_visible (lawful.ranges ++ locals_range start locals) address ≡ true → (not b || is_below_sp start size address) ≡ true
 stays frame locals size start holds lawful address false room is = refl
 stays frame locals size start holds lawful address true room is =
     let small = lawful.holds in
@@ -52,4 +53,5 @@ pub visible_at_entry : (frame locals size : ℕ) (start : Start) → locals ≤ 
     visible start.visible start.memory ≡ visible start.visible (seen_by_rtl frame size start).memory
 visible_at_entry frame locals size start holds lawful = sym (kept (λ (b : MemByte). is_visible start.visible b.address)
     (λ b. not (is_below_sp start frame b.address) || is_below_sp start size b.address) start.memory
-    (λ b is. stays frame locals size start holds lawful b.address (is_below_sp start frame b.address) refl (sym (ap (λ ranges. is_visible ranges b.address) lawful.visible_is) ∙ is)))
+    (λ b is. stays frame locals size start holds lawful b.address (is_below_sp start frame b.address) refl
+    (sym (ap (λ ranges. is_visible ranges b.address) lawful.visible_is) ∙ is)))

@@ -1,11 +1,10 @@
 -- All passes together: lines that stand for the last function have the behaviour of the first.
-use Rattle.std.proofs.Common.{◌≡◌, ◌≢◌, ℕ, ◌≤◌, arith, List, refl, sym, ap, subst, ◌∙◌}
+use Rattle.std.proofs.Common.{◌≡◌, ℕ, ◌≤◌, arith, List, refl, sym, ap, subst, ◌∙◌}
 use Rattle.rtx_tree.specs.declared.function.Function.{Function}
 use Rattle.rtx_tree.specs.declared.machine.Start.{Start}
 use Rattle.rtx_tree.specs.declared.machine.World.{World}
 use Rattle.func_mean.specs.Run.{run_of, taken}
 use Rattle.func_mean.specs.declared.outcome.Outcome.{Outcome}
-use Rattle.func_mean.specs.declared.outcome.Outcome.TheVariants.{Undefined}
 use Rattle.rv_text.specs.declared.line.CodeItem.{CodeItem}
 use Rattle.rv_line.specs.Run as lines
 use Rattle.rv_line.specs.declared.outcome.CodeOutcome.{CodeOutcome}

@@ -34,11 +34,8 @@ AreNatural xs = list_all all_natural xs ≡ true
 
 joined : (xs ys : List Rtx) → AreNatural xs → AreNatural ys → AreNatural (xs ++ ys)
 joined [] ys all more = more
-joined (x ∷ xs) ys all more = all_two (all_natural x) all
-    where
-      all_two : (b : Bool) → (b && list_all all_natural xs) ≡ true → (b && list_all all_natural (xs ++ ys)) ≡ true
-      all_two true all = joined xs ys all more
-      all_two false all = all
+joined (x ∷ xs) ys all more =
+    let parts = and_parts (all_natural x) (list_all all_natural xs) all in both (all_natural x) (list_all all_natural (xs ++ ys)) parts.0 (joined xs ys parts.1 more)
 
 if_natural : (b : Bool) (xs ys : List Rtx) → AreNatural xs → AreNatural ys → AreNatural (if b then xs else ys)
 if_natural true xs ys one two = one
@@ -166,16 +163,19 @@ module _ (layout : Layout) (saves : SavesPreserved layout) where
       all_joined IsInsnPlaced (plain_insns uid (epilogue layout)) (return_with (uid + length (epilogue layout)) ∷ [])
       (plain_placed uid (epilogue layout) epilogue_natural) (return_placed (uid + length (epilogue layout)), tt)
 
+  by_return : (b : Bool) (gone stay : List Insn) → AllByRecursion IsInsnPlaced gone → AllByRecursion IsInsnPlaced stay →
+      AllByRecursion IsInsnPlaced (if b then gone else stay)
+  by_return true gone stay one two = one
+  by_return false gone stay one two = two
+
   left_placed : (uid : ℕ) (insns : List Insn) → AllByRecursion IsInsnPlaced insns → AllByRecursion IsInsnPlaced (left_at_returns layout uid insns)
   left_placed uid [] all = tt
-  left_placed uid (i ∷ insns) all = by (returns i)
-    where
-      by : (b : Bool) → AllByRecursion IsInsnPlaced
-          (if b then leaving layout uid ++ left_at_returns layout (left_uid layout uid) insns else i ∷ left_at_returns layout uid insns)
-      by true =
-          all_joined IsInsnPlaced (leaving layout uid) (left_at_returns layout (left_uid layout uid) insns) (leaving_placed uid)
-          (left_placed (left_uid layout uid) insns all.1)
-      by false = (all.0, left_placed uid insns all.1)
+  left_placed uid (i ∷ insns) all =
+      let behind = left_at_returns layout (left_uid layout uid) insns in
+      let stay = left_at_returns layout uid insns in
+      by_return (returns i) (leaving layout uid ++ behind) (i ∷ stay)
+      (all_joined IsInsnPlaced (leaving layout uid) behind (leaving_placed uid) (left_placed (left_uid layout uid) insns all.1))
+      (all.0, left_placed uid insns all.1)
 
   pub frame_placed : (f g : Function) → ArePlaced f → IsFramed layout f g → ArePlaced g
   frame_placed f g placed framed =

@@ -1,7 +1,6 @@
 -- The address of a result that is moved has its value still when the result ends, behind the other effects of its instruction.
-use Rattle.std.proofs.Common.{◌≡◌, ◌≢◌, ◌⊎◌, inl, inr, ℕ, ◌+◌, Bool, true, false, List, [], ◌∷◌, map, Option, Some, None, refl, sym, ap, subst, ◌∙◌, arith}
+use Rattle.std.proofs.Common.{◌≡◌, ◌≢◌, ◌⊎◌, inl, inr, ℕ, Bool, true, false, List, [], ◌∷◌, map, Option, Some, refl, sym, ap, subst, ◌∙◌, arith}
 use Rattle.std.proofs.lemmas.Bool.{and_parts}
-use Rattle.std.specs.FinMap.{get}
 use Rattle.std.specs.List.{list_all}
 use Rattle.std.specs.Prelude.{pos, slice_get}
 use Rattle.bits64.specs.declared.Width.{Width}
@@ -13,10 +12,9 @@ use Rattle.rtx_tree.specs.declared.function.Insn.{Insn}
 use Rattle.rtx_tree.specs.declared.function.Kind.TheVariants as kind
 use Rattle.rtx_tree.specs.declared.memories.MemByte.{MemByte}
 use Rattle.rtx_tree.specs.declared.tree.Rtx.{Rtx}
-use Rattle.rtl_func.specs.Nodes.{nodes_of}
-use Rattle.rtl_func.specs.Shapes.{is_effect, is_shaped}
+use Rattle.rtl_func.specs.Shapes.{is_shaped}
 use Rattle.rtl_step.specs.Effect.{effects_of, address_of, regs_after, memory_after}
-use Rattle.rtl_step.specs.Regs.{Regs, reg_value}
+use Rattle.rtl_step.specs.Regs.{Regs}
 use Rattle.rtl_step.specs.Value.{value_of}
 use Rattle.rtl_step.specs.declared.effect.Effect.{Effect}
 use Rattle.rtl_step.specs.declared.step.State.{State}
@@ -26,7 +24,7 @@ use Rattle.md_match.specs.declared.role.Role.{Role}
 use Rattle.md_match.specs.declared.role.Role.TheVariants.{Operand as Placed, Operator, Itself}
 use Rattle.assign.specs.declared.home.Home.{Home}
 use Rattle.assign.specs.declared.home.Home.TheVariants.{Hard, Slot}
-use Rattle.reload_homes.specs.Homes.{home_of, homed, slot_offset}
+use Rattle.reload_homes.specs.Homes.{home_of, homed}
 use Rattle.reload_operands.specs.declared.operand.Operand.{Operand}
 use Rattle.reload_moves.specs.Registers.{is_result}
 use Rattle.reload_moves.specs.declared.part.Part.{Part}
@@ -41,8 +39,8 @@ use Rattle.homes_mean.proofs.Tamed.{plain_tame}
 use Rattle.moves_mean.specs.Spare.{KnowsRest, NamesNoSpare}
 use Rattle.moves_mean.proofs.Chosen.{given}
 use Rattle.moves_mean.proofs.GivenNews.{result_at}
-use Rattle.moves_mean.proofs.GivenSteady.{IsElsewhere, elsewhere, slot_there, address_quiet, some_leave}
-use Rattle.moves_mean.proofs.Keyed.{Keyed, effects_in, last_of}
+use Rattle.moves_mean.proofs.GivenSteady.{elsewhere, slot_there, address_quiet, some_leave}
+use Rattle.moves_mean.proofs.Keyed.{effects_in, last_of}
 use Rattle.moves_mean.proofs.Keying.{with_keys}
 use Rattle.moves_mean.proofs.LeftRegisters.{AreOnHard}
 use Rattle.moves_mean.proofs.Nodes.{all_pass, within}
@@ -52,9 +50,9 @@ use Rattle.moves_mean.proofs.Orderly.{SetsMemory}
 use Rattle.moves_mean.proofs.OwnHeld.{none_last}
 use Rattle.moves_mean.proofs.PlainGiven.{all_hard, effect, slots_are_apart, slot_value, w_effect}
 use Rattle.moves_mean.proofs.Registers.{value_alike}
-use Rattle.moves_mean.proofs.Reloaded.{IsReloaded, w, x, w_shaped, w_natural, x_natural, shaped_nodes, stands_at}
+use Rattle.moves_mean.proofs.Reloaded.{IsReloaded, w, x, w_natural, x_natural, shaped_nodes, stands_at}
 use Rattle.moves_mean.proofs.ResultRows.{Key, Row, Rows, none, more, keyed_row}
-use Rattle.moves_mean.proofs.ResultsEnd.{Among, AllAmong, besides, Reached, reached_all}
+use Rattle.moves_mean.proofs.ResultsEnd.{Among, AllAmong, besides, besides_among, all_through, Reached, reached_all}
 use Rattle.moves_mean.proofs.ResultsHeld.{IsLast, last_cases}
 use Rattle.moves_mean.proofs.ResultsOrderly.{placed_keys}
 use Rattle.moves_mean.proofs.RowsThere.{AllRows, all_rows}
@@ -77,7 +75,7 @@ module _ (c : Setting) (place : ℕ) (i : Insn) (at : slice_get c.f.insns place 
   one_spares : (b : Rtx) (e : Effect) (es : List Effect) → Among e es → AllSpare c.homes c.layout (base c) b es → Spares c.homes c.layout (base c) b e
   one_spares b e [] among spare = absurd among
   one_spares b e (o ∷ es) (inl same) spare = subst (Spares c.homes c.layout (base c) b) (sym same) spare.0
-  one_spares b e (o ∷ es) (inr more) spare = one_spares b e es more spare.1
+  one_spares b e (o ∷ es) (inr later) spare = one_spares b e es later spare.1
 
   some_spare : (b : Rtx) (ds es : List Effect) → AllAmong ds es → AllSpare c.homes c.layout (base c) b es → AllSpare c.homes c.layout (base c) b ds
   some_spare b [] es among spare = tt
@@ -203,6 +201,10 @@ module _ (c : Setting) (place : ℕ) (i : Insn) (at : slice_get c.f.insns place 
       reached_too : Reached d.these u.regs u.memory r0 n
       reached_too = subst (λ es. Reached es u.regs u.memory r0 n) all (reached_all p.place (with_keys keys d.these) u.regs u.memory r0 n reached)
 
+      among_all : AllAmong reached.made d.these
+      among_all = subst (AllAmong reached.made) all (all_through reached.made (besides p.place (with_keys keys d.these)) (effects_in (with_keys keys d.these))
+          (besides_among p.place (with_keys keys d.these)) reached.among)
+
       -- in other memory
       rows_late : keys ≡ map KeyOf (inputs.effects_of pattern) → Rows' → o.in_slot ≡ false → Late
       rows_late same rows no_slot =
@@ -229,13 +231,13 @@ module _ (c : Setting) (place : ℕ) (i : Insn) (at : slice_get c.f.insns place 
           (slot_value c place i at pattern found plan is s u stands) (slots_are_apart c) there.address b.v p.place
           (inputs.effects_of pattern) (inputs.effects_of W) d.these rows.rows sets sole there.slots in
           let left : (q : ℕ) → mentions_reg q (hm there.address) ≡ true → AllLeave q reached.made = λ q has.
-          some_leave q reached.made d.these reached_too.among (there.left q (ap (mentions_reg q) (sym there.homed_is) ∙ has)) in
+          some_leave q reached.made d.these among_all (there.left q (ap (mentions_reg q) (sym there.homed_is) ∙ has)) in
           let shaped = address_shaped there.was there.address there.kid (ap (all_pass is_shaped) (sym t_is) ∙
           target_shaped b.v row.t (row.s ∷ []) row.are b.row.shaped) in
           let late = late_is there.address old reached.made
           (some_spare there.address reached.made (besides p.place (with_keys keys d.these)) reached.among
           (subst (λ keys. AllSpare c.homes c.layout (base c) there.address (besides p.place (with_keys keys d.these))) (sym same) spare)) left
-          (some_leave 2 reached.made d.these reached_too.among hard.1) (λ q has. address_quiet o a good is_a q (ap (mentions_reg q) (sym there.homed_is) ∙ has)) shaped r
+          (some_leave 2 reached.made d.these among_all hard.1) (λ q has. address_quiet o a good is_a q (ap (mentions_reg q) (sym there.homed_is) ∙ has)) shaped r
           (subst (λ r0. KnowsRest r0 r) reached.regs_are knows) in
           let now : old.value ≡ at_a = (let both : Some old.value ≡ Some at_a = sym (now_is there.address old) ∙
           ap (λ a. value_of c.world.symbols u.regs u.memory a W64) there.homed_is ∙ value in cc) in

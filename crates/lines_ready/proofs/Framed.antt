@@ -1,5 +1,6 @@
 -- A function with a frame of its own has placed instructions still.
-use Rattle.std.proofs.Common.{◌≡◌, ℕ, ◌+◌, ◌<◌, ◌^◌, ◌&&◌, ◌==◌, if◌then◌else◌, Bool, true, false, List, [], ◌∷◌, ◌++◌, length, refl, sym, ap, subst, ◌∙◌, arith}
+use Rattle.std.proofs.Common.{◌≡◌, ℕ, ◌+◌, ◌<◌, ◌^◌, ◌==◌, if◌then◌else◌, Bool, true, false, List, [], ◌∷◌}
+use Rattle.std.proofs.Common.{◌++◌, length, refl, sym, ap, subst, ◌∙◌, arith}
 use Rattle.std.specs.List.{All, AllByRecursion, flat_map, list_all}
 use Rattle.std.specs.Prelude.{ℤ, pos, neg_ℤ, nat_lt}
 use Rattle.std.proofs.lemmas.Bool.{false≢true, and_parts, ltb-true}
@@ -20,7 +21,9 @@ use Rattle.rtl_chain.specs.End.{return_insn, IsFinished}
 use Rattle.assign.specs.declared.places.Layout.{Layout}
 use Rattle.assign.specs.declared.places.SavedAt.{SavedAt}
 use Rattle.pass_ready.proofs.Places.{all_joined}
-use Rattle.frame_mean.specs.Frame.{sp_changed, near_address, far_base, base_made, address_at, word_at, stored, loaded, frame_made, frame_left, prologue, epilogue, plain_insns, leaving, left_uid, returns, left_at_returns, next_uid, sp_rtx, spare_rtx, short_change, long_change, most_short, most_near, return_with, IsFramed}
+use Rattle.frame_mean.specs.Frame.{sp_rtx, spare_rtx, short_change, long_change, most_short, most_near, sp_changed, near_address, far_base}
+use Rattle.frame_mean.specs.Frame.{base_made, address_at, word_at, stored, loaded, frame_made, frame_left, prologue, epilogue, plain_insns}
+use Rattle.frame_mean.specs.Frame.{return_with, leaving, left_uid, returns, left_at_returns, next_uid, IsFramed}
 use Rattle.frame_mean.specs.Kept.{preserved_registers}
 use Rattle.reload_mean.proofs.NaturalMoves.{natural_tree, reg_natural, const_natural, sum_natural, set_natural, both}
 use Rattle.lines_ready.specs.Placed.{IsInsnPlaced, ArePlaced}
@@ -35,7 +38,8 @@ AreNatural xs = list_all all_natural xs ≡ true
 joined : (xs ys : List Rtx) → AreNatural xs → AreNatural ys → AreNatural (xs ++ ys)
 joined [] ys all more = more
 joined (x ∷ xs) ys all more =
-    let parts = and_parts (all_natural x) (list_all all_natural xs) all in both (all_natural x) (list_all all_natural (xs ++ ys)) parts.0 (joined xs ys parts.1 more)
+    let parts = and_parts (all_natural x) (list_all all_natural xs) all in
+    both (all_natural x) (list_all all_natural (xs ++ ys)) parts.0 (joined xs ys parts.1 more)
 
 if_natural : (b : Bool) (xs ys : List Rtx) → AreNatural xs → AreNatural ys → AreNatural (if b then xs else ys)
 if_natural true xs ys one two = one
@@ -150,8 +154,8 @@ module _ (layout : Layout) (saves : SavesPreserved layout) where
 
   prologue_natural : AreNatural (prologue layout)
   prologue_natural = if_natural (layout.size == 0) [] (frame_made layout) refl
-      (joined (sp_changed layout.size (neg_ℤ (pos layout.size))) (flat_map stored layout.saved) (changed_natural layout.size (neg_ℤ (pos layout.size)))
-      (stored_natural layout.saved all_saved))
+      (joined (sp_changed layout.size (neg_ℤ (pos layout.size))) (flat_map stored layout.saved)
+      (changed_natural layout.size (neg_ℤ (pos layout.size))) (stored_natural layout.saved all_saved))
 
   epilogue_natural : AreNatural (epilogue layout)
   epilogue_natural = if_natural (layout.size == 0) [] (frame_left layout) refl
@@ -168,7 +172,8 @@ module _ (layout : Layout) (saves : SavesPreserved layout) where
   by_return true gone stay one two = one
   by_return false gone stay one two = two
 
-  left_placed : (uid : ℕ) (insns : List Insn) → AllByRecursion IsInsnPlaced insns → AllByRecursion IsInsnPlaced (left_at_returns layout uid insns)
+  left_placed : (uid : ℕ) (insns : List Insn) → AllByRecursion IsInsnPlaced insns →
+      AllByRecursion IsInsnPlaced (left_at_returns layout uid insns)
   left_placed uid [] all = tt
   left_placed uid (i ∷ insns) all =
       let behind = left_at_returns layout (left_uid layout uid) insns in

@@ -1,5 +1,5 @@
 -- A use or a clobber alone is no jump and no call, where an instruction has the kind of its pattern.
-use Rattle.std.proofs.Common.{◌≡◌, ◌&&◌, not, Bool, true, false, List, refl, sym, ap, ◌∙◌}
+use Rattle.std.proofs.Common.{◌≡◌, not, true, false, List, refl, sym, ap, ◌∙◌}
 use Rattle.std.proofs.lemmas.Bool.{false≢true, true≢false, and_parts}
 use Rattle.rtx_tree.specs.Code.{class_of_code}
 use Rattle.rtx_tree.specs.Tree.{head_of, kids_of}

@@ -1,6 +1,4 @@
 -- A function that can be reloaded, and for which lines can stand, is one whose instructions are placed.
-use Rattle.std.proofs.Common.{◌≡◌, ◌&&◌, Bool, true, false, List, [], ◌∷◌, Some}
-use Rattle.std.specs.Prelude.{ℕ, slice_get}
 use Rattle.std.specs.List.{list_all}
 use Rattle.std.proofs.lemmas.Bool.{and_parts}
 use Rattle.rtx_tree.specs.declared.function.Insn.{Insn}
@@ -22,7 +20,8 @@ one_placed i ready can = record {
   label = ready.label;
   plain = λ none note. note_plain i.kind i.pattern (kind_agrees i can none) none note;
   natural = can.natural;
-  passed = λ none reg has. handed i.uses reg (and_parts (all_pass rules.has_argument i.pattern) (list_all use_is_argument i.uses) (can.arguments none)).1 has;
+  passed = λ none reg has.
+      handed i.uses reg (and_parts (all_pass rules.has_argument i.pattern) (list_all use_is_argument i.uses) (can.arguments none)).1 has;
 }
 
 pub sound_placed : (f : Function) → IsSound f → ArePlaced f

@@ -1,6 +1,5 @@
 -- A function whose instructions are split behind reload has placed instructions still.
-use Rattle.std.proofs.Common.{◌≡◌, ⊎_elim, ℕ, ◌&&◌, if◌then◌else◌, Bool, true, false, List, [], Some, Ok, refl, sym, ap, subst, ◌∙◌}
-use Rattle.std.specs.Prelude.{slice_get}
+use Rattle.std.proofs.Common.{◌≡◌, ⊎_elim, ℕ, true, false, List, Ok, refl, sym, ap, subst, ◌∙◌}
 use Rattle.std.proofs.lemmas.Bool.{false≢true, true≢false, and_parts}
 use Rattle.rtx_tree.specs.declared.function.ArgUse.{ArgUse}
 use Rattle.rtx_tree.specs.declared.function.Function.{Function}
@@ -14,7 +13,6 @@ use Rattle.rtl_func.specs.Modes.{shapes_agree}
 use Rattle.rtl_step.specs.Step.{is_mark}
 use Rattle.reg_uses.specs.Uses.{has_argument}
 use Rattle.sym_insns.specs.Shape.{is_shaped, all_natural}
-use Rattle.rtl_chain.specs.Counts.{next_pseudo}
 use Rattle.md_forms.specs.declared.form.Entry.{Entry}
 use Rattle.md_forms.specs.Forms.{names_of}
 use Rattle.form_needs.specs.Needs.{is_kind, name_at}
@@ -25,7 +23,7 @@ use Rattle.pass_ready.proofs.Places.{all_at, at_place}
 use Rattle.split.specs.declared.stage.SplitStage.{SplitStage}
 use Rattle.split.specs.declared.stage.SplitStage.TheVariants.{AfterReload}
 use Rattle.split.specs.Left.{StandsIn}
-use Rattle.split.specs.Split.{IsSplit, SplitComes}
+use Rattle.split.specs.Split.{SplitComes}
 use Rattle.split.proofs.Insns.{In, made_for, replaced_shaped}
 use Rattle.split.proofs.Kept.{made_kind, parts_of}
 use Rattle.split.proofs.Left.{IsKept, kept}
@@ -44,7 +42,8 @@ handed _ _ uses passed = λ reg has. absurd (false≢true has)
 
 -- ---- an instruction that was made
 
-new_placed : (old : Insn) (uid : ℕ) (x : Rtx) → IsInsnPlaced old → is_mark (kind_of x) ≡ false → is_shaped (insn_for old uid x) ≡ true → IsInsnPlaced (insn_for old uid x)
+new_placed : (old : Insn) (uid : ℕ) (x : Rtx) → IsInsnPlaced old → is_mark (kind_of x) ≡ false →
+    is_shaped (insn_for old uid x) ≡ true → IsInsnPlaced (insn_for old uid x)
 new_placed old uid x is none shaped =
     let kinds = and_parts (kinds_agree (kind_of x) x) _ shaped in
     let shapes = and_parts (shapes_agree x) _ kinds.1 in record {
@@ -75,7 +74,8 @@ module _ (forms : List Entry) (stage : SplitStage) where
   placed_step : IsKept forms stage EachPlaced
   placed_step f g place i form sequence at is comes each j here = ⊎_elim
       (λ (old : StandsIn f j). each j old)
-      (λ (new : In (made f i sequence) j). made_placed f g place i (name_at (names_of forms) form) sequence j (each i (place, at)) comes new)
+      (λ (new : In (made f i sequence) j).
+      made_placed f g place i (name_at (names_of forms) form) sequence j (each i (place, at)) comes new)
       (parts_of forms stage f g place i (name_at (names_of forms) form) sequence j comes here)
 
   each_kept : (f g : Function) → EachPlaced f → SplitComes forms stage f (Ok g) → EachPlaced g

@@ -1,9 +1,10 @@
 -- A function whose instructions are placed is one for which lines can be written.
-use Rattle.std.proofs.Common.{◌≡◌, ◌⊎◌, inl, inr, ℕ, ◌+◌, ◌<◌, ◌^◌, ◌==◌, ◌&&◌, ◌||◌, not, Bool, true, false, List, [], ◌∷◌, Some, refl, sym, ap, subst, ◌∙◌, arith}
+use Rattle.std.proofs.Common.{◌≡◌, inl, inr, ℕ, ◌<◌, ◌^◌, ◌==◌, ◌&&◌, not, Bool, true, false, List}
+use Rattle.std.proofs.Common.{[], ◌∷◌, Some, refl, sym, ap, ◌∙◌, arith}
 use Rattle.std.specs.Int.{cast_unsigned, w64}
 use Rattle.std.specs.List.{All, list_all}
-use Rattle.std.specs.Prelude.{ℤ, pos, negsuc, nat_le, Option, None}
-use Rattle.std.proofs.lemmas.Bool.{false≢true, true≢false, false_from_ne_true, and_parts, and_right, or_from, leb-true}
+use Rattle.std.specs.Prelude.{ℤ, pos, negsuc}
+use Rattle.std.proofs.lemmas.Bool.{false≢true, true≢false, false_from_ne_true, and_parts, and_right, or_from}
 use Rattle.std.proofs.lemmas.Bool.Decides.{Decides-int_eq, nat_tests}
 use Rattle.std.proofs.lemmas.List.Elements.{All-nil, All-cons}
 use Rattle.rtx_tree.specs.Tree.{head_of, kids_of, is_reg_numbered}
@@ -14,13 +15,11 @@ use Rattle.rtx_tree.specs.declared.function.Insn.{Insn}
 use Rattle.rtx_tree.specs.declared.function.Kind.{Kind}
 use Rattle.rtx_tree.specs.declared.function.Kind.TheVariants as kind
 use Rattle.rtx_tree.specs.declared.tree.Rtx.{Rtx}
-use Rattle.rtl_func.specs.Calls.{is_argument}
-use Rattle.rtl_step.specs.Effect.{inner_number, register_by, register_of}
+use Rattle.rtl_step.specs.Effect.{inner_number, register_by}
 use Rattle.rtl_step.specs.Step.{is_mark}
-use Rattle.reg_uses.specs.Effects.{effects_by, effects_of, is_register, pattern_uses, place_is, place_is_by}
+use Rattle.reg_uses.specs.Effects.{effects_by, effects_of, is_register, pattern_uses, place_is_by}
 use Rattle.reg_uses.specs.Uses.{has_argument, insn_uses, insn_defines}
 use Rattle.sym_insns.specs.Shape.{is_natural, all_natural}
-use Rattle.window_mean.specs.Uses.{window_uses}
 use Rattle.window_same.specs.Items.{is_quiet}
 use Rattle.window_same.specs.Left.{IsNamed, IsSetNamed}
 use Rattle.form_needs.specs.Needs.{is_kind, is_label, is_note, is_silent, names_homeless, needs_form}
@@ -68,7 +67,8 @@ module _ (i : Insn) (is : IsInsnPlaced i) where
 
   used_none : (reg : ℕ) → 31 < reg → is_mark i.kind ≡ false → names_homeless i.pattern ≡ false → insn_uses i reg ≡ false
   used_none reg above none homes = or_from (pattern_uses reg i.pattern) (has_argument reg i.uses)
-      (false_from_ne_true (pattern_uses reg i.pattern) (λ used. false≢true (sym homes ∙ stands_homeless reg above i.pattern (used_stands reg i.pattern used))))
+      (false_from_ne_true (pattern_uses reg i.pattern)
+      (λ used. false≢true (sym homes ∙ stands_homeless reg above i.pattern (used_stands reg i.pattern used))))
       (false_from_ne_true (has_argument reg i.uses) (λ has. is_no_argument reg above (is.passed none reg has)))
 
   formed : needs_form i ≡ true → names_homeless i.pattern ≡ false → UsesHard i
@@ -92,15 +92,19 @@ numbered _ n reg natural is = absurd (let no : ⊥ = cc in no)
 above_zero : (reg : ℕ) → 0 < reg → not (reg == 0) ≡ true
 above_zero reg above = grind (arith, nat_tests, above)
 
-registered : (x : Rtx) (reg : ℕ) → all_natural x ≡ true → inner_number (head_of x).code (head_of x).number ≡ Some reg → 0 < reg → is_register reg x ≡ true
+registered : (x : Rtx) (reg : ℕ) → all_natural x ≡ true → inner_number (head_of x).code (head_of x).number ≡ Some reg → 0 < reg →
+    is_register reg x ≡ true
 registered x reg natural is above =
     ap (λ b. b && is_reg_numbered (head_of x).code (head_of x).number reg) (above_zero reg above) ∙
     numbered (head_of x).code (head_of x).number reg (natural_here x natural) is
 
-place_by : (c : Code) (x : Rtx) (kids : List Rtx) (reg : ℕ) → (head_of x).code ≡ c → all_natural x ≡ true → list_all all_natural kids ≡ true →
+place_by : (c : Code) (x : Rtx) (kids : List Rtx) (reg : ℕ) → (head_of x).code ≡ c → all_natural x ≡ true →
+    list_all all_natural kids ≡ true →
     register_by c (head_of x).number kids ≡ Some reg → 0 < reg → place_is_by reg c kids x ≡ true
-place_by code.Reg x kids reg code_is natural all is above = registered x reg natural (ap (λ c. inner_number c (head_of x).number) code_is ∙ is) above
-place_by code.Subreg x (inner ∷ []) reg code_is natural all is above = registered inner reg (and_parts (all_natural inner) true all).0 is above
+place_by code.Reg x kids reg code_is natural all is above =
+    registered x reg natural (ap (λ c. inner_number c (head_of x).number) code_is ∙ is) above
+place_by code.Subreg x (inner ∷ []) reg code_is natural all is above =
+    registered inner reg (and_parts (all_natural inner) true all).0 is above
 place_by code.Subreg x [] reg code_is natural all is above = absurd (let no : ⊥ = cc in no)
 place_by code.Subreg x (a ∷ b ∷ kids) reg code_is natural all is above = absurd (let no : ⊥ = cc in no)
 place_by _ x kids reg code_is natural all is above = absurd (let no : ⊥ = cc in no)
@@ -126,7 +130,8 @@ alone : (b : Bool) → b ≡ true → b && true ≡ true
 alone true is = refl
 alone false is = is
 
-effects_natural : (c : Code) (kids : List Rtx) (x : Rtx) → list_all all_natural kids ≡ true → all_natural x ≡ true → list_all all_natural (effects_by c kids x) ≡ true
+effects_natural : (c : Code) (kids : List Rtx) (x : Rtx) → list_all all_natural kids ≡ true → all_natural x ≡ true →
+    list_all all_natural (effects_by c kids x) ≡ true
 effects_natural code.Parallel kids x all natural = all
 effects_natural _ kids x all natural = alone (all_natural x) natural
 

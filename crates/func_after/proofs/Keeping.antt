@@ -86,15 +86,15 @@ module _ (forms : List Entry) (f : Function) (m : Made) (sound : IsSound f) (s :
   moved_placed : ArePlaced s.moved
   moved_placed = reload_placed forms s.homes layout s.plain s.moved s.are passes.sound windows
 
-  framed_placed : ArePlaced s.framed
-  framed_placed = frame_placed layout s.moved s.framed moved_placed (is_framed forms s.moved s.framed layout s.frames)
-
   frame_is : IsFrame s.plain s.homes layout
   frame_is = IsFrame-layout_of s.plain s.homes
 
   laid : IsLaidOut s.moved.locals layout
   laid = subst (λ (locals : ℕ). IsLaidOut locals layout) (sym (ap (λ (g : Function). g.locals) windows.function_is))
       (laid_out s.plain s.homes layout frame_is)
+
+  framed_placed : ArePlaced s.framed
+  framed_placed = frame_placed layout laid.preserved s.moved s.framed moved_placed (is_framed forms s.moved s.framed layout s.frames)
 
   keeps : KeepsInFrame s.moved layout s.framed
   keeps = frame_keeps forms s.moved s.framed layout laid (placed_registers s.moved moved_placed) s.frames

@@ -73,7 +73,7 @@ small_by forms f g layout _ is (FrameComes.framed h small framed matched) = smal
 -- ---- all
 
 module _ (forms : List Entry) (f : Function) (m : Made) (sound : IsSound f) (s : Stages forms f m) where
-  layout : Layout
+  abbrev layout : Layout
   layout = layout_of s.plain s.homes
 
   passes : PassKeeps f s.plain

@@ -40,12 +40,14 @@ use Rattle.moves_mean.proofs.Orderly.{SetsMemory}
 use Rattle.moves_mean.proofs.ResultRows.{Key, Row, Rows, none, more, IsKeyedRow, keyed_row}
 use Rattle.moves_mean.proofs.SoleRows.{sole_rows, none_other, pair_is}
 
--- memory that is no slot is changed nowhere else
-land_by : (slot memory other address : Bool) → (slot || (not memory || (not other && not address))) ≡ true → slot ≡ false → memory ≡ true → other ≡ false
-land_by true memory other address is no_slot has = absurd (let no : ⊥ = cc in no)
-land_by false false other address is no_slot has = absurd (let no : ⊥ = cc in no)
-land_by false true true address is no_slot has = absurd (let no : ⊥ = cc in no)
-land_by false true false address is no_slot has = refl
+-- where one lands in memory that is no slot, no other memory is changed, and no register of its address
+pub landed : (slot memory other address : Bool) → (slot || (not memory || (not other && not address))) ≡ true → slot ≡ false → memory ≡ true →
+    (other ≡ false) × (address ≡ false)
+landed true memory other address is no_slot has = absurd (let no : ⊥ = cc in no)
+landed false false other address is no_slot has = absurd (let no : ⊥ = cc in no)
+landed false true true address is no_slot has = absurd (let no : ⊥ = cc in no)
+landed false true false true is no_slot has = absurd (let no : ⊥ = cc in no)
+landed false true false false is no_slot has = (refl, refl)
 
 pub record MayEndHere (twice_before twice_after clobbered land : Bool) : Type 0 where
   pub before : twice_before ≡ false
@@ -114,8 +116,8 @@ module _ (homes : List HomeOf) (layout : Layout) (kind : Kind) (w pattern : Rtx)
       let there : (head_of r.x.tree).code ≡ code.Mem = ap (λ (x : Rtx). (head_of x).code) (r.tree_is ∙ homed_over homes layout r.t none) ∙
       ap (λ (h : RtxHead). h.code) (head_of-tree (head_of r.t) (map hm (kids_of r.t))) ∙ memory in
       let other_is : r.x.other_memory ≡ other_memory pattern w r.x.number = ap (λ (x : Operand). x.other_memory) o.operand_is in
-      sym other_is ∙ land_by r.x.in_slot (is_memory_code (head_of r.x.tree).code) r.x.other_memory r.x.changed_address
-      (ends_there q v e k row key).lands no_slot (ap is_memory_code there)
+      sym other_is ∙ (landed r.x.in_slot (is_memory_code (head_of r.x.tree).code) r.x.other_memory r.x.changed_address
+      (ends_there q v e k row key).lands no_slot (ap is_memory_code there)).0
 
   -- so each stands alone
   pub all_soles : (qs vs : List Rtx) (es : List Effect) → RowsOf qs vs es → ((n : ℕ) → other_memory pattern w n ≡ false → any_other_memory n qs vs ≡ false) → Soles qs vs

@@ -1,28 +1,26 @@
 -- The address of a result that has neither a base nor a far one: that of a slot is the same behind the effects of its instruction; and of one in other
 -- memory the instruction leaves the registers.
-use Rattle.std.proofs.Common.{◌≡◌, ◌≢◌, ◌⊎◌, inl, inr, ℕ, ◌&&◌, ◌||◌, not, if◌then◌else◌, Bool, true, false, List, [], ◌∷◌, map, Option, Some, None, refl, sym, ap, subst, ◌∙◌}
+use Rattle.std.proofs.Common.{◌≡◌, ◌≢◌, inl, inr, ℕ, ◌&&◌, ◌||◌, not, if◌then◌else◌, Bool, true, false, List, [], ◌∷◌, map, Option, Some, None, refl, sym, ap, subst, ◌∙◌}
 use Rattle.std.proofs.lemmas.Bool.{and_parts}
 use Rattle.std.specs.FinMap.{get}
 use Rattle.std.specs.Int.{int_wrap, w64}
 use Rattle.std.specs.List.{filter_map, list_all, list_any}
 use Rattle.std.specs.Option.{option_map_or}
 use Rattle.std.specs.Ordering.{int_eq}
-use Rattle.std.specs.Prelude.{ℤ, pos, is_some, slice_get, option_map, option_and_then}
+use Rattle.std.specs.Prelude.{ℤ, pos, is_some, option_map, option_and_then}
 use Rattle.bits64.specs.declared.Width.TheVariants.{W64}
 use Rattle.rtx_tree.specs.Code.{class_of_code}
 use Rattle.rtx_tree.specs.Operands.{operand_at}
-use Rattle.rtx_tree.specs.Tree.{RtxHead, head_of, kids_of, mentions_reg, node_of, reg_of, const_of}
+use Rattle.rtx_tree.specs.Tree.{head_of, kids_of, mentions_reg, node_of, reg_of, const_of}
 use Rattle.rtx_tree.specs.declared.code.Code.{Code}
 use Rattle.rtx_tree.specs.declared.code.Code.TheVariants as code
-use Rattle.rtx_tree.specs.declared.code.Mode.{Mode}
 use Rattle.rtx_tree.specs.declared.code.Mode.TheVariants.{DI}
 use Rattle.rtx_tree.specs.declared.function.Kind.{Kind}
 use Rattle.rtx_tree.specs.declared.machine.SymbolAt.{SymbolAt}
 use Rattle.rtx_tree.specs.declared.memories.MemByte.{MemByte}
 use Rattle.rtx_tree.specs.declared.tree.Rtx.{Rtx, out-roll-Rtx}
 use Rattle.rtx_tree.specs.declared.tree.Rtx.TheOpen.{Rtx-F}
-use Rattle.rtx_tree.proofs.Trees.{head_of-tree, kids_of-tree}
-use Rattle.rtl_step.specs.Effect.{address_part, address_of, effect_of, effects_by, effects_of, one_effect, all_effects, regs_after}
+use Rattle.rtl_step.specs.Effect.{address_part, address_of, effect_of, effects_by, effects_of, one_effect}
 use Rattle.rtl_step.specs.Regs.{Regs}
 use Rattle.rtl_step.specs.Value.{value_of}
 use Rattle.rtl_step.specs.declared.effect.Effect.{Effect}
@@ -34,7 +32,6 @@ use Rattle.assign.specs.declared.home.Home.{Home}
 use Rattle.assign.specs.declared.home.Home.TheVariants.{Hard, Slot}
 use Rattle.assign.specs.declared.home.HomeOf.{HomeOf}
 use Rattle.assign.specs.declared.places.Layout.{Layout}
-use Rattle.reload_homes.specs.FrameRefs.{from_sp}
 use Rattle.reload_homes.specs.Homes.{home_of, homed, place_by, register_at, slot_address, slot_offset}
 use Rattle.reload_homes.proofs.Rewrites.{homed_register, homed_over}
 use Rattle.reload_operands.specs.Bases.{is_slot, in_slot, lives_in_slot}
@@ -49,7 +46,7 @@ use Rattle.reload_choice.specs.Sound.{IsPart, IsSoundPlan}
 use Rattle.reload_choice.specs.declared.given.Plan.{Plan}
 use Rattle.homes_mean.proofs.Becoming.{place_code}
 use Rattle.moves_mean.specs.Spare.{NamesNoSpare, KnowsRest}
-use Rattle.moves_mean.proofs.AllSoles.{end_parts}
+use Rattle.moves_mean.proofs.AllSoles.{landed, end_parts}
 use Rattle.moves_mean.proofs.Chosen.{given}
 use Rattle.moves_mean.proofs.ElementTurns.{memory_code_of}
 use Rattle.moves_mean.proofs.LeftRegisters.{AreOnHard, lists_leave}
@@ -59,6 +56,7 @@ use Rattle.moves_mean.proofs.OnRegister.{IsOperand}
 use Rattle.moves_mean.proofs.ResultsEnd.{Among, AllAmong, Reached}
 use Rattle.moves_mean.proofs.RowsThere.{alone_front}
 use Rattle.moves_mean.proofs.SmallTrees.{in_sp}
+use Rattle.moves_mean.proofs.SoleRows.{none_other}
 use Rattle.moves_mean.proofs.SteadyAddress.{Leaves, AllLeave, all_leave, IsSteady, no_memory_class, is_no_memory, steady}
 use Rattle.moves_mean.proofs.Touches.{one_kid}
 use Rattle.moves_mean.proofs.WholeTurns.{is_parallel}
@@ -127,19 +125,6 @@ is_slot_home (Hard h) is = absurd (let no : ⊥ = cc in no)
 slot_register : (homes : List HomeOf) (o : Option ℕ) → option_map_or (lives_in_slot homes) o false ≡ true → (reg : ℕ) × ((o ≡ Some reg) × (home_of homes reg ≡ Slot))
 slot_register homes None is = absurd (let no : ⊥ = cc in no)
 slot_register homes (Some reg) is = (reg, (refl, is_slot_home (home_of homes reg) is))
-
--- what lands in memory that is no slot changes neither other memory nor its address
-landed : (slot memory other address : Bool) → (slot || (not memory || (not other && not address))) ≡ true → slot ≡ false → memory ≡ true →
-    (other ≡ false) × (address ≡ false)
-landed true memory other address is no_slot has = absurd (let no : ⊥ = cc in no)
-landed false false other address is no_slot has = absurd (let no : ⊥ = cc in no)
-landed false true true address is no_slot has = absurd (let no : ⊥ = cc in no)
-landed false true false true is no_slot has = absurd (let no : ⊥ = cc in no)
-landed false true false false is no_slot has = (refl, refl)
-
-neither : (a b : Bool) → a || b ≡ false → (a ≡ false) × (b ≡ false)
-neither true b is = absurd (let no : ⊥ = cc in no)
-neither false b is = (refl, is)
 
 address_alike : (c : Code) (kids : List Rtx) → changes.address_by c kids ≡ address_part c kids
 address_alike code.Mem [] = refl
@@ -229,7 +214,7 @@ module _ (homes : List HomeOf) (layout : Layout) (kind : Kind) (w pattern : Rtx)
       let t = memory_was was a (register_at was) refl (sym slot_is ∙ no_slot) (ap address_of (sym tree) ∙ is) in
       let memory : (head_of x.tree).code ≡ code.Mem = memory_code_of (head_of x.tree).code (kids_of x.tree) a is in
       let land = landed x.in_slot (is_memory_code (head_of x.tree).code) x.other_memory x.changed_address lands no_slot (ap is_memory_code memory) in
-      let none = neither _ _ (sym changed ∙ land.1) in
+      let none = none_other _ _ (sym changed ∙ land.1) in
       let there : changes.address_of (hm was) ≡ Some a = address_alike (head_of (hm was)).code (kids_of (hm was)) ∙ ap address_of (sym tree) ∙ is in
       let before : changes.address_of was ≡ Some t.1.0 = ap (λ c. changes.address_by c (kids_of was)) t.0 ∙ ap (changes.address_by code.Mem) t.1.1.0 in record {
         was = was;

@@ -4,7 +4,7 @@ use Rattle.std.proofs.lemmas.Bool.{and_parts, or_left, or_right}
 use Rattle.std.specs.Int.{int_wrap, w64}
 use Rattle.std.specs.List.{AllByRecursion, list_all, list_any}
 use Rattle.std.specs.Ordering.{int_eq}
-use Rattle.std.specs.Prelude.{ℤ, pos, ◌+ℤ◌, slice_get, option_map, option_and_then}
+use Rattle.std.specs.Prelude.{ℤ, pos, ◌+ℤ◌, slice_get}
 use Rattle.bits64.specs.declared.Width.{Width}
 use Rattle.bits64.specs.declared.Width.TheVariants.{W64}
 use Rattle.rtx_tree.specs.Tree.{RtxHead, head_of, kids_of, node_of, reg_of, const_of, mentions_reg}
@@ -28,7 +28,7 @@ use Rattle.reload_homes.specs.FrameRefs.{sp_plus, frame_offset, framed}
 use Rattle.reload_homes.proofs.Rewrites.{framed_reference, framed_over}
 use Rattle.homes_mean.specs.Placed.{all_sized}
 use Rattle.homes_mean.proofs.Becoming.{positive_test}
-use Rattle.homes_mean.proofs.Setting.{Setting, IsNamed, named_of, IsCounted, home_least}
+use Rattle.homes_mean.proofs.Setting.{Setting, named_of, IsCounted, home_least}
 use Rattle.homes_mean.proofs.Trees.{sized_kids, mentions_kid}
 use Rattle.moves_mean.proofs.GivenSteady.{other_list, other_effects}
 use Rattle.moves_mean.proofs.Nodes.{all_pass, within}

@@ -114,7 +114,7 @@ one_through e [] es all among = absurd among
 one_through e (d ∷ ds) es all (inl same) = subst (λ e. Among e es) (sym same) all.0
 one_through e (d ∷ ds) es all (inr more) = one_through e ds es all.1 more
 
-all_through : (cs ds es : List Effect) → AllAmong ds es → AllAmong cs ds → AllAmong cs es
+pub all_through : (cs ds es : List Effect) → AllAmong ds es → AllAmong cs ds → AllAmong cs es
 all_through [] ds es all among = tt
 all_through (e ∷ cs) ds es all among = (one_through e ds es all among.0, all_through cs ds es all among.1)
 

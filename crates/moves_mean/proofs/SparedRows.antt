@@ -1,6 +1,6 @@
 -- Where a result that is moved ends in other memory, the effects of its instruction besides its own store in slots alone, and in none of a register
 -- that stands in its address, or in nothing.
-use Rattle.std.proofs.Common.{◌≡◌, ◌≢◌, ◌⊎◌, inl, inr, ℕ, ◌+◌, eqb, ◌&&◌, ◌||◌, if◌then◌else◌, Bool, true, false, List, [], ◌∷◌, map, Option, Some, None, refl, sym, ap, subst, ◌∙◌, arith}
+use Rattle.std.proofs.Common.{◌≡◌, ◌≢◌, ℕ, ◌+◌, eqb, ◌&&◌, if◌then◌else◌, Bool, true, false, List, ◌∷◌, map, Option, Some, None, refl, sym, ap, ◌∙◌, arith}
 use Rattle.std.proofs.lemmas.Bool.Decides.{nat_tests}
 use Rattle.std.specs.List.{cons_option, filter_map, list_any}
 use Rattle.bits64.specs.declared.Width.TheVariants.{W64}
@@ -28,24 +28,17 @@ use Rattle.moves_mean.proofs.Keying.{with_keys}
 use Rattle.moves_mean.proofs.Orderly.{SetsMemory}
 use Rattle.moves_mean.proofs.ResultRows.{Key, Row, Rows, none, more}
 use Rattle.moves_mean.proofs.ResultsEnd.{is_key, besides}
+use Rattle.moves_mean.proofs.SoleRows.{none_other}
 use Rattle.moves_mean.proofs.StillSlots.{Spares, AllSpare}
 use Rattle.moves_mean.proofs.Touches.{Touch, idle, sets, unsets, slot, other, touch}
 
 first_none : (test : ℕ → Bool) (r : ℕ) (o : Option ℕ) (rs : List ℕ) → o ≡ Some r → list_any test (cons_option o rs) ≡ false → test r ≡ false
-first_none test r None rs is none = absurd (let no : ⊥ = cc in no)
-first_none test r (Some q) rs is none = let same : q ≡ r = cc in ap test (sym same) ∙ by (test q) none
-  where
-    by : (b : Bool) → b || list_any test rs ≡ false → b ≡ false
-    by true is = absurd (let no : ⊥ = cc in no)
-    by false is = refl
+first_none test r None rs is nothing = absurd (let no : ⊥ = cc in no)
+first_none test r (Some q) rs is nothing = let same : q ≡ r = cc in ap test (sym same) ∙ (none_other (test q) (list_any test rs) nothing).0
 
 rest_none : (test : ℕ → Bool) (o : Option ℕ) (rs : List ℕ) → list_any test (cons_option o rs) ≡ false → list_any test rs ≡ false
-rest_none test None rs none = none
-rest_none test (Some q) rs none = by (test q) none
-  where
-    by : (b : Bool) → b || list_any test rs ≡ false → list_any test rs ≡ false
-    by true is = absurd (let no : ⊥ = cc in no)
-    by false is = is
+rest_none test None rs nothing = nothing
+rest_none test (Some q) rs nothing = (none_other (test q) (list_any test rs) nothing).1
 
 second_none : (a b : Bool) → a && b ≡ false → a ≡ true → b ≡ false
 second_none true b is first = is
@@ -73,13 +66,13 @@ module _ (homes : List HomeOf) (layout : Layout) (kind : Kind) (w pattern : Rtx)
 
   one_spares : (b q v : Rtx) (e : Effect) → RowOf q v e → (SetsMemory v → ⊥) → ((reg : ℕ) → changed_register v ≡ Some reg → in_address b reg ≡ false) →
       Spares homes layout sp b e
-  one_spares b q v e row alone none = by e (touch homes layout symbols regs m sp slot_is v e row.shaped row.natural row.does)
+  one_spares b q v e row alone nothing = by e (touch homes layout symbols regs m sp slot_is v e row.shaped row.natural row.does)
     where
       by : (e : Effect) → Touch homes layout symbols regs m sp slot_is v e → Spares homes layout sp b e
       by _ idle = tt
       by _ (sets reg h known before after) = tt
       by _ (unsets reg h before after) = tt
-      by _ (slot reg value width before changed home) = (reg, (home, (second_none (lives_in_slot homes reg) (mentions_reg reg b) (none reg changed) (ap is_slot home), refl)))
+      by _ (slot reg value width before changed home) = (reg, (home, (second_none (lives_in_slot homes reg) (mentions_reg reg b) (nothing reg changed) (ap is_slot home), refl)))
       by _ (other t s width at value is are memory) = absurd (alone (record { target = t; source = s; is_set = is; are = are; memory = memory }))
 
   not_key : (k : ℕ) (key : Option ℕ) → is_key k key ≡ false → key ≡ Some k → ⊥

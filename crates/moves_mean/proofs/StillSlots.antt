@@ -1,5 +1,5 @@
 -- Behind stores into slots of registers that do not stand in a tree, memory of the function is as it was, and so are the slots of registers that do.
-use Rattle.std.proofs.Common.{◌≡◌, ◌≢◌, ◌⊎◌, ⊎_elim, inl, inr, ℕ, ◌+◌, ◌<◌, ◌≤◌, Bool, true, false, List, [], ◌∷◌, Some, refl, sym, ap, subst, ◌∙◌, arith}
+use Rattle.std.proofs.Common.{◌≡◌, ◌≢◌, ◌⊎◌, ⊎_elim, inl, inr, ℕ, ◌+◌, ◌<◌, ◌≤◌, true, false, List, [], ◌∷◌, refl, sym, ap, subst, ◌∙◌, arith}
 use Rattle.std.proofs.lemmas.Bool.{false≢true}
 use Rattle.std.specs.Prelude.{is_some}
 use Rattle.bits64.specs.Words.{bytes_of}
@@ -8,7 +8,7 @@ use Rattle.rtx_tree.specs.Memories.{byte_at}
 use Rattle.rtx_tree.specs.Tree.{mentions_reg}
 use Rattle.rtx_tree.specs.declared.memories.MemByte.{MemByte}
 use Rattle.rtx_tree.specs.declared.tree.Rtx.{Rtx}
-use Rattle.run_memory.specs.RunMemory.{load, with_number}
+use Rattle.run_memory.specs.RunMemory.{load}
 use Rattle.run_memory.proofs.Laws.{Apart, byte_at-with_number_other, load-stored_other, has-load_stored}
 use Rattle.rtl_step.specs.Effect.{bytes_after, memory_after}
 use Rattle.rtl_step.specs.declared.effect.Effect.{Effect}

@@ -39,19 +39,18 @@ use Rattle.homes_mean.proofs.Tamed.{plain_tame}
 use Rattle.moves_mean.specs.Spare.{KnowsRest, NamesNoSpare}
 use Rattle.moves_mean.proofs.Chosen.{given}
 use Rattle.moves_mean.proofs.GivenNews.{result_at}
-use Rattle.moves_mean.proofs.GivenSteady.{elsewhere, slot_there, address_quiet, some_leave}
+use Rattle.moves_mean.proofs.GivenSteady.{IsElsewhere, elsewhere, slot_there, address_quiet, some_leave}
 use Rattle.moves_mean.proofs.Keyed.{effects_in, last_of}
 use Rattle.moves_mean.proofs.Keying.{with_keys}
 use Rattle.moves_mean.proofs.LeftRegisters.{AreOnHard}
 use Rattle.moves_mean.proofs.Nodes.{all_pass, within}
 use Rattle.moves_mean.proofs.OldAddresses.{HasOld, IsBack, AllBack, insn_back}
 use Rattle.moves_mean.proofs.OnRegister.{IsOperand}
-use Rattle.moves_mean.proofs.Orderly.{SetsMemory}
 use Rattle.moves_mean.proofs.OwnHeld.{none_last}
 use Rattle.moves_mean.proofs.PlainGiven.{all_hard, effect, slots_are_apart, slot_value, w_effect}
 use Rattle.moves_mean.proofs.Registers.{value_alike}
 use Rattle.moves_mean.proofs.Reloaded.{IsReloaded, w, x, w_natural, x_natural, shaped_nodes, stands_at}
-use Rattle.moves_mean.proofs.ResultRows.{Key, Row, Rows, none, more, keyed_row}
+use Rattle.moves_mean.proofs.ResultRows.{Key, Row, Rows, none, more, IsKeyedRow, keyed_row}
 use Rattle.moves_mean.proofs.ResultsEnd.{Among, AllAmong, besides, besides_among, all_through, Reached, reached_all}
 use Rattle.moves_mean.proofs.ResultsHeld.{IsLast, last_cases}
 use Rattle.moves_mean.proofs.ResultsOrderly.{placed_keys}
@@ -205,50 +204,87 @@ module _ (c : Setting) (place : ℕ) (i : Insn) (at : slice_get c.f.insns place 
       among_all = subst (AllAmong reached.made) all (all_through reached.made (besides p.place (with_keys keys d.these)) (effects_in (with_keys keys d.these))
           (besides_among p.place (with_keys keys d.these)) reached.among)
 
-      -- in other memory
-      rows_late : keys ≡ map KeyOf (inputs.effects_of pattern) → Rows' → o.in_slot ≡ false → Late
-      rows_late same rows no_slot =
-          let xn = x_natural c place i at pattern found plan is in
-          let there = elsewhere c.homes c.layout i.kind W pattern found plan is.sound c.world.symbols u.regs u.memory d.these xn d.is hard.0 hard.1 j p o a part result no_base no_slot is_a in
-          let back = insn_back c place i at s es (effect c place i at pattern found plan is s u stands) (shaped_nodes c place i at pattern found plan is) does in
-          let b = back_row (inputs.effects_of pattern) (inputs.effects_of W) d.these rows.rows back p.place last.effect
-          (ap (λ keys. last_of (with_keys keys d.these) p.place) (sym same) ∙ last.is) in
-          let row = keyed_row c.homes c.layout i.kind W pattern found plan is.sound c.world.symbols u.regs u.memory b.q b.v last.effect p.place b.row b.key in
+      -- ---- in other memory
+
+      abbrev There : Type 0
+      There = IsElsewhere c.homes c.layout i.kind W pattern found plan is.sound c.world.symbols u.regs u.memory d.these
+          (x_natural c place i at pattern found plan is) d.is hard.0 hard.1 o a
+
+      abbrev KeyedRow : Rtx → Type 0
+      KeyedRow v = IsKeyedRow c.homes c.layout i.kind W pattern found plan is.sound c.world.symbols u.regs u.memory v last.effect p.place
+
+      row_here : keys ≡ map KeyOf (inputs.effects_of pattern) → Rows' → BackRow p.place last.effect
+      row_here same rows = back_row (inputs.effects_of pattern) (inputs.effects_of W) d.these rows.rows
+          (insn_back c place i at s es (effect c place i at pattern found plan is s u stands) (shaped_nodes c place i at pattern found plan is) does) p.place last.effect
+          (ap (λ keys. last_of (with_keys keys d.these) p.place) (sym same) ∙ last.is)
+
+      keyed_here : (b : BackRow p.place last.effect) → KeyedRow b.v
+      keyed_here b = keyed_row c.homes c.layout i.kind W pattern found plan is.sound c.world.symbols u.regs u.memory b.q b.v last.effect p.place b.row b.key
+
+      operand_is : (v : Rtx) (row : KeyedRow v) → row.x ≡ o
+      operand_is v row =
           let part_here : slice_get plan.parts p.place ≡ Some p = ap (slice_get plan.parts) (is.sound.in_order j p part.stands) ∙ part.stands in
           let p_is : row.p ≡ p = (let both : Some row.p ≡ Some p = sym row.part.stands ∙ part_here in cc) in
-          let o_is : row.x ≡ o = (let both : Some row.x ≡ Some o = sym row.part.of ∙
-          ap (λ (p : Part). slice_get (given c.homes c.layout i.kind W pattern found plan).operands p.place) p_is ∙ part.of in cc) in
-          let t_is : row.t ≡ there.was = (let both : Some row.t ≡ Some there.was = sym row.found_is ∙ ap (λ (o : Operand). operand_at found o.number) o_is ∙ there.found_is in cc) in
-          let memory : (head_of row.t).code ≡ code.Mem = ap (λ t. (head_of t).code) t_is ∙ there.memory in
-          let old = b.back row.t row.s there.address row.is_set row.are memory (ap kids_of t_is ∙ there.kid) in
-          let sets : SetsMemory b.v = record { target = row.t; source = row.s; is_set = row.is_set; are = row.are; memory = memory } in
-          let sole = sole_rows c.homes c.layout i.kind W pattern found plan is.sound c.world.symbols u.regs u.memory (base c)
-          (slot_value c place i at pattern found plan is s u stands) (slots_are_apart c) is.operators b.v o.number p.place
+          (let both : Some row.x ≡ Some o = sym row.part.of ∙
+          ap (λ (p : Part). slice_get (given c.homes c.layout i.kind W pattern found plan).operands p.place) p_is ∙ part.of in cc)
+
+      target_is : (there : There) (v : Rtx) (row : KeyedRow v) → row.t ≡ there.was
+      target_is there v row =
+          let both : Some row.t ≡ Some there.was = sym row.found_is ∙ ap (λ (o : Operand). operand_at found o.number) (operand_is v row) ∙ there.found_is in cc
+
+      memory_is : (there : There) (v : Rtx) (row : KeyedRow v) → (head_of row.t).code ≡ code.Mem
+      memory_is there v row = ap (λ t. (head_of t).code) (target_is there v row) ∙ there.memory
+
+      old_here : (there : There) (b : BackRow p.place last.effect) → KeyedRow b.v → HasOld c place i at s there.address
+      old_here there b row = b.back row.t row.s there.address row.is_set row.are (memory_is there b.v row) (ap kids_of (target_is there b.v row) ∙ there.kid)
+
+      first_shaped : (v t : Rtx) (rest : List Rtx) → kids_of v ≡ t ∷ rest → all_pass is_shaped v ≡ true → all_pass is_shaped t ≡ true
+      first_shaped v t rest are shaped = (and_parts (all_pass is_shaped t) _ (ap (list_all (all_pass is_shaped)) (sym are) ∙ within is_shaped v shaped)).0
+
+      shaped_here : (there : There) (b : BackRow p.place last.effect) → KeyedRow b.v → all_pass is_shaped there.address ≡ true
+      shaped_here there b row = first_shaped there.was there.address [] there.kid (ap (all_pass is_shaped) (sym (target_is there b.v row)) ∙
+          first_shaped b.v row.t (row.s ∷ []) row.are b.row.shaped)
+
+      spare_here : keys ≡ map KeyOf (inputs.effects_of pattern) → Rows' → (there : There) (v : Rtx) → KeyedRow v →
+          AllSpare c.homes c.layout (base c) there.address (besides p.place (with_keys keys d.these))
+      spare_here same rows there v row =
+          subst (λ keys. AllSpare c.homes c.layout (base c) there.address (besides p.place (with_keys keys d.these))) (sym same)
+          (rows_spare c.homes c.layout i.kind W pattern found plan is.sound c.world.symbols u.regs u.memory (base c)
+          (slot_value c place i at pattern found plan is s u stands) (slots_are_apart c) there.address v p.place
+          (inputs.effects_of pattern) (inputs.effects_of W) d.these rows.rows
+          (record { target = row.t; source = row.s; is_set = row.is_set; are = row.are; memory = memory_is there v row })
+          (sole_rows c.homes c.layout i.kind W pattern found plan is.sound c.world.symbols u.regs u.memory (base c)
+          (slot_value c place i at pattern found plan is s u stands) (slots_are_apart c) is.operators v o.number p.place
           (inputs.effects_of pattern) (inputs.effects_of W) d.these rows.rows (λ sets. there.alone)
           (is.operators p.place o part.of (is.sound.operator j p o part (and_parts p.is_moved p.needs.is_output result).0))
-          (ap (λ (o : Operand). result_at c.homes c.layout i.kind W pattern found plan (pos o.number)) (sym o_is) ∙ row.at) in
-          let spare = rows_spare c.homes c.layout i.kind W pattern found plan is.sound c.world.symbols u.regs u.memory (base c)
-          (slot_value c place i at pattern found plan is s u stands) (slots_are_apart c) there.address b.v p.place
-          (inputs.effects_of pattern) (inputs.effects_of W) d.these rows.rows sets sole there.slots in
-          let left : (q : ℕ) → mentions_reg q (hm there.address) ≡ true → AllLeave q reached.made = λ q has.
-          some_leave q reached.made d.these among_all (there.left q (ap (mentions_reg q) (sym there.homed_is) ∙ has)) in
-          let shaped = address_shaped there.was there.address there.kid (ap (all_pass is_shaped) (sym t_is) ∙
-          target_shaped b.v row.t (row.s ∷ []) row.are b.row.shaped) in
-          let late = late_is there.address old reached.made
-          (some_spare there.address reached.made (besides p.place (with_keys keys d.these)) reached.among
-          (subst (λ keys. AllSpare c.homes c.layout (base c) there.address (besides p.place (with_keys keys d.these))) (sym same) spare)) left
-          (some_leave 2 reached.made d.these among_all hard.1) (λ q has. address_quiet o a good is_a q (ap (mentions_reg q) (sym there.homed_is) ∙ has)) shaped r
-          (subst (λ r0. KnowsRest r0 r) reached.regs_are knows) in
-          let now : old.value ≡ at_a = (let both : Some old.value ≡ Some at_a = sym (now_is there.address old) ∙
-          ap (λ a. value_of c.world.symbols u.regs u.memory a W64) there.homed_is ∙ value in cc) in
-          ap (λ a. value_of c.world.symbols r n a W64) (sym there.homed_is) ∙
-          ap (λ n. value_of c.world.symbols r n (hm there.address) W64) reached.memory_is ∙ late ∙ ap Some now
-        where
-          target_shaped : (v t : Rtx) (rest : List Rtx) → kids_of v ≡ t ∷ rest → all_pass is_shaped v ≡ true → all_pass is_shaped t ≡ true
-          target_shaped v t rest are shaped = (and_parts (all_pass is_shaped t) _ (ap (list_all (all_pass is_shaped)) (sym are) ∙ within is_shaped v shaped)).0
+          (ap (λ (o : Operand). result_at c.homes c.layout i.kind W pattern found plan (pos o.number)) (sym (operand_is v row)) ∙ row.at))
+          there.slots)
 
-          address_shaped : (t b : Rtx) → kids_of t ≡ b ∷ [] → all_pass is_shaped t ≡ true → all_pass is_shaped b ≡ true
-          address_shaped t b kid shaped = target_shaped t b [] kid shaped
+      homed_left : (there : There) (q : ℕ) → mentions_reg q (hm there.address) ≡ true → AllLeave q reached.made
+      homed_left there q has = some_leave q reached.made d.these among_all (there.left q (ap (mentions_reg q) (sym there.homed_is) ∙ has))
+
+      homed_quiet : (there : There) → NamesNoSpare (hm there.address)
+      homed_quiet there q has = address_quiet o a good is_a q (ap (mentions_reg q) (sym there.homed_is) ∙ has)
+
+      value_here : (there : There) (old : HasOld c place i at s there.address) → old.value ≡ at_a
+      value_here there old =
+          let both : Some old.value ≡ Some at_a = sym (now_is there.address old) ∙ ap (λ a. value_of c.world.symbols u.regs u.memory a W64) there.homed_is ∙ value in cc
+
+      elsewhere_late : (there : There) (old : HasOld c place i at s there.address) → all_pass is_shaped there.address ≡ true →
+          AllSpare c.homes c.layout (base c) there.address (besides p.place (with_keys keys d.these)) → Late
+      elsewhere_late there old shaped spare =
+          ap (λ a. value_of c.world.symbols r n a W64) (sym there.homed_is) ∙
+          ap (λ n. value_of c.world.symbols r n (hm there.address) W64) reached.memory_is ∙
+          late_is there.address old reached.made
+          (some_spare there.address reached.made (besides p.place (with_keys keys d.these)) reached.among spare) (homed_left there)
+          (some_leave 2 reached.made d.these among_all hard.1) (homed_quiet there) shaped r (subst (λ r0. KnowsRest r0 r) reached.regs_are knows) ∙
+          ap Some (value_here there old)
+
+      rows_late : keys ≡ map KeyOf (inputs.effects_of pattern) → Rows' → There → Late
+      rows_late same rows there =
+          let b = row_here same rows in
+          let row = keyed_here b in
+          elsewhere_late there (old_here there b row) (shaped_here there b row) (spare_here same rows there b.v row)
 
       none_late : AllNone keys → Late
       none_late nothing = absurd (none_last keys d.these p.place last.effect nothing last.is)
@@ -268,7 +304,9 @@ module _ (c : Setting) (place : ℕ) (i : Insn) (at : slice_get c.f.insns place 
           by_role no_slot (inr nothing) role role_is = none_late nothing
           by_role no_slot (inl same) Itself role_is = rows_late same
               (all_rows c.homes c.layout i.kind W pattern found plan is.sound c.world.symbols u.regs u.memory d.these role_is H.made
-              (w_effect c place i at pattern found plan is s u stands) H.shaped (w_natural c place i at pattern found plan is) d.is) no_slot
+              (w_effect c place i at pattern found plan is s u stands) H.shaped (w_natural c place i at pattern found plan is) d.is)
+              (elsewhere c.homes c.layout i.kind W pattern found plan is.sound c.world.symbols u.regs u.memory d.these
+              (x_natural c place i at pattern found plan is) d.is hard.0 hard.1 j p o a part result no_base no_slot is_a)
           by_role no_slot (inl same) Placed role_is = placed same (λ e. let no' : Placed ≡ Itself = sym role_is ∙ e in let no : ⊥ = cc in no)
           by_role no_slot (inl same) Operator role_is = placed same (λ e. let no' : Operator ≡ Itself = sym role_is ∙ e in let no : ⊥ = cc in no)
 

@@ -82,7 +82,12 @@ fn split_again(alloc: Global, desc: &Description, m: Made) -> Result<Made, Refus
 }
 
 /// What a pass makes of what was made.
-pub(crate) fn passed(alloc: Global, desc: &Description, m: Made, pass: Pass) -> Result<Made, Refusal>
+pub(crate) fn passed(
+    alloc: Global,
+    desc: &Description,
+    m: Made,
+    pass: Pass,
+) -> Result<Made, Refusal>
     ensures { Gives result (PassComes desc.now m pass) }
 {
     match pass {

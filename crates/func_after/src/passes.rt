@@ -46,12 +46,7 @@ fn passes_up_to(pass: Pass) -> &'static [Pass]
 /// As the passes tell them: `Unmatched`, `Unsatisfied`, `NotEquated`, and `Limit` of `TermSize`, `SplitDepth` or `Frame`; `Memory` where
 /// memory ran out.
 #[tactic(auto, using(crate::proofs::PassesLaws::makes_start, crate::proofs::PassesLaws::makes_on, crate::proofs::PassesLaws::makes_wrong, crate::proofs::PassesLaws::makes_all))]
-pub fn behind(
-    alloc: Global,
-    desc: &Description,
-    f: &Function,
-    pass: Pass,
-) -> Result<Made, Refusal>
+pub fn behind(alloc: Global, desc: &Description, f: &Function, pass: Pass) -> Result<Made, Refusal>
     ensures { Gives result (IsBehind desc.now f.now pass) }
 {
     let mut made = as_read(alloc, f)?;

@@ -188,11 +188,13 @@ module _ (c : Setting) (place : ℕ) (i : Insn) (at : slice_get c.f.insns place 
         let there : (head_of (fr i.pattern)).code ≢ code.Parallel = λ e. other (sym (ap (λ (h : RtxHead). h.code) f.0) ∙ e) in
         let a = alone_front (effect_of c.world.symbols s.regs s.memory i.pattern) es (sym (other_effects c.world.symbols s.regs s.memory (head_of i.pattern).code i.pattern refl other) ∙ does) in
         let elements = other_uses (head_of i.pattern).code i.pattern refl other in
-        subst AllBack (sym (other_list (head_of (fr i.pattern)).code (fr i.pattern) refl there))
-        (one_back i.pattern a.0 (record {
-          sized_too = c.can.sized place i at;
-          shaped_too = shaped;
-          mentioned = λ reg has. has;
-          used = λ reg has. ap (list_any (effect_uses reg)) elements ∙ or_left (effect_uses reg i.pattern) false has;
-        }) a.1.1, tt)
+        subst AllBack (sym (other_list (head_of (fr i.pattern)).code (fr i.pattern) refl there)) (
+          one_back i.pattern a.0 (record {
+            sized_too = c.can.sized place i at;
+            shaped_too = shaped;
+            mentioned = λ reg has. has;
+            used = λ reg has. ap (list_any (effect_uses reg)) elements ∙ or_left (effect_uses reg i.pattern) false has;
+          }) a.1.1,
+          tt,
+        )
   ]

@@ -292,5 +292,8 @@ items_are_same_where_left number f items marks named are =
     (keeping number f marks named items start world)
     (λ reg kept unset. agrees_at_entry frame size start reg (kept_hard reg kept).below) n
     (good_runs number f marks items frame size start world Keep Ends n
-    (λ last same. ((defined, left), sym same ∙
-    false_from_ne_true (ends_past world f n (func.entry_of (seen_by_rtl frame size start))) returns)))
+    (λ last same. (
+      (defined, left),
+      sym same ∙
+          false_from_ne_true (ends_past world f n (func.entry_of (seen_by_rtl frame size start))) returns,
+    )))

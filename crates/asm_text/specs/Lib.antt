@@ -1,3 +1,4 @@
+pub mod Summary
 pub mod Assembly
 pub mod Compile
 pub mod Lines

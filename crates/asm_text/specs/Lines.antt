@@ -4,13 +4,15 @@ use Rattle.std.specs.Prelude.{◌<◌, ◌^◌, ℕ, ◌+◌, List, [], ◌∷�
 use Rattle.rtx_tree.specs.declared.function.Function.{Function}
 use Rattle.md_forms.specs.declared.form.Entry.{Entry}
 use Rattle.func_after.specs.After.{AfterComes}
+use Rattle.func_after.specs.declared.made.Made.{Made}
 use Rattle.asm_out.specs.declared.piece.Piece.{Piece}
 use Rattle.asm_out.specs.Written.{IsWritten}
 use Rattle.asm_text.specs.declared.assembly.Assembly.{Assembly}
 use Rattle.asm_text.specs.Assembly.{nothing, alone, joined}
 
--- each function, in order and numbered, has its text and its items: those of the function with a return where its end is reached
+-- each function, in order and numbered, has its text and its items, those of what the passes made of it, and is counted in the summary
 pub data IsAssembly (forms : List Entry) : ℕ → List Function → Assembly → Type 0 where
   none : (number : ℕ) → IsAssembly forms number [] nothing
-  function : (number : ℕ) (f g : Function) (functions : List Function) (piece : Piece) (rest : Assembly) → number < 2 ^ 32 → AfterComes forms f (Ok g) → IsWritten forms number g piece →
-      IsAssembly forms (number + 1) functions rest → IsAssembly forms number (f ∷ functions) (joined (alone piece) rest)
+  function : (number : ℕ) (f : Function) (m : Made) (functions : List Function) (piece : Piece) (rest : Assembly) → number < 2 ^ 32 →
+      AfterComes forms f (Ok m) → IsWritten forms number m.function piece → IsAssembly forms (number + 1) functions rest →
+      IsAssembly forms number (f ∷ functions) (joined (alone f m piece) rest)

@@ -4,10 +4,11 @@ ghost use Rattle.func_input.specs.machine.Steps.{IsOrMemory};
 ghost use Rattle.asm_text.specs.Assembly as spec;
 ghost use Rattle.asm_text.specs.Assembly.{FunctionComes, AssemblyComes};
 ghost use Rattle.asm_text.specs.Compile.{Gives};
-ghost use Rattle.asm_text.specs.machine.Steps.{AppendsPiece, WrittenComes};
+ghost use Rattle.asm_text.specs.machine.Steps.{AppendsAssembly, WrittenComes};
 
+use crate::summary::{Summary, empty, plus, summary_of};
 use asm_out::{OutRefusal, write_function};
-use func_after::after;
+use func_after::{Made, after};
 use func_input::next_number;
 use md_desc::Description;
 use plain_data::Items;
@@ -29,6 +30,8 @@ pub struct Assembly {
     pub text: Name,
     /// The lines and labels that the parts of the text spell, in the order of the functions.
     pub parts: Parts,
+    /// What was compiled, in numbers.
+    pub summary: Summary,
 }
 
 /// The refusal of the run for that of a function at output.
@@ -64,25 +67,31 @@ fn refused_for(alloc: Global, function: &Name, refusal: OutRefusal) -> Refusal
     }
 }
 
-/// Appends the text and the items of a function as it comes to output, by the name of the function.
+/// Appends the text and the items of what the passes made of a function with a number, and gives the summary of both.
 fn write_after(
     alloc: Global,
     description: &Description,
     number: u32,
     f: &Function,
+    made: &Made,
     text: &mut Vec<u8>,
     parts: &mut Parts,
-) -> Result<(), Refusal>
-    ensures { AppendsPiece text.old.items text.new.items parts.old parts.new result (WrittenComes description.now number (length text.old.items) f.now) }
+) -> Result<Summary, Refusal>
+    ensures { AppendsAssembly text.old.items text.new.items parts.old parts.new result
+        (WrittenComes description.now number (length text.old.items) f.now made.now) }
 {
     let mut items = Vec::new(alloc);
-    match write_function(alloc, description, number, f, text, &mut items) {
-        Ok(()) => Ok(parts.push(Items::from_vec(items))?),
+    match write_function(alloc, description, number, &made.function, text, &mut items) {
+        Ok(()) => {
+            let summary = summary_of(f, made, &items);
+            parts.push(Items::from_vec(items))?;
+            Ok(summary)
+        }
         Err(e) => Err(refused_for(alloc, &f.name, e)),
     }
 }
 
-/// Appends the text and the items of a function with a number.
+/// Appends the text and the items of a function with a number, and gives its summary.
 fn write_next(
     alloc: Global,
     description: &Description,
@@ -90,11 +99,12 @@ fn write_next(
     f: &Function,
     text: &mut Vec<u8>,
     parts: &mut Parts,
-) -> Result<(), Refusal>
-    ensures { AppendsPiece text.old.items text.new.items parts.old parts.new result (FunctionComes description.now number (length text.old.items) f.now) }
+) -> Result<Summary, Refusal>
+    ensures { AppendsAssembly text.old.items text.new.items parts.old parts.new result
+        (FunctionComes description.now number (length text.old.items) f.now) }
 {
-    let after = after(alloc, description, f)?;
-    write_after(alloc, description, number, &after.function, text, parts)
+    let made = after(alloc, description, f)?;
+    write_after(alloc, description, number, f, &made, text, parts)
 }
 
 /// The assembly of some functions, in order, each with its number from 0 on.
@@ -107,13 +117,16 @@ pub(crate) fn assemble(
 {
     let mut text = Vec::new(alloc);
     let mut parts = Items::new(alloc);
+    let mut summary = empty();
     let mut number: u32 = 0;
     for f in functions {
-        write_next(alloc, description, number, f, &mut text, &mut parts)?;
+        let one = write_next(alloc, description, number, f, &mut text, &mut parts)?;
+        summary = plus(summary, one)?;
         number = next_number(number)?;
     }
     Ok(Assembly {
         text: Name::from_vec(text),
         parts,
+        summary,
     })
 }

@@ -67,8 +67,8 @@ fn name_comes(
 ///
 /// # Errors
 ///
-/// `Usage` where no function has the name; `Syntax`, `Limit`, `Construct`, `IllFormed`, `Unmatched`, `NotEquated`, or `Memory` where memory
-/// ran out.
+/// `Usage` where no function has the name; `Syntax`, `Limit`, `Construct`, `IllFormed`, `Unmatched`, `Unsatisfied`, `NotEquated`, or
+/// `Memory` as [`compile`] says.
 pub fn code_of(
     alloc: Global,
     description: &Description,

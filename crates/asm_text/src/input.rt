@@ -17,11 +17,12 @@ use run_refusal::Refusal;
 use std::alloc::Global;
 
 /// The assembly of functions by a description, or what refuses one of them: a rule that it breaks or a limit that it passes, which are looked
-/// at for all functions first; or in a function an instruction that no form matches, and then one for which no lines are written.
+/// at for all functions first; or in a function what a pass refuses, and then an instruction for which no lines are written.
 ///
 /// # Errors
 ///
-/// `IllFormed`, `Limit`, `Unmatched`, `NotEquated`, or `Memory` where memory ran out.
+/// `IllFormed`, `Limit`, `Unmatched`, `Unsatisfied`, `NotEquated`, or `Memory` where memory ran out, or a sum of the summary is 2^64 or
+/// more.
 pub fn compile(
     alloc: Global,
     description: &Description,
@@ -43,7 +44,7 @@ pub fn compile(
 ///
 /// # Errors
 ///
-/// `Syntax`, `Limit`, `Construct`, `IllFormed`, `Unmatched`, `NotEquated`, or `Memory` where memory ran out.
+/// `Syntax`, `Limit`, `Construct`, `IllFormed`, `Unmatched`, `Unsatisfied`, `NotEquated`, or `Memory` as [`compile`] says.
 pub fn assembly_of(
     alloc: Global,
     description: &Description,

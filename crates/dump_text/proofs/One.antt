@@ -6,13 +6,13 @@ use Rattle.rtl_print.specs.Canonical.{printed_function}
 use Rattle.pass_name.specs.declared.pass.Pass.{Pass}
 use Rattle.func_input.specs.Outcome.{Outcome}
 use Rattle.func_after.specs.After.{Answer, IsBehind}
-use Rattle.func_after.proofs.OneAfter.{behind_one}
+use Rattle.func_after.proofs.OneAfter.{one_behind}
 use Rattle.func_after.proofs.Each.{one_each}
 use Rattle.dump_text.specs.Dump.{FunctionComes, FunctionsCome}
 
 -- what is told of an answer
 abbrev told : Answer → Outcome
-told (Ok g) = Ok (printed_function g)
+told (Ok m) = Ok (printed_function m.function)
 told (Err e) = Err e
 
 -- an outcome is told of an answer
@@ -23,13 +23,13 @@ record Tells (forms : List Entry) (pass : Pass) (f : Function) (o : Outcome) : T
 
 tells : (forms : List Entry) (pass : Pass) (f : Function) (o : Outcome) → FunctionComes forms pass f o → Tells forms pass f o
 tells forms pass f _ (FunctionComes.refused e after) = record { answer = Err e; is_after = after; is_told = refl }
-tells forms pass f _ (FunctionComes.printed g after) = record { answer = Ok g; is_after = after; is_told = refl }
+tells forms pass f _ (FunctionComes.printed m after) = record { answer = Ok m; is_after = after; is_told = refl }
 
 function_one : (forms : List Entry) (pass : Pass) (f : Function) (a b : Outcome) → FunctionComes forms pass f a → FunctionComes forms pass f b → a ≡ b
 function_one forms pass f a b m n =
     let one = tells forms pass f a m in
     let other = tells forms pass f b n in
-    one.is_told ∙ ap told (behind_one forms f pass one.answer other.answer one.is_after other.is_after) ∙ sym other.is_told
+    one.is_told ∙ ap told (one_behind forms f pass one.answer other.answer one.is_after other.is_after) ∙ sym other.is_told
 
 pub functions_one : (forms : List Entry) (pass : Pass) (fs : List Function) (a b : Outcome) → FunctionsCome forms pass fs a → FunctionsCome forms pass fs b → a ≡ b
 functions_one forms pass fs a b m n = one_each (FunctionComes forms pass) (function_one forms pass) fs a b m n

@@ -9,11 +9,12 @@ use Rattle.pass_name.specs.declared.pass.Pass.{Pass}
 use Rattle.func_input.specs.Outcome.{Outcome}
 use Rattle.func_after.specs.Each.{EachComes}
 use Rattle.func_after.specs.After.{IsBehind}
+use Rattle.func_after.specs.declared.made.Made.{Made}
 
 -- a function: what refuses it on the way to the pass, or its text behind it
 pub data FunctionComes (forms : List Entry) (pass : Pass) (f : Function) : Outcome → Type 0 where
   refused : (e : Refusal) → IsBehind forms f pass (Err e) → FunctionComes forms pass f (Err e)
-  printed : (g : Function) → IsBehind forms f pass (Ok g) → FunctionComes forms pass f (Ok (printed_function g))
+  printed : (m : Made) → IsBehind forms f pass (Ok m) → FunctionComes forms pass f (Ok (printed_function m.function))
 
 -- some functions, one behind the other
 abbrev pub FunctionsCome : List Entry → Pass → List Function → Outcome → Type 0

@@ -81,8 +81,8 @@ fn dump_read(
 ///
 /// # Errors
 ///
-/// `Syntax`, `Limit`, `Construct`, `IllFormed`; as the passes up to that one tell them, `Unmatched`, `NotEquated` and `Limit`; `Memory` where
-/// memory ran out.
+/// `Syntax`, `Limit`, `Construct`, `IllFormed`; as the passes up to that one tell them, `Unmatched`, `Unsatisfied`, `NotEquated` and
+/// `Limit`; `Memory` where memory ran out.
 pub fn dump_of(
     alloc: Global,
     desc: &Description,

@@ -12,6 +12,7 @@ use Rattle.form_needs.proofs.OneChosen.{both, chosen_one, chosen_not}
 use Rattle.func_input.specs.Outcome.{Outcome}
 use Rattle.func_after.specs.Each.{EachComes}
 use Rattle.func_after.specs.After.{Answer, AfterComes}
+use Rattle.func_after.specs.declared.made.Made.{Made}
 use Rattle.func_after.proofs.Each.{one_each}
 use Rattle.func_after.proofs.OneAfter.{one_after}
 use Rattle.recog_text.specs.Recog.{line_of, OutputComes, FunctionComes, FunctionsCome}
@@ -44,21 +45,23 @@ module _ (es : List Entry) (function : List ℕ) (i : Insn) where
 -- ---- functions
 
 module _ (es : List Entry) where
-  not_both : {P : Type 0} (f : Function) (e : Refusal) (g : Function) → AfterComes es f (Err e) → AfterComes es f (Ok g) → P
-  not_both f e g wrong after = absurd (let same : ◌≡◌ {A = Answer} (Err e) (Ok g) = one_after es f (Err e) (Ok g) wrong after in let never : ⊥ = cc in never)
+  not_both : {P : Type 0} (f : Function) (e : Refusal) (m : Made) → AfterComes es f (Err e) → AfterComes es f (Ok m) → P
+  not_both f e m wrong after =
+      absurd (let same : ◌≡◌ {A = Answer} (Err e) (Ok m) = one_after es f (Err e) (Ok m) wrong after in let never : ⊥ = cc in never)
 
   same_err : (e d : Refusal) → ◌≡◌ {A = Answer} (Err e) (Err d) → ◌≡◌ {A = Outcome} (Err e) (Err d)
   same_err e d is = ap (λ (x : Refusal). Err x) (let same : e ≡ d = cc in same)
 
-  same_chain : (g h : Function) → ◌≡◌ {A = Answer} (Ok g) (Ok h) → g.insns ≡ h.insns
-  same_chain g h is = ap (λ (k : Function). k.insns) (let same : g ≡ h = cc in same)
+  same_chain : (m n : Made) → ◌≡◌ {A = Answer} (Ok m) (Ok n) → m.function.insns ≡ n.function.insns
+  same_chain m n is = ap (λ (k : Made). k.function.insns) (let same : m ≡ n = cc in same)
 
   function_one : (f : Function) (a b : Outcome) → FunctionComes es f a → FunctionComes es f b → a ≡ b
   function_one f _ _ (FunctionComes.refused e after) (FunctionComes.refused d after') = same_err e d (one_after es f (Err e) (Err d) after after')
-  function_one f _ _ (FunctionComes.refused e after) (FunctionComes.printed g b after' out') = not_both f e g after after'
-  function_one f _ _ (FunctionComes.printed g a after out) (FunctionComes.refused d after') = not_both f d g after' after
-  function_one f _ _ (FunctionComes.printed g a after out) (FunctionComes.printed h b after' out') =
-      one_each (OutputComes es f.name) (output_one es f.name) h.insns a b (subst (λ x. EachComes (OutputComes es f.name) x a) (same_chain g h (one_after es f (Ok g) (Ok h) after after')) out) out'
+  function_one f _ _ (FunctionComes.refused e after) (FunctionComes.printed m b after' out') = not_both f e m after after'
+  function_one f _ _ (FunctionComes.printed m a after out) (FunctionComes.refused d after') = not_both f d m after' after
+  function_one f _ _ (FunctionComes.printed m a after out) (FunctionComes.printed n b after' out') =
+      one_each (OutputComes es f.name) (output_one es f.name) n.function.insns a b
+      (subst (λ x. EachComes (OutputComes es f.name) x a) (same_chain m n (one_after es f (Ok m) (Ok n) after after')) out) out'
 
   pub functions_one : (fs : List Function) (a b : Outcome) → FunctionsCome es fs a → FunctionsCome es fs b → a ≡ b
   functions_one fs a b m n = one_each (FunctionComes es) function_one fs a b m n

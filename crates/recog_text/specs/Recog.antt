@@ -14,6 +14,7 @@ use Rattle.form_needs.specs.Needs.{needs_form, is_held, output_facts, name_at}
 use Rattle.func_input.specs.Outcome.{Outcome}
 use Rattle.func_after.specs.Each.{EachComes}
 use Rattle.func_after.specs.After.{unmatched_at, AfterComes}
+use Rattle.func_after.specs.declared.made.Made.{Made}
 
 -- ---- lines
 
@@ -32,10 +33,11 @@ pub data OutputComes (forms : List Entry) (function : List ℕ) (i : Insn) : Out
 
 -- ---- what functions come to
 
--- a function: the first instruction of the finished chain that lower refuses, or else what all come to at output
+-- a function: what a pass refuses, or else what all instructions come to that the passes make of it
 pub data FunctionComes (forms : List Entry) (f : Function) : Outcome → Type 0 where
   refused : (e : Refusal) → AfterComes forms f (Err e) → FunctionComes forms f (Err e)
-  printed : (g : Function) (outcome : Outcome) → AfterComes forms f (Ok g) → EachComes (OutputComes forms f.name) g.insns outcome → FunctionComes forms f outcome
+  printed : (m : Made) (outcome : Outcome) → AfterComes forms f (Ok m) → EachComes (OutputComes forms f.name) m.function.insns outcome →
+      FunctionComes forms f outcome
 
 -- some functions, one behind the other
 abbrev pub FunctionsCome : List Entry → List Function → Outcome → Type 0

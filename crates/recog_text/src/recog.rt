@@ -29,15 +29,8 @@ fn print_function(
     requires { names.now ≡ names_of desc.now }
     ensures { AppendedSome out.old.items out.new.items result (FunctionComes desc.now f.now) }
 {
-    let after = after(alloc, desc, f)?;
-    print_insns(
-        alloc,
-        desc,
-        names,
-        &f.name,
-        after.function.insns.as_slice(),
-        out,
-    )
+    let made = after(alloc, desc, f)?;
+    print_insns(alloc, desc, names, &f.name, made.function.insns.as_slice(), out)
 }
 
 /// Appends the lines of some functions.
@@ -76,14 +69,14 @@ fn recog_read(alloc: Global, desc: &Description, functions: &[Function]) -> Resu
     recog_text(alloc, desc, functions)
 }
 
-/// The lines of the instructions of an input, by a description, or what refuses it: bytes that are no text, a tree outside the language, a
-/// function that breaks a rule or passes a limit, or an instruction without a match, in this order. An input has at most 16,777,216
-/// bytes.
+/// The lines of the instructions of an input as they come to output, by a description, or what refuses it: bytes that are no text, a tree
+/// outside the language, a function that breaks a rule or passes a limit, or in a function what a pass refuses and then an instruction
+/// without a match, in this order. An input has at most 16,777,216 bytes.
 ///
 /// # Errors
 ///
-/// `Syntax`, `Limit`, `Construct`, `IllFormed`; `Unmatched` at `lower` where no form matches an instruction, and at `output` where none of those
-/// that match counts; `Memory` where memory ran out.
+/// `Syntax`, `Limit`, `Construct`, `IllFormed`; as the passes tell them, `Unmatched`, `Unsatisfied`, `NotEquated` and `Limit`; `Unmatched`
+/// at `output` where no form that matches an instruction counts; `Memory` where memory ran out.
 pub fn recog_of(alloc: Global, desc: &Description, bytes: &[u8]) -> Result<Vec<u8>, Refusal>
     requires { length bytes.now ≤ most_bytes }
     ensures gives { Gives result (InputComesTo (FunctionsCome desc.now) bytes.now) }

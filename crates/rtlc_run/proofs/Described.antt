@@ -2,11 +2,15 @@
 use Rattle.std.proofs.Common.{◌≡◌, ℕ, ◌≤◌, List, Result, Ok, Err, Option, Some, None, refl, sym, ap, subst, ◌∙◌, arith}
 use Rattle.std.specs.Prelude.{IfSome, IfOk, IsSome}
 use Rattle.std.specs.Io.KnownBytes.{Appends}
+use Rattle.rtx_tree.specs.declared.limit.Limit.TheVariants as limit
 use Rattle.run_refusal.specs.declared.refusal.Refusal.{Refusal}
+use Rattle.run_refusal.specs.declared.refusal.Refusal.TheVariants as refusal
 use Rattle.md_source.specs.Source.{Source}
 use Rattle.md_source.specs.Asked.{IsKnown}
 use Rattle.md_forms.specs.declared.form.Entry.{Entry}
-use Rattle.md_named.specs.Named.{FormsCome}
+use Rattle.md_iter.specs.Definition.{all_constants_in}
+use Rattle.tree_forms.specs.Trees.{expanded, forms_of}
+use Rattle.md_named.specs.Named.{source_refused, FormsCome}
 use Rattle.md_named.proofs.Forms.{one_answer as one_forms}
 use Rattle.func_input.specs.Outcome.{Outcome}
 use Rattle.func_input.proofs.Inputs.{input_reached}
@@ -21,14 +25,14 @@ use Rattle.asm_text.specs.declared.code.Coded.{Coded}
 use Rattle.asm_text.specs.Assembly as assembly
 use Rattle.asm_text.specs.Assembly.{AssemblyComes}
 use Rattle.asm_text.specs.Compile.{TextComes, text_told}
-use Rattle.asm_text.specs.Same.{frame_size}
-use Rattle.asm_text.specs.Code.{CodeComes}
+use Rattle.asm_text.specs.Code.{CodeComes, IsCoded}
 use Rattle.asm_text.proofs.OneAssembly.{one_coming_of}
 use Rattle.asm_text.proofs.Laws.{is_assembly}
+use Rattle.func_after.specs.Leads.{IsDescribed}
 use Rattle.asm_same.proofs.Same.{input_does_same, coded_is_same}
 use Rattle.asm_text.proofs.CodeLaws.{one_code, code_coded}
 use Rattle.code_eval.specs.Start.{stack_room}
-use Rattle.code_eval.specs.Eval.{eval_text, IsFair}
+use Rattle.code_eval.specs.Eval.{eval_text, IsFair, ComesToSame}
 use Rattle.code_eval.proofs.Lawful.{agree}
 use Rattle.rtlc_run.specs.Answer.{evaluated, EvalComes, RecogComes, DumpComes, ByForms}
 use Rattle.rtlc_run.specs.Written.{WritesLines, WritesSame, WritesOutcomes, WritesForms, WritesDump}
@@ -119,13 +123,35 @@ writes_lines known (Some bytes) old new name text comes appends =
     let r = input_reached (AssemblyComes by.forms) bytes told.0 by.own.0 told.1 by.own.1 in
     (by.forms, by.come, r.functions, r.input, told.0, is_assembly by.forms r.functions told.0 (subst (AssemblyComes by.forms r.functions) told.1 r.own), subst (Appends old new) (sym told.2) appends)
 
-pub writes_same : (known : Source) (left old new : Option (List ℕ)) (name : List ℕ) → WritesLines known name left old new → WritesSame left old new
-writes_same known None old new name h = tt
-writes_same known (Some bytes) old new name h = (h.2, h.3, h.4.text, input_does_same h.0 bytes h.2 h.4 h.3 h.5, h.6)
+-- the forms that a description comes to are those of its constants and its instances
+described_is : (known : Source) (name : List ℕ) (given : Given) (forms : List Entry) → given ≡ Ok forms → FormsCome known name given →
+    IsDescribed forms
+described_is known name _ forms is (FormsCome.refused e comes) = absurd (not_both forms (source_refused e) (sym is))
+described_is known name _ forms is (FormsCome.too_many trees comes many) =
+    absurd (not_both forms (refusal.Limit limit.Forms 20001) (sym is))
+described_is known name _ forms is (FormsCome.described trees comes few) =
+    (all_constants_in trees, expanded trees, sym (same_ok (forms_of trees) forms is))
 
--- a frame fits in the stack where the locals do
-room_fits : (locals : ℕ) → locals ≤ stack_room → frame_size locals ≤ stack_room
-room_fits locals holds = omega (arith, holds)
+is_described : (known : Source) (name : List ℕ) (forms : List Entry) → FormsCome known name (Ok forms) → IsDescribed forms
+is_described known name forms come = described_is known name (Ok forms) forms refl come
+
+pub writes_same : (known : Source) (left old new : Option (List ℕ)) (name : List ℕ) → WritesLines known name left old new →
+    WritesSame known name left old new
+writes_same known None old new name h = tt
+writes_same known (Some bytes) old new name h =
+    (h.0, h.1, h.2, h.3, h.4.text, input_does_same h.0 bytes h.2 h.4 (is_described known name h.0 h.1) h.3 h.5, h.6)
+
+-- the code of a function, tried fairly, comes to the same: its frame fits in the stack, and so do its locals
+comes_to_same : (forms : List Entry) (bytes name : List ℕ) (c : Coded) (steps : ℕ) (args : List ℕ) → IsDescribed forms →
+    IsCoded forms bytes name c →
+    IsFair c.function steps args → ComesToSame c.function c.items steps args
+comes_to_same forms bytes name c steps args described coded fair =
+    let made = coded_is_same forms bytes name c described coded in
+    let small = made.2 in
+    let holds = made.3 in
+    let fits : made.0.layout.size ≤ stack_room = omega (arith, small) in
+    let room : c.function.locals ≤ stack_room = omega (arith, small, holds) in
+    agree c.function c.items steps args fair made.0.layout.size made.4 fits room
 
 told_outcomes : (known : Source) (bytes name function : List ℕ) (steps : ℕ) (args text : List ℕ) (old new : Option (List ℕ)) (forms : List Entry) (r : Result Coded Refusal) → FormsCome known name (Ok forms) → CodeComes forms bytes function r →
     Ok text ≡ evaluated steps args r → IfOk r (λ c. IsFair c.function steps args) → Appends old new text → WritesOutcomes known name (Some bytes) function steps args old new
@@ -134,10 +160,7 @@ told_outcomes known bytes name function steps args text old new forms (Ok c) com
   come,
   c,
   coded,
-  record {
-    fair = fair;
-    same = λ holds. agree c.function c.items steps args fair (frame_size c.function.locals) (coded_is_same forms bytes function c coded) (room_fits c.function.locals holds) holds;
-  },
+  record { fair = fair; same = comes_to_same forms bytes function c steps args (is_described known name forms come) coded fair },
   subst (Appends old new) (let same : text ≡ eval_text c.function c.items steps args = cc in same) appends,
 )
 told_outcomes known bytes name function steps args text old new forms (Err e) come comes is fair appends = cc

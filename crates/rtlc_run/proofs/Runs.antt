@@ -22,7 +22,6 @@ use Rattle.rtlc_words.specs.declared.command.Command.TheVariants as commands
 use Rattle.rtlc_words.specs.Words.{command_of}
 use Rattle.rtlc_run.specs.Answer.{described, list_told, evaluated, EvalComes, RecogComes, DumpComes, ByForms, CommandComes, Answers, IsKnownFor, Writes, IsAnswered, status_of_answer}
 use Rattle.rtlc_run.specs.Written.{WritesLines, WritesSame, WritesOutcomes, WritesList, WritesForms, WritesDump, IsDone, Completes, CompletesFor, CompletesBy, CompletesDump}
-use Rattle.rtlc_run.proofs.Commands.{nothing_known}
 use Rattle.rtlc_run.proofs.Described as described_by
 use Rattle.rtlc_run.proofs.Described.{one_text, one_recog, one_dump, one_trial, by_known}
 
@@ -132,8 +131,11 @@ one_answer words known input _ _ enough (Answers.spoken c o is comes) (Answers.s
 pub writes_lines : (words : List (List ℕ)) (known : Source) (input old new : Option (List ℕ)) (name : Option (List ℕ)) → command_of words ≡ Some (commands.Asm name) → Writes words known input old new → WritesLines known (described name) input old new
 writes_lines words known input old new name is h = described_by.writes_lines known input old new (described name) h.0 (asm_answer words known input name (Ok h.0) is h.1) h.2
 
-pub writes_same : (words : List (List ℕ)) (input old new : Option (List ℕ)) (name : Option (List ℕ)) → command_of words ≡ Some (commands.Asm name) → Writes words nothing_known input old new → WritesSame input old new
-writes_same words input old new name is h = described_by.writes_same nothing_known input old new (described name) (writes_lines words nothing_known input old new name is h)
+pub writes_same : (words : List (List ℕ)) (known : Source) (input old new : Option (List ℕ)) (name : Option (List ℕ)) →
+    command_of words ≡ Some (commands.Asm name) →
+    Writes words known input old new → WritesSame known (described name) input old new
+writes_same words known input old new name is h =
+    described_by.writes_same known input old new (described name) (writes_lines words known input old new name is h)
 
 pub writes_outcomes : (words : List (List ℕ)) (known : Source) (input old new : Option (List ℕ)) (name : Option (List ℕ)) (function : List ℕ) (steps : ℕ) (args : List ℕ) → command_of words ≡ Some (commands.Eval name function steps args) →
     Writes words known input old new → WritesOutcomes known (described name) input function steps args old new

@@ -1,5 +1,5 @@
 -- What a run has written, said of the input and of the description.
-use Rattle.std.specs.Prelude.{◌≡◌, ◌⊎◌, ◌≤◌, ℕ, true, List, Ok, IfSome}
+use Rattle.std.specs.Prelude.{◌≡◌, ◌⊎◌, ℕ, true, List, Ok, IfSome}
 use Rattle.std.specs.declared.option.Option.{Option}
 use Rattle.std.specs.Io.KnownBytes.{Appends}
 use Rattle.rtx_tree.specs.declared.function.Function.{Function}
@@ -17,7 +17,6 @@ use Rattle.asm_text.specs.Lines.{IsAssembly}
 use Rattle.asm_text.specs.Same.{DoesSame}
 use Rattle.asm_text.specs.Code.{IsCoded, has_named}
 use Rattle.asm_text.specs.declared.code.Coded.{Coded}
-use Rattle.code_eval.specs.Start.{stack_room}
 use Rattle.code_eval.specs.Eval.{eval_text, IsFair, ComesToSame}
 
 -- the assembly of the input by a description was written, and nothing else
@@ -25,15 +24,16 @@ abbrev pub WritesLines : Source → List ℕ → Option (List ℕ) → Option (L
 WritesLines files name input old new =
     IfSome input (λ bytes. (forms : List Entry) × FormsCome files name (Ok forms) × (functions : List Function) × IsInput bytes functions × (a : Assembly) × IsAssembly forms 0 functions a × Appends old new a.text)
 
--- and it does what the functions of the input do
-abbrev pub WritesSame : Option (List ℕ) → Option (List ℕ) → Option (List ℕ) → Type 0
-WritesSame input old new = IfSome input (λ bytes. (functions : List Function) × IsInput bytes functions × (text : List ℕ) × DoesSame functions text × Appends old new text)
+-- and it does what the functions of the input do, each in the frame that it has by the description
+abbrev pub WritesSame : Source → List ℕ → Option (List ℕ) → Option (List ℕ) → Option (List ℕ) → Type 0
+WritesSame files name input old new =
+    IfSome input (λ bytes. (forms : List Entry) × FormsCome files name (Ok forms) × (functions : List Function) × IsInput bytes functions ×
+    (text : List ℕ) × DoesSame forms functions text × Appends old new text)
 
--- The trial of a function and its code is fair, and where the locals fit in the stack and the function's outcome has a value, its lines
--- and labels come to the same one.
+-- The trial of a function and its code is fair, and where the function's outcome has a value, its lines and labels come to the same one.
 pub record IsTried (c : Coded) (steps : ℕ) (args : List ℕ) : Type 0 where
   pub fair : IsFair c.function steps args
-  pub same : c.function.locals ≤ stack_room → ComesToSame c.function c.items steps args
+  pub same : ComesToSame c.function c.items steps args
 
 -- the outcomes of the function of the input with a name, and of the lines and labels that its part of the assembly by a description spells, were
 -- written, and nothing else

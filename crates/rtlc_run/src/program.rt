@@ -419,9 +419,11 @@ pub fn run<F: Files, S: Source, K: Sink, E: Sink>(
         ¬ Rose (S.fault_count input.old) (S.fault_count input.new) →
         ¬ Rose (K.fault_count output.old) (K.fault_count output.new) → Completes known (spec.described name) (S.left input.old) result }
 
-    // What the text of status 0 does: the lines that it spells for each function do what the function does, whatever the description.
-    ensures behaves { (name : Option (List ℕ)) → spoken.command_of (words_of words.now) ≡ Some (commands.Asm name) → result ≡ 0 →
-        WritesSame (S.left input.old) (K.taken output.old) (K.taken output.new) }
+    // What the text of status 0 does: the lines that it spells for each function do what the function does, whatever the description,
+    // where there is room for the frame that the function has by it.
+    ensures behaves { (known : Known) → Agrees known (F.holds files.old) → (name : Option (List ℕ)) →
+        spoken.command_of (words_of words.now) ≡ Some (commands.Asm name) → result ≡ 0 →
+        WritesSame known (spec.described name) (S.left input.old) (K.taken output.old) (K.taken output.new) }
 
     // And they are the only ones: of each text there is one list of lines and labels that it spells, and the text of some functions is cut
     // into their parts in one way.

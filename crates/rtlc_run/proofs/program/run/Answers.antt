@@ -6,7 +6,6 @@ use Rattle.rv_text.proofs.SpelledOnce.{spells_one}
 use Rattle.asm_text.proofs.Parts.{one_cut}
 use Rattle.rtlc_words.specs.Words.{words_of}
 use Rattle.rtlc_run.proofs.Answered.{answered_err, err_of, told_cause, read_status, read_told}
-use Rattle.rtlc_run.proofs.Commands.{nothing_known, nothing_agrees}
 use Rattle.rtlc_run.proofs.Runs.{one_answer, writes_lines, writes_same, writes_outcomes, writes_list, writes_forms_of, writes_dump_of, completes, tried, listed, recognised, dumped}
 use Rattle.rtlc_run.proofs.Statuses.{status_is}
 use Rattle.rtlc_run.proofs.program.run.Goals as goal
@@ -43,8 +42,9 @@ returns-in-Ok-clause-lines g c = λ known agrees name is zero.
     writes_lines (words_of c.args.words.now) known (g.S.Source.left c.args.input.now) (g.K.Sink.taken c.args.output.now) (g.K.Sink.taken c.attempt.new.output) name is (c.in-Ok.ensures.done known agrees)
 
 pub returns-in-Ok-clause-behaves : goal.returns-in-Ok-clause-behaves
-returns-in-Ok-clause-behaves g c = λ name is zero.
-    writes_same (words_of c.args.words.now) (g.S.Source.left c.args.input.now) (g.K.Sink.taken c.args.output.now) (g.K.Sink.taken c.attempt.new.output) name is (c.in-Ok.ensures.done nothing_known (nothing_agrees (g.F.Files.holds c.args.files.now)))
+returns-in-Ok-clause-behaves g c = λ known agrees name is zero.
+    writes_same (words_of c.args.words.now) known (g.S.Source.left c.args.input.now) (g.K.Sink.taken c.args.output.now)
+    (g.K.Sink.taken c.attempt.new.output) name is (c.in-Ok.ensures.done known agrees)
 
 pub returns-in-Ok-clause-evaluates : goal.returns-in-Ok-clause-evaluates
 returns-in-Ok-clause-evaluates g c = λ known agrees name function steps args is zero.

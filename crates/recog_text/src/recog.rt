@@ -30,7 +30,14 @@ fn print_function(
     ensures { AppendedSome out.old.items out.new.items result (FunctionComes desc.now f.now) }
 {
     let made = after(alloc, desc, f)?;
-    print_insns(alloc, desc, names, &f.name, made.function.insns.as_slice(), out)
+    print_insns(
+        alloc,
+        desc,
+        names,
+        &f.name,
+        made.function.insns.as_slice(),
+        out,
+    )
 }
 
 /// Appends the lines of some functions.

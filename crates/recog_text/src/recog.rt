@@ -30,14 +30,8 @@ fn print_function(
     ensures { AppendedSome out.old.items out.new.items result (FunctionComes desc.now f.now) }
 {
     let made = after(alloc, desc, f)?;
-    print_insns(
-        alloc,
-        desc,
-        names,
-        &f.name,
-        made.function.insns.as_slice(),
-        out,
-    )
+    let insns = made.function.insns.as_slice();
+    print_insns(alloc, desc, names, &f.name, insns, out)
 }
 
 /// Appends the lines of some functions.

@@ -1,5 +1,5 @@
 -- A function keeps its name through the passes.
-use Rattle.std.proofs.Common.{◌≡◌, ℕ, ◌+◌, List, [], ◌∷◌, ◌++◌, length, Result, Ok, Err, refl, sym, ap, ◌∙◌}
+use Rattle.std.proofs.Common.{◌≡◌, ℕ, ◌+◌, List, ◌++◌, length, Result, Ok, Err, refl, sym, ap, ◌∙◌}
 use Rattle.std.specs.Prelude.{replicate}
 use Rattle.rtx_tree.specs.declared.function.Function.{Function}
 use Rattle.rtx_tree.specs.declared.function.Insn.{Insn}
@@ -98,19 +98,19 @@ reload_name forms homes layout f _ next (FunctionReloads.comes answer chain) is 
 pass_name : (forms : List Entry) (m next : Made) (pass : Pass) (a : Answer) → a ≡ Ok next → PassComes forms m pass a →
     next.function.name ≡ m.function.name
 pass_name forms m next _ _ is PassComes.reads = sym (ap (λ (n : Made). n.function.name) (ok_is m next is))
-pass_name forms m next _ a is (PassComes.lowers r _ comes told) =
-    let g = gave_of m next stage.Lower r (sym is ∙ told) in same_name m next r g (lower_name forms g.function m.function 0 r g.gave comes)
-pass_name forms m next _ a is (PassComes.splits_first r _ comes told) =
+pass_name forms m next _ a is (PassComes.lowers r _ does told) =
+    let g = gave_of m next stage.Lower r (sym is ∙ told) in same_name m next r g (lower_name forms g.function m.function 0 r g.gave does)
+pass_name forms m next _ a is (PassComes.splits_first r _ does told) =
     let g = gave_of m next stage.Split1 r (sym is ∙ told) in
-    same_name m next r g (split_name forms BeforeReload g.function (replicate (length m.function.insns) 0) m.function 0 r g.gave comes)
-pass_name forms m next _ a is (PassComes.reloads homes r _ are sized comes told) =
-    reload_name forms homes (layout_of m.function homes) m.function r next comes (sym is ∙ told)
-pass_name forms m next _ a is (PassComes.frames r _ comes told) =
+    same_name m next r g (split_name forms BeforeReload g.function (replicate (length m.function.insns) 0) m.function 0 r g.gave does)
+pass_name forms m next _ a is (PassComes.reloads homes r _ are sized does told) =
+    reload_name forms homes (layout_of m.function homes) m.function r next does (sym is ∙ told)
+pass_name forms m next _ a is (PassComes.frames r _ does told) =
     let g = gave_of m next stage.Frame r (sym is ∙ told) in
-    same_name m next r g (frame_name forms m.function g.function m.layout r g.gave comes)
-pass_name forms m next _ a is (PassComes.splits_again r _ comes told) =
+    same_name m next r g (frame_name forms m.function g.function m.layout r g.gave does)
+pass_name forms m next _ a is (PassComes.splits_again r _ does told) =
     let g = gave_of m next stage.Split2 r (sym is ∙ told) in
-    same_name m next r g (split_name forms AfterReload g.function (replicate (length m.function.insns) 0) m.function 0 r g.gave comes)
+    same_name m next r g (split_name forms AfterReload g.function (replicate (length m.function.insns) 0) m.function 0 r g.gave does)
 
 -- ---- all
 

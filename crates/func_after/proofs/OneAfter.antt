@@ -1,5 +1,5 @@
 -- What passes make of a function is one answer.
-use Rattle.std.proofs.Common.{◌≡◌, List, [], ◌∷◌, Ok, Err, refl, sym, ap, subst, ◌∙◌}
+use Rattle.std.proofs.Common.{◌≡◌, List, Ok, Err, refl, sym, ap, subst, ◌∙◌}
 use Rattle.rtx_tree.specs.declared.function.Function.{Function}
 use Rattle.rtx_tree.specs.declared.stage.Stage.TheVariants as stage
 use Rattle.run_refusal.specs.declared.refusal.Refusal.{Refusal}
@@ -10,7 +10,6 @@ use Rattle.lower.proofs.OneLower.{lower_one}
 use Rattle.split.specs.declared.stage.SplitStage.TheVariants.{BeforeReload, AfterReload}
 use Rattle.split.proofs.One.{one_split}
 use Rattle.assign.specs.Frame.{layout_of}
-use Rattle.assign.specs.Homes.{AreHomes}
 use Rattle.assign.specs.declared.home.HomeOf.{HomeOf}
 use Rattle.assign.proofs.OneLaws.{only}
 use Rattle.reload.specs.Reload.{FunctionReloads}
@@ -22,22 +21,22 @@ use Rattle.func_after.specs.After.{Answer, told_for, told_reloaded, as_read, pas
 module _ (forms : List Entry) where
   pass_one : (m : Made) (pass : Pass) (a b : Answer) → PassComes forms m pass a → PassComes forms m pass b → a ≡ b
   pass_one m _ _ _ PassComes.reads PassComes.reads = refl
-  pass_one m _ _ _ (PassComes.lowers r a comes is) (PassComes.lowers s b comes' is') =
-      is ∙ ap (told_for m stage.Lower) (lower_one forms m.function r s comes comes') ∙ sym is'
-  pass_one m _ _ _ (PassComes.splits_first r a comes is) (PassComes.splits_first s b comes' is') =
-      is ∙ ap (told_for m stage.Split1) (one_split forms BeforeReload m.function r s comes comes') ∙ sym is'
-  pass_one m _ _ _ (PassComes.reloads homes r a are sized comes is) (PassComes.reloads homes' s b are' sized' comes' is') =
+  pass_one m _ _ _ (PassComes.lowers r a does is) (PassComes.lowers s b does' is') =
+      is ∙ ap (told_for m stage.Lower) (lower_one forms m.function r s does does') ∙ sym is'
+  pass_one m _ _ _ (PassComes.splits_first r a does is) (PassComes.splits_first s b does' is') =
+      is ∙ ap (told_for m stage.Split1) (one_split forms BeforeReload m.function r s does does') ∙ sym is'
+  pass_one m _ _ _ (PassComes.reloads homes r a are sized does is) (PassComes.reloads homes' s b are' sized' does' is') =
       let same : homes ≡ homes' = only m.function homes homes' are are' in
       is
       ∙ ap (told_reloaded m.function.name (layout_of m.function homes))
-      (reload_one forms homes (layout_of m.function homes) m.function r s comes
-      (subst (λ (h : List HomeOf). FunctionReloads forms h (layout_of m.function h) m.function s) (sym same) comes'))
+      (reload_one forms homes (layout_of m.function homes) m.function r s does
+      (subst (λ (h : List HomeOf). FunctionReloads forms h (layout_of m.function h) m.function s) (sym same) does'))
       ∙ ap (λ (h : List HomeOf). told_reloaded m.function.name (layout_of m.function h) s) same
       ∙ sym is'
-  pass_one m _ _ _ (PassComes.frames r a comes is) (PassComes.frames s b comes' is') =
-      is ∙ ap (told_for m stage.Frame) (frame_one forms m.function m.layout r s comes comes') ∙ sym is'
-  pass_one m _ _ _ (PassComes.splits_again r a comes is) (PassComes.splits_again s b comes' is') =
-      is ∙ ap (told_for m stage.Split2) (one_split forms AfterReload m.function r s comes comes') ∙ sym is'
+  pass_one m _ _ _ (PassComes.frames r a does is) (PassComes.frames s b does' is') =
+      is ∙ ap (told_for m stage.Frame) (frame_one forms m.function m.layout r s does does') ∙ sym is'
+  pass_one m _ _ _ (PassComes.splits_again r a does is) (PassComes.splits_again s b does' is') =
+      is ∙ ap (told_for m stage.Split2) (one_split forms AfterReload m.function r s does does') ∙ sym is'
 
   ok_is : (m n : Made) → ◌≡◌ {A = Answer} (Ok m) (Ok n) → m ≡ n
   ok_is m n is = cc

@@ -1,14 +1,14 @@
 -- What a pass makes of what was made, from what its call gave.
-use Rattle.std.proofs.Common.{◌≡◌, ℕ, List, Result, Ok, Err, refl}
+use Rattle.std.proofs.Common.{◌≡◌, ℕ, List, Result, Ok, Err, refl, sym, ap, subst}
 use Rattle.rtx_tree.specs.declared.function.Function.{Function}
 use Rattle.rtx_tree.specs.declared.stage.Stage.{Stage}
 use Rattle.rtx_tree.specs.declared.stage.Stage.TheVariants as stage
-use Rattle.run_refusal.specs.declared.refusal.Refusal.{Refusal}
 use Rattle.md_forms.specs.declared.form.Entry.{Entry}
 use Rattle.pass_refusal.specs.declared.refusal.PassRefusal.{PassRefusal}
 use Rattle.pass_refusal.specs.declared.refusal.PassRefusal.TheVariants as passes
 use Rattle.pass_refusal.specs.Outcome as pass
-use Rattle.pass_name.specs.declared.pass.Pass.TheVariants.{Lower, Split1, Reload, Frame, Split2}
+use Rattle.pass_name.specs.declared.pass.Pass.{Pass}
+use Rattle.pass_name.specs.declared.pass.Pass.TheVariants.{Read, Lower, Split1, Reload, Frame, Split2}
 use Rattle.lower.specs.Lower.{LowerComes}
 use Rattle.split.specs.declared.stage.SplitStage.TheVariants.{BeforeReload, AfterReload}
 use Rattle.split.specs.Split.{SplitComes}
@@ -41,6 +41,9 @@ told_reloaded name (reloading.Unmatched uid insn) P Q follows r = follows (reloa
 told_reloaded name (reloading.Unsatisfied uid form insn) P Q follows r = follows (reloading.Unsatisfied uid form insn) r
 
 module _ (forms : List Entry) (m : Made) where
+  pub read_gave : (pass : Pass) → pass ≡ Read → PassComes forms m pass (Ok m)
+  read_gave pass is = subst (λ p. PassComes forms m p (Ok m)) (sym is) PassComes.reads
+
   pub lower_gave : (g : Function) → LowerComes forms m.function (Ok g) → PassComes forms m Lower (Ok (record { function = g; layout = m.layout }))
   lower_gave g comes = PassComes.lowers (Ok g) (Ok (record { function = g; layout = m.layout })) comes refl
 
@@ -76,14 +79,16 @@ module _ (forms : List Entry) (m : Made) where
   split_again_refused e r = told_for m.function.name stage.Split2 e (SplitComes forms AfterReload m.function) (PassComes forms m Split2)
       (λ e comes. PassComes.splits_again (Err e) (Err (refused_for m.function.name stage.Split2 e)) comes refl) r
 
-  module _ (homes : List HomeOf) (are : AreHomes m.function homes) (sized : EachSized m.function.insns) where
-    pub reload_gave : (g : Function) → FunctionReloads forms homes (layout_of m.function homes) m.function (Ok g) →
-        PassComes forms m Reload (Ok (record { function = g; layout = layout_of m.function homes }))
-    reload_gave g comes = PassComes.reloads homes (Ok g) (Ok (record { function = g; layout = layout_of m.function homes })) are sized comes refl
+  module _ (homes : List HomeOf) (layout : Layout) (layout_is : layout ≡ layout_of m.function homes) (are : AreHomes m.function homes)
+      (sized : EachSized m.function.insns) where
+    pub reload_gave : (g : Function) → FunctionReloads forms homes layout m.function (Ok g) →
+        PassComes forms m Reload (Ok (record { function = g; layout = layout }))
+    reload_gave g gave = PassComes.reloads homes (Ok g) (Ok (record { function = g; layout = layout })) are sized
+        (subst (λ (l : Layout). FunctionReloads forms homes l m.function (Ok g)) layout_is gave)
+        (ap (λ (l : Layout). Ok (record { function = g; layout = l })) layout_is)
 
-    pub reload_refused : (e : ReloadRefusal) →
-        reloads.RefusesAs e (λ e. FunctionReloads forms homes (layout_of m.function homes) m.function (Err e)) →
+    pub reload_refused : (e : ReloadRefusal) → reloads.RefusesAs e (λ e. FunctionReloads forms homes layout m.function (Err e)) →
         RefusesWith (unreloaded_for m.function.name e) (PassComes forms m Reload)
-    reload_refused e r = told_reloaded m.function.name e (λ e. FunctionReloads forms homes (layout_of m.function homes) m.function (Err e))
-        (PassComes forms m Reload)
-        (λ e comes. PassComes.reloads homes (Err e) (Err (unreloaded_for m.function.name e)) are sized comes refl) r
+    reload_refused e r = told_reloaded m.function.name e (λ e. FunctionReloads forms homes layout m.function (Err e)) (PassComes forms m Reload)
+        (λ e refuses. PassComes.reloads homes (Err e) (Err (unreloaded_for m.function.name e)) are sized
+        (subst (λ (l : Layout). FunctionReloads forms homes l m.function (Err e)) layout_is refuses) refl) r

@@ -3,7 +3,6 @@ use Rattle.std.proofs.Common.{◌≡◌, ℕ, List, [], ◌∷◌, Result, Ok, E
 use Rattle.rtx_tree.specs.declared.function.Function.{Function}
 use Rattle.rtx_tree.specs.declared.stage.Stage.{Stage}
 use Rattle.rtx_tree.specs.declared.stage.Stage.TheVariants as stage
-use Rattle.run_refusal.specs.declared.refusal.Refusal.{Refusal}
 use Rattle.md_forms.specs.declared.form.Entry.{Entry}
 use Rattle.pass_refusal.specs.declared.refusal.PassRefusal.{PassRefusal}
 use Rattle.pass_name.specs.declared.pass.Pass.{Pass}
@@ -82,42 +81,42 @@ made_by comes m next at r is told = let g = gave_of m next at r told in record {
 
 lowered_by : (forms : List Entry) (m next : Made) (pass : Pass) (a : Answer) → pass ≡ Lower → a ≡ Ok next → PassComes forms m pass a →
     MadeBy (LowerComes forms m.function) m next
-lowered_by forms m next _ a this is (PassComes.lowers r _ comes told) = made_by (LowerComes forms m.function) m next stage.Lower r comes (sym is ∙ told)
+lowered_by forms m next _ a this is (PassComes.lowers r _ does told) = made_by (LowerComes forms m.function) m next stage.Lower r does (sym is ∙ told)
 lowered_by forms m next _ a this is PassComes.reads = absurd (let none : ⊥ = cc in none)
-lowered_by forms m next _ a this is (PassComes.splits_first r _ comes told) = absurd (let none : ⊥ = cc in none)
-lowered_by forms m next _ a this is (PassComes.reloads homes r _ are sized comes told) = absurd (let none : ⊥ = cc in none)
-lowered_by forms m next _ a this is (PassComes.frames r _ comes told) = absurd (let none : ⊥ = cc in none)
-lowered_by forms m next _ a this is (PassComes.splits_again r _ comes told) = absurd (let none : ⊥ = cc in none)
+lowered_by forms m next _ a this is (PassComes.splits_first r _ does told) = absurd (let none : ⊥ = cc in none)
+lowered_by forms m next _ a this is (PassComes.reloads homes r _ are sized does told) = absurd (let none : ⊥ = cc in none)
+lowered_by forms m next _ a this is (PassComes.frames r _ does told) = absurd (let none : ⊥ = cc in none)
+lowered_by forms m next _ a this is (PassComes.splits_again r _ does told) = absurd (let none : ⊥ = cc in none)
 
 split_by : (forms : List Entry) (m next : Made) (pass : Pass) (a : Answer) → pass ≡ Split1 → a ≡ Ok next → PassComes forms m pass a →
     MadeBy (SplitComes forms BeforeReload m.function) m next
-split_by forms m next _ a this is (PassComes.splits_first r _ comes told) =
-    made_by (SplitComes forms BeforeReload m.function) m next stage.Split1 r comes (sym is ∙ told)
+split_by forms m next _ a this is (PassComes.splits_first r _ does told) =
+    made_by (SplitComes forms BeforeReload m.function) m next stage.Split1 r does (sym is ∙ told)
 split_by forms m next _ a this is PassComes.reads = absurd (let none : ⊥ = cc in none)
-split_by forms m next _ a this is (PassComes.lowers r _ comes told) = absurd (let none : ⊥ = cc in none)
-split_by forms m next _ a this is (PassComes.reloads homes r _ are sized comes told) = absurd (let none : ⊥ = cc in none)
-split_by forms m next _ a this is (PassComes.frames r _ comes told) = absurd (let none : ⊥ = cc in none)
-split_by forms m next _ a this is (PassComes.splits_again r _ comes told) = absurd (let none : ⊥ = cc in none)
+split_by forms m next _ a this is (PassComes.lowers r _ does told) = absurd (let none : ⊥ = cc in none)
+split_by forms m next _ a this is (PassComes.reloads homes r _ are sized does told) = absurd (let none : ⊥ = cc in none)
+split_by forms m next _ a this is (PassComes.frames r _ does told) = absurd (let none : ⊥ = cc in none)
+split_by forms m next _ a this is (PassComes.splits_again r _ does told) = absurd (let none : ⊥ = cc in none)
 
 framed_by : (forms : List Entry) (m next : Made) (pass : Pass) (a : Answer) → pass ≡ Frame → a ≡ Ok next → PassComes forms m pass a →
     MadeBy (FrameComes forms m.function m.layout) m next
-framed_by forms m next _ a this is (PassComes.frames r _ comes told) =
-    made_by (FrameComes forms m.function m.layout) m next stage.Frame r comes (sym is ∙ told)
+framed_by forms m next _ a this is (PassComes.frames r _ does told) =
+    made_by (FrameComes forms m.function m.layout) m next stage.Frame r does (sym is ∙ told)
 framed_by forms m next _ a this is PassComes.reads = absurd (let none : ⊥ = cc in none)
-framed_by forms m next _ a this is (PassComes.lowers r _ comes told) = absurd (let none : ⊥ = cc in none)
-framed_by forms m next _ a this is (PassComes.splits_first r _ comes told) = absurd (let none : ⊥ = cc in none)
-framed_by forms m next _ a this is (PassComes.reloads homes r _ are sized comes told) = absurd (let none : ⊥ = cc in none)
-framed_by forms m next _ a this is (PassComes.splits_again r _ comes told) = absurd (let none : ⊥ = cc in none)
+framed_by forms m next _ a this is (PassComes.lowers r _ does told) = absurd (let none : ⊥ = cc in none)
+framed_by forms m next _ a this is (PassComes.splits_first r _ does told) = absurd (let none : ⊥ = cc in none)
+framed_by forms m next _ a this is (PassComes.reloads homes r _ are sized does told) = absurd (let none : ⊥ = cc in none)
+framed_by forms m next _ a this is (PassComes.splits_again r _ does told) = absurd (let none : ⊥ = cc in none)
 
 again_by : (forms : List Entry) (m next : Made) (pass : Pass) (a : Answer) → pass ≡ Split2 → a ≡ Ok next → PassComes forms m pass a →
     MadeBy (SplitComes forms AfterReload m.function) m next
-again_by forms m next _ a this is (PassComes.splits_again r _ comes told) =
-    made_by (SplitComes forms AfterReload m.function) m next stage.Split2 r comes (sym is ∙ told)
+again_by forms m next _ a this is (PassComes.splits_again r _ does told) =
+    made_by (SplitComes forms AfterReload m.function) m next stage.Split2 r does (sym is ∙ told)
 again_by forms m next _ a this is PassComes.reads = absurd (let none : ⊥ = cc in none)
-again_by forms m next _ a this is (PassComes.lowers r _ comes told) = absurd (let none : ⊥ = cc in none)
-again_by forms m next _ a this is (PassComes.splits_first r _ comes told) = absurd (let none : ⊥ = cc in none)
-again_by forms m next _ a this is (PassComes.reloads homes r _ are sized comes told) = absurd (let none : ⊥ = cc in none)
-again_by forms m next _ a this is (PassComes.frames r _ comes told) = absurd (let none : ⊥ = cc in none)
+again_by forms m next _ a this is (PassComes.lowers r _ does told) = absurd (let none : ⊥ = cc in none)
+again_by forms m next _ a this is (PassComes.splits_first r _ does told) = absurd (let none : ⊥ = cc in none)
+again_by forms m next _ a this is (PassComes.reloads homes r _ are sized does told) = absurd (let none : ⊥ = cc in none)
+again_by forms m next _ a this is (PassComes.frames r _ does told) = absurd (let none : ⊥ = cc in none)
 
 -- ---- homes
 
@@ -136,18 +135,18 @@ reload_told name layout next (Err e) is = absurd (let none : ⊥ = cc in none)
 
 reloaded_by : (forms : List Entry) (m next : Made) (pass : Pass) (a : Answer) → pass ≡ Reload → a ≡ Ok next → PassComes forms m pass a →
     Reloaded forms m next
-reloaded_by forms m next _ a this is (PassComes.reloads homes r _ are sized comes told) =
+reloaded_by forms m next _ a this is (PassComes.reloads homes r _ are sized does told) =
     let gave = reload_told m.function.name (layout_of m.function homes) next r (sym is ∙ told) in record {
       homes = homes;
       are = are;
       sized = sized;
-      comes = subst (FunctionReloads forms homes (layout_of m.function homes) m.function) gave.0 comes;
+      comes = subst (FunctionReloads forms homes (layout_of m.function homes) m.function) gave.0 does;
       layout_is = gave.1;
     }
 reloaded_by forms m next _ a this is PassComes.reads = absurd (let none : ⊥ = cc in none)
-reloaded_by forms m next _ a this is (PassComes.lowers r _ comes told) = absurd (let none : ⊥ = cc in none)
-reloaded_by forms m next _ a this is (PassComes.splits_first r _ comes told) = absurd (let none : ⊥ = cc in none)
-reloaded_by forms m next _ a this is (PassComes.frames r _ comes told) = absurd (let none : ⊥ = cc in none)
+reloaded_by forms m next _ a this is (PassComes.lowers r _ does told) = absurd (let none : ⊥ = cc in none)
+reloaded_by forms m next _ a this is (PassComes.splits_first r _ does told) = absurd (let none : ⊥ = cc in none)
+reloaded_by forms m next _ a this is (PassComes.frames r _ does told) = absurd (let none : ⊥ = cc in none)
 reloaded_by forms m next _ a this is (PassComes.splits_again r _ comes told) = absurd (let none : ⊥ = cc in none)
 
 -- ---- all

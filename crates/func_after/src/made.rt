@@ -1,5 +1,5 @@
 //! What the passes have made of a function.
-ghost use Rattle.std.specs.Prelude.{◌≡◌, IfOk};
+ghost use Rattle.std.specs.Prelude.{◌≡◌, [], IfOk};
 ghost use Rattle.func_after.specs.After as spec;
 
 use assign::Layout;

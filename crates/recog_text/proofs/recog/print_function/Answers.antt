@@ -10,4 +10,4 @@ returns-in_err-made c =
 pub returns : goal.returns
 returns c =
     function_comes c.args.desc.now c.args.f.now c.in_ok-made.made c.args.out.now.items c.print_insns.new.out.items
-    c.print_insns.result c.in_ok-made.ensures.gives (rw c.as_slice.ensures.value at c.print_insns.ensures)
+    c.print_insns.result c.in_ok-made.ensures.gives (rw c.as_slice-insns.ensures.value at c.print_insns.ensures)

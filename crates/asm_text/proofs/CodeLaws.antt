@@ -1,6 +1,5 @@
 -- What a name comes to, it comes to alone, and a function with its code is one of the assembly's.
-use Rattle.std.proofs.Common.{◌≡◌, ℕ, true, List, length, Result, Ok, Err, Option, Some, None, is_some, refl, sym, ap, subst, ◌∙◌}
-use Rattle.std.specs.Prelude.{slice_get}
+use Rattle.std.proofs.Common.{◌≡◌, ℕ, true, List, length, Ok, Err, Option, Some, None, is_some, refl, sym, ap, subst, ◌∙◌}
 use Rattle.rtx_tree.specs.declared.function.Function.{Function}
 use Rattle.rv_text.specs.declared.line.CodeItem.{CodeItem}
 use Rattle.run_refusal.specs.declared.refusal.Refusal.{Refusal}

@@ -1,5 +1,5 @@
 -- What an input comes to, from what its parts gave.
-use Rattle.std.proofs.Common.{◌≡◌, ℕ, List, Result, Ok, Err, None}
+use Rattle.std.proofs.Common.{◌≡◌, ℕ, List, Ok, Err, None}
 use Rattle.rtx_tree.specs.declared.function.Function.{Function}
 use Rattle.md_forms.specs.declared.form.Entry.{Entry}
 use Rattle.func_input.specs.Refused.{first_refused}

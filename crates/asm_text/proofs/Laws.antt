@@ -1,9 +1,7 @@
 -- What the assembly of functions is: its lines, the parts of its text, how many these are, and its size.
-use Rattle.std.proofs.Common.{◌≡◌, ◌<◌, ◌≤◌, ◌^◌, ℕ, suc, ◌+◌, List, [], ◌∷◌, ◌++◌, length, Result, Ok, Err, refl, sym, ap, subst, ◌∙◌, arith}
+use Rattle.std.proofs.Common.{◌≡◌, ◌≤◌, ℕ, suc, ◌+◌, List, [], ◌∷◌, ◌++◌, length, Ok, Err, refl, sym, ap, subst, ◌∙◌, arith}
 use Rattle.std.proofs.lemmas.List.{length-append}
 use Rattle.rtx_tree.specs.declared.function.Function.{Function}
-use Rattle.rv_text.specs.declared.line.CodeItem.{CodeItem}
-use Rattle.run_refusal.specs.declared.refusal.Refusal.{Refusal}
 use Rattle.md_forms.specs.declared.form.Entry.{Entry}
 use Rattle.func_after.specs.After.{AfterComes}
 use Rattle.func_after.specs.declared.made.Made.{Made}

@@ -1,6 +1,6 @@
 -- The assembly of functions by a description: for each function, in order and numbered from 0, what it comes to at output, with a summary
 -- of all.
-use Rattle.std.specs.Prelude.{◌≡◌, ◌<◌, ◌^◌, ℕ, ◌+◌, List, [], ◌∷◌, ◌++◌, length, Result, Ok, Err}
+use Rattle.std.specs.Prelude.{◌<◌, ◌^◌, ℕ, ◌+◌, List, [], ◌∷◌, ◌++◌, length, Result, Ok, Err}
 use Rattle.rtx_tree.specs.declared.function.Function.{Function}
 use Rattle.rtx_tree.specs.declared.stage.Stage.TheVariants.{Output}
 use Rattle.run_refusal.specs.declared.refusal.Refusal.{Refusal}

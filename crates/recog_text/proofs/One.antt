@@ -1,12 +1,12 @@
 -- What functions come to is one outcome.
-use Rattle.std.proofs.Common.{◌≡◌, ℕ, Bool, true, false, List, Ok, Err, refl, sym, ap, subst, ◌∙◌}
+use Rattle.std.proofs.Common.{◌≡◌, ℕ, List, Ok, Err, refl, ap, subst}
 use Rattle.rtx_tree.specs.declared.function.Insn.{Insn}
 use Rattle.rtx_tree.specs.declared.function.Function.{Function}
 use Rattle.run_refusal.specs.declared.refusal.Refusal.{Refusal}
 use Rattle.md_forms.specs.declared.form.Entry.{Entry}
 use Rattle.md_forms.specs.Forms.{names_of}
 use Rattle.md_desc.specs.declared.output.Chosen.{Chosen}
-use Rattle.md_desc.specs.Recog.{IsChosen, NoneMatchesOut}
+use Rattle.md_desc.specs.Recog.{IsChosen}
 use Rattle.form_needs.specs.Needs.{needs_form, is_held, output_facts}
 use Rattle.form_needs.proofs.OneChosen.{both, chosen_one, chosen_not}
 use Rattle.func_input.specs.Outcome.{Outcome}

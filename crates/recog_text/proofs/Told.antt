@@ -1,5 +1,5 @@
 -- What a function comes to, from what the calls gave.
-use Rattle.std.proofs.Common.{◌≡◌, ℕ, List, Result, Ok, Err, Vec, subst}
+use Rattle.std.proofs.Common.{ℕ, List, Result, Ok, Err}
 use Rattle.rtx_tree.specs.declared.function.Function.{Function}
 use Rattle.run_refusal.specs.declared.refusal.Refusal.{Refusal}
 use Rattle.md_forms.specs.declared.form.Entry.{Entry}

@@ -1,5 +1,5 @@
 -- The answer of a run, from how it ended.
-use Rattle.std.proofs.Common.{◌≡◌, ◌⊎◌, ℕ, List, [], ◌++◌, true, Result, Ok, Err, Option, Some, None, Vec, refl, sym, ap, subst, ◌∙◌, ⊎_elim}
+use Rattle.std.proofs.Common.{◌≡◌, ◌⊎◌, ℕ, List, [], true, Result, Err, Option, Some, None, Vec, refl, sym, ap, subst, ◌∙◌, ⊎_elim}
 use Rattle.std.specs.declared.alloc.Global.{Global}
 use Rattle.std.proofs.lemmas.List.{append-nil}
 use Rattle.std.specs.Io.KnownBytes.{Appends}
@@ -8,7 +8,7 @@ use Rattle.run_refusal.specs.declared.refusal.Refusal.{Refusal}
 use Rattle.run_refusal.specs.declared.refusal.Refusal.TheVariants as refusal
 use Rattle.run_refusal.specs.Refusals.{status_of, has_values, line_of}
 use Rattle.md_source.specs.Source.{Source}
-use Rattle.rtlc_run.specs.Answer.{Answers, EndsWith, IsRefused, Reports, IsAnswered}
+use Rattle.rtlc_run.specs.Answer.{Answers, IsRefused, Reports, IsAnswered}
 
 -- ---- how a run ended
 

@@ -1,5 +1,5 @@
 -- There is one answer, and what it says of a text that was written.
-use Rattle.std.proofs.Common.{◌≡◌, ◌⊎◌, ℕ, List, arith, eqb, Bool, true, false, Result, Ok, Err, Option, Some, None, refl, sym, ap, subst, ◌∙◌, inl, inr}
+use Rattle.std.proofs.Common.{◌≡◌, ℕ, List, arith, eqb, Bool, true, false, Result, Ok, Err, Option, Some, None, refl, sym, ap, subst, ◌∙◌, inl, inr}
 use Rattle.std.proofs.lemmas.Bool.{eqb-true}
 use Rattle.md_source.specs.Source.{Source}
 use Rattle.md_source.specs.Asked.{IsKnown}

@@ -1,5 +1,5 @@
 -- The assembly of an input does what its functions do.
-use Rattle.std.proofs.Common.{◌≡◌, ◌≤◌, ℕ, ◌+◌, zero, suc, List, Ok, Some, refl, subst}
+use Rattle.std.proofs.Common.{◌≡◌, ◌≤◌, ℕ, zero, suc, List, Ok, Some, subst}
 use Rattle.std.specs.Prelude.{slice_get}
 use Rattle.rtx_tree.specs.declared.function.Function.{Function}
 use Rattle.rv_text.specs.declared.line.CodeItem.{CodeItem}
@@ -8,52 +8,28 @@ use Rattle.func_input.specs.Input.{IsInput}
 use Rattle.func_rules.proofs.Kept.{each_admitted}
 use Rattle.func_rules.proofs.Ready.{input_well_formed}
 use Rattle.func_rules.proofs.Uids.{uids_distinct}
-use Rattle.insn_keep.specs.Sound.{IsSound}
 use Rattle.insn_keep.proofs.Inputs.{input_sound}
 use Rattle.func_after.specs.declared.made.Made.{Made}
 use Rattle.func_after.specs.After.{AfterComes}
 use Rattle.func_after.specs.Leads.{IsDescribed}
 use Rattle.func_after.proofs.Keeping.{after_leads}
 use Rattle.read_natural.proofs.Natural.{input_natural}
-use Rattle.asm_out.specs.declared.piece.Piece.{Piece}
-use Rattle.asm_out.specs.Written.{IsWritten}
-use Rattle.out_same.proofs.Written.{written_is_same}
 use Rattle.same_behaviour.specs.Same.{Same}
 use Rattle.asm_text.specs.declared.assembly.Assembly.{Assembly}
 use Rattle.asm_text.specs.declared.code.Coded.{Coded}
 use Rattle.asm_text.specs.Lines.{IsAssembly}
-use Rattle.asm_text.specs.Same.{AreSame, DoesSame}
+use Rattle.asm_text.specs.Same.{AreSound, AreSame, DoesSame}
 use Rattle.asm_text.specs.Code.{IsCoded}
+use Rattle.asm_text.proofs.Behaviour.{are_same}
 use Rattle.asm_text.proofs.Laws.{are_parts}
 
--- ---- one function
-
--- what is written of what the passes make of a function has the function's behaviour
-written_same : (forms : List Entry) (number : ℕ) (f : Function) (m : Made) (piece : Piece) → IsDescribed forms → IsSound f →
-    AfterComes forms f (Ok m) →
-    IsWritten forms number m.function piece → Same m.layout.size f piece.items
-written_same forms number f m piece described sound comes written =
-    let leads = after_leads forms f m described sound comes in
-    leads.same piece.items (written_is_same forms number m.function piece leads.writable written)
-
 -- ---- all
-
-abbrev AreSound : List Function → Type 0
-AreSound functions = (index : ℕ) (f : Function) → slice_get functions index ≡ Some f → IsSound f
 
 -- each function of an input is sound
 pub input_are_sound : (bytes : List ℕ) (functions : List Function) → IsInput bytes functions → AreSound functions
 input_are_sound bytes functions input index f at =
     input_sound f (input_well_formed bytes functions input index f at) (uids_distinct f (each_admitted functions input.admitted index f at))
     (input_natural bytes functions input index f at)
-
-are_same : (forms : List Entry) (number : ℕ) (functions : List Function) (a : Assembly) → IsDescribed forms → AreSound functions →
-    IsAssembly forms number functions a → AreSame forms functions a.parts
-are_same forms number _ _ described sound (IsAssembly.none _) = AreSame.none
-are_same forms number _ _ described sound (IsAssembly.function _ f m functions piece rest small after written others) =
-    AreSame.function f m functions piece.items rest.parts after
-    (written_same forms number f m piece described (sound 0 f refl) after written)
-    (are_same forms (number + 1) functions rest described (λ index h at. sound (suc index) h at) others)
 
 parts_are_same : (forms : List Entry) (bytes : List ℕ) (functions : List Function) (a : Assembly) → IsDescribed forms →
     IsInput bytes functions →

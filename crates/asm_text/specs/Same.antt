@@ -1,11 +1,12 @@
 -- What the written text does: for each function of the input, in order, the lines and labels that its part of the text spells have the same
 -- behaviour as the function.
-use Rattle.std.specs.Prelude.{ℕ, List, [], ◌∷◌, ◌++◌, Ok}
+use Rattle.std.specs.Prelude.{◌≡◌, ℕ, List, [], ◌∷◌, ◌++◌, Some, slice_get, Ok}
 use Rattle.rtx_tree.specs.declared.function.Function.{Function}
 use Rattle.rv_text.specs.Body.{Spells}
 use Rattle.rv_text.specs.declared.line.CodeItem.{CodeItem}
 use Rattle.same_behaviour.specs.Same.{Same}
 use Rattle.md_forms.specs.declared.form.Entry.{Entry}
+use Rattle.insn_keep.specs.Sound.{IsSound}
 use Rattle.func_after.specs.After.{AfterComes}
 use Rattle.func_after.specs.declared.made.Made.{Made}
 use Rattle.asm_out.specs.Frame.{framed}
@@ -15,6 +16,10 @@ pub data AreParts : List Function → List ℕ → List (List CodeItem) → Type
   none : AreParts [] [] []
   part : (f : Function) (functions : List Function) (body rest : List ℕ) (items : List CodeItem) (others : List (List CodeItem)) → Spells body items → AreParts functions rest others →
       AreParts (f ∷ functions) (framed f.name body ++ rest) (items ∷ others)
+
+-- each of some functions is sound
+abbrev pub AreSound : List Function → Type 0
+AreSound functions = (index : ℕ) (f : Function) → slice_get functions index ≡ Some f → IsSound f
 
 -- the items of each function have its behaviour, in each frame that has the room at least of which the passes laid out its frame
 pub data AreSame (forms : List Entry) : List Function → List (List CodeItem) → Type 0 where

@@ -7,7 +7,8 @@ ghost use Rattle.asm_out.specs.Refused.{most_output};
 ghost use Rattle.asm_text.specs.Assembly.{Outcome, AssemblyComes};
 ghost use Rattle.asm_text.specs.Compile.{FunctionsCome, InputComes, Gives};
 ghost use Rattle.asm_text.specs.Lines.{IsAssembly};
-ghost use Rattle.asm_text.specs.Same.{AreParts};
+ghost use Rattle.asm_text.specs.Same.{AreParts, AreSound, AreSame};
+ghost use Rattle.func_after.specs.Leads.{IsDescribed};
 
 use crate::assembly::{Assembly, assemble};
 use func_input::{check_functions, read_functions};
@@ -23,6 +24,7 @@ use std::alloc::Global;
 ///
 /// `IllFormed`, `Limit`, `Unmatched`, `Unsatisfied`, `NotEquated`, or `Memory` where memory ran out, or a sum of the summary is 2^64 or
 /// more.
+#[tactic(auto, using(crate::proofs::Behaviour::compiled_same))]
 pub fn compile(
     alloc: Global,
     description: &Description,
@@ -34,6 +36,11 @@ pub fn compile(
     ensures lines { (forms : List Entry) (functions : List Function) (a : Assembly) → AssemblyComes forms functions (Ok a) → IsAssembly forms 0 functions a }
     ensures spelled { (forms : List Entry) (functions : List Function) (a : Assembly) → AssemblyComes forms functions (Ok a) → AreParts functions a.text a.parts }
     ensures within { (forms : List Entry) (functions : List Function) (a : Assembly) → AssemblyComes forms functions (Ok a) → length a.text ≤ most_output }
+
+    // By the forms of a description, the lines and labels of each sound function have its behaviour, in each frame that has the room at
+    // least of which the passes laid out its frame.
+    ensures behaves { (forms : List Entry) (functions : List Function) (a : Assembly) → IsDescribed forms → AreSound functions →
+        AssemblyComes forms functions (Ok a) → AreSame forms functions a.parts }
 {
     check_functions(alloc, functions)?;
     assemble(alloc, description, functions)

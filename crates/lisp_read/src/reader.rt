@@ -322,6 +322,15 @@ impl Reader {
         ensures depth { OnOk result (block_depth self.new.mode ≤ block_depth self.old.mode + 1) }
     {
         let class = classify(byte);
+        // Most bytes stand in an atom, or are blanks between trees: there nothing is moved.
+        match &mut self.mode {
+            Mode::Atom { text, .. } if class.is_atom() => {
+                text.push(byte)?;
+                return Ok(());
+            }
+            Mode::Between if class.is_blank() => return Ok(()),
+            _ => {}
+        }
         match mem::replace(&mut self.mode, Mode::Between) {
             Mode::Between => self.begin(alloc, here, byte, class),
             Mode::Line => self.line(class),

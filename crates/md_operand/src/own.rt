@@ -93,10 +93,20 @@ fn general_operand(mode: Mode, x: &Rtx) -> bool
     register_operand(mode, x) || (immediate_operand(mode, x) || memory_operand(mode, x))
 }
 
+/// Whether a name is a word. Both are short, so that each byte is looked at by itself.
+#[tactic(auto, using(crate::proofs::Bytes::other_length, crate::proofs::Bytes::other_byte, crate::proofs::Bytes::same_to_end))]
 fn is(name: &[u8], word: &[u8]) -> bool
     ensures { result ≡ bytes_eq name.now word.now }
 {
-    name == word
+    if name.len() != word.len() {
+        return false;
+    }
+    for i in 0..name.len() {
+        if name[i] != word[i] {
+            return false;
+        }
+    }
+    true
 }
 
 impl Own {

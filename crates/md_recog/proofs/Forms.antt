@@ -1,5 +1,5 @@
 -- When a form matches, by what it says in a half.
-use Rattle.std.proofs.Common.{◌≡◌, ◌↔◌, true, List, Option, Some, Result, Ok, Err, sym, subst, ◌∙◌}
+use Rattle.std.proofs.Common.{◌≡◌, ◌↔◌, true, false, List, Option, Some, Result, Ok, Err, sym, ap, subst, ◌∙◌}
 use Rattle.std.specs.Prelude.{IfOk}
 use Rattle.rtx_tree.specs.declared.tree.Rtx.{Rtx}
 use Rattle.c_cond.specs.declared.tree.Tree.{Tree}
@@ -42,3 +42,17 @@ module _ (a : Accepts) (f : Facts) (h : Half) (i : List Rtx) where
   pub entry_found : {E : Type 0} (e : Entry) (g : Form) (r : Result (Option Ops) E) → e.form ≡ Ok g → IfOk r (Found (FormMatches a f h i g)) → IfOk r (Found (EntryMatches a f h i e))
   entry_found e g (Ok r) is found = by_form e g r is found
   entry_found e g (Err x) is found = tt
+
+-- a form of another half matches nothing
+pub never_without : (a : Accepts) (f : Facts) (h : Half) (i : List Rtx) (e : Entry) (g : Form) (o : Ops) → e.form ≡ Ok g → has_half h g.head ≡ false → EntryMatches a f h i e o → ⊥
+never_without a f h i e g o is none m =
+    let same : m.says ≡ g = same_form a f h i m.says g (sym m.accepted ∙ is) in
+    let both : false ≡ true = sym none ∙ (sym (ap (λ (k : Form). has_half h k.head) same) ∙ m.matches.has) in
+    let never : ⊥ = cc in
+    never
+
+pub never_aside : (a : Accepts) (f : Facts) (h : Half) (i : List Rtx) (e : Entry) (r : Reason) (o : Ops) → e.form ≡ Err r → EntryMatches a f h i e o → ⊥
+never_aside a f h i e r o is m =
+    let both : ◌≡◌ {A = Result Form Reason} (Ok m.says) (Err r) = sym m.accepted ∙ is in
+    let never : ⊥ = cc in
+    never

@@ -1,4 +1,5 @@
 pub mod Placed
+pub mod Taken
 pub mod Usable
 pub mod Forms
 pub mod First

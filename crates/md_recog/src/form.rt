@@ -1,6 +1,9 @@
 //! Whether one form matches.
-ghost use Rattle.std.specs.Prelude.{◌≡◌, ◌↔◌, ◌+◌, ◌≤◌, Some, IfOk, map};
+ghost use Rattle.std.specs.Prelude.{◌≡◌, ◌↔◌, ◌+◌, ◌≤◌, false, List, Some, IfOk, map};
+ghost use Rattle.rtx_tree.specs.declared.tree.Rtx.{Rtx};
+ghost use Rattle.c_eval.specs.declared.facts.Facts.{Facts};
 ghost use Rattle.md_match.specs.Pattern.{Ops};
+ghost use Rattle.md_recog.specs.Match.{Accepts};
 ghost use Rattle.md_recog.specs.Recog.{FormMatches, EntryMatches};
 
 use crate::half::Half;
@@ -32,6 +35,16 @@ fn match_form<P: Preds, L: Ledger>(
     let condition = half.condition_of(form);
     let patterns = form.patterns.as_slice();
     match_insns(alloc, patterns, condition, insns, facts, preds, steps)
+}
+
+/// Whether a half of a form may match instructions: it may not where the form is set aside, or has no such half.
+pub fn may_match(entry: &Entry, half: Half) -> bool
+    ensures { result ≡ false → (accepts : Accepts) (facts : Facts) (insns : List Rtx) (operands : Ops) → EntryMatches accepts facts half insns entry.now operands → ⊥ }
+{
+    match &entry.form {
+        Ok(form) => half.is_of(form.head),
+        Err(_) => false,
+    }
 }
 
 /// The operands with which a half of a form matches instructions. A form that is set aside never does.

@@ -1,10 +1,10 @@
 //! Matches patterns with instructions.
-ghost use Rattle.std.specs.Prelude.{◌≡◌, ◌↔◌, ◌+◌, ◌&&◌, Some, IfOk, map};
+ghost use Rattle.std.specs.Prelude.{◌≡◌, ◌↔◌, ◌+◌, Some, IfOk, map};
 ghost use Rattle.md_match.specs.Pattern.{Ops};
 ghost use Rattle.md_recog.specs.Match.{IsMatch};
 ghost use Rattle.md_recog.specs.Match as spec;
 
-use crate::accepted::all_accepted;
+use crate::accepted::each_accepted;
 use c_cond::Cond;
 use c_eval::{Facts, Preds, eval};
 use md_match::{Steps, match_shapes};
@@ -20,22 +20,9 @@ fn is_met<P: Preds>(condition: &Cond, facts: &Facts, operands: &Operands, preds:
     eval(condition, facts, operands, preds) != 0
 }
 
-/// Whether predicates and the condition admit operands.
-fn admits<P: Preds>(
-    patterns: &[Rtx],
-    condition: &Cond,
-    operands: &Operands,
-    facts: &Facts,
-    preds: &P,
-) -> bool
-    ensures { result ≡ (spec.all_accepted (P.accepts preds.now) operands.now patterns.now && spec.is_met (P.accepts preds.now) facts.now condition.now operands.now) }
-{
-    all_accepted(patterns, operands, preds) && is_met(condition, facts, operands, preds)
-}
-
 /// The operands with which some patterns with a condition match as many instructions, or `None` exactly where there are none such. Each call is
 /// one step, since it tries the shape once.
-#[tactic(auto, using(crate::proofs::Usable::shapeless, crate::proofs::Usable::admitting))]
+#[tactic(auto, using(crate::proofs::Usable::shapeless))]
 pub fn match_insns<P: Preds, L: Ledger>(
     alloc: Global,
     patterns: &[Rtx],
@@ -48,10 +35,14 @@ pub fn match_insns<P: Preds, L: Ledger>(
     ensures operands { IfOk result (λ r. (operands : Ops) → (r ≡ Some operands) ↔ IsMatch (P.accepts preds.now) facts.now patterns.now condition.now (map (λ insn. insn.now) insns.now) operands) }
     ensures step { steps.new ≡ steps.old + 1 }
 {
+    if !each_accepted(patterns, insns, preds) {
+        steps.tick();
+        return Ok(None);
+    }
     let Some(operands) = match_shapes(alloc, patterns, insns, steps)? else {
         return Ok(None);
     };
-    if admits(patterns, condition, &operands, facts, preds) {
+    if is_met(condition, facts, &operands, preds) {
         Ok(Some(operands))
     } else {
         Ok(None)

@@ -3,7 +3,7 @@ ghost use Rattle.std.specs.Prelude.{◌≡◌, ◌↔◌, ◌+◌, ◌≤◌, �
 ghost use Rattle.md_recog.specs.Recog.{IsFirst, NoneBetween, MatchesHere};
 ghost use Rattle.md_recog.specs.declared.recog.FormMatch.{FormMatch};
 
-use crate::form::match_entry;
+use crate::form::{match_entry, may_match};
 use crate::half::Half;
 use c_eval::{Facts, Preds};
 use md_forms::Entry;
@@ -69,6 +69,9 @@ pub fn first_match<P: Preds, L: Ledger>(
     ensures tries { steps.new ≤ steps.old + length forms.now }
 {
     for form in from..forms.len() as u32 {
+        if !may_match(&forms[form as usize], half) {
+            continue;
+        }
         if let Some(found) = match_at(alloc, forms, half, insns, facts, preds, form, steps)? {
             return Ok(Some(found));
         }

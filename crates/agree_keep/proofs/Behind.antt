@@ -23,15 +23,15 @@ use Rattle.window_mean.specs.Insns.{InsnsEnd, Falls, Goes, Calls, Returns, Insns
 use Rattle.window_mean.specs.Same.{IsKept}
 use Rattle.window_mean.specs.Uses.{window_defines}
 use Rattle.window_keep.specs.Same.{KnownToo, KnownAlike, SameEnd, Starts, is_free, falls, goes, calls}
-use Rattle.sym_state.specs.State.{State, Call, Runs, own_register}
-use Rattle.sym_state.specs.Registers.{held}
-use Rattle.sym_insns.specs.Run.{run}
-use Rattle.sym_mean.specs.Shows.{ShowsRegister}
-use Rattle.sym_mean.specs.Means.{left_at, first_of, EndMeans}
-use Rattle.sym_mean.proofs.Left.{left_value}
-use Rattle.sym_mean.proofs.Kept.{held_defined}
-use Rattle.sym_diff.specs.Registers.{is_live, one_calls, is_passed_over, value_behind}
-use Rattle.sym_diff.specs.Agree.{Agree, AgreesIn, CallsAgree, Knows}
+use Rattle.agree_mean.specs.sym_state.State.{State, Call, Runs, own_register}
+use Rattle.agree_mean.specs.sym_state.Registers.{held}
+use Rattle.agree_mean.specs.sym_insns.Run.{run}
+use Rattle.agree_mean.specs.sym_mean.Shows.{ShowsRegister}
+use Rattle.agree_mean.specs.sym_mean.Means.{left_at, first_of, EndMeans}
+use Rattle.agree_mean.proofs.sym_mean.Left.{left_value}
+use Rattle.agree_mean.proofs.sym_mean.Kept.{held_defined}
+use Rattle.agree_mean.specs.sym_diff.Registers.{is_live, one_calls, is_passed_over, value_behind}
+use Rattle.agree_mean.specs.sym_diff.Agree.{Agree, AgreesIn, CallsAgree, Knows}
 use Rattle.agree_mean.proofs.Behind.{cut, own_mean, known_value, IsKnown, within_64}
 use Rattle.agree_mean.proofs.Windows.{WindowKeeps}
 use Rattle.agree_keep.proofs.Told.{Told}

@@ -14,11 +14,11 @@ use Rattle.term_tree.specs.Tree.{Tree, width_of}
 use Rattle.term_mean.specs.Meaning.{Valuation, mean}
 use Rattle.term_mean.specs.Sums.{constant}
 use Rattle.term_mean.proofs.SumLaws.{mean-constant}
-use Rattle.func_keep.specs.Outcomes.{HasEach}
-use Rattle.sym_state.specs.State.{Arg}
-use Rattle.sym_diff.specs.Compared.{arg_at, result_bits}
-use Rattle.sym_mean.specs.Means.{ArgsMean, result_width}
-use Rattle.sym_mean.proofs.Bools.{both_of}
+use Rattle.window_keep.specs.func_keep.Outcomes.{HasEach}
+use Rattle.agree_mean.specs.sym_state.State.{Arg}
+use Rattle.agree_mean.specs.sym_diff.Compared.{arg_at, result_bits}
+use Rattle.agree_mean.specs.sym_mean.Means.{ArgsMean, result_width}
+use Rattle.agree_mean.proofs.sym_mean.Bools.{both_of}
 
 same_reg : (n : ℕ) → (n == n) ≡ true
 same_reg n = grind (arith, nat_tests)

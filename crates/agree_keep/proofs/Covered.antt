@@ -20,14 +20,14 @@ use Rattle.term_tree.specs.Tree.{Tree}
 use Rattle.term_mean.specs.Meaning.{Valuation, mean}
 use Rattle.window_mean.specs.Uses.{window_uses}
 use Rattle.window_keep.specs.Same.{KnownToo}
-use Rattle.sym_state.specs.State.{Need, NeedAt, Register, Lost, Access, Divisor, Symbol}
-use Rattle.sym_diff.specs.Registers.{same_tree}
-use Rattle.sym_diff.specs.Compared.{covers, is_covered}
-use Rattle.sym_term.proofs.Steps.{same-is}
-use Rattle.sym_mean.specs.Needs.{First, is_met}
-use Rattle.sym_mean.specs.Means.{first_of, all_met}
-use Rattle.sym_mean.proofs.Bools.{both_of}
-use Rattle.sym_mean.proofs.Used.{IsGoodNeed, IsUsed}
+use Rattle.agree_mean.specs.sym_state.State.{Need, NeedAt, Register, Lost, Access, Divisor, Symbol}
+use Rattle.agree_mean.specs.sym_diff.Registers.{same_tree}
+use Rattle.agree_mean.specs.sym_diff.Compared.{covers, is_covered}
+use Rattle.agree_mean.proofs.sym_term.Steps.{same-is}
+use Rattle.agree_mean.specs.sym_mean.Needs.{First, is_met}
+use Rattle.agree_mean.specs.sym_mean.Means.{first_of, all_met}
+use Rattle.agree_mean.proofs.sym_mean.Bools.{both_of}
+use Rattle.agree_mean.proofs.sym_mean.Used.{IsGoodNeed, IsUsed}
 use Rattle.agree_mean.proofs.Codes.{asked, asked_used}
 
 same_terms : (t u : Tree) → same_tree t u ≡ true → t ≡ u

@@ -13,18 +13,18 @@ use Rattle.rtl_step.specs.declared.call.CallEvent.{CallEvent}
 use Rattle.term_tree.specs.Tree.{Tree, width_of}
 use Rattle.term_mean.specs.Meaning.{Valuation, mean}
 use Rattle.term_mean.proofs.SumLaws.{mean-constant}
-use Rattle.func_keep.specs.Outcomes.{HasEach}
+use Rattle.window_keep.specs.func_keep.Outcomes.{HasEach}
 use Rattle.window_mean.specs.Insns.{InsnsEnd, Falls, Goes, Calls, InsnsCome}
 use Rattle.window_keep.specs.Same.{SameEnd}
 use Rattle.window_keep.specs.Same as window
-use Rattle.sym_state.specs.State.{State, Call, Jump, Runs}
-use Rattle.sym_state.specs.State as symbolic
-use Rattle.sym_insns.specs.Effects.{uid_in}
-use Rattle.sym_insns.specs.Run.{run}
-use Rattle.sym_diff.specs.Compared.{target_term, arg_at}
-use Rattle.sym_diff.specs.Agree.{Agree, CallsAgree, SameCall}
-use Rattle.sym_mean.specs.Means.{EndMeans, CallMeans, ArgsMean, LeadsOn}
-use Rattle.sym_mean.proofs.LastInsn.{HandsOver, EndsWell, ends_well}
+use Rattle.agree_mean.specs.sym_state.State.{State, Call, Jump, Runs}
+use Rattle.agree_mean.specs.sym_state.State as symbolic
+use Rattle.agree_mean.specs.sym_insns.Effects.{uid_in}
+use Rattle.agree_mean.specs.sym_insns.Run.{run}
+use Rattle.agree_mean.specs.sym_diff.Compared.{target_term, arg_at}
+use Rattle.agree_mean.specs.sym_diff.Agree.{Agree, CallsAgree, SameCall}
+use Rattle.agree_mean.specs.sym_mean.Means.{EndMeans, CallMeans, ArgsMean, LeadsOn}
+use Rattle.agree_mean.proofs.sym_mean.LastInsn.{HandsOver, EndsWell, ends_well}
 use Rattle.agree_keep.proofs.Calls.{numbers_at, each_passed, widths_same}
 use Rattle.agree_keep.proofs.Told.{Told}
 

@@ -4,11 +4,11 @@ use Rattle.std.proofs.Common.{refl, ap}
 use Rattle.rtx_tree.specs.declared.function.Insn.{Insn}
 use Rattle.term_tree.specs.Tree.{Tree}
 use Rattle.window_keep.specs.Same.{SameEnd, DoKeep, CanReplace}
-use Rattle.sym_state.specs.State.{State, Runs}
-use Rattle.sym_insns.specs.Run as insns_run
-use Rattle.sym_mean.specs.Means.{first_of}
-use Rattle.sym_diff.specs.Registers.{is_live}
-use Rattle.sym_diff.specs.Agree.{Agree}
+use Rattle.agree_mean.specs.sym_state.State.{State, Runs}
+use Rattle.agree_mean.specs.sym_insns.Run as insns_run
+use Rattle.agree_mean.specs.sym_mean.Means.{first_of}
+use Rattle.agree_mean.specs.sym_diff.Registers.{is_live}
+use Rattle.agree_mean.specs.sym_diff.Agree.{Agree}
 use Rattle.agree_mean.proofs.Windows.{window_keeps}
 use Rattle.agree_keep.proofs.Behind.{agree_behind, kept_behind}
 use Rattle.agree_keep.proofs.Ends.{same_end}

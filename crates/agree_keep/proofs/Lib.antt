@@ -7,3 +7,5 @@ pub mod Calls
 pub mod Ends
 pub mod Behind
 pub mod Keeping
+pub use Rattle.agree_mean.proofs as agree_mean
+pub use Rattle.agree_mean.proofs.sym_mean as sym_mean

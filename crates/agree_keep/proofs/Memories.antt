@@ -6,10 +6,10 @@ use Rattle.rtx_tree.specs.declared.machine.RangeAt.{RangeAt}
 use Rattle.rtx_tree.specs.declared.memories.MemByte.{MemByte}
 use Rattle.rtx_tree.specs.Memories.{IsOrdered, byte_at}
 use Rattle.run_memory.specs.RunMemory.{is_visible, visible}
-use Rattle.same_behaviour.specs.Lawful.{IsByte, IsMemory}
+use Rattle.agree_mean.specs.same_behaviour.Lawful.{IsByte, IsMemory}
 use Rattle.term_mean.specs.Meaning.{Valuation}
-use Rattle.sym_mean.specs.Needs.{First}
-use Rattle.sym_mean.specs.Shows.{ShowsMemory}
+use Rattle.agree_mean.specs.sym_mean.Needs.{First}
+use Rattle.agree_mean.specs.sym_mean.Shows.{ShowsMemory}
 use Rattle.agree_mean.proofs.Visible.{all_bytes, same_seen}
 
 -- all addresses of 64 bits

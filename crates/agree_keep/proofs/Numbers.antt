@@ -10,12 +10,12 @@ use Rattle.rtx_tree.specs.declared.machine.SymbolAt.{SymbolAt}
 use Rattle.rtx_tree.specs.declared.memories.MemByte.{MemByte}
 use Rattle.rtl_step.specs.declared.regs.Known.{Known}
 use Rattle.rtl_step.specs.Regs.{Regs, known_in, reg_value}
-use Rattle.same_behaviour.specs.Lawful.{IsMemory, AreAddresses}
+use Rattle.agree_mean.specs.same_behaviour.Lawful.{IsMemory, AreAddresses}
 use Rattle.term_mean.specs.Meaning.{Valuation}
 use Rattle.window_mean.specs.Uses.{window_uses}
 use Rattle.window_keep.specs.Same.{KnownToo}
-use Rattle.sym_mean.specs.Means.{IsFirst, first_of}
-use Rattle.sym_mean.proofs.Firsts.{first_shows}
+use Rattle.agree_mean.specs.sym_mean.Means.{IsFirst, first_of}
+use Rattle.agree_mean.proofs.sym_mean.Firsts.{first_shows}
 use Rattle.agree_mean.proofs.Behind.{zero_one}
 use Rattle.agree_mean.proofs.Codes.{symbol_number, symbol_is, symbol_word, byte_number, byte_is, asked, asked_reads}
 

@@ -5,12 +5,12 @@ use Rattle.rtx_tree.specs.declared.function.Kind.{Kind}
 use Rattle.rtx_tree.specs.declared.function.Kind.TheVariants as kind
 use Rattle.reg_uses.specs.Uses.{is_return}
 use Rattle.window_keep.specs.Same.{is_plain, is_label, leads_last}
-use Rattle.sym_state.specs.State.{State, Runs, start}
-use Rattle.sym_insns.specs.Effects.{has_target}
-use Rattle.sym_insns.specs.Run.{run_from, run}
-use Rattle.sym_insns.specs.Shape.{is_shaped, fits_kind, bad_from, bad_insn}
-use Rattle.sym_mean.proofs.Bools.{both_of}
-use Rattle.sym_mean.proofs.Ways.{fits_all, does_run}
+use Rattle.agree_mean.specs.sym_state.State.{State, Runs, start}
+use Rattle.agree_mean.specs.sym_insns.Effects.{has_target}
+use Rattle.agree_mean.specs.sym_insns.Run.{run_from, run}
+use Rattle.agree_mean.specs.sym_insns.Shape.{is_shaped, fits_kind, bad_from, bad_insn}
+use Rattle.agree_mean.proofs.sym_mean.Bools.{both_of}
+use Rattle.agree_mean.proofs.sym_mean.Ways.{fits_all, does_run}
 
 last_none : (k : Kind) (i : Insn) (last : Bool) → fits_kind k i last ≡ true → not (is_label k) ≡ true
 last_none kind.Plain i last fits = refl

@@ -10,7 +10,7 @@ use Rattle.rtx_tree.specs.declared.memories.MemByte.{MemByte}
 use Rattle.rtx_tree.specs.Memories.{byte_at}
 use Rattle.rtx_tree.specs.declared.function.Insn.{Insn}
 use Rattle.rtl_step.specs.Regs.{Regs, reg_value}
-use Rattle.same_behaviour.specs.Lawful.{IsMemory, AreAddresses}
+use Rattle.agree_mean.specs.same_behaviour.Lawful.{IsMemory, AreAddresses}
 use Rattle.term_tree.specs.Tree.{Tree, width_of}
 use Rattle.term_mean.specs.Meaning.{Valuation, mean}
 use Rattle.term_mean.specs.Compared.{low_bits}
@@ -19,14 +19,14 @@ use Rattle.term_mean.proofs.CutLaws.{low-low}
 use Rattle.window_mean.specs.Insns.{InsnsCome, insns_come}
 use Rattle.window_mean.specs.Uses.{window_uses}
 use Rattle.window_keep.specs.Same.{KnownToo}
-use Rattle.sym_state.specs.State.{State, Call, Runs, own_register}
-use Rattle.sym_state.specs.Registers.{held}
-use Rattle.sym_insns.specs.Run.{run}
-use Rattle.sym_mean.specs.Needs.{First}
-use Rattle.sym_mean.specs.Means.{IsFirst, first_of, left_at, Means, IsAligned, RunMeans, Comes}
-use Rattle.sym_mean.proofs.Runs.{run_means, run_comes}
-use Rattle.sym_mean.proofs.Used.{needs_used}
-use Rattle.sym_diff.specs.Agree.{Agree, CallsAgree}
+use Rattle.agree_mean.specs.sym_state.State.{State, Call, Runs, own_register}
+use Rattle.agree_mean.specs.sym_state.Registers.{held}
+use Rattle.agree_mean.specs.sym_insns.Run.{run}
+use Rattle.agree_mean.specs.sym_mean.Needs.{First}
+use Rattle.agree_mean.specs.sym_mean.Means.{IsFirst, first_of, left_at, Means, IsAligned, RunMeans, Comes}
+use Rattle.agree_mean.proofs.sym_mean.Runs.{run_means, run_comes}
+use Rattle.agree_mean.proofs.sym_mean.Used.{needs_used}
+use Rattle.agree_mean.specs.sym_diff.Agree.{Agree, CallsAgree}
 use Rattle.agree_mean.proofs.Behind.{own_mean}
 use Rattle.agree_mean.proofs.Codes.{own_valuation, own_first, asked, asked_own}
 use Rattle.agree_mean.proofs.Twice.{first_moved, asked_met, call_aligned, shown_same}

@@ -26,19 +26,19 @@ use Rattle.window_mean.specs.Lines.{LinesEnd, LinesCome}
 use Rattle.window_mean.specs.Lines as code_lines
 use Rattle.window_mean.specs.Same.{SameEnd, Starts, LinesDo, DoSame}
 use Rattle.window_mean.specs.Same as window
-use Rattle.sym_state.specs.State.{State, Call, Jump, Runs}
-use Rattle.sym_state.specs.State as symbolic
-use Rattle.sym_insns.specs.Effects.{uid_in}
-use Rattle.sym_insns.specs.Run as insns_run
-use Rattle.sym_lines.specs.Run as lines_run
-use Rattle.sym_lines.specs.Run.{label_uid}
+use Rattle.sym_diff.specs.sym_state.State.{State, Call, Jump, Runs}
+use Rattle.sym_diff.specs.sym_state.State as symbolic
+use Rattle.line_mean.specs.sym_insns.Effects.{uid_in}
+use Rattle.line_mean.specs.sym_insns.Run as insns_run
+use Rattle.line_mean.specs.sym_lines.Run as lines_run
+use Rattle.line_mean.specs.sym_lines.Run.{label_uid}
 use Rattle.sym_diff.specs.Registers.{is_live}
 use Rattle.sym_diff.specs.Compared.{target_term, arg_at, arg_beside}
 use Rattle.sym_diff.specs.Agree.{Agree, CallsAgree, SameCall}
-use Rattle.sym_mean.specs.Means.{EndMeans, CallMeans, ArgsMean, LeadsOn}
+use Rattle.line_mean.specs.sym_mean.Means.{EndMeans, CallMeans, ArgsMean, LeadsOn}
 use Rattle.line_mean.specs.EndsLines.{EndsLines, falls, goes, calls}
-use Rattle.sym_lines.proofs.Labels.{label_uid-law}
-use Rattle.sym_mean.proofs.LastInsn.{HandsOver, EndsWell, ends_well}
+use Rattle.line_mean.proofs.sym_lines.Labels.{label_uid-law}
+use Rattle.line_mean.proofs.sym_mean.LastInsn.{HandsOver, EndsWell, ends_well}
 use Rattle.agree_mean.proofs.Windows.{window_keeps}
 use Rattle.agree_mean.proofs.LinesKeep.{lines_ordered}
 use Rattle.agree_mean.proofs.Calls.{same_args}

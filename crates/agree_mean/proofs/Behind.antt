@@ -14,7 +14,7 @@ use Rattle.term_mean.proofs.CutLaws.{low-low}
 use Rattle.term_mean.proofs.SumLaws.{mean-cut}
 use Rattle.term_mean.proofs.ComparedLaws.{mean-low_bits}
 use Rattle.window_mean.specs.Beside.{reads}
-use Rattle.sym_state.specs.State.{own_register}
+use Rattle.sym_diff.specs.sym_state.State.{own_register}
 use Rattle.sym_diff.specs.Registers.{value_behind}
 use Rattle.sym_diff.specs.Agree.{Knows}
 use Rattle.line_mean.specs.ShowsLine.{ShowsNumber}

@@ -19,12 +19,12 @@ use Rattle.term_mean.specs.Meaning.{Valuation, mean}
 use Rattle.term_mean.specs.Compared.{low_bits}
 use Rattle.term_mean.proofs.CutLaws.{low-low}
 use Rattle.term_mean.proofs.ComparedLaws.{mean-low_bits}
-use Rattle.sym_state.specs.State.{Arg, Changed, own_register}
-use Rattle.sym_state.specs.Registers.{held, term_held}
-use Rattle.sym_lines.specs.Step as lines
+use Rattle.sym_diff.specs.sym_state.State.{Arg, Changed, own_register}
+use Rattle.sym_diff.specs.sym_state.Registers.{held, term_held}
+use Rattle.line_mean.specs.sym_lines.Step as lines
 use Rattle.sym_diff.specs.Compared.{arg_at, arg_beside}
 use Rattle.same_behaviour.specs.Same.{SameArgs}
-use Rattle.sym_mean.specs.Means.{ArgMeans, ArgsMean}
+use Rattle.line_mean.specs.sym_mean.Means.{ArgMeans, ArgsMean}
 use Rattle.line_mean.specs.ShowsLine.{ShowsNumber}
 use Rattle.agree_mean.proofs.Behind.{cut, own_mean, zero_one, within_64}
 

@@ -23,10 +23,10 @@ use Rattle.rv_line.specs.declared.state.RvState.{RvState}
 use Rattle.same_behaviour.specs.Lawful.{IsMemory, IsWord, AreAddresses}
 use Rattle.term_mean.specs.Meaning.{Valuation}
 use Rattle.term_mean.proofs.CutLaws.{low-low}
-use Rattle.sym_mean.specs.Needs.{First}
-use Rattle.sym_mean.specs.Shows.{IsOf, ShowsMemory}
-use Rattle.sym_mean.specs.Means.{IsFirst, first_of}
-use Rattle.sym_mean.proofs.Firsts.{first_shows}
+use Rattle.line_mean.specs.sym_mean.Needs.{First}
+use Rattle.line_mean.specs.sym_mean.Shows.{IsOf, ShowsMemory}
+use Rattle.line_mean.specs.sym_mean.Means.{IsFirst, first_of}
+use Rattle.line_mean.proofs.sym_mean.Firsts.{first_shows}
 use Rattle.window_mean.specs.Uses.{window_uses}
 use Rattle.window_mean.specs.Beside.{reads, Agrees, Within, IsMachine, Beside}
 

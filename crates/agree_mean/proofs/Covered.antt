@@ -22,13 +22,13 @@ use Rattle.term_tree.specs.Tree.{Tree}
 use Rattle.term_mean.specs.Meaning.{Valuation, mean}
 use Rattle.window_mean.specs.Uses.{window_uses}
 use Rattle.window_mean.specs.Beside.{reads, Agrees, Within}
-use Rattle.sym_state.specs.State.{Need, NeedAt, Register, Lost, Access, Divisor, Symbol}
+use Rattle.sym_diff.specs.sym_state.State.{Need, NeedAt, Register, Lost, Access, Divisor, Symbol}
 use Rattle.sym_diff.specs.Registers.{same_tree}
 use Rattle.sym_diff.specs.Compared.{covers, is_covered}
-use Rattle.sym_term.proofs.Steps.{same-is}
-use Rattle.sym_mean.specs.Needs.{First, is_met}
-use Rattle.sym_mean.specs.Means.{first_of, all_met}
-use Rattle.sym_mean.proofs.Used.{IsGoodNeed, IsUsed}
+use Rattle.sym_diff.proofs.sym_term.Steps.{same-is}
+use Rattle.line_mean.specs.sym_mean.Needs.{First, is_met}
+use Rattle.line_mean.specs.sym_mean.Means.{first_of, all_met}
+use Rattle.line_mean.proofs.sym_mean.Used.{IsGoodNeed, IsUsed}
 use Rattle.agree_mean.proofs.Codes.{asked, asked_used}
 
 both_true : (a b : Bool) → (a && b) ≡ true → (a ≡ true) × (b ≡ true)

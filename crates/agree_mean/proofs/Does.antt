@@ -28,19 +28,19 @@ use Rattle.window_mean.specs.Lines.{LinesCome, lines_come}
 use Rattle.window_mean.specs.Uses.{window_defines}
 use Rattle.window_mean.specs.Beside.{reads, Agrees, Within, IsMachine, Beside}
 use Rattle.window_mean.specs.Same.{SameEnd, Starts, LinesDo, IsKept}
-use Rattle.sym_state.specs.State.{State, Call, Runs, own_register}
-use Rattle.sym_state.specs.Registers.{held}
-use Rattle.sym_insns.specs.Run as insns_run
-use Rattle.sym_lines.specs.Run as lines_run
-use Rattle.sym_mean.specs.Needs.{First}
-use Rattle.sym_mean.specs.Shows.{ShowsMemory, ShowsRegister}
-use Rattle.sym_mean.specs.Means.{left_at, first_of, EndMeans}
+use Rattle.sym_diff.specs.sym_state.State.{State, Call, Runs, own_register}
+use Rattle.sym_diff.specs.sym_state.Registers.{held}
+use Rattle.line_mean.specs.sym_insns.Run as insns_run
+use Rattle.line_mean.specs.sym_lines.Run as lines_run
+use Rattle.line_mean.specs.sym_mean.Needs.{First}
+use Rattle.line_mean.specs.sym_mean.Shows.{ShowsMemory, ShowsRegister}
+use Rattle.line_mean.specs.sym_mean.Means.{left_at, first_of, EndMeans}
 use Rattle.line_mean.specs.ShowsLine.{ShowsNumber}
 use Rattle.line_mean.specs.EndsLines.{EndsLines, LinesRun}
 use Rattle.sym_diff.specs.Registers.{is_live, is_free, one_calls, is_passed_over, value_behind}
 use Rattle.sym_diff.specs.Agree.{Agree, AgreesIn, Knows}
-use Rattle.sym_mean.proofs.Left.{left_value}
-use Rattle.sym_mean.proofs.Kept.{held_defined}
+use Rattle.line_mean.proofs.sym_mean.Left.{left_value}
+use Rattle.line_mean.proofs.sym_mean.Kept.{held_defined}
 use Rattle.agree_mean.proofs.Windows.{WindowKeeps, window_keeps}
 use Rattle.agree_mean.proofs.Twice as twice
 use Rattle.agree_mean.proofs.Behind.{cut, known_value, IsKnown, kept_behind, changed_behind, not_missing}

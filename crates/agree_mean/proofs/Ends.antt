@@ -25,20 +25,20 @@ use Rattle.window_mean.specs.Insns as insns
 use Rattle.window_mean.specs.Lines.{LinesCome}
 use Rattle.window_mean.specs.Beside.{Agrees, Beside}
 use Rattle.window_mean.specs.Same.{Starts, IsKept}
-use Rattle.sym_state.specs.State.{State, Call, Runs}
-use Rattle.sym_state.specs.Registers.{held, left_by_call}
-use Rattle.sym_insns.specs.Run as insns_run
-use Rattle.sym_lines.specs.Run as lines_run
-use Rattle.sym_mean.specs.Needs.{First}
-use Rattle.sym_mean.specs.Shows.{ShowsMemory}
-use Rattle.sym_mean.specs.Means.{IsFirst, first_of, all_met, EndMeans, CallMeans, IsAligned, RunMeans}
-use Rattle.sym_mean.proofs.Firsts.{first_shows}
+use Rattle.sym_diff.specs.sym_state.State.{State, Call, Runs}
+use Rattle.sym_diff.specs.sym_state.Registers.{held, left_by_call}
+use Rattle.line_mean.specs.sym_insns.Run as insns_run
+use Rattle.line_mean.specs.sym_lines.Run as lines_run
+use Rattle.line_mean.specs.sym_mean.Needs.{First}
+use Rattle.line_mean.specs.sym_mean.Shows.{ShowsMemory}
+use Rattle.line_mean.specs.sym_mean.Means.{IsFirst, first_of, all_met, EndMeans, CallMeans, IsAligned, RunMeans}
+use Rattle.line_mean.proofs.sym_mean.Firsts.{first_shows}
 use Rattle.line_mean.specs.ShowsLine.{ShowsNumber, ShowsLine}
 use Rattle.line_mean.specs.EndsLines.{EndsLines, falls, goes, calls, IsBefore, LinesRun}
 use Rattle.sym_diff.specs.Registers.{one_calls, is_passed_over}
 use Rattle.sym_diff.specs.Agree.{Agree, CallsAgree}
-use Rattle.sym_mean.proofs.Left.{held_left}
-use Rattle.sym_mean.proofs.Used.{IsUsed, needs_used}
+use Rattle.line_mean.proofs.sym_mean.Left.{held_left}
+use Rattle.line_mean.proofs.sym_mean.Used.{IsUsed, needs_used}
 use Rattle.line_mean.proofs.Runs as line_runs
 use Rattle.agree_mean.proofs.Codes.{symbol_number, symbol_is, symbol_word, byte_number, byte_is, code_number, code_is, code_reads, code_valuation, asked}
 use Rattle.agree_mean.proofs.Twice as twice

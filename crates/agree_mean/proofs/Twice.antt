@@ -22,14 +22,14 @@ use Rattle.term_mean.proofs.SumLaws.{mean-cut}
 use Rattle.window_mean.specs.Insns.{InsnsEnd, Calls, InsnsCome, insns_come}
 use Rattle.window_mean.specs.Uses.{window_uses}
 use Rattle.window_mean.specs.Beside.{Agrees, Within}
-use Rattle.sym_state.specs.State.{State, Call, Need, NeedAt, Register, Lost, Access, Divisor, Symbol, Runs}
-use Rattle.sym_state.specs.Registers.{held}
-use Rattle.sym_insns.specs.Run.{run}
-use Rattle.sym_mean.specs.Needs.{First, is_met}
-use Rattle.sym_mean.specs.Shows.{IsOf, ShowsMemory, ShowsRegister}
-use Rattle.sym_mean.specs.Means.{IsFirst, first_of, all_met, left_at, Means, CallMeans, EndMeans, IsAligned, RunMeans, Comes}
-use Rattle.sym_mean.proofs.Runs.{run_means, run_comes}
-use Rattle.sym_mean.proofs.Used.{IsGoodNeed, IsUsed, needs_used}
+use Rattle.sym_diff.specs.sym_state.State.{State, Call, Need, NeedAt, Register, Lost, Access, Divisor, Symbol, Runs}
+use Rattle.sym_diff.specs.sym_state.Registers.{held}
+use Rattle.line_mean.specs.sym_insns.Run.{run}
+use Rattle.line_mean.specs.sym_mean.Needs.{First, is_met}
+use Rattle.line_mean.specs.sym_mean.Shows.{IsOf, ShowsMemory, ShowsRegister}
+use Rattle.line_mean.specs.sym_mean.Means.{IsFirst, first_of, all_met, left_at, Means, CallMeans, EndMeans, IsAligned, RunMeans, Comes}
+use Rattle.line_mean.proofs.sym_mean.Runs.{run_means, run_comes}
+use Rattle.line_mean.proofs.sym_mean.Used.{IsGoodNeed, IsUsed, needs_used}
 use Rattle.agree_mean.proofs.Codes.{own_number, own_valuation, own_first, asked, asked_used, asked_own, asked_first, code_number, code_valuation}
 
 -- a valuation with the same registers, symbols and first memory is one of the same beginning

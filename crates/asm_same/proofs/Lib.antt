@@ -1,1 +1,2 @@
 pub mod Same
+pub use Rattle.asm_text.proofs as asm_text

@@ -6,3 +6,5 @@ pub mod Behaviour
 pub mod Parts
 pub mod Comes
 pub mod CodeLaws
+pub use Rattle.func_after.proofs as func_after
+pub use Rattle.func_after.proofs.insn_keep as insn_keep

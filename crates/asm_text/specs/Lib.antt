@@ -5,3 +5,4 @@ pub mod Lines
 pub mod Same
 pub mod Code
 pub mod machine
+pub use Rattle.func_after.specs as func_after

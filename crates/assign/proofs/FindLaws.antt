@@ -1,6 +1,6 @@
 -- What is found first, and what some and none of the first elements of a list pass.
-use Rattle.std.proofs.Common.{◌≡◌, ℕ, zero, suc, ◌<◌, Bool, true, false, ◌⊎◌, List, [], ◌∷◌, ◌++◌, length, take, Option, Some, None, cond, refl, sym, ap, ◌∙◌, inl, inr, arith}
-use Rattle.std.specs.Prelude.{slice_get}
+use Rattle.std.proofs.Common.{◌≡◌, ℕ, zero, suc, ◌<◌, Bool, true, false, ◌⊎◌, List, [], ◌∷◌, ◌++◌, length, take, Some, None, cond, refl, sym, ap, ◌∙◌, inl, inr, arith}
+use Rattle.std.specs.Prelude.{slice_get, All}
 use Rattle.std.specs.List.{list_any, find}
 use Rattle.std.proofs.lemmas.Bool.{cases_Bool, or_cases, or_parts, false≢true}
 use Rattle.std.proofs.lemmas.Option.{same_Some, none-some}
@@ -53,9 +53,9 @@ find_none f (y ∷ xs) (suc i) x e w =
       | inr n ↦ find_none f xs i x (sym (ap (λ b. cond b (Some y) (find f xs)) n) ∙ e) w
     ]
 
-pub find_same : {X : Type 0} (f g : X → Bool) (xs : List X) → ((x : X) → f x ≡ g x) → find f xs ≡ find g xs
-find_same f g [] h = refl
-find_same f g (x ∷ xs) h = ap (λ b. cond b (Some x) (find f xs)) (h x) ∙ ap (λ o. cond (g x) (Some x) o) (find_same f g xs h)
+pub find_within : {X : Type 0} (f g : X → Bool) (xs : List X) → All (λ x. f x ≡ g x) xs → find f xs ≡ find g xs
+find_within f g [] h = refl
+find_within f g (x ∷ xs) h = ap (λ b. cond b (Some x) (find f xs)) (h 0 x (omega arith)) ∙ ap (λ o. cond (g x) (Some x) o) (find_within f g xs (λ k d l. h (suc k) d (omega arith)))
 
 pub slice_get-push : {X : Type 0} (xs : List X) (y : X) (k : ℕ) (x : X) → slice_get (xs ++ y ∷ []) k ≡ Some x → ((k < length xs) × (slice_get xs k ≡ Some x)) ⊎ ((k ≡ length xs) × (y ≡ x))
 slice_get-push [] y zero x e = inr (refl, same_Some y x e)

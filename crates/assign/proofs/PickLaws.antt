@@ -1,15 +1,17 @@
 -- Homes that are picked by a test of conflict, one pseudo after another.
-use Rattle.std.proofs.Common.{◌≡◌, ℕ, ◌<◌, Bool, true, false, not, ◌&&◌, ◌⊎◌, eqb, List, [], ◌∷◌, ◌++◌, length, take, Option, Some, None, refl, sym, ap, ◌∙◌, inl, inr, arith}
-use Rattle.std.specs.Prelude.{slice_get}
+use Rattle.std.proofs.Common.{◌≡◌, ◌≢◌, ℕ, ◌+◌, ◌<◌, ◌≤◌, Bool, true, false, not, ◌||◌, ◌&&◌, eqb, ltb, List, [], ◌∷◌, ◌++◌, length, get_or, take, Option, Some, None, refl, sym, ap, subst, ◌∙◌, inl, inr, arith}
+use Rattle.std.specs.Prelude.{slice_get, All}
 use Rattle.std.specs.List.{list_any, find}
-use Rattle.std.proofs.lemmas.Bool.{and_parts, and_cases, not-true, not-false, false≢true, true≢false, eqb-true, eq-eqb}
-use Rattle.std.proofs.lemmas.List.{take-append-le, take_at}
+use Rattle.std.proofs.lemmas.Bool.{cases_eq, cases_lt, and_parts, and_cases, not-true, not-false, false≢true, true≢false, eqb-true, eq-eqb, ne_eqb, lt-ltb, le-ltb}
+use Rattle.std.proofs.lemmas.List.Folds.{list_any-append}
+use Rattle.std.proofs.lemmas.List.{take-append-le, take_all, take_at}
 use Rattle.assign.specs.declared.home.Home.{Home}
 use Rattle.assign.specs.declared.home.Home.TheVariants.{Hard, Slot}
 use Rattle.assign.specs.declared.home.HomeOf.{HomeOf}
+use Rattle.reg_rows.specs.Table.{has_at}
 use Rattle.assign.specs.Homes.{register}
-use Rattle.assign.specs.machine.Picked.{is_hard, clashes, is_free, home_from, IsPicked, IsRefused}
-use Rattle.assign.proofs.FindLaws.{some_of, none_of, find_first, find_none, find_same, slice_get-push}
+use Rattle.assign.specs.machine.Picked.{is_hard, clashes, is_free, home_from, beside, AreBlocked, IsPicked, IsRefused}
+use Rattle.assign.proofs.FindLaws.{some_of, none_of, find_first, find_none, find_within, slice_get-push}
 
 is_hard-true : (home : Home) (h : ℕ) → is_hard home h ≡ true → home ≡ Hard h
 is_hard-true (Hard r) h e = ap Hard (eqb-true r h e)
@@ -71,6 +73,68 @@ IsPicked-push c order homes y picked e k x at =
       | inr (l, s) ↦ ap (λ z. z.home) (sym s) ∙ (e ∙ (ap (λ z. home_from (find (is_free c homes (register z)) order)) s ∙ ap (λ held. home_from (find (is_free c held (register x)) order)) (sym (take_at homes (y ∷ []) k (sym l)))))
     ]
 
--- a register is free where it is not marked
-pub first_unmarked : (c : ℕ → ℕ → Bool) (order : List ℕ) (held : List HomeOf) (p : ℕ) (marked : ℕ → Bool) → ((h : ℕ) → marked h ≡ list_any (clashes c p h) held) → find (λ h. not (c p h) && not (marked h)) order ≡ find (is_free c held p) order
-first_unmarked c order held p marked m = find_same _ _ order (λ h. ap (λ b. not (c p h) && not b) (m h))
+-- ---- hard registers that are blocked
+
+not_or : (a b : Bool) → not (a || b) ≡ (not a && not b)
+not_or true b = refl
+not_or false b = refl
+
+or_nil : (b : Bool) → (b || false) ≡ b
+or_nil true = refl
+or_nil false = refl
+
+or_out : (o a r : Bool) → (o || ((a && false) && r)) ≡ o
+or_out true a r = refl
+or_out false true r = refl
+or_out false false r = refl
+
+or_assoc : (a b c : Bool) → ((a || b) || c) ≡ (a || (b || c))
+or_assoc true b c = refl
+or_assoc false b c = refl
+
+-- the rows below k are those of the conflicts, and the others have no register
+abbrev pub AreOwn : List (List ℕ) → ℕ → List (List ℕ) → Type 0
+AreOwn rows k blocked = (x y : ℕ) → has_at blocked x y ≡ (ltb x k && has_at rows x y)
+
+own_here : (k : ℕ) (r : Bool) → k < 64 → ((ltb k k && r) || ((ltb k 64 && eqb k k) && r)) ≡ (ltb k (k + 1) && r)
+own_here k r small =
+    ap (λ b. (b && r) || ((ltb k 64 && eqb k k) && r)) (le-ltb k k (omega arith)) ∙
+    (ap (λ b. (b && eqb k k) && r) (lt-ltb k 64 small) ∙ (ap (λ b. b && r) (eq-eqb k k refl) ∙ sym (ap (λ b. b && r) (lt-ltb k (k + 1) (omega arith)))))
+
+pub AreOwn-more : (rows old new : List (List ℕ)) (k : ℕ) → k < 64 → AreOwn rows k old → ((x y : ℕ) → has_at new x y ≡ (has_at old x y || ((ltb x 64 && eqb k x) && has_at rows k y))) → AreOwn rows (k + 1) new
+AreOwn-more rows old new k small own each x y =
+    each x y ∙ (ap (λ b. b || ((ltb x 64 && eqb k x) && has_at rows k y)) (own x y) ∙ elim (cases_eq k x) [
+      | inl e ↦ subst (λ (z : ℕ). ((ltb z k && has_at rows z y) || ((ltb z 64 && eqb k z) && has_at rows k y)) ≡ (ltb z (k + 1) && has_at rows z y)) e (own_here k (has_at rows k y) small)
+      | inr ne ↦
+          ap (λ b. (ltb x k && has_at rows x y) || ((ltb x 64 && b) && has_at rows k y)) (ne_eqb k x ne) ∙
+          (or_out (ltb x k && has_at rows x y) (ltb x 64) (has_at rows k y) ∙ ap (λ b. b && has_at rows x y) (other x k ne))
+    ])
+  where
+    other : (x k : ℕ) → k ≢ x → ltb x k ≡ ltb x (k + 1)
+    other x k ne =
+        elim (cases_lt x k) [
+          | inl l ↦ lt-ltb x k l ∙ sym (lt-ltb x (k + 1) (omega arith))
+          | inr ge ↦ le-ltb x k ge ∙ sym (le-ltb x (k + 1) (omega arith))
+        ]
+
+pub AreBlocked-own : (rows blocked : List (List ℕ)) (k : ℕ) → 64 ≤ k → AreOwn rows k blocked → AreBlocked rows [] blocked
+AreBlocked-own rows blocked k le own hard reg l = own hard reg ∙ (ap (λ b. b && has_at rows hard reg) (lt-ltb hard k (omega arith)) ∙ sym (or_nil (has_at rows hard reg)))
+
+-- one holder more
+pub AreBlocked-push : (rows : List (List ℕ)) (homes : List HomeOf) (old new : List (List ℕ)) (x : HomeOf) → AreBlocked rows homes old → ((h r : ℕ) → has_at new h r ≡ (has_at old h r || ((ltb h 64 && is_hard x.home h) && has_at rows (register x) r))) → AreBlocked rows (homes ++ x ∷ []) new
+AreBlocked-push rows homes old new x blocked each h r l =
+    let own = beside rows r h in
+    let held = list_any (clashes (beside rows) r h) homes in
+    let here = clashes (beside rows) r h x in
+    each h r ∙ (ap (λ b. b || ((ltb h 64 && is_hard x.home h) && has_at rows (register x) r)) (blocked h r l) ∙
+    (ap (λ b. (own || held) || ((b && is_hard x.home h) && has_at rows (register x) r)) (lt-ltb h 64 l) ∙
+    (or_assoc own held here ∙ ap (λ b. own || b) (ap (λ b. held || b) (sym (or_nil here)) ∙ sym (list_any-append (clashes (beside rows) r h) homes (x ∷ []))))))
+
+-- a register is free where it is not blocked
+pub first_unblocked : (rows : List (List ℕ)) (order : List ℕ) (held : List HomeOf) (blocked : List (List ℕ)) (p : ℕ) → All (λ h. h < 64) order → AreBlocked rows held blocked → find (λ h. not (has_at blocked h p)) order ≡ find (is_free (beside rows) held p) order
+first_unblocked rows order held blocked p small are =
+    find_within _ _ order (λ k d l. ap not (are (get_or order k d) p (small k d l)) ∙ not_or (beside rows p (get_or order k d)) (list_any (clashes (beside rows) p (get_or order k d)) held))
+
+-- a list that is written back whole
+pub whole : {X : Type 0} (n : ℕ) (xs ys : List X) → n ≡ length xs → take n (xs ++ ys) ≡ xs
+whole n xs ys e = take-append-le n xs ys (omega arith) ∙ take_all n xs (omega arith)

@@ -3,19 +3,18 @@ ghost use Rattle.std.specs.Prelude.{◌≡◌, ℕ, ◌*◌, ◌<◌, ◌≤◌,
 ghost use Rattle.rtx_tree.specs.Registers as registers;
 ghost use Rattle.rv_regs.specs.Registers as tables;
 ghost use Rattle.reg_rows.specs.Row.{has};
-ghost use Rattle.reg_conflicts.specs.Conflicts.{has_conflict};
-ghost use Rattle.live.specs.Live.{IsLiveness};
+ghost use Rattle.reg_rows.specs.Table.{IsTable};
+ghost use Rattle.reg_conflicts.specs.live.Live.{AreLiveRows, HaveRoom};
 ghost use Rattle.assign.specs.declared.home.HomeOf.{HomeOf};
 ghost use Rattle.assign.specs.Homes.{AreHomes};
 ghost use Rattle.assign.specs.machine.Named.{stands_in};
-ghost use Rattle.assign.specs.machine.Picked.{IsPicked};
+ghost use Rattle.assign.specs.machine.Picked.{beside, IsPicked};
 
 use crate::home::Homes;
 use crate::named::{pseudos_of, registers_of};
 use crate::pick::pick;
-use live::Live;
 use plain_data::Memory;
-use reg_conflicts::conflict_rows;
+use reg_conflicts::{conflict_rows, width_of_rows};
 use reg_rows::{RegRow, width_of};
 use rtx_tree::{Function, Insn};
 use rv_regs::allocation_order;
@@ -40,26 +39,34 @@ fn named_row(alloc: Global, insns: &[Insn]) -> Result<RegRow, Memory>
 }
 
 /// Picks in the allocation order.
-fn pick_in_order(alloc: Global, rows: &[RegRow], pseudos: &[u32]) -> Result<Homes, Memory>
-    requires { All (λ k. registers.pseudo k < 2 ^ 32) pseudos.now }
+fn pick_in_order(
+    alloc: Global,
+    rows: &[RegRow],
+    width: usize,
+    pseudos: &[u32],
+) -> Result<Homes, Memory>
+    requires table { IsTable width rows.now }
+    requires pseudos { All (λ k. registers.pseudo k < 2 ^ 32) pseudos.now }
     ensures pseudos { IfOk result (λ homes. map (λ x. x.pseudo) homes ≡ pseudos.now) }
-    ensures picked { IfOk result (λ homes. IsPicked (has_conflict rows.now) tables.allocation_order homes) }
+    ensures picked { IfOk result (λ homes. IsPicked (beside rows.now) tables.allocation_order homes) }
 {
     let order = allocation_order();
-    let homes = pick(alloc, rows, &order, pseudos)?;
+    let homes = pick(alloc, rows, width, &order, pseudos)?;
     Ok(homes)
 }
 
-/// A home for each pseudo register that the function names: a hard register, or a slot. The sets are those of the registers that are
+/// A home for each pseudo register that the function names: a hard register, or a slot. The rows are those of the registers that are
 /// live in this function. A register from 2^32 - 64 on and a chain of 2^32 places or more find no memory.
-pub fn assign(alloc: Global, f: &Function, live: &Live) -> Result<Homes, Memory>
-    requires { IsLiveness f.now live.now }
+pub fn assign(alloc: Global, f: &Function, live: &[RegRow]) -> Result<Homes, Memory>
+    requires live { AreLiveRows f.now live.now }
+    requires room { HaveRoom f.now live.now }
     ensures homes { IfOk result (λ homes. AreHomes f.now homes) }
     ensures one { IfOk result (λ homes. (other : List HomeOf) → AreHomes f.now other → other ≡ homes) }
 {
     let named = named_row(alloc, f.insns.as_slice())?;
     let pseudos = pseudos_of(alloc, &named)?;
-    let rows = conflict_rows(alloc, f, live, named.width())?;
-    let homes = pick_in_order(alloc, rows.as_slice(), pseudos.as_slice())?;
+    let rows = conflict_rows(alloc, f, live)?;
+    let width = width_of_rows(live);
+    let homes = pick_in_order(alloc, rows.as_slice(), width, pseudos.as_slice())?;
     Ok(homes)
 }

@@ -1,82 +1,92 @@
 //! The first register that is free, for each pseudo in turn.
-ghost use Rattle.std.specs.Prelude.{◌≡◌, ℕ, ◌*◌, ◌<◌, ◌^◌, ◌&&◌, not, false, length, map, All, IfOk};
-ghost use Rattle.std.specs.List.{list_any, find};
+ghost use Rattle.std.specs.Prelude.{◌≡◌, ℕ, ◌<◌, ◌^◌, ◌==◌, ◌||◌, ◌&&◌, not, nat_lt, length, vec_len, map, [], All, IfOk};
+ghost use Rattle.std.specs.List.{find};
 ghost use Rattle.rtx_tree.specs.Registers as registers;
-ghost use Rattle.reg_rows.specs.Row.{has};
-ghost use Rattle.reg_conflicts.specs.Conflicts.{has_conflict};
-ghost use Rattle.assign.specs.machine.Picked.{clashes, is_free, home_from, IsPicked};
+ghost use Rattle.reg_rows.specs.Table.{has_at, IsTable};
+ghost use Rattle.assign.specs.machine.Picked.{beside, is_hard, home_from, AreAlike, AreBlocked, IsPicked};
 
 use crate::home::{Home, HomeOf, Homes};
 use plain_data::Memory;
-use reg_conflicts::conflict;
-use reg_rows::RegRow;
+use reg_rows::{RegRow, empty_rows, has, join_row};
 use rtx_tree::FIRST_PSEUDO;
 use std::alloc::Global;
 
-// room for each `u8`
-const MARKS: usize = 4;
-
-fn number_of(reg: u8) -> u32
-    ensures value { result ≡ reg }
-    ensures small { result < 256 }
+/// Blocks a hard register for the registers of the row of register `reg`.
+fn block(rows: &[RegRow], reg: u32, hard: usize, blocked: &mut [RegRow])
+    requires { AreAlike rows.now blocked.old }
+    ensures alike { AreAlike rows.now blocked.new }
+    ensures each { (x y : ℕ) → has_at blocked.new x y ≡
+        (has_at blocked.old x y || ((nat_lt x (length blocked.old) && hard == x) && has_at rows.now reg y)) }
 {
-    u32::from(reg)
-}
-
-/// Marks the registers with a holder that register `reg` conflicts with.
-fn block(rows: &[RegRow], homes: &[HomeOf], reg: u32, marks: &mut RegRow)
-    requires room { length marks.old ≡ 4 }
-    requires small { All (λ x. registers.pseudo x.pseudo < 2 ^ 32) homes.now }
-    requires none { (hard : ℕ) → has marks.old hard ≡ false }
-    ensures room { length marks.new ≡ 4 }
-    ensures each { (hard : ℕ) → has marks.new hard ≡ list_any (clashes (has_conflict rows.now) reg hard) homes.now }
-{
-    for x in homes {
-        if let Home::Hard { reg: hard } = x.home
-            && conflict(rows, reg, FIRST_PSEUDO + x.pseudo)
-        {
-            marks.insert(number_of(hard));
-        }
+    if let Some(row) = rows.get(reg as usize)
+        && hard < blocked.len()
+    {
+        let _ = join_row(blocked, hard, row);
     }
 }
 
-/// The first register of the order that is not marked and does not conflict itself, else a slot.
-fn first_free(rows: &[RegRow], order: &[u8], reg: u32, marks: &RegRow) -> Home
-    ensures { result ≡ home_from (find (λ hard. not (has_conflict rows.now reg hard) && not (has marks.now hard)) order.now) }
+/// For each hard register the registers that can't have it since they conflict with it. The rows are of so many words.
+fn blocked_by_own(alloc: Global, rows: &[RegRow], width: usize) -> Result<Vec<RegRow>, Memory>
+    requires { IsTable width rows.now }
+    ensures long { IfOk result (λ blocked. vec_len blocked ≡ 64) }
+    ensures alike { IfOk result (λ blocked. AreAlike rows.now blocked.items) }
+    ensures blocked { IfOk result (λ blocked. AreBlocked rows.now [] blocked.items) }
+{
+    let mut blocked = empty_rows(alloc, FIRST_PSEUDO as usize, width)?;
+    for hard in 0..FIRST_PSEUDO {
+        block(rows, hard, hard as usize, blocked.as_mut_slice());
+    }
+    Ok(blocked)
+}
+
+/// The first register of the order that is not blocked for register `reg`, else a slot.
+fn first_free(blocked: &[RegRow], order: &[u8], reg: u32) -> Home
+    ensures { result ≡ home_from (find (λ hard. not (has_at blocked.now hard reg)) order.now) }
 {
     for hard in order {
         let hard = *hard;
-        if !conflict(rows, reg, u32::from(hard)) && !marks.contains(u32::from(hard)) {
+        if !has(blocked, usize::from(hard), reg) {
             return Home::Hard { reg: hard };
         }
     }
     Home::Slot
 }
 
-/// The home of one register more.
-fn home_for(rows: &[RegRow], order: &[u8], homes: &[HomeOf], reg: u32, marks: &mut RegRow) -> Home
-    requires room { length marks.old ≡ 4 }
-    requires small { All (λ x. registers.pseudo x.pseudo < 2 ^ 32) homes.now }
-    ensures room { length marks.new ≡ 4 }
-    ensures home { result ≡ home_from (find (is_free (has_conflict rows.now) homes.now reg) order.now) }
+/// Blocks a register's home for those that conflict with the register.
+fn block_home(rows: &[RegRow], reg: u32, home: Home, blocked: &mut [RegRow])
+    requires { AreAlike rows.now blocked.old }
+    ensures alike { AreAlike rows.now blocked.new }
+    ensures each { (x y : ℕ) → has_at blocked.new x y ≡
+        (has_at blocked.old x y || ((nat_lt x (length blocked.old) && is_hard home x) && has_at rows.now reg y)) }
 {
-    marks.clear();
-    block(rows, homes, reg, marks);
-    first_free(rows, order, reg, marks)
+    match home {
+        Home::Hard { reg: hard } => block(rows, reg, usize::from(hard), blocked),
+        Home::Slot => {}
+    }
 }
 
-/// Gives each pseudo, in their order, the first register of the order that is free beside the earlier ones, else a slot.
-pub fn pick(alloc: Global, rows: &[RegRow], order: &[u8], pseudos: &[u32]) -> Result<Homes, Memory>
-    requires { All (λ k. registers.pseudo k < 2 ^ 32) pseudos.now }
+/// Gives each pseudo, in their order, the first register of the order that is free beside the earlier ones, else a slot. The rows,
+/// each with the registers that its own conflicts with, are of so many words.
+pub fn pick(
+    alloc: Global,
+    rows: &[RegRow],
+    width: usize,
+    order: &[u8],
+    pseudos: &[u32],
+) -> Result<Homes, Memory>
+    requires table { IsTable width rows.now }
+    requires order { All (λ hard. hard < 64) order.now }
+    requires pseudos { All (λ k. registers.pseudo k < 2 ^ 32) pseudos.now }
     ensures pseudos { IfOk result (λ homes. map (λ x. x.pseudo) homes ≡ pseudos.now) }
-    ensures picked { IfOk result (λ homes. IsPicked (has_conflict rows.now) order.now homes) }
+    ensures picked { IfOk result (λ homes. IsPicked (beside rows.now) order.now homes) }
 {
     let mut homes = Homes::new(alloc);
-    let mut marks = RegRow::new(alloc, MARKS)?;
+    let mut blocked = blocked_by_own(alloc, rows, width)?;
     for pseudo in pseudos {
         let pseudo = *pseudo;
         let reg = FIRST_PSEUDO + pseudo;
-        let home = home_for(rows, order, homes.as_slice(), reg, &mut marks);
+        let home = first_free(blocked.as_slice(), order, reg);
+        block_home(rows, reg, home, blocked.as_mut_slice());
         homes.push(HomeOf { pseudo, home })?;
     }
     Ok(homes)

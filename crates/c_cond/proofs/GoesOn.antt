@@ -32,7 +32,7 @@ use Rattle.c_words.proofs.Codes.{none_that}
 use Rattle.c_words.proofs.Listed.{Known, both, known_code, known_constant, known_keyword, known_mode, known_target, or_first, or_second, same_bytes}
 use Rattle.c_words.specs.Words.{call_name, keyword_name, all_keywords, keyword_named, mode_named, small, is_small, code_of_name, code_with_name, code_named, is_target, constant_named}
 use Rattle.c_words.specs.Atoms.{atom_of, atom_of_name, predicate_or_nothing, target_number}
-use Rattle.text_words.specs.Numbers.{c_number_in}
+use Rattle.c_words.specs.text_words.Numbers.{c_number_in}
 use Rattle.c_words.specs.Tokens.{in_word, is_no_word, operator_with_equals, operator_of_two, token_of_byte, number_or_bad, token_of_run}
 use Rattle.c_cond.specs.machine.Steps.{by_atom, operand_by, takes_expression, takes, passed}
 use Rattle.c_cond.specs.machine.Front.{is_taken, run_taken, word_taken, run_goes_on, second_bytes, operator_taken, byte_goes_on}

@@ -17,3 +17,4 @@ pub mod Shorter
 pub mod GoesOn
 pub mod Pendings
 pub mod Outside
+pub use Rattle.c_words.proofs as c_words

@@ -15,7 +15,7 @@ use Rattle.c_cond.specs.declared.goal.Goal.{Goal}
 use Rattle.c_cond.specs.declared.parser.Parser.{Parser}
 use Rattle.c_words.specs.declared.lexer.Pending.{Pending}
 use Rattle.c_words.specs.declared.lexer.Pending.TheVariants as pending
-use Rattle.text_words.specs.Blanks.{is_blank}
+use Rattle.c_words.specs.text_words.Blanks.{is_blank}
 use Rattle.c_words.specs.Tokens.{in_word, token_of_run, token_of_byte, operator_of_two}
 use Rattle.c_words.specs.machine.Lexing.{begun, behind_run, behind_two, read_all}
 use Rattle.c_words.specs.declared.lexer.Lexer.{Lexer}

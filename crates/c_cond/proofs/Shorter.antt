@@ -1,7 +1,7 @@
 -- What begins a number is a number that is no greater, or 0x.
 use Rattle.std.proofs.Common.{◌≡◌, ℕ, ◌+◌, ◌*◌, ◌^◌, ◌≤◌, ◌==◌, nat_lt, Bool, true, false, cond, List, [], ◌∷◌, ◌++◌, Option, Some, None, refl, arith, ◌⊎◌, inl, inr, ◌||◌}
 use Rattle.std.specs.Prelude.{option_and_then}
-use Rattle.text_words.specs.Numbers.{digit_in, with_digit, read_digits, behind_zero, c_number_in}
+use Rattle.c_words.specs.text_words.Numbers.{digit_in, with_digit, read_digits, behind_zero, c_number_in}
 
 some_is : {A : Type 0} {x y : A} → Some x ≡ Some y → x ≡ y
 some_is e = cc

@@ -2,8 +2,8 @@
 use Rattle.std.proofs.Common.{◌≡◌, ℕ, zero, suc, ◌+◌, ◌≤◌, List, [], ◌∷◌, ◌++◌, length, map, take, drop, refl, sym, ap, ◌∙◌, add-one, arith, length-drop}
 use Rattle.std.specs.Prelude.{reverse}
 use Rattle.std.proofs.lemmas.List.{map-append, reverse-append, take_all, drop_all}
-use Rattle.c_words.specs.declared.head.CondHead.{CondHead}
-use Rattle.c_words.specs.declared.head.CondHead.TheVariants as head
+use Rattle.c_cond.specs.c_words.declared.head.CondHead.{CondHead}
+use Rattle.c_cond.specs.c_words.declared.head.CondHead.TheVariants as head
 use Rattle.c_cond.specs.declared.tree.Tree.{Tree}
 use Rattle.c_cond.specs.declared.tree.Tree.TheFolds.{fold-roll-Tree}
 use Rattle.c_cond.specs.Tree.{tree_of}

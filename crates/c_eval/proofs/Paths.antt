@@ -1,7 +1,7 @@
 -- The part on the path, where it ends here.
 use Rattle.std.proofs.Common.{◌≡◌, ◌≢◌, ℕ, Bool, true, false, ◌==◌, if◌then◌else◌, List, Option, Some, None, refl, ap, sym, subst, ◌∙◌}
 use Rattle.std.proofs.lemmas.Bool.Decides.{Decides-eqb}
-use Rattle.c_words.specs.declared.head.CondHead.{CondHead}
+use Rattle.c_cond.specs.c_words.declared.head.CondHead.{CondHead}
 use Rattle.c_eval.specs.declared.reading.Reading.{Reading}
 use Rattle.c_eval.specs.declared.walk.Part.{Part}
 use Rattle.c_eval.specs.machine.Places.{IsPart, IsPath, ending_at, IsOff}

@@ -16,8 +16,8 @@ use Rattle.rtx_tree.specs.declared.tree.Rtx.TheFolds.{fold-roll-Rtx, ind-Rtx}
 use Rattle.rtx_tree.specs.Code.{code_name, mode_name}
 use Rattle.rtx_tree.specs.Tree.{RtxHead, head_of, kids_of}
 use Rattle.rtx_tree.proofs.Trees.{same_parts, head_of-tree, kids_of-tree}
-use Rattle.c_words.specs.Words.{code_of_name}
-use Rattle.c_words.proofs.Codes.{named_is}
+use Rattle.c_cond.specs.c_words.Words.{code_of_name}
+use Rattle.c_cond.proofs.c_words.Codes.{named_is}
 use Rattle.c_eval.specs.Value.{same_code, same_mode, all_same, same_step, same_tree}
 
 -- two tests of one fact have one answer

@@ -2,7 +2,7 @@
 use Rattle.std.proofs.Common.{◌≡◌, ℕ, zero, suc, ◌+◌, ◌-◌, ◌<◌, ◌≤◌, List, [], ◌∷◌, ◌++◌, length, take, drop, get_or, refl, sym, ap, ◌∙◌, arith, length-drop}
 use Rattle.std.specs.Prelude.{reverse}
 use Rattle.std.proofs.lemmas.List.{take_more, drop-drop, get_or_default}
-use Rattle.c_words.specs.declared.head.CondHead.{CondHead}
+use Rattle.c_cond.specs.c_words.declared.head.CondHead.{CondHead}
 use Rattle.c_cond.specs.declared.tree.Tree.{Tree}
 use Rattle.c_cond.specs.Tree.{node, size_of, grown}
 use Rattle.c_eval.specs.machine.Places.{trees_at, count_at}

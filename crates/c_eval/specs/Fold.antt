@@ -1,6 +1,6 @@
 -- What a tree is read as, by its heads.
 use Rattle.std.specs.Prelude.{List}
-use Rattle.c_words.specs.declared.head.CondHead.{CondHead}
+use Rattle.c_cond.specs.c_words.declared.head.CondHead.{CondHead}
 use Rattle.c_cond.specs.declared.tree.Tree.{Tree}
 use Rattle.c_cond.specs.declared.tree.Tree.TheOpen.{Tree-F}
 use Rattle.c_cond.specs.declared.tree.Tree.TheFolds.{fold-Tree}

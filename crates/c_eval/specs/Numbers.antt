@@ -3,10 +3,10 @@
 use Rattle.std.specs.Prelude.{ℕ, ℤ, pos, negsuc, nat_lt, Bool, false, not, Option, Some, None, if◌then◌else◌, option_and_then, int_lt}
 use Rattle.std.specs.Int.{w64, int_wrapping_add, int_wrapping_sub, int_wrapping_mul, int_wrapping_neg, int_bit_and, int_bit_or, int_bit_xor, int_bit_not, int_shl, int_shr}
 use Rattle.std.specs.Ordering.{int_eq}
-use Rattle.c_words.specs.declared.head.Binary.{Binary}
-use Rattle.c_words.specs.declared.head.Binary.TheVariants as binary
-use Rattle.c_words.specs.declared.head.Unary.{Unary}
-use Rattle.c_words.specs.declared.head.Unary.TheVariants as unary
+use Rattle.c_cond.specs.c_words.declared.head.Binary.{Binary}
+use Rattle.c_cond.specs.c_words.declared.head.Binary.TheVariants as binary
+use Rattle.c_cond.specs.c_words.declared.head.Unary.{Unary}
+use Rattle.c_cond.specs.c_words.declared.head.Unary.TheVariants as unary
 
 -- 1 for true and 0 for false
 abbrev pub truth : Bool → ℤ

@@ -13,10 +13,10 @@ use Rattle.rtx_tree.specs.declared.tree.Rtx.TheFolds.{fold-Rtx}
 use Rattle.rtx_tree.specs.Code.{code_name, mode_name}
 use Rattle.rtx_tree.specs.Operands.{operand_at}
 use Rattle.rtx_tree.specs.RegSet.{has_reg}
-use Rattle.c_words.specs.declared.head.Call.{Call}
-use Rattle.c_words.specs.declared.head.Call.TheVariants as call
-use Rattle.c_words.specs.declared.head.CondHead.{CondHead}
-use Rattle.c_words.specs.declared.head.CondHead.TheVariants as head
+use Rattle.c_cond.specs.c_words.declared.head.Call.{Call}
+use Rattle.c_cond.specs.c_words.declared.head.Call.TheVariants as call
+use Rattle.c_cond.specs.c_words.declared.head.CondHead.{CondHead}
+use Rattle.c_cond.specs.c_words.declared.head.CondHead.TheVariants as head
 use Rattle.c_cond.specs.declared.tree.Tree.{Tree}
 use Rattle.c_eval.specs.declared.facts.Facts.{Facts}
 use Rattle.c_eval.specs.declared.reading.Reading.{Reading}

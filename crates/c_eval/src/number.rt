@@ -1,6 +1,6 @@
 //! What the operators of C do to signed numbers of 64 bits that wrap.
 ghost use Rattle.std.specs.Prelude.{◌≡◌, ◌↔◌, ◌≤ℤ◌, ◌<ℤ◌, pos, IsTrue};
-ghost use Rattle.c_words.specs.declared.head.Binary.TheVariants as Binary;
+ghost use Rattle.c_cond.specs.c_words.declared.head.Binary.TheVariants as Binary;
 ghost use Rattle.c_eval.specs.Numbers as spec;
 ghost use Rattle.c_eval.specs.Value as values;
 

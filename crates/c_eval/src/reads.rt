@@ -1,6 +1,6 @@
 //! How heads are read.
 ghost use Rattle.std.specs.Prelude.{◌≡◌, List};
-ghost use Rattle.c_words.specs.declared.head.CondHead.{CondHead};
+ghost use Rattle.c_cond.specs.c_words.declared.head.CondHead.{CondHead};
 ghost use Rattle.c_eval.specs.declared.reading.Reading.{Reading};
 
 use crate::reading::Reading;

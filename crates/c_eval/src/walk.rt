@@ -5,7 +5,7 @@
 //! many heads. So calls are nested no deeper than a number has bits, however deep the tree is; and no
 //! memory is taken.
 ghost use Rattle.std.specs.Prelude.{◌≡◌, ℕ, ◌+◌, ◌<◌, ◌≤◌, ◌^◌, length};
-ghost use Rattle.c_words.specs.declared.head.CondHead.TheVariants as CondHead;
+ghost use Rattle.c_cond.specs.c_words.declared.head.CondHead.TheVariants as CondHead;
 ghost use Rattle.c_cond.specs.Tree as tree;
 ghost use Rattle.c_eval.specs.Fold.{fold_by};
 ghost use Rattle.c_eval.specs.machine.Places as places;

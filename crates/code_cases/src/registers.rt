@@ -3,13 +3,13 @@ use crate::parts::{function_in, halves, numbers};
 use assign::{Home, Homes, Layout, assign, layout};
 use case_text::Told;
 use lisp_read::{Tree, atom, items};
-use live::liveness;
+use live::live_rows_of;
 use live_rows::{Node, live_rows};
 use plain_data::{Items, Memory};
-use reg_conflicts::{conflict, conflict_rows};
+use reg_conflicts::conflict_rows;
 use reg_rows::{RegRow, has};
 use reg_uses::{insn_defines, insn_uses, is_return, return_uses};
-use rtx_tree::{Insn, RegSet};
+use rtx_tree::Insn;
 use rv_regs::{allocation_order, kept_registers, saved_registers};
 use std::alloc::Global;
 use text_cases::trees_in;
@@ -50,23 +50,13 @@ pub fn tell_uses(alloc: Global, input: &[u8], told: &mut Told) {
     show_found(return_uses(alloc, &f), told);
 }
 
-fn show_set(set: &RegSet, told: &mut Told) {
-    told.apart("live");
-    for reg in 0..96 {
-        if set.contains(reg) {
-            show(&[reg], told);
-        }
-    }
-    told.text(";");
-}
-
 /// Appends the registers below 96 that are live before each place of a function.
 pub fn tell_live(alloc: Global, input: &[u8], told: &mut Told) {
     if let Some(f) = function_in(alloc, input)
-        && let Ok(live) = liveness(alloc, &f)
+        && let Ok(live) = live_rows_of(alloc, &f)
     {
-        for set in live.as_slice() {
-            show_set(set, told);
+        for at in 0..live.len() {
+            show_row(live.as_slice(), at, told);
         }
     } else {
         told.fail();
@@ -159,8 +149,8 @@ pub fn tell_conflicts(alloc: Global, input: &[u8], told: &mut Told) {
     if let Some((chain, pairs)) = halves(input)
         && let Some(pairs) = numbers(alloc, pairs)
         && let Some(f) = function_in(alloc, chain.as_bytes())
-        && let Ok(live) = liveness(alloc, &f)
-        && let Ok(rows) = conflict_rows(alloc, &f, &live, 2)
+        && let Ok(live) = live_rows_of(alloc, &f)
+        && let Ok(rows) = conflict_rows(alloc, &f, live.as_slice())
     {
         show_pairs(rows.as_slice(), pairs.as_slice(), told);
     } else {
@@ -174,7 +164,7 @@ fn show_pairs(rows: &[RegRow], pairs: &[u64], told: &mut Told) {
             && let Ok(x) = u32::try_from(*x)
             && let Ok(y) = u32::try_from(*y)
         {
-            let is_conflict = conflict(rows, x, y);
+            let is_conflict = has(rows, x as usize, y);
             told.apart(if is_conflict { "yes" } else { "no" });
         } else {
             told.fail();
@@ -186,8 +176,8 @@ fn show_pairs(rows: &[RegRow], pairs: &[u64], told: &mut Told) {
 /// with its offset.
 pub fn tell_homes(alloc: Global, input: &[u8], told: &mut Told) {
     if let Some(f) = function_in(alloc, input)
-        && let Ok(live) = liveness(alloc, &f)
-        && let Ok(homes) = assign(alloc, &f, &live)
+        && let Ok(live) = live_rows_of(alloc, &f)
+        && let Ok(homes) = assign(alloc, &f, live.as_slice())
         && let Ok(frame) = layout(alloc, &f, &homes)
     {
         show_homes(&homes, told);

@@ -1,1 +1,2 @@
 pub mod Dump
+pub use Rattle.func_after.specs as func_after

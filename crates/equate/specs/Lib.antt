@@ -5,3 +5,5 @@ pub mod Views
 pub mod Answers
 pub mod Told
 pub mod Sound
+pub use Rattle.sym_diff.specs as sym_diff
+pub use Rattle.sym_state.specs as sym_state

@@ -5,8 +5,8 @@ use Rattle.std.specs.Prelude.{◌≡◌, ℕ, true, false, List}
 use Rattle.rtx_tree.specs.declared.function.Insn.{Insn}
 use Rattle.rv_text.specs.declared.line.Line.{Line}
 use Rattle.sym_diff.specs.Registers.{is_live}
-use Rattle.window_mean.specs.Same.{DoSame}
-use Rattle.window_keep.specs.Same.{CanReplace}
+use Rattle.agree_keep.specs.window_mean.Same.{DoSame}
+use Rattle.agree_keep.specs.window_keep.Same.{CanReplace}
 use Rattle.equate.specs.Side.{Insns, Lines, both_return}
 use Rattle.equate.specs.Equated.{Equated}
 

@@ -5,13 +5,13 @@ use Rattle.rtx_tree.specs.declared.tree.Rtx.{Rtx}
 use Rattle.c_eval.specs.declared.facts.Facts.{Facts}
 use Rattle.md_match.specs.Pattern.{Ops}
 use Rattle.md_match.proofs.OneList.{one_list}
-use Rattle.md_recog.specs.declared.half.Half.{Half}
-use Rattle.md_recog.specs.declared.half.Half.TheVariants as half
-use Rattle.md_recog.specs.Match.{Accepts}
-use Rattle.md_recog.specs.Recog.{FormMatches, EntryMatches, MatchesAt}
-use Rattle.md_forms.specs.declared.form.Form.{Form}
-use Rattle.md_forms.specs.declared.form.Entry.{Entry}
-use Rattle.md_pred.specs.Holds.{holds}
+use Rattle.md_desc.specs.md_recog.declared.half.Half.{Half}
+use Rattle.md_desc.specs.md_recog.declared.half.Half.TheVariants as half
+use Rattle.md_desc.specs.md_recog.Match.{Accepts}
+use Rattle.md_desc.specs.md_recog.Recog.{FormMatches, EntryMatches, MatchesAt}
+use Rattle.md_desc.specs.md_forms.declared.form.Form.{Form}
+use Rattle.md_desc.specs.md_forms.declared.form.Entry.{Entry}
+use Rattle.md_desc.specs.md_pred.Holds.{holds}
 use Rattle.md_desc.specs.declared.output.Chosen.{Chosen}
 use Rattle.md_desc.specs.Recog.{IsLowest, is_usable, MatchesOut, IsChosen, NoneMatchesOut}
 

@@ -9,4 +9,5 @@ mod facts;
 mod needs;
 
 pub use facts::{lower_facts, name_at, output_facts};
+pub use md_desc::Description;
 pub use needs::{is_held, is_silent, needs_form};

@@ -6,7 +6,7 @@ use Rattle.md_forms.specs.declared.form.Entry.{Entry}
 use Rattle.pass_ready.specs.Left.{SameMarks}
 use Rattle.pass_ready.specs.Reloadable.{UidsDiffer}
 use Rattle.assign.specs.declared.places.Layout.{Layout}
-use Rattle.window_replace.specs.Natural.{RegistersAreNatural}
+use Rattle.frame_mean.specs.window_replace.Natural.{RegistersAreNatural}
 use Rattle.frame_mean.specs.Frame.{IsFramed}
 use Rattle.frame_mean.specs.Keeps.{IsLaidOut, KeepsInFrame}
 use Rattle.frame_mean.proofs.Framed.{keeps_in_frame}

@@ -6,7 +6,7 @@ ghost use Rattle.md_desc.specs.Recog.{NoneMatches};
 ghost use Rattle.md_forms.specs.declared.form.Entry.{Entry};
 ghost use Rattle.form_needs.specs.Needs as needs;
 ghost use Rattle.assign.specs.declared.places.Layout.{Layout};
-ghost use Rattle.window_replace.specs.Natural.{RegistersAreNatural};
+ghost use Rattle.frame_mean.specs.window_replace.Natural.{RegistersAreNatural};
 ghost use Rattle.frame_mean.specs.Frame as spec;
 ghost use Rattle.frame_mean.specs.Keeps.{IsLaidOut, KeepsInFrame};
 ghost use Rattle.pass_ready.specs.Left.{SameMarks};

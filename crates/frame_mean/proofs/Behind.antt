@@ -8,8 +8,8 @@ use Rattle.rtx_tree.specs.declared.memories.MemByte.{MemByte}
 use Rattle.rtl_step.specs.Step.{step}
 use Rattle.rtl_step.specs.declared.step.State.{State}
 use Rattle.rtl_step.specs.declared.step.StepEnd.TheVariants.{Next}
-use Rattle.window_same.proofs.Simulation.{added}
-use Rattle.window_same.proofs.Small.{or_false}
+use Rattle.window_replace.proofs.window_same.Simulation.{added}
+use Rattle.window_replace.proofs.window_same.Small.{or_false}
 use Rattle.window_replace.proofs.Stands.{Stands}
 use Rattle.frame_mean.proofs.Straight.{Steps, stays, steps, steps_on}
 

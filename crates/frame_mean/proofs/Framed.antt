@@ -10,7 +10,7 @@ use Rattle.func_mean.specs.Run as func
 use Rattle.rtl_step.specs.declared.step.State.{State}
 use Rattle.func_keep.specs.Ends.{ends_past}
 use Rattle.assign.specs.declared.places.Layout.{Layout}
-use Rattle.window_same.proofs.Simulation.{added}
+use Rattle.window_replace.proofs.window_same.Simulation.{added}
 use Rattle.window_replace.specs.Natural.{RegistersAreNatural}
 use Rattle.window_replace.proofs.Stands.{stands_at}
 use Rattle.frame_mean.specs.Frame.{prologue, plain_insns, returns, left_at_returns, framed_insns, next_uid, IsFramed}

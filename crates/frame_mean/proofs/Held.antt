@@ -10,8 +10,8 @@ use Rattle.rtl_step.specs.Regs.{Regs, known_of, reg_value}
 use Rattle.func_mean.specs.Run as func
 use Rattle.func_mean.specs.Run.{entry_regs, values_of}
 use Rattle.same_behaviour.specs.Lawful.{AreWords}
-use Rattle.window_same.specs.Left.{found}
-use Rattle.window_same.proofs.Small.{◌also◌}
+use Rattle.window_replace.specs.window_same.Left.{found}
+use Rattle.window_replace.proofs.window_same.Small.{◌also◌}
 use Rattle.frame_mean.specs.Kept.{preserved_registers}
 use Rattle.frame_mean.specs.Keeps.{held_at_entry}
 use Rattle.frame_mean.proofs.Entry.{at_entry}

@@ -18,9 +18,9 @@ use Rattle.func_mean.specs.Run as func
 use Rattle.func_mean.specs.declared.outcome.Outcome.TheVariants as outcomes
 use Rattle.func_keep.specs.Ends.{is_past, ends_past}
 use Rattle.same_behaviour.specs.Lawful.{IsLawful}
-use Rattle.window_keep.specs.Same.{KnownToo}
-use Rattle.window_same.proofs.Returns.{leaves}
-use Rattle.window_same.proofs.Simulation.{added}
+use Rattle.window_replace.specs.window_keep.Same.{KnownToo}
+use Rattle.window_replace.proofs.window_same.Returns.{leaves}
+use Rattle.window_replace.proofs.window_same.Simulation.{added}
 use Rattle.window_replace.proofs.Stands.{Stands, step_is}
 use Rattle.frame_mean.specs.Frame.{epilogue, return_with, leaving}
 use Rattle.frame_mean.specs.Kept.{IsKept}

@@ -10,7 +10,7 @@ use Rattle.assign.specs.Frame.{is_call, is_home, saved_of, IsFrame}
 use Rattle.assign.specs.declared.home.HomeOf.{HomeOf}
 use Rattle.assign.specs.declared.places.Layout.{Layout}
 use Rattle.assign.specs.declared.places.SavedAt.{SavedAt}
-use Rattle.window_same.proofs.Small.{or_true}
+use Rattle.window_replace.proofs.window_same.Small.{or_true}
 use Rattle.frame_mean.specs.Kept.{preserved_registers}
 use Rattle.frame_mean.specs.Keeps.{IsLaidOut}
 

@@ -19,3 +19,4 @@ pub mod Keeping
 pub mod Framed
 pub mod Laid
 pub mod PlainUids
+pub use Rattle.window_replace.proofs as window_replace

@@ -27,10 +27,10 @@ use Rattle.func_keep.specs.Ends.{is_past}
 use Rattle.rtl_func.specs.Paths.{Path}
 use Rattle.reg_uses.specs.Effects.{pattern_uses}
 use Rattle.assign.specs.declared.places.Layout.{Layout}
-use Rattle.window_keep.specs.Same.{KnownToo}
-use Rattle.window_same.proofs.Leads as leads_by
-use Rattle.window_same.proofs.Leads.{LeadsBy, leads_on, jump_leads, further}
-use Rattle.window_same.proofs.Returns.{leaves}
+use Rattle.window_replace.specs.window_keep.Same.{KnownToo}
+use Rattle.window_replace.proofs.window_same.Leads as leads_by
+use Rattle.window_replace.proofs.window_same.Leads.{LeadsBy, leads_on, jump_leads, further}
+use Rattle.window_replace.proofs.window_same.Returns.{leaves}
 use Rattle.window_replace.specs.Natural.{RegistersAreNatural}
 use Rattle.window_replace.proofs.Effects.{AsMuch, effects_too, after_too}
 use Rattle.window_replace.proofs.Insns.{jump_too, event_too}

@@ -13,7 +13,7 @@ use Rattle.rtl_step.specs.Regs.{known_in, known_of}
 use Rattle.rtl_step.specs.declared.step.State.{State}
 use Rattle.func_mean.specs.Run.{entry_regs, entry_of}
 use Rattle.same_behaviour.specs.Lawful.{IsLawful}
-use Rattle.window_keep.specs.Same.{KnownToo}
+use Rattle.window_replace.specs.window_keep.Same.{KnownToo}
 use Rattle.window_replace.proofs.Stands.{Stands, stands_at, stands_same}
 use Rattle.assign.specs.declared.places.Layout.{Layout}
 use Rattle.assign.specs.declared.places.SavedAt.{SavedAt}

@@ -9,8 +9,8 @@ use Rattle.bits64.specs.declared.Width.{Width}
 use Rattle.bits64.specs.declared.Width.TheVariants.{W8, W16, W32, W64}
 use Rattle.rtl_step.specs.Regs.{Regs, known_in, known_of, reg_value, with_reg}
 use Rattle.rtl_step.specs.declared.regs.Known.{Known}
-use Rattle.window_same.proofs.Replies.{low_in}
-use Rattle.window_same.proofs.Small.{is_here, is_other}
+use Rattle.window_replace.proofs.window_same.Replies.{low_in}
+use Rattle.window_replace.proofs.window_same.Small.{is_here, is_other}
 
 pub differs : (r n : ℕ) → (r == n) ≡ false → r ≢ n
 differs r n is same = grind (arith, nat_tests, is, same)

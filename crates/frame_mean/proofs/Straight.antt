@@ -7,7 +7,7 @@ use Rattle.rtl_step.specs.declared.step.State.{State}
 use Rattle.rtl_step.specs.declared.step.StepEnd.TheVariants.{Next}
 use Rattle.func_mean.specs.Run.{run, goes_on, go_on, taken_on, taken_from}
 use Rattle.func_keep.specs.Ends.{is_past, ends_past}
-use Rattle.window_same.proofs.Simulation.{added}
+use Rattle.window_replace.proofs.window_same.Simulation.{added}
 
 module _ (world : World) (g : Function) where
   -- so many of them lead from one state to another

@@ -15,7 +15,7 @@ use Rattle.func_keep.specs.Ends.{EndsAtExit}
 use Rattle.func_mean.specs.declared.outcome.Outcome.{Outcome}
 use Rattle.func_mean.specs.declared.outcome.Outcome.TheVariants.{Running, Asked, Returned, Undefined}
 use Rattle.same_behaviour.specs.Lawful.{IsLawful, IsLawfulWorld}
-use Rattle.window_same.specs.Left.{found}
+use Rattle.window_replace.specs.window_same.Left.{found}
 use Rattle.assign.specs.declared.places.SavedAt.{SavedAt}
 use Rattle.assign.specs.declared.places.Layout.{Layout}
 use Rattle.assign.specs.Frame.{offsets}

@@ -1,3 +1,4 @@
 pub mod Frame
 pub mod Kept
 pub mod Keeps
+pub use Rattle.window_replace.specs as window_replace

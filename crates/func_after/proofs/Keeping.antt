@@ -11,25 +11,25 @@ use Rattle.md_forms.specs.Forms.{forms_of}
 use Rattle.same_behaviour.specs.Same.{Same}
 use Rattle.window_same.specs.Left.{SameWhereLeft}
 use Rattle.sym_insns.specs.Shape.{all_natural}
-use Rattle.homes_mean.specs.Placed.{all_sized}
+use Rattle.insn_sizes.specs.homes_mean.Placed.{all_sized}
 use Rattle.insn_sizes.specs.Sizes.{insn_natural, insn_sized, EachSized}
 use Rattle.assign.specs.Frame.{layout_of, IsFrame}
 use Rattle.assign.specs.declared.places.Layout.{Layout}
 use Rattle.assign.proofs.PlaceLaws.{IsFrame-layout_of}
 use Rattle.pass_refusal.specs.declared.refusal.PassRefusal.{PassRefusal}
-use Rattle.pass_ready.specs.Reloadable.{IsInsnReloadable}
-use Rattle.insn_keep.specs.Sound.{IsSound, PassKeeps}
-use Rattle.insn_keep.proofs.Keeping.{kept_trans}
+use Rattle.reload.specs.pass_ready.Reloadable.{IsInsnReloadable}
+use Rattle.whole_mean.specs.insn_keep.Sound.{IsSound, PassKeeps}
+use Rattle.whole_mean.proofs.insn_keep.Keeping.{kept_trans}
 use Rattle.lower.proofs.Kept.{lower_kept}
 use Rattle.split.specs.declared.stage.SplitStage.TheVariants.{AfterReload}
 use Rattle.split.proofs.Sound.{split_kept, split_does}
-use Rattle.frame_mean.specs.Keeps.{IsLaidOut, KeepsInFrame}
-use Rattle.frame_mean.proofs.Laid.{laid_out}
+use Rattle.reload.specs.frame_mean.Keeps.{IsLaidOut, KeepsInFrame}
+use Rattle.reload.proofs.frame_mean.Laid.{laid_out}
 use Rattle.frame.specs.Framed.{most_frame, FrameComes}
 use Rattle.frame.proofs.Kept.{is_framed, frame_keeps}
 use Rattle.reload.proofs.WindowLaws.{reload_windows}
 use Rattle.reload.specs.Windows.{HasWindows}
-use Rattle.reload_mean.specs.Homes.{NumbersAreSized}
+use Rattle.lines_ready.specs.reload_mean.Homes.{NumbersAreSized}
 use Rattle.lines_ready.specs.Placed.{ArePlaced}
 use Rattle.lines_ready.proofs.Reloaded.{reload_placed}
 use Rattle.lines_ready.proofs.Framed.{frame_placed}

@@ -12,12 +12,12 @@ use Rattle.md_forms.specs.Forms.{names_of}
 use Rattle.pass_refusal.specs.declared.refusal.PassRefusal.{PassRefusal}
 use Rattle.pass_name.specs.declared.pass.Pass.{Pass}
 use Rattle.pass_name.specs.declared.pass.Pass.TheVariants.{Split2}
-use Rattle.form_needs.specs.Needs.{name_at}
+use Rattle.reload.specs.form_needs.Needs.{name_at}
 use Rattle.lower.specs.Lower.{rule_of, LowerFrom}
 use Rattle.split.specs.declared.stage.SplitStage.{SplitStage}
 use Rattle.split.specs.declared.stage.SplitStage.TheVariants.{BeforeReload, AfterReload}
 use Rattle.split.specs.Split.{SplitFrom}
-use Rattle.insn_replace.specs.Replace.{ReplacedComes}
+use Rattle.split.specs.insn_replace.Replace.{ReplacedComes}
 use Rattle.assign.specs.Frame.{layout_of}
 use Rattle.assign.specs.declared.places.Layout.{Layout}
 use Rattle.reload.specs.Reload as reload

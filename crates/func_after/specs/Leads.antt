@@ -8,7 +8,7 @@ use Rattle.md_forms.specs.declared.form.Entry.{Entry}
 use Rattle.md_forms.specs.Forms.{forms_of}
 use Rattle.same_behaviour.specs.Same.{Same}
 use Rattle.window_same.specs.Left.{SameWhereLeft}
-use Rattle.out_same.specs.Ready.{AreWritable}
+use Rattle.lines_ready.specs.out_same.Ready.{AreWritable}
 use Rattle.frame.specs.Framed.{most_frame}
 use Rattle.func_after.specs.declared.made.Made.{Made}
 

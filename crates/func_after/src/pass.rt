@@ -7,7 +7,7 @@ use crate::refusal::{refused_for, unreloaded_for};
 use assign::{assign, layout};
 use frame::frame;
 use insn_sizes::walk_numbers;
-use live::liveness;
+use live::live_rows_of;
 use lower::lower;
 use md_desc::Description;
 use pass_name::Pass;
@@ -48,8 +48,8 @@ fn reloaded(alloc: Global, desc: &Description, m: Made) -> Result<Made, Refusal>
     let function = m.function;
     let name = function.name.copy(alloc)?;
     walk_numbers(function.insns.as_slice());
-    let live = liveness(alloc, &function)?;
-    let homes = assign(alloc, &function, &live)?;
+    let live = live_rows_of(alloc, &function)?;
+    let homes = assign(alloc, &function, live.as_slice())?;
     let layout = layout(alloc, &function, &homes)?;
     match reload(alloc, desc, function, &homes, &layout) {
         Ok(function) => Ok(Made { function, layout }),

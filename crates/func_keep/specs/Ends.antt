@@ -3,9 +3,9 @@ use Rattle.std.specs.Prelude.{◌≡◌, ℕ, zero, suc, Bool, true, false, not,
 use Rattle.rtx_tree.specs.declared.function.Function.{Function}
 use Rattle.rtx_tree.specs.declared.machine.Start.{Start}
 use Rattle.rtx_tree.specs.declared.machine.World.{World}
-use Rattle.rtl_step.specs.Step.{step, place_from}
-use Rattle.rtl_step.specs.declared.step.State.{State}
-use Rattle.func_mean.specs.Run.{entry_of, goes_on}
+use Rattle.same_behaviour.specs.rtl_step.Step.{step, place_from}
+use Rattle.same_behaviour.specs.rtl_step.declared.step.State.{State}
+use Rattle.same_behaviour.specs.func_mean.Run.{entry_of, goes_on}
 
 -- past the last instruction
 abbrev pub is_past : Function → State → Bool

@@ -5,8 +5,8 @@ use Rattle.rtx_tree.specs.declared.function.Function.{Function}
 use Rattle.rtx_tree.specs.declared.machine.Reply.{Reply}
 use Rattle.rtx_tree.specs.declared.machine.Start.{Start}
 use Rattle.rtx_tree.specs.declared.machine.World.{World}
-use Rattle.func_mean.specs.Run.{run_of, taken}
-use Rattle.func_mean.specs.declared.outcome.Outcome.TheVariants.{Undefined}
+use Rattle.same_behaviour.specs.func_mean.Run.{run_of, taken}
+use Rattle.same_behaviour.specs.func_mean.declared.outcome.Outcome.TheVariants.{Undefined}
 use Rattle.same_behaviour.specs.Lawful.{AreWords, AreAddresses, IsWord, IsByte, IsMemory}
 use Rattle.func_keep.specs.Outcomes.{SameOutcome}
 use Rattle.func_keep.specs.Ends.{EndsAtExit}

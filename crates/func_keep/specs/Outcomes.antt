@@ -1,9 +1,9 @@
 -- When two runs come to the same: GCC Internals, "Calls"; RISC-V ELF psABI, "Integer Register Convention" (what a function preserves).
 use Rattle.std.specs.Prelude.{◌≡◌, ℕ, List, length, slice_get, Option, Some}
-use Rattle.rtl_step.specs.declared.call.ArgValue.{ArgValue}
-use Rattle.rtl_step.specs.declared.call.CallEvent.{CallEvent}
-use Rattle.func_mean.specs.declared.outcome.Outcome.{Outcome}
-use Rattle.func_mean.specs.declared.outcome.Outcome.TheVariants.{Running, Asked, Returned}
+use Rattle.same_behaviour.specs.rtl_step.declared.call.ArgValue.{ArgValue}
+use Rattle.same_behaviour.specs.rtl_step.declared.call.CallEvent.{CallEvent}
+use Rattle.same_behaviour.specs.func_mean.declared.outcome.Outcome.{Outcome}
+use Rattle.same_behaviour.specs.func_mean.declared.outcome.Outcome.TheVariants.{Running, Asked, Returned}
 
 -- ---- the same calls
 

@@ -1,1 +1,2 @@
 pub mod Run
+pub use Rattle.rtl_step.specs as rtl_step

@@ -12,7 +12,7 @@ use Rattle.rtl_func.specs.Faults.{fault, earlier, first_fault}
 use Rattle.rtl_func.specs.Rules.{uid_faults, rule_number, insn_rules, keeps, breaks, rule_faults_in, rule_faults, all_rule_faults, name_faults, faults_of}
 use Rattle.rtl_func.specs.Uids.{is_ruled}
 use Rattle.rtl_func.proofs.FaultLaws.{rule_broken, rule_kept}
-use Rattle.run_refusal.specs.declared.refusal.Refusal.{Refusal}
+use Rattle.func_input.specs.run_refusal.declared.refusal.Refusal.{Refusal}
 use Rattle.func_input.specs.Refused as input
 use Rattle.func_input.specs.Refused.{refused_behind, refused_at, refused_from, first_refused, limit_passed, or_later}
 use Rattle.func_input.proofs.Firsts.{refused_here}

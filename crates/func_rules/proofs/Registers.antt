@@ -19,7 +19,7 @@ use Rattle.rtl_func.specs.Calls.{is_argument, use_is_argument, argument_register
 use Rattle.rv_regs.specs.Registers.{kept_registers}
 use Rattle.reg_uses.specs.Effects.{pattern_defines, pattern_uses}
 use Rattle.reg_uses.specs.Uses.{has_argument, insn_uses, insn_defines}
-use Rattle.window_mean.specs.Uses.{window_uses}
+use Rattle.window_same.specs.window_mean.Uses.{window_uses}
 use Rattle.form_needs.specs.Needs.{is_homeless, homeless_step, names_homeless}
 use Rattle.rtl_print.proofs.TreeText.{rtx_induction}
 use Rattle.func_rules.proofs.Nodes.{all_pass}

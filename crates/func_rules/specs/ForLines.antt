@@ -5,7 +5,7 @@ use Rattle.rtx_tree.specs.declared.function.Insn.{Insn}
 use Rattle.rtx_tree.specs.declared.function.Kind.TheVariants.{Plain, Barrier}
 use Rattle.rtx_tree.specs.Tree.{head_of}
 use Rattle.rtl_step.specs.Step.{is_mark}
-use Rattle.window_mean.specs.Uses.{window_uses}
+use Rattle.window_same.specs.window_mean.Uses.{window_uses}
 use Rattle.window_same.specs.Items.{is_quiet}
 
 -- it is no label and no barrier, and uses hard registers alone

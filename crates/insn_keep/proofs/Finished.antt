@@ -21,15 +21,15 @@ use Rattle.func_mean.specs.declared.outcome.Outcome.TheVariants.{Undefined}
 use Rattle.rtl_chain.specs.Counts.{greatest_uid}
 use Rattle.rtl_chain.specs.End.{return_insn, IsFinished}
 use Rattle.reg_uses.specs.Uses.{is_return_code, is_return}
-use Rattle.sym_insns.specs.Shape.{is_natural, all_natural}
-use Rattle.sym_insns.proofs.Shapes.{natural_out}
+use Rattle.pass_ready.specs.sym_insns.Shape.{is_natural, all_natural}
+use Rattle.pass_ready.proofs.sym_insns.Shapes.{natural_out}
 use Rattle.func_keep.specs.Ends.{is_past, ends_past, EndsAtExit}
 use Rattle.func_keep.specs.Keeps.{Keeps, KeepsRun}
 use Rattle.func_keep.specs.Outcomes.{SameOutcome}
 use Rattle.keep_compose.proofs.Keeping.{outcome_refl}
-use Rattle.func_rules.proofs.Added.{return_keeps}
-use Rattle.func_rules.proofs.Chain.{before_end}
-use Rattle.func_rules.proofs.Returning.{longer, dropped_end, same_step, same_run, same_taken}
+use Rattle.pass_ready.proofs.func_rules.Added.{return_keeps}
+use Rattle.pass_ready.proofs.func_rules.Chain.{before_end}
+use Rattle.pass_ready.proofs.func_rules.Returning.{longer, dropped_end, same_step, same_run, same_taken}
 use Rattle.pass_ready.specs.Left.{marks, SameMarks}
 use Rattle.pass_ready.specs.Reloadable.{IsInsnReloadable, LeadsWithin, IsReloadable, UidsDiffer}
 use Rattle.pass_ready.proofs.Places.{all_joined}

@@ -18,13 +18,13 @@ use Rattle.rtl_func.specs.Kinds.{kinds_agree, is_nothing_by, is_nothing}
 use Rattle.rtl_func.specs.Modes.{modes_agree, shapes_agree, call_modes_agree}
 use Rattle.rtl_func.specs.Uids.{is_ruled_kind}
 use Rattle.rtl_func.specs.declared.rules.InsnRule.TheVariants.{KindsAgree, ModesAgree, ArgumentRegisters, Calls, Parallels, StackVariables}
-use Rattle.sym_insns.specs.Shape.{is_shaped, all_natural}
-use Rattle.func_rules.specs.Admitted.{IsWellFormed}
-use Rattle.func_rules.specs.Sorts as sorts
-use Rattle.func_rules.specs.Sorts.{IsSort}
-use Rattle.func_rules.proofs.AllSorts.{sort_of}
-use Rattle.func_rules.proofs.Marks.{marks_are_empty}
-use Rattle.func_rules.proofs.Vars.{leaves_vars}
+use Rattle.pass_ready.specs.sym_insns.Shape.{is_shaped, all_natural}
+use Rattle.pass_ready.specs.func_rules.Admitted.{IsWellFormed}
+use Rattle.pass_ready.specs.func_rules.Sorts as sorts
+use Rattle.pass_ready.specs.func_rules.Sorts.{IsSort}
+use Rattle.pass_ready.proofs.func_rules.AllSorts.{sort_of}
+use Rattle.pass_ready.proofs.func_rules.Marks.{marks_are_empty}
+use Rattle.pass_ready.proofs.func_rules.Vars.{leaves_vars}
 use Rattle.pass_ready.specs.Reloadable.{IsInsnReloadable, LeadsWithin, UidsDiffer}
 use Rattle.pass_ready.proofs.Places.{all_at}
 use Rattle.pass_ready.proofs.Ready.{well_formed_ready}

@@ -15,17 +15,17 @@ use Rattle.rtl_func.specs.Successors.{goes_to, branches_to, source_flow_by, sour
 use Rattle.reg_uses.specs.Uses.{is_return}
 use Rattle.term_tree.specs.Tree.{width_of}
 use Rattle.sym_state.specs.State.{State, Runs, falls, start}
-use Rattle.sym_insns.specs.Effects.{uid_in, target_uid, jump_source, label_by, jump_label, has_target, effects_of}
-use Rattle.sym_insns.specs.Run.{after_kind, run_from, run}
-use Rattle.sym_insns.specs.Shape.{is_shaped, is_end, fits_kind, bad_from, bad_insn}
-use Rattle.sym_diff.specs.Agree.{Agree}
-use Rattle.sym_diff.specs.Compared.{target_term}
-use Rattle.sym_mean.proofs.Bools.{both_of}
-use Rattle.sym_mean.proofs.Growth.{made_jump, jump_is, goes_from}
-use Rattle.sym_mean.proofs.JumpShapes.{Leads, to_label, by_test, IsJump}
-use Rattle.sym_mean.proofs.Ways.{jump_of, fits_all, does_run}
-use Rattle.agree_keep.proofs.Ends.{widths_differ, one_target}
-use Rattle.func_rules.specs.Sorts as sorts
+use Rattle.pass_ready.specs.sym_insns.Effects.{uid_in, target_uid, jump_source, label_by, jump_label, has_target, effects_of}
+use Rattle.pass_ready.specs.sym_insns.Run.{after_kind, run_from, run}
+use Rattle.pass_ready.specs.sym_insns.Shape.{is_shaped, is_end, fits_kind, bad_from, bad_insn}
+use Rattle.insn_replace.specs.sym_diff.Agree.{Agree}
+use Rattle.insn_replace.specs.sym_diff.Compared.{target_term}
+use Rattle.insn_replace.proofs.sym_mean.Bools.{both_of}
+use Rattle.insn_replace.proofs.sym_mean.Growth.{made_jump, jump_is, goes_from}
+use Rattle.insn_replace.proofs.sym_mean.JumpShapes.{Leads, to_label, by_test, IsJump}
+use Rattle.insn_replace.proofs.sym_mean.Ways.{jump_of, fits_all, does_run}
+use Rattle.insn_replace.proofs.agree_keep.Ends.{widths_differ, one_target}
+use Rattle.pass_ready.specs.func_rules.Sorts as sorts
 use Rattle.pass_ready.specs.Reloadable.{LeadsWithin}
 
 -- ---- the label of a jump

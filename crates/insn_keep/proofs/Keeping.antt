@@ -16,22 +16,22 @@ use Rattle.rtl_func.specs.Calls.{has_argument, use_is_argument, argument_registe
 use Rattle.rtl_func.specs.Nodes.{nodes_of}
 use Rattle.rtl_chain.specs.Counts.{greatest_uid}
 use Rattle.live.specs.Live.{IsLiveAfter, AreLiveAfter}
-use Rattle.sym_diff.specs.Registers.{is_live}
-use Rattle.sym_mean.proofs.Kept.{natural_insn}
-use Rattle.form_needs.specs.Needs.{is_kind}
-use Rattle.pass_refusal.specs.declared.refusal.PassRefusal.{PassRefusal}
+use Rattle.insn_replace.specs.sym_diff.Registers.{is_live}
+use Rattle.insn_replace.proofs.sym_mean.Kept.{natural_insn}
+use Rattle.pass_ready.specs.form_needs.Needs.{is_kind}
+use Rattle.insn_replace.specs.pass_refusal.declared.refusal.PassRefusal.{PassRefusal}
 use Rattle.new_insns.specs.Made.{kind_of, uses_between, insn_for, insns_for}
 use Rattle.new_insns.specs.Replaced.{window, replaced}
-use Rattle.equate.specs.Side.{Insns, is_one_return, both_return}
-use Rattle.equate.specs.Equated.{Equated}
-use Rattle.equate.specs.Told.{Alike}
-use Rattle.equate.proofs.VerdictLaws.{verdict_same}
-use Rattle.equate.proofs.Soundness.{few_keep}
+use Rattle.insn_replace.specs.equate.Side.{Insns, is_one_return, both_return}
+use Rattle.insn_replace.specs.equate.Equated.{Equated}
+use Rattle.insn_replace.specs.equate.Told.{Alike}
+use Rattle.insn_replace.proofs.equate.VerdictLaws.{verdict_same}
+use Rattle.insn_replace.proofs.equate.Soundness.{few_keep}
 use Rattle.insn_replace.specs.Replace.{made, ReplacedComes}
 use Rattle.func_keep.specs.Keeps.{Keeps}
 use Rattle.keep_compose.proofs.Keeping.{keeps_refl, keeps_trans}
 use Rattle.window_keep.specs.Same.{CanReplace}
-use Rattle.window_same.specs.ForLines.{MarksAreEmpty}
+use Rattle.window_replace.specs.window_same.ForLines.{MarksAreEmpty}
 use Rattle.window_replace.specs.Natural.{RegistersAreNatural}
 use Rattle.window_replace.proofs.Replacing.{replaced_keeps}
 use Rattle.md_emit.specs.Emitted.{keeps_to_arguments}

@@ -10,8 +10,8 @@ use Rattle.rtl_step.specs.Step as step
 use Rattle.rtl_func.specs.declared.flow.Flow.{Flow}
 use Rattle.rtl_func.specs.Successors.{jump_flow}
 use Rattle.reg_uses.specs.Uses.{is_return}
-use Rattle.func_rules.specs.Sorts.{Leads}
-use Rattle.func_rules.specs.Sorts as sorts
+use Rattle.pass_ready.specs.func_rules.Sorts.{Leads}
+use Rattle.pass_ready.specs.func_rules.Sorts as sorts
 use Rattle.pass_ready.specs.Left.{is_mark, marks}
 use Rattle.pass_ready.specs.Reloadable.{LeadsWithin}
 use Rattle.pass_ready.proofs.Places.{all_weaker}

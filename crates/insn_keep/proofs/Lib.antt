@@ -9,3 +9,6 @@ pub mod Jumps
 pub mod Keeping
 pub mod Inputs
 pub mod Finished
+pub use Rattle.insn_replace.proofs.equate as equate
+pub use Rattle.pass_ready.proofs.func_rules as func_rules
+pub use Rattle.pass_ready.proofs as pass_ready

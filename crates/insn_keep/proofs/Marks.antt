@@ -9,7 +9,7 @@ use Rattle.rtx_tree.specs.declared.function.Kind.TheVariants as kind
 use Rattle.rtx_tree.specs.declared.tree.Rtx.{Rtx}
 use Rattle.rtl_step.specs.Step as step
 use Rattle.rtl_func.specs.Kinds.{is_jump_tree, is_call_tree}
-use Rattle.form_needs.specs.Needs.{is_kind}
+use Rattle.pass_ready.specs.form_needs.Needs.{is_kind}
 use Rattle.new_insns.specs.Made.{kind_of, insns_for}
 use Rattle.new_insns.specs.Replaced.{replaced}
 use Rattle.pass_ready.specs.Left.{is_mark, marks, SameMarks}

@@ -5,10 +5,10 @@ use Rattle.rtx_tree.specs.declared.function.Insn.{Insn}
 use Rattle.rtx_tree.specs.declared.function.Kind.{Kind}
 use Rattle.rtx_tree.specs.declared.function.Kind.TheVariants as kind
 use Rattle.sym_state.specs.State.{State, Runs, start}
-use Rattle.sym_insns.specs.Run.{run_from, run}
-use Rattle.sym_insns.specs.Shape.{is_shaped, fits_kind, is_end, bad_from, bad_insn}
-use Rattle.sym_mean.proofs.Bools.{both_of}
-use Rattle.sym_mean.proofs.Ways.{fits_all, does_run}
+use Rattle.pass_ready.specs.sym_insns.Run.{run_from, run}
+use Rattle.pass_ready.specs.sym_insns.Shape.{is_shaped, fits_kind, is_end, bad_from, bad_insn}
+use Rattle.insn_replace.proofs.sym_mean.Bools.{both_of}
+use Rattle.insn_replace.proofs.sym_mean.Ways.{fits_all, does_run}
 
 -- it is no barrier
 abbrev pub IsNoBarrier : Insn → Type 0

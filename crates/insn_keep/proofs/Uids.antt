@@ -14,7 +14,7 @@ use Rattle.rtx_tree.specs.declared.function.Kind.TheVariants.{Plain, Jump, Call,
 use Rattle.rtl_func.specs.Kinds.{is_jump_tree, is_call_tree}
 use Rattle.rtl_func.specs.Uids.{is_ruled, is_ruled_kind, uids_of}
 use Rattle.rtl_chain.specs.Counts.{greatest_uid}
-use Rattle.form_needs.specs.Needs.{is_kind}
+use Rattle.pass_ready.specs.form_needs.Needs.{is_kind}
 use Rattle.new_insns.specs.Made.{insn_for, insns_for}
 use Rattle.new_insns.specs.Replaced.{replaced}
 use Rattle.insn_replace.specs.Replace.{made}

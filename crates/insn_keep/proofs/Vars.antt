@@ -11,10 +11,10 @@ use Rattle.term_tree.specs.Tree.{Tree}
 use Rattle.window_mean.specs.Uses.{window_defines}
 use Rattle.sym_state.specs.State.{State, Runs}
 use Rattle.sym_state.specs.Registers.{held}
-use Rattle.sym_insns.specs.Run.{run}
-use Rattle.sym_diff.specs.Agree.{Agree, AgreesIn}
-use Rattle.sym_diff.specs.Registers.{one_calls}
-use Rattle.sym_mean.proofs.Kept.{held_defined}
+use Rattle.pass_ready.specs.sym_insns.Run.{run}
+use Rattle.insn_replace.specs.sym_diff.Agree.{Agree, AgreesIn}
+use Rattle.insn_replace.specs.sym_diff.Registers.{one_calls}
+use Rattle.insn_replace.proofs.sym_mean.Kept.{held_defined}
 
 abbrev pub LeavesVars : Insn → Type 0
 LeavesVars i = pattern_defines virtual_stack_vars i.pattern ≡ false

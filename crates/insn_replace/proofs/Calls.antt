@@ -4,8 +4,8 @@ use Rattle.rtx_tree.specs.declared.function.Insn.{Insn}
 use Rattle.rtx_tree.specs.declared.function.Function.{Function}
 use Rattle.rtx_tree.specs.declared.tree.Rtx.{Rtx}
 use Rattle.new_insns.specs.Replaced.{replaced}
-use Rattle.equate.specs.Side.{Insns}
-use Rattle.equate.specs.Equated.{verdict, Equated}
+use Rattle.pass_refusal.specs.equate.Side.{Insns}
+use Rattle.pass_refusal.specs.equate.Equated.{verdict, Equated}
 use Rattle.pass_refusal.specs.Outcome.{RefusesWith}
 use Rattle.pass_refusal.specs.Refused.{refused_by}
 use Rattle.pass_refusal.specs.declared.refusal.PassRefusal.{PassRefusal}

@@ -5,9 +5,9 @@ use Rattle.rtx_tree.specs.declared.function.Function.{Function}
 use Rattle.rtx_tree.specs.declared.tree.Rtx.{Rtx}
 use Rattle.live.specs.Live.{AreLiveAfter}
 use Rattle.new_insns.specs.Replaced.{replaced}
-use Rattle.equate.specs.Side.{Insns}
-use Rattle.equate.specs.Verdict.{Verdict}
-use Rattle.equate.specs.Equated.{verdict}
+use Rattle.pass_refusal.specs.equate.Side.{Insns}
+use Rattle.pass_refusal.specs.equate.Verdict.{Verdict}
+use Rattle.pass_refusal.specs.equate.Equated.{verdict}
 use Rattle.pass_refusal.specs.Refused.{refused_by}
 use Rattle.pass_refusal.specs.declared.refusal.PassRefusal.{PassRefusal}
 use Rattle.insn_replace.specs.Replace.{made, ReplacedComes, OneReplaced}

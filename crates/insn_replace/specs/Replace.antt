@@ -9,8 +9,8 @@ use Rattle.rtl_chain.specs.Counts.{greatest_uid}
 use Rattle.live.specs.Live.{AreLiveAfter}
 use Rattle.new_insns.specs.Made.{insns_for}
 use Rattle.new_insns.specs.Replaced as windows
-use Rattle.equate.specs.Side.{Insns}
-use Rattle.equate.specs.Equated.{verdict, Equated}
+use Rattle.pass_refusal.specs.equate.Side.{Insns}
+use Rattle.pass_refusal.specs.equate.Equated.{verdict, Equated}
 use Rattle.pass_refusal.specs.Refused.{refused_by}
 use Rattle.pass_refusal.specs.declared.refusal.PassRefusal.{PassRefusal}
 

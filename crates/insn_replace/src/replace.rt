@@ -1,19 +1,18 @@
 //! An instruction replaced by a sequence.
 ghost use Rattle.std.specs.Prelude.{◌≡◌, ◌<◌, ◌+◌, ◌^◌, length, slice_get, Some, IfOk, OnErr};
 ghost use Rattle.rtx_tree.specs.declared.function.Insn.{Insn};
-ghost use Rattle.md_forms.specs.Forms.{names_of};
-ghost use Rattle.form_needs.specs.Needs as needs;
-ghost use Rattle.equate.specs.Side as sides;
-ghost use Rattle.equate.specs.Views.{side_of};
+ghost use Rattle.pass_refusal.specs.md_forms.Forms.{names_of};
+ghost use Rattle.pass_refusal.specs.form_needs.Needs as needs;
+ghost use Rattle.pass_refusal.specs.equate.Side as sides;
+ghost use Rattle.pass_refusal.specs.equate.Views.{side_of};
 ghost use Rattle.insn_replace.specs.Done.{Replaces};
 ghost use Rattle.insn_replace.specs.Replace.{OneReplaced};
 ghost use Rattle.insn_replace.specs.machine.Compared as steps;
 
-use equate::Side;
 use live_chain::LiveChain;
 use md_desc::Description;
 use new_insns::insns_for;
-use pass_refusal::{PassRefusal, judge};
+use pass_refusal::{PassRefusal, Side, judge};
 use plain_data::{Items, Memory};
 use rtx_tree::{Insns, Kids};
 use std::alloc::Global;

@@ -9,8 +9,8 @@ use Rattle.rtx_tree.specs.declared.tree.Rtx.{Rtx}
 use Rattle.rtx_tree.specs.declared.tree.Rtx.TheFolds.{fold_out-Rtx}
 use Rattle.rtx_tree.specs.Tree.{head_of, kids_of}
 use Rattle.sym_insns.specs.Shape.{is_natural, all_natural}
-use Rattle.pass_ready.specs.Reloadable.{IsInsnReloadable, IsReloadable}
-use Rattle.window_replace.proofs.Trees.{natural_here, natural_kids}
+use Rattle.reload_mean.specs.pass_ready.Reloadable.{IsInsnReloadable, IsReloadable}
+use Rattle.reload_mean.proofs.window_replace.Trees.{natural_here, natural_kids}
 use Rattle.homes_mean.specs.Placed.{is_sized, sized_step, all_sized}
 use Rattle.reload_mean.specs.Homes.{NumbersAreSized}
 use Rattle.insn_sizes.specs.Sizes.{insn_natural, insn_sized, EachSized}

@@ -20,9 +20,9 @@ use Rattle.rv_line.specs.Run as lines
 use Rattle.rv_line.specs.declared.outcome.CodeCall.{CodeCall}
 use Rattle.rv_line.specs.declared.outcome.CodeOutcome.{CodeOutcome}
 use Rattle.rv_line.specs.declared.outcome.CodeOutcome.TheVariants as code
-use Rattle.same_behaviour.specs.Lawful.{IsByte, IsMemory, IsLawful, IsLawfulReply, IsLawfulWorld, is_below_sp, seen_by_rtl}
-use Rattle.same_behaviour.specs.Same as same
-use Rattle.same_behaviour.specs.Same.{Same, SameFrom, SameCall, SameCalls, SameArg, SameArgs, SameResult}
+use Rattle.func_keep.specs.same_behaviour.Lawful.{IsByte, IsMemory, IsLawful, IsLawfulReply, IsLawfulWorld, is_below_sp, seen_by_rtl}
+use Rattle.func_keep.specs.same_behaviour.Same as same
+use Rattle.func_keep.specs.same_behaviour.Same.{Same, SameFrom, SameCall, SameCalls, SameArg, SameArgs, SameResult}
 use Rattle.func_keep.specs.Outcomes.{SameEvent, SameEvents, SameOutcome}
 use Rattle.func_keep.specs.Keeps.{Keeps, IsMachineStart, IsMachineReply, IsMachineWorld}
 use Rattle.keep_compose.proofs.Events.{beside}

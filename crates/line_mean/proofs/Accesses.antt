@@ -24,7 +24,7 @@ use Rattle.term_mean.proofs.SumLaws.{mean-summed}
 use Rattle.term_mean.proofs.NormalLaws.{mean-built}
 use Rattle.term_mean.proofs.NormalWidths.{width-built}
 use Rattle.term_mean.proofs.ComparedLaws.{mean-low_bits}
-use Rattle.sym_state.specs.State.{State, Need, Access}
+use Rattle.sym_lines.specs.sym_state.State.{State, Need, Access}
 use Rattle.sym_lines.specs.Step as spec
 use Rattle.sym_mean.specs.Needs as needs
 use Rattle.sym_mean.specs.Needs.{are_met}

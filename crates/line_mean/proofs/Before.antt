@@ -9,7 +9,7 @@ use Rattle.rv_text.specs.declared.line.Line.{Line}
 use Rattle.rv_text.proofs.Numbers.{and_true}
 use Rattle.term_mean.specs.Meaning.{Valuation}
 use Rattle.term_mean.specs.Stores.{Store, Follow, Stored}
-use Rattle.sym_state.specs.State.{State, Need, NeedAt, Symbol, is_within, needs_at}
+use Rattle.sym_lines.specs.sym_state.State.{State, Need, NeedAt, Symbol, is_within, needs_at}
 use Rattle.sym_lines.specs.Step.{act}
 use Rattle.sym_lines.specs.Run.{act_as, after, run_from}
 use Rattle.sym_mean.specs.Needs.{First, is_met, are_met}

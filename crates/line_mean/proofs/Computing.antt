@@ -25,7 +25,7 @@ use Rattle.term_mean.proofs.CutLaws.{low-low}
 use Rattle.term_mean.proofs.NormalLaws.{mean-built}
 use Rattle.term_mean.proofs.ComparedLaws.{mean-low_bits}
 use Rattle.bits64.proofs.Readings.{by_half}
-use Rattle.sym_state.specs.Makers as makers
+use Rattle.sym_lines.specs.sym_state.Makers as makers
 use Rattle.sym_lines.specs.Compute as spec
 use Rattle.sym_mean.proofs.Numbers.{complemented}
 use Rattle.sym_mean.proofs.Operations as made

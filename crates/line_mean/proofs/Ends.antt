@@ -23,7 +23,7 @@ use Rattle.term_mean.specs.Relations.{holds}
 use Rattle.term_mean.specs.Compared.{compared}
 use Rattle.term_mean.proofs.SumLaws.{mean-constant}
 use Rattle.term_mean.proofs.ComparedLaws.{mean-compared}
-use Rattle.sym_state.specs.State.{State, Symbol, own_symbol, needs_at}
+use Rattle.sym_lines.specs.sym_state.State.{State, Symbol, own_symbol, needs_at}
 use Rattle.sym_lines.specs.Compute.{relation_of}
 use Rattle.sym_lines.specs.Step as spec
 use Rattle.sym_mean.specs.Needs as needs

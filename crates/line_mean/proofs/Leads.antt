@@ -22,9 +22,9 @@ use Rattle.term_mean.specs.Sums.{constant}
 use Rattle.term_mean.proofs.SumLaws.{mean-constant}
 use Rattle.window_mean.specs.Lines.{LinesCome, come_to, line_goes_on, lines_come}
 use Rattle.window_mean.specs.Lines as window
-use Rattle.sym_state.specs.State as sym
-use Rattle.sym_state.specs.State.{State, Need, Access, Symbol, own_symbol}
-use Rattle.sym_state.specs.Registers.{held}
+use Rattle.sym_lines.specs.sym_state.State as sym
+use Rattle.sym_lines.specs.sym_state.State.{State, Need, Access, Symbol, own_symbol}
+use Rattle.sym_lines.specs.sym_state.Registers.{held}
 use Rattle.sym_lines.specs.Step as spec
 use Rattle.sym_lines.specs.Run.{label_uid, is_end, fits_action}
 use Rattle.sym_mean.specs.Needs.{First, are_met}

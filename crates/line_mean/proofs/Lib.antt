@@ -10,3 +10,5 @@ pub mod Runs
 pub mod Setting
 pub mod Steps
 pub mod Tables
+pub use Rattle.sym_lines.proofs as sym_lines
+pub use Rattle.sym_mean.proofs as sym_mean

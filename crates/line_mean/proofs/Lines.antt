@@ -13,7 +13,7 @@ use Rattle.rv_line.specs.Step as line
 use Rattle.rv_line.specs.declared.state.RvState.{RvState}
 use Rattle.term_tree.specs.Tree.{Tree}
 use Rattle.term_mean.specs.Meaning.{Valuation, mean}
-use Rattle.sym_state.specs.State.{State, Need}
+use Rattle.sym_lines.specs.sym_state.State.{State, Need}
 use Rattle.sym_lines.specs.Compute as compute
 use Rattle.sym_lines.specs.Step as spec
 use Rattle.sym_mean.specs.Needs as needs

@@ -17,8 +17,8 @@ use Rattle.term_mean.specs.Compared.{low_bits}
 use Rattle.term_mean.proofs.SumLaws.{mean-cut, mean-constant}
 use Rattle.term_mean.proofs.CutLaws.{low-low}
 use Rattle.term_mean.proofs.ComparedLaws.{mean-low_bits}
-use Rattle.sym_state.specs.State.{State, Need, own_register}
-use Rattle.sym_state.specs.Registers.{held, term_held, need_of}
+use Rattle.sym_lines.specs.sym_state.State.{State, Need, own_register}
+use Rattle.sym_lines.specs.sym_state.Registers.{held, term_held, need_of}
 use Rattle.sym_lines.specs.Step as spec
 use Rattle.sym_mean.specs.Needs as needs
 use Rattle.sym_mean.specs.Needs.{is_met, are_met}

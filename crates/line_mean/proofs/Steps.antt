@@ -26,7 +26,7 @@ use Rattle.term_mean.specs.Stores.{written}
 use Rattle.term_mean.specs.Compared.{low_bits}
 use Rattle.term_mean.proofs.NormalWidths.{width-built}
 use Rattle.term_mean.proofs.ComparedLaws.{width-low_bits}
-use Rattle.sym_state.specs.State.{State, Need, Access, needs_at}
+use Rattle.sym_lines.specs.sym_state.State.{State, Need, Access, needs_at}
 use Rattle.sym_lines.specs.Compute as compute
 use Rattle.sym_lines.specs.Step as spec
 use Rattle.sym_mean.specs.Needs as needs

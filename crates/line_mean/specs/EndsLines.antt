@@ -7,9 +7,9 @@ use Rattle.rv_line.specs.declared.state.RvState.{RvState}
 use Rattle.window_mean.specs.Beside.{reads}
 use Rattle.window_mean.specs.Lines.{Falls, Goes, Calls, LinesCome, lines_come}
 use Rattle.term_mean.specs.Meaning.{Valuation, mean}
-use Rattle.sym_state.specs.State as sym
-use Rattle.sym_state.specs.State.{State, Call, Runs}
-use Rattle.sym_state.specs.Registers.{left_by_call}
+use Rattle.sym_lines.specs.sym_state.State as sym
+use Rattle.sym_lines.specs.sym_state.State.{State, Call, Runs}
+use Rattle.sym_lines.specs.sym_state.Registers.{left_by_call}
 use Rattle.sym_lines.specs.Step.{args_from}
 use Rattle.sym_lines.specs.Run.{label_uid}
 use Rattle.sym_mean.specs.Needs.{First}

@@ -9,8 +9,8 @@ use Rattle.rv_line.specs.declared.state.RvState.{RvState}
 use Rattle.term_tree.specs.Tree.{Tree, width_of}
 use Rattle.term_mean.specs.Meaning.{Valuation, mean}
 use Rattle.term_mean.specs.Stores.{Stored}
-use Rattle.sym_state.specs.State.{State}
-use Rattle.sym_state.specs.Registers.{held}
+use Rattle.sym_lines.specs.sym_state.State.{State}
+use Rattle.sym_lines.specs.sym_state.Registers.{held}
 use Rattle.sym_mean.specs.Needs.{First}
 use Rattle.sym_mean.specs.Shows.{ShowsMemory}
 

@@ -14,17 +14,17 @@ use Rattle.rtx_tree.specs.declared.function.Function.{Function}
 use Rattle.rtx_tree.specs.declared.function.Insn.{Insn}
 use Rattle.rtx_tree.specs.declared.tree.Rtx.{Rtx, out-roll-Rtx}
 use Rattle.rtx_tree.specs.declared.tree.Rtx.TheOpen.{Rtx-F}
-use Rattle.form_needs.specs.Needs.{is_note}
+use Rattle.split.specs.form_needs.Needs.{is_note}
 use Rattle.sym_insns.specs.Shape.{all_natural}
-use Rattle.func_rules.proofs.Registers.{one_of}
+use Rattle.reload_mean.proofs.func_rules.Registers.{one_of}
 use Rattle.rtl_chain.specs.End.{return_insn, IsFinished}
 use Rattle.assign.specs.declared.places.Layout.{Layout}
 use Rattle.assign.specs.declared.places.SavedAt.{SavedAt}
-use Rattle.pass_ready.proofs.Places.{all_joined}
-use Rattle.frame_mean.specs.Frame.{sp_rtx, spare_rtx, short_change, long_change, most_short, most_near, sp_changed, near_address, far_base}
-use Rattle.frame_mean.specs.Frame.{base_made, address_at, word_at, stored, loaded, frame_made, frame_left, prologue, epilogue, plain_insns}
-use Rattle.frame_mean.specs.Frame.{return_with, leaving, left_uid, returns, left_at_returns, next_uid, IsFramed}
-use Rattle.frame_mean.specs.Kept.{preserved_registers}
+use Rattle.out_same.proofs.pass_ready.Places.{all_joined}
+use Rattle.reload_mean.specs.frame_mean.Frame.{sp_rtx, spare_rtx, short_change, long_change, most_short, most_near, sp_changed, near_address, far_base}
+use Rattle.reload_mean.specs.frame_mean.Frame.{base_made, address_at, word_at, stored, loaded, frame_made, frame_left, prologue, epilogue, plain_insns}
+use Rattle.reload_mean.specs.frame_mean.Frame.{return_with, leaving, left_uid, returns, left_at_returns, next_uid, IsFramed}
+use Rattle.reload_mean.specs.frame_mean.Kept.{preserved_registers}
 use Rattle.reload_mean.proofs.NaturalMoves.{natural_tree, reg_natural, const_natural, sum_natural, set_natural, both}
 use Rattle.lines_ready.specs.Placed.{IsInsnPlaced, ArePlaced}
 

@@ -1,8 +1,8 @@
 -- What the passes ask of a function holds of one whose instructions are placed.
 use Rattle.rtx_tree.specs.declared.function.Function.{Function}
-use Rattle.pass_ready.proofs.Places.{at_place}
+use Rattle.out_same.proofs.pass_ready.Places.{at_place}
 use Rattle.split.specs.Left.{AreNatural}
-use Rattle.window_replace.specs.Natural.{RegistersAreNatural}
+use Rattle.reload_mean.specs.window_replace.Natural.{RegistersAreNatural}
 use Rattle.window_same.specs.ForLines.{MarksAreEmpty}
 use Rattle.lines_ready.specs.Placed.{IsInsnPlaced, ArePlaced}
 

@@ -11,7 +11,7 @@ use Rattle.rtx_tree.specs.declared.function.Kind.TheVariants as kind
 use Rattle.rtx_tree.specs.declared.tree.Rtx.{Rtx}
 use Rattle.rtl_func.specs.Kinds.{is_jump_by, is_call_by, kinds_agree}
 use Rattle.rtl_step.specs.Step.{is_mark}
-use Rattle.form_needs.specs.Needs.{is_kind, is_note, needs_form}
+use Rattle.split.specs.form_needs.Needs.{is_kind, is_note, needs_form}
 
 no_jump : (c : Code) (parts : List Rtx) → is_note c ≡ true → is_jump_by (class_of_code c) parts ≡ true → ⊥
 no_jump Use parts is jump = false≢true jump

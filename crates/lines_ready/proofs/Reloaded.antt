@@ -17,20 +17,20 @@ use Rattle.rtl_step.specs.Step.{is_mark}
 use Rattle.reg_uses.specs.Effects.{pattern_defines}
 use Rattle.reg_uses.specs.Uses.{has_argument}
 use Rattle.same_behaviour.specs.Ending.{IsUid}
-use Rattle.form_needs.specs.Needs.{is_kind, is_note, needs_form}
+use Rattle.split.specs.form_needs.Needs.{is_kind, is_note, needs_form}
 use Rattle.md_match.specs.Pattern.{Ops}
 use Rattle.md_forms.specs.declared.form.Entry.{Entry}
 use Rattle.assign.specs.Homes.{AreHomes}
 use Rattle.assign.specs.declared.home.HomeOf.{HomeOf}
 use Rattle.assign.specs.declared.places.Layout.{Layout}
-use Rattle.pass_ready.proofs.Places.{all_at, all_joined, at_place}
-use Rattle.frame_mean.specs.Frame.{next_uid, plain_insns}
-use Rattle.reload_choice.specs.Insns.{between, insns_before, insns_after}
-use Rattle.reload_choice.specs.Sound.{IsSoundPlan}
-use Rattle.reload_choice.specs.declared.given.Plan.{Plan}
-use Rattle.reload.specs.Reload.{with_homes, given_by, window_by}
-use Rattle.reload.specs.Windows.{IsWindow, AreWindows, HasWindows}
-use Rattle.insn_keep.specs.Sound.{IsSound}
+use Rattle.out_same.proofs.pass_ready.Places.{all_at, all_joined, at_place}
+use Rattle.reload_mean.specs.frame_mean.Frame.{next_uid, plain_insns}
+use Rattle.reload_mean.specs.reload_choice.Insns.{between, insns_before, insns_after}
+use Rattle.reload_mean.specs.reload_choice.Sound.{IsSoundPlan}
+use Rattle.reload_mean.specs.reload_choice.declared.given.Plan.{Plan}
+use Rattle.reload_mean.specs.reload.Reload.{with_homes, given_by, window_by}
+use Rattle.reload_mean.specs.reload.Windows.{IsWindow, AreWindows, HasWindows}
+use Rattle.split.specs.insn_keep.Sound.{IsSound}
 use Rattle.reload_mean.proofs.NaturalHomes.{reloaded_registers}
 use Rattle.lines_ready.specs.Placed.{IsInsnPlaced, ArePlaced}
 use Rattle.lines_ready.proofs.Notes.{note_plain, form_unmarked, no_label}

@@ -5,11 +5,11 @@ use Rattle.rtx_tree.specs.declared.function.Insn.{Insn}
 use Rattle.rtx_tree.specs.declared.function.Function.{Function}
 use Rattle.rtl_func.specs.Calls.{use_is_argument}
 use Rattle.rtl_func.specs.Calls as rules
-use Rattle.func_rules.proofs.Nodes.{all_pass}
-use Rattle.pass_ready.specs.Ready.{IsInsnReady}
-use Rattle.pass_ready.specs.Reloadable.{IsInsnReloadable}
-use Rattle.pass_ready.proofs.Places.{all_at, at_place}
-use Rattle.insn_keep.specs.Sound.{IsSound}
+use Rattle.reload_mean.proofs.func_rules.Nodes.{all_pass}
+use Rattle.out_same.specs.pass_ready.Ready.{IsInsnReady}
+use Rattle.out_same.specs.pass_ready.Reloadable.{IsInsnReloadable}
+use Rattle.out_same.proofs.pass_ready.Places.{all_at, at_place}
+use Rattle.split.specs.insn_keep.Sound.{IsSound}
 use Rattle.reload_mean.proofs.Placeable.{handed, kind_agrees}
 use Rattle.lines_ready.specs.Placed.{IsInsnPlaced, ArePlaced}
 use Rattle.lines_ready.proofs.Notes.{note_plain}

@@ -15,11 +15,11 @@ use Rattle.reg_uses.specs.Uses.{has_argument}
 use Rattle.sym_insns.specs.Shape.{is_shaped, all_natural}
 use Rattle.md_forms.specs.declared.form.Entry.{Entry}
 use Rattle.md_forms.specs.Forms.{names_of}
-use Rattle.form_needs.specs.Needs.{is_kind, name_at}
+use Rattle.split.specs.form_needs.Needs.{is_kind, name_at}
 use Rattle.new_insns.specs.Made.{kind_of, uses_between, insn_for}
-use Rattle.insn_replace.specs.Replace.{made, ReplacedComes}
-use Rattle.insn_keep.proofs.Marks.{no_mark}
-use Rattle.pass_ready.proofs.Places.{all_at, at_place}
+use Rattle.split.specs.insn_replace.Replace.{made, ReplacedComes}
+use Rattle.split.proofs.insn_keep.Marks.{no_mark}
+use Rattle.out_same.proofs.pass_ready.Places.{all_at, at_place}
 use Rattle.split.specs.declared.stage.SplitStage.{SplitStage}
 use Rattle.split.specs.declared.stage.SplitStage.TheVariants.{AfterReload}
 use Rattle.split.specs.Left.{StandsIn}

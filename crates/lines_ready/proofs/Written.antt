@@ -22,12 +22,12 @@ use Rattle.reg_uses.specs.Uses.{has_argument, insn_uses, insn_defines}
 use Rattle.sym_insns.specs.Shape.{is_natural, all_natural}
 use Rattle.window_same.specs.Items.{is_quiet}
 use Rattle.window_same.specs.Left.{IsNamed, IsSetNamed}
-use Rattle.form_needs.specs.Needs.{is_kind, is_label, is_note, is_silent, names_homeless, needs_form}
-use Rattle.func_rules.proofs.Mentions.{used_stands}
-use Rattle.func_rules.proofs.Registers.{is_no_argument, stands_homeless}
-use Rattle.func_rules.specs.ForLines.{UsesHard, IsQuiet}
-use Rattle.pass_ready.proofs.Places.{all_weaker}
-use Rattle.window_replace.proofs.Trees.{natural_here, natural_kids}
+use Rattle.split.specs.form_needs.Needs.{is_kind, is_label, is_note, is_silent, names_homeless, needs_form}
+use Rattle.reload_mean.proofs.func_rules.Mentions.{used_stands}
+use Rattle.reload_mean.proofs.func_rules.Registers.{is_no_argument, stands_homeless}
+use Rattle.reload_mean.specs.func_rules.ForLines.{UsesHard, IsQuiet}
+use Rattle.out_same.proofs.pass_ready.Places.{all_weaker}
+use Rattle.reload_mean.proofs.window_replace.Trees.{natural_here, natural_kids}
 use Rattle.lines_ready.specs.Placed.{IsInsnPlaced, ArePlaced}
 use Rattle.out_same.specs.Ready.{IsInsnWritable, AreWritable}
 use Rattle.lines_ready.proofs.Notes.{form_unmarked}

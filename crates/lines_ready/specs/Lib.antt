@@ -1,1 +1,3 @@
 pub mod Placed
+pub use Rattle.out_same.specs as out_same
+pub use Rattle.reload_mean.specs as reload_mean

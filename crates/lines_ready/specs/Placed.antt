@@ -12,7 +12,7 @@ use Rattle.reg_uses.specs.Effects.{pattern_defines}
 use Rattle.reg_uses.specs.Uses.{has_argument}
 use Rattle.same_behaviour.specs.Ending.{IsUid}
 use Rattle.sym_insns.specs.Shape.{all_natural}
-use Rattle.form_needs.specs.Needs.{is_note}
+use Rattle.split.specs.form_needs.Needs.{is_note}
 
 pub record IsInsnPlaced (i : Insn) : Type 0 where
   -- a label and a barrier define nothing, and a label has a number of 32 bits

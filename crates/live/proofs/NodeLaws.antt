@@ -1,15 +1,16 @@
 -- Paths of the graph and paths of the chain.
-use Rattle.std.proofs.Common.{◌≡◌, ℕ, zero, suc, ◌+◌, ◌<◌, List, [], ◌∷◌, ◌++◌, length, Some, inl, inr, refl, sym, ap, subst, ◌∙◌, arith, ◌⊎◌}
-use Rattle.std.specs.Prelude.{slice_get}
-use Rattle.std.proofs.lemmas.Bool.{false≢true}
+use Rattle.std.proofs.Common.{◌≡◌, ℕ, zero, suc, ◌+◌, ◌*◌, ◌<◌, true, eqb, List, [], ◌∷◌, ◌++◌, length, Some, inl, inr, refl, sym, ap, subst, ◌∙◌, arith, ◌⊎◌}
+use Rattle.std.specs.Prelude.{slice_get, All}
+use Rattle.std.proofs.lemmas.Bool.{or_cases, eqb-true, false≢true}
 use Rattle.std.proofs.lemmas.List.{length_push}
 use Rattle.std.proofs.lemmas.Option.{slice_get_cases, slice_get_within, same_Some, none-some}
 use Rattle.rtx_tree.specs.declared.function.Insn.{Insn}
 use Rattle.rtx_tree.specs.declared.function.Function.{Function}
 use Rattle.live_rows.specs.declared.node.Node.{Node}
-use Rattle.reg_rows.specs.Table.{has_at}
-use Rattle.live_rows.specs.Paths.{Reaches, Here, Along, IsLiveRows}
-use Rattle.live.specs.Live.{IsLive, AtEnd, AtUse, Passing, IsLiveness, AreLiveRows, live_has}
+use Rattle.reg_rows.specs.Row.{lists}
+use Rattle.live_rows.specs.Paths.{Fits, Reaches, Here, Along, IsLiveRows}
+use Rattle.live_rows.specs.Paths as rows_room
+use Rattle.live.specs.Live.{IsLive, AtEnd, AtUse, Passing, AreLiveRows, HaveRoom}
 use Rattle.live.specs.machine.Nodes.{IsNodeOf, IsEndOf, AreNodes}
 
 -- a node stands for an instruction or for the end
@@ -104,10 +105,28 @@ AreLiveRows-from f nodes rows are exact =
       complete = λ p reg live. exact.complete p reg (from_live f nodes are reg p live);
     }
 
-pub IsLiveness-from : (f : Function) (rows sets : List (List ℕ)) → AreLiveRows f rows → length sets ≡ length rows → ((p reg : ℕ) → live_has sets p reg ≡ has_at rows p reg) → IsLiveness f sets
-IsLiveness-from f rows sets exact long each =
+-- ---- room for what is defined
+
+listed_fits : (bound : ℕ) (regs : List ℕ) (reg : ℕ) → All (λ r. r < bound) regs → lists regs reg ≡ true → reg < bound
+listed_fits bound [] reg all h = absurd (false≢true h)
+listed_fits bound (r ∷ regs) reg all h =
+    elim (or_cases (eqb r reg) (lists regs reg) h) [
+      | inl e ↦ let b : r < bound = all 0 0 (omega arith) in let is = eqb-true r reg e in omega arith
+      | inr m ↦ listed_fits bound regs reg (λ k d l. all (suc k) d (omega arith)) m
+    ]
+
+fits_at : (width : ℕ) (nodes : List Node) (p : ℕ) (node : Node) → All (Fits width) nodes → slice_get nodes p ≡ Some node → Fits width node
+fits_at width [] p node all at = absurd (none-some node at)
+fits_at width (n ∷ nodes) zero node all at = subst (Fits width) (same_Some n node at) (all 0 n (omega arith))
+fits_at width (n ∷ nodes) (suc p) node all at = fits_at width nodes p node (λ k d l. all (suc k) d (omega arith)) at
+
+pub HaveRoom-from : (f : Function) (nodes : List Node) (rows : List (List ℕ)) → AreNodes f nodes → rows_room.HaveRoom nodes rows → HaveRoom f rows
+HaveRoom-from f nodes rows are room =
     record {
-      long = omega (arith, exact.long, long);
-      sound = λ p reg h. exact.sound p reg (sym (each p reg) ∙ h);
-      complete = λ p reg live. each p reg ∙ exact.complete p reg live;
+      width = room.width;
+      table = room.table;
+      defined = λ p i reg at d.
+          (let within = slice_get_within f.insns p i at in
+          let n = node_at f nodes are p (omega arith) in
+          listed_fits (64 * room.width) n.0.defines reg (fits_at room.width nodes p n.0 room.fits n.1).defines ((are.each p i n.0 at n.1).defines reg ∙ d));
     }

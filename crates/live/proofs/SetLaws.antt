@@ -1,12 +1,10 @@
 -- Sets that are filled from rows.
-use Rattle.std.proofs.Common.{◌≡◌, ℕ, zero, suc, ◌+◌, ◌*◌, ◌/◌, ◌%◌, ◌≤◌, Bool, true, false, ◌||◌, ◌&&◌, eqb, ltb, List, [], ◌∷◌, ◌++◌, length, get_or, refl, sym, ap, ◌∙◌, inl, inr, arith}
+use Rattle.std.proofs.Common.{◌≡◌, ℕ, ◌+◌, ◌*◌, ◌/◌, ◌%◌, ◌≤◌, Bool, true, false, ◌||◌, ◌&&◌, eqb, ltb, List, length, get_or, refl, sym, ap, ◌∙◌, inl, inr, arith}
 use Rattle.std.proofs.lemmas.Bool.{cases_lt, lt-ltb, le-ltb}
 use Rattle.std.proofs.lemmas.Bool.Decides.{nat_tests}
 use Rattle.rtx_tree.specs.RegSet.{has_reg}
 use Rattle.reg_rows.specs.Row.{has}
-use Rattle.reg_rows.specs.Table.{has_at}
 use Rattle.reg_rows.proofs.WordLaws.{has_past, has_zero_word}
-use Rattle.live.specs.Live.{live_has}
 
 -- the registers below a number are added
 abbrev pub IsTaken : List ℕ → List ℕ → ℕ → List ℕ → Type 0
@@ -32,29 +30,29 @@ and_false : (b h : Bool) → h ≡ false → (b && h) ≡ false
 and_false true h e = e
 and_false false h e = refl
 
-pub IsTaken-word : (first row set : List ℕ) (reg : ℕ) → reg % 64 ≡ 0 → get_or row (reg / 64) 0 ≡ 0 → IsTaken first row reg set → IsTaken first row (reg + 64) set
-IsTaken-word first row set reg start none taken other =
+-- a word that is 0 has none of its registers
+pub word_passed : (row : List ℕ) (reg other : ℕ) → reg % 64 ≡ 0 → get_or row (reg / 64) 0 ≡ 0 → (ltb other reg && has row other) ≡ (ltb other (reg + 64) && has row other)
+word_passed row reg other start none =
     elim (cases_lt other reg) [
-      | inl l ↦ taken other ∙ (ap (λ b. has_reg first other || (b && has row other)) (lt-ltb other reg l) ∙ sym (ap (λ b. has_reg first other || (b && has row other)) (lt-ltb other (reg + 64) (omega arith))))
+      | inl l ↦ ap (λ b. b && has row other) (lt-ltb other reg l ∙ sym (lt-ltb other (reg + 64) (omega arith)))
       | inr ge ↦ elim (cases_lt other (reg + 64)) [
         | inl l ↦
             let out = has_zero_word row (reg / 64) other none (omega arith) in
-            taken other ∙ ap (λ b. has_reg first other || b) (and_false (ltb other reg) (has row other) out ∙ sym (and_false (ltb other (reg + 64)) (has row other) out))
-        | inr past ↦ taken other ∙ (ap (λ b. has_reg first other || (b && has row other)) (le-ltb other reg ge) ∙ sym (ap (λ b. has_reg first other || (b && has row other)) (le-ltb other (reg + 64) past)))
+            and_false (ltb other reg) (has row other) out ∙ sym (and_false (ltb other (reg + 64)) (has row other) out)
+        | inr past ↦ ap (λ b. b && has row other) (le-ltb other reg ge ∙ sym (le-ltb other (reg + 64) past))
       ]
     ]
 
-pub taken_all : (first row set : List ℕ) (reg : ℕ) → length row * 64 ≤ reg → IsTaken first row reg set → (other : ℕ) → has_reg set other ≡ (has_reg first other || has row other)
-taken_all first row set reg le taken other =
+-- past its words a row has no register
+pub all_passed : (row : List ℕ) (reg other : ℕ) → length row * 64 ≤ reg → (ltb other reg && has row other) ≡ has row other
+all_passed row reg other le =
     elim (cases_lt other reg) [
-      | inl l ↦ taken other ∙ ap (λ b. has_reg first other || (b && has row other)) (lt-ltb other reg l)
-      | inr ge ↦ taken other ∙ (ap (λ b. has_reg first other || (b && has row other)) (le-ltb other reg ge) ∙ sym (ap (λ b. has_reg first other || b) (has_past row other (omega arith))))
+      | inl l ↦ ap (λ b. b && has row other) (lt-ltb other reg l)
+      | inr ge ↦ ap (λ b. b && has row other) (le-ltb other reg ge) ∙ sym (has_past row other (omega arith))
     ]
 
-pub live_push : (sets rows : List (List ℕ)) (set row : List ℕ) → length sets ≡ length rows → ((at reg : ℕ) → live_has sets at reg ≡ has_at rows at reg) → ((reg : ℕ) → has_reg set reg ≡ has row reg) → (at reg : ℕ) → live_has (sets ++ set ∷ []) at reg ≡ has_at (rows ++ row ∷ []) at reg
-live_push [] [] set row long each here zero reg = here reg
-live_push [] [] set row long each here (suc at) reg = refl
-live_push [] (r ∷ rows) set row long each here at reg = absurd (omega arith)
-live_push (s ∷ sets) [] set row long each here at reg = absurd (omega arith)
-live_push (s ∷ sets) (r ∷ rows) set row long each here zero reg = each 0 reg
-live_push (s ∷ sets) (r ∷ rows) set row long each here (suc at) reg = live_push sets rows set row (omega arith) (λ at reg. each (suc at) reg) here at reg
+pub IsTaken-word : (first row set : List ℕ) (reg : ℕ) → reg % 64 ≡ 0 → get_or row (reg / 64) 0 ≡ 0 → IsTaken first row reg set → IsTaken first row (reg + 64) set
+IsTaken-word first row set reg start none taken other = taken other ∙ ap (λ b. has_reg first other || b) (word_passed row reg other start none)
+
+pub taken_all : (first row set : List ℕ) (reg : ℕ) → length row * 64 ≤ reg → IsTaken first row reg set → (other : ℕ) → has_reg set other ≡ (has_reg first other || has row other)
+taken_all first row set reg le taken other = taken other ∙ ap (λ b. has_reg first other || b) (all_passed row reg other le)

@@ -1,10 +1,10 @@
 -- Where registers are live: GCC Internals, "Liveness information".
-use Rattle.std.specs.Prelude.{◌≡◌, ◌↔◌, ℕ, ◌+◌, Bool, true, false, ◌||◌, ◌&&◌, List, Option, Some, None, slice_get, length}
+use Rattle.std.specs.Prelude.{◌≡◌, ◌↔◌, ℕ, ◌+◌, ◌*◌, ◌<◌, Bool, true, false, ◌||◌, ◌&&◌, List, Some, slice_get, length}
 use Rattle.std.specs.List.Sorted.{IsStrictlyIncreasing}
 use Rattle.rtx_tree.specs.declared.function.Insn.{Insn}
 use Rattle.rtx_tree.specs.declared.function.Function.{Function}
 use Rattle.rtx_tree.specs.RegSet.{has_reg}
-use Rattle.reg_rows.specs.Table.{has_at}
+use Rattle.reg_rows.specs.Table.{has_at, IsTable}
 use Rattle.rtl_func.specs.Paths.{leads}
 use Rattle.reg_uses.specs.Uses.{insn_uses, insn_defines, is_return, return_uses}
 
@@ -28,22 +28,14 @@ pub record AreLiveAfter (f : Function) (p : ℕ) (regs : List ℕ) : Type 0 wher
   pub ordered : IsStrictlyIncreasing regs
   pub each : (reg : ℕ) → (has_reg regs reg ≡ true) ↔ IsLiveAfter f reg p
 
-abbrev pub set_has : Option (List ℕ) → ℕ → Bool
-set_has None reg = false
-set_has (Some set) reg = has_reg set reg
-
--- the set of a place has the register
-abbrev pub live_has : List (List ℕ) → ℕ → ℕ → Bool
-live_has live p reg = set_has (slice_get live p) reg
-
--- for each place of the chain, and at last for its end, there is the set of the registers that are live before it
-pub record IsLiveness (f : Function) (live : List (List ℕ)) : Type 0 where
-  pub long : length live ≡ length f.insns + 1
-  pub sound : (p reg : ℕ) → live_has live p reg ≡ true → IsLive f reg p
-  pub complete : (p reg : ℕ) → IsLive f reg p → live_has live p reg ≡ true
-
 -- for each place of the chain, and at last for its end, there is the row of the registers that are live before it
 pub record AreLiveRows (f : Function) (rows : List (List ℕ)) : Type 0 where
   pub long : length rows ≡ length f.insns + 1
   pub sound : (p reg : ℕ) → has_at rows p reg ≡ true → IsLive f reg p
   pub complete : (p reg : ℕ) → IsLive f reg p → has_at rows p reg ≡ true
+
+-- the rows are of one width, with room for each register that an instruction defines
+pub record HaveRoom (f : Function) (rows : List (List ℕ)) : Type 0 where
+  pub width : ℕ
+  pub table : IsTable width rows
+  pub defined : (p : ℕ) (i : Insn) (reg : ℕ) → slice_get f.insns p ≡ Some i → insn_defines i reg ≡ true → reg < 64 * width

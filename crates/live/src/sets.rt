@@ -1,14 +1,11 @@
 //! Rows as sets of registers.
-ghost use Rattle.std.specs.Prelude.{◌≡◌, ℕ, ◌*◌, ◌/◌, ◌%◌, ◌<◌, ◌==◌, ◌||◌, ◌&&◌, IfOk, OnOk, length, slice_index};
+ghost use Rattle.std.specs.Prelude.{◌≡◌, ℕ, ◌*◌, ◌/◌, ◌%◌, ◌<◌, ◌==◌, ◌||◌, ◌&&◌, OnOk, length, slice_index};
 ghost use Rattle.rtx_tree.specs.RegSet.{has_reg};
 ghost use Rattle.reg_rows.specs.Row.{has};
-ghost use Rattle.reg_rows.specs.Table.{has_at};
-ghost use Rattle.live.specs.Live.{live_has};
 
-use plain_data::{Items, Memory};
+use plain_data::Memory;
 use reg_rows::RegRow;
 use rtx_tree::RegSet;
-use std::alloc::Global;
 
 const WORD: usize = u64::BITS as usize;
 // so many words have a bit for each `u32`
@@ -51,26 +48,4 @@ pub fn add_row(row: &RegRow, set: &mut RegSet) -> Result<(), Memory>
         reg += 1;
     }
     Ok(())
-}
-
-/// The registers of a row.
-fn set_of(alloc: Global, row: &RegRow) -> Result<RegSet, Memory>
-    ensures { IfOk result (λ set. (reg : ℕ) → has_reg set reg ≡ has row.now reg) }
-{
-    let mut set = RegSet::new(alloc);
-    add_row(row, &mut set)?;
-    Ok(set)
-}
-
-/// The registers of each row.
-pub fn sets_of(alloc: Global, rows: &[RegRow]) -> Result<Items<RegSet>, Memory>
-    ensures long { IfOk result (λ sets. length sets ≡ length rows.now) }
-    ensures each { IfOk result (λ sets. (at reg : ℕ) → live_has sets at reg ≡ has_at rows.now at reg) }
-{
-    let mut sets = Items::new(alloc);
-    for row in rows {
-        let set = set_of(alloc, row)?;
-        sets.push(set)?;
-    }
-    Ok(sets)
 }

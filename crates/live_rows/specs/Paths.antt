@@ -1,7 +1,7 @@
 -- Where a path leads to a use of a register: the backward flow of GCC Internals, "Liveness information", over any graph.
 use Rattle.std.specs.Prelude.{◌≡◌, ℕ, ◌*◌, ◌<◌, Bool, true, false, ◌==◌, ◌||◌, List, Option, Some, None, slice_get, length, All}
 use Rattle.reg_rows.specs.Row.{lists}
-use Rattle.reg_rows.specs.Table.{has_at}
+use Rattle.reg_rows.specs.Table.{has_at, IsTable}
 use Rattle.live_rows.specs.declared.node.Node.{Node}
 
 abbrev pub uses : Node → ℕ → Bool
@@ -29,6 +29,13 @@ pub record IsLiveRows (nodes : List Node) (rows : List (List ℕ)) : Type 0 wher
   pub sound : (p reg : ℕ) → has_at rows p reg ≡ true → Reaches nodes reg p
   pub complete : (p reg : ℕ) → Reaches nodes reg p → has_at rows p reg ≡ true
 
--- a row of so many words of 64 bits has room for each register that the node uses
-abbrev pub fits : ℕ → Node → Type 0
-fits width node = All (λ reg. reg < 64 * width) node.uses
+-- a row of so many words of 64 bits has room for each register that the node uses or defines
+pub record Fits (width : ℕ) (node : Node) : Type 0 where
+  pub uses : All (λ reg. reg < 64 * width) node.uses
+  pub defines : All (λ reg. reg < 64 * width) node.defines
+
+-- the rows are of one width, with room for each register that a node uses or defines
+pub record HaveRoom (nodes : List Node) (rows : List (List ℕ)) : Type 0 where
+  pub width : ℕ
+  pub table : IsTable width rows
+  pub fits : All (Fits width) nodes

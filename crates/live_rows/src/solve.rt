@@ -1,7 +1,7 @@
 //! The rows of a graph.
 ghost use Rattle.std.specs.Prelude.{◌≡◌, ℕ, ◌-◌, ◌*◌, ◌^◌, ◌<◌, ◌≤◌, false, length, vec_len, sum, All, IfOk};
 ghost use Rattle.reg_rows.specs.Table.{has_at, IsTable};
-ghost use Rattle.live_rows.specs.Paths.{fits, IsLiveRows};
+ghost use Rattle.live_rows.specs.Paths.{Fits, HaveRoom, IsLiveRows};
 ghost use Rattle.live_rows.specs.machine.Rows.{uses_at, HasUses, IsSound};
 ghost use Rattle.live_rows.specs.machine.Flags.{flag, IsPending};
 
@@ -13,7 +13,7 @@ use std::alloc::Global;
 
 /// For each place the registers that it uses.
 fn rows_of_uses(alloc: Global, nodes: &[Node], width: usize) -> Result<Vec<RegRow>, Memory>
-    requires { All (fits width) nodes.now }
+    requires { All (Fits width) nodes.now }
     ensures long { IfOk result (λ rows. vec_len rows ≡ length nodes.now) }
     ensures each { IfOk result (λ rows. (at reg : ℕ) → has_at rows.items at reg ≡ uses_at nodes.now at reg) }
     ensures table { IfOk result (λ rows. IsTable width rows.items) }
@@ -50,7 +50,8 @@ fn solve(
     requires uses { HasUses nodes.now rows.old }
     requires sound { IsSound nodes.now rows.old }
     requires pending { IsPending nodes.now rows.old before.old }
-    ensures { IsLiveRows nodes.now rows.new }
+    ensures live { IsLiveRows nodes.now rows.new }
+    ensures table { IsTable (length set.old) rows.new }
 {
     'rounds: loop {
         lower(now);
@@ -61,20 +62,33 @@ fn solve(
     }
 }
 
-/// A width with room for each register that a node uses.
+/// A width from `least` on with room for each register that a node uses or defines.
+fn width_with(node: &Node, least: usize) -> usize
+    requires { least ≤ 2 ^ 32 }
+    ensures from { least ≤ result }
+    ensures small { result ≤ 2 ^ 32 }
+    ensures room { Fits result node.now }
+{
+    let width = width_of(node.uses.as_slice(), least);
+    width_of(node.defines.as_slice(), width)
+}
+
+/// A width with room for each register that a node uses or defines.
 fn width_for(nodes: &[Node]) -> usize
-    ensures { All (fits result) nodes.now }
+    ensures { All (Fits result) nodes.now }
 {
     let mut width = 0;
     for node in nodes {
-        width = width_of(node.uses.as_slice(), width);
+        width = width_with(node, width);
     }
     width
 }
 
-/// For each place the registers that a path leads from there to a use of, without a definition between.
+/// For each place the registers that a path leads from there to a use of, without a definition between. The rows are of one width,
+/// with room for what the nodes use and define.
 pub fn live_rows(alloc: Global, nodes: &[Node]) -> Result<Vec<RegRow>, Memory>
-    ensures { IfOk result (λ rows. IsLiveRows nodes.now rows.items) }
+    ensures live { IfOk result (λ rows. IsLiveRows nodes.now rows.items) }
+    ensures room { IfOk result (λ rows. HaveRoom nodes.now rows.items) }
 {
     let width = width_for(nodes);
     let mut rows = rows_of_uses(alloc, nodes, width)?;

@@ -10,15 +10,15 @@ use Rattle.rtl_func.specs.Calls.{has_argument, use_is_argument}
 use Rattle.rtl_func.specs.Nodes.{nodes_of}
 use Rattle.std.specs.List.{list_all}
 use Rattle.md_forms.specs.declared.form.Entry.{Entry}
-use Rattle.md_emit.specs.Emitted.{keeps_to_arguments}
-use Rattle.form_needs.specs.Needs.{is_kind, is_note, needs_form}
-use Rattle.pass_ready.specs.Left.{SameMarks}
-use Rattle.pass_ready.specs.Reloadable.{IsInsnReloadable}
-use Rattle.pass_ready.proofs.Places.{at_place}
+use Rattle.lower_insn.specs.md_emit.Emitted.{keeps_to_arguments}
+use Rattle.lower_insn.specs.form_needs.Needs.{is_kind, is_note, needs_form}
+use Rattle.lower_keep.specs.pass_ready.Left.{SameMarks}
+use Rattle.lower_keep.specs.pass_ready.Reloadable.{IsInsnReloadable}
+use Rattle.lower_keep.proofs.pass_ready.Places.{at_place}
 use Rattle.pass_refusal.specs.declared.refusal.PassRefusal.{PassRefusal}
-use Rattle.insn_keep.specs.Sound.{IsSound, PassKeeps}
-use Rattle.insn_keep.proofs.Keeping.{insn_kept, insn_same, each_keeps, pattern_keeps, kept_refl, kept_trans}
-use Rattle.insn_keep.proofs.Marks.{same_refl, same_trans}
+use Rattle.lower_keep.specs.insn_keep.Sound.{IsSound, PassKeeps}
+use Rattle.lower_keep.proofs.insn_keep.Keeping.{insn_kept, insn_same, each_keeps, pattern_keeps, kept_refl, kept_trans}
+use Rattle.lower_keep.proofs.insn_keep.Marks.{same_refl, same_trans}
 use Rattle.lower_insn.specs.declared.part.Lowered.{Lowered}
 use Rattle.lower_insn.specs.Lowered as insn
 use Rattle.lower_insn.specs.Lowered.{InsnAnswer, by_form, InsnLowers}

@@ -11,7 +11,7 @@ use Rattle.rtx_tree.specs.declared.function.Insn.{Insn}
 use Rattle.rtx_tree.specs.declared.function.Function.{Function}
 use Rattle.rtl_chain.specs.Counts.{greatest_uid, next_pseudo}
 use Rattle.md_forms.specs.declared.form.Entry.{Entry}
-use Rattle.form_needs.specs.Needs.{is_kind, needs_form}
+use Rattle.lower_insn.specs.form_needs.Needs.{is_kind, needs_form}
 use Rattle.new_insns.specs.Made.{kind_of, insn_for, insns_for}
 use Rattle.insn_replace.specs.Replace.{made, ReplacedComes}
 use Rattle.insn_replace.proofs.MadeLaws.{made_long}

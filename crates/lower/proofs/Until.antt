@@ -3,7 +3,7 @@ use Rattle.std.proofs.Common.{◌≡◌, ◌⊎◌, ⊎_elim, ℕ, ◌+◌, Bool
 use Rattle.rtx_tree.specs.declared.tree.Rtx.{Rtx}
 use Rattle.rtx_tree.specs.declared.function.Insn.{Insn}
 use Rattle.md_forms.specs.declared.form.Entry.{Entry}
-use Rattle.form_needs.specs.Needs.{needs_form}
+use Rattle.lower_insn.specs.form_needs.Needs.{needs_form}
 use Rattle.gen_emit.specs.declared.emission.Emission.{Emission}
 use Rattle.lower_insn.specs.declared.part.Part.{Part}
 use Rattle.lower_insn.specs.declared.part.Part.TheVariants.{Emitted}

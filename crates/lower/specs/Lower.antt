@@ -7,7 +7,7 @@ use Rattle.rtx_tree.specs.declared.function.Insn.{Insn}
 use Rattle.rtl_chain.specs.Counts.{greatest_uid, next_pseudo}
 use Rattle.md_forms.specs.declared.form.Entry.{Entry}
 use Rattle.md_forms.specs.Forms.{names_of}
-use Rattle.form_needs.specs.Needs.{name_at, needs_form}
+use Rattle.lower_insn.specs.form_needs.Needs.{name_at, needs_form}
 use Rattle.pass_refusal.specs.declared.refusal.PassRefusal.{PassRefusal}
 use Rattle.insn_replace.specs.Replace.{ReplacedComes}
 use Rattle.lower_insn.specs.declared.part.Lowered.{Lowered}

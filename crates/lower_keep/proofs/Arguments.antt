@@ -5,7 +5,7 @@ use Rattle.std.specs.List.{list_all, AllByRecursion}
 use Rattle.rtx_tree.specs.declared.function.Insn.{Insn}
 use Rattle.rtx_tree.specs.declared.tree.Rtx.{Rtx}
 use Rattle.md_forms.specs.declared.form.Entry.{Entry}
-use Rattle.md_emit.specs.Emitted.{keeps_to_arguments}
+use Rattle.insn_keep.specs.md_emit.Emitted.{keeps_to_arguments}
 use Rattle.sym_insns.specs.Shape.{all_natural}
 use Rattle.lower_insn.specs.declared.part.Lowered.{Lowered}
 use Rattle.lower_insn.specs.Lowered.{InsnLowers}

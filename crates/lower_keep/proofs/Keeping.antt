@@ -20,7 +20,7 @@ use Rattle.rtl_func.specs.Nodes.{nodes_of}
 use Rattle.rtl_print.proofs.TreeText.{rtx_induction}
 use Rattle.sym_insns.specs.Shape.{is_natural, all_natural}
 use Rattle.sym_insns.proofs.Shapes.{natural_out}
-use Rattle.func_rules.proofs.Nodes.{all_pass, pass_out, itself, within}
+use Rattle.insn_keep.proofs.func_rules.Nodes.{all_pass, pass_out, itself, within}
 
 -- ---- tests of all members of a list
 

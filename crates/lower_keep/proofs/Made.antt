@@ -11,16 +11,16 @@ use Rattle.rtx_tree.specs.declared.tree.Rtx.{Rtx}
 use Rattle.rtl_chain.specs.Counts.{greatest_uid}
 use Rattle.rtl_step.specs.Step.{is_mark}
 use Rattle.new_insns.specs.Made.{kind_of, insn_for, insns_for}
-use Rattle.equate.specs.Equated.{Equated}
-use Rattle.equate.specs.Side.{Insns, is_one_return}
-use Rattle.equate.proofs.VerdictLaws.{verdict_same}
+use Rattle.insn_keep.specs.equate.Equated.{Equated}
+use Rattle.insn_keep.specs.equate.Side.{Insns, is_one_return}
+use Rattle.insn_keep.proofs.equate.VerdictLaws.{verdict_same}
 use Rattle.sym_insns.specs.Run.{run_from}
 use Rattle.sym_insns.specs.Shape.{all_natural, is_end, is_shaped, fits_kind, bad_from, bad_insn}
 use Rattle.sym_state.specs.State.{start}
 use Rattle.sym_mean.proofs.Bools.{both_of}
 use Rattle.sym_mean.proofs.Kept.{natural_insn}
 use Rattle.sym_mean.proofs.Ways.{fits_all, does_run}
-use Rattle.insn_replace.specs.Replace.{made, ReplacedComes}
+use Rattle.insn_keep.specs.insn_replace.Replace.{made, ReplacedComes}
 use Rattle.insn_keep.proofs.Marks.{made_kind}
 use Rattle.lower_keep.proofs.Keeping.{all_passes}
 

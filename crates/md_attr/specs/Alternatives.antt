@@ -4,9 +4,9 @@
 use Rattle.std.specs.Prelude.{ℕ, ◌<◌, Bool, false, List, Option, Some, None, Result, Ok, Err, find, slice_get, option_and_then, if◌then◌else◌}
 use Rattle.std.specs.Option.{option_map_or}
 use Rattle.std.specs.Str.{bytes_eq}
-use Rattle.md_pattern.specs.declared.reason.Reason.{Reason}
-use Rattle.md_draft.specs.declared.head.FormHead.{FormHead}
-use Rattle.md_draft.specs.Head.{head_named}
+use Rattle.md_forms.specs.md_pattern.declared.reason.Reason.{Reason}
+use Rattle.md_forms.specs.md_draft.declared.head.FormHead.{FormHead}
+use Rattle.md_forms.specs.md_draft.Head.{head_named}
 use Rattle.md_forms.specs.declared.form.Form.{Form}
 use Rattle.md_forms.specs.declared.form.Entry.{Entry}
 use Rattle.md_forms.specs.Checks.{alternatives}

@@ -3,7 +3,7 @@
 use Rattle.std.specs.Prelude.{ℕ, Bool, false, not, List, [], ◌∷◌, Option, Some, None, codes, find, slice_get, option_map, option_and_then, if◌then◌else◌}
 use Rattle.std.specs.Option.{option_map_or}
 use Rattle.std.specs.Str.{bytes_eq}
-use Rattle.md_draft.specs.declared.draft.Attribute.{Attribute}
+use Rattle.md_forms.specs.md_draft.declared.draft.Attribute.{Attribute}
 use Rattle.md_forms.specs.declared.form.Entry.{Entry}
 use Rattle.md_forms.specs.Tables.{defines_attribute}
 use Rattle.md_attr.specs.Alternatives.{accepted, definition_of, form_at}

@@ -6,7 +6,7 @@ use Rattle.std.specs.Option.{option_map, option_map_or, option_and_then}
 use Rattle.std.proofs.lemmas.Option.{slice_get-map}
 use Rattle.rtx_tree.specs.declared.tree.Rtx.{Rtx}
 use Rattle.pred_rows.specs.Tests.{Accepts}
-use Rattle.md_pattern.specs.declared.reason.Reason.{Reason}
+use Rattle.md_forms.specs.md_pattern.declared.reason.Reason.{Reason}
 use Rattle.md_forms.specs.declared.form.Form.{Form}
 use Rattle.md_forms.specs.declared.form.Entry.{Entry}
 use Rattle.md_forms.specs.Checks.{alternatives}

@@ -16,8 +16,8 @@ use Rattle.pred_expr.specs.declared.question.Test.{Test}
 use Rattle.pred_rows.specs.Tests.{Accepts, test_holds}
 use Rattle.md_text.specs.declared.constraint.Letter.{Letter}
 use Rattle.md_text.specs.declared.constraint.Letter.TheVariants as letter
-use Rattle.md_draft.specs.declared.head.RegisterClass.{RegisterClass}
-use Rattle.md_draft.specs.declared.head.RegisterClass.TheVariants as named
+use Rattle.md_forms.specs.md_draft.declared.head.RegisterClass.{RegisterClass}
+use Rattle.md_forms.specs.md_draft.declared.head.RegisterClass.TheVariants as named
 use Rattle.md_forms.specs.declared.form.Form.{Form}
 use Rattle.md_forms.specs.declared.form.Entry.{Entry}
 use Rattle.md_forms.specs.Tables.{defines_constraint}

@@ -7,7 +7,7 @@ use Rattle.c_eval.specs.declared.facts.Facts.{Facts}
 use Rattle.md_text.specs.declared.template.Template.{Template}
 use Rattle.md_text.specs.declared.template.Template.TheVariants as template
 use Rattle.md_match.specs.Pattern.{Ops}
-use Rattle.md_pattern.specs.declared.reason.Reason.{Reason}
+use Rattle.md_forms.specs.md_pattern.declared.reason.Reason.{Reason}
 use Rattle.md_forms.specs.declared.form.Form.{Form}
 use Rattle.md_forms.specs.declared.form.Entry.{Entry}
 use Rattle.md_attr.specs.Alternatives.{alternatives_of}

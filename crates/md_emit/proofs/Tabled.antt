@@ -5,9 +5,9 @@ use Rattle.rtx_tree.specs.declared.code.Mode.{Mode}
 use Rattle.rtx_tree.specs.declared.tree.Rtx.{Rtx}
 use Rattle.c_eval.specs.declared.facts.Facts.{Facts}
 use Rattle.md_forms.specs.declared.form.Entry.{Entry}
-use Rattle.md_pred.specs.declared.table.PredTable.{PredTable}
-use Rattle.md_pred.specs.Holds.{holds}
-use Rattle.md_pred.specs.machine.Table.{accepted_by}
+use Rattle.md_desc.specs.md_pred.declared.table.PredTable.{PredTable}
+use Rattle.md_desc.specs.md_pred.Holds.{holds}
+use Rattle.md_desc.specs.md_pred.machine.Table.{accepted_by}
 use Rattle.md_recog.specs.declared.half.Half.TheVariants as half
 use Rattle.md_recog.specs.Recog.{IsFirst, NoneBetween}
 use Rattle.md_recog.specs.declared.recog.FormMatch.{FormMatch}

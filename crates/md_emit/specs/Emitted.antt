@@ -8,7 +8,7 @@ use Rattle.md_pattern.specs.declared.reason.Reason.{Reason}
 use Rattle.md_match.specs.Pattern.{Ops}
 use Rattle.md_forms.specs.declared.form.Form.{Form}
 use Rattle.md_forms.specs.declared.form.Entry.{Entry}
-use Rattle.md_pred.specs.Holds.{holds}
+use Rattle.md_desc.specs.md_pred.Holds.{holds}
 use Rattle.gen_emit.specs.declared.emission.Emission.{Emission}
 use Rattle.gen_emit.specs.Emission.{emitted}
 

@@ -1,6 +1,6 @@
 //! The forms that split instructions.
 ghost use Rattle.std.specs.Prelude.{◌≡◌, ◌↔◌, ◌∷◌, [], ◌<◌, Some, None, IfOk, length};
-ghost use Rattle.md_pred.specs.Holds.{holds};
+ghost use Rattle.md_desc.specs.md_pred.Holds.{holds};
 ghost use Rattle.md_recog.specs.Recog.{IsFirst, NoneBetween};
 ghost use Rattle.md_recog.specs.declared.recog.FormMatch.{FormMatch};
 ghost use Rattle.md_recog.specs.declared.half.Half.TheVariants as half;

@@ -5,3 +5,6 @@ pub mod Checks
 pub mod Forms
 pub mod Reasons
 pub mod machine
+pub use Rattle.c_cond.specs as c_cond
+pub use Rattle.md_draft.specs as md_draft
+pub use Rattle.md_pattern.specs as md_pattern

@@ -7,8 +7,8 @@ use Rattle.rtx_tree.specs.declared.code.Code.TheVariants.{MatchOperand, MatchDup
 use Rattle.rtx_tree.specs.declared.tree.Rtx.{Rtx}
 use Rattle.rtx_tree.specs.declared.tree.Rtx.TheOpen.{Rtx-F}
 use Rattle.rtx_tree.specs.declared.tree.Rtx.TheFolds.{fold-Rtx}
-use Rattle.c_words.specs.declared.head.CondHead.{CondHead}
-use Rattle.c_words.specs.declared.head.CondHead.TheVariants.{Predicate, Assign}
+use Rattle.c_cond.specs.c_words.declared.head.CondHead.{CondHead}
+use Rattle.c_cond.specs.c_words.declared.head.CondHead.TheVariants.{Predicate, Assign}
 use Rattle.c_cond.specs.declared.tree.Tree.{Tree}
 use Rattle.c_cond.specs.Tree.{heads_of}
 use Rattle.pred_expr.specs.declared.question.Test.{Test}

@@ -2,9 +2,9 @@
 use Rattle.std.proofs.Common.{◌≡◌, ℕ, Bool, true, false, cond, not, ◌||◌, List, [], Option, Some, None, Result, Ok, Err, refl, sym, ap, ◌∙◌}
 use Rattle.std.specs.List.{flat_map, list_all}
 use Rattle.std.specs.Option.{is_some}
-use Rattle.md_pattern.specs.declared.reason.Reason.{Reason}
-use Rattle.md_pattern.specs.declared.reason.Reason.TheVariants as reason
-use Rattle.md_draft.specs.declared.draft.Draft.{Draft}
+use Rattle.md_forms.specs.md_pattern.declared.reason.Reason.{Reason}
+use Rattle.md_forms.specs.md_pattern.declared.reason.Reason.TheVariants as reason
+use Rattle.md_forms.specs.md_draft.declared.draft.Draft.{Draft}
 use Rattle.md_forms.specs.declared.form.Form.{Form}
 use Rattle.md_forms.specs.declared.tables.Tables.{Tables}
 use Rattle.md_forms.specs.Names.{predicates_in, predicates_called, predicates_tested, predicates_named}

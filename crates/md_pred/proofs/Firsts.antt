@@ -3,10 +3,10 @@ use Rattle.std.proofs.Common.{◌≡◌, ℕ, Bool, true, false, List, [], ◌�
 use Rattle.std.specs.List.{find, filter_map}
 use Rattle.std.specs.Str.{bytes_eq}
 use Rattle.std.proofs.lemmas.Option.{slice_get-map}
-use Rattle.md_pattern.specs.declared.reason.Reason.{Reason}
-use Rattle.md_draft.specs.declared.draft.Draft.{Draft}
-use Rattle.md_draft.specs.declared.draft.DraftEntry.{DraftEntry}
-use Rattle.md_draft.specs.Head.{head_named}
+use Rattle.md_forms.specs.md_pattern.declared.reason.Reason.{Reason}
+use Rattle.md_forms.specs.md_draft.declared.draft.Draft.{Draft}
+use Rattle.md_forms.specs.md_draft.declared.draft.DraftEntry.{DraftEntry}
+use Rattle.md_forms.specs.md_draft.Head.{head_named}
 use Rattle.md_forms.specs.declared.form.Entry.{Entry}
 use Rattle.md_forms.specs.declared.tables.PredicateDraft.{PredicateDraft}
 use Rattle.md_forms.specs.declared.tables.Tables.{Tables}

@@ -5,10 +5,10 @@ use Rattle.std.proofs.lemmas.Bool.{and_parts}
 use Rattle.std.proofs.lemmas.List.{length-map}
 use Rattle.rtx_tree.specs.declared.code.Mode.{Mode}
 use Rattle.rtx_tree.specs.declared.tree.Rtx.{Rtx}
-use Rattle.md_pattern.specs.declared.reason.Reason.{Reason}
+use Rattle.md_forms.specs.md_pattern.declared.reason.Reason.{Reason}
 use Rattle.pred_expr.specs.declared.question.Test.{Test}
-use Rattle.md_draft.specs.declared.draft.Draft.{Draft}
-use Rattle.md_draft.specs.declared.draft.DraftEntry.{DraftEntry}
+use Rattle.md_forms.specs.md_draft.declared.draft.Draft.{Draft}
+use Rattle.md_forms.specs.md_draft.declared.draft.DraftEntry.{DraftEntry}
 use Rattle.md_forms.specs.declared.form.Form.{Form}
 use Rattle.md_forms.specs.declared.form.Entry.{Entry}
 use Rattle.md_forms.specs.declared.tables.PredicateDraft.{PredicateDraft}

@@ -22,7 +22,7 @@ pub struct PredTable {
 
 impl PredTable {
     ghost use Rattle.std.specs.Prelude.{List};
-    ghost use Rattle.md_draft.specs.declared.draft.DraftEntry.{DraftEntry};
+    ghost use Rattle.md_forms.specs.md_draft.declared.draft.DraftEntry.{DraftEntry};
     ghost use Rattle.md_forms.specs.Forms.{forms_in};
     ghost use Rattle.md_pred.specs.Holds.{holds, IsTold};
     ghost use Rattle.md_pred.specs.machine.Table.{accepted_by};

@@ -5,8 +5,8 @@ use Rattle.rtx_tree.specs.declared.tree.Rtx.{Rtx}
 use Rattle.c_eval.specs.declared.facts.Facts.{Facts}
 use Rattle.md_match.specs.Pattern.{Ops}
 use Rattle.md_recog.specs.Match.{Accepts, IsMatch}
-use Rattle.md_draft.specs.declared.head.FormHead.{FormHead}
-use Rattle.md_draft.specs.declared.head.FormHead.TheVariants as head
+use Rattle.md_forms.specs.md_draft.declared.head.FormHead.{FormHead}
+use Rattle.md_forms.specs.md_draft.declared.head.FormHead.TheVariants as head
 use Rattle.md_forms.specs.declared.form.Form.{Form}
 use Rattle.md_forms.specs.declared.form.Entry.{Entry}
 use Rattle.c_cond.specs.declared.tree.Tree.{Tree}

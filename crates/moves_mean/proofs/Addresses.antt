@@ -19,8 +19,8 @@ use Rattle.rtl_step.specs.Effect.{address_of, address_part}
 use Rattle.rtl_step.specs.Regs.{Regs}
 use Rattle.rtl_step.specs.Value.{width_of, value_of}
 use Rattle.sym_insns.specs.Shape.{all_natural}
-use Rattle.window_replace.proofs.Known.{Too, both_of, or_first}
-use Rattle.window_replace.proofs.Trees.{natural_kids, mentions_kid}
+use Rattle.frame_mean.proofs.window_replace.Known.{Too, both_of, or_first}
+use Rattle.frame_mean.proofs.window_replace.Trees.{natural_kids, mentions_kid}
 use Rattle.moves_mean.specs.Spare.{KnowsRest, NamesNoSpare}
 use Rattle.moves_mean.proofs.NewTrees.{Becomes, AllBecome, same, new, over, none, next}
 use Rattle.moves_mean.proofs.Nodes.{all_pass, itself, within}

@@ -26,7 +26,7 @@ use Rattle.reload_homes.proofs.Rewrites.{homed_over}
 use Rattle.reload_operands.specs.Bases.{lives_in_slot, in_slot}
 use Rattle.reload_operands.specs.Changes.{other_memory, any_other_memory, is_other_memory}
 use Rattle.reload_operands.specs.declared.operand.Operand.{Operand}
-use Rattle.reload_fit.specs.Fitting.{is_memory_code}
+use Rattle.reload_choice.specs.reload_fit.Fitting.{is_memory_code}
 use Rattle.reload_moves.specs.declared.part.Part.{Part}
 use Rattle.reload_choice.specs.Movable.{may_have_results, may_land, may_end}
 use Rattle.reload_choice.specs.Sound.{IsPart, IsSoundPlan}

@@ -10,7 +10,7 @@ use Rattle.rtl_step.specs.Effect.{memory_after}
 use Rattle.rtl_step.specs.declared.effect.Effect.{Effect}
 use Rattle.rtl_step.specs.declared.step.State.{State}
 use Rattle.assign.specs.declared.places.Layout.{Layout}
-use Rattle.window_replace.proofs.Stands.{Stands}
+use Rattle.frame_mean.proofs.window_replace.Stands.{Stands}
 use Rattle.moves_mean.specs.Onwards.{ArePlain}
 use Rattle.moves_mean.proofs.Endings.{IsAroundFrom, around_from_leads}
 use Rattle.moves_mean.proofs.Keeping.{Stay, stay_rest}

@@ -27,7 +27,7 @@ use Rattle.rv_regs.specs.Registers.{stack_pointer}
 use Rattle.md_operand.specs.Addresses.{is_stack_pointer, is_beyond, is_constant_at, is_constant, is_sum_at}
 use Rattle.md_operand.specs.Operand.{is_far_by, is_far}
 use Rattle.reload_operands.specs.declared.operand.Base.{Base}
-use Rattle.reload_fit.specs.Addressed.{address_on, offset_in_sum, offset_in_memory, far_offset, slot_offset}
+use Rattle.reload_choice.specs.reload_fit.Addressed.{address_on, offset_in_sum, offset_in_memory, far_offset, slot_offset}
 use Rattle.moves_mean.proofs.Fetches.{offset_by}
 use Rattle.moves_mean.proofs.Loads.{on_value}
 use Rattle.moves_mean.proofs.Nodes.{all_pass, itself, within}

@@ -25,7 +25,7 @@ use Rattle.rtl_step.specs.Effect.{address_of}
 use Rattle.rtl_step.specs.Regs.{Regs, reg_value}
 use Rattle.rtl_step.specs.Value.{width_of, value_of}
 use Rattle.window_keep.specs.Same.{KnownToo}
-use Rattle.window_replace.proofs.Known.{Too, too_then, too_map, too_two, both_of}
+use Rattle.frame_mean.proofs.window_replace.Known.{Too, too_then, too_map, too_two, both_of}
 use Rattle.moves_mean.specs.Spare.{is_spare, KnowsRest}
 use Rattle.moves_mean.proofs.NewTrees.{Becomes, AllBecome, none, next}
 use Rattle.moves_mean.proofs.Nodes.{all_pass}

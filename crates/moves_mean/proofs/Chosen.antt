@@ -18,7 +18,7 @@ use Rattle.reload_moves.specs.Moves.{own_of, base_of, far_of}
 use Rattle.reload_moves.specs.Registers.{asks_of}
 use Rattle.reload_moves.specs.declared.ask.Ask.{Ask}
 use Rattle.reload_moves.specs.declared.part.Part.{Part}
-use Rattle.reload_fit.specs.Addressed.{on_register}
+use Rattle.reload_choice.specs.reload_fit.Addressed.{on_register}
 use Rattle.reload_choice.specs.Insns.{new_tree, news_of}
 use Rattle.reload_choice.specs.Movable.{is_clear}
 use Rattle.reload_choice.specs.Sound.{IsPart, IsSoundPlan}

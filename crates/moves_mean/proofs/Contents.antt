@@ -20,7 +20,7 @@ use Rattle.reload_moves.specs.declared.ask.What.TheVariants.{Own, StayingBase, R
 use Rattle.reload_moves.specs.declared.part.Part.{Part}
 use Rattle.reload_moves.specs.Moves.{own_of, base_of, far_of, comes_in}
 use Rattle.reload_moves.specs.Registers.{ask, holds_base, base_ask, stays_far, register_for}
-use Rattle.reload_fit.specs.Addressed.{slot_offset, far_offset}
+use Rattle.reload_choice.specs.reload_fit.Addressed.{slot_offset, far_offset}
 use Rattle.reload_choice.specs.declared.given.Given.{Given}
 use Rattle.reload_choice.specs.declared.given.Plan.{Plan}
 use Rattle.reload_choice.specs.Movable.{are_same_outputs, is_alone}

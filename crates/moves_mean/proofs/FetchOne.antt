@@ -22,7 +22,7 @@ use Rattle.reload_operands.specs.declared.operand.Operand.{Operand}
 use Rattle.reload_moves.specs.declared.moves.Move.{Move}
 use Rattle.reload_moves.specs.declared.moves.Move.TheVariants.{Base as LoadBase, In}
 use Rattle.reload_moves.specs.Moves.{far_to}
-use Rattle.reload_fit.specs.Addressed.{address_on, on_register, slot_offset, slot_far}
+use Rattle.reload_choice.specs.reload_fit.Addressed.{address_on, on_register, slot_offset, slot_far}
 use Rattle.reload_choice.specs.Insns.{set_reg, far_insns, base_insn, base_insns, in_insn, insns_at, all_insns}
 use Rattle.moves_mean.specs.Spare.{KeepsRest}
 use Rattle.moves_mean.proofs.Addresses.{IsNewTree}

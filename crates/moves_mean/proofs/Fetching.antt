@@ -22,7 +22,7 @@ use Rattle.reload_moves.specs.declared.ask.What.TheVariants.{Own, StayingFar}
 use Rattle.reload_moves.specs.declared.part.Part.{Part}
 use Rattle.reload_moves.specs.Moves.{comes_in}
 use Rattle.reload_moves.specs.Registers.{ask, is_asked, asks_of, register_for, holds_base, base_ask, stays_far}
-use Rattle.reload_fit.specs.Addressed.{slot_offset}
+use Rattle.reload_choice.specs.reload_fit.Addressed.{slot_offset}
 use Rattle.reload_choice.specs.declared.given.Given.{Given}
 use Rattle.reload_choice.specs.declared.given.Plan.{Plan}
 use Rattle.reload_choice.specs.Sound.{IsPart, IsSoundPlan}

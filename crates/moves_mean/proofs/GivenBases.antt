@@ -20,7 +20,7 @@ use Rattle.reload_homes.proofs.Rewrites.{homed_register, homed_over}
 use Rattle.reload_homes.proofs.Wrapping.{number_wraps}
 use Rattle.reload_operands.specs.Bases.{is_slot, lives_in_slot, base_in, base_with, base_of_sum, base_at, base_in_mode, base_of_address, base_by, base_of}
 use Rattle.reload_operands.specs.declared.operand.Base.{Base}
-use Rattle.reload_fit.specs.Addressed.{address_on}
+use Rattle.reload_choice.specs.reload_fit.Addressed.{address_on}
 use Rattle.moves_mean.proofs.Based.{slot_of, OnSlot, added, IsBased, place}
 use Rattle.moves_mean.proofs.Based as based
 

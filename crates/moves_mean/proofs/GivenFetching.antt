@@ -27,7 +27,7 @@ use Rattle.reload_operands.specs.declared.operand.Base.{Base}
 use Rattle.reload_operands.specs.declared.operand.Operand.{Operand}
 use Rattle.reload_moves.specs.declared.part.Part.{Part}
 use Rattle.reload_moves.specs.Moves.{comes_in}
-use Rattle.reload_fit.specs.Addressed.{slot_offset}
+use Rattle.reload_choice.specs.reload_fit.Addressed.{slot_offset}
 use Rattle.reload_choice.specs.declared.given.Given.{Given}
 use Rattle.reload_choice.specs.declared.given.Plan.{Plan}
 use Rattle.reload_choice.specs.Sound.{IsPart, IsSoundPlan}

@@ -25,7 +25,7 @@ use Rattle.rtl_step.specs.Regs.{Regs}
 use Rattle.rtl_step.specs.Value.{value_of}
 use Rattle.rtl_step.specs.declared.effect.Effect.{Effect}
 use Rattle.sym_insns.specs.Shape.{all_natural}
-use Rattle.window_replace.proofs.Trees.{mentions_kid, natural_kids}
+use Rattle.frame_mean.proofs.window_replace.Trees.{mentions_kid, natural_kids}
 use Rattle.md_constr.specs.Inputs as inputs
 use Rattle.md_match.specs.Pattern.{Ops}
 use Rattle.assign.specs.declared.home.Home.{Home}
@@ -40,7 +40,7 @@ use Rattle.reload_operands.specs.Changes.{changed_register, changes_in, is_hard,
 use Rattle.reload_operands.specs.declared.operand.Operand.{Operand}
 use Rattle.reload_moves.specs.Registers.{is_result}
 use Rattle.reload_moves.specs.declared.part.Part.{Part}
-use Rattle.reload_fit.specs.Fitting as fits
+use Rattle.reload_choice.specs.reload_fit.Fitting as fits
 use Rattle.reload_choice.specs.Movable.{may_land, is_plain}
 use Rattle.reload_choice.specs.Sound.{IsPart, IsSoundPlan}
 use Rattle.reload_choice.specs.declared.given.Plan.{Plan}

@@ -25,7 +25,7 @@ use Rattle.assign.specs.declared.places.Layout.{Layout}
 use Rattle.reload_homes.specs.Homes.{home_of, homed, register_numbered, register_in, register_by, register_at, place_by, place_for, slot_address, slot_offset}
 use Rattle.reload_homes.proofs.Rewrites.{homed_register, homed_over}
 use Rattle.rv_regs.specs.Registers.{stack_pointer}
-use Rattle.window_replace.proofs.Trees.{natural_kids}
+use Rattle.frame_mean.proofs.window_replace.Trees.{natural_kids}
 use Rattle.moves_mean.proofs.HomedShapes.{is_replaced_class, is_home_class, Alike, AllAlike, row_fits, none, next}
 use Rattle.moves_mean.proofs.HomedTrees.{induction, low_placed, low_code}
 use Rattle.moves_mean.proofs.NewTrees.{is_lowpart_class}

@@ -27,7 +27,7 @@ use Rattle.reload_homes.specs.FrameRefs.{sp_plus, from_sp}
 use Rattle.reload_homes.specs.Homes.{home_of, homed, register_numbered, register_in, register_by, register_at, place_by, place_for, slot_address, slot_offset}
 use Rattle.reload_homes.proofs.Rewrites.{homed_register, homed_over}
 use Rattle.rv_regs.specs.Registers.{stack_pointer}
-use Rattle.window_replace.proofs.Trees.{natural_kids, natural_here}
+use Rattle.frame_mean.proofs.window_replace.Trees.{natural_kids, natural_here}
 use Rattle.moves_mean.proofs.NewTrees.{is_lowpart_class, is_lowpart, is_whole}
 use Rattle.moves_mean.proofs.Nodes as nodes
 use Rattle.moves_mean.proofs.Nodes.{all_pass, pass_out}

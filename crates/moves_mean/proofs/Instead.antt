@@ -11,7 +11,7 @@ use Rattle.rtl_step.specs.declared.effect.Effect.{Effect}
 use Rattle.rtl_step.specs.declared.effect.Effect.TheVariants.{Nothing, Sets, Unsets, Stores}
 use Rattle.rtl_step.specs.declared.regs.Known.{Known}
 use Rattle.window_keep.specs.Same.{KnownToo}
-use Rattle.window_replace.proofs.Known.{Too}
+use Rattle.frame_mean.proofs.window_replace.Known.{Too}
 use Rattle.moves_mean.specs.Spare.{is_spare, KnowsRest}
 use Rattle.moves_mean.proofs.Cells.{known_made, known_is}
 

@@ -24,8 +24,8 @@ use Rattle.rtl_step.specs.Regs.{Regs}
 use Rattle.rtl_step.specs.Value.{value_by, value_of}
 use Rattle.rtl_step.specs.declared.jump.Way.TheVariants as way
 use Rattle.sym_insns.specs.Shape.{all_natural}
-use Rattle.window_replace.proofs.Known.{Too, too_map, too_two, both_of, or_first, or_later}
-use Rattle.window_replace.proofs.Trees.{natural_kids, mentions_kid}
+use Rattle.frame_mean.proofs.window_replace.Known.{Too, too_map, too_two, both_of, or_first, or_later}
+use Rattle.frame_mean.proofs.window_replace.Trees.{natural_kids, mentions_kid}
 use Rattle.moves_mean.specs.Spare.{KnowsRest, NamesNoSpare}
 use Rattle.moves_mean.proofs.NewTrees.{Becomes, AllBecome, none, next}
 use Rattle.moves_mean.proofs.Nodes.{all_pass, itself, within}

@@ -27,7 +27,7 @@ use Rattle.rtl_step.specs.declared.jump.Way.{Way}
 use Rattle.rtl_step.specs.declared.step.State.{State}
 use Rattle.reg_uses.specs.Uses.{has_argument}
 use Rattle.same_behaviour.specs.Lawful.{IsMemory}
-use Rattle.window_replace.proofs.Stands.{Stands}
+use Rattle.frame_mean.proofs.window_replace.Stands.{Stands}
 use Rattle.md_match.specs.Pattern.{Ops, operand_numbered}
 use Rattle.reload_homes.specs.Homes.{homed}
 use Rattle.reload_operands.specs.Directions.{is_input}

@@ -21,7 +21,7 @@ use Rattle.rtl_step.specs.Value.{width_of, value_of, of_two}
 use Rattle.rtl_step.specs.declared.effect.Effect.{Effect}
 use Rattle.rtl_step.specs.declared.effect.Effect.TheVariants.{Nothing, Sets, Unsets, Stores}
 use Rattle.sym_insns.specs.Shape.{is_natural, all_natural}
-use Rattle.window_replace.proofs.Trees.{natural_here, natural_kids}
+use Rattle.frame_mean.proofs.window_replace.Trees.{natural_here, natural_kids}
 use Rattle.reload_homes.specs.Homes as places
 use Rattle.reload_homes.specs.Homes.{register_at}
 use Rattle.reload_operands.specs.Changes.{target_by, changed_register, is_hard}

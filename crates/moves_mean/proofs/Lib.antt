@@ -119,3 +119,6 @@ pub mod NewEnds
 pub mod ResultBases
 pub mod ResultEnds
 pub mod PlainLeads
+pub use Rattle.frame_mean.proofs as frame_mean
+pub use Rattle.reload_operands.proofs as reload_operands
+pub use Rattle.frame_mean.proofs.window_replace as window_replace

@@ -30,7 +30,7 @@ use Rattle.reload_moves.specs.Moves.{far_to, own_of, base_of, end_far_of, out_ba
 use Rattle.reload_moves.specs.declared.ask.Ask.{Ask}
 use Rattle.reload_moves.specs.declared.moves.Move.TheVariants.{Out}
 use Rattle.reload_moves.specs.declared.part.Part.{Part}
-use Rattle.reload_fit.specs.Addressed.{address_on, addressed, addressed_by, address_in, on_register, far_offset}
+use Rattle.reload_choice.specs.reload_fit.Addressed.{address_on, addressed, addressed_by, address_in, on_register, far_offset}
 use Rattle.reload_choice.specs.Insns.{far_insns, out_insn, insns_at, all_insns}
 use Rattle.moves_mean.specs.Held.{Held, Holds}
 use Rattle.moves_mean.specs.Spare.{is_spare, KnowsRest, KeepsRest}

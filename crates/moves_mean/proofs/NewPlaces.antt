@@ -9,7 +9,7 @@ use Rattle.reload_operands.specs.declared.operand.Operand.{Operand}
 use Rattle.reload_moves.specs.declared.part.Part.{Part}
 use Rattle.reload_moves.specs.Moves.{own_of, base_of, far_of}
 use Rattle.reload_moves.specs.Registers.{asks_of}
-use Rattle.reload_fit.specs.Addressed.{on_register}
+use Rattle.reload_choice.specs.reload_fit.Addressed.{on_register}
 use Rattle.reload_choice.specs.declared.given.Given.{Given}
 use Rattle.reload_choice.specs.declared.given.Plan.{Plan}
 use Rattle.reload_choice.specs.Insns.{new_tree}

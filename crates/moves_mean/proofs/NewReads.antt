@@ -26,7 +26,7 @@ use Rattle.reload_moves.specs.declared.part.Part.{Part}
 use Rattle.reload_moves.specs.Moves.{own_of, base_of, far_of, comes_in}
 use Rattle.reload_moves.specs.Registers.{ask, holds_base, base_ask, stays_far, register_for}
 use Rattle.reload_moves.proofs.AskLaws.{base_asked, far_asked}
-use Rattle.reload_fit.specs.Addressed.{on_register}
+use Rattle.reload_choice.specs.reload_fit.Addressed.{on_register}
 use Rattle.reload_choice.specs.declared.given.Given.{Given}
 use Rattle.reload_choice.specs.declared.given.Plan.{Plan}
 use Rattle.reload_choice.specs.Insns.{new_tree}

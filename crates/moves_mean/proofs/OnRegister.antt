@@ -23,10 +23,10 @@ use Rattle.rtl_step.specs.Value.{width_of, value_of}
 use Rattle.rv_regs.specs.Registers.{stack_pointer}
 use Rattle.same_behaviour.specs.Lawful.{IsMemory}
 use Rattle.sym_insns.specs.Shape.{all_natural}
-use Rattle.window_replace.proofs.Known.{Too}
+use Rattle.frame_mean.proofs.window_replace.Known.{Too}
 use Rattle.reload_operands.specs.declared.operand.Base.{Base}
 use Rattle.reload_operands.specs.declared.operand.Operand.{Operand}
-use Rattle.reload_fit.specs.Addressed.{address_on, addressed_by, addressed, address_in, on_register, far_offset}
+use Rattle.reload_choice.specs.reload_fit.Addressed.{address_on, addressed_by, addressed, address_in, on_register, far_offset}
 use Rattle.moves_mean.specs.Spare.{NamesNoSpare}
 use Rattle.moves_mean.proofs.Addresses.{is_new_class, IsNewTree, address_is}
 use Rattle.moves_mean.proofs.Based.{IsBased, place, alone, far_is, based_near, in_slot, address_value, far_value}

@@ -11,7 +11,7 @@ use Rattle.rtl_step.specs.Regs.{Regs}
 use Rattle.rtl_step.specs.declared.effect.Effect.{Effect}
 use Rattle.rtl_step.specs.declared.step.State.{State}
 use Rattle.same_behaviour.specs.Lawful.{IsMemory}
-use Rattle.window_replace.proofs.Stands.{Stands}
+use Rattle.frame_mean.proofs.window_replace.Stands.{Stands}
 use Rattle.md_constr.specs.Inputs as inputs
 use Rattle.md_match.specs.Pattern.{Ops}
 use Rattle.reload_choice.specs.Insns.{between, insns_before, insns_after}

@@ -12,7 +12,7 @@ use Rattle.rtl_step.specs.Regs.{Regs}
 use Rattle.rtl_step.specs.declared.effect.Effect.{Effect}
 use Rattle.rtl_step.specs.declared.step.State.{State}
 use Rattle.assign.specs.declared.places.Layout.{Layout}
-use Rattle.window_replace.proofs.Stands.{Stands}
+use Rattle.frame_mean.proofs.window_replace.Stands.{Stands}
 use Rattle.moves_mean.specs.Spare.{KnowsRest}
 use Rattle.moves_mean.specs.Onwards.{Onwards, ArePlain}
 use Rattle.moves_mean.specs.Tame.{AreTame}

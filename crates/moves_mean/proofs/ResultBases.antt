@@ -26,7 +26,7 @@ use Rattle.reload_moves.specs.declared.ask.Ask.{Ask}
 use Rattle.reload_moves.specs.declared.ask.What.TheVariants.{Own, ResultBase, ResultFar, StayingBase}
 use Rattle.reload_moves.specs.declared.part.Part.{Part}
 use Rattle.reload_moves.proofs.AskLaws.{own_asked, base_asked, end_far_asked}
-use Rattle.reload_fit.specs.Addressed.{on_register, far_offset}
+use Rattle.reload_choice.specs.reload_fit.Addressed.{on_register, far_offset}
 use Rattle.reload_choice.specs.Sound.{IsPart}
 use Rattle.reload_choice.specs.declared.given.Plan.{Plan}
 use Rattle.moves_mean.specs.Held.{Held, Holds}

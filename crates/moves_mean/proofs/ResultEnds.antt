@@ -30,7 +30,7 @@ use Rattle.reload_moves.specs.Moves.{own_of, base_of, end_far_of, out_base}
 use Rattle.reload_moves.specs.Registers.{asks_of, is_result}
 use Rattle.reload_moves.specs.declared.ask.Ask.{Ask}
 use Rattle.reload_moves.specs.declared.part.Part.{Part}
-use Rattle.reload_fit.specs.Addressed.{on_register}
+use Rattle.reload_choice.specs.reload_fit.Addressed.{on_register}
 use Rattle.reload_choice.specs.Insns.{reached}
 use Rattle.reload_choice.specs.Sound.{IsPart}
 use Rattle.reload_choice.specs.declared.given.Plan.{Plan}

@@ -16,7 +16,7 @@ use Rattle.reload_moves.specs.Moves.{own_of, base_of, far_of}
 use Rattle.reload_moves.specs.declared.ask.Ask.{Ask}
 use Rattle.reload_moves.specs.declared.part.Part.{Part}
 use Rattle.reload_choice.specs.Insns.{new_tree}
-use Rattle.reload_fit.specs.Addressed.{on_register}
+use Rattle.reload_choice.specs.reload_fit.Addressed.{on_register}
 use Rattle.std.specs.Prelude.{is_some}
 use Rattle.moves_mean.proofs.NewsLaws.{moved_place, new_result, result_of, result_with, result_in}
 

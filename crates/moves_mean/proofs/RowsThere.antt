@@ -18,7 +18,7 @@ use Rattle.rtl_step.specs.Effect.{effect_of, all_effects, one_effect, effects_of
 use Rattle.rtl_step.specs.Regs.{Regs}
 use Rattle.rtl_step.specs.declared.effect.Effect.{Effect}
 use Rattle.sym_insns.specs.Shape.{all_natural}
-use Rattle.window_replace.proofs.Trees.{natural_kids}
+use Rattle.frame_mean.proofs.window_replace.Trees.{natural_kids}
 use Rattle.md_constr.specs.Inputs as inputs
 use Rattle.md_match.specs.Pattern.{Ops, role_of, instantiated}
 use Rattle.md_match.specs.declared.role.Role.TheVariants.{Itself}

@@ -22,8 +22,8 @@ use Rattle.rtl_step.specs.Regs.{Regs}
 use Rattle.rtl_step.specs.Value.{width_of}
 use Rattle.rtl_step.specs.declared.effect.Effect.{Effect}
 use Rattle.sym_insns.specs.Shape.{all_natural}
-use Rattle.window_replace.proofs.Known.{Too, both_of, or_first, or_later}
-use Rattle.window_replace.proofs.Trees.{natural_kids, mentions_kid}
+use Rattle.frame_mean.proofs.window_replace.Known.{Too, both_of, or_first, or_later}
+use Rattle.frame_mean.proofs.window_replace.Trees.{natural_kids, mentions_kid}
 use Rattle.moves_mean.specs.Spare.{KnowsRest, NamesNoSpare}
 use Rattle.moves_mean.proofs.Addresses.{AddressToo, IsNewTree, address_becomes, becomes_reads}
 use Rattle.moves_mean.proofs.Elements.{register_stays, memory_stays, source_reads}

@@ -22,7 +22,7 @@ use Rattle.rtl_step.specs.declared.effect.Effect.TheVariants.{Nothing, Sets, Uns
 use Rattle.rtl_step.proofs.Values.{value_read}
 use Rattle.sym_insns.specs.Shape.{all_natural}
 use Rattle.window_keep.specs.Same.{KnownToo}
-use Rattle.window_replace.proofs.Known.{values_too}
+use Rattle.frame_mean.proofs.window_replace.Known.{values_too}
 use Rattle.moves_mean.specs.Spare.{is_spare, NamesNoSpare, KnowsRest}
 use Rattle.moves_mean.proofs.HomedTrees.{induction}
 use Rattle.moves_mean.proofs.Nodes as nodes

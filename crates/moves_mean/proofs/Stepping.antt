@@ -12,7 +12,7 @@ use Rattle.rtl_step.specs.Step.{step, after_effects}
 use Rattle.rtl_step.specs.declared.effect.Effect.{Effect}
 use Rattle.rtl_step.specs.declared.step.State.{State}
 use Rattle.rtl_step.specs.declared.step.StepEnd.TheVariants.{Next}
-use Rattle.window_replace.proofs.Stands.{Stands, stands_behind, step_is}
+use Rattle.frame_mean.proofs.window_replace.Stands.{Stands, stands_behind, step_is}
 use Rattle.moves_mean.specs.Straight.{Straight, done, next}
 use Rattle.moves_mean.specs.Onwards.{Onwards, stays, on, ArePlain}
 

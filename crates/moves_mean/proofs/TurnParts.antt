@@ -24,8 +24,8 @@ use Rattle.reload_moves.specs.declared.part.Part.{Part}
 use Rattle.reload_moves.specs.Moves.{comes_in, far_to}
 use Rattle.reload_moves.specs.Registers.{ask, is_asked, register_for}
 use Rattle.reload_moves.proofs.AskLaws.{own_asked}
-use Rattle.reload_fit.specs.Addressed.{on_register, slot_offset, slot_far, far_offset}
-use Rattle.reload_fit.specs.Fitting.{slot_far_of}
+use Rattle.reload_choice.specs.reload_fit.Addressed.{on_register, slot_offset, slot_far, far_offset}
+use Rattle.reload_choice.specs.reload_fit.Fitting.{slot_far_of}
 use Rattle.reload_choice.specs.declared.given.Given.{Given}
 use Rattle.reload_choice.specs.declared.given.Plan.{Plan}
 use Rattle.reload_choice.specs.Insns.{in_insn, all_insns}

@@ -23,8 +23,8 @@ use Rattle.md_match.specs.Pattern.{Ops, role_of, operand_numbered}
 use Rattle.md_match.specs.declared.role.Role.{Role}
 use Rattle.md_match.specs.declared.role.Role.TheVariants.{Operand, Operator, Itself}
 use Rattle.reload_operands.specs.Put.{each_by, parts_by, put}
-use Rattle.window_replace.proofs.Known.{both_of, or_first, or_later}
-use Rattle.window_replace.proofs.Trees.{natural_kids, mentions_kid}
+use Rattle.frame_mean.proofs.window_replace.Known.{both_of, or_first, or_later}
+use Rattle.frame_mean.proofs.window_replace.Trees.{natural_kids, mentions_kid}
 use Rattle.moves_mean.specs.Places.{AtOnePlace, first, later}
 use Rattle.moves_mean.specs.Spare.{KnowsRest}
 use Rattle.moves_mean.proofs.ElementTurns.{effect_code, key_of}

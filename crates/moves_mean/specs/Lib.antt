@@ -5,3 +5,9 @@ pub mod Held
 pub mod Onwards
 pub mod Tame
 pub mod Chosen
+pub use Rattle.frame_mean.specs as frame_mean
+pub use Rattle.reload_choice.specs as reload_choice
+pub use Rattle.reload_choice.specs.reload_fit as reload_fit
+pub use Rattle.reload_operands.specs as reload_operands
+pub use Rattle.sym_insns.specs as sym_insns
+pub use Rattle.frame_mean.specs.window_replace as window_replace

@@ -1,1 +1,2 @@
 pub mod Ready
+pub use Rattle.pass_ready.specs as pass_ready

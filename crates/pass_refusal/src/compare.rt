@@ -13,8 +13,7 @@ ghost use Rattle.pass_refusal.specs.machine.Steps.{Judges, verdict_of};
 
 use crate::refusal::PassRefusal;
 use equate::{Side, Verdict, equate};
-use form_needs::name_at;
-use md_desc::Description;
+use form_needs::{Description, name_at};
 use md_forms::names_of;
 use plain_data::Memory;
 use rtx_tree::{Insn, Limit, Name, RegSet};

@@ -9,4 +9,5 @@ mod compare;
 mod refusal;
 
 pub use compare::judge;
+pub use equate::Side;
 pub use refusal::{PassRefusal, unmatched};

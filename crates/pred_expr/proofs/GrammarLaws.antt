@@ -1,12 +1,12 @@
 -- The tree of a text as a value is the one that the grammar gives it.
 use Rattle.std.proofs.Common.{◌≡◌, List, [], ◌∷◌, ℕ, Option, Some, None, Result, Ok, Err, option_map, refl, sym, ap, subst, ◌∙◌}
 use Rattle.rtx_tree.specs.declared.constants.Constant.{Constant}
-use Rattle.c_words.specs.declared.atom.Dialect.{Dialect}
-use Rattle.c_words.specs.declared.atom.Dialect.TheVariants as dialect
+use Rattle.c_cond.specs.c_words.declared.atom.Dialect.{Dialect}
+use Rattle.c_cond.specs.c_words.declared.atom.Dialect.TheVariants as dialect
 use Rattle.c_cond.specs.declared.goal.Goal.TheVariants as goal
-use Rattle.c_words.specs.declared.head.CondHead.{CondHead}
+use Rattle.c_cond.specs.c_words.declared.head.CondHead.{CondHead}
 use Rattle.c_cond.specs.declared.tree.Tree.{Tree}
-use Rattle.c_words.specs.Tokens.{tokens_in}
+use Rattle.c_cond.specs.c_words.Tokens.{tokens_in}
 use Rattle.c_cond.specs.Tree.{tree_of}
 use Rattle.c_cond.specs.Grammar.{IsText, Condition, Statements}
 use Rattle.c_cond.specs.Answers.{Answers}

@@ -7,7 +7,7 @@ use Rattle.rtx_tree.specs.declared.code.Code.{Code}
 use Rattle.rtx_tree.specs.declared.code.Code.TheVariants.{MatchOperand}
 use Rattle.rtx_tree.specs.declared.code.Mode.{Mode}
 use Rattle.rtx_tree.specs.declared.constants.Constant.{Constant}
-use Rattle.c_words.specs.declared.atom.Dialect.TheVariants as dialect
+use Rattle.c_cond.specs.c_words.declared.atom.Dialect.TheVariants as dialect
 use Rattle.c_cond.specs.declared.tree.Tree as c_tree
 use Rattle.c_cond.specs.Grammar.{IsText, Condition}
 use Rattle.lisp_read.specs.declared.tree.Tree.{Tree}

@@ -4,8 +4,8 @@
 -- clauses `grammar` of condition, statements and test_of carry this (Says), so that nobody has to look at how the value is made.
 use Rattle.std.specs.Prelude.{◌≡◌, ◌↔◌, ℕ, pos, List, Result, Ok, Err}
 use Rattle.rtx_tree.specs.declared.constants.Constant.{Constant}
-use Rattle.c_words.specs.declared.atom.Dialect.TheVariants as dialect
-use Rattle.c_words.specs.declared.head.CondHead.TheVariants as head
+use Rattle.c_cond.specs.c_words.declared.atom.Dialect.TheVariants as dialect
+use Rattle.c_cond.specs.c_words.declared.head.CondHead.TheVariants as head
 use Rattle.c_cond.specs.declared.goal.Goal.TheVariants as goal
 use Rattle.c_cond.specs.declared.tree.Tree.{Tree}
 use Rattle.c_cond.specs.Tree.{leaf}

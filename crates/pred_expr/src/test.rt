@@ -6,7 +6,7 @@ ghost use Rattle.lisp_read.specs.Shape.{atom_of};
 ghost use Rattle.md_text.specs.Lists as lists;
 ghost use Rattle.md_pattern.specs.Reason.{judged_with};
 ghost use Rattle.md_pattern.specs.declared.reason.Reason.TheVariants as reason;
-ghost use Rattle.c_words.specs.declared.atom.Dialect.TheVariants as Dialect;
+ghost use Rattle.c_cond.specs.c_words.declared.atom.Dialect.TheVariants as Dialect;
 ghost use Rattle.c_cond.specs.Grammar.{IsText, Condition};
 ghost use Rattle.lisp_read.specs.declared.tree.Tree.{Tree};
 ghost use Rattle.pred_expr.specs.declared.question.Test.{Test};

@@ -1,7 +1,7 @@
 //! Conditions and statements by their texts.
 ghost use Rattle.std.specs.Prelude.{◌≡◌, IfOk, List, ℕ};
 ghost use Rattle.c_cond.specs.Grammar.{IsText, Condition, Statements};
-ghost use Rattle.c_words.specs.declared.atom.Dialect.TheVariants as Dialect;
+ghost use Rattle.c_cond.specs.c_words.declared.atom.Dialect.TheVariants as Dialect;
 ghost use Rattle.md_pattern.specs.declared.reason.Reason.TheVariants as reason;
 ghost use Rattle.pred_expr.specs.Texts as spec;
 

@@ -1,2 +1,3 @@
 pub mod Trees
 pub mod Natural
+pub use Rattle.func_rules.proofs as func_rules

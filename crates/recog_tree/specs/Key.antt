@@ -9,7 +9,7 @@ use Rattle.c_eval.specs.Value.{same_code, is_a}
 use Rattle.md_match.specs.declared.role.Role.{Role}
 use Rattle.md_match.specs.declared.role.Role.TheVariants.{Itself}
 use Rattle.md_match.specs.Pattern.{role_of}
-use Rattle.md_pattern.specs.declared.reason.Reason.{Reason}
+use Rattle.md_forms.specs.md_pattern.declared.reason.Reason.{Reason}
 use Rattle.md_forms.specs.declared.form.Form.{Form}
 use Rattle.md_forms.specs.declared.form.Entry.{Entry}
 use Rattle.md_recog.specs.Recog.{is_instruction}

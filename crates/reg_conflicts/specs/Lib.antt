@@ -1,2 +1,3 @@
 pub mod Conflicts
 pub mod machine
+pub use Rattle.live.specs as live

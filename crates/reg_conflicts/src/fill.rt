@@ -1,51 +1,52 @@
 //! The rows of conflicts.
-ghost use Rattle.std.specs.Prelude.{◌≡◌, ℕ, ◌*◌, ◌<◌, ◌^◌, ◌==◌, ◌||◌, ◌&&◌, nat_lt, length, false, slice_get, Some, IfOk, OnOk};
-ghost use Rattle.reg_rows.specs.Row.{has};
+ghost use Rattle.std.specs.Prelude.{◌≡◌, ℕ, ◌*◌, ◌<◌, ◌^◌, ◌||◌, length, false, true, slice_get, Some, IfOk, OnOk};
+ghost use Rattle.std.specs.Ordering.{nat_cmp};
+ghost use Rattle.std.specs.BTreeMap as map;
+ghost use Rattle.rtx_tree.specs.Patterns.{place_of};
+ghost use Rattle.rtx_tree.specs.declared.function.Insn.{Insn};
 ghost use Rattle.reg_rows.specs.Table.{has_at, IsTable};
-ghost use Rattle.reg_uses.specs.Uses.{insn_defines};
-ghost use Rattle.live.specs.Live.{IsLiveness};
-ghost use Rattle.reg_conflicts.specs.Conflicts.{AreConflicts, has_conflict};
-ghost use Rattle.reg_conflicts.specs.machine.Rows.{after_has};
+ghost use Rattle.reg_uses.specs.Uses as uses;
+ghost use Rattle.live.specs.Live.{AreLiveRows, HaveRoom};
+ghost use Rattle.reg_conflicts.specs.Conflicts.{AreConflicts};
+ghost use Rattle.reg_conflicts.specs.machine.Rows.{is_beside};
 
 use crate::mark::{collect, mark};
-use live::Live;
 use plain_data::Memory;
-use reg_rows::{RegRow, empty_rows, has};
+use reg_rows::{RegRow, empty_rows};
 use reg_uses::insn_defines;
-use rtx_tree::{Function, Insn, RegSet};
+use rtl_func::{Labels, labels_of, successors_by};
+use rtx_tree::{Function, Insn};
 use std::alloc::Global;
 
 const WORD: usize = u64::BITS as usize;
 // so many words have bits for `u32`s alone, and not for all of them
 const MOST_WORDS: usize = (1 << 26) - 1;
 
-/// Whether two registers conflict, by the rows.
-pub fn conflict(rows: &[RegRow], x: u32, y: u32) -> bool
-    ensures { result ≡ has_conflict rows.now x y }
-{
-    has(rows, x as usize, y) || has(rows, y as usize, x)
-}
-
-/// Adds what one instruction defines, with what is live after it.
+/// Adds the conflicts of what one instruction defines with what is live after it.
 fn add_insn(
     alloc: Global,
     f: &Function,
-    live: &[RegSet],
+    labels: &Labels,
+    live: &[RegRow],
     at: u32,
     insn: &Insn,
     rows: &mut [RegRow],
     set: &mut RegRow,
 ) -> Result<(), Memory>
     requires short { length f.now.insns < 2 ^ 32 }
-    requires room { 64 * length set.old < 2 ^ 32 }
+    requires labels { (uid : ℕ) → map.get nat_cmp labels.now uid ≡ place_of uid f.now.insns }
+    requires live { IsTable (length set.old) live.now }
     requires table { IsTable (length set.old) rows.old }
+    requires long { length rows.old ≡ 64 * length set.old }
+    requires small { 64 * length set.old < 2 ^ 32 }
+    requires room { (reg : ℕ) → uses.insn_defines insn.now reg ≡ true → reg < 64 * length set.old }
     ensures width { length set.new ≡ length set.old }
     ensures table { IsTable (length set.old) rows.new }
-    ensures each { OnOk result ((x y : ℕ) → has_at rows.new x y ≡ (has_at rows.old x y || ((nat_lt x (length rows.old) && insn_defines insn.now x) && (nat_lt y (64 * length set.old) && after_has f.now live.now at y)))) }
+    ensures each { OnOk result ((x y : ℕ) → has_at rows.new x y ≡
+        (has_at rows.old x y || (is_beside f.now live.now at insn.now x y || is_beside f.now live.now at insn.now y x))) }
 {
-    let end = (set.width() * WORD) as u32;
     let defines = insn_defines(alloc, insn)?;
-    collect(f, live, at, end, set);
+    collect(live, successors_by(labels, f.insns.as_slice(), at), set);
     mark(rows, defines.as_slice(), set);
     Ok(())
 }
@@ -53,41 +54,53 @@ fn add_insn(
 fn fill(
     alloc: Global,
     f: &Function,
-    live: &[RegSet],
+    live: &[RegRow],
     rows: &mut [RegRow],
     set: &mut RegRow,
 ) -> Result<(), Memory>
     requires short { length f.now.insns < 2 ^ 32 }
-    requires live { IsLiveness f.now live.now }
-    requires room { 64 * length set.old < 2 ^ 32 }
-    requires long { length rows.old ≡ 64 * length set.old }
+    requires exact { AreLiveRows f.now live.now }
+    requires live { IsTable (length set.old) live.now }
     requires table { IsTable (length set.old) rows.old }
+    requires long { length rows.old ≡ 64 * length set.old }
+    requires small { 64 * length set.old < 2 ^ 32 }
+    requires room { (p : ℕ) (i : Insn) (reg : ℕ) → slice_get f.now.insns p ≡ Some i → uses.insn_defines i reg ≡ true → reg < 64 * length set.old }
     requires none { (x y : ℕ) → has_at rows.old x y ≡ false }
-    ensures { OnOk result (AreConflicts f.now (length set.old) rows.new) }
+    ensures table { IsTable (length set.old) rows.new }
+    ensures conflicts { OnOk result (AreConflicts f.now rows.new) }
 {
     let insns = f.insns.as_slice();
+    let labels = labels_of(alloc, insns)?;
     for at in 0..insns.len() {
-        add_insn(alloc, f, live, at as u32, &insns[at], rows, set)?;
+        add_insn(alloc, f, &labels, live, at as u32, &insns[at], rows, set)?;
     }
     Ok(())
 }
 
-/// For each register below 64 times `width` the row of those below it that are live after one of its definitions. More words than
-/// `u32` counts bits for, and 2^32 places or more, find no memory.
-pub fn conflict_rows(
-    alloc: Global,
-    f: &Function,
-    live: &Live,
-    width: usize,
-) -> Result<Vec<RegRow>, Memory>
-    requires { IsLiveness f.now live.now }
-    ensures { IfOk result (λ rows. AreConflicts f.now width rows.items) }
+/// The width of rows that are all of one.
+pub fn width_of_rows(rows: &[RegRow]) -> usize
+    ensures { (width : ℕ) → IsTable width rows.now → 0 < length rows.now → result ≡ width }
 {
+    match rows {
+        [] => 0,
+        [first, ..] => first.width(),
+    }
+}
+
+/// For each register below 64 times the width of the rows of what is live the row of those with which it conflicts, of the same width;
+/// the others have no conflict. More words than `u32` counts bits for, and 2^32 places or more, find no memory.
+pub fn conflict_rows(alloc: Global, f: &Function, live: &[RegRow]) -> Result<Vec<RegRow>, Memory>
+    requires live { AreLiveRows f.now live.now }
+    requires room { HaveRoom f.now live.now }
+    ensures conflicts { IfOk result (λ rows. AreConflicts f.now rows.items) }
+    ensures table { (width : ℕ) → IsTable width live.now → IfOk result (λ rows. IsTable width rows.items) }
+{
+    let width = width_of_rows(live);
     if width > MOST_WORDS || f.insns.len() > u32::MAX as usize {
         return Err(Memory);
     }
     let mut rows = empty_rows(alloc, width * WORD, width)?;
     let mut set = RegRow::new(alloc, width)?;
-    fill(alloc, f, live.as_slice(), rows.as_mut_slice(), &mut set)?;
+    fill(alloc, f, live, rows.as_mut_slice(), &mut set)?;
     Ok(rows)
 }

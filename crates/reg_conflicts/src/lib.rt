@@ -1,10 +1,10 @@
 //! Which registers conflict: one is defined where the other is live after.
 //!
-//! [`conflict_rows`] gives for each register below 64 times a width the row of those that are live after one of its definitions;
-//! [`conflict`] looks at both rows of a pair. The rows hold exactly the pairs that the paths of the function give.
+//! [`conflict_rows`] gives for each register the row of those with which it conflicts. The rows hold exactly the pairs that the paths
+//! of the function give, each pair in both of its rows.
 #![tactic(auto)]
 
 mod fill;
 mod mark;
 
-pub use fill::{conflict, conflict_rows};
+pub use fill::{conflict_rows, width_of_rows};

@@ -1,77 +1,103 @@
 //! What is live after a place, and the rows of what is defined there.
-ghost use Rattle.std.specs.Prelude.{◌≡◌, ℕ, ◌*◌, ◌<◌, ◌^◌, ◌==◌, ◌||◌, ◌&&◌, nat_lt, length};
+ghost use Rattle.std.specs.Prelude.{◌≡◌, ℕ, ◌*◌, ◌/◌, ◌%◌, ◌<◌, ◌^◌, ◌==◌, ◌||◌, ◌&&◌, length, slice_index, All};
 ghost use Rattle.rtx_tree.specs.RegSet.{has_reg};
 ghost use Rattle.reg_rows.specs.Row.{has};
 ghost use Rattle.reg_rows.specs.Table.{has_at, IsTable};
-ghost use Rattle.reg_conflicts.specs.machine.Rows.{place_has, after_has};
+ghost use Rattle.live_rows.specs.machine.Rows.{at_place};
 
 use reg_rows::{RegRow, join_row};
-use rtl_func::successors;
-use rtx_tree::{Function, RegSet};
+use rtl_func::Successors;
 
-fn add_register(from: &RegSet, reg: u32, set: &mut RegRow)
-    requires { reg < 64 * length set.old }
-    ensures width { length set.new ≡ length set.old }
-    ensures each { (other : ℕ) → has set.new other ≡ (has set.old other || (other == reg && has_reg from.now other)) }
-{
-    if from.contains(reg) {
-        set.insert(reg);
-    }
-}
+const WORD: usize = u64::BITS as usize;
 
-/// Adds those of a set that are below `end`.
-fn add_set(from: &RegSet, end: u32, set: &mut RegRow)
-    requires { end ≡ 64 * length set.old }
+/// Adds the row of a place, if there is one.
+fn add_place(live: &[RegRow], place: Option<u32>, set: &mut RegRow)
+    requires { IsTable (length set.old) live.now }
     ensures width { length set.new ≡ length set.old }
-    ensures each { (other : ℕ) → has set.new other ≡ (has set.old other || (nat_lt other end && has_reg from.now other)) }
-{
-    for reg in 0..end {
-        add_register(from, reg, set);
-    }
-}
-
-/// Adds those below `end` that are live before a place, if there is one.
-fn add_place(live: &[RegSet], place: Option<u32>, end: u32, set: &mut RegRow)
-    requires { end ≡ 64 * length set.old }
-    ensures width { length set.new ≡ length set.old }
-    ensures each { (other : ℕ) → has set.new other ≡ (has set.old other || (nat_lt other end && place_has place live.now other)) }
+    ensures each { (reg : ℕ) → has set.new reg ≡ (has set.old reg || at_place place live.now reg) }
 {
     if let Some(place) = place
-        && let Some(from) = live.get(place as usize)
+        && let Some(row) = live.get(place as usize)
     {
-        add_set(from, end, set);
+        let _ = set.join(row);
     }
 }
 
-/// Collects those below `end` that are live after a place.
-pub fn collect(f: &Function, live: &[RegSet], at: u32, end: u32, set: &mut RegRow)
-    requires short { length f.now.insns < 2 ^ 32 }
-    requires room { end ≡ 64 * length set.old }
+/// Collects the registers that are live before one of the places to which an instruction leads.
+pub fn collect(live: &[RegRow], next: Successors, set: &mut RegRow)
+    requires { IsTable (length set.old) live.now }
     ensures width { length set.new ≡ length set.old }
-    ensures each { (other : ℕ) → has set.new other ≡ (nat_lt other end && after_has f.now live.now at other) }
+    ensures each { (reg : ℕ) → has set.new reg ≡ (at_place next.first live.now reg || at_place next.second live.now reg) }
 {
-    let next = successors(f, at);
     set.clear();
-    add_place(live, next.first, end, set);
-    add_place(live, next.second, end, set);
+    add_place(live, next.first, set);
+    add_place(live, next.second, set);
 }
 
-fn mark_one(rows: &mut [RegRow], reg: u32, set: &RegRow)
-    requires { IsTable (length set.now) rows.old }
-    ensures table { IsTable (length set.now) rows.new }
-    ensures each { (x y : ℕ) → has_at rows.new x y ≡ (has_at rows.old x y || ((nat_lt x (length rows.old) && reg == x) && has set.now y)) }
+/// Whether a word begins with register `reg` and is 0.
+fn is_passed(set: &RegRow, reg: usize) -> bool
+    requires { reg < 64 * length set.now }
+    ensures { result ≡ (reg % 64 == 0 && slice_index set.now (reg / 64) == 0) }
 {
-    let at = reg as usize;
-    if at < rows.len() {
-        let _ = join_row(rows, at, set);
+    reg % WORD == 0 && set.is_zero(reg / WORD)
+}
+
+/// Adds register `reg` to the row of another, if the set has that one.
+fn mark_other(rows: &mut [RegRow], other: usize, reg: u32, set: &RegRow)
+    requires table { IsTable (length set.now) rows.old }
+    requires place { other < length rows.old }
+    requires small { other < 2 ^ 32 }
+    requires room { reg < 64 * length set.now }
+    ensures table { IsTable (length set.now) rows.new }
+    ensures each { (x y : ℕ) → has_at rows.new x y ≡ (has_at rows.old x y || ((has set.now x && other == x) && reg == y)) }
+{
+    if set.contains(other as u32) {
+        rows[other].insert(reg);
     }
 }
 
-/// Adds a set to the row of each listed register that has one.
-pub fn mark(rows: &mut [RegRow], regs: &[u32], set: &RegRow)
-    requires { IsTable (length set.now) rows.old }
+/// Adds register `reg` to the row of each register of a set.
+fn mark_others(rows: &mut [RegRow], reg: u32, set: &RegRow)
+    requires table { IsTable (length set.now) rows.old }
+    requires long { length rows.old ≡ 64 * length set.now }
+    requires small { 64 * length set.now < 2 ^ 32 }
+    requires room { reg < 64 * length set.now }
     ensures table { IsTable (length set.now) rows.new }
-    ensures each { (x y : ℕ) → has_at rows.new x y ≡ (has_at rows.old x y || ((nat_lt x (length rows.old) && has_reg regs.now x) && has set.now y)) }
+    ensures each { (x y : ℕ) → has_at rows.new x y ≡ (has_at rows.old x y || (has set.now x && reg == y)) }
+{
+    let end = set.width() * WORD;
+    let mut other = 0;
+    while other < end {
+        if is_passed(set, other) {
+            other += WORD;
+            continue;
+        }
+        mark_other(rows, other, reg, set);
+        other += 1;
+    }
+}
+
+/// Adds a set to the row of register `reg`, and the register to the rows of the set.
+fn mark_one(rows: &mut [RegRow], reg: u32, set: &RegRow)
+    requires table { IsTable (length set.now) rows.old }
+    requires long { length rows.old ≡ 64 * length set.now }
+    requires small { 64 * length set.now < 2 ^ 32 }
+    requires room { reg < 64 * length set.now }
+    ensures table { IsTable (length set.now) rows.new }
+    ensures each { (x y : ℕ) → has_at rows.new x y ≡ (has_at rows.old x y || ((has set.now y && reg == x) || (has set.now x && reg == y))) }
+{
+    let _ = join_row(rows, reg as usize, set);
+    mark_others(rows, reg, set);
+}
+
+/// Adds a set to the row of each listed register, and these registers to the rows of the set.
+pub fn mark(rows: &mut [RegRow], regs: &[u32], set: &RegRow)
+    requires table { IsTable (length set.now) rows.old }
+    requires long { length rows.old ≡ 64 * length set.now }
+    requires small { 64 * length set.now < 2 ^ 32 }
+    requires room { All (λ reg. reg < 64 * length set.now) regs.now }
+    ensures table { IsTable (length set.now) rows.new }
+    ensures each { (x y : ℕ) → has_at rows.new x y ≡ (has_at rows.old x y || ((has set.now y && has_reg regs.now x) || (has set.now x && has_reg regs.now y))) }
 {
     for reg in regs {
         mark_one(rows, *reg, set);

@@ -7,7 +7,7 @@ use Rattle.rtx_tree.specs.declared.tree.Rtx.{Rtx}
 use Rattle.rtx_tree.specs.Patterns.{with_pattern}
 use Rattle.md_forms.specs.declared.form.Entry.{Entry}
 use Rattle.md_forms.specs.Forms.{names_of}
-use Rattle.md_recog.specs.declared.recog.FormMatch.{FormMatch}
+use Rattle.md_desc.specs.md_recog.declared.recog.FormMatch.{FormMatch}
 use Rattle.md_desc.specs.Recog.{IsFirst, NoneMatches}
 use Rattle.form_needs.specs.Needs.{name_at, needs_form, lower_facts}
 use Rattle.assign.specs.declared.home.HomeOf.{HomeOf}

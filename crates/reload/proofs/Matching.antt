@@ -11,9 +11,9 @@ use Rattle.md_match.specs.Match.{Matches}
 use Rattle.md_match.specs.machine.Collected.{MakesAll}
 use Rattle.md_match.proofs.Parts.{as_many}
 use Rattle.md_forms.specs.declared.form.Entry.{Entry}
-use Rattle.md_recog.specs.declared.half.Half.TheVariants as half
-use Rattle.md_recog.specs.declared.recog.FormMatch.{FormMatch}
-use Rattle.md_pred.specs.Holds.{holds}
+use Rattle.md_desc.specs.md_recog.declared.half.Half.TheVariants as half
+use Rattle.md_desc.specs.md_recog.declared.recog.FormMatch.{FormMatch}
+use Rattle.md_desc.specs.md_pred.Holds.{holds}
 use Rattle.md_desc.specs.Recog.{IsFirst, MatchesAt, NoneMatches}
 use Rattle.form_needs.specs.Needs.{lower_facts}
 use Rattle.form_needs.proofs.OneChosen.{at_one}

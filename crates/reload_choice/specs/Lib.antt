@@ -3,3 +3,4 @@ pub mod Insns
 pub mod Choice
 pub mod Sound
 pub mod machine
+pub use Rattle.reload_fit.specs as reload_fit

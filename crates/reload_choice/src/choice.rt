@@ -1,6 +1,6 @@
 //! The best alternative.
 ghost use Rattle.std.specs.Prelude.{◌≡◌, ◌↔◌, Some, None, IfOk, IfSome};
-ghost use Rattle.md_attr.specs.Alternatives.{alternatives_of};
+ghost use Rattle.md_desc.specs.md_attr.Alternatives.{alternatives_of};
 ghost use Rattle.reload_choice.specs.declared.given.Plan.{Plan};
 ghost use Rattle.reload_choice.specs.Choice as spec;
 ghost use Rattle.reload_choice.specs.Sound.{IsSoundPlan};

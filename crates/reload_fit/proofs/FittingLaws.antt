@@ -4,8 +4,8 @@ use Rattle.std.proofs.lemmas.List.{at_drop_more, length-append}
 use Rattle.rtx_tree.specs.declared.tree.Rtx.{Rtx}
 use Rattle.md_forms.specs.declared.form.Entry.{Entry}
 use Rattle.md_forms.specs.declared.form.OperandConstraint.{OperandConstraint}
-use Rattle.md_pred.specs.Holds.{holds}
-use Rattle.md_constr.specs.Fits.{number_admits}
+use Rattle.md_desc.specs.md_pred.Holds.{holds}
+use Rattle.reload_operands.specs.md_constr.Fits.{number_admits}
 use Rattle.reload_operands.specs.declared.operand.Operand.{Operand}
 use Rattle.reload_moves.specs.declared.fitting.Fitting.{Fitting}
 use Rattle.reload_fit.specs.Fitting.{Asks, asks_by, fitting_at, fittings_from}

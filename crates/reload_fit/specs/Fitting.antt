@@ -15,10 +15,10 @@ use Rattle.md_text.specs.declared.constraint.Member.TheVariants as member
 use Rattle.md_text.specs.declared.constraint.Alternative.{Alternative}
 use Rattle.md_forms.specs.declared.form.OperandConstraint.{OperandConstraint}
 use Rattle.md_forms.specs.declared.form.Entry.{Entry}
-use Rattle.md_attr.specs.Alternatives.{form_at}
-use Rattle.md_pred.specs.Holds.{holds}
-use Rattle.md_constr.specs.Admits.{register_of}
-use Rattle.md_constr.specs.Fits.{number_admits}
+use Rattle.md_desc.specs.md_attr.Alternatives.{form_at}
+use Rattle.md_desc.specs.md_pred.Holds.{holds}
+use Rattle.reload_operands.specs.md_constr.Admits.{register_of}
+use Rattle.reload_operands.specs.md_constr.Fits.{number_admits}
 use Rattle.reload_operands.specs.declared.operand.Base.{Base}
 use Rattle.reload_operands.specs.declared.operand.Operand.{Operand}
 use Rattle.md_operand.specs.Operand.{is_far}

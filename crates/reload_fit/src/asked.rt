@@ -3,7 +3,7 @@ ghost use Rattle.std.specs.Prelude.{◌≡◌, ◌==◌};
 ghost use Rattle.std.specs.List.{find, list_any};
 ghost use Rattle.std.specs.Option.{option_copied};
 ghost use Rattle.rtx_tree.specs.Tree.{mentions_reg};
-ghost use Rattle.md_constr.specs.Admits.{register_of};
+ghost use Rattle.reload_operands.specs.md_constr.Admits.{register_of};
 ghost use Rattle.c_eval.specs.Value.{register_in};
 ghost use Rattle.reload_fit.specs.Fitting as spec;
 

@@ -21,8 +21,8 @@ use Rattle.rtl_step.specs.Step.{step, act, after_effects, after_event, after_jum
 use Rattle.rtl_step.specs.Value.{of_two, value_of}
 use Rattle.rtl_step.specs.declared.step.State.{State}
 use Rattle.rtl_step.specs.declared.step.StepEnd.TheVariants as ends
-use Rattle.form_needs.specs.Needs.{is_note, is_kind, needs_form}
-use Rattle.window_replace.proofs.Stands.{stands_behind, step_is}
+use Rattle.reload.specs.form_needs.Needs.{is_note, is_kind, needs_form}
+use Rattle.moves_mean.proofs.window_replace.Stands.{stands_behind, step_is}
 use Rattle.homes_mean.proofs.Plain.{plain_keeps}
 use Rattle.homes_mean.proofs.Setting.{Setting}
 use Rattle.reload.specs.Reload.{alone, with_homes}

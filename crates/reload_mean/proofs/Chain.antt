@@ -9,15 +9,15 @@ use Rattle.rtx_tree.specs.declared.machine.World.{World}
 use Rattle.rtx_tree.specs.declared.tree.Rtx.{Rtx}
 use Rattle.md_match.specs.Pattern.{Ops}
 use Rattle.md_forms.specs.declared.form.Entry.{Entry}
-use Rattle.form_needs.specs.Needs.{needs_form}
+use Rattle.reload.specs.form_needs.Needs.{needs_form}
 use Rattle.same_behaviour.specs.Lawful.{IsLawful, IsLawfulWorld}
 use Rattle.assign.specs.declared.home.HomeOf.{HomeOf}
 use Rattle.assign.specs.declared.places.Layout.{Layout}
-use Rattle.frame_mean.specs.Frame.{next_uid}
+use Rattle.moves_mean.specs.frame_mean.Frame.{next_uid}
 use Rattle.homes_mean.proofs.Setting.{Setting}
-use Rattle.reload_choice.specs.declared.given.Plan.{Plan}
-use Rattle.reload_choice.specs.Sound.{IsSoundPlan}
-use Rattle.reload_choice.specs.Insns.{between, insns_before, insns_after}
+use Rattle.moves_mean.specs.reload_choice.declared.given.Plan.{Plan}
+use Rattle.moves_mean.specs.reload_choice.Sound.{IsSoundPlan}
+use Rattle.moves_mean.specs.reload_choice.Insns.{between, insns_before, insns_after}
 use Rattle.reload.specs.Reload.{given_by, IsMatch}
 use Rattle.reload.specs.Windows.{IsWindow, AreWindows, HasWindows}
 use Rattle.reload_mean.specs.Homes.{HasHomes}

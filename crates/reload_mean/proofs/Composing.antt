@@ -7,8 +7,8 @@ use Rattle.func_mean.specs.declared.outcome.Outcome.{Outcome}
 use Rattle.func_mean.specs.declared.outcome.Outcome.TheVariants.{Running, Asked, Returned, Undefined}
 use Rattle.same_behaviour.specs.Lawful.{IsLawful, seen_by_rtl}
 use Rattle.assign.specs.declared.places.Layout.{Layout}
-use Rattle.frame_mean.specs.Kept.{lowered}
-use Rattle.frame_mean.specs.Keeps.{with_saved, IsLaidOut, Restores, KeepsInFrame}
+use Rattle.moves_mean.specs.frame_mean.Kept.{lowered}
+use Rattle.moves_mean.specs.frame_mean.Keeps.{with_saved, IsLaidOut, Restores, KeepsInFrame}
 use Rattle.reload_mean.specs.Keeps.{ComesToSame, KeepsUnderHomes, KeepsWithFrame}
 use Rattle.reload_mean.proofs.Saved.{saved_lawful, saved_seen, saved_world}
 

@@ -12,8 +12,8 @@ use Rattle.assign.specs.declared.places.SavedAt.{SavedAt}
 use Rattle.assign.specs.declared.places.SlotAt.{SlotAt}
 use Rattle.homes_mean.specs.Kept as homes
 use Rattle.homes_mean.specs.Kept.{is_unsaved}
-use Rattle.frame_mean.specs.Kept.{IsKept, is_saved_at, is_in_slot, preserved_registers}
-use Rattle.frame_mean.proofs.Held.{is_held}
+use Rattle.moves_mean.specs.frame_mean.Kept.{IsKept, is_saved_at, is_in_slot, preserved_registers}
+use Rattle.moves_mean.proofs.frame_mean.Held.{is_held}
 
 saved_same : (saved : List SavedAt) (reg : ℕ) → has_reg (map (λ (s : SavedAt). s.reg) saved) reg ≡
     list_any (is_saved_at reg) saved

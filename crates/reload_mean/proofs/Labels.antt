@@ -9,7 +9,7 @@ use Rattle.rtx_tree.specs.declared.function.Kind.{Kind}
 use Rattle.rtx_tree.specs.declared.function.Kind.TheVariants as kind
 use Rattle.rtl_step.specs.Step.{is_mark}
 use Rattle.same_behaviour.proofs.Places.{get_dropped, drop_next}
-use Rattle.window_replace.proofs.Stands.{stands_at}
+use Rattle.moves_mean.proofs.window_replace.Stands.{stands_at}
 use Rattle.homes_mean.proofs.Setting.{Setting}
 use Rattle.reload_mean.proofs.Windows.{Unmarked, Does, InPlace, At}
 use Rattle.reload_mean.proofs.Windows as windows

@@ -10,7 +10,7 @@ use Rattle.assign.specs.declared.home.HomeOf.{HomeOf}
 use Rattle.assign.specs.declared.places.Layout.{Layout}
 use Rattle.homes_mean.proofs.Entry.{entry_stands}
 use Rattle.homes_mean.proofs.Setting.{Setting}
-use Rattle.frame_mean.specs.Kept.{lowered, IsKept}
+use Rattle.moves_mean.specs.frame_mean.Kept.{lowered, IsKept}
 use Rattle.reload_mean.specs.Homes.{HasHomes}
 use Rattle.reload_mean.specs.Keeps.{KeepsRunUnderHomes, KeepsUnderHomes}
 use Rattle.reload_mean.specs.Steps.{Pair, StepsUnderHomes}

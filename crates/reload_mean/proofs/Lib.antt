@@ -30,3 +30,6 @@ pub mod SoleOperators
 pub mod Linked
 pub mod SoundPatterns
 pub mod WithFrame
+pub use Rattle.reload.proofs.func_rules as func_rules
+pub use Rattle.homes_mean.proofs as homes_mean
+pub use Rattle.moves_mean.proofs.window_replace as window_replace

@@ -12,11 +12,11 @@ use Rattle.assign.specs.Frame.{IsFrame}
 use Rattle.assign.specs.Homes.{AreHomes}
 use Rattle.assign.specs.declared.home.HomeOf.{HomeOf}
 use Rattle.assign.specs.declared.places.Layout.{Layout}
-use Rattle.pass_ready.specs.Reloadable.{IsReloadable}
+use Rattle.reload.specs.pass_ready.Reloadable.{IsReloadable}
 use Rattle.homes_mean.proofs.Setting.{Setting, StandsIn}
-use Rattle.reload_operands.specs.declared.operand.Operand.{Operand}
-use Rattle.reload_choice.specs.Insns.{between, insns_before, insns_after}
-use Rattle.reload_choice.specs.declared.given.Plan.{Plan}
+use Rattle.moves_mean.specs.reload_operands.declared.operand.Operand.{Operand}
+use Rattle.moves_mean.specs.reload_choice.Insns.{between, insns_before, insns_after}
+use Rattle.moves_mean.specs.reload_choice.declared.given.Plan.{Plan}
 use Rattle.reload.specs.Reload.{placed, given_by, patterns_at}
 use Rattle.reload.specs.Windows.{HasWindows}
 use Rattle.moves_mean.specs.Places.{is_leaf}

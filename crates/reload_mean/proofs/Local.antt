@@ -15,8 +15,8 @@ use Rattle.rtl_step.specs.declared.step.StepEnd.TheVariants as ends
 use Rattle.func_keep.specs.Ends.{is_past}
 use Rattle.same_behaviour.specs.Lawful.{IsLawfulWorld, IsMemory}
 use Rattle.window_same.proofs.Leads.{leads_on}
-use Rattle.window_replace.proofs.Memory.{memory_effects}
-use Rattle.window_replace.proofs.Stands.{Stands, stands_behind, there_is, step_is, not_past}
+use Rattle.moves_mean.proofs.window_replace.Memory.{memory_effects}
+use Rattle.moves_mean.proofs.window_replace.Stands.{Stands, stands_behind, there_is, step_is, not_past}
 use Rattle.homes_mean.proofs.Knowing.{stands_more}
 use Rattle.homes_mean.proofs.Onward.{ReturnsSame}
 use Rattle.homes_mean.proofs.Plain.{plain_keeps}

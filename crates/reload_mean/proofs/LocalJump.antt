@@ -12,7 +12,7 @@ use Rattle.rtl_step.specs.declared.step.StepEnd.TheVariants as ends
 use Rattle.rtl_func.specs.Paths.{leads}
 use Rattle.window_same.proofs.Leads as leads_by
 use Rattle.window_same.proofs.Leads.{LeadsBy, jump_leads}
-use Rattle.window_replace.proofs.Outside.{leaves_is}
+use Rattle.moves_mean.proofs.window_replace.Outside.{leaves_is}
 use Rattle.homes_mean.proofs.Onward.{jump_stands, return_keeps}
 use Rattle.homes_mean.proofs.Setting.{StandsIn}
 use Rattle.reload_mean.specs.Steps as parts

@@ -19,9 +19,9 @@ use Rattle.rtl_step.specs.declared.effect.Effect.{Effect}
 use Rattle.rtl_step.specs.declared.jump.Way.{Way}
 use Rattle.rtl_step.specs.declared.step.State.{State}
 use Rattle.same_behaviour.specs.Lawful.{IsMemory}
-use Rattle.form_needs.specs.Needs.{is_kind, is_note, needs_form}
-use Rattle.frame_mean.specs.Frame.{plain_insns}
-use Rattle.window_replace.proofs.Stands.{Stands}
+use Rattle.reload.specs.form_needs.Needs.{is_kind, is_note, needs_form}
+use Rattle.moves_mean.specs.frame_mean.Frame.{plain_insns}
+use Rattle.moves_mean.proofs.window_replace.Stands.{Stands}
 use Rattle.homes_mean.proofs.Plain.{plain_keeps}
 use Rattle.homes_mean.proofs.Setting.{Setting, StandsIn}
 use Rattle.moves_mean.specs.Onwards.{ArePlain}

@@ -9,14 +9,14 @@ use Rattle.rtl_step.specs.Effect.{regs_after, memory_after}
 use Rattle.rtl_step.specs.declared.effect.Effect.{Effect}
 use Rattle.rtl_step.specs.declared.step.State.{State}
 use Rattle.rtl_step.specs.declared.step.StepEnd.TheVariants as ends
-use Rattle.frame_mean.specs.Frame.{plain_insns}
+use Rattle.moves_mean.specs.frame_mean.Frame.{plain_insns}
 use Rattle.moves_mean.specs.Onwards.{Onwards, ArePlain}
 use Rattle.moves_mean.specs.Onwards as onwards
 use Rattle.moves_mean.specs.Spare.{KeepsRest}
 use Rattle.moves_mean.proofs.Keeping.{Stay}
 use Rattle.moves_mean.proofs.PlainWindow.{ComesTo}
 use Rattle.moves_mean.proofs.Registers.{value_alike}
-use Rattle.window_replace.proofs.Stands.{Stands}
+use Rattle.moves_mean.proofs.window_replace.Stands.{Stands}
 use Rattle.homes_mean.proofs.Setting.{Setting}
 use Rattle.reload_mean.specs.Steps.{Kept, Leads}
 use Rattle.reload_mean.specs.Steps as parts

@@ -10,18 +10,18 @@ use Rattle.rtx_tree.specs.declared.tree.Rtx.{Rtx}
 use Rattle.md_match.specs.Pattern.{Ops, role_of, operand_numbered}
 use Rattle.md_match.specs.declared.role.Role.{Role}
 use Rattle.md_match.specs.declared.role.Role.TheVariants.{Operand, Operator, Itself}
-use Rattle.sym_insns.specs.Shape.{all_natural}
-use Rattle.window_replace.proofs.Trees.{natural_here, natural_kids}
+use Rattle.moves_mean.specs.sym_insns.Shape.{all_natural}
+use Rattle.moves_mean.proofs.window_replace.Trees.{natural_here, natural_kids}
 use Rattle.homes_mean.proofs.Trees.{tree_induction}
-use Rattle.reload_operands.specs.declared.operand.Operand as operand
-use Rattle.reload_operands.specs.Put.{each_by, parts_by, put_as, put}
-use Rattle.reload_operands.proofs.PutLaws.{put_out}
+use Rattle.moves_mean.specs.reload_operands.declared.operand.Operand as operand
+use Rattle.moves_mean.specs.reload_operands.Put.{each_by, parts_by, put_as, put}
+use Rattle.moves_mean.proofs.reload_operands.PutLaws.{put_out}
 use Rattle.reload_moves.specs.declared.part.Part.{Part}
 use Rattle.reload_moves.specs.declared.ask.Ask.{Ask}
 use Rattle.reload_moves.specs.Registers.{asks_of}
 use Rattle.reload_moves.specs.Moves.{own_of, base_of, far_of}
-use Rattle.reload_choice.specs.Insns.{new_tree, with_new, with_part, with_parts, between}
-use Rattle.reload_fit.specs.Addressed.{on_register}
+use Rattle.moves_mean.specs.reload_choice.Insns.{new_tree, with_new, with_part, with_parts, between}
+use Rattle.moves_mean.specs.reload_fit.Addressed.{on_register}
 use Rattle.reload_mean.proofs.NaturalMoves.{natural_tree, reg_natural, register_natural, own_small, staying_small, base_small, both, OperandsNatural}
 
 -- ---- new trees

@@ -13,21 +13,21 @@ use Rattle.rtx_tree.specs.declared.tree.Rtx.{Rtx}
 use Rattle.md_match.specs.Pattern.{Ops}
 use Rattle.md_match.specs.Match.{MatchesOne}
 use Rattle.md_forms.specs.declared.form.Entry.{Entry}
-use Rattle.form_needs.specs.Needs.{is_note, needs_form}
+use Rattle.reload.specs.form_needs.Needs.{is_note, needs_form}
 use Rattle.rtl_func.specs.Nodes.{nodes_of}
 use Rattle.rtl_func.specs.Shapes.{is_effect, is_shaped}
 use Rattle.rtl_step.specs.Step.{is_mark}
-use Rattle.sym_insns.specs.Shape.{is_natural, all_natural}
+use Rattle.moves_mean.specs.sym_insns.Shape.{is_natural, all_natural}
 use Rattle.assign.specs.Homes.{AreHomes}
 use Rattle.assign.specs.declared.home.Home.TheVariants.{Hard}
 use Rattle.assign.specs.declared.home.HomeOf.{HomeOf}
 use Rattle.assign.specs.declared.places.Layout.{Layout}
-use Rattle.pass_ready.specs.Reloadable.{IsInsnReloadable, IsReloadable}
-use Rattle.pass_ready.proofs.Places.{at_place}
-use Rattle.window_replace.specs.Natural.{RegistersAreNatural}
-use Rattle.window_replace.proofs.Trees.{natural_kids}
+use Rattle.reload.specs.pass_ready.Reloadable.{IsInsnReloadable, IsReloadable}
+use Rattle.reload.proofs.pass_ready.Places.{at_place}
+use Rattle.moves_mean.specs.window_replace.Natural.{RegistersAreNatural}
+use Rattle.moves_mean.proofs.window_replace.Trees.{natural_kids}
 use Rattle.reload_homes.specs.Homes.{home_of}
-use Rattle.reload_operands.specs.declared.operand.Operand.{Operand}
+use Rattle.moves_mean.specs.reload_operands.declared.operand.Operand.{Operand}
 use Rattle.homes_mean.proofs.HomesApart.{hard_home}
 use Rattle.moves_mean.proofs.FoundParts.{operand_has}
 use Rattle.moves_mean.proofs.FramedGood.{framed_natural}

@@ -16,10 +16,10 @@ use Rattle.rtx_tree.specs.declared.tree.Rtx.{Rtx}
 use Rattle.rtx_tree.specs.declared.tree.Rtx.TheFolds.{fold_out-Rtx}
 use Rattle.rtx_tree.proofs.Trees.{head_of-tree, kids_of-tree}
 use Rattle.rv_regs.specs.Registers.{stack_pointer}
-use Rattle.sym_insns.specs.Shape.{is_natural, natural_step, all_natural}
-use Rattle.window_replace.proofs.Trees.{natural_here}
-use Rattle.reload_operands.specs.declared.operand.Base as operands
-use Rattle.reload_operands.specs.declared.operand.Operand as operand
+use Rattle.moves_mean.specs.sym_insns.Shape.{is_natural, natural_step, all_natural}
+use Rattle.moves_mean.proofs.window_replace.Trees.{natural_here}
+use Rattle.moves_mean.specs.reload_operands.declared.operand.Base as operands
+use Rattle.moves_mean.specs.reload_operands.declared.operand.Operand as operand
 use Rattle.reload_moves.specs.declared.part.Part.{Part}
 use Rattle.reload_moves.specs.declared.ask.Ask.{Ask}
 use Rattle.reload_moves.specs.declared.ask.What.TheVariants.{Own, StayingFar, ResultFar}
@@ -27,8 +27,8 @@ use Rattle.reload_moves.specs.declared.moves.Move.{Move}
 use Rattle.reload_moves.specs.declared.moves.Move.TheVariants.{Far, Base, In, Out}
 use Rattle.reload_moves.specs.Registers.{asks_of, ask, base_ask, holds_base, is_result, register_for, same_ask}
 use Rattle.reload_moves.specs.Moves.{own_of, base_of, far_of, end_far_of, far_to, base_load, base_moves, in_load, in_moves, far_moves, out_store, out_moves, turn_moves, moves_before, moves_after, loads_base, comes_in_first, stays_far_first}
-use Rattle.reload_fit.specs.Addressed.{address_on, addressed_by, address_in, on_register, slot_offset, slot_far}
-use Rattle.reload_choice.specs.Insns.{set_of, set_reg, far_sum, slot_address, base_insn, base_insns, reached, in_insn, out_insn, insns_at, insns_of, all_insns, insns_before, insns_after}
+use Rattle.moves_mean.specs.reload_fit.Addressed.{address_on, addressed_by, address_in, on_register, slot_offset, slot_far}
+use Rattle.moves_mean.specs.reload_choice.Insns.{set_of, set_reg, far_sum, slot_address, base_insn, base_insns, reached, in_insn, out_insn, insns_at, insns_of, all_insns, insns_before, insns_after}
 
 -- ---- trees
 

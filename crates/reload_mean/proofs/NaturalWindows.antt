@@ -9,16 +9,16 @@ use Rattle.rtx_tree.specs.declared.function.Insn.{Insn}
 use Rattle.rtx_tree.specs.declared.tree.Rtx.{Rtx}
 use Rattle.md_match.specs.Pattern.{Ops}
 use Rattle.md_forms.specs.declared.form.Entry.{Entry}
-use Rattle.form_needs.specs.Needs.{needs_form}
+use Rattle.reload.specs.form_needs.Needs.{needs_form}
 use Rattle.rtl_step.specs.Step.{is_mark}
-use Rattle.sym_insns.specs.Shape.{all_natural}
+use Rattle.moves_mean.specs.sym_insns.Shape.{all_natural}
 use Rattle.same_behaviour.proofs.Places.{get_dropped, drop_next}
 use Rattle.assign.specs.declared.home.HomeOf.{HomeOf}
 use Rattle.assign.specs.declared.places.Layout.{Layout}
-use Rattle.pass_ready.proofs.Places.{all_joined, at_place}
-use Rattle.window_replace.specs.Natural.{RegistersAreNatural}
-use Rattle.frame_mean.specs.Frame.{next_uid, plain_insns}
-use Rattle.reload_choice.specs.Insns.{between, insns_before, insns_after}
+use Rattle.reload.proofs.pass_ready.Places.{all_joined, at_place}
+use Rattle.moves_mean.specs.window_replace.Natural.{RegistersAreNatural}
+use Rattle.moves_mean.specs.frame_mean.Frame.{next_uid, plain_insns}
+use Rattle.moves_mean.specs.reload_choice.Insns.{between, insns_before, insns_after}
 use Rattle.reload.specs.Reload.{with_homes, given_by, window_by, IsMatch}
 use Rattle.reload.specs.Windows.{IsWindow, AreWindows, HasWindows}
 use Rattle.reload_mean.proofs.NaturalMoves.{OperandsNatural, before_natural, after_natural}

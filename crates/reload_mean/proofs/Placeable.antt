@@ -21,11 +21,11 @@ use Rattle.rtl_func.specs.Shapes as shapes
 use Rattle.rtl_step.specs.Step.{is_mark}
 use Rattle.reg_uses.specs.Effects.{effect_defines, effects_by}
 use Rattle.reg_uses.specs.Uses.{insn_defines, has_argument, is_call_kind}
-use Rattle.func_rules.proofs.Nodes.{all_pass}
-use Rattle.pass_ready.specs.Reloadable.{IsInsnReloadable, IsReloadable}
-use Rattle.pass_ready.proofs.Places.{at_place}
+use Rattle.reload.proofs.func_rules.Nodes.{all_pass}
+use Rattle.reload.specs.pass_ready.Reloadable.{IsInsnReloadable, IsReloadable}
+use Rattle.reload.proofs.pass_ready.Places.{at_place}
 use Rattle.window_same.proofs.Small.{and_none}
-use Rattle.window_replace.specs.Natural.{RegistersAreNatural}
+use Rattle.moves_mean.specs.window_replace.Natural.{RegistersAreNatural}
 use Rattle.homes_mean.specs.Stands.{has_home}
 use Rattle.homes_mean.specs.Placed.{label_by, names_constant, CanBePlaced}
 use Rattle.reload_mean.specs.Homes.{NumbersAreSized}

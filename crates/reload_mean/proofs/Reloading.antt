@@ -12,21 +12,21 @@ use Rattle.rtx_tree.specs.declared.tree.Rtx.{Rtx}
 use Rattle.md_match.specs.Match.{Matches, MatchesOne}
 use Rattle.md_match.specs.Pattern.{Ops}
 use Rattle.md_forms.specs.declared.form.Entry.{Entry}
-use Rattle.form_needs.specs.Needs.{is_kind, is_note, needs_form}
+use Rattle.reload.specs.form_needs.Needs.{is_kind, is_note, needs_form}
 use Rattle.rtl_func.specs.Kinds.{kinds_agree}
 use Rattle.rtl_func.specs.Modes.{shapes_agree}
 use Rattle.rtl_step.specs.Step.{is_mark}
-use Rattle.func_rules.proofs.Nodes.{all_pass}
+use Rattle.reload.proofs.func_rules.Nodes.{all_pass}
 use Rattle.assign.specs.Frame.{IsFrame}
 use Rattle.assign.specs.Homes.{AreHomes}
 use Rattle.assign.specs.declared.home.HomeOf.{HomeOf}
 use Rattle.assign.specs.declared.places.Layout.{Layout}
-use Rattle.pass_ready.specs.Reloadable.{IsInsnReloadable, IsReloadable}
-use Rattle.pass_ready.proofs.Places.{at_place}
+use Rattle.reload.specs.pass_ready.Reloadable.{IsInsnReloadable, IsReloadable}
+use Rattle.reload.proofs.pass_ready.Places.{at_place}
 use Rattle.homes_mean.proofs.Setting.{Setting}
-use Rattle.reload_choice.specs.Insns.{between, insns_before, insns_after}
-use Rattle.reload_choice.specs.Sound.{IsSoundPlan}
-use Rattle.reload_choice.specs.declared.given.Plan.{Plan}
+use Rattle.moves_mean.specs.reload_choice.Insns.{between, insns_before, insns_after}
+use Rattle.moves_mean.specs.reload_choice.Sound.{IsSoundPlan}
+use Rattle.moves_mean.specs.reload_choice.declared.given.Plan.{Plan}
 use Rattle.reload.specs.Reload.{placed, given_by, patterns_in, patterns_by, patterns_at, IsMatch}
 use Rattle.reload.specs.Windows.{HasWindows}
 use Rattle.reload_mean.specs.Homes.{HasHomes, NumbersAreSized}

@@ -17,10 +17,10 @@ use Rattle.rtl_step.specs.declared.effect.Effect.TheVariants.{Stores}
 use Rattle.same_behaviour.specs.Lawful.{IsMemory, IsLawful, IsLawfulReply, IsLawfulWorld, is_below_sp, seen_by_rtl}
 use Rattle.assign.specs.declared.places.Layout.{Layout}
 use Rattle.assign.specs.declared.places.SavedAt.{SavedAt}
-use Rattle.window_replace.proofs.Memory.{memory_effects}
-use Rattle.frame_mean.specs.Keeps.{held_at_entry, with_words, with_saved, IsLaidOut}
-use Rattle.frame_mean.proofs.Layouts.{in_room, no_local, word_there, HavePlaces, all_places}
-use Rattle.frame_mean.proofs.Words.{words_there}
+use Rattle.moves_mean.proofs.window_replace.Memory.{memory_effects}
+use Rattle.moves_mean.specs.frame_mean.Keeps.{held_at_entry, with_words, with_saved, IsLaidOut}
+use Rattle.moves_mean.proofs.frame_mean.Layouts.{in_room, no_local, word_there, HavePlaces, all_places}
+use Rattle.moves_mean.proofs.frame_mean.Words.{words_there}
 
 -- ---- bytes that a test lets through
 

@@ -17,7 +17,7 @@ use Rattle.md_match.specs.Pattern.{role_of, placeholders, placeholders_as, gives
 use Rattle.md_match.proofs.Placeholders.{placeholders_out}
 use Rattle.md_forms.specs.Checks.{has, are_distinct}
 use Rattle.md_forms.specs.Names.{operand_here, operands_step, operands_in}
-use Rattle.reload_operands.specs.Operands.{is_operator_code}
+use Rattle.moves_mean.specs.reload_operands.Operands.{is_operator_code}
 use Rattle.moves_mean.proofs.InputPlaces.{is_operator_as, no_operator_of}
 use Rattle.moves_mean.proofs.Nodes.{all_pass, pass_out}
 use Rattle.moves_mean.proofs.SmallTrees.{tree_induction}

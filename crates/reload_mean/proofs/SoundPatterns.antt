@@ -19,8 +19,8 @@ use Rattle.md_forms.specs.Checks.{are_distinct, numbers_stand, matched, all_oper
 use Rattle.md_forms.specs.Forms.{judged_form, finished, forms_in, draft_entry, forms_of}
 use Rattle.md_forms.specs.Names.{operands_in}
 use Rattle.md_forms.specs.Tables.{tables_of}
-use Rattle.reload_operands.specs.Operands.{is_operator_code}
-use Rattle.reload_operands.specs.declared.operand.Operand.{Operand}
+use Rattle.moves_mean.specs.reload_operands.Operands.{is_operator_code}
+use Rattle.moves_mean.specs.reload_operands.declared.operand.Operand.{Operand}
 use Rattle.moves_mean.proofs.NewsLaws.{operand_of_match}
 use Rattle.reload.specs.Reload.{placed, with_homes, patterns_by, patterns_in, patterns_at}
 use Rattle.reload_mean.proofs.PatternLeaves.{OnOk}

@@ -13,7 +13,7 @@ use Rattle.assign.specs.declared.places.Layout.{Layout}
 use Rattle.rtx_tree.specs.declared.machine.Start.{Start}
 use Rattle.rtx_tree.specs.declared.machine.World.{World}
 use Rattle.window_same.proofs.Leads.{leads_on}
-use Rattle.window_replace.proofs.Stands.{Stands, stands_at, stands_mark, stands_same, there_is, step_returns, end_is, past_end}
+use Rattle.moves_mean.proofs.window_replace.Stands.{Stands, stands_at, stands_mark, stands_same, there_is, step_returns, end_is, past_end}
 use Rattle.homes_mean.proofs.Onward.{mark_stands, end_keeps}
 use Rattle.homes_mean.proofs.Setting.{StandsIn}
 use Rattle.reload_mean.specs.Homes.{HasHomes}

@@ -17,7 +17,7 @@ use Rattle.rtl_step.specs.declared.step.State.{State}
 use Rattle.rtl_step.specs.declared.step.StepEnd.TheVariants as ends
 use Rattle.same_behaviour.specs.Lawful.{IsMemory}
 use Rattle.window_keep.specs.Same.{KnownToo}
-use Rattle.window_replace.proofs.Stands.{Stands}
+use Rattle.moves_mean.proofs.window_replace.Stands.{Stands}
 use Rattle.homes_mean.specs.Knows.{is_scratch}
 use Rattle.homes_mean.proofs.Plain.{plain_keeps}
 use Rattle.homes_mean.proofs.Setting.{Setting, StandsIn}

@@ -8,9 +8,9 @@ use Rattle.assign.specs.Frame.{IsFrame}
 use Rattle.assign.specs.Homes.{AreHomes}
 use Rattle.assign.specs.declared.home.HomeOf.{HomeOf}
 use Rattle.assign.specs.declared.places.Layout.{Layout}
-use Rattle.pass_ready.specs.Reloadable.{IsReloadable}
-use Rattle.frame_mean.specs.Keeps.{KeepsInFrame}
-use Rattle.frame_mean.proofs.Laid.{laid_out}
+use Rattle.reload.specs.pass_ready.Reloadable.{IsReloadable}
+use Rattle.moves_mean.specs.frame_mean.Keeps.{KeepsInFrame}
+use Rattle.moves_mean.proofs.frame_mean.Laid.{laid_out}
 use Rattle.reload.specs.Windows.{HasWindows}
 use Rattle.reload_mean.specs.Homes.{NumbersAreSized}
 use Rattle.reload_mean.specs.Keeps.{KeepsUnderHomes, KeepsWithFrame}

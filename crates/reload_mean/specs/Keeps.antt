@@ -11,8 +11,8 @@ use Rattle.func_mean.specs.declared.outcome.Outcome.TheVariants.{Running, Asked,
 use Rattle.func_keep.specs.Ends.{EndsAtExit}
 use Rattle.same_behaviour.specs.Lawful.{IsLawful, IsLawfulWorld, seen_by_rtl}
 use Rattle.assign.specs.declared.places.Layout.{Layout}
-use Rattle.frame_mean.specs.Kept.{lowered, StaysKept}
-use Rattle.frame_mean.specs.Keeps.{Restores}
+use Rattle.moves_mean.specs.frame_mean.Kept.{lowered, StaysKept}
+use Rattle.moves_mean.specs.frame_mean.Keeps.{Restores}
 
 -- ---- the same outcome
 

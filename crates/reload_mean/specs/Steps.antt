@@ -15,7 +15,7 @@ use Rattle.same_behaviour.specs.Lawful.{IsMemory}
 use Rattle.assign.specs.declared.home.HomeOf.{HomeOf}
 use Rattle.assign.specs.declared.places.Layout.{Layout}
 use Rattle.homes_mean.specs.Stands.{Stands}
-use Rattle.frame_mean.specs.Kept.{IsKept}
+use Rattle.moves_mean.specs.frame_mean.Kept.{IsKept}
 use Rattle.reload_mean.specs.Keeps.{ComesToSame}
 
 -- two functions, the homes of the registers of the first and the frame of the second, and where and

@@ -1,5 +1,5 @@
 -- What an expression's text holds, a text may hold.
-use Rattle.std.proofs.Common.{◌≡◌, ℕ, ℤ, pos, List, [], ◌∷◌, ◌++◌, map, Bool, true, false, Option, Some, None, codes, refl, sym, ap, subst, ◌∙◌, arith}
+use Rattle.std.proofs.Common.{◌≡◌, ℕ, pos, List, [], ◌∷◌, ◌++◌, map, Some, codes, refl, sym, subst, arith}
 use Rattle.std.specs.List.{AllByRecursion}
 use Rattle.std.specs.Fmt.{decimal, signed_decimal}
 use Rattle.std.proofs.lemmas.List.Concat.{flat_map-cons}
@@ -14,22 +14,21 @@ use Rattle.rtx_tree.specs.declared.class.Class.TheVariants as class
 use Rattle.lisp_read.specs.declared.head.Opening.{Opening}
 use Rattle.lisp_read.specs.declared.position.Position.{Position}
 use Rattle.lisp_read.specs.declared.tree.Tree.{Tree}
-use Rattle.rtx_tree.specs.Code.{class_of_code}
 use Rattle.lisp_read.specs.Expression.{class_of, read_at, positions_of, parts_of_class}
 use Rattle.lisp_read.specs.Parsed.{stands}
-use Rattle.lisp_read.specs.Part.{Part, Open, Close, enclosed, parts_of, parts_of_all}
+use Rattle.lisp_read.specs.Part.{Part, Close, parts_of, parts_of_all}
 use Rattle.lisp_read.specs.Shape.{vector_of}
 use Rattle.lisp_read.specs.Text.{IsAtom, IsQuoted}
 use Rattle.lisp_read.proofs.Decodes.{nested}
 use Rattle.lisp_read.proofs.PartLemmas.{parts_of-Atom, parts_of-Str}
-use Rattle.tree_print.specs.Print.{nowhere, IsAdmitted, AreAdmitted}
+use Rattle.tree_print.specs.Print.{nowhere, AreAdmitted}
 use Rattle.tree_print.proofs.Nested.{parts_of_nested}
 use Rattle.rtl_print.specs.Print.{head_text, printed_reg_at, starred}
 use Rattle.rtl_print.proofs.Atoms.{word_is_atom, head_is_atom, decimal_is_atom, number_is_atom, register_is_atom, starred_is_quoted}
 use Rattle.rtl_print.proofs.Induction.{Holds, EachAt, Elements, holds_of_each}
 use Rattle.rtl_print.proofs.Positions.{parts_positions}
 use Rattle.rtl_print.proofs.ReadCases.{Leaf}
-use Rattle.rtl_print.proofs.Words.{register_code, label_written}
+use Rattle.rtl_print.proofs.Words.{label_written}
 use Rattle.rtl_print.proofs.Written.{atom, string, list, vector, written, written_of, label_tree, parts_by}
 
 unfoldable pub Admitted : Tree → Type 0

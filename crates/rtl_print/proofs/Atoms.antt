@@ -1,9 +1,9 @@
 -- The words of a printed text are atoms, and its names may stand in quotes.
-use Rattle.std.proofs.Common.{◌≡◌, ◌<◌, ◌≤◌, ◌+◌, ◌-◌, ◌%◌, ◌^◌, ◌⊎◌, inl, inr, ℕ, suc, ℤ, pos, negsuc, List, [], ◌∷◌, ◌++◌, Bool, true, false, ◌&&◌, ◌||◌, ◌==◌, not, cond, codes, refl, sym, ap, subst, ◌∙◌, arith}
+use Rattle.std.proofs.Common.{◌≡◌, ◌<◌, ◌≤◌, ◌+◌, ◌-◌, ◌%◌, ◌^◌, inl, inr, ℕ, suc, ℤ, pos, negsuc, List, [], ◌∷◌, ◌++◌, Bool, true, false, ◌&&◌, ◌||◌, ◌==◌, cond, refl, sym, ap, ◌∙◌, arith}
 use Rattle.std.proofs.lemmas.Bool.Decides.{nat_tests}
 use Rattle.std.proofs.lemmas.Fmt.{decimal_by_steps}
 use Rattle.std.proofs.lemmas.List.Folds.{list_all-append}
-use Rattle.std.specs.Prelude.{nat_lt, nat_le, if◌then◌else◌}
+use Rattle.std.specs.Prelude.{nat_lt}
 use Rattle.std.specs.List.{list_all}
 use Rattle.std.specs.Fmt.{decimal, signed_decimal}
 use Rattle.rtx_tree.specs.declared.code.Code.{Code}
@@ -15,7 +15,7 @@ use Rattle.lisp_read.specs.declared.class.ByteClass.{ByteClass}
 use Rattle.lisp_read.specs.declared.class.ByteClass.TheVariants as class
 use Rattle.lisp_read.specs.declared.class.Bracket.TheVariants.{Round, Square}
 use Rattle.lisp_read.specs.Class.{class_of, is_atom_class, in_quotes}
-use Rattle.lisp_read.specs.Text.{Each, IsAtom, IsQuoted, NotStar}
+use Rattle.lisp_read.specs.Text.{Each, IsAtom, IsQuoted}
 use Rattle.rtl_print.specs.Print.{head_text, printed_reg_at, starred}
 use Rattle.rtl_print.proofs.Numbers.{and_true}
 use Rattle.rtl_print.proofs.Registers.{IsRegister, one_below}

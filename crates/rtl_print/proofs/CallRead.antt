@@ -1,17 +1,17 @@
 -- What reading a call's pattern gives is read back, where its effects are settled.
 use Rattle.std.proofs.Common.{◌≡◌, ◌≤◌, ℕ, suc, List, [], ◌∷◌, map, Bool, true, false, ◌&&◌, Option, Some, None, cond, refl, sym, ap, subst, ◌∙◌, arith}
-use Rattle.std.specs.Prelude.{filter, if◌then◌else◌}
+use Rattle.std.specs.Prelude.{filter}
 use Rattle.std.specs.List.{AllByRecursion, list_all}
 use Rattle.rtx_tree.specs.declared.code.Code.{Code}
 use Rattle.rtx_tree.specs.declared.code.Code.TheVariants as code
 use Rattle.rtx_tree.specs.declared.code.Mode.TheVariants as mode
-use Rattle.rtx_tree.specs.declared.tree.Rtx.{Rtx, out-Rtx, out-roll-Rtx}
+use Rattle.rtx_tree.specs.declared.tree.Rtx.{Rtx, out-roll-Rtx}
 use Rattle.rtx_tree.specs.declared.tree.Rtx.TheOpen.{Rtx-F}
 use Rattle.lisp_read.specs.declared.position.Position.TheVariants.{Pattern}
 use Rattle.lisp_read.specs.declared.tree.Tree.{Tree}
 use Rattle.rtx_tree.specs.Code.{class_of_code}
 use Rattle.lisp_read.specs.Expression.{read_at}
-use Rattle.lisp_read.specs.Parsed.{Parsed, stands, parsed_map, each_parsed}
+use Rattle.lisp_read.specs.Parsed.{stands, parsed_map, each_parsed}
 use Rattle.lisp_read.specs.Shape.{items_of, vector_of, is_vector, is_nested}
 use Rattle.rtl_read.specs.Call.{is_class_parallel, is_parallel, is_kept, together, effects_by, effects_of, call_by, call_of}
 use Rattle.tree_print.specs.Print.{depth_of}
@@ -21,12 +21,10 @@ use Rattle.rtl_print.proofs.Atoms.{head_is_atom}
 use Rattle.rtl_print.proofs.Back.{back}
 use Rattle.rtl_print.proofs.CallsBack.{BackHere, whole, parallel_again, other_again}
 use Rattle.rtl_print.proofs.Good.{Fits, AllFit, fits_more, list_fits, vector_fits, atom_fits, rtx_fits, first_deep, rest_deep}
-use Rattle.rtl_print.proofs.Numbers.{if_some, and_true}
 use Rattle.rtl_print.proofs.Parsing.{map_stands, pair_stands}
 use Rattle.rtl_print.proofs.Same.{Same}
 use Rattle.rtl_print.proofs.Shallow.{deepest, items_depth, is_vector_depth, first_within}
 use Rattle.rtl_print.proofs.Shapes.{code_of, IsParallel, shape_of}
-use Rattle.rtl_print.proofs.Words.{Back}
 use Rattle.rtl_print.proofs.Written.{atom, vector, written, written_of}
 
 pub record CallBack (most : ℕ) (x : Rtx) : Type 0 where

@@ -1,41 +1,35 @@
 -- What a call does is read back, where its effects are settled.
-use Rattle.std.proofs.Common.{◌≡◌, ◌≤◌, ℕ, suc, max, List, [], ◌∷◌, map, Bool, true, false, not, ◌&&◌, Option, Some, None, cond, refl, sym, ap, subst, ◌∙◌, arith}
-use Rattle.std.specs.Prelude.{filter, option_map, option_and_then, if◌then◌else◌}
+use Rattle.std.proofs.Common.{◌≡◌, ℕ, List, [], ◌∷◌, map, Bool, true, false, not, Option, Some, None, cond, refl, ap, subst, ◌∙◌}
+use Rattle.std.specs.Prelude.{filter, option_map, option_and_then}
 use Rattle.std.specs.List.{AllByRecursion, list_all}
 use Rattle.rtx_tree.specs.declared.code.Code.{Code}
 use Rattle.rtx_tree.specs.declared.code.Code.TheVariants as code
 use Rattle.rtx_tree.specs.declared.code.Mode.{Mode}
 use Rattle.rtx_tree.specs.declared.code.Mode.TheVariants as mode
-use Rattle.rtx_tree.specs.declared.tree.Rtx.{Rtx, out-Rtx, out-roll-Rtx}
-use Rattle.rtx_tree.specs.declared.tree.Rtx.TheOpen.{Rtx-F}
+use Rattle.rtx_tree.specs.declared.tree.Rtx.{Rtx, out-Rtx}
 use Rattle.rtx_tree.specs.Tree.{node_of}
 use Rattle.lisp_read.specs.declared.head.Opening.{Opening}
 use Rattle.lisp_read.specs.declared.position.Position.TheVariants.{Pattern}
 use Rattle.lisp_read.specs.declared.tree.Tree.{Tree}
 use Rattle.rtx_tree.specs.Code.{class_of_code}
-use Rattle.lisp_read.specs.Expression.{class_of, head_is, placed, head_of, head_at, read_at}
+use Rattle.lisp_read.specs.Expression.{head_is, placed, read_at}
 use Rattle.lisp_read.specs.Head.{code_named, code_in}
-use Rattle.lisp_read.specs.Parsed.{Parsed, stands, parsed_map, parsed_then, each_parsed}
+use Rattle.lisp_read.specs.Parsed.{stands, parsed_map, each_parsed}
 use Rattle.lisp_read.specs.Positions.{admits, mode_at}
-use Rattle.lisp_read.specs.Shape.{items_of, vector_at, vector_of, is_vector_at, is_vector, is_nested}
-use Rattle.rtl_read.specs.Call.{is_class_parallel, is_parallel, is_dropped_code, is_dropped, is_kept, together, effects_by, effects_of, call_by, call_of}
+use Rattle.lisp_read.specs.Shape.{items_of, vector_at, vector_of, is_vector_at, is_vector}
+use Rattle.rtl_read.specs.Call.{is_class_parallel, is_parallel, is_dropped_code, is_kept, together, effects_by, effects_of, call_by, call_of}
 use Rattle.rtl_read.specs.Word.{head_word, head_of_list, named_code}
-use Rattle.tree_print.specs.Print.{nowhere, depth_of}
-use Rattle.rtl_print.specs.Back.{is_effect, settled_by, is_settled_pattern}
+use Rattle.tree_print.specs.Print.{nowhere}
+use Rattle.rtl_print.specs.Back.{is_effect, settled_by}
 use Rattle.rtl_print.specs.Print.{head_text}
-use Rattle.rtl_print.proofs.Back.{back}
-use Rattle.rtl_print.proofs.Good.{Fits, AllFit, fits_more, list_fits, vector_fits, atom_fits, rtx_fits, first_deep, rest_deep}
-use Rattle.rtl_print.proofs.Atoms.{head_is_atom}
 use Rattle.rtl_print.proofs.Heads.{head_with}
 use Rattle.rtl_print.proofs.Nodes.{all_nested}
 use Rattle.rtl_print.proofs.Numbers.{and_true}
 use Rattle.rtl_print.proofs.Opened.{Opened, opened, head_of_opened}
-use Rattle.rtl_print.proofs.Parsing.{map_stands, pair_stands}
 use Rattle.rtl_print.proofs.Same.{Same, AllSame, IsVector, as_vector}
-use Rattle.rtl_print.proofs.Shallow.{deepest, items_depth, is_vector_depth}
-use Rattle.rtl_print.proofs.Shapes.{code_of, IsParallel, shape_of}
+use Rattle.rtl_print.proofs.Shapes.{code_of}
 use Rattle.rtl_print.proofs.Words.{Back}
-use Rattle.rtl_print.proofs.Written.{atom, vector, written, written_of, written_out, label_tree, parts_by}
+use Rattle.rtl_print.proofs.Written.{vector, written, written_of, written_out, label_tree, parts_by}
 
 -- ---- the code that a written tree names
 

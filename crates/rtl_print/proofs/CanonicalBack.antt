@@ -1,27 +1,25 @@
 -- The canonical text of functions is read back as these functions.
-use Rattle.std.proofs.Common.{◌≡◌, ◌≤◌, ℕ, List, [], ◌∷◌, ◌++◌, map, flat_map, refl, sym, ap, subst, ◌∙◌, arith}
+use Rattle.std.proofs.Common.{◌≡◌, ℕ, List, [], ◌∷◌, ◌++◌, map, flat_map, refl, sym, subst, ◌∙◌}
 use Rattle.std.proofs.lemmas.List.{append-nil}
 use Rattle.std.proofs.lemmas.List.Concat.{flat_map-cons}
 use Rattle.std.specs.List.{AllByRecursion}
 use Rattle.rtx_tree.specs.declared.function.Function.{Function}
 use Rattle.lisp_read.specs.declared.tree.Tree.{Tree}
 use Rattle.lisp_read.specs.Parsed.{stands}
-use Rattle.lisp_read.specs.Part.{Part, parts_of, parts_of_all}
+use Rattle.lisp_read.specs.Part.{parts_of_all}
 use Rattle.lisp_read.specs.Reading.{ReadsAs, Trees, most_open}
-use Rattle.rtl_read.specs.Function.{function_of}
 use Rattle.rtl_read.specs.Syntax.{functions_in}
-use Rattle.tree_print.specs.Print.{AreAdmitted, depth_of}
-use Rattle.tree_print.proofs.SpellsPrinted.{SpellsAs}
+use Rattle.tree_print.specs.Print.{depth_of}
 use Rattle.rtl_print.specs.Back.{IsReadable, AreReadable, ReadsBack, AllReadBack}
 use Rattle.rtl_print.specs.Canonical.{printed_name, printed_function}
 use Rattle.rtl_print.proofs.Admitted.{Admitted, all_admitted}
-use Rattle.rtl_print.proofs.FunctionRead.{FunctionBack, function_back}
+use Rattle.rtl_print.proofs.FunctionRead.{function_back}
 use Rattle.rtl_print.proofs.FunctionText.{function_spells}
 use Rattle.rtl_print.proofs.FunctionTree.{function_tree}
-use Rattle.rtl_print.proofs.Good.{Fits, AllFit, fits_more, all_low}
+use Rattle.rtl_print.proofs.Good.{AllFit, fits_more, all_low}
 use Rattle.rtl_print.proofs.Pieces.{Piece, nothing}
 use Rattle.rtl_print.proofs.ReadBack.{IsRead, is_read}
-use Rattle.rtl_print.proofs.Same.{Same, AllSame}
+use Rattle.rtl_print.proofs.Same.{AllSame}
 
 -- ---- the text
 

@@ -1,18 +1,17 @@
 -- The chain of a function is read back from its lines.
-use Rattle.std.proofs.Common.{◌≡◌, ◌≤◌, ◌<◌, ◌-◌, ℕ, suc, List, [], ◌∷◌, ◌++◌, map, Bool, true, false, ◌&&◌, Option, Some, None, cond, is_some, codes, bytes_eq, refl, sym, ap, subst, ◌∙◌, arith}
-use Rattle.std.specs.Prelude.{if◌then◌else◌}
-use Rattle.std.specs.List.{AllByRecursion, list_all}
+use Rattle.std.proofs.Common.{◌≡◌, ◌≤◌, ◌-◌, ℕ, suc, List, [], ◌∷◌, ◌++◌, map, Bool, true, false, ◌&&◌, Option, Some, None, cond, is_some, codes, refl, ap, subst, ◌∙◌, arith}
+use Rattle.std.specs.List.{list_all}
 use Rattle.rtx_tree.specs.declared.function.Insn.{Insn}
 use Rattle.lisp_read.specs.declared.tree.Tree.{Tree}
-use Rattle.lisp_read.specs.Parsed.{Parsed, stands, outside, parsed_map, parsed_then}
+use Rattle.lisp_read.specs.Parsed.{Parsed, stands}
 use Rattle.lisp_read.specs.Shape.{items_of, is_nested_at, is_nested, is_text, is_word}
-use Rattle.rtl_read.specs.Chain.{each_joined, entry_of, entries_of, block_entries, item_by, item_of, items_joined, chain_items, chain_by, chain_of}
+use Rattle.rtl_read.specs.Chain.{each_joined, entry_of, block_entries, item_by, item_of, items_joined, chain_items, chain_by, chain_of}
 use Rattle.rtl_read.specs.Word.{number_of}
 use Rattle.tree_print.specs.Print.{depth_of}
 use Rattle.rtl_print.specs.Back.{is_settled}
-use Rattle.rtl_print.proofs.EntriesRead.{InsnBack, AllBack, all_more, entry_back}
+use Rattle.rtl_print.proofs.EntriesRead.{AllBack, all_more, entry_back}
 use Rattle.rtl_print.proofs.FunctionTree.{parts_of_insn, insn_tree, chain_tree}
-use Rattle.rtl_print.proofs.Good.{Fits, AllFit, fits_more, list_fits, word_fits, first_deep, rest_deep}
+use Rattle.rtl_print.proofs.Good.{Fits, AllFit, list_fits, word_fits, first_deep, rest_deep}
 use Rattle.rtl_print.proofs.Numbers.{if_some, and_true}
 use Rattle.rtl_print.proofs.Opened.{Opened, opened}
 use Rattle.rtl_print.proofs.Parsing.{pair_stands}

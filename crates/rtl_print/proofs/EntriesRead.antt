@@ -1,19 +1,18 @@
 -- The instructions that an entry of a chain gives are read back, each from its line.
-use Rattle.std.proofs.Common.{◌≡◌, ◌≤◌, ◌<◌, ◌^◌, ℕ, suc, List, [], ◌∷◌, Bool, true, false, ◌||◌, Option, Some, None, cond, codes, refl, sym, ap, subst, ◌∙◌, arith}
-use Rattle.std.specs.Prelude.{option_map, option_and_then, if◌then◌else◌}
+use Rattle.std.proofs.Common.{◌≡◌, ◌≤◌, ◌<◌, ℕ, suc, List, [], ◌∷◌, Bool, true, false, Option, Some, None, cond, codes, refl, ap, subst, arith}
+use Rattle.std.specs.Prelude.{option_map}
 use Rattle.std.specs.List.{AllByRecursion}
 use Rattle.std.specs.Fmt.{decimal}
 use Rattle.rtx_tree.specs.declared.function.ArgUse.{ArgUse}
 use Rattle.rtx_tree.specs.declared.function.Insn.{Insn}
-use Rattle.rtx_tree.specs.declared.function.Kind.{Kind}
-use Rattle.rtx_tree.specs.declared.function.Kind.TheVariants.{Plain, Jump, Call, Label, Barrier}
+use Rattle.rtx_tree.specs.declared.function.Kind.TheVariants.{Plain, Jump, Call, Label}
 use Rattle.rtx_tree.specs.declared.tree.Rtx.{Rtx}
 use Rattle.rtx_tree.specs.Patterns.{nothing_rtx}
 use Rattle.lisp_read.specs.declared.position.Position.TheVariants.{Pattern}
 use Rattle.lisp_read.specs.declared.tree.Tree.{Tree}
 use Rattle.lisp_read.specs.Expression.{read_at}
 use Rattle.lisp_read.specs.Leaf.{uid_in}
-use Rattle.lisp_read.specs.Parsed.{Parsed, stands, outside, parsed_map, parsed_then}
+use Rattle.lisp_read.specs.Parsed.{Parsed, stands, outside}
 use Rattle.lisp_read.specs.Shape.{atom_of, items_of, is_nested, is_word}
 use Rattle.rtl_read.specs.Call.{call_of, uses_of}
 use Rattle.rtl_read.specs.Chain as chain
@@ -32,7 +31,6 @@ use Rattle.rtl_print.proofs.Parsing.{map_stands, pair_stands}
 use Rattle.rtl_print.proofs.Same.{Same}
 use Rattle.rtl_print.proofs.Shallow.{deepest, items_depth, nested_depth}
 use Rattle.rtl_print.proofs.UsesBack.{UsesBack, uses_back}
-use Rattle.rtl_print.proofs.Words.{Back}
 use Rattle.rtl_print.proofs.Written.{atom, list, written}
 
 -- an instruction whose line goes no deeper than this

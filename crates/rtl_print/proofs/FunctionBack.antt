@@ -1,27 +1,24 @@
 -- A function is read back from the tree that its canonical text writes.
-use Rattle.std.proofs.Common.{◌≡◌, ◌≤◌, ◌<◌, ◌-◌, ◌^◌, ℕ, suc, List, [], ◌∷◌, ◌++◌, map, Bool, true, false, ◌&&◌, ◌==◌, Option, Some, None, cond, codes, bytes_eq, refl, sym, ap, subst, ◌∙◌, arith}
+use Rattle.std.proofs.Common.{◌≡◌, ◌<◌, ℕ, List, [], ◌∷◌, ◌++◌, map, true, false, Option, Some, None, codes, refl, ap, ◌∙◌}
 use Rattle.std.proofs.lemmas.List.{append-nil}
-use Rattle.std.specs.Prelude.{count_by, nat_le, unwrap_or, option_map, option_and_then, if◌then◌else◌}
+use Rattle.std.specs.Prelude.{option_map, option_and_then}
 use Rattle.std.specs.List.{list_all}
 use Rattle.std.specs.Fmt.{decimal}
-use Rattle.rtx_tree.specs.declared.code.Mode.{Mode}
 use Rattle.rtx_tree.specs.declared.function.Function.{Function}
 use Rattle.rtx_tree.specs.declared.function.Insn.{Insn}
 use Rattle.text_words.specs.Words.{is_symbol}
 use Rattle.lisp_read.specs.declared.tree.Tree.{Tree}
 use Rattle.lisp_read.specs.Leaf.{uid_in}
-use Rattle.lisp_read.specs.Parsed.{Parsed, stands, outside, or_outside, parsed_map, parsed_then}
-use Rattle.lisp_read.specs.Shape.{atom_at, atom_of, string_at, string_of, items_of, is_nested, is_vector, is_text, is_word}
+use Rattle.lisp_read.specs.Parsed.{stands, or_outside, parsed_map}
+use Rattle.lisp_read.specs.Shape.{atom_at, string_at, string_of, items_of, is_nested, is_text, is_word}
 use Rattle.rtl_read.specs.declared.parts.Returned.{Returned}
 use Rattle.rtl_read.specs.declared.parts.Said.{Said}
-use Rattle.rtl_read.specs.Chain.{chain_of}
-use Rattle.rtl_read.specs.Function as function
-use Rattle.rtl_read.specs.Function.{number_behind, locals_of, crtl_of, says_nothing, says_chain, says_locals, says_result, said_by, said_too, all_said, are_items, named_by, with_items, function_parts, result_register, function_from, function_of_items, function_by, function_of}
+use Rattle.rtl_read.specs.Function.{number_behind, locals_of, says_chain, says_locals, says_result, said_by, are_items, named_by, with_items, function_parts, result_register, function_from, function_of_items, function_by, function_of}
 use Rattle.rtl_read.specs.Word.{number_of, begins, is_headed}
-use Rattle.tree_print.specs.Print.{nowhere, depth_of}
+use Rattle.tree_print.specs.Print.{nowhere}
 use Rattle.rtl_print.specs.Back.{is_settled}
 use Rattle.rtl_print.proofs.ChainBack.{ChainBack}
-use Rattle.rtl_print.proofs.FunctionTree.{insn_tree, chain_tree, locals_tree, result_tree, result_trees, function_tree}
+use Rattle.rtl_print.proofs.FunctionTree.{insn_tree, chain_tree, locals_tree, result_tree, function_tree}
 use Rattle.rtl_print.proofs.Numbers.{uid_again}
 use Rattle.rtl_print.proofs.Opened.{Opened, opened}
 use Rattle.rtl_print.proofs.ResultBack.{ReturnBack, IfReturned}

@@ -1,19 +1,16 @@
 -- A function that a tree stands for is read back from the tree that its canonical text writes.
-use Rattle.std.proofs.Common.{◌≡◌, ◌≤◌, ◌<◌, ◌-◌, ℕ, suc, List, [], ◌∷◌, Bool, true, false, ◌&&◌, ◌==◌, Option, Some, None, cond, codes, refl, sym, ap, subst, ◌∙◌, arith}
-use Rattle.std.proofs.lemmas.Bool.Decides.{nat_tests}
-use Rattle.std.specs.Prelude.{count_by, nat_le, unwrap_or, option_map, option_and_then, if◌then◌else◌}
+use Rattle.std.proofs.Common.{◌≡◌, ◌≤◌, ◌<◌, ◌-◌, ℕ, suc, List, [], ◌∷◌, Bool, true, false, ◌&&◌, Option, Some, None, cond, codes, refl, sym, ap, subst, ◌∙◌, arith}
+use Rattle.std.specs.Prelude.{unwrap_or, option_map}
 use Rattle.std.specs.List.{list_all}
 use Rattle.rtx_tree.specs.declared.function.Function.{Function}
 use Rattle.rtx_tree.specs.declared.function.Insn.{Insn}
 use Rattle.text_words.specs.Words.{is_symbol}
 use Rattle.lisp_read.specs.declared.tree.Tree.{Tree}
-use Rattle.lisp_read.specs.Parsed.{Parsed, stands, outside, parsed_map}
+use Rattle.lisp_read.specs.Parsed.{stands}
 use Rattle.lisp_read.specs.Shape.{string_of, items_of, is_nested, is_word}
 use Rattle.rtl_read.specs.declared.parts.Returned.{Returned}
-use Rattle.rtl_read.specs.declared.parts.Said.{Said}
 use Rattle.rtl_read.specs.Function.{all_said, are_items, named_by, with_items, function_parts, result_register, function_from, function_of_items, function_by, function_of}
 use Rattle.rtl_read.specs.Locals.{locals_in}
-use Rattle.rtl_read.specs.Word.{is_headed}
 use Rattle.tree_print.specs.Print.{depth_of}
 use Rattle.rtl_print.specs.Back.{is_settled}
 use Rattle.rtl_print.proofs.Admitted.{string_admitted}

@@ -1,5 +1,5 @@
 -- The canonical text of a function spells the parts of the tree that it writes.
-use Rattle.std.proofs.Common.{◌≡◌, ℕ, List, [], ◌∷◌, ◌++◌, map, flat_map, Option, Some, None, codes, refl, sym, ap, subst, ◌∙◌, append_assoc}
+use Rattle.std.proofs.Common.{◌≡◌, ℕ, List, [], ◌∷◌, ◌++◌, map, flat_map, Option, Some, None, codes, refl, sym, ap, ◌∙◌, append_assoc}
 use Rattle.std.specs.Fmt.{decimal}
 use Rattle.rtx_tree.specs.declared.code.Mode.{Mode}
 use Rattle.rtx_tree.specs.declared.function.Function.{Function}
@@ -8,7 +8,7 @@ use Rattle.rtx_tree.specs.Tree.{reg_of}
 use Rattle.lisp_read.specs.declared.tree.Tree.{Tree}
 use Rattle.lisp_read.specs.Part.{Part, parts_of, parts_of_all}
 use Rattle.tree_print.proofs.SpellsPrinted.{SpellsAs}
-use Rattle.rtl_print.specs.Canonical.{printed_register, printed_insn, printed_result, printed_locals, printed_name, printed_front, printed_function}
+use Rattle.rtl_print.specs.Canonical.{printed_register, printed_insn, printed_result, printed_name, printed_function}
 use Rattle.rtl_print.proofs.FunctionTree.{insn_tree, chain_tree, locals_tree, result_tree, result_trees, function_tree}
 use Rattle.rtl_print.proofs.LineTexts.{register_spells, lines_spell}
 use Rattle.rtl_print.proofs.Pieces.{Piece, nothing, space, newline, listed, first, next, last, word, quoted, retold}

@@ -1,14 +1,12 @@
 -- Induction over what trees stand for: what holds of the words, and of what is made of expressions of which it holds, holds of
 -- each expression that a tree stands for.
-use Rattle.std.proofs.Common.{◌≡◌, ◌≤◌, ◌<◌, suc, ℕ, List, [], ◌∷◌, map, drop, length, Bool, true, false, ◌&&◌, Option, Some, None, cond, refl, sym, ap, subst, ◌∙◌, arith}
+use Rattle.std.proofs.Common.{◌≡◌, ◌≤◌, ◌<◌, suc, List, [], ◌∷◌, map, drop, length, true, ◌&&◌, Option, Some, None, refl, sym, subst, ◌∙◌, arith}
 use Rattle.std.specs.List.{AllByRecursion, list_all}
 use Rattle.rtx_tree.specs.declared.code.Code.TheVariants.{Parallel}
 use Rattle.rtx_tree.specs.declared.code.Mode.TheVariants.{Void}
-use Rattle.rtx_tree.specs.declared.place.Place.{Place}
 use Rattle.rtx_tree.specs.declared.tree.Rtx.{Rtx}
 use Rattle.rtx_tree.specs.Tree.{node_of}
 use Rattle.lisp_read.specs.declared.head.Opening.{Opening}
-use Rattle.rtx_tree.specs.declared.class.Class.{Class}
 use Rattle.rtx_tree.specs.declared.class.Class.TheVariants as class
 use Rattle.lisp_read.specs.declared.position.Position.{Position}
 use Rattle.lisp_read.specs.declared.position.Position.TheVariants.{Pattern}
@@ -16,8 +14,8 @@ use Rattle.lisp_read.specs.declared.tree.Tree.{Tree, out-Tree}
 use Rattle.lisp_read.specs.declared.tree.Tree.TheOpen.{Tree-F}
 use Rattle.lisp_read.specs.declared.tree.Tree.TheVariants as tree
 use Rattle.lisp_read.specs.Shape.{items_at, items_of, vector_at, vector_of, is_nested, is_vector}
-use Rattle.lisp_read.specs.Parsed.{Parsed, stands, outside, parsed_map, parsed_then, each_parsed}
-use Rattle.lisp_read.specs.Expression.{Meaning, meaning_of, elements_of, head_of_items, head_of, head_at, placed, class_of, read_at, list_by, each_at, parts_of_class, expression_by, inside_at, inside_of}
+use Rattle.lisp_read.specs.Parsed.{stands, each_parsed}
+use Rattle.lisp_read.specs.Expression.{meaning_of, elements_of, head_of_items, head_of, head_at, placed, class_of, read_at, each_at, parts_of_class, expression_by, inside_at}
 use Rattle.lisp_read.proofs.Meanings.{read_at_out, elements_out}
 use Rattle.lisp_read.proofs.TreeInduction.{Steps, induction}
 use Rattle.rtl_print.proofs.Modes.{Placed, placed_says}

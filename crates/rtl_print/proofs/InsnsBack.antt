@@ -1,24 +1,24 @@
 -- The lines of a chain are read back, by what they hold.
-use Rattle.std.proofs.Common.{◌≡◌, ◌≤◌, ◌<◌, ℕ, suc, List, [], ◌∷◌, Bool, true, false, ◌||◌, Option, Some, None, cond, codes, bytes_eq, refl, sym, ap, subst, ◌∙◌, arith}
+use Rattle.std.proofs.Common.{◌≡◌, ◌<◌, ℕ, List, [], ◌∷◌, Bool, true, false, ◌||◌, Option, Some, None, codes, bytes_eq, refl, ap, ◌∙◌}
 use Rattle.std.specs.Prelude.{option_map, option_and_then, if◌then◌else◌}
 use Rattle.std.specs.Fmt.{decimal}
 use Rattle.rtx_tree.specs.declared.function.ArgUse.{ArgUse}
 use Rattle.rtx_tree.specs.declared.function.Insn.{Insn}
 use Rattle.rtx_tree.specs.declared.function.Kind.{Kind}
-use Rattle.rtx_tree.specs.declared.function.Kind.TheVariants.{Plain, Jump, Call, Label, Barrier}
+use Rattle.rtx_tree.specs.declared.function.Kind.TheVariants.{Plain, Jump, Call, Label}
 use Rattle.rtx_tree.specs.declared.tree.Rtx.{Rtx}
 use Rattle.rtx_tree.specs.Patterns.{nothing_rtx}
 use Rattle.lisp_read.specs.declared.position.Position.TheVariants.{Pattern}
 use Rattle.lisp_read.specs.declared.tree.Tree.{Tree}
 use Rattle.lisp_read.specs.Leaf.{uid_in}
-use Rattle.lisp_read.specs.Parsed.{Parsed, stands, outside, parsed_map, parsed_then}
-use Rattle.lisp_read.specs.Shape.{atom_at, atom_of, items_of, is_nested, is_text, is_word}
+use Rattle.lisp_read.specs.Parsed.{Parsed, stands, outside, parsed_map}
+use Rattle.lisp_read.specs.Shape.{atom_at, atom_of, is_text}
 use Rattle.rtl_read.specs.Call.{call_of, uses_of}
 use Rattle.rtl_read.specs.Chain as chain
 use Rattle.rtl_read.specs.Chain.{InsnParts, insn_with, parts_with, insn_parts, insn_by, insn_of_parts, call_with, leading_number, label_by, barrier, one_barrier, entry_by, entry_of, block_entries, item_by, item_of}
 use Rattle.rtl_read.specs.Word.{number_of}
 use Rattle.tree_print.specs.Print.{nowhere}
-use Rattle.rtl_print.specs.Back.{is_settled, is_settled_pattern}
+use Rattle.rtl_print.specs.Back.{is_settled}
 use Rattle.rtl_print.proofs.CallRead.{CallBack}
 use Rattle.rtl_print.proofs.FunctionTree.{uses_tree, insn_tree}
 use Rattle.rtl_print.proofs.Nodes.{nested_written}
@@ -27,7 +27,7 @@ use Rattle.rtl_print.proofs.Opened.{Opened, opened}
 use Rattle.rtl_print.proofs.Same.{Same, AllSame, as_atom}
 use Rattle.rtl_print.proofs.UsesBack.{UsesBack, uses_again}
 use Rattle.rtl_print.proofs.Words.{Back}
-use Rattle.rtl_print.proofs.Written.{atom, list, written}
+use Rattle.rtl_print.proofs.Written.{atom, written}
 
 -- ---- an entry, by the word at its head
 

@@ -1,10 +1,8 @@
 -- Expressions that hold others are read back where these are, one class of codes after the other.
-use Rattle.std.proofs.Common.{◌≡◌, ℕ, ℤ, pos, List, [], ◌∷◌, map, take, drop, length, Bool, true, false, ◌&&◌, Option, Some, None, cond, refl, sym, ap, subst, ◌∙◌}
-use Rattle.std.specs.Prelude.{option_map, option_and_then, if◌then◌else◌}
-use Rattle.std.specs.List.{list_all}
+use Rattle.std.proofs.Common.{◌≡◌, pos, List, [], ◌∷◌, map, true, Option, Some, None, refl, ap, subst, ◌∙◌}
+use Rattle.std.specs.Prelude.{option_and_then}
 use Rattle.rtx_tree.specs.declared.code.Code.{Code}
 use Rattle.rtx_tree.specs.declared.code.Code.TheVariants as code
-use Rattle.rtx_tree.specs.declared.code.Mode.{Mode}
 use Rattle.rtx_tree.specs.declared.code.Mode.TheVariants as mode
 use Rattle.rtx_tree.specs.declared.tree.Rtx.{Rtx}
 use Rattle.rtx_tree.specs.Tree.{node_of}
@@ -15,9 +13,9 @@ use Rattle.lisp_read.specs.declared.position.Position.{Position}
 use Rattle.lisp_read.specs.declared.position.Position.TheVariants.{Value, Clobbered, Callee, Words, Test, Target, Pc, Pattern}
 use Rattle.lisp_read.specs.declared.tree.Tree.{Tree}
 use Rattle.rtx_tree.specs.Code.{class_of_code}
-use Rattle.lisp_read.specs.Shape.{items_of, vector_at, vector_of, is_nested_at, is_nested, is_vector_at, is_vector}
-use Rattle.lisp_read.specs.Parsed.{Parsed, stands, parsed_map, parsed_then, each_parsed}
-use Rattle.lisp_read.specs.Expression.{Meaning, meaning_of, elements_of, class_of, read_at, list_by, node_by, parallel_by, positions_of, parts_of_class, if_nested, each_at}
+use Rattle.lisp_read.specs.Shape.{items_of, vector_at, is_nested_at, is_nested, is_vector_at, is_vector}
+use Rattle.lisp_read.specs.Parsed.{stands, parsed_map, each_parsed}
+use Rattle.lisp_read.specs.Expression.{meaning_of, elements_of, class_of, read_at, list_by, node_by, parallel_by, positions_of, parts_of_class, if_nested}
 use Rattle.lisp_read.proofs.Meanings.{elements_out}
 use Rattle.tree_print.specs.Print.{nowhere}
 use Rattle.rtl_print.specs.Print.{head_text}
@@ -29,7 +27,7 @@ use Rattle.rtl_print.proofs.Opened.{Opened, opened, read_opened}
 use Rattle.rtl_print.proofs.Positions.{parts_positions}
 use Rattle.rtl_print.proofs.Same.{Same, AllSame, IsVector, as_vector}
 use Rattle.rtl_print.proofs.Words.{Back, placed_as}
-use Rattle.rtl_print.proofs.Written.{atom, vector, written, written_of, label_tree, parts_by}
+use Rattle.rtl_print.proofs.Written.{vector, written, written_of, label_tree, parts_by}
 
 abbrev Q : Position → Tree → Rtx → Type 0
 Q p t x = Back p x

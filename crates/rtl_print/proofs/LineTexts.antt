@@ -1,26 +1,24 @@
 -- The canonical text of a function spells the parts of the tree that it writes.
-use Rattle.std.proofs.Common.{◌≡◌, ℕ, List, [], ◌∷◌, ◌++◌, map, flat_map, Option, Some, None, codes, refl, sym, ap, subst, ◌∙◌, append_assoc}
+use Rattle.std.proofs.Common.{◌≡◌, ℕ, List, [], ◌∷◌, ◌++◌, map, flat_map, codes, sym, ap, subst, ◌∙◌, append_assoc}
 use Rattle.std.proofs.lemmas.List.{append-nil}
 use Rattle.std.proofs.lemmas.List.Concat.{flat_map-cons}
 use Rattle.std.specs.Fmt.{decimal}
-use Rattle.rtx_tree.specs.declared.code.Code.TheVariants.{Reg, Use}
 use Rattle.rtx_tree.specs.declared.code.Mode.{Mode}
-use Rattle.rtx_tree.specs.declared.code.Mode.TheVariants.{Void}
 use Rattle.rtx_tree.specs.declared.function.ArgUse.{ArgUse}
 use Rattle.rtx_tree.specs.declared.function.Insn.{Insn}
 use Rattle.rtx_tree.specs.declared.function.Kind.{Kind}
 use Rattle.rtx_tree.specs.declared.function.Kind.TheVariants.{Plain, Jump, Call, Label, Barrier}
-use Rattle.rtx_tree.specs.declared.tree.Rtx.{Rtx, out-Rtx, out-roll-Rtx}
+use Rattle.rtx_tree.specs.declared.tree.Rtx.{Rtx, out-roll-Rtx}
 use Rattle.rtx_tree.specs.declared.tree.Rtx.TheOpen.{Rtx-F}
-use Rattle.rtx_tree.specs.Tree.{reg_of, node_of}
+use Rattle.rtx_tree.specs.Tree.{reg_of}
 use Rattle.lisp_read.specs.declared.tree.Tree.{Tree}
 use Rattle.lisp_read.specs.Part.{Part, parts_of, parts_of_all}
 use Rattle.tree_print.proofs.SpellsPrinted.{SpellsAs}
-use Rattle.rtl_print.specs.Canonical.{printed_register, printed_link, printed_uses, numbered, doing, calling, insn_body, printed_insn}
+use Rattle.rtl_print.specs.Canonical.{printed_register, printed_link, printed_uses, doing, calling, insn_body, printed_insn}
 use Rattle.rtx_tree.specs.Code.{class_of_code}
-use Rattle.rtl_print.specs.Print.{head_text, printed, printed_reg_at, spaced, printed_body, spaced_text, spaced_number, body_of}
+use Rattle.rtl_print.specs.Print.{head_text, printed, printed_body, spaced_text, spaced_number}
 use Rattle.rtl_print.proofs.FunctionTree.{use_rtx, uses_tree, parts_of_insn, insn_tree}
-use Rattle.rtl_print.proofs.Pieces.{Piece, join, nothing, blank, space, newline, listed, first, next, last, word, quoted, retold}
+use Rattle.rtl_print.proofs.Pieces.{Piece, nothing, space, newline, listed, first, next, last, word, retold}
 use Rattle.rtl_print.proofs.RtxBack.{spells_rtx}
 use Rattle.rtl_print.proofs.Texts.{printed_out}
 use Rattle.rtl_print.proofs.Written.{atom, list, written}

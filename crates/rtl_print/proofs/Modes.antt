@@ -1,6 +1,6 @@
 -- A head that may stand at a position may stand there again as it is printed.
-use Rattle.std.proofs.Common.{◌≡◌, Bool, true, false, Option, Some, None, cond, refl, sym, ap, subst, ◌∙◌}
-use Rattle.std.specs.Prelude.{option_map, if◌then◌else◌}
+use Rattle.std.proofs.Common.{◌≡◌, Bool, true, false, Option, Some, None, cond, refl, sym, ap, subst}
+use Rattle.std.specs.Prelude.{option_map}
 use Rattle.rtx_tree.specs.declared.code.Mode.{Mode}
 use Rattle.rtx_tree.specs.declared.code.Mode.TheVariants as mode
 use Rattle.lisp_read.specs.declared.head.Opening.{Opening}
@@ -14,7 +14,7 @@ use Rattle.rtx_tree.specs.Code.{head_mode_of}
 use Rattle.lisp_read.specs.Positions.{admits, needed, unwanted, mode_by, mode_of_class, mode_at}
 use Rattle.lisp_read.specs.Expression.{class_of, placed}
 use Rattle.rtl_print.proofs.Heads.{head_with}
-use Rattle.rtl_print.proofs.Numbers.{if_some, map_some}
+use Rattle.rtl_print.proofs.Numbers.{map_some}
 
 needed_is : (a b : Mode) → needed a ≡ Some b → a ≡ b
 needed_is mode.Void b e = cc

@@ -1,31 +1,25 @@
 -- Where the parts of a code stood behind a head, those that are printed stand there too.
-use Rattle.std.proofs.Common.{◌≡◌, ◌<◌, ◌≤◌, ◌+◌, ◌==◌, ℕ, suc, ℤ, pos, List, [], ◌∷◌, ◌++◌, map, length, take, drop, Bool, true, false, ◌&&◌, Option, Some, None, cond, codes, bytes_eq, refl, sym, ap, subst, ◌∙◌, arith}
+use Rattle.std.proofs.Common.{◌≡◌, ◌+◌, ◌==◌, ℕ, suc, List, [], ◌∷◌, ◌++◌, map, length, take, Bool, true, false, ◌&&◌, Some, None, cond, codes, refl, sym, ap, subst, ◌∙◌, arith}
 use Rattle.std.proofs.lemmas.Bool.Decides.{nat_tests}
 use Rattle.std.proofs.lemmas.List.{append-nil}
-use Rattle.std.specs.Prelude.{nat_lt, option_map, option_and_then, if◌then◌else◌}
+use Rattle.std.specs.Prelude.{nat_lt}
 use Rattle.std.specs.List.{list_all}
-use Rattle.rtx_tree.specs.declared.tree.Rtx.{Rtx, out-Rtx}
-use Rattle.rtx_tree.specs.Tree.{node_of}
-use Rattle.lisp_read.specs.declared.head.Opening.{Opening}
+use Rattle.rtx_tree.specs.declared.tree.Rtx.{Rtx}
 use Rattle.rtx_tree.specs.declared.class.Class.{Class}
 use Rattle.rtx_tree.specs.declared.class.Class.TheVariants as class
 use Rattle.lisp_read.specs.declared.position.Position.{Position}
-use Rattle.lisp_read.specs.declared.position.Position.TheVariants.{Value, Place, Source, Pc, Jump, Inner, Clobbered, Callee, Words, Test, Target}
+use Rattle.lisp_read.specs.declared.position.Position.TheVariants.{Value, Place, Source, Pc, Jump, Inner}
 use Rattle.lisp_read.specs.declared.tree.Tree.{Tree}
-use Rattle.lisp_read.specs.Shape.{items_of, is_nested, is_word, is_text, atom_at, atom_of}
-use Rattle.lisp_read.specs.Parsed.{Parsed, stands, parsed_map}
-use Rattle.lisp_read.specs.Expression.{Meaning, meaning_of, class_of, read_at, list_by, node_by, exactly, at_least, lowpart_parts, comparison_parts, setting_parts, positions_of, parts_of_class, if_nested, is_class_number, is_class_counter, is_constant, is_counter, each_at}
+use Rattle.lisp_read.specs.Shape.{is_nested, is_word, is_text, atom_at, atom_of}
+use Rattle.lisp_read.specs.Parsed.{stands}
+use Rattle.lisp_read.specs.Expression.{meaning_of, read_at, exactly, at_least, lowpart_parts, comparison_parts, setting_parts, positions_of, is_class_number, is_class_counter, is_constant, is_counter, each_at}
 use Rattle.tree_print.specs.Print.{nowhere}
-use Rattle.rtl_print.specs.Print.{head_text}
 use Rattle.rtl_print.proofs.Induction.{EachAt}
-use Rattle.rtl_print.proofs.Modes.{Placed, placed_again}
 use Rattle.rtl_print.proofs.Nodes.{same_head, nested_written, all_nested, same_length, kids_length, each_again}
 use Rattle.rtl_print.proofs.Numbers.{if_some}
-use Rattle.rtl_print.proofs.Opened.{Opened, opened, read_opened}
-use Rattle.rtl_print.proofs.Positions.{parts_positions}
 use Rattle.rtl_print.proofs.Same.{Same, AllSame, as_atom}
 use Rattle.rtl_print.proofs.Words.{Back}
-use Rattle.rtl_print.proofs.Written.{atom, written, written_of, label_tree, parts_by}
+use Rattle.rtl_print.proofs.Written.{atom, written}
 
 abbrev Q : Position → Tree → Rtx → Type 0
 Q p t x = Back p x

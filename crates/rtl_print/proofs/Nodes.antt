@@ -1,7 +1,5 @@
 -- Expressions that hold others are read back where these are.
-use Rattle.std.proofs.Common.{◌≡◌, ◌<◌, ◌≤◌, ◌+◌, ◌==◌, ℕ, suc, pos, List, [], ◌∷◌, ◌++◌, map, length, take, drop, Bool, true, false, ◌&&◌, Option, Some, None, cond, codes, bytes_eq, refl, sym, ap, subst, ◌∙◌, arith}
-use Rattle.std.proofs.lemmas.Bool.Decides.{nat_tests}
-use Rattle.std.specs.Prelude.{nat_lt, option_map, option_and_then, if◌then◌else◌}
+use Rattle.std.proofs.Common.{◌≡◌, suc, List, [], ◌∷◌, ◌++◌, map, length, Bool, true, Option, Some, None, refl, sym, ap, subst, ◌∙◌}
 use Rattle.std.specs.List.{list_all}
 use Rattle.rtx_tree.specs.declared.code.Code.{Code}
 use Rattle.rtx_tree.specs.declared.code.Code.TheVariants as code
@@ -11,26 +9,22 @@ use Rattle.rtx_tree.specs.declared.tree.Rtx.TheOpen.{Rtx-F}
 use Rattle.rtx_tree.specs.Tree.{node_of}
 use Rattle.lisp_read.specs.declared.head.Opening.{Opening}
 use Rattle.rtx_tree.specs.declared.class.Class.{Class}
-use Rattle.rtx_tree.specs.declared.class.Class.TheVariants as class
 use Rattle.lisp_read.specs.declared.position.Position.{Position}
-use Rattle.lisp_read.specs.declared.position.Position.TheVariants.{Value, Place, Source, Pc, Jump, Inner, Clobbered, Callee, Words, Test, Target}
 use Rattle.lisp_read.specs.declared.tree.Tree.{Tree}
 use Rattle.rtx_tree.specs.Code.{class_of_code}
-use Rattle.lisp_read.specs.Shape.{items_of, is_nested, is_word, is_text, atom_at, atom_of}
-use Rattle.lisp_read.specs.Parsed.{Parsed, stands, parsed_map, parsed_then}
-use Rattle.lisp_read.specs.Expression.{Meaning, meaning_of, class_of, placed, head_of, head_at, head_is, read_at, list_by, expression_by, exactly, at_least, lowpart_parts, comparison_parts, setting_parts, positions_of, is_class_number, is_class_counter, is_constant, is_counter, each_at}
+use Rattle.lisp_read.specs.Shape.{items_of, is_nested}
+use Rattle.lisp_read.specs.Parsed.{stands}
+use Rattle.lisp_read.specs.Expression.{meaning_of, class_of, placed, head_of, head_at, head_is, read_at, expression_by, each_at}
 use Rattle.lisp_read.proofs.Meanings.{read_at_out}
-use Rattle.tree_print.specs.Print.{nowhere}
 use Rattle.rtl_print.specs.Print.{head_text}
-use Rattle.rtl_print.proofs.Heads.{head_with}
 use Rattle.rtl_print.proofs.Induction.{EachAt}
 use Rattle.rtl_print.proofs.Modes.{placed_code}
-use Rattle.rtl_print.proofs.Numbers.{if_some, then_some}
-use Rattle.rtl_print.proofs.Opened.{Opened, opened, head_of_opened}
+use Rattle.rtl_print.proofs.Numbers.{then_some}
+use Rattle.rtl_print.proofs.Opened.{opened, head_of_opened}
 use Rattle.rtl_print.proofs.ReadCases.{Leaf, Reads, reads}
-use Rattle.rtl_print.proofs.Same.{Same, AllSame, as_atom}
+use Rattle.rtl_print.proofs.Same.{Same, AllSame}
 use Rattle.rtl_print.proofs.Words.{Back}
-use Rattle.rtl_print.proofs.Written.{atom, written, written_out, label_tree, parts_by}
+use Rattle.rtl_print.proofs.Written.{written, written_out, label_tree, parts_by}
 
 -- ---- the class of what is read is that of the head
 

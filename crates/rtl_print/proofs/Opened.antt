@@ -1,5 +1,5 @@
 -- A tree that is the same as one with a head: its parts, and how it is read.
-use Rattle.std.proofs.Common.{◌≡◌, ℕ, List, [], ◌∷◌, map, Bool, true, false, Option, Some, None, refl, sym, ap, ◌∙◌}
+use Rattle.std.proofs.Common.{◌≡◌, ℕ, List, [], ◌∷◌, map, true, false, Option, Some, ap, ◌∙◌}
 use Rattle.std.specs.Prelude.{option_and_then}
 use Rattle.rtx_tree.specs.declared.code.Code.{Code}
 use Rattle.rtx_tree.specs.declared.code.Mode.{Mode}
@@ -9,7 +9,7 @@ use Rattle.lisp_read.specs.declared.tree.Tree.{Tree, out-Tree}
 use Rattle.lisp_read.specs.declared.tree.Tree.TheOpen.{Tree-F}
 use Rattle.lisp_read.specs.Head.{head_in}
 use Rattle.lisp_read.specs.Shape.{items_at, items_of, atom_at, atom_of, is_nested_at, is_nested, is_vector_at, is_vector}
-use Rattle.lisp_read.specs.Expression.{Meaning, meaning_of, head_of_items, head_of, placed, head_at, class_of, read_at, list_by, expression_by}
+use Rattle.lisp_read.specs.Expression.{meaning_of, head_of_items, head_of, placed, class_of, read_at, list_by, expression_by}
 use Rattle.lisp_read.proofs.Meanings.{read_at_out}
 use Rattle.tree_print.specs.Print.{nowhere}
 use Rattle.rtl_print.specs.Print.{head_text}

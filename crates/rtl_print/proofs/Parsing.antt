@@ -1,5 +1,5 @@
 -- What is read of parts, where the whole stands for something.
-use Rattle.std.proofs.Common.{◌≡◌, Option, Some, None, Bool, true, false, cond, List, [], ◌∷◌, refl}
+use Rattle.std.proofs.Common.{◌≡◌, Option, Some, None, Bool, true, false, cond, refl}
 use Rattle.lisp_read.specs.declared.tree.Tree.{Tree}
 use Rattle.lisp_read.specs.Parsed.{Parsed, stands, construct, outside, or_outside, parsed_map, parsed_then}
 

@@ -1,5 +1,5 @@
 -- How many lists and vectors are open within the parts of trees that stand one behind the other: as many as the deepest goes deep.
-use Rattle.std.proofs.Common.{◌≡◌, ◌≤◌, ℕ, suc, ◌+◌, max, List, [], ◌∷◌, ◌++◌, map, Some, refl, sym, ap, subst, ◌∙◌, append_assoc, arith}
+use Rattle.std.proofs.Common.{◌≡◌, ◌≤◌, ℕ, suc, ◌+◌, max, List, [], ◌∷◌, ◌++◌, map, refl, sym, ap, subst, ◌∙◌, append_assoc, arith}
 use Rattle.std.specs.List.{AllByRecursion}
 use Rattle.std.proofs.lemmas.List.{append-nil}
 use Rattle.std.proofs.lemmas.List.Concat.{flat_map-cons}
@@ -12,7 +12,7 @@ use Rattle.lisp_read.specs.Nesting.{still_open}
 use Rattle.lisp_read.specs.Part.{Part, Atom, Str, Block, Open, Close, parts_of, parts_of_all}
 use Rattle.lisp_read.proofs.Decodes.{nested}
 use Rattle.lisp_read.proofs.PartLemmas.{parts_of-Atom, parts_of-Str, parts_of-Block}
-use Rattle.lisp_read.proofs.TreeInduction.{Steps, induction, each}
+use Rattle.lisp_read.proofs.TreeInduction.{Steps, each}
 use Rattle.tree_print.specs.Print.{depth_of, greatest}
 use Rattle.tree_print.proofs.Nested.{parts_of_nested}
 use Rattle.tree_print.proofs.Peaks.{balanced, closings, Below}

@@ -1,5 +1,5 @@
 -- Pieces of a text: which parts they spell, wherever they stand, and what may stand before them.
-use Rattle.std.proofs.Common.{◌≡◌, ℕ, Bool, true, false, List, [], ◌∷◌, ◌++◌, map, refl, sym, ap, subst, ◌∙◌, append_assoc}
+use Rattle.std.proofs.Common.{◌≡◌, ℕ, true, false, List, [], ◌∷◌, ◌++◌, map, refl, sym, ap, subst, ◌∙◌, append_assoc}
 use Rattle.std.proofs.lemmas.List.{map-append, append-nil}
 use Rattle.std.proofs.lemmas.List.Concat.{flat_map-cons}
 use Rattle.rtx_tree.specs.declared.place.Place.{Place}
@@ -13,7 +13,7 @@ use Rattle.lisp_read.specs.Places.{advance, place_after}
 use Rattle.lisp_read.specs.Text as text
 use Rattle.lisp_read.specs.Text.{Spells, EndsAtom}
 use Rattle.lisp_read.proofs.Runs.{place_after-append}
-use Rattle.tree_print.specs.Print.{nowhere, AreAdmitted, printed_tree}
+use Rattle.tree_print.specs.Print.{nowhere, AreAdmitted}
 use Rattle.tree_print.proofs.Nested.{parts_of_nested}
 use Rattle.tree_print.proofs.Printed.{printed_atom, printed_string}
 use Rattle.tree_print.proofs.SpellsPrinted.{SpelledAs, SpellsAs, spells_printed}

@@ -1,15 +1,14 @@
 -- A text that spells the parts of trees is read as these, places aside.
-use Rattle.std.proofs.Common.{◌≡◌, ◌≤◌, ℕ, List, [], ◌∷◌, ◌++◌, length, map, take, drop, Option, Some, None, refl, sym, ap, subst, ◌∙◌}
+use Rattle.std.proofs.Common.{◌≡◌, ◌≤◌, ℕ, List, [], ◌∷◌, ◌++◌, length, map, take, drop, Option, Some, refl, sym, ap, subst, ◌∙◌}
 use Rattle.std.proofs.lemmas.List.{append-nil, take-append-drop}
-use Rattle.rtx_tree.specs.declared.place.Place.{Place}
 use Rattle.lisp_read.specs.declared.class.Bracket.{Bracket}
 use Rattle.lisp_read.specs.declared.tree.Tree.{Tree}
 use Rattle.lisp_read.specs.Places.{start, place_after}
-use Rattle.lisp_read.specs.Part.{Part, Atom, Str, Block, Open, Close, parts_of, parts_of_all}
-use Rattle.lisp_read.specs.Nesting.{still_open, IsNested}
+use Rattle.lisp_read.specs.Part.{Part, Atom, Str, Block, Open, Close, parts_of_all}
+use Rattle.lisp_read.specs.Nesting.{still_open}
 use Rattle.lisp_read.specs.Text as text
 use Rattle.lisp_read.specs.Text.{Spells, IsText}
-use Rattle.lisp_read.specs.Reading.{most_open, NeverTooDeep, ReadsAs, Trees}
+use Rattle.lisp_read.specs.Reading.{most_open, ReadsAs, Trees}
 use Rattle.lisp_read.specs.machine.Steps.{State}
 use Rattle.lisp_read.specs.machine.Runs.{empty, run, finish, parts_in, ◌>>=◌, IsShallow, Reaches}
 use Rattle.lisp_read.proofs.Runs.{run-append}
@@ -19,7 +18,7 @@ use Rattle.lisp_read.proofs.Sound.{sound}
 use Rattle.lisp_read.proofs.Accepts.{accepts_text}
 use Rattle.lisp_read.proofs.Builds.{trees_of}
 use Rattle.lisp_read.proofs.Depths.{never_where_read}
-use Rattle.tree_print.specs.Print.{AreAdmitted, unplaced}
+use Rattle.tree_print.specs.Print.{AreAdmitted}
 use Rattle.tree_print.proofs.Unplaced.{bare, same_unplaced}
 use Rattle.tree_print.proofs.Peaks.{closings, open_is_closed, Below, below_suffix}
 use Rattle.tree_print.proofs.SpellsPrinted.{SpelledAs, SpellsAs}

@@ -1,6 +1,6 @@
 -- What an expression is that a tree with a head stands for: one case for each class of codes that is read in its own way.
-use Rattle.std.proofs.Common.{◌≡◌, ◌<◌, ℕ, ℤ, pos, List, [], ◌∷◌, map, drop, Bool, true, false, Option, Some, None, cond, refl, sym, ap, ◌∙◌}
-use Rattle.std.specs.Prelude.{option_map, option_and_then, if◌then◌else◌}
+use Rattle.std.proofs.Common.{◌≡◌, ◌<◌, ℕ, ℤ, List, [], ◌∷◌, map, drop, true, Option, Some, None, refl, sym, ap, ◌∙◌}
+use Rattle.std.specs.Prelude.{option_map, option_and_then}
 use Rattle.rtx_tree.specs.declared.code.Code.TheVariants.{SymbolRef, Parallel}
 use Rattle.rtx_tree.specs.declared.code.Mode.{Mode}
 use Rattle.rtx_tree.specs.declared.code.Mode.TheVariants.{Void}
@@ -13,10 +13,10 @@ use Rattle.rtx_tree.specs.declared.class.Class.{Class}
 use Rattle.rtx_tree.specs.declared.class.Class.TheVariants as class
 use Rattle.lisp_read.specs.declared.position.Position.{Position}
 use Rattle.lisp_read.specs.declared.tree.Tree.{Tree}
-use Rattle.lisp_read.specs.Leaf.{allowed, register_in, register_at, uid_in, word_at, word_with, symbol_with, symbol_at, quoted_name, symbol_of, unstarred}
+use Rattle.lisp_read.specs.Leaf.{allowed, register_in, uid_in, word_at, word_with, symbol_with, symbol_at, quoted_name, symbol_of, unstarred}
 use Rattle.lisp_read.specs.Positions.{admits_register}
 use Rattle.lisp_read.specs.Shape.{atom_of, string_of, items_of, is_nested}
-use Rattle.lisp_read.specs.Parsed.{Parsed, stands, outside, parsed_map}
+use Rattle.lisp_read.specs.Parsed.{stands, parsed_map}
 use Rattle.lisp_read.specs.Expression.{Meaning, meaning_of, elements_of, class_of, list_by, node_by, parallel_by, each_at, parts_of_class}
 use Rattle.rtl_print.proofs.Numbers.{if_some, map_some, then_some, number_fits, uid_less}
 use Rattle.rtl_print.proofs.Registers.{IsRegister, register_is}

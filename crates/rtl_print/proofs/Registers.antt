@@ -1,11 +1,11 @@
 -- A register is read back from its text.
-use Rattle.std.proofs.Common.{◌≡◌, ◌<◌, ◌≤◌, ◌+◌, ◌-◌, ◌⊎◌, inl, inr, ℕ, zero, suc, pos, Bool, true, false, ◌&&◌, ◌==◌, cond, List, [], ◌∷◌, ◌++◌, Option, Some, None, length, take, get_or, refl, sym, ap, subst, ◌∙◌, bytes_eq, codes, arith}
+use Rattle.std.proofs.Common.{◌≡◌, ◌<◌, ◌≤◌, ◌+◌, ◌-◌, ◌⊎◌, inl, inr, ℕ, zero, suc, pos, Bool, true, false, ◌&&◌, List, [], ◌∷◌, ◌++◌, Option, Some, None, length, take, get_or, refl, sym, ap, subst, ◌∙◌, bytes_eq, codes, arith}
 use Rattle.std.proofs.lemmas.Bool.Decides.{nat_tests}
-use Rattle.std.specs.Prelude.{nat_lt, nat_eq, option_map, option_and_then, slice_index, drop, if◌then◌else◌}
+use Rattle.std.specs.Prelude.{nat_lt, nat_eq, option_map, option_and_then}
 use Rattle.std.specs.Option.{option_or}
 use Rattle.std.specs.List.{position_or_len}
 use Rattle.std.specs.Fmt.{decimal}
-use Rattle.rtx_tree.specs.Registers.{reg_text, reg_names, number_of_reg, pseudo}
+use Rattle.rtx_tree.specs.Registers.{reg_names, number_of_reg, pseudo}
 use Rattle.text_words.specs.Words.{fits_i64, number_in}
 use Rattle.lisp_read.specs.Leaf.{below, angled_in, pseudo_in, stack_vars_in, hard_in, register_in}
 use Rattle.rtl_print.specs.Print.{printed_reg_at}

@@ -1,6 +1,6 @@
 -- The result of a function is read back.
-use Rattle.std.proofs.Common.{◌≡◌, ◌≤◌, ◌<◌, ℕ, suc, pos, List, [], ◌∷◌, Bool, true, false, ◌&&◌, Option, Some, None, cond, codes, refl, sym, ap, subst, ◌∙◌, arith}
-use Rattle.std.specs.Prelude.{option_map, option_and_then, if◌then◌else◌}
+use Rattle.std.proofs.Common.{◌≡◌, ◌≤◌, ℕ, suc, pos, List, [], ◌∷◌, Bool, true, false, ◌&&◌, Option, Some, None, cond, codes, refl, sym, ap, subst, ◌∙◌, arith}
+use Rattle.std.specs.Prelude.{option_map, option_and_then}
 use Rattle.rtx_tree.specs.declared.code.Code.{Code}
 use Rattle.rtx_tree.specs.declared.code.Code.TheVariants as code
 use Rattle.rtx_tree.specs.declared.code.Mode.{Mode}
@@ -11,7 +11,7 @@ use Rattle.lisp_read.specs.declared.position.Position.TheVariants.{Top}
 use Rattle.lisp_read.specs.declared.tree.Tree.{Tree}
 use Rattle.lisp_read.specs.Expression.{rtx_in}
 use Rattle.lisp_read.specs.Leaf.{below}
-use Rattle.lisp_read.specs.Parsed.{Parsed, stands, outside, or_outside}
+use Rattle.lisp_read.specs.Parsed.{Parsed, stands, or_outside}
 use Rattle.lisp_read.specs.Shape.{items_of, is_nested, is_text, is_word}
 use Rattle.rtl_read.specs.declared.parts.Returned.{Returned}
 use Rattle.rtl_read.specs.Function.{returned_in, returned_register, returned_of, result_of, sole_part, return_by, return_of, crtl_by, crtl_of}
@@ -22,11 +22,11 @@ use Rattle.rtl_print.proofs.Back.{back}
 use Rattle.rtl_print.proofs.FunctionTree.{result_tree}
 use Rattle.rtl_print.proofs.Good.{Fits, fits_more, list_fits, word_fits, rtx_fits, first_deep, rest_deep}
 use Rattle.rtl_print.proofs.Nodes.{nested_written}
-use Rattle.rtl_print.proofs.Numbers.{if_some, and_true, map_some, then_some, below_less}
+use Rattle.rtl_print.proofs.Numbers.{if_some, map_some, then_some, below_less}
 use Rattle.rtl_print.proofs.Opened.{Opened, opened}
 use Rattle.rtl_print.proofs.Parsing.{or_stands}
 use Rattle.rtl_print.proofs.Same.{Same, AllSame}
-use Rattle.rtl_print.proofs.Shallow.{deepest, items_depth}
+use Rattle.rtl_print.proofs.Shallow.{items_depth}
 use Rattle.rtl_print.proofs.Shapes.{code_of, IsReg, shape_of}
 use Rattle.rtl_print.proofs.UsesBack.{if_stood}
 use Rattle.rtl_print.proofs.Words.{Back}

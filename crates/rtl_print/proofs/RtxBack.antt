@@ -1,5 +1,5 @@
 -- An expression that a tree of a text stands for is read back from its text.
-use Rattle.std.proofs.Common.{◌≡◌, ◌≤◌, max, ℕ, List, [], ◌∷◌, ◌++◌, refl, sym, ap, subst, ◌∙◌, arith}
+use Rattle.std.proofs.Common.{◌≡◌, ◌≤◌, max, ℕ, List, [], ◌∷◌, sym, subst, ◌∙◌, arith}
 use Rattle.std.proofs.lemmas.List.{append-nil}
 use Rattle.std.proofs.lemmas.List.Concat.{flat_map-cons}
 use Rattle.rtx_tree.specs.declared.tree.Rtx.{Rtx}
@@ -7,15 +7,15 @@ use Rattle.lisp_read.specs.declared.position.Position.{Position}
 use Rattle.lisp_read.specs.declared.tree.Tree.{Tree}
 use Rattle.lisp_read.specs.Part.{Part, parts_of, parts_of_all}
 use Rattle.lisp_read.specs.Reading.{ReadsAs, Trees, most_open}
-use Rattle.tree_print.specs.Print.{AreAdmitted, depth_of}
+use Rattle.tree_print.specs.Print.{depth_of}
 use Rattle.tree_print.proofs.SpellsPrinted.{SpellsAs, spells_printed}
 use Rattle.rtl_print.specs.Back.{IsReadableAt, ReadsBackAt}
 use Rattle.rtl_print.specs.Print.{printed}
-use Rattle.rtl_print.proofs.Admitted.{Admitted, admitted, all_admitted}
+use Rattle.rtl_print.proofs.Admitted.{admitted, all_admitted}
 use Rattle.rtl_print.proofs.Back.{back}
 use Rattle.rtl_print.proofs.ReadBack.{IsRead, is_read}
-use Rattle.rtl_print.proofs.Same.{Same, AllSame}
-use Rattle.rtl_print.proofs.Shallow.{deepest, shallow}
+use Rattle.rtl_print.proofs.Same.{AllSame}
+use Rattle.rtl_print.proofs.Shallow.{shallow}
 use Rattle.rtl_print.proofs.TreeText.{text_is}
 use Rattle.rtl_print.proofs.Words.{Back}
 use Rattle.rtl_print.proofs.Written.{written}

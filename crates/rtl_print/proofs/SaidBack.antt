@@ -1,11 +1,9 @@
 -- What the items of a function say is read back.
-use Rattle.std.proofs.Common.{◌≡◌, ◌≤◌, ◌<◌, ◌-◌, ℕ, suc, List, [], ◌∷◌, ◌++◌, Bool, true, false, Option, Some, None, cond, codes, refl, sym, ap, subst, ◌∙◌, arith}
-use Rattle.std.specs.Prelude.{option_and_then, if◌then◌else◌}
+use Rattle.std.proofs.Common.{◌≡◌, ◌≤◌, ◌<◌, ◌-◌, ℕ, List, [], ◌∷◌, Bool, true, false, Option, Some, None, cond, codes, subst, arith}
 use Rattle.std.specs.Option.{option_or}
-use Rattle.rtx_tree.specs.declared.function.Insn.{Insn}
 use Rattle.lisp_read.specs.declared.tree.Tree.{Tree}
 use Rattle.lisp_read.specs.Leaf.{uid_in}
-use Rattle.lisp_read.specs.Parsed.{Parsed, stands, outside, or_outside, parsed_map, parsed_then}
+use Rattle.lisp_read.specs.Parsed.{Parsed, stands, outside, parsed_map}
 use Rattle.lisp_read.specs.Shape.{atom_of, items_of, is_vector, is_word}
 use Rattle.rtl_read.specs.declared.parts.Returned.{Returned}
 use Rattle.rtl_read.specs.declared.parts.Said.{Said}
@@ -18,8 +16,8 @@ use Rattle.rtl_print.proofs.EntriesRead.{AllBack, all_more}
 use Rattle.rtl_print.proofs.FunctionTree.{result_tree}
 use Rattle.rtl_print.proofs.Good.{fits_more, first_deep, rest_deep}
 use Rattle.rtl_print.proofs.Numbers.{then_some, uid_less}
-use Rattle.rtl_print.proofs.Parsing.{map_stands, or_stands, pair_stands, tested}
-use Rattle.rtl_print.proofs.ResultBack.{ReturnBack, IfReturned, crtl_back}
+use Rattle.rtl_print.proofs.Parsing.{map_stands, or_stands, pair_stands}
+use Rattle.rtl_print.proofs.ResultBack.{IfReturned, crtl_back}
 use Rattle.rtl_print.proofs.Shallow.{deepest}
 
 pub record SaidBack (most : ℕ) (s : Said) : Type 0 where

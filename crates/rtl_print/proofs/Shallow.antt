@@ -1,8 +1,7 @@
 -- An expression's text goes no deeper than the tree that stands for it.
-use Rattle.std.proofs.Common.{◌≡◌, ◌≤◌, ℕ, suc, max, pos, List, [], ◌∷◌, ◌++◌, map, Bool, true, false, Option, Some, None, codes, refl, sym, ap, subst, ◌∙◌, arith}
+use Rattle.std.proofs.Common.{◌≡◌, ◌≤◌, ℕ, suc, max, pos, List, [], ◌∷◌, ◌++◌, map, true, Some, codes, refl, sym, ap, subst, ◌∙◌, arith}
 use Rattle.rtx_tree.specs.declared.code.Code.TheVariants as code
 use Rattle.rtx_tree.specs.declared.code.Mode.TheVariants as mode
-use Rattle.rtx_tree.specs.declared.place.Place.{Place}
 use Rattle.rtx_tree.specs.declared.tree.Rtx.{Rtx}
 use Rattle.rtx_tree.specs.Tree.{node_of}
 use Rattle.lisp_read.specs.declared.class.Bracket.TheVariants.{Round, Square}

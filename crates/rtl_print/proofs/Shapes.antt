@@ -1,6 +1,5 @@
 -- What an expression is that begins as a register, as a use, or as a `parallel`.
-use Rattle.std.proofs.Common.{◌≡◌, ◌==◌, ◌+◌, ℕ, pos, List, [], ◌∷◌, length, Bool, true, false, Option, Some, None, cond, refl, sym, ap, subst, ◌∙◌}
-use Rattle.std.specs.Prelude.{if◌then◌else◌}
+use Rattle.std.proofs.Common.{◌≡◌, ◌==◌, ◌+◌, ℕ, List, [], ◌∷◌, length, true, Some, None, refl, sym, ap, subst, ◌∙◌}
 use Rattle.rtx_tree.specs.declared.code.Code.{Code}
 use Rattle.rtx_tree.specs.declared.code.Code.TheVariants as code
 use Rattle.rtx_tree.specs.declared.code.Mode.{Mode}
@@ -9,12 +8,11 @@ use Rattle.rtx_tree.specs.declared.tree.Rtx.{Rtx, out-Rtx, out-roll-Rtx}
 use Rattle.rtx_tree.specs.declared.tree.Rtx.TheOpen.{Rtx-F}
 use Rattle.rtx_tree.specs.Tree.{node_of, reg_of}
 use Rattle.lisp_read.specs.declared.head.Opening.{Opening}
-use Rattle.rtx_tree.specs.declared.class.Class.TheVariants as class
 use Rattle.lisp_read.specs.declared.position.Position.{Position}
 use Rattle.lisp_read.specs.declared.position.Position.TheVariants.{Value, Pattern}
 use Rattle.lisp_read.specs.declared.tree.Tree.{Tree}
 use Rattle.rtx_tree.specs.Code.{class_of_code}
-use Rattle.lisp_read.specs.Expression.{class_of, read_at, exactly, positions_of, parts_of_class}
+use Rattle.lisp_read.specs.Expression.{class_of, read_at, exactly, positions_of}
 use Rattle.lisp_read.specs.Parsed.{stands, each_parsed}
 use Rattle.lisp_read.specs.Shape.{items_of, vector_of, is_vector}
 use Rattle.rtl_print.proofs.Induction.{Holds, EachAt, Elements, holds_of_each}
@@ -22,7 +20,6 @@ use Rattle.rtl_print.proofs.Modes.{Placed, placed_bare}
 use Rattle.rtl_print.proofs.Numbers.{if_some}
 use Rattle.rtl_print.proofs.Positions.{parts_positions}
 use Rattle.rtl_print.proofs.ReadCases.{Leaf}
-use Rattle.rtl_print.proofs.Registers.{IsRegister}
 
 abbrev pub code_of : Rtx → Code
 code_of x = (out-Rtx x).code

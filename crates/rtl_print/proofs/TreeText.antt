@@ -13,7 +13,7 @@ use Rattle.lisp_read.specs.declared.tree.Tree.{Tree}
 use Rattle.rtx_tree.specs.Code.{class_of_code}
 use Rattle.tree_print.specs.Print.{nowhere, printed_tree, spaced_tree}
 use Rattle.tree_print.proofs.Printed.{printed_atom, printed_string, printed_list, printed_vector}
-use Rattle.rtl_print.specs.Print.{head_text, printed, printed_reg, starred, printed_body, spaced, spaced_text, spaced_number, body_of, text_of}
+use Rattle.rtl_print.specs.Print.{head_text, printed, printed_reg, starred, printed_body, spaced_text, spaced_number}
 use Rattle.rtl_print.proofs.Texts.{printed_out}
 use Rattle.rtl_print.proofs.Written.{atom, string, list, vector, written, written_out, label_tree, parts_by}
 

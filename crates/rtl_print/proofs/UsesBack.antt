@@ -1,6 +1,6 @@
 -- The uses of a call are read back from the chain that is printed of them.
-use Rattle.std.proofs.Common.{◌≡◌, ◌≤◌, ◌<◌, ◌-◌, ℕ, suc, ℤ, pos, List, [], ◌∷◌, map, length, Bool, true, false, ◌&&◌, Option, Some, None, cond, codes, refl, sym, ap, subst, ◌∙◌, arith}
-use Rattle.std.specs.Prelude.{slice_get, option_map, option_and_then, if◌then◌else◌}
+use Rattle.std.proofs.Common.{◌≡◌, ◌≤◌, ◌-◌, ℕ, suc, pos, List, [], ◌∷◌, map, length, Bool, true, false, Option, Some, None, cond, codes, refl, sym, ap, subst, ◌∙◌, arith}
+use Rattle.std.specs.Prelude.{slice_get, option_and_then}
 use Rattle.std.specs.List.{AllByRecursion}
 use Rattle.rtx_tree.specs.declared.code.Code.{Code}
 use Rattle.rtx_tree.specs.declared.code.Code.TheVariants as code
@@ -12,26 +12,26 @@ use Rattle.rtx_tree.specs.declared.tree.Rtx.TheOpen.{Rtx-F}
 use Rattle.rtx_tree.specs.Tree.{node_of, reg_of}
 use Rattle.lisp_read.specs.declared.position.Position.TheVariants.{Top}
 use Rattle.lisp_read.specs.declared.tree.Tree.{Tree}
-use Rattle.lisp_read.specs.Expression.{read_at, rtx_in}
+use Rattle.lisp_read.specs.Expression.{rtx_in}
 use Rattle.lisp_read.specs.Leaf.{below}
-use Rattle.lisp_read.specs.Parsed.{Parsed, stands, construct, outside, or_outside, parsed_map, parsed_then}
-use Rattle.lisp_read.specs.Shape.{items_of, atom_of, is_nested}
+use Rattle.lisp_read.specs.Parsed.{Parsed, stands, construct, outside, or_outside}
+use Rattle.lisp_read.specs.Shape.{items_of, atom_of}
 use Rattle.tree_print.specs.Print.{depth_of}
 use Rattle.rtl_read.specs.Call.{arg_use, use_by_code, use_of_register, use_by, use_in, use_of, is_link, is_link_head, is_whole_link, link_by, end_of, uses_by, uses_in, uses_told, uses_of}
 use Rattle.rtl_read.specs.Word.{if_stands, expression_of, is_alone}
 use Rattle.rtl_read.proofs.Uses.{uses_out}
 use Rattle.rtl_print.proofs.Back.{back}
 use Rattle.rtl_print.proofs.FunctionTree.{use_rtx, uses_tree}
-use Rattle.rtl_print.proofs.Good.{Fits, AllFit, fits_more, list_fits, word_fits, rtx_fits, first_deep, rest_deep, got_deep, by_items, word_is}
+use Rattle.rtl_print.proofs.Good.{Fits, fits_more, list_fits, word_fits, rtx_fits, first_deep, rest_deep, got_deep, by_items, word_is}
 use Rattle.rtl_print.proofs.Nodes.{nested_written}
 use Rattle.rtl_print.proofs.Numbers.{map_some, then_some, below_less}
 use Rattle.rtl_print.proofs.Opened.{Opened, opened}
-use Rattle.rtl_print.proofs.Parsing.{or_stands, pair_stands, tested}
+use Rattle.rtl_print.proofs.Parsing.{or_stands, pair_stands}
 use Rattle.rtl_print.proofs.Same.{Same, AllSame}
-use Rattle.rtl_print.proofs.Shallow.{deepest, items_depth, nested_depth}
-use Rattle.rtl_print.proofs.Shapes.{code_of, IsReg, IsUse, Shape, shape_of}
+use Rattle.rtl_print.proofs.Shallow.{deepest, items_depth}
+use Rattle.rtl_print.proofs.Shapes.{code_of, IsReg, IsUse, shape_of}
 use Rattle.rtl_print.proofs.Words.{Back}
-use Rattle.rtl_print.proofs.Written.{atom, list, written}
+use Rattle.rtl_print.proofs.Written.{atom, written}
 
 -- ---- one use
 

@@ -1,25 +1,25 @@
 -- Registers, constants, labels and symbols are read back.
-use Rattle.std.proofs.Common.{◌≡◌, ◌<◌, ℕ, ℤ, pos, List, [], ◌∷◌, map, Bool, true, false, ◌==◌, Option, Some, None, cond, refl, sym, ap, subst, ◌∙◌}
-use Rattle.std.specs.Prelude.{option_map, option_and_then, if◌then◌else◌}
+use Rattle.std.proofs.Common.{◌≡◌, ℕ, pos, List, [], ◌∷◌, map, Bool, true, false, ◌==◌, Option, Some, cond, refl, sym, ap, subst, ◌∙◌}
+use Rattle.std.specs.Prelude.{option_map, option_and_then}
 use Rattle.std.specs.Fmt.{decimal, signed_decimal}
 use Rattle.rtx_tree.specs.declared.code.Code.{Code}
 use Rattle.rtx_tree.specs.declared.code.Code.TheVariants as code
 use Rattle.rtx_tree.specs.declared.code.Mode.{Mode}
 use Rattle.rtx_tree.specs.declared.code.Mode.TheVariants as mode
-use Rattle.rtx_tree.specs.declared.tree.Rtx.{Rtx, out-Rtx, out-roll-Rtx}
+use Rattle.rtx_tree.specs.declared.tree.Rtx.{Rtx, out-roll-Rtx}
 use Rattle.rtx_tree.specs.declared.tree.Rtx.TheOpen.{Rtx-F}
 use Rattle.rtx_tree.specs.Tree.{reg_of, const_of, named_of}
 use Rattle.rtx_tree.specs.Patterns.{label_rtx}
-use Rattle.text_words.specs.Words.{fits_i64, is_symbol}
+use Rattle.text_words.specs.Words.{is_symbol}
 use Rattle.lisp_read.specs.declared.head.Opening.{Opening}
 use Rattle.rtx_tree.specs.declared.class.Class.{Class}
 use Rattle.rtx_tree.specs.declared.class.Class.TheVariants as class
 use Rattle.lisp_read.specs.declared.position.Position.{Position}
 use Rattle.lisp_read.specs.declared.tree.Tree.{Tree}
 use Rattle.rtx_tree.specs.Code.{class_of_code}
-use Rattle.lisp_read.specs.Leaf.{allowed, word_at, word_with, symbol_with, symbol_at, quoted_name, symbol_of, unstarred}
-use Rattle.lisp_read.specs.Shape.{atom_at, atom_of, items_at, items_of, string_at, string_of, is_nested_at, is_nested}
-use Rattle.lisp_read.specs.Parsed.{Parsed, stands, or_outside}
+use Rattle.lisp_read.specs.Leaf.{allowed, word_at, word_with, symbol_with, quoted_name, symbol_of, unstarred}
+use Rattle.lisp_read.specs.Shape.{atom_at, items_at, items_of, string_at, is_nested_at, is_nested}
+use Rattle.lisp_read.specs.Parsed.{stands, or_outside}
 use Rattle.lisp_read.specs.Expression.{Meaning, meaning_of, class_of, placed, read_at, list_by}
 use Rattle.tree_print.specs.Print.{nowhere}
 use Rattle.rtl_print.specs.Print.{head_text, printed_reg_at, starred}
@@ -30,7 +30,7 @@ use Rattle.rtl_print.proofs.Opened.{Opened, opened, read_opened}
 use Rattle.rtl_print.proofs.ReadCases.{Leaf}
 use Rattle.rtl_print.proofs.Registers.{register_again}
 use Rattle.rtl_print.proofs.Same.{Same, AllSame, IsList, IsStr, as_list, as_atom, as_string}
-use Rattle.rtl_print.proofs.Written.{atom, list, string, written, written_of, label_tree}
+use Rattle.rtl_print.proofs.Written.{atom, list, string, written, written_of}
 
 -- the tree that the expression's text writes, at any places, is read as the expression
 unfoldable pub Back : Position → Rtx → Type 0

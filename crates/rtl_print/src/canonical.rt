@@ -1,23 +1,13 @@
 //! Prints functions in canonical text.
 ghost use Rattle.std.specs.Prelude.{◌≡◌, ◌++◌, List, OnErr, OnOk, flat_map, codes};
-ghost use Rattle.std.specs.Fmt.{decimal};
 ghost use Rattle.rtx_tree.specs.declared.function.Function.{Function};
 ghost use Rattle.rtl_print.specs.Back.{IsReadable, AreReadable, ReadsBack, AllReadBack};
 ghost use Rattle.rtl_print.specs.Canonical as spec;
 
 use crate::print::{print, print_head, print_reg_at};
-use itoa::Buffer;
 use plain_data::Memory;
 use rtx_tree::{ArgUse, Code, Function, Insn, Kind, Mode};
-
-/// Prints a number of 32 bits.
-fn print_small(number: u32, out: &mut Vec<u8>) -> Result<(), Memory>
-    ensures { OnOk result (out.new.items ≡ out.old.items ++ decimal number) }
-{
-    let mut buffer = Buffer::new();
-    out.extend_from_slice(buffer.format(number).as_bytes())?;
-    Ok(())
-}
+use text_words::print_count;
 
 /// Prints a text between two others.
 fn print_between(front: &[u8], text: &[u8], back: &[u8], out: &mut Vec<u8>) -> Result<(), Memory>
@@ -87,7 +77,7 @@ fn print_numbered(word: &[u8], insn: &Insn, out: &mut Vec<u8>) -> Result<(), Mem
 {
     out.extend_from_slice(word)?;
     out.push(b' ')?;
-    print_small(insn.uid, out)
+    print_count(u64::from(insn.uid), out)
 }
 
 /// Prints a word, the number of an instruction and what it does.
@@ -146,7 +136,7 @@ fn print_locals(locals: u32, out: &mut Vec<u8>) -> Result<(), Memory>
     ensures { OnOk result (out.new.items ≡ out.old.items ++ spec.printed_locals locals) }
 {
     out.extend_from_slice(b"  (locals ")?;
-    print_small(locals, out)?;
+    print_count(u64::from(locals), out)?;
     out.extend_from_slice(b")\n")?;
     Ok(())
 }

@@ -9,4 +9,4 @@ mod canonical;
 mod print;
 
 pub use canonical::print_function;
-pub use print::{print_number, print_reg, print_rtx};
+pub use print::{print_reg, print_rtx};

@@ -1,23 +1,14 @@
 //! Prints expressions on one line.
 ghost use Rattle.std.specs.Prelude.{◌≡◌, ◌++◌, ◌∷◌, [], OnErr, OnOk, flat_map, codes};
-ghost use Rattle.std.specs.Fmt.{decimal, signed_decimal};
+ghost use Rattle.std.specs.Fmt.{decimal};
 ghost use Rattle.lisp_read.specs.declared.position.Position.{Position};
 ghost use Rattle.rtl_print.specs.Print.{head_text, mode_suffix};
 ghost use Rattle.rtl_print.specs.Back.{IsReadableAt, ReadsBackAt};
 ghost use Rattle.rtl_print.specs.Print as spec;
 
-use itoa::Buffer;
 use plain_data::Memory;
 use rtx_tree::{Class, Code, Mode, Rtx, reg_name};
-
-/// Appends a number in decimal.
-pub fn print_number(number: i64, out: &mut Vec<u8>) -> Result<(), Memory>
-    ensures { OnOk result (out.new.items ≡ out.old.items ++ signed_decimal number) }
-{
-    let mut buffer = Buffer::new();
-    out.extend_from_slice(buffer.format(number).as_bytes())?;
-    Ok(())
-}
+use text_words::{print_count, print_number};
 
 fn print_mode(mode: Mode, out: &mut Vec<u8>) -> Result<(), Memory>
     ensures { OnOk result (out.new.items ≡ out.old.items ++ mode_suffix mode) }
@@ -42,9 +33,8 @@ pub(crate) fn print_head(code: Code, mode: Mode, out: &mut Vec<u8>) -> Result<()
 fn print_pseudo(pseudo: u64, out: &mut Vec<u8>) -> Result<(), Memory>
     ensures { OnOk result (out.new.items ≡ out.old.items ++ (codes "<" ++ (decimal pseudo ++ codes ">"))) }
 {
-    let mut buffer = Buffer::new();
     out.push(b'<')?;
-    out.extend_from_slice(buffer.format(pseudo).as_bytes())?;
+    print_count(pseudo, out)?;
     out.push(b'>')?;
     Ok(())
 }

@@ -20,17 +20,17 @@ use Rattle.recog_text.proofs.One.{functions_one}
 use Rattle.dump_text.specs.Dump as dump
 use Rattle.dump_text.proofs.One as dump_one
 use Rattle.pass_name.specs.declared.pass.Pass.{Pass}
-use Rattle.asm_text.specs.declared.assembly.Assembly.{Assembly}
-use Rattle.asm_text.specs.declared.code.Coded.{Coded}
-use Rattle.asm_text.specs.Assembly as assembly
-use Rattle.asm_text.specs.Assembly.{AssemblyComes}
-use Rattle.asm_text.specs.Compile.{TextComes, text_told}
-use Rattle.asm_text.specs.Code.{CodeComes, IsCoded}
-use Rattle.asm_text.proofs.OneAssembly.{one_coming_of}
-use Rattle.asm_text.proofs.Laws.{is_assembly}
-use Rattle.func_after.specs.Leads.{IsDescribed}
+use Rattle.asm_same.specs.asm_text.declared.assembly.Assembly.{Assembly}
+use Rattle.asm_same.specs.asm_text.declared.code.Coded.{Coded}
+use Rattle.asm_same.specs.asm_text.Assembly as assembly
+use Rattle.asm_same.specs.asm_text.Assembly.{AssemblyComes}
+use Rattle.asm_same.specs.asm_text.Compile.{TextComes, text_told}
+use Rattle.asm_same.specs.asm_text.Code.{CodeComes, IsCoded}
+use Rattle.asm_same.proofs.asm_text.OneAssembly.{one_coming_of}
+use Rattle.asm_same.proofs.asm_text.Laws.{is_assembly}
+use Rattle.dump_text.specs.func_after.Leads.{IsDescribed}
 use Rattle.asm_same.proofs.Same.{input_does_same, coded_is_same}
-use Rattle.asm_text.proofs.CodeLaws.{one_code, code_coded}
+use Rattle.asm_same.proofs.asm_text.CodeLaws.{one_code, code_coded}
 use Rattle.code_eval.specs.Start.{stack_room}
 use Rattle.code_eval.specs.Eval.{eval_text, IsFair, ComesToSame}
 use Rattle.code_eval.proofs.Lawful.{agree}

@@ -13,10 +13,10 @@ use Rattle.recog_text.proofs.One.{functions_one}
 use Rattle.dump_text.specs.Dump as dump
 use Rattle.dump_text.proofs.One as dump_one
 use Rattle.pass_name.specs.declared.pass.Pass.{Pass}
-use Rattle.asm_text.specs.Assembly.{AssemblyComes}
-use Rattle.asm_text.specs.Compile.{TextComes, text_told}
-use Rattle.asm_text.proofs.OneAssembly.{one_assembly}
-use Rattle.asm_text.proofs.CodeLaws.{code_has}
+use Rattle.asm_same.specs.asm_text.Assembly.{AssemblyComes}
+use Rattle.asm_same.specs.asm_text.Compile.{TextComes, text_told}
+use Rattle.asm_same.proofs.asm_text.OneAssembly.{one_assembly}
+use Rattle.asm_same.proofs.asm_text.CodeLaws.{code_has}
 use Rattle.rtlc_words.specs.declared.command.Command.{Command}
 use Rattle.rtlc_words.specs.declared.command.Command.TheVariants as commands
 use Rattle.rtlc_words.specs.Words.{command_of}

@@ -16,9 +16,9 @@ use Rattle.md_forms.specs.declared.form.Entry.{Entry}
 use Rattle.md_named.specs.Named.{source_refused, FormsCome}
 use Rattle.func_input.specs.Input.{InputComesTo}
 use Rattle.func_input.specs.Outcome.{Outcome}
-use Rattle.asm_text.specs.Compile.{TextComes}
-use Rattle.asm_text.specs.Code.{IsUnnamed, CodeComes}
-use Rattle.asm_text.specs.declared.code.Coded.{Coded}
+use Rattle.asm_same.specs.asm_text.Compile.{TextComes}
+use Rattle.asm_same.specs.asm_text.Code.{IsUnnamed, CodeComes}
+use Rattle.asm_same.specs.asm_text.declared.code.Coded.{Coded}
 use Rattle.code_eval.specs.Eval.{eval_text, IsFair}
 use Rattle.recog_text.specs.Recog.{FunctionsCome}
 use Rattle.dump_text.specs.Dump as dump

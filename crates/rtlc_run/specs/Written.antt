@@ -11,12 +11,12 @@ use Rattle.recog_text.specs.Recog.{FunctionsCome}
 use Rattle.dump_text.specs.Dump as dump
 use Rattle.pass_name.specs.declared.pass.Pass.{Pass}
 use Rattle.func_input.specs.Input.{IsInput}
-use Rattle.asm_text.specs.declared.assembly.Assembly.{Assembly}
-use Rattle.asm_text.specs.Assembly.{AssemblyComes}
-use Rattle.asm_text.specs.Lines.{IsAssembly}
-use Rattle.asm_text.specs.Same.{DoesSame}
-use Rattle.asm_text.specs.Code.{IsCoded, has_named}
-use Rattle.asm_text.specs.declared.code.Coded.{Coded}
+use Rattle.asm_same.specs.asm_text.declared.assembly.Assembly.{Assembly}
+use Rattle.asm_same.specs.asm_text.Assembly.{AssemblyComes}
+use Rattle.asm_same.specs.asm_text.Lines.{IsAssembly}
+use Rattle.asm_same.specs.asm_text.Same.{DoesSame}
+use Rattle.asm_same.specs.asm_text.Code.{IsCoded, has_named}
+use Rattle.asm_same.specs.asm_text.declared.code.Coded.{Coded}
 use Rattle.code_eval.specs.Eval.{eval_text, IsFair, ComesToSame}
 
 -- the assembly of the input by a description was written, and nothing else

@@ -5,7 +5,7 @@ use Rattle.std.proofs.lemmas.Fmt.{decimal_injective}
 use Rattle.std.proofs.lemmas.Slice.Eq.{bytes_eq-Decides}
 use Rattle.std.specs.Prelude.{codes}
 use Rattle.std.specs.Fmt.{decimal}
-use Rattle.rv_text.specs.Body.{label_text}
+use Rattle.rv_line.specs.rv_text.Body.{label_text}
 use Rattle.same_behaviour.specs.Ending.{IsUid}
 use Rattle.same_behaviour.proofs.Entry.{same_or_not}
 

@@ -11,7 +11,7 @@ use Rattle.rtx_tree.specs.declared.machine.Reply.{Reply}
 use Rattle.rtx_tree.specs.declared.machine.SymbolAt.{SymbolAt}
 use Rattle.rtx_tree.specs.declared.machine.Start.{Start}
 use Rattle.rtx_tree.specs.declared.machine.World.{World}
-use Rattle.run_memory.specs.RunMemory.{is_visible}
+use Rattle.rv_line.specs.run_memory.RunMemory.{is_visible}
 
 -- ---- what a machine holds
 

@@ -7,13 +7,13 @@ use Rattle.rtx_tree.specs.declared.code.Mode.{Mode}
 use Rattle.rtx_tree.specs.declared.machine.Start.{Start}
 use Rattle.rtx_tree.specs.declared.machine.World.{World}
 use Rattle.rtx_tree.specs.declared.function.Function.{Function}
-use Rattle.rtl_step.specs.Value.{width_of}
-use Rattle.rtl_step.specs.declared.call.ArgValue.{ArgValue}
-use Rattle.rtl_step.specs.declared.call.CallEvent.{CallEvent}
+use Rattle.func_mean.specs.rtl_step.Value.{width_of}
+use Rattle.func_mean.specs.rtl_step.declared.call.ArgValue.{ArgValue}
+use Rattle.func_mean.specs.rtl_step.declared.call.CallEvent.{CallEvent}
 use Rattle.func_mean.specs.Run.{run_of, taken}
 use Rattle.func_mean.specs.declared.outcome.Outcome.{Outcome}
 use Rattle.func_mean.specs.declared.outcome.Outcome.TheVariants as rtl
-use Rattle.rv_text.specs.declared.line.CodeItem.{CodeItem}
+use Rattle.rv_line.specs.rv_text.declared.line.CodeItem.{CodeItem}
 use Rattle.rv_line.specs.Run as lines
 use Rattle.rv_line.specs.declared.outcome.CodeCall.{CodeCall}
 use Rattle.rv_line.specs.declared.outcome.CodeOutcome.{CodeOutcome}

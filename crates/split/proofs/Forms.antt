@@ -7,7 +7,7 @@ use Rattle.rtx_tree.specs.declared.function.Insn.{Insn}
 use Rattle.c_eval.specs.declared.facts.Facts.{Facts}
 use Rattle.md_match.specs.Pattern.{Ops}
 use Rattle.md_forms.specs.declared.form.Entry.{Entry}
-use Rattle.md_pred.specs.Holds.{holds}
+use Rattle.md_desc.specs.md_pred.Holds.{holds}
 use Rattle.md_recog.specs.declared.half.Half.TheVariants as half
 use Rattle.md_recog.specs.declared.recog.FormMatch.{FormMatch}
 use Rattle.md_recog.specs.Recog.{MatchesAt, NoneBetween, IsFirst}

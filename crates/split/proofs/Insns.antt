@@ -13,9 +13,9 @@ use Rattle.new_insns.specs.Made.{kind_of, insn_for, insns_for}
 use Rattle.sym_state.specs.State.{State, Runs, ran}
 use Rattle.sym_insns.specs.Run.{run_from}
 use Rattle.sym_insns.specs.Shape.{is_shaped, is_end, fits_kind, bad_from, bad_insn}
-use Rattle.equate.specs.Side.{Insns, is_one_return, both_return}
-use Rattle.equate.specs.Equated.{Equated}
-use Rattle.equate.proofs.VerdictLaws.{verdict_same}
+use Rattle.pass_refusal.specs.equate.Side.{Insns, is_one_return, both_return}
+use Rattle.pass_refusal.specs.equate.Equated.{Equated}
+use Rattle.pass_refusal.proofs.equate.VerdictLaws.{verdict_same}
 use Rattle.insn_replace.specs.Replace.{made, ReplacedComes}
 
 -- ---- what stands in lists

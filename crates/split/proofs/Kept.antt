@@ -15,7 +15,7 @@ use Rattle.gen_emit.specs.declared.emission.Emission.{Emission}
 use Rattle.md_emit.specs.Emitted.{emitted_by}
 use Rattle.new_insns.specs.Replaced.{replaced}
 use Rattle.insn_replace.specs.Replace.{made, ReplacedComes}
-use Rattle.pass_ready.specs.Left.{SameMarks}
+use Rattle.insn_keep.specs.pass_ready.Left.{SameMarks}
 use Rattle.insn_keep.proofs.Marks.{replaced_same, same_refl, same_trans}
 use Rattle.split.specs.declared.stage.SplitStage.{SplitStage}
 use Rattle.split.specs.declared.stage.SplitStage.TheVariants.{BeforeReload, AfterReload}

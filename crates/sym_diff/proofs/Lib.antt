@@ -8,3 +8,4 @@ pub mod RegistersFirst
 pub mod StoresFirst
 pub mod CallLaws
 pub mod FirstLaws
+pub use Rattle.sym_term.proofs as sym_term

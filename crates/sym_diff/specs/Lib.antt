@@ -5,3 +5,4 @@ pub mod States
 pub mod Views
 pub mod machine
 pub mod Agree
+pub use Rattle.sym_state.specs as sym_state

@@ -7,7 +7,7 @@ use Rattle.rtx_tree.specs.declared.machine.SymbolAt.{SymbolAt}
 use Rattle.rtx_tree.specs.declared.memories.MemByte.{MemByte}
 use Rattle.rtx_tree.specs.Memories.{byte_at}
 use Rattle.rtl_step.specs.Regs.{Regs}
-use Rattle.same_behaviour.specs.Lawful.{IsByte, IsMemory}
+use Rattle.window_mean.specs.same_behaviour.Lawful.{IsByte, IsMemory}
 use Rattle.term_mean.specs.Meaning.{Valuation}
 use Rattle.sym_state.specs.State.{start}
 use Rattle.sym_mean.specs.Needs.{First}

@@ -2,3 +2,4 @@ pub mod Meant
 pub mod Means
 pub mod Needs
 pub mod Shows
+pub use Rattle.sym_insns.specs as sym_insns

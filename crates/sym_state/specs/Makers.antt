@@ -7,8 +7,8 @@ use Rattle.term_tree.specs.declared.head.Head.{Head}
 use Rattle.term_tree.specs.declared.head.Head.TheVariants as heads
 use Rattle.term_tree.specs.Tree.{Tree}
 use Rattle.term_tree.specs.Form.{same_width}
-use Rattle.term_mean.specs.Stores.{Store}
-use Rattle.term_mean.specs.Normal.{built}
+use Rattle.sym_term.specs.term_mean.Stores.{Store}
+use Rattle.sym_term.specs.term_mean.Normal.{built}
 
 -- so many ones, as a coefficient -1
 abbrev pub minus_one : Width → ℕ

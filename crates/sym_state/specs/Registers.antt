@@ -6,8 +6,8 @@ use Rattle.bits64.specs.declared.Width.{Width}
 use Rattle.rtx_tree.specs.Registers.{is_call_used}
 use Rattle.term_tree.specs.Tree.{Tree, width_of}
 use Rattle.term_tree.specs.Form.{narrower}
-use Rattle.term_mean.specs.Sums.{constant}
-use Rattle.term_mean.specs.Compared.{low_bits}
+use Rattle.sym_term.specs.term_mean.Sums.{constant}
+use Rattle.sym_term.specs.term_mean.Compared.{low_bits}
 use Rattle.sym_state.specs.State.{Changed, Need, Register, Lost, own_register}
 
 -- what was made of a register, where it was changed

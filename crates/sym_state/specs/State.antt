@@ -9,8 +9,8 @@ use Rattle.bits64.specs.declared.Width.TheVariants.{W8, W64}
 use Rattle.rtx_tree.specs.declared.code.Mode.{Mode}
 use Rattle.term_tree.specs.declared.head.Head.TheVariants as heads
 use Rattle.term_tree.specs.Tree.{Tree, Node, no_trees, tree_size}
-use Rattle.term_mean.specs.Sums.{constant}
-use Rattle.term_mean.specs.Stores.{Store}
+use Rattle.sym_term.specs.term_mean.Sums.{constant}
+use Rattle.sym_term.specs.term_mean.Stores.{Store}
 
 -- ---- terms that stand for what was there at first
 

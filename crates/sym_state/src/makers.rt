@@ -1,7 +1,7 @@
 //! What is made of terms by one step of the rules: operators, sums, and truths in a width.
 ghost use Rattle.std.specs.Prelude.{◌≡◌, [], ◌∷◌, map, IfOk};
 ghost use Rattle.term_tree.specs.View.{tree_of};
-ghost use Rattle.term_mean.specs.Sums as sums;
+ghost use Rattle.sym_term.specs.term_mean.Sums as sums;
 ghost use Rattle.sym_term.specs.Views.{store_of};
 ghost use Rattle.sym_state.specs.Makers as spec;
 

@@ -1,1 +1,2 @@
 pub mod Views
+pub use Rattle.term_mean.specs as term_mean

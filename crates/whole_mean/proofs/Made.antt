@@ -14,11 +14,11 @@ use Rattle.assign.specs.Frame.{layout_of, saved_of, slots_of, frame_size, IsFram
 use Rattle.assign.specs.Homes.{AreHomes}
 use Rattle.assign.specs.declared.home.HomeOf.{HomeOf}
 use Rattle.assign.specs.declared.places.Layout.{Layout}
-use Rattle.frame_mean.specs.Frame.{IsFramed}
-use Rattle.frame_mean.specs.Keeps.{KeepsInFrame}
+use Rattle.frame.specs.frame_mean.Frame.{IsFramed}
+use Rattle.frame.specs.frame_mean.Keeps.{KeepsInFrame}
 use Rattle.frame.specs.Framed.{FrameComes}
 use Rattle.frame.proofs.Kept.{is_framed}
-use Rattle.reload.specs.Windows.{HasWindows}
+use Rattle.reload_mean.specs.reload.Windows.{HasWindows}
 use Rattle.reload_mean.specs.Homes.{NumbersAreSized}
 use Rattle.reload_mean.proofs.WithFrame.{described_with_frame}
 use Rattle.window_same.specs.Left.{SameWhereLeft}

@@ -15,7 +15,7 @@ use Rattle.same_behaviour.specs.Lawful.{IsLawful, IsLawfulReply, IsLawfulWorld, 
 use Rattle.func_keep.specs.Keeps.{IsMachineStart}
 use Rattle.keep_compose.proofs.Lines.{memory_kept}
 use Rattle.window_same.proofs.Small.{or_true}
-use Rattle.homes_mean.proofs.Entry.{kept_byte}
+use Rattle.reload_mean.proofs.homes_mean.Entry.{kept_byte}
 
 -- ---- a filter of a filter
 

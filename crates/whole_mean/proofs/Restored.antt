@@ -18,7 +18,7 @@ use Rattle.same_behaviour.specs.Same as same
 use Rattle.same_behaviour.specs.Same.{SameCalls, SameResult}
 use Rattle.func_keep.specs.Outcomes.{KeptToo, SameOutcome}
 use Rattle.window_same.specs.Left.{found, LeavesAsFound}
-use Rattle.frame_mean.specs.Keeps.{Restores}
+use Rattle.frame.specs.frame_mean.Keeps.{Restores}
 
 -- ---- what is left of the registers that a function preserves
 

@@ -15,7 +15,7 @@ use Rattle.func_keep.specs.Keeps.{Keeps}
 use Rattle.keep_compose.proofs.Keeping.{has_value}
 use Rattle.keep_compose.proofs.Lines.{seen_is_machine, world_is_machine, outcome_too}
 use Rattle.assign.specs.declared.places.Layout.{Layout}
-use Rattle.frame_mean.specs.Keeps.{Restores}
+use Rattle.frame.specs.frame_mean.Keeps.{Restores}
 use Rattle.reload_mean.specs.Keeps.{KeepsWithFrame}
 use Rattle.window_same.specs.Left.{SameWhereLeft}
 use Rattle.whole_mean.proofs.Nearer.{near_seen, near_lawful, near_world, near_machine}

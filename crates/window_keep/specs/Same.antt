@@ -13,7 +13,7 @@ use Rattle.rtx_tree.specs.declared.machine.SymbolAt.{SymbolAt}
 use Rattle.rtx_tree.specs.declared.memories.MemByte.{MemByte}
 use Rattle.rtl_step.specs.Regs.{Regs, reg_value}
 use Rattle.rtl_step.specs.declared.call.CallEvent.{CallEvent}
-use Rattle.same_behaviour.specs.Lawful.{AreAddresses, IsMemory}
+use Rattle.window_mean.specs.same_behaviour.Lawful.{AreAddresses, IsMemory}
 use Rattle.window_mean.specs.Insns.{InsnsEnd, Falls, Goes, Calls, InsnsCome, insns_come}
 use Rattle.window_mean.specs.Same.{IsKept}
 use Rattle.window_mean.specs.Uses.{window_uses, window_defines}

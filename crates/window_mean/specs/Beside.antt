@@ -7,10 +7,10 @@ use Rattle.bits64.specs.Words.{low}
 use Rattle.rtx_tree.specs.declared.machine.RangeAt.{RangeAt}
 use Rattle.rtx_tree.specs.declared.memories.MemByte.{MemByte}
 use Rattle.rtx_tree.specs.Memories.{byte_at}
-use Rattle.run_memory.specs.RunMemory.{visible}
-use Rattle.rtl_step.specs.Regs.{Regs, reg_value}
-use Rattle.rv_line.specs.Step.{register}
-use Rattle.rv_line.specs.declared.state.RvState.{RvState}
+use Rattle.same_behaviour.specs.run_memory.RunMemory.{visible}
+use Rattle.same_behaviour.specs.rtl_step.Regs.{Regs, reg_value}
+use Rattle.same_behaviour.specs.rv_line.Step.{register}
+use Rattle.same_behaviour.specs.rv_line.declared.state.RvState.{RvState}
 use Rattle.same_behaviour.specs.Lawful.{IsMemory}
 
 -- what is read of a machine's register in a width: its low bits, where it is set

@@ -9,15 +9,15 @@ use Rattle.rtx_tree.specs.declared.function.Kind.TheVariants.{Plain, Jump, Call,
 use Rattle.rtx_tree.specs.declared.machine.RangeAt.{RangeAt}
 use Rattle.rtx_tree.specs.declared.machine.SymbolAt.{SymbolAt}
 use Rattle.rtx_tree.specs.declared.memories.MemByte.{MemByte}
-use Rattle.rtl_step.specs.Regs.{Regs}
-use Rattle.rtl_step.specs.Value.{of_two}
-use Rattle.rtl_step.specs.Effect.{effects_of, regs_after, memory_after}
-use Rattle.rtl_step.specs.Jump.{jump_of}
-use Rattle.rtl_step.specs.Call.{event_of, result_width}
-use Rattle.rtl_step.specs.declared.call.CallEvent.{CallEvent}
-use Rattle.rtl_step.specs.declared.effect.Effect.{Effect}
-use Rattle.rtl_step.specs.declared.jump.Way.{Way}
-use Rattle.rtl_step.specs.declared.jump.Way.TheVariants as way
+use Rattle.same_behaviour.specs.rtl_step.Regs.{Regs}
+use Rattle.same_behaviour.specs.rtl_step.Value.{of_two}
+use Rattle.same_behaviour.specs.rtl_step.Effect.{effects_of, regs_after, memory_after}
+use Rattle.same_behaviour.specs.rtl_step.Jump.{jump_of}
+use Rattle.same_behaviour.specs.rtl_step.Call.{event_of, result_width}
+use Rattle.same_behaviour.specs.rtl_step.declared.call.CallEvent.{CallEvent}
+use Rattle.same_behaviour.specs.rtl_step.declared.effect.Effect.{Effect}
+use Rattle.same_behaviour.specs.rtl_step.declared.jump.Way.{Way}
+use Rattle.same_behaviour.specs.rtl_step.declared.jump.Way.TheVariants as way
 
 -- it falls through to what follows, goes to the label with a uid, calls a function, whose result is
 -- then known in a width, or returns

@@ -3,3 +3,4 @@ pub mod Lines
 pub mod Beside
 pub mod Uses
 pub mod Same
+pub use Rattle.same_behaviour.specs as same_behaviour

@@ -2,11 +2,11 @@
 -- Integer Instruction Set" and its like. It has no meaning where a line is stuck.
 use Rattle.std.specs.Prelude.{ℕ, List, [], ◌∷◌, Option, Some, None}
 use Rattle.rtx_tree.specs.declared.machine.World.{World}
-use Rattle.rv_text.specs.declared.line.Line.{Line}
-use Rattle.rv_line.specs.Step.{step}
-use Rattle.rv_line.specs.declared.state.RvState.{RvState}
-use Rattle.rv_line.specs.declared.state.LineEnd.{LineEnd}
-use Rattle.rv_line.specs.declared.state.LineEnd.TheVariants as ends
+use Rattle.same_behaviour.specs.rv_text.declared.line.Line.{Line}
+use Rattle.same_behaviour.specs.rv_line.Step.{step}
+use Rattle.same_behaviour.specs.rv_line.declared.state.RvState.{RvState}
+use Rattle.same_behaviour.specs.rv_line.declared.state.LineEnd.{LineEnd}
+use Rattle.same_behaviour.specs.rv_line.declared.state.LineEnd.TheVariants as ends
 
 -- it falls through to what follows, goes to a label with a text, calls the function at an address, or
 -- returns

@@ -16,3 +16,4 @@ pub mod Inside
 pub mod Walk
 pub mod Ends
 pub mod Replacing
+pub use Rattle.window_same.proofs as window_same

@@ -1,3 +1,4 @@
 pub mod Items
 pub mod ForLines
 pub mod Left
+pub use Rattle.window_mean.specs as window_mean

@@ -1,6 +1,7 @@
 -- The homes that are picked by a test of conflict.
-use Rattle.std.specs.Prelude.{◌≡◌, ℕ, ◌<◌, ◌⊎◌, Bool, true, false, ◌==◌, ◌&&◌, not, List, Option, Some, None, slice_get, take}
+use Rattle.std.specs.Prelude.{◌≡◌, ℕ, ◌<◌, ◌⊎◌, Bool, true, false, ◌==◌, ◌||◌, ◌&&◌, not, List, Option, Some, None, slice_get, take}
 use Rattle.std.specs.List.{list_any, find}
+use Rattle.reg_rows.specs.Table.{has_at, IsTable}
 use Rattle.assign.specs.declared.home.Home.{Home}
 use Rattle.assign.specs.declared.home.Home.TheVariants.{Hard, Slot}
 use Rattle.assign.specs.declared.home.HomeOf.{HomeOf}
@@ -26,6 +27,21 @@ home_from (Some hard) = Hard hard
 abbrev pub IsPicked : (ℕ → ℕ → Bool) → List ℕ → List HomeOf → Type 0
 IsPicked c order homes =
     (k : ℕ) (x : HomeOf) → slice_get homes k ≡ Some x → x.home ≡ home_from (find (is_free c (take k homes) (register x)) order)
+
+-- a register stands in the row of another
+abbrev pub beside : List (List ℕ) → ℕ → ℕ → Bool
+beside rows reg other = has_at rows other reg
+
+-- rows of one width
+pub record AreAlike (rows others : List (List ℕ)) : Type 0 where
+  pub width : ℕ
+  pub one : IsTable width rows
+  pub other : IsTable width others
+
+-- each hard register is blocked for the registers of its own row, and for those of its holders' rows
+abbrev pub AreBlocked : List (List ℕ) → List HomeOf → List (List ℕ) → Type 0
+AreBlocked rows homes blocked =
+    (hard reg : ℕ) → hard < 64 → has_at blocked hard reg ≡ (beside rows reg hard || list_any (clashes (beside rows) reg hard) homes)
 
 -- the pseudo at k can't have a hard register
 abbrev pub IsRefused : (ℕ → ℕ → Bool) → List HomeOf → ℕ → HomeOf → ℕ → Type 0

@@ -1,6 +1,6 @@
 -- Where the parts of trees stand among heads. These definitions serve the contracts of private functions alone.
 use Rattle.std.specs.Prelude.{◌≡◌, ℕ, ◌+◌, ◌==◌, if◌then◌else◌, ◌<◌, ◌≤◌, List, [], length, take, drop, Option, Some, None}
-use Rattle.c_words.specs.declared.head.CondHead.{CondHead}
+use Rattle.c_cond.specs.c_words.declared.head.CondHead.{CondHead}
 use Rattle.c_cond.specs.declared.tree.Tree.{Tree}
 use Rattle.c_cond.specs.Tree.{grown, first_or_nothing}
 use Rattle.c_eval.specs.declared.reading.Reading.{Reading}

@@ -5,10 +5,10 @@ use Rattle.rtx_tree.specs.declared.function.Function.{Function}
 use Rattle.rtx_tree.specs.declared.tree.Rtx.{Rtx}
 use Rattle.rtx_tree.specs.RegSet.{has_reg}
 use Rattle.live.specs.Live.{AreLiveAfter}
-use Rattle.equate.specs.Side.{Side}
-use Rattle.equate.specs.declared.verdict.Side as code
-use Rattle.equate.specs.declared.verdict.Side.TheVariants as sides
-use Rattle.equate.specs.Equated.{verdict, Equated}
+use Rattle.pass_refusal.specs.equate.Side.{Side}
+use Rattle.pass_refusal.specs.equate.declared.verdict.Side as code
+use Rattle.pass_refusal.specs.equate.declared.verdict.Side.TheVariants as sides
+use Rattle.pass_refusal.specs.equate.Equated.{verdict, Equated}
 use Rattle.pass_refusal.specs.Outcome.{RefusesWith}
 use Rattle.pass_refusal.specs.Refused.{refused_by}
 use Rattle.pass_refusal.specs.declared.refusal.PassRefusal.{PassRefusal}

@@ -3,7 +3,7 @@ use Rattle.std.specs.Prelude.{◌≡◌, ℕ, Bool, false, not, List, [], Option
 use Rattle.std.specs.HashMap.{get_by}
 use Rattle.std.specs.Option.{option_map_or}
 use Rattle.std.specs.Str.{bytes_eq}
-use Rattle.md_pattern.specs.declared.reason.Reason.{Reason}
+use Rattle.md_forms.specs.md_pattern.declared.reason.Reason.{Reason}
 use Rattle.md_forms.specs.declared.form.Form.{Form}
 use Rattle.md_forms.specs.declared.form.Entry.{Entry}
 use Rattle.md_forms.specs.Checks.{alternatives}

@@ -1,7 +1,7 @@
 -- The steps of the code, for the contracts of calls that compare.
 use Rattle.std.specs.Prelude.{◌≡◌, ℕ, List, Some, Result, Ok, Err}
 use Rattle.term_tree.specs.View.{tree_of}
-use Rattle.sym_diff.specs.Difference.{Differ, Lacks}
+use Rattle.equate.specs.sym_diff.Difference.{Differ, Lacks}
 use Rattle.equate.specs.Verdict.{Verdict, Same, Different, BadShape}
 use Rattle.equate.specs.declared.verdict.Verdict as code
 use Rattle.equate.specs.declared.verdict.Verdict.TheVariants as verdict

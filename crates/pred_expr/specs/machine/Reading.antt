@@ -2,8 +2,8 @@
 -- say that this value is the tree that the grammar gives the text, and none where it gives none.
 use Rattle.std.specs.Prelude.{ℕ, List, [], ◌∷◌, Option, option_map}
 use Rattle.rtx_tree.specs.declared.constants.Constant.{Constant}
-use Rattle.c_words.specs.declared.atom.Dialect.{Dialect}
-use Rattle.c_words.specs.Tokens.{tokens_in}
+use Rattle.c_cond.specs.c_words.declared.atom.Dialect.{Dialect}
+use Rattle.c_cond.specs.c_words.Tokens.{tokens_in}
 use Rattle.c_cond.specs.declared.goal.Goal.{Goal}
 use Rattle.c_cond.specs.declared.tree.Tree.{Tree}
 use Rattle.c_cond.specs.Tree.{tree_of}

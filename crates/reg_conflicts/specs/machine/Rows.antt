@@ -1,14 +1,16 @@
--- What is live after a place, by the sets of a function.
-use Rattle.std.specs.Prelude.{ℕ, Bool, false, List, Option, Some, None}
+-- What is defined at a place beside what is live after it, by the rows of a function.
+use Rattle.std.specs.Prelude.{ℕ, Bool, ◌&&◌, List}
 use Rattle.std.specs.List.{list_any}
+use Rattle.rtx_tree.specs.declared.function.Insn.{Insn}
 use Rattle.rtx_tree.specs.declared.function.Function.{Function}
 use Rattle.rtl_func.specs.Successors.{successors_of}
-use Rattle.live.specs.Live.{live_has}
+use Rattle.reg_uses.specs.Uses.{insn_defines}
+use Rattle.reg_rows.specs.Table.{has_at}
 
-abbrev pub place_has : Option ℕ → List (List ℕ) → ℕ → Bool
-place_has None live reg = false
-place_has (Some q) live reg = live_has live q reg
-
--- the set of a place to which p leads has the register
+-- the row of a place to which p leads has the register
 abbrev pub after_has : Function → List (List ℕ) → ℕ → ℕ → Bool
-after_has f live p reg = list_any (λ q. live_has live q reg) (successors_of f.insns p)
+after_has f live p reg = list_any (λ q. has_at live q reg) (successors_of f.insns p)
+
+-- an instruction at p defines x, and y is live after it
+abbrev pub is_beside : Function → List (List ℕ) → ℕ → Insn → ℕ → ℕ → Bool
+is_beside f live p i x y = after_has f live p y && insn_defines i x

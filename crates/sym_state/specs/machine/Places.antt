@@ -5,7 +5,7 @@ use Rattle.bits64.specs.declared.Width.{Width}
 use Rattle.rtx_tree.specs.Registers.{is_call_used}
 use Rattle.term_tree.specs.Tree.{Tree, width_of}
 use Rattle.term_tree.specs.Form.{narrower}
-use Rattle.term_mean.specs.Compared.{low_bits}
+use Rattle.sym_term.specs.term_mean.Compared.{low_bits}
 use Rattle.sym_state.specs.State.{Changed, own_register}
 use Rattle.sym_state.specs.Registers.{changed, put}
 

@@ -1,28 +1,38 @@
-use Rattle.std.proofs.Common.{◌≡◌, ℕ, ◌+◌, ◌<◌, ◌^◌, ◌++◌, ◌∷◌, [], List, length, map, get_or, take, sym, ap, subst, ◌∙◌, arith, rules}
-use Rattle.std.specs.Prelude.{All}
+use Rattle.std.proofs.Common.{◌≡◌, ℕ, ◌+◌, ◌||◌, ◌&&◌, not, ltb, ◌++◌, ◌∷◌, [], List, length, map, get_or, sym, ap, subst, ◌∙◌, arith}
 use Rattle.std.specs.List.{find}
 use Rattle.std.proofs.lemmas.List.{map_push, take_more}
-use Rattle.std.proofs.lemmas.List.Elements.{All-push}
-use Rattle.reg_conflicts.specs.Conflicts.{has_conflict}
+use Rattle.reg_rows.specs.Table.{has_at}
 use Rattle.assign.specs.declared.home.HomeOf.{HomeOf}
-use Rattle.assign.specs.Homes.{register}
-use Rattle.assign.specs.machine.Picked.{IsPicked, is_free, home_from}
-use Rattle.assign.proofs.PickLaws.{IsPicked-push}
+use Rattle.assign.specs.machine.Picked.{beside, is_hard, home_from, AreAlike, AreBlocked, IsPicked}
+use Rattle.assign.proofs.PickLaws.{IsPicked-push, AreBlocked-push, first_unblocked, whole}
 use Rattle.assign.proofs.pick.pick.Goals as goal
 
 pub loop-pseudo-preserved : goal.loop-pseudo-preserved
 loop-pseudo-preserved c =
-    let inv = c.loop-pseudo.invariant in
-    let homes = c.loop-pseudo.homes in
     let rows = c.args.rows.now in
     let order = c.args.order.now in
+    let inv = c.loop-pseudo.invariant in
+    let homes = c.loop-pseudo.homes in
+    let old = c.loop-pseudo.blocked.items in
+    let new = c.block_home.new.blocked in
     let pseudo = get_or c.args.pseudos.now c.loop-pseudo.pseudo-index 0 in
-    let new : HomeOf = record { pseudo = pseudo; home = c.home_for-home.result } in
-    let pushed = c.in_ok-push.ensures.ok in
+    let home = c.first_free-home.result in
+    let x : HomeOf = record { pseudo = pseudo; home = home } in
+    let pushed : c.push.new.self ≡ homes ++ x ∷ [] = c.in_ok-push.ensures.ok in
+    let same = whole c.loop-pseudo.blocked.len new _ (omega arith) in
+    let long : length old ≡ 64 = omega (arith, inv.long) in
+    let each : (h r : ℕ) → has_at new h r ≡ (has_at old h r || ((ltb h 64 && is_hard home h) && has_at rows (64 + pseudo) r)) = λ h r.
+    c.block_home.ensures.each h r ∙
+    (ap (λ (bs : List (List ℕ)). has_at bs h r || ((ltb h (length bs) && is_hard home h) && has_at rows (64 + pseudo) r)) c.as_mut_slice.ensures.value ∙
+    ap (λ n. has_at old h r || ((ltb h n && is_hard home h) && has_at rows (64 + pseudo) r)) long) in
+    let first =
+    c.first_free-home.ensures ∙
+    (ap (λ (bs : List (List ℕ)). home_from (find (λ hard. not (has_at bs hard (64 + pseudo))) order)) c.as_slice.ensures.value ∙
+    ap home_from (first_unblocked rows order homes old (64 + pseudo) c.requires.order inv.blocked)) in
     record {
-      room = c.home_for-home.ensures.room;
-      small = subst (All (λ (x : HomeOf). register x < 2 ^ 32)) (sym pushed) (All-push (λ (x : HomeOf). register x < 2 ^ 32) homes new inv.small (c.requires c.loop-pseudo.pseudo-index 0 (omega arith)));
-      pseudos = ap (map (λ (x : HomeOf). x.pseudo)) pushed ∙ (map_push (λ (x : HomeOf). x.pseudo) homes new ∙ (ap (λ (v : List ℕ). v ++ pseudo ∷ []) inv.pseudos ∙ sym (take_more c.args.pseudos.now c.loop-pseudo.pseudo-index 0 (omega arith))));
-      picked = subst (IsPicked (has_conflict rows) order) (sym pushed) (IsPicked-push (has_conflict rows) order homes new inv.picked
-          (subst (λ (held : List HomeOf). c.home_for-home.result ≡ home_from (find (is_free (has_conflict rows) held (64 + pseudo)) order)) c.as_slice.ensures.value c.home_for-home.ensures.home));
+      long = inv.long;
+      alike = subst (AreAlike rows) (sym same) c.block_home.ensures.alike;
+      blocked = subst (λ (bs : List (List ℕ)). AreBlocked rows c.push.new.self bs) (sym same) (subst (λ (held : List HomeOf). AreBlocked rows held new) (sym pushed) (AreBlocked-push rows homes old new x inv.blocked each));
+      pseudos = ap (map (λ (y : HomeOf). y.pseudo)) pushed ∙ (map_push (λ (y : HomeOf). y.pseudo) homes x ∙ (ap (λ (v : List ℕ). v ++ pseudo ∷ []) inv.pseudos ∙ sym (take_more c.args.pseudos.now c.loop-pseudo.pseudo-index 0 (omega arith))));
+      picked = subst (IsPicked (beside rows) order) (sym pushed) (IsPicked-push (beside rows) order homes x inv.picked first);
     }

@@ -1,6 +1,6 @@
 use Rattle.std.proofs.lemmas.Result.{err_from_is_err_and}
-use Rattle.md_forms.specs.Forms.{names_of}
-use Rattle.form_needs.specs.Needs.{name_at}
+use Rattle.pass_refusal.specs.md_forms.Forms.{names_of}
+use Rattle.pass_refusal.specs.form_needs.Needs.{name_at}
 use Rattle.insn_replace.proofs.Calls.{refused_comes, replaced_comes}
 use Rattle.insn_replace.proofs.replace.replace_insn.Goals as goal
 

@@ -1,11 +1,19 @@
-use Rattle.std.proofs.Common.{◌≡◌, ℕ, ◌+◌, ◌++◌, ◌∷◌, [], List, length, take, ap, sym, subst, ◌∙◌, arith, rules}
+use Rattle.std.proofs.Common.{◌≡◌, ℕ, ◌+◌, ◌*◌, ◌<◌, ◌++◌, ◌∷◌, [], List, length, take, ap, sym, subst, ◌∙◌, arith, rules}
+use Rattle.std.specs.Prelude.{All}
 use Rattle.std.proofs.lemmas.List.{take_more}
 use Rattle.reg_rows.specs.Row.{has, lists}
 use Rattle.reg_rows.specs.Table.{has_at, IsTable}
 use Rattle.live_rows.specs.declared.node.Node.{Node}
+use Rattle.live_rows.specs.Paths.{Fits}
 use Rattle.live_rows.specs.machine.Rows.{uses_at}
 use Rattle.live_rows.proofs.TableLaws.{uses_push, IsTable-push}
 use Rattle.live_rows.proofs.solve.rows_of_uses.Goals as goal
+
+pub listed-requires : goal.listed-requires
+listed-requires c =
+    let node = c.node-item.result in
+    let fits : Fits c.args.width node = subst (Fits c.args.width) (sym c.node-item.is) (c.requires c.loop-node.node-index node (omega arith)) in
+    subst (All (λ reg. reg < 64 * c.args.width)) (sym c.as_slice.ensures.value) fits.uses
 
 pub loop-node-preserved : goal.loop-node-preserved
 loop-node-preserved c =

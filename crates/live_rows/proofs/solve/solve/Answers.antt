@@ -18,7 +18,10 @@ pub returns-then-not-round : goal.returns-then-not-round
 returns-then-not-round c =
     let r = c.if-not-round.ensures in
     record {
-      long = omega arith;
-      sound = r.sound;
-      complete = λ p reg path. has_from_path c.args.nodes.now c.round.new.rows r.uses (IsClosed-none c.args.nodes.now c.round.new.rows c.round.new.now (r.none refl) r.pending) reg p path;
+      live = record {
+        long = omega arith;
+        sound = r.sound;
+        complete = λ p reg path. has_from_path c.args.nodes.now c.round.new.rows r.uses (IsClosed-none c.args.nodes.now c.round.new.rows c.round.new.now (r.none refl) r.pending) reg p path;
+      };
+      table = search rules;
     }

@@ -1,10 +1,10 @@
 use Rattle.std.proofs.Common.{◌^◌, ◌≤◌, take}
 use Rattle.std.specs.Prelude.{All}
-use Rattle.live_rows.specs.Paths.{fits}
+use Rattle.live_rows.specs.Paths.{Fits}
 use Rattle.live_rows.proofs.solve.width_for.Given as goal
 
 abbrev pub invariant-loop-node : goal.invariant-loop-node
 invariant-loop-node l = record {
   small : l.width ≤ 2 ^ 32;
-  room : All (fits l.width) (take l.node-index l.nodes);
+  room : All (Fits l.width) (take l.node-index l.nodes);
 }

@@ -1,5 +1,5 @@
 use Rattle.std.proofs.Common.{refl}
-use Rattle.c_words.specs.declared.atom.Dialect.TheVariants as Dialect
+use Rattle.c_cond.specs.c_words.declared.atom.Dialect.TheVariants as Dialect
 use Rattle.c_cond.specs.Grammar.{IsText, Condition}
 use Rattle.pred_expr.proofs.GrammarLaws.{none_in, condition_is, condition_none, condition_says}
 use Rattle.pred_expr.proofs.texts.condition.Goals as goal

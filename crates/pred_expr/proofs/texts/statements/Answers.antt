@@ -1,5 +1,5 @@
 use Rattle.std.proofs.Common.{refl}
-use Rattle.c_words.specs.declared.atom.Dialect.TheVariants as Dialect
+use Rattle.c_cond.specs.c_words.declared.atom.Dialect.TheVariants as Dialect
 use Rattle.c_cond.specs.Grammar.{IsText, Statements}
 use Rattle.pred_expr.proofs.GrammarLaws.{none_in, statements_is, statements_none, statements_says}
 use Rattle.pred_expr.proofs.texts.statements.Goals as goal

@@ -1,5 +1,5 @@
 use Rattle.std.proofs.Common.{◌≡◌, List, ap, ◌∙◌, sym}
-use Rattle.c_words.specs.declared.head.CondHead.{CondHead}
+use Rattle.c_cond.specs.c_words.declared.head.CondHead.{CondHead}
 use Rattle.c_cond.specs.Tree.{tree_of}
 use Rattle.pred_rows.specs.Tests.{condition_holds}
 use Rattle.pred_rows.proofs.Answering.{holds_here, holds_nowhere}

@@ -1,6 +1,6 @@
 use Rattle.std.proofs.Common.{◌≡◌, List, ap, ◌∙◌}
 use Rattle.c_words.specs.declared.head.CondHead.{CondHead}
-use Rattle.c_cond.specs.Tree.{tree_of}
+use Rattle.md_forms.specs.c_cond.Tree.{tree_of}
 use Rattle.pred_rows.specs.Tests.{condition_holds}
 use Rattle.md_pred.specs.machine.Steps.{asked_within}
 use Rattle.md_pred.proofs.Parts.{question_there, none_there}

@@ -1,0 +1,1 @@
+pub use Rattle.asm_text.specs as asm_text

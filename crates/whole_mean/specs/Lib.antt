@@ -1,0 +1,1 @@
+pub use Rattle.insn_keep.specs as insn_keep

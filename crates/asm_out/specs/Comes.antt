@@ -1,5 +1,6 @@
--- What a function comes to at output: a text with the items that it spells, or the first refusal. GCC Internals, "Pattern Ordering" (the
--- first match), "Multiple Alternative Constraints" and "Output Template".
+-- What a function comes to at output: a text with the items that it spells, or the first refusal.
+-- GCC Internals, "Pattern Ordering" (the first match), "Multiple Alternative Constraints" and
+-- "Output Template".
 use Rattle.std.specs.Prelude.{◌≡◌, ◌<◌, ◌^◌, ℕ, ◌+◌, true, false, List, [], ◌∷◌, ◌++◌, length, map, nat_le, if◌then◌else◌, Some, Ok, Err}
 use Rattle.rtx_tree.specs.declared.function.Insn.{Insn}
 use Rattle.rtx_tree.specs.declared.function.Function.{Function}
@@ -22,8 +23,8 @@ use Rattle.asm_out.specs.Outcome.{Outcome, only_text, nothing, outcome_behind}
 
 -- ---- instructions
 
--- what is compared for an instruction at a place: the form that is chosen for it, the lines of its text, and the registers that are live
--- behind it
+-- what is compared for an instruction at a place: the form that is chosen for it, the lines of its
+-- text, and the registers that are live behind it
 pub record IsTried (forms : List Entry) (number : ℕ) (f : Function) (place : ℕ) (i : Insn)
     (c : Chosen) (lines : List Line) (live : List ℕ) : Type 0 where
   pub needs : needs_form i ≡ true
@@ -39,24 +40,31 @@ code_piece forms number i c lines = record { text = written (text_of forms numbe
 abbrev pub label_piece : ℕ → ℕ → Piece
 label_piece number uid = record { text = label_line number uid; items = item.Label number uid ∷ [] }
 
--- What an item at a place of a function's chain comes to. A label has its line; a barrier, and a use or a clobber alone, nothing; an
--- instruction the lines of the first form that counts, where they are equated with it over the registers that are live behind it.
+-- What an item at a place of a function's chain comes to. A label has its line; a barrier, and a
+-- use or a clobber alone, nothing; an instruction the lines of the first form that counts, where
+-- they are equated with it over the registers that are live behind it.
 pub data PlaceComes (forms : List Entry) (number : ℕ) (f : Function) (place : ℕ) (i : Insn) : Outcome → Type 0 where
-  label : is_label i.kind ≡ true → i.uid < 2 ^ 32 → PlaceComes forms number f place i (Ok (label_piece number i.uid))
+  label : is_label i.kind ≡ true → i.uid < 2 ^ 32 →
+      PlaceComes forms number f place i (Ok (label_piece number i.uid))
   silent : is_silent i ≡ true → PlaceComes forms number f place i (Ok nothing)
-  held : needs_form i ≡ true → is_held i ≡ true → PlaceComes forms number f place i (Err (unmatched_insn i))
-  unmatched : needs_form i ≡ true → is_held i ≡ false → NoneMatchesOut forms output_facts i.pattern →
+  held : needs_form i ≡ true → is_held i ≡ true →
       PlaceComes forms number f place i (Err (unmatched_insn i))
-  refused : (c : Chosen) (lines : List Line) (live : List ℕ) (e : OutRefusal) → IsTried forms number f place i c lines live →
+  unmatched : needs_form i ≡ true → is_held i ≡ false →
+      NoneMatchesOut forms output_facts i.pattern →
+      PlaceComes forms number f place i (Err (unmatched_insn i))
+  refused : (c : Chosen) (lines : List Line) (live : List ℕ) (e : OutRefusal) →
+      IsTried forms number f place i c lines live →
       refused_by i.uid (name_at (names_of forms) c.form) (verdict (i ∷ []) (Lines number lines) live) ≡ Some e →
       PlaceComes forms number f place i (Err e)
-  equated : (c : Chosen) (lines : List Line) (live : List ℕ) → IsTried forms number f place i c lines live →
+  equated : (c : Chosen) (lines : List Line) (live : List ℕ) →
+      IsTried forms number f place i c lines live →
       Equated (i ∷ []) (Lines number lines) live →
       PlaceComes forms number f place i (Ok (code_piece forms number i c lines))
 
 -- ---- functions
 
--- the parts of a function's text: the lines before its instructions, what stands at each place of its chain, and the line behind them
+-- the parts of a function's text: the lines before its instructions, what stands at each place of
+-- its chain, and the line behind them
 pub data Part : Type 0 where
   Opening : Part
   Place : ℕ → Insn → Part
@@ -76,15 +84,19 @@ PartComes forms number f Closing o = o ≡ Ok (only_text (closing_line f.name))
 
 -- behind a text of a size: no longer than an assembly may be
 abbrev pub limited : ℕ → Outcome → Outcome
-limited size (Ok piece) = if nat_le (size + length piece.text) most_output then Ok piece else Err too_long
+limited size (Ok piece) =
+    if nat_le (size + length piece.text) most_output then Ok piece else Err too_long
 limited size (Err e) = Err e
 
 -- what parts come to behind a text of a size: their pieces in order, or the first refusal
 pub data PartsCome (comes : Part → Outcome → Type 0) : ℕ → List Part → Outcome → Type 0 where
   none : (size : ℕ) → PartsCome comes size [] (Ok nothing)
-  refused : (size : ℕ) (p : Part) (parts : List Part) (o : Outcome) (e : OutRefusal) → comes p o → limited size o ≡ Err e →
+  refused : (size : ℕ) (p : Part) (parts : List Part) (o : Outcome) (e : OutRefusal) → comes p o →
+      limited size o ≡ Err e →
       PartsCome comes size (p ∷ parts) (Err e)
-  goes_on : (size : ℕ) (p : Part) (parts : List Part) (o : Outcome) (piece : Piece) (rest : Outcome) → comes p o →
+  goes_on :
+      (size : ℕ) (p : Part) (parts : List Part) (o : Outcome) (piece : Piece) (rest : Outcome) →
+      comes p o →
       limited size o ≡ Ok piece → PartsCome comes (size + length piece.text) parts rest →
       PartsCome comes size (p ∷ parts) (outcome_behind piece rest)
 

@@ -1,4 +1,5 @@
--- The lines that a form gives for an instruction: GCC Internals, "Output Template" and "Output Templates and Operand Substitution".
+-- The lines that a form gives for an instruction: GCC Internals, "Output Template" and "Output
+-- Templates and Operand Substitution".
 use Rattle.std.specs.Prelude.{◌≡◌, ℕ, List, [], ◌∷◌, ◌++◌, Option, Some, None, Result, Ok, Err, slice_get, option_and_then}
 use Rattle.std.specs.List.{AllZip}
 use Rattle.rtx_tree.specs.declared.function.Insn.{Insn}
@@ -24,7 +25,8 @@ abbrev pub text_by : Option Template → ℕ → Insn → Chosen → List ℕ
 text_by None number i c = []
 text_by (Some template) number i c = filled template c.alternative number i.uid c.operands
 
--- the template of the chosen form, filled with the operands of an instruction of a function with a number
+-- the template of the chosen form, filled with the operands of an instruction of a function with a
+-- number
 abbrev pub text_of : List Entry → ℕ → Insn → Chosen → List ℕ
 text_of forms number i c = text_by (template_at forms c.form) number i c
 

@@ -1,4 +1,5 @@
--- The lines round those of a function's instructions: "Using as", the directives .text, .align, .globl, .type and .size, and "Labels".
+-- The lines round those of a function's instructions: "Using as", the directives .text, .align,
+-- .globl, .type and .size, and "Labels".
 use Rattle.std.specs.Prelude.{ℕ, List, [], ◌∷◌, ◌++◌, codes}
 use Rattle.rv_text.specs.Body.{label_text}
 

@@ -36,6 +36,8 @@ Gives (Ok piece) P = P (Ok piece)
 Gives (Err e) P = RefusesWith e P
 
 -- it appended a text and its items, or it refused
-abbrev pub Appends : {A : Type 0} → List ℕ → List ℕ → List CodeItem → List CodeItem → Result A OutRefusal → (Outcome → Type 0) → Type 0
-Appends text text' items items' (Ok x) P = (piece : Piece) × P (Ok piece) × (text' ≡ text ++ piece.text) × (items' ≡ items ++ piece.items)
+abbrev pub Appends : {A : Type 0} → List ℕ → List ℕ → List CodeItem → List CodeItem →
+    Result A OutRefusal → (Outcome → Type 0) → Type 0
+Appends text text' items items' (Ok x) P =
+    (piece : Piece) × P (Ok piece) × (text' ≡ text ++ piece.text) × (items' ≡ items ++ piece.items)
 Appends text text' items items' (Err e) P = RefusesWith e P

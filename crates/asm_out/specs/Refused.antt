@@ -24,9 +24,11 @@ too_long = refusal.Limit Output (most_output + 1)
 abbrev pub dash : List ℕ
 dash = codes "-"
 
--- the first item in which the sides differ, with both terms; or the term that has to be there for the lines alone
+-- the first item in which the sides differ, with both terms; or the term that has to be there for
+-- the lines alone
 abbrev pub difference_refusal : ℕ → List ℕ → Difference → OutRefusal
-difference_refusal uid rule (Differ item left right) = refusal.NotEquated uid rule item (text_of left) (text_of right)
+difference_refusal uid rule (Differ item left right) =
+    refusal.NotEquated uid rule item (text_of left) (text_of right)
 difference_refusal uid rule (Lacks term) = refusal.NotEquated uid rule Need dash (text_of term)
 
 -- what a verdict refuses, by the uid of the instruction and the name of the form

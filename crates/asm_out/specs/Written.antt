@@ -1,5 +1,6 @@
--- What is written of a function: its frame of lines, and in it for each label its line, and for each instruction that needs a form the
--- filled template of the first that counts, the lines of which are equated with the instruction over what is live behind it.
+-- What is written of a function: its frame of lines, and in it for each label its line, and for
+-- each instruction that needs a form the filled template of the first that counts, the lines of
+-- which are equated with the instruction over what is live behind it.
 use Rattle.std.specs.Prelude.{◌≡◌, ◌<◌, ◌^◌, ℕ, ◌+◌, true, false, List, [], ◌∷◌, ◌++◌, map}
 use Rattle.std.specs.List.{AllZip}
 use Rattle.rtx_tree.specs.declared.function.Insn.{Insn}
@@ -20,8 +21,9 @@ use Rattle.asm_out.specs.declared.piece.Piece.{Piece}
 use Rattle.asm_out.specs.Frame.{framed, label_line}
 use Rattle.asm_out.specs.Filled.{text_of, written}
 
--- the lines of an instruction at a place of a function: those of the filled template of the first form that counts, with the lowest
--- enabled alternative that fits; and they are equated with the instruction over the registers that are live behind it
+-- the lines of an instruction at a place of a function: those of the filled template of the first
+-- form that counts, with the lowest enabled alternative that fits; and they are equated with the
+-- instruction over the registers that are live behind it
 pub record AreInsnLines (forms : List Entry) (number : ℕ) (f : Function) (place : ℕ) (i : Insn)
     (c : Chosen) (lines : List Line) : Type 0 where
   pub needs : needs_form i ≡ true
@@ -35,10 +37,12 @@ pub record AreInsnLines (forms : List Entry) (number : ℕ) (f : Function) (plac
 -- the text and the items of the rest of a function's chain from a place on
 pub data AreWritten (forms : List Entry) (number : ℕ) (f : Function) : ℕ → List Insn → List ℕ → List CodeItem → Type 0 where
   none : (place : ℕ) → AreWritten forms number f place [] [] []
-  label : (place : ℕ) (i : Insn) (insns : List Insn) (text : List ℕ) (items : List CodeItem) → is_label i.kind ≡ true → i.uid < 2 ^ 32 →
+  label : (place : ℕ) (i : Insn) (insns : List Insn) (text : List ℕ) (items : List CodeItem) →
+      is_label i.kind ≡ true → i.uid < 2 ^ 32 →
       AreWritten forms number f (place + 1) insns text items →
       AreWritten forms number f place (i ∷ insns) (label_line number i.uid ++ text) (item.Label number i.uid ∷ items)
-  silent : (place : ℕ) (i : Insn) (insns : List Insn) (text : List ℕ) (items : List CodeItem) → is_silent i ≡ true →
+  silent : (place : ℕ) (i : Insn) (insns : List Insn) (text : List ℕ) (items : List CodeItem) →
+      is_silent i ≡ true →
       AreWritten forms number f (place + 1) insns text items → AreWritten forms number f place (i ∷ insns) text items
   lines : (place : ℕ) (i : Insn) (insns : List Insn) (c : Chosen) (lines : List Line) (text : List ℕ) (items : List CodeItem) →
       AreInsnLines forms number f place i c lines → AreWritten forms number f (place + 1) insns text items →

@@ -35,8 +35,9 @@ fn lines_in(alloc: Global, side: Side) -> Items<Line>
     }
 }
 
-/// What an instruction at a place comes to by the chosen form: its lines, where they are equated with it over the registers that are live
-/// behind it. More lines than 32 bits count find no memory.
+/// What an instruction at a place comes to by the chosen form: its lines, where they are equated
+/// with it over the registers that are live behind it. More lines than 32 bits count find no
+/// memory.
 pub fn chosen_piece(
     alloc: Global,
     description: &Description,

@@ -96,16 +96,17 @@ fn write_parts(
     write_closing(alloc, f, out, items)
 }
 
-/// Appends the assembly of a function with a number, and the lines and labels that it spells: for each label its line, and for each
-/// instruction that needs a form the filled template of the first that counts at output, with the lowest enabled alternative that
-/// fits, where its lines are equated with the instruction. The chain is written as it stands. After a refusal what was appended
-/// before it stays.
+/// Appends the assembly of a function with a number, and the lines and labels that it spells: for
+/// each label its line, and for each instruction that needs a form the filled template of the first
+/// that counts at output, with the lowest enabled alternative that fits, where its lines are
+/// equated with the instruction. The chain is written as it stands. After a refusal what was
+/// appended before it stays.
 ///
 /// # Errors
 ///
 /// `Unmatched` at the first instruction for which no form counts; `NotEquated`, or `Limit` of
-/// `TermSize`, where its comparison fails; `Limit` of `Output` where the text were longer than an assembly may be; `Memory` where
-/// memory ran out.
+/// `TermSize`, where its comparison fails; `Limit` of `Output` where the text were longer than an
+/// assembly may be; `Memory` where memory ran out.
 pub fn write_function(
     alloc: Global,
     description: &Description,

@@ -18,7 +18,8 @@ pub enum OutRefusal {
         uid: u32,
         insn: Rtx,
     },
-    /// An instruction and the lines of a form are not equated: the first item that fails, with both terms.
+    /// An instruction and the lines of a form are not equated: the first item that fails, with both
+    /// terms.
     NotEquated {
         uid: u32,
         rule: Name,

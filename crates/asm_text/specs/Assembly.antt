@@ -1,5 +1,5 @@
--- The assembly of functions by a description: for each function, in order and numbered from 0, what it comes to at output, with a summary
--- of all.
+-- The assembly of functions by a description: for each function, in order and numbered from 0, what
+-- it comes to at output, with a summary of all.
 use Rattle.std.specs.Prelude.{◌<◌, ◌^◌, ℕ, ◌+◌, List, [], ◌∷◌, ◌++◌, length, Result, Ok, Err}
 use Rattle.rtx_tree.specs.declared.function.Function.{Function}
 use Rattle.rtx_tree.specs.declared.stage.Stage.TheVariants.{Output}
@@ -22,7 +22,8 @@ use Rattle.asm_text.specs.Summary.{summary_of, plus}
 -- the refusal of a run for that of a function at output
 abbrev pub refused_for : List ℕ → OutRefusal → Refusal
 refused_for function (out_refusal.Unmatched uid insn) = refusal.Unmatched function uid Output insn
-refused_for function (out_refusal.NotEquated uid rule item left right) = refusal.NotEquated function uid rule item left right
+refused_for function (out_refusal.NotEquated uid rule item left right) =
+    refusal.NotEquated function uid rule item left right
 refused_for function (out_refusal.Limit which count) = refusal.Limit which count
 refused_for function out_refusal.Memory = refusal.Memory
 
@@ -49,24 +50,29 @@ outcome_behind a (Err e) = Err e
 
 -- ---- one function
 
--- what a function comes to with what it comes to at output: its text with its lines and labels, and its summary; or the refusal of the run
+-- what a function comes to with what it comes to at output: its text with its lines and labels, and
+-- its summary; or the refusal of the run
 abbrev pub told_for : Function → Made → out_of.Outcome → Outcome
 told_for f m (Ok piece) = Ok (alone f m piece)
 told_for f m (Err e) = Err (refused_for f.name e)
 
--- What a function with a number comes to behind a text of a size: what refuses it before output, or else what it comes to there.
+-- What a function with a number comes to behind a text of a size: what refuses it before output, or
+-- else what it comes to there.
 pub data FunctionComes (forms : List Entry) (number size : ℕ) (f : Function) : Outcome → Type 0 where
   refused : (e : Refusal) → AfterComes forms f (Err e) → FunctionComes forms number size f (Err e)
-  written : (m : Made) (o : out_of.Outcome) → AfterComes forms f (Ok m) → out.FunctionComes forms number m.function size o →
+  written : (m : Made) (o : out_of.Outcome) → AfterComes forms f (Ok m) →
+      out.FunctionComes forms number m.function size o →
       FunctionComes forms number size f (told_for f m o)
 
 -- ---- all
 
--- What some functions come to behind a text of a size, where the first has a number: their texts in order, or the first refusal. A function's number has
--- 32 bits.
+-- What some functions come to behind a text of a size, where the first has a number: their texts in
+-- order, or the first refusal. A function's number has 32 bits.
 pub data AreWritten (forms : List Entry) : ℕ → ℕ → List Function → Outcome → Type 0 where
   none : (number size : ℕ) → AreWritten forms number size [] (Ok nothing)
-  refused : (number size : ℕ) (f : Function) (functions : List Function) (e : Refusal) → FunctionComes forms number size f (Err e) → AreWritten forms number size (f ∷ functions) (Err e)
+  refused : (number size : ℕ) (f : Function) (functions : List Function) (e : Refusal) →
+      FunctionComes forms number size f (Err e) →
+      AreWritten forms number size (f ∷ functions) (Err e)
   goes_on : (number size : ℕ) (f : Function) (functions : List Function) (one : Assembly) (rest : Outcome) → number < 2 ^ 32 →
       FunctionComes forms number size f (Ok one) → AreWritten forms (number + 1) (size + length one.text) functions rest →
       AreWritten forms number size (f ∷ functions) (outcome_behind one rest)

@@ -1,4 +1,5 @@
--- A function of an input with its code: the lines and labels that its part of the input's assembly spells.
+-- A function of an input with its code: the lines and labels that its part of the input's assembly
+-- spells.
 use Rattle.std.specs.Prelude.{◌≡◌, ℕ, Bool, false, List, Option, Some, None, is_some, slice_get, Result, Ok, Err}
 use Rattle.std.specs.List.{position_from}
 use Rattle.std.specs.Str.{bytes_eq}
@@ -41,23 +42,31 @@ Gives (Err refusal.ReadFault) P = ⊥
 Gives (Err refusal.WriteFault) P = ⊥
 Gives answer P = P answer
 
--- What a name among functions comes to. What refuses the functions refuses it, but whether one of them has the name is looked at first.
+-- What a name among functions comes to. What refuses the functions refuses it, but whether one of
+-- them has the name is looked at first.
 pub data NameComes (forms : List Entry) (functions : List Function) (name : List ℕ) : Answer → Type 0 where
   unnamed : place_named functions name ≡ None → NameComes forms functions name (Err refusal.Usage)
-  refused : (place : ℕ) (e : Refusal) → place_named functions name ≡ Some place → FunctionsCome forms functions (Err e) → NameComes forms functions name (Err e)
-  coded : (place : ℕ) (a : Assembly) (c : Coded) → place_named functions name ≡ Some place → FunctionsCome forms functions (Ok a) → IsCodedAt functions a place c → NameComes forms functions name (Ok c)
+  refused : (place : ℕ) (e : Refusal) → place_named functions name ≡ Some place →
+      FunctionsCome forms functions (Err e) → NameComes forms functions name (Err e)
+  coded : (place : ℕ) (a : Assembly) (c : Coded) → place_named functions name ≡ Some place →
+      FunctionsCome forms functions (Ok a) → IsCodedAt functions a place c →
+      NameComes forms functions name (Ok c)
 
--- What a name comes to in the bytes of an input. Bytes that are not read as functions are refused as their assembly is.
+-- What a name comes to in the bytes of an input. Bytes that are not read as functions are refused
+-- as their assembly is.
 pub data CodeComes (forms : List Entry) (bytes name : List ℕ) : Answer → Type 0 where
-  unread : (e : Refusal) → ((functions : List Function) → ¬ IsRead bytes functions) → InputComes forms bytes (Err e) → CodeComes forms bytes name (Err e)
-  read : (functions : List Function) (answer : Answer) → IsRead bytes functions → NameComes forms functions name answer → CodeComes forms bytes name answer
+  unread : (e : Refusal) → ((functions : List Function) → ¬ IsRead bytes functions) →
+      InputComes forms bytes (Err e) → CodeComes forms bytes name (Err e)
+  read : (functions : List Function) (answer : Answer) → IsRead bytes functions →
+      NameComes forms functions name answer → CodeComes forms bytes name answer
 
 -- no function of the input has the name
 abbrev pub IsUnnamed : List ℕ → List ℕ → Type 0
-IsUnnamed bytes name = (functions : List Function) × IsRead bytes functions × (has_named functions name ≡ false)
+IsUnnamed bytes name =
+    (functions : List Function) × IsRead bytes functions × (has_named functions name ≡ false)
 
--- A function of the input with a name, with its code: the input has an assembly, and the function is the first with the name, with what its part
--- of that text spells.
+-- A function of the input with a name, with its code: the input has an assembly, and the function
+-- is the first with the name, with what its part of that text spells.
 pub record IsCoded (forms : List Entry) (bytes name : List ℕ) (c : Coded) : Type 0 where
   pub functions : List Function
   pub input : IsInput bytes functions

@@ -1,4 +1,5 @@
--- What the bytes of an input come to by a description: the assembly of its functions, or the first refusal.
+-- What the bytes of an input come to by a description: the assembly of its functions, or the first
+-- refusal.
 use Rattle.std.specs.Prelude.{◌≡◌, ℕ, List, Ok, Err}
 use Rattle.rtx_tree.specs.declared.function.Function.{Function}
 use Rattle.md_forms.specs.declared.form.Entry.{Entry}
@@ -6,7 +7,8 @@ use Rattle.func_input.specs.Input.{FunctionsComeTo, InputComesTo, RefusesWith}
 use Rattle.func_input.specs.Outcome as texts
 use Rattle.asm_text.specs.Assembly.{Outcome, AssemblyComes}
 
--- What some functions come to: their assembly, or the first of them that is refused. Each is looked at before the text of any is made.
+-- What some functions come to: their assembly, or the first of them that is refused. Each is looked
+-- at before the text of any is made.
 abbrev pub FunctionsCome : List Entry → List Function → Outcome → Type 0
 FunctionsCome forms = FunctionsComeTo (AssemblyComes forms)
 

@@ -1,5 +1,5 @@
--- What the written text does: for each function of the input, in order, the lines and labels that its part of the text spells have the same
--- behaviour as the function.
+-- What the written text does: for each function of the input, in order, the lines and labels that
+-- its part of the text spells have the same behaviour as the function.
 use Rattle.std.specs.Prelude.{◌≡◌, ℕ, List, [], ◌∷◌, ◌++◌, Some, slice_get, Ok}
 use Rattle.rtx_tree.specs.declared.function.Function.{Function}
 use Rattle.rv_text.specs.Body.{Spells}
@@ -11,7 +11,8 @@ use Rattle.func_after.specs.After.{AfterComes}
 use Rattle.func_after.specs.declared.made.Made.{Made}
 use Rattle.asm_out.specs.Frame.{framed}
 
--- The parts of a text that are its functions', in order: between the `NAME:` line and the `.size` line of each stands what spells its items.
+-- The parts of a text that are its functions', in order: between the `NAME:` line and the `.size`
+-- line of each stands what spells its items.
 pub data AreParts : List Function → List ℕ → List (List CodeItem) → Type 0 where
   none : AreParts [] [] []
   part : (f : Function) (functions : List Function) (body rest : List ℕ) (items : List CodeItem) (others : List (List CodeItem)) → Spells body items → AreParts functions rest others →
@@ -21,7 +22,8 @@ pub data AreParts : List Function → List ℕ → List (List CodeItem) → Type
 abbrev pub AreSound : List Function → Type 0
 AreSound functions = (index : ℕ) (f : Function) → slice_get functions index ≡ Some f → IsSound f
 
--- the items of each function have its behaviour, in each frame that has the room at least of which the passes laid out its frame
+-- the items of each function have its behaviour, in each frame that has the room at least of which
+-- the passes laid out its frame
 pub data AreSame (forms : List Entry) : List Function → List (List CodeItem) → Type 0 where
   none : AreSame forms [] []
   function : (f : Function) (m : Made) (functions : List Function) (items : List CodeItem) (others : List (List CodeItem)) →

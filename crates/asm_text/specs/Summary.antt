@@ -1,4 +1,5 @@
--- What was compiled, in numbers: GCC Internals, "Passes and Files of the Compiler". Which counts there are is this project's own.
+-- What was compiled, in numbers: GCC Internals, "Passes and Files of the Compiler". Which counts
+-- there are is this project's own.
 use Rattle.std.specs.Prelude.{ℕ, ◌+◌, filter, length, List, Bool, true, false}
 use Rattle.rtx_tree.specs.declared.function.Function.{Function}
 use Rattle.rv_text.specs.declared.line.CodeItem.{CodeItem}
@@ -19,7 +20,8 @@ is_code _ = false
 abbrev pub line_count : List CodeItem → ℕ
 line_count items = length (filter is_code items)
 
--- Of a function that came in, what the passes made of it, and its lines and labels. No pass combines instructions.
+-- Of a function that came in, what the passes made of it, and its lines and labels. No pass
+-- combines instructions.
 abbrev pub summary_of : Function → Made → List CodeItem → Summary
 summary_of f m items = record {
   instructions = instruction_count f.insns;

@@ -67,7 +67,8 @@ fn refused_for(alloc: Global, function: &Name, refusal: OutRefusal) -> Refusal
     }
 }
 
-/// Appends the text and the items of what the passes made of a function with a number, and gives the summary of both.
+/// Appends the text and the items of what the passes made of a function with a number, and gives
+/// the summary of both.
 fn write_after(
     alloc: Global,
     description: &Description,

@@ -61,14 +61,14 @@ fn name_comes(
     Ok(coded_at(functions, assembly, place))
 }
 
-/// The function of an input with a name, with the lines and labels that its part of the input's assembly spells, or what refuses it:
-/// the name where no function has it, which is looked at once the functions are read, or what refuses the assembly. An input has at most
-/// 16,777,216 bytes.
+/// The function of an input with a name, with the lines and labels that its part of the input's
+/// assembly spells, or what refuses it: the name where no function has it, which is looked at once
+/// the functions are read, or what refuses the assembly. An input has at most 16,777,216 bytes.
 ///
 /// # Errors
 ///
-/// `Usage` where no function has the name; `Syntax`, `Limit`, `Construct`, `IllFormed`, `Unmatched`, `Unsatisfied`, `NotEquated`, or
-/// `Memory` as [`compile`] says.
+/// `Usage` where no function has the name; `Syntax`, `Limit`, `Construct`, `IllFormed`,
+/// `Unmatched`, `Unsatisfied`, `NotEquated`, or `Memory` as [`compile`] says.
 pub fn code_of(
     alloc: Global,
     description: &Description,
@@ -78,7 +78,8 @@ pub fn code_of(
     requires { length bytes.now ≤ most_bytes }
     ensures gives { Gives result (CodeComes description.now bytes.now name.now) }
     ensures unnamed { result ≡ Err Refusal.Usage → IsUnnamed bytes.now name.now }
-    ensures one { (forms : List Entry) (bytes name : List ℕ) (a b : Answer) → CodeComes forms bytes name a → CodeComes forms bytes name b → a ≡ b }
+    ensures one { (forms : List Entry) (bytes name : List ℕ) (a b : Answer) →
+        CodeComes forms bytes name a → CodeComes forms bytes name b → a ≡ b }
 {
     let functions = read_functions(alloc, bytes)?;
     name_comes(alloc, description, functions, name)

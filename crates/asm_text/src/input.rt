@@ -17,13 +17,14 @@ use rtx_tree::Function;
 use run_refusal::Refusal;
 use std::alloc::Global;
 
-/// The assembly of functions by a description, or what refuses one of them: a rule that it breaks or a limit that it passes, which are looked
-/// at for all functions first; or in a function what a pass refuses, and then an instruction for which no lines are written.
+/// The assembly of functions by a description, or what refuses one of them: a rule that it breaks
+/// or a limit that it passes, which are looked at for all functions first; or in a function what a
+/// pass refuses, and then an instruction for which no lines are written.
 ///
 /// # Errors
 ///
-/// `IllFormed`, `Limit`, `Unmatched`, `Unsatisfied`, `NotEquated`, or `Memory` where memory ran out, or a sum of the summary is 2^64 or
-/// more.
+/// `IllFormed`, `Limit`, `Unmatched`, `Unsatisfied`, `NotEquated`, or `Memory` where memory ran
+/// out, or a sum of the summary is 2^64 or more.
 #[tactic(auto, using(crate::proofs::Behaviour::compiled_same))]
 pub fn compile(
     alloc: Global,
@@ -33,9 +34,12 @@ pub fn compile(
     ensures gives { Gives result (FunctionsCome description.now functions.now) }
 
     // The lines of each function are those of the forms, each part of the text spells the lines and labels beside it, and the text is within its limit.
-    ensures lines { (forms : List Entry) (functions : List Function) (a : Assembly) → AssemblyComes forms functions (Ok a) → IsAssembly forms 0 functions a }
-    ensures spelled { (forms : List Entry) (functions : List Function) (a : Assembly) → AssemblyComes forms functions (Ok a) → AreParts functions a.text a.parts }
-    ensures within { (forms : List Entry) (functions : List Function) (a : Assembly) → AssemblyComes forms functions (Ok a) → length a.text ≤ most_output }
+    ensures lines { (forms : List Entry) (functions : List Function) (a : Assembly) →
+        AssemblyComes forms functions (Ok a) → IsAssembly forms 0 functions a }
+    ensures spelled { (forms : List Entry) (functions : List Function) (a : Assembly) →
+        AssemblyComes forms functions (Ok a) → AreParts functions a.text a.parts }
+    ensures within { (forms : List Entry) (functions : List Function) (a : Assembly) →
+        AssemblyComes forms functions (Ok a) → length a.text ≤ most_output }
 
     // By the forms of a description, the lines and labels of each sound function have its behaviour, in each frame that has the room at
     // least of which the passes laid out its frame.
@@ -46,12 +50,14 @@ pub fn compile(
     assemble(alloc, description, functions)
 }
 
-/// The assembly of the functions of an input by a description, or what refuses it: bytes that are no text, a tree outside the language, and
-/// then as [`compile`] says. An input has at most 16,777,216 bytes.
+/// The assembly of the functions of an input by a description, or what refuses it: bytes that are
+/// no text, a tree outside the language, and then as [`compile`] says. An input has at most
+/// 16,777,216 bytes.
 ///
 /// # Errors
 ///
-/// `Syntax`, `Limit`, `Construct`, `IllFormed`, `Unmatched`, `Unsatisfied`, `NotEquated`, or `Memory` as [`compile`] says.
+/// `Syntax`, `Limit`, `Construct`, `IllFormed`, `Unmatched`, `Unsatisfied`, `NotEquated`, or
+/// `Memory` as [`compile`] says.
 pub fn assembly_of(
     alloc: Global,
     description: &Description,
@@ -59,7 +65,8 @@ pub fn assembly_of(
 ) -> Result<Assembly, Refusal>
     requires { length bytes.now ≤ most_bytes }
     ensures gives { Gives result (InputComes description.now bytes.now) }
-    ensures one { (forms : List Entry) (bytes : List ℕ) (a b : Outcome) → InputComes forms bytes a → InputComes forms bytes b → a ≡ b }
+    ensures one { (forms : List Entry) (bytes : List ℕ) (a b : Outcome) → InputComes forms bytes a →
+        InputComes forms bytes b → a ≡ b }
 {
     let functions = read_functions(alloc, bytes)?;
     compile(alloc, description, functions.as_slice())

@@ -1,5 +1,5 @@
--- The layout of a frame: GCC Internals, "Basic Stack Layout" and "Function Entry and Exit"; RISC-V ELF psABI, "Integer Calling Convention"
--- (the stack pointer is a multiple of 16).
+-- The layout of a frame: GCC Internals, "Basic Stack Layout" and "Function Entry and Exit"; RISC-V
+-- ELF psABI, "Integer Calling Convention" (the stack pointer is a multiple of 16).
 use Rattle.std.specs.Prelude.{◌≡◌, ℕ, ◌+◌, ◌-◌, ◌*◌, ◌%◌, ◌≤◌, ◌==◌, Bool, false, if◌then◌else◌, List, [], ◌∷◌, ◌++◌, length, map, filter, All}
 use Rattle.std.specs.Int.{next_multiple_of}
 use Rattle.std.specs.List.{list_any, flat_map, AllPairs}
@@ -57,10 +57,11 @@ abbrev pub slot_places : ℕ → List ℕ → List SlotAt
 slot_places top [] = []
 slot_places top (pseudo ∷ pseudos) = record { pseudo = pseudo; offset = top - 8 } ∷ slot_places (top - 8) pseudos
 
--- the locals stand at the top, rounded up to 8 bytes; below them the saved registers, and below these the slots; all of it is
--- rounded up to 16 bytes
+-- the locals stand at the top, rounded up to 8 bytes; below them the saved registers, and below
+-- these the slots; all of it is rounded up to 16 bytes
 abbrev pub frame_size : ℕ → List ℕ → List ℕ → ℕ
-frame_size locals saved slots = next_multiple_of (next_multiple_of locals 8 + 8 * length saved + 8 * length slots) 16
+frame_size locals saved slots =
+    next_multiple_of (next_multiple_of locals 8 + 8 * length saved + 8 * length slots) 16
 
 abbrev pub top_of : ℕ → List ℕ → List ℕ → ℕ
 top_of locals saved slots = frame_size locals saved slots - next_multiple_of locals 8

@@ -1,4 +1,5 @@
--- The homes of a function's pseudo registers: GCC Internals, "RTL passes" (the integrated register allocator).
+-- The homes of a function's pseudo registers: GCC Internals, "RTL passes" (the integrated register
+-- allocator).
 use Rattle.std.specs.Prelude.{◌≡◌, ℕ, ◌<◌, ◌⊎◌, Bool, List, map, Some, slice_get}
 use Rattle.std.specs.List.{list_any}
 use Rattle.std.specs.List.Sorted.{IsStrictlyIncreasing}
@@ -26,8 +27,11 @@ register x = pseudo x.pseudo
 -- ---- valid: no pseudo conflicts with its register, and no two that share a register conflict
 
 pub record IsValid (f : Function) (homes : List HomeOf) : Type 0 where
-  pub own : (k : ℕ) (x : HomeOf) (hard : ℕ) → slice_get homes k ≡ Some x → x.home ≡ Hard hard → Conflict f (register x) hard → ⊥
-  pub shared : (j k : ℕ) (x y : HomeOf) (hard : ℕ) → j < k → slice_get homes j ≡ Some x → slice_get homes k ≡ Some y → x.home ≡ Hard hard → y.home ≡ Hard hard → Conflict f (register y) (register x) → ⊥
+  pub own : (k : ℕ) (x : HomeOf) (hard : ℕ) → slice_get homes k ≡ Some x → x.home ≡ Hard hard →
+      Conflict f (register x) hard → ⊥
+  pub shared : (j k : ℕ) (x y : HomeOf) (hard : ℕ) → j < k → slice_get homes j ≡ Some x →
+      slice_get homes k ≡ Some y → x.home ≡ Hard hard → y.home ≡ Hard hard →
+      Conflict f (register y) (register x) → ⊥
 
 -- the pseudo at k can't have a hard register: it conflicts with it, or with an earlier holder of it
 abbrev pub IsTaken : Function → List HomeOf → ℕ → HomeOf → ℕ → Type 0

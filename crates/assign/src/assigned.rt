@@ -55,8 +55,9 @@ fn pick_in_order(
     Ok(homes)
 }
 
-/// A home for each pseudo register that the function names: a hard register, or a slot. The rows are those of the registers that are
-/// live in this function. A register from 2^32 - 64 on and a chain of 2^32 places or more find no memory.
+/// A home for each pseudo register that the function names: a hard register, or a slot. The rows
+/// are those of the registers that are live in this function. A register from 2^32 - 64 on and a
+/// chain of 2^32 places or more find no memory.
 pub fn assign(alloc: Global, f: &Function, live: &[RegRow]) -> Result<Homes, Memory>
     requires live { AreLiveRows f.now live.now }
     requires room { HaveRoom f.now live.now }

@@ -67,7 +67,8 @@ fn add_return_address(insns: &[Insn], saved: &mut Items<u8>) -> Result<(), Memor
     }
 }
 
-/// The registers that are saved: `ra` where there is a call, then those of `s0` to `s11` that are homes.
+/// The registers that are saved: `ra` where there is a call, then those of `s0` to `s11` that are
+/// homes.
 fn saved_of(alloc: Global, f: &Function, homes: &[HomeOf]) -> Result<Items<u8>, Memory>
     ensures value { IfOk result (λ saved. saved ≡ spec.saved_of f.now homes.now) }
     ensures few { IfOk result (λ saved. length saved < 2 ^ 32) }
@@ -145,7 +146,8 @@ fn layout_for(alloc: Global, locals: u32, saved: &[u8], slots: &[u32]) -> Result
     Ok(Layout { size, slots, saved })
 }
 
-/// The layout of the frame of a function whose pseudos have these homes. 2^32 slots or more find no memory.
+/// The layout of the frame of a function whose pseudos have these homes. 2^32 slots or more find no
+/// memory.
 pub fn layout(alloc: Global, f: &Function, homes: &Homes) -> Result<Layout, Memory>
     ensures value { IfOk result (λ layout. layout ≡ spec.layout_of f.now homes.now) }
     ensures frame { IfOk result (λ layout. spec.IsFrame f.now homes.now layout) }

@@ -25,7 +25,8 @@ fn block(rows: &[RegRow], reg: u32, hard: usize, blocked: &mut [RegRow])
     }
 }
 
-/// For each hard register the registers that can't have it since they conflict with it. The rows are of so many words.
+/// For each hard register the registers that can't have it since they conflict with it. The rows
+/// are of so many words.
 fn blocked_by_own(alloc: Global, rows: &[RegRow], width: usize) -> Result<Vec<RegRow>, Memory>
     requires { IsTable width rows.now }
     ensures long { IfOk result (λ blocked. vec_len blocked ≡ 64) }
@@ -65,8 +66,9 @@ fn block_home(rows: &[RegRow], reg: u32, home: Home, blocked: &mut [RegRow])
     }
 }
 
-/// Gives each pseudo, in their order, the first register of the order that is free beside the earlier ones, else a slot. The rows,
-/// each with the registers that its own conflicts with, are of so many words.
+/// Gives each pseudo, in their order, the first register of the order that is free beside the
+/// earlier ones, else a slot. The rows, each with the registers that its own conflicts with, are of
+/// so many words.
 pub fn pick(
     alloc: Global,
     rows: &[RegRow],

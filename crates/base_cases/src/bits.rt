@@ -59,7 +59,8 @@ fn show(operation: &str, a: u64, b: u64, w: Width, told: &mut Told) {
     }
 }
 
-/// Appends what an operation gives for a width and two numbers in hexadecimal digits, of which the second may be missing.
+/// Appends what an operation gives for a width and two numbers in hexadecimal digits, of which the
+/// second may be missing.
 pub fn tell(input: &[u8], told: &mut Told) {
     let Ok(text) = str::from_utf8(input) else {
         return told.fail();

@@ -1,5 +1,6 @@
-//! Tables of cases of the lowest calls: numbers of 8 to 64 bits, words, names, commands, and what is told of a function and some lines. A
-//! testing tool, of which nothing is promised but that it is safe.
+//! Tables of cases of the lowest calls: numbers of 8 to 64 bits, words, names, commands, and what
+//! is told of a function and some lines. A testing tool, of which nothing is promised but that it
+//! is safe.
 //!
 //! | Table | Input | Answer |
 //! |---|---|---|

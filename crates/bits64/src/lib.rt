@@ -1,8 +1,9 @@
 //! Arithmetic on numbers of 8, 16, 32 and 64 bits, as the instructions of RV64IM compute them.
 //!
-//! Each operation takes 64-bit words and a width. It reads the low bits of the words that the width has, signed or unsigned as its
-//! name says, and its contract says which number it returns. Every operation is total: it answers at every word, zero divisors and
-//! shift counts past the width included, and it takes no memory.
+//! Each operation takes 64-bit words and a width. It reads the low bits of the words that the width
+//! has, signed or unsigned as its name says, and its contract says which number it returns. Every
+//! operation is total: it answers at every word, zero divisors and shift counts past the width
+//! included, and it takes no memory.
 #![tactic(auto)]
 
 ghost use Rattle.std.specs.Prelude.{◌≡◌, ◌+◌, ◌-◌, ◌*◌, ◌%◌, ◌^◌, ◌<◌, ◌≤◌, pos, ◌+ℤ◌, ◌-ℤ◌, ◌*ℤ◌, int_div, int_rem};
@@ -178,7 +179,8 @@ pub fn mul(a: u64, b: u64, w: Width) -> u64
 pub fn mulh(a: u64, b: u64, w: Width) -> u64
     ensures value { result ≡ high_signed w a b }
     ensures fits { result < 2 ^ bits_of w }
-    ensures whole { signed w result *ℤ pos (2 ^ bits_of w) +ℤ pos (product_of w a b) ≡ signed w a *ℤ signed w b }
+    ensures whole { signed w result *ℤ pos (2 ^ bits_of w) +ℤ pos (product_of w a b) ≡
+        signed w a *ℤ signed w b }
 {
     high_half(product(to_signed(a, w), to_signed(b, w)), w)
 }
@@ -193,16 +195,19 @@ pub fn mulhu(a: u64, b: u64, w: Width) -> u64
     (whole >> w.bits()) as u64
 }
 
-/// The upper half of the product of a signed and an unsigned word, in this order; `mul` gives the lower half.
+/// The upper half of the product of a signed and an unsigned word, in this order; `mul` gives the
+/// lower half.
 pub fn mulhsu(a: u64, b: u64, w: Width) -> u64
     ensures value { result ≡ high_mixed w a b }
     ensures fits { result < 2 ^ bits_of w }
-    ensures whole { signed w result *ℤ pos (2 ^ bits_of w) +ℤ pos (product_of w a b) ≡ signed w a *ℤ pos (low w b) }
+    ensures whole { signed w result *ℤ pos (2 ^ bits_of w) +ℤ pos (product_of w a b) ≡
+        signed w a *ℤ pos (low w b) }
 {
     high_half(mixed_product(to_signed(a, w), trunc(b, w)), w)
 }
 
-/// The quotient of two signed words, rounded toward zero. By zero it is -1; the least number divided by -1 gives itself.
+/// The quotient of two signed words, rounded toward zero. By zero it is -1; the least number
+/// divided by -1 gives itself.
 pub fn div(a: u64, b: u64, w: Width) -> u64
     ensures value { result ≡ quotient_signed w a b }
     ensures fits { result < 2 ^ bits_of w }
@@ -214,7 +219,8 @@ pub fn div(a: u64, b: u64, w: Width) -> u64
     }
 }
 
-/// The word that a quotient wraps to. Of -2 ^ 63 and -1 it is 2 ^ 63, which `i64` wraps first: the word is the same.
+/// The word that a quotient wraps to. Of -2 ^ 63 and -1 it is 2 ^ 63, which `i64` wraps first: the
+/// word is the same.
 fn quotient(a: i64, b: i64, w: Width) -> u64
     requires { IsNonZero w64 b }
     ensures { result ≡ wrapped w (int_div a b) }
@@ -230,8 +236,8 @@ pub fn udiv(a: u64, b: u64, w: Width) -> u64
     trunc(a, w).checked_div(trunc(b, w)).unwrap_or(w.all_ones())
 }
 
-/// The remainder of two signed words, with the sign of the dividend. By zero it is the dividend; the least number divided by -1
-/// leaves 0.
+/// The remainder of two signed words, with the sign of the dividend. By zero it is the dividend;
+/// the least number divided by -1 leaves 0.
 pub fn rem(a: u64, b: u64, w: Width) -> u64
     ensures value { result ≡ remainder_signed w a b }
     ensures fits { result < 2 ^ bits_of w }

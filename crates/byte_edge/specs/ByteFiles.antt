@@ -22,10 +22,14 @@ files_calls files = files.calls
 abbrev pub files_faults : ByteFiles → ℕ
 files_faults files = files.calls.faults
 
--- A name that isn't there fails. Bytes that are more than the room are too long, even in a call that is to fail.
+-- A name that isn't there fails. Bytes that are more than the room are too long, even in a call
+-- that is to fail.
 abbrev pub Answers : {X : Type 0} → ByteFiles → List ℕ → ℕ → List ℕ → Result X FetchFault → Type 0
-Answers files name room out (Ok x) = (file_of (entries_of files) name ≡ Some out) × (length out ≤ room) × ¬ IsToFail (files_calls files)
-Answers files name room out (Err fault.TooLong) = (bytes : List ℕ) × (file_of (entries_of files) name ≡ Some bytes) × (room < length bytes)
+Answers files name room out (Ok x) =
+    (file_of (entries_of files) name ≡ Some out) × (length out ≤ room) ×
+    ¬ IsToFail (files_calls files)
+Answers files name room out (Err fault.TooLong) =
+    (bytes : List ℕ) × (file_of (entries_of files) name ≡ Some bytes) × (room < length bytes)
 Answers files name room out (Err fault.Failed) =
     (file_of (entries_of files) name ≡ None) ⊎ ((bytes : List ℕ) × (file_of (entries_of files) name ≡ Some bytes) × (length bytes ≤ room) × IsToFail (files_calls files))
 Answers files name room out (Err fault.Memory) = ⊤

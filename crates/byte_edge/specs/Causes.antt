@@ -7,7 +7,8 @@ use Rattle.std.specs.Io.KnownBytes.{Appends}
 abbrev pub one_more : ℕ → ℕ
 one_more count = min (count + 1) (2 ^ 64 - 1)
 
--- A count of faults rose in a call: it is greater than before, or it stands at 18446744073709551615, its last value.
+-- A count of faults rose in a call: it is greater than before, or it stands at
+-- 18446744073709551615, its last value.
 abbrev pub Rose : ℕ → ℕ → Type 0
 Rose before now = one_more before ≤ now
 
@@ -19,4 +20,5 @@ pub record HasCause {T E : Type 0} (before now : ℕ) (result : Result T E) : Ty
 
 -- a front of the bytes was taken, and no other byte
 abbrev pub TakesFront : Option (List ℕ) → Option (List ℕ) → List ℕ → Type 0
-TakesFront old new bytes = (front : List ℕ) × (back : List ℕ) × (bytes ≡ front ++ back) × Appends old new front
+TakesFront old new bytes =
+    (front : List ℕ) × (back : List ℕ) × (bytes ≡ front ++ back) × Appends old new front

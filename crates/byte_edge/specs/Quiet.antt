@@ -28,7 +28,8 @@ abbrev pub quiet_bytes_of : QuietFiles → List ℕ → List ℕ
 quiet_bytes_of files name = unwrap_or (file_of (quiet_entries_of files) name) []
 
 -- The bytes of the name are given, or they are more than the room. No call fails.
-abbrev pub QuietAnswers : {X : Type 0} → QuietFiles → List ℕ → ℕ → List ℕ → Result X FetchFault → Type 0
+abbrev pub QuietAnswers : {X : Type 0} → QuietFiles → List ℕ → ℕ → List ℕ → Result X FetchFault →
+    Type 0
 QuietAnswers files name room out (Ok x) = (out ≡ quiet_bytes_of files name) × (length out ≤ room)
 QuietAnswers files name room out (Err fault.TooLong) = room < length (quiet_bytes_of files name)
 QuietAnswers files name room out (Err fault.Failed) = ⊥

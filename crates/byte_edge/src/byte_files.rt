@@ -7,8 +7,8 @@ use crate::stored::Stored;
 use plain_data::Memory;
 use std::alloc::Global;
 
-/// Files in memory. A name that isn't there fails, and so do chosen calls, but for those whose bytes
-/// are more than the room: these are too long.
+/// Files in memory. A name that isn't there fails, and so do chosen calls, but for those whose
+/// bytes are more than the room: these are too long.
 #[derive(Drop)]
 pub struct ByteFiles {
     stored: Stored,

@@ -65,8 +65,8 @@ impl Sink for ByteSink {
         self.calls.faults()
     }
 
-    /// Takes as many bytes as it takes at a time, unless the call is to fail or there is no room for
-    /// them all.
+    /// Takes as many bytes as it takes at a time, unless the call is to fail or there is no room
+    /// for them all.
     fn write(&mut self, from: &[u8]) -> Result<usize, Failed>
         ensures bound { IfOk result (λ n. n ≤ length from.now) }
         ensures some { IfOk result (λ n. 0 < length from.now → 0 < n) }

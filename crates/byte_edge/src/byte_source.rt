@@ -18,7 +18,8 @@ impl ByteSource {
     ghost use Rattle.byte_edge.specs.Calls.{fresh};
     ghost use Rattle.byte_edge.specs.InMemory.{left_of, source_calls};
 
-    /// A source of these bytes. The calls with the numbers in `failing`, counted from 1, are to fail.
+    /// A source of these bytes. The calls with the numbers in `failing`, counted from 1, are to
+    /// fail.
     pub fn new(alloc: Global, bytes: &[u8], failing: &[u64]) -> Result<ByteSource, Memory>
         ensures bytes { IfOk result (λ source. left_of source ≡ bytes.now) }
         ensures calls { IfOk result (λ source. source_calls source ≡ fresh failing.now) }

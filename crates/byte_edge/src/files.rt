@@ -59,9 +59,9 @@ pub trait Files {
     fn faults(&self) -> u64
         ensures { result ≡ fault_count self.now };
 
-    /// Replaces `out` by the bytes of the name, if they are at most `room`, and puts the name at the
-    /// end of the names asked for. `TooLong` comes exactly where the bytes are more than `room`.
-    /// After any refusal `out` is empty.
+    /// Replaces `out` by the bytes of the name, if they are at most `room`, and puts the name at
+    /// the end of the names asked for. `TooLong` comes exactly where the bytes are more than
+    /// `room`. After any refusal `out` is empty.
     fn fetch(&mut self, name: &[u8], room: usize, out: &mut Vec<u8>) -> Result<(), FetchFault>
         ensures fetches { Fetches (holds self.old name.now) room out.new.items result }
         ensures within { OnOk result (vec_len out.new ≤ room) }

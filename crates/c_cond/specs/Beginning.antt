@@ -9,7 +9,8 @@ pub record Begins (IsText : List ℕ → Tree → Type 0) (bytes : List ℕ) : T
   pub tree : Tree
   pub text : IsText (bytes ++ more) tree
 
--- The offset ends the longest prefix of the bytes that begins a text, and the bytes themselves are none.
+-- The offset ends the longest prefix of the bytes that begins a text, and the bytes themselves are
+-- none.
 pub record IsOutside (IsText : List ℕ → Tree → Type 0) (bytes : List ℕ) (offset : ℕ) : Type 0 where
   pub in_text : offset ≤ length bytes
   pub begins : Begins IsText (take offset bytes)

@@ -1,9 +1,9 @@
 -- The conditions and the statements of machine descriptions: a grammar.
 --
--- A condition is an expression of C (GCC Internals, "Defining RTL Patterns"), with the precedence and the grouping that C
--- gives its operators ("Expressions" of the C standard). Statements stand where new instructions are prepared (GCC
--- Internals, "Defining RTL Sequences for Code Generation"). The manual gives no grammar; this one is the profile of this
--- project.
+-- A condition is an expression of C (GCC Internals, "Defining RTL Patterns"), with the precedence
+-- and the grouping that C gives its operators ("Expressions" of the C standard). Statements stand
+-- where new instructions are prepared (GCC Internals, "Defining RTL Sequences for Code
+-- Generation"). The manual gives no grammar; this one is the profile of this project.
 use Rattle.std.specs.Prelude.{◌≡◌, ℕ, ◌+◌, ◌<◌, ◌≤◌, ◌^◌, Bool, true, false, List, [], ◌∷◌, ◌++◌, Option, Some, None, if◌then◌else◌, ◌==◌, pos, option_map}
 use Rattle.rtx_tree.specs.declared.constants.Constant.{Constant}
 use Rattle.rtx_tree.specs.declared.code.Mode.{Mode}
@@ -180,8 +180,9 @@ value_mode_named word = but_void (mode_named word)
 
 -- ---- the grammar
 
--- What a text may be: one part; the parts of a call, which stand between commas; a statement, which may have to be closed,
--- so that no else behind it could belong to an if in it; statements; a condition.
+-- What a text may be: one part; the parts of a call, which stand between commas; a statement, which
+-- may have to be closed, so that no else behind it could belong to an if in it; statements; a
+-- condition.
 pub data Sort : Type 0 where
   One : (part : Part) → Sort
   Parts : (parts : Signature) → Sort
@@ -189,15 +190,17 @@ pub data Sort : Type 0 where
   Statements : Sort
   Condition : Sort
 
--- The tokens are a text of this sort, and these are its trees. An expression of level p has no operator outside of
--- parentheses that binds less tightly than p.
+-- The tokens are a text of this sort, and these are its trees. An expression of level p has no
+-- operator outside of parentheses that binds less tightly than p.
 pub data Is (d : Dialect) (constants : List Constant) : Sort → List Tree → List Token → Type 0 where
   number : (p n : ℕ) → Is d constants (One (part.Expression p)) (leaf (head.Number (signed W64 n)) ∷ []) (token.Number n ∷ [])
   fact : (p : ℕ) (word : List ℕ) (h : CondHead) → atom_of d constants word ≡ atom.Leaf h →
       Is d constants (One (part.Expression p)) (leaf h ∷ []) (token.Word word ∷ [])
-  asked : (p : ℕ) (word : List ℕ) (c : Call) (parts : List Tree) (ts : List Token) → atom_of d constants word ≡ atom.Call c → Is d constants (Parts (signature_of c)) parts ts →
+  asked : (p : ℕ) (word : List ℕ) (c : Call) (parts : List Tree) (ts : List Token) →
+      atom_of d constants word ≡ atom.Call c → Is d constants (Parts (signature_of c)) parts ts →
       Is d constants (One (part.Expression p)) (node (head.Call c) parts ∷ []) (token.Word word ∷ token.Mark open_round ∷ (ts ++ token.Mark close_round ∷ []))
-  predicate : (p : ℕ) (word : List ℕ) (parts : List Tree) (ts : List Token) → atom_of d constants word ≡ atom.Predicate → Is d constants (Parts predicate_parts) parts ts →
+  predicate : (p : ℕ) (word : List ℕ) (parts : List Tree) (ts : List Token) →
+      atom_of d constants word ≡ atom.Predicate → Is d constants (Parts predicate_parts) parts ts →
       Is d constants (One (part.Expression p)) (node (head.Predicate word) parts ∷ []) (token.Word word ∷ token.Mark open_round ∷ (ts ++ token.Mark close_round ∷ []))
   compare : (p : ℕ) (word name : List ℕ) (property : Property) (sign : Token) (equal : Bool)
       (h : CondHead) (operand : Tree) (ts : List Token) →
@@ -206,7 +209,8 @@ pub data Is (d : Dialect) (constants : List Constant) : Sort → List Tree → L
       Is d constants (One (part.Expression p)) (node h (operand ∷ []) ∷ []) (token.Word word ∷ token.Mark open_round ∷ (ts ++ token.Mark close_round ∷ sign ∷ token.Word name ∷ []))
   parens : (p : ℕ) (a : Tree) (ts : List Token) → Is d constants (One expression) (a ∷ []) ts →
       Is d constants (One (part.Expression p)) (a ∷ []) (token.Mark open_round ∷ (ts ++ token.Mark close_round ∷ []))
-  before : (p : ℕ) (sign : Token) (u : Unary) (a : Tree) (ts : List Token) → unary_of sign ≡ Some u → Is d constants (One (part.Expression unary_level)) (a ∷ []) ts →
+  before : (p : ℕ) (sign : Token) (u : Unary) (a : Tree) (ts : List Token) →
+      unary_of sign ≡ Some u → Is d constants (One (part.Expression unary_level)) (a ∷ []) ts →
       Is d constants (One (part.Expression p)) (node (head.Unary u) (a ∷ []) ∷ []) (sign ∷ ts)
   between : (p : ℕ) (op : Binary) (a b : Tree) (ts us : List Token) → p ≤ level op →
       Is d constants (One (part.Expression (level op))) (a ∷ []) ts → Is d constants (One (part.Expression (level op + 1))) (b ∷ []) us →
@@ -214,24 +218,40 @@ pub data Is (d : Dialect) (constants : List Constant) : Sort → List Tree → L
   choice : (a b c : Tree) (ts us vs : List Token) →
       Is d constants (One (part.Expression 1)) (a ∷ []) ts → Is d constants (One expression) (b ∷ []) us → Is d constants (One expression) (c ∷ []) vs →
       Is d constants (One expression) (node head.Choose (a ∷ b ∷ c ∷ []) ∷ []) (ts ++ (token.Mark question ∷ us ++ token.Mark colon ∷ vs))
-  operand : (word : List ℕ) (k : ℕ) → keyword_named word ≡ Some keyword.Operands → d ≡ dialect.Condition → k < 2 ^ 32 →
+  operand : (word : List ℕ) (k : ℕ) → keyword_named word ≡ Some keyword.Operands →
+      d ≡ dialect.Condition → k < 2 ^ 32 →
       Is d constants (One part.Operand) (leaf (head.Operand k) ∷ []) (token.Word word ∷ token.Mark open_square ∷ token.Number k ∷ token.Mark close_square ∷ [])
-  tested : (word : List ℕ) → keyword_named word ≡ Some keyword.Op → d ≡ dialect.Test → Is d constants (One part.Operand) (leaf (head.Operand 0) ∷ []) (token.Word word ∷ [])
-  window : (n : ℕ) → Is d constants (One part.Window) (leaf (head.Window n) ∷ []) (token.Number n ∷ [])
-  any_mode : (word : List ℕ) (m : Mode) → mode_named word ≡ Some m → Is d constants (One part.AnyMode) (leaf (head.Mode m) ∷ []) (token.Word word ∷ [])
-  value_mode : (word : List ℕ) (m : Mode) → value_mode_named word ≡ Some m → Is d constants (One part.ValueMode) (leaf (head.Mode m) ∷ []) (token.Word word ∷ [])
-  value_operand : (a : Tree) (ts : List Token) → Is d constants (One part.Operand) (a ∷ []) ts → Is d constants (One part.Value) (a ∷ []) ts
-  made : (word : List ℕ) (c : Call) (parts : List Tree) (ts : List Token) → keyword_named word ≡ Some (keyword.Call c) → is_maker c ≡ true → Is d constants (Parts (signature_of c)) parts ts →
+  tested : (word : List ℕ) → keyword_named word ≡ Some keyword.Op → d ≡ dialect.Test →
+      Is d constants (One part.Operand) (leaf (head.Operand 0) ∷ []) (token.Word word ∷ [])
+  window : (n : ℕ) →
+      Is d constants (One part.Window) (leaf (head.Window n) ∷ []) (token.Number n ∷ [])
+  any_mode : (word : List ℕ) (m : Mode) → mode_named word ≡ Some m →
+      Is d constants (One part.AnyMode) (leaf (head.Mode m) ∷ []) (token.Word word ∷ [])
+  value_mode : (word : List ℕ) (m : Mode) → value_mode_named word ≡ Some m →
+      Is d constants (One part.ValueMode) (leaf (head.Mode m) ∷ []) (token.Word word ∷ [])
+  value_operand : (a : Tree) (ts : List Token) → Is d constants (One part.Operand) (a ∷ []) ts →
+      Is d constants (One part.Value) (a ∷ []) ts
+  made : (word : List ℕ) (c : Call) (parts : List Tree) (ts : List Token) →
+      keyword_named word ≡ Some (keyword.Call c) → is_maker c ≡ true →
+      Is d constants (Parts (signature_of c)) parts ts →
       Is d constants (One part.Value) (node (head.Call c) parts ∷ []) (token.Word word ∷ token.Mark open_round ∷ (ts ++ token.Mark close_round ∷ []))
   none : Is d constants (Parts signature.None) [] []
-  one : (x : Part) (a : Tree) (ts : List Token) → Is d constants (One x) (a ∷ []) ts → Is d constants (Parts (signature.One x)) (a ∷ []) ts
-  two : (x y : Part) (a b : Tree) (ts us : List Token) → Is d constants (One x) (a ∷ []) ts → Is d constants (One y) (b ∷ []) us →
+  one : (x : Part) (a : Tree) (ts : List Token) → Is d constants (One x) (a ∷ []) ts →
+      Is d constants (Parts (signature.One x)) (a ∷ []) ts
+  two : (x y : Part) (a b : Tree) (ts us : List Token) → Is d constants (One x) (a ∷ []) ts →
+      Is d constants (One y) (b ∷ []) us →
       Is d constants (Parts (signature.Two x y)) (a ∷ b ∷ []) (ts ++ token.Mark comma ∷ us)
-  three : (x y z : Part) (a b c : Tree) (ts us vs : List Token) → Is d constants (One x) (a ∷ []) ts → Is d constants (One y) (b ∷ []) us → Is d constants (One z) (c ∷ []) vs →
+  three : (x y z : Part) (a b c : Tree) (ts us vs : List Token) →
+      Is d constants (One x) (a ∷ []) ts → Is d constants (One y) (b ∷ []) us →
+      Is d constants (One z) (c ∷ []) vs →
       Is d constants (Parts (signature.Three x y z)) (a ∷ b ∷ c ∷ []) (ts ++ (token.Mark comma ∷ us ++ token.Mark comma ∷ vs))
-  assign : (closed : Bool) (word : List ℕ) (k : ℕ) (a : Tree) (ts : List Token) → keyword_named word ≡ Some keyword.Operands → k < 2 ^ 32 → Is d constants (One part.Value) (a ∷ []) ts →
+  assign : (closed : Bool) (word : List ℕ) (k : ℕ) (a : Tree) (ts : List Token) →
+      keyword_named word ≡ Some keyword.Operands → k < 2 ^ 32 →
+      Is d constants (One part.Value) (a ∷ []) ts →
       Is d constants (Statement closed) (node (head.Assign k) (a ∷ []) ∷ []) (token.Word word ∷ token.Mark open_square ∷ token.Number k ∷ token.Mark close_square ∷ token.Mark becomes ∷ (ts ++ token.Mark semicolon ∷ []))
-  move : (closed : Bool) (word : List ℕ) (parts : List Tree) (ts : List Token) → keyword_named word ≡ Some (keyword.Call call.EmitMove) → Is d constants (Parts (signature_of call.EmitMove)) parts ts →
+  move : (closed : Bool) (word : List ℕ) (parts : List Tree) (ts : List Token) →
+      keyword_named word ≡ Some (keyword.Call call.EmitMove) →
+      Is d constants (Parts (signature_of call.EmitMove)) parts ts →
       Is d constants (Statement closed) (node (head.Call call.EmitMove) parts ∷ []) (token.Word word ∷ token.Mark open_round ∷ (ts ++ token.Mark close_round ∷ token.Mark semicolon ∷ []))
   done : (closed : Bool) (word : List ℕ) → keyword_named word ≡ Some keyword.Done → Is d constants (Statement closed) (leaf head.Done ∷ []) (token.Word word ∷ token.Mark semicolon ∷ [])
   fail : (closed : Bool) (word : List ℕ) → keyword_named word ≡ Some keyword.Fail → Is d constants (Statement closed) (leaf head.Fail ∷ []) (token.Word word ∷ token.Mark semicolon ∷ [])
@@ -240,14 +260,17 @@ pub data Is (d : Dialect) (constants : List Constant) : Sort → List Tree → L
   when : (word : List ℕ) (a b : Tree) (ts us : List Token) → keyword_named word ≡ Some keyword.If →
       Is d constants (One expression) (a ∷ []) ts → Is d constants (Statement false) (b ∷ []) us →
       Is d constants (Statement false) (node head.If (a ∷ b ∷ []) ∷ []) (token.Word word ∷ token.Mark open_round ∷ (ts ++ token.Mark close_round ∷ us))
-  when_else : (closed : Bool) (word other : List ℕ) (a b c : Tree) (ts us vs : List Token) → keyword_named word ≡ Some keyword.If → keyword_named other ≡ Some keyword.Else →
+  when_else : (closed : Bool) (word other : List ℕ) (a b c : Tree) (ts us vs : List Token) →
+      keyword_named word ≡ Some keyword.If → keyword_named other ≡ Some keyword.Else →
       Is d constants (One expression) (a ∷ []) ts → Is d constants (Statement true) (b ∷ []) us → Is d constants (Statement closed) (c ∷ []) vs →
       Is d constants (Statement closed) (node head.IfElse (a ∷ b ∷ c ∷ []) ∷ []) (token.Word word ∷ token.Mark open_round ∷ (ts ++ (token.Mark close_round ∷ us ++ token.Word other ∷ vs)))
   nothing : Is d constants Statements (leaf head.Nothing ∷ []) []
-  then : (a b : Tree) (ts us : List Token) → Is d constants (Statement false) (a ∷ []) ts → Is d constants Statements (b ∷ []) us →
+  then : (a b : Tree) (ts us : List Token) → Is d constants (Statement false) (a ∷ []) ts →
+      Is d constants Statements (b ∷ []) us →
       Is d constants Statements (node head.Then (a ∷ b ∷ []) ∷ []) (ts ++ us)
   empty : Is d constants Condition (leaf (head.Number (pos 1)) ∷ []) []
-  whole : (a : Tree) (ts : List Token) → Is d constants (One expression) (a ∷ []) ts → Is d constants Condition (a ∷ []) ts
+  whole : (a : Tree) (ts : List Token) → Is d constants (One expression) (a ∷ []) ts →
+      Is d constants Condition (a ∷ []) ts
 
 -- The text is one of this sort, and this is its tree.
 abbrev pub IsText : Dialect → List Constant → Sort → List ℕ → Tree → Type 0

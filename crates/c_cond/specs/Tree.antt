@@ -55,7 +55,8 @@ size_of head.IfElse = 3
 size_of head.Then = 2
 size_of _ = 0
 
--- The trees that heads are, each behind its parts, the last tree first, where these trees stood before.
+-- The trees that heads are, each behind its parts, the last tree first, where these trees stood
+-- before.
 abbrev pub grown : List Tree → List CondHead → List Tree
 grown trees [] = trees
 grown trees (h ∷ hs) = grown (node h (reverse (take (size_of h) trees)) ∷ drop (size_of h) trees) hs
@@ -68,7 +69,8 @@ first_or_nothing (t ∷ ts) = t
 abbrev pub tree_of : List CondHead → Tree
 tree_of heads = first_or_nothing (grown [] heads)
 
--- Heads are those of one whole tree: it has them, and it grows from them whatever stands before and behind.
+-- Heads are those of one whole tree: it has them, and it grows from them whatever stands before and
+-- behind.
 pub record IsWhole (heads : List CondHead) : Type 0 where
   pub heads_are : heads_of (tree_of heads) ≡ heads
   pub grows : (before : List Tree) (more : List CondHead) →

@@ -24,8 +24,8 @@ use std::alloc::Global;
 use std::marker::Model;
 use thiserror::Error;
 
-/// A condition. Contracts see its tree. It is kept as the heads of the tree, each behind its parts, so
-/// that no depth of nesting takes more than memory.
+/// A condition. Contracts see its tree. It is kept as the heads of the tree, each behind its parts,
+/// so that no depth of nesting takes more than memory.
 #[derive(Drop)]
 pub struct Cond {
     heads: Items<CondHead>,
@@ -88,8 +88,8 @@ impl Cond {
     }
 }
 
-/// Preparation statements. Contracts see their tree. They are kept as the heads of the tree, each behind
-/// its parts.
+/// Preparation statements. Contracts see their tree. They are kept as the heads of the tree, each
+/// behind its parts.
 #[derive(Drop)]
 pub struct Prep {
     heads: Items<CondHead>,
@@ -123,8 +123,8 @@ impl Prep {
 /// Why a text was not read.
 #[derive(Clone, Copy, Debug, Error)]
 pub enum CondRefusal {
-    /// The text is not in the grammar. The offset ends the longest prefix of it that begins a text of the
-    /// grammar: it is the number of that prefix's bytes.
+    /// The text is not in the grammar. The offset ends the longest prefix of it that begins a text
+    /// of the grammar: it is the number of that prefix's bytes.
     #[error("outside the grammar")]
     Outside { offset: u64 },
     /// Memory ran out.
@@ -225,29 +225,35 @@ fn statements_of(alloc: Global, constants: &Constants, text: &[u8]) -> Result<Pr
 ///
 /// # Errors
 ///
-/// `Outside` exactly where the text is not in the grammar, with the offset that ends the longest prefix of
-/// it that begins a text of the grammar. `Memory` where memory ran out.
+/// `Outside` exactly where the text is not in the grammar, with the offset that ends the longest
+/// prefix of it that begins a text of the grammar. `Memory` where memory ran out.
 pub fn parse_cond(alloc: Global, text: &[u8], constants: &Constants) -> Result<Cond, CondRefusal>
     // The answer is what the grammar says of the text, unless memory ran out.
     ensures answers { Answers (IsText Dialect.Condition constants.now Condition) text.now result }
     // A text has one tree at most, and is outside at one place at most.
-    ensures one { (a b : Tree) → IsText Dialect.Condition constants.now Condition text.now a → IsText Dialect.Condition constants.now Condition text.now b → a ≡ b }
-    ensures one_place { (a b : ℕ) → IsOutside (IsText Dialect.Condition constants.now Condition) text.now a → IsOutside (IsText Dialect.Condition constants.now Condition) text.now b → a ≡ b }
+    ensures one { (a b : Tree) → IsText Dialect.Condition constants.now Condition text.now a →
+        IsText Dialect.Condition constants.now Condition text.now b → a ≡ b }
+    ensures one_place { (a b : ℕ) →
+        IsOutside (IsText Dialect.Condition constants.now Condition) text.now a →
+        IsOutside (IsText Dialect.Condition constants.now Condition) text.now b → a ≡ b }
 {
     condition_of(alloc, Dialect::Condition, constants, text)
 }
 
-/// The test of a predicate that a text is: the operand is `op`, its number `ival`, and no predicate may
-/// be called. `op` is read as operand 0.
+/// The test of a predicate that a text is: the operand is `op`, its number `ival`, and no predicate
+/// may be called. `op` is read as operand 0.
 ///
 /// # Errors
 ///
-/// `Outside` exactly where the text is not in the grammar, with the offset that ends the longest prefix of
-/// it that begins a text of the grammar. `Memory` where memory ran out.
+/// `Outside` exactly where the text is not in the grammar, with the offset that ends the longest
+/// prefix of it that begins a text of the grammar. `Memory` where memory ran out.
 pub fn parse_test(alloc: Global, text: &[u8], constants: &Constants) -> Result<Cond, CondRefusal>
     ensures answers { Answers (IsText Dialect.Test constants.now Condition) text.now result }
-    ensures one { (a b : Tree) → IsText Dialect.Test constants.now Condition text.now a → IsText Dialect.Test constants.now Condition text.now b → a ≡ b }
-    ensures one_place { (a b : ℕ) → IsOutside (IsText Dialect.Test constants.now Condition) text.now a → IsOutside (IsText Dialect.Test constants.now Condition) text.now b → a ≡ b }
+    ensures one { (a b : Tree) → IsText Dialect.Test constants.now Condition text.now a →
+        IsText Dialect.Test constants.now Condition text.now b → a ≡ b }
+    ensures one_place { (a b : ℕ) →
+        IsOutside (IsText Dialect.Test constants.now Condition) text.now a →
+        IsOutside (IsText Dialect.Test constants.now Condition) text.now b → a ≡ b }
 {
     condition_of(alloc, Dialect::Test, constants, text)
 }
@@ -256,12 +262,15 @@ pub fn parse_test(alloc: Global, text: &[u8], constants: &Constants) -> Result<C
 ///
 /// # Errors
 ///
-/// `Outside` exactly where the text is not in the grammar, with the offset that ends the longest prefix of
-/// it that begins a text of the grammar. `Memory` where memory ran out.
+/// `Outside` exactly where the text is not in the grammar, with the offset that ends the longest
+/// prefix of it that begins a text of the grammar. `Memory` where memory ran out.
 pub fn parse_prep(alloc: Global, text: &[u8], constants: &Constants) -> Result<Prep, CondRefusal>
     ensures answers { Answers (IsText Dialect.Condition constants.now Statements) text.now result }
-    ensures one { (a b : Tree) → IsText Dialect.Condition constants.now Statements text.now a → IsText Dialect.Condition constants.now Statements text.now b → a ≡ b }
-    ensures one_place { (a b : ℕ) → IsOutside (IsText Dialect.Condition constants.now Statements) text.now a → IsOutside (IsText Dialect.Condition constants.now Statements) text.now b → a ≡ b }
+    ensures one { (a b : Tree) → IsText Dialect.Condition constants.now Statements text.now a →
+        IsText Dialect.Condition constants.now Statements text.now b → a ≡ b }
+    ensures one_place { (a b : ℕ) →
+        IsOutside (IsText Dialect.Condition constants.now Statements) text.now a →
+        IsOutside (IsText Dialect.Condition constants.now Statements) text.now b → a ≡ b }
 {
     statements_of(alloc, constants, text)
 }

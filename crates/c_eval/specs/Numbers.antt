@@ -1,5 +1,5 @@
--- What the operators of C do to signed numbers of 64 bits that wrap ("Expressions" of the C standard). Shifts by a count
--- outside of 0 to 63 have no value.
+-- What the operators of C do to signed numbers of 64 bits that wrap ("Expressions" of the C
+-- standard). Shifts by a count outside of 0 to 63 have no value.
 use Rattle.std.specs.Prelude.{ℕ, ℤ, pos, negsuc, nat_lt, Bool, false, not, Option, Some, None, if◌then◌else◌, option_and_then, int_lt}
 use Rattle.std.specs.Int.{w64, int_wrapping_add, int_wrapping_sub, int_wrapping_mul, int_wrapping_neg, int_bit_and, int_bit_or, int_bit_xor, int_bit_not, int_shl, int_shr}
 use Rattle.std.specs.Ordering.{int_eq}

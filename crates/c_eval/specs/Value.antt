@@ -1,6 +1,7 @@
--- The value of a condition: GCC Internals, "Defining RTL Patterns" (the condition of define_insn), "Machine-Independent
--- Predicates", "Defining Machine-Specific Predicates" (op and ival in a match_test), and "Defining Machine-Specific Peephole
--- Optimizers" (peep2_reg_dead_p). What a part means is the profile of this project.
+-- The value of a condition: GCC Internals, "Defining RTL Patterns" (the condition of define_insn),
+-- "Machine-Independent Predicates", "Defining Machine-Specific Predicates" (op and ival in a
+-- match_test), and "Defining Machine-Specific Peephole Optimizers" (peep2_reg_dead_p). What a part
+-- means is the profile of this project.
 use Rattle.std.specs.Prelude.{ℕ, ℤ, pos, negsuc, neg_ℤ, Bool, true, false, not, ◌&&◌, ◌^◌, nat_lt, List, [], ◌∷◌, Option, Some, None, slice_get, if◌then◌else◌, option_map, option_and_then, unwrap_or, int_lt}
 use Rattle.std.specs.Str.{bytes_eq}
 use Rattle.std.specs.Ordering.{int_eq}
@@ -24,7 +25,8 @@ use Rattle.c_eval.specs.declared.reading.Reading.TheVariants as reading
 use Rattle.c_eval.specs.Numbers.{truth, unary_of, joined, chosen}
 use Rattle.c_eval.specs.Fold.{fold_by}
 
--- What a condition is read with: facts, the operands, and the trees that predicates accept in a mode, by their names.
+-- What a condition is read with: facts, the operands, and the trees that predicates accept in a
+-- mode, by their names.
 pub record Setting : Type 0 where
   pub facts : Facts
   pub operands : List (Option Rtx)
@@ -33,7 +35,8 @@ pub record Setting : Type 0 where
 abbrev pub setting : Facts → List (Option Rtx) → (List ℕ → Rtx → Mode → Bool) → Setting
 setting facts operands accepts = record { facts = facts; operands = operands; accepts = accepts }
 
--- the facts where a predicate tests an operand: registers have no homes yet, new ones may be made, and there is no window
+-- the facts where a predicate tests an operand: registers have no homes yet, new ones may be made,
+-- and there is no window
 abbrev pub test_facts : Facts
 test_facts = record { reloaded = false; new_pseudos = true; dead = [] }
 
@@ -79,7 +82,8 @@ register_numbered (negsuc n) = None
 abbrev pub register_in : Rtx → Option ℕ
 register_in x = option_and_then register_numbered (number_in code.Reg x)
 
--- whether the registers that are dead right before an instruction of the window, which may be its end, have this one
+-- whether the registers that are dead right before an instruction of the window, which may be its
+-- end, have this one
 abbrev pub dead_at : List (List ℕ) → ℕ → ℕ → Option ℤ
 dead_at dead place reg = option_map (λ regs. truth (has_reg regs reg)) (slice_get dead place)
 
@@ -146,12 +150,14 @@ small_of a = option_map (λ n. in_range n (neg_ℤ (pos 2048)) (pos 2047)) (numb
 
 -- peep2_reg_dead_p
 abbrev pub dead_of : List (List ℕ) → List (Option Rtx) → Reading → Reading → Option ℤ
-dead_of dead operands place x = option_and_then (λ n. option_and_then (is_dead dead n) (operand_of operands x)) (place_of place)
+dead_of dead operands place x =
+    option_and_then (λ n. option_and_then (is_dead dead n) (operand_of operands x)) (place_of place)
 
 abbrev pub asked_of : List (Option Rtx) → Call → Reading → Option ℤ
 asked_of operands c x = option_and_then (asked c) (operand_of operands x)
 
--- The value of a call. Each operand among its parts must be there, and each expression must have a value.
+-- The value of a call. Each operand among its parts must be there, and each expression must have a
+-- value.
 abbrev pub call_value : Setting → Call → List Reading → Option ℤ
 call_value s call.CanCreatePseudo [] = Some (truth s.facts.new_pseudos)
 call_value s call.RtxEqual (x ∷ y ∷ []) = equal_of s.operands x y
@@ -162,7 +168,8 @@ call_value s c (x ∷ []) = asked_of s.operands c x
 call_value s c _ = None
 
 -- the call of a predicate, by its name
-abbrev pub accepted_of : (List ℕ → Rtx → Mode → Bool) → List (Option Rtx) → List ℕ → Reading → Reading → Option ℤ
+abbrev pub accepted_of : (List ℕ → Rtx → Mode → Bool) → List (Option Rtx) → List ℕ → Reading →
+    Reading → Option ℤ
 accepted_of accepts operands name x mode = option_and_then (λ tree. option_map (λ m. truth (accepts name tree m)) (mode_of mode)) (operand_of operands x)
 
 -- The value of an expression by its parts. Other heads have none.

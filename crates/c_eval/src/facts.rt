@@ -2,8 +2,8 @@
 use plain_data::Items;
 use rtx_tree::RegSet;
 
-/// The registers that are dead right before each instruction of a window, and last those that are dead
-/// behind it.
+/// The registers that are dead right before each instruction of a window, and last those that are
+/// dead behind it.
 pub type DeadTable = Items<RegSet>;
 
 /// What is known besides the operands.

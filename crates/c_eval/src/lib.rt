@@ -1,11 +1,11 @@
 //! The value of conditions.
 //!
-//! What a condition is worth is defined in `specs/Value.antt`: a number of 64 signed bits, which is 0 where
-//! a shift count or an accessor that C evaluates has no value. [`eval`] gives it. [`Facts`] is what is
-//! known besides the operands, and [`Preds`] says which trees predicates accept. [`eval_test`] and [`test_worth`] give what
-//! the test of a predicate is worth for an operand, and [`read`] what the last tree of a row of heads is
-//! read as. None of them takes memory, and their calls are nested no deeper than a number has bits, however
-//! deep a condition is (`src/walk.rt`).
+//! What a condition is worth is defined in `specs/Value.antt`: a number of 64 signed bits, which is
+//! 0 where a shift count or an accessor that C evaluates has no value. [`eval`] gives it. [`Facts`]
+//! is what is known besides the operands, and [`Preds`] says which trees predicates accept.
+//! [`eval_test`] and [`test_worth`] give what the test of a predicate is worth for an operand, and
+//! [`read`] what the last tree of a row of heads is read as. None of them takes memory, and their
+//! calls are nested no deeper than a number has bits, however deep a condition is (`src/walk.rt`).
 #![tactic(auto)]
 
 mod accessor;

@@ -1,9 +1,9 @@
 //! A tree that is kept as its heads, each behind its parts, is read.
 //!
-//! A part is read from the head in its middle, and then along the path from there to its last head. Each
-//! other part that a head on the path has lies wholly on one side of the middle, so it has at most half as
-//! many heads. So calls are nested no deeper than a number has bits, however deep the tree is; and no
-//! memory is taken.
+//! A part is read from the head in its middle, and then along the path from there to its last head.
+//! Each other part that a head on the path has lies wholly on one side of the middle, so it has at
+//! most half as many heads. So calls are nested no deeper than a number has bits, however deep the
+//! tree is; and no memory is taken.
 ghost use Rattle.std.specs.Prelude.{◌≡◌, ℕ, ◌+◌, ◌<◌, ◌≤◌, ◌^◌, length};
 ghost use Rattle.c_cond.specs.c_words.declared.head.CondHead.TheVariants as CondHead;
 ghost use Rattle.c_cond.specs.Tree as tree;
@@ -98,7 +98,8 @@ fn ending_at(path: Option<Part>, end: usize) -> Option<Part>
     path.filter(|part| part.end == end)
 }
 
-/// The part whose last head stands at this place. Of its parts, one may be known: the part on the path.
+/// The part whose last head stands at this place. Of its parts, one may be known: the part on the
+/// path.
 #[cycle(walk)]
 fn part_at<R: Reads>(
     reads: &R,
@@ -109,7 +110,8 @@ fn part_at<R: Reads>(
 ) -> Part
     requires within { at < length heads.now }
     requires path { places.IsPath (R.read_by reads.now) heads.now path }
-    requires small { (e s : ℕ) → places.EndsPart heads.now at e → places.IsStart heads.now e s → places.IsOff path e → e < s + 2 ^ levels }
+    requires small { (e s : ℕ) → places.EndsPart heads.now at e → places.IsStart heads.now e s →
+        places.IsOff path e → e < s + 2 ^ levels }
     ensures part { places.IsPart (R.read_by reads.now) heads.now result }
     ensures end { result.end ≡ at + 1 }
 {
@@ -143,7 +145,8 @@ fn part_before<R: Reads>(
     requires within { end ≤ length heads.now }
     requires some { 0 < end }
     requires path { places.IsPath (R.read_by reads.now) heads.now path }
-    requires small { (s : ℕ) → places.IsOff path end → places.IsStart heads.now end s → end < s + 2 ^ levels }
+    requires small { (s : ℕ) → places.IsOff path end → places.IsStart heads.now end s →
+        end < s + 2 ^ levels }
     ensures part { places.IsPart (R.read_by reads.now) heads.now result }
     ensures end { result.end ≡ end }
 {
@@ -153,7 +156,8 @@ fn part_before<R: Reads>(
     }
 }
 
-/// The last tree of the heads before `end`. It has fewer heads than a number of so many bits can say.
+/// The last tree of the heads before `end`. It has fewer heads than a number of so many bits can
+/// say.
 #[cycle(walk)]
 fn last_part<R: Reads>(reads: &R, heads: &[CondHead], end: usize, levels: u32) -> Part
     requires within { end ≤ length heads.now }

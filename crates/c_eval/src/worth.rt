@@ -25,17 +25,19 @@ pub fn read<P: Preds>(heads: &[CondHead], facts: &Facts, operands: &Operands, pr
     read_last(&known, heads)
 }
 
-/// What a condition is worth: its value, or 0 where a shift count or an accessor that C evaluates has none.
-/// No memory is taken, and nesting has no limit.
+/// What a condition is worth: its value, or 0 where a shift count or an accessor that C evaluates
+/// has none. No memory is taken, and nesting has no limit.
 pub fn eval<P: Preds>(cond: &Cond, facts: &Facts, operands: &Operands, preds: &P) -> i64
-    ensures { result ≡ spec.worth (spec.setting facts.now operands.now (P.accepts preds.now)) cond.now }
+    ensures { result ≡
+        spec.worth (spec.setting facts.now operands.now (P.accepts preds.now)) cond.now }
 {
     read(cond.heads(), facts, operands, preds)
         .number()
         .unwrap_or(0)
 }
 
-/// What the test of a predicate, given by its heads, is worth for an operand. No memory is taken, and nesting has no limit.
+/// What the test of a predicate, given by its heads, is worth for an operand. No memory is taken,
+/// and nesting has no limit.
 pub fn test_worth(heads: &[CondHead], x: &Rtx) -> i64
     ensures { result ≡ spec.worth (spec.under_test x.now) (tree_of heads.now) }
 {
@@ -49,7 +51,8 @@ pub fn test_worth(heads: &[CondHead], x: &Rtx) -> i64
     read_last(&known, heads).number().unwrap_or(0)
 }
 
-/// What the test of a predicate is worth for an operand. No memory is taken, and nesting has no limit.
+/// What the test of a predicate is worth for an operand. No memory is taken, and nesting has no
+/// limit.
 pub fn eval_test(test: &Cond, x: &Rtx) -> i64
     ensures { result ≡ spec.worth (spec.under_test x.now) test.now }
 {

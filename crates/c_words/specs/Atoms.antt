@@ -1,5 +1,6 @@
--- What a word means where an expression of C may begin: a fact, a number, a call, or the name of a predicate (GCC
--- Internals, "Machine-Independent Predicates" and "Defining Machine-Specific Predicates").
+-- What a word means where an expression of C may begin: a fact, a number, a call, or the name of a
+-- predicate (GCC Internals, "Machine-Independent Predicates" and "Defining Machine-Specific
+-- Predicates").
 use Rattle.std.specs.Prelude.{ℕ, ℤ, pos, List, Bool, true, false, Option, Some, None, if◌then◌else◌}
 use Rattle.rtx_tree.specs.declared.code.Code.{Code}
 use Rattle.rtx_tree.specs.declared.code.Mode.{Mode}
@@ -56,6 +57,7 @@ atom_by d constants word (Some k) = atom_of_keyword d k
 atom_by d constants word None =
     if is_target word then atom.Leaf (head.Number (target_number word)) else atom_of_name d word (constant_named constants word)
 
--- A word that has a meaning of its own has no other; then come facts of the target, constants, and predicates.
+-- A word that has a meaning of its own has no other; then come facts of the target, constants, and
+-- predicates.
 abbrev pub atom_of : Dialect → List Constant → List ℕ → Atom
 atom_of d constants word = atom_by d constants word (keyword_named word)

@@ -1,5 +1,6 @@
--- The tokens of a text of C: "Lexical elements" of the C standard, as far as conditions and statements have them.
--- A run of letters, digits and underscores is one word or number; two bytes may be one operator; blanks only part.
+-- The tokens of a text of C: "Lexical elements" of the C standard, as far as conditions and
+-- statements have them. A run of letters, digits and underscores is one word or number; two bytes
+-- may be one operator; blanks only part.
 use Rattle.std.specs.Prelude.{ℕ, ◌==◌, nat_le, ◌&&◌, ◌||◌, Bool, true, List, [], ◌∷◌, ◌++◌, Option, Some, None, if◌then◌else◌}
 use Rattle.c_words.specs.declared.head.Binary.{Binary}
 use Rattle.c_words.specs.declared.head.Binary.TheVariants as binary
@@ -13,9 +14,11 @@ is_digit b = nat_le 48 b && nat_le b 57
 
 -- a letter, a digit or an underscore
 abbrev pub in_word : ℕ → Bool
-in_word b = is_digit b || ((nat_le 97 b && nat_le b 122) || ((nat_le 65 b && nat_le b 90) || b == 95))
+in_word b =
+    is_digit b || ((nat_le 97 b && nat_le b 122) || ((nat_le 65 b && nat_le b 90) || b == 95))
 
--- A text in pieces: a blank; a run of letters, digits and underscores, as long as it can be; any other byte.
+-- A text in pieces: a blank; a run of letters, digits and underscores, as long as it can be; any
+-- other byte.
 pub data Piece : Type 0 where
   Blank : Piece
   Run : (run : List ℕ) → Piece
@@ -72,7 +75,8 @@ is_no_word (b ∷ bs) = is_digit b
 abbrev pub token_of_run : List ℕ → Token
 token_of_run run = if is_no_word run then number_or_bad (c_number_in run) else token.Word run
 
--- the tokens of two bytes that stand side by side, before the tokens that follow both and those that follow the first
+-- the tokens of two bytes that stand side by side, before the tokens that follow both and those
+-- that follow the first
 abbrev pub side_by_side : Option Binary → ℕ → List Token → List Token → List Token
 side_by_side (Some operator) a behind_both behind_first = token.Operator operator ∷ behind_both
 side_by_side None a behind_both behind_first = token_of_byte a ∷ behind_first
@@ -83,7 +87,8 @@ tokens_of [] = []
 tokens_of (Blank ∷ ps) = tokens_of ps
 tokens_of (Run run ∷ ps) = token_of_run run ∷ tokens_of ps
 tokens_of (Byte a ∷ []) = token_of_byte a ∷ []
-tokens_of (Byte a ∷ Byte b ∷ ps) = side_by_side (operator_of_two a b) a (tokens_of ps) (tokens_of (Byte b ∷ ps))
+tokens_of (Byte a ∷ Byte b ∷ ps) =
+    side_by_side (operator_of_two a b) a (tokens_of ps) (tokens_of (Byte b ∷ ps))
 tokens_of (Byte a ∷ Blank ∷ ps) = token_of_byte a ∷ tokens_of ps
 tokens_of (Byte a ∷ Run run ∷ ps) = token_of_byte a ∷ token_of_run run ∷ tokens_of ps
 

@@ -1,6 +1,6 @@
--- What a word means in a condition or in statements: GCC Internals, "Defining RTL Patterns" (the condition of
--- define_insn), "Defining Machine-Specific Predicates" and "Defining RTL Sequences". Which words there are is the
--- profile of this project.
+-- What a word means in a condition or in statements: GCC Internals, "Defining RTL Patterns" (the
+-- condition of define_insn), "Defining Machine-Specific Predicates" and "Defining RTL Sequences".
+-- Which words there are is the profile of this project.
 use Rattle.std.specs.Prelude.{ℕ, ℤ, List, [], ◌∷◌, Bool, Option, Some, None, if◌then◌else◌, codes, take, map, nat_le, ◌+◌, ◌&&◌, ◌||◌, not}
 use Rattle.std.specs.Str.{bytes_eq}
 use Rattle.std.specs.List.{list_all}
@@ -90,11 +90,13 @@ code_of_name name = first_that (λ c. bytes_eq (code_name c) name) all_codes
 
 -- the code with a name; a `simple_return` is a return
 abbrev pub code_with_name : List ℕ → Option Code
-code_with_name name = if bytes_eq name (codes "simple_return") then Some Return else code_of_name name
+code_with_name name =
+    if bytes_eq name (codes "simple_return") then Some Return else code_of_name name
 
 -- the code that a word is in C: its name in capitals
 abbrev pub code_named : List ℕ → Option Code
-code_named word = if list_all (λ b. not (is_small b)) word then code_with_name (map small word) else None
+code_named word =
+    if list_all (λ b. not (is_small b)) word then code_with_name (map small word) else None
 
 -- a name of a fact of the target
 abbrev pub is_target : List ℕ → Bool
@@ -102,9 +104,12 @@ is_target word = bytes_eq (take 7 word) (codes "TARGET_")
 
 -- the facts of the target that hold
 abbrev pub target_holds : List ℕ → Bool
-target_holds word = bytes_eq word (codes "TARGET_64BIT") || (bytes_eq word (codes "TARGET_MUL") || bytes_eq word (codes "TARGET_DIV"))
+target_holds word =
+    bytes_eq word (codes "TARGET_64BIT") ||
+    (bytes_eq word (codes "TARGET_MUL") || bytes_eq word (codes "TARGET_DIV"))
 
 -- the number of the first constant with this name
 abbrev pub constant_named : List Constant → List ℕ → Option ℤ
 constant_named [] word = None
-constant_named (c ∷ cs) word = if bytes_eq c.name word then Some c.number else constant_named cs word
+constant_named (c ∷ cs) word =
+    if bytes_eq c.name word then Some c.number else constant_named cs word

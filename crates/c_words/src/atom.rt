@@ -15,7 +15,8 @@ use std::alloc::Global;
 pub enum Dialect {
     /// A form's condition, or statements: operands are `operands[k]`, and predicates may be called.
     Condition,
-    /// The test of a predicate: the operand is `op`, its number `ival`, and no predicate may be called.
+    /// The test of a predicate: the operand is `op`, its number `ival`, and no predicate may be
+    /// called.
     Test,
 }
 

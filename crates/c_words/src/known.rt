@@ -72,8 +72,8 @@ fn push_constants(
     Ok(())
 }
 
-/// The words that are known before a text is read: what begins the names of facts of the target, the modes, the keywords, the codes,
-/// and the names of constants.
+/// The words that are known before a text is read: what begins the names of facts of the target,
+/// the modes, the keywords, the codes, and the names of constants.
 pub fn known_words(alloc: Global, constants: &[Constant]) -> Result<Items<Name>, Memory>
     ensures { IfOk result (λ words. words ≡ spec.known_words constants.now) }
 {

@@ -1,8 +1,8 @@
 //! The words and the tokens of the C conditions and preparation statements of machine descriptions.
 //!
-//! [`tokens_in`] cuts a text into its tokens (`specs/Tokens.antt`); a [`Lexer`] does so byte by byte.
-//! [`atom_of`] says what a word means where an expression may begin (`specs/Atoms.antt`). [`CondHead`] is
-//! what conditions and statements are made of.
+//! [`tokens_in`] cuts a text into its tokens (`specs/Tokens.antt`); a [`Lexer`] does so byte by
+//! byte. [`atom_of`] says what a word means where an expression may begin (`specs/Atoms.antt`).
+//! [`CondHead`] is what conditions and statements are made of.
 #![tactic(auto)]
 
 mod atom;

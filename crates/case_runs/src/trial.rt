@@ -31,7 +31,8 @@ fn source_of(alloc: Global, setting: Setting) -> Result<ByteSource, Fault> {
     Ok(ByteSource::new(alloc, &bytes, &reads)?)
 }
 
-/// A sink of a case, with so much room, of which the calls that the parts with this head name are to fail.
+/// A sink of a case, with so much room, of which the calls that the parts with this head name are
+/// to fail.
 fn sink_of(alloc: Global, setting: Setting, room: usize, head: &str) -> Result<ByteSink, Fault> {
     let writes = failing(alloc, setting, head)?;
     let takes = takes_of(setting)?;

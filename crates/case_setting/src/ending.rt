@@ -3,7 +3,8 @@ use crate::fault::Fault;
 use case_text::{Told, push_shown};
 use std::alloc::Global;
 
-/// Appends a part: its head, and its bytes, with a backquote where no newline ends them. What is empty is no part.
+/// Appends a part: its head, and its bytes, with a backquote where no newline ends them. What is
+/// empty is no part.
 fn push_part(head: &str, bytes: &[u8], out: &mut Told) {
     match bytes {
         [] => {}

@@ -15,7 +15,8 @@ pub struct Setting<'s, 't> {
     pub shared: &'s [Part<'t>],
 }
 
-/// What stands behind the head of the first part with this head, a case's own parts before the shared ones.
+/// What stands behind the head of the first part with this head, a case's own parts before the
+/// shared ones.
 fn value_of<'a>(setting: Setting<'_, 'a>, head: &str) -> Option<&'a str> {
     setting
         .own

@@ -23,7 +23,8 @@ impl<'a> Case<'a> {
         }
     }
 
-    /// Puts a line to the case. One that is in no part is a part of its own, unless it says nothing.
+    /// Puts a line to the case. One that is in no part is a part of its own, unless it says
+    /// nothing.
     fn push_line(&mut self, alloc: Global, line: &'a str) -> Result<(), AllocError> {
         if !is_head(line) {
             if let Some(part) = self.parts.last_mut() {
@@ -52,8 +53,8 @@ pub fn says_nothing(line: &str) -> bool {
     line.is_empty() || line.starts_with("#")
 }
 
-/// The cases of a file of whole runs, each below its line `== TITLE`, and before them, as a case without a title, what stands before
-/// the first.
+/// The cases of a file of whole runs, each below its line `== TITLE`, and before them, as a case
+/// without a title, what stands before the first.
 pub fn cases_of<'a>(alloc: Global, text: &'a str) -> Result<Vec<Case<'a>>, AllocError> {
     let mut cases = Vec::new(alloc);
     cases.push(Case::new(alloc, ""))?;

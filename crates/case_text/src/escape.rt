@@ -25,7 +25,8 @@ fn escaped(high: u8, low: u8) -> Option<u8> {
     }
 }
 
-/// Appends what stands behind a backquote: the byte of the two digits at its begin, and the rest. Whether there are two.
+/// Appends what stands behind a backquote: the byte of the two digits at its begin, and the rest.
+/// Whether there are two.
 fn push_escape(piece: &[u8], out: &mut Told) -> bool {
     if let [high, low, rest @ ..] = piece
         && let Some(byte) = escaped(*high, *low)
@@ -49,7 +50,8 @@ pub fn push_word(text: &str, out: &mut Told) -> bool {
     is_read
 }
 
-/// Appends the bytes of a line, and of its newline unless a backquote ends it. Whether each other backquote begins an escape.
+/// Appends the bytes of a line, and of its newline unless a backquote ends it. Whether each other
+/// backquote begins an escape.
 fn push_line(line: &str, out: &mut Told) -> bool {
     if let Some(text) = line.strip_suffix("`") {
         return push_word(text, out);
@@ -66,7 +68,8 @@ fn push_blanks(blanks: u64, out: &mut Told) {
     }
 }
 
-/// Appends the bytes that some lines stand for, without the blank lines at their end. Whether each backquote is an escape.
+/// Appends the bytes that some lines stand for, without the blank lines at their end. Whether each
+/// backquote is an escape.
 pub fn push_bytes(lines: &[&str], out: &mut Told) -> bool {
     let mut is_read = true;
     let mut blanks = 0u64;
@@ -101,8 +104,8 @@ fn is_plain(byte: u8, is_long: bool) -> bool {
     }
 }
 
-/// Appends the text that shows bytes: each control byte but the tab, the backquote, and each byte from 127 on as an escape. A newline is
-/// a newline where the text may have several lines.
+/// Appends the text that shows bytes: each control byte but the tab, the backquote, and each byte
+/// from 127 on as an escape. A newline is a newline where the text may have several lines.
 pub fn push_shown(bytes: &[u8], is_long: bool, out: &mut Told) {
     for byte in bytes {
         if is_plain(*byte, is_long) {

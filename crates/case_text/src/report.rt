@@ -30,7 +30,8 @@ impl Report {
         self.right
     }
 
-    /// The text on the cases that are wrong, if it is whole: for each its title, what was wanted, and what came.
+    /// The text on the cases that are wrong, if it is whole: for each its title, what was wanted,
+    /// and what came.
     pub fn wrong(self) -> Option<Vec<u8>> {
         self.wrong.whole()
     }

@@ -2,7 +2,8 @@
 use std::alloc::Global;
 use std::fmt::{Debug, Display};
 
-/// What is told so far. It is not whole where something of it could not be told, since memory ran out or the input could not be read.
+/// What is told so far. It is not whole where something of it could not be told, since memory ran
+/// out or the input could not be read.
 #[derive(Drop)]
 pub struct Told {
     alloc: Global,

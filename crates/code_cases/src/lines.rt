@@ -50,7 +50,8 @@ fn show_line(alloc: Global, line: &Line, told: &mut Told) {
     }
 }
 
-/// Appends a line as it is printed, with `\t` for each tab, and where that isn't read as the line again; or that the text is no line.
+/// Appends a line as it is printed, with `\t` for each tab, and where that isn't read as the line
+/// again; or that the text is no line.
 pub fn tell_line(alloc: Global, text: &[u8], told: &mut Told) {
     match parse_line(alloc, text) {
         Ok(Some(line)) => show_line(alloc, &line, told),
@@ -95,7 +96,8 @@ const BYTES: [u64; 32] = [
     4104, 0x81, 4105, 0x81, 4106, 0x81, 4107, 0x81, 4108, 0x81, 4109, 0x81, 4110, 0x81, 4111, 0x81,
 ];
 
-/// A machine with 16 bytes of 0x81 from 4096 on. `sp` stands there, `ra` and `s0` hold 64, `a1` and what follows it what is given.
+/// A machine with 16 bytes of 0x81 from 4096 on. `sp` stands there, `ra` and `s0` hold 64, `a1` and
+/// what follows it what is given.
 fn machine(alloc: Global, values: &[u64]) -> Result<RvState, Memory> {
     let mut state = RvState {
         regs: [None; 32],

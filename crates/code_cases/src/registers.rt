@@ -172,8 +172,8 @@ fn show_pairs(rows: &[RegRow], pairs: &[u64], told: &mut Told) {
     }
 }
 
-/// Appends the homes of pseudo registers 0, 1 and so on, and the layout of the frame: its size, the saved registers and the slots, each
-/// with its offset.
+/// Appends the homes of pseudo registers 0, 1 and so on, and the layout of the frame: its size, the
+/// saved registers and the slots, each with its offset.
 pub fn tell_homes(alloc: Global, input: &[u8], told: &mut Told) {
     if let Some(f) = function_in(alloc, input)
         && let Ok(live) = live_rows_of(alloc, &f)

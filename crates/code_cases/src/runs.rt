@@ -106,8 +106,8 @@ fn show_outcome(outcome: &CodeOutcome, told: &mut Told) {
     }
 }
 
-/// Appends what a run of so many lines comes to: what it returned, what it kept and the memory then, and each call with its first
-/// argument and the memory then.
+/// Appends what a run of so many lines comes to: what it returned, what it kept and the memory
+/// then, and each call with its first argument and the memory then.
 pub fn tell_run(alloc: Global, input: &[u8], told: &mut Told) {
     if let Some((steps, text)) = halves(input)
         && let Some(steps) = number(steps)

@@ -123,7 +123,8 @@ fn show_registers(regs: &Regs, told: &mut Told) {
     }
 }
 
-/// Appends how a step of a function ends where a call is answered by 7, what is next, and what a0, a1 and a2 are then.
+/// Appends how a step of a function ends where a call is answered by 7, what is next, and what a0,
+/// a1 and a2 are then.
 fn show_step(alloc: Global, f: &Function, told: &mut Told)
     requires { length f.now.insns < 2 ^ 32 }
 {
@@ -140,7 +141,8 @@ fn show_step(alloc: Global, f: &Function, told: &mut Told)
     }
 }
 
-/// Appends how one step of an instruction behind a label and a barrier ends, what is next, and what a0, a1 and a2 are then.
+/// Appends how one step of an instruction behind a label and a barrier ends, what is next, and what
+/// a0, a1 and a2 are then.
 pub fn tell_step(alloc: Global, input: &[u8], told: &mut Told) {
     if let Some(text) = text_of(alloc, input)
         && let Some(f) = function_in(alloc, text.as_slice())
@@ -182,8 +184,8 @@ fn show_outcome(outcome: &Outcome, told: &mut Told) {
     }
 }
 
-/// Appends how so many steps of a function with the argument 5 stand, its value and its calls. The replies stand behind the number of
-/// steps.
+/// Appends how so many steps of a function with the argument 5 stand, its value and its calls. The
+/// replies stand behind the number of steps.
 pub fn tell_run(alloc: Global, given: &[u8], input: &[u8], told: &mut Told) {
     if let Some(words) = numbers_in(alloc, input)
         && let [steps, replies @ ..] = words.as_slice()

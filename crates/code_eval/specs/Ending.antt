@@ -21,21 +21,24 @@ bytes_set memory = length (filter (λ b. not (b.byte == 0)) memory)
 
 -- the low bits of a0 in the mode of a result, which is unsigned; none where there is no result
 abbrev pub result_in : Option Mode → Option ℕ → Option ℕ
-result_in mode a0 = option_and_then (λ w. option_map (λ number. low w number) a0) (option_and_then width_of mode)
+result_in mode a0 =
+    option_and_then (λ w. option_map (λ number. low w number) a0) (option_and_then width_of mode)
 
 -- what is told of the run of a function
 abbrev pub rtl_ending : Outcome → Ending
 rtl_ending rtl.Undefined = ending.Undefined
 rtl_ending (rtl.Running calls) = ending.Running (length calls)
 rtl_ending (rtl.Asked calls) = ending.Asked (length calls)
-rtl_ending (rtl.Returned value memory calls kept) = ending.Returned value (length calls) (bytes_set memory)
+rtl_ending (rtl.Returned value memory calls kept) =
+    ending.Returned value (length calls) (bytes_set memory)
 
 -- what is told of the run of the code of a function whose result has a mode
 abbrev pub code_ending : Option Mode → CodeOutcome → Ending
 code_ending mode code.Stuck = ending.Undefined
 code_ending mode (code.Running calls) = ending.Running (length calls)
 code_ending mode (code.Asked calls) = ending.Asked (length calls)
-code_ending mode (code.Returned value memory calls kept) = ending.Returned (result_in mode value) (length calls) (bytes_set memory)
+code_ending mode (code.Returned value memory calls kept) =
+    ending.Returned (result_in mode value) (length calls) (bytes_set memory)
 
 -- ---- its text
 
@@ -53,7 +56,8 @@ abbrev pub ending_text : Ending → List ℕ
 ending_text ending.Undefined = codes "undefined"
 ending_text (ending.Running calls) = codes "running" ++ calls_text calls
 ending_text (ending.Asked calls) = codes "asked" ++ calls_text calls
-ending_text (ending.Returned value calls set) = codes "returned" ++ (value_text value ++ (calls_text calls ++ set_text set))
+ending_text (ending.Returned value calls set) =
+    codes "returned" ++ (value_text value ++ (calls_text calls ++ set_text set))
 
 -- a line of it, behind what was run
 abbrev pub ending_line : List ℕ → Ending → List ℕ

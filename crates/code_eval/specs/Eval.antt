@@ -24,7 +24,8 @@ rtl_outcome f steps args = rtl.run_of f (rtl_start f args) (world_of f (lines_fo
 
 -- the outcome of its lines and labels after as many lines as belong to the steps
 abbrev pub code_outcome : Function → List CodeItem → ℕ → List ℕ → CodeOutcome
-code_outcome f items steps args = code.run items (code_start f args) (world_of f (lines_for steps)) (lines_for steps)
+code_outcome f items steps args =
+    code.run items (code_start f args) (world_of f (lines_for steps)) (lines_for steps)
 
 -- both, a line for each
 abbrev pub eval_text : Function → List CodeItem → ℕ → List ℕ → List ℕ
@@ -55,5 +56,6 @@ ComesToSame f items steps args = rtl_outcome f steps args ≢ outcomes.Undefined
 
 -- so it is where they have the behaviour of the function, whose frame fits in the stack
 abbrev pub AgreeAsSame : Function → List CodeItem → ℕ → List ℕ → Type 0
-AgreeAsSame f items steps args = (least : ℕ) → Same least f items → least ≤ stack_room → f.locals ≤ stack_room →
+AgreeAsSame f items steps args =
+    (least : ℕ) → Same least f items → least ≤ stack_room → f.locals ≤ stack_room →
     ComesToSame f items steps args

@@ -1,5 +1,6 @@
--- The start from which a function and its code are tried. The registers are those of the calling convention (RISC-V ELF psABI, "Integer Register
--- Convention"); which numbers they hold, and which memory there is, is this project's own choice.
+-- The start from which a function and its code are tried. The registers are those of the calling
+-- convention (RISC-V ELF psABI, "Integer Register Convention"); which numbers they hold, and which
+-- memory there is, is this project's own choice.
 use Rattle.std.specs.Prelude.{ℕ, zero, suc, ◌+◌, ◌-◌, min, List, [], ◌∷◌, ◌++◌, replicate}
 use Rattle.rtx_tree.specs.declared.memories.MemByte.{MemByte}
 use Rattle.rtx_tree.specs.declared.machine.RangeAt.{RangeAt}
@@ -32,7 +33,8 @@ abbrev pub locals_below : ℕ → List RangeAt
 locals_below zero = []
 locals_below (suc n) = record { address = stack_top - suc n; length = suc n } ∷ []
 
--- the start with these values of a0 to a7, for so many bytes of locals, where so many bytes of the stack are there
+-- the start with these values of a0 to a7, for so many bytes of locals, where so many bytes of the
+-- stack are there
 abbrev pub start_with : List ℕ → ℕ → ℕ → Start
 start_with args locals room = record {
   args = args;

@@ -1,4 +1,5 @@
--- The world in which a function and its code are tried: where its symbols are, and what its calls do.
+-- The world in which a function and its code are tried: where its symbols are, and what its calls
+-- do.
 use Rattle.std.specs.Prelude.{ℕ, ◌+◌, ◌*◌, List, [], ◌∷◌, ◌++◌, length, replicate, is_some, if◌then◌else◌}
 use Rattle.std.specs.List.{flat_map}
 use Rattle.rtx_tree.specs.declared.code.Code.{Code}

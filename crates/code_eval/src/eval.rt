@@ -82,8 +82,8 @@ fn lines_of(alloc: Global, rtl: Ending, code: Ending) -> Result<Vec<u8>, Memory>
     Ok(text)
 }
 
-/// Runs a function for so many steps, and its lines and labels for 64 times as many lines and 1,000 more, with these values of `a0` to `a7`, and
-/// gives the two outcomes, a line for each.
+/// Runs a function for so many steps, and its lines and labels for 64 times as many lines and 1,000
+/// more, with these values of `a0` to `a7`, and gives the two outcomes, a line for each.
 pub fn eval_text(
     alloc: Global,
     f: &Function,

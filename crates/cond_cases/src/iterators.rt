@@ -13,7 +13,8 @@ pub fn constants_in(alloc: Global, text: &[u8]) -> Option<Constants> {
     }
 }
 
-/// Appends the forms of a description in two parts, each with the conditions of its values, and the constants behind them; of more than 20 forms only how many there are.
+/// Appends the forms of a description in two parts, each with the conditions of its values, and the
+/// constants behind them; of more than 20 forms only how many there are.
 pub fn tell(alloc: Global, given: &[u8], input: &[u8], told: &mut Told) {
     let mut text = Told::new(alloc);
     text.push(given);

@@ -41,7 +41,8 @@ fn show_member(member: &Member, told: &mut Told) {
     }
 }
 
-/// Appends an alternative, with a mark for its direction and a mark for each time that it is less wanted.
+/// Appends an alternative, with a mark for its direction and a mark for each time that it is less
+/// wanted.
 fn show_alternative(alternative: &Alternative, told: &mut Told) {
     told.text(match alternative.direction {
         Direction::Input => "",
@@ -57,7 +58,8 @@ fn show_alternative(alternative: &Alternative, told: &mut Told) {
     told.text(";");
 }
 
-/// The names of the defined constraints: the words of a text, and the empty one behind its last blank.
+/// The names of the defined constraints: the words of a text, and the empty one behind its last
+/// blank.
 fn names_in(alloc: Global, given: &[u8]) -> Result<Vec<Name>, Memory> {
     let mut names = Vec::new(alloc);
     for word in given.split(|byte| byte.is_ascii_whitespace()) {

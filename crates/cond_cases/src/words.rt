@@ -30,7 +30,8 @@ pub fn tell_tokens(alloc: Global, text: &[u8], told: &mut Told) {
     }
 }
 
-/// Appends what a word means where an expression may begin, and the code and the mode that it names.
+/// Appends what a word means where an expression may begin, and the code and the mode that it
+/// names.
 pub fn tell_word(alloc: Global, given: &[u8], word: &[u8], told: &mut Told) {
     if let Some(list) = constants_in(alloc, given)
         && let Ok(atom) = atom_of(alloc, Dialect::Condition, list.as_slice(), word)

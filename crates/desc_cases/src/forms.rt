@@ -9,7 +9,8 @@ use rtx_tree::{Name, Operands};
 use std::alloc::Global;
 use text_cases::trees_in;
 
-/// Appends the name of each form of a description, and `ok` or the number of the reason for which it is set aside.
+/// Appends the name of each form of a description, and `ok` or the number of the reason for which
+/// it is set aside.
 pub fn tell_forms(alloc: Global, given: &[u8], input: &[u8], told: &mut Told) {
     if let Some(forms) = joined_forms(alloc, given, input)
         && let Ok(names) = names_of(alloc, forms.as_slice())
@@ -36,8 +37,8 @@ fn show_form(form: &Entry, name: &Name, told: &mut Told) {
     }
 }
 
-/// Appends the value of an attribute in each alternative of a form: the value, or `-` where there is no such attribute, and `!`
-/// behind it where the alternative can't be used.
+/// Appends the value of an attribute in each alternative of a form: the value, or `-` where there
+/// is no such attribute, and `!` behind it where the alternative can't be used.
 fn show_values(attrs: &Attributes, name: &Name, form: u32, told: &mut Told) {
     for alternative in 0..31 {
         if has_alternative(attrs, form, alternative) {
@@ -68,7 +69,8 @@ pub fn tell_values(alloc: Global, input: &[u8], told: &mut Told) {
     }
 }
 
-/// Appends for each alternative of a form whether operands fit it: 1 where they do. The form and the operands are the input.
+/// Appends for each alternative of a form whether operands fit it: 1 where they do. The form and
+/// the operands are the input.
 pub fn tell_fitting(alloc: Global, given: &[u8], input: &[u8], told: &mut Told) {
     if let Some((form, operands)) = halves(input)
         && let Some(trees) = trees_in(alloc, operands)

@@ -1,7 +1,8 @@
-//! What is told of small cases of descriptions: patterns, forms, predicates, constraints, attributes, sources, lists and filled
-//! templates.
+//! What is told of small cases of descriptions: patterns, forms, predicates, constraints,
+//! attributes, sources, lists and filled templates.
 //!
-//! A case is an input of a table; [`answer`] tells what comes of it, which the case compares with what it wants.
+//! A case is an input of a table; [`answer`] tells what comes of it, which the case compares with
+//! what it wants.
 #![tactic(auto)]
 
 mod forms;

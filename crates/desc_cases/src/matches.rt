@@ -76,7 +76,8 @@ fn show_matched(alloc: Global, tree: &Rtx, insn: &Rtx, operands: &Operands, told
     }
 }
 
-/// Appends the operands with which a pattern matches an instruction, or that it doesn't; and where the pattern doesn't give it back.
+/// Appends the operands with which a pattern matches an instruction, or that it doesn't; and where
+/// the pattern doesn't give it back.
 pub fn tell_matched(alloc: Global, input: &[u8], told: &mut Told) {
     if let Some((first, second)) = halves(input)
         && let Some(tree) = pattern_in(alloc, first)
@@ -92,7 +93,8 @@ pub fn tell_matched(alloc: Global, input: &[u8], told: &mut Told) {
     }
 }
 
-/// Puts the operand that a tree writes under a number; `-` is a missing one. Whether the tree writes one.
+/// Puts the operand that a tree writes under a number; `-` is a missing one. Whether the tree
+/// writes one.
 fn put_operand(alloc: Global, number: u32, tree: &Tree, operands: &mut Operands) -> bool {
     if is_word(tree, b"-") {
         return true;

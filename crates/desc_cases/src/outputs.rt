@@ -41,8 +41,8 @@ fn show_filled(alloc: Global, template: &Template, trees: &[Tree], told: &mut To
     }
 }
 
-/// Tells the text that a template gives, in angle brackets. The input is the alternative, the function's number, the uid and the
-/// operands, and behind a bar the template.
+/// Tells the text that a template gives, in angle brackets. The input is the alternative, the
+/// function's number, the uid and the operands, and behind a bar the template.
 pub fn tell_filled(alloc: Global, input: &[u8], told: &mut Told) {
     if let Some((first, second)) = halves(input)
         && let Ok(Reading::Template(template)) = template_of(alloc, second)

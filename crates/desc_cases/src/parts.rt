@@ -46,7 +46,8 @@ pub fn behind_word<'a>(trees: &'a [Tree], word: &[u8]) -> &'a [Tree] {
     &[]
 }
 
-/// Puts the operand that a tree writes under a number; `-` is a missing one. Whether the tree writes one.
+/// Puts the operand that a tree writes under a number; `-` is a missing one. Whether the tree
+/// writes one.
 fn put_operand(alloc: Global, number: u32, tree: &Tree, operands: &mut Operands) -> bool {
     if is_word(tree, b"-") {
         return true;

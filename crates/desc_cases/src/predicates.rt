@@ -23,7 +23,8 @@ fn show_pattern(pattern: &Pattern, told: &mut Told) {
     told.show(pattern.texts.len());
 }
 
-/// Appends the nodes of a pattern and how many constraints stand in it, or the reason for which its tree is set aside.
+/// Appends the nodes of a pattern and how many constraints stand in it, or the reason for which its
+/// tree is set aside.
 pub fn tell_pattern(alloc: Global, given: &[u8], input: &[u8], told: &mut Told) {
     if let Some(tree) = tree_in(alloc, input)
         && let Some(constants) = constants_in(alloc, given)

@@ -34,7 +34,8 @@ fn show_refusal(refusal: SourceRefusal, told: &mut Told) {
     }
 }
 
-/// Appends the names that are asked for, how many bytes were read before the last of them, and what the description of a name comes to.
+/// Appends the names that are asked for, how many bytes were read before the last of them, and what
+/// the description of a name comes to.
 pub fn tell_source(alloc: Global, given: &[u8], name: &[u8], told: &mut Told) {
     let Ok(files) = str::from_utf8(given) else {
         return told.fail();

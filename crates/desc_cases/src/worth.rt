@@ -34,7 +34,8 @@ fn set_of(alloc: Global, window: &Tree) -> Option<RegSet> {
     Some(set)
 }
 
-/// What is known besides the operands. Where dead registers are given, one vector for each place of a window, it is after homes.
+/// What is known besides the operands. Where dead registers are given, one vector for each place of
+/// a window, it is after homes.
 fn facts_of(alloc: Global, windows: &[Tree]) -> Option<Facts> {
     let mut dead = Items::new(alloc);
     for window in windows {
@@ -62,7 +63,8 @@ fn show_worth(alloc: Global, trees: &[Tree], preds: &PredTable, cond: &Cond, tol
     }
 }
 
-/// Appends what a condition is worth, with the constants, the predicates, the operands and the dead registers that are given.
+/// Appends what a condition is worth, with the constants, the predicates, the operands and the dead
+/// registers that are given.
 pub fn tell_worth(alloc: Global, given: &[u8], input: &[u8], told: &mut Told) {
     if let Some(constants) = constants_in(alloc, given)
         && let Ok(cond) = parse_cond(alloc, input, &constants)

@@ -1,5 +1,5 @@
--- What `dump` tells of functions: each as it is behind a pass, in canonical text. GCC Internals, "Passes and Files of the Compiler" and
--- "Insns".
+-- What `dump` tells of functions: each as it is behind a pass, in canonical text. GCC Internals,
+-- "Passes and Files of the Compiler" and "Insns".
 use Rattle.std.specs.Prelude.{List, Ok, Err}
 use Rattle.rtx_tree.specs.declared.function.Function.{Function}
 use Rattle.run_refusal.specs.declared.refusal.Refusal.{Refusal}
@@ -14,7 +14,8 @@ use Rattle.func_after.specs.declared.made.Made.{Made}
 -- a function: what refuses it on the way to the pass, or its text behind it
 pub data FunctionComes (forms : List Entry) (pass : Pass) (f : Function) : Outcome → Type 0 where
   refused : (e : Refusal) → IsBehind forms f pass (Err e) → FunctionComes forms pass f (Err e)
-  printed : (m : Made) → IsBehind forms f pass (Ok m) → FunctionComes forms pass f (Ok (printed_function m.function))
+  printed : (m : Made) → IsBehind forms f pass (Ok m) →
+      FunctionComes forms pass f (Ok (printed_function m.function))
 
 -- some functions, one behind the other
 abbrev pub FunctionsCome : List Entry → Pass → List Function → Outcome → Type 0

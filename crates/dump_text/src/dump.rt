@@ -75,14 +75,15 @@ fn dump_read(
     dump_text(alloc, desc, pass, functions)
 }
 
-/// The functions of an input as they are behind a pass, in canonical text, by a description, or what refuses it: bytes that are no text, a
-/// tree outside the language, a function that breaks a rule or passes a limit, or what a pass refuses, in this order. An input has at most
-/// 16,777,216 bytes.
+/// The functions of an input as they are behind a pass, in canonical text, by a description, or
+/// what refuses it: bytes that are no text, a tree outside the language, a function that breaks a
+/// rule or passes a limit, or what a pass refuses, in this order. An input has at most 16,777,216
+/// bytes.
 ///
 /// # Errors
 ///
-/// `Syntax`, `Limit`, `Construct`, `IllFormed`; as the passes up to that one tell them, `Unmatched`, `Unsatisfied`, `NotEquated` and
-/// `Limit`; `Memory` where memory ran out.
+/// `Syntax`, `Limit`, `Construct`, `IllFormed`; as the passes up to that one tell them,
+/// `Unmatched`, `Unsatisfied`, `NotEquated` and `Limit`; `Memory` where memory ran out.
 pub fn dump_of(
     alloc: Global,
     desc: &Description,
@@ -91,7 +92,9 @@ pub fn dump_of(
 ) -> Result<Vec<u8>, Refusal>
     requires { length bytes.now ≤ most_bytes }
     ensures gives { Gives result (InputComesTo (FunctionsCome desc.now pass) bytes.now) }
-    ensures one { (forms : List Entry) (pass : Pass) (bytes : List ℕ) (a b : Outcome) → InputComesTo (FunctionsCome forms pass) bytes a → InputComesTo (FunctionsCome forms pass) bytes b → a ≡ b }
+    ensures one { (forms : List Entry) (pass : Pass) (bytes : List ℕ) (a b : Outcome) →
+        InputComesTo (FunctionsCome forms pass) bytes a →
+        InputComesTo (FunctionsCome forms pass) bytes b → a ≡ b }
 {
     let functions = read_functions(alloc, bytes)?;
     dump_read(alloc, desc, pass, functions.as_slice())

@@ -151,9 +151,10 @@ fn decided(
     }
 }
 
-/// Whether instructions are equated with what stands in their place, over the registers that are live behind: the first item that
-/// fails, where one does. `Size` comes where a term that is met has too many nodes and no part is one that can't be compared. What is the
-/// same, lines or instructions, does what the instructions do in whose place it stands.
+/// Whether instructions are equated with what stands in their place, over the registers that are
+/// live behind: the first item that fails, where one does. `Size` comes where a term that is met
+/// has too many nodes and no part is one that can't be compared. What is the same, lines or
+/// instructions, does what the instructions do in whose place it stands.
 #[tactic(auto, using(crate::proofs::VerdictLaws::telling, crate::proofs::Soundness::equated_does, crate::proofs::Soundness::equated_keeps))]
 pub fn equate(
     alloc: Global,

@@ -1,7 +1,8 @@
-//! What is told of small cases of comparisons: instructions beside the lines, or the instructions, that stand in their place.
+//! What is told of small cases of comparisons: instructions beside the lines, or the instructions,
+//! that stand in their place.
 //!
-//! A case is an input of a table, `LIVE | INSNS | LINES` or `LIVE | INSNS | INSNS`, where `-` stands for none; [`answer`] tells the
-//! verdict, which the case compares with what it wants.
+//! A case is an input of a table, `LIVE | INSNS | LINES` or `LIVE | INSNS | INSNS`, where `-`
+//! stands for none; [`answer`] tells the verdict, which the case compares with what it wants.
 #![tactic(auto)]
 
 mod sides;

@@ -1,4 +1,5 @@
-//! The parts of inputs: the registers that are live behind, the instructions, and what stands in their place.
+//! The parts of inputs: the registers that are live behind, the instructions, and what stands in
+//! their place.
 ghost use Rattle.std.specs.Prelude.{◌<◌, ◌^◌, IfSome, length};
 
 use code_cases::{function_in, halves, line_in};

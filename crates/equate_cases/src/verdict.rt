@@ -47,7 +47,8 @@ fn show_verdict(alloc: Global, verdict: &Verdict, told: &mut Told) {
     }
 }
 
-/// Appends the verdict on instructions and what stands in their place, or the size of a term that is too large.
+/// Appends the verdict on instructions and what stands in their place, or the size of a term that
+/// is too large.
 fn tell_sides(alloc: Global, live: &str, before: &Function, after: &Side, told: &mut Told)
     requires before { length before.now.insns < 2 ^ 32 }
     requires after { side_length (side_of after.now) < 2 ^ 32 }
@@ -83,7 +84,8 @@ fn lines_side(alloc: Global, function: u32, text: &str) -> Option<Side>
     }
 }
 
-/// Tells the verdict on instructions and the lines in their place. The number of their function may be given.
+/// Tells the verdict on instructions and the lines in their place. The number of their function may
+/// be given.
 pub fn tell_lines(alloc: Global, given: &[u8], input: &[u8], told: &mut Told) {
     if let Some((live, before, after)) = parts(input)
         && let Some(before) = chain_in(alloc, before)

@@ -1,5 +1,5 @@
--- Which instructions need a form, what is asked of one, and what conditions know at each stage: GCC Internals, "Insns", "Side Effect
--- Expressions" (use, clobber) and "Registers and Memory".
+-- Which instructions need a form, what is asked of one, and what conditions know at each stage: GCC
+-- Internals, "Insns", "Side Effect Expressions" (use, clobber) and "Registers and Memory".
 use Rattle.std.specs.Prelude.{ℕ, ℤ, pos, Bool, true, false, not, ◌&&◌, ◌||◌, nat_lt, List, [], slice_get, unwrap_or}
 use Rattle.std.specs.List.{list_any}
 use Rattle.rtx_tree.specs.declared.code.Code.{Code}
@@ -53,7 +53,8 @@ homeless_step x = is_homeless x.code x.number || list_any (λ here. here) x.kids
 abbrev pub names_homeless : Rtx → Bool
 names_homeless = fold-Rtx Bool homeless_step
 
--- A register that is none of the machine has no place in a line: no form counts at output for an instruction that names one.
+-- A register that is none of the machine has no place in a line: no form counts at output for an
+-- instruction that names one.
 abbrev pub is_held : Insn → Bool
 is_held i = names_homeless i.pattern
 

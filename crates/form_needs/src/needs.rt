@@ -17,7 +17,8 @@ fn is_note(code: Code) -> bool
     matches!(code, Code::Use | Code::Clobber)
 }
 
-/// Whether some form has to match an instruction: it is none of labels, barriers, and a `use` or `clobber` alone.
+/// Whether some form has to match an instruction: it is none of labels, barriers, and a `use` or
+/// `clobber` alone.
 pub fn needs_form(insn: &Insn) -> bool
     ensures { result ≡ spec.needs_form insn.now }
 {
@@ -46,7 +47,8 @@ fn names_homeless(x: &Rtx) -> bool
     false
 }
 
-/// Whether an instruction names a pseudo register or the address of the locals, which have no place in a line.
+/// Whether an instruction names a pseudo register or the address of the locals, which have no place
+/// in a line.
 pub fn is_held(insn: &Insn) -> bool
     ensures { result ≡ spec.is_held insn.now }
 {

@@ -1,5 +1,6 @@
--- What a function comes to when it is given a frame, by a description: GCC Internals, "Function Entry and Exit" (prologue and epilogue) and
--- "Pattern Ordering". A frame has a greatest size, and some form has to match each instruction that is new.
+-- What a function comes to when it is given a frame, by a description: GCC Internals, "Function
+-- Entry and Exit" (prologue and epilogue) and "Pattern Ordering". A frame has a greatest size, and
+-- some form has to match each instruction that is new.
 use Rattle.std.specs.Prelude.{◌≡◌, ℕ, ◌<◌, ◌≤◌, nat_le, Bool, true, List, ◌∷◌, ◌++◌, Result, Ok, Err}
 use Rattle.std.specs.List.{All}
 use Rattle.rtx_tree.specs.declared.function.Function.{Function}
@@ -60,10 +61,12 @@ pub record IsFirstUnmatched (forms : List Entry) (first : ℕ) (insns : List Ins
 
 -- ---- the function
 
--- it has its frame, or it is refused: a frame that is too large, before all else, or the first new instruction that no form matches
+-- it has its frame, or it is refused: a frame that is too large, before all else, or the first new
+-- instruction that no form matches
 pub data FrameComes (forms : List Entry) (f : Function) (layout : Layout) : Answer → Type 0 where
   large : most_frame < layout.size → FrameComes forms f layout (Err (too_large layout))
   unmatched : (g : Function) (i : Insn) → layout.size ≤ most_frame → IsFramed layout f g →
       IsFirstUnmatched forms (next_uid f.insns) g.insns i → FrameComes forms f layout (Err (unmatched_insn i))
-  framed : (g : Function) → layout.size ≤ most_frame → IsFramed layout f g → AreMatched forms (next_uid f.insns) g.insns →
+  framed : (g : Function) → layout.size ≤ most_frame → IsFramed layout f g →
+      AreMatched forms (next_uid f.insns) g.insns →
       FrameComes forms f layout (Ok g)

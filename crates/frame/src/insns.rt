@@ -108,7 +108,8 @@ fn add_items(
     Ok(())
 }
 
-/// A finished chain with the frame of a layout. New instructions take uids from one on; uids past 32 bits find no memory.
+/// A finished chain with the frame of a layout. New instructions take uids from one on; uids past
+/// 32 bits find no memory.
 pub(crate) fn framed_insns(
     alloc: Global,
     layout: &Layout,

@@ -119,8 +119,8 @@ fn try_all(alloc: Global, desc: &Description, first: u32, insns: &[Insn]) -> Res
 ///
 /// # Errors
 ///
-/// `Limit` of `Frame` where the frame is too large, before all else; `Unmatched` where no form matches a new instruction, for the first;
-/// `Memory` where memory ran out.
+/// `Limit` of `Frame` where the frame is too large, before all else; `Unmatched` where no form
+/// matches a new instruction, for the first; `Memory` where memory ran out.
 #[tactic(auto, using(crate::proofs::One::frame_one, crate::proofs::Kept::frame_marks, crate::proofs::Kept::frame_uids))]
 pub fn frame(
     alloc: Global,
@@ -141,7 +141,8 @@ pub fn frame(
         FrameComes forms f layout (Ok g) → KeepsInFrame f layout g }
 
     // Labels and barriers stay, and uids that differ still do.
-    ensures marks { (forms : List Entry) (f g : Function) (layout : Layout) → FrameComes forms f layout (Ok g) → SameMarks f g }
+    ensures marks { (forms : List Entry) (f g : Function) (layout : Layout) →
+        FrameComes forms f layout (Ok g) → SameMarks f g }
     ensures uids { (forms : List Entry) (f g : Function) (layout : Layout) → UidsDiffer f →
         FrameComes forms f layout (Ok g) → UidsDiffer g }
 {

@@ -1,6 +1,7 @@
--- The instructions that make the frame of a function and leave it, and the function with its frame: GCC Internals, "Basic Stack Layout" and
--- "Function Entry and Exit" (prologue and epilogue); RISC-V unprivileged manual, "Integer Register-Immediate Instructions" and "Load and Store
--- Instructions" (a number of 12 bits is part of an instruction, and another needs a register).
+-- The instructions that make the frame of a function and leave it, and the function with its frame:
+-- GCC Internals, "Basic Stack Layout" and "Function Entry and Exit" (prologue and epilogue); RISC-V
+-- unprivileged manual, "Integer Register-Immediate Instructions" and "Load and Store Instructions"
+-- (a number of 12 bits is part of an instruction, and another needs a register).
 use Rattle.std.specs.Prelude.{◌≡◌, ℕ, ◌+◌, ◌==◌, nat_lt, ℤ, pos, neg_ℤ, Bool, false, if◌then◌else◌, List, [], ◌∷◌, ◌++◌, length}
 use Rattle.std.specs.List.{flat_map}
 use Rattle.rtx_tree.specs.Patterns.{set_rtx, sum_rtx, return_rtx}
@@ -37,7 +38,8 @@ short_change number = set_rtx sp_rtx (sum_rtx sp_rtx (const_of number)) ∷ []
 
 -- by one that is not
 abbrev pub long_change : ℤ → List Rtx
-long_change number = set_rtx spare_rtx (const_of number) ∷ set_rtx sp_rtx (sum_rtx sp_rtx spare_rtx) ∷ []
+long_change number =
+    set_rtx spare_rtx (const_of number) ∷ set_rtx sp_rtx (sum_rtx sp_rtx spare_rtx) ∷ []
 
 -- the greatest multiple of 16 that is such a part, as itself and as its negative
 abbrev pub most_short : ℕ
@@ -59,7 +61,8 @@ near_address offset = if offset == 0 then sp_rtx else sum_rtx sp_rtx (const_of (
 
 -- t3 is made the sum of an offset and sp
 abbrev pub far_base : ℕ → List Rtx
-far_base offset = set_rtx spare_rtx (const_of (pos offset)) ∷ set_rtx spare_rtx (sum_rtx spare_rtx sp_rtx) ∷ []
+far_base offset =
+    set_rtx spare_rtx (const_of (pos offset)) ∷ set_rtx spare_rtx (sum_rtx spare_rtx sp_rtx) ∷ []
 
 -- what is made for the address of an offset
 abbrev pub base_made : ℕ → List Rtx
@@ -110,7 +113,8 @@ entering layout uid = plain_insns uid (prologue layout)
 
 -- the frame is left, and the function returns
 abbrev pub leaving : Layout → ℕ → List Insn
-leaving layout uid = plain_insns uid (epilogue layout) ++ return_with (uid + length (epilogue layout)) ∷ []
+leaving layout uid =
+    plain_insns uid (epilogue layout) ++ return_with (uid + length (epilogue layout)) ∷ []
 
 -- the next free uid behind them
 abbrev pub left_uid : Layout → ℕ → ℕ
@@ -124,7 +128,8 @@ returns_by _ i = false
 abbrev pub returns : Insn → Bool
 returns i = returns_by i.kind i
 
--- the items of a chain, with the frame left at each return, which is made anew; uids are free from one on
+-- the items of a chain, with the frame left at each return, which is made anew; uids are free from
+-- one on
 abbrev pub left_at_returns : Layout → ℕ → List Insn → List Insn
 left_at_returns layout uid [] = []
 left_at_returns layout uid (i ∷ insns) =
@@ -132,7 +137,8 @@ left_at_returns layout uid (i ∷ insns) =
 
 -- a finished chain with a frame
 abbrev pub framed_insns : Layout → ℕ → List Insn → List Insn
-framed_insns layout uid chain = entering layout uid ++ left_at_returns layout (uid + length (prologue layout)) chain
+framed_insns layout uid chain =
+    entering layout uid ++ left_at_returns layout (uid + length (prologue layout)) chain
 
 -- ---- the function
 
@@ -144,8 +150,8 @@ with_insns f insns = record f { insns = insns }
 abbrev pub next_uid : List Insn → ℕ
 next_uid insns = greatest_uid insns + 1
 
--- The function with a frame: its chain ends with a return where that end is reached, and new instructions take the uids after the greatest,
--- in their order.
+-- The function with a frame: its chain ends with a return where that end is reached, and new
+-- instructions take the uids after the greatest, in their order.
 pub record IsFramed (layout : Layout) (f g : Function) : Type 0 where
   pub chain : List Insn
   pub finished : IsFinished f.insns chain

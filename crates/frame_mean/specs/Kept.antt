@@ -1,6 +1,6 @@
--- What stays through the run of a function whose registers have homes, in a frame that others make and leave: GCC Internals, "Basic Stack
--- Layout" and "Register Usage"; RISC-V ELF psABI, "Integer Register Convention" (a function preserves sp and s0 to s11; ra holds the return
--- address).
+-- What stays through the run of a function whose registers have homes, in a frame that others make
+-- and leave: GCC Internals, "Basic Stack Layout" and "Register Usage"; RISC-V ELF psABI, "Integer
+-- Register Convention" (a function preserves sp and s0 to s11; ra holds the return address).
 use Rattle.std.specs.Prelude.{◌≡◌, ℕ, ◌+◌, ◌-◌, ◌<◌, ◌==◌, ◌&&◌, nat_le, nat_lt, Bool, true, false, List, ◌∷◌, Some}
 use Rattle.std.specs.List.{list_any}
 use Rattle.bits64.specs.declared.Width.TheVariants.{W64}
@@ -38,7 +38,8 @@ abbrev pub is_saved : Layout → ℕ → Bool
 is_saved layout reg = list_any (is_saved_at reg) layout.saved
 
 abbrev pub is_in_slot : ℕ → ℕ → SlotAt → Bool
-is_in_slot base address slot = nat_le (base + slot.offset) address && nat_lt address (base + slot.offset + 8)
+is_in_slot base address slot =
+    nat_le (base + slot.offset) address && nat_lt address (base + slot.offset + 8)
 
 -- an address lies in a slot of the frame whose lowest address is the base
 abbrev pub is_in_slots : Layout → ℕ → ℕ → Bool
@@ -46,13 +47,15 @@ is_in_slots layout base address = list_any (is_in_slot base address) layout.slot
 
 -- ---- what stays
 
--- By the start whose sp is not lowered yet: sp is the lowest address of the frame; each of ra and s0 to s11 that has no place in it is as at
--- the start; and so is each byte of it that lies in no slot and is none of the locals.
+-- By the start whose sp is not lowered yet: sp is the lowest address of the frame; each of ra and
+-- s0 to s11 that has no place in it is as at the start; and so is each byte of it that lies in no
+-- slot and is none of the locals.
 pub record IsKept (locals : ℕ) (layout : Layout) (start : Start) (s : State) : Type 0 where
   pub pointer : reg_value s.regs stack_pointer W64 ≡ Some (start.sp - layout.size)
   pub registers : (reg : ℕ) → has_reg preserved_registers reg ≡ true → is_saved layout reg ≡ false →
       reg_value s.regs reg W64 ≡ reg_value (entry_regs start) reg W64
-  pub room : (address : ℕ) → is_below_sp start layout.size address ≡ true → is_below_sp start locals address ≡ false →
+  pub room : (address : ℕ) → is_below_sp start layout.size address ≡ true →
+      is_below_sp start locals address ≡ false →
       is_in_slots layout (start.sp - layout.size) address ≡ false → byte_at s.memory address ≡ byte_at start.memory address
 
 -- each state at which one of the first n steps is made is so

@@ -1,5 +1,6 @@
--- What the passes make of a function, one behind the other: GCC Internals, "Passes and Files of the Compiler" ("RTL passes"). A pass goes on
--- with what the one before it leaves, and what one refuses is told by the function's name and the pass.
+-- What the passes make of a function, one behind the other: GCC Internals, "Passes and Files of the
+-- Compiler" ("RTL passes"). A pass goes on with what the one before it leaves, and what one refuses
+-- is told by the function's name and the pass.
 use Rattle.std.specs.Prelude.{◌≡◌, ℕ, List, [], ◌∷◌, Result, Ok, Err}
 use Rattle.rtx_tree.specs.declared.function.Insn.{Insn}
 use Rattle.rtx_tree.specs.declared.function.Function.{Function}
@@ -49,14 +50,17 @@ unmatched_at at function i = refusal.Unmatched function i.uid at i.pattern
 -- the refusal of a run for that of a pass over a function
 abbrev pub refused_for : List ℕ → Stage → PassRefusal → Refusal
 refused_for function at (passes.Unmatched uid insn) = refusal.Unmatched function uid at insn
-refused_for function at (passes.NotEquated uid rule item left right) = refusal.NotEquated function uid rule item left right
+refused_for function at (passes.NotEquated uid rule item left right) =
+    refusal.NotEquated function uid rule item left right
 refused_for function at (passes.Limit which count) = refusal.Limit which count
 refused_for function at passes.Memory = refusal.Memory
 
 -- and for that of a function whose registers get no homes
 abbrev pub unreloaded_for : List ℕ → ReloadRefusal → Refusal
-unreloaded_for function (reloading.Unmatched uid insn) = refusal.Unmatched function uid stage.Reload insn
-unreloaded_for function (reloading.Unsatisfied uid form insn) = refusal.Unsatisfied function uid form insn
+unreloaded_for function (reloading.Unmatched uid insn) =
+    refusal.Unmatched function uid stage.Reload insn
+unreloaded_for function (reloading.Unsatisfied uid form insn) =
+    refusal.Unsatisfied function uid form insn
 unreloaded_for function reloading.Memory = refusal.Memory
 
 -- ---- one pass
@@ -71,20 +75,26 @@ abbrev pub told_reloaded : List ℕ → Layout → Result Function ReloadRefusal
 told_reloaded name layout (Ok g) = Ok (record { function = g; layout = layout })
 told_reloaded name layout (Err e) = Err (unreloaded_for name e)
 
--- What a pass makes of what was made, by the forms of a description, or what it refuses. Registers have the homes that are defined for the
--- function as it comes to reload; of its constants each has 64 signed bits.
+-- What a pass makes of what was made, by the forms of a description, or what it refuses. Registers
+-- have the homes that are defined for the function as it comes to reload; of its constants each has
+-- 64 signed bits.
 pub data PassComes (forms : List Entry) (m : Made) : Pass → Answer → Type 0 where
   reads : PassComes forms m Read (Ok m)
-  lowers : (r : Result Function PassRefusal) (answer : Answer) → LowerComes forms m.function r → answer ≡ told_for m stage.Lower r →
+  lowers : (r : Result Function PassRefusal) (answer : Answer) → LowerComes forms m.function r →
+      answer ≡ told_for m stage.Lower r →
       PassComes forms m Lower answer
-  splits_first : (r : Result Function PassRefusal) (answer : Answer) → SplitComes forms BeforeReload m.function r →
+  splits_first : (r : Result Function PassRefusal) (answer : Answer) →
+      SplitComes forms BeforeReload m.function r →
       answer ≡ told_for m stage.Split1 r → PassComes forms m Split1 answer
-  reloads : (homes : List HomeOf) (r : Result Function ReloadRefusal) (answer : Answer) → AreHomes m.function homes →
+  reloads : (homes : List HomeOf) (r : Result Function ReloadRefusal) (answer : Answer) →
+      AreHomes m.function homes →
       EachSized m.function.insns → FunctionReloads forms homes (layout_of m.function homes) m.function r →
       answer ≡ told_reloaded m.function.name (layout_of m.function homes) r → PassComes forms m Reload answer
-  frames : (r : Result Function PassRefusal) (answer : Answer) → FrameComes forms m.function m.layout r →
+  frames : (r : Result Function PassRefusal) (answer : Answer) →
+      FrameComes forms m.function m.layout r →
       answer ≡ told_for m stage.Frame r → PassComes forms m Frame answer
-  splits_again : (r : Result Function PassRefusal) (answer : Answer) → SplitComes forms AfterReload m.function r →
+  splits_again : (r : Result Function PassRefusal) (answer : Answer) →
+      SplitComes forms AfterReload m.function r →
       answer ≡ told_for m stage.Split2 r → PassComes forms m Split2 answer
 
 -- ---- one behind the other
@@ -92,9 +102,11 @@ pub data PassComes (forms : List Entry) (m : Made) : Pass → Answer → Type 0 
 -- what some passes make, in their order, or the first refusal
 pub data PassesCome (forms : List Entry) : List Pass → Made → Answer → Type 0 where
   done : (m : Made) → PassesCome forms [] m (Ok m)
-  refused : (pass : Pass) (others : List Pass) (m : Made) (e : Refusal) → PassComes forms m pass (Err e) →
+  refused : (pass : Pass) (others : List Pass) (m : Made) (e : Refusal) →
+      PassComes forms m pass (Err e) →
       PassesCome forms (pass ∷ others) m (Err e)
-  goes_on : (pass : Pass) (others : List Pass) (m next : Made) (answer : Answer) → PassComes forms m pass (Ok next) →
+  goes_on : (pass : Pass) (others : List Pass) (m next : Made) (answer : Answer) →
+      PassComes forms m pass (Ok next) →
       PassesCome forms others next answer → PassesCome forms (pass ∷ others) m answer
 
 -- the passes up to one

@@ -1,4 +1,5 @@
--- That what the passes make of a function leads to lines with its behaviour: GCC Internals, "Passes and Files of the Compiler".
+-- That what the passes make of a function leads to lines with its behaviour: GCC Internals, "Passes
+-- and Files of the Compiler".
 use Rattle.std.specs.Prelude.{◌≡◌, ◌≤◌, List}
 use Rattle.rtx_tree.specs.declared.constants.Constant.{Constant}
 use Rattle.rtx_tree.specs.declared.function.Function.{Function}
@@ -14,10 +15,13 @@ use Rattle.func_after.specs.declared.made.Made.{Made}
 
 -- the forms are those of a description
 abbrev pub IsDescribed : List Entry → Type 0
-IsDescribed forms = (constants : List Constant) × (instances : List Instance) × (forms ≡ forms_of constants instances)
+IsDescribed forms =
+    (constants : List Constant) × (instances : List Instance) ×
+    (forms ≡ forms_of constants instances)
 
--- Lines can stand for what was made; its frame holds the locals, and is no larger than a frame may be; and lines that do what it does,
--- where it leaves all as it found it, have the behaviour of the function.
+-- Lines can stand for what was made; its frame holds the locals, and is no larger than a frame may
+-- be; and lines that do what it does, where it leaves all as it found it, have the behaviour of the
+-- function.
 pub record LeadsToLines (f : Function) (m : Made) : Type 0 where
   pub writable : AreWritable m.function
   pub holds : f.locals ≤ m.layout.size

@@ -1,8 +1,9 @@
 //! What the passes make of a function, one behind the other.
 //!
-//! [`behind`] takes a function through the passes up to one, or tells what one of them refuses, by the function's name and the pass; [`after`]
-//! takes it through all (`specs/After.antt`). What was made so far is a [`Made`]: the function, and the layout of its frame once it is
-//! reloaded. `specs/Each.antt` says what some things come to, one behind the other.
+//! [`behind`] takes a function through the passes up to one, or tells what one of them refuses, by
+//! the function's name and the pass; [`after`] takes it through all (`specs/After.antt`). What was
+//! made so far is a [`Made`]: the function, and the layout of its frame once it is reloaded.
+//! `specs/Each.antt` says what some things come to, one behind the other.
 #![tactic(auto)]
 
 mod made;

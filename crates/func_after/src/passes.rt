@@ -43,8 +43,8 @@ fn passes_up_to(pass: Pass) -> &'static [Pass]
 ///
 /// # Errors
 ///
-/// As the passes tell them: `Unmatched`, `Unsatisfied`, `NotEquated`, and `Limit` of `TermSize`, `SplitDepth` or `Frame`; `Memory` where
-/// memory ran out.
+/// As the passes tell them: `Unmatched`, `Unsatisfied`, `NotEquated`, and `Limit` of `TermSize`,
+/// `SplitDepth` or `Frame`; `Memory` where memory ran out.
 #[tactic(auto, using(crate::proofs::PassesLaws::makes_start, crate::proofs::PassesLaws::makes_on, crate::proofs::PassesLaws::makes_wrong, crate::proofs::PassesLaws::makes_all))]
 pub fn behind(alloc: Global, desc: &Description, f: &Function, pass: Pass) -> Result<Made, Refusal>
     ensures { Gives result (IsBehind desc.now f.now pass) }
@@ -67,10 +67,12 @@ pub fn after(alloc: Global, desc: &Description, f: &Function) -> Result<Made, Re
     ensures gives { Gives result (AfterComes desc.now f.now) }
 
     // A function comes to one thing.
-    ensures one { (forms : List Entry) (f : Function) (a b : spec.Answer) → AfterComes forms f a → AfterComes forms f b → a ≡ b }
+    ensures one { (forms : List Entry) (f : Function) (a b : spec.Answer) → AfterComes forms f a →
+        AfterComes forms f b → a ≡ b }
 
     // By the forms of a description, lines that do what a sound function then does have the behaviour of the function.
-    ensures leads { (forms : List Entry) (f : Function) (m : Made) → IsDescribed forms → IsSound f → AfterComes forms f (Ok m) → LeadsToLines f m }
+    ensures leads { (forms : List Entry) (f : Function) (m : Made) → IsDescribed forms → IsSound f →
+        AfterComes forms f (Ok m) → LeadsToLines f m }
 {
     behind(alloc, desc, f, Pass::Split2)
 }

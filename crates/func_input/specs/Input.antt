@@ -19,7 +19,8 @@ pub record IsRead (bytes : List ℕ) (functions : List Function) : Type 0 where
   pub reads : ReadsAs bytes (Trees trees)
   pub stand : functions_in trees ≡ stands functions
 
--- the bytes are the text of an input with these functions, which are well-formed and within the limits
+-- the bytes are the text of an input with these functions, which are well-formed and within the
+-- limits
 pub record IsInput (bytes : List ℕ) (functions : List Function) : Type 0 where
   pub within : length bytes ≤ most_bytes
   pub trees : List Tree
@@ -29,22 +30,32 @@ pub record IsInput (bytes : List ℕ) (functions : List Function) : Type 0 where
 
 -- ---- what an input comes to
 
--- What some functions come to by a last step, which says what functions of which none is refused come to. Each is looked at before that step.
+-- What some functions come to by a last step, which says what functions of which none is refused
+-- come to. Each is looked at before that step.
 pub data FunctionsComeTo {A : Type 0} (last : List Function → Result A Refusal → Type 0) (functions : List Function) : Result A Refusal → Type 0 where
-  refused : (e : Refusal) → first_refused functions ≡ Some e → FunctionsComeTo last functions (Err e)
-  admitted : (outcome : Result A Refusal) → first_refused functions ≡ None → last functions outcome → FunctionsComeTo last functions outcome
+  refused : (e : Refusal) → first_refused functions ≡ Some e →
+      FunctionsComeTo last functions (Err e)
+  admitted : (outcome : Result A Refusal) → first_refused functions ≡ None →
+      last functions outcome → FunctionsComeTo last functions outcome
 
 -- what a text comes to, by its reading
 pub data ReadingComesTo {A : Type 0} (last : List Function → Result A Refusal → Type 0) : Reading → Result A Refusal → Type 0 where
-  syntax : (place : Place) → ReadingComesTo last (Syntax place) (Err (refusal.Syntax (codes "-") place))
+  syntax : (place : Place) →
+      ReadingComesTo last (Syntax place) (Err (refusal.Syntax (codes "-") place))
   depth : (place : Place) → ReadingComesTo last (Depth place) (Err (refusal.Limit limit.Depth 201))
-  outside : (trees : List Tree) (place : Place) (name : List ℕ) → functions_in trees ≡ construct place name → ReadingComesTo last (Trees trees) (Err (refusal.Construct place name))
-  inside : (trees : List Tree) (functions : List Function) (outcome : Result A Refusal) → functions_in trees ≡ stands functions → FunctionsComeTo last functions outcome → ReadingComesTo last (Trees trees) outcome
+  outside : (trees : List Tree) (place : Place) (name : List ℕ) →
+      functions_in trees ≡ construct place name →
+      ReadingComesTo last (Trees trees) (Err (refusal.Construct place name))
+  inside : (trees : List Tree) (functions : List Function) (outcome : Result A Refusal) →
+      functions_in trees ≡ stands functions → FunctionsComeTo last functions outcome →
+      ReadingComesTo last (Trees trees) outcome
 
 -- What the bytes of an input come to. How many there are is looked at first, then their reading.
 pub data InputComesTo {A : Type 0} (last : List Function → Result A Refusal → Type 0) (bytes : List ℕ) : Result A Refusal → Type 0 where
-  too_long : most_bytes < length bytes → InputComesTo last bytes (Err (refusal.Limit limit.Text 16777217))
-  read : (reading : Reading) (outcome : Result A Refusal) → length bytes ≤ most_bytes → ReadsAs bytes reading → ReadingComesTo last reading outcome → InputComesTo last bytes outcome
+  too_long : most_bytes < length bytes →
+      InputComesTo last bytes (Err (refusal.Limit limit.Text 16777217))
+  read : (reading : Reading) (outcome : Result A Refusal) → length bytes ≤ most_bytes →
+      ReadsAs bytes reading → ReadingComesTo last reading outcome → InputComesTo last bytes outcome
 
 -- ---- what is refused whatever the last step is
 
@@ -56,11 +67,13 @@ Given = Result (List Function) Refusal
 abbrev pub AreThemselves : List Function → Given → Type 0
 AreThemselves functions outcome = outcome ≡ Ok functions
 
--- What some functions give: themselves, where none is refused, or the first refusal. They come to the same refusal by any last step.
+-- What some functions give: themselves, where none is refused, or the first refusal. They come to
+-- the same refusal by any last step.
 abbrev pub FunctionsGive : List Function → Given → Type 0
 FunctionsGive = FunctionsComeTo AreThemselves
 
--- What the bytes of an input give: its functions, or the first refusal. They come to the same refusal by any last step.
+-- What the bytes of an input give: its functions, or the first refusal. They come to the same
+-- refusal by any last step.
 abbrev pub InputGives : List ℕ → Given → Type 0
 InputGives = InputComesTo AreThemselves
 

@@ -27,17 +27,22 @@ abbrev pub rule_broken : Function → Option Fault → Option Refusal
 rule_broken f None = None
 rule_broken f (Some fault) = Some (refusal.IllFormed f.name fault.uid fault.rule)
 
--- a function that stands behind others: the first rule that it breaks, or the first limit that it passes
+-- a function that stands behind others: the first rule that it breaks, or the first limit that it
+-- passes
 abbrev pub refused_behind : List Function → Function → Option Refusal
-refused_behind before f = or_later (rule_broken f (rules.first_fault (faults_of before f))) (limit_passed f)
+refused_behind before f =
+    or_later (rule_broken f (rules.first_fault (faults_of before f))) (limit_passed f)
 
--- the function at an index among others: the first rule that it breaks, or the first limit that it passes
+-- the function at an index among others: the first rule that it breaks, or the first limit that it
+-- passes
 abbrev pub refused_at : List Function → ℕ → Function → Option Refusal
-refused_at functions index f = or_later (rule_broken f (rules.first_fault (faults functions index))) (limit_passed f)
+refused_at functions index f =
+    or_later (rule_broken f (rules.first_fault (faults functions index))) (limit_passed f)
 
 abbrev pub refused_from : List Function → ℕ → List Function → Option Refusal
 refused_from functions index [] = None
-refused_from functions index (f ∷ rest) = or_later (refused_at functions index f) (refused_from functions (index + 1) rest)
+refused_from functions index (f ∷ rest) =
+    or_later (refused_at functions index f) (refused_from functions (index + 1) rest)
 
 -- the first of some functions that is refused
 abbrev pub first_refused : List Function → Option Refusal

@@ -32,7 +32,8 @@ fn ill_formed(alloc: Global, function: &Name, uid: u32, rule: u8) -> Refusal
 /// Checks that a function keeps the rules, behind those with these names.
 fn check_rules(alloc: Global, names: &Names, f: &Function) -> Result<(), Refusal>
     requires { length f.now.insns < 2 ^ 32 }
-    ensures { (before : List Function) → AreNames before names.now → Checked result (rule_broken f.now (first_fault (faults_of before f.now))) }
+    ensures { (before : List Function) → AreNames before names.now →
+        Checked result (rule_broken f.now (first_fault (faults_of before f.now))) }
 {
     match check_behind(alloc, names, f) {
         Ok(()) => Ok(()),
@@ -67,7 +68,8 @@ fn check_limits(f: &Function) -> Result<(), Refusal>
 /// Checks a function behind those with these names: the rules, and then the limits.
 fn check_function(alloc: Global, names: &Names, f: &Function) -> Result<(), Refusal>
     requires { length f.now.insns < 2 ^ 32 }
-    ensures { (before : List Function) → AreNames before names.now → Checked result (refused_behind before f.now) }
+    ensures { (before : List Function) → AreNames before names.now →
+        Checked result (refused_behind before f.now) }
 {
     check_rules(alloc, names, f)?;
     check_limits(f)
@@ -103,7 +105,8 @@ fn are_short(functions: &[Function]) -> bool
     functions.iter().all(|f| f.insns.len() <= 0xffff_ffff)
 }
 
-/// Checks that functions are well-formed and within the limits. A chain with more places than have a number is wanted as memory is.
+/// Checks that functions are well-formed and within the limits. A chain with more places than have
+/// a number is wanted as memory is.
 ///
 /// # Errors
 ///

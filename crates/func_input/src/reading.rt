@@ -56,8 +56,8 @@ fn parse(alloc: Global, trees: &Trees) -> Result<Functions, Refusal>
     }
 }
 
-/// The functions of an input, or what refuses its bytes before they are functions: that they are no text, or a tree outside the
-/// language. An input has at most 16,777,216 bytes.
+/// The functions of an input, or what refuses its bytes before they are functions: that they are no
+/// text, or a tree outside the language. An input has at most 16,777,216 bytes.
 ///
 /// # Errors
 ///
@@ -66,7 +66,8 @@ pub fn read_functions(alloc: Global, bytes: &[u8]) -> Result<Functions, Refusal>
     requires { length bytes.now ≤ most_bytes }
     ensures reads { Reads bytes.now result }
     ensures unread { IfErr result (λ e. e ≢ refused.Memory → (functions : List Function) → IsRead bytes.now functions → ⊥) }
-    ensures input { (bytes : List ℕ) (functions : List Function) → IsInput bytes functions ↔ InputGives bytes (Ok functions) }
+    ensures input { (bytes : List ℕ) (functions : List Function) →
+        IsInput bytes functions ↔ InputGives bytes (Ok functions) }
     ensures one { (bytes : List ℕ) (a b : Given) → InputGives bytes a → InputGives bytes b → a ≡ b }
 {
     let trees = trees_of(alloc, bytes)?;

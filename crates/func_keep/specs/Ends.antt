@@ -14,7 +14,8 @@ is_past f s = not (is_some (slice_get f.insns (place_from f.insns s.next)))
 -- one of the n steps from a state ends the run there
 abbrev pub ends_past : World → Function → ℕ → State → Bool
 ends_past world f zero s = false
-ends_past world f (suc n) s = let e = step world f s in if goes_on e.0 then ends_past world f n e.1 else is_past f s
+ends_past world f (suc n) s =
+    let e = step world f s in if goes_on e.0 then ends_past world f n e.1 else is_past f s
 
 -- the run of n steps from a start ends there
 abbrev pub EndsAtExit : Function → Start → World → ℕ → Type 0

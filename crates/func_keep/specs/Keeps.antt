@@ -1,4 +1,5 @@
--- When a function does what another does, whichever the machine: GCC Internals, "Passes and Files of the Compiler".
+-- When a function does what another does, whichever the machine: GCC Internals, "Passes and Files
+-- of the Compiler".
 use Rattle.std.specs.Prelude.{◌≡◌, ◌≢◌, ℕ, ◌≤◌}
 use Rattle.std.specs.List.{All}
 use Rattle.rtx_tree.specs.declared.function.Function.{Function}
@@ -29,8 +30,8 @@ pub record IsMachineWorld (world : World) : Type 0 where
 
 -- ---- keeping
 
--- The run of n steps of the first has no value, or some steps of the second come to the same, take as many jumps and calls at least, and
--- return at the end of the chain only where the n do.
+-- The run of n steps of the first has no value, or some steps of the second come to the same, take
+-- as many jumps and calls at least, and return at the end of the chain only where the n do.
 abbrev pub KeepsRun : Function → Function → Start → World → ℕ → Type 0
 KeepsRun f g start world n =
     run_of f start world n ≢ Undefined →
@@ -41,4 +42,5 @@ KeepsRun f g start world n =
 pub record Keeps (f g : Function) : Type 0 where
   pub locals_are : g.locals ≡ f.locals
   pub result_is : g.result ≡ f.result
-  pub runs : (start : Start) (world : World) (n : ℕ) → IsMachineStart start → IsMachineWorld world → KeepsRun f g start world n
+  pub runs : (start : Start) (world : World) (n : ℕ) → IsMachineStart start → IsMachineWorld world →
+      KeepsRun f g start world n

@@ -1,4 +1,5 @@
--- When two runs come to the same: GCC Internals, "Calls"; RISC-V ELF psABI, "Integer Register Convention" (what a function preserves).
+-- When two runs come to the same: GCC Internals, "Calls"; RISC-V ELF psABI, "Integer Register
+-- Convention" (what a function preserves).
 use Rattle.std.specs.Prelude.{◌≡◌, ℕ, List, length, slice_get, Option, Some}
 use Rattle.same_behaviour.specs.rtl_step.declared.call.ArgValue.{ArgValue}
 use Rattle.same_behaviour.specs.rtl_step.declared.call.CallEvent.{CallEvent}
@@ -9,7 +10,9 @@ use Rattle.same_behaviour.specs.func_mean.declared.outcome.Outcome.TheVariants.{
 
 -- each argument of the one is one of the other
 abbrev pub HasEach : List ArgValue → List ArgValue → Type 0
-HasEach args others = (i : ℕ) (arg : ArgValue) → slice_get args i ≡ Some arg → (j : ℕ) × (slice_get others j ≡ Some arg)
+HasEach args others =
+    (i : ℕ) (arg : ArgValue) → slice_get args i ≡ Some arg →
+    (j : ℕ) × (slice_get others j ≡ Some arg)
 
 -- the same target, arguments, in whatever order, and visible memory
 pub record SameEvent (event other : CallEvent) : Type 0 where
@@ -21,13 +24,16 @@ pub record SameEvent (event other : CallEvent) : Type 0 where
 -- equally many, each the same
 pub record SameEvents (events others : List CallEvent) : Type 0 where
   pub long : length others ≡ length events
-  pub each : (i : ℕ) (event other : CallEvent) → slice_get events i ≡ Some event → slice_get others i ≡ Some other → SameEvent event other
+  pub each : (i : ℕ) (event other : CallEvent) → slice_get events i ≡ Some event →
+      slice_get others i ≡ Some other → SameEvent event other
 
 -- ---- the same outcome
 
 -- where a register that a function preserves is known to hold a number, the other holds it too
 abbrev pub KeptToo : List (Option ℕ) → List (Option ℕ) → Type 0
-KeptToo kept others = (i : ℕ) (number : ℕ) → slice_get kept i ≡ Some (Some number) → slice_get others i ≡ Some (Some number)
+KeptToo kept others =
+    (i : ℕ) (number : ℕ) → slice_get kept i ≡ Some (Some number) →
+    slice_get others i ≡ Some (Some number)
 
 -- both go on, are at a call without a reply, or have returned
 abbrev pub SameOutcome : Outcome → Outcome → Type 0

@@ -117,7 +117,8 @@ insn_count (i ∷ insns) = if is_mark i.kind then insn_count insns else suc (ins
 -- An endless run takes jumps and makes calls without end: a run of a function of K instructions
 -- that goes on after n steps has taken so many of them that n is at most (taken + 1) * (K + 1).
 abbrev pub TakesEnough : Type 0
-TakesEnough = (f : Function) (start : Start) (world : World) (n : ℕ) → IsRunning (run_of f start world n) →
+TakesEnough =
+    (f : Function) (start : Start) (world : World) (n : ℕ) → IsRunning (run_of f start world n) →
     n ≤ (taken f start world n + 1) * (insn_count f.insns + 1)
 
 -- ---- the states of a run
@@ -125,7 +126,8 @@ TakesEnough = (f : Function) (start : Start) (world : World) (n : ℕ) → IsRun
 -- the state after n steps that all go on, or none where one of them ended the run
 abbrev pub state_after : World → Function → ℕ → State → Option State
 state_after world f zero s = Some s
-state_after world f (suc n) s = let e = step world f s in if goes_on e.0 then state_after world f n e.1 else None
+state_after world f (suc n) s =
+    let e = step world f s in if goes_on e.0 then state_after world f n e.1 else None
 
 -- what a run of n steps comes to in m more, by the state after the n; once ended it stays
 abbrev pub run_on : World → Function → ℕ → ℕ → State → Option State → Outcome

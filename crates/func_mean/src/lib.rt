@@ -1,7 +1,7 @@
 //! What a function of RTL means: the outcome of so many steps from a start in a world.
 //!
-//! `run_function` computes it, and equals the definition in `specs/`. A run that goes on without end takes jumps or makes calls without
-//! end: a contract says how often.
+//! `run_function` computes it, and equals the definition in `specs/`. A run that goes on without
+//! end takes jumps or makes calls without end: a contract says how often.
 #![tactic(auto)]
 
 mod outcome;

@@ -1,4 +1,5 @@
--- Functions that keep the rules of well-formed functions and are within the limits: GCC Internals, "Insns" and "RTL Objects".
+-- Functions that keep the rules of well-formed functions and are within the limits: GCC Internals,
+-- "Insns" and "RTL Objects".
 use Rattle.std.specs.Prelude.{◌≡◌, ℕ, true, List, Some, None, slice_get}
 use Rattle.rtx_tree.specs.declared.function.Insn.{Insn}
 use Rattle.rtx_tree.specs.declared.function.Function.{Function}
@@ -20,16 +21,20 @@ StandsAt insns place i = slice_get insns place ≡ Some i
 
 -- each instruction and label keeps each rule on patterns; barriers have none
 abbrev pub KeepEach : Function → Type 0
-KeepEach f = (rule : InsnRule) (place : ℕ) (i : Insn) → StandsAt f.insns place i → is_ruled i ≡ true → keeps rule f i ≡ true
+KeepEach f =
+    (rule : InsnRule) (place : ℕ) (i : Insn) → StandsAt f.insns place i → is_ruled i ≡ true →
+    keeps rule f i ≡ true
 
 -- a barrier does nothing
 abbrev pub BarriersDoNothing : List Insn → Type 0
-BarriersDoNothing insns = (place : ℕ) (i : Insn) → StandsAt insns place i → i.kind ≡ Barrier → i.pattern ≡ nothing_rtx
+BarriersDoNothing insns =
+    (place : ℕ) (i : Insn) → StandsAt insns place i → i.kind ≡ Barrier → i.pattern ≡ nothing_rtx
 
 -- a label has a number of 32 bits, and no other label has it
 pub record AreLabels (insns : List Insn) : Type 0 where
   pub fit : (place : ℕ) (i : Insn) → StandsAt insns place i → i.kind ≡ Label → IsUid i.uid
-  pub differ : (p q : ℕ) (i j : Insn) → StandsAt insns p i → StandsAt insns q j → i.kind ≡ Label → j.kind ≡ Label →
+  pub differ : (p q : ℕ) (i j : Insn) → StandsAt insns p i → StandsAt insns q j → i.kind ≡ Label →
+      j.kind ≡ Label →
       i.uid ≡ j.uid → p ≡ q
 
 -- a function that keeps the rules; its chain may have the return at its end

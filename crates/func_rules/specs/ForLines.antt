@@ -1,5 +1,5 @@
--- What the rules give for the lines of a function, place by place: GCC Internals, "Insns", "Side Effect Expressions" and "Registers and
--- Memory"; RISC-V ELF psABI, "Integer Register Convention".
+-- What the rules give for the lines of a function, place by place: GCC Internals, "Insns", "Side
+-- Effect Expressions" and "Registers and Memory"; RISC-V ELF psABI, "Integer Register Convention".
 use Rattle.std.specs.Prelude.{◌≡◌, ◌⊎◌, ℕ, ◌<◌, true, false, [], ◌∷◌}
 use Rattle.rtx_tree.specs.declared.function.Insn.{Insn}
 use Rattle.rtx_tree.specs.declared.function.Kind.TheVariants.{Plain, Barrier}

@@ -1,4 +1,5 @@
--- What stands at the places of a function that keeps the rules: GCC Internals, "Insns", "Jump Patterns" and "Side Effect Expressions".
+-- What stands at the places of a function that keeps the rules: GCC Internals, "Insns", "Jump
+-- Patterns" and "Side Effect Expressions".
 use Rattle.std.specs.Prelude.{◌≡◌, ℕ, true, List, Some}
 use Rattle.rtx_tree.specs.declared.code.Code.TheVariants.{Set, Use, Clobber, Parallel}
 use Rattle.rtx_tree.specs.declared.function.Insn.{Insn}
@@ -16,8 +17,8 @@ pub data Leads (insns : List Insn) : Flow → Type 0 where
   goes : (uid place : ℕ) → place_of uid insns ≡ Some place → Leads insns (Goes uid)
   branches : (uid place : ℕ) → place_of uid insns ≡ Some place → Leads insns (Branches uid)
 
--- What stands at a place of a chain: a label; a barrier; an instruction that is one effect, or some at once; a return, or a jump to a
--- label; or a call.
+-- What stands at a place of a chain: a label; a barrier; an instruction that is one effect, or some
+-- at once; a return, or a jump to a label; or a call.
 pub data IsSort (insns : List Insn) (i : Insn) : Type 0 where
   label : i.kind ≡ kind.Label → is_nothing i.pattern ≡ true → IsSort insns i
   barrier : i.kind ≡ kind.Barrier → i.pattern ≡ nothing_rtx → IsSort insns i

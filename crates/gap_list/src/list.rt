@@ -9,7 +9,8 @@ use std::alloc::Global;
 use std::marker::Model;
 use std::mem;
 
-/// A list that is changed near one place, where it has a gap. Contracts see it as the list of its elements.
+/// A list that is changed near one place, where it has a gap. Contracts see it as the list of its
+/// elements.
 #[derive(Drop)]
 pub struct GapList<T> {
     /// The elements before the gap.
@@ -79,7 +80,8 @@ impl<T> GapList<T> {
         }
     }
 
-    /// Moves the gap to a place: each element between the place where it stood and this one is moved once.
+    /// Moves the gap to a place: each element between the place where it stood and this one is
+    /// moved once.
     ///
     /// # Errors
     ///

@@ -1,5 +1,5 @@
--- What preparation statements make: GCC Internals, "Defining RTL Sequences for Code Generation"; "Registers and Memory" (registers, and
--- the low parts of them).
+-- What preparation statements make: GCC Internals, "Defining RTL Sequences for Code Generation";
+-- "Registers and Memory" (registers, and the low parts of them).
 use Rattle.std.specs.Prelude.{ℕ, ◌+◌, ◌==◌, nat_lt, ℤ, pos, Bool, true, false, if◌then◌else◌, List, [], ◌∷◌, ◌++◌, Option, Some, None, option_map, int_lt}
 use Rattle.std.specs.Int.{cast_unsigned, w64}
 use Rattle.bits64.specs.Words.{signed}
@@ -51,7 +51,8 @@ extended _ n = n
 
 -- (gen_reg_rtx) a new pseudo register of a mode, where one may be made
 abbrev pub fresh : Bool → Mode → Draft → Option Made
-fresh may m d = if may then Some (made (reg_of m (pseudo d.next)) (record d { next = d.next + 1 })) else None
+fresh may m d =
+    if may then Some (made (reg_of m (pseudo d.next)) (record d { next = d.next + 1 })) else None
 
 abbrev pub is_register_code : Code → Bool
 is_register_code Reg = true
@@ -64,9 +65,11 @@ is_register x = is_register_code (head_of x).code
 abbrev pub kept : Rtx → Made → Made
 kept x new = made new.value (moved new.value x new.draft)
 
--- (force_reg) a register is itself; for any other value stands a new pseudo register, which a move sets to it
+-- (force_reg) a register is itself; for any other value stands a new pseudo register, which a move
+-- sets to it
 abbrev pub forced : Bool → Mode → Made → Option Made
-forced may m x = if is_register x.value then Some x else option_map (kept x.value) (fresh may m x.draft)
+forced may m x =
+    if is_register x.value then Some x else option_map (kept x.value) (fresh may m x.draft)
 
 -- the bits of a mode; no mode has none
 abbrev pub mode_bits : Mode → ℕ

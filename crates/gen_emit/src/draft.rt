@@ -7,7 +7,8 @@ use plain_data::{Items, Memory};
 use rtx_tree::{Code, FIRST_PSEUDO, Kids, Mode, Operands, Rtx};
 use std::alloc::Global;
 
-/// What stands while statements run: the operands, the moves that were emitted, in order, and the next free pseudo register.
+/// What stands while statements run: the operands, the moves that were emitted, in order, and the
+/// next free pseudo register.
 #[derive(Drop)]
 pub struct Draft {
     /// The operands.

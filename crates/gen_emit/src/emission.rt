@@ -67,8 +67,8 @@ fn through(alloc: Global, patterns: &[Rtx], draft: Draft) -> Result<Option<Emiss
     }))
 }
 
-/// What a form emits with operands, where pseudo registers are free from a number on; `None` where it fails. A pseudo register past 32
-/// bits finds no memory.
+/// What a form emits with operands, where pseudo registers are free from a number on; `None` where
+/// it fails. A pseudo register past 32 bits finds no memory.
 pub fn emit<P: Preds>(
     alloc: Global,
     form: &Form,

@@ -98,7 +98,8 @@ fn last_parts(heads: &[CondHead], starts: &[usize], at: usize, count: usize) -> 
     requires starts { spec.AreAllStarts heads.now starts.now }
     requires within { at ≤ length heads.now }
     requires few { count ≤ 3 }
-    ensures trees { map (spec.tree_at heads.now) (spec.ends_of result) ≡ reverse (take count (trees_at heads.now at)) }
+    ensures trees { map (spec.tree_at heads.now) (spec.ends_of result) ≡
+        reverse (take count (trees_at heads.now at)) }
     ensures ends { AllByRecursion (spec.IsEnd heads.now) (spec.ends_of result) }
 {
     if count == 0 || at == 0 {

@@ -71,7 +71,8 @@ impl State {
     }
 
     fn copy_operand(&mut self, alloc: Global, number: u32) -> Result<Step, Memory>
-        ensures { (may : Bool) → IfOk result (λ step. spec.Does may (Op.Copy number) self.old step self.new) }
+        ensures { (may : Bool) →
+            IfOk result (λ step. spec.Does may (Op.Copy number) self.old step self.new) }
     {
         let value = copied(alloc, self.draft.operands.get(number as usize))?;
         self.give(value)
@@ -85,7 +86,8 @@ impl State {
     }
 
     fn assign(&mut self, number: u32) -> Result<Step, Memory>
-        ensures { (may : Bool) → IfOk result (λ step. spec.Does may (Op.Assign number) self.old step self.new) }
+        ensures { (may : Bool) →
+            IfOk result (λ step. spec.Does may (Op.Assign number) self.old step self.new) }
     {
         let Some(value) = self.values.pop() else {
             return Ok(Step::Fail);
@@ -118,7 +120,8 @@ impl State {
     }
 
     fn take_part(&mut self, alloc: Global, mode: Mode) -> Result<Step, Memory>
-        ensures { (may : Bool) → IfOk result (λ step. spec.Does may (Op.LowPart mode) self.old step self.new) }
+        ensures { (may : Bool) →
+            IfOk result (λ step. spec.Does may (Op.LowPart mode) self.old step self.new) }
     {
         let Some(value) = self.values.pop() else {
             return Ok(Step::Fail);

@@ -1,5 +1,6 @@
--- What stays while a function runs whose registers have homes in a frame: RISC-V ELF psABI, "Integer Register Convention" (a function
--- leaves sp, ra and s0 to s11 as it found them); GCC Internals, "Basic Stack Layout" (the frame is the part of the stack below sp).
+-- What stays while a function runs whose registers have homes in a frame: RISC-V ELF psABI,
+-- "Integer Register Convention" (a function leaves sp, ra and s0 to s11 as it found them); GCC
+-- Internals, "Basic Stack Layout" (the frame is the part of the stack below sp).
 use Rattle.std.specs.Prelude.{◌≡◌, ℕ, ◌+◌, ◌-◌, ◌&&◌, not, Bool, true, false, List, ◌∷◌, map, Some}
 use Rattle.std.specs.List.{list_any}
 use Rattle.bits64.specs.declared.Width.TheVariants.{W64}
@@ -33,12 +34,15 @@ in_slots layout base address = list_any (is_in address) (slot_ranges layout base
 
 -- ra, or one of s0 to s11, that the frame does not save
 abbrev pub is_unsaved : Layout → ℕ → Bool
-is_unsaved layout reg = has_reg (return_address ∷ saved_registers) reg && not (has_reg (map (λ s. s.reg) layout.saved) reg)
+is_unsaved layout reg =
+    has_reg (return_address ∷ saved_registers) reg &&
+    not (has_reg (map (λ s. s.reg) layout.saved) reg)
 
--- What stays at each place: sp; what is known at entry of each of ra and s0 to s11 that the frame does not save; and each byte of the
--- frame that is in no slot and below the locals.
+-- What stays at each place: sp; what is known at entry of each of ra and s0 to s11 that the frame
+-- does not save; and each byte of the frame that is in no slot and below the locals.
 pub record IsKept (layout : Layout) (locals : ℕ) (start : Start) (u : State) : Type 0 where
   pub pointer : reg_value u.regs stack_pointer W64 ≡ Some (base_of layout start)
   pub registers : (reg : ℕ) → is_unsaved layout reg ≡ true → KnownToo (entry_regs start) u.regs reg
-  pub room : (address : ℕ) → is_below_sp start layout.size address ≡ true → is_below_sp start locals address ≡ false →
+  pub room : (address : ℕ) → is_below_sp start layout.size address ≡ true →
+      is_below_sp start locals address ≡ false →
       in_slots layout (base_of layout start) address ≡ false → byte_at u.memory address ≡ byte_at start.memory address

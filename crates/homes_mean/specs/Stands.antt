@@ -1,6 +1,7 @@
--- How a function whose registers have homes stands beside the function with its pseudo registers, at a place: GCC Internals, "RTL passes"
--- (reload) and "Liveness information". Of each live register whatever is known stands in its home; memory has what it had, and the room
--- of the frame besides; the caller sees the same of both.
+-- How a function whose registers have homes stands beside the function with its pseudo registers,
+-- at a place: GCC Internals, "RTL passes" (reload) and "Liveness information". Of each live
+-- register whatever is known stands in its home; memory has what it had, and the room of the frame
+-- besides; the caller sees the same of both.
 use Rattle.std.specs.Prelude.{◌≡◌, ◌+◌, ℕ, nat_le, ◌||◌, Bool, true, List, Option, Some, IsSome}
 use Rattle.bits64.specs.declared.Width.{Width}
 use Rattle.bits64.specs.declared.Width.TheVariants.{W64}
@@ -33,8 +34,8 @@ abbrev pub content_in : Layout → ℕ → Regs → List MemByte → ℕ → Hom
 content_in layout base regs memory reg (Hard hard) w = reg_value regs hard w
 content_in layout base regs memory reg Slot w = load w memory (base + slot_offset layout reg)
 
--- what stands in the home of a register, in a width, where the frame has this lowest address: the low bits of a hard register, or what a
--- load from its slot has
+-- what stands in the home of a register, in a width, where the frame has this lowest address: the
+-- low bits of a hard register, or what a load from its slot has
 abbrev pub content : List HomeOf → Layout → ℕ → State → ℕ → Width → Option ℕ
 content homes layout base u reg w = content_in layout base u.regs u.memory reg (home_of homes reg) w
 
@@ -46,13 +47,16 @@ IsHeld homes layout base s u reg =
 -- ---- two states at a place
 
 pub record Stands (f : Function) (homes : List HomeOf) (layout : Layout) (start : Start) (place : ℕ) (s u : State) : Type 0 where
-  pub values : (reg : ℕ) → has_home reg ≡ true → IsLive f reg place → IsHeld homes layout (base_of layout start) s u reg
+  pub values : (reg : ℕ) → has_home reg ≡ true → IsLive f reg place →
+      IsHeld homes layout (base_of layout start) s u reg
   pub vars : reg_value s.regs virtual_stack_vars W64 ≡ Some start.sp
   pub within : Within s.memory u.memory
   -- of the frame the one has the locals alone, and the other has all
-  pub outside : (address : ℕ) → IsSome (byte_at s.memory address) → is_below_sp start layout.size address ≡ true →
+  pub outside : (address : ℕ) → IsSome (byte_at s.memory address) →
+      is_below_sp start layout.size address ≡ true →
       is_below_sp start f.locals address ≡ true
-  pub room : (address : ℕ) → is_below_sp start layout.size address ≡ true → IsSome (byte_at u.memory address)
+  pub room : (address : ℕ) → is_below_sp start layout.size address ≡ true →
+      IsSome (byte_at u.memory address)
   pub seen : visible start.visible u.memory ≡ visible start.visible s.memory
   pub ranges : s.visible ≡ start.visible
   pub ranges_too : u.visible ≡ start.visible

@@ -1,5 +1,6 @@
--- What effects touch where registers have homes: registers that may be homes, slots, and memory that is no slot. Such effects leave what
--- stays while the function runs: GCC Internals, "Basic Stack Layout"; RISC-V ELF psABI, "Integer Register Convention".
+-- What effects touch where registers have homes: registers that may be homes, slots, and memory
+-- that is no slot. Such effects leave what stays while the function runs: GCC Internals, "Basic
+-- Stack Layout"; RISC-V ELF psABI, "Integer Register Convention".
 use Rattle.std.specs.Prelude.{◌≡◌, ℕ, ◌+◌, ◌<◌, ◌≤◌, ◌&&◌, nat_le, Bool, true, false, Some, slice_get}
 use Rattle.bits64.specs.Words.{bytes_of}
 use Rattle.bits64.specs.declared.Width.{Width}
@@ -23,8 +24,10 @@ pub record IsFree (layout : Layout) (reg : ℕ) : Type 0 where
 
 -- bytes in no slot, and in the frame none but the locals
 pub record IsOutside (layout : Layout) (locals : ℕ) (start : Start) (at count : ℕ) : Type 0 where
-  pub no_slot : (address : ℕ) → at ≤ address → address < at + count → in_slots layout (base_of layout start) address ≡ false
-  pub local : (address : ℕ) → at ≤ address → address < at + count → is_below_sp start layout.size address ≡ true →
+  pub no_slot : (address : ℕ) → at ≤ address → address < at + count →
+      in_slots layout (base_of layout start) address ≡ false
+  pub local : (address : ℕ) → at ≤ address → address < at + count →
+      is_below_sp start layout.size address ≡ true →
       is_below_sp start locals address ≡ true
 
 pub data IsTame (layout : Layout) (locals : ℕ) (start : Start) : Effect → Type 0 where

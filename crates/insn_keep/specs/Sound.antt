@@ -1,5 +1,5 @@
--- What holds of a function between the passes before registers have homes, and what a pass keeps: GCC Internals, "Passes and Files of the
--- Compiler" and "Registers and Memory".
+-- What holds of a function between the passes before registers have homes, and what a pass keeps:
+-- GCC Internals, "Passes and Files of the Compiler" and "Registers and Memory".
 use Rattle.rtx_tree.specs.declared.function.Function.{Function}
 use Rattle.func_keep.specs.Keeps.{Keeps}
 use Rattle.pass_ready.specs.Ready.{AreReady}

@@ -1,5 +1,5 @@
--- An instruction of a function replaced by a sequence that is equated with it: GCC Internals, "Defining RTL Sequences for Code
--- Generation" and "Defining How to Split Instructions".
+-- An instruction of a function replaced by a sequence that is equated with it: GCC Internals,
+-- "Defining RTL Sequences for Code Generation" and "Defining How to Split Instructions".
 use Rattle.std.specs.Prelude.{◌≡◌, ℕ, ◌+◌, ◌<◌, ◌^◌, true, List, [], ◌∷◌, Some, Result, Ok, Err}
 use Rattle.rtx_tree.specs.declared.function.Insn.{Insn}
 use Rattle.rtx_tree.specs.declared.function.Function.{Function}
@@ -18,12 +18,14 @@ use Rattle.pass_refusal.specs.declared.refusal.PassRefusal.{PassRefusal}
 abbrev pub made : Function → Insn → List Rtx → List Insn
 made f i sequence = insns_for i (greatest_uid f.insns + 1) sequence
 
--- What a sequence in the place of an instruction comes to, by a rule: the function with it, where it is equated with the instruction over
--- what is live behind, which has numbers of 32 bits; else what the comparison refuses.
+-- What a sequence in the place of an instruction comes to, by a rule: the function with it, where
+-- it is equated with the instruction over what is live behind, which has numbers of 32 bits; else
+-- what the comparison refuses.
 pub data ReplacedComes (f : Function) (place : ℕ) (i : Insn) (rule : List ℕ) (sequence : List Rtx) : Result Function PassRefusal → Type 0 where
   refused : (live : List ℕ) (e : PassRefusal) → AreLiveAfter f place live →
       refused_by i.uid rule (verdict (i ∷ []) (Insns (made f i sequence)) live) ≡ Some e → ReplacedComes f place i rule sequence (Err e)
-  replaced : (live : List ℕ) → AreLiveAfter f place live → ((reg : ℕ) → has_reg live reg ≡ true → reg < 2 ^ 32) →
+  replaced : (live : List ℕ) → AreLiveAfter f place live →
+      ((reg : ℕ) → has_reg live reg ≡ true → reg < 2 ^ 32) →
       Equated (i ∷ []) (Insns (made f i sequence)) live →
       ReplacedComes f place i rule sequence (Ok (windows.replaced f place (place + 1) (made f i sequence)))
 

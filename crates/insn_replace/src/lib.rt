@@ -1,8 +1,9 @@
 //! An instruction of a function, replaced by a sequence that is equated with it.
 //!
-//! [`replace_insn`] makes instructions of a sequence of patterns, compares them with the instruction at a place over the registers that
-//! are live behind it, and puts them into its place where they are equated with it (`specs/Replace.antt`). Else it refuses with the first
-//! item in which they differ, and the function stays as it is.
+//! [`replace_insn`] makes instructions of a sequence of patterns, compares them with the
+//! instruction at a place over the registers that are live behind it, and puts them into its place
+//! where they are equated with it (`specs/Replace.antt`). Else it refuses with the first item in
+//! which they differ, and the function stays as it is.
 #![tactic(auto)]
 
 mod replace;

@@ -38,7 +38,8 @@ fn behind(place: u32) -> Result<u32, Memory>
     }
 }
 
-/// The instructions that a sequence makes in the place of one of a chain. Uids past 32 bits find no memory.
+/// The instructions that a sequence makes in the place of one of a chain. Uids past 32 bits find no
+/// memory.
 fn made(alloc: Global, chain: &mut LiveChain, place: u32, sequence: Kids) -> Result<Insns, Memory>
     requires { place < length chain.old.insns }
     ensures made { IfOk result (steps.AreMade chain.old place sequence) }
@@ -52,7 +53,8 @@ fn made(alloc: Global, chain: &mut LiveChain, place: u32, sequence: Kids) -> Res
     insns_for(alloc, old, uid, sequence)
 }
 
-/// Compares the instruction at a place with what would stand in its place by a form, over the registers that are live behind it.
+/// Compares the instruction at a place with what would stand in its place by a form, over the
+/// registers that are live behind it.
 fn compare(
     alloc: Global,
     desc: &Description,
@@ -90,13 +92,15 @@ fn insns_in(alloc: Global, side: Side) -> Insns
     }
 }
 
-/// Puts a sequence in the place of the instruction at a place, where it is equated with it by a form over the registers that are live
-/// behind. Gives how many instructions it has. Uids and counts past 32 bits find no memory.
+/// Puts a sequence in the place of the instruction at a place, where it is equated with it by a
+/// form over the registers that are live behind. Gives how many instructions it has. Uids and
+/// counts past 32 bits find no memory.
 ///
 /// # Errors
 ///
-/// What the comparison refuses: the first item in which they differ, with the instruction's uid and the name of the form, or the size
-/// of a term that is too large; or that memory ran out. The function is as before then.
+/// What the comparison refuses: the first item in which they differ, with the instruction's uid and
+/// the name of the form, or the size of a term that is too large; or that memory ran out. The
+/// function is as before then.
 #[tactic(auto, using(crate::proofs::OneReplaced::one_replaced))]
 pub fn replace_insn(
     alloc: Global,

@@ -1,7 +1,8 @@
 //! The numbers in the instructions of a function have their sizes.
 //!
-//! There is one function, [`walk_numbers`], which walks each tree and changes nothing. Promised: where no register has a
-//! number below 0, each number has its size, since that of a constant always has 64 signed bits.
+//! There is one function, [`walk_numbers`], which walks each tree and changes nothing. Promised:
+//! where no register has a number below 0, each number has its size, since that of a constant
+//! always has 64 signed bits.
 #![tactic(auto)]
 
 ghost use Rattle.std.specs.Prelude.{◌≡◌, true};
@@ -20,7 +21,8 @@ fn fits(number: i64)
 
 /// The number of a tree has its size, unless it is a register's below 0.
 fn look(x: &Rtx)
-    ensures { is_natural (head_of x.now).code (head_of x.now).number ≡ true → is_sized (head_of x.now).code (head_of x.now).number ≡ true }
+    ensures { is_natural (head_of x.now).code (head_of x.now).number ≡ true →
+        is_sized (head_of x.now).code (head_of x.now).number ≡ true }
 {
     match x.code {
         Code::ConstInt => fits(x.number),

@@ -16,14 +16,18 @@ use Rattle.sym_mean.specs.Needs.{First}
 use Rattle.sym_mean.specs.Shows.{IsOf, ShowsMemory}
 use Rattle.line_mean.specs.ShowsLine.{IsFirst, ShowsLine}
 
--- Lines of a function fall through, or go to a text that stands for the label, or call the function at
--- an address. At a call the machine is the one before the reply, with a0 to a7 as they are handed over.
+-- Lines of a function fall through, or go to a text that stands for the label, or call the function
+-- at an address. At a call the machine is the one before the reply, with a0 to a7 as they are
+-- handed over.
 pub data EndsLines (v : Valuation) (f : First) (first : List (Option ℕ)) (function : ℕ) (s : State) (done : LinesCome) : Type 0 where
-  falls : s.call ≡ None → mean v s.jump.condition ≡ 0 → ShowsLine v f first s done.machine → done.ending ≡ Falls →
+  falls : s.call ≡ None → mean v s.jump.condition ≡ 0 → ShowsLine v f first s done.machine →
+      done.ending ≡ Falls →
       EndsLines v f first function s done
-  goes : (text : List ℕ) → s.call ≡ None → mean v s.jump.condition ≢ 0 → ShowsLine v f first s done.machine →
+  goes : (text : List ℕ) → s.call ≡ None → mean v s.jump.condition ≢ 0 →
+      ShowsLine v f first s done.machine →
       label_uid function text ≡ s.jump.target → done.ending ≡ Goes text → EndsLines v f first function s done
-  calls : (call : Call) (before : State) → s.call ≡ Some call → s.jump ≡ sym.falls → s.stores ≡ before.stores →
+  calls : (call : Call) (before : State) → s.call ≡ Some call → s.jump ≡ sym.falls →
+      s.stores ≡ before.stores →
       s.regs ≡ left_by_call before.regs → ShowsLine v f first before done.machine →
       done.ending ≡ Calls (mean v call.target) → call.args ≡ args_from 8 10 before.regs →
       EndsLines v f first function s done

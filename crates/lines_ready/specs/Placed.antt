@@ -1,5 +1,6 @@
--- What holds of each instruction of a function from the first split on, whether its registers have homes already or not: GCC Internals,
--- "Insns", "Side Effect Expressions" and "Registers and Memory"; RISC-V ELF psABI, "Integer Register Convention".
+-- What holds of each instruction of a function from the first split on, whether its registers have
+-- homes already or not: GCC Internals, "Insns", "Side Effect Expressions" and "Registers and
+-- Memory"; RISC-V ELF psABI, "Integer Register Convention".
 use Rattle.std.specs.Prelude.{◌≡◌, ℕ, true, false}
 use Rattle.std.specs.List.{AllByRecursion}
 use Rattle.rtx_tree.specs.declared.function.Insn.{Insn}
@@ -23,7 +24,8 @@ pub record IsInsnPlaced (i : Insn) : Type 0 where
   -- no register has a number below 0
   pub natural : all_natural i.pattern ≡ true
   -- a call is handed a0 to a7
-  pub passed : is_mark i.kind ≡ false → (reg : ℕ) → has_argument reg i.uses ≡ true → is_argument reg ≡ true
+  pub passed : is_mark i.kind ≡ false → (reg : ℕ) → has_argument reg i.uses ≡ true →
+      is_argument reg ≡ true
 
 abbrev pub ArePlaced : Function → Type 0
 ArePlaced f = AllByRecursion IsInsnPlaced f.insns

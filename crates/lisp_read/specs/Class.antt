@@ -15,7 +15,8 @@ abbrev pub close_byte : Bracket → ℕ
 close_byte Round = 41
 close_byte Square = 93
 
--- Blank is a space, a tab, a carriage return or a form feed; Plain is any other byte that prints in ASCII, from 33 to 126.
+-- Blank is a space, a tab, a carriage return or a form feed; Plain is any other byte that prints in
+-- ASCII, from 33 to 126.
 abbrev pub class_of : ℕ → ByteClass
 class_of b =
     if b == 0 then Zero else

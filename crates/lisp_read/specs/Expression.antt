@@ -1,5 +1,6 @@
--- An expression of RTL by its tree: GCC Internals, "RTL Expressions" and "Reading RTL". A tree that may not stand where it
--- stands, or whose parts are not those of its code, is itself a construct outside the language, also where a part of it is one.
+-- An expression of RTL by its tree: GCC Internals, "RTL Expressions" and "Reading RTL". A tree that
+-- may not stand where it stands, or whose parts are not those of its code, is itself a construct
+-- outside the language, also where a part of it is one.
 use Rattle.std.specs.Prelude.{◌+◌, ◌==◌, nat_lt, Bool, true, false, ◌&&◌, List, [], ◌∷◌, Option, Some, None, if◌then◌else◌, option_map, option_and_then, take, drop, length, codes}
 use Rattle.std.specs.List.{list_all}
 use Rattle.rtx_tree.specs.declared.code.Code.TheVariants as code
@@ -77,12 +78,14 @@ lowpart_parts _ = None
 
 -- two values, not both of them constants
 abbrev pub comparison_parts : List Tree → Option (List Position)
-comparison_parts (h ∷ a ∷ b ∷ []) = if is_constant a && is_constant b then None else Some (Value ∷ Value ∷ [])
+comparison_parts (h ∷ a ∷ b ∷ []) =
+    if is_constant a && is_constant b then None else Some (Value ∷ Value ∷ [])
 comparison_parts _ = None
 
 -- a place and its source; what the program counter is set to is a place in the code
 abbrev pub setting_parts : List Tree → Option (List Position)
-setting_parts (h ∷ a ∷ b ∷ []) = if is_counter a then Some (Pc ∷ Jump ∷ []) else Some (Place ∷ Source ∷ [])
+setting_parts (h ∷ a ∷ b ∷ []) =
+    if is_counter a then Some (Pc ∷ Jump ∷ []) else Some (Place ∷ Source ∷ [])
 setting_parts _ = None
 
 -- the positions of the expressions behind the head, by the items of the list
@@ -134,7 +137,8 @@ node_by t h (Some ps) inside = parsed_map (node_of h.code h.mode) (each_at ps (d
 
 -- (parallel [PATTERNS])
 abbrev pub parallel_by : Tree → List Tree → List Meaning → Parsed Rtx
-parallel_by t (h ∷ v ∷ []) (x ∷ y ∷ []) = if is_nested v then parsed_map (node_of code.Parallel Void) y.elements else outside t
+parallel_by t (h ∷ v ∷ []) (x ∷ y ∷ []) =
+    if is_nested v then parsed_map (node_of code.Parallel Void) y.elements else outside t
 parallel_by t _ _ = outside t
 
 -- the list t with a head, by what its items stand for
@@ -152,7 +156,8 @@ expression_by p (Some h) t inside = list_by (class_of h) p h t inside
 
 -- the vector of a `parallel`: of lists and vectors alone
 abbrev pub elements_by : Tree → List Meaning → Parsed (List Rtx)
-elements_by t inside = if is_vector t && list_all is_nested (vector_of t) then patterns inside else outside t
+elements_by t inside =
+    if is_vector t && list_all is_nested (vector_of t) then patterns inside else outside t
 
 -- a tree, by what the trees in it stand for
 abbrev pub meaning_by : Tree → List Meaning → Meaning

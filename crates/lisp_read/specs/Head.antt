@@ -1,5 +1,5 @@
--- The atom at the head of an expression, as `mem/c:SI`: its code, its flags and its mode. GCC Internals, "Reading RTL",
--- "Flags in an RTL Expression" and "Machine Modes".
+-- The atom at the head of an expression, as `mem/c:SI`: its code, its flags and its mode. GCC
+-- Internals, "Reading RTL", "Flags in an RTL Expression" and "Machine Modes".
 use Rattle.std.specs.Prelude.{ℕ, ◌+◌, Bool, true, false, not, ◌==◌, ◌&&◌, ◌||◌, List, [], ◌∷◌, Option, Some, None, if◌then◌else◌, option_map, option_and_then, take, drop, find, codes}
 use Rattle.std.specs.List.{list_any, position_from}
 use Rattle.std.specs.Str.{bytes_eq}
@@ -14,7 +14,8 @@ use Rattle.lisp_read.specs.declared.head.Opening.{Opening}
 abbrev pub first_of : ℕ → List ℕ → Option ℕ
 first_of b text = position_from (λ c. c == b) 0 text
 
--- a text at the first byte of a kind: what stands before it, and what stands behind it, if it stands at all
+-- a text at the first byte of a kind: what stands before it, and what stands behind it, if it
+-- stands at all
 abbrev pub cut_at : List ℕ → Option ℕ → List ℕ × Option (List ℕ)
 cut_at text None = (text, None)
 cut_at text (Some k) = (take k text, Some (drop (k + 1) text))
@@ -64,7 +65,8 @@ flagged flags c = if flags_pass c flags then Some c else None
 
 -- a code with its flags
 abbrev pub flagged_code_in : List ℕ → Option Code
-flagged_code_in text = let parts = cut 47 text in option_and_then (flagged parts.1) (code_in parts.0)
+flagged_code_in text =
+    let parts = cut 47 text in option_and_then (flagged parts.1) (code_in parts.0)
 
 -- the code, and the mode, that the text of a head writes
 abbrev pub code_of_head : List ℕ → Option Code

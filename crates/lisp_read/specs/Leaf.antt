@@ -1,5 +1,6 @@
--- The expressions whose parts are words: registers, constants, labels and symbols. GCC Internals, "Registers and Memory",
--- "Constant Expression Types", and for the registers' names the RISC-V ELF psABI, "Integer Register Convention".
+-- The expressions whose parts are words: registers, constants, labels and symbols. GCC Internals,
+-- "Registers and Memory", "Constant Expression Types", and for the registers' names the RISC-V ELF
+-- psABI, "Integer Register Convention".
 use Rattle.std.specs.Prelude.{ℕ, ◌-◌, ℤ, pos, negsuc, nat_lt, ◌==◌, ◌&&◌, List, [], ◌∷◌, Option, Some, None, if◌then◌else◌, option_map, option_and_then, take, drop, length, slice_index, codes}
 use Rattle.std.specs.Option.{option_or}
 use Rattle.std.specs.Str.{bytes_eq}
@@ -34,7 +35,8 @@ abbrev pub pseudo_in : List ℕ → Option ℕ
 pseudo_in text = option_map pseudo (option_and_then (below 2147483648) (option_and_then number_in (angled_in text)))
 
 abbrev pub stack_vars_in : List ℕ → Option ℕ
-stack_vars_in text = if bytes_eq text (codes "virtual-stack-vars") then Some virtual_stack_vars else None
+stack_vars_in text =
+    if bytes_eq text (codes "virtual-stack-vars") then Some virtual_stack_vars else None
 
 abbrev pub hard_in : List ℕ → Option ℕ
 hard_in text = option_map hard_reg (number_of_reg text)
@@ -83,7 +85,8 @@ quoted_name _ = None
 abbrev pub symbol_at : Mode → Tree → Parsed Rtx
 symbol_at m l = or_outside l (option_map (named_of SymbolRef m) (quoted_name (items_of l)))
 
--- The expression t by the items of its list. What stands behind the first word or list is passed over.
+-- The expression t by the items of its list. What stands behind the first word or list is passed
+-- over.
 abbrev pub symbol_with : Tree → Mode → List Tree → Parsed Rtx
 symbol_with t m (h ∷ l ∷ more) = if is_nested l then symbol_at m l else outside t
 symbol_with t m _ = outside t

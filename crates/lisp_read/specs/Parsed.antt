@@ -32,7 +32,8 @@ parsed_then (construct place name) k = construct place name
 -- each of some trees, in the order of the text
 abbrev pub each_parsed : {A : Type 0} → (Tree → Parsed A) → List Tree → Parsed (List A)
 each_parsed read [] = stands []
-each_parsed read (t ∷ ts) = parsed_then (read t) (λ x. parsed_map (λ xs. x ∷ xs) (each_parsed read ts))
+each_parsed read (t ∷ ts) =
+    parsed_then (read t) (λ x. parsed_map (λ xs. x ∷ xs) (each_parsed read ts))
 
 -- a refusal tells the construct; want of memory is free
 abbrev pub Refuses : {A : Type 0} → RtlRefusal → Parsed A → Type 0

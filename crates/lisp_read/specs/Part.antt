@@ -1,5 +1,5 @@
--- Trees as the flat list of their parts, in the order of the text. What the text of a tree is, and which lists and
--- vectors stand open at a byte of it, is said of this list.
+-- Trees as the flat list of their parts, in the order of the text. What the text of a tree is, and
+-- which lists and vectors stand open at a byte of it, is said of this list.
 use Rattle.std.specs.Prelude.{ℕ, List, [], ◌∷◌, ◌++◌}
 use Rattle.std.specs.List.{flat_map}
 use Rattle.rtx_tree.specs.declared.place.Place.{Place}
@@ -9,8 +9,8 @@ use Rattle.lisp_read.specs.declared.tree.Tree.{Tree}
 use Rattle.lisp_read.specs.declared.tree.Tree.TheOpen.{Tree-F}
 use Rattle.lisp_read.specs.declared.tree.Tree.TheFolds.{fold-Tree}
 
--- An atom, a string or a block with its bytes; or a byte that opens or closes a list (Round) or a vector (Square).
--- Each stands at the place of its first byte; a closing byte's place is not kept.
+-- An atom, a string or a block with its bytes; or a byte that opens or closes a list (Round) or a
+-- vector (Square). Each stands at the place of its first byte; a closing byte's place is not kept.
 pub data Part : Type 0 where
   Atom : (place : Place) (text : List ℕ) → Part
   Str : (place : Place) (text : List ℕ) → Part

@@ -1,4 +1,5 @@
--- Places in a text: the line and the column count from 1, the offset from 0, all in bytes. Only a newline ends a line.
+-- Places in a text: the line and the column count from 1, the offset from 0, all in bytes. Only a
+-- newline ends a line.
 use Rattle.std.specs.Prelude.{ℕ, ◌+◌, ◌==◌, List, [], ◌∷◌, if◌then◌else◌}
 use Rattle.rtx_tree.specs.declared.place.Place.{Place}
 use Rattle.lisp_read.specs.Bytes.{newline}

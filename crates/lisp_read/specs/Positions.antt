@@ -1,5 +1,5 @@
--- What may stand where in an expression: GCC Internals, "RTL Expressions", with "Side Effect Expressions" and "Jump Patterns",
--- as far as this program takes it.
+-- What may stand where in an expression: GCC Internals, "RTL Expressions", with "Side Effect
+-- Expressions" and "Jump Patterns", as far as this program takes it.
 use Rattle.std.specs.Prelude.{ℕ, Bool, true, false, not, ◌==◌, Option, Some, None, option_map}
 use Rattle.rtx_tree.specs.declared.code.Mode.{Mode}
 use Rattle.rtx_tree.specs.declared.code.Mode.TheVariants.{Void, SI}

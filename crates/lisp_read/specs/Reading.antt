@@ -19,22 +19,24 @@ pub record Begins (bytes : List ℕ) : Type 0 where
   pub trees : List Tree
   pub text : IsText trees (bytes ++ more)
 
--- The byte with offset k opens a list or a vector within 200 that are still open: the bytes up to and with it spell
--- parts of which the last is this opening, and more than 200 are open then.
+-- The byte with offset k opens a list or a vector within 200 that are still open: the bytes up to
+-- and with it spell parts of which the last is this opening, and more than 200 are open then.
 pub record IsTooDeepAt (bytes : List ℕ) (k : ℕ) : Type 0 where
   pub in_text : k < length bytes
   pub before : List Part
   pub kind : Bracket
   pub spelled : Spells start (before ++ Open kind (place_after start (take k bytes)) ∷ []) (take (k + 1) bytes)
   pub within : List Bracket
-  pub are_open : still_open [] (before ++ Open kind (place_after start (take k bytes)) ∷ []) ≡ Some within
+  pub are_open :
+      still_open [] (before ++ Open kind (place_after start (take k bytes)) ∷ []) ≡ Some within
   pub deep : most_open < length within
 
 -- no byte opens a list or a vector too deep
 abbrev pub NeverTooDeep : List ℕ → Type 0
 NeverTooDeep bytes = (k : ℕ) → IsTooDeepAt bytes k → ⊥
 
--- The place ends the longest prefix of the bytes that begins a text, and the bytes themselves are none.
+-- The place ends the longest prefix of the bytes that begins a text, and the bytes themselves are
+-- none.
 pub record IsSyntaxPlace (bytes : List ℕ) (place : Place) : Type 0 where
   pub k : ℕ
   pub in_text : k ≤ length bytes
@@ -43,8 +45,8 @@ pub record IsSyntaxPlace (bytes : List ℕ) (place : Place) : Type 0 where
   pub longest : (j : ℕ) → k < j → j ≤ length bytes → Begins (take j bytes) → ⊥
   pub no_text : (trees : List Tree) → IsText trees bytes → ⊥
 
--- At the place stands the first byte that opens a list or a vector too deep. Some text begins with the bytes up to and
--- with it, so it stands before any place where the bytes stop being a text.
+-- At the place stands the first byte that opens a list or a vector too deep. Some text begins with
+-- the bytes up to and with it, so it stands before any place where the bytes stop being a text.
 pub record IsDepthPlace (bytes : List ℕ) (place : Place) : Type 0 where
   pub k : ℕ
   pub place_is : place ≡ place_after start (take k bytes)

@@ -269,15 +269,16 @@ fn read_at(alloc: Global, position: Position, tree: &Tree) -> Result<Rtx, RtlRef
 
 /// Reads one expression of RTL: any but those that stand in descriptions alone.
 ///
-/// Flags such as `/c` are passed over, and so is whatever follows a register's name, a memory's address, a constant's
-/// number, a label's uid or a symbol's name in its list, and a label's mode. A `simple_return` is read as a `return`,
-/// the memory that a call names in SImode, and a symbol's name without the star in front of it. That modes agree is
-/// not asked. It goes as deep as the tree does; a tree that `read_trees` gave has at most 200 lists and vectors within
-/// each other.
+/// Flags such as `/c` are passed over, and so is whatever follows a register's name, a memory's
+/// address, a constant's number, a label's uid or a symbol's name in its list, and a label's mode.
+/// A `simple_return` is read as a `return`, the memory that a call names in SImode, and a symbol's
+/// name without the star in front of it. That modes agree is not asked. It goes as deep as the tree
+/// does; a tree that `read_trees` gave has at most 200 lists and vectors within each other.
 ///
 /// # Errors
 ///
-/// `Construct` where a tree in it is outside the language, with the first such tree. `Memory` where memory ran out.
+/// `Construct` where a tree in it is outside the language, with the first such tree. `Memory` where
+/// memory ran out.
 pub fn rtx_of_tree(alloc: Global, tree: &Tree) -> Result<Rtx, RtlRefusal>
     ensures { Gives result (spec.rtx_in tree.now) }
 {

@@ -131,8 +131,8 @@ fn flagged_code_in(text: &[u8]) -> Option<Code>
     }
 }
 
-/// The code and the mode that the atom at the head of an expression writes, each where there is such a one. Without a
-/// colon the mode is `Void`.
+/// The code and the mode that the atom at the head of an expression writes, each where there is
+/// such a one. Without a colon the mode is `Void`.
 pub fn head_words(text: &[u8]) -> (Option<Code>, Option<Mode>)
     ensures code { result.0 ≡ spec.code_of_head text.now }
     ensures mode { result.1 ≡ spec.mode_of_head text.now }

@@ -1,16 +1,18 @@
-//! Reads the text of machine descriptions and of textual RTL as trees, and a tree as an expression of RTL.
+//! Reads the text of machine descriptions and of textual RTL as trees, and a tree as an expression
+//! of RTL.
 //!
 //! [`read_trees`] answers exactly as the text format says (`specs/Text.antt` is its grammar,
-//! `specs/Reading.antt` says what reading is): the trees that the bytes are a text of, each with its
-//! place; or the place that ends the longest prefix that begins a text; or the place of the first byte
-//! that opens a list or a vector within 200 that are still open. Bytes have one such reading at most,
-//! and only want of memory can keep an answer back. The code does not recurse over the text: what is
-//! open stands on a stack, and open braces are counted.
+//! `specs/Reading.antt` says what reading is): the trees that the bytes are a text of, each with
+//! its place; or the place that ends the longest prefix that begins a text; or the place of the
+//! first byte that opens a list or a vector within 200 that are still open. Bytes have one such
+//! reading at most, and only want of memory can keep an answer back. The code does not recurse over
+//! the text: what is open stands on a stack, and open braces are counted.
 //!
-//! [`rtx_of_tree`] gives the expression that a tree stands for, or the first tree in it that is outside the
-//! language: `specs/Positions.antt` is the table of what may stand where, `specs/Expression.antt` the table
-//! of the parts of each code, `specs/Head.antt` and `specs/Leaf.antt` say what the words are. It goes as deep
-//! as the tree, which is bounded where `read_trees` gave it.
+//! [`rtx_of_tree`] gives the expression that a tree stands for, or the first tree in it that is
+//! outside the language: `specs/Positions.antt` is the table of what may stand where,
+//! `specs/Expression.antt` the table of the parts of each code, `specs/Head.antt` and
+//! `specs/Leaf.antt` say what the words are. It goes as deep as the tree, which is bounded where
+//! `read_trees` gave it.
 #![tactic(auto)]
 
 mod class;

@@ -119,9 +119,9 @@ fn read_all(alloc: Global, bytes: &[u8]) -> Result<Trees, ReadRefusal>
 ///
 /// # Errors
 ///
-/// `Syntax` where the bytes are no text, with the place that ends the longest prefix of them that begins
-/// one. `Depth` where, before any such place, a byte opens a list or a vector within 200 that are still
-/// open, with the place of the first such byte. `Memory` where memory ran out.
+/// `Syntax` where the bytes are no text, with the place that ends the longest prefix of them that
+/// begins one. `Depth` where, before any such place, a byte opens a list or a vector within 200
+/// that are still open, with the place of the first such byte. `Memory` where memory ran out.
 pub fn read_trees(alloc: Global, bytes: &[u8]) -> Result<Trees, ReadRefusal>
     requires { length bytes.now < 4294967295 }
     // The answer is the reading of the bytes, unless memory ran out.

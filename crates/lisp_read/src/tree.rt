@@ -5,8 +5,8 @@ use crate::class::Bracket;
 use plain_data::Items;
 use rtx_tree::{Name, Place};
 
-/// A tree of a text, with the place of its first byte. Contracts see it as plain data: two trees are
-/// equal in a clause where they agree in all parts, places included.
+/// A tree of a text, with the place of its first byte. Contracts see it as plain data: two trees
+/// are equal in a clause where they agree in all parts, places included.
 #[derive(Drop)]
 pub enum Tree {
     /// A run of bytes from 33 to 126 other than `( ) [ ] { } " ;`.

@@ -12,12 +12,15 @@ use Rattle.reg_uses.specs.Uses.{insn_uses, insn_defines, is_return, return_uses}
 abbrev pub uses_in : Function → Insn → ℕ → Bool
 uses_in f i reg = insn_uses i reg || (is_return i && return_uses f reg)
 
--- the register is live before a place: a path of successors leads from there to a use of it, and no instruction on the path before
--- the use defines it. Past the last instruction is the end, where the function returns
+-- the register is live before a place: a path of successors leads from there to a use of it, and no
+-- instruction on the path before the use defines it. Past the last instruction is the end, where
+-- the function returns
 pub data IsLive (f : Function) (reg : ℕ) : ℕ → Type 0 where
   AtEnd : return_uses f reg ≡ true → IsLive f reg (length f.insns)
-  AtUse : (p : ℕ) (i : Insn) → slice_get f.insns p ≡ Some i → uses_in f i reg ≡ true → IsLive f reg p
-  Passing : (p q : ℕ) (i : Insn) → slice_get f.insns p ≡ Some i → insn_defines i reg ≡ false → leads f.insns p q ≡ true → IsLive f reg q → IsLive f reg p
+  AtUse : (p : ℕ) (i : Insn) → slice_get f.insns p ≡ Some i → uses_in f i reg ≡ true →
+      IsLive f reg p
+  Passing : (p q : ℕ) (i : Insn) → slice_get f.insns p ≡ Some i → insn_defines i reg ≡ false →
+      leads f.insns p q ≡ true → IsLive f reg q → IsLive f reg p
 
 -- the register is live after a place: it is live before one to which the place leads
 abbrev pub IsLiveAfter : Function → ℕ → ℕ → Type 0
@@ -28,7 +31,8 @@ pub record AreLiveAfter (f : Function) (p : ℕ) (regs : List ℕ) : Type 0 wher
   pub ordered : IsStrictlyIncreasing regs
   pub each : (reg : ℕ) → (has_reg regs reg ≡ true) ↔ IsLiveAfter f reg p
 
--- for each place of the chain, and at last for its end, there is the row of the registers that are live before it
+-- for each place of the chain, and at last for its end, there is the row of the registers that are
+-- live before it
 pub record AreLiveRows (f : Function) (rows : List (List ℕ)) : Type 0 where
   pub long : length rows ≡ length f.insns + 1
   pub sound : (p reg : ℕ) → has_at rows p reg ≡ true → IsLive f reg p
@@ -38,4 +42,5 @@ pub record AreLiveRows (f : Function) (rows : List (List ℕ)) : Type 0 where
 pub record HaveRoom (f : Function) (rows : List (List ℕ)) : Type 0 where
   pub width : ℕ
   pub table : IsTable width rows
-  pub defined : (p : ℕ) (i : Insn) (reg : ℕ) → slice_get f.insns p ≡ Some i → insn_defines i reg ≡ true → reg < 64 * width
+  pub defined : (p : ℕ) (i : Insn) (reg : ℕ) → slice_get f.insns p ≡ Some i →
+      insn_defines i reg ≡ true → reg < 64 * width

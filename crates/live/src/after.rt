@@ -42,8 +42,8 @@ fn live_at(alloc: Global, rows: &[RegRow], next: Successors) -> Result<RegSet, M
     Ok(set)
 }
 
-/// The registers that are live after a place of the function's chain, by the rows of what is live before each. A chain of 2^32 places
-/// or more finds no memory.
+/// The registers that are live after a place of the function's chain, by the rows of what is live
+/// before each. A chain of 2^32 places or more finds no memory.
 pub fn live_after(
     alloc: Global,
     f: &Function,
@@ -59,7 +59,8 @@ pub fn live_after(
     live_at(alloc, rows, successors(f, place))
 }
 
-/// The registers that are live after a place, as [`live_after`] gives them, with the places of the labels known.
+/// The registers that are live after a place, as [`live_after`] gives them, with the places of the
+/// labels known.
 pub fn live_after_by(
     alloc: Global,
     f: &Function,

@@ -1,9 +1,10 @@
 //! The registers that are live at each place of a function.
 //!
-//! [`live_rows_of`] gives for each place of the chain, and at last for its end, the row of the registers that are live before it: those
-//! that a path of successors leads from there to a use of, without a definition between. The rows have exactly these registers;
-//! both directions are proved. [`live_after`] gives the registers that are live after one place, by the rows of the places to which
-//! it leads.
+//! [`live_rows_of`] gives for each place of the chain, and at last for its end, the row of the
+//! registers that are live before it: those that a path of successors leads from there to a use of,
+//! without a definition between. The rows have exactly these registers; both directions are proved.
+//! [`live_after`] gives the registers that are live after one place, by the rows of the places to
+//! which it leads.
 #![tactic(auto)]
 
 mod after;
@@ -21,8 +22,9 @@ use reg_rows::RegRow;
 use rtx_tree::Function;
 use std::alloc::Global;
 
-/// The rows of the registers that are live before each place of the function's chain, and at last before its end. They are of one
-/// width, with room for each register that the function uses or defines. A chain of 2^32 places or more finds no memory.
+/// The rows of the registers that are live before each place of the function's chain, and at last
+/// before its end. They are of one width, with room for each register that the function uses or
+/// defines. A chain of 2^32 places or more finds no memory.
 pub fn live_rows_of(alloc: Global, f: &Function) -> Result<Vec<RegRow>, Memory>
     ensures live { IfOk result (λ rows. AreLiveRows f.now rows.items) }
     ensures room { IfOk result (λ rows. HaveRoom f.now rows.items) }

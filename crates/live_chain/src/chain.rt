@@ -113,8 +113,8 @@ impl LiveChain {
         Ok(frame)
     }
 
-    /// The registers that are live after a place. A chain of 2^32 places or more finds no memory, and
-    /// neither do registers whose numbers have more than 32 bits.
+    /// The registers that are live after a place. A chain of 2^32 places or more finds no memory,
+    /// and neither do registers whose numbers have more than 32 bits.
     ///
     /// # Errors
     ///
@@ -148,8 +148,8 @@ impl LiveChain {
         }
     }
 
-    /// One above the greatest number of a pseudo register of the chain, or 0 where it names none. It
-    /// takes no memory.
+    /// One above the greatest number of a pseudo register of the chain, or 0 where it names none.
+    /// It takes no memory.
     pub fn next_pseudo(&mut self) -> u64
         ensures next { result ≡ counts.next_pseudo self.old.insns }
         ensures same { self.new ≡ self.old }
@@ -164,8 +164,8 @@ impl LiveChain {
         }
     }
 
-    /// Puts new instructions in the place of a window, that from place `first` up to place `end`. After
-    /// `Memory` the function is as before.
+    /// Puts new instructions in the place of a window, that from place `first` up to place `end`.
+    /// After `Memory` the function is as before.
     ///
     /// # Errors
     ///

@@ -105,7 +105,8 @@ fn jump_leads(insns: &GapList<Insn>, index: u32, x: &Rtx) -> Successors
     }
 }
 
-/// The places to which the instruction at a place leads. Only where it is a jump are labels looked up.
+/// The places to which the instruction at a place leads. Only where it is a jump are labels looked
+/// up.
 pub fn successors(insns: &GapList<Insn>, index: u32) -> Successors
     requires { length insns.now < 2 ^ 32 }
     ensures { spec.places_in result ≡ spec.successors_of insns.now index }

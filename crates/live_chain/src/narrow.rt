@@ -14,8 +14,8 @@ use std::alloc::Global;
 /// How many words a row has at most whose registers have numbers of 32 bits.
 const MOST_WORDS: usize = 1 << 26;
 
-/// The registers that are live after a place, by the rows of what is live. A chain of 2^32 places or
-/// more finds no memory, and neither do registers whose numbers have more than 32 bits.
+/// The registers that are live after a place, by the rows of what is live. A chain of 2^32 places
+/// or more finds no memory, and neither do registers whose numbers have more than 32 bits.
 pub(crate) fn live_behind(
     alloc: Global,
     insns: &GapList<Insn>,

@@ -24,8 +24,8 @@ pub fn pseudo_of(insns: &GapList<Insn>) -> u64
     next_pseudo(front).max(next_pseudo(back))
 }
 
-/// Whether the greatest of some numbers tells what it is where one of them, `old`, becomes `new`: then
-/// it is the greater of it and `new`.
+/// Whether the greatest of some numbers tells what it is where one of them, `old`, becomes `new`:
+/// then it is the greater of it and `new`.
 fn tells(greatest: u64, old: u64, new: u64) -> bool
     ensures { (others : ℕ) → greatest ≡ max others old → result ≡ true →
         max greatest new ≡ max others new }

@@ -41,7 +41,8 @@ fn row_before(alloc: Global, insn: &Insn, after: &RegRow) -> Result<RegRow, Memo
     Ok(row)
 }
 
-/// The row in front of an instruction, by the rows of what follows it: the first of some, or the row behind them.
+/// The row in front of an instruction, by the rows of what follows it: the first of some, or the
+/// row behind them.
 fn row_in_front(
     alloc: Global,
     insn: &Insn,

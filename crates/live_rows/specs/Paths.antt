@@ -1,4 +1,5 @@
--- Where a path leads to a use of a register: the backward flow of GCC Internals, "Liveness information", over any graph.
+-- Where a path leads to a use of a register: the backward flow of GCC Internals, "Liveness
+-- information", over any graph.
 use Rattle.std.specs.Prelude.{◌≡◌, ℕ, ◌*◌, ◌<◌, Bool, true, false, ◌==◌, ◌||◌, List, Option, Some, None, slice_get, length, All}
 use Rattle.reg_rows.specs.Row.{lists}
 use Rattle.reg_rows.specs.Table.{has_at, IsTable}
@@ -18,10 +19,13 @@ is_place (Some q) place = q == place
 abbrev pub leads_to : Node → ℕ → Bool
 leads_to node place = is_place node.first place || is_place node.second place
 
--- a path leads from the place to a use of the register, and no place on it before defines the register
+-- a path leads from the place to a use of the register, and no place on it before defines the
+-- register
 pub data Reaches (nodes : List Node) (reg : ℕ) : ℕ → Type 0 where
-  Here : (p : ℕ) (node : Node) → slice_get nodes p ≡ Some node → uses node reg ≡ true → Reaches nodes reg p
-  Along : (p q : ℕ) (node : Node) → slice_get nodes p ≡ Some node → defines node reg ≡ false → leads_to node q ≡ true → Reaches nodes reg q → Reaches nodes reg p
+  Here : (p : ℕ) (node : Node) → slice_get nodes p ≡ Some node → uses node reg ≡ true →
+      Reaches nodes reg p
+  Along : (p q : ℕ) (node : Node) → slice_get nodes p ≡ Some node → defines node reg ≡ false →
+      leads_to node q ≡ true → Reaches nodes reg q → Reaches nodes reg p
 
 -- the row of each place has exactly the registers that a path leads from it to a use of
 pub record IsLiveRows (nodes : List Node) (rows : List (List ℕ)) : Type 0 where

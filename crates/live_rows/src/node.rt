@@ -1,7 +1,8 @@
 //! Places of a graph.
 use plain_data::Items;
 
-/// A place of a graph, with the registers that it uses and defines, and the places that may follow it.
+/// A place of a graph, with the registers that it uses and defines, and the places that may follow
+/// it.
 #[derive(Drop)]
 pub struct Node {
     /// The registers that it uses.

@@ -31,7 +31,8 @@ fn is_stale(node: &Node, before: &[bool], now: &[bool]) -> bool
     is_touched(node, before) || is_touched(node, now)
 }
 
-/// Visits each stale place once, from the last, puts the flags of those up whose rows grew, and says whether any did.
+/// Visits each stale place once, from the last, puts the flags of those up whose rows grew, and
+/// says whether any did.
 pub fn round(
     nodes: &[Node],
     rows: &mut [RegRow],

@@ -84,8 +84,8 @@ fn width_for(nodes: &[Node]) -> usize
     width
 }
 
-/// For each place the registers that a path leads from there to a use of, without a definition between. The rows are of one width,
-/// with room for what the nodes use and define.
+/// For each place the registers that a path leads from there to a use of, without a definition
+/// between. The rows are of one width, with room for what the nodes use and define.
 pub fn live_rows(alloc: Global, nodes: &[Node]) -> Result<Vec<RegRow>, Memory>
     ensures live { IfOk result (λ rows. IsLiveRows nodes.now rows.items) }
     ensures room { IfOk result (λ rows. HaveRoom nodes.now rows.items) }

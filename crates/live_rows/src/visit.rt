@@ -42,13 +42,15 @@ fn collect(node: &Node, rows: &[RegRow], set: &mut RegRow)
     take_out(node.defines.as_slice(), set);
 }
 
-/// Adds to the row of a place what is needed after it and what it does not define, and says whether any was new.
+/// Adds to the row of a place what is needed after it and what it does not define, and says whether
+/// any was new.
 pub fn visit(node: &Node, rows: &mut [RegRow], set: &mut RegRow, at: usize) -> bool
     requires place { at < length rows.old }
     requires table { IsTable (length set.old) rows.old }
     ensures width { length set.new ≡ length set.old }
     ensures table { IsTable (length set.old) rows.new }
-    ensures each { (other reg : ℕ) → has_at rows.new other reg ≡ (has_at rows.old other reg || (other == at && passes node.now rows.old reg)) }
+    ensures each { (other reg : ℕ) → has_at rows.new other reg ≡
+        (has_at rows.old other reg || (other == at && passes node.now rows.old reg)) }
     ensures same { result ≡ false → rows.new ≡ rows.old }
     ensures kept { total rows.old ≤ total rows.new }
     ensures grown { result ≡ true → total rows.old < total rows.new }

@@ -1,5 +1,5 @@
--- A function in which some form matches each instruction that needs one: GCC Internals, "Passes and Files of the Compiler" (RTL
--- generation) and "Standard Pattern Names For Generation".
+-- A function in which some form matches each instruction that needs one: GCC Internals, "Passes and
+-- Files of the Compiler" (RTL generation) and "Standard Pattern Names For Generation".
 use Rattle.std.specs.Prelude.{◌≡◌, ℕ, ◌+◌, ◌≤◌, true, List, length, Some, None, Result, Ok, Err, slice_get}
 use Rattle.std.specs.List.{All}
 use Rattle.rtx_tree.specs.declared.function.Function.{Function}
@@ -25,17 +25,21 @@ LowersIn forms f i answer = InsnLowers forms i (greatest_uid f.insns) (next_pseu
 abbrev pub rule_of : List Entry → Lowered → List ℕ
 rule_of forms l = name_at (names_of forms) l.form
 
--- What a function comes to from a place on. An instruction stays, or a sequence stands in its place that is equated with it. What was
--- made is not looked at again.
+-- What a function comes to from a place on. An instruction stays, or a sequence stands in its place
+-- that is equated with it. What was made is not looked at again.
 pub data LowerFrom (forms : List Entry) : Function → ℕ → Answer → Type 0 where
   done : (f : Function) (place : ℕ) → length f.insns ≤ place → LowerFrom forms f place (Ok f)
-  stays : (f : Function) (place : ℕ) (i : Insn) (answer : Answer) → slice_get f.insns place ≡ Some i → LowersIn forms f i (Ok None) →
+  stays : (f : Function) (place : ℕ) (i : Insn) (answer : Answer) →
+      slice_get f.insns place ≡ Some i → LowersIn forms f i (Ok None) →
       LowerFrom forms f (place + 1) answer → LowerFrom forms f place answer
-  unmatched : (f : Function) (place : ℕ) (i : Insn) (e : PassRefusal) → slice_get f.insns place ≡ Some i → LowersIn forms f i (Err e) →
+  unmatched : (f : Function) (place : ℕ) (i : Insn) (e : PassRefusal) →
+      slice_get f.insns place ≡ Some i → LowersIn forms f i (Err e) →
       LowerFrom forms f place (Err e)
-  differs : (f : Function) (place : ℕ) (i : Insn) (l : Lowered) (e : PassRefusal) → slice_get f.insns place ≡ Some i → LowersIn forms f i (Ok (Some l)) →
+  differs : (f : Function) (place : ℕ) (i : Insn) (l : Lowered) (e : PassRefusal) →
+      slice_get f.insns place ≡ Some i → LowersIn forms f i (Ok (Some l)) →
       ReplacedComes f place i (rule_of forms l) l.sequence (Err e) → LowerFrom forms f place (Err e)
-  replaced : (f : Function) (place : ℕ) (i : Insn) (l : Lowered) (g : Function) (answer : Answer) → slice_get f.insns place ≡ Some i →
+  replaced : (f : Function) (place : ℕ) (i : Insn) (l : Lowered) (g : Function) (answer : Answer) →
+      slice_get f.insns place ≡ Some i →
       LowersIn forms f i (Ok (Some l)) → ReplacedComes f place i (rule_of forms l) l.sequence (Ok g) →
       LowerFrom forms g (place + length l.sequence) answer → LowerFrom forms f place answer
 

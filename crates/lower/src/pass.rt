@@ -78,21 +78,25 @@ fn lower_place(
     }
 }
 
-/// The function with each instruction as forms of the description match it. What no form matches is made by the form of its standard
-/// name, and stands in the instruction's place where it is equated with it. Uids, pseudo registers and places past 32 bits find no
-/// memory.
+/// The function with each instruction as forms of the description match it. What no form matches is
+/// made by the form of its standard name, and stands in the instruction's place where it is equated
+/// with it. Uids, pseudo registers and places past 32 bits find no memory.
 ///
 /// # Errors
 ///
-/// `Unmatched` where no form can make an instruction; `NotEquated`, or `Limit` of `TermSize`, where what would stand in its place is not
-/// equated with it; `Memory` where memory ran out.
+/// `Unmatched` where no form can make an instruction; `NotEquated`, or `Limit` of `TermSize`, where
+/// what would stand in its place is not equated with it; `Memory` where memory ran out.
 #[tactic(auto, using(crate::proofs::OneLower::lower_one, crate::proofs::Matched::lower_matched, crate::proofs::Kept::lower_same, crate::proofs::Kept::lower_kept))]
 pub fn lower(alloc: Global, desc: &Description, f: Function) -> Result<Function, PassRefusal>
     ensures gives { Gives result (LowerComes desc.now f) }
-    ensures one { (forms : List Entry) (f : Function) (a b : Answer) → LowerComes forms f a → LowerComes forms f b → a ≡ b }
-    ensures matched { (forms : List Entry) (f g : Function) → LowerComes forms f (Ok g) → AreMatched forms g }
-    ensures marks { (forms : List Entry) (f g : Function) → LowerComes forms f (Ok g) → SameMarks f g }
-    ensures kept { (forms : List Entry) (f g : Function) → IsSound f → LowerComes forms f (Ok g) → PassKeeps f g }
+    ensures one { (forms : List Entry) (f : Function) (a b : Answer) → LowerComes forms f a →
+        LowerComes forms f b → a ≡ b }
+    ensures matched { (forms : List Entry) (f g : Function) → LowerComes forms f (Ok g) →
+        AreMatched forms g }
+    ensures marks { (forms : List Entry) (f g : Function) → LowerComes forms f (Ok g) →
+        SameMarks f g }
+    ensures kept { (forms : List Entry) (f g : Function) → IsSound f → LowerComes forms f (Ok g) →
+        PassKeeps f g }
 {
     let mut chain = LiveChain::of(alloc, f);
     let mut place: u32 = 0;

@@ -1,5 +1,5 @@
--- How an instruction is made by the form of its standard name: GCC Internals, "Standard Pattern Names For Generation" and "Defining RTL
--- Sequences for Code Generation".
+-- How an instruction is made by the form of its standard name: GCC Internals, "Standard Pattern
+-- Names For Generation" and "Defining RTL Sequences for Code Generation".
 use Rattle.std.specs.Prelude.{ℕ, Bool, false, ◌&&◌, if◌then◌else◌, List, [], ◌++◌, ◌==◌, map, codes, Option, Some, None, Result, Ok, Err, option_map, option_and_then, slice_get}
 use Rattle.std.specs.Option.{option_map_or}
 use Rattle.std.specs.List.{position_from, starts_with}
@@ -76,10 +76,12 @@ planned_by forms made standard next form =
     option_map (plan form) (prepared_for (holds forms) (patterns_at forms form) (made && is_move standard.name) standard.operands next)
 
 abbrev pub planned_as : List Entry → Bool → ℕ → Standard → Option Plan
-planned_as forms made next standard = option_and_then (planned_by forms made standard next) (form_for forms standard)
+planned_as forms made next standard =
+    option_and_then (planned_by forms made standard next) (form_for forms standard)
 
--- How an instruction is made, which lowering itself may have made; none where it has no standard name, no form has the name with its
--- condition, or an operand is refused for which no register can stand.
+-- How an instruction is made, which lowering itself may have made; none where it has no standard
+-- name, no form has the name with its condition, or an operand is refused for which no register can
+-- stand.
 abbrev pub planned : List Entry → Bool → Rtx → ℕ → Option Plan
 planned forms made x next = option_and_then (planned_as forms made next) (standard_of x)
 
@@ -88,6 +90,8 @@ planned forms made x next = option_and_then (planned_as forms made next) (standa
 abbrev pub if_kept : Emission → Option Emission
 if_kept e = if keeps_to_arguments e.sequence then Some e else None
 
--- what a form emits before registers have homes: a sequence that names a hard register other than a0 to a7 is none
+-- what a form emits before registers have homes: a sequence that names a hard register other than
+-- a0 to a7 is none
 abbrev pub emission_of : List Entry → ℕ → Ops → ℕ → Option Emission
-emission_of forms form operands next = option_and_then if_kept (emitted_by forms lower_facts form operands next)
+emission_of forms form operands next =
+    option_and_then if_kept (emitted_by forms lower_facts form operands next)

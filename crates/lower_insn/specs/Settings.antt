@@ -1,6 +1,7 @@
--- The operands of an instruction as a form asks for them, with the instructions that make them so: GCC Internals, "Addressing Modes",
--- "Machine-Independent Predicates" and "Standard Pattern Names For Generation". What a form does not take is set into a new pseudo
--- register before the instruction, and what it does not set is set from one behind it.
+-- The operands of an instruction as a form asks for them, with the instructions that make them so:
+-- GCC Internals, "Addressing Modes", "Machine-Independent Predicates" and "Standard Pattern Names
+-- For Generation". What a form does not take is set into a new pseudo register before the
+-- instruction, and what it does not set is set from one behind it.
 use Rattle.std.specs.Prelude.{ℕ, ◌+◌, Bool, true, false, not, ◌&&◌, if◌then◌else◌, List, [], ◌∷◌, ◌++◌, flat_map, Option, Some, None, option_map, option_and_then}
 use Rattle.std.specs.List.{find}
 use Rattle.std.specs.Option.{option_map_or}
@@ -58,7 +59,8 @@ addressed_by _ kids operand next = unchanged operand next
 
 -- an operand, where an address that is not legitimate is set into a new register
 abbrev pub addressed_one : StandardOperand → ℕ → Prepared
-addressed_one operand next = addressed_by (head_of operand.tree).code (kids_of operand.tree) operand next
+addressed_one operand next =
+    addressed_by (head_of operand.tree).code (kids_of operand.tree) operand next
 
 -- each operand in its order
 abbrev pub addressed : List StandardOperand → ℕ → Prepared
@@ -74,7 +76,8 @@ placeholder_of patterns number = find (gives_number number) (flat_map placeholde
 
 -- whether the predicate that a placeholder names refuses a tree in the placeholder's mode
 abbrev pub refuses : Accepts → Rtx → Rtx → Bool
-refuses accepts p x = names_predicate (head_of p).code && not (accepts (head_of p).name x (head_of p).mode)
+refuses accepts p x =
+    names_predicate (head_of p).code && not (accepts (head_of p).name x (head_of p).mode)
 
 -- the mode of a new register for an operand: its own, or the placeholder's where it has none
 abbrev pub mode_or : Mode → Mode → Mode
@@ -97,7 +100,8 @@ replaced_by Input mode operand next = Some (input_set mode operand next)
 replaced_by Target mode operand next = Some (target_moved mode operand next)
 replaced_by Fixed mode operand next = None
 
--- An operand with its placeholder. An instruction that is held, a move that lowering itself made, gets no more registers.
+-- An operand with its placeholder. An instruction that is held, a move that lowering itself made,
+-- gets no more registers.
 abbrev pub fitted_at : Accepts → Bool → StandardOperand → ℕ → Rtx → Option Prepared
 fitted_at accepts held operand next p =
     if refuses accepts p operand.tree
@@ -109,7 +113,8 @@ abbrev pub fitted_one : Accepts → List Rtx → Bool → ℕ → StandardOperan
 fitted_one accepts patterns held number operand next =
     option_map_or (fitted_at accepts held operand next) (placeholder_of patterns number) (Some (unchanged operand next))
 
--- each operand in its order, from a number on; none where one is refused for which no register can stand
+-- each operand in its order, from a number on; none where one is refused for which no register can
+-- stand
 abbrev pub fitted : Accepts → List Rtx → Bool → ℕ → List StandardOperand → ℕ → Option Prepared
 fitted accepts patterns held number [] next = Some (nothing next)
 fitted accepts patterns held number (operand ∷ operands) next =

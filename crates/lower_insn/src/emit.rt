@@ -12,7 +12,8 @@ use plain_data::Memory;
 use rtx_tree::{Code, Operands, Rtx};
 use std::alloc::Global;
 
-/// What a form emits, or `None` exactly where it fails, or names a hard register other than a0 to a7.
+/// What a form emits, or `None` exactly where it fails, or names a hard register other than a0 to
+/// a7.
 pub(crate) fn emission_of(
     alloc: Global,
     desc: &Description,

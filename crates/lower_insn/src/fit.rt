@@ -25,7 +25,8 @@ fn names_predicate(code: Code) -> bool
 
 /// Whether the predicate that a placeholder names accepts a tree.
 fn accepts(desc: &Description, placeholder: &Rtx, x: &Rtx) -> bool
-    ensures { result ≡ holds desc.now (head_of placeholder.now).name x.now (head_of placeholder.now).mode }
+    ensures { result ≡
+        holds desc.now (head_of placeholder.now).name x.now (head_of placeholder.now).mode }
 {
     let preds = desc.preds();
     preds.holds(&placeholder.name, x, placeholder.mode)
@@ -134,7 +135,8 @@ fn fit_one(
     }
 }
 
-/// The operands as a form's patterns ask for them, or `None` exactly where one is refused for which no register can stand.
+/// The operands as a form's patterns ask for them, or `None` exactly where one is refused for which
+/// no register can stand.
 #[tactic(auto, using(crate::proofs::Joined::fits_begin, crate::proofs::Joined::fits_go_on, crate::proofs::Joined::fits_not, crate::proofs::Joined::fits_end))]
 pub(crate) fn fitted(
     alloc: Global,

@@ -42,7 +42,8 @@ fn holds_with<P: Preds>(cond: &Cond, facts: &Facts, operands: &Operands, preds: 
 
 /// Whether the condition of a form holds with operands.
 fn is_met(alloc: Global, desc: &Description, operands: &Operands, form: &Form) -> bool
-    ensures { result ≡ matching.is_met (holds desc.now) needs.lower_facts form.now.condition operands.now }
+    ensures { result ≡
+        matching.is_met (holds desc.now) needs.lower_facts form.now.condition operands.now }
 {
     let preds = desc.preds();
     let facts = lower_facts(alloc);
@@ -88,7 +89,8 @@ fn first_form(
     Ok(None)
 }
 
-/// The first form that has a standard name and whose condition holds with the instruction's own operands.
+/// The first form that has a standard name and whose condition holds with the instruction's own
+/// operands.
 pub(crate) fn form_for(
     alloc: Global,
     desc: &Description,

@@ -17,7 +17,8 @@ use plain_data::Memory;
 use rtx_tree::Insn;
 use std::alloc::Global;
 
-/// The uids of the instructions in the place of one, in a function that has a greatest uid. A uid past 32 bits finds no memory.
+/// The uids of the instructions in the place of one, in a function that has a greatest uid. A uid
+/// past 32 bits finds no memory.
 fn uids_for(insn: &Insn, greatest: u32) -> Result<Uids, Memory>
     ensures { IfOk result (λ uids. uids ≡ spec.uids_for insn.now greatest) }
 {
@@ -89,13 +90,14 @@ fn lower(
     Ok(Some(lower_unmatched(alloc, desc, insn, greatest, next)?))
 }
 
-/// What an instruction is lowered to by a form, or `None` exactly where it stays: a form matches it, or it needs none. The function in
-/// which it stands has a greatest uid, and pseudo registers that are free from a number on.
+/// What an instruction is lowered to by a form, or `None` exactly where it stays: a form matches
+/// it, or it needs none. The function in which it stands has a greatest uid, and pseudo registers
+/// that are free from a number on.
 ///
 /// # Errors
 ///
-/// `Unmatched` for the first of the instruction and of what would stand in its place of which no form can be made, with the uid that it
-/// would have; `Memory` where memory ran out.
+/// `Unmatched` for the first of the instruction and of what would stand in its place of which no
+/// form can be made, with the uid that it would have; `Memory` where memory ran out.
 pub fn lowered(
     alloc: Global,
     desc: &Description,

@@ -110,7 +110,8 @@ fn plan_as(
     }
 }
 
-/// How a pattern is made, which lowering itself may have made, or `None` exactly where there is no way.
+/// How a pattern is made, which lowering itself may have made, or `None` exactly where there is no
+/// way.
 pub(crate) fn planned(
     alloc: Global,
     desc: &Description,

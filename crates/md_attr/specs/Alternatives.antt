@@ -1,6 +1,6 @@
--- The accepted forms of a description, by their numbers and by the names that they define, and how many alternatives they have: GCC
--- Internals, "Multiple Alternative Constraints". Of a name that is defined twice the first definition counts, also where it is set
--- aside.
+-- The accepted forms of a description, by their numbers and by the names that they define, and how
+-- many alternatives they have: GCC Internals, "Multiple Alternative Constraints". Of a name that is
+-- defined twice the first definition counts, also where it is set aside.
 use Rattle.std.specs.Prelude.{ℕ, ◌<◌, Bool, false, List, Option, Some, None, Result, Ok, Err, find, slice_get, option_and_then, if◌then◌else◌}
 use Rattle.std.specs.Option.{option_map_or}
 use Rattle.std.specs.Str.{bytes_eq}
@@ -42,7 +42,8 @@ definition_of kind forms name = find (defines kind name) forms
 abbrev pub form_at : List Entry → ℕ → Option Form
 form_at forms form = option_and_then accepted (slice_get forms form)
 
--- the number of its alternatives, which is 1 for a form without constraints; 0 where there is no accepted form with that index
+-- the number of its alternatives, which is 1 for a form without constraints; 0 where there is no
+-- accepted form with that index
 abbrev pub alternatives_of : List Entry → ℕ → ℕ
 alternatives_of forms form = option_map_or (λ f. alternatives f.constraints) (form_at forms form) 0
 

@@ -1,5 +1,5 @@
--- The values of attributes: GCC Internals, "Defining Attributes and their Values", "Assigning Attribute Values to Insns" and "Disabling
--- insn alternatives using the enabled attribute".
+-- The values of attributes: GCC Internals, "Defining Attributes and their Values", "Assigning
+-- Attribute Values to Insns" and "Disabling insn alternatives using the enabled attribute".
 use Rattle.std.specs.Prelude.{ℕ, Bool, false, not, List, [], ◌∷◌, Option, Some, None, codes, find, slice_get, option_map, option_and_then, if◌then◌else◌}
 use Rattle.std.specs.Option.{option_map_or}
 use Rattle.std.specs.Str.{bytes_eq}
@@ -14,7 +14,8 @@ use Rattle.md_attr.specs.Alternatives.{accepted, definition_of, form_at}
 abbrev pub default_by : Entry → Option (List ℕ)
 default_by e = option_map (λ f. f.default) (accepted e)
 
--- the default of an attribute. There is an attribute where the first definition of its name is accepted
+-- the default of an attribute. There is an attribute where the first definition of its name is
+-- accepted
 abbrev pub default_of : List Entry → List ℕ → Option (List ℕ)
 default_of forms name = option_and_then default_by (definition_of defines_attribute forms name)
 

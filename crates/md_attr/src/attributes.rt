@@ -91,7 +91,8 @@ fn or_default<'a>(default: &'a Name, given: Option<&'a Name>) -> &'a Name
 
 /// Whether a form is accepted and has an alternative.
 pub fn has_alternative(attrs: &Attributes, form: u32, alternative: u32) -> bool
-    ensures { (forms : List Entry) → AreAttributesOf attrs.now forms → IsTrue result ↔ IsAlternative forms form alternative }
+    ensures { (forms : List Entry) → AreAttributesOf attrs.now forms →
+        IsTrue result ↔ IsAlternative forms form alternative }
 {
     match attrs.settings_of(form as usize) {
         Some(found) => (alternative as usize) < found.alternatives,
@@ -99,8 +100,9 @@ pub fn has_alternative(attrs: &Attributes, form: u32, alternative: u32) -> bool
     }
 }
 
-/// The value of an attribute in an alternative of a form: the one that the form gives it, or the attribute's default. It is `None`
-/// exactly where there is no such attribute: where no form defines it, or where the first that does is set aside.
+/// The value of an attribute in an alternative of a form: the one that the form gives it, or the
+/// attribute's default. It is `None` exactly where there is no such attribute: where no form
+/// defines it, or where the first that does is set aside.
 #[tactic(auto, using(crate::proofs::TableLaws::value_same))]
 pub fn value<'a>(
     attrs: &'a Attributes,
@@ -108,15 +110,18 @@ pub fn value<'a>(
     form: u32,
     alternative: u32,
 ) -> Option<&'a Name>
-    ensures { (forms : List Entry) → AreAttributesOf attrs.now forms → option_copied result ≡ spec.value_of forms name.now form alternative }
+    ensures { (forms : List Entry) → AreAttributesOf attrs.now forms →
+        option_copied result ≡ spec.value_of forms name.now form alternative }
 {
     attrs.value_of(name.bytes(), form as usize, alternative as usize)
 }
 
-/// Whether an alternative of a form can be used: it can, unless the attribute `enabled` has the value `no` there.
+/// Whether an alternative of a form can be used: it can, unless the attribute `enabled` has the
+/// value `no` there.
 #[tactic(auto, using(crate::proofs::TableLaws::enabled_same))]
 pub fn enabled(attrs: &Attributes, form: u32, alternative: u32) -> bool
-    ensures { (forms : List Entry) → AreAttributesOf attrs.now forms → result ≡ spec.is_enabled forms form alternative }
+    ensures { (forms : List Entry) → AreAttributesOf attrs.now forms →
+        result ≡ spec.is_enabled forms form alternative }
 {
     attrs.enabled_in(form as usize, alternative as usize)
 }

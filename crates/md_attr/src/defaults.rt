@@ -14,7 +14,8 @@ use plain_data::Memory;
 use rtx_tree::Name;
 use std::alloc::Global;
 
-/// What the first definitions of attributes give, by the attributes' names, in the order of the definitions.
+/// What the first definitions of attributes give, by the attributes' names, in the order of the
+/// definitions.
 #[derive(Drop)]
 pub struct Defaults {
     by_name: IndexMap<Vec<u8>, Option<Name>>,

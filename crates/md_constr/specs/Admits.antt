@@ -1,5 +1,5 @@
--- Which operands letters and defined constraints admit: GCC Internals, "Simple Constraints" and "Defining Machine-Specific
--- Constraints".
+-- Which operands letters and defined constraints admit: GCC Internals, "Simple Constraints" and
+-- "Defining Machine-Specific Constraints".
 use Rattle.std.specs.Prelude.{ℕ, Bool, true, false, ◌||◌, List, [], ◌∷◌, Option, Some, None, option_and_then}
 use Rattle.std.specs.Option.{option_map_or}
 use Rattle.rtx_tree.specs.declared.code.Code.{Code}
@@ -62,7 +62,8 @@ class_admits k x = option_map_or (is_in_class (class_of k)) (register_of x) fals
 
 -- ---- what a description defines
 
--- A constraint with a class admits what the class does, and any other the operands for which its test holds, asked in no mode.
+-- A constraint with a class admits what the class does, and any other the operands for which its
+-- test holds, asked in no mode.
 abbrev pub admits_by : Accepts → Option RegisterClass → Option Test → Rtx → Bool
 admits_by accepts (Some k) test x = class_admits k x
 admits_by accepts None (Some test) x = test_holds accepts x Void test

@@ -1,5 +1,5 @@
--- Whether operands fit an alternative of a form: GCC Internals, "Multiple Alternative Constraints", "Simple Constraints" and "Constraint
--- Modifier Characters".
+-- Whether operands fit an alternative of a form: GCC Internals, "Multiple Alternative Constraints",
+-- "Simple Constraints" and "Constraint Modifier Characters".
 use Rattle.std.specs.Prelude.{ℕ, ◌==◌, Bool, true, false, not, ◌&&◌, ◌||◌, List, [], ◌∷◌, Option, slice_get}
 use Rattle.std.specs.List.{list_all, list_any}
 use Rattle.std.specs.Option.{option_map_or}
@@ -45,19 +45,24 @@ mentions_at operands reg n = option_map_or (mentions_reg reg) (operand_at operan
 
 -- an input other than operand n mentions the register
 abbrev pub is_shared : List ℕ → List (Option Rtx) → ℕ → ℕ → Bool
-is_shared inputs operands n reg = list_any (λ input. not (input == n) && mentions_at operands reg input) inputs
+is_shared inputs operands n reg =
+    list_any (λ input. not (input == n) && mentions_at operands reg input) inputs
 
 -- a register shares itself with an input; what is in memory shares none
 abbrev pub shares_register : List ℕ → List (Option Rtx) → ℕ → Rtx → Bool
-shares_register inputs operands n x = option_map_or (is_shared inputs operands n) (register_of x) false
+shares_register inputs operands n x =
+    option_map_or (is_shared inputs operands n) (register_of x) false
 
 -- the pattern changes it, and it is changed before all inputs are taken
 abbrev pub is_early : List ℕ → OperandConstraint → Alternative → Bool
 is_early changed k a = a.early && list_any (λ number. number == k.operand) changed
 
--- an operand in an alternative of its constraint is an earlyclobber output that shares a register with an input
-abbrev pub clashes_in : List ℕ → List ℕ → List (Option Rtx) → OperandConstraint → Rtx → Alternative → Bool
-clashes_in inputs changed operands k x a = is_early changed k a && shares_register inputs operands k.operand x
+-- an operand in an alternative of its constraint is an earlyclobber output that shares a register
+-- with an input
+abbrev pub clashes_in : List ℕ → List ℕ → List (Option Rtx) → OperandConstraint → Rtx →
+    Alternative → Bool
+clashes_in inputs changed operands k x a =
+    is_early changed k a && shares_register inputs operands k.operand x
 
 abbrev pub clashes_at : List ℕ → List ℕ → List (Option Rtx) → ℕ → OperandConstraint → Rtx → Bool
 clashes_at inputs changed operands alternative k x = option_map_or (clashes_in inputs changed operands k x) (slice_get k.constraint alternative) false
@@ -67,7 +72,8 @@ operand_clashes inputs changed operands alternative k = option_map_or (clashes_a
 
 -- ---- memory at far addresses
 
--- the operand with a number is memory at a far address, which no load and no store reaches by itself
+-- the operand with a number is memory at a far address, which no load and no store reaches by
+-- itself
 abbrev pub is_far_at : List (Option Rtx) → ℕ → Bool
 is_far_at operands n = option_map_or is_far (operand_at operands n) false
 
@@ -76,18 +82,23 @@ none_far operands numbers = list_all (λ n. not (is_far_at operands n)) numbers
 
 -- ---- operands
 
--- an operand fits an alternative of its constraint: it meets a member, and shares no register with an input if it is an earlyclobber
--- output
-abbrev pub fits_in : Named → List ℕ → List ℕ → List (Option Rtx) → OperandConstraint → Rtx → Alternative → Bool
-fits_in named inputs changed operands k x a = meets named operands x a.members && not (clashes_in inputs changed operands k x a)
+-- an operand fits an alternative of its constraint: it meets a member, and shares no register with
+-- an input if it is an earlyclobber output
+abbrev pub fits_in : Named → List ℕ → List ℕ → List (Option Rtx) → OperandConstraint → Rtx →
+    Alternative → Bool
+fits_in named inputs changed operands k x a =
+    meets named operands x a.members && not (clashes_in inputs changed operands k x a)
 
 -- a constraint without alternatives is none, and accepts anything
-abbrev pub fits_among : Named → List ℕ → List ℕ → List (Option Rtx) → OperandConstraint → Rtx → ℕ → List Alternative → Bool
+abbrev pub fits_among : Named → List ℕ → List ℕ → List (Option Rtx) → OperandConstraint → Rtx → ℕ →
+    List Alternative → Bool
 fits_among named inputs changed operands k x alternative [] = true
 fits_among named inputs changed operands k x alternative (a ∷ more) = option_map_or (fits_in named inputs changed operands k x) (slice_get (a ∷ more) alternative) false
 
-abbrev pub fits_at : Named → List ℕ → List ℕ → List (Option Rtx) → ℕ → OperandConstraint → Rtx → Bool
-fits_at named inputs changed operands alternative k x = fits_among named inputs changed operands k x alternative k.constraint
+abbrev pub fits_at : Named → List ℕ → List ℕ → List (Option Rtx) → ℕ → OperandConstraint → Rtx →
+    Bool
+fits_at named inputs changed operands alternative k x =
+    fits_among named inputs changed operands k x alternative k.constraint
 
 -- the operand of a constraint, where there is one, fits an alternative of it
 abbrev pub operand_fits : Named → List ℕ → List ℕ → List (Option Rtx) → ℕ → OperandConstraint → Bool
@@ -95,7 +106,8 @@ operand_fits named inputs changed operands alternative k = option_map_or (fits_a
 
 -- each operand that has a constraint fits
 abbrev pub all_fit : Named → List ℕ → List ℕ → List (Option Rtx) → ℕ → List OperandConstraint → Bool
-all_fit named inputs changed operands alternative ks = list_all (operand_fits named inputs changed operands alternative) ks
+all_fit named inputs changed operands alternative ks =
+    list_all (operand_fits named inputs changed operands alternative) ks
 
 -- ---- one operand alone
 
@@ -105,11 +117,13 @@ each_of number p ks = list_all (λ k. not (k.operand == number) || p k) ks
 
 abbrev pub admits_among : Named → List (Option Rtx) → Rtx → ℕ → List Alternative → Bool
 admits_among named operands x alternative [] = true
-admits_among named operands x alternative (a ∷ more) = option_map_or (λ a. meets named operands x a.members) (slice_get (a ∷ more) alternative) false
+admits_among named operands x alternative (a ∷ more) =
+    option_map_or (λ a. meets named operands x a.members) (slice_get (a ∷ more) alternative) false
 
 -- a constraint admits a tree in an alternative, in the place of its operand
 abbrev pub constraint_admits : Named → List (Option Rtx) → ℕ → Rtx → OperandConstraint → Bool
-constraint_admits named operands alternative x k = admits_among named operands x alternative k.constraint
+constraint_admits named operands alternative x k =
+    admits_among named operands x alternative k.constraint
 
 -- what holds of one of the constraints of the operand with a number
 abbrev pub some_of : ℕ → (OperandConstraint → Bool) → List OperandConstraint → Bool
@@ -125,17 +139,25 @@ has_digit other a = list_any (is_digit other) a.members
 
 -- a digit of an operand stands among the members of a constraint in an alternative
 abbrev pub digit_stands : ℕ → ℕ → OperandConstraint → Bool
-digit_stands alternative other k = option_map_or (has_digit other) (slice_get k.constraint alternative) false
+digit_stands alternative other k =
+    option_map_or (has_digit other) (slice_get k.constraint alternative) false
 
 -- ---- forms
 
--- all operands with these numbers and constraints fit: none is memory at a far address, and each that has a constraint fits it
-abbrev pub fit_together : Named → List ℕ → List ℕ → List ℕ → List (Option Rtx) → ℕ → List OperandConstraint → Bool
-fit_together named numbers inputs changed operands alternative ks = none_far operands numbers && all_fit named inputs changed operands alternative ks
+-- all operands with these numbers and constraints fit: none is memory at a far address, and each
+-- that has a constraint fits it
+abbrev pub fit_together : Named → List ℕ → List ℕ → List ℕ → List (Option Rtx) → ℕ →
+    List OperandConstraint → Bool
+fit_together named numbers inputs changed operands alternative ks =
+    none_far operands numbers && all_fit named inputs changed operands alternative ks
 
--- the operand with a number fits: it is no memory at a far address, and fits each of its constraints
-abbrev pub fits_alone : Named → List ℕ → List ℕ → List (Option Rtx) → ℕ → ℕ → List OperandConstraint → Bool
-fits_alone named inputs changed operands alternative number ks = not (is_far_at operands number) && each_of number (operand_fits named inputs changed operands alternative) ks
+-- the operand with a number fits: it is no memory at a far address, and fits each of its
+-- constraints
+abbrev pub fits_alone : Named → List ℕ → List ℕ → List (Option Rtx) → ℕ → ℕ →
+    List OperandConstraint → Bool
+fits_alone named inputs changed operands alternative number ks =
+    not (is_far_at operands number) &&
+    each_of number (operand_fits named inputs changed operands alternative) ks
 
 -- whether operands fit an alternative of the accepted form with an index
 abbrev pub fits : List Entry → Accepts → ℕ → ℕ → List (Option Rtx) → Bool
@@ -147,21 +169,25 @@ abbrev pub number_fits : List Entry → Accepts → ℕ → ℕ → List (Option
 number_fits forms accepts form alternative operands number =
     option_map_or (λ f. fits_alone (name_admits forms accepts) (inputs_of f) (changed_of f) operands alternative number f.constraints) (form_at forms form) false
 
--- whether the constraint of the operand with a number admits a tree in an alternative of the accepted form with an index
+-- whether the constraint of the operand with a number admits a tree in an alternative of the
+-- accepted form with an index
 abbrev pub number_admits : List Entry → Accepts → ℕ → ℕ → List (Option Rtx) → ℕ → Rtx → Bool
 number_admits forms accepts form alternative operands number x =
     option_map_or (λ f. each_of number (constraint_admits (name_admits forms accepts) operands alternative x) f.constraints) (form_at forms form) false
 
--- what a constraint admits where digits don't count: a member other than a digit admits the tree, or the alternative is empty. Where no
--- operands are given, no digit names one
+-- what a constraint admits where digits don't count: a member other than a digit admits the tree,
+-- or the alternative is empty. Where no operands are given, no digit names one
 abbrev pub number_admits_apart : List Entry → Accepts → ℕ → ℕ → ℕ → Rtx → Bool
-number_admits_apart forms accepts form alternative number x = number_admits forms accepts form alternative [] number x
+number_admits_apart forms accepts form alternative number x =
+    number_admits forms accepts form alternative [] number x
 
--- whether the constraint of the operand with a number has the digit of another in an alternative of the accepted form with an index
+-- whether the constraint of the operand with a number has the digit of another in an alternative of
+-- the accepted form with an index
 abbrev pub number_names : List Entry → ℕ → ℕ → ℕ → ℕ → Bool
 number_names forms form alternative number other = option_map_or (λ f. some_of number (digit_stands alternative other) f.constraints) (form_at forms form) false
 
--- whether the operand with a number is an earlyclobber output there that shares a register with an input
+-- whether the operand with a number is an earlyclobber output there that shares a register with an
+-- input
 abbrev pub number_clashes : List Entry → ℕ → ℕ → List (Option Rtx) → ℕ → Bool
 number_clashes forms form alternative operands number =
     option_map_or (λ f. some_of number (operand_clashes (inputs_of f) (changed_of f) operands alternative) f.constraints) (form_at forms form) false

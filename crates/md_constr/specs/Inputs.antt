@@ -1,5 +1,5 @@
--- Which operands of a form are taken and which are changed: GCC Internals, "RTL Template" and "Side Effect Expressions". The pattern decides
--- it, and not the marks of the constraints.
+-- Which operands of a form are taken and which are changed: GCC Internals, "RTL Template" and "Side
+-- Effect Expressions". The pattern decides it, and not the marks of the constraints.
 use Rattle.std.specs.Prelude.{ℕ, ℤ, List, [], ◌∷◌, ◌++◌}
 use Rattle.std.specs.Int.{cast_unsigned, w64}
 use Rattle.std.specs.List.{flat_map}
@@ -34,11 +34,13 @@ abbrev pub taken_at_by : Code → List Rtx → List ℕ
 taken_at_by Subreg (inner ∷ []) = taken_inside inner
 taken_at_by _ parts = flat_map taken_in parts
 
--- of a target, or a target's low part, what stands inside is taken: a memory's address, and what an operator is over
+-- of a target, or a target's low part, what stands inside is taken: a memory's address, and what an
+-- operator is over
 abbrev pub taken_at : Rtx → List ℕ
 taken_at target = taken_at_by (head_of target).code (kids_of target)
 
--- by an effect's code; a use and a clobber alone take nothing, and what an operand stands for as a whole is not known
+-- by an effect's code; a use and a clobber alone take nothing, and what an operand stands for as a
+-- whole is not known
 abbrev pub taken_by_parts : Code → Rtx → List Rtx → List ℕ
 taken_by_parts Set x (target ∷ source ∷ []) = taken_at target ++ taken_in source
 taken_by_parts Use x parts = []

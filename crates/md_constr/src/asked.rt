@@ -166,7 +166,8 @@ impl<P: Preds> Asked<'_, P> {
         !is_far_at(self.operands, u64::from(number)) && self.each_fits(constraints, number)
     }
 
-    /// Whether a tree is admitted in the place of the operand with a number, by each of its constraints.
+    /// Whether a tree is admitted in the place of the operand with a number, by each of its
+    /// constraints.
     pub fn number_admits(&self, constraints: &[OperandConstraint], number: u32, x: &Rtx) -> bool
         ensures { result ≡ spec.each_of number (spec.constraint_admits (tables.name_admits_in self.now.meanings.now (P.accepts self.now.preds.now)) self.now.operands.now self.now.alternative x.now) constraints.now }
     {

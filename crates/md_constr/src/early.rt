@@ -47,7 +47,8 @@ fn is_early(changed: &[u64], constraint: &OperandConstraint, alternative: &Alter
     alternative.early && is_among(changed, u64::from(constraint.operand))
 }
 
-/// Whether an operand is an earlyclobber output in an alternative of its constraint that shares a register with an input.
+/// Whether an operand is an earlyclobber output in an alternative of its constraint that shares a
+/// register with an input.
 pub fn clashes_in(
     inputs: &[u64],
     changed: &[u64],
@@ -56,7 +57,8 @@ pub fn clashes_in(
     x: &Rtx,
     alternative: &Alternative,
 ) -> bool
-    ensures { result ≡ spec.clashes_in inputs.now changed.now operands.now constraint.now x.now alternative.now }
+    ensures { result ≡
+        spec.clashes_in inputs.now changed.now operands.now constraint.now x.now alternative.now }
 {
     is_early(changed, constraint, alternative)
         && shares_register(inputs, operands, u64::from(constraint.operand), x)
@@ -70,7 +72,8 @@ fn clashes_at(
     constraint: &OperandConstraint,
     x: &Rtx,
 ) -> bool
-    ensures { result ≡ spec.clashes_at inputs.now changed.now operands.now alternative constraint.now x.now }
+    ensures { result ≡
+        spec.clashes_at inputs.now changed.now operands.now alternative constraint.now x.now }
 {
     match constraint.constraint.as_slice().get(alternative) {
         Some(alternative) => clashes_in(inputs, changed, operands, constraint, x, alternative),
@@ -86,7 +89,8 @@ pub fn operand_clashes(
     alternative: usize,
     constraint: &OperandConstraint,
 ) -> bool
-    ensures { result ≡ spec.operand_clashes inputs.now changed.now operands.now alternative constraint.now }
+    ensures { result ≡
+        spec.operand_clashes inputs.now changed.now operands.now alternative constraint.now }
 {
     match operands.get(constraint.operand as usize) {
         Some(x) => clashes_at(inputs, changed, operands, alternative, constraint, x),

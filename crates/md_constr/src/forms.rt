@@ -30,7 +30,8 @@ pub struct FormConstraints {
 }
 
 impl FormConstraints {
-    /// Whether the constraint of the operand with a number has the digit of another in an alternative.
+    /// Whether the constraint of the operand with a number has the digit of another in an
+    /// alternative.
     pub fn names(&self, alternative: usize, number: u32, other: u32) -> bool
         ensures { result ≡ tables.found_number_names alternative number other self.now }
     {
@@ -38,7 +39,8 @@ impl FormConstraints {
             && digit_stands(alternative, other, constraint))
     }
 
-    /// Whether the operand with a number is an earlyclobber output in an alternative that shares a register with an input.
+    /// Whether the operand with a number is an earlyclobber output in an alternative that shares a
+    /// register with an input.
     pub fn clashes(&self, alternative: usize, operands: &Operands, number: u32) -> bool
         ensures { result ≡ tables.found_number_clashes alternative operands.now number self.now }
     {

@@ -18,7 +18,8 @@ use plain_data::Memory;
 use rtx_tree::{Name, Rtx};
 use std::alloc::Global;
 
-/// What the first definitions of constraints mean, by the constraints' names, in the order of the definitions.
+/// What the first definitions of constraints mean, by the constraints' names, in the order of the
+/// definitions.
 #[derive(Drop)]
 pub struct Meanings {
     by_name: IndexMap<Vec<u8>, Option<Meaning>>,

@@ -61,7 +61,8 @@ impl Constraints {
     }
 
     fn fits_in<P: Preds>(&self, preds: &P, form: u32, alternative: u32, operands: &Operands) -> bool
-        ensures { result ≡ tables.fits_in self.now (P.accepts preds.now) form alternative operands.now }
+        ensures { result ≡
+            tables.fits_in self.now (P.accepts preds.now) form alternative operands.now }
     {
         match self.constraints_of(form) {
             Some(found) => self.found_fits(preds, found, alternative, operands),
@@ -183,8 +184,9 @@ impl Constraints {
     }
 }
 
-/// Whether operands fit an alternative of an accepted form: no operand of its patterns is memory at a far address, each operand that has a
-/// constraint meets one of its members there, and an earlyclobber output shares no register with an input. It takes no memory.
+/// Whether operands fit an alternative of an accepted form: no operand of its patterns is memory at
+/// a far address, each operand that has a constraint meets one of its members there, and an
+/// earlyclobber output shares no register with an input. It takes no memory.
 #[tactic(auto, using(crate::proofs::TableLaws::fits_same))]
 pub fn fits<P: Preds>(
     table: &Constraints,
@@ -193,13 +195,15 @@ pub fn fits<P: Preds>(
     alternative: u32,
     operands: &Operands,
 ) -> bool
-    ensures { (forms : List Entry) → tables.AreConstraintsOf table.now forms → result ≡ spec.fits forms (P.accepts preds.now) form alternative operands.now }
+    ensures { (forms : List Entry) → tables.AreConstraintsOf table.now forms →
+        result ≡ spec.fits forms (P.accepts preds.now) form alternative operands.now }
 {
     table.fits_in(preds, form, alternative, operands)
 }
 
-/// Whether the operand with a number fits an alternative of an accepted form, by itself: it is no memory at a far address, meets a member of
-/// its constraint there, and shares no register with an input if it is an earlyclobber output. It takes no memory.
+/// Whether the operand with a number fits an alternative of an accepted form, by itself: it is no
+/// memory at a far address, meets a member of its constraint there, and shares no register with an
+/// input if it is an earlyclobber output. It takes no memory.
 #[tactic(auto, using(crate::proofs::TableLaws::number_fits_same))]
 pub fn operand_fits<P: Preds>(
     table: &Constraints,
@@ -209,13 +213,15 @@ pub fn operand_fits<P: Preds>(
     operands: &Operands,
     number: u32,
 ) -> bool
-    ensures { (forms : List Entry) → tables.AreConstraintsOf table.now forms → result ≡ spec.number_fits forms (P.accepts preds.now) form alternative operands.now number }
+    ensures { (forms : List Entry) → tables.AreConstraintsOf table.now forms →
+        result ≡ spec.number_fits forms (P.accepts preds.now) form alternative operands.now number }
 {
     table.number_fits_in(preds, form, alternative, operands, number)
 }
 
-/// Whether the constraint of the operand with a number admits a tree in an alternative of an accepted form. A digit admits what is the same as
-/// the operand that it names, and the letter `m` memory at a far address too. It takes no memory.
+/// Whether the constraint of the operand with a number admits a tree in an alternative of an
+/// accepted form. A digit admits what is the same as the operand that it names, and the letter `m`
+/// memory at a far address too. It takes no memory.
 #[tactic(auto, using(crate::proofs::TableLaws::number_admits_same))]
 pub fn operand_admits<P: Preds>(
     table: &Constraints,
@@ -226,13 +232,14 @@ pub fn operand_admits<P: Preds>(
     number: u32,
     x: &Rtx,
 ) -> bool
-    ensures { (forms : List Entry) → tables.AreConstraintsOf table.now forms → result ≡ spec.number_admits forms (P.accepts preds.now) form alternative operands.now number x.now }
+    ensures { (forms : List Entry) → tables.AreConstraintsOf table.now forms → result ≡
+        spec.number_admits forms (P.accepts preds.now) form alternative operands.now number x.now }
 {
     table.number_admits_in(preds, form, alternative, operands, number, x)
 }
 
-/// Whether a member other than a digit of the constraint of the operand with a number admits a tree in an alternative of an accepted form, or
-/// the alternative has no members. It takes no memory.
+/// Whether a member other than a digit of the constraint of the operand with a number admits a tree
+/// in an alternative of an accepted form, or the alternative has no members. It takes no memory.
 #[tactic(auto, using(crate::proofs::TableLaws::number_admits_same, crate::proofs::TableLaws::number_admits_apart_same))]
 pub fn operand_admits_apart<P: Preds>(
     alloc: Global,
@@ -243,13 +250,15 @@ pub fn operand_admits_apart<P: Preds>(
     number: u32,
     x: &Rtx,
 ) -> bool
-    ensures { (forms : List Entry) → tables.AreConstraintsOf table.now forms → result ≡ spec.number_admits_apart forms (P.accepts preds.now) form alternative number x.now }
+    ensures { (forms : List Entry) → tables.AreConstraintsOf table.now forms → result ≡
+        spec.number_admits_apart forms (P.accepts preds.now) form alternative number x.now }
 {
     let none = Operands::new(alloc);
     table.number_admits_in(preds, form, alternative, &none, number, x)
 }
 
-/// Whether the constraint of the operand with a number has the digit of another in an alternative of an accepted form. It takes no memory.
+/// Whether the constraint of the operand with a number has the digit of another in an alternative
+/// of an accepted form. It takes no memory.
 #[tactic(auto, using(crate::proofs::TableLaws::number_names_same))]
 pub fn operand_names(
     table: &Constraints,
@@ -258,13 +267,14 @@ pub fn operand_names(
     number: u32,
     other: u32,
 ) -> bool
-    ensures { (forms : List Entry) → tables.AreConstraintsOf table.now forms → result ≡ spec.number_names forms form alternative number other }
+    ensures { (forms : List Entry) → tables.AreConstraintsOf table.now forms →
+        result ≡ spec.number_names forms form alternative number other }
 {
     table.number_names_in(form, alternative, number, other)
 }
 
-/// Whether the operand with a number is an earlyclobber output in an alternative of an accepted form that shares a register with an input. It
-/// takes no memory.
+/// Whether the operand with a number is an earlyclobber output in an alternative of an accepted
+/// form that shares a register with an input. It takes no memory.
 #[tactic(auto, using(crate::proofs::TableLaws::number_clashes_same))]
 pub fn operand_clashes(
     table: &Constraints,
@@ -273,16 +283,18 @@ pub fn operand_clashes(
     operands: &Operands,
     number: u32,
 ) -> bool
-    ensures { (forms : List Entry) → tables.AreConstraintsOf table.now forms → result ≡ spec.number_clashes forms form alternative operands.now number }
+    ensures { (forms : List Entry) → tables.AreConstraintsOf table.now forms →
+        result ≡ spec.number_clashes forms form alternative operands.now number }
 {
     table.number_clashes_in(form, alternative, operands, number)
 }
 
-/// How many alternatives an accepted form has, 1 where it has no constraints. The greatest `u32` stands for more, of which no form has
-/// that was read from a text.
+/// How many alternatives an accepted form has, 1 where it has no constraints. The greatest `u32`
+/// stands for more, of which no form has that was read from a text.
 #[tactic(auto, using(crate::proofs::TableLaws::counted_same))]
 pub fn alternatives_of(table: &Constraints, form: u32) -> u32
-    ensures { (forms : List Entry) → tables.AreConstraintsOf table.now forms → result ≡ min (2 ^ 32 - 1) (alternatives_of forms form) }
+    ensures { (forms : List Entry) → tables.AreConstraintsOf table.now forms →
+        result ≡ min (2 ^ 32 - 1) (alternatives_of forms form) }
 {
     u32::try_from(table.alternatives_in(form)).unwrap_or(u32::MAX)
 }

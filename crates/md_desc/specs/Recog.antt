@@ -1,5 +1,5 @@
--- What a description makes of an instruction: GCC Internals, "Pattern Ordering", "Multiple Alternative Constraints" and "Disabling insn
--- alternatives using the enabled attribute".
+-- What a description makes of an instruction: GCC Internals, "Pattern Ordering", "Multiple
+-- Alternative Constraints" and "Disabling insn alternatives using the enabled attribute".
 use Rattle.std.specs.Prelude.{◌≡◌, ℕ, ◌<◌, Bool, true, false, not, ◌&&◌, List, [], ◌∷◌, length, Result, Ok, Err, slice_get}
 use Rattle.std.specs.Option.{option_map_or}
 use Rattle.rtx_tree.specs.declared.tree.Rtx.{Rtx}
@@ -21,25 +21,30 @@ use Rattle.md_desc.specs.declared.output.Chosen.{Chosen}
 
 -- the form with an index of a description matches an instruction with these operands
 abbrev pub MatchesAt : List Entry → Facts → Rtx → ℕ → Ops → Type 0
-MatchesAt forms facts insn form operands = recog.MatchesAt (holds forms) facts half.Insn (insn ∷ []) forms form operands
+MatchesAt forms facts insn form operands =
+    recog.MatchesAt (holds forms) facts half.Insn (insn ∷ []) forms form operands
 
 -- the first form from an index on that matches
 abbrev pub IsFirst : List Entry → Facts → Rtx → ℕ → FormMatch → Type 0
-IsFirst forms facts insn from m = recog.IsFirst (holds forms) facts half.Insn (insn ∷ []) forms from m
+IsFirst forms facts insn from m =
+    recog.IsFirst (holds forms) facts half.Insn (insn ∷ []) forms from m
 
 -- no form from an index on matches
 abbrev pub NoneBehind : List Entry → Facts → Rtx → ℕ → Type 0
-NoneBehind forms facts insn from = recog.NoneBetween (holds forms) facts half.Insn (insn ∷ []) forms from (length forms)
+NoneBehind forms facts insn from =
+    recog.NoneBetween (holds forms) facts half.Insn (insn ∷ []) forms from (length forms)
 
 -- no form matches
 abbrev pub NoneMatches : List Entry → Facts → Rtx → Type 0
-NoneMatches forms facts insn = (form : ℕ) (operands : Ops) → MatchesAt forms facts insn form operands → ⊥
+NoneMatches forms facts insn =
+    (form : ℕ) (operands : Ops) → MatchesAt forms facts insn form operands → ⊥
 
 -- ---- at output
 
 -- an alternative can be used where it is enabled and the operands fit it
 abbrev pub is_usable : List Entry → ℕ → Ops → ℕ → Bool
-is_usable forms form operands alternative = is_enabled forms form alternative && fits forms (holds forms) form alternative operands
+is_usable forms form operands alternative =
+    is_enabled forms form alternative && fits forms (holds forms) form alternative operands
 
 -- the lowest alternative of a form that can be used with operands
 pub record IsLowest (forms : List Entry) (form : ℕ) (operands : Ops) (alternative : ℕ) : Type 0 where
@@ -62,7 +67,8 @@ is_printed_by e = is_printed_as e.form
 abbrev pub is_printed : List Entry → ℕ → Bool
 is_printed forms form = option_map_or is_printed_by (slice_get forms form) false
 
--- A form counts as matching at output where it matches, is printed, and has an alternative that can be used; the lowest such is taken.
+-- A form counts as matching at output where it matches, is printed, and has an alternative that can
+-- be used; the lowest such is taken.
 pub record MatchesOut (forms : List Entry) (facts : Facts) (insn : Rtx) (form : ℕ) (operands : Ops) (alternative : ℕ) : Type 0 where
   pub matches : MatchesAt forms facts insn form operands
   pub printed : is_printed forms form ≡ true
@@ -70,7 +76,9 @@ pub record MatchesOut (forms : List Entry) (facts : Facts) (insn : Rtx) (form : 
 
 -- no form before an index counts at output
 abbrev pub NoneOutBefore : List Entry → Facts → Rtx → ℕ → Type 0
-NoneOutBefore forms facts insn before = (form : ℕ) → form < before → (operands : Ops) (alternative : ℕ) → MatchesOut forms facts insn form operands alternative → ⊥
+NoneOutBefore forms facts insn before =
+    (form : ℕ) → form < before → (operands : Ops) (alternative : ℕ) →
+    MatchesOut forms facts insn form operands alternative → ⊥
 
 -- the first form that counts as matching at output
 pub record IsChosen (forms : List Entry) (facts : Facts) (insn : Rtx) (c : Chosen) : Type 0 where
@@ -79,4 +87,6 @@ pub record IsChosen (forms : List Entry) (facts : Facts) (insn : Rtx) (c : Chose
 
 -- no form counts at output
 abbrev pub NoneMatchesOut : List Entry → Facts → Rtx → Type 0
-NoneMatchesOut forms facts insn = (form : ℕ) (operands : Ops) (alternative : ℕ) → MatchesOut forms facts insn form operands alternative → ⊥
+NoneMatchesOut forms facts insn =
+    (form : ℕ) (operands : Ops) (alternative : ℕ) →
+    MatchesOut forms facts insn form operands alternative → ⊥

@@ -105,7 +105,8 @@ impl Description {
         has_alternative(&self.attributes, form, alternative)
     }
 
-    /// Whether an alternative of an accepted form can be used: it can, unless the attribute `enabled` has the value `no` there.
+    /// Whether an alternative of an accepted form can be used: it can, unless the attribute
+    /// `enabled` has the value `no` there.
     pub fn enabled(&self, form: u32, alternative: u32) -> bool
         ensures { result ≡ is_enabled self.now form alternative }
     {
@@ -127,7 +128,8 @@ impl Description {
         operands: &Operands,
         number: u32,
     ) -> bool
-        ensures { result ≡ constraints.number_fits self.now (holds self.now) form alternative operands.now number }
+        ensures { result ≡
+            constraints.number_fits self.now (holds self.now) form alternative operands.now number }
     {
         let preds = &self.preds;
         operand_fits(
@@ -140,7 +142,8 @@ impl Description {
         )
     }
 
-    /// Whether the constraint of the operand with a number admits a tree in an alternative of an accepted form.
+    /// Whether the constraint of the operand with a number admits a tree in an alternative of an
+    /// accepted form.
     pub fn operand_admits(
         &self,
         form: u32,
@@ -163,7 +166,8 @@ impl Description {
         )
     }
 
-    /// The first form from an index on that matches an instruction, by steps that are counted in a ledger.
+    /// The first form from an index on that matches an instruction, by steps that are counted in a
+    /// ledger.
     fn first_counted<L: Ledger>(
         &self,
         alloc: Global,

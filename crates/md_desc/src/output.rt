@@ -57,7 +57,8 @@ impl Description {
         self.enabled(form, alternative) && self.fits(form, alternative, operands)
     }
 
-    /// The lowest alternative of a form that can be used with operands. More alternatives than have a number are wanted as memory is.
+    /// The lowest alternative of a form that can be used with operands. More alternatives than have
+    /// a number are wanted as memory is.
     #[tactic(auto, using(crate::proofs::Lowest::is_lowest, crate::proofs::Lowest::none_lowest, crate::proofs::Lowest::goes_on))]
     fn lowest(&self, form: u32, operands: &Operands) -> Result<Option<u32>, Memory>
         ensures { IfOk result (λ r. (alternative : ℕ) → (r ≡ Some alternative) ↔ spec.IsLowest self.now form operands.now alternative) }
@@ -93,8 +94,9 @@ impl Description {
         }
     }
 
-    /// The first form that counts as matching an instruction at output: its template is not `#`, and an enabled alternative fits. It comes with
-    /// the lowest such alternative; `None` comes exactly where there is no such form.
+    /// The first form that counts as matching an instruction at output: its template is not `#`,
+    /// and an enabled alternative fits. It comes with the lowest such alternative; `None` comes
+    /// exactly where there is no such form.
     #[tactic(auto, using(crate::proofs::Choosing::passes, crate::proofs::Choosing::chosen, crate::proofs::Choosing::ends, crate::proofs::Choosing::nowhere))]
     pub fn recog_out(
         &self,

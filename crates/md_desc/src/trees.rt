@@ -10,7 +10,8 @@ use tree_forms::{DescRefusal, forms_of_trees};
 ///
 /// # Errors
 ///
-/// `Limit` of `Forms` exactly where the trees make more than 20,000 forms, with 20,001; `Memory` where memory ran out.
+/// `Limit` of `Forms` exactly where the trees make more than 20,000 forms, with 20,001; `Memory`
+/// where memory ran out.
 pub fn describe(alloc: Global, trees: &[Tree]) -> Result<Description, DescRefusal>
     ensures { Gives trees.now result }
 {

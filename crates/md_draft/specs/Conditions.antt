@@ -1,6 +1,7 @@
--- The conditions and the preparation statements of forms: GCC Internals, "Everything about Instruction Patterns", "Defining How to
--- Split Instructions", "Defining RTL Sequences for Code Generation" and, for the conditions of values, "Mode Iterators". Each text
--- is a condition by itself, and what holds where several hold is made of their trees.
+-- The conditions and the preparation statements of forms: GCC Internals, "Everything about
+-- Instruction Patterns", "Defining How to Split Instructions", "Defining RTL Sequences for Code
+-- Generation" and, for the conditions of values, "Mode Iterators". Each text is a condition by
+-- itself, and what holds where several hold is made of their trees.
 use Rattle.std.specs.Prelude.{ℕ, ◌==◌, Bool, false, ◌&&◌, List, [], ◌∷◌, Option, Some, None, Result, Ok, Err, if◌then◌else◌}
 use Rattle.std.specs.List.{fold, list_all}
 use Rattle.rtx_tree.specs.declared.constants.Constant.{Constant}
@@ -23,7 +24,8 @@ both_hold a b = judged_with cond_tree.both a b
 
 -- a condition and that of a text; a text of blanks adds nothing
 abbrev pub and_text : List Constant → Judged cond.Tree → List ℕ → Judged cond.Tree
-and_text constants a text = if list_all is_blank text then a else both_hold a (condition_of constants text)
+and_text constants a text =
+    if list_all is_blank text then a else both_hold a (condition_of constants text)
 
 -- the condition of a text and those of the values of iterators
 abbrev pub under : List Constant → List (List ℕ) → List ℕ → Judged cond.Tree
@@ -56,15 +58,19 @@ split_under constants values insn text =
     if is_and (behind_blanks text) then and_text constants (condition_in constants values insn) (behind_and (behind_blanks text))
     else under constants values text
 
-abbrev pub split_by_text : List Constant → List (List ℕ) → Option Tree → Option (List ℕ) → Judged cond.Tree
+abbrev pub split_by_text : List Constant → List (List ℕ) → Option Tree → Option (List ℕ) →
+    Judged cond.Tree
 split_by_text constants values insn None = Err reason.Parts
 split_by_text constants values insn (Some text) = split_under constants values insn text
 
-abbrev pub split_condition_by : List Constant → List (List ℕ) → Option Tree → Tree → Judged cond.Tree
+abbrev pub split_condition_by : List Constant → List (List ℕ) → Option Tree → Tree →
+    Judged cond.Tree
 split_condition_by constants values insn t = split_by_text constants values insn (string_of t)
 
-unfoldable pub split_condition_in : List Constant → List (List ℕ) → Option Tree → Option Tree → Judged cond.Tree
-split_condition_in constants values insn t = if_there always (split_condition_by constants values insn) t
+unfoldable pub split_condition_in : List Constant → List (List ℕ) → Option Tree → Option Tree →
+    Judged cond.Tree
+split_condition_in constants values insn t =
+    if_there always (split_condition_by constants values insn) t
 
 -- ---- statements
 

@@ -1,5 +1,6 @@
--- What a form says by its own text: each of its parts, or the smallest reason that one of them gives. A draft is what a form's own
--- text tells; its reasons are those up to preparation statements outside.
+-- What a form says by its own text: each of its parts, or the smallest reason that one of them
+-- gives. A draft is what a form's own text tells; its reasons are those up to preparation
+-- statements outside.
 use Rattle.std.specs.Prelude.{ℕ, List, [], ◌∷◌, Option, Some, None, Result, Ok, Err, if◌then◌else◌, codes}
 use Rattle.rtx_tree.specs.declared.constants.Constant.{Constant}
 use Rattle.lisp_read.specs.declared.tree.Tree.{Tree}
@@ -33,7 +34,8 @@ abbrev pub patterns_in : List Constant → FormHead → List Tree → Judged Pat
 patterns_in constants h ts = patterns.patterns_in constants h (part_at ts (layout_of h).patterns)
 
 abbrev pub condition_in : List Constant → List (List ℕ) → FormHead → List Tree → Judged cond.Tree
-condition_in constants values h ts = conditions.condition_in constants values (part_at ts (layout_of h).condition)
+condition_in constants values h ts =
+    conditions.condition_in constants values (part_at ts (layout_of h).condition)
 
 abbrev pub split_condition_in : List Constant → List (List ℕ) → FormHead → List Tree →
     Judged cond.Tree
@@ -44,7 +46,8 @@ abbrev pub sequence_in : List Constant → FormHead → List Tree → Judged Pat
 sequence_in constants h ts = patterns.sequence_in constants (part_at ts (layout_of h).sequence)
 
 abbrev pub statements_in : List Constant → FormHead → List Tree → Judged cond.Tree
-statements_in constants h ts = conditions.statements_in constants (part_at ts (layout_of h).statements)
+statements_in constants h ts =
+    conditions.statements_in constants (part_at ts (layout_of h).statements)
 
 abbrev pub output_in : FormHead → List Tree → Judged Output
 output_in h ts = outputs.output_in (part_at ts (layout_of h).output)
@@ -70,7 +73,8 @@ abbrev pub matched_with : Patterns → cond.Tree → Matched
 matched_with ps c = record { patterns = ps; condition = c }
 
 unfoldable pub matched_in : List Constant → List (List ℕ) → FormHead → List Tree → Judged Matched
-matched_in constants values h ts = judged_with matched_with (patterns_in constants h ts) (condition_in constants values h ts)
+matched_in constants values h ts =
+    judged_with matched_with (patterns_in constants h ts) (condition_in constants values h ts)
 
 abbrev pub made_with : cond.Tree → Patterns × cond.Tree → Made
 made_with c more = record { split_condition = c; sequence = more.0; statements = more.1 }
@@ -108,7 +112,8 @@ whole_draft constants values h ts =
 
 -- the draft of a form with a head
 unfoldable pub draft_in : List Constant → List (List ℕ) → FormHead → List Tree → Judged Draft
-draft_in constants values h ts = if is_whole (layout_of h) ts then whole_draft constants values h ts else Err reason.Parts
+draft_in constants values h ts =
+    if is_whole (layout_of h) ts then whole_draft constants values h ts else Err reason.Parts
 
 abbrev pub draft_by : List Constant → List (List ℕ) → Option FormHead → List Tree → Judged Draft
 draft_by constants values None ts = Err reason.Head

@@ -1,5 +1,5 @@
--- The heads of forms, and the classes of registers, by their names: GCC Internals, "Machine Descriptions" and, for the classes, this
--- project's profile of "Register Classes".
+-- The heads of forms, and the classes of registers, by their names: GCC Internals, "Machine
+-- Descriptions" and, for the classes, this project's profile of "Register Classes".
 use Rattle.std.specs.Prelude.{ℕ, List, [], ◌∷◌, Option, codes, find}
 use Rattle.std.specs.Str.{bytes_eq}
 use Rattle.md_draft.specs.declared.head.FormHead.{FormHead}

@@ -1,7 +1,8 @@
--- Where the parts of a form stand, its head among the trees: GCC Internals, "Everything about Instruction Patterns"
--- (define_insn), "Defining RTL Sequences for Code Generation" (define_expand), "Defining How to Split Instructions",
--- "RTL to RTL Peephole Optimizers", "Defining Machine-Specific Predicates", "Defining Machine-Specific Constraints" and
--- "Defining Attributes and their Values".
+-- Where the parts of a form stand, its head among the trees: GCC Internals, "Everything about
+-- Instruction Patterns" (define_insn), "Defining RTL Sequences for Code Generation"
+-- (define_expand), "Defining How to Split Instructions", "RTL to RTL Peephole Optimizers",
+-- "Defining Machine-Specific Predicates", "Defining Machine-Specific Constraints" and "Defining
+-- Attributes and their Values".
 use Rattle.std.specs.Prelude.{ℕ, nat_le, Bool, true, ◌&&◌, List, Option, Some, None, length, slice_get, option_and_then}
 use Rattle.std.specs.Option.{is_some}
 use Rattle.lisp_read.specs.declared.tree.Tree.{Tree}
@@ -34,16 +35,18 @@ no_parts few many = record {
 abbrev pub insn : Layout
 insn = record (no_parts 5 6) { name = Some 1; patterns = Some 2; condition = Some 3; output = Some 4; attributes = Some 5 }
 
--- (define_expand "NAME" [PATTERNS] "CONDITION" STATEMENTS [ATTRIBUTES]), where the last two may lack
+-- (define_expand "NAME" [PATTERNS] "CONDITION" STATEMENTS [ATTRIBUTES]), where the last two may
+-- lack
 abbrev pub expand : Layout
 expand = record (no_parts 4 6) { name = Some 1; patterns = Some 2; condition = Some 3; statements = Some 4; attributes = Some 5 }
 
--- (define_split [PATTERN] "CONDITION" [SEQUENCE] STATEMENTS), and define_peephole2 with a window; the last may lack
+-- (define_split [PATTERN] "CONDITION" [SEQUENCE] STATEMENTS), and define_peephole2 with a window;
+-- the last may lack
 abbrev pub rewriting : Layout
 rewriting = record (no_parts 4 5) { patterns = Some 1; condition = Some 2; sequence = Some 3; statements = Some 4 }
 
--- (define_insn_and_split "NAME" [PATTERN] "CONDITION" OUTPUT "SPLIT CONDITION" [SEQUENCE] STATEMENTS [ATTRIBUTES]), where the last
--- two may lack
+-- (define_insn_and_split "NAME" [PATTERN] "CONDITION" OUTPUT "SPLIT CONDITION" [SEQUENCE]
+-- STATEMENTS [ATTRIBUTES]), where the last two may lack
 abbrev pub insn_and_split : Layout
 insn_and_split = record (no_parts 7 9) {
   name = Some 1;
@@ -100,4 +103,6 @@ has_string ts place = is_string (part_at ts place)
 
 -- as many trees as the head takes, and strings for the name and the documentation
 abbrev pub is_whole : Layout → List Tree → Bool
-is_whole l ts = nat_le l.least (length ts) && (nat_le (length ts) l.most && (has_string ts l.name && has_string ts l.documentation))
+is_whole l ts =
+    nat_le l.least (length ts) &&
+    (nat_le (length ts) l.most && (has_string ts l.name && has_string ts l.documentation))

@@ -1,5 +1,6 @@
--- The outputs of forms: GCC Internals, "Output Templates and Operand Substitution", "C Statements for Assembler Output" and, for a
--- block of rows, "Compact Syntax". An output is text, a line for each alternative, or such a block.
+-- The outputs of forms: GCC Internals, "Output Templates and Operand Substitution", "C Statements
+-- for Assembler Output" and, for a block of rows, "Compact Syntax". An output is text, a line for
+-- each alternative, or such a block.
 use Rattle.std.specs.Prelude.{ℕ, nat_le, ◌==◌, Bool, false, List, [], ◌∷◌, Option, Result, Ok, Err, if◌then◌else◌, length}
 use Rattle.lisp_read.specs.declared.tree.Tree.{Tree, out-Tree}
 use Rattle.lisp_read.specs.declared.tree.Tree.TheOpen.{Tree-F}

@@ -1,5 +1,6 @@
--- The other parts of forms: GCC Internals, "Assigning Attribute Values to Insns", "Defining Machine-Specific Predicates", "Defining
--- Machine-Specific Constraints" and "Defining Attributes and their Values".
+-- The other parts of forms: GCC Internals, "Assigning Attribute Values to Insns", "Defining
+-- Machine-Specific Predicates", "Defining Machine-Specific Constraints" and "Defining Attributes
+-- and their Values".
 use Rattle.std.specs.Prelude.{ℕ, List, [], ◌∷◌, Option, Some, None, Ok, if◌then◌else◌, codes, option_map, option_and_then}
 use Rattle.rtx_tree.specs.declared.constants.Constant.{Constant}
 use Rattle.lisp_read.specs.declared.tree.Tree.{Tree}
@@ -32,7 +33,8 @@ attribute_in t = attribute_by (items_of t)
 
 -- a vector of these
 abbrev pub attributes_by : Tree → Judged (List Attribute)
-attributes_by t = or_aside reason.Parts (if is_vector t then lists.each attribute_in (vector_of t) else None)
+attributes_by t =
+    or_aside reason.Parts (if is_vector t then lists.each attribute_in (vector_of t) else None)
 
 -- it may lack
 unfoldable pub attributes_in : Option Tree → Judged (List Attribute)
@@ -49,7 +51,8 @@ test_in constants t = if_there None (test_by constants) t
 
 -- the class of a register constraint
 abbrev pub class_by : Tree → Judged (Option RegisterClass)
-class_by t = or_aside reason.Parts (option_map (λ c. Some c) (option_and_then class_named (string_of t)))
+class_by t =
+    or_aside reason.Parts (option_map (λ c. Some c) (option_and_then class_named (string_of t)))
 
 unfoldable pub class_in : Option Tree → Judged (Option RegisterClass)
 class_in t = if_there None class_by t

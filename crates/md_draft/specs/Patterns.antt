@@ -1,4 +1,5 @@
--- The patterns of forms: GCC Internals, "RTL Template", "Defining How to Split Instructions" and "RTL to RTL Peephole Optimizers".
+-- The patterns of forms: GCC Internals, "RTL Template", "Defining How to Split Instructions" and
+-- "RTL to RTL Peephole Optimizers".
 use Rattle.std.specs.Prelude.{ℕ, nat_lt, nat_le, ◌==◌, Bool, true, false, not, ◌&&◌, List, [], ◌∷◌, Option, Some, None, Result, Ok, Err, if◌then◌else◌, length, option_and_then}
 use Rattle.std.specs.List.{list_any, count_by}
 use Rattle.rtx_tree.specs.declared.code.Code.{Code}
@@ -79,11 +80,13 @@ is_window ts = fits_window (instructions ts) && not (list_any is_dup ts)
 
 -- elements that are no window have wrong parts, whatever else is wrong with them
 unfoldable pub window_patterns : List Constant → Tree → Judged Patterns
-window_patterns constants t = if is_window (vector_of t) then patterns_of constants t else Err reason.Parts
+window_patterns constants t =
+    if is_window (vector_of t) then patterns_of constants t else Err reason.Parts
 
 -- ---- the patterns of a form
 
--- an expander makes its patterns, a peephole optimization matches a window of them, any other form one instruction
+-- an expander makes its patterns, a peephole optimization matches a window of them, any other form
+-- one instruction
 abbrev pub patterns_by : List Constant → FormHead → Tree → Judged Patterns
 patterns_by constants head.Expand t = patterns_of constants t
 patterns_by constants head.Peephole2 t = window_patterns constants t

@@ -1,5 +1,5 @@
--- Why the own text of a form sets it aside. Each part of a form gives a reason where it is not what its place takes; a form has the
--- reasons of its parts, and is set aside with the smallest.
+-- Why the own text of a form sets it aside. Each part of a form gives a reason where it is not what
+-- its place takes; a form has the reasons of its parts, and is set aside with the smallest.
 use Rattle.std.specs.Prelude.{◌≡◌, ◌≤◌, ℕ, false, true, List, Option, Some, None, Result, Ok, Err, option_and_then}
 use Rattle.rtx_tree.specs.declared.constants.Constant.{Constant}
 use Rattle.lisp_read.specs.declared.tree.Tree.{Tree}
@@ -17,20 +17,32 @@ use Rattle.md_draft.specs.Draft.{head_in}
 abbrev pub head_of : Tree → Option FormHead
 head_of t = option_and_then head_named (head_in (items_of t))
 
--- the reasons that a form with a head has; its parts are looked at where there are as many as the head takes
+-- the reasons that a form with a head has; its parts are looked at where there are as many as the
+-- head takes
 pub data Gives (constants : List Constant) (values : List (List ℕ)) (h : FormHead) (ts : List Tree) : Reason → Type 0 where
   count : is_whole (layout_of h) ts ≡ false → Gives constants values h ts reason.Parts
-  patterns : (r : Reason) → is_whole (layout_of h) ts ≡ true → draft.patterns_in constants h ts ≡ Err r → Gives constants values h ts r
-  condition : (r : Reason) → is_whole (layout_of h) ts ≡ true → draft.condition_in constants values h ts ≡ Err r → Gives constants values h ts r
-  split_condition : (r : Reason) → is_whole (layout_of h) ts ≡ true → draft.split_condition_in constants values h ts ≡ Err r → Gives constants values h ts r
-  sequence : (r : Reason) → is_whole (layout_of h) ts ≡ true → draft.sequence_in constants h ts ≡ Err r → Gives constants values h ts r
-  statements : (r : Reason) → is_whole (layout_of h) ts ≡ true → draft.statements_in constants h ts ≡ Err r → Gives constants values h ts r
-  output : (r : Reason) → is_whole (layout_of h) ts ≡ true → draft.output_in h ts ≡ Err r → Gives constants values h ts r
-  attributes : (r : Reason) → is_whole (layout_of h) ts ≡ true → draft.attributes_in h ts ≡ Err r → Gives constants values h ts r
-  test : (r : Reason) → is_whole (layout_of h) ts ≡ true → draft.test_in constants h ts ≡ Err r → Gives constants values h ts r
-  class : (r : Reason) → is_whole (layout_of h) ts ≡ true → draft.class_in h ts ≡ Err r → Gives constants values h ts r
-  values_given : (r : Reason) → is_whole (layout_of h) ts ≡ true → draft.values_in h ts ≡ Err r → Gives constants values h ts r
-  default : (r : Reason) → is_whole (layout_of h) ts ≡ true → draft.default_in h ts ≡ Err r → Gives constants values h ts r
+  patterns : (r : Reason) → is_whole (layout_of h) ts ≡ true →
+      draft.patterns_in constants h ts ≡ Err r → Gives constants values h ts r
+  condition : (r : Reason) → is_whole (layout_of h) ts ≡ true →
+      draft.condition_in constants values h ts ≡ Err r → Gives constants values h ts r
+  split_condition : (r : Reason) → is_whole (layout_of h) ts ≡ true →
+      draft.split_condition_in constants values h ts ≡ Err r → Gives constants values h ts r
+  sequence : (r : Reason) → is_whole (layout_of h) ts ≡ true →
+      draft.sequence_in constants h ts ≡ Err r → Gives constants values h ts r
+  statements : (r : Reason) → is_whole (layout_of h) ts ≡ true →
+      draft.statements_in constants h ts ≡ Err r → Gives constants values h ts r
+  output : (r : Reason) → is_whole (layout_of h) ts ≡ true → draft.output_in h ts ≡ Err r →
+      Gives constants values h ts r
+  attributes : (r : Reason) → is_whole (layout_of h) ts ≡ true → draft.attributes_in h ts ≡ Err r →
+      Gives constants values h ts r
+  test : (r : Reason) → is_whole (layout_of h) ts ≡ true → draft.test_in constants h ts ≡ Err r →
+      Gives constants values h ts r
+  class : (r : Reason) → is_whole (layout_of h) ts ≡ true → draft.class_in h ts ≡ Err r →
+      Gives constants values h ts r
+  values_given : (r : Reason) → is_whole (layout_of h) ts ≡ true → draft.values_in h ts ≡ Err r →
+      Gives constants values h ts r
+  default : (r : Reason) → is_whole (layout_of h) ts ≡ true → draft.default_in h ts ≡ Err r →
+      Gives constants values h ts r
 
 -- the reasons that a tree has as a form, by its own text
 pub data Applies (constants : List Constant) (values : List (List ℕ)) (t : Tree) : Reason → Type 0 where

@@ -30,7 +30,8 @@ pub enum Output {
 /// What a form matches, and when.
 #[derive(Drop)]
 pub struct Matched {
-    /// The instructions that it matches, or, for an expander, those that it makes, with the constraints in their text.
+    /// The instructions that it matches, or, for an expander, those that it makes, with the
+    /// constraints in their text.
     pub patterns: Patterns,
     /// When it holds. The empty condition is true.
     pub condition: Cond,
@@ -69,7 +70,8 @@ pub struct Defined {
     pub default: Name,
 }
 
-/// What a form says, before its predicates, constraints, attributes and operands were looked at. What its head doesn't have is empty.
+/// What a form says, before its predicates, constraints, attributes and operands were looked at.
+/// What its head doesn't have is empty.
 #[derive(Drop)]
 pub struct Draft {
     /// What it is.

@@ -28,7 +28,8 @@ pub enum FormHead {
     MemoryConstraint,
     /// An attribute of instructions.
     Attr,
-    /// Another file, in the place of the form; as a form it is one whose parts are wrong. So are those that follow.
+    /// Another file, in the place of the form; as a form it is one whose parts are wrong. So are
+    /// those that follow.
     Include,
     /// Constants.
     Constants,

@@ -6,7 +6,8 @@ ghost use Rattle.md_draft.specs.Layout as spec;
 use crate::head::FormHead;
 use lisp_read::{Tree, string};
 
-/// How many trees a form has, its head among them, and at which place of them each part stands that there may be.
+/// How many trees a form has, its head among them, and at which place of them each part stands that
+/// there may be.
 #[derive(Clone, Copy)]
 pub struct Layout {
     pub least: usize,
@@ -175,7 +176,8 @@ fn has_string(items: &[Tree], place: Option<usize>) -> bool
     }
 }
 
-/// Whether a form has as many trees as its head takes, and strings for its name and its documentation.
+/// Whether a form has as many trees as its head takes, and strings for its name and its
+/// documentation.
 pub fn is_whole(layout: &Layout, items: &[Tree]) -> bool
     ensures { result ≡ spec.is_whole layout.now items.now }
 {

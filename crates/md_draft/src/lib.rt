@@ -1,9 +1,10 @@
 //! What a form of a machine description says by its own text.
 //!
-//! [`entry_of`] gives a form's head, its name, and its [`Draft`]: its parts by what its head has, or the smallest [`Reason`] that its text
-//! alone gives, which is one of those up to preparation statements outside. `specs/Layout.antt` says where the parts of a form stand,
-//! `specs/Draft.antt` what each of them is, and `specs/Reasons.antt` which reasons apply. What the other forms of the description define
-//! is not looked at here.
+//! [`entry_of`] gives a form's head, its name, and its [`Draft`]: its parts by what its head has,
+//! or the smallest [`Reason`] that its text alone gives, which is one of those up to preparation
+//! statements outside. `specs/Layout.antt` says where the parts of a form stand, `specs/Draft.antt`
+//! what each of them is, and `specs/Reasons.antt` which reasons apply. What the other forms of the
+//! description define is not looked at here.
 #![tactic(auto)]
 
 mod condition;

@@ -1,4 +1,5 @@
--- What a form of a description emits: GCC Internals, "Defining RTL Sequences for Code Generation" and "Defining How to Split Instructions".
+-- What a form of a description emits: GCC Internals, "Defining RTL Sequences for Code Generation"
+-- and "Defining How to Split Instructions".
 use Rattle.std.specs.Prelude.{ℕ, Bool, List, [], Option, Some, None, Result, Ok, Err, option_and_then, slice_get}
 use Rattle.std.specs.List.{list_all}
 use Rattle.rtx_tree.specs.declared.tree.Rtx.{Rtx}
@@ -20,8 +21,8 @@ says_of (Err reason) = None
 abbrev pub says_at : List Entry → ℕ → Option Form
 says_at forms form = option_and_then (λ e. says_of e.form) (slice_get forms form)
 
--- What the form with an index emits with operands, where pseudo registers are free from a number on; none where it fails, or is not
--- accepted.
+-- What the form with an index emits with operands, where pseudo registers are free from a number
+-- on; none where it fails, or is not accepted.
 abbrev pub emitted_by : List Entry → Facts → ℕ → Ops → ℕ → Option Emission
 emitted_by forms facts form operands next =
     option_and_then (λ says. emitted (holds forms) facts says operands next) (says_at forms form)

@@ -1,5 +1,5 @@
--- The forms that have standard names: GCC Internals, "Standard Pattern Names For Generation" and "Defining RTL Sequences for Code
--- Generation".
+-- The forms that have standard names: GCC Internals, "Standard Pattern Names For Generation" and
+-- "Defining RTL Sequences for Code Generation".
 use Rattle.std.specs.Prelude.{ℕ, ◌&&◌, Bool, true, false, List, drop, Option, Some, None, Result, Ok, Err}
 use Rattle.std.specs.List.{position_from}
 use Rattle.std.specs.Str.{bytes_eq}

@@ -19,8 +19,8 @@ fn says_of(entry: &Entry) -> Option<&Form>
     }
 }
 
-/// What the form with an index emits with operands, where pseudo registers are free from a number on; `None` where it fails, or is not
-/// accepted.
+/// What the form with an index emits with operands, where pseudo registers are free from a number
+/// on; `None` where it fails, or is not accepted.
 ///
 /// # Errors
 ///

@@ -31,7 +31,8 @@ fn is_named_form(name: &Name, entry: &Entry) -> bool
     }
 }
 
-/// The first accepted `define_expand` or `define_insn` of a name, from an index on. It takes no memory.
+/// The first accepted `define_expand` or `define_insn` of a name, from an index on. It takes no
+/// memory.
 pub fn named(desc: &Description, name: &Name, from: u32) -> Option<u32>
     ensures { result ≡ spec.named desc.now name.now from }
 {

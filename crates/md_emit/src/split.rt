@@ -14,7 +14,8 @@ use std::alloc::Global;
 use std::marker::Brand;
 use std::sync::ledger::{Blank, Ledger};
 
-/// The first form from an index on whose split half matches an instruction, by steps that are counted in a ledger.
+/// The first form from an index on whose split half matches an instruction, by steps that are
+/// counted in a ledger.
 fn split_counted<L: Ledger>(
     alloc: Global,
     desc: &Description,
@@ -42,7 +43,8 @@ fn split_counted<L: Ledger>(
     )
 }
 
-/// The first form from an index on whose split half matches an instruction, or `None` exactly where there is none such.
+/// The first form from an index on whose split half matches an instruction, or `None` exactly where
+/// there is none such.
 ///
 /// # Errors
 ///

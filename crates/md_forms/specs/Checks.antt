@@ -1,6 +1,7 @@
--- What is asked of a form whose own text is in order: that its predicates, constraints and attributes are known, its operands
--- numbered right, and its template inside. GCC Internals, "RTL Template", "Multiple Alternative Constraints", "Assigning Attribute
--- Values to Insns" and "Output Templates and Operand Substitution".
+-- What is asked of a form whose own text is in order: that its predicates, constraints and
+-- attributes are known, its operands numbered right, and its template inside. GCC Internals, "RTL
+-- Template", "Multiple Alternative Constraints", "Assigning Attribute Values to Insns" and "Output
+-- Templates and Operand Substitution".
 use Rattle.std.specs.Prelude.{◌≡◌, ℕ, ◌==◌, nat_le, Bool, true, false, not, ◌&&◌, ◌||◌, List, [], ◌∷◌, ◌++◌, Option, Some, None, Result, Ok, Err, if◌then◌else◌, length, option_map, option_and_then}
 use Rattle.std.specs.Option.{unwrap_or}
 use Rattle.std.specs.List.{find, flat_map, list_all, list_any}
@@ -36,7 +37,8 @@ use Rattle.md_forms.specs.Tables.{is_constraint, is_among, attribute_named}
 -- ---- predicates
 
 unfoldable pub predicates_known : Tables → Draft → Bool
-predicates_known tables d = list_all (is_known tables.predicates tables.accepted) (predicates_named d)
+predicates_known tables d =
+    list_all (is_known tables.predicates tables.accepted) (predicates_named d)
 
 -- ---- operands
 
@@ -65,7 +67,8 @@ is_expander _ = false
 
 -- an operand once more: one that is matched, or where statements may set it one that they set
 abbrev pub dup_by : Bool → List ℕ → List c.CondHead → ℕ → Bool
-dup_by settable numbers statements n = has numbers n || (settable && list_any (is_assigned n) statements)
+dup_by settable numbers statements n =
+    has numbers n || (settable && list_any (is_assigned n) statements)
 
 -- statements may set an operand of a new sequence, and of the pattern of an expander
 unfoldable pub dups_by : List ℕ → Draft → Bool
@@ -106,7 +109,8 @@ abbrev pub has_length : ℕ → OperandConstraint → Bool
 has_length n k = length k.constraint == 0 || length k.constraint == n
 
 unfoldable pub constraints_stand : List ℕ → List ConstraintDraft → List OperandConstraint → Bool
-constraints_stand numbers known ks = list_all (constraint_stands numbers known) ks && list_all (has_length (alternatives ks)) ks
+constraints_stand numbers known ks =
+    list_all (constraint_stands numbers known) ks && list_all (has_length (alternatives ks)) ks
 
 -- ---- attributes
 
@@ -116,7 +120,9 @@ is_value a value = is_among ((42 ∷ []) ∷ a.values) value
 
 abbrev pub values_stand : ℕ → Attribute → Option AttributeDraft → Bool
 values_stand n given None = false
-values_stand n given (Some a) = a.accepted && (list_all (is_value a) given.values && (length given.values == 1 || length given.values == n))
+values_stand n given (Some a) =
+    a.accepted &&
+    (list_all (is_value a) given.values && (length given.values == 1 || length given.values == n))
 
 -- one value, or one for each of so many alternatives
 abbrev pub attribute_stands : List AttributeDraft → ℕ → Attribute → Bool
@@ -131,7 +137,8 @@ abbrev pub default_stands : Draft → Bool
 default_stands d = not (is_attr d.head) || is_among d.defined.values d.defined.default
 
 unfoldable pub attributes_stand : List AttributeDraft → Draft → ℕ → Bool
-attributes_stand known d n = default_stands d && list_all (attribute_stands known n) d.printed.attributes
+attributes_stand known d n =
+    default_stands d && list_all (attribute_stands known n) d.printed.attributes
 
 -- ---- numbers
 
@@ -181,14 +188,17 @@ alternatives_of tables d = alternatives (constraints_of tables d)
 abbrev pub has_reason : Tables → Draft → Reason → Bool
 has_reason tables d reason.Predicate = not (predicates_known tables d)
 has_reason tables d reason.Constraint = not (constraints_known tables d)
-has_reason tables d reason.Attribute = not (attributes_stand tables.attributes d (alternatives_of tables d))
+has_reason tables d reason.Attribute =
+    not (attributes_stand tables.attributes d (alternatives_of tables d))
 has_reason tables d reason.Operands = not (operands_stand d (alternatives_of tables d))
-has_reason tables d reason.Template = not (output_stands (alternatives_of tables d) d.printed.output)
+has_reason tables d reason.Template =
+    not (output_stands (alternatives_of tables d) d.printed.output)
 has_reason tables d _ = false
 
 -- these reasons in the order of their numbers
 abbrev pub later_reasons : List Reason
-later_reasons = reason.Predicate ∷ reason.Constraint ∷ reason.Attribute ∷ reason.Operands ∷ reason.Template ∷ []
+later_reasons =
+    reason.Predicate ∷ reason.Constraint ∷ reason.Attribute ∷ reason.Operands ∷ reason.Template ∷ []
 
 -- the smallest that it has
 abbrev pub reason_of : Tables → Draft → Option Reason

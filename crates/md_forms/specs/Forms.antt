@@ -50,7 +50,8 @@ abbrev pub shown : Option (List ℕ) → List ℕ → ℕ → List ℕ
 shown (Some name) head k = name
 shown None head k = numbered head k
 
--- the name of a form e behind some others: a form without a name has its head and its number among those of the head
+-- the name of a form e behind some others: a form without a name has its head and its number among
+-- those of the head
 abbrev pub name_behind : List Entry → Entry → List ℕ
 name_behind front e = shown e.name e.head (count_of e.head front)
 

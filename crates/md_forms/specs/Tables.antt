@@ -1,5 +1,5 @@
--- What the forms of a description define for one another. Of a name that is defined twice the first definition counts, also where it
--- is set aside.
+-- What the forms of a description define for one another. Of a name that is defined twice the first
+-- definition counts, also where it is set aside.
 use Rattle.std.specs.Prelude.{ℕ, Bool, true, false, ◌&&◌, List, [], ◌∷◌, Option, Some, None, Result, Ok, Err, map, length, option_and_then, if◌then◌else◌}
 use Rattle.std.specs.List.{filter_map, find, list_all, list_any}
 use Rattle.std.specs.Option.{unwrap_or}
@@ -45,7 +45,8 @@ predicate_draft name (Ok d) = record { name = name; whole = true; uses = predica
 predicate_draft name (Err r) = record { name = name; whole = false; uses = [] }
 
 abbrev pub predicate_of : DraftEntry → Option PredicateDraft
-predicate_of e = option_and_then (λ name. Some (predicate_draft name e.draft)) (defined defines_predicate e)
+predicate_of e =
+    option_and_then (λ name. Some (predicate_draft name e.draft)) (defined defines_predicate e)
 
 unfoldable pub predicates_of : List DraftEntry → List PredicateDraft
 predicates_of es = filter_map predicate_of es
@@ -79,7 +80,8 @@ attribute_draft name (Ok d) = record { name = name; accepted = is_among d.define
 attribute_draft name (Err r) = record { name = name; accepted = false; values = [] }
 
 abbrev pub attribute_of : DraftEntry → Option AttributeDraft
-attribute_of e = option_and_then (λ name. Some (attribute_draft name e.draft)) (defined defines_attribute e)
+attribute_of e =
+    option_and_then (λ name. Some (attribute_draft name e.draft)) (defined defines_attribute e)
 
 unfoldable pub attributes_of : List DraftEntry → List AttributeDraft
 attributes_of es = filter_map attribute_of es
@@ -89,7 +91,8 @@ attribute_named ds name = find (λ d. bytes_eq d.name name) ds
 
 -- ---- all of them
 
-abbrev pub tables_with : List DraftEntry → List PredicateDraft → List Bool → List ConstraintDraft → Tables
+abbrev pub tables_with : List DraftEntry → List PredicateDraft → List Bool → List ConstraintDraft →
+    Tables
 tables_with es ps accepted ks = record {
   predicates = ps;
   accepted = accepted;

@@ -21,8 +21,8 @@ pub struct OperandConstraint {
 pub struct Form {
     /// What it defines.
     pub head: FormHead,
-    /// The instructions that it matches, or, for an expander, those that it makes. Several elements of one instruction are a
-    /// `parallel`.
+    /// The instructions that it matches, or, for an expander, those that it makes. Several elements
+    /// of one instruction are a `parallel`.
     pub patterns: Kids,
     /// When it holds. The empty condition is true.
     pub condition: Cond,

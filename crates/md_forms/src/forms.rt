@@ -55,12 +55,13 @@ fn all_finished(alloc: Global, tables: &Tables, entries: Items<DraftEntry>) -> R
     Ok(forms)
 }
 
-/// The forms of a description, in the order of its expanded trees, each with its head, its name, and what it says or the smallest
-/// reason that applies to it.
+/// The forms of a description, in the order of its expanded trees, each with its head, its name,
+/// and what it says or the smallest reason that applies to it.
 ///
-/// A predicate is accepted where its own parts are in order and each predicate that it names is a built-in one or accepted in its
-/// turn, so none that reaches itself is; a constraint where its predicates are, an attribute where its default is one of its
-/// values. Of a name the first definition counts, also where it is set aside. The names in conditions and statements that are
+/// A predicate is accepted where its own parts are in order and each predicate that it names is a
+/// built-in one or accepted in its turn, so none that reaches itself is; a constraint where its
+/// predicates are, an attribute where its default is one of its values. Of a name the first
+/// definition counts, also where it is set aside. The names in conditions and statements that are
 /// constants are read with `constants`.
 #[tactic(auto, using(crate::proofs::Checked::smallest))]
 pub fn forms_of(alloc: Global, forms: &[Instance], constants: &Constants) -> Result<Forms, Memory>

@@ -1,9 +1,10 @@
 //! Reads the forms of a machine description, and sets those aside that are outside.
 //!
-//! [`forms_of`] gives each expanded form in order with its head, its name, and either its parsed parts, a [`Form`], or the smallest
-//! [`Reason`] that applies to it. What a form's own text says is read by `md_draft`; which predicates, constraints and
-//! attributes hold is said in `specs/Predicates.antt` and `specs/Tables.antt`, what else is asked of a form in `specs/Checks.antt`.
-//! [`names_of`] gives the names under which they are shown.
+//! [`forms_of`] gives each expanded form in order with its head, its name, and either its parsed
+//! parts, a [`Form`], or the smallest [`Reason`] that applies to it. What a form's own text says is
+//! read by `md_draft`; which predicates, constraints and attributes hold is said in
+//! `specs/Predicates.antt` and `specs/Tables.antt`, what else is asked of a form in
+//! `specs/Checks.antt`. [`names_of`] gives the names under which they are shown.
 #![tactic(auto)]
 
 mod checks;

@@ -55,7 +55,8 @@ pub fn all_known(
 
 /// The depth at a place, if there is one.
 fn depth_at(depths: &[Option<usize>], place: Option<usize>) -> Option<usize>
-    ensures { (n : ℕ) → is_below n result ≡ unwrap_or (option_and_then (slice_get (below n depths.now)) place) false }
+    ensures { (n : ℕ) → is_below n result ≡
+        unwrap_or (option_and_then (slice_get (below n depths.now)) place) false }
 {
     match depths.get(place?) {
         Some(depth) => *depth,
@@ -80,7 +81,8 @@ fn depth_below(
     rounds: usize,
     name: &[u8],
 ) -> Option<usize>
-    ensures { (n : ℕ) → n < rounds → is_below (n + 1) result ≡ spec.is_known predicates.now (below n depths.now) name.now }
+    ensures { (n : ℕ) → n < rounds →
+        is_below (n + 1) result ≡ spec.is_known predicates.now (below n depths.now) name.now }
 {
     if is_own(name) {
         Some(0)
@@ -96,7 +98,8 @@ fn depth_below_all(
     rounds: usize,
     names: &[Name],
 ) -> Option<usize>
-    ensures { (n : ℕ) → n < rounds → is_below (n + 1) result ≡ list_all (spec.is_known predicates.now (below n depths.now)) names.now }
+    ensures { (n : ℕ) → n < rounds → is_below (n + 1) result ≡
+        list_all (spec.is_known predicates.now (below n depths.now)) names.now }
 {
     let mut deepest = 0;
     for name in names {
@@ -115,7 +118,8 @@ pub fn depth_of(
     rounds: usize,
     d: &PredicateDraft,
 ) -> Option<usize>
-    ensures { (n : ℕ) → n < rounds → is_below (n + 1) result ≡ spec.is_sound predicates.now (below n depths.now) d.now }
+    ensures { (n : ℕ) → n < rounds →
+        is_below (n + 1) result ≡ spec.is_sound predicates.now (below n depths.now) d.now }
 {
     if d.whole {
         depth_below_all(predicates, depths, rounds, d.uses.as_slice())

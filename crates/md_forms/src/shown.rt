@@ -58,8 +58,8 @@ fn shown(alloc: Global, form: &Entry, number: usize) -> Result<Name, Memory>
     }
 }
 
-/// The names under which the forms of a description are shown, in order: each its own, or else its head, `@`, and its number among
-/// the forms of that head.
+/// The names under which the forms of a description are shown, in order: each its own, or else its
+/// head, `@`, and its number among the forms of that head.
 #[tactic(auto, using(crate::proofs::ShownNames::named_ends, crate::proofs::CountLaws::few))]
 pub fn names_of(alloc: Global, forms: &[Entry]) -> Result<Items<Name>, Memory>
     ensures names { IfOk result (λ names. names ≡ spec.names_of forms.now) }

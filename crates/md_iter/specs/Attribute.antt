@@ -44,7 +44,8 @@ entry_for value entries = option_map (λ e. e.text) (find (λ e. bytes_eq e.valu
 -- the first attribute of a kind and a name
 abbrev pub attribute_named : DefinitionKind → List ℕ → List IteratorAttribute →
     Option IteratorAttribute
-attribute_named kind name attributes = find (λ a. same_kind a.kind kind && bytes_eq a.name name) attributes
+attribute_named kind name attributes =
+    find (λ a. same_kind a.kind kind && bytes_eq a.name name) attributes
 
 abbrev pub defined : Definitions → DefinitionKind → List ℕ → List ℕ → Option (List ℕ)
 defined definitions kind name value = option_and_then (λ a. entry_for value a.entries) (attribute_named kind name definitions.attributes)
@@ -63,13 +64,15 @@ abbrev pub of_any : Definitions → List ℕ → List Chosen → Option (List �
 of_any definitions name choice = first_of (at_value definitions name) choice
 
 abbrev pub at_named : Definitions → List ℕ → List ℕ → Chosen → Option (List ℕ)
-at_named definitions iterator name c = if bytes_eq c.iterator.name iterator then at_value definitions name c else None
+at_named definitions iterator name c =
+    if bytes_eq c.iterator.name iterator then at_value definitions name c else None
 
 -- <ITERATOR:NAME>: the attribute of this iterator
 abbrev pub of_one : Definitions → List ℕ → List ℕ → List Chosen → Option (List ℕ)
 of_one definitions iterator name choice = first_of (at_named definitions iterator name) choice
 
-abbrev pub by_parts : Definitions → List Chosen → List ℕ → Option (List ℕ × List ℕ) → Option (List ℕ)
+abbrev pub by_parts : Definitions → List Chosen → List ℕ → Option (List ℕ × List ℕ) →
+    Option (List ℕ)
 by_parts definitions choice text (Some parts) = of_one definitions parts.0 parts.1 choice
 by_parts definitions choice text None = of_any definitions text choice
 

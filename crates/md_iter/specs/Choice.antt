@@ -33,10 +33,12 @@ abbrev pub added : List FormIterator → Option FormIterator → List FormIterat
 added used None = used
 added used (Some i) = if list_any (is_iterator i.kind i.name) used then used else used ++ i ∷ []
 
--- An atom uses a code iterator as the code of a list's head, a mode iterator behind a colon, and an integer iterator as the whole
--- atom elsewhere.
-abbrev pub used_by_parts : List FormIterator → Bool → List ℕ → Option (List ℕ × List ℕ) → List (Option FormIterator)
-used_by_parts iterators true text (Some parts) = iterator_named Code parts.0 iterators ∷ iterator_named Mode parts.1 iterators ∷ []
+-- An atom uses a code iterator as the code of a list's head, a mode iterator behind a colon, and an
+-- integer iterator as the whole atom elsewhere.
+abbrev pub used_by_parts : List FormIterator → Bool → List ℕ → Option (List ℕ × List ℕ) →
+    List (Option FormIterator)
+used_by_parts iterators true text (Some parts) =
+    iterator_named Code parts.0 iterators ∷ iterator_named Mode parts.1 iterators ∷ []
 used_by_parts iterators true text None = iterator_named Code text iterators ∷ []
 used_by_parts iterators false text (Some parts) = iterator_named Mode parts.1 iterators ∷ []
 used_by_parts iterators false text None = iterator_named Int text iterators ∷ []
@@ -50,19 +52,23 @@ from_head is_head [] = []
 from_head is_head (x ∷ xs) = x is_head ∷ from_head false xs
 
 -- what the atoms of a tree use, in the order of the text; whether the tree is the head of a list
-abbrev pub uses_step : List FormIterator → Tree-F (Bool → List (Option FormIterator)) → Bool → List (Option FormIterator)
+abbrev pub uses_step : List FormIterator → Tree-F (Bool → List (Option FormIterator)) → Bool →
+    List (Option FormIterator)
 uses_step iterators (Tree-F.Atom place text) is_head = used_by_atom iterators is_head text
 uses_step iterators (Tree-F.Str place text) is_head = []
 uses_step iterators (Tree-F.Block place text) is_head = []
-uses_step iterators (Tree-F.List place items) is_head = flat_map (λ uses. uses) (from_head true items)
-uses_step iterators (Tree-F.Vector place items) is_head = flat_map (λ uses. uses) (from_head false items)
+uses_step iterators (Tree-F.List place items) is_head =
+    flat_map (λ uses. uses) (from_head true items)
+uses_step iterators (Tree-F.Vector place items) is_head =
+    flat_map (λ uses. uses) (from_head false items)
 
 abbrev pub uses : List FormIterator → Tree → Bool → List (Option FormIterator)
 uses iterators = fold-Tree (Bool → List (Option FormIterator)) (uses_step iterators)
 
 -- what some trees use, the first of which may be the head of a list
 abbrev pub uses_of : List FormIterator → List Tree → Bool → List (Option FormIterator)
-uses_of iterators trees head_first = flat_map (λ uses. uses) (from_head head_first (map (uses iterators) trees))
+uses_of iterators trees head_first =
+    flat_map (λ uses. uses) (from_head head_first (map (uses iterators) trees))
 
 -- the iterators of a form, each once, in the order in which atoms use them first
 abbrev pub iterators_of : List FormIterator → Tree → List FormIterator

@@ -1,5 +1,6 @@
--- The definitions of iterators, of their attributes and of constants: GCC Internals, "Iterators" ("Mode Iterators", "Code
--- Iterators", "Int Iterators") and "Constants". Each is a list of just its parts; any other tree is a form.
+-- The definitions of iterators, of their attributes and of constants: GCC Internals, "Iterators"
+-- ("Mode Iterators", "Code Iterators", "Int Iterators") and "Constants". Each is a list of just its
+-- parts; any other tree is a form.
 use Rattle.std.specs.Prelude.{ℕ, ℤ, ◌==◌, Bool, true, false, ◌&&◌, not, List, [], ◌∷◌, Option, Some, None, if◌then◌else◌, option_map, option_and_then, codes}
 use Rattle.std.specs.List.{filter_map, flat_map}
 use Rattle.std.specs.Option.{is_some, unwrap_or}
@@ -17,7 +18,8 @@ use Rattle.md_iter.specs.declared.definition.Definitions.{Definitions}
 use Rattle.md_iter.specs.Shape.{atom_of, string_of, items_of, vector_of}
 use Rattle.text_words.specs.Numbers.{c_number_in}
 
--- the number that a constant is defined as: one of C, with a minus in front or none, in 64 bits that are read as signed
+-- the number that a constant is defined as: one of C, with a minus in front or none, in 64 bits
+-- that are read as signed
 abbrev pub number_in : List ℕ → Option ℤ
 number_in [] = None
 number_in (b ∷ bs) =
@@ -57,7 +59,8 @@ value_under parts = record { name = parts.0; condition = parts.1 }
 
 -- NAME or (NAME "condition")
 abbrev pub value_of : Tree → Option Value
-value_of t = either (option_map bare_value (atom_of t)) (option_map value_under (named_text (items_of t)))
+value_of t =
+    either (option_map bare_value (atom_of t)) (option_map value_under (named_text (items_of t)))
 
 abbrev pub entry_from : List ℕ × List ℕ → Entry
 entry_from parts = record { value = parts.0; text = parts.1 }
@@ -120,7 +123,9 @@ constants_of t = option_and_then (each_of constant_of) (constant_trees (items_of
 
 -- a tree that is none of these, a definition with missing or wrong parts among them
 abbrev pub is_form : Tree → Bool
-is_form t = not (is_some (iterator_of t)) && not (is_some (attribute_of t)) && not (is_some (constants_of t))
+is_form t =
+    not (is_some (iterator_of t)) && not (is_some (attribute_of t)) &&
+    not (is_some (constants_of t))
 
 -- ---- all definitions of a text, wherever they stand
 

@@ -19,7 +19,8 @@ most_forms = 20000
 
 -- a form once for each choice of values of the iterators that it uses
 abbrev pub forms_of_form : Definitions → Tree → List Instance
-forms_of_form definitions form = map (form_under definitions form) (choices (iterators_of definitions.iterators form))
+forms_of_form definitions form =
+    map (form_under definitions form) (choices (iterators_of definitions.iterators form))
 
 abbrev pub forms_of_tree : Definitions → Tree → List Instance
 forms_of_tree definitions t = if is_form t then forms_of_form definitions t else []
@@ -39,6 +40,8 @@ pub record PassesAt (definitions : Definitions) (trees : List Tree) (at : ℕ) :
 
 -- what is told is given; a refusal is the one that is told; want of memory is free
 abbrev pub Gives : List Tree → Result Expanded IterRefusal → Type 0
-Gives trees (Ok e) = (e.forms ≡ forms_of trees) × (e.constants ≡ all_constants_in trees) × (length (forms_of trees) ≤ most_forms)
+Gives trees (Ok e) =
+    (e.forms ≡ forms_of trees) × (e.constants ≡ all_constants_in trees) ×
+    (length (forms_of trees) ≤ most_forms)
 Gives trees (Err (refusal.Limit at)) = PassesAt (definitions_in trees) trees at
 Gives trees (Err refusal.Memory) = Unit {0}

@@ -1,4 +1,5 @@
--- A form with the values of a choice in the places of its iterators: GCC Internals, "Iterators" and "Constants".
+-- A form with the values of a choice in the places of its iterators: GCC Internals, "Iterators" and
+-- "Constants".
 use Rattle.std.specs.Prelude.{ℕ, ℤ, Bool, true, false, List, ◌∷◌, ◌++◌, Option, Some, None, if◌then◌else◌, map, option_map}
 use Rattle.std.specs.List.{find}
 use Rattle.std.specs.Option.{unwrap_or}
@@ -21,7 +22,8 @@ use Rattle.md_iter.specs.Angles.{filled}
 
 -- the value of the iterator of a kind and a name
 abbrev pub value_named : List Chosen → DefinitionKind → List ℕ → Option (List ℕ)
-value_named choice kind name = option_map (λ c. c.value.name) (find (λ c. is_iterator kind name c.iterator) choice)
+value_named choice kind name =
+    option_map (λ c. c.value.name) (find (λ c. is_iterator kind name c.iterator) choice)
 
 -- that value, or the name as it stands
 abbrev pub value_or_name : List Chosen → DefinitionKind → List ℕ → List ℕ
@@ -33,7 +35,8 @@ code_under choice is_head code = if is_head then value_or_name choice Code code 
 
 -- an atom with a colon, behind which the mode stands
 abbrev pub with_mode : List Chosen → Bool → List ℕ → List ℕ → List ℕ
-with_mode choice is_head code mode = code_under choice is_head code ++ (58 ∷ value_or_name choice Mode mode)
+with_mode choice is_head code mode =
+    code_under choice is_head code ++ (58 ∷ value_or_name choice Mode mode)
 
 -- an atom without a colon: the code of a list's head, or an integer
 abbrev pub without_mode : List Chosen → Bool → List ℕ → List ℕ
@@ -53,38 +56,48 @@ filled_text definitions choice text = filled (filling definitions choice) text
 
 -- the first constant of a name
 abbrev pub constant_named : List ℕ → List Constant → Option ℤ
-constant_named name constants = option_map (λ c. c.number) (find (λ c. bytes_eq c.name name) constants)
+constant_named name constants =
+    option_map (λ c. c.number) (find (λ c. bytes_eq c.name name) constants)
 
 -- a constant's name that isn't a head is its number
 abbrev pub with_constant : List Constant → Bool → List ℕ → List ℕ
 with_constant constants true text = text
-with_constant constants false text = unwrap_or (option_map signed_decimal (constant_named text constants)) text
+with_constant constants false text =
+    unwrap_or (option_map signed_decimal (constant_named text constants)) text
 
 abbrev pub atom_text : Definitions → List Chosen → Bool → List ℕ → List ℕ
 atom_text definitions choice is_head text = with_constant definitions.constants is_head (filled_text definitions choice (with_values choice is_head text))
 
 -- ---- trees
 
--- The same tree with other texts. In strings and blocks only <..> is replaced. The first tree of a list is its head.
+-- The same tree with other texts. In strings and blocks only <..> is replaced. The first tree of a
+-- list is its head.
 abbrev pub substituted_step : Definitions → List Chosen → Tree-F (Bool → Tree) → Bool → Tree
-substituted_step definitions choice (Tree-F.Atom place text) is_head = roll-Tree (Tree-F.Atom place (atom_text definitions choice is_head text))
-substituted_step definitions choice (Tree-F.Str place text) is_head = roll-Tree (Tree-F.Str place (filled_text definitions choice text))
-substituted_step definitions choice (Tree-F.Block place text) is_head = roll-Tree (Tree-F.Block place (filled_text definitions choice text))
-substituted_step definitions choice (Tree-F.List place items) is_head = roll-Tree (Tree-F.List place (from_head true items))
-substituted_step definitions choice (Tree-F.Vector place items) is_head = roll-Tree (Tree-F.Vector place (from_head false items))
+substituted_step definitions choice (Tree-F.Atom place text) is_head =
+    roll-Tree (Tree-F.Atom place (atom_text definitions choice is_head text))
+substituted_step definitions choice (Tree-F.Str place text) is_head =
+    roll-Tree (Tree-F.Str place (filled_text definitions choice text))
+substituted_step definitions choice (Tree-F.Block place text) is_head =
+    roll-Tree (Tree-F.Block place (filled_text definitions choice text))
+substituted_step definitions choice (Tree-F.List place items) is_head =
+    roll-Tree (Tree-F.List place (from_head true items))
+substituted_step definitions choice (Tree-F.Vector place items) is_head =
+    roll-Tree (Tree-F.Vector place (from_head false items))
 
 abbrev pub substituted : Definitions → List Chosen → Tree → Bool → Tree
 substituted definitions choice = fold-Tree (Bool → Tree) (substituted_step definitions choice)
 
 -- some trees, the first of which may be the head of a list
 abbrev pub substituted_trees : Definitions → List Chosen → List Tree → Bool → List Tree
-substituted_trees definitions choice trees head_first = from_head head_first (map (substituted definitions choice) trees)
+substituted_trees definitions choice trees head_first =
+    from_head head_first (map (substituted definitions choice) trees)
 
 -- the conditions of the values: GCC Internals, "Mode Iterators", "Defining Mode Iterators"
 abbrev pub conditions_of : List Chosen → List (List ℕ)
 conditions_of choice = map (λ c. c.value.condition) choice
 
--- a form under a choice of values: with them in the places of the iterators, and with their conditions, which hold besides its own
+-- a form under a choice of values: with them in the places of the iterators, and with their
+-- conditions, which hold besides its own
 abbrev pub form_under : Definitions → Tree → List Chosen → Instance
 form_under definitions form choice = record {
   tree = substituted definitions choice form false;

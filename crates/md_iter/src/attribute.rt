@@ -58,7 +58,8 @@ impl<'a> Filling<'a> {
 }
 
 fn cased<'a>(name: &[u8], capitals: &[u8], small: &[u8], value: &'a [u8]) -> Option<Filling<'a>>
-    ensures { option_map spec.filled_with result ≡ spec.cased name.now capitals.now small.now value.entry.now }
+    ensures { option_map spec.filled_with result ≡
+        spec.cased name.now capitals.now small.now value.entry.now }
 {
     if same(name, capitals) {
         Some(Filling::Capitals(value))
@@ -114,7 +115,8 @@ fn defined<'a>(
     name: &[u8],
     value: &[u8],
 ) -> Option<Filling<'a>>
-    ensures { option_map spec.filled_with result ≡ spec.defined definitions.entry.now kind name.now value.now }
+    ensures { option_map spec.filled_with result ≡
+        spec.defined definitions.entry.now kind name.now value.now }
 {
     let attribute = attribute_named(definitions.attributes.as_slice(), kind, name)?;
     let text = entry_for(attribute.entries.as_slice(), value)?;
@@ -127,7 +129,8 @@ fn at_value<'a>(
     name: &[u8],
     choice: &Choice<'a>,
 ) -> Option<Filling<'a>>
-    ensures { option_map spec.filled_with result ≡ spec.at_value definitions.entry.now name.now (chosen_of choice.now) }
+    ensures { option_map spec.filled_with result ≡
+        spec.at_value definitions.entry.now name.now (chosen_of choice.now) }
 {
     let kind = choice.iterator.kind;
     let value = choice.value.name.bytes();
@@ -143,7 +146,8 @@ fn of_any<'a>(
     name: &[u8],
     choices: &[Choice<'a>],
 ) -> Option<Filling<'a>>
-    ensures { option_map spec.filled_with result ≡ spec.of_any definitions.entry.now name.now (map chosen_of choices.now) }
+    ensures { option_map spec.filled_with result ≡
+        spec.of_any definitions.entry.now name.now (map chosen_of choices.now) }
 {
     for choice in choices {
         let found = at_value(definitions, name, choice);
@@ -161,7 +165,8 @@ fn of_one<'a>(
     name: &[u8],
     choices: &[Choice<'a>],
 ) -> Option<Filling<'a>>
-    ensures { option_map spec.filled_with result ≡ spec.of_one definitions.entry.now iterator.now name.now (map chosen_of choices.now) }
+    ensures { option_map spec.filled_with result ≡
+        spec.of_one definitions.entry.now iterator.now name.now (map chosen_of choices.now) }
 {
     for choice in choices {
         if same(choice.iterator.name.bytes(), iterator) {
@@ -180,7 +185,8 @@ pub fn filling_of<'a>(
     choices: &[Choice<'a>],
     text: &[u8],
 ) -> Option<Filling<'a>>
-    ensures { option_map spec.filled_with result ≡ spec.filling definitions.entry.now (map chosen_of choices.now) text.now }
+    ensures { option_map spec.filled_with result ≡
+        spec.filling definitions.entry.now (map chosen_of choices.now) text.now }
 {
     match cut(text, b':') {
         Some((iterator, name)) => of_one(definitions, iterator, name, choices),

@@ -75,7 +75,8 @@ pub struct Definitions {
 
 /// An atom and a string behind it.
 fn named_text(trees: &[Tree]) -> Option<(&Name, &Name)>
-    ensures { option_map (λ parts. (parts.0.now, parts.1.now)) result ≡ spec.named_text trees.entry.now }
+    ensures { option_map (λ parts. (parts.0.now, parts.1.now)) result ≡
+        spec.named_text trees.entry.now }
 {
     match trees {
         [name, text] => Some((atom(name)?, string(text)?)),
@@ -116,7 +117,8 @@ fn entry_in(alloc: Global, tree: &Tree) -> Result<Option<Entry>, Memory>
 }
 
 fn named_number(trees: &[Tree]) -> Option<(&Name, i64)>
-    ensures { option_map (λ parts. (parts.0.now, parts.1)) result ≡ spec.named_number trees.entry.now }
+    ensures { option_map (λ parts. (parts.0.now, parts.1)) result ≡
+        spec.named_number trees.entry.now }
 {
     match trees {
         [name, number] => Some((atom(name)?, number_in(atom(number)?.bytes())?)),
@@ -211,7 +213,8 @@ fn attribute_kind(head: &[u8]) -> Option<DefinitionKind>
 
 /// `(HEAD NAME [..])`.
 fn named_vector(trees: &[Tree]) -> Option<(&Name, &Name, &[Tree])>
-    ensures { option_map (λ parts. (parts.0.now, parts.1.now, parts.2.now)) result ≡ spec.named_vector trees.entry.now }
+    ensures { option_map (λ parts. (parts.0.now, parts.1.now, parts.2.now)) result ≡
+        spec.named_vector trees.entry.now }
 {
     match trees {
         [head, name, parts] => Some((atom(head)?, atom(name)?, vector(parts)?)),

@@ -20,7 +20,8 @@ const MOST_FORMS: usize = 20_000;
 pub struct Expanded {
     /// The forms, in order.
     pub forms: Items<Instance>,
-    /// All constants that the description defines, in order. Of a name that stands twice the first counts.
+    /// All constants that the description defines, in order. Of a name that stands twice the first
+    /// counts.
     pub constants: Constants,
 }
 
@@ -115,12 +116,13 @@ fn expand_trees(
 
 /// The forms of a description, in the order of its trees, and its constants.
 ///
-/// Definitions of iterators, of their attributes and of constants are taken out and hold for the whole
-/// text, wherever they stand; of a name that is defined twice the first definition counts. A definition
-/// whose parts are missing, too many or of the wrong kind is a form like all other trees. A form stands
-/// once for each choice of values of the iterators that its atoms use, the first of them varying slowest,
-/// with the values' conditions beside it. `Limit` is answered exactly where there are more than
-/// 20,000 forms, with the tree that passes this number, or `Memory`.
+/// Definitions of iterators, of their attributes and of constants are taken out and hold for the
+/// whole text, wherever they stand; of a name that is defined twice the first definition counts. A
+/// definition whose parts are missing, too many or of the wrong kind is a form like all other
+/// trees. A form stands once for each choice of values of the iterators that its atoms use, the
+/// first of them varying slowest, with the values' conditions beside it. `Limit` is answered
+/// exactly where there are more than 20,000 forms, with the tree that passes this number, or
+/// `Memory`.
 pub fn expand_forms(alloc: Global, trees: &[Tree]) -> Result<Expanded, IterRefusal>
     ensures { spec.Gives trees.now result }
 {

@@ -1,11 +1,11 @@
 //! Expands the forms of a machine description over its iterators.
 //!
-//! A description defines iterators (of modes, codes and integers), attributes that give each value of an
-//! iterator a text, and constants. [`expand_forms`] takes these definitions out and gives all other trees,
-//! the forms, in order: each of them once for every choice of values of the iterators that it uses, the
-//! first of them varying slowest, with the conditions of these values (`specs/Expansion.antt`). It answers [`IterRefusal::Limit`] exactly where
-//! that makes more than 20,000 forms, with the tree that passes this number, and before it makes the forms
-//! of that tree.
+//! A description defines iterators (of modes, codes and integers), attributes that give each value
+//! of an iterator a text, and constants. [`expand_forms`] takes these definitions out and gives all
+//! other trees, the forms, in order: each of them once for every choice of values of the iterators
+//! that it uses, the first of them varying slowest, with the conditions of these values
+//! (`specs/Expansion.antt`). It answers [`IterRefusal::Limit`] exactly where that makes more than
+//! 20,000 forms, with the tree that passes this number, and before it makes the forms of that tree.
 #![tactic(auto)]
 
 mod angles;

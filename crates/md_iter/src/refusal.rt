@@ -5,7 +5,8 @@ use thiserror::Error;
 /// Why a description was not expanded.
 #[derive(Clone, Copy, Debug, PartialEq, Eq, Error)]
 pub enum IterRefusal {
-    /// There are more than 20,000 forms. This tree, counted from 0, is the one that passes that number.
+    /// There are more than 20,000 forms. This tree, counted from 0, is the one that passes that
+    /// number.
     #[error("too many forms")]
     Limit { form: u32 },
     #[error("out of memory")]

@@ -21,8 +21,8 @@ use text_words::same;
 pub struct Instance {
     /// The form's tree.
     pub tree: Tree,
-    /// The conditions of the values, in the order of the iterators. Where the form has a condition, they hold besides it. The
-    /// empty condition is always true.
+    /// The conditions of the values, in the order of the iterators. Where the form has a condition,
+    /// they hold besides it. The empty condition is always true.
     pub conditions: Items<Name>,
 }
 

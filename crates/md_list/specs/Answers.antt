@@ -6,7 +6,8 @@ use Rattle.md_list.specs.declared.refusal.ListRefusal.{ListRefusal}
 use Rattle.md_list.specs.declared.refusal.ListRefusal.TheVariants as refusal
 
 -- a text or a refusal has a property; a fault and want of memory have theirs elsewhere
-abbrev pub GivesList : (Result (List ℕ) ListRefusal → Type 0) → Result (Vec ℕ Global) ListRefusal → Type 0
+abbrev pub GivesList : (Result (List ℕ) ListRefusal → Type 0) → Result (Vec ℕ Global) ListRefusal →
+    Type 0
 GivesList P (Ok text) = P (Ok text.items)
 GivesList P (Err refusal.Memory) = Unit {0}
 GivesList P (Err (refusal.Source source.ReadFault)) = Unit {0}

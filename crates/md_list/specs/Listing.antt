@@ -1,5 +1,6 @@
--- The list of a description's forms: a line for each, with its number, its head, its name, and whether it is accepted or why it is set
--- aside. The lines are this project's own; GCC has no such list.
+-- The list of a description's forms: a line for each, with its number, its head, its name, and
+-- whether it is accepted or why it is set aside. The lines are this project's own; GCC has no such
+-- list.
 use Rattle.std.specs.Prelude.{◌≤◌, ◌<◌, ℕ, ◌+◌, List, [], ◌∷◌, ◌++◌, codes, length, Result, Ok, Err}
 use Rattle.std.specs.Fmt.{decimal}
 use Rattle.lisp_read.specs.declared.tree.Tree.{Tree}
@@ -21,11 +22,13 @@ verdict (Err reason) = codes "aside " ++ decimal (number_of reason)
 
 -- the line of a form
 abbrev pub line_with : ℕ → List ℕ → List ℕ → Result Form Reason → List ℕ
-line_with index head name form = decimal index ++ (32 ∷ (head ++ (32 ∷ (name ++ (32 ∷ (verdict form ++ 10 ∷ []))))))
+line_with index head name form =
+    decimal index ++ (32 ∷ (head ++ (32 ∷ (name ++ (32 ∷ (verdict form ++ 10 ∷ []))))))
 
 -- the lines of some forms that are shown under some names, numbered from a number on
 abbrev pub lines_from : ℕ → List Entry → List (List ℕ) → List ℕ
-lines_from index (e ∷ es) (name ∷ names) = line_with index e.head name e.form ++ lines_from (index + 1) es names
+lines_from index (e ∷ es) (name ∷ names) =
+    line_with index e.head name e.form ++ lines_from (index + 1) es names
 lines_from index _ _ = []
 
 -- the lines of all forms, in order
@@ -36,8 +39,12 @@ list_of es = lines_from 0 es (names_of es)
 abbrev pub list_of_trees : List Tree → List ℕ
 list_of_trees trees = list_of (forms_of trees)
 
--- What the list of a description comes to, by what is known of the files: its text, or the refusal. The files are read first.
+-- What the list of a description comes to, by what is known of the files: its text, or the refusal.
+-- The files are read first.
 pub data ListComes (source : Source) (name : List ℕ) : Result (List ℕ) ListRefusal → Type 0 where
-  refused : (e : SourceRefusal) → DescriptionComes source name (Err e) → ListComes source name (Err (refusal.Source e))
-  too_many : (trees : List Tree) → DescriptionComes source name (Ok trees) → most_forms < length (expanded trees) → ListComes source name (Err refusal.Forms)
-  listed : (trees : List Tree) → DescriptionComes source name (Ok trees) → length (expanded trees) ≤ most_forms → ListComes source name (Ok (list_of_trees trees))
+  refused : (e : SourceRefusal) → DescriptionComes source name (Err e) →
+      ListComes source name (Err (refusal.Source e))
+  too_many : (trees : List Tree) → DescriptionComes source name (Ok trees) →
+      most_forms < length (expanded trees) → ListComes source name (Err refusal.Forms)
+  listed : (trees : List Tree) → DescriptionComes source name (Ok trees) →
+      length (expanded trees) ≤ most_forms → ListComes source name (Ok (list_of_trees trees))

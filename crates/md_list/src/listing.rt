@@ -42,27 +42,32 @@ fn list_trees(alloc: Global, trees: &[Tree]) -> Result<Vec<u8>, ListRefusal>
     }
 }
 
-/// The list of the description of a name: `rv64im` is the shipped one, any other name is asked of the files.
+/// The list of the description of a name: `rv64im` is the shipped one, any other name is asked of
+/// the files.
 ///
 /// # Errors
 ///
-/// `Source` where the files of the description are refused, as [`gather`] says; `Forms` exactly where there are more than 20,000
-/// forms; `Memory` where memory ran out.
+/// `Source` where the files of the description are refused, as [`gather`] says; `Forms` exactly
+/// where there are more than 20,000 forms; `Memory` where memory ran out.
 pub fn list<F: Files>(alloc: Global, files: &mut F, name: &[u8]) -> Result<Vec<u8>, ListRefusal>
     // The answer is what the list comes to, by all that is known of the files, unless memory ran out or they failed.
-    ensures gives { (source : Source) → Agrees source (F.holds files.old) → GivesList (spec.ListComes source name.now) result }
+    ensures gives { (source : Source) → Agrees source (F.holds files.old) →
+        GivesList (spec.ListComes source name.now) result }
 
     // By files of which all that the description is made of is known, it comes to one answer.
     ensures one { (source : Source) → IsKnown source name.now → (a b : Result (List ℕ) ListRefusal) →
         spec.ListComes source name.now a → spec.ListComes source name.now b → a ≡ b }
 
     // Files are asked only for what is named, and stay as they are.
-    ensures asked { (source : Source) → Agrees source (F.holds files.old) → GrewBy (AreNamed source name.now) (F.asked files.old) (F.asked files.new) }
+    ensures asked { (source : Source) → Agrees source (F.holds files.old) →
+        GrewBy (AreNamed source name.now) (F.asked files.old) (F.asked files.new) }
     ensures same { (n bytes : List ℕ) → F.holds files.new n bytes ↔ F.holds files.old n bytes }
 
     // Faults are counted.
-    ensures fault { result ≡ Err (refused.Source source_refusal.ReadFault) → Rose (F.fault_count files.old) (F.fault_count files.new) }
-    ensures quiet { result ≢ Err (refused.Source source_refusal.ReadFault) → F.fault_count files.new ≡ F.fault_count files.old }
+    ensures fault { result ≡ Err (refused.Source source_refusal.ReadFault) →
+        Rose (F.fault_count files.old) (F.fault_count files.new) }
+    ensures quiet { result ≢ Err (refused.Source source_refusal.ReadFault) →
+        F.fault_count files.new ≡ F.fault_count files.old }
 {
     match gather(alloc, files, name) {
         Ok(trees) => list_trees(alloc, trees.as_slice()),

@@ -15,8 +15,9 @@ pub record IsScratch (mode : Mode) (x : Rtx) : Type 0 where
   pub code_is : ((head_of x).code ≡ Scratch) ⊎ ((head_of x).code ≡ Reg)
   pub mode_is : (mode ≡ Void) ⊎ ((head_of x).mode ≡ mode)
 
--- What is asked of a placeholder's operand, by the placeholder's code. An operator's operand is the whole expression that stands in
--- the placeholder's place, and does not agree with it in the head alone.
+-- What is asked of a placeholder's operand, by the placeholder's code. An operator's operand is the
+-- whole expression that stands in the placeholder's place, and does not agree with it in the head
+-- alone.
 abbrev pub IsAskedAs : Code → Ops → Rtx → Type 0
 IsAskedAs MatchScratch operands x = IfSome (operand_of x operands) (IsScratch (head_of x).mode)
 IsAskedAs MatchOperator operands x = operand_of x operands ≡ instantiated x operands
@@ -30,14 +31,15 @@ IsAsked operands x = IsAskedAs (head_of x).code operands x
 abbrev pub IsShort : Ops → Type 0
 IsShort operands = (k : ℕ) → length operands ≡ suc k → IsSome (operand_at operands k)
 
--- The operands are as a match of some patterns gives them: each is what its placeholder asks for, and there are no others than
--- those that the patterns give.
+-- The operands are as a match of some patterns gives them: each is what its placeholder asks for,
+-- and there are no others than those that the patterns give.
 pub record Suits (patterns : List Rtx) (operands : Ops) : Type 0 where
   pub asked : AllByRecursion (IsAsked operands) (flat_map placeholders patterns)
   pub given : (k : ℕ) → IsSome (operand_at operands k) → is_given k patterns ≡ true
   pub short : IsShort operands
 
--- Some patterns match as many expressions with these operands, which they share: the expressions are the patterns with the operands put in.
+-- Some patterns match as many expressions with these operands, which they share: the expressions
+-- are the patterns with the operands put in.
 pub record Matches (patterns insns : List Rtx) (operands : Ops) : Type 0 where
   pub made : all_instantiated patterns operands ≡ Some insns
   pub suits : Suits patterns operands

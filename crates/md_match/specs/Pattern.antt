@@ -1,6 +1,7 @@
--- Patterns and what they make of operands: GCC Internals, "RTL Template". A pattern is an expression in which placeholders
--- stand for operands: `match_operand`, `match_scratch` and `match_operator`, each of which gives an operand its number, and
--- `match_dup` and `match_op_dup`, which repeat one. A placeholder's `number` is the operand's.
+-- Patterns and what they make of operands: GCC Internals, "RTL Template". A pattern is an
+-- expression in which placeholders stand for operands: `match_operand`, `match_scratch` and
+-- `match_operator`, each of which gives an operand its number, and `match_dup` and `match_op_dup`,
+-- which repeat one. A placeholder's `number` is the operand's.
 use Rattle.std.specs.Prelude.{ℕ, ℤ, pos, negsuc, Bool, true, false, ◌&&◌, List, [], ◌∷◌, map, flat_map, Option, Some, None, option_map, option_and_then, is_none}
 use Rattle.std.specs.List.{list_any}
 use Rattle.std.specs.Ordering.{int_eq}
@@ -87,14 +88,16 @@ abbrev pub all_some : {A : Type 0} → List (Option A) → Option (List A)
 all_some [] = Some []
 all_some (o ∷ os) = option_and_then (λ x. option_map (λ xs. x ∷ xs) (all_some os)) o
 
--- An operand is put in whole. For an operator stands the operand's head with the parts that the pattern has there.
+-- An operand is put in whole. For an operator stands the operand's head with the parts that the
+-- pattern has there.
 abbrev pub instantiated_as : Role → Ops → RtxHead → Option (List Rtx) → Option Rtx
 instantiated_as Operand operands h parts = operand_numbered operands h.number
 instantiated_as Operator operands h parts = option_and_then (λ x. option_map (tree_of (head_of x)) parts) (operand_numbered operands h.number)
 instantiated_as Itself operands h parts = option_map (tree_of h) parts
 
 abbrev pub instantiated_step : Ops → Rtx-F (Option Rtx) → Option Rtx
-instantiated_step operands x = instantiated_as (role_of x.code) operands (layer_head x) (all_some x.kids)
+instantiated_step operands x =
+    instantiated_as (role_of x.code) operands (layer_head x) (all_some x.kids)
 
 -- the pattern with the operands put in, or none where one is missing
 unfoldable pub instantiated : Rtx → Ops → Option Rtx

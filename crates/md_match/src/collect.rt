@@ -9,8 +9,8 @@ use plain_data::Memory;
 use rtx_tree::{Operands, Rtx};
 use std::alloc::Global;
 
-/// The operands, with those that the pattern gives where they were missing; `None` only where no operands make the expression of
-/// the pattern.
+/// The operands, with those that the pattern gives where they were missing; `None` only where no
+/// operands make the expression of the pattern.
 #[cycle(collecting)]
 #[tactic(auto, using(crate::proofs::Collecting::itself_nowhere))]
 fn collect(
@@ -72,8 +72,8 @@ fn collect_all(
     Ok(Some(operands))
 }
 
-/// The operands, with those that some patterns give where they were missing; `None` only where no operands make the expressions of the
-/// patterns, one each.
+/// The operands, with those that some patterns give where they were missing; `None` only where no
+/// operands make the expressions of the patterns, one each.
 #[tactic(auto, using(crate::proofs::Reaching::reaches_start, crate::proofs::Reaching::reaches_next, crate::proofs::Reaching::reaches_none, crate::proofs::Reaching::reaches_end, crate::proofs::Reaching::other_length))]
 pub fn collect_each(
     alloc: Global,

@@ -9,9 +9,10 @@ use plain_data::{Items, Memory};
 use rtx_tree::{Kids, Operands, Rtx};
 use std::alloc::Global;
 
-/// The pattern with the operands put in: an operand stands in the place of its placeholders and dups, and for an operator stands
-/// the operand's code with the parts that the pattern has there. `None` exactly where an operand that the pattern names is
-/// missing. Where the operands suit the pattern, it matches what is made of it with the same operands.
+/// The pattern with the operands put in: an operand stands in the place of its placeholders and
+/// dups, and for an operator stands the operand's code with the parts that the pattern has there.
+/// `None` exactly where an operand that the pattern names is missing. Where the operands suit the
+/// pattern, it matches what is made of it with the same operands.
 #[tactic(auto, using(crate::proofs::Lacking::none_where_lacking, crate::proofs::OnePattern::matches_one))]
 pub fn instantiate(alloc: Global, pattern: &Rtx, operands: &Operands) -> Result<Option<Rtx>, Memory>
     ensures made { IfOk result (λ r. r ≡ instantiated pattern.now operands.now) }

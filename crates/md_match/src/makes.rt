@@ -9,7 +9,8 @@ ghost use Rattle.md_match.specs.machine.Collected.{Makes, MakesAll, Names, Names
 use crate::role::{Role, operand_of, role_of};
 use rtx_tree::{Code, Mode, Operands, Rtx, same};
 
-/// Whether the pattern with the operands put in is the expression, and each operand is what its placeholder asks for.
+/// Whether the pattern with the operands put in is the expression, and each operand is what its
+/// placeholder asks for.
 #[cycle(making)]
 #[tactic(auto, using(crate::proofs::Decided::operator_not_named, crate::proofs::Decided::operator_decided, crate::proofs::Decided::itself_other, crate::proofs::Decided::itself_decided))]
 fn makes(pattern: &Rtx, insn: &Rtx, operands: &Operands) -> bool
@@ -49,7 +50,8 @@ fn makes_all(patterns: &[Rtx], insns: &[Rtx], operands: &Operands) -> bool
     true
 }
 
-/// Whether some patterns with the operands put in are the expressions, one each, and each operand is what its placeholder asks for.
+/// Whether some patterns with the operands put in are the expressions, one each, and each operand
+/// is what its placeholder asks for.
 #[tactic(auto, using(crate::proofs::Parts::other_length, crate::proofs::Parts::decides_start, crate::proofs::Parts::decides_next, crate::proofs::Parts::decides_not, crate::proofs::Parts::decides_end))]
 pub fn makes_each(patterns: &[Rtx], insns: &[&Rtx], operands: &Operands) -> bool
     ensures { IsTrue result ↔ MakesAll patterns.now (map (λ insn. insn.now) insns.now) operands.now }

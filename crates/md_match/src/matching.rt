@@ -13,8 +13,9 @@ use std::alloc::Global;
 use std::slice;
 use std::sync::ledger::Ledger;
 
-/// The operands with which some patterns, which share them, are the expressions, one each, predicates aside, or `None` exactly where there are
-/// none such. They are those that the patterns give, and their list ends with the one of the greatest number. Each call is one step.
+/// The operands with which some patterns, which share them, are the expressions, one each,
+/// predicates aside, or `None` exactly where there are none such. They are those that the patterns
+/// give, and their list ends with the one of the greatest number. Each call is one step.
 #[tactic(auto, using(crate::proofs::Unique::nowhere))]
 pub fn match_shapes<L: Ledger>(
     alloc: Global,
@@ -24,7 +25,8 @@ pub fn match_shapes<L: Ledger>(
 ) -> Result<Option<Operands>, Memory>
     ensures operands { IfOk result (λ r. (operands : Ops) → (r ≡ Some operands) ↔ Matches patterns.now (map (λ insn. insn.now) insns.now) operands) }
     ensures step { steps.new ≡ steps.old + 1 }
-    ensures one { (patterns insns : List Rtx) (a b : Ops) → Matches patterns insns a → Matches patterns insns b → a ≡ b }
+    ensures one { (patterns insns : List Rtx) (a b : Ops) → Matches patterns insns a →
+        Matches patterns insns b → a ≡ b }
 {
     steps.tick();
     let Some(operands) = collect_each(alloc, patterns, insns, Operands::new(alloc))? else {
@@ -37,8 +39,8 @@ pub fn match_shapes<L: Ledger>(
     }
 }
 
-/// The operands with which one pattern is one expression, predicates aside, or `None` exactly where there are none such. Each call is one
-/// step.
+/// The operands with which one pattern is one expression, predicates aside, or `None` exactly where
+/// there are none such. Each call is one step.
 pub fn match_shape<L: Ledger>(
     alloc: Global,
     pattern: &Rtx,

@@ -4,7 +4,8 @@ use Rattle.md_forms.specs.declared.form.Entry.{Entry}
 use Rattle.run_refusal.specs.declared.refusal.Refusal.{Refusal}
 use Rattle.run_refusal.specs.declared.refusal.Refusal.TheVariants as refusal
 
--- a refusal has a property; a fault and want of memory have theirs elsewhere, and no words were read and nothing was written
+-- a refusal has a property; a fault and want of memory have theirs elsewhere, and no words were
+-- read and nothing was written
 abbrev pub RefusesForms : Refusal → (Result (List Entry) Refusal → Type 0) → Type 0
 RefusesForms refusal.Memory P = Unit {0}
 RefusesForms refusal.ReadFault P = Unit {0}

@@ -1,4 +1,5 @@
--- What the description of a name comes to: its forms, or the first refusal. Its files are read first, and then its forms are counted.
+-- What the description of a name comes to: its forms, or the first refusal. Its files are read
+-- first, and then its forms are counted.
 use Rattle.std.specs.Prelude.{◌≤◌, ◌<◌, List, ℕ, length, Result, Ok, Err}
 use Rattle.rtx_tree.specs.declared.limit.Limit.TheVariants as limit
 use Rattle.lisp_read.specs.declared.tree.Tree.{Tree}
@@ -20,6 +21,10 @@ source_refused source_refusal.ReadFault = refusal.ReadFault
 source_refused source_refusal.Memory = refusal.Memory
 
 pub data FormsCome (source : Source) (name : List ℕ) : Result (List Entry) Refusal → Type 0 where
-  refused : (e : SourceRefusal) → DescriptionComes source name (Err e) → FormsCome source name (Err (source_refused e))
-  too_many : (trees : List Tree) → DescriptionComes source name (Ok trees) → most_forms < length (expanded trees) → FormsCome source name (Err (refusal.Limit limit.Forms 20001))
-  described : (trees : List Tree) → DescriptionComes source name (Ok trees) → length (expanded trees) ≤ most_forms → FormsCome source name (Ok (forms_of trees))
+  refused : (e : SourceRefusal) → DescriptionComes source name (Err e) →
+      FormsCome source name (Err (source_refused e))
+  too_many : (trees : List Tree) → DescriptionComes source name (Ok trees) →
+      most_forms < length (expanded trees) →
+      FormsCome source name (Err (refusal.Limit limit.Forms 20001))
+  described : (trees : List Tree) → DescriptionComes source name (Ok trees) →
+      length (expanded trees) ≤ most_forms → FormsCome source name (Ok (forms_of trees))

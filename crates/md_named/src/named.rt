@@ -59,8 +59,9 @@ fn described(alloc: Global, trees: &[Tree]) -> Result<Description, Refusal>
 ///
 /// # Errors
 ///
-/// `Syntax`, `Limit` of `Depth`, `Include` or `Text`, and `ReadFault` where the files of the description are refused, as [`gather`] says;
-/// `Limit` of `Forms` exactly where there are more than 20,000 forms; `Memory` where memory ran out.
+/// `Syntax`, `Limit` of `Depth`, `Include` or `Text`, and `ReadFault` where the files of the
+/// description are refused, as [`gather`] says; `Limit` of `Forms` exactly where there are more
+/// than 20,000 forms; `Memory` where memory ran out.
 #[tactic(auto, using(crate::proofs::Forms::no_fault, crate::proofs::Forms::is_fault))]
 pub fn description_of<F: Files>(
     alloc: Global,
@@ -68,7 +69,8 @@ pub fn description_of<F: Files>(
     name: &[u8],
 ) -> Result<Description, Refusal>
     // The answer is what the description comes to, by all that is known of the files, unless memory ran out or they failed.
-    ensures gives { (source : Source) → Agrees source (F.holds files.old) → Gives result (spec.FormsCome source name.now) }
+    ensures gives { (source : Source) → Agrees source (F.holds files.old) →
+        Gives result (spec.FormsCome source name.now) }
 
     // By files of which all that the description is made of is known, it comes to one answer.
     ensures one { (source : Source) → IsKnown source name.now → (a b : Result (List Entry) Refusal) →
@@ -76,15 +78,19 @@ pub fn description_of<F: Files>(
 
     // The predicates of forms are what the trees of their definitions say: which tests these are, which predicates are accepted, and
     // which operands those accept.
-    ensures predicates { (constants : List Constant) (forms : List Instance) → PredicatesAre constants forms }
+    ensures predicates { (constants : List Constant) (forms : List Instance) →
+        PredicatesAre constants forms }
 
     // Files are asked only for what is named, and stay as they are.
-    ensures asked { (source : Source) → Agrees source (F.holds files.old) → GrewBy (AreNamed source name.now) (F.asked files.old) (F.asked files.new) }
+    ensures asked { (source : Source) → Agrees source (F.holds files.old) →
+        GrewBy (AreNamed source name.now) (F.asked files.old) (F.asked files.new) }
     ensures same { (n bytes : List ℕ) → F.holds files.new n bytes ↔ F.holds files.old n bytes }
 
     // Faults are counted.
-    ensures fault { result ≡ Err Refusal.ReadFault → Rose (F.fault_count files.old) (F.fault_count files.new) }
-    ensures quiet { result ≢ Err Refusal.ReadFault → F.fault_count files.new ≡ F.fault_count files.old }
+    ensures fault { result ≡ Err Refusal.ReadFault →
+        Rose (F.fault_count files.old) (F.fault_count files.new) }
+    ensures quiet { result ≢ Err Refusal.ReadFault →
+        F.fault_count files.new ≡ F.fault_count files.old }
 {
     match gather(alloc, files, name) {
         Ok(trees) => described(alloc, trees.as_slice()),

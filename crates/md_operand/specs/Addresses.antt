@@ -1,5 +1,5 @@
--- Addresses: GCC Internals, "Addressing Modes" and, for virtual-stack-vars, "Registers and Memory"; RISC-V unprivileged manual, "Load and
--- Store Instructions".
+-- Addresses: GCC Internals, "Addressing Modes" and, for virtual-stack-vars, "Registers and Memory";
+-- RISC-V unprivileged manual, "Load and Store Instructions".
 use Rattle.std.specs.Prelude.{ℤ, pos, negsuc, int_le, Bool, true, false, not, ◌&&◌, ◌||◌, List, [], ◌∷◌}
 use Rattle.std.specs.Ordering.{int_eq}
 use Rattle.rtx_tree.specs.declared.code.Code.{Code}
@@ -59,12 +59,13 @@ is_sum base offset x = is_sum_at base offset (out-Rtx x).code (out-Rtx x).kids
 abbrev pub is_near_address : Rtx → Bool
 is_near_address x = is_base x || is_sum is_base is_near x
 
--- what becomes the sum of sp and an offset once the frame has its size: virtual-stack-vars, or the sum of it and any offset
+-- what becomes the sum of sp and an offset once the frame has its size: virtual-stack-vars, or the
+-- sum of it and any offset
 abbrev pub is_frame_reference : Rtx → Bool
 is_frame_reference x = is_stack_vars x || is_sum is_stack_vars is_any x
 
--- a place of the frame past what an offset reaches: the sum of sp and an offset below -2048 or above 2047. No load and no store addresses
--- it by itself
+-- a place of the frame past what an offset reaches: the sum of sp and an offset below -2048 or
+-- above 2047. No load and no store addresses it by itself
 abbrev pub is_far_address : Rtx → Bool
 is_far_address x = is_sum is_stack_pointer is_beyond x
 

@@ -1,5 +1,5 @@
--- What an operand is: GCC Internals, "Machine-Independent Predicates". A mode that is none accepts every mode. That the frame's
--- address has a predicate of its own is this project's.
+-- What an operand is: GCC Internals, "Machine-Independent Predicates". A mode that is none accepts
+-- every mode. That the frame's address has a predicate of its own is this project's.
 use Rattle.std.specs.Prelude.{ℕ, ℤ, pos, negsuc, int_le, Bool, true, false, ◌&&◌, ◌||◌, List, [], ◌∷◌, Option, Some, None, if◌then◌else◌, codes}
 use Rattle.std.specs.Str.{bytes_eq}
 use Rattle.rtx_tree.specs.declared.code.Code.{Code}

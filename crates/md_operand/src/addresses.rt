@@ -54,7 +54,8 @@ fn is_near_address(x: &Rtx) -> bool
     }
 }
 
-/// Whether an expression refers to the frame: it is `virtual-stack-vars`, or the sum of that and any constant, in this order.
+/// Whether an expression refers to the frame: it is `virtual-stack-vars`, or the sum of that and
+/// any constant, in this order.
 pub fn frame_reference(x: &Rtx) -> bool
     ensures { result ≡ spec.is_frame_reference x.now }
 {
@@ -64,7 +65,8 @@ pub fn frame_reference(x: &Rtx) -> bool
     }
 }
 
-/// Whether an expression is a far address: the sum of `sp` and a constant below -2048 or above 2047, in this order.
+/// Whether an expression is a far address: the sum of `sp` and a constant below -2048 or above
+/// 2047, in this order.
 pub fn far_address(x: &Rtx) -> bool
     ensures { result ≡ spec.is_far_address x.now }
 {
@@ -74,8 +76,9 @@ pub fn far_address(x: &Rtx) -> bool
     }
 }
 
-/// Whether an expression is a legitimate address: a register other than `virtual-stack-vars`, the sum of such a one and a constant
-/// from -2048 to 2047, in this order, a [`frame_reference`], or a [`far_address`]. The modes of its parts are not looked at.
+/// Whether an expression is a legitimate address: a register other than `virtual-stack-vars`, the
+/// sum of such a one and a constant from -2048 to 2047, in this order, a [`frame_reference`], or a
+/// [`far_address`]. The modes of its parts are not looked at.
 pub fn legitimate_address(x: &Rtx) -> bool
     ensures { result ≡ spec.is_legitimate_address x.now }
 {

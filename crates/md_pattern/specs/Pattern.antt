@@ -1,5 +1,6 @@
--- A tree of a description as a pattern, or why it is set aside: GCC Internals, "RTL Template". A pattern is an expression of any
--- codes with the parts that they have; the five `match` codes may stand wherever an expression may.
+-- A tree of a description as a pattern, or why it is set aside: GCC Internals, "RTL Template". A
+-- pattern is an expression of any codes with the parts that they have; the five `match` codes may
+-- stand wherever an expression may.
 use Rattle.std.specs.Prelude.{ℕ, pos, ◌==◌, Bool, true, false, List, [], ◌∷◌, ◌++◌, Option, Some, None, Result, Ok, Err, if◌then◌else◌, option_and_then, take, length, codes}
 use Rattle.rtx_tree.specs.declared.code.Code.{Code}
 use Rattle.rtx_tree.specs.declared.code.Code.TheVariants.{SymbolRef}
@@ -87,7 +88,8 @@ matching_with c o m ps = record {
   texts = o.texts ++ ps.texts;
 }
 
-abbrev pub register_by : List Constant → Result Mode Reason → Option (List ℕ) → Result Pattern Reason
+abbrev pub register_by : List Constant → Result Mode Reason → Option (List ℕ) →
+    Result Pattern Reason
 register_by constants m None = Err reason.Parts
 register_by constants m (Some text) = judged_with (λ mode r. bare (reg_of mode r)) m (or_aside reason.Code (register_of constants text))
 
@@ -121,22 +123,27 @@ abbrev pub parallel_by : Code → Result Mode Reason → List Meaning → Result
 parallel_by c m (v ∷ []) = judged_with (node_with c) m v.vector
 parallel_by c m _ = Err reason.Parts
 
-abbrev pub operand_by : Code → Result Mode Reason → Option Operand → Result Patterns Reason → Result Pattern Reason
+abbrev pub operand_by : Code → Result Mode Reason → Option Operand → Result Patterns Reason →
+    Result Pattern Reason
 operand_by c m None ps = Err reason.Parts
 operand_by c m (Some o) ps = judged_with (matching_with c o) m ps
 
-abbrev pub operator_by : Code → Result Mode Reason → List Tree → List Meaning → Result Pattern Reason
-operator_by c m (n ∷ p ∷ v ∷ []) (a ∷ b ∷ vector ∷ []) = operand_by c m (predicated n p) vector.vector
+abbrev pub operator_by : Code → Result Mode Reason → List Tree → List Meaning →
+    Result Pattern Reason
+operator_by c m (n ∷ p ∷ v ∷ []) (a ∷ b ∷ vector ∷ []) =
+    operand_by c m (predicated n p) vector.vector
 operator_by c m _ _ = Err reason.Parts
 
-abbrev pub operator_dup_by : Code → Result Mode Reason → List Tree → List Meaning → Result Pattern Reason
+abbrev pub operator_dup_by : Code → Result Mode Reason → List Tree → List Meaning →
+    Result Pattern Reason
 operator_dup_by c m (n ∷ v ∷ []) (a ∷ vector ∷ []) = operand_by c m (numbered n) vector.vector
 operator_dup_by c m _ _ = Err reason.Parts
 
 -- ---- a tree
 
 -- what stands behind a code, by the trees there and what they stand for
-abbrev pub behind : List Constant → Code → Result Mode Reason → Parts → List Tree → List Meaning → Result Pattern Reason
+abbrev pub behind : List Constant → Code → Result Mode Reason → Parts → List Tree → List Meaning →
+    Result Pattern Reason
 behind constants c m parts.Register ts ms = register_by constants m (word_in ts)
 behind constants c m parts.Number ts ms = number_by m constants ts
 behind constants c m parts.Symbol ts ms = symbol_by m ts
@@ -150,14 +157,18 @@ behind constants c m parts.Operator ts ms = operator_by c m ts ms
 behind constants c m parts.OperatorDup ts ms = operator_dup_by c m ts ms
 
 -- what stands behind an unknown code isn't looked at
-abbrev pub of_code : List Constant → Option Code → Option Mode → List Tree → List Meaning → Result Pattern Reason
+abbrev pub of_code : List Constant → Option Code → Option Mode → List Tree → List Meaning →
+    Result Pattern Reason
 of_code constants None m ts ms = Err reason.Code
-of_code constants (Some c) m ts ms = behind constants c (mode_for c m) (parts_of (class_of_code c)) ts ms
+of_code constants (Some c) m ts ms =
+    behind constants c (mode_for c m) (parts_of (class_of_code c)) ts ms
 
 -- a list with an atom at its head; any other tree is no expression
-abbrev pub of_head : List Constant → Option (List ℕ) → List Tree → List Meaning → Result Pattern Reason
+abbrev pub of_head : List Constant → Option (List ℕ) → List Tree → List Meaning →
+    Result Pattern Reason
 of_head constants None ts ms = Err reason.Parts
-of_head constants (Some text) ts ms = of_code constants (code_of_head text) (mode_of_head text) ts ms
+of_head constants (Some text) ts ms =
+    of_code constants (code_of_head text) (mode_of_head text) ts ms
 
 abbrev pub list_by : List Constant → List Tree → List Meaning → Result Pattern Reason
 list_by constants (h ∷ ts) (m ∷ ms) = of_head constants (atom_of h) ts ms

@@ -1,4 +1,5 @@
--- Why a form of a description is set aside: the profile of this project for what of GCC's machine descriptions it takes.
+-- Why a form of a description is set aside: the profile of this project for what of GCC's machine
+-- descriptions it takes.
 use Rattle.std.specs.Prelude.{ℕ, nat_le, Result, Ok, Err, if◌then◌else◌}
 use Rattle.md_pattern.specs.declared.reason.Reason.{Reason}
 use Rattle.md_pattern.specs.declared.reason.Reason.TheVariants.{Head, Parts, Code, Mode, CCode, Condition, Statements, Predicate, Constraint, Attribute, Operands, Template}
@@ -35,5 +36,6 @@ judged_map f (Ok x) = Ok (f x)
 judged_map f (Err r) = Err r
 
 -- what is made of two
-abbrev pub judged_with : {A B C : Type 0} → (A → B → C) → Result A Reason → Result B Reason → Result C Reason
+abbrev pub judged_with : {A B C : Type 0} → (A → B → C) → Result A Reason → Result B Reason →
+    Result C Reason
 judged_with f a b = judged_map (λ pair. f pair.0 pair.1) (both a b)

@@ -19,7 +19,8 @@ use std::alloc::Global;
 /// An expression of a description.
 #[derive(Drop)]
 pub struct Pattern {
-    /// The expression. The number of a `match` code is that of its operand, and its name the predicate.
+    /// The expression. The number of a `match` code is that of its operand, and its name the
+    /// predicate.
     pub tree: Rtx,
     /// The constraints of its operands, in the order of the text.
     pub texts: OperandTexts,
@@ -459,18 +460,20 @@ fn expression(alloc: Global, constants: &[Constant], tree: &Tree) -> Result<Judg
     }
 }
 
-/// The pattern that a tree of a description writes, or the smallest reason that applies anywhere in it.
+/// The pattern that a tree of a description writes, or the smallest reason that applies anywhere in
+/// it.
 ///
-/// Each code has the parts that the table gives it, and no more; a tree that is no list with an atom at its head is no expression,
-/// and the list in which it stands has wrong parts. The five `match` codes may stand wherever an expression may. A constraint may
-/// lack. What stands behind an unknown code isn't looked at. Registers are numbers from 0 to 31 or constants of these; a mode on a
-/// code that has none is dropped, and a missing mode is `Void`. Flags are passed over.
+/// Each code has the parts that the table gives it, and no more; a tree that is no list with an
+/// atom at its head is no expression, and the list in which it stands has wrong parts. The five
+/// `match` codes may stand wherever an expression may. A constraint may lack. What stands behind an
+/// unknown code isn't looked at. Registers are numbers from 0 to 31 or constants of these; a mode
+/// on a code that has none is dropped, and a missing mode is `Void`. Flags are passed over.
 ///
 /// # Errors
 ///
-/// The judgement is `Parts` where a known code has wrong parts, the number of an operand has more than 32 bits, or a `const_int`
-/// is no number; `Code` where a code is unknown, or a register is none; `Mode` where a mode is none of the four. `Memory` where
-/// memory ran out.
+/// The judgement is `Parts` where a known code has wrong parts, the number of an operand has more
+/// than 32 bits, or a `const_int` is no number; `Code` where a code is unknown, or a register is
+/// none; `Mode` where a mode is none of the four. `Memory` where memory ran out.
 pub fn pattern_of(
     alloc: Global,
     tree: &Tree,
@@ -481,8 +484,8 @@ pub fn pattern_of(
     expression(alloc, constants.as_slice(), tree)
 }
 
-/// The patterns that a vector of a description writes, or the smallest reason that applies anywhere in them. `Parts` where the
-/// tree is no vector.
+/// The patterns that a vector of a description writes, or the smallest reason that applies anywhere
+/// in them. `Parts` where the tree is no vector.
 pub fn patterns_of(
     alloc: Global,
     tree: &Tree,

@@ -25,7 +25,8 @@ pub enum Reason {
     Constraint,
     /// An attribute or a value of one is unknown.
     Attribute,
-    /// There are too many operands or alternatives, two operands have one number, or a duplicate has no operand.
+    /// There are too many operands or alternatives, two operands have one number, or a duplicate
+    /// has no operand.
     Operands,
     /// A template is outside.
     Template,

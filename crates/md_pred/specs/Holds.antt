@@ -1,5 +1,5 @@
--- Which trees the predicates of a description accept: GCC Internals, "Machine-Independent Predicates" and "Defining
--- Machine-Specific Predicates".
+-- Which trees the predicates of a description accept: GCC Internals, "Machine-Independent
+-- Predicates" and "Defining Machine-Specific Predicates".
 use Rattle.std.specs.Prelude.{ℕ, zero, suc, Bool, true, false, ◌&&◌, ◌||◌, List, Option, Some, None, Result, Ok, Err, length, ◌≡◌, ◌+◌}
 use Rattle.std.specs.List.{find}
 use Rattle.std.specs.Str.{bytes_eq}
@@ -50,7 +50,8 @@ is_named (Some own) name = bytes_eq own name
 abbrev pub defines : List ℕ → Entry → Bool
 defines name e = defines_predicate (head_named e.head) && is_named e.name name
 
--- what a name's definition accepts, by what other predicates accept; the first definition of a name counts
+-- what a name's definition accepts, by what other predicates accept; the first definition of a name
+-- counts
 abbrev pub defined : List Entry → Accepts → Accepts
 defined es other name x m = definition_holds other x m (find (defines name) es)
 
@@ -66,24 +67,28 @@ abbrev pub defined_within : (Accepts → Accepts) → ℕ → Accepts
 defined_within define zero name x m = false
 defined_within define (suc rounds) name x m = define (λ other y n. own_or (own_named other) n y (defined_within define rounds other y n)) name x m
 
--- Which trees predicates accept in a mode, where definitions ask for one another so often at most. The predicates that the
--- manual has count before all definitions.
+-- Which trees predicates accept in a mode, where definitions ask for one another so often at most.
+-- The predicates that the manual has count before all definitions.
 abbrev pub within : (Accepts → Accepts) → ℕ → Accepts
 within define rounds name x m = own_or (own_named name) m x (defined_within define rounds name x m)
 
--- Which trees the predicates of a description accept. That this is told by their definitions alone, whatever the number of
--- rounds, is the law IsTold: a predicate that reaches itself is set aside.
+-- Which trees the predicates of a description accept. That this is told by their definitions alone,
+-- whatever the number of rounds, is the law IsTold: a predicate that reaches itself is set aside.
 abbrev pub holds : List Entry → Accepts
 holds es = within (defined es) (length es + 1)
 
 -- ---- what tells them
 
--- Predicates accept what they are defined to accept: one that the manual has answers itself, and any other accepts what its
--- definition does, by what the predicates accept that this asks for.
+-- Predicates accept what they are defined to accept: one that the manual has answers itself, and
+-- any other accepts what its definition does, by what the predicates accept that this asks for.
 abbrev pub AreDefined : List Entry → Accepts → Type 0
-AreDefined es accepted = (name : List ℕ) (x : Rtx) (m : Mode) → accepted name x m ≡ own_or (own_named name) m x (defined es accepted name x m)
+AreDefined es accepted =
+    (name : List ℕ) (x : Rtx) (m : Mode) →
+    accepted name x m ≡ own_or (own_named name) m x (defined es accepted name x m)
 
--- The definitions tell what predicates accept: they accept what they are defined to accept, and nothing else could be accepted.
+-- The definitions tell what predicates accept: they accept what they are defined to accept, and
+-- nothing else could be accepted.
 pub record IsTold (es : List Entry) (accepted : Accepts) : Type 0 where
   pub defined_so : AreDefined es accepted
-  pub alone : (other : Accepts) → AreDefined es other → (name : List ℕ) (x : Rtx) (m : Mode) → other name x m ≡ accepted name x m
+  pub alone : (other : Accepts) → AreDefined es other → (name : List ℕ) (x : Rtx) (m : Mode) →
+      other name x m ≡ accepted name x m

@@ -1,7 +1,8 @@
 //! Asks a table of predicates.
 //!
-//! A question at a place is answered, or comes to another question, whose answer it has or has not. Of the parts of a question those
-//! with less behind them are answered by calls, and the last is the question that it comes to.
+//! A question at a place is answered, or comes to another question, whose answer it has or has not.
+//! Of the parts of a question those with less behind them are answered by calls, and the last is
+//! the question that it comes to.
 ghost use Rattle.std.specs.Prelude.{◌≡◌, ℕ, ◌+◌, ◌*◌, ◌<◌, ◌≤◌, ◌&&◌, ◌||◌, length, slice_get, Some, if◌then◌else◌};
 ghost use Rattle.md_operand.specs.Operand as operands;
 ghost use Rattle.md_pred.specs.Holds as spec;
@@ -67,7 +68,8 @@ impl PredTable {
 
     /// What a predicate comes to, where definitions may be asked for so often.
     pub(crate) fn asked(&self, name: &Name, x: &Rtx, mode: Mode, rounds: usize) -> Step
-        ensures value { steps.step_holds self.now x.now result ≡ steps.asked_within self.now rounds name.now x.now mode }
+        ensures value { steps.step_holds self.now x.now result ≡
+            steps.asked_within self.now rounds name.now x.now mode }
         ensures size { steps.step_size self.now result ≤ rounds * (length self.now.definitions.rows + 1) }
     {
         match Own::named(name.bytes()) {
@@ -80,7 +82,8 @@ impl PredTable {
     /// What a part of a question comes to. It stands before the question.
     fn part(&self, at: At, place: usize) -> Step
         requires { at.place < length self.now.definitions.rows }
-        ensures value { (x : Rtx) → steps.step_holds self.now x result ≡ steps.part_holds self.now x at place }
+        ensures value { (x : Rtx) →
+            steps.step_holds self.now x result ≡ steps.part_holds self.now x at place }
         ensures size { steps.step_size self.now result ≤ steps.size_at self.now at }
     {
         if place < at.place {
@@ -182,7 +185,8 @@ impl PredTable {
     #[cycle(ask)]
     fn node_step(&self, at: At, node: &Node, x: &Rtx) -> Step
         requires { at.place < length self.now.definitions.rows }
-        ensures value { steps.step_holds self.now x.now result ≡ steps.node_holds self.now x.now at node.now }
+        ensures value { steps.step_holds self.now x.now result ≡
+            steps.node_holds self.now x.now at node.now }
         ensures size { steps.step_size self.now result ≤ steps.size_at self.now at }
     {
         match node {

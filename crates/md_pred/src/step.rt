@@ -33,8 +33,10 @@ impl Step {
 
     /// What gives the other answer.
     pub fn turned(self) -> Step
-        ensures value { (table : PredTable) (x : Rtx) → steps.step_holds table x result ≡ not (steps.step_holds table x self) }
-        ensures size { (table : PredTable) → steps.step_size table result ≡ steps.step_size table self }
+        ensures value { (table : PredTable) (x : Rtx) →
+            steps.step_holds table x result ≡ not (steps.step_holds table x self) }
+        ensures size { (table : PredTable) →
+            steps.step_size table result ≡ steps.step_size table self }
     {
         match self {
             Step::Answer(answer) => Step::Answer(!answer),

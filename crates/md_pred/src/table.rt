@@ -9,7 +9,8 @@ use plain_data::{Items, Memory};
 use rtx_tree::{Mode, Name, Rtx};
 use std::alloc::Global;
 
-/// The predicates of a description: those that its forms define, and those that every description has.
+/// The predicates of a description: those that its forms define, and those that every description
+/// has.
 #[derive(Drop)]
 pub struct PredTable {
     /// The definitions.
@@ -27,11 +28,13 @@ impl PredTable {
     ghost use Rattle.md_pred.specs.Holds.{holds, IsTold};
     ghost use Rattle.md_pred.specs.machine.Table.{accepted_by};
 
-    /// The table of the predicates that some forms define. Of a name the first definition counts, and one that is set aside accepts
-    /// nothing. For the forms of a description the definitions tell what predicates accept.
+    /// The table of the predicates that some forms define. Of a name the first definition counts,
+    /// and one that is set aside accepts nothing. For the forms of a description the definitions
+    /// tell what predicates accept.
     pub fn of(alloc: Global, forms: &Forms) -> Result<PredTable, Memory>
         ensures accepts { IfOk result (λ table. accepted_by table ≡ holds forms.now) }
-        ensures told { (drafts : List DraftEntry) → forms.now ≡ forms_in drafts → IsTold forms.now (holds forms.now) }
+        ensures told { (drafts : List DraftEntry) → forms.now ≡ forms_in drafts →
+            IsTold forms.now (holds forms.now) }
     {
         let definitions = Definitions::of(alloc, forms.as_slice())?;
         let weights = weights_of(alloc, &definitions)?;

@@ -10,7 +10,8 @@ fn at(weights: &[u32], place: usize) -> u32 {
     weights.get(place).copied().unwrap_or(0)
 }
 
-/// Of a question whose part with most behind it has this weight, and of whose other parts the one with most has that weight.
+/// Of a question whose part with most behind it has this weight, and of whose other parts the one
+/// with most has that weight.
 fn joined(most: u32, second: u32) -> u32 {
     most.max(second.saturating_add(1))
 }
@@ -146,7 +147,8 @@ impl Weighing {
         }
     }
 
-    /// Goes on with a node: those that it is made of come first, and when it is met again its weight is known.
+    /// Goes on with a node: those that it is made of come first, and when it is met again its
+    /// weight is known.
     fn go_on(&mut self, place: usize, node: &Node, target: Option<usize>) -> Result<(), Memory> {
         match stage_at(self.stages.as_slice(), place) {
             Stage::New => {
@@ -176,8 +178,9 @@ impl Weighing {
     }
 }
 
-/// The weights of all nodes. Each node stands on the stack once from the beginning, once behind those that it is made of, and once for
-/// each question that asks for it, of which a node has three at most.
+/// The weights of all nodes. Each node stands on the stack once from the beginning, once behind
+/// those that it is made of, and once for each question that asks for it, of which a node has three
+/// at most.
 pub fn weights_of(alloc: Global, definitions: &Definitions) -> Result<Items<u32>, Memory> {
     let nodes = definitions.rows.nodes();
     let targets = targets_of(alloc, definitions)?;

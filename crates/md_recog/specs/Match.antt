@@ -1,5 +1,5 @@
--- When patterns with a condition match instructions: GCC Internals, "RTL Template" and "Defining Machine-Specific Predicates" (the
--- predicates), and "Example of define_insn" (the condition).
+-- When patterns with a condition match instructions: GCC Internals, "RTL Template" and "Defining
+-- Machine-Specific Predicates" (the predicates), and "Example of define_insn" (the condition).
 use Rattle.std.specs.Prelude.{◌≡◌, ℕ, Bool, true, false, not, List, if◌then◌else◌}
 use Rattle.std.specs.Option.{option_map_or}
 use Rattle.std.specs.List.{list_all}
@@ -32,7 +32,8 @@ is_accepted accepts operands p =
 
 -- whether the predicate of each placeholder of a pattern does
 abbrev pub are_accepted : Accepts → Ops → Rtx → Bool
-are_accepted accepts operands pattern = list_all (is_accepted accepts operands) (placeholders pattern)
+are_accepted accepts operands pattern =
+    list_all (is_accepted accepts operands) (placeholders pattern)
 
 -- whether the predicate of each placeholder of some patterns does
 abbrev pub all_accepted : Accepts → Ops → List Rtx → Bool
@@ -40,10 +41,11 @@ all_accepted accepts operands patterns = list_all (are_accepted accepts operands
 
 -- whether the condition is not 0 with these operands
 abbrev pub is_met : Accepts → Facts → Tree → Ops → Bool
-is_met accepts facts condition operands = not (is_zero (worth (setting facts operands accepts) condition))
+is_met accepts facts condition operands =
+    not (is_zero (worth (setting facts operands accepts) condition))
 
--- Patterns match as many instructions with these operands, which they share: they have the shape, each predicate accepts its operand, and the
--- condition is not 0.
+-- Patterns match as many instructions with these operands, which they share: they have the shape,
+-- each predicate accepts its operand, and the condition is not 0.
 pub record IsMatch (accepts : Accepts) (facts : Facts) (patterns : List Rtx) (condition : Tree) (insns : List Rtx) (operands : Ops) : Type 0 where
   pub shape : Matches patterns insns operands
   pub accepted : all_accepted accepts operands patterns ≡ true

@@ -1,5 +1,6 @@
--- The first form of a description that matches instructions: GCC Internals, "Interdependence of Patterns" and "Pattern Ordering". A
--- define_insn_and_split has two halves ("Defining How to Split Instructions").
+-- The first form of a description that matches instructions: GCC Internals, "Interdependence of
+-- Patterns" and "Pattern Ordering". A define_insn_and_split has two halves ("Defining How to Split
+-- Instructions").
 use Rattle.std.specs.Prelude.{◌≡◌, ℕ, ◌≤◌, ◌<◌, Bool, true, false, List, Some, Ok, slice_get}
 use Rattle.rtx_tree.specs.declared.tree.Rtx.{Rtx}
 use Rattle.c_eval.specs.declared.facts.Facts.{Facts}
@@ -44,7 +45,8 @@ condition_of half.Split f = split_condition f.head f
 
 -- ---- matches
 
--- What a form says in a half matches instructions with these operands: it has the half, and its patterns with the half's condition match.
+-- What a form says in a half matches instructions with these operands: it has the half, and its
+-- patterns with the half's condition match.
 pub record FormMatches (accepts : Accepts) (facts : Facts) (asked : Half) (insns : List Rtx) (form : Form) (operands : Ops) : Type 0 where
   pub has : has_half asked form.head ≡ true
   pub matches : IsMatch accepts facts form.patterns (condition_of asked form) insns operands
@@ -68,9 +70,12 @@ pub record MatchesHere (accepts : Accepts) (facts : Facts) (asked : Half) (insns
 
 -- no form from one index on and before another matches
 abbrev pub NoneBetween : Accepts → Facts → Half → List Rtx → List Entry → ℕ → ℕ → Type 0
-NoneBetween accepts facts asked insns forms from to = (form : ℕ) → from ≤ form → form < to → (operands : Ops) → MatchesAt accepts facts asked insns forms form operands → ⊥
+NoneBetween accepts facts asked insns forms from to =
+    (form : ℕ) → from ≤ form → form < to → (operands : Ops) →
+    MatchesAt accepts facts asked insns forms form operands → ⊥
 
--- The first match from an index on: the form matches with these operands, and no form before it does.
+-- The first match from an index on: the form matches with these operands, and no form before it
+-- does.
 pub record IsFirst (accepts : Accepts) (facts : Facts) (asked : Half) (insns : List Rtx) (forms : List Entry) (from : ℕ) (m : FormMatch) : Type 0 where
   pub behind : from ≤ m.form
   pub matches : MatchesAt accepts facts asked insns forms m.form m.operands

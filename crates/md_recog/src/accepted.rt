@@ -1,6 +1,8 @@
-//! Whether an expression is what a pattern asks for, by the heads in it and by the predicates of its placeholders.
+//! Whether an expression is what a pattern asks for, by the heads in it and by the predicates of
+//! its placeholders.
 //!
-//! No operand is put aside for that, so it is asked first: of the forms that are tried most fail here, and take no memory.
+//! No operand is put aside for that, so it is asked first: of the forms that are tried most fail
+//! here, and take no memory.
 ghost use Rattle.std.specs.Prelude.{◌≡◌, true, map, if◌then◌else◌};
 ghost use Rattle.rtx_tree.specs.Tree.{head_of};
 ghost use Rattle.md_match.specs.Pattern.{Ops};
@@ -31,7 +33,8 @@ fn is_accepted<P: Preds>(placeholder: &Rtx, insn: &Rtx, preds: &P) -> bool
 #[cycle(accepting)]
 #[tactic(auto, using(crate::proofs::Placed::operand_accepted, crate::proofs::Placed::operator_accepted, crate::proofs::Placed::operator_refused, crate::proofs::Placed::itself_other, crate::proofs::Placed::itself_accepted))]
 fn are_accepted<P: Preds>(pattern: &Rtx, insn: &Rtx, preds: &P) -> bool
-    ensures { (operands : Ops) → Makes pattern.now insn.now operands → result ≡ spec.are_accepted (P.accepts preds.now) operands pattern.now }
+    ensures { (operands : Ops) → Makes pattern.now insn.now operands →
+        result ≡ spec.are_accepted (P.accepts preds.now) operands pattern.now }
 {
     match role_of(pattern.code) {
         Role::Operand => is_accepted(pattern, insn, preds),
@@ -53,7 +56,8 @@ fn are_accepted<P: Preds>(pattern: &Rtx, insn: &Rtx, preds: &P) -> bool
 // The same of some patterns and expressions, one each.
 #[cycle(accepting)]
 fn all_accepted<P: Preds>(patterns: &[Rtx], insns: &[Rtx], preds: &P) -> bool
-    ensures { (operands : Ops) → MakesAll patterns.now insns.now operands → result ≡ spec.all_accepted (P.accepts preds.now) operands patterns.now }
+    ensures { (operands : Ops) → MakesAll patterns.now insns.now operands →
+        result ≡ spec.all_accepted (P.accepts preds.now) operands patterns.now }
 {
     if patterns.len() != insns.len() {
         return false;
@@ -66,9 +70,11 @@ fn all_accepted<P: Preds>(patterns: &[Rtx], insns: &[Rtx], preds: &P) -> bool
     true
 }
 
-/// Whether each predicate of some patterns accepts its operand, where the patterns make the expressions, one each, of operands.
+/// Whether each predicate of some patterns accepts its operand, where the patterns make the
+/// expressions, one each, of operands.
 pub fn each_accepted<P: Preds>(patterns: &[Rtx], insns: &[&Rtx], preds: &P) -> bool
-    ensures { (operands : Ops) → MakesAll patterns.now (map (λ insn. insn.now) insns.now) operands → result ≡ spec.all_accepted (P.accepts preds.now) operands patterns.now }
+    ensures { (operands : Ops) → MakesAll patterns.now (map (λ insn. insn.now) insns.now) operands →
+        result ≡ spec.all_accepted (P.accepts preds.now) operands patterns.now }
 {
     if patterns.len() != insns.len() {
         return false;

@@ -37,9 +37,12 @@ fn match_form<P: Preds, L: Ledger>(
     match_insns(alloc, patterns, condition, insns, facts, preds, steps)
 }
 
-/// Whether a half of a form may match instructions: it may not where the form is set aside, or has no such half.
+/// Whether a half of a form may match instructions: it may not where the form is set aside, or has
+/// no such half.
 pub fn may_match(entry: &Entry, half: Half) -> bool
-    ensures { result ≡ false → (accepts : Accepts) (facts : Facts) (insns : List Rtx) (operands : Ops) → EntryMatches accepts facts half insns entry.now operands → ⊥ }
+    ensures { result ≡ false →
+        (accepts : Accepts) (facts : Facts) (insns : List Rtx) (operands : Ops) →
+        EntryMatches accepts facts half insns entry.now operands → ⊥ }
 {
     match &entry.form {
         Ok(form) => half.is_of(form.head),
@@ -47,7 +50,8 @@ pub fn may_match(entry: &Entry, half: Half) -> bool
     }
 }
 
-/// The operands with which a half of a form matches instructions. A form that is set aside never does.
+/// The operands with which a half of a form matches instructions. A form that is set aside never
+/// does.
 pub fn match_entry<P: Preds, L: Ledger>(
     alloc: Global,
     entry: &Entry,

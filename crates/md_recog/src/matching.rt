@@ -20,8 +20,8 @@ fn is_met<P: Preds>(condition: &Cond, facts: &Facts, operands: &Operands, preds:
     eval(condition, facts, operands, preds) != 0
 }
 
-/// The operands with which some patterns with a condition match as many instructions, or `None` exactly where there are none such. Each call is
-/// one step, since it tries the shape once.
+/// The operands with which some patterns with a condition match as many instructions, or `None`
+/// exactly where there are none such. Each call is one step, since it tries the shape once.
 #[tactic(auto, using(crate::proofs::Usable::shapeless))]
 pub fn match_insns<P: Preds, L: Ledger>(
     alloc: Global,

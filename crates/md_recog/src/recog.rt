@@ -22,7 +22,8 @@ pub struct FormMatch {
     pub operands: Operands,
 }
 
-/// The match of the form at a place, of which a half matches instructions, or `None` exactly where it does not. It takes one step at most.
+/// The match of the form at a place, of which a half matches instructions, or `None` exactly where
+/// it does not. It takes one step at most.
 pub fn match_at<P: Preds, L: Ledger>(
     alloc: Global,
     forms: &[Entry],
@@ -51,8 +52,8 @@ pub fn match_at<P: Preds, L: Ledger>(
     }
 }
 
-/// The first form from an index on of which a half matches instructions, or `None` exactly where there is none such. There are at most as
-/// many steps as forms.
+/// The first form from an index on of which a half matches instructions, or `None` exactly where
+/// there is none such. There are at most as many steps as forms.
 pub fn first_match<P: Preds, L: Ledger>(
     alloc: Global,
     forms: &[Entry],

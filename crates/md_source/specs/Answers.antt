@@ -16,6 +16,7 @@ Refuses e P = P (Err e)
 
 -- what is told is given; a refusal is the one that is told; want of memory is free,
 -- and so is a fault
-abbrev pub Gives : {A : Type 0} → Result A SourceRefusal → (Result A SourceRefusal → Type 0) → Type 0
+abbrev pub Gives : {A : Type 0} → Result A SourceRefusal → (Result A SourceRefusal → Type 0) →
+    Type 0
 Gives (Ok x) P = P (Ok x)
 Gives (Err e) P = Refuses e P

@@ -6,7 +6,8 @@ ghost use Rattle.md_source.specs.Include.{name_in, included_name};
 use lisp_read::{Tree, is_word, items, string};
 use rtx_tree::Name;
 
-/// The name of the file that a tree includes: the tree is the list of the word `include` and one string.
+/// The name of the file that a tree includes: the tree is the list of the word `include` and one
+/// string.
 pub fn included_name(tree: &Tree) -> Option<&Name>
     ensures { option_copied result ≡ included_name tree.now }
 {

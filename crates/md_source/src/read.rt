@@ -63,8 +63,10 @@ fn fetch<F: Files>(
     ensures fetched { Fetched (F.holds files.old name.now) room result }
     ensures asks { AsksName (F.asked files.old) (F.asked files.new) name.now result }
     ensures same { (n bytes : List ℕ) → F.holds files.new n bytes ↔ F.holds files.old n bytes }
-    ensures fault { result ≡ Err SourceRefusal.ReadFault → Rose (F.fault_count files.old) (F.fault_count files.new) }
-    ensures quiet { result ≢ Err SourceRefusal.ReadFault → F.fault_count files.new ≡ F.fault_count files.old }
+    ensures fault { result ≡ Err SourceRefusal.ReadFault →
+        Rose (F.fault_count files.old) (F.fault_count files.new) }
+    ensures quiet { result ≢ Err SourceRefusal.ReadFault →
+        F.fault_count files.new ≡ F.fault_count files.old }
 {
     let mut bytes = Vec::new(alloc);
     match files.fetch(name, room, &mut bytes) {
@@ -83,12 +85,15 @@ pub fn read_file<F: Files>(
     used: usize,
 ) -> Result<Gathered, SourceRefusal>
     requires { used ≤ most_bytes }
-    ensures reads { (source : Source) → Agrees source (F.holds files.old) → Gives result (FileReads source used name.now) }
+    ensures reads { (source : Source) → Agrees source (F.holds files.old) →
+        Gives result (FileReads source used name.now) }
     ensures bound { IfOk result (λ read. read.used ≤ most_bytes) }
     ensures asks { AsksFor (F.asked files.old) (F.asked files.new) name.now result }
     ensures same { (n bytes : List ℕ) → F.holds files.new n bytes ↔ F.holds files.old n bytes }
-    ensures fault { result ≡ Err SourceRefusal.ReadFault → Rose (F.fault_count files.old) (F.fault_count files.new) }
-    ensures quiet { result ≢ Err SourceRefusal.ReadFault → F.fault_count files.new ≡ F.fault_count files.old }
+    ensures fault { result ≡ Err SourceRefusal.ReadFault →
+        Rose (F.fault_count files.old) (F.fault_count files.new) }
+    ensures quiet { result ≢ Err SourceRefusal.ReadFault →
+        F.fault_count files.new ≡ F.fault_count files.old }
 {
     if name == SHIPPED {
         read_text(alloc, name, shipped().as_bytes(), used)

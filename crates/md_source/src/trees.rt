@@ -35,7 +35,8 @@ fn append(trees: Trees, more: Trees) -> Result<Trees, Memory>
     Ok(Items::from_vec(all))
 }
 
-/// The trees of the file of a name, as so many files within each other, after so many bytes were read.
+/// The trees of the file of a name, as so many files within each other, after so many bytes were
+/// read.
 fn gather_from<F: Files>(
     alloc: Global,
     files: &mut F,
@@ -45,12 +46,16 @@ fn gather_from<F: Files>(
 ) -> Result<Gathered, SourceRefusal>
     requires within { within ≤ most_within }
     requires used { used ≤ most_bytes }
-    ensures gives { (source : Source) → Agrees source (F.holds files.old) → Gives result (FileComes source within used name.now) }
+    ensures gives { (source : Source) → Agrees source (F.holds files.old) →
+        Gives result (FileComes source within used name.now) }
     ensures bound { IfOk result (λ gathered. gathered.used ≤ most_bytes) }
-    ensures asked { (source : Source) → Agrees source (F.holds files.old) → GrewBy (AreNamed source name.now) (F.asked files.old) (F.asked files.new) }
+    ensures asked { (source : Source) → Agrees source (F.holds files.old) →
+        GrewBy (AreNamed source name.now) (F.asked files.old) (F.asked files.new) }
     ensures same { (n bytes : List ℕ) → F.holds files.new n bytes ↔ F.holds files.old n bytes }
-    ensures fault { result ≡ Err SourceRefusal.ReadFault → Rose (F.fault_count files.old) (F.fault_count files.new) }
-    ensures quiet { result ≢ Err SourceRefusal.ReadFault → F.fault_count files.new ≡ F.fault_count files.old }
+    ensures fault { result ≡ Err SourceRefusal.ReadFault →
+        Rose (F.fault_count files.old) (F.fault_count files.new) }
+    ensures quiet { result ≢ Err SourceRefusal.ReadFault →
+        F.fault_count files.new ≡ F.fault_count files.old }
 {
     let text = read_file(alloc, files, name, used)?;
     let mut trees = Items::new(alloc);
@@ -73,30 +78,35 @@ fn gather_from<F: Files>(
     Ok(Gathered { trees, used })
 }
 
-/// The trees of the description of a name, in order. A tree that is a list of the word `include` and one string
-/// gives its place to the trees of the file with that name, and so on within that. The name `rv64im` is the
-/// shipped description, and files are not asked for it.
+/// The trees of the description of a name, in order. A tree that is a list of the word `include`
+/// and one string gives its place to the trees of the file with that name, and so on within that.
+/// The name `rv64im` is the shipped description, and files are not asked for it.
 ///
 /// # Errors
 ///
-/// `Text` where the description has more than 16,777,216 bytes with all its includes. `Syntax` and `Depth` where
-/// a file is not read as trees, before anything that it includes. `Include` where a file would be the 17th
-/// within each other; it is not asked for. `ReadFault` where the files failed. `Memory` where memory ran out.
+/// `Text` where the description has more than 16,777,216 bytes with all its includes. `Syntax` and
+/// `Depth` where a file is not read as trees, before anything that it includes. `Include` where a
+/// file would be the 17th within each other; it is not asked for. `ReadFault` where the files
+/// failed. `Memory` where memory ran out.
 pub fn gather<F: Files>(alloc: Global, files: &mut F, name: &[u8]) -> Result<Trees, SourceRefusal>
     // The answer is what the description comes to, by all that is known of the files, unless memory ran out or they failed.
-    ensures gives { (source : Source) → Agrees source (F.holds files.old) → Gives result (DescriptionComes source name.now) }
+    ensures gives { (source : Source) → Agrees source (F.holds files.old) →
+        Gives result (DescriptionComes source name.now) }
 
     // By files of which all that the description is made of is known, it comes to one answer.
     ensures one { (source : Source) → IsKnown source name.now → (a b : Result (List Tree) SourceRefusal) →
         DescriptionComes source name.now a → DescriptionComes source name.now b → a ≡ b }
 
     // Files are asked only for what is named, and stay as they are.
-    ensures asked { (source : Source) → Agrees source (F.holds files.old) → GrewBy (AreNamed source name.now) (F.asked files.old) (F.asked files.new) }
+    ensures asked { (source : Source) → Agrees source (F.holds files.old) →
+        GrewBy (AreNamed source name.now) (F.asked files.old) (F.asked files.new) }
     ensures same { (n bytes : List ℕ) → F.holds files.new n bytes ↔ F.holds files.old n bytes }
 
     // Faults are counted.
-    ensures fault { result ≡ Err SourceRefusal.ReadFault → Rose (F.fault_count files.old) (F.fault_count files.new) }
-    ensures quiet { result ≢ Err SourceRefusal.ReadFault → F.fault_count files.new ≡ F.fault_count files.old }
+    ensures fault { result ≡ Err SourceRefusal.ReadFault →
+        Rose (F.fault_count files.old) (F.fault_count files.new) }
+    ensures quiet { result ≢ Err SourceRefusal.ReadFault →
+        F.fault_count files.new ≡ F.fault_count files.old }
 {
     let gathered = gather_from(alloc, files, name, 1, 0)?;
     Ok(gathered.trees)

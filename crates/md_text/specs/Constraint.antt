@@ -1,5 +1,5 @@
--- The texts of constraints: GCC Internals, "Simple Constraints", "Multiple Alternative Constraints" and "Constraint Modifier
--- Characters".
+-- The texts of constraints: GCC Internals, "Simple Constraints", "Multiple Alternative Constraints"
+-- and "Constraint Modifier Characters".
 use Rattle.std.specs.Prelude.{ℕ, ◌+◌, ◌-◌, ◌==◌, nat_eq, nat_lt, nat_le, Bool, true, false, ◌&&◌, ◌||◌, List, [], ◌∷◌, ◌++◌, Option, Some, None, if◌then◌else◌, length, fold, option_map}
 use Rattle.std.specs.List.{find, list_all, starts_with}
 use Rattle.md_text.specs.declared.constraint.Letter.{Letter}
@@ -33,7 +33,8 @@ own_member byte = if is_digit byte then Some (member.Same (byte - 48)) else opti
 
 -- ---- what an alternative is written with
 
--- = + & ? ! and % * #, of which the last three have no effect; the last takes with it what follows, of this length
+-- = + & ? ! and % * #, of which the last three have no effect; the last takes with it what follows,
+-- of this length
 abbrev pub mark : ℕ → ℕ → Option (Sign × ℕ)
 mark byte follow = if byte == 61 then Some (sign.Output, 0)
     else if byte == 43 then Some (sign.Both, 0)
@@ -54,7 +55,8 @@ own byte follow = either (mark byte follow) (option_map (λ m. (sign.Member m, 0
 
 -- the name, where the text begins with it and it is the longer one
 abbrev pub longer : List ℕ → List ℕ → List ℕ → List ℕ
-longer text best name = if starts_with nat_eq text name && nat_lt (length best) (length name) then name else best
+longer text best name =
+    if starts_with nat_eq text name && nat_lt (length best) (length name) then name else best
 
 -- the longest of some names with which a text begins; the empty one where it begins with none
 abbrev pub longest : List (List ℕ) → List ℕ → List ℕ
@@ -68,7 +70,8 @@ abbrev pub by_name : List ℕ → ℕ → ℕ → Option (Sign × ℕ)
 by_name name byte follow = if nat_lt 1 (length name) then Some (defined name)
     else either (own byte follow) (if length name == 1 then Some (defined name) else None)
 
--- what stands at the front of an alternative, and how many bytes it has behind its first; blanks mean nothing
+-- what stands at the front of an alternative, and how many bytes it has behind its first; blanks
+-- mean nothing
 abbrev pub sign_at : List (List ℕ) → List ℕ → Option (Sign × ℕ)
 sign_at names [] = None
 sign_at names (byte ∷ rest) = if is_blank byte then Some (sign.Nothing, 0) else by_name (longest names (byte ∷ rest)) byte (length rest)
@@ -98,4 +101,5 @@ alternative_of names text = option_map (fold signed plain) (pieces (sign_at name
 
 -- A constraint has one alternative for each part between its commas. A text of blanks is none.
 abbrev pub constraint_of : List (List ℕ) → List ℕ → Option (List Alternative)
-constraint_of names text = if list_all is_blank text then Some [] else each (alternative_of names) (parts 44 text)
+constraint_of names text =
+    if list_all is_blank text then Some [] else each (alternative_of names) (parts 44 text)

@@ -1,5 +1,6 @@
--- The members of a text with commas between them, as a define_attr, a set_attr or a match_code has them: GCC Internals,
--- "Defining Attributes and their Values" and "Defining Machine-Specific Predicates".
+-- The members of a text with commas between them, as a define_attr, a set_attr or a match_code has
+-- them: GCC Internals, "Defining Attributes and their Values" and "Defining Machine-Specific
+-- Predicates".
 use Rattle.std.specs.Prelude.{ℕ, ◌==◌, Bool, ◌||◌, List, [], ◌∷◌, ◌++◌, Option, Some, if◌then◌else◌, map, option_map, option_and_then}
 use Rattle.text_words.specs.Blanks.{is_blank, behind_blanks}
 
@@ -8,10 +9,12 @@ abbrev pub prefixed : List ℕ → List (List ℕ) → List (List ℕ)
 prefixed front [] = front ∷ []
 prefixed front (part ∷ more) = (front ++ part) ∷ more
 
--- what stands between the marks of a text, before the first and behind the last of them: one part more than there are marks
+-- what stands between the marks of a text, before the first and behind the last of them: one part
+-- more than there are marks
 abbrev pub parts : ℕ → List ℕ → List (List ℕ)
 parts mark [] = [] ∷ []
-parts mark (b ∷ rest) = if b == mark then [] ∷ parts mark rest else prefixed (b ∷ []) (parts mark rest)
+parts mark (b ∷ rest) =
+    if b == mark then [] ∷ parts mark rest else prefixed (b ∷ []) (parts mark rest)
 
 -- a byte before a text that has no blanks at its end
 abbrev pub ended : ℕ → List ℕ → List ℕ

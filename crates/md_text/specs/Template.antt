@@ -1,5 +1,5 @@
--- Output templates: GCC Internals, "Output Templates and Operand Substitution" and "C Statements for Assembler Output". Their
--- texts stand between quotes and have their backslashes still.
+-- Output templates: GCC Internals, "Output Templates and Operand Substitution" and "C Statements
+-- for Assembler Output". Their texts stand between quotes and have their backslashes still.
 use Rattle.std.specs.Prelude.{ℕ, ◌+◌, ◌==◌, nat_lt, ℤ, pos, negsuc, Bool, false, ◌||◌, List, [], ◌∷◌, Option, Some, None, if◌then◌else◌, length, option_map, option_and_then}
 use Rattle.std.specs.List.{find, list_all, list_any}
 use Rattle.text_words.specs.Words.{number_in}
@@ -43,7 +43,8 @@ operand how before text = option_map (λ n. (piece.Operand how n, before + lengt
 abbrev pub byte_piece : ℕ → Option (Piece × ℕ)
 byte_piece byte = Some (piece.Byte byte, 1)
 
--- behind %: % itself, = for the number of the instruction, an operand's number, or a letter and an operand's number
+-- behind %: % itself, = for the number of the instruction, an operand's number, or a letter and an
+-- operand's number
 abbrev pub behind_percent : List ℕ → Option (Piece × ℕ)
 behind_percent [] = None
 behind_percent (b ∷ rest) = if b == 37 then byte_piece 37
@@ -59,8 +60,8 @@ behind_backslash (b ∷ rest) = if b == 116 then byte_piece 9
     else if b == 92 || b == 34 then byte_piece b
     else None
 
--- what stands at the front of a template, and how many bytes it has behind its first. Braces, which choose a dialect of the
--- assembler, are outside.
+-- what stands at the front of a template, and how many bytes it has behind its first. Braces, which
+-- choose a dialect of the assembler, are outside.
 abbrev pub piece_at : List ℕ → Option (Piece × ℕ)
 piece_at [] = None
 piece_at (byte ∷ rest) = if byte == 37 then behind_percent rest
@@ -112,7 +113,8 @@ several None = reading.Outside
 several (Some lines) = reading.Template (template.Each lines)
 
 abbrev pub each_line : List (List ℕ) → Reading
-each_line texts = if list_any is_code_line texts then reading.Code else several (each spaced_line_of texts)
+each_line texts =
+    if list_any is_code_line texts then reading.Code else several (each spaced_line_of texts)
 
 -- # alone: the form is always split
 abbrev pub is_split : List ℕ → Bool

@@ -43,8 +43,8 @@ pub enum Member {
     Defined(Name),
 }
 
-/// What an instruction does with an operand, as its constraint is marked. The mark stands in the first
-/// alternative, and is meant for all.
+/// What an instruction does with an operand, as its constraint is marked. The mark stands in the
+/// first alternative, and is meant for all.
 #[derive(Clone, Copy, Debug, PartialEq, Eq)]
 pub enum Direction {
     /// It reads it: no mark.
@@ -70,8 +70,8 @@ pub struct Alternative {
     pub members: Items<Member>,
 }
 
-/// The alternatives of an operand, in order. None at all, from an empty text, is no list of alternatives
-/// and accepts anything.
+/// The alternatives of an operand, in order. None at all, from an empty text, is no list of
+/// alternatives and accepts anything.
 pub type Constraint = Items<Alternative>;
 
 /// The alternative that a text without commas is.
@@ -100,8 +100,8 @@ fn alternative_of(alloc: Global, names: &[Name], text: &[u8]) -> Result<Option<A
     Ok(Some(alternative))
 }
 
-/// The constraint that a text is, where `names` are those of the constraints that the description defines;
-/// `None` where something in it is unknown.
+/// The constraint that a text is, where `names` are those of the constraints that the description
+/// defines; `None` where something in it is unknown.
 #[tactic(auto, using(crate::proofs::Each::with_nothing, crate::proofs::Each::each_next, crate::proofs::Each::each_stops, crate::proofs::Each::each_ends))]
 pub fn constraint_of(
     alloc: Global,

@@ -55,8 +55,8 @@ pub fn trimmed(text: &[u8]) -> &[u8]
     before_blanks(behind_blanks(text))
 }
 
-/// The members of a text with commas between them, in order, without the blanks round each. Where there
-/// is no comma there is one member.
+/// The members of a text with commas between them, in order, without the blanks round each. Where
+/// there is no comma there is one member.
 pub fn members_of(alloc: Global, text: &[u8]) -> Result<Items<Name>, Memory>
     ensures { IfOk result (λ members. members ≡ spec.members text.now) }
 {

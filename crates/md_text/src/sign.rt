@@ -92,7 +92,8 @@ fn defined(alloc: Global, name: &[u8]) -> Result<Option<(Sign, usize)>, Memory>
     Ok(Some((Sign::Member(member), name.len() - 1)))
 }
 
-/// What a first byte means behind the name that begins there, if one does, where so many bytes follow.
+/// What a first byte means behind the name that begins there, if one does, where so many bytes
+/// follow.
 fn by_name(
     alloc: Global,
     name: &[u8],

@@ -188,7 +188,8 @@ fn one(alloc: Global, text: &[u8]) -> Result<Reading, Memory>
     }
 }
 
-/// What the output part of a form is, by the text between its quotes, which has its backslashes still.
+/// What the output part of a form is, by the text between its quotes, which has its backslashes
+/// still.
 pub fn template_of(alloc: Global, text: &[u8]) -> Result<Reading, Memory>
     ensures { IfOk result (λ reading. reading ≡ spec.template_of text.now) }
 {

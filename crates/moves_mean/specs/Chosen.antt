@@ -1,5 +1,5 @@
--- What is chosen from: GCC Internals, "RTL passes" (reload). A pattern matches an instruction with its references to the frame put in, before
--- its registers have homes.
+-- What is chosen from: GCC Internals, "RTL passes" (reload). A pattern matches an instruction with
+-- its references to the frame put in, before its registers have homes.
 use Rattle.std.specs.Prelude.{List}
 use Rattle.rtx_tree.specs.declared.function.Kind.{Kind}
 use Rattle.rtx_tree.specs.declared.tree.Rtx.{Rtx}

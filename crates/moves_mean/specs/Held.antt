@@ -1,4 +1,5 @@
--- What registers hold once operands, their bases and far bases are fetched: GCC Internals, "RTL passes" (reload).
+-- What registers hold once operands, their bases and far bases are fetched: GCC Internals, "RTL
+-- passes" (reload).
 use Rattle.std.specs.Prelude.{◌≡◌, ℕ, List, [], ◌∷◌, Some}
 use Rattle.std.specs.FinMap.{get}
 use Rattle.bits64.specs.declared.Width.{Width}

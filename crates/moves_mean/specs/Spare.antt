@@ -1,4 +1,5 @@
--- The registers of moves: RISC-V ELF psABI, "Integer Register Convention" (t3 to t6 are call-clobbered); GCC Internals, "RTL passes" (reload).
+-- The registers of moves: RISC-V ELF psABI, "Integer Register Convention" (t3 to t6 are
+-- call-clobbered); GCC Internals, "RTL passes" (reload).
 use Rattle.std.specs.Prelude.{◌≡◌, ℕ, nat_le, Bool, true, false, ◌&&◌}
 use Rattle.std.specs.FinMap.{get}
 use Rattle.rtx_tree.specs.declared.tree.Rtx.{Rtx}

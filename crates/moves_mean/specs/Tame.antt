@@ -1,5 +1,5 @@
--- Effects of an instruction whose homes are put in, which leave alone what stays through the run of a function: GCC Internals, "Basic Stack
--- Layout" and "Register Usage".
+-- Effects of an instruction whose homes are put in, which leave alone what stays through the run of
+-- a function: GCC Internals, "Basic Stack Layout" and "Register Usage".
 use Rattle.std.specs.Prelude.{◌≡◌, ◌≢◌, ℕ, ◌+◌, ◌-◌, ◌≤◌, ◌<◌, true, false, List, [], ◌∷◌}
 use Rattle.bits64.specs.Words.{bytes_of}
 use Rattle.rtx_tree.specs.RegSet.{has_reg}
@@ -12,7 +12,8 @@ use Rattle.assign.specs.declared.places.Layout.{Layout}
 use Rattle.frame_mean.specs.Kept.{preserved_registers, is_saved, is_in_slots}
 use Rattle.moves_mean.specs.Spare.{is_spare}
 
--- a register that is a home: none of sp and t3 to t6, and one that a function preserves only where the frame has a place for it
+-- a register that is a home: none of sp and t3 to t6, and one that a function preserves only where
+-- the frame has a place for it
 pub record IsHome (layout : Layout) (reg : ℕ) : Type 0 where
   pub no_pointer : reg ≢ stack_pointer
   pub no_spare : is_spare reg ≡ false

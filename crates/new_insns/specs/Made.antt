@@ -1,5 +1,5 @@
--- The instructions that patterns make in the place of a window: GCC Internals, "Insns" (insn, jump_insn and call_insn; their uids;
--- CALL_INSN_FUNCTION_USAGE).
+-- The instructions that patterns make in the place of a window: GCC Internals, "Insns" (insn,
+-- jump_insn and call_insn; their uids; CALL_INSN_FUNCTION_USAGE).
 use Rattle.std.specs.Prelude.{ℕ, ◌+◌, if◌then◌else◌, List, [], ◌∷◌}
 use Rattle.rtx_tree.specs.declared.function.ArgUse.{ArgUse}
 use Rattle.rtx_tree.specs.declared.function.Insn.{Insn}
@@ -21,8 +21,8 @@ uses_between _ _ uses = []
 abbrev pub insn_for : Insn → ℕ → Rtx → Insn
 insn_for old uid x = record { uid = uid; kind = kind_of x; pattern = x; uses = uses_between old.kind (kind_of x) old.uses }
 
--- Those of a sequence in the place of a window that ends with an instruction: the last has its uid, and the others take uids from a
--- number on.
+-- Those of a sequence in the place of a window that ends with an instruction: the last has its uid,
+-- and the others take uids from a number on.
 abbrev pub insns_for : Insn → ℕ → List Rtx → List Insn
 insns_for old uid [] = []
 insns_for old uid (x ∷ []) = insn_for old old.uid x ∷ []

@@ -55,7 +55,8 @@ fn insn_for(alloc: Global, old: &Insn, uid: u32, pattern: Rtx) -> Result<Insn, M
     })
 }
 
-/// The instructions of patterns that stand in front of the last, with uids from a number on. Uids past 32 bits find no memory.
+/// The instructions of patterns that stand in front of the last, with uids from a number on. Uids
+/// past 32 bits find no memory.
 #[tactic(auto, using(crate::proofs::FrontLaws::front_push))]
 fn front_for(alloc: Global, old: &Insn, uid: u32, patterns: Vec<Rtx>) -> Result<Insns, Memory>
     ensures { IfOk result (λ insns. insns ≡ steps.front_for old.now uid patterns.items) }
@@ -72,8 +73,9 @@ fn front_for(alloc: Global, old: &Insn, uid: u32, patterns: Vec<Rtx>) -> Result<
     Ok(insns)
 }
 
-/// The instructions that a sequence makes in the place of a window that ends with an instruction: the last has its uid, and the others
-/// take uids from a number on. Uids past 32 bits find no memory.
+/// The instructions that a sequence makes in the place of a window that ends with an instruction:
+/// the last has its uid, and the others take uids from a number on. Uids past 32 bits find no
+/// memory.
 #[tactic(auto, using(crate::proofs::FrontLaws::made_push))]
 pub fn insns_for(alloc: Global, old: &Insn, uid: u32, sequence: Kids) -> Result<Insns, Memory>
     ensures { IfOk result (λ insns. insns ≡ spec.insns_for old.now uid sequence) }

@@ -1,5 +1,5 @@
--- What is asked of each instruction of a function whose registers have homes, for lines to stand for it: GCC Internals, "Insns", "Side
--- Effect Expressions" and "Registers and Memory".
+-- What is asked of each instruction of a function whose registers have homes, for lines to stand
+-- for it: GCC Internals, "Insns", "Side Effect Expressions" and "Registers and Memory".
 use Rattle.std.specs.Prelude.{◌≡◌, ℕ, true, false}
 use Rattle.std.specs.List.{All, AllByRecursion}
 use Rattle.rtx_tree.specs.declared.function.Insn.{Insn}
@@ -22,7 +22,8 @@ pub record IsInsnWritable (i : Insn) : Type 0 where
   -- what needs a form, and names no register without a home, uses hard registers alone
   pub formed : needs_form i ≡ true → names_homeless i.pattern ≡ false → UsesHard i
   -- the register that a `set` sets counts as it
-  pub named : i.kind ≡ Plain → All (λ x. IsSetNamed (head_of x).code (kids_of x)) (effects_of i.pattern)
+  pub named : i.kind ≡ Plain →
+      All (λ x. IsSetNamed (head_of x).code (kids_of x)) (effects_of i.pattern)
 
 abbrev pub AreWritable : Function → Type 0
 AreWritable f = AllByRecursion IsInsnWritable f.insns

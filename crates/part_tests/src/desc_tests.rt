@@ -44,7 +44,8 @@ fn never_holds(rows: &TestRows, root: usize, preds: &PredTable, operands: &[Rtx]
     !is_held
 }
 
-/// Whether a question without its parts never holds, and none holds behind it, where no test stands.
+/// Whether a question without its parts never holds, and none holds behind it, where no test
+/// stands.
 fn is_without_parts(alloc: Global, question: Question) -> Result<bool, Memory> {
     let mut rows = TestRows::new(alloc);
     let test = Test {

@@ -1,4 +1,5 @@
-//! Tests of the parts on what no line of cases holds: inputs that are generated, files that fail, and values without a text.
+//! Tests of the parts on what no line of cases holds: inputs that are generated, files that fail,
+//! and values without a text.
 //!
 //! They stand in a crate of their own, since a crate with tests is proved twice.
 #![tactic(auto)]

@@ -135,8 +135,9 @@ fn accepts(alloc: Global, backwards: bool, before: &str, after: &str, want: &str
     }
 }
 
-/// What stands before and behind the name of the next predicate, and what the last predicate accepts then: p0 accepts registers of
-/// the mode, and each of the others what comes of the one before it.
+/// What stands before and behind the name of the next predicate, and what the last predicate
+/// accepts then: p0 accepts registers of the mode, and each of the others what comes of the one
+/// before it.
 const CHAINS: [(&str, &str, &str); 6] = [
     ("", "", "/rs//s/r"),
     ("(not ", ")", "/5hnmy/rs5hnmy/r5hnmy/s5hnmy"),

@@ -1,5 +1,5 @@
--- The passes behind which a function can be shown, by their names: GCC Internals, "Passes and Files of the Compiler" ("RTL passes"). The
--- names are this project's own.
+-- The passes behind which a function can be shown, by their names: GCC Internals, "Passes and Files
+-- of the Compiler" ("RTL passes"). The names are this project's own.
 use Rattle.std.specs.Prelude.{ℕ, List, codes, Option, Some, None, if◌then◌else◌}
 use Rattle.std.specs.Str.{bytes_eq}
 use Rattle.pass_name.specs.declared.pass.Pass.{Pass}

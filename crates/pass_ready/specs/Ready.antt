@@ -1,5 +1,5 @@
--- What is asked of each instruction of a function for which lines are to stand, wherever it came from: GCC Internals, "Insns"
--- (code_label, barrier).
+-- What is asked of each instruction of a function for which lines are to stand, wherever it came
+-- from: GCC Internals, "Insns" (code_label, barrier).
 use Rattle.std.specs.Prelude.{◌≡◌, ℕ, true, false}
 use Rattle.std.specs.List.{AllByRecursion}
 use Rattle.rtx_tree.specs.declared.function.Insn.{Insn}

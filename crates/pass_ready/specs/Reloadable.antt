@@ -1,6 +1,7 @@
--- What holds of a function whose registers have no homes yet, and what is asked of one that is to be reloaded: GCC Internals, "RTL
--- Objects", "Insns", "Side Effect Expressions" and "Registers and Memory"; RISC-V ELF psABI, "Integer Calling Convention". A function that
--- keeps the rules has it, and each pass keeps it.
+-- What holds of a function whose registers have no homes yet, and what is asked of one that is to
+-- be reloaded: GCC Internals, "RTL Objects", "Insns", "Side Effect Expressions" and "Registers and
+-- Memory"; RISC-V ELF psABI, "Integer Calling Convention". A function that keeps the rules has it,
+-- and each pass keeps it.
 use Rattle.std.specs.Prelude.{◌≡◌, ◌⊎◌, ◌==◌, true, false, List}
 use Rattle.std.specs.List.{AllByRecursion, IsDistinct}
 use Rattle.rtx_tree.specs.declared.function.Insn.{Insn}
@@ -18,7 +19,8 @@ use Rattle.func_rules.specs.Sorts.{Leads}
 use Rattle.sym_insns.specs.Shape.{is_shaped, all_natural}
 
 pub record IsInsnReloadable (i : Insn) : Type 0 where
-  -- an instruction has the parts and the modes that the table of codes asks for, and the kind of its pattern
+  -- an instruction has the parts and the modes that the table of codes asks for, and the kind of
+  -- its pattern
   pub shaped : is_mark i.kind ≡ false → is_shaped i ≡ true
   -- a label and a barrier hold nothing
   pub empty : is_mark i.kind ≡ true → is_nothing i.pattern ≡ true

@@ -1,4 +1,5 @@
--- What a call of a pass has done: it gives what is told, or the refusal that is told; want of memory is free.
+-- What a call of a pass has done: it gives what is told, or the refusal that is told; want of
+-- memory is free.
 use Rattle.std.specs.Prelude.{Result, Ok, Err}
 use Rattle.pass_refusal.specs.declared.refusal.PassRefusal.{PassRefusal}
 use Rattle.pass_refusal.specs.declared.refusal.PassRefusal.TheVariants as refusal

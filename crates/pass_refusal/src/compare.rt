@@ -132,7 +132,8 @@ fn act_on(
     }
 }
 
-/// Compares the instructions of a window, of which the first has a uid, with what would stand in their place by a form.
+/// Compares the instructions of a window, of which the first has a uid, with what would stand in
+/// their place by a form.
 pub fn judge(
     alloc: Global,
     description: &Description,

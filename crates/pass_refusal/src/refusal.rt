@@ -15,7 +15,8 @@ pub enum PassRefusal {
         uid: u32,
         insn: Rtx,
     },
-    /// Instructions and what would stand in their place by a rule are not equated: the first item that fails, with both terms.
+    /// Instructions and what would stand in their place by a rule are not equated: the first item
+    /// that fails, with both terms.
     NotEquated {
         uid: u32,
         rule: Name,

@@ -1,5 +1,6 @@
--- The tests of predicates and constraints: GCC Internals, "Defining Machine-Specific Predicates" and "Defining Machine-Specific
--- Constraints". A test is made of questions on the operand with `and`, `ior`, `not` and `if_then_else`.
+-- The tests of predicates and constraints: GCC Internals, "Defining Machine-Specific Predicates"
+-- and "Defining Machine-Specific Constraints". A test is made of questions on the operand with
+-- `and`, `ior`, `not` and `if_then_else`.
 use Rattle.std.specs.Prelude.{◌≡◌, ℕ, ◌==◌, List, [], ◌∷◌, ◌++◌, Option, Some, None, Result, Ok, Err, if◌then◌else◌, length, codes, option_and_then}
 use Rattle.std.specs.List.{flat_map}
 use Rattle.std.specs.Str.{bytes_eq}
@@ -68,11 +69,13 @@ codes_in text = lists.each code_in (members text)
 
 abbrev pub codes_by : Option (List ℕ) → Result Test Reason
 codes_by None = Err reason.Parts
-codes_by (Some text) = judged_map (λ cs. alone (question.Codes cs)) (or_aside reason.Code (codes_in text))
+codes_by (Some text) =
+    judged_map (λ cs. alone (question.Codes cs)) (or_aside reason.Code (codes_in text))
 
 abbrev pub condition_by : List Constant → Option (List ℕ) → Result Test Reason
 condition_by constants None = Err reason.Parts
-condition_by constants (Some text) = judged_map (λ c. alone (question.Condition c)) (test_condition_of constants text)
+condition_by constants (Some text) =
+    judged_map (λ c. alone (question.Condition c)) (test_condition_of constants text)
 
 -- the predicate of an operand, whatever the operand's number
 abbrev pub predicate_behind : Tree → Tree → Option (List ℕ)
@@ -86,7 +89,8 @@ predicate_in _ = None
 
 abbrev pub predicate_by : Option Mode → Option (List ℕ) → Result Test Reason
 predicate_by m None = Err reason.Parts
-predicate_by m (Some name) = judged_map (λ mode. alone (question.Predicate name mode)) (or_aside reason.Mode m)
+predicate_by m (Some name) =
+    judged_map (λ mode. alone (question.Predicate name mode)) (or_aside reason.Mode m)
 
 -- ---- tests of tests
 
@@ -95,7 +99,8 @@ each [] = Ok []
 each (t ∷ ts) = judged_with (λ x xs. x ∷ xs) t (each ts)
 
 abbrev pub joined : Question → ℕ → List (Result Test Reason) → Result Test Reason
-joined q count inside = if length inside == count then judged_map (test_with q) (each inside) else Err reason.Parts
+joined q count inside =
+    if length inside == count then judged_map (test_with q) (each inside) else Err reason.Parts
 
 -- ---- a tree
 
@@ -114,9 +119,11 @@ abbrev pub of_kind : List Constant → Option TestKind → Option Mode → List 
 of_kind constants None m ts inside = Err reason.Parts
 of_kind constants (Some k) m ts inside = behind constants k m ts inside
 
-abbrev pub of_head : List Constant → Option (List ℕ) → List Tree → List (Result Test Reason) → Result Test Reason
+abbrev pub of_head : List Constant → Option (List ℕ) → List Tree → List (Result Test Reason) →
+    Result Test Reason
 of_head constants None ts inside = Err reason.Parts
-of_head constants (Some text) ts inside = of_kind constants (kind_of text) (mode_of_head text) ts inside
+of_head constants (Some text) ts inside =
+    of_kind constants (kind_of text) (mode_of_head text) ts inside
 
 abbrev pub list_by : List Constant → List Tree → List (Result Test Reason) → Result Test Reason
 list_by constants (h ∷ ts) (x ∷ inside) = of_head constants (atom_of h) ts inside
@@ -127,7 +134,8 @@ abbrev pub each_read : List (Tree → Result Test Reason) → List Tree → List
 each_read (read ∷ reads) (t ∷ ts) = read t ∷ each_read reads ts
 each_read _ _ = []
 
-abbrev pub test_step : List Constant → Tree-F (Tree → Result Test Reason) → Tree → Result Test Reason
+abbrev pub test_step : List Constant → Tree-F (Tree → Result Test Reason) → Tree →
+    Result Test Reason
 test_step constants x t = list_by constants (items_of t) (each_read (inside_at x) (inside_of t))
 
 -- the test that a tree writes, or the smallest reason that applies anywhere in it
@@ -165,7 +173,8 @@ pub data IsTest (constants : List Constant) : Tree → Test → Type 0 where
       IsList t word (a ∷ b ∷ []) → kind_of word ≡ Some kind.Ior →
       IsTest constants a x → IsTest constants b y →
       IsTest constants t (test_with question.Ior (x ∷ y ∷ []))
-  of_not : (t : Tree) (word : List ℕ) (a : Tree) (x : Test) → IsList t word (a ∷ []) → kind_of word ≡ Some kind.Not →
+  of_not : (t : Tree) (word : List ℕ) (a : Tree) (x : Test) → IsList t word (a ∷ []) →
+      kind_of word ≡ Some kind.Not →
       IsTest constants a x → IsTest constants t (test_with question.Not (x ∷ []))
   of_choice : (t : Tree) (word : List ℕ) (a b c : Tree) (x y z : Test) →
       IsList t word (a ∷ b ∷ c ∷ []) → kind_of word ≡ Some kind.IfThenElse →

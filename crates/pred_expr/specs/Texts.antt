@@ -1,7 +1,9 @@
--- The conditions and the statements of forms by their texts: GCC Internals, "Defining RTL Patterns", "Defining RTL Sequences for
--- Code Generation" and "Defining Machine-Specific Predicates". What a text is, the grammar of conditions and statements says
--- (IsText of c_cond). Here that is a value: the one tree that the grammar gives a text, or the reason where it gives none. The
--- clauses `grammar` of condition, statements and test_of carry this (Says), so that nobody has to look at how the value is made.
+-- The conditions and the statements of forms by their texts: GCC Internals, "Defining RTL
+-- Patterns", "Defining RTL Sequences for Code Generation" and "Defining Machine-Specific
+-- Predicates". What a text is, the grammar of conditions and statements says (IsText of c_cond).
+-- Here that is a value: the one tree that the grammar gives a text, or the reason where it gives
+-- none. The clauses `grammar` of condition, statements and test_of carry this (Says), so that
+-- nobody has to look at how the value is made.
 use Rattle.std.specs.Prelude.{◌≡◌, ◌↔◌, ℕ, pos, List, Result, Ok, Err}
 use Rattle.rtx_tree.specs.declared.constants.Constant.{Constant}
 use Rattle.c_cond.specs.c_words.declared.atom.Dialect.TheVariants as dialect
@@ -14,23 +16,26 @@ use Rattle.md_pattern.specs.declared.reason.Reason.TheVariants as reason
 use Rattle.md_pattern.specs.Pattern.{or_aside}
 use Rattle.pred_expr.specs.machine.Reading.{tree_in}
 
--- A value says which trees there are: it is a tree exactly where this is one, so that there is no other, and the reason exactly
--- where there is none.
+-- A value says which trees there are: it is a tree exactly where this is one, so that there is no
+-- other, and the reason exactly where there is none.
 pub record Says (r : Reason) (IsTree : Tree → Type 0) (value : Result Tree Reason) : Type 0 where
   pub tree : (t : Tree) → (value ≡ Ok t) ↔ IsTree t
   pub aside : (value ≡ Err r) ↔ ((t : Tree) → IsTree t → ⊥)
 
 -- the condition that a text is
 abbrev pub condition_of : List Constant → List ℕ → Result Tree Reason
-condition_of constants text = or_aside reason.Condition (tree_in dialect.Condition goal.Condition constants text)
+condition_of constants text =
+    or_aside reason.Condition (tree_in dialect.Condition goal.Condition constants text)
 
 -- the condition that a text is in the test of a predicate
 abbrev pub test_condition_of : List Constant → List ℕ → Result Tree Reason
-test_condition_of constants text = or_aside reason.Condition (tree_in dialect.Test goal.Condition constants text)
+test_condition_of constants text =
+    or_aside reason.Condition (tree_in dialect.Test goal.Condition constants text)
 
 -- the statements that a text is
 abbrev pub statements_of : List Constant → List ℕ → Result Tree Reason
-statements_of constants text = or_aside reason.Statements (tree_in dialect.Condition goal.Statements constants text)
+statements_of constants text =
+    or_aside reason.Statements (tree_in dialect.Condition goal.Statements constants text)
 
 -- what no text is: a condition that is always true, and no statement
 abbrev pub always : Tree

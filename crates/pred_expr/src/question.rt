@@ -17,7 +17,8 @@ pub enum Question {
     Codes(Codes),
     /// `(match_test "CONDITION")`: whether the condition isn't 0 for the operand.
     Condition(Cond),
-    /// `(match_operand N "PREDICATE")`: whether the predicate accepts the operand, in this mode or in that of the call.
+    /// `(match_operand N "PREDICATE")`: whether the predicate accepts the operand, in this mode or
+    /// in that of the call.
     Predicate { name: Name, mode: Mode },
     /// Whether both parts hold.
     And,

@@ -279,15 +279,18 @@ fn test_in(alloc: Global, constants: &Constants, tree: &Tree) -> Result<Judged<T
     }
 }
 
-/// The test that a tree of a description writes, or the smallest reason that applies anywhere in it.
+/// The test that a tree of a description writes, or the smallest reason that applies anywhere in
+/// it.
 ///
-/// A test is `(match_code "CODES")`, `(match_test "CONDITION")`, `(match_operand N "PREDICATE")` with or without a mode and a
-/// constraint, which is ignored, or made of tests: `and` and `ior` of two, `not` of one, `if_then_else` of three. `Parts` where it
-/// has other parts or another head, `Code` where a code is unknown, `Mode` where a mode is none of the four, `Condition` where a
+/// A test is `(match_code "CODES")`, `(match_test "CONDITION")`, `(match_operand N "PREDICATE")`
+/// with or without a mode and a constraint, which is ignored, or made of tests: `and` and `ior` of
+/// two, `not` of one, `if_then_else` of three. `Parts` where it has other parts or another head,
+/// `Code` where a code is unknown, `Mode` where a mode is none of the four, `Condition` where a
 /// condition is outside the grammar. It goes as deep as the tree.
 pub fn test_of(alloc: Global, tree: &Tree, constants: &Constants) -> Result<Judged<Test>, Memory>
     ensures value { IfOk result (λ test. test ≡ spec.test_of constants.now tree.now) }
-    ensures tests { (t : Tree) (x : Test) → (spec.test_of constants.now t ≡ Ok x) ↔ spec.IsTest constants.now t x }
+    ensures tests { (t : Tree) (x : Test) →
+        (spec.test_of constants.now t ≡ Ok x) ↔ spec.IsTest constants.now t x }
     ensures grammar { (bytes : List ℕ) → texts.Says reason.Condition (IsText Dialect.Test constants.now Condition bytes)
         (texts.test_condition_of constants.now bytes) }
 {

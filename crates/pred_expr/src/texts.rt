@@ -39,7 +39,8 @@ pub(crate) fn test_condition(
     }
 }
 
-/// The preparation statements that a text is, or `Statements` where the text is outside the grammar.
+/// The preparation statements that a text is, or `Statements` where the text is outside the
+/// grammar.
 pub fn statements(alloc: Global, text: &[u8], constants: &Constants) -> Result<Judged<Prep>, Memory>
     ensures value { IfOk result (λ prep. prep ≡ spec.statements_of constants.now text.now) }
     ensures grammar { (bytes : List ℕ) → spec.Says reason.Statements (IsText Dialect.Condition constants.now Statements bytes)

@@ -1,6 +1,6 @@
 -- Which predicates of a description are accepted: GCC Internals, "Machine-Independent Predicates"
--- and "Defining Machine-Specific Predicates". No rounds stand here: a predicate is accepted by steps
--- that come to an end, so one that reaches itself is not.
+-- and "Defining Machine-Specific Predicates". No rounds stand here: a predicate is accepted by
+-- steps that come to an end, so one that reaches itself is not.
 use Rattle.std.specs.Prelude.{◌≡◌, ℕ, Bool, true, ◌&&◌, List, [], ◌∷◌, Some, None, Contains}
 use Rattle.std.specs.Prelude.{find}
 use Rattle.rtx_tree.specs.declared.constants.Constant.{Constant}
@@ -40,8 +40,8 @@ defines name form =
 
 -- ---- accepted predicates
 
--- A predicate is accepted where every description has it, or where the form that defines it first is
--- a definition, and the predicates that its test names are accepted.
+-- A predicate is accepted where every description has it, or where the form that defines it first
+-- is a definition, and the predicates that its test names are accepted.
 pub data IsAccepted (constants : List Constant) (forms : List Instance) : List ℕ → Type 0 where
   own : (name : List ℕ) (o : Own) → own_named name ≡ Some o → IsAccepted constants forms name
   defined : (name : List ℕ) (form : Instance) (h : FormHead) (test : Test) →

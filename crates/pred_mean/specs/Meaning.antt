@@ -50,10 +50,10 @@ pub record Stands (constants : List Constant) (forms : List Instance) (form : In
   pub head_is : f.head ≡ h
   pub test_is : f.test ≡ Some test
 
--- The definitions of predicates that are not set aside are those that stand, and the first of a name
--- is among them exactly where the predicate is accepted. A form of any head has the reason of its
--- predicates exactly where it names one that is not accepted. A predicate is accepted or not, and an
--- accepted one does not reach itself.
+-- The definitions of predicates that are not set aside are those that stand, and the first of a
+-- name is among them exactly where the predicate is accepted. A form of any head has the reason of
+-- its predicates exactly where it names one that is not accepted. A predicate is accepted or not,
+-- and an accepted one does not reach itself.
 pub record AreJudged (constants : List Constant) (forms : List Instance) : Type 0 where
   pub taken : (form : Instance) (h : FormHead) (f : Form) → head_of form.tree ≡ Some h →
       defines_predicate (Some h) ≡ true →
@@ -75,13 +75,14 @@ pub record AreJudged (constants : List Constant) (forms : List Instance) : Type 
 -- ---- what predicates accept
 
 -- Predicates take what their definitions say: one that every description has answers itself; an
--- accepted one takes what its test says, in which each predicate that is named takes the same again;
--- any other takes nothing.
+-- accepted one takes what its test says, in which each predicate that is named takes the same
+-- again; any other takes nothing.
 pub record AreMeant (constants : List Constant) (forms : List Instance) (takes : Accepts) : Type 0
   where
     pub own : (name : List ℕ) (o : Own) (x : Rtx) (m : Mode) → own_named name ≡ Some o →
         takes name x m ≡ accepts o m x
-    pub tested : (name : List ℕ) (form : Instance) (h : FormHead) (test : Test) (x : Rtx) (m : Mode) →
+    pub tested :
+        (name : List ℕ) (form : Instance) (h : FormHead) (test : Test) (x : Rtx) (m : Mode) →
         own_named name ≡ None → find (defines name) forms ≡ Some form →
         IsDefinition constants form.tree h test → AreAccepted constants forms (predicates_of test) →
         takes name x m ≡ (mode_fits h m x && test_holds takes x m test)

@@ -1,5 +1,5 @@
--- When the test of a predicate or of a constraint holds for an operand: GCC Internals, "Defining Machine-Specific Predicates" and
--- "Defining Machine-Specific Constraints".
+-- When the test of a predicate or of a constraint holds for an operand: GCC Internals, "Defining
+-- Machine-Specific Predicates" and "Defining Machine-Specific Constraints".
 use Rattle.std.specs.Prelude.{ℕ, Bool, false, not, ◌&&◌, ◌||◌, List, [], ◌∷◌, if◌then◌else◌}
 use Rattle.std.specs.List.{list_any}
 use Rattle.rtx_tree.specs.declared.code.Code.{Code}
@@ -34,7 +34,8 @@ abbrev pub mode_or : Mode → Mode → Mode
 mode_or Void call = call
 mode_or own call = own
 
--- The answer to a question about an operand in a mode, with the answers to its parts. No question has other parts than these.
+-- The answer to a question about an operand in a mode, with the answers to its parts. No question
+-- has other parts than these.
 abbrev pub answer : Accepts → Rtx → Mode → Question → List Bool → Bool
 answer accepts x m (question.Codes cs) [] = has_code cs x
 answer accepts x m (question.Condition c) [] = condition_holds c x

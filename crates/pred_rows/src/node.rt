@@ -11,7 +11,8 @@ use std::marker::Model;
 /// The heads of a condition, each behind its parts.
 pub type Heads = Items<CondHead>;
 
-/// A question of a test. The questions that it is made of stand before it in the row, and are given by their places there.
+/// A question of a test. The questions that it is made of stand before it in the row, and are given
+/// by their places there.
 #[derive(Drop)]
 pub enum Node {
     /// Whether the operand has one of these codes.

@@ -130,8 +130,9 @@ impl TestRows {
         self.nodes.as_slice()
     }
 
-    /// Puts a test behind the others, and gives the place of its root. The tests that stand in the row stay where they are, also
-    /// where memory runs out; then some questions more may stand behind them.
+    /// Puts a test behind the others, and gives the place of its root. The tests that stand in the
+    /// row stay where they are, also where memory runs out; then some questions more may stand
+    /// behind them.
     pub fn push(&mut self, alloc: Global, test: &Test) -> Result<usize, Memory>
         ensures kept { take (length self.old) self.new ≡ self.old }
         ensures root { IfOk result (spec.IsRoot self.new test.now) }
@@ -139,8 +140,8 @@ impl TestRows {
         push_test(alloc, &mut self.nodes, test)
     }
 
-    /// Whether the test whose root stands at a place holds for an operand that is asked for in a mode; none holds where no node
-    /// stands. It takes no memory, and goes as deep as the test.
+    /// Whether the test whose root stands at a place holds for an operand that is asked for in a
+    /// mode; none holds where no node stands. It takes no memory, and goes as deep as the test.
     pub fn holds<P: Preds>(&self, root: usize, preds: &P, x: &Rtx, mode: Mode) -> bool
         ensures { result ≡ spec.holds_at (P.accepts preds.now) x.now mode self.now root }
     {

@@ -1,5 +1,6 @@
--- What `recog` tells of functions: GCC Internals, "Pattern Ordering" (the first match), "Interdependence of Patterns", and "Multiple
--- Alternative Constraints". The lines are this project's own.
+-- What `recog` tells of functions: GCC Internals, "Pattern Ordering" (the first match),
+-- "Interdependence of Patterns", and "Multiple Alternative Constraints". The lines are this
+-- project's own.
 use Rattle.std.specs.Prelude.{◌≡◌, ℕ, true, false, List, [], ◌∷◌, ◌++◌, Ok, Err}
 use Rattle.std.specs.Fmt.{decimal}
 use Rattle.rtx_tree.specs.declared.function.Insn.{Insn}
@@ -27,16 +28,20 @@ line_of names function uid form alternative = function ++ (32 ∷ (decimal uid +
 -- at output: the line of the first form that counts, with the lowest enabled alternative that fits
 pub data OutputComes (forms : List Entry) (function : List ℕ) (i : Insn) : Outcome → Type 0 where
   free : needs_form i ≡ false → OutputComes forms function i (Ok [])
-  held : needs_form i ≡ true → is_held i ≡ true → OutputComes forms function i (Err (unmatched_at Output function i))
+  held : needs_form i ≡ true → is_held i ≡ true →
+      OutputComes forms function i (Err (unmatched_at Output function i))
   chosen : (c : Chosen) → needs_form i ≡ true → is_held i ≡ false → IsChosen forms output_facts i.pattern c → OutputComes forms function i (Ok (line_of (names_of forms) function i.uid c.form c.alternative))
-  unmatched : needs_form i ≡ true → is_held i ≡ false → NoneMatchesOut forms output_facts i.pattern → OutputComes forms function i (Err (unmatched_at Output function i))
+  unmatched : needs_form i ≡ true → is_held i ≡ false →
+      NoneMatchesOut forms output_facts i.pattern →
+      OutputComes forms function i (Err (unmatched_at Output function i))
 
 -- ---- what functions come to
 
 -- a function: what a pass refuses, or else what all instructions come to that the passes make of it
 pub data FunctionComes (forms : List Entry) (f : Function) : Outcome → Type 0 where
   refused : (e : Refusal) → AfterComes forms f (Err e) → FunctionComes forms f (Err e)
-  printed : (m : Made) (outcome : Outcome) → AfterComes forms f (Ok m) → EachComes (OutputComes forms f.name) m.function.insns outcome →
+  printed : (m : Made) (outcome : Outcome) → AfterComes forms f (Ok m) →
+      EachComes (OutputComes forms f.name) m.function.insns outcome →
       FunctionComes forms f outcome
 
 -- some functions, one behind the other

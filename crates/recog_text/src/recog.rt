@@ -70,18 +70,22 @@ fn recog_read(alloc: Global, desc: &Description, functions: &[Function]) -> Resu
     recog_text(alloc, desc, functions)
 }
 
-/// The lines of the instructions of an input as they come to output, by a description, or what refuses it: bytes that are no text, a tree
-/// outside the language, a function that breaks a rule or passes a limit, or in a function what a pass refuses and then an instruction
-/// without a match, in this order. An input has at most 16,777,216 bytes.
+/// The lines of the instructions of an input as they come to output, by a description, or what
+/// refuses it: bytes that are no text, a tree outside the language, a function that breaks a rule
+/// or passes a limit, or in a function what a pass refuses and then an instruction without a match,
+/// in this order. An input has at most 16,777,216 bytes.
 ///
 /// # Errors
 ///
-/// `Syntax`, `Limit`, `Construct`, `IllFormed`; as the passes tell them, `Unmatched`, `Unsatisfied`, `NotEquated` and `Limit`; `Unmatched`
-/// at `output` where no form that matches an instruction counts; `Memory` where memory ran out.
+/// `Syntax`, `Limit`, `Construct`, `IllFormed`; as the passes tell them, `Unmatched`,
+/// `Unsatisfied`, `NotEquated` and `Limit`; `Unmatched` at `output` where no form that matches an
+/// instruction counts; `Memory` where memory ran out.
 pub fn recog_of(alloc: Global, desc: &Description, bytes: &[u8]) -> Result<Vec<u8>, Refusal>
     requires { length bytes.now ≤ most_bytes }
     ensures gives { Gives result (InputComesTo (FunctionsCome desc.now) bytes.now) }
-    ensures one { (forms : List Entry) (bytes : List ℕ) (a b : Outcome) → InputComesTo (FunctionsCome forms) bytes a → InputComesTo (FunctionsCome forms) bytes b → a ≡ b }
+    ensures one { (forms : List Entry) (bytes : List ℕ) (a b : Outcome) →
+        InputComesTo (FunctionsCome forms) bytes a → InputComesTo (FunctionsCome forms) bytes b →
+        a ≡ b }
 {
     let functions = read_functions(alloc, bytes)?;
     recog_read(alloc, desc, functions.as_slice())

@@ -1,5 +1,6 @@
--- The key by which the forms that may match an instruction are found: its code, and the code of its source. GCC Internals, "RTL Template",
--- "Side Effect Expressions" (`set`, `parallel`) and "Pattern Ordering".
+-- The key by which the forms that may match an instruction are found: its code, and the code of its
+-- source. GCC Internals, "RTL Template", "Side Effect Expressions" (`set`, `parallel`) and "Pattern
+-- Ordering".
 use Rattle.std.specs.Prelude.{Bool, true, false, not, ◌&&◌, ◌||◌, List, [], ◌∷◌, ℕ, Option, Some, None, Result, Ok, Err, option_map, option_and_then, slice_get, if◌then◌else◌}
 use Rattle.rtx_tree.specs.declared.code.Code.{Code}
 use Rattle.rtx_tree.specs.declared.code.Code.TheVariants.{Set, Parallel}
@@ -35,8 +36,8 @@ part_code x number = option_map code_of (slice_get (kids_of x) number)
 abbrev pub own_code : Code → Option Code
 own_code code = if is_wild code then Some code else None
 
--- The source of one effect: the code of what a `set` sets to. What stands for other expressions may stand for a `set` of any source, so its
--- own code counts; any other effect has no source.
+-- The source of one effect: the code of what a `set` sets to. What stands for other expressions may
+-- stand for a `set` of any source, so its own code counts; any other effect has no source.
 abbrev pub effect_source : Rtx → Option Code
 effect_source x = if is_a Set x then part_code x 1 else own_code (code_of x)
 
@@ -59,10 +60,12 @@ fits_source (Some pattern) None = is_wild pattern
 fits_source None (Some insn) = false
 fits_source None None = true
 
--- A pattern has an instruction's key where its code stands for any other, or is the instruction's and its source's code stands for any
--- other or is that of the instruction's source.
+-- A pattern has an instruction's key where its code stands for any other, or is the instruction's
+-- and its source's code stands for any other or is that of the instruction's source.
 abbrev pub has_key : Key → Key → Bool
-has_key pattern insn = is_wild pattern.code || (same_code pattern.code insn.code && fits_source pattern.source insn.source)
+has_key pattern insn =
+    is_wild pattern.code ||
+    (same_code pattern.code insn.code && fits_source pattern.source insn.source)
 
 -- ---- which forms are tried
 
@@ -74,7 +77,8 @@ only_pattern (p ∷ q ∷ ps) = None
 
 -- the key of a form that defines an instruction
 abbrev pub form_key : Form → Option Key
-form_key form = if is_instruction form.head then option_map key_of (only_pattern form.patterns) else None
+form_key form =
+    if is_instruction form.head then option_map key_of (only_pattern form.patterns) else None
 
 abbrev pub judged_key : Result Form Reason → Option Key
 judged_key (Ok form) = form_key form
@@ -89,6 +93,7 @@ abbrev pub is_tried_by : Key → Option Key → Bool
 is_tried_by insn None = false
 is_tried_by insn (Some pattern) = has_key pattern insn
 
--- whether a form is tried for an instruction: it defines one, and its pattern has the instruction's key
+-- whether a form is tried for an instruction: it defines one, and its pattern has the instruction's
+-- key
 abbrev pub is_tried : Rtx → Entry → Bool
 is_tried insn entry = is_tried_by (key_of insn) (entry_key entry)

@@ -19,8 +19,9 @@ use rtx_tree::Rtx;
 use std::alloc::Global;
 use std::sync::ledger::Ledger;
 
-/// The first form from an index on that matches an instruction, or `None` exactly where there is none such. There are at most as many steps as
-/// forms with the instruction's key, and what matches has it.
+/// The first form from an index on that matches an instruction, or `None` exactly where there is
+/// none such. There are at most as many steps as forms with the instruction's key, and what matches
+/// has it.
 pub fn recog<P: Preds, L: Ledger>(
     alloc: Global,
     tables: &Tables,
@@ -36,7 +37,9 @@ pub fn recog<P: Preds, L: Ledger>(
     ensures first { IfOk result (λ r. (m : FormMatch) → (r ≡ Some m) ↔ IsFirst (P.accepts preds.now) facts.now half.Insn (insn.now ∷ []) forms.now from m) }
     ensures none { IfOk result (λ r. r ≡ None → NoneBetween (P.accepts preds.now) facts.now half.Insn (insn.now ∷ []) forms.now from (length forms.now)) }
     ensures tries { steps.new ≤ steps.old + count_by (is_tried insn.now) forms.now }
-    ensures keyed { (entry : Entry) (operands : Ops) → EntryMatches (P.accepts preds.now) facts.now half.Insn (insn.now ∷ []) entry operands → is_tried insn.now entry ≡ true }
+    ensures keyed { (entry : Entry) (operands : Ops) →
+        EntryMatches (P.accepts preds.now) facts.now half.Insn (insn.now ∷ []) entry operands →
+        is_tried insn.now entry ≡ true }
 {
     let key = key_of(insn);
     let mut place = from;

@@ -45,7 +45,8 @@ fn is_tried_at(keys: &[Option<Key>], insn: Key, place: u32) -> bool
     }
 }
 
-/// The first place from another on of which what stands there is tried for an instruction with a key.
+/// The first place from another on of which what stands there is tried for an instruction with a
+/// key.
 fn next_of(keys: &[Option<Key>], insn: Key, from: u32) -> Option<u32>
     requires { length keys.now < 2 ^ 32 }
     ensures { MatchOption result (NoneTried keys.now insn from (length keys.now)) (λ place. IsNext keys.now insn from place) }

@@ -1,4 +1,5 @@
--- Which registers can't share a home: GCC Internals, "Liveness information" and "RTL passes" (the integrated register allocator).
+-- Which registers can't share a home: GCC Internals, "Liveness information" and "RTL passes" (the
+-- integrated register allocator).
 use Rattle.std.specs.Prelude.{◌≡◌, ℕ, ◌⊎◌, true, List, Some, slice_get}
 use Rattle.rtx_tree.specs.declared.function.Insn.{Insn}
 use Rattle.rtx_tree.specs.declared.function.Function.{Function}
@@ -8,7 +9,9 @@ use Rattle.live.specs.Live.{IsLiveAfter}
 
 -- an instruction defines x, and y is live after it
 abbrev pub DefinesBeside : Function → ℕ → ℕ → Type 0
-DefinesBeside f x y = (p : ℕ) × (i : Insn) × (slice_get f.insns p ≡ Some i) × (insn_defines i x ≡ true) × IsLiveAfter f y p
+DefinesBeside f x y =
+    (p : ℕ) × (i : Insn) × (slice_get f.insns p ≡ Some i) × (insn_defines i x ≡ true) ×
+    IsLiveAfter f y p
 
 -- two different registers conflict: one is defined where the other is live after
 abbrev pub Conflict : Function → ℕ → ℕ → Type 0

@@ -64,7 +64,8 @@ fn fill(
     requires table { IsTable (length set.old) rows.old }
     requires long { length rows.old ≡ 64 * length set.old }
     requires small { 64 * length set.old < 2 ^ 32 }
-    requires room { (p : ℕ) (i : Insn) (reg : ℕ) → slice_get f.now.insns p ≡ Some i → uses.insn_defines i reg ≡ true → reg < 64 * length set.old }
+    requires room { (p : ℕ) (i : Insn) (reg : ℕ) → slice_get f.now.insns p ≡ Some i →
+        uses.insn_defines i reg ≡ true → reg < 64 * length set.old }
     requires none { (x y : ℕ) → has_at rows.old x y ≡ false }
     ensures table { IsTable (length set.old) rows.new }
     ensures conflicts { OnOk result (AreConflicts f.now rows.new) }
@@ -87,13 +88,15 @@ pub fn width_of_rows(rows: &[RegRow]) -> usize
     }
 }
 
-/// For each register below 64 times the width of the rows of what is live the row of those with which it conflicts, of the same width;
-/// the others have no conflict. More words than `u32` counts bits for, and 2^32 places or more, find no memory.
+/// For each register below 64 times the width of the rows of what is live the row of those with
+/// which it conflicts, of the same width; the others have no conflict. More words than `u32` counts
+/// bits for, and 2^32 places or more, find no memory.
 pub fn conflict_rows(alloc: Global, f: &Function, live: &[RegRow]) -> Result<Vec<RegRow>, Memory>
     requires live { AreLiveRows f.now live.now }
     requires room { HaveRoom f.now live.now }
     ensures conflicts { IfOk result (λ rows. AreConflicts f.now rows.items) }
-    ensures table { (width : ℕ) → IsTable width live.now → IfOk result (λ rows. IsTable width rows.items) }
+    ensures table { (width : ℕ) → IsTable width live.now →
+        IfOk result (λ rows. IsTable width rows.items) }
 {
     let width = width_of_rows(live);
     if width > MOST_WORDS || f.insns.len() > u32::MAX as usize {

@@ -1,7 +1,7 @@
 //! Which registers conflict: one is defined where the other is live after.
 //!
-//! [`conflict_rows`] gives for each register the row of those with which it conflicts. The rows hold exactly the pairs that the paths
-//! of the function give, each pair in both of its rows.
+//! [`conflict_rows`] gives for each register the row of those with which it conflicts. The rows
+//! hold exactly the pairs that the paths of the function give, each pair in both of its rows.
 #![tactic(auto)]
 
 mod fill;

@@ -27,7 +27,8 @@ fn add_place(live: &[RegRow], place: Option<u32>, set: &mut RegRow)
 pub fn collect(live: &[RegRow], next: Successors, set: &mut RegRow)
     requires { IsTable (length set.old) live.now }
     ensures width { length set.new ≡ length set.old }
-    ensures each { (reg : ℕ) → has set.new reg ≡ (at_place next.first live.now reg || at_place next.second live.now reg) }
+    ensures each { (reg : ℕ) →
+        has set.new reg ≡ (at_place next.first live.now reg || at_place next.second live.now reg) }
 {
     set.clear();
     add_place(live, next.first, set);
@@ -49,7 +50,8 @@ fn mark_other(rows: &mut [RegRow], other: usize, reg: u32, set: &RegRow)
     requires small { other < 2 ^ 32 }
     requires room { reg < 64 * length set.now }
     ensures table { IsTable (length set.now) rows.new }
-    ensures each { (x y : ℕ) → has_at rows.new x y ≡ (has_at rows.old x y || ((has set.now x && other == x) && reg == y)) }
+    ensures each { (x y : ℕ) →
+        has_at rows.new x y ≡ (has_at rows.old x y || ((has set.now x && other == x) && reg == y)) }
 {
     if set.contains(other as u32) {
         rows[other].insert(reg);
@@ -63,7 +65,8 @@ fn mark_others(rows: &mut [RegRow], reg: u32, set: &RegRow)
     requires small { 64 * length set.now < 2 ^ 32 }
     requires room { reg < 64 * length set.now }
     ensures table { IsTable (length set.now) rows.new }
-    ensures each { (x y : ℕ) → has_at rows.new x y ≡ (has_at rows.old x y || (has set.now x && reg == y)) }
+    ensures each { (x y : ℕ) →
+        has_at rows.new x y ≡ (has_at rows.old x y || (has set.now x && reg == y)) }
 {
     let end = set.width() * WORD;
     let mut other = 0;
@@ -84,7 +87,8 @@ fn mark_one(rows: &mut [RegRow], reg: u32, set: &RegRow)
     requires small { 64 * length set.now < 2 ^ 32 }
     requires room { reg < 64 * length set.now }
     ensures table { IsTable (length set.now) rows.new }
-    ensures each { (x y : ℕ) → has_at rows.new x y ≡ (has_at rows.old x y || ((has set.now y && reg == x) || (has set.now x && reg == y))) }
+    ensures each { (x y : ℕ) → has_at rows.new x y ≡
+        (has_at rows.old x y || ((has set.now y && reg == x) || (has set.now x && reg == y))) }
 {
     let _ = join_row(rows, reg as usize, set);
     mark_others(rows, reg, set);

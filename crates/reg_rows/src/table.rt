@@ -32,7 +32,8 @@ pub fn join_row(rows: &mut [RegRow], at: usize, set: &RegRow) -> bool
     requires place { at < length rows.old }
     requires table { IsTable (length set.now) rows.old }
     ensures table { IsTable (length set.now) rows.new }
-    ensures each { (other reg : ℕ) → has_at rows.new other reg ≡ (has_at rows.old other reg || (other == at && row.has set.now reg)) }
+    ensures each { (other reg : ℕ) → has_at rows.new other reg ≡
+        (has_at rows.old other reg || (other == at && row.has set.now reg)) }
     ensures same { result ≡ false → rows.new ≡ rows.old }
     ensures kept { total rows.old ≤ total rows.new }
     ensures grown { result ≡ true → total rows.old < total rows.new }

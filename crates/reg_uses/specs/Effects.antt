@@ -1,4 +1,5 @@
--- What an instruction's effects use and define: GCC Internals, "Side Effect Expressions" and "Registers and Memory".
+-- What an instruction's effects use and define: GCC Internals, "Side Effect Expressions" and
+-- "Registers and Memory".
 use Rattle.std.specs.Prelude.{ℕ, Bool, false, ◌||◌, ◌&&◌, ◌==◌, not, List, [], ◌∷◌}
 use Rattle.std.specs.List.{list_any}
 use Rattle.rtx_tree.specs.declared.code.Code.{Code}
@@ -42,7 +43,8 @@ effect_uses_by reg Set (place ∷ source ∷ []) x = place_reads reg place || re
 effect_uses_by reg Clobber parts x = false
 effect_uses_by reg _ parts x = reads reg x
 
--- a `set` uses what its source and the address of its place read; a `clobber` uses nothing; any other uses what it reads
+-- a `set` uses what its source and the address of its place read; a `clobber` uses nothing; any
+-- other uses what it reads
 abbrev pub effect_uses : ℕ → Rtx → Bool
 effect_uses reg x = effect_uses_by reg (head_of x).code (kids_of x) x
 

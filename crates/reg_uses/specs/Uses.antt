@@ -1,5 +1,5 @@
--- What instructions and returns use and define: GCC Internals, "Insns", "Calls" and "Function Entry" (`EPILOGUE_USES`); RISC-V ELF
--- psABI, "Integer Register Convention".
+-- What instructions and returns use and define: GCC Internals, "Insns", "Calls" and "Function
+-- Entry" (`EPILOGUE_USES`); RISC-V ELF psABI, "Integer Register Convention".
 use Rattle.std.specs.Prelude.{ℕ, Bool, true, false, ◌||◌, ◌&&◌, ◌==◌, is_some, List}
 use Rattle.std.specs.List.{list_any}
 use Rattle.rtx_tree.specs.declared.code.Code.{Code}
@@ -54,6 +54,7 @@ function_sets f reg = list_any (insn_sets reg) f.insns
 abbrev pub is_result : Function → ℕ → Bool
 is_result f reg = is_some f.result && (reg == 10)
 
--- a return uses the register of the result, and those of ra, sp and s0 to s11 that the function sets
+-- a return uses the register of the result, and those of ra, sp and s0 to s11 that the function
+-- sets
 abbrev pub return_uses : Function → ℕ → Bool
 return_uses f reg = is_result f reg || (has_reg kept_registers reg && function_sets f reg)

@@ -1,4 +1,5 @@
--- What a call that gives homes has done: it gives what is told, or the refusal that is told; want of memory is free.
+-- What a call that gives homes has done: it gives what is told, or the refusal that is told; want
+-- of memory is free.
 use Rattle.std.specs.Prelude.{Result, Ok, Err}
 use Rattle.reload.specs.declared.refusal.ReloadRefusal.{ReloadRefusal}
 use Rattle.reload.specs.declared.refusal.ReloadRefusal.TheVariants as refusal
@@ -9,6 +10,7 @@ RefusesAs refusal.Memory P = Unit {0}
 RefusesAs e P = P e
 
 -- what is told is given; a refusal is the one that is told
-abbrev pub Gives : {A : Type 0} → Result A ReloadRefusal → (Result A ReloadRefusal → Type 0) → Type 0
+abbrev pub Gives : {A : Type 0} → Result A ReloadRefusal → (Result A ReloadRefusal → Type 0) →
+    Type 0
 Gives (Ok x) P = P (Ok x)
 Gives (Err e) P = RefusesAs e (λ d. P (Err d))

@@ -1,7 +1,7 @@
--- What a function comes to when its registers have homes, by a description: GCC Internals, "RTL passes" (reload),
--- "Pattern Ordering" and "Multiple Alternative Constraints". Each instruction is matched anew with its references to the
--- frame put in, while its registers are still those that predicates know; then it has its homes, and moves before it and
--- behind it.
+-- What a function comes to when its registers have homes, by a description: GCC Internals, "RTL
+-- passes" (reload), "Pattern Ordering" and "Multiple Alternative Constraints". Each instruction is
+-- matched anew with its references to the frame put in, while its registers are still those that
+-- predicates know; then it has its homes, and moves before it and behind it.
 use Rattle.std.specs.Prelude.{◌≡◌, ℕ, ◌+◌, true, false, if◌then◌else◌, List, [], ◌∷◌, ◌++◌, length, Result, Ok, Err, slice_get}
 use Rattle.std.specs.Option.{option_map_or}
 use Rattle.std.specs.List.{All}
@@ -69,9 +69,11 @@ patterns_in e = patterns_by e.form
 abbrev pub patterns_at : List Entry → ℕ → List Rtx
 patterns_at forms form = option_map_or patterns_in (slice_get forms form) []
 
--- an instruction is matched before its registers have homes: by the one pattern of the first form, with operands
+-- an instruction is matched before its registers have homes: by the one pattern of the first form,
+-- with operands
 pub record IsMatch (forms : List Entry) (layout : Layout) (i : Insn) (form : ℕ) (pattern : Rtx) (found : Ops) : Type 0 where
-  pub first : IsFirst forms lower_facts (placed layout i) 0 (record { form = form; operands = found })
+  pub first :
+      IsFirst forms lower_facts (placed layout i) 0 (record { form = form; operands = found })
   pub pattern_is : patterns_at forms form ≡ pattern ∷ []
 
 -- what is chosen from then
@@ -82,7 +84,8 @@ given_by homes layout i pattern found = given_of homes layout i.kind (placed lay
 
 -- in the order in which they are numbered
 abbrev pub moves_of : Given → Plan → List Rtx
-moves_of given plan = insns_before given.operands plan.parts ++ insns_after given.operands plan.parts
+moves_of given plan =
+    insns_before given.operands plan.parts ++ insns_after given.operands plan.parts
 
 -- some form matches a move
 pub record IsMatched (forms : List Entry) (x : Rtx) : Type 0 where
@@ -101,7 +104,8 @@ pub record IsStuck (forms : List Entry) (moves before : List Rtx) (x : Rtx) : Ty
 
 -- the instruction keeps its uid; the moves before it and behind it have those from one on
 abbrev pub window_by : ℕ → Insn → List Rtx → Rtx → List Rtx → List Insn
-window_by uid i before pattern after = plain_insns uid before ++ (with_pattern i pattern ∷ plain_insns (uid + length before) after)
+window_by uid i before pattern after =
+    plain_insns uid before ++ (with_pattern i pattern ∷ plain_insns (uid + length before) after)
 
 abbrev pub window_of : ℕ → Insn → Given → Plan → List Insn
 window_of uid i given plan =
@@ -119,15 +123,18 @@ pub data MatchReloads (forms : List Entry) (form : ℕ) (given : Given) (uid : �
   unsatisfied : NoneReaches forms form given → MatchReloads forms form given uid i
       (Err (refusal.Unsatisfied i.uid (name_at (names_of forms) form) given.insn))
   -- no form matches one of its moves
-  stuck : (plan : Plan) (before : List Rtx) (x : Rtx) → IsChosen forms form given plan → IsStuck forms (moves_of given plan) before x →
+  stuck : (plan : Plan) (before : List Rtx) (x : Rtx) → IsChosen forms form given plan →
+      IsStuck forms (moves_of given plan) before x →
       MatchReloads forms form given uid i (Err (refusal.Unmatched (uid + length before) x))
   -- it stands between its moves
-  made : (plan : Plan) → IsChosen forms form given plan → All (IsMatched forms) (moves_of given plan) →
+  made : (plan : Plan) → IsChosen forms form given plan →
+      All (IsMatched forms) (moves_of given plan) →
       MatchReloads forms form given uid i (Ok (window_of uid i given plan))
 
 pub data InsnReloads (forms : List Entry) (homes : List HomeOf) (layout : Layout) (uid : ℕ) (i : Insn) : InsnAnswer → Type 0 where
   -- what needs no form has no moves
-  stays : needs_form i ≡ false → InsnReloads forms homes layout uid i (Ok (with_pattern i (alone homes layout i) ∷ []))
+  stays : needs_form i ≡ false →
+      InsnReloads forms homes layout uid i (Ok (with_pattern i (alone homes layout i) ∷ []))
   -- no form matches it
   unmatched : needs_form i ≡ true → NoneMatches forms lower_facts (placed layout i) →
       InsnReloads forms homes layout uid i (Err (refusal.Unmatched i.uid (placed layout i)))
@@ -142,12 +149,15 @@ abbrev pub chain_behind : List Insn → InsnAnswer → InsnAnswer
 chain_behind insns (Ok rest) = Ok (insns ++ rest)
 chain_behind insns (Err e) = Err e
 
--- The instructions one behind the other, or the first refusal. A window takes one uid less of those that are free than it has instructions.
+-- The instructions one behind the other, or the first refusal. A window takes one uid less of those
+-- that are free than it has instructions.
 pub data ChainReloads (forms : List Entry) (homes : List HomeOf) (layout : Layout) : ℕ → List Insn → InsnAnswer → Type 0 where
   none : (uid : ℕ) → ChainReloads forms homes layout uid [] (Ok [])
-  refused : (uid : ℕ) (i : Insn) (insns : List Insn) (e : ReloadRefusal) → InsnReloads forms homes layout uid i (Err e) →
+  refused : (uid : ℕ) (i : Insn) (insns : List Insn) (e : ReloadRefusal) →
+      InsnReloads forms homes layout uid i (Err e) →
       ChainReloads forms homes layout uid (i ∷ insns) (Err e)
-  goes_on : (uid next : ℕ) (i : Insn) (insns window : List Insn) (rest : InsnAnswer) → InsnReloads forms homes layout uid i (Ok window) →
+  goes_on : (uid next : ℕ) (i : Insn) (insns window : List Insn) (rest : InsnAnswer) →
+      InsnReloads forms homes layout uid i (Ok window) →
       next + 1 ≡ uid + length window → ChainReloads forms homes layout next insns rest →
       ChainReloads forms homes layout uid (i ∷ insns) (chain_behind window rest)
 
@@ -161,5 +171,6 @@ function_of f (Err e) = Err e
 
 -- what a function comes to; new instructions take the uids after the greatest, in their order
 pub data FunctionReloads (forms : List Entry) (homes : List HomeOf) (layout : Layout) (f : Function) : Answer → Type 0 where
-  comes : (answer : InsnAnswer) → ChainReloads forms homes layout (next_uid f.insns) f.insns answer →
+  comes : (answer : InsnAnswer) →
+      ChainReloads forms homes layout (next_uid f.insns) f.insns answer →
       FunctionReloads forms homes layout f (function_of f answer)

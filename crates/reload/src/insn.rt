@@ -73,7 +73,8 @@ fn unsatisfied(setting: &Setting, uid: u32, form: u32, insn: Rtx) -> Result<Relo
     Ok(ReloadRefusal::Unsatisfied { uid, form, insn })
 }
 
-/// Adds what an instruction comes to that a form matches, by what is chosen from. Gives the next uid.
+/// Adds what an instruction comes to that a form matches, by what is chosen from. Gives the next
+/// uid.
 fn add_given(
     setting: &Setting,
     uid: u32,

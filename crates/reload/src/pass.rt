@@ -58,13 +58,15 @@ fn with_insns(f: Function, insns: Insns) -> Function
     }
 }
 
-/// The function with homes put in and moves where forms of the description ask for them. Moves take the uids after the greatest, in
-/// their order; uids past 32 bits find no memory. Homes and slots are in increasing number, as `assign` gives them.
+/// The function with homes put in and moves where forms of the description ask for them. Moves take
+/// the uids after the greatest, in their order; uids past 32 bits find no memory. Homes and slots
+/// are in increasing number, as `assign` gives them.
 ///
 /// # Errors
 ///
-/// For the first instruction that is refused: `Unmatched` where no form matches it, or one of its moves, which has the uid then that it would
-/// have; `Unsatisfied` where no alternative of its form is reachable. `Memory` where memory ran out.
+/// For the first instruction that is refused: `Unmatched` where no form matches it, or one of its
+/// moves, which has the uid then that it would have; `Unsatisfied` where no alternative of its form
+/// is reachable. `Memory` where memory ran out.
 #[tactic(auto, using(crate::proofs::One::reload_one, crate::proofs::WindowLaws::reload_windows, crate::proofs::Marks::reload_marks, crate::proofs::Uids::reload_uids))]
 pub fn reload(
     alloc: Global,

@@ -9,7 +9,8 @@ use rtx_tree::{Name, Rtx};
 pub enum ReloadRefusal {
     /// No form matches an instruction, as it stands with references to the frame put in, or a move.
     Unmatched { uid: u32, insn: Rtx },
-    /// No enabled alternative of the first form that matches an instruction is reachable; the instruction is shown with its homes.
+    /// No enabled alternative of the first form that matches an instruction is reachable; the
+    /// instruction is shown with its homes.
     Unsatisfied { uid: u32, form: Name, insn: Rtx },
     /// Memory ran out.
     Memory,

@@ -60,7 +60,8 @@ impl Setting<'_> {
         }
     }
 
-    /// What is chosen from for a tree in the frame that a pattern matches with operands, as an instruction of a kind.
+    /// What is chosen from for a tree in the frame that a pattern matches with operands, as an
+    /// instruction of a kind.
     pub fn given(
         &self,
         kind: Kind,

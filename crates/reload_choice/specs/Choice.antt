@@ -1,5 +1,5 @@
--- What an alternative costs, and which is taken: GCC Internals, "Multiple Alternative Constraints" and "Constraint Modifier Characters" (`?`
--- and `!`).
+-- What an alternative costs, and which is taken: GCC Internals, "Multiple Alternative Constraints"
+-- and "Constraint Modifier Characters" (`?` and `!`).
 use Rattle.std.specs.Prelude.{◌≡◌, ℕ, ◌+◌, ◌*◌, ◌<◌, ◌≤◌, Bool, true, false, List, [], Option, Some, None, Result, Ok, Err, slice_get, if◌then◌else◌}
 use Rattle.std.specs.List.{count_by, sum_by}
 use Rattle.std.specs.Option.{option_map_or}
@@ -50,10 +50,12 @@ base_count moves = count_by is_base_move moves
 
 -- the number of operands moved, and of bases and far bases before the instruction and after it
 abbrev pub moves_cost : List Ask → List Part → ℕ
-moves_cost asks parts = moved_count parts + (base_count (moves_before asks parts) + base_count (moves_after asks parts))
+moves_cost asks parts =
+    moved_count parts + (base_count (moves_before asks parts) + base_count (moves_after asks parts))
 
 abbrev pub cost_of : List OperandConstraint → ℕ → List Part → ℕ
-cost_of constraints alternative parts = moves_cost (registers.asks_of parts) parts + marks constraints alternative
+cost_of constraints alternative parts =
+    moves_cost (registers.asks_of parts) parts + marks constraints alternative
 
 -- ---- the plan of an alternative
 
@@ -61,17 +63,21 @@ abbrev pub plan_with : List OperandConstraint → ℕ → List Part → Plan
 plan_with constraints alternative parts = record { cost = cost_of constraints alternative parts; parts = parts }
 
 abbrev pub plan_if : Bool → List OperandConstraint → ℕ → List Part → Option Plan
-plan_if reachable constraints alternative parts = if reachable then Some (plan_with constraints alternative parts) else None
+plan_if reachable constraints alternative parts =
+    if reachable then Some (plan_with constraints alternative parts) else None
 
-abbrev pub plan_for : Asks → List OperandConstraint → List Operand → Given → List Bool → ℕ → List Fitting → Option Plan
+abbrev pub plan_for : Asks → List OperandConstraint → List Operand → Given → List Bool → ℕ →
+    List Fitting → Option Plan
 plan_for asks constraints operands given formed alternative fits =
     plan_if (is_reachable asks operands given fits formed (parts_of fits)) constraints alternative (parts_of fits)
 
-abbrev pub plan_by : Asks → List OperandConstraint → List Operand → Given → List Bool → ℕ → Option Plan
+abbrev pub plan_by : Asks → List OperandConstraint → List Operand → Given → List Bool → ℕ →
+    Option Plan
 plan_by asks constraints operands given formed alternative =
     plan_for asks constraints operands given formed alternative (fittings_of asks operands)
 
-abbrev pub plan_among : List Entry → ℕ → List OperandConstraint → Given → List Bool → ℕ → Option Plan
+abbrev pub plan_among : List Entry → ℕ → List OperandConstraint → Given → List Bool → ℕ →
+    Option Plan
 plan_among forms form constraints given formed alternative =
     if is_enabled forms form alternative
     then plan_by (asks_by forms form constraints alternative) constraints given.operands given formed alternative
@@ -88,7 +94,8 @@ pub record IsBest (plans : ℕ → Option Plan) (count : ℕ) (alternative : ℕ
   pub below : alternative < count
   pub here : plans alternative ≡ Some plan
   pub least : (j : ℕ) (other : Plan) → j < count → plans j ≡ Some other → plan.cost ≤ other.cost
-  pub lowest : (j : ℕ) (other : Plan) → j < alternative → plans j ≡ Some other → plan.cost < other.cost
+  pub lowest : (j : ℕ) (other : Plan) → j < alternative → plans j ≡ Some other →
+      plan.cost < other.cost
 
 -- no alternative has a plan
 abbrev pub IsUnreachable : (ℕ → Option Plan) → ℕ → Type 0
@@ -96,7 +103,9 @@ IsUnreachable plans count = (alternative : ℕ) → alternative < count → plan
 
 -- the plan of the best alternative of a form
 abbrev pub IsChosen : List Entry → ℕ → Given → Plan → Type 0
-IsChosen forms form given plan = (alternative : ℕ) × IsBest (plan_at forms form given) (alternatives_of forms form) alternative plan
+IsChosen forms form given plan =
+    (alternative : ℕ) ×
+    IsBest (plan_at forms form given) (alternatives_of forms form) alternative plan
 
 -- no alternative of a form has a plan
 abbrev pub NoneReaches : List Entry → ℕ → Given → Type 0

@@ -1,5 +1,5 @@
--- The instructions of a plan: GCC Internals, "RTL passes" (reload), "Side Effect Expressions" (`set`), "Standard Pattern Names For
--- Generation" (movm).
+-- The instructions of a plan: GCC Internals, "RTL passes" (reload), "Side Effect Expressions"
+-- (`set`), "Standard Pattern Names For Generation" (movm).
 use Rattle.std.specs.Prelude.{ℕ, ℤ, List, [], ◌∷◌, flat_map, Option, Some, None, is_some, slice_get, if◌then◌else◌}
 use Rattle.std.specs.Option.{option_map_or}
 use Rattle.rtx_tree.specs.declared.code.Code.TheVariants.{Set, Mem, Plus}
@@ -39,7 +39,8 @@ far_insns into offset =
 
 -- the slot of a base; a far one at the register into which the base is loaded
 abbrev pub slot_address : ℕ → operands.Base → Rtx
-slot_address into base = if is_some (slot_far base) then reg_of DI into else address_on stack_pointer (slot_offset base)
+slot_address into base =
+    if is_some (slot_far base) then reg_of DI into else address_on stack_pointer (slot_offset base)
 
 abbrev pub base_insn : ℕ → operands.Base → Rtx
 base_insn into base = set_reg DI into (node_of Mem DI (slot_address into base ∷ []))
@@ -83,8 +84,8 @@ all_insns operands moves = flat_map (insns_of operands) moves
 
 -- ---- the instruction between them
 
--- what stands for an operand: its own register where it is moved; where it stays, itself with a register in its address if a slot holds its
--- base or it is far
+-- what stands for an operand: its own register where it is moved; where it stays, itself with a
+-- register in its address if a slot holds its base or it is far
 abbrev pub new_tree : List Ask → Part → Operand → Option Rtx
 new_tree asks p x =
     if p.is_moved then Some (reg_of x.mode (own_of asks p))
@@ -97,11 +98,13 @@ with_new news x None = news
 with_new news x (Some tree) = put_at news x.number tree
 
 abbrev pub with_part : List Ask → List Operand → Ops → Part → Ops
-with_part asks operands news p = option_map_or (λ x. with_new news x (new_tree asks p x)) (slice_get operands p.place) news
+with_part asks operands news p =
+    option_map_or (λ x. with_new news x (new_tree asks p x)) (slice_get operands p.place) news
 
 abbrev pub with_parts : List Ask → List Operand → Ops → List Part → Ops
 with_parts asks operands news [] = news
-with_parts asks operands news (p ∷ ps) = with_parts asks operands (with_part asks operands news p) ps
+with_parts asks operands news (p ∷ ps) =
+    with_parts asks operands (with_part asks operands news p) ps
 
 -- the new trees, by the numbers of the operands
 abbrev pub news_of : List Ask → List Operand → List Part → Ops

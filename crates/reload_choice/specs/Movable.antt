@@ -1,5 +1,5 @@
--- Which operands can be moved, and when an alternative is reachable: GCC Internals, "RTL passes" (reload), "Side Effect Expressions" (what an
--- instruction changes) and "Simple Constraints".
+-- Which operands can be moved, and when an alternative is reachable: GCC Internals, "RTL passes"
+-- (reload), "Side Effect Expressions" (what an instruction changes) and "Simple Constraints".
 use Rattle.std.specs.Prelude.{ℕ, nat_le, ◌==◌, Bool, true, false, not, ◌&&◌, ◌||◌, List, [], map, length, is_some, slice_get}
 use Rattle.std.specs.List.{list_all}
 use Rattle.std.specs.Option.{option_map_or}
@@ -39,7 +39,8 @@ is_formed_as kind x = modes_agree x && kinds_agree kind x
 abbrev pub with_register : Given → Operand → Rtx
 with_register given x = put given.pattern (put_at [] x.number (reg_of x.mode 28)) given.insn
 
--- the operand can be replaced: what comes of the instruction is within the table of codes, and of its kind
+-- the operand can be replaced: what comes of the instruction is within the table of codes, and of
+-- its kind
 abbrev pub is_formed : Given → Operand → Bool
 is_formed given x = is_formed_as given.kind (with_register given x)
 
@@ -51,22 +52,27 @@ abbrev pub can_be_replaced : List Bool → ℕ → Operand → Bool
 can_be_replaced formed place x =
     not x.is_operator && (not x.is_hidden && (is_mode x.mode && (not x.in_lowpart && is_marked formed place)))
 
--- An operand can be moved where it is no operator, the pattern says what is done with it, it has a mode, stands in no low part, can be
--- replaced, and its constraint admits a register of t3 to t6.
+-- An operand can be moved where it is no operator, the pattern says what is done with it, it has a
+-- mode, stands in no low part, can be replaced, and its constraint admits a register of t3 to t6.
 abbrev pub may_move : Asks → List Operand → List Fitting → List Bool → ℕ → Operand → Bool
-may_move asks operands fits formed place x = can_be_replaced formed place x && takes_register asks operands fits place x.mode
+may_move asks operands fits formed place x =
+    can_be_replaced formed place x && takes_register asks operands fits place x.mode
 
 -- ---- a result that is moved
 
--- into a memory that is no slot only where the instruction changes no other memory, and of the address no register but the base
+-- into a memory that is no slot only where the instruction changes no other memory, and of the
+-- address no register but the base
 abbrev pub may_land : Operand → Bool
-may_land x = x.in_slot || (not (is_memory_code (out-Rtx x.tree).code) || (not x.other_memory && not x.changed_address))
+may_land x =
+    x.in_slot ||
+    (not (is_memory_code (out-Rtx x.tree).code) || (not x.other_memory && not x.changed_address))
 
 abbrev pub is_plain : Kind → Bool
 is_plain Plain = true
 is_plain _ = false
 
--- the instruction is no jump and no call, and changes no register twice, before homes are put in and after
+-- the instruction is no jump and no call, and changes no register twice, before homes are put in
+-- and after
 abbrev pub may_have_results : Kind → Whole → Bool
 may_have_results kind whole = is_plain kind && (not whole.twice_before && not whole.twice_after)
 
@@ -78,7 +84,8 @@ may_end given x = may_have_results given.kind given.whole && (not x.is_clobbered
 
 -- inputs are the same tree and are moved in one mode
 abbrev pub are_same_inputs : Operand → Operand → Bool
-are_same_inputs x y = not (x.is_input && y.is_input) || (same_tree x.tree y.tree && same_mode x.mode y.mode)
+are_same_inputs x y =
+    not (x.is_input && y.is_input) || (same_tree x.tree y.tree && same_mode x.mode y.mode)
 
 -- results are the same tree
 abbrev pub are_same_outputs : Operand → Operand → Bool
@@ -118,24 +125,29 @@ abbrev pub part_at_is_good : Given → Part → Operand → Bool
 part_at_is_good given p x = is_clear p x && part_may_end given p x
 
 abbrev pub part_is_good : Given → Part → Bool
-part_is_good given p = option_map_or (part_at_is_good given p) (slice_get given.operands p.place) false
+part_is_good given p =
+    option_map_or (part_at_is_good given p) (slice_get given.operands p.place) false
 
--- what has a register in its address is clear, and what is moved after the instruction may end there
+-- what has a register in its address is clear, and what is moved after the instruction may end
+-- there
 abbrev pub all_good : Given → List Part → Bool
 all_good given parts = list_all (part_is_good given) parts
 
 abbrev pub may_move_at : Asks → List Operand → List Fitting → List Bool → ℕ → Bool
-may_move_at asks operands fits formed place = option_map_or (may_move asks operands fits formed place) (slice_get operands place) false
+may_move_at asks operands fits formed place =
+    option_map_or (may_move asks operands fits formed place) (slice_get operands place) false
 
 abbrev pub part_may_move : Asks → List Operand → List Fitting → List Bool → Part → Bool
-part_may_move asks operands fits formed p = not p.is_moved || may_move_at asks operands fits formed p.place
+part_may_move asks operands fits formed p =
+    not p.is_moved || may_move_at asks operands fits formed p.place
 
 abbrev pub are_all : List Bool → Bool
 are_all row = list_all (λ mark. mark) row
 
 -- each operand that is moved can be moved
 abbrev pub all_may_move : Asks → List Operand → List Fitting → List Bool → List Part → Bool
-all_may_move asks operands fits formed parts = are_all (map (part_may_move asks operands fits formed) parts)
+all_may_move asks operands fits formed parts =
+    are_all (map (part_may_move asks operands fits formed) parts)
 
 abbrev pub all_share_well : List Operand → List Part → Bool
 all_share_well operands parts = list_all (shares_with_all operands parts) parts
@@ -149,10 +161,11 @@ abbrev pub is_suited : Asks → List Operand → Given → List Fitting → List
 is_suited asks operands given fits formed parts =
     (all_share_well given.operands parts && all_good given parts) && all_may_move asks operands fits formed parts
 
--- With all that is new in it the instruction is within the table of codes, and of its kind. (Of two constants that are compared each alone can
--- be replaced, and both only in one mode.)
+-- With all that is new in it the instruction is within the table of codes, and of its kind. (Of two
+-- constants that are compared each alone can be replaced, and both only in one mode.)
 abbrev pub stays_formed : Given → List Part → Bool
-stays_formed given parts = is_formed_as given.kind (between given.pattern given.operands parts given.insn)
+stays_formed given parts =
+    is_formed_as given.kind (between given.pattern given.operands parts given.insn)
 
 -- an alternative is reachable where all this holds and four registers suffice
 abbrev pub is_reachable : Asks → List Operand → Given → List Fitting → List Bool → List Part → Bool

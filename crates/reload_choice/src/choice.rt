@@ -137,8 +137,8 @@ fn constraints_at(desc: &Description, form: u32) -> &[OperandConstraint]
     }
 }
 
-/// The plan of the alternative of a form that costs least, of several such the one with the lowest number, or `None` exactly where no
-/// enabled alternative is reachable.
+/// The plan of the alternative of a form that costs least, of several such the one with the lowest
+/// number, or `None` exactly where no enabled alternative is reachable.
 pub fn best_plan(
     alloc: Global,
     desc: &Description,

@@ -281,7 +281,8 @@ fn is_suited(
     }
 }
 
-/// Whether the instruction is within the table of codes, and of its kind, with all that is new in it.
+/// Whether the instruction is within the table of codes, and of its kind, with all that is new in
+/// it.
 fn stays_formed(alloc: Global, given: &Given, parts: &[Part]) -> Result<bool, Memory>
     requires { length (asks_of parts.now) ≤ 4 }
     ensures { IfOk result (λ formed. formed ≡ spec.stays_formed given.now parts.now) }

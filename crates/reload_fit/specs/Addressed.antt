@@ -1,5 +1,5 @@
--- Operands with a register in their address: GCC Internals, "Addressing Modes"; RISC-V unprivileged manual, "Load and Store Instructions" (12
--- bits of offset).
+-- Operands with a register in their address: GCC Internals, "Addressing Modes"; RISC-V unprivileged
+-- manual, "Load and Store Instructions" (12 bits of offset).
 use Rattle.std.specs.Prelude.{ℕ, ℤ, pos, List, [], ◌∷◌, Option, Some, None, if◌then◌else◌}
 use Rattle.std.specs.Int.{cast_signed, w64}
 use Rattle.std.specs.Option.{option_map_or}
@@ -28,11 +28,13 @@ addressed_by _ address x = address
 abbrev pub addressed : Rtx → Rtx → Rtx
 addressed address x = addressed_by (out-Rtx x).code address x
 
--- the address that a register gives: with what is added to the base in whose place it stands, or by itself
+-- the address that a register gives: with what is added to the base in whose place it stands, or by
+-- itself
 abbrev pub address_in : ℕ → Option Base → Rtx
 address_in reg base = option_map_or (λ b. address_on reg b.added) base (reg_of DI reg)
 
--- an operand with a register in its address, in the place of the base that a slot holds, or else of the address as a whole
+-- an operand with a register in its address, in the place of the base that a slot holds, or else of
+-- the address as a whole
 abbrev pub on_register : ℕ → Operand → Rtx
 on_register reg x = addressed (address_in reg x.base) x.tree
 

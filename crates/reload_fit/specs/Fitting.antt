@@ -1,5 +1,5 @@
--- How an operand stands in an alternative of its form, homes being put in: GCC Internals, "Multiple Alternative Constraints", "Simple
--- Constraints" and "Constraint Modifier Characters".
+-- How an operand stands in an alternative of its form, homes being put in: GCC Internals, "Multiple
+-- Alternative Constraints", "Simple Constraints" and "Constraint Modifier Characters".
 use Rattle.std.specs.Prelude.{ℕ, ℤ, ◌+◌, ◌==◌, Bool, true, false, not, ◌&&◌, ◌||◌, List, [], ◌∷◌, Option, Some, None, is_some, slice_get, option_and_then, if◌then◌else◌}
 use Rattle.std.specs.List.{list_any, find, filter_map, position_from}
 use Rattle.std.specs.Option.{option_map, option_map_or}
@@ -61,7 +61,8 @@ is_early (Some a) = a.early
 
 -- an input other than the operand with a number mentions a register
 abbrev pub is_shared : List Operand → ℕ → ℕ → Bool
-is_shared operands number reg = list_any (λ y. y.is_input && (not (y.number == number) && mentions_reg reg y.tree)) operands
+is_shared operands number reg =
+    list_any (λ y. y.is_input && (not (y.number == number) && mentions_reg reg y.tree)) operands
 
 -- a register shares itself with an input; what is in memory shares none
 abbrev pub shares_register : List Operand → Operand → Bool
@@ -69,7 +70,8 @@ shares_register operands x = option_map_or (is_shared operands x.number) (regist
 
 -- an operand that is changed before all inputs are taken shares a register with an input
 abbrev pub clashes : Option Alternative → List Operand → Operand → Bool
-clashes asked operands x = is_early asked && ((x.is_output || x.is_clobbered) && shares_register operands x)
+clashes asked operands x =
+    is_early asked && ((x.is_output || x.is_clobbered) && shares_register operands x)
 
 -- the low part of a slot is no memory that an instruction names
 abbrev pub is_part_of_slot : Operand → Bool
@@ -99,13 +101,15 @@ is_memory_code _ = false
 
 -- a memory, or an address operand: one with the predicate `address_operand`, or with the letter `p`
 abbrev pub has_address : Option Alternative → Operand → Bool
-has_address asked x = is_memory_code (out-Rtx x.tree).code || (x.is_address || has_address_letter asked)
+has_address asked x =
+    is_memory_code (out-Rtx x.tree).code || (x.is_address || has_address_letter asked)
 
 -- a slot holds the base of its address, and it can be rewritten
 abbrev pub is_based : Option Alternative → Operand → Bool
 is_based asked x = is_some x.base && (not x.is_operator && has_address asked x)
 
--- an operand with t3 in its address, where a slot holds its base or it is far; of this its constraint is asked
+-- an operand with t3 in its address, where a slot holds its base or it is far; of this its
+-- constraint is asked
 abbrev pub shown : Option Alternative → Operand → Rtx
 shown asked x = if is_based asked x || is_far x.tree then on_register 28 x else x.tree
 
@@ -124,7 +128,9 @@ place_of operands number = position_from (λ y. y.number == number) 0 operands
 
 -- the operand at a place is the same as another; a scratch is the same as none
 abbrev pub is_same_at : List Operand → ℕ → Operand → Bool
-is_same_at operands place x = not (x.is_scratch) && option_map_or (λ y. same_tree x.tree y.tree) (slice_get operands place) false
+is_same_at operands place x =
+    not (x.is_scratch) &&
+    option_map_or (λ y. same_tree x.tree y.tree) (slice_get operands place) false
 
 abbrev pub digit_at : List Operand → Operand → ℕ → Digit
 digit_at operands x place = record { place = place; same = is_same_at operands place x }
@@ -152,8 +158,8 @@ abbrev pub has_digit : Option Alternative → Bool
 has_digit None = false
 has_digit (Some a) = list_any is_digit a.members
 
--- It is moved at once: an earlyclobber clash, a slot inside a lowpart, an operator that is a scratch or far, and a scratch that its
--- constraint admits, since each scratch is given a register.
+-- It is moved at once: an earlyclobber clash, a slot inside a lowpart, an operator that is a
+-- scratch or far, and a scratch that its constraint admits, since each scratch is given a register.
 abbrev pub moves_at_once : Option Alternative → List Operand → Operand → Bool → Bool
 moves_at_once asked operands x admitted =
     clashes asked operands x || (is_part_of_slot x || (is_lost x || (x.is_scratch && admitted)))
@@ -164,8 +170,9 @@ admitted_as x = if is_far x then Far else Stays
 abbrev pub refused_as : Option Alternative → Standing
 refused_as asked = if has_digit asked then Tied else Moves
 
--- An operator stays. An operand stays where its constraint admits it with a register in its address, digits apart; a far memory is
--- so admitted at a far base alone. One that nothing else admits is tied where its constraint has a digit, and else it is moved.
+-- An operator stays. An operand stays where its constraint admits it with a register in its
+-- address, digits apart; a far memory is so admitted at a far base alone. One that nothing else
+-- admits is tied where its constraint has a digit, and else it is moved.
 abbrev pub standing_by : Option Alternative → List Operand → Operand → Bool → Standing
 standing_by asked operands x admitted =
     if moves_at_once asked operands x admitted then Moves
@@ -203,7 +210,8 @@ fitting_at asks operands place x = record {
 -- how each operand stands, in their order
 abbrev pub fittings_from : Asks → List Operand → ℕ → List Operand → List Fitting
 fittings_from asks operands place [] = []
-fittings_from asks operands place (x ∷ xs) = fitting_at asks operands place x ∷ fittings_from asks operands (place + 1) xs
+fittings_from asks operands place (x ∷ xs) =
+    fitting_at asks operands place x ∷ fittings_from asks operands (place + 1) xs
 
 abbrev pub fittings_of : Asks → List Operand → List Fitting
 fittings_of asks operands = fittings_from asks operands 0 operands

@@ -1,5 +1,5 @@
--- Whether the constraint of an operand admits one of the registers t3 to t6, which hold what is moved: GCC Internals, "Simple Constraints"
--- (registers, digits).
+-- Whether the constraint of an operand admits one of the registers t3 to t6, which hold what is
+-- moved: GCC Internals, "Simple Constraints" (registers, digits).
 use Rattle.std.specs.Prelude.{ℕ, Bool, false, ◌&&◌, ◌||◌, List, slice_get}
 use Rattle.std.specs.List.{list_any}
 use Rattle.std.specs.Option.{option_map_or}
@@ -12,7 +12,8 @@ use Rattle.reload_moves.specs.Moved.{is_marked, led_from}
 use Rattle.reload_fit.specs.Fitting.{Asks}
 
 abbrev pub admits_at : Asks → List Operand → Rtx → ℕ → Bool
-admits_at asks operands x place = option_map_or (λ y. asks.admits y.number x) (slice_get operands place) false
+admits_at asks operands x place =
+    option_map_or (λ y. asks.admits y.number x) (slice_get operands place) false
 
 abbrev pub is_admitting : Asks → List Operand → List Bool → Rtx → Fitting → Bool
 is_admitting asks operands row x f = is_marked row f.place && admits_at asks operands x f.place
@@ -29,6 +30,8 @@ abbrev pub takes_one : Asks → List Operand → List Fitting → List Bool → 
 takes_one asks operands fits row mode =
     takes asks operands fits row mode 28 || (takes asks operands fits row mode 29 || (takes asks operands fits row mode 30 || takes asks operands fits row mode 31))
 
--- the constraint of the operand at a place admits one of t3 to t6 in a mode, by itself or through digits
+-- the constraint of the operand at a place admits one of t3 to t6 in a mode, by itself or through
+-- digits
 abbrev pub takes_register : Asks → List Operand → List Fitting → ℕ → Mode → Bool
-takes_register asks operands fits place mode = takes_one asks operands fits (led_from fits place) mode
+takes_register asks operands fits place mode =
+    takes_one asks operands fits (led_from fits place) mode

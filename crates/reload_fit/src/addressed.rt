@@ -57,7 +57,8 @@ fn address_in(alloc: Global, reg: u32, base: Option<Base>) -> Result<Rtx, Memory
     }
 }
 
-/// An operand with a register in its address: in the place of the base that a slot holds, or else of the address as a whole.
+/// An operand with a register in its address: in the place of the base that a slot holds, or else
+/// of the address as a whole.
 pub fn on_register(alloc: Global, reg: u32, x: &Operand) -> Result<Rtx, Memory>
     ensures { IfOk result (λ tree. tree ≡ spec.on_register reg x.now) }
 {

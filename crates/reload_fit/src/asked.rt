@@ -40,7 +40,8 @@ fn constraint_of(constraints: &[OperandConstraint], number: u32) -> Option<&Oper
 impl Asked<'_> {
     /// What stands in the constraint of the operand with a number.
     pub fn asked(&self, number: u32) -> Option<&Alternative>
-        ensures { option_copied result ≡ spec.asked_in self.now.constraints.now self.now.alternative number }
+        ensures { option_copied result ≡
+            spec.asked_in self.now.constraints.now self.now.alternative number }
     {
         match constraint_of(self.constraints, number) {
             Some(found) => found.constraint.as_slice().get(self.alternative as usize),

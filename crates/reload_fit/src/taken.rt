@@ -45,7 +45,8 @@ impl Asked<'_> {
                 || (self.takes(fits, row, mode, 30) || self.takes(fits, row, mode, 31)))
     }
 
-    /// Whether the constraint of the operand at a place admits one of t3 to t6 in a mode, by itself or through digits.
+    /// Whether the constraint of the operand at a place admits one of t3 to t6 in a mode, by itself
+    /// or through digits.
     pub fn takes_register(&self, fits: &[Fitting], place: usize, mode: Mode) -> Result<bool, Memory>
         ensures { IfOk result (λ taken. taken ≡ spec.takes_register (fit.asks_by self.now.desc.now self.now.form self.now.constraints.now self.now.alternative) self.now.operands.now fits.now place mode) }
     {

@@ -1,5 +1,6 @@
--- References to the frame, once it has a size: GCC Internals, "Registers and Memory" (`virtual-stack-vars`) and "Eliminating Frame Pointer
--- and Arg Pointer". virtual-stack-vars stands for the address just past the locals, which is the frame's size above sp.
+-- References to the frame, once it has a size: GCC Internals, "Registers and Memory"
+-- (`virtual-stack-vars`) and "Eliminating Frame Pointer and Arg Pointer". virtual-stack-vars stands
+-- for the address just past the locals, which is the frame's size above sp.
 use Rattle.std.specs.Prelude.{ℕ, ℤ, pos, ◌+ℤ◌, ◌&&◌, List, [], ◌∷◌, Option, Some, None, if◌then◌else◌}
 use Rattle.std.specs.Int.{int_wrap, w64}
 use Rattle.std.specs.Option.{option_map_or}
@@ -26,18 +27,21 @@ from_sp mode c = sp_plus mode (int_wrap w64 c)
 -- ---- references
 
 abbrev pub number_added : Rtx → Rtx → Option ℤ
-number_added base constant = if is_stack_vars base && is_constant is_any constant then Some (head_of constant).number else None
+number_added base constant =
+    if is_stack_vars base &&
+    is_constant is_any constant then Some (head_of constant).number else None
 
 abbrev pub offset_by : Code → Rtx → List Rtx → Option ℤ
 offset_by Plus x (base ∷ constant ∷ []) = number_added base constant
 offset_by _ x parts = if is_stack_vars x then Some (pos 0) else None
 
--- what a reference to the frame adds to virtual-stack-vars: the constant of their sum, in this order, or 0 for the register alone; any
--- other tree is none
+-- what a reference to the frame adds to virtual-stack-vars: the constant of their sum, in this
+-- order, or 0 for the register alone; any other tree is none
 abbrev pub frame_offset : Rtx → Option ℤ
 frame_offset x = offset_by (head_of x).code x (kids_of x)
 
--- a reference to a frame of this size becomes sp plus the size and what it adds; any other tree has its parts as they have become
+-- a reference to a frame of this size becomes sp plus the size and what it adds; any other tree has
+-- its parts as they have become
 abbrev pub framed_as : ℕ → Rtx → List Rtx → Rtx
 framed_as size x parts = option_map_or (λ c. from_sp (head_of x).mode (pos size +ℤ c)) (frame_offset x) (tree_of (head_of x) parts)
 

@@ -1,4 +1,5 @@
--- Registers replaced by their homes: GCC Internals, "RTL passes" (reload), "Registers and Memory" (`reg`, `subreg`, `mem`).
+-- Registers replaced by their homes: GCC Internals, "RTL passes" (reload), "Registers and Memory"
+-- (`reg`, `subreg`, `mem`).
 use Rattle.std.specs.Prelude.{ℕ, ℤ, pos, ◌==◌, List, [], ◌∷◌, map, Option, Some, None, option_map, unwrap_or}
 use Rattle.std.specs.List.{find}
 use Rattle.std.specs.List.Sorted.{IsStrictlyIncreasing}
@@ -69,8 +70,8 @@ register_by _ x parts = register_in x
 abbrev pub register_at : Rtx → Option ℕ
 register_at x = register_by (head_of x).code x (kids_of x)
 
--- a register, or the low part of one, becomes what stands for the register in the tree's mode; any other tree has its parts as they have
--- become
+-- a register, or the low part of one, becomes what stands for the register in the tree's mode; any
+-- other tree has its parts as they have become
 abbrev pub homed_as : List HomeOf → Layout → Rtx → List Rtx → Rtx
 homed_as homes layout x parts = option_map_or (place_for homes layout (head_of x).mode) (register_at x) (tree_of (head_of x) parts)
 

@@ -1,4 +1,5 @@
--- Trees that are rewritten as a whole: GCC Internals, "RTL Objects" (an expression is made of expressions).
+-- Trees that are rewritten as a whole: GCC Internals, "RTL Objects" (an expression is made of
+-- expressions).
 use Rattle.std.specs.Prelude.{List, map}
 use Rattle.rtx_tree.specs.declared.tree.Rtx.{Rtx}
 use Rattle.rtx_tree.specs.declared.tree.Rtx.TheOpen.{Rtx-F}

@@ -84,8 +84,9 @@ fn frame_address(alloc: Global, mode: Mode, size: u64, added: i64) -> Result<Rtx
     sp_plus(alloc, mode, sum_of(size, added))
 }
 
-/// A tree with its references to the frame put in, where the frame has this size: `virtual-stack-vars`, or the sum of it and a constant, in
-/// this order, becomes `sp` plus the size and the constant, in 64 signed bits that wrap, or plain `sp` where that is 0.
+/// A tree with its references to the frame put in, where the frame has this size:
+/// `virtual-stack-vars`, or the sum of it and a constant, in this order, becomes `sp` plus the size
+/// and the constant, in 64 signed bits that wrap, or plain `sp` where that is 0.
 #[tactic(auto, using(crate::proofs::Rewrites::framed_reference))]
 pub fn with_frame(alloc: Global, x: &Rtx, size: u64) -> Result<Rtx, Memory>
     ensures { IfOk result (λ r. r ≡ spec.framed size x.now) }

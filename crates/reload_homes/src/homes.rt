@@ -62,8 +62,8 @@ pub fn place_for(
     }
 }
 
-/// A tree with the homes of its registers put in: each register, or the low part of one, becomes the hard register or the memory of the
-/// slot in which it lives, in the tree's mode.
+/// A tree with the homes of its registers put in: each register, or the low part of one, becomes
+/// the hard register or the memory of the slot in which it lives, in the tree's mode.
 #[tactic(auto, using(crate::proofs::Rewrites::homed_register))]
 pub fn with_homes(alloc: Global, x: &Rtx, homes: &Homes, layout: &Layout) -> Result<Rtx, Memory>
     requires { spec.AreOrdered homes.now layout.now }

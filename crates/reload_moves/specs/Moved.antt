@@ -1,5 +1,5 @@
--- Which operands are moved in an alternative, and which share a register: GCC Internals, "Simple Constraints" (digits). Operands are named
--- by their places, and a row has a mark for each.
+-- Which operands are moved in an alternative, and which share a register: GCC Internals, "Simple
+-- Constraints" (digits). Operands are named by their places, and a row has a mark for each.
 use Rattle.std.specs.Prelude.{ℕ, ◌==◌, Bool, true, false, not, ◌&&◌, ◌||◌, List, [], ◌∷◌, map, min, Option, Some, None, slice_get, if◌then◌else◌}
 use Rattle.std.specs.List.{list_all, list_any, find}
 use Rattle.std.specs.Option.{option_map, option_map_or, unwrap_or}
@@ -36,8 +36,8 @@ is_other moved d = not d.same || is_marked moved d.place
 abbrev pub are_other : List Bool → List Digit → Bool
 are_other moved ds = list_all (is_other moved) ds
 
--- A tied operand is torn where each of its digits names an operand that is another tree or is moved, and where it is itself moved, since
--- another is torn from it.
+-- A tied operand is torn where each of its digits names an operand that is another tree or is
+-- moved, and where it is itself moved, since another is torn from it.
 abbrev pub is_torn : List Bool → Fitting → Bool
 is_torn moved f = is_tied f.standing && (is_marked moved f.place || are_other moved f.digits)
 
@@ -54,7 +54,8 @@ is_drawn fits moved place = list_any (draws moved place) fits
 
 -- what was moved, what is torn, and what a torn operand names first
 abbrev pub is_moved_next : List Fitting → List Bool → Fitting → Bool
-is_moved_next fits moved f = is_marked moved f.place || (is_torn moved f || is_drawn fits moved f.place)
+is_moved_next fits moved f =
+    is_marked moved f.place || (is_torn moved f || is_drawn fits moved f.place)
 
 abbrev pub round : List Fitting → List Bool → List Bool
 round fits moved = map (is_moved_next fits moved) fits
@@ -62,7 +63,8 @@ round fits moved = map (is_moved_next fits moved) fits
 abbrev pub those_that_move : List Fitting → List Bool
 those_that_move fits = map (λ f. moves f.standing) fits
 
--- Where a digit's operand isn't the same as the one that it names, or that one is moved, both are moved: the least such set.
+-- Where a digit's operand isn't the same as the one that it names, or that one is moved, both are
+-- moved: the least such set.
 abbrev pub moved_in : List Fitting → List Bool
 moved_in fits = rounds (round fits) fits (those_that_move fits)
 
@@ -85,7 +87,8 @@ kept_of moved ds = option_map (λ d. d.place) (first_kept moved ds)
 abbrev pub named_by : List Bool → Fitting → Option ℕ
 named_by moved f = if is_marked moved f.place then first_of f.digits else kept_of moved f.digits
 
--- the operand with which a tied one shares: where it is moved, the first that it names, else the first that is the same and not moved
+-- the operand with which a tied one shares: where it is moved, the first that it names, else the
+-- first that is the same and not moved
 abbrev pub link_of : List Bool → Fitting → ℕ
 link_of moved f = if is_tied f.standing then unwrap_or (named_by moved f) f.place else f.place
 
@@ -102,8 +105,8 @@ abbrev pub least_on : (ℕ → ℕ) → List Fitting → ℕ → ℕ → ℕ
 least_on next [] least place = least
 least_on next (_ ∷ more) least place = least_on next more (min least (next place)) (next place)
 
--- The operand that stands for those that share with it: the one at the end of the links, or the least of those that name each other in a
--- circle.
+-- The operand that stands for those that share with it: the one at the end of the links, or the
+-- least of those that name each other in a circle.
 abbrev pub holder_of : List Fitting → List Bool → ℕ → ℕ
 holder_of fits moved place =
     let end = end_of (link fits moved) fits place in least_on (link fits moved) fits end end

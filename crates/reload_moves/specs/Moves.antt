@@ -1,5 +1,5 @@
--- The moves of an instruction's operands, in order: GCC Internals, "RTL passes" (reload), "Standard Pattern Names For Generation" (movm). A move is
--- small data, and names operands by their places.
+-- The moves of an instruction's operands, in order: GCC Internals, "RTL passes" (reload), "Standard
+-- Pattern Names For Generation" (movm). A move is small data, and names operands by their places.
 use Rattle.std.specs.Prelude.{ℕ, ℤ, ◌==◌, nat_lt, Bool, not, ◌&&◌, ◌||◌, List, [], ◌∷◌, ◌++◌, flat_map, Option, Some, None, is_some, if◌then◌else◌}
 use Rattle.std.specs.List.{list_any}
 use Rattle.reload_moves.specs.declared.part.Part.{Part}
@@ -51,7 +51,8 @@ stays_based_first parts p = stays_based p && not (any_in_front stays_based parts
 abbrev pub stays_far_first : List Part → Part → Bool
 stays_far_first parts p = stays_far p && not (any_in_front stays_far parts p)
 
--- A base is loaded once for those of what stays that share it, for each result, and for an input that is moved.
+-- A base is loaded once for those of what stays that share it, for each result, and for an input
+-- that is moved.
 abbrev pub loads_base : List Part → Part → Bool
 loads_base parts p =
     p.needs.has_base && (stays_based_first parts p || (is_result p || comes_in_first parts p))
@@ -76,7 +77,8 @@ in_base asks p = if is_some p.needs.far then Some (own_of asks p) else (if p.nee
 
 -- an input into its own register
 abbrev pub in_load : List Ask → Part → List Move
-in_load asks p = far_to (own_of asks p) p.needs.far ++ In (own_of asks p) p.place (in_base asks p) ∷ []
+in_load asks p =
+    far_to (own_of asks p) p.needs.far ++ In (own_of asks p) p.place (in_base asks p) ∷ []
 
 abbrev pub in_moves : List Ask → List Part → Part → List Move
 in_moves asks parts p = if comes_in_first parts p then in_load asks p else []
@@ -91,7 +93,8 @@ out_base asks p = if is_some p.needs.far then Some (end_far_of asks p) else (if 
 
 -- a result out of its own register
 abbrev pub out_store : List Ask → Part → List Move
-out_store asks p = far_to (end_far_of asks p) p.needs.far ++ Out (own_of asks p) p.place (out_base asks p) ∷ []
+out_store asks p =
+    far_to (end_far_of asks p) p.needs.far ++ Out (own_of asks p) p.place (out_base asks p) ∷ []
 
 abbrev pub out_moves : List Ask → Part → List Move
 out_moves asks p = if is_result p then out_store asks p else []
@@ -99,9 +102,11 @@ out_moves asks p = if is_result p then out_store asks p else []
 abbrev pub turn_moves : List Ask → List Part → Part → List Move
 turn_moves asks parts p = base_moves asks parts p ++ in_moves asks parts p
 
--- before the instruction: of each operand in order its base and then itself; then the far bases of what stays
+-- before the instruction: of each operand in order its base and then itself; then the far bases of
+-- what stays
 abbrev pub moves_before : List Ask → List Part → List Move
-moves_before asks parts = flat_map (turn_moves asks parts) parts ++ flat_map (far_moves asks parts) parts
+moves_before asks parts =
+    flat_map (turn_moves asks parts) parts ++ flat_map (far_moves asks parts) parts
 
 -- after it: each result in order
 abbrev pub moves_after : List Ask → List Part → List Move

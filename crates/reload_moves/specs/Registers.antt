@@ -1,5 +1,6 @@
--- The registers that an alternative needs: RISC-V ELF psABI, "Integer Register Convention" (t3 to t6); GCC Internals, "RTL passes" (reload). What
--- asks for a register stands in a list, and the k-th of it has t3 + k.
+-- The registers that an alternative needs: RISC-V ELF psABI, "Integer Register Convention" (t3 to
+-- t6); GCC Internals, "RTL passes" (reload). What asks for a register stands in a list, and the
+-- k-th of it has t3 + k.
 use Rattle.std.specs.Prelude.{ℕ, ◌+◌, ◌==◌, Bool, not, ◌&&◌, ◌||◌, List, [], ◌∷◌, ◌++◌, is_some, if◌then◌else◌}
 use Rattle.std.specs.List.{list_any, position_from}
 use Rattle.std.specs.Option.{unwrap_or}
@@ -56,8 +57,8 @@ ends_far p = is_result p && is_some p.needs.far
 
 -- ---- their order
 
--- in an operand's turn: its own register where it is moved; one for its base, of what stays or of a result; one for the far base of what
--- stays
+-- in an operand's turn: its own register where it is moved; one for its base, of what stays or of a
+-- result; one for the far base of what stays
 abbrev pub with_turn : List Ask → Part → List Ask
 with_turn asks p =
     with_ask_if (stays_far p) (with_ask_if (holds_base p) (with_ask_if p.is_moved asks (ask Own p.holder)) (base_ask p)) (ask StayingFar p.holder)

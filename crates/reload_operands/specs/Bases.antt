@@ -1,4 +1,5 @@
--- Registers in slots, and the bases of addresses: GCC Internals, "Addressing Modes" and "Basic Stack Layout".
+-- Registers in slots, and the bases of addresses: GCC Internals, "Addressing Modes" and "Basic
+-- Stack Layout".
 use Rattle.std.specs.Prelude.{ℕ, ℤ, pos, Bool, true, false, List, [], ◌∷◌, Option, Some, None, if◌then◌else◌, option_and_then}
 use Rattle.std.specs.Option.{option_map_or}
 use Rattle.rtx_tree.specs.declared.code.Code.{Code}
@@ -38,7 +39,8 @@ abbrev pub base_with : List HomeOf → Layout → ℤ → Rtx → Option Base
 base_with homes layout added x = option_and_then (base_in homes layout added) (register_in x)
 
 abbrev pub base_of_sum : List HomeOf → Layout → List Rtx → Option Base
-base_of_sum homes layout (x ∷ constant ∷ []) = if is_constant constant then base_with homes layout (head_of constant).number x else None
+base_of_sum homes layout (x ∷ constant ∷ []) =
+    if is_constant constant then base_with homes layout (head_of constant).number x else None
 base_of_sum homes layout _ = None
 
 abbrev pub base_at : List HomeOf → Layout → Code → Rtx → Option Base
@@ -51,7 +53,8 @@ base_in_mode DI base = base
 base_in_mode _ base = None
 
 abbrev pub base_of_address : List HomeOf → Layout → Rtx → Option Base
-base_of_address homes layout address = base_in_mode (head_of address).mode (base_at homes layout (head_of address).code address)
+base_of_address homes layout address =
+    base_in_mode (head_of address).mode (base_at homes layout (head_of address).code address)
 
 abbrev pub base_by : List HomeOf → Layout → Code → Rtx → List Rtx → Option Base
 base_by homes layout Mem x (address ∷ []) = base_of_address homes layout address

@@ -1,5 +1,5 @@
--- What an instruction changes beside an operand: GCC Internals, "Side Effect Expressions". It is asked of each `set` and `clobber` of the
--- instruction itself, whatever the pattern has there.
+-- What an instruction changes beside an operand: GCC Internals, "Side Effect Expressions". It is
+-- asked of each `set` and `clobber` of the instruction itself, whatever the pattern has there.
 use Rattle.std.specs.Prelude.{ℕ, Bool, true, false, not, ◌&&◌, ◌||◌, nat_lt, List, [], ◌∷◌, Option, Some, None, option_and_then, slice_get, drop}
 use Rattle.std.specs.List.{filter_map, list_any}
 use Rattle.std.specs.Option.{option_map_or}
@@ -35,7 +35,8 @@ abbrev pub changed_registers : Rtx → List ℕ
 changed_registers insn = filter_map changed_register (effects_of insn)
 
 abbrev pub changes_in : (ℕ → Bool) → Rtx → Rtx → Bool
-changes_in test insn address = list_any (λ reg. test reg && mentions_reg reg address) (changed_registers insn)
+changes_in test insn address =
+    list_any (λ reg. test reg && mentions_reg reg address) (changed_registers insn)
 
 abbrev pub is_hard : ℕ → Bool
 is_hard reg = nat_lt reg 32
@@ -48,8 +49,8 @@ address_by _ parts = None
 abbrev pub address_of : Rtx → Option Rtx
 address_of x = address_by (head_of x).code (kids_of x)
 
--- The instruction changes a hard register of an address, once homes are put in; or, before that, a register of it that lives in a slot and is
--- not its base.
+-- The instruction changes a hard register of an address, once homes are put in; or, before that, a
+-- register of it that lives in a slot and is not its base.
 abbrev pub changes_address : List HomeOf → Rtx → Rtx → Bool → Rtx → Rtx → Bool
 changes_address homes placed with_homes based x x_with_homes =
     option_map_or (changes_in is_hard with_homes) (address_of x_with_homes) false || (not based && option_map_or (changes_in (lives_in_slot homes) placed) (address_of x) false)
@@ -60,7 +61,8 @@ is_memory_code _ = false
 
 -- an effect changes memory
 abbrev pub changes_memory : Rtx → Bool
-changes_memory effect = option_map_or (λ target. is_memory_code (head_of target).code) (target_of effect) false
+changes_memory effect =
+    option_map_or (λ target. is_memory_code (head_of target).code) (target_of effect) false
 
 -- a place of the operand with a number is what the pattern's effect changes
 abbrev pub is_place_of : ℕ → Rtx → Bool
@@ -73,7 +75,8 @@ is_other_memory k p x = changes_memory x && not (option_map_or (is_place_of k) p
 -- one of some effects does, each by the pattern's effect in its place
 abbrev pub any_other_memory : ℕ → List Rtx → List Rtx → Bool
 any_other_memory k ps [] = false
-any_other_memory k ps (x ∷ xs) = is_other_memory k (slice_get ps 0) x || any_other_memory k (drop 1 ps) xs
+any_other_memory k ps (x ∷ xs) =
+    is_other_memory k (slice_get ps 0) x || any_other_memory k (drop 1 ps) xs
 
 -- an instruction changes another memory than the operand with a number
 abbrev pub other_memory : Rtx → Rtx → ℕ → Bool

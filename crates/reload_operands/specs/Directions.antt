@@ -1,5 +1,6 @@
--- Inputs and outputs, by the pattern: GCC Internals, "RTL Template" and "Side Effect Expressions". What a `set`, a `clobber` and any other
--- effect take and change is what constraints ask of (`md_constr`, specs/Inputs.antt).
+-- Inputs and outputs, by the pattern: GCC Internals, "RTL Template" and "Side Effect Expressions".
+-- What a `set`, a `clobber` and any other effect take and change is what constraints ask of
+-- (`md_constr`, specs/Inputs.antt).
 use Rattle.std.specs.Prelude.{ℕ, ℤ, ◌==◌, Bool, true, false, ◌&&◌, ◌||◌, List, [], ◌∷◌, ◌++◌}
 use Rattle.std.specs.Int.{cast_unsigned, w64}
 use Rattle.std.specs.List.{list_any, flat_map}
@@ -51,12 +52,14 @@ scratch_step x = scratch_here x.code x.number ++ flat_map (λ numbers. numbers) 
 abbrev pub scratches_in : Rtx → List ℕ
 scratches_in = fold-Rtx (List ℕ) scratch_step
 
--- a scratch is given by a clobber; a register may be matched in its place, and elsewhere it is taken or changed
+-- a scratch is given by a clobber; a register may be matched in its place, and elsewhere it is
+-- taken or changed
 abbrev pub reads_scratch : ℕ → Code → Rtx → Bool
 reads_scratch k Clobber effect = false
 reads_scratch k _ effect = has_number k (scratches_in effect)
 
--- an effect is an operator and an operand with a number stands inside it or is it, or the operand is a scratch there and the effect is no clobber
+-- an effect is an operator and an operand with a number stands inside it or is it, or the operand
+-- is a scratch there and the effect is no clobber
 abbrev pub hides : ℕ → Rtx → Bool
 hides k effect =
     (is_operator_code (head_of effect).code && has_number k (taken_in effect)) || reads_scratch k (head_of effect).code effect

@@ -1,5 +1,6 @@
--- What reload knows of the operands of an instruction: GCC Internals, "RTL Template", "Simple Constraints" and "RTL passes" (reload). The
--- instruction is matched where references to the frame are put in and homes are not; with its homes it is handed in too.
+-- What reload knows of the operands of an instruction: GCC Internals, "RTL Template", "Simple
+-- Constraints" and "RTL passes" (reload). The instruction is matched where references to the frame
+-- are put in and homes are not; with its homes it is handed in too.
 use Rattle.std.specs.Prelude.{ℕ, ℤ, pos, negsuc, Bool, true, false, ◌==◌, nat_lt, List, [], ◌∷◌, Option, Some, if◌then◌else◌, is_some, codes}
 use Rattle.std.specs.List.{find, flat_map}
 use Rattle.std.specs.Str.{bytes_eq}
@@ -25,7 +26,8 @@ use Rattle.reload_operands.specs.declared.operand.Operand.{Operand}
 -- a list in increasing order with a number more, where it is missing
 abbrev pub with_number : List ℕ → ℕ → List ℕ
 with_number [] k = k ∷ []
-with_number (n ∷ ns) k = if nat_lt k n then k ∷ (n ∷ ns) else if k == n then n ∷ ns else n ∷ with_number ns k
+with_number (n ∷ ns) k =
+    if nat_lt k n then k ∷ (n ∷ ns) else if k == n then n ∷ ns else n ∷ with_number ns k
 
 -- no operand has a negative number
 abbrev pub with_natural : List ℕ → ℤ → List ℕ
@@ -95,4 +97,5 @@ operand_with pattern found placed with_homes homes layout k =
 
 -- the operands that a pattern has found in an instruction, in increasing number
 abbrev pub operands_of : Rtx → Ops → Rtx → Rtx → List HomeOf → Layout → List Operand
-operands_of pattern found placed with_homes homes layout = flat_map (operand_with pattern found placed with_homes homes layout) (numbers_of pattern)
+operands_of pattern found placed with_homes homes layout =
+    flat_map (operand_with pattern found placed with_homes homes layout) (numbers_of pattern)

@@ -96,7 +96,8 @@ fn base_of_address(homes: &Homes, layout: &Layout, address: &Rtx) -> Option<Base
     }
 }
 
-/// The base of a memory's address, or of a sum that is an address itself, where the base lives in a slot.
+/// The base of a memory's address, or of a sum that is an address itself, where the base lives in a
+/// slot.
 pub fn base_of(homes: &Homes, layout: &Layout, x: &Rtx) -> Option<Base>
     requires { AreOrdered homes.now layout.now }
     ensures { result ≡ spec.base_of homes.now layout.now x.now }

@@ -96,7 +96,8 @@ fn changes_slot_in(homes: &Homes, insn: &Rtx, address: &Rtx) -> bool
 }
 
 fn changes_hard_at(insn: &Rtx, x: &Rtx) -> bool
-    ensures { result ≡ option_map_or (spec.changes_in spec.is_hard insn.now) (spec.address_of x.now) false }
+    ensures { result ≡
+        option_map_or (spec.changes_in spec.is_hard insn.now) (spec.address_of x.now) false }
 {
     match address_of(x) {
         Some(address) => changes_hard_in(insn, address),
@@ -114,8 +115,9 @@ fn changes_slot_at(homes: &Homes, insn: &Rtx, x: &Rtx) -> bool
     }
 }
 
-/// Whether an instruction, as it is before and with its homes, changes a register of an operand's address, as this is before and with its
-/// homes: a hard one, or one in a slot that is not its base.
+/// Whether an instruction, as it is before and with its homes, changes a register of an operand's
+/// address, as this is before and with its homes: a hard one, or one in a slot that is not its
+/// base.
 pub fn changes_address(
     homes: &Homes,
     placed: &Rtx,
@@ -125,7 +127,8 @@ pub fn changes_address(
     x_with_homes: &Rtx,
 ) -> bool
     requires { IsStrictlyIncreasing (pseudos homes.now) }
-    ensures { result ≡ spec.changes_address homes.now placed.now with_homes.now based x.now x_with_homes.now }
+    ensures { result ≡
+        spec.changes_address homes.now placed.now with_homes.now based x.now x_with_homes.now }
 {
     changes_hard_at(with_homes, x_with_homes) || (!based && changes_slot_at(homes, placed, x))
 }

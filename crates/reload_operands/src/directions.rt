@@ -16,7 +16,8 @@ fn is_numbered(x: &Rtx, number: u32) -> bool
 }
 
 fn takes_here(x: &Rtx, number: u32) -> bool
-    ensures { result ≡ spec.has_number number (inputs.taken_here (head_of x.now).code (head_of x.now).number) }
+    ensures { result ≡
+        spec.has_number number (inputs.taken_here (head_of x.now).code (head_of x.now).number) }
 {
     match x.code {
         Code::MatchOperand | Code::MatchDup | Code::MatchOperator => is_numbered(x, number),
@@ -91,7 +92,8 @@ fn effect_takes(effect: &Rtx, number: u32) -> bool
 }
 
 fn any_effect_takes(effects: &[Rtx], number: u32) -> bool
-    ensures { result ≡ list_any (λ effect. spec.has_number number (inputs.taken_by effect)) effects.now }
+    ensures { result ≡
+        list_any (λ effect. spec.has_number number (inputs.taken_by effect)) effects.now }
 {
     effects.iter().any(|effect| effect_takes(effect, number))
 }
@@ -154,7 +156,8 @@ pub fn is_changed_by(effect: &Rtx, number: u32) -> bool
 }
 
 fn any_effect_sets(effects: &[Rtx], number: u32) -> bool
-    ensures { result ≡ list_any (λ effect. spec.has_number number (inputs.set_by effect)) effects.now }
+    ensures { result ≡
+        list_any (λ effect. spec.has_number number (inputs.set_by effect)) effects.now }
 {
     effects.iter().any(|effect| is_set_by(effect, number))
 }
@@ -167,7 +170,8 @@ pub fn is_output(pattern: &Rtx, number: u32) -> bool
 }
 
 fn any_effect_clobbers(effects: &[Rtx], number: u32) -> bool
-    ensures { result ≡ list_any (λ effect. spec.has_number number (spec.clobbered_by effect)) effects.now }
+    ensures { result ≡
+        list_any (λ effect. spec.has_number number (spec.clobbered_by effect)) effects.now }
 {
     effects.iter().any(|effect| is_clobbered_by(effect, number))
 }
@@ -186,7 +190,8 @@ fn is_operator(effect: &Rtx) -> bool
 }
 
 fn is_scratch_here(x: &Rtx, number: u32) -> bool
-    ensures { result ≡ spec.has_number number (spec.scratch_here (head_of x.now).code (head_of x.now).number) }
+    ensures { result ≡
+        spec.has_number number (spec.scratch_here (head_of x.now).code (head_of x.now).number) }
 {
     match x.code {
         Code::MatchScratch => is_numbered(x, number),
@@ -231,7 +236,8 @@ fn any_hides(effects: &[Rtx], number: u32) -> bool
     effects.iter().any(|effect| hides(effect, number))
 }
 
-/// Whether an operand stands inside an effect of which the pattern doesn't say what it does with it.
+/// Whether an operand stands inside an effect of which the pattern doesn't say what it does with
+/// it.
 pub fn is_hidden(pattern: &Rtx, number: u32) -> bool
     ensures { result ≡ spec.is_hidden pattern.now number }
 {

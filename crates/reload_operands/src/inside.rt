@@ -60,7 +60,8 @@ fn any_inside(number: u32, patterns: &[Rtx], inside: bool, trees: &[Rtx]) -> boo
     false
 }
 
-/// Whether an operand of a pattern has a place inside a low part in a tree that the pattern matches.
+/// Whether an operand of a pattern has a place inside a low part in a tree that the pattern
+/// matches.
 pub fn in_lowpart(pattern: &Rtx, x: &Rtx, number: u32) -> bool
     ensures { result ≡ spec.in_lowpart pattern.now x.now number }
 {

@@ -1,9 +1,11 @@
 //! What reload knows of an instruction's operands, and new trees in their places.
 //!
-//! Of an instruction that a pattern matches, with its references to the frame put in, and of the same with its homes, [`operands_of`] tells
-//! each operand: the tree with its homes, whether it is taken, set or clobbered, where it lives, and what a move of it would meet
-//! (`specs/Operands.antt`). [`whole_of`] tells what is asked of the instruction as a whole. [`put`] puts new trees in the operands' places
-//! (`specs/Put.antt`). Promised: each gives exactly what its definition gives, unless memory runs out.
+//! Of an instruction that a pattern matches, with its references to the frame put in, and of the
+//! same with its homes, [`operands_of`] tells each operand: the tree with its homes, whether it is
+//! taken, set or clobbered, where it lives, and what a move of it would meet
+//! (`specs/Operands.antt`). [`whole_of`] tells what is asked of the instruction as a whole. [`put`]
+//! puts new trees in the operands' places (`specs/Put.antt`). Promised: each gives exactly what its
+//! definition gives, unless memory runs out.
 #![tactic(auto)]
 
 mod bases;

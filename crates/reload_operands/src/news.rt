@@ -40,8 +40,9 @@ fn copies(alloc: Global, trees: &[Rtx]) -> Result<Kids, Memory>
     Ok(kids)
 }
 
-/// What a pattern makes of a tree that it matches, homes apart: in each place of an operand that has a new tree stands this. All else is the
-/// tree's own, an operator's head among it; where the tree has other parts than the pattern has there, they stay.
+/// What a pattern makes of a tree that it matches, homes apart: in each place of an operand that
+/// has a new tree stands this. All else is the tree's own, an operator's head among it; where the
+/// tree has other parts than the pattern has there, they stay.
 #[cycle(putting)]
 #[tactic(auto, using(crate::proofs::PutLaws::put_operand))]
 pub fn put(alloc: Global, pattern: &Rtx, news: &Operands, x: &Rtx) -> Result<Rtx, Memory>

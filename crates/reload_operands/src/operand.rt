@@ -17,7 +17,8 @@ pub struct Operand {
     pub number: u32,
     /// The operand itself, with its homes.
     pub tree: Rtx,
-    /// The mode of a move of it: its own, else that of its placeholder; `Void` where neither has one.
+    /// The mode of a move of it: its own, else that of its placeholder; `Void` where neither has
+    /// one.
     pub mode: Mode,
     /// Whether a `match_operator` gives it.
     pub is_operator: bool,
@@ -31,8 +32,10 @@ pub struct Operand {
     pub is_output: bool,
     /// Whether the pattern clobbers it.
     pub is_clobbered: bool,
-    /// Whether it stands inside an effect of which the pattern doesn't say what it does with it: one that an operator matches as a whole, or
-    /// one that is no `clobber` and has it as a scratch. It may be no input and no output then, though the instruction takes it or changes it.
+    /// Whether it stands inside an effect of which the pattern doesn't say what it does with it:
+    /// one that an operator matches as a whole, or one that is no `clobber` and has it as a
+    /// scratch. It may be no input and no output then, though the instruction takes it or changes
+    /// it.
     pub is_hidden: bool,
     /// Whether it is a register, or the low part of one, that lives in a slot.
     pub in_slot: bool,
@@ -40,7 +43,8 @@ pub struct Operand {
     pub in_lowpart: bool,
     /// The base of its address, or of the sum that it is, where that lives in a slot.
     pub base: Option<Base>,
-    /// Whether the instruction changes a register of its address: a hard one, or one in a slot that is not its base.
+    /// Whether the instruction changes a register of its address: a hard one, or one in a slot that
+    /// is not its base.
     pub changed_address: bool,
     /// Whether the instruction changes another memory.
     pub other_memory: bool,

@@ -52,7 +52,8 @@ fn is_address(placeholder: &Rtx) -> bool
     is(placeholder.name.bytes(), b"address_operand")
 }
 
-/// What is known of an operand, by its number, its placeholder and its tree before homes are put in.
+/// What is known of an operand, by its number, its placeholder and its tree before homes are put
+/// in.
 fn operand_for(
     alloc: Global,
     pattern: &Rtx,
@@ -124,8 +125,8 @@ fn add_operand(
     operands.push(operand)
 }
 
-/// The operands that a pattern has found in an instruction, in increasing number. The instruction is handed in as it was matched, with its
-/// references to the frame put in, and with its homes.
+/// The operands that a pattern has found in an instruction, in increasing number. The instruction
+/// is handed in as it was matched, with its references to the frame put in, and with its homes.
 pub fn operands_of(
     alloc: Global,
     pattern: &Rtx,

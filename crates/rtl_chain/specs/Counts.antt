@@ -1,5 +1,5 @@
--- How many instructions a chain has, and which numbers its uids and its pseudo registers leave free: GCC Internals, "Insns" and
--- "Registers and Memory".
+-- How many instructions a chain has, and which numbers its uids and its pseudo registers leave
+-- free: GCC Internals, "Insns" and "Registers and Memory".
 use Rattle.std.specs.Prelude.{ℕ, ◌+◌, ◌-◌, max, ℤ, pos, negsuc, Bool, true, false, List, [], ◌∷◌, map, filter, length}
 use Rattle.rtx_tree.specs.declared.code.Code.{Code}
 use Rattle.rtx_tree.specs.declared.code.Code.TheVariants.{Reg}

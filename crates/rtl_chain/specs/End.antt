@@ -1,5 +1,6 @@
--- The return at the end of a function's chain: where control runs past the last instruction, the function returns (GCC Internals, "Exception
--- handling and function entry and exit": the exit block).
+-- The return at the end of a function's chain: where control runs past the last instruction, the
+-- function returns (GCC Internals, "Exception handling and function entry and exit": the exit
+-- block).
 use Rattle.std.specs.Prelude.{◌+◌, List, [], ◌∷◌, ◌++◌, Some, None}
 use Rattle.std.specs.declared.option.Option.{Option}
 use Rattle.rtx_tree.specs.Patterns.{return_rtx}
@@ -12,7 +13,8 @@ use Rattle.rtl_func.specs.Paths.{ReachesExit}
 abbrev pub return_insn : List Insn → Insn
 return_insn insns = record { uid = greatest_uid insns + 1; kind = Jump; pattern = return_rtx; uses = [] }
 
--- A chain as it is written: with a return at its end where a path of its instructions leads there, and else as it is.
+-- A chain as it is written: with a return at its end where a path of its instructions leads there,
+-- and else as it is.
 pub data IsFinished (insns : List Insn) : List Insn → Type 0 where
   returning : ReachesExit insns → IsFinished insns (insns ++ return_insn insns ∷ [])
   staying : ¬ ReachesExit insns → IsFinished insns insns

@@ -24,7 +24,8 @@ pub fn return_insn(alloc: Global, insns: &[Insn]) -> Result<Insn, Memory>
     })
 }
 
-/// Whether the end of a function's chain is reached. A chain with more places than have a number is wanted as memory is.
+/// Whether the end of a function's chain is reached. A chain with more places than have a number is
+/// wanted as memory is.
 pub fn is_ended(alloc: Global, f: &Function) -> Result<bool, Memory>
     ensures { IfOk result (λ reached. IsTrue reached ↔ ReachesExit f.now.insns) }
 {

@@ -1,8 +1,9 @@
 //! What a chain of instructions has, and how it ends.
 //!
-//! [`instruction_count`], [`greatest_uid`] and [`next_pseudo`] are the numbers that `specs/Counts.antt` defines, and take no memory.
-//! A chain is written with a return at its end where a path of its instructions leads there, and else as it is
-//! (`specs/End.antt`): [`end_of`] gives what is added.
+//! [`instruction_count`], [`greatest_uid`] and [`next_pseudo`] are the numbers that
+//! `specs/Counts.antt` defines, and take no memory. A chain is written with a return at its end
+//! where a path of its instructions leads there, and else as it is (`specs/End.antt`): [`end_of`]
+//! gives what is added.
 #![tactic(auto)]
 
 mod counts;

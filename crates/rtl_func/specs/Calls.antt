@@ -1,5 +1,5 @@
--- Hard registers and calls: GCC Internals, "Registers and Memory", "Side Effect Expressions" (`call`) and "Calls"; RISC-V ELF
--- psABI, "Integer Calling Convention".
+-- Hard registers and calls: GCC Internals, "Registers and Memory", "Side Effect Expressions"
+-- (`call`) and "Calls"; RISC-V ELF psABI, "Integer Calling Convention".
 use Rattle.std.specs.Prelude.{ℕ, ◌||◌, ◌&&◌, ◌==◌, nat_le, not, Bool, true, false, List, [], ◌∷◌, map, Option, Some, None}
 use Rattle.std.specs.List.{list_all}
 use Rattle.rtx_tree.specs.declared.code.Mode.TheVariants.{DI}
@@ -31,7 +31,8 @@ abbrev pub use_is_argument : ArgUse → Bool
 use_is_argument u = is_argument u.reg
 
 abbrev pub argument_registers : Rtx → List ArgUse → Bool
-argument_registers pattern uses = list_all has_argument (nodes_of pattern) && list_all use_is_argument uses
+argument_registers pattern uses =
+    list_all has_argument (nodes_of pattern) && list_all use_is_argument uses
 
 -- ---- calls: a call's target is a symbol or a register of mode DI, its result is set to a0, and its uses are different ones of
 -- a0 to a7
@@ -104,4 +105,5 @@ call_target_agrees Call pattern = has_target pattern
 call_target_agrees _ pattern = true
 
 abbrev pub calls_agree : Kind → Rtx → List ArgUse → Bool
-calls_agree kind pattern uses = call_result_agrees kind pattern uses && call_target_agrees kind pattern
+calls_agree kind pattern uses =
+    call_result_agrees kind pattern uses && call_target_agrees kind pattern

@@ -1,5 +1,5 @@
--- Effects at once, and the locals of a function: GCC Internals, "Side Effect Expressions" (`parallel`) and "Registers and Memory"
--- (`virtual-stack-vars`).
+-- Effects at once, and the locals of a function: GCC Internals, "Side Effect Expressions"
+-- (`parallel`) and "Registers and Memory" (`virtual-stack-vars`).
 use Rattle.std.specs.Prelude.{ℕ, ◌||◌, ◌&&◌, ◌==◌, not, ℤ, pos, ◌+ℤ◌, int_le, Bool, true, false, List, [], ◌∷◌, Option, Some, None}
 use Rattle.std.specs.List.{list_all, filter_map}
 use Rattle.rtx_tree.specs.declared.code.Code.{Code}
@@ -82,7 +82,8 @@ is_local_offset locals offset = int_le offset (pos 0) && int_le (pos 0) (offset 
 
 -- the one is virtual-stack-vars and the other a constant, then one of a local
 abbrev pub is_lawful_sum : ℕ → Rtx → Rtx → Bool
-is_lawful_sum locals a b = not (is_stack_vars a && is_constant b) || is_local_offset locals (out-Rtx b).number
+is_lawful_sum locals a b =
+    not (is_stack_vars a && is_constant b) || is_local_offset locals (out-Rtx b).number
 
 abbrev pub sums_locals_by : ℕ → Code → List Rtx → Bool
 sums_locals_by locals Plus (a ∷ b ∷ []) = is_lawful_sum locals a b && is_lawful_sum locals b a

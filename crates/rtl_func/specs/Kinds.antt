@@ -1,4 +1,5 @@
--- Kinds of instructions, and the labels that they name: GCC Internals, "Insns", "Jump Patterns" and "Side Effect Expressions".
+-- Kinds of instructions, and the labels that they name: GCC Internals, "Insns", "Jump Patterns" and
+-- "Side Effect Expressions".
 use Rattle.std.specs.Prelude.{ℕ, ◌||◌, not, Bool, true, false, List, [], ◌∷◌, Option, Some, None, is_some}
 use Rattle.std.specs.List.{list_all}
 use Rattle.rtx_tree.specs.declared.function.Kind.{Kind}

@@ -40,7 +40,8 @@ pub record Mention : Type 0 where
 
 abbrev pub mention_by : Mode → Option ℕ → Option Mention
 mention_by mode None = None
-mention_by mode (Some reg) = if nat_le 64 reg then Some (record { reg = reg; mode = mode }) else None
+mention_by mode (Some reg) =
+    if nat_le 64 reg then Some (record { reg = reg; mode = mode }) else None
 
 -- the pseudo that a tree is
 abbrev pub mention_of : Rtx → Option Mention

@@ -13,4 +13,5 @@ is_among names name = contains_by (λ text. bytes_eq name text.items) names.text
 
 -- they are the names of these functions
 abbrev pub AreNames : List Function → Names → Type 0
-AreNames functions names = (name : List ℕ) → is_among names name ≡ list_any (has_name name) functions
+AreNames functions names =
+    (name : List ℕ) → is_among names name ≡ list_any (has_name name) functions

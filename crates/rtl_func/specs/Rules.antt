@@ -1,4 +1,5 @@
--- The rules of a well-formed function, by number, and the first place at which one fails: GCC Internals, "Insns" and "RTL Objects".
+-- The rules of a well-formed function, by number, and the first place at which one fails: GCC
+-- Internals, "Insns" and "RTL Objects".
 use Rattle.std.specs.Prelude.{◌≡◌, ℕ, ◌&&◌, ◌==◌, not, Bool, if◌then◌else◌, List, [], ◌∷◌, ◌++◌, map, filter, take, slice_get, Option, Some, None, Result, Ok, Err}
 use Rattle.std.specs.List.{list_any, flat_map}
 use Rattle.std.specs.Str.{bytes_eq}
@@ -54,7 +55,8 @@ abbrev pub breaks : InsnRule → Function → Insn → Bool
 breaks rule f i = is_ruled i && not (keeps rule f i)
 
 abbrev pub rule_faults_in : InsnRule → Function → List Insn → List Fault
-rule_faults_in rule f insns = map (λ i. fault (rule_number rule) i.uid) (filter (breaks rule f) insns)
+rule_faults_in rule f insns =
+    map (λ i. fault (rule_number rule) i.uid) (filter (breaks rule f) insns)
 
 abbrev pub rule_faults : Function → InsnRule → List Fault
 rule_faults f rule = rule_faults_in rule f f.insns

@@ -1,5 +1,6 @@
--- The shape of a tree: the mode and the parts that the class of its code asks for: GCC Internals, "RTL Objects", "RTL Expressions", "Registers and Memory",
--- "RTL Expressions for Arithmetic", "Comparison Operations", "Conversions" and "Side Effect Expressions".
+-- The shape of a tree: the mode and the parts that the class of its code asks for: GCC Internals,
+-- "RTL Objects", "RTL Expressions", "Registers and Memory", "RTL Expressions for Arithmetic",
+-- "Comparison Operations", "Conversions" and "Side Effect Expressions".
 use Rattle.std.specs.Prelude.{ℕ, ◌||◌, ◌&&◌, ◌==◌, nat_le, nat_lt, not, Bool, true, false, List, [], ◌∷◌}
 use Rattle.std.specs.Int.{cast_unsigned, w64}
 use Rattle.std.specs.List.{list_all}
@@ -166,7 +167,8 @@ fits_none _ mode reg = false
 -- of one part
 abbrev pub fits_one : Class → Mode → Rtx → Bool
 fits_one class.Memory mode address = has_mode mode && is_operand DI address
-fits_one class.Lowpart mode whole = is_true_register (class_at whole) (number_at whole) && is_narrower mode (mode_at whole)
+fits_one class.Lowpart mode whole =
+    is_true_register (class_at whole) (number_at whole) && is_narrower mode (mode_at whole)
 fits_one class.Unary mode a = has_mode mode && is_operand mode a
 fits_one class.Extension mode a = is_value a && is_narrower (mode_at a) mode
 fits_one class.Truncation mode a = is_value a && is_narrower mode (mode_at a)
@@ -183,14 +185,17 @@ is_called place size = is_memory_class (class_at place) && is_constant size
 abbrev pub fits_two : Class → Mode → Rtx → Rtx → Bool
 fits_two class.Binary mode a b = has_mode mode && (is_operand mode a && is_operand mode b)
 fits_two class.Shift mode a count = has_mode mode && (is_operand mode a && is_some_operand count)
-fits_two class.Comparison mode a b = (not (has_mode mode) || nat_le 32 (mode_bits mode)) && are_compared a b
+fits_two class.Comparison mode a b =
+    (not (has_mode mode) || nat_le 32 (mode_bits mode)) && are_compared a b
 fits_two class.Setting mode target source = not (has_mode mode) && is_set_to target source
 fits_two class.Call mode place size = not (has_mode mode) && is_called place size
 fits_two _ mode a b = false
 
 -- a comparison, a label_ref and the pc
 abbrev pub is_choice : Rtx → Rtx → Rtx → Bool
-is_choice test label next = is_comparison_class (class_at test) && (is_label_class (class_at label) && is_counter_class (class_at next))
+is_choice test label next =
+    is_comparison_class (class_at test) &&
+    (is_label_class (class_at label) && is_counter_class (class_at next))
 
 -- of three parts
 abbrev pub fits_three : Class → Mode → Rtx → Rtx → Rtx → Bool
@@ -224,9 +229,11 @@ is_nameless [] = true
 is_nameless (b ∷ name) = false
 
 abbrev pub is_bare : Class → ℕ → List ℕ → Bool
-is_bare row number name = (has_number row || number == 0) && (is_symbol_class row || is_nameless name)
+is_bare row number name =
+    (has_number row || number == 0) && (is_symbol_class row || is_nameless name)
 
--- a tree has the parts of its class, each with the mode that the class asks for; the mode of a call's memory is not asked
+-- a tree has the parts of its class, each with the mode that the class asks for; the mode of a
+-- call's memory is not asked
 abbrev pub is_shaped : Rtx → Bool
 is_shaped x =
     is_bare (class_at x) (number_at x) (out-Rtx x).name

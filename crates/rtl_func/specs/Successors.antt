@@ -26,7 +26,8 @@ branches_to (Some uid) = Branches uid
 
 -- what the pc is set to: (if_then_else TEST (label_ref UID) (pc)), or (label_ref UID)
 abbrev pub source_flow_by : Code → List Rtx → Rtx → Flow
-source_flow_by IfThenElse (test ∷ label ∷ other ∷ []) source = if is_pc other then branches_to (label_of label) else Stops
+source_flow_by IfThenElse (test ∷ label ∷ other ∷ []) source =
+    if is_pc other then branches_to (label_of label) else Stops
 source_flow_by _ parts source = goes_to (label_of source)
 
 abbrev pub source_flow : Rtx → Flow
@@ -64,7 +65,8 @@ abbrev pub successors_by : List Insn → ℕ → Option Insn → List ℕ
 successors_by insns index None = []
 successors_by insns index (Some i) = flow_places insns index (flow_of i)
 
--- the places to which the instruction at an index leads; the place past the last is the exit, which leads nowhere
+-- the places to which the instruction at an index leads; the place past the last is the exit, which
+-- leads nowhere
 abbrev pub successors_of : List Insn → ℕ → List ℕ
 successors_of insns index = successors_by insns index (slice_get insns index)
 

@@ -36,8 +36,8 @@ fn starts_block(insns: &[Insn], place: usize) -> bool
     place == 0 || is_label(&insns[place]) || is_jump(&insns[place - 1])
 }
 
-/// The basic blocks of a function's chain, in order: one starts at the first place, at each label and after each jump. They cover
-/// the chain, and none is empty.
+/// The basic blocks of a function's chain, in order: one starts at the first place, at each label
+/// and after each jump. They cover the chain, and none is empty.
 #[tactic(auto, using(crate::proofs::BlockLaws::blocks_cover))]
 pub fn blocks(alloc: Global, f: &Function) -> Result<Vec<Block>, Memory>
     requires { length f.now.insns < 2 ^ 32 }

@@ -109,7 +109,8 @@ fn uses_differ(uses: &[ArgUse]) -> bool
     true
 }
 
-/// Whether a call's result is set to a0, and its uses are different ones of a0 to a7. What is no call has neither.
+/// Whether a call's result is set to a0, and its uses are different ones of a0 to a7. What is no
+/// call has neither.
 pub fn call_result_agrees(kind: Kind, pattern: &Rtx, uses: &[ArgUse]) -> bool
     ensures { result ≡ spec.call_result_agrees kind pattern.now uses.now }
 {

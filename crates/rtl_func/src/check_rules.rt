@@ -38,13 +38,15 @@ impl From<Memory> for CheckRefusal {
 }
 
 fn has_own_name(names: &Names, f: &Function) -> bool
-    ensures { (before : List Function) → AreNames before names.now → result ≡ spec.has_own_name before f.now }
+    ensures { (before : List Function) → AreNames before names.now →
+        result ≡ spec.has_own_name before f.now }
 {
     !names.has(&f.name) && f.result_reg == 10
 }
 
 fn note_name(names: &Names, f: &Function, first: &mut Option<Fault>)
-    ensures { (before : List Function) → AreNames before names.now → first.new ≡ earlier first.old (first_fault (spec.name_faults before f.now)) }
+    ensures { (before : List Function) → AreNames before names.now →
+        first.new ≡ earlier first.old (first_fault (spec.name_faults before f.now)) }
 {
     if !has_own_name(names, f) {
         note(first, 0, 10);
@@ -64,11 +66,13 @@ fn first_of_function(alloc: Global, names: &Names, f: &Function) -> Result<Optio
     Ok(first)
 }
 
-/// Whether a function keeps the ten rules of a well-formed function behind others, of which these are the names. Where it does not,
-/// the refusal tells the lowest uid at which a rule fails, and the lowest rule that fails there.
+/// Whether a function keeps the ten rules of a well-formed function behind others, of which these
+/// are the names. Where it does not, the refusal tells the lowest uid at which a rule fails, and
+/// the lowest rule that fails there.
 pub fn check_behind(alloc: Global, names: &Names, f: &Function) -> Result<(), CheckRefusal>
     requires { length f.now.insns < 2 ^ 32 }
-    ensures { (before : List Function) → AreNames before names.now → spec.Gives result (first_fault (spec.faults_of before f.now)) }
+    ensures { (before : List Function) → AreNames before names.now →
+        spec.Gives result (first_fault (spec.faults_of before f.now)) }
 {
     match first_of_function(alloc, names, f)? {
         None => Ok(()),
@@ -90,8 +94,9 @@ fn names_of(alloc: Global, functions: &[Function]) -> Result<Names, Memory>
     Ok(names)
 }
 
-/// Whether the function at `index` keeps the ten rules of a well-formed function among the others of its input. Where it does
-/// not, the refusal tells the lowest uid at which a rule fails, and the lowest rule that fails there.
+/// Whether the function at `index` keeps the ten rules of a well-formed function among the others
+/// of its input. Where it does not, the refusal tells the lowest uid at which a rule fails, and the
+/// lowest rule that fails there.
 pub fn check(alloc: Global, functions: &[Function], index: u32) -> Result<(), CheckRefusal>
     requires within { index < length functions.now }
     requires short { All (λ f. length f.insns < 2 ^ 32) functions.now }

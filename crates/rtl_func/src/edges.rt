@@ -16,8 +16,9 @@ fn label_of(insns: &[Insn], uid: u64) -> Option<u32>
     Some(label_place(insns, uid)? as u32)
 }
 
-/// The places to which the instruction at `index` of the function's chain leads; one place alone is the first of the two. The place
-/// past the last is the exit, which leads nowhere, and so does every place behind it. No memory is taken.
+/// The places to which the instruction at `index` of the function's chain leads; one place alone is
+/// the first of the two. The place past the last is the exit, which leads nowhere, and so does
+/// every place behind it. No memory is taken.
 pub fn successors(f: &Function, index: u32) -> Successors
     requires { length f.now.insns < 2 ^ 32 }
     ensures places { spec.places_in result ≡ spec.successors_of f.now.insns index }

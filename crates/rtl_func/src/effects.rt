@@ -46,7 +46,8 @@ fn are_simple(parts: &[Rtx]) -> bool
     parts.iter().all(|part| is_simple_effect(part))
 }
 
-/// Notes the register that a part changes, and tells whether it is another than those noted and those were different ones.
+/// Notes the register that a part changes, and tells whether it is another than those noted and
+/// those were different ones.
 fn note_change(changed: &mut BTreeSet<u64>, part: &Rtx, differ: bool) -> Result<bool, Memory>
     ensures differ { IfOk result (λ still. still ≡ (not (changes.is_known (set.contains nat_cmp changed.old) (spec.changed_register part.now)) && differ)) }
     ensures changed { OnOk result ((reg : ℕ) → set.contains nat_cmp changed.new reg ≡ (changes.is_register (spec.changed_register part.now) reg || set.contains nat_cmp changed.old reg)) }

@@ -103,7 +103,8 @@ fn search_on(labels: &Labels, insns: &[Insn], search: &mut Search) -> Result<(),
     Ok(())
 }
 
-/// Whether a path of successors leads from the function's first place to its exit, the place past the last.
+/// Whether a path of successors leads from the function's first place to its exit, the place past
+/// the last.
 pub fn reaches_exit(alloc: Global, f: &Function) -> Result<bool, Memory>
     requires { length f.now.insns < 2 ^ 32 }
     ensures { IfOk result (λ reaches. IsTrue reaches ↔ ReachesExit f.now.insns) }

@@ -274,7 +274,8 @@ pub fn has_call_mode(x: &Rtx) -> bool
     }
 }
 
-/// Whether a tree has the parts of its row, each with the mode that the row asks for. The mode of a call's memory is not asked.
+/// Whether a tree has the parts of its row, each with the mode that the row asks for. The mode of a
+/// call's memory is not asked.
 pub fn is_shaped(x: &Rtx) -> bool
     ensures { result ≡ spec.is_shaped x.now }
 {

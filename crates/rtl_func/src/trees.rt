@@ -68,8 +68,8 @@ pub fn kinds_agree(kind: Kind, pattern: &Rtx) -> bool
     }
 }
 
-/// Whether a pattern is an effect whose trees have the parts of their rows of the table, each with its mode. The mode of a call's
-/// memory is not asked.
+/// Whether a pattern is an effect whose trees have the parts of their rows of the table, each with
+/// its mode. The mode of a call's memory is not asked.
 pub fn shapes_agree(pattern: &Rtx) -> bool
     ensures { result ≡ modes.shapes_agree pattern.now }
 {

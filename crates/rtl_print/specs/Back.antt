@@ -36,8 +36,9 @@ pub record ReadsBackAt (p : Position) (x : Rtx) : Type 0 where
 
 -- ---- functions
 
--- Reading drops each `use` and `clobber` in the `parallel` of a call, and puts an effect that is left alone in the place of the
--- `parallel`. An instruction is settled where this has nothing more to do.
+-- Reading drops each `use` and `clobber` in the `parallel` of a call, and puts an effect that is
+-- left alone in the place of the `parallel`. An instruction is settled where this has nothing more
+-- to do.
 abbrev pub is_effect : Rtx → Bool
 is_effect x = not (is_dropped_code (Some (out-Rtx x).code))
 
@@ -73,7 +74,8 @@ pub record ReadsBack (f : Function) : Type 0 where
   pub reads : ReadsAs (printed_function f) (Trees (tree ∷ []))
   pub stands_for : function_of tree ≡ stands f
 
--- the canonical texts of functions, one behind the other, are read as trees whose functions are these
+-- the canonical texts of functions, one behind the other, are read as trees whose functions are
+-- these
 pub record AllReadBack (fs : List Function) : Type 0 where
   pub trees : List Tree
   pub reads : ReadsAs (flat_map printed_function fs) (Trees trees)

@@ -1,5 +1,5 @@
--- The canonical text of a function: GCC Internals, "RTL Function Units" and "Insns", in the compact form that is read, with one
--- instruction on a line and without blocks and notes.
+-- The canonical text of a function: GCC Internals, "RTL Function Units" and "Insns", in the compact
+-- form that is read, with one instruction on a line and without blocks and notes.
 use Rattle.std.specs.Prelude.{ℕ, List, [], ◌∷◌, ◌++◌, flat_map, replicate, Option, Some, None, codes}
 use Rattle.std.specs.Fmt.{decimal}
 use Rattle.rtx_tree.specs.declared.code.Code.TheVariants.{Reg}
@@ -13,7 +13,8 @@ use Rattle.rtl_print.specs.Print.{head_text, printed, printed_reg_at, spaced}
 
 -- (reg:MODE R)
 unfoldable pub printed_register : Mode → ℕ → List ℕ
-printed_register mode reg = codes "(" ++ (head_text Reg mode ++ (spaced (printed_reg_at reg) ++ codes ")"))
+printed_register mode reg =
+    codes "(" ++ (head_text Reg mode ++ (spaced (printed_reg_at reg) ++ codes ")"))
 
 -- what stands in front of the rest of a chain of uses
 unfoldable pub printed_link : ArgUse → List ℕ
@@ -53,7 +54,8 @@ printed_insn i = codes "    (" ++ (insn_body i.kind i ++ codes ")\n")
 -- the lines of the result, if there is one
 abbrev pub printed_result : Option Mode → ℕ → List ℕ
 printed_result None reg = []
-printed_result (Some mode) reg = codes "  (crtl\n    (return_rtx " ++ (printed_register mode reg ++ codes ")\n  )\n")
+printed_result (Some mode) reg =
+    codes "  (crtl\n    (return_rtx " ++ (printed_register mode reg ++ codes ")\n  )\n")
 
 abbrev pub printed_locals : ℕ → List ℕ
 printed_locals locals = codes "  (locals " ++ (decimal locals ++ codes ")\n")

@@ -1,4 +1,5 @@
--- The text of an expression on one line, as it is read: GCC Internals, "RTL Expressions" and "Reading RTL".
+-- The text of an expression on one line, as it is read: GCC Internals, "RTL Expressions" and
+-- "Reading RTL".
 use Rattle.std.specs.Prelude.{ℕ, ◌-◌, ℤ, pos, negsuc, nat_lt, ◌==◌, List, [], ◌∷◌, ◌++◌, flat_map, drop, codes, if◌then◌else◌}
 use Rattle.std.specs.Fmt.{decimal, signed_decimal}
 use Rattle.rtx_tree.specs.declared.code.Code.{Code}
@@ -12,7 +13,8 @@ use Rattle.rtx_tree.specs.declared.tree.Rtx.TheFolds.{fold-Rtx}
 use Rattle.rtx_tree.specs.Code.{class_of_code, code_name, mode_name}
 use Rattle.rtx_tree.specs.Registers.{reg_text}
 
--- the atom at the head of an expression: the code's name, and behind a colon that of the mode, if there is one
+-- the atom at the head of an expression: the code's name, and behind a colon that of the mode, if
+-- there is one
 abbrev pub mode_suffix : Mode → List ℕ
 mode_suffix Void = []
 mode_suffix m = 58 ∷ mode_name m
@@ -37,8 +39,8 @@ starred (b ∷ bs) = if b == 42 then 42 ∷ b ∷ bs else b ∷ bs
 abbrev pub spaced : List ℕ → List ℕ
 spaced text = 32 ∷ text
 
--- what stands between the head of an expression and its closing parenthesis, by its kids' texts, each with a space in front;
--- a label is shown by its bare number
+-- what stands between the head of an expression and its closing parenthesis, by its kids' texts,
+-- each with a space in front; a label is shown by its bare number
 abbrev pub printed_body : Class → ℤ → List ℕ → List ℕ → List ℕ → List ℕ
 printed_body Register n name kids labels = spaced (printed_reg n)
 printed_body Constant n name kids labels = spaced (signed_decimal n)

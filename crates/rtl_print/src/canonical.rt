@@ -183,11 +183,12 @@ fn print_whole(f: &Function, out: &mut Vec<u8>) -> Result<(), Memory>
     Ok(())
 }
 
-/// Appends a function as canonical text: one instruction on a line, the size of the locals, and the result if there is one.
-/// Where memory runs out `out` holds what it held.
+/// Appends a function as canonical text: one instruction on a line, the size of the locals, and the
+/// result if there is one. Where memory runs out `out` holds what it held.
 ///
-/// Where a tree of some text stands for the function, and its calls are settled, the canonical text is read as one tree, which
-/// stands for it; so are the canonical texts of several such functions, one behind the other.
+/// Where a tree of some text stands for the function, and its calls are settled, the canonical text
+/// is read as one tree, which stands for it; so are the canonical texts of several such functions,
+/// one behind the other.
 #[tactic(auto, using(crate::proofs::CanonicalBack::reads_back, crate::proofs::CanonicalBack::all_read_back))]
 pub fn print_function(f: &Function, out: &mut Vec<u8>) -> Result<(), Memory>
     ensures prints { OnOk result (out.new.items ≡ out.old.items ++ spec.printed_function f.now) }

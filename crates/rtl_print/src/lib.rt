@@ -1,8 +1,8 @@
 //! Prints expressions and functions of RTL as text.
 //!
-//! [`print_rtx`] appends an expression on one line (`specs/Print.antt`), [`print_function`] a function as
-//! canonical text (`specs/Canonical.antt`). What can be read of some text is read back from what is printed
-//! of it (`specs/Back.antt`).
+//! [`print_rtx`] appends an expression on one line (`specs/Print.antt`), [`print_function`] a
+//! function as canonical text (`specs/Canonical.antt`). What can be read of some text is read back
+//! from what is printed of it (`specs/Back.antt`).
 #![tactic(auto)]
 
 mod canonical;

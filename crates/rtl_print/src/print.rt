@@ -165,9 +165,11 @@ pub(crate) fn print(x: &Rtx, out: &mut Vec<u8>) -> Result<(), Memory>
     Ok(())
 }
 
-/// Appends the text of an expression, on one line with single spaces and no flags. Where memory runs out `out` holds what it held.
+/// Appends the text of an expression, on one line with single spaces and no flags. Where memory
+/// runs out `out` holds what it held.
 ///
-/// Where a tree of some text stands for the expression at a position, the text is read as one tree, which stands for it there.
+/// Where a tree of some text stands for the expression at a position, the text is read as one tree,
+/// which stands for it there.
 #[tactic(auto, using(crate::proofs::RtxBack::rtx_reads_back))]
 pub fn print_rtx(x: &Rtx, out: &mut Vec<u8>) -> Result<(), Memory>
     ensures prints { OnOk result (out.new.items ≡ out.old.items ++ spec.printed x.now) }

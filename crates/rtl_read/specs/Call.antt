@@ -1,5 +1,5 @@
--- Calls: what a call does, and the registers that its target reads. GCC Internals, "Insns" (CALL_INSN_FUNCTION_USAGE) and "Side
--- Effect Expressions" (`call`, `use`, `clobber`, `parallel`).
+-- Calls: what a call does, and the registers that its target reads. GCC Internals, "Insns"
+-- (CALL_INSN_FUNCTION_USAGE) and "Side Effect Expressions" (`call`, `use`, `clobber`, `parallel`).
 use Rattle.std.specs.Prelude.{ℕ, ◌-◌, length, slice_get, ℤ, Bool, true, false, not, ◌&&◌, List, [], ◌∷◌, filter, Option, Some, None, if◌then◌else◌, option_map, option_and_then, codes}
 use Rattle.std.specs.List.{list_all}
 use Rattle.std.specs.Str.{bytes_eq}
@@ -51,14 +51,17 @@ together xs = node_of Parallel Void xs
 
 -- the vector of a call's `parallel`, if it is a vector of lists and vectors
 abbrev pub effects_by : Tree → List Tree → Option (List Tree)
-effects_by t (h ∷ v ∷ []) = if is_parallel t && is_vector v && list_all is_nested (vector_of v) then Some (vector_of v) else None
+effects_by t (h ∷ v ∷ []) =
+    if is_parallel t && is_vector v &&
+    list_all is_nested (vector_of v) then Some (vector_of v) else None
 effects_by t _ = None
 
 abbrev pub effects_of : Tree → Option (List Tree)
 effects_of t = effects_by t (items_of t)
 
 abbrev pub call_by : Tree → Option (List Tree) → Parsed Rtx
-call_by t (Some effects) = parsed_map together (each_parsed (read_at Pattern) (filter is_kept effects))
+call_by t (Some effects) =
+    parsed_map together (each_parsed (read_at Pattern) (filter is_kept effects))
 call_by t None = read_at Pattern t
 
 -- the pattern of a call: `use` and `clobber` in its `parallel` are dropped
@@ -99,12 +102,14 @@ is_link items = is_link_head (head_of_list items)
 
 -- (expr_list USE CHAIN), by its items
 abbrev pub is_whole_link : List Tree → Bool
-is_whole_link (h ∷ element ∷ more ∷ []) = is_link_head (atom_of h) && is_nested element && is_nested more
+is_whole_link (h ∷ element ∷ more ∷ []) =
+    is_link_head (atom_of h) && is_nested element && is_nested more
 is_whole_link _ = false
 
 -- its use, and what the chain behind it gives
 abbrev pub link_by : List Tree → List (Parsed (List ArgUse)) → Parsed (List ArgUse)
-link_by (h ∷ element ∷ more ∷ []) (x ∷ y ∷ rest ∷ []) = parsed_then (use_of element) (λ first. parsed_map (λ uses. first ∷ uses) rest)
+link_by (h ∷ element ∷ more ∷ []) (x ∷ y ∷ rest ∷ []) =
+    parsed_then (use_of element) (λ first. parsed_map (λ uses. first ∷ uses) rest)
 link_by _ _ = stands []
 
 -- (nil)

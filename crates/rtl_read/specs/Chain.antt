@@ -1,5 +1,5 @@
--- The chain of a function's instructions: GCC Internals, "Insns" and "Basic Blocks", in the compact form that GCC dumps for reading
--- by its RTL front end.
+-- The chain of a function's instructions: GCC Internals, "Insns" and "Basic Blocks", in the compact
+-- form that GCC dumps for reading by its RTL front end.
 use Rattle.std.specs.Prelude.{ℕ, Bool, ◌&&◌, ◌||◌, List, [], ◌∷◌, ◌++◌, is_some, Option, Some, None, if◌then◌else◌, option_map, codes}
 use Rattle.std.specs.List.{list_all}
 use Rattle.rtx_tree.specs.declared.function.ArgUse.{ArgUse}
@@ -31,11 +31,13 @@ abbrev pub parts_with : Tree → List Tree → ℕ → InsnParts
 parts_with pattern rest uid = record { uid = uid; pattern = pattern; rest = rest }
 
 abbrev pub insn_parts : List Tree → Option InsnParts
-insn_parts (u ∷ p ∷ rest) = if is_nested p then option_map (parts_with p rest) (number_of u) else None
+insn_parts (u ∷ p ∷ rest) =
+    if is_nested p then option_map (parts_with p rest) (number_of u) else None
 insn_parts _ = None
 
 abbrev pub insn_of_parts : Kind → ℕ → Tree → Parsed (List Insn)
-insn_of_parts kind uid pattern = parsed_map (λ x. insn_with kind uid [] x ∷ []) (read_at Pattern pattern)
+insn_of_parts kind uid pattern =
+    parsed_map (λ x. insn_with kind uid [] x ∷ []) (read_at Pattern pattern)
 
 -- a plain instruction or a jump; what stands behind the pattern is passed over
 abbrev pub insn_by : Kind → Tree → Option InsnParts → Parsed (List Insn)
@@ -46,7 +48,8 @@ abbrev pub call_with : ℕ → Rtx → List ArgUse → List Insn
 call_with uid pattern uses = insn_with Call uid uses pattern ∷ []
 
 abbrev pub call_of_parts : ℕ → Tree → List Tree → Parsed (List Insn)
-call_of_parts uid pattern rest = parsed_then (call_of pattern) (λ x. parsed_map (call_with uid x) (uses_of rest))
+call_of_parts uid pattern rest =
+    parsed_then (call_of pattern) (λ x. parsed_map (call_with uid x) (uses_of rest))
 
 abbrev pub call_by : Tree → Option InsnParts → Parsed (List Insn)
 call_by t (Some parts) = call_of_parts parts.uid parts.pattern parts.rest
@@ -70,7 +73,8 @@ one_barrier = stands (barrier ∷ [])
 
 -- notes and the edges of blocks are passed over
 abbrev pub is_passed : Tree → Bool
-is_passed h = is_word (codes "cnote") h || is_word (codes "edge-from") h || is_word (codes "edge-to") h
+is_passed h =
+    is_word (codes "cnote") h || is_word (codes "edge-from") h || is_word (codes "edge-to") h
 
 abbrev pub entry_by : Tree → List Tree → Parsed (List Insn)
 entry_by t (h ∷ parts) =
@@ -82,8 +86,8 @@ entry_by t (h ∷ parts) =
     else (if is_passed h then stands [] else outside t)))))
 entry_by t [] = outside t
 
--- (cinsn UID PATTERN ..), (cjump_insn UID PATTERN ..), (ccall_insn UID PATTERN ..), (clabel UID ..) or (cbarrier ..): one
--- instruction; (cnote ..), (edge-from ..) or (edge-to ..): none
+-- (cinsn UID PATTERN ..), (cjump_insn UID PATTERN ..), (ccall_insn UID PATTERN ..), (clabel UID ..)
+-- or (cbarrier ..): one instruction; (cnote ..), (edge-from ..) or (edge-to ..): none
 abbrev pub entry_of : Tree → Parsed (List Insn)
 entry_of t = entry_by t (items_of t)
 
@@ -92,14 +96,17 @@ entry_of t = entry_by t (items_of t)
 -- what some trees give, one after the other
 abbrev pub each_joined : {A : Type 0} → (Tree → Parsed (List A)) → List Tree → Parsed (List A)
 each_joined read [] = stands []
-each_joined read (t ∷ ts) = parsed_then (read t) (λ xs. parsed_map (λ ys. xs ++ ys) (each_joined read ts))
+each_joined read (t ∷ ts) =
+    parsed_then (read t) (λ xs. parsed_map (λ ys. xs ++ ys) (each_joined read ts))
 
 abbrev pub entries_of : List Tree → Parsed (List Insn)
 entries_of trees = each_joined entry_of trees
 
 -- (block N ENTRIES)
 abbrev pub block_entries : List Tree → Option (List Tree)
-block_entries (h ∷ n ∷ entries) = if is_word (codes "block") h && is_some (number_of n) && list_all is_nested entries then Some entries else None
+block_entries (h ∷ n ∷ entries) =
+    if is_word (codes "block") h && is_some (number_of n) &&
+    list_all is_nested entries then Some entries else None
 block_entries _ = None
 
 abbrev pub item_by : Tree → Option (List Tree) → Parsed (List Insn)
@@ -114,7 +121,8 @@ abbrev pub items_joined : List Tree → Parsed (List Insn)
 items_joined trees = each_joined item_of trees
 
 abbrev pub chain_items : List Tree → Option (List Tree)
-chain_items (h ∷ items) = if is_word (codes "insn-chain") h && list_all is_nested items then Some items else None
+chain_items (h ∷ items) =
+    if is_word (codes "insn-chain") h && list_all is_nested items then Some items else None
 chain_items [] = None
 
 abbrev pub chain_by : Tree → Option (List Tree) → Parsed (List Insn)

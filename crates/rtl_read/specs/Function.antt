@@ -1,4 +1,5 @@
--- A function by its tree: GCC Internals, "RTL Function Units", in the compact form that GCC dumps for reading by its RTL front end.
+-- A function by its tree: GCC Internals, "RTL Function Units", in the compact form that GCC dumps
+-- for reading by its RTL front end.
 use Rattle.std.specs.Prelude.{ℕ, ℤ, ◌&&◌, ◌==◌, nat_le, Bool, List, [], ◌∷◌, ◌++◌, count_by, unwrap_or, Option, Some, None, if◌then◌else◌, option_map, option_and_then, codes}
 use Rattle.std.specs.List.{list_all}
 use Rattle.std.specs.Option.{option_or}

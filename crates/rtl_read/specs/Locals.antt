@@ -1,4 +1,5 @@
--- The locals of a function that doesn't tell their size: GCC Internals, "Registers and Memory" (`virtual-stack-vars`).
+-- The locals of a function that doesn't tell their size: GCC Internals, "Registers and Memory"
+-- (`virtual-stack-vars`).
 use Rattle.std.specs.Prelude.{ℕ, suc, ◌&&◌, max, fold, map, ℤ, pos, negsuc, nat_lt, Bool, true, false, List, [], ◌∷◌, if◌then◌else◌}
 use Rattle.rtx_tree.specs.declared.code.Code.{Code}
 use Rattle.rtx_tree.specs.declared.code.Code.TheVariants.{Plus, ConstInt}
@@ -50,6 +51,7 @@ depths_step x =
 abbrev pub deepest_in : Rtx → ℕ
 deepest_in x = (fold-Rtx Depths depths_step x).deepest
 
--- The greatest d from 0 to 4,294,967,295 such that -d is added to virtual-stack-vars somewhere in a chain, 0 if there is none.
+-- The greatest d from 0 to 4,294,967,295 such that -d is added to virtual-stack-vars somewhere in a
+-- chain, 0 if there is none.
 abbrev pub locals_in : List Insn → ℕ
 locals_in insns = fold max 0 (map (λ i. deepest_in i.pattern) insns)

@@ -1,4 +1,5 @@
--- The words of RTL's text: numbers, and the atom at the head of a list. GCC Internals, "Reading RTL" and "Machine Modes".
+-- The words of RTL's text: numbers, and the atom at the head of a list. GCC Internals, "Reading
+-- RTL" and "Machine Modes".
 use Rattle.std.specs.Prelude.{ℕ, Bool, false, List, [], ◌∷◌, Option, Some, None, option_and_then}
 use Rattle.rtx_tree.specs.declared.code.Code.{Code}
 use Rattle.rtx_tree.specs.declared.tree.Rtx.{Rtx}

@@ -217,13 +217,15 @@ fn function(alloc: Global, tree: &Tree) -> Result<Function, RtlRefusal>
 
 /// Reads the functions that the trees of a text stand for, in order.
 ///
-/// A function is `(function "NAME" ITEMS)`, with one `(insn-chain ..)`, at most one `(locals N)` and at most one `(crtl ..)`
-/// among its items; lists with other heads are passed over. Where the size of the locals is not told, it is the greatest d
-/// such that -d is added to `virtual-stack-vars`. A function without a result has the register a0 for it.
+/// A function is `(function "NAME" ITEMS)`, with one `(insn-chain ..)`, at most one `(locals N)`
+/// and at most one `(crtl ..)` among its items; lists with other heads are passed over. Where the
+/// size of the locals is not told, it is the greatest d such that -d is added to
+/// `virtual-stack-vars`. A function without a result has the register a0 for it.
 ///
 /// # Errors
 ///
-/// `Construct` where a tree is outside the language, with the first such tree. `Memory` where memory ran out.
+/// `Construct` where a tree is outside the language, with the first such tree. `Memory` where
+/// memory ran out.
 #[tactic(auto, using(crate::proofs::Each::with_nothing, crate::proofs::Each::each_next, crate::proofs::Each::each_stops, crate::proofs::Each::each_ends))]
 pub fn functions_of(alloc: Global, trees: &[Tree]) -> Result<Functions, RtlRefusal>
     ensures { Gives result (syntax.functions_in trees.now) }

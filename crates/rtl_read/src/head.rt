@@ -1,4 +1,5 @@
-//! The atom at the head of an expression: the code that it names, and whether it is that of a `parallel`.
+//! The atom at the head of an expression: the code that it names, and whether it is that of a
+//! `parallel`.
 ghost use Rattle.std.specs.Prelude.{◌≡◌, ◌==◌, ◌<◌, IfSome, length, true};
 ghost use Rattle.std.specs.Option.{option_copied};
 ghost use Rattle.lisp_read.specs.Head as head;

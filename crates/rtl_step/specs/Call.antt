@@ -1,5 +1,5 @@
--- What a call tells, and what it leaves in registers: GCC Internals, "Side Effect Expressions" (`call`) and "Calls"; RISC-V ELF psABI, "Integer Calling
--- Convention".
+-- What a call tells, and what it leaves in registers: GCC Internals, "Side Effect Expressions"
+-- (`call`) and "Calls"; RISC-V ELF psABI, "Integer Calling Convention".
 use Rattle.std.specs.Prelude.{ℕ, ◌%◌, ◌==◌, Bool, false, if◌then◌else◌, List, [], ◌∷◌, Option, Some, None, option_map, option_and_then}
 use Rattle.std.specs.Int.{cast_unsigned, w64}
 use Rattle.std.specs.FinMap.{insert}
@@ -46,7 +46,8 @@ call_by _ parts x = x
 abbrev pub call_part : Rtx → Rtx
 call_part x = call_by (out-Rtx x).code (out-Rtx x).kids x
 
--- the width in which a0 is known after a call: that of M in (set (reg:M a0) CALL), and 64 bits after a call alone
+-- the width in which a0 is known after a call: that of M in (set (reg:M a0) CALL), and 64 bits
+-- after a call alone
 abbrev pub result_width_by : Code → List Rtx → Option Width
 result_width_by Set (place ∷ source ∷ []) = width_of (out-Rtx place).mode
 result_width_by _ parts = Some W64
@@ -71,7 +72,8 @@ abbrev pub target_value : List SymbolAt → Regs → List MemByte → Rtx → Op
 target_value symbols regs memory x = option_and_then (λ target. option_and_then aligned_target (value_of symbols regs memory target W64)) (target_of (call_part x))
 
 -- what a called function sees: its address, its arguments, and the visible memory
-abbrev pub event_of : List SymbolAt → Regs → List MemByte → List RangeAt → Rtx → List ArgUse → Option CallEvent
+abbrev pub event_of : List SymbolAt → Regs → List MemByte → List RangeAt → Rtx → List ArgUse →
+    Option CallEvent
 event_of symbols regs memory ranges x uses =
     of_two (λ target args. Some (record { target = target; args = args; memory = visible ranges memory })) (target_value symbols regs memory x) (args_of regs uses)
 

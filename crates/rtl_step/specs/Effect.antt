@@ -51,9 +51,11 @@ abbrev pub set_memory : List SymbolAt → Regs → List MemByte → Rtx → Rtx 
 set_memory symbols regs memory address source w =
     of_two (λ at value. if is_some (load w memory at) then Some (Stores w at value) else None) (value_of symbols regs memory address W64) (value_of symbols regs memory source w)
 
-abbrev pub set_place : Option Rtx → List SymbolAt → Regs → List MemByte → Rtx → Rtx → Width → Option Effect
+abbrev pub set_place : Option Rtx → List SymbolAt → Regs → List MemByte → Rtx → Rtx → Width →
+    Option Effect
 set_place None symbols regs memory place source w = set_register symbols regs memory place source w
-set_place (Some address) symbols regs memory place source w = set_memory symbols regs memory address source w
+set_place (Some address) symbols regs memory place source w =
+    set_memory symbols regs memory address source w
 
 -- (set PLACE SOURCE)
 abbrev pub set_effect : List SymbolAt → Regs → List MemByte → Rtx → Rtx → Option Effect
@@ -69,7 +71,8 @@ abbrev pub clobber_effect : Rtx → Option Effect
 clobber_effect place = clobber_by (out-Rtx place).code (register_of place)
 
 abbrev pub effect_by : Code → List Rtx → List SymbolAt → Regs → List MemByte → Option Effect
-effect_by Set (place ∷ source ∷ []) symbols regs memory = set_effect symbols regs memory place source
+effect_by Set (place ∷ source ∷ []) symbols regs memory =
+    set_effect symbols regs memory place source
 effect_by Use (x ∷ []) symbols regs memory = Some Nothing
 effect_by Clobber (place ∷ []) symbols regs memory = clobber_effect place
 effect_by _ parts symbols regs memory = None

@@ -19,14 +19,15 @@ known_of w value = record { width = w; value = low w value }
 abbrev pub known_in : Width → Known → Option ℕ
 known_in w k = if nat_le (bits_of w) (bits_of k.width) then Some (low w k.value) else None
 
--- a register's value in a width, or none where fewer bits are known; register 0 is always 0
--- (RISC-V unprivileged manual, "Programmers' Model for Base Integer ISA": x0 is hardwired with all bits equal to 0)
+-- a register's value in a width, or none where fewer bits are known; register 0 is always 0 (RISC-V
+-- unprivileged manual, "Programmers' Model for Base Integer ISA": x0 is hardwired with all bits
+-- equal to 0)
 abbrev pub reg_value : Regs → ℕ → Width → Option ℕ
 reg_value regs zero w = Some 0
 reg_value regs (suc reg) w = option_and_then (known_in w) (get regs (suc reg))
 
--- the registers after the low bits of one are set, of which no more is known then; register 0 keeps nothing
--- (GCC Internals, "Side Effect Expressions": `set`)
+-- the registers after the low bits of one are set, of which no more is known then; register 0 keeps
+-- nothing (GCC Internals, "Side Effect Expressions": `set`)
 abbrev pub with_reg : Regs → ℕ → Known → Regs
 with_reg regs zero known = regs
 with_reg regs (suc reg) known = insert regs (suc reg) known

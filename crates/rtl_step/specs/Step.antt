@@ -1,4 +1,5 @@
--- One step of a function: GCC Internals, "Side Effect Expressions", "Insns", "Calls" and "Jump Patterns".
+-- One step of a function: GCC Internals, "Side Effect Expressions", "Insns", "Calls" and "Jump
+-- Patterns".
 use Rattle.std.specs.Prelude.{ℕ, ◌+◌, Bool, true, false, if◌then◌else◌, List, [], ◌∷◌, ◌++◌, drop, length, Option, Some, None, option_and_then, is_some, slice_get}
 use Rattle.bits64.specs.declared.Width.{Width}
 use Rattle.rtx_tree.specs.declared.code.Mode.{Mode}
@@ -40,7 +41,8 @@ after_goes s (Some place) = (Jumped, record s { next = place })
 
 -- a0 in the mode of the result, where there is one
 abbrev pub result_of : Option Mode → Regs → Option ℕ
-result_of mode regs = option_and_then (reg_value regs result_register) (option_and_then width_of mode)
+result_of mode regs =
+    option_and_then (reg_value regs result_register) (option_and_then width_of mode)
 
 -- whether the result is known, where there is one
 abbrev pub has_result : Option Mode → Regs → Bool
@@ -77,7 +79,8 @@ after_event world s place None event = (Undefined, s)
 after_event world s place (Some w) None = (Undefined, s)
 after_event world s place (Some w) (Some event) = after_reply s place w event (next_reply world s)
 
--- what the function that an instruction calls sees in a state, and the width in which its result is known
+-- what the function that an instruction calls sees in a state, and the width in which its result is
+-- known
 abbrev pub insn_event : List SymbolAt → State → Insn → Option CallEvent
 insn_event symbols s i = event_of symbols s.regs s.memory s.visible i.pattern i.uses
 
@@ -86,9 +89,11 @@ width_after i = result_width i.pattern
 
 -- an instruction at a place of the chain
 abbrev pub act : Kind → World → Function → Insn → ℕ → State → Stepped
-act Plain world f i place s = after_effects s place (effects_of world.symbols s.regs s.memory i.pattern)
+act Plain world f i place s =
+    after_effects s place (effects_of world.symbols s.regs s.memory i.pattern)
 act Jump world f i place s = after_jump f s place (jump_of world.symbols s.regs s.memory i.pattern)
-act Call world f i place s = after_event world s place (width_after i) (insn_event world.symbols s i)
+act Call world f i place s =
+    after_event world s place (width_after i) (insn_event world.symbols s i)
 act _ world f i place s = (Undefined, s)
 
 -- the end of the chain returns
@@ -112,4 +117,5 @@ place_from insns next = passed (drop next insns) next
 
 -- one step of a function
 abbrev pub step : World → Function → State → Stepped
-step world f s = let place = place_from f.insns s.next in act_at (slice_get f.insns place) world f place s
+step world f s =
+    let place = place_from f.insns s.next in act_at (slice_get f.insns place) world f place s

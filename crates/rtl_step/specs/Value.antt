@@ -1,4 +1,5 @@
--- The value of an expression: GCC Internals, chapter "RTL Representation", whose sections the comments name.
+-- The value of an expression: GCC Internals, chapter "RTL Representation", whose sections the
+-- comments name.
 use Rattle.std.specs.Prelude.{ℕ, ◌-◌, ◌^◌, ◌==◌, ℤ, Bool, not, bit_and, bit_or, bit_xor, if◌then◌else◌, List, [], ◌∷◌, Option, Some, None, option_map, option_and_then}
 use Rattle.std.specs.Int.{cast_unsigned, w64}
 use Rattle.bits64.specs.declared.Width.{Width}
@@ -44,7 +45,8 @@ by_nonzero w b value = if low w b == 0 then None else Some value
 abbrev pub truth : Bool → Option ℕ
 truth holds = Some (if holds then 1 else 0)
 
--- two operands of the same mode ("RTL Expressions for Arithmetic"). Sums, differences and products wrap; `mod` has the dividend's sign
+-- two operands of the same mode ("RTL Expressions for Arithmetic"). Sums, differences and products
+-- wrap; `mod` has the dividend's sign
 abbrev pub binary : Code → Width → ℕ → ℕ → Option ℕ
 binary Plus w a b = Some (sum_of w a b)
 binary Minus w a b = Some (difference_of w a b)
@@ -58,7 +60,8 @@ binary Ior w a b = Some (bit_or (low w a) (low w b))
 binary Xor w a b = Some (bit_xor (low w a) (low w b))
 binary _ w a b = None
 
--- shifts ("RTL Expressions for Arithmetic": `ashift` and its like), whose count is taken modulo the width
+-- shifts ("RTL Expressions for Arithmetic": `ashift` and its like), whose count is taken modulo the
+-- width
 abbrev pub shifted : Code → Width → ℕ → ℕ → Option ℕ
 shifted Ashift w a b = Some (shifted_left w a b)
 shifted Lshiftrt w a b = Some (shifted_right w a b)
@@ -118,7 +121,8 @@ count_width (Some w) = w
 abbrev pub value_of_none : List SymbolAt → Regs → Class → ℤ → List ℕ → Width → Option ℕ
 -- "Registers and Memory": more bits than are known have no value
 value_of_none symbols regs Register number name w = reg_value regs (cast_unsigned w64 number) w
--- "Constant Expression Types": a `const_int` has no mode, its low bits count; a `symbol_ref` is an address
+-- "Constant Expression Types": a `const_int` has no mode, its low bits count; a `symbol_ref` is an
+-- address
 value_of_none symbols regs Constant number name w = Some (low w (cast_unsigned w64 number))
 value_of_none symbols regs Symbol number name w = option_map (low w) (symbol_address symbols name)
 value_of_none symbols regs _ number name w = None
@@ -129,7 +133,8 @@ of_converted code a w = option_and_then (λ own. of_one (converted code own w) (
 
 -- an expression of one part
 abbrev pub value_of_one : List MemByte → Class → Code → Reading → Width → Option ℕ
--- "Registers and Memory": the address of a `mem` has mode DI; a lowpart `subreg` reads the low bits alone
+-- "Registers and Memory": the address of a `mem` has mode DI; a lowpart `subreg` reads the low bits
+-- alone
 value_of_one memory Memory code a w = of_one (load w memory) (a.value W64)
 value_of_one memory Lowpart code a w = a.value w
 value_of_one memory Unary code a w = of_one (unary code w) (a.value w)
@@ -155,8 +160,10 @@ value_of_parts class code (a ∷ b ∷ []) w = value_of_two class code a b w
 value_of_parts class code _ w = None
 
 -- an expression of a class, code, number, name and parts, in a width
-abbrev pub value_by : List SymbolAt → Regs → List MemByte → Class → Code → ℤ → List ℕ → List Reading → Width → Option ℕ
-value_by symbols regs memory class code number name [] w = value_of_none symbols regs class number name w
+abbrev pub value_by : List SymbolAt → Regs → List MemByte → Class → Code → ℤ → List ℕ →
+    List Reading → Width → Option ℕ
+value_by symbols regs memory class code number name [] w =
+    value_of_none symbols regs class number name w
 value_by symbols regs memory class code number name (a ∷ []) w = value_of_one memory class code a w
 value_by symbols regs memory class code number name parts w = value_of_parts class code parts w
 

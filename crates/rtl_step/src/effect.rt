@@ -47,7 +47,8 @@ fn inner_register(x: &Rtx) -> Option<u64>
     }
 }
 
-/// The register that is a place to be set: itself, or that of which it is a lowpart; `None` where it is no such place.
+/// The register that is a place to be set: itself, or that of which it is a lowpart; `None` where
+/// it is no such place.
 pub fn register_of(x: &Rtx) -> Option<u64>
     ensures { result ≡ spec.register_of x.now }
 {
@@ -182,7 +183,8 @@ fn one_effect(
     }
 }
 
-/// The effects of an instruction that goes on to the next, or `None` where a value or address has none.
+/// The effects of an instruction that goes on to the next, or `None` where a value or address has
+/// none.
 pub fn effects_of(
     alloc: Global,
     symbols: &Symbols,
@@ -222,7 +224,8 @@ fn changed_copy(regs: &Regs, effects: &[Effect]) -> Result<Regs, Memory>
     Ok(after)
 }
 
-/// Makes effects on registers, in order. After `Memory` all is as before: where there are several, they are made on a copy.
+/// Makes effects on registers, in order. After `Memory` all is as before: where there are several,
+/// they are made on a copy.
 pub fn change_registers(regs: &mut Regs, effects: &[Effect]) -> Result<(), Memory>
     ensures ok { OnOk result (regs.new ≡ spec.regs_after effects.now regs.old) }
     ensures err { OnErr result (regs.new ≡ regs.old) }

@@ -154,7 +154,8 @@ fn of_converted(
     a: &Rtx,
     w: Width,
 ) -> Option<u64>
-    ensures { result ≡ spec.of_converted code (spec.reading_of symbols.now regs.now memory.now a.now) w }
+    ensures { result ≡
+        spec.of_converted code (spec.reading_of symbols.now regs.now memory.now a.now) w }
 {
     let own = width_of(a.mode)?;
     converted(code, own, w, value(symbols, regs, memory, a, own)?)

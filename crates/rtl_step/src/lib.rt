@@ -1,8 +1,10 @@
 //! What one instruction of RTL does.
 //!
-//! A [`State`] has what is known of each register, memory, and the calls so far. `step_insn` makes one step of a function in it, and
-//! equals the definition of a step in `specs/`: the value of an expression by its code, all effects after all values and addresses,
-//! jumps to their labels, and calls by the replies of a world. Where a part has no value the step is undefined and changes nothing.
+//! A [`State`] has what is known of each register, memory, and the calls so far. `step_insn` makes
+//! one step of a function in it, and equals the definition of a step in `specs/`: the value of an
+//! expression by its code, all effects after all values and addresses, jumps to their labels, and
+//! calls by the replies of a world. Where a part has no value the step is undefined and changes
+//! nothing.
 #![tactic(auto)]
 
 mod call;

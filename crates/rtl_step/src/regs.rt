@@ -20,7 +20,8 @@ pub struct Known {
     pub value: u64,
 }
 
-/// Registers by number, each with its known low bits. One that is not there is unset. Contracts see the map.
+/// Registers by number, each with its known low bits. One that is not there is unset. Contracts see
+/// the map.
 #[derive(Drop)]
 pub struct Regs {
     table: BTreeMap<u64, Known>,

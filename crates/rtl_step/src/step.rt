@@ -199,7 +199,8 @@ fn place_from(insns: &[Insn], next: usize) -> usize
     place
 }
 
-/// One step of a function. After `Memory` the state is as before, as it is after a step that returns or is undefined.
+/// One step of a function. After `Memory` the state is as before, as it is after a step that
+/// returns or is undefined.
 pub fn step_insn(
     alloc: Global,
     f: &Function,

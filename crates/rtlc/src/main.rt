@@ -1,5 +1,5 @@
-//! The program `rtlc`: it makes the real streams and files, hands the words to `run`, and ends with its
-//! answer.
+//! The program `rtlc`: it makes the real streams and files, hands the words to `run`, and ends with
+//! its answer.
 #![tactic(auto)]
 
 use byte_edge::{DiskFiles, StdSink, StdSource};
@@ -8,8 +8,8 @@ use rtlc_run::{out_of_memory, run};
 use std::process::ExitCode;
 use std::{env, io};
 
-/// The words after the program's name. Where a word isn't UTF-8 it is the list of one empty word, which
-/// is no command.
+/// The words after the program's name. Where a word isn't UTF-8 it is the list of one empty word,
+/// which is no command.
 fn words(rt: &HostRuntime) -> Result<Vec<String>, Memory> {
     let mut words = Vec::new(rt.alloc());
     match env::args(rt) {

@@ -1,5 +1,6 @@
-//! The cases of the whole program and of the calls that it is made of. Each word names a file of cases: `rtlc_cases` tries each case,
-//! and prints for each file how many are right, and each that is wrong, with what was wanted and what came. Two files are wrong on purpose.
+//! The cases of the whole program and of the calls that it is made of. Each word names a file of
+//! cases: `rtlc_cases` tries each case, and prints for each file how many are right, and each that
+//! is wrong, with what was wanted and what came. Two files are wrong on purpose.
 #![tactic(auto)]
 
 mod tables;

@@ -69,7 +69,8 @@ fn joined(alloc: Global, first: &str, second: &str) -> Told {
     text
 }
 
-/// Tells what comes of an input of the table of that name, with what was given to it. Whether there is such a table.
+/// Tells what comes of an input of the table of that name, with what was given to it. Whether there
+/// is such a table.
 fn answer(alloc: Global, table: &str, given: &[u8], input: &[u8], told: &mut Told) -> bool {
     base_cases::answer(alloc, table, input, told)
         || text_cases::answer(alloc, table, input, told)

@@ -1,6 +1,7 @@
-//! The program over the real streams and the real files, with more than 64 KiB of each: a description that is not there, one of more than
-//! 64 KiB, an input of more than 64 KiB, and an output of more than 64 KiB. What it tells of a refusal goes to the output too, and behind
-//! each run stands its status.
+//! The program over the real streams and the real files, with more than 64 KiB of each: a
+//! description that is not there, one of more than 64 KiB, an input of more than 64 KiB, and an
+//! output of more than 64 KiB. What it tells of a refusal goes to the output too, and behind each
+//! run stands its status.
 #![tactic(auto)]
 
 use anyhow::Result;

@@ -1,4 +1,5 @@
--- What the program answers. It is one answer for the words, the files and the bytes of the input: a text, or a refusal with its values.
+-- What the program answers. It is one answer for the words, the files and the bytes of the input: a
+-- text, or a refusal with its values.
 use Rattle.std.specs.Prelude.{◌≡◌, ◌⊎◌, ℕ, List, [], unwrap_or, Some, None, IsSome, Result, Ok, Err, IfSome, IfOk, Bool, true, false}
 use Rattle.std.specs.declared.option.Option.{Option}
 use Rattle.std.specs.Io.KnownBytes.{Appends}
@@ -48,7 +49,8 @@ abbrev pub evaluated : ℕ → List ℕ → Result Coded Refusal → Outcome
 evaluated steps args (Ok c) = Ok (eval_text c.function c.items steps args)
 evaluated steps args (Err e) = Err e
 
--- `eval` over the bytes of an input: the outcomes of the function with a name, and of its code by some forms, where they are tried fairly
+-- `eval` over the bytes of an input: the outcomes of the function with a name, and of its code by
+-- some forms, where they are tried fairly
 abbrev pub EvalComes : List ℕ → ℕ → List ℕ → List Entry → List ℕ → Outcome → Type 0
 EvalComes function steps args forms bytes outcome =
     (answer : Result Coded Refusal) × CodeComes forms bytes function answer × (outcome ≡ evaluated steps args answer) ×
@@ -62,20 +64,31 @@ RecogComes forms bytes outcome = InputComesTo (FunctionsCome forms) bytes outcom
 abbrev pub DumpComes : Pass → List Entry → List ℕ → Outcome → Type 0
 DumpComes pass forms bytes outcome = InputComesTo (dump.FunctionsCome forms pass) bytes outcome
 
--- A command over the functions of the input by a description, by what is known of the files and of the input: the description first, and then what the bytes
--- of the input come to by its forms.
+-- A command over the functions of the input by a description, by what is known of the files and of
+-- the input: the description first, and then what the bytes of the input come to by its forms.
 pub data ByForms (comes : List Entry → List ℕ → Outcome → Type 0) (files : Source) (input : Option (List ℕ)) (name : List ℕ) : Outcome → Type 0 where
   refused : (e : Refusal) → FormsCome files name (Err e) → ByForms comes files input name (Err e)
-  by_forms : (forms : List Entry) (outcome : Outcome) → FormsCome files name (Ok forms) → IfSome input (λ bytes. comes forms bytes outcome) → ByForms comes files input name outcome
+  by_forms : (forms : List Entry) (outcome : Outcome) → FormsCome files name (Ok forms) →
+      IfSome input (λ bytes. comes forms bytes outcome) → ByForms comes files input name outcome
 
--- What a command comes to, by what is known of the bytes of the files and of the input. An input of which nothing is known may come
--- to anything; `list` does not look at it.
+-- What a command comes to, by what is known of the bytes of the files and of the input. An input of
+-- which nothing is known may come to anything; `list` does not look at it.
 pub data CommandComes (files : Source) (input : Option (List ℕ)) : Command → Outcome → Type 0 where
-  assembled : (name : Option (List ℕ)) (outcome : Outcome) → ByForms TextComes files input (described name) outcome → CommandComes files input (commands.Asm name) outcome
-  listed : (name : Option (List ℕ)) (r : Result (List ℕ) ListRefusal) → ListComes files (described name) r → CommandComes files input (commands.List name) (list_told r)
-  recognised : (name : Option (List ℕ)) (outcome : Outcome) → ByForms RecogComes files input (described name) outcome → CommandComes files input (commands.Recog name) outcome
-  dumped : (name : Option (List ℕ)) (pass : Pass) (outcome : Outcome) → ByForms (DumpComes pass) files input (described name) outcome → CommandComes files input (commands.Dump name pass) outcome
-  tries : (name : Option (List ℕ)) (function : List ℕ) (steps : ℕ) (args : List ℕ) (outcome : Outcome) → ByForms (EvalComes function steps args) files input (described name) outcome →
+  assembled : (name : Option (List ℕ)) (outcome : Outcome) →
+      ByForms TextComes files input (described name) outcome →
+      CommandComes files input (commands.Asm name) outcome
+  listed : (name : Option (List ℕ)) (r : Result (List ℕ) ListRefusal) →
+      ListComes files (described name) r →
+      CommandComes files input (commands.List name) (list_told r)
+  recognised : (name : Option (List ℕ)) (outcome : Outcome) →
+      ByForms RecogComes files input (described name) outcome →
+      CommandComes files input (commands.Recog name) outcome
+  dumped : (name : Option (List ℕ)) (pass : Pass) (outcome : Outcome) →
+      ByForms (DumpComes pass) files input (described name) outcome →
+      CommandComes files input (commands.Dump name pass) outcome
+  tries :
+      (name : Option (List ℕ)) (function : List ℕ) (steps : ℕ) (args : List ℕ) (outcome : Outcome) →
+      ByForms (EvalComes function steps args) files input (described name) outcome →
       CommandComes files input (commands.Eval name function steps args) outcome
 
 -- ---- answers
@@ -83,7 +96,8 @@ pub data CommandComes (files : Source) (input : Option (List ℕ)) : Command →
 -- The answer to these words. They are looked at first.
 pub data Answers (words : List (List ℕ)) (files : Source) (input : Option (List ℕ)) : Outcome → Type 0 where
   usage : command_of words ≡ None → Answers words files input (Err refusal.Usage)
-  spoken : (c : Command) (outcome : Outcome) → command_of words ≡ Some c → CommandComes files input c outcome → Answers words files input outcome
+  spoken : (c : Command) (outcome : Outcome) → command_of words ≡ Some c →
+      CommandComes files input c outcome → Answers words files input outcome
 
 -- the name of the description of a command
 abbrev pub description_of : Command → List ℕ
@@ -113,7 +127,8 @@ IsKnownFor files input (Some c) = IsKnown files (description_of c) × IsSome inp
 -- the words are no command, or they name no function of the input
 abbrev pub IsMisused : Option Command → Option (List ℕ) → Type 0
 IsMisused None input = Unit {0}
-IsMisused (Some (commands.Eval name function steps args)) input = IfSome input (λ bytes. IsUnnamed bytes function)
+IsMisused (Some (commands.Eval name function steps args)) input =
+    IfSome input (λ bytes. IsUnnamed bytes function)
 IsMisused (Some _) input = ⊥
 
 -- what is known of the description before the input is read: it has come to its forms
@@ -143,7 +158,8 @@ abbrev pub line_of_answer : Outcome → List ℕ
 line_of_answer (Ok text) = []
 line_of_answer (Err e) = line_of e
 
--- A run ended with an answer: its status, its text on the output, and its line on the sink of errors, unless that failed.
+-- A run ended with an answer: its status, its text on the output, and its line on the sink of
+-- errors, unless that failed.
 pub record EndsWith (answer : Outcome) (status : ℕ) (output output' errors errors' : Option (List ℕ)) (faults faults' : ℕ) : Type 0 where
   pub status_is : status ≡ status_of_answer answer
   pub written : Appends output output' (text_of_answer answer)
@@ -152,22 +168,27 @@ pub record EndsWith (answer : Outcome) (status : ℕ) (output output' errors err
 -- ---- what a run tells
 
 -- the text of an answer was written, and nothing else
-abbrev pub Writes : List (List ℕ) → Source → Option (List ℕ) → Option (List ℕ) → Option (List ℕ) → Type 0
-Writes words files input old new = (text : List ℕ) × Answers words files input (Ok text) × Appends old new text
+abbrev pub Writes : List (List ℕ) → Source → Option (List ℕ) → Option (List ℕ) → Option (List ℕ) →
+    Type 0
+Writes words files input old new =
+    (text : List ℕ) × Answers words files input (Ok text) × Appends old new text
 
 -- a front of it was written
-abbrev pub WritesFront : List (List ℕ) → Source → Option (List ℕ) → Option (List ℕ) → Option (List ℕ) → Type 0
-WritesFront words files input old new = (text : List ℕ) × Answers words files input (Ok text) × TakesFront old new text
+abbrev pub WritesFront : List (List ℕ) → Source → Option (List ℕ) → Option (List ℕ) →
+    Option (List ℕ) → Type 0
+WritesFront words files input old new =
+    (text : List ℕ) × Answers words files input (Ok text) × TakesFront old new text
 
--- the cause of a refusal in the words, the files and the input; a fault and want of memory have theirs elsewhere
+-- the cause of a refusal in the words, the files and the input; a fault and want of memory have
+-- theirs elsewhere
 abbrev pub IsRefused : List (List ℕ) → Source → Option (List ℕ) → Refusal → Type 0
 IsRefused words files input refusal.ReadFault = Unit {0}
 IsRefused words files input refusal.WriteFault = Unit {0}
 IsRefused words files input refusal.Memory = Unit {0}
 IsRefused words files input e = Answers words files input (Err e)
 
--- The line of a refusal was told, or that of want of memory where memory for the line ran out; the status is that of the
--- refusal that was told.
+-- The line of a refusal was told, or that of want of memory where memory for the line ran out; the
+-- status is that of the refusal that was told.
 pub record Reports (e : Refusal) (status : ℕ) (errors errors' : Option (List ℕ)) (faults faults' : ℕ) : Type 0 where
   pub told : Refusal
   pub status_is : status ≡ status_of told
@@ -176,13 +197,18 @@ pub record Reports (e : Refusal) (status : ℕ) (errors errors' : Option (List �
 
 -- a refusal of this status has its cause
 abbrev pub HasCause : List (List ℕ) → Source → Option (List ℕ) → ℕ → Type 0
-HasCause words files input status = (e : Refusal) × (status_of e ≡ status) × IsRefused words files input e
+HasCause words files input status =
+    (e : Refusal) × (status_of e ≡ status) × IsRefused words files input e
 
 -- the line of such a refusal was told
-abbrev pub TellsCause : List (List ℕ) → Source → Option (List ℕ) → ℕ → Option (List ℕ) → Option (List ℕ) → Type 0
-TellsCause words files input status errors errors' = (e : Refusal) × (status_of e ≡ status) × IsRefused words files input e × Appends errors errors' (line_of e)
+abbrev pub TellsCause : List (List ℕ) → Source → Option (List ℕ) → ℕ → Option (List ℕ) →
+    Option (List ℕ) → Type 0
+TellsCause words files input status errors errors' =
+    (e : Refusal) × (status_of e ≡ status) × IsRefused words files input e ×
+    Appends errors errors' (line_of e)
 
 -- the run ended with the answer to the words, the files and the input
-abbrev pub IsAnswered : List (List ℕ) → Source → Option (List ℕ) → ℕ → (output output' errors errors' : Option (List ℕ)) → (faults faults' : ℕ) → Type 0
+abbrev pub IsAnswered : List (List ℕ) → Source → Option (List ℕ) → ℕ →
+    (output output' errors errors' : Option (List ℕ)) → (faults faults' : ℕ) → Type 0
 IsAnswered words files input status output output' errors errors' faults faults' =
     (a : Outcome) × Answers words files input a × EndsWith a status output output' errors errors' faults faults'

@@ -20,38 +20,47 @@ use Rattle.asm_same.specs.asm_text.declared.code.Coded.{Coded}
 use Rattle.code_eval.specs.Eval.{eval_text, IsFair, ComesToSame}
 
 -- the assembly of the input by a description was written, and nothing else
-abbrev pub WritesLines : Source → List ℕ → Option (List ℕ) → Option (List ℕ) → Option (List ℕ) → Type 0
+abbrev pub WritesLines : Source → List ℕ → Option (List ℕ) → Option (List ℕ) → Option (List ℕ) →
+    Type 0
 WritesLines files name input old new =
     IfSome input (λ bytes. (forms : List Entry) × FormsCome files name (Ok forms) × (functions : List Function) × IsInput bytes functions × (a : Assembly) × IsAssembly forms 0 functions a × Appends old new a.text)
 
 -- and it does what the functions of the input do, each in the frame that it has by the description
-abbrev pub WritesSame : Source → List ℕ → Option (List ℕ) → Option (List ℕ) → Option (List ℕ) → Type 0
+abbrev pub WritesSame : Source → List ℕ → Option (List ℕ) → Option (List ℕ) → Option (List ℕ) →
+    Type 0
 WritesSame files name input old new =
     IfSome input (λ bytes. (forms : List Entry) × FormsCome files name (Ok forms) × (functions : List Function) × IsInput bytes functions ×
     (text : List ℕ) × DoesSame forms functions text × Appends old new text)
 
--- The trial of a function and its code is fair, and where the function's outcome has a value, its lines and labels come to the same one.
+-- The trial of a function and its code is fair, and where the function's outcome has a value, its
+-- lines and labels come to the same one.
 pub record IsTried (c : Coded) (steps : ℕ) (args : List ℕ) : Type 0 where
   pub fair : IsFair c.function steps args
   pub same : ComesToSame c.function c.items steps args
 
--- the outcomes of the function of the input with a name, and of the lines and labels that its part of the assembly by a description spells, were
--- written, and nothing else
-abbrev pub WritesOutcomes : Source → List ℕ → Option (List ℕ) → List ℕ → ℕ → List ℕ → Option (List ℕ) → Option (List ℕ) → Type 0
+-- the outcomes of the function of the input with a name, and of the lines and labels that its part
+-- of the assembly by a description spells, were written, and nothing else
+abbrev pub WritesOutcomes : Source → List ℕ → Option (List ℕ) → List ℕ → ℕ → List ℕ →
+    Option (List ℕ) → Option (List ℕ) → Type 0
 WritesOutcomes files name input function steps args old new =
     IfSome input (λ bytes. (forms : List Entry) × FormsCome files name (Ok forms) × (c : Coded) × IsCoded forms bytes function c × IsTried c steps args × Appends old new (eval_text c.function c.items steps args))
 
 -- the list of a description was written, and nothing else
 abbrev pub WritesList : Source → List ℕ → Option (List ℕ) → Option (List ℕ) → Type 0
-WritesList files name old new = (text : List ℕ) × ListComes files name (Ok text) × Appends old new text
+WritesList files name old new =
+    (text : List ℕ) × ListComes files name (Ok text) × Appends old new text
 
--- the forms of the instructions of the input were written, by those of a description, and nothing else
-abbrev pub WritesForms : Source → List ℕ → Option (List ℕ) → Option (List ℕ) → Option (List ℕ) → Type 0
+-- the forms of the instructions of the input were written, by those of a description, and nothing
+-- else
+abbrev pub WritesForms : Source → List ℕ → Option (List ℕ) → Option (List ℕ) → Option (List ℕ) →
+    Type 0
 WritesForms files name input old new =
     IfSome input (λ bytes. (forms : List Entry) × FormsCome files name (Ok forms) × (functions : List Function) × IsInput bytes functions × (text : List ℕ) × FunctionsCome forms functions (Ok text) × Appends old new text)
 
--- the functions of the input as they are behind a pass were written, by the forms of a description, and nothing else
-abbrev pub WritesDump : Pass → Source → List ℕ → Option (List ℕ) → Option (List ℕ) → Option (List ℕ) → Type 0
+-- the functions of the input as they are behind a pass were written, by the forms of a description,
+-- and nothing else
+abbrev pub WritesDump : Pass → Source → List ℕ → Option (List ℕ) → Option (List ℕ) →
+    Option (List ℕ) → Type 0
 WritesDump pass files name input old new =
     IfSome input (λ bytes. (forms : List Entry) × FormsCome files name (Ok forms) × (functions : List Function) × IsInput bytes functions × (text : List ℕ) × dump.FunctionsCome forms pass functions (Ok text) × Appends old new text)
 
@@ -66,7 +75,8 @@ Completes files name input status = (forms : List Entry) → FormsCome files nam
 
 -- and so does one of which a function is tried that it has
 abbrev pub CompletesFor : Source → List ℕ → Option (List ℕ) → List ℕ → ℕ → Type 0
-CompletesFor files name input function status = (forms : List Entry) → FormsCome files name (Ok forms) →
+CompletesFor files name input function status =
+    (forms : List Entry) → FormsCome files name (Ok forms) →
     IfSome input (λ bytes. (functions : List Function) (a : Assembly) → IsInput bytes functions → AssemblyComes forms functions (Ok a) → has_named functions function ≡ true → IsDone status)
 
 -- and so does one of which each instruction has a form of a description
@@ -76,5 +86,6 @@ CompletesBy files name input status = (forms : List Entry) → FormsCome files n
 
 -- and so does one whose functions have a text behind a pass
 abbrev pub CompletesDump : Pass → Source → List ℕ → Option (List ℕ) → ℕ → Type 0
-CompletesDump pass files name input status = (forms : List Entry) → FormsCome files name (Ok forms) →
+CompletesDump pass files name input status =
+    (forms : List Entry) → FormsCome files name (Ok forms) →
     IfSome input (λ bytes. (functions : List Function) (text : List ℕ) → IsInput bytes functions → dump.FunctionsCome forms pass functions (Ok text) → IsDone status)

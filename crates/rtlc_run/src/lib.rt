@@ -1,11 +1,13 @@
-//! The whole program as one call. [`run`] takes the words of the command line and the objects of the
-//! outside, and gives the exit status. Its contract ties it to one answer, which is defined for the words, the files that a
-//! description is made of, and the bytes of the input: a text, or a refusal with its values. With status 0 that text was
-//! written and nothing else; each other status has its cause, and its line was told.
+//! The whole program as one call. [`run`] takes the words of the command line and the objects of
+//! the outside, and gives the exit status. Its contract ties it to one answer, which is defined for
+//! the words, the files that a description is made of, and the bytes of the input: a text, or a
+//! refusal with its values. With status 0 that text was written and nothing else; each other status
+//! has its cause, and its line was told.
 //!
-//! The words are read by `rtlc_words`; what the commands come to is `specs/Answer.antt`, over `md_list` for `list`; for the others over
-//! `md_named`, which gives the description, and `asm_text` for `asm`, `asm_text` and `code_eval` for `eval`, and `recog_text` for `recog`;
-//! what was written then is said in `specs/Written.antt`.
+//! The words are read by `rtlc_words`; what the commands come to is `specs/Answer.antt`, over
+//! `md_list` for `list`; for the others over `md_named`, which gives the description, and
+//! `asm_text` for `asm`, `asm_text` and `code_eval` for `eval`, and `recog_text` for `recog`; what
+//! was written then is said in `specs/Written.antt`.
 #![tactic(auto)]
 
 mod program;

@@ -48,8 +48,10 @@ fn input_bytes<S: Source>(alloc: Global, input: &mut S) -> Result<Vec<u8>, Refus
     ensures all { IfOk result (λ bytes. Consumes (S.left input.old) (S.left input.new) bytes.items × IsAtEnd (S.left input.new)) }
     ensures within { IfOk result (λ bytes. length bytes.items ≤ most_bytes) }
     ensures cause { IfErr result (InputRefused (S.left input.old)) }
-    ensures fault { result ≡ Err Refusal.ReadFault → Rose (S.fault_count input.old) (S.fault_count input.new) }
-    ensures quiet { result ≢ Err Refusal.ReadFault → S.fault_count input.new ≡ S.fault_count input.old }
+    ensures fault { result ≡ Err Refusal.ReadFault →
+        Rose (S.fault_count input.old) (S.fault_count input.new) }
+    ensures quiet { result ≢ Err Refusal.ReadFault →
+        S.fault_count input.new ≡ S.fault_count input.old }
 {
     match read_all(alloc, input, MOST_BYTES) {
         Ok(bytes) => Ok(bytes),
@@ -168,11 +170,14 @@ fn made_of<S: Source>(
     description: &Description,
     task: &Task,
 ) -> Result<Vec<u8>, Refusal>
-    ensures gives { (known : Known) (name : List ℕ) → FormsCome known name (Ok description.now) → Gives result (ByForms (TaskComes task.now) known (S.left input.old) name) }
+    ensures gives { (known : Known) (name : List ℕ) → FormsCome known name (Ok description.now) →
+        Gives result (ByForms (TaskComes task.now) known (S.left input.old) name) }
     ensures usage { result ≡ Err Refusal.Usage → MisusesInput task.now (S.left input.old) }
     ensures unwritten { result ≢ Err Refusal.WriteFault }
-    ensures fault { result ≡ Err Refusal.ReadFault → Rose (S.fault_count input.old) (S.fault_count input.new) }
-    ensures quiet { result ≢ Err Refusal.ReadFault → S.fault_count input.new ≡ S.fault_count input.old }
+    ensures fault { result ≡ Err Refusal.ReadFault →
+        Rose (S.fault_count input.old) (S.fault_count input.new) }
+    ensures quiet { result ≢ Err Refusal.ReadFault →
+        S.fault_count input.new ≡ S.fault_count input.old }
 {
     let bytes = input_bytes(alloc, input)?;
     made(alloc, description, &bytes, task)
@@ -203,11 +208,15 @@ fn described(name: &Option<Name>) -> &[u8]
 
 /// The list of a description.
 fn listed<F: Files>(alloc: Global, files: &mut F, name: &Option<Name>) -> Result<Vec<u8>, Refusal>
-    ensures gives { (known : Known) → Agrees known (F.holds files.old) → (input : Option (List ℕ)) → Gives result (CommandComes known input (commands.List name.now)) }
-    ensures asked { (known : Known) → Agrees known (F.holds files.old) → GrewBy (AreNamed known (spec.described name.now)) (F.asked files.old) (F.asked files.new) }
+    ensures gives { (known : Known) → Agrees known (F.holds files.old) → (input : Option (List ℕ)) →
+        Gives result (CommandComes known input (commands.List name.now)) }
+    ensures asked { (known : Known) → Agrees known (F.holds files.old) →
+        GrewBy (AreNamed known (spec.described name.now)) (F.asked files.old) (F.asked files.new) }
     ensures own { IsOwn result }
-    ensures fault { result ≡ Err Refusal.ReadFault → Rose (F.fault_count files.old) (F.fault_count files.new) }
-    ensures quiet { result ≢ Err Refusal.ReadFault → F.fault_count files.new ≡ F.fault_count files.old }
+    ensures fault { result ≡ Err Refusal.ReadFault →
+        Rose (F.fault_count files.old) (F.fault_count files.new) }
+    ensures quiet { result ≢ Err Refusal.ReadFault →
+        F.fault_count files.new ≡ F.fault_count files.old }
 {
     match list(alloc, files, described(name)) {
         Ok(text) => Ok(text),
@@ -224,35 +233,43 @@ fn made_by<F: Files, S: Source>(
     task: &Task,
 ) -> Result<Vec<u8>, Refusal>
     ensures gives { (known : Known) → Agrees known (F.holds files.old) → Gives result (ByForms (TaskComes task.now) known (S.left input.old) (spec.described name.now)) }
-    ensures asked { (known : Known) → Agrees known (F.holds files.old) → GrewBy (AreNamed known (spec.described name.now)) (F.asked files.old) (F.asked files.new) }
+    ensures asked { (known : Known) → Agrees known (F.holds files.old) →
+        GrewBy (AreNamed known (spec.described name.now)) (F.asked files.old) (F.asked files.new) }
     ensures usage { result ≡ Err Refusal.Usage → MisusesInput task.now (S.left input.old) }
     ensures unwritten { result ≢ Err Refusal.WriteFault }
     ensures behind { result ≡ Err Refusal.ReadFault → ¬ Rose (F.fault_count files.old) (F.fault_count files.new) →
         (known : Known) → Agrees known (F.holds files.old) → (forms : List Entry) × FormsCome known (spec.described name.now) (Ok forms) }
     ensures fault { result ≡ Err Refusal.ReadFault → Rose (S.fault_count input.old) (S.fault_count input.new) ⊎ Rose (F.fault_count files.old) (F.fault_count files.new) }
-    ensures quiet { result ≢ Err Refusal.ReadFault → S.fault_count input.new ≡ S.fault_count input.old }
-    ensures calm { result ≢ Err Refusal.ReadFault → F.fault_count files.new ≡ F.fault_count files.old }
+    ensures quiet { result ≢ Err Refusal.ReadFault →
+        S.fault_count input.new ≡ S.fault_count input.old }
+    ensures calm { result ≢ Err Refusal.ReadFault →
+        F.fault_count files.new ≡ F.fault_count files.old }
 {
     let description = description_of(alloc, files, described(name))?;
     made_of(alloc, input, &description, task)
 }
 
-/// The text that a command comes to. The description is looked at where the command has one, the input where it reads it.
+/// The text that a command comes to. The description is looked at where the command has one, the
+/// input where it reads it.
 fn produced<F: Files, S: Source>(
     alloc: Global,
     command: Command,
     files: &mut F,
     input: &mut S,
 ) -> Result<Vec<u8>, Refusal>
-    ensures gives { (known : Known) → Agrees known (F.holds files.old) → Gives result (CommandComes known (S.left input.old) command) }
-    ensures asked { (known : Known) → Agrees known (F.holds files.old) → GrewBy (MayBeAsked known (Some command)) (F.asked files.old) (F.asked files.new) }
+    ensures gives { (known : Known) → Agrees known (F.holds files.old) →
+        Gives result (CommandComes known (S.left input.old) command) }
+    ensures asked { (known : Known) → Agrees known (F.holds files.old) →
+        GrewBy (MayBeAsked known (Some command)) (F.asked files.old) (F.asked files.new) }
     ensures unwritten { result ≢ Err Refusal.WriteFault }
     ensures usage { result ≡ Err Refusal.Usage → IsMisused (Some command) (S.left input.old) }
     ensures behind { result ≡ Err Refusal.ReadFault → ¬ Rose (F.fault_count files.old) (F.fault_count files.new) →
         (known : Known) → Agrees known (F.holds files.old) → HasForms known (Some command) }
     ensures fault { result ≡ Err Refusal.ReadFault → Rose (S.fault_count input.old) (S.fault_count input.new) ⊎ Rose (F.fault_count files.old) (F.fault_count files.new) }
-    ensures quiet { result ≢ Err Refusal.ReadFault → S.fault_count input.new ≡ S.fault_count input.old }
-    ensures calm { result ≢ Err Refusal.ReadFault → F.fault_count files.new ≡ F.fault_count files.old }
+    ensures quiet { result ≢ Err Refusal.ReadFault →
+        S.fault_count input.new ≡ S.fault_count input.old }
+    ensures calm { result ≢ Err Refusal.ReadFault →
+        F.fault_count files.new ≡ F.fault_count files.old }
     ensures files { reads_files (Some command) ≡ false → files.new ≡ files.old }
     ensures input { reads_input (Some command) ≡ false → input.new ≡ input.old }
 {
@@ -290,17 +307,23 @@ fn answered<F: Files, S: Source>(
     files: &mut F,
     input: &mut S,
 ) -> Result<Vec<u8>, Refusal>
-    ensures gives { (known : Known) → Agrees known (F.holds files.old) → Gives result (Answers (words_of words.now) known (S.left input.old)) }
-    ensures usage { result ≡ Err Refusal.Usage → IsMisused (spoken.command_of (words_of words.now)) (S.left input.old) }
+    ensures gives { (known : Known) → Agrees known (F.holds files.old) →
+        Gives result (Answers (words_of words.now) known (S.left input.old)) }
+    ensures usage { result ≡ Err Refusal.Usage →
+        IsMisused (spoken.command_of (words_of words.now)) (S.left input.old) }
     ensures unwritten { result ≢ Err Refusal.WriteFault }
     ensures behind { result ≡ Err Refusal.ReadFault → ¬ Rose (F.fault_count files.old) (F.fault_count files.new) →
         (known : Known) → Agrees known (F.holds files.old) → HasForms known (spoken.command_of (words_of words.now)) }
     ensures asked { (known : Known) → Agrees known (F.holds files.old) → GrewBy (MayBeAsked known (spoken.command_of (words_of words.now))) (F.asked files.old) (F.asked files.new) }
     ensures fault { result ≡ Err Refusal.ReadFault → Rose (S.fault_count input.old) (S.fault_count input.new) ⊎ Rose (F.fault_count files.old) (F.fault_count files.new) }
-    ensures quiet { result ≢ Err Refusal.ReadFault → S.fault_count input.new ≡ S.fault_count input.old }
-    ensures calm { result ≢ Err Refusal.ReadFault → F.fault_count files.new ≡ F.fault_count files.old }
-    ensures files { reads_files (spoken.command_of (words_of words.now)) ≡ false → files.new ≡ files.old }
-    ensures input { reads_input (spoken.command_of (words_of words.now)) ≡ false → input.new ≡ input.old }
+    ensures quiet { result ≢ Err Refusal.ReadFault →
+        S.fault_count input.new ≡ S.fault_count input.old }
+    ensures calm { result ≢ Err Refusal.ReadFault →
+        F.fault_count files.new ≡ F.fault_count files.old }
+    ensures files { reads_files (spoken.command_of (words_of words.now)) ≡ false →
+        files.new ≡ files.old }
+    ensures input { reads_input (spoken.command_of (words_of words.now)) ≡ false →
+        input.new ≡ input.old }
 {
     match command_of(alloc, words)? {
         Some(command) => produced(alloc, command, files, input),
@@ -317,20 +340,28 @@ fn attempt<F: Files, S: Source, K: Sink>(
     output: &mut K,
 ) -> Result<(), Refusal>
     ensures done { (known : Known) → Agrees known (F.holds files.old) → OnOk result (Writes (words_of words.now) known (S.left input.old) (K.taken output.old) (K.taken output.new)) }
-    ensures cause { (known : Known) → Agrees known (F.holds files.old) → IfErr result (IsRefused (words_of words.now) known (S.left input.old)) }
+    ensures cause { (known : Known) → Agrees known (F.holds files.old) →
+        IfErr result (IsRefused (words_of words.now) known (S.left input.old)) }
     ensures front { result ≡ Err Refusal.WriteFault → (known : Known) → Agrees known (F.holds files.old) → WritesFront (words_of words.now) known (S.left input.old) (K.taken output.old) (K.taken output.new) }
-    ensures usage { result ≡ Err Refusal.Usage → IsMisused (spoken.command_of (words_of words.now)) (S.left input.old) }
+    ensures usage { result ≡ Err Refusal.Usage →
+        IsMisused (spoken.command_of (words_of words.now)) (S.left input.old) }
     ensures nothing { OnErr result (result ≢ Err Refusal.WriteFault → K.taken output.new ≡ K.taken output.old) }
     ensures behind { result ≡ Err Refusal.ReadFault → ¬ Rose (F.fault_count files.old) (F.fault_count files.new) →
         (known : Known) → Agrees known (F.holds files.old) → HasForms known (spoken.command_of (words_of words.now)) }
     ensures asked { (known : Known) → Agrees known (F.holds files.old) → GrewBy (MayBeAsked known (spoken.command_of (words_of words.now))) (F.asked files.old) (F.asked files.new) }
-    ensures files { reads_files (spoken.command_of (words_of words.now)) ≡ false → files.new ≡ files.old }
-    ensures input { reads_input (spoken.command_of (words_of words.now)) ≡ false → input.new ≡ input.old }
+    ensures files { reads_files (spoken.command_of (words_of words.now)) ≡ false →
+        files.new ≡ files.old }
+    ensures input { reads_input (spoken.command_of (words_of words.now)) ≡ false →
+        input.new ≡ input.old }
     ensures fault { result ≡ Err Refusal.ReadFault → Rose (S.fault_count input.old) (S.fault_count input.new) ⊎ Rose (F.fault_count files.old) (F.fault_count files.new) }
-    ensures quiet { result ≢ Err Refusal.ReadFault → S.fault_count input.new ≡ S.fault_count input.old }
-    ensures calm { result ≢ Err Refusal.ReadFault → F.fault_count files.new ≡ F.fault_count files.old }
-    ensures write { result ≡ Err Refusal.WriteFault → Rose (K.fault_count output.old) (K.fault_count output.new) }
-    ensures still { result ≢ Err Refusal.WriteFault → K.fault_count output.new ≡ K.fault_count output.old }
+    ensures quiet { result ≢ Err Refusal.ReadFault →
+        S.fault_count input.new ≡ S.fault_count input.old }
+    ensures calm { result ≢ Err Refusal.ReadFault →
+        F.fault_count files.new ≡ F.fault_count files.old }
+    ensures write { result ≡ Err Refusal.WriteFault →
+        Rose (K.fault_count output.old) (K.fault_count output.new) }
+    ensures still { result ≢ Err Refusal.WriteFault →
+        K.fault_count output.new ≡ K.fault_count output.old }
 {
     let text = answered(alloc, words, files, input)?;
     match write_all_of(output, &text) {
@@ -341,7 +372,8 @@ fn attempt<F: Files, S: Source, K: Sink>(
 
 /// Writes a line to the sink of errors. Where that fails the line is lost, which changes no status.
 fn tell<E: Sink>(errors: &mut E, text: &[u8])
-    ensures { ¬ Rose (E.fault_count errors.old) (E.fault_count errors.new) → Appends (E.taken errors.old) (E.taken errors.new) text.now }
+    ensures { ¬ Rose (E.fault_count errors.old) (E.fault_count errors.new) →
+        Appends (E.taken errors.old) (E.taken errors.new) text.now }
 {
     let _ = write_all_of(errors, text);
 }
@@ -349,7 +381,8 @@ fn tell<E: Sink>(errors: &mut E, text: &[u8])
 /// Tells of want of memory, and gives its status.
 pub fn out_of_memory<E: Sink>(errors: &mut E) -> u8
     ensures status { result ≡ 8 }
-    ensures told { ¬ Rose (E.fault_count errors.old) (E.fault_count errors.new) → Appends (E.taken errors.old) (E.taken errors.new) (line_of refusal.Memory) }
+    ensures told { ¬ Rose (E.fault_count errors.old) (E.fault_count errors.new) →
+        Appends (E.taken errors.old) (E.taken errors.new) (line_of refusal.Memory) }
 {
     tell(errors, MEMORY_LINE);
     8
@@ -369,7 +402,8 @@ fn report_values<E: Sink>(alloc: Global, errors: &mut E, refusal: &Refusal) -> u
     }
 }
 
-/// Tells of a refusal on its line, and gives the status: that of the refusal, or 8 where its line finds no memory.
+/// Tells of a refusal on its line, and gives the status: that of the refusal, or 8 where its line
+/// finds no memory.
 fn report<E: Sink>(alloc: Global, errors: &mut E, refusal: &Refusal) -> u8
     ensures { Reports refusal.now result (E.taken errors.old) (E.taken errors.new) (E.fault_count errors.old) (E.fault_count errors.new) }
 {
@@ -382,12 +416,15 @@ fn report<E: Sink>(alloc: Global, errors: &mut E, refusal: &Refusal) -> u8
     }
 }
 
-/// The whole program. `words` are those after the program's name: `asm`, `list`, `recog`, `dump PASS`, or `eval NAME STEPS` with up to
-/// eight numbers, and `--md NAME` at most once. `files` are asked for a description that is named and for what it includes, `input` is read by all but `list`. The text is written to `output`, the line of a refusal to `errors`, and the exit status is given: 0, or that of the
-/// [`Refusal`].
+/// The whole program. `words` are those after the program's name: `asm`, `list`, `recog`, `dump
+/// PASS`, or `eval NAME STEPS` with up to eight numbers, and `--md NAME` at most once. `files` are
+/// asked for a description that is named and for what it includes, `input` is read by all but
+/// `list`. The text is written to `output`, the line of a refusal to `errors`, and the exit status
+/// is given: 0, or that of the [`Refusal`].
 ///
-/// A count rose in a call where it is greater after it than before, or stands after it at its last value. `Known` is what is known of the
-/// bytes of files by their names, and agrees with what the files hold.
+/// A count rose in a call where it is greater after it than before, or stands after it at its last
+/// value. `Known` is what is known of the bytes of files by their names, and agrees with what the
+/// files hold.
 pub fn run<F: Files, S: Source, K: Sink, E: Sink>(
     alloc: Global,
     words: &[&str],
@@ -428,7 +465,8 @@ pub fn run<F: Files, S: Source, K: Sink, E: Sink>(
     // And they are the only ones: of each text there is one list of lines and labels that it spells, and the text of some functions is cut
     // into their parts in one way.
     ensures spelled { (text : List ℕ) (a b : List CodeItem) → Spells text a → Spells text b → a ≡ b }
-    ensures parts { (functions : List Function) (text : List ℕ) (a b : List (List CodeItem)) → AreParts functions text a → AreParts functions text b → a ≡ b }
+    ensures parts { (functions : List Function) (text : List ℕ) (a b : List (List CodeItem)) →
+        AreParts functions text a → AreParts functions text b → a ≡ b }
 
     // An endless run takes jumps or makes calls without end, and so asks an endless run of the lines.
     ensures endless { TakesEnough }
@@ -484,8 +522,10 @@ pub fn run<F: Files, S: Source, K: Sink, E: Sink>(
     // Each status has its cause.
     ensures statuses { Contains (0 ∷ 1 ∷ 2 ∷ 3 ∷ 4 ∷ 5 ∷ 6 ∷ 7 ∷ 8 ∷ []) result }
     ensures ok { result ≡ 0 → (known : Known) → Agrees known (F.holds files.old) → Writes (words_of words.now) known (S.left input.old) (K.taken output.old) (K.taken output.new) }
-    ensures usage { result ≡ 1 → IsMisused (spoken.command_of (words_of words.now)) (S.left input.old) }
-    ensures cause { result ≢ 0 → (known : Known) → Agrees known (F.holds files.old) → HasCause (words_of words.now) known (S.left input.old) result }
+    ensures usage { result ≡ 1 →
+        IsMisused (spoken.command_of (words_of words.now)) (S.left input.old) }
+    ensures cause { result ≢ 0 → (known : Known) → Agrees known (F.holds files.old) →
+        HasCause (words_of words.now) known (S.left input.old) result }
     ensures read { result ≡ 6 → Rose (S.fault_count input.old) (S.fault_count input.new) ⊎ Rose (F.fault_count files.old) (F.fault_count files.new) }
     ensures write { result ≡ 7 → Rose (K.fault_count output.old) (K.fault_count output.new) }
     // A fault of the input comes behind all that refuses a description.
@@ -509,8 +549,10 @@ pub fn run<F: Files, S: Source, K: Sink, E: Sink>(
     // Files are asked for the description that is named, if any, and for what is included, never for the shipped one; the input is read by all but
     // `list`.
     ensures asked { (known : Known) → Agrees known (F.holds files.old) → GrewBy (MayBeAsked known (spoken.command_of (words_of words.now))) (F.asked files.old) (F.asked files.new) }
-    ensures files { reads_files (spoken.command_of (words_of words.now)) ≡ false → files.new ≡ files.old }
-    ensures input { reads_input (spoken.command_of (words_of words.now)) ≡ false → input.new ≡ input.old }
+    ensures files { reads_files (spoken.command_of (words_of words.now)) ≡ false →
+        files.new ≡ files.old }
+    ensures input { reads_input (spoken.command_of (words_of words.now)) ≡ false →
+        input.new ≡ input.old }
 {
     match attempt(alloc, words, files, input, output) {
         Ok(()) => 0,

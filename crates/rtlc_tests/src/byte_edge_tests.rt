@@ -42,8 +42,8 @@ fn reads_to_the_end(rt: HostRuntime) {
     assert!(rt; is_refused(rt.alloc(), 30, 2, ReadAll::TooLong, 0));
 }
 
-/// Whether so many of 100 bytes are taken by a sink with so much room and so many bytes at a time, of which a call is to fail, and there
-/// is a fault where not all are.
+/// Whether so many of 100 bytes are taken by a sink with so much room and so many bytes at a time,
+/// of which a call is to fail, and there is a fault where not all are.
 fn is_taken(alloc: Global, room: usize, most: usize, failing: u64, want: usize) -> bool {
     if most == 0 {
         return false;

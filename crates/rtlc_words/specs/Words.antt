@@ -1,5 +1,6 @@
--- The words of the command line that are a command. The words are this project's own; how options stand among them is that of POSIX
--- utilities ("Utility Syntax Guidelines") with the long options of GNU.
+-- The words of the command line that are a command. The words are this project's own; how options
+-- stand among them is that of POSIX utilities ("Utility Syntax Guidelines") with the long options
+-- of GNU.
 use Rattle.std.specs.Prelude.{ℕ, ◌&&◌, nat_le, nat_lt, Bool, List, [], ◌∷◌, Option, Some, None, codes, length, map, slice_get, find, option_map, option_and_then, if◌then◌else◌}
 use Rattle.std.specs.Borrow.{Bor}
 use Rattle.std.specs.Str.{bytes_eq, chars}
@@ -15,18 +16,21 @@ words_of words = map (λ w. w.now) words
 
 -- ---- arguments
 
--- what the words behind a command's name say: the description that they name, and the positional words
+-- what the words behind a command's name say: the description that they name, and the positional
+-- words
 pub record Arguments : Type 0 where
   pub description : Option (List ℕ)
   pub positional : List (List ℕ)
 
--- two or more characters, of which the first is a minus: no positional word, and no value of an option
+-- two or more characters, of which the first is a minus: no positional word, and no value of an
+-- option
 abbrev pub is_dashed : List ℕ → Bool
 is_dashed word = starts_with_minus word && nat_lt 1 (length (chars word))
 
 -- what stands behind `--md=`
 abbrev pub behind_md : List ℕ → Option (List ℕ)
-behind_md (a ∷ b ∷ c ∷ d ∷ e ∷ name) = if bytes_eq (a ∷ b ∷ c ∷ d ∷ e ∷ []) (codes "--md=") then Some name else None
+behind_md (a ∷ b ∷ c ∷ d ∷ e ∷ name) =
+    if bytes_eq (a ∷ b ∷ c ∷ d ∷ e ∷ []) (codes "--md=") then Some name else None
 behind_md _ = None
 
 abbrev pub described_by : List ℕ → Option (List ℕ) → List (List ℕ) → Option Arguments
@@ -41,14 +45,15 @@ described name (Some a) = described_by name a.description a.positional
 -- the same with a positional word in front
 abbrev pub positioned : List ℕ → Option Arguments → Option Arguments
 positioned word None = None
-positioned word (Some a) = Some (record { description = a.description; positional = word ∷ a.positional })
+positioned word (Some a) =
+    Some (record { description = a.description; positional = word ∷ a.positional })
 
 abbrev pub by_name : Option (List ℕ) → List ℕ → Option Arguments → Option Arguments
 by_name (Some name) word rest = described name rest
 by_name None word rest = if is_dashed word then None else positioned word rest
 
--- the words behind a command's name: the positional ones in order, and the description that `--md NAME` or `--md=NAME` names; behind `--`
--- every word is positional
+-- the words behind a command's name: the positional ones in order, and the description that `--md
+-- NAME` or `--md=NAME` names; behind `--` every word is positional
 abbrev mutual
   pub arguments : List (List ℕ) → Option Arguments
   arguments [] = Some (record { description = None; positional = [] })
@@ -64,13 +69,17 @@ abbrev mutual
 
 -- ---- numbers
 
--- The number below 2 ^ 64 that a word writes: it is the text that is printed for that number, so it has no sign and no needless zero.
+-- The number below 2 ^ 64 that a word writes: it is the text that is printed for that number, so it
+-- has no sign and no needless zero.
 abbrev pub number_in : List ℕ → Option ℕ
-number_in word = let n = digits_value 10 word in if bytes_eq word (decimal n) && nat_lt n 18446744073709551616 then Some n else None
+number_in word =
+    let n = digits_value 10 word in if bytes_eq word (decimal n) &&
+    nat_lt n 18446744073709551616 then Some n else None
 
 -- from 1 to 1,000
 abbrev pub steps_in : List ℕ → Option ℕ
-steps_in word = option_and_then (λ n. if nat_le 1 n && nat_le n 1000 then Some n else None) (number_in word)
+steps_in word =
+    option_and_then (λ n. if nat_le 1 n && nat_le n 1000 then Some n else None) (number_in word)
 
 -- the number that a word writes; one that is missing writes 0
 abbrev pub number_or_zero : Option (List ℕ) → Option ℕ
@@ -93,22 +102,26 @@ abbrev pub only_description : Option (List ℕ) → List (List ℕ) → Option (
 only_description name [] = Some name
 only_description name _ = None
 
-abbrev pub with_description : (Option (List ℕ) → Command) → Option (List ℕ) → List (List ℕ) → Option Command
+abbrev pub with_description : (Option (List ℕ) → Command) → Option (List ℕ) → List (List ℕ) →
+    Option Command
 with_description command name words = option_map command (only_description name words)
 
 abbrev pub eval_with : Option (List ℕ) → List ℕ → Option ℕ → Option (List ℕ) → Option Command
 eval_with description function None args = None
 eval_with description function (Some steps) None = None
-eval_with description function (Some steps) (Some args) = Some (commands.Eval description function steps args)
+eval_with description function (Some steps) (Some args) =
+    Some (commands.Eval description function steps args)
 
 -- the name of a function, a number of steps, and up to eight numbers, which are a0 to a7
 abbrev pub eval_by : Option (List ℕ) → List (List ℕ) → Option Command
-eval_by description (function ∷ steps ∷ args) = eval_with description function (steps_in steps) (args_in args)
+eval_by description (function ∷ steps ∷ args) =
+    eval_with description function (steps_in steps) (args_in args)
 eval_by description _ = None
 
 -- the name of a pass
 abbrev pub dump_by : Option (List ℕ) → List (List ℕ) → Option Command
-dump_by description (name ∷ []) = option_map (λ pass. commands.Dump description pass) (pass_named name)
+dump_by description (name ∷ []) =
+    option_map (λ pass. commands.Dump description pass) (pass_named name)
 dump_by description _ = None
 
 -- each command's name, and what it makes of a description and of positional words
@@ -122,7 +135,8 @@ table =
     ∷ []
 
 abbrev pub command_by : List ℕ → Option (List ℕ) → List (List ℕ) → Option Command
-command_by name description words = option_and_then (λ row. row.1 description words) (find (λ row. bytes_eq row.0 name) table)
+command_by name description words =
+    option_and_then (λ row. row.1 description words) (find (λ row. bytes_eq row.0 name) table)
 
 abbrev pub command_named : List ℕ → Option Arguments → Option Command
 command_named name None = None

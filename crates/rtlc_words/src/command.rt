@@ -61,7 +61,8 @@ fn name_of(alloc: Global, text: Option<&str>) -> Result<Option<Name>, Memory>
     }
 }
 
-/// The description of a command that takes no positional word, or `None` where there is such a word.
+/// The description of a command that takes no positional word, or `None` where there is such a
+/// word.
 fn described(
     alloc: Global,
     description: Option<&str>,

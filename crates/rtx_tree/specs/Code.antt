@@ -1,6 +1,7 @@
--- The table of RTL's codes, and the machine modes: GCC Internals, "RTL Expressions", "RTL Classes" and "Machine Modes". Each code has
--- its name and its class; a class says what stands behind the code in its list, whether a mode is written there, and, by its name,
--- what an expression of the code is.
+-- The table of RTL's codes, and the machine modes: GCC Internals, "RTL Expressions", "RTL Classes"
+-- and "Machine Modes". Each code has its name and its class; a class says what stands behind the
+-- code in its list, whether a mode is written there, and, by its name, what an expression of the
+-- code is.
 use Rattle.std.specs.Prelude.{◌≡◌, ℕ, List, [], ◌∷◌, Some, slice_get, codes}
 use Rattle.rtx_tree.specs.declared.code.Code.{Code}
 use Rattle.rtx_tree.specs.declared.code.Code.TheVariants as code

@@ -9,7 +9,8 @@ IsOrdered bytes = IsStrictlyIncreasing (map (λ b. b.address) bytes)
 
 -- an address is greater than the last, and so than all
 abbrev pub IsAbove : List MemByte → ℕ → Type 0
-IsAbove bytes address = MatchOption (slice_get bytes (length bytes - 1)) (Unit {0}) (λ last. last.address < address)
+IsAbove bytes address =
+    MatchOption (slice_get bytes (length bytes - 1)) (Unit {0}) (λ last. last.address < address)
 
 -- the byte at an address, or none where memory does not have the address
 abbrev pub byte_at : List MemByte → ℕ → Option ℕ

@@ -1,4 +1,5 @@
--- The patterns of instructions as trees: GCC Internals, "Side Effect Expressions", "Arithmetic Expressions", "Jump Patterns" and "Insns".
+-- The patterns of instructions as trees: GCC Internals, "Side Effect Expressions", "Arithmetic
+-- Expressions", "Jump Patterns" and "Insns".
 use Rattle.std.specs.Prelude.{ℕ, pos, ◌==◌, ◌&&◌, Bool, true, false, List, [], ◌∷◌, Option, Some, None}
 use Rattle.std.specs.List.{position_from}
 use Rattle.std.specs.Int.{cast_unsigned, w64}

@@ -1,4 +1,5 @@
--- Registers: RISC-V ELF psABI, "Integer Register Convention"; GCC Internals, "Registers and Memory".
+-- Registers: RISC-V ELF psABI, "Integer Register Convention"; GCC Internals, "Registers and
+-- Memory".
 use Rattle.std.specs.Prelude.{ℕ, Bool, ◌||◌, ◌&&◌, nat_le, nat_eq, ◌+◌, List, [], ◌∷◌, codes, slice_index_or, Option, position}
 use Rattle.std.specs.Str.{bytes_eq}
 
@@ -23,7 +24,8 @@ is_within first last reg = nat_le first reg && nat_le reg last
 
 -- whether a call need not preserve a register: ra, t0 to t2, a0 to a7, t3 to t6
 abbrev pub is_call_used : ℕ → Bool
-is_call_used reg = nat_eq reg 1 || (is_within 5 7 reg || (is_within 10 17 reg || is_within 28 31 reg))
+is_call_used reg =
+    nat_eq reg 1 || (is_within 5 7 reg || (is_within 10 17 reg || is_within 28 31 reg))
 
 -- the number of hard register k, one of 0 to 31
 abbrev pub hard_reg : ℕ → ℕ

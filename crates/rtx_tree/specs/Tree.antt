@@ -18,7 +18,8 @@ pub record RtxHead : Type 0 where
   pub name : List ℕ
 
 abbrev pub head_of : Rtx → RtxHead
-head_of x = let o = out-Rtx x in record { code = o.code; mode = o.mode; number = o.number; name = o.name }
+head_of x =
+    let o = out-Rtx x in record { code = o.code; mode = o.mode; number = o.number; name = o.name }
 
 abbrev pub kids_of : Rtx → List Rtx
 kids_of x = (out-Rtx x).kids
@@ -29,15 +30,18 @@ tree_of h kids = roll-Rtx (record { code = h.code; mode = h.mode; number = h.num
 
 -- the tree of a number alone, as of a register or a constant
 abbrev pub leaf_of : Code → Mode → ℤ → Rtx
-leaf_of code mode number = tree_of (record { code = code; mode = mode; number = number; name = [] }) []
+leaf_of code mode number =
+    tree_of (record { code = code; mode = mode; number = number; name = [] }) []
 
 -- the tree of a name alone, as of a symbol
 abbrev pub named_of : Code → Mode → List ℕ → Rtx
-named_of code mode name = tree_of (record { code = code; mode = mode; number = pos 0; name = name }) []
+named_of code mode name =
+    tree_of (record { code = code; mode = mode; number = pos 0; name = name }) []
 
 -- the tree of kids alone, as of an operation
 abbrev pub node_of : Code → Mode → List Rtx → Rtx
-node_of code mode kids = tree_of (record { code = code; mode = mode; number = pos 0; name = [] }) kids
+node_of code mode kids =
+    tree_of (record { code = code; mode = mode; number = pos 0; name = [] }) kids
 
 -- register number reg in a mode
 abbrev pub reg_of : Mode → ℕ → Rtx

@@ -314,7 +314,8 @@ impl Code {
 impl Mode {
     ghost use Rattle.rtx_tree.specs.declared.code.Mode.{Mode};
 
-    /// The mode's name in text, as `DI`. That of `Void` is empty. Different modes have different names.
+    /// The mode's name in text, as `DI`. That of `Void` is empty. Different modes have different
+    /// names.
     pub fn name(self) -> &'static str
         ensures name { result.now ≡ mode_name self }
         ensures distinct { (other : Mode) → mode_name other ≡ mode_name self → other ≡ self }

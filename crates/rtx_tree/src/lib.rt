@@ -1,13 +1,13 @@
-//! What RTL is made of: trees of codes, modes, numbers, names and kids ([`Rtx`]), the instructions and
-//! functions that hold them, the operands of a pattern ([`Operands`]), sets of registers ([`RegSet`]),
-//! what a run begins with and meets outside ([`Start`], [`World`]), and what every stage names in its
-//! answers ([`Name`], [`Place`], [`Stage`], [`Limit`]).
+//! What RTL is made of: trees of codes, modes, numbers, names and kids ([`Rtx`]), the instructions
+//! and functions that hold them, the operands of a pattern ([`Operands`]), sets of registers
+//! ([`RegSet`]), what a run begins with and meets outside ([`Start`], [`World`]), and what every
+//! stage names in its answers ([`Name`], [`Place`], [`Stage`], [`Limit`]).
 //!
 //! All of it is plain data in contracts: two trees are equal there exactly where they have the same
 //! parts all the way down. So `same` is equality, `copy` gives an equal tree, and `size` counts the
-//! nodes. Each name is that of its table, of a code, a mode, a register, a stage or a limit, and is read
-//! back: `named` and `reg_number` find exactly what has a name. A [`RegSet`] is the increasing list of
-//! its registers, and [`Memories`] has each address once, in increasing order.
+//! nodes. Each name is that of its table, of a code, a mode, a register, a stage or a limit, and is
+//! read back: `named` and `reg_number` find exactly what has a name. A [`RegSet`] is the increasing
+//! list of its registers, and [`Memories`] has each address once, in increasing order.
 #![tactic(auto)]
 
 mod class;

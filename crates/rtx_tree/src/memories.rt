@@ -91,7 +91,8 @@ impl Memories {
         Some(self.bytes.item(place).byte)
     }
 
-    /// Puts a byte at an address, and answers whether memory has the address. Else all is as before.
+    /// Puts a byte at an address, and answers whether memory has the address. Else all is as
+    /// before.
     pub fn set_byte(&mut self, address: u64, byte: u8) -> bool
         ensures bytes { self.new ≡ spec.with_byte self.old address byte }
         ensures has { result ≡ is_some (spec.byte_at self.old address) }

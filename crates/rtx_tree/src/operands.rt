@@ -17,8 +17,9 @@ struct Numbered {
     tree: Rtx,
 }
 
-/// Trees by operand number, some of them missing. Contracts see the list of optional trees, in which each stands at its number. What is kept
-/// is only those that are there, so that a number costs nothing.
+/// Trees by operand number, some of them missing. Contracts see the list of optional trees, in
+/// which each stands at its number. What is kept is only those that are there, so that a number
+/// costs nothing.
 #[derive(Drop)]
 pub struct Operands {
     items: Items<Numbered>,

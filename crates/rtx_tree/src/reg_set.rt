@@ -66,7 +66,8 @@ impl RegSet {
 
     /// Takes register `reg` out of the set.
     pub fn remove(&mut self, reg: u32)
-        ensures { (other : ℕ) → has_reg self.new other ≡ (has_reg self.old other && not (other == reg)) }
+        ensures { (other : ℕ) →
+            has_reg self.new other ≡ (has_reg self.old other && not (other == reg)) }
     {
         self.row.remove(reg);
     }

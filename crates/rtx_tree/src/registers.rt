@@ -1,4 +1,5 @@
-//! Registers: how RTL numbers them, the names of the hard ones, and which of these a call may change.
+//! Registers: how RTL numbers them, the names of the hard ones, and which of these a call may
+//! change.
 ghost use Rattle.std.specs.Prelude.{◌≡◌, ◌<◌, ◌^◌};
 ghost use Rattle.rtx_tree.specs.Registers as spec;
 ghost use Rattle.rtx_tree.specs.Registers.{reg_text, number_of_reg, is_call_used};
@@ -102,7 +103,8 @@ pub fn reg_number(name: &[u8]) -> Option<u8>
     }
 }
 
-/// Whether a call may change register `reg`: `ra`, `t0` to `t6` and `a0` to `a7`. From 32 on it is false.
+/// Whether a call may change register `reg`: `ra`, `t0` to `t6` and `a0` to `a7`. From 32 on it is
+/// false.
 pub fn reg_call_used(reg: u8) -> bool
     ensures { result ≡ is_call_used reg }
 {

@@ -195,7 +195,8 @@ impl Rtx {
         self.kids.as_slice().get(index as usize)
     }
 
-    /// The part at a path, or `None` exactly where the path does not exist. The empty path is the tree itself.
+    /// The part at a path, or `None` exactly where the path does not exist. The empty path is the
+    /// tree itself.
     pub fn at(&self, path: &Path) -> Option<&Rtx>
         ensures { option_copied result ≡ part_at self.now path.now }
     {
@@ -206,7 +207,8 @@ impl Rtx {
         Some(part)
     }
 
-    /// Puts another expression in the place of the part at a path that exists, and gives that part. It takes no memory.
+    /// Puts another expression in the place of the part at a path that exists, and gives that part.
+    /// It takes no memory.
     pub fn replace_at(&mut self, path: &[u32], new: Rtx) -> Rtx
         requires { IsSome (part_at self.old path.now) }
         ensures tree { self.new ≡ replaced_at path.now new self.old }

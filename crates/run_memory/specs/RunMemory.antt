@@ -1,7 +1,8 @@
--- The memory of a run: bytes by address (GCC Internals, "Registers and Memory": `mem`), read and written in the order that the target has, which is
--- little-endian (GCC Internals, "Storage Layout"; RISC-V unprivileged manual, "RV32I Base Integer Instruction Set", "Load and Store Instructions").
--- An access has to be aligned to its size, and each of its bytes has to be there. Addresses are below 2 ^ 64, so an access that would pass 2 ^ 64
--- has bytes that are not there.
+-- The memory of a run: bytes by address (GCC Internals, "Registers and Memory": `mem`), read and
+-- written in the order that the target has, which is little-endian (GCC Internals, "Storage
+-- Layout"; RISC-V unprivileged manual, "RV32I Base Integer Instruction Set", "Load and Store
+-- Instructions"). An access has to be aligned to its size, and each of its bytes has to be there.
+-- Addresses are below 2 ^ 64, so an access that would pass 2 ^ 64 has bytes that are not there.
 use Rattle.std.specs.Prelude.{ℕ, zero, suc, ◌+◌, ◌*◌, ◌/◌, ◌%◌, ◌==◌, ◌&&◌, nat_le, nat_lt, Bool, if◌then◌else◌, List, [], ◌∷◌, Option, Some, None, option_map, option_and_then}
 use Rattle.std.specs.List.{filter, list_any}
 use Rattle.bits64.specs.declared.Width.{Width}
@@ -20,20 +21,24 @@ number_at memory address (suc count) =
 abbrev pub is_aligned : Width → ℕ → Bool
 is_aligned w address = address % bytes_of w == 0
 
--- what stands at an address in a width, or none where the access is not aligned or a byte is missing
+-- what stands at an address in a width, or none where the access is not aligned or a byte is
+-- missing
 abbrev pub load : Width → List MemByte → ℕ → Option ℕ
 load w memory address = if is_aligned w address then number_at memory address (bytes_of w) else None
 
 -- memory with so many low bytes of a number from an address on, the lowest first
 abbrev pub with_number : List MemByte → ℕ → ℕ → ℕ → List MemByte
 with_number memory address zero number = memory
-with_number memory address (suc count) number = with_number (with_byte memory address (number % 256)) (address + 1) count (number / 256)
+with_number memory address (suc count) number =
+    with_number (with_byte memory address (number % 256)) (address + 1) count (number / 256)
 
 -- memory with the low bits of a number at an address, or none where a load there has none
 abbrev pub store : Width → List MemByte → ℕ → ℕ → Option (List MemByte)
-store w memory address number = option_map (λ _. with_number memory address (bytes_of w) number) (load w memory address)
+store w memory address number =
+    option_map (λ _. with_number memory address (bytes_of w) number) (load w memory address)
 
--- memory with bytes written one after the other; one at an address that memory does not have is passed over
+-- memory with bytes written one after the other; one at an address that memory does not have is
+-- passed over
 abbrev pub written : List MemByte → List MemByte → List MemByte
 written [] memory = memory
 written (w ∷ writes) memory = written writes (with_byte memory w.address w.byte)

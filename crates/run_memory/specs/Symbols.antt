@@ -6,4 +6,5 @@ use Rattle.rtx_tree.specs.declared.machine.SymbolAt.{SymbolAt}
 -- the address of a symbol: the first that is listed with this name
 abbrev pub symbol_address : List SymbolAt → List ℕ → Option ℕ
 symbol_address [] name = None
-symbol_address (s ∷ symbols) name = if bytes_eq s.name name then Some s.address else symbol_address symbols name
+symbol_address (s ∷ symbols) name =
+    if bytes_eq s.name name then Some s.address else symbol_address symbols name

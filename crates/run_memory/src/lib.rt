@@ -1,8 +1,9 @@
-//! The memory of a run: aligned accesses of one to eight bytes, lowest byte first, the writes of a called function, and the part of
-//! memory that a caller sees; and the addresses of symbols.
+//! The memory of a run: aligned accesses of one to eight bytes, lowest byte first, the writes of a
+//! called function, and the part of memory that a caller sees; and the addresses of symbols.
 //!
-//! Each call equals its definition over the list of bytes that [`Memories`] stands for. A look-up takes the logarithm of the memory's
-//! size. Nothing here adds an address to memory or takes one away.
+//! Each call equals its definition over the list of bytes that [`Memories`] stands for. A look-up
+//! takes the logarithm of the memory's size. Nothing here adds an address to memory or takes one
+//! away.
 #![tactic(auto)]
 
 ghost use Rattle.std.specs.Prelude.{◌≡◌, ◌+◌, ◌*◌, ◌%◌, ◌^◌, ◌<◌, ◌≤◌, None, Some, IfOk, IfSome, MatchBool};
@@ -18,7 +19,8 @@ mod symbols;
 
 pub use symbols::symbol_address;
 
-/// The number that `count` bytes from an address on make, the lowest first, or `None` where one of them is missing.
+/// The number that `count` bytes from an address on make, the lowest first, or `None` where one of
+/// them is missing.
 fn number_at(memory: &Memories, address: u64, count: u32) -> Option<u64>
     requires small { count ≤ 8 }
     requires within { address + count ≤ 2 ^ 64 }
@@ -39,7 +41,8 @@ fn is_aligned(w: Width, address: u64) -> bool
     address.is_multiple_of(u64::from(w.bytes()))
 }
 
-/// What stands at an address in a width. `None` where the address is no multiple of the width's size, or a byte is missing.
+/// What stands at an address in a width. `None` where the address is no multiple of the width's
+/// size, or a byte is missing.
 pub fn load(memory: &Memories, w: Width, address: u64) -> Option<u64>
     ensures value { result ≡ spec.load w memory.now address }
     ensures fits { IfSome result (λ number. number < 2 ^ bits_of w) }
@@ -63,7 +66,8 @@ fn write_number(memory: &mut Memories, address: u64, count: u64, number: u64)
     }
 }
 
-/// Writes the low bits of a number at an address. Where a load there has no value it answers false, and memory is as before.
+/// Writes the low bits of a number at an address. Where a load there has no value it answers false,
+/// and memory is as before.
 pub fn store(memory: &mut Memories, w: Width, address: u64, value: u64) -> bool
     ensures { MatchBool result (spec.store w memory.old address value ≡ Some memory.new) ((spec.store w memory.old address value ≡ None) × (memory.new ≡ memory.old)) }
 {

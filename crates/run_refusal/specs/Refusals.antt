@@ -42,33 +42,39 @@ abbrev pub place_text : Place → List ℕ
 place_text place = decimal place.line ++ (codes ":" ++ decimal place.column)
 
 abbrev pub syntax_line : List ℕ → Place → List ℕ
-syntax_line file place = codes "rtlc: " ++ (file ++ (codes ":" ++ (place_text place ++ codes ": syntax\n")))
+syntax_line file place =
+    codes "rtlc: " ++ (file ++ (codes ":" ++ (place_text place ++ codes ": syntax\n")))
 
 abbrev pub construct_line : Place → List ℕ → List ℕ
-construct_line place name = codes "rtlc: -:" ++ (place_text place ++ (codes ": construct " ++ (name ++ codes "\n")))
+construct_line place name =
+    codes "rtlc: -:" ++ (place_text place ++ (codes ": construct " ++ (name ++ codes "\n")))
 
 abbrev pub limit_line : Limit → ℕ → List ℕ
-limit_line which count = codes "rtlc: limit " ++ (limit_name which ++ (codes ": " ++ (decimal count ++ codes "\n")))
+limit_line which count =
+    codes "rtlc: limit " ++ (limit_name which ++ (codes ": " ++ (decimal count ++ codes "\n")))
 
 -- rtlc: FUNCTION:UID:, and a space
 abbrev pub at_text : List ℕ → ℕ → List ℕ
 at_text function uid = codes "rtlc: " ++ (function ++ (codes ":" ++ (decimal uid ++ codes ": ")))
 
 abbrev pub rule_line : List ℕ → ℕ → ℕ → List ℕ
-rule_line function uid rule = at_text function uid ++ (codes "rule " ++ (decimal rule ++ codes "\n"))
+rule_line function uid rule =
+    at_text function uid ++ (codes "rule " ++ (decimal rule ++ codes "\n"))
 
 abbrev pub stage_text : Stage → List ℕ
 stage_text stage = codes "unmatched at " ++ (stage_name stage ++ codes ": ")
 
 abbrev pub unmatched_line : List ℕ → ℕ → Stage → Rtx → List ℕ
-unmatched_line function uid stage insn = at_text function uid ++ (stage_text stage ++ (printed insn ++ codes "\n"))
+unmatched_line function uid stage insn =
+    at_text function uid ++ (stage_text stage ++ (printed insn ++ codes "\n"))
 
 -- unsatisfied FORM:, and a space
 abbrev pub unsatisfied_text : List ℕ → List ℕ
 unsatisfied_text form = codes "unsatisfied " ++ (form ++ codes ": ")
 
 abbrev pub unsatisfied_line : List ℕ → ℕ → List ℕ → Rtx → List ℕ
-unsatisfied_line function uid form insn = at_text function uid ++ (unsatisfied_text form ++ (printed insn ++ codes "\n"))
+unsatisfied_line function uid form insn =
+    at_text function uid ++ (unsatisfied_text form ++ (printed insn ++ codes "\n"))
 
 -- not equated RULE:, and a space
 abbrev pub form_text : List ℕ → List ℕ
@@ -82,7 +88,8 @@ abbrev pub sides_text : Item → List ℕ → List ℕ → List ℕ
 sides_text item left right = item_text item ++ (codes ": " ++ both_text left right)
 
 abbrev pub not_equated_line : List ℕ → ℕ → List ℕ → Item → List ℕ → List ℕ → List ℕ
-not_equated_line function uid rule item left right = at_text function uid ++ (form_text rule ++ sides_text item left right)
+not_equated_line function uid rule item left right =
+    at_text function uid ++ (form_text rule ++ sides_text item left right)
 
 -- the line of a refusal, which ends with a newline
 abbrev pub line_of : Refusal → List ℕ
@@ -93,7 +100,8 @@ line_of (refusal.IllFormed function uid rule) = rule_line function uid rule
 line_of (refusal.Limit which count) = limit_line which count
 line_of (refusal.Unmatched function uid stage insn) = unmatched_line function uid stage insn
 line_of (refusal.Unsatisfied function uid form insn) = unsatisfied_line function uid form insn
-line_of (refusal.NotEquated function uid rule item left right) = not_equated_line function uid rule item left right
+line_of (refusal.NotEquated function uid rule item left right) =
+    not_equated_line function uid rule item left right
 line_of refusal.ReadFault = codes "rtlc: read fault\n"
 line_of refusal.WriteFault = codes "rtlc: write fault\n"
 line_of refusal.Memory = codes "rtlc: out of memory\n"

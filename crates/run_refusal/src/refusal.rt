@@ -21,17 +21,20 @@ pub const MEMORY_LINE: &[u8] = b"rtlc: out of memory\n";
 pub enum Refusal {
     /// Status 1: the words are no command.
     Usage,
-    /// Status 2: the bytes are no text; the place ends the longest prefix of them that begins one. `file` is `-` for the input.
+    /// Status 2: the bytes are no text; the place ends the longest prefix of them that begins one.
+    /// `file` is `-` for the input.
     Syntax {
         file: Name,
         place: Place,
     },
-    /// Status 2: the first tree of the input that is outside the language, with the first atom in it, or `-`.
+    /// Status 2: the first tree of the input that is outside the language, with the first atom in
+    /// it, or `-`.
     Construct {
         place: Place,
         name: Name,
     },
-    /// Status 2: a rule of a well-formed function fails at the instruction with this uid; 0 stands for the function.
+    /// Status 2: a rule of a well-formed function fails at the instruction with this uid; 0 stands
+    /// for the function.
     IllFormed {
         function: Name,
         uid: u32,
@@ -49,15 +52,17 @@ pub enum Refusal {
         stage: Stage,
         insn: Rtx,
     },
-    /// Status 4: no enabled alternative of the form that matches this instruction of the function is reachable; it is shown with its homes.
+    /// Status 4: no enabled alternative of the form that matches this instruction of the function
+    /// is reachable; it is shown with its homes.
     Unsatisfied {
         function: Name,
         uid: u32,
         form: Name,
         insn: Rtx,
     },
-    /// Status 5: by this rule something would stand in the place of instructions, of which the first has this uid, and it is not known to do
-    /// the same: this item differs, with these texts of its two sides; `-` where a side has none.
+    /// Status 5: by this rule something would stand in the place of instructions, of which the
+    /// first has this uid, and it is not known to do the same: this item differs, with these texts
+    /// of its two sides; `-` where a side has none.
     NotEquated {
         function: Name,
         uid: u32,

@@ -75,7 +75,8 @@ is_label target (Code line) = false
 -- what stands behind the first label with a text
 abbrev pub behind_label : List ℕ → List CodeItem → Option (List CodeItem)
 behind_label target [] = None
-behind_label target (item ∷ items) = if is_label target item then Some items else behind_label target items
+behind_label target (item ∷ items) =
+    if is_label target item then Some items else behind_label target items
 
 -- the first line and what stands behind it: a label takes no step
 abbrev pub next_line : List CodeItem → Option (Line × List CodeItem)
@@ -109,10 +110,12 @@ call_of ranges target machine = record { target = target; args = args_of machine
 -- a call with the replies that are left
 abbrev pub replied : List Reply → List CodeItem → Running → Turn
 replied [] rest s = Ends (outcomes.Asked s.calls)
-replied (reply ∷ replies) rest s = Goes (record s { rest = rest; machine = after_call reply s.machine; replies = replies })
+replied (reply ∷ replies) rest s =
+    Goes (record s { rest = rest; machine = after_call reply s.machine; replies = replies })
 
 abbrev pub called : List RangeAt → ℕ → List CodeItem → Running → Turn
-called ranges target rest s = replied s.replies rest (record s { calls = s.calls ++ call_of ranges target s.machine ∷ [] })
+called ranges target rest s =
+    replied s.replies rest (record s { calls = s.calls ++ call_of ranges target s.machine ∷ [] })
 
 abbrev pub jumped : Option (List CodeItem) → Running → Turn
 jumped None s = Ends outcomes.Stuck
@@ -121,7 +124,8 @@ jumped (Some rest) s = Goes (record s { rest = rest })
 abbrev pub returned : List RangeAt → Running → CodeOutcome
 returned ranges s = outcomes.Returned (register s.machine.regs 10) (visible ranges s.machine.memory) s.calls (saved_of s.machine.regs)
 
-abbrev pub after_line : LineEnd → List RangeAt → List CodeItem → Line → List CodeItem → Running → Turn
+abbrev pub after_line : LineEnd → List RangeAt → List CodeItem → Line → List CodeItem → Running →
+    Turn
 after_line Next ranges items line rest s = Goes (record s { rest = rest })
 after_line Jumped ranges items line rest s = jumped (behind_label line.target items) s
 after_line (Called target) ranges items line rest s = called ranges target rest s
@@ -129,7 +133,8 @@ after_line Returned ranges items line rest s = Ends (returned ranges s)
 after_line Stuck ranges items line rest s = Ends outcomes.Stuck
 
 -- where no line follows, the run is stuck
-abbrev pub turn_at : Option (Line × List CodeItem) → World → List RangeAt → List CodeItem → Running → Turn
+abbrev pub turn_at : Option (Line × List CodeItem) → World → List RangeAt → List CodeItem →
+    Running → Turn
 turn_at None world ranges items s = Ends outcomes.Stuck
 turn_at (Some next) world ranges items s =
     let done = step world next.0 s.machine in after_line done.0 ranges items next.0 next.1 (record s { machine = done.1 })
@@ -144,7 +149,8 @@ go_on (Ends outcome) next = outcome
 -- at most so many lines from a state on
 abbrev pub run_from : World → List RangeAt → List CodeItem → ℕ → Running → CodeOutcome
 run_from world ranges items zero s = outcomes.Running s.calls
-run_from world ranges items (suc k) s = go_on (turn world ranges items s) (run_from world ranges items k)
+run_from world ranges items (suc k) s =
+    go_on (turn world ranges items s) (run_from world ranges items k)
 
 -- at most k lines of the items, from the first on
 abbrev pub run : List CodeItem → Start → World → ℕ → CodeOutcome

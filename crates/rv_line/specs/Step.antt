@@ -1,7 +1,8 @@
--- What a line does: RISC-V unprivileged manual, "RV32I Base Integer Instruction Set", "RV64I Base Integer Instruction Set" and "'M' Standard
--- Extension for Integer Multiplication and Division". Here a register may also be unset: what a caller or a called function leaves in it is not
--- known. A line that reads such a register is stuck, and so is one whose access to memory has no value, and one that names a symbol without an
--- address.
+-- What a line does: RISC-V unprivileged manual, "RV32I Base Integer Instruction Set", "RV64I Base
+-- Integer Instruction Set" and "'M' Standard Extension for Integer Multiplication and Division".
+-- Here a register may also be unset: what a caller or a called function leaves in it is not known.
+-- A line that reads such a register is stuck, and so is one whose access to memory has no value,
+-- and one that names a symbol without an address.
 use Rattle.std.specs.Prelude.{ℕ, ◌%◌, ◌==◌, Bool, true, false, not, if◌then◌else◌, List, Option, Some, None, option_map, option_and_then, slice_get, slice_set, bit_and, bit_or, bit_xor}
 use Rattle.std.specs.Int.{cast_unsigned, w64}
 use Rattle.bits64.specs.Words.{low, sign_extended, zero_extended, sum_of, difference_of, product_of, high_signed, high_unsigned, high_mixed, quotient_signed, quotient_unsigned, remainder_signed, remainder_unsigned, shifted_left, shifted_right, shifted_arithmetic, less_signed, less_unsigned}
@@ -31,7 +32,8 @@ use Rattle.rv_line.specs.declared.state.LineEnd.TheVariants as ends
 
 -- what a register holds, if it is set; x0 is hardwired to 0
 abbrev pub register : List (Option ℕ) → ℕ → Option ℕ
-register regs reg = if reg == 0 then Some 0 else option_and_then (λ value. value) (slice_get regs reg)
+register regs reg =
+    if reg == 0 then Some 0 else option_and_then (λ value. value) (slice_get regs reg)
 
 -- the registers with a number written to one; a write to x0 is dropped
 abbrev pub with_register : List (Option ℕ) → ℕ → ℕ → List (Option ℕ)
@@ -89,7 +91,8 @@ compares NotLessUnsigned a b = not (less_unsigned W64 a b)
 
 -- the effective address: rs1 plus the sign-extended offset
 abbrev pub place_of : RvState → Line → Option ℕ
-place_of state line = option_map (λ base. sum_of W64 base (cast_unsigned w64 line.imm)) (register state.regs line.rs)
+place_of state line =
+    option_map (λ base. sum_of W64 base (cast_unsigned w64 line.imm)) (register state.regs line.rs)
 
 -- a loaded number in 64 bits
 abbrev pub extended : Extension → Width → ℕ → ℕ
@@ -104,7 +107,8 @@ loaded w extension state line = option_and_then (λ address. option_map (extende
 -- the state with a number in rd, then the next line; stuck where there is no number
 abbrev pub set_rd : RvState → Line → Option ℕ → LineEnd × RvState
 set_rd state line None = (ends.Stuck, state)
-set_rd state line (Some value) = (ends.Next, record state { regs = with_register state.regs line.rd value })
+set_rd state line (Some value) =
+    (ends.Next, record state { regs = with_register state.regs line.rd value })
 
 -- the state with another memory, then the next line; stuck where there is none
 abbrev pub set_memory : RvState → Option (List MemByte) → LineEnd × RvState
@@ -126,12 +130,14 @@ abbrev pub call_end : Option ℕ → LineEnd
 call_end None = ends.Stuck
 call_end (Some target) = ends.Called target
 
--- calls an address in a register, which has to be a multiple of 4 ("Unconditional Jump Instructions": else an exception is raised)
+-- calls an address in a register, which has to be a multiple of 4 ("Unconditional Jump
+-- Instructions": else an exception is raised)
 abbrev pub register_call_end : Option ℕ → LineEnd
 register_call_end None = ends.Stuck
 register_call_end (Some target) = if target % 4 == 0 then ends.Called target else ends.Stuck
 
--- returns to where the function was called from; no other jump through a register is one of a function's
+-- returns to where the function was called from; no other jump through a register is one of a
+-- function's
 abbrev pub return_end : ℕ → Option ℕ → LineEnd
 return_end entry_ra None = ends.Stuck
 return_end entry_ra (Some target) = if target == entry_ra then ends.Returned else ends.Stuck
@@ -145,7 +151,8 @@ act (Branch comparison left right) world line state = (branch_end (of_both (comp
 act Jump world line state = (ends.Jumped, state)
 act Call world line state = (call_end (symbol_address world.symbols line.target), state)
 act CallRegister world line state = (register_call_end (register state.regs line.rs), state)
-act (Return through) world line state = (return_end state.entry_ra (source_value state line through), state)
+act (Return through) world line state =
+    (return_end state.entry_ra (source_value state line through), state)
 
 -- what is no line of the table is stuck
 abbrev pub step_as : Option Action → World → Line → RvState → LineEnd × RvState

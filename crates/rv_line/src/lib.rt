@@ -1,8 +1,10 @@
-//! What lines of RISC-V assembly mean: the step of one line, and the run of a list of lines and labels.
+//! What lines of RISC-V assembly mean: the step of one line, and the run of a list of lines and
+//! labels.
 //!
-//! A register is unset or holds a number. A line that reads an unset register, makes an access that has no value, names a symbol that has no
-//! address, jumps to a label that isn't there, returns to another address than that of the caller, or is no line of the table, is stuck.
-//! Promised: [`step_line`] and [`run_lines`] are their definitions, and the first takes no memory.
+//! A register is unset or holds a number. A line that reads an unset register, makes an access that
+//! has no value, names a symbol that has no address, jumps to a label that isn't there, returns to
+//! another address than that of the caller, or is no line of the table, is stuck. Promised:
+//! [`step_line`] and [`run_lines`] are their definitions, and the first takes no memory.
 #![tactic(auto)]
 
 mod label;

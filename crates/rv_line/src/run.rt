@@ -162,7 +162,8 @@ impl<'a> CodeState<'a> {
     }
 }
 
-/// Runs at most `k` lines of the items, from the first on, and says what that comes to. Labels take no step.
+/// Runs at most `k` lines of the items, from the first on, and says what that comes to. Labels take
+/// no step.
 pub fn run_lines(
     alloc: Global,
     lines: &[CodeItem],

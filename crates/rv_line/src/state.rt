@@ -8,7 +8,8 @@ use rv_text::{Line, Source};
 /// The registers and the memory of a function's code.
 #[derive(Drop)]
 pub struct RvState {
-    /// The registers by number, each with what it holds, or unset. Register 0 reads as 0 whatever stands here.
+    /// The registers by number, each with what it holds, or unset. Register 0 reads as 0 whatever
+    /// stands here.
     pub regs: [Option<u64>; 32],
     /// What `ra` held at entry.
     pub entry_ra: u64,

@@ -216,8 +216,8 @@ fn act(action: Action, line: &Line, state: &mut RvState, world: &World) -> LineE
     }
 }
 
-/// Does one line. Where it is stuck, the state is as before. What a call does to the registers is not done here, and neither is the
-/// label of a jump looked up.
+/// Does one line. Where it is stuck, the state is as before. What a call does to the registers is
+/// not done here, and neither is the label of a jump looked up.
 pub fn step_line(line: &Line, state: &mut RvState, world: &World) -> LineEnd
     ensures { (result, state.new) ≡ spec.step world.now line.now state.old }
 {

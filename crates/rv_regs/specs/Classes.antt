@@ -1,4 +1,5 @@
--- Classes of hard registers: GCC Internals, "Register Classes". Their members are by the RISC-V ELF psABI, "Integer Register Convention".
+-- Classes of hard registers: GCC Internals, "Register Classes". Their members are by the RISC-V ELF
+-- psABI, "Integer Register Convention".
 use Rattle.std.specs.Prelude.{ℕ, nat_lt, ◌==◌, Bool, false, List}
 use Rattle.std.specs.List.{list_any}
 use Rattle.rv_regs.specs.Registers.{argument_registers, saved_registers}

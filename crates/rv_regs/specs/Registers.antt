@@ -1,5 +1,6 @@
--- Hard registers by their numbers: RISC-V ELF psABI, "Integer Register Convention"; the order of allocation is that of GCC
--- Internals, "Allocation Order of Registers" (`REG_ALLOC_ORDER`), and this program's choice.
+-- Hard registers by their numbers: RISC-V ELF psABI, "Integer Register Convention"; the order of
+-- allocation is that of GCC Internals, "Allocation Order of Registers" (`REG_ALLOC_ORDER`), and
+-- this program's choice.
 use Rattle.std.specs.Prelude.{ℕ, List, [], ◌∷◌, ◌++◌}
 
 -- ra

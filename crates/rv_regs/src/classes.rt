@@ -15,7 +15,8 @@ pub enum Class {
     Nothing,
 }
 
-/// Whether hard register `reg` is in a class. From 32 on, where there are no hard registers, it is false.
+/// Whether hard register `reg` is in a class. From 32 on, where there are no hard registers, it is
+/// false.
 pub fn in_class(class: Class, reg: u8) -> bool
     ensures { result ≡ spec.is_in_class class reg }
 {

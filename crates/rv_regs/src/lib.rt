@@ -1,8 +1,8 @@
-//! The hard registers of the target: their classes, and which of them a compilation may use, in which order. They are those of the RISC-V
-//! calling convention.
+//! The hard registers of the target: their classes, and which of them a compilation may use, in
+//! which order. They are those of the RISC-V calling convention.
 //!
-//! Each call gives what its definition in `specs/Registers.antt` or `specs/Classes.antt` gives, by the registers' numbers, and takes no
-//! memory.
+//! Each call gives what its definition in `specs/Registers.antt` or `specs/Classes.antt` gives, by
+//! the registers' numbers, and takes no memory.
 #![tactic(auto)]
 
 ghost use Rattle.std.specs.Prelude.{◌≡◌};
@@ -18,7 +18,8 @@ pub const RETURN_ADDRESS: u8 = 1;
 /// The stack pointer, `sp`.
 pub const STACK_POINTER: u8 = 2;
 
-/// The registers that may be homes, in the order in which they are tried: `a0` to `a7`, `t0` to `t2`, `s0` to `s11`.
+/// The registers that may be homes, in the order in which they are tried: `a0` to `a7`, `t0` to
+/// `t2`, `s0` to `s11`.
 pub fn allocation_order() -> [u8; 23]
     ensures { result ≡ spec.allocation_order }
 {

@@ -2,7 +2,8 @@
 ghost use Rattle.std.specs.Prelude.{◌≡◌};
 ghost use Rattle.rv_target.specs.Shipped.{shipped_text};
 
-/// The description of RV64I with M that is used where no other is named, and under the name `rv64im`.
+/// The description of RV64I with M that is used where no other is named, and under the name
+/// `rv64im`.
 pub const RV64IM: &str = r##";; RV64IM: the description that is used where no other is named.
 
 (define_constants [(SP_REGNUM 2)])

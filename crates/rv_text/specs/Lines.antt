@@ -1,5 +1,6 @@
--- Lines of assembly, and how they are written. The operands are written as the assembly manual has them ("RISC-V Assembly Programmer's Manual",
--- "Load and Store Instructions" for imm(rs)); registers go by the names of the calling convention alone (RISC-V ELF psABI, "Integer Register
+-- Lines of assembly, and how they are written. The operands are written as the assembly manual has
+-- them ("RISC-V Assembly Programmer's Manual", "Load and Store Instructions" for imm(rs));
+-- registers go by the names of the calling convention alone (RISC-V ELF psABI, "Integer Register
 -- Convention"), and numbers are decimal.
 use Rattle.std.specs.Prelude.{ℕ, ℤ, pos, Bool, ◌&&◌, nat_eq, int_le, List, [], ◌∷◌, ◌++◌, Option, Some, None, is_some, if◌then◌else◌, bytes_eq, codes, option_map, option_and_then, slice_get, unwrap_or}
 use Rattle.std.specs.Ordering.{int_eq}
@@ -27,13 +28,16 @@ register_text reg = slice_get reg_names reg
 abbrev pub is_within : ℤ → ℤ → ℤ → Bool
 is_within least most number = fits_i64 number && (int_le least number && int_le number most)
 
--- a number of 64 signed bits within bounds, in decimal: no needless zero, no plus sign, no minus sign before 0
+-- a number of 64 signed bits within bounds, in decimal: no needless zero, no plus sign, no minus
+-- sign before 0
 abbrev pub number_text : ℤ → ℤ → ℤ → Option (List ℕ)
-number_text least most number = if is_within least most number then Some (signed_decimal number) else None
+number_text least most number =
+    if is_within least most number then Some (signed_decimal number) else None
 
 -- a number, and a register in parentheses
 abbrev pub place_text : Option (List ℕ) → Option (List ℕ) → Option (List ℕ)
-place_text number reg = option_and_then (λ n. option_map (λ r. n ++ (40 ∷ (r ++ 41 ∷ []))) reg) number
+place_text number reg =
+    option_and_then (λ n. option_map (λ r. n ++ (40 ∷ (r ++ 41 ∷ []))) reg) number
 
 -- the text of an operand of a line, or none where the line's part is not what the operand may be
 abbrev pub operand_text : Operand → Line → Option (List ℕ)
@@ -41,7 +45,8 @@ operand_text Rd line = register_text line.rd
 operand_text Rs line = register_text line.rs
 operand_text Rt line = register_text line.rt
 operand_text (Number least most) line = number_text least most line.imm
-operand_text (Place least most) line = place_text (number_text least most line.imm) (register_text line.rs)
+operand_text (Place least most) line =
+    place_text (number_text least most line.imm) (register_text line.rs)
 operand_text Target line = if is_symbol line.target then Some line.target else None
 operand_text Ra line = Some (codes "ra")
 
@@ -51,7 +56,8 @@ shown Rd line = unwrap_or (register_text line.rd) []
 shown Rs line = unwrap_or (register_text line.rs) []
 shown Rt line = unwrap_or (register_text line.rt) []
 shown (Number least most) line = signed_decimal line.imm
-shown (Place least most) line = signed_decimal line.imm ++ (40 ∷ (unwrap_or (register_text line.rs) [] ++ 41 ∷ []))
+shown (Place least most) line =
+    signed_decimal line.imm ++ (40 ∷ (unwrap_or (register_text line.rs) [] ++ 41 ∷ []))
 shown Target line = line.target
 shown Ra line = codes "ra"
 
@@ -83,9 +89,11 @@ filled (operand ∷ operands) from line = filled operands from (put operand from
 abbrev pub has_all : List Operand → Line → Bool
 has_all operands line = list_all (λ operand. is_some (operand_text operand line)) operands
 
--- a line is one of a row where its operands have texts, and where all that they do not name is 0 or empty
+-- a line is one of a row where its operands have texts, and where all that they do not name is 0 or
+-- empty
 abbrev pub is_of_row : Row → Line → Bool
-is_of_row row line = has_all row.operands line && same_line (filled row.operands line (bare line.name)) line
+is_of_row row line =
+    has_all row.operands line && same_line (filled row.operands line (bare line.name)) line
 
 -- what a line does, or none where it is no line of the table
 abbrev pub action_of : Line → Option Action
@@ -94,12 +102,15 @@ action_of line = option_and_then (λ row. if is_of_row row line then Some row.ac
 -- the operands as they are written: a byte before the first, a comma before each other one
 abbrev pub shown_all : ℕ → List Operand → Line → List ℕ
 shown_all separator [] line = []
-shown_all separator (operand ∷ operands) line = separator ∷ (shown operand line ++ shown_all 44 operands line)
+shown_all separator (operand ∷ operands) line =
+    separator ∷ (shown operand line ++ shown_all 44 operands line)
 
--- a line of a row is written as a tab, the mnemonic, a tab and the operands; what is no line of the row, as nothing
+-- a line of a row is written as a tab, the mnemonic, a tab and the operands; what is no line of the
+-- row, as nothing
 abbrev pub row_text : Option Row → Line → List ℕ
 row_text None line = []
-row_text (Some row) line = if is_of_row row line then 9 ∷ (line.name ++ shown_all 9 row.operands line) else []
+row_text (Some row) line =
+    if is_of_row row line then 9 ∷ (line.name ++ shown_all 9 row.operands line) else []
 
 abbrev pub line_text : Line → List ℕ
 line_text line = row_text (row_named line.name) line

@@ -1,6 +1,8 @@
--- The table of the lines of RV64I and M that are read and written: each mnemonic with its operands, as the assembler takes them, and with
--- what a line of it does. Names of sections are those of "The RISC-V Instruction Set Manual, Volume I: Unprivileged ISA"; the assembly manual
--- is the "RISC-V Assembly Programmer's Manual", whose pseudo-instructions are given by the instructions that they stand for.
+-- The table of the lines of RV64I and M that are read and written: each mnemonic with its operands,
+-- as the assembler takes them, and with what a line of it does. Names of sections are those of "The
+-- RISC-V Instruction Set Manual, Volume I: Unprivileged ISA"; the assembly manual is the "RISC-V
+-- Assembly Programmer's Manual", whose pseudo-instructions are given by the instructions that they
+-- stand for.
 use Rattle.std.specs.Prelude.{◌≡◌, ℕ, pos, negsuc, List, [], ◌∷◌, Option, Some, None, if◌then◌else◌, bytes_eq, codes, map}
 use Rattle.bits64.specs.declared.Width.TheVariants.{W8, W16, W32, W64}
 use Rattle.rv_text.specs.declared.table.Row as code
@@ -136,7 +138,8 @@ row_of mnemonic.Srai = row (codes "srai") rd_rs_count64 (Compute Sra W64 First I
 row_of mnemonic.Slliw = row (codes "slliw") rd_rs_count32 (Compute Sll W32 First Immediate)
 row_of mnemonic.Srliw = row (codes "srliw") rd_rs_count32 (Compute Srl W32 First Immediate)
 row_of mnemonic.Sraiw = row (codes "sraiw") rd_rs_count32 (Compute Sra W32 First Immediate)
--- RV64I "Integer Register-Immediate Instructions": the 20-bit immediate, 12 zeros below it, sign-extended from 32 bits
+-- RV64I "Integer Register-Immediate Instructions": the 20-bit immediate, 12 zeros below it,
+-- sign-extended from 32 bits
 row_of mnemonic.Lui = row (codes "lui") rd_upper (Compute Sll W32 Immediate (Constant (pos 12)))
 -- RV32I and RV64I "Load and Store Instructions"
 row_of mnemonic.Lb = row (codes "lb") rd_memory (Load W8 Sign)

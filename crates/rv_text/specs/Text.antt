@@ -1,4 +1,5 @@
--- Which texts are lines: blanks, a mnemonic, blanks, and operands with commas, round which blanks may stand.
+-- Which texts are lines: blanks, a mnemonic, blanks, and operands with commas, round which blanks
+-- may stand.
 use Rattle.std.specs.Prelude.{◌≡◌, ◌≢◌, ℕ, Bool, true, ◌||◌, nat_eq, List, [], ◌∷◌, ◌++◌, Option, Some, None}
 use Rattle.std.specs.List.{list_all}
 use Rattle.rv_text.specs.Table.{Row, row_named}
@@ -39,8 +40,8 @@ abbrev pub IsListed : List Operand → List ℕ → Line → Line → Type 0
 IsListed [] bytes before after = (bytes ≡ []) × (after ≡ before)
 IsListed (operand ∷ operands) bytes before after = IsListedFrom operand operands bytes before after
 
--- bytes are what stands behind the mnemonic of a line of a row: blanks, of which there is one at least where operands follow, and the operands.
--- What these do not name is 0 or empty in the line
+-- bytes are what stands behind the mnemonic of a line of a row: blanks, of which there is one at
+-- least where operands follow, and the operands. What these do not name is 0 or empty in the line
 pub record IsRestOf (row : Row) (name bytes : List ℕ) (line : Line) : Type 0 where
   pub gap : List ℕ
   pub gap_blank : AreBlanks gap

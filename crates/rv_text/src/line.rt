@@ -80,7 +80,8 @@ impl<'a> LineParts<'a> {
 
     /// This line with what an operand names taken from another one.
     pub fn with(self, operand: Operand, from: LineParts<'a>) -> LineParts<'a>
-        ensures { parts_view result ≡ spec.put operand (parts_view from.entry) (parts_view self.entry) }
+        ensures { parts_view result ≡
+            spec.put operand (parts_view from.entry) (parts_view self.entry) }
     {
         match operand {
             Operand::Rd => LineParts {

@@ -67,7 +67,8 @@ fn behind_comma(bytes: &[u8]) -> Option<&[u8]>
 
 /// What stands before and behind the first of a byte.
 fn split_at_byte(bytes: &[u8], mark: u8) -> Option<(&[u8], &[u8])>
-    ensures { option_map (λ parts. (parts.0.now, parts.1.now)) result ≡ cuts.parts_at mark bytes.entry.now }
+    ensures { option_map (λ parts. (parts.0.now, parts.1.now)) result ≡
+        cuts.parts_at mark bytes.entry.now }
 {
     for (at, byte) in bytes.iter().enumerate() {
         if *byte == mark {
@@ -120,7 +121,8 @@ fn read_register(text: &[u8]) -> Option<u8>
 
 /// The texts of a number and of a register in parentheses behind it.
 fn split_place(text: &[u8]) -> Option<(&[u8], &[u8])>
-    ensures { option_map (λ parts. (parts.0.now, parts.1.now)) result ≡ cuts.place_parts text.entry.now }
+    ensures { option_map (λ parts. (parts.0.now, parts.1.now)) result ≡
+        cuts.place_parts text.entry.now }
 {
     let (number, rest) = split_at_byte(text, b'(')?;
     let (reg, end) = split_at_byte(rest, b')')?;
@@ -150,7 +152,8 @@ fn read_place(text: &[u8], least: i64, most: i64) -> Option<(i64, u8)>
 }
 
 fn set_rd<'a>(parts: LineParts<'a>, rd: Option<u8>) -> Option<LineParts<'a>>
-    ensures { option_map parts_view result ≡ option_map (λ rd. record (parts_view parts.entry) { rd = rd }) rd }
+    ensures { option_map parts_view result ≡
+        option_map (λ rd. record (parts_view parts.entry) { rd = rd }) rd }
 {
     match rd {
         None => None,
@@ -159,7 +162,8 @@ fn set_rd<'a>(parts: LineParts<'a>, rd: Option<u8>) -> Option<LineParts<'a>>
 }
 
 fn set_rs<'a>(parts: LineParts<'a>, rs: Option<u8>) -> Option<LineParts<'a>>
-    ensures { option_map parts_view result ≡ option_map (λ rs. record (parts_view parts.entry) { rs = rs }) rs }
+    ensures { option_map parts_view result ≡
+        option_map (λ rs. record (parts_view parts.entry) { rs = rs }) rs }
 {
     match rs {
         None => None,
@@ -168,7 +172,8 @@ fn set_rs<'a>(parts: LineParts<'a>, rs: Option<u8>) -> Option<LineParts<'a>>
 }
 
 fn set_rt<'a>(parts: LineParts<'a>, rt: Option<u8>) -> Option<LineParts<'a>>
-    ensures { option_map parts_view result ≡ option_map (λ rt. record (parts_view parts.entry) { rt = rt }) rt }
+    ensures { option_map parts_view result ≡
+        option_map (λ rt. record (parts_view parts.entry) { rt = rt }) rt }
 {
     match rt {
         None => None,
@@ -183,7 +188,8 @@ fn with_imm<'a>(parts: LineParts<'a>, imm: i64) -> LineParts<'a>
 }
 
 fn set_imm<'a>(parts: LineParts<'a>, imm: Option<i64>) -> Option<LineParts<'a>>
-    ensures { option_map parts_view result ≡ option_map (λ imm. record (parts_view parts.entry) { imm = imm }) imm }
+    ensures { option_map parts_view result ≡
+        option_map (λ imm. record (parts_view parts.entry) { imm = imm }) imm }
 {
     match imm {
         None => None,
@@ -332,7 +338,8 @@ fn read_parts(bytes: &[u8]) -> Option<LineParts<'_>>
     }
 }
 
-/// Reads a line: blanks, a mnemonic, blanks, operands with commas, round which blanks may stand. `None` where the bytes are no line.
+/// Reads a line: blanks, a mnemonic, blanks, operands with commas, round which blanks may stand.
+/// `None` where the bytes are no line.
 #[tactic(auto, using(crate::proofs::Apart::text_is_line))]
 pub fn parse_line(alloc: Global, bytes: &[u8]) -> Result<Option<Line>, Memory>
     ensures line { IfOk result (Finds (IsTextOf bytes.now)) }

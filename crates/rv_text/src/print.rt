@@ -79,13 +79,15 @@ fn text_of(alloc: Global, line: &Line) -> Result<Vec<u8>, Memory>
     Ok(text)
 }
 
-/// Appends a line's text: a tab, the mnemonic and, where there are operands, a tab and these with commas between. It reads back as the line.
-/// Of a value that is no line nothing is appended. After `Memory` all is as before.
+/// Appends a line's text: a tab, the mnemonic and, where there are operands, a tab and these with
+/// commas between. It reads back as the line. Of a value that is no line nothing is appended. After
+/// `Memory` all is as before.
 #[tactic(auto, using(crate::proofs::Printing::reads_back))]
 pub fn print_line(alloc: Global, line: &Line, out: &mut Vec<u8>) -> Result<(), Memory>
     ensures ok { OnOk result (out.new.items ≡ out.old.items ++ spec.line_text line.now) }
     ensures err { OnErr result (out.new.items ≡ out.old.items) }
-    ensures reads_back { IsSome (spec.action_of line.now) → IsTextOf (spec.line_text line.now) line.now }
+    ensures reads_back { IsSome (spec.action_of line.now) →
+        IsTextOf (spec.line_text line.now) line.now }
 {
     let text = text_of(alloc, line)?;
     out.extend_from_slice(text.as_slice())?;

@@ -61,10 +61,12 @@ pub record IsLawful (frame locals : ℕ) (start : Start) : Type 0 where
   pub aligned : start.sp % 16 ≡ 0
   pub holds : locals ≤ frame
   pub above_zero : frame ≤ start.sp
-  pub present : (address : ℕ) → is_below_sp start frame address ≡ true → IsSome (byte_at start.memory address)
+  pub present : (address : ℕ) → is_below_sp start frame address ≡ true →
+      IsSome (byte_at start.memory address)
   pub ranges : List RangeAt
   pub visible_is : start.visible ≡ ranges ++ locals_range start locals
-  pub apart : (address : ℕ) → is_below_sp start frame address ≡ true → is_visible ranges address ≡ false
+  pub apart : (address : ℕ) → is_below_sp start frame address ≡ true →
+      is_visible ranges address ≡ false
 
 -- what the function of RTL sees of a start: virtual-stack-vars is sp, and of the room only the
 -- locals are there

@@ -53,7 +53,8 @@ SameCalls events calls =
 -- a0 has the result in the result's mode
 abbrev pub SameResult : Option Mode → Option ℕ → Option ℕ → Type 0
 SameResult None value a0 = Unit {0}
-SameResult (Some mode) value a0 = MatchOption a0 ⊥ (λ number. option_map (λ w. low w number) (width_of mode) ≡ value)
+SameResult (Some mode) value a0 =
+    MatchOption a0 ⊥ (λ number. option_map (λ w. low w number) (width_of mode) ≡ value)
 
 -- what sp and s0 to s11 hold at entry
 abbrev pub at_entry : Start → Saved

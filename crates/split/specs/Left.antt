@@ -1,4 +1,5 @@
--- What splitting leaves of a function: GCC Internals, "Defining How to Split Instructions" and "Insns".
+-- What splitting leaves of a function: GCC Internals, "Defining How to Split Instructions" and
+-- "Insns".
 use Rattle.std.specs.Prelude.{◌≡◌, ◌⊎◌, ℕ, true, List, [], ◌∷◌, Some, slice_get}
 use Rattle.rtx_tree.specs.declared.function.Insn.{Insn}
 use Rattle.rtx_tree.specs.declared.function.Function.{Function}
@@ -19,12 +20,13 @@ abbrev pub IsLeft : List Entry → SplitStage → Insn → Type 0
 IsLeft forms stage i = (next : ℕ) × IsUnsplit forms stage next i
 
 abbrev pub AreLeft : List Entry → SplitStage → Function → Type 0
-AreLeft forms stage f = (place : ℕ) (i : Insn) → slice_get f.insns place ≡ Some i → IsLeft forms stage i
+AreLeft forms stage f =
+    (place : ℕ) (i : Insn) → slice_get f.insns place ≡ Some i → IsLeft forms stage i
 
 -- ---- the new instructions
 
--- It has the kind of its pattern, and the parts and modes that its codes ask for; and before registers have homes it names no hard
--- register but those of arguments.
+-- It has the kind of its pattern, and the parts and modes that its codes ask for; and before
+-- registers have homes it names no hard register but those of arguments.
 pub record IsNew (stage : SplitStage) (i : Insn) : Type 0 where
   pub instruction : is_kind i.kind ≡ true
   pub shaped : is_shaped i ≡ true

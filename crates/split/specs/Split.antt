@@ -1,5 +1,6 @@
--- Instructions split by a description: GCC Internals, "Defining How to Split Instructions". Each instruction that a split form matches is
--- replaced by what the form emits, and the new instructions are tried again.
+-- Instructions split by a description: GCC Internals, "Defining How to Split Instructions". Each
+-- instruction that a split form matches is replaced by what the form emits, and the new
+-- instructions are tried again.
 use Rattle.std.specs.Prelude.{◌≡◌, ℕ, ◌+◌, ◌<◌, ◌≤◌, Bool, true, if◌then◌else◌, List, [], ◌∷◌, ◌++◌, length, replicate, Option, Some, None, option_and_then, slice_get, Result, Ok, Err}
 use Rattle.rtx_tree.specs.declared.tree.Rtx.{Rtx}
 use Rattle.rtx_tree.specs.declared.limit.Limit.TheVariants.{SplitDepth}
@@ -37,26 +38,32 @@ is_admitted AfterReload sequence = true
 abbrev pub admitted : SplitStage → Emission → Option (List Rtx)
 admitted stage e = if is_admitted stage e.sequence then Some e.sequence else None
 
--- what a form puts in the place of an instruction that it matches with operands; nothing where it fails
+-- what a form puts in the place of an instruction that it matches with operands; nothing where it
+-- fails
 abbrev pub given_by : List Entry → SplitStage → ℕ → ℕ → Ops → Option (List Rtx)
-given_by forms stage next form operands = option_and_then (admitted stage) (emitted_by forms (facts_of stage) form operands next)
+given_by forms stage next form operands =
+    option_and_then (admitted stage) (emitted_by forms (facts_of stage) form operands next)
 
--- A form splits an instruction into a sequence: its split half matches with operands, and the form does not fail. New pseudo registers are
--- numbered from one on. Labels and barriers are never split; a use or a clobber alone may be.
+-- A form splits an instruction into a sequence: its split half matches with operands, and the form
+-- does not fail. New pseudo registers are numbered from one on. Labels and barriers are never
+-- split; a use or a clobber alone may be.
 pub record Splits (forms : List Entry) (stage : SplitStage) (next : ℕ) (i : Insn) (form : ℕ) (sequence : List Rtx) : Type 0 where
   pub instruction : is_kind i.kind ≡ true
   pub operands : Ops
-  pub matches : MatchesAt (holds forms) (facts_of stage) half.Split (i.pattern ∷ []) forms form operands
+  pub matches :
+      MatchesAt (holds forms) (facts_of stage) half.Split (i.pattern ∷ []) forms form operands
   pub gives : given_by forms stage next form operands ≡ Some sequence
 
 -- the first form that does
 pub record IsSplit (forms : List Entry) (stage : SplitStage) (next : ℕ) (i : Insn) (form : ℕ) (sequence : List Rtx) : Type 0 where
   pub splits : Splits forms stage next i form sequence
-  pub first : (other : ℕ) (otherwise : List Rtx) → Splits forms stage next i other otherwise → form ≤ other
+  pub first : (other : ℕ) (otherwise : List Rtx) → Splits forms stage next i other otherwise →
+      form ≤ other
 
 -- no form does
 abbrev pub IsUnsplit : List Entry → SplitStage → ℕ → Insn → Type 0
-IsUnsplit forms stage next i = (form : ℕ) (sequence : List Rtx) → ¬ Splits forms stage next i form sequence
+IsUnsplit forms stage next i =
+    (form : ℕ) (sequence : List Rtx) → ¬ Splits forms stage next i form sequence
 
 -- ---- functions
 
@@ -70,9 +77,10 @@ too_deep = refusal.Limit SplitDepth (most_splits + 1)
 abbrev pub Answer : Type 0
 Answer = Result Function PassRefusal
 
--- What a function comes to from a place on, where for each instruction from there on is said how many splits it follows from. An instruction
--- that no form splits stays. Each other is replaced by the sequence of the first that does, where that is equated with it over what is live
--- behind, and what stands there then is tried in its turn.
+-- What a function comes to from a place on, where for each instruction from there on is said how
+-- many splits it follows from. An instruction that no form splits stays. Each other is replaced by
+-- the sequence of the first that does, where that is equated with it over what is live behind, and
+-- what stands there then is tried in its turn.
 pub data SplitFrom (forms : List Entry) (stage : SplitStage) : List ℕ → Function → ℕ → Answer → Type 0 where
   done : (f : Function) (place : ℕ) → SplitFrom forms stage [] f place (Ok f)
   stays : (depth : ℕ) (depths : List ℕ) (f : Function) (place : ℕ) (i : Insn) (answer : Answer) →

@@ -59,7 +59,8 @@ fn is_instruction(kind: Kind) -> bool
     matches!(kind, Kind::Plain | Kind::Jump | Kind::Call)
 }
 
-/// The first form that splits an instruction, where new pseudo registers are numbered from one on, or `None` where there is none.
+/// The first form that splits an instruction, where new pseudo registers are numbered from one on,
+/// or `None` where there is none.
 pub fn first_split(
     alloc: Global,
     desc: &Description,

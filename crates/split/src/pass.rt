@@ -62,7 +62,8 @@ fn place_behind(place: u32) -> Result<u32, Memory>
     }
 }
 
-/// Puts what a form gives in the place of the instruction that it splits. Gives how many instructions that are.
+/// Puts what a form gives in the place of the instruction that it splits. Gives how many
+/// instructions that are.
 fn split_by(
     alloc: Global,
     desc: &Description,
@@ -73,7 +74,8 @@ fn split_by(
     found: FormSplit,
 ) -> Result<u32, PassRefusal>
     requires within { place < length chain.old.insns }
-    requires found { (i : Insn) → slice_get chain.old.insns place ≡ Some i → IsSplit desc.now stage (next_pseudo chain.old.insns) i found.form found.sequence }
+    requires found { (i : Insn) → slice_get chain.old.insns place ≡ Some i →
+        IsSplit desc.now stage (next_pseudo chain.old.insns) i found.form found.sequence }
     ensures { FoundSplits desc.now stage depth chain.old place chain.new result }
 {
     if depth >= MOST_SPLITS {
@@ -82,8 +84,8 @@ fn split_by(
     replace_insn(alloc, desc, found.form, chain, place, found.sequence)
 }
 
-/// Splits the instruction at a place, which follows from so many splits. Gives how many instructions stand in its place, or `None` where
-/// it stays.
+/// Splits the instruction at a place, which follows from so many splits. Gives how many
+/// instructions stand in its place, or `None` where it stays.
 fn split_place(
     alloc: Global,
     desc: &Description,
@@ -106,7 +108,8 @@ fn split_place(
     }
 }
 
-/// Splits so many instructions from a place on, which follow from so many splits, and what comes of them. Gives the place behind.
+/// Splits so many instructions from a place on, which follow from so many splits, and what comes of
+/// them. Gives the place behind.
 fn split_run(
     alloc: Global,
     desc: &Description,
@@ -150,13 +153,15 @@ fn split_all(
     Ok(chain.into_function(alloc)?)
 }
 
-/// Splits the instructions of a function: each that a split form of the description matches is replaced by the sequence of the first that
-/// does not fail, and the new instructions are tried again.
+/// Splits the instructions of a function: each that a split form of the description matches is
+/// replaced by the sequence of the first that does not fail, and the new instructions are tried
+/// again.
 ///
 /// # Errors
 ///
-/// `NotEquated`, or `Limit` of `TermSize`, where a sequence is not equated with the instruction in whose place it would stand; `Limit` of
-/// `SplitDepth` at the ninth split that follows from others; `Memory` where memory ran out.
+/// `NotEquated`, or `Limit` of `TermSize`, where a sequence is not equated with the instruction in
+/// whose place it would stand; `Limit` of `SplitDepth` at the ninth split that follows from others;
+/// `Memory` where memory ran out.
 pub fn split(
     alloc: Global,
     desc: &Description,
@@ -166,13 +171,20 @@ pub fn split(
     ensures gives { Gives result (SplitComes desc.now stage f) }
     ensures one { (forms : List Entry) (stage : SplitStage) (f : Function) (a b : Answer) →
         SplitComes forms stage f a → SplitComes forms stage f b → a ≡ b }
-    ensures left { (forms : List Entry) (stage : SplitStage) (f g : Function) → SplitComes forms stage f (Ok g) → AreLeft forms stage g }
-    ensures marks { (forms : List Entry) (stage : SplitStage) (f g : Function) → SplitComes forms stage f (Ok g) → SameMarks f g }
-    ensures new { (forms : List Entry) (stage : SplitStage) (f g : Function) → SplitComes forms stage f (Ok g) → AreOldOrNew stage f g }
-    ensures uids { (forms : List Entry) (stage : SplitStage) (f g : Function) → UidsDiffer f → SplitComes forms stage f (Ok g) → UidsDiffer g }
-    ensures natural { (forms : List Entry) (stage : SplitStage) (f g : Function) → AreNatural f → SplitComes forms stage f (Ok g) → AreNatural g }
-    ensures does { (forms : List Entry) (stage : SplitStage) (f g : Function) → MarksAreEmpty f → AreNatural f → SplitComes forms stage f (Ok g) → Keeps f g }
-    ensures kept { (forms : List Entry) (f g : Function) → IsSound f → SplitComes forms BeforeReload f (Ok g) → PassKeeps f g }
+    ensures left { (forms : List Entry) (stage : SplitStage) (f g : Function) →
+        SplitComes forms stage f (Ok g) → AreLeft forms stage g }
+    ensures marks { (forms : List Entry) (stage : SplitStage) (f g : Function) →
+        SplitComes forms stage f (Ok g) → SameMarks f g }
+    ensures new { (forms : List Entry) (stage : SplitStage) (f g : Function) →
+        SplitComes forms stage f (Ok g) → AreOldOrNew stage f g }
+    ensures uids { (forms : List Entry) (stage : SplitStage) (f g : Function) → UidsDiffer f →
+        SplitComes forms stage f (Ok g) → UidsDiffer g }
+    ensures natural { (forms : List Entry) (stage : SplitStage) (f g : Function) → AreNatural f →
+        SplitComes forms stage f (Ok g) → AreNatural g }
+    ensures does { (forms : List Entry) (stage : SplitStage) (f g : Function) → MarksAreEmpty f →
+        AreNatural f → SplitComes forms stage f (Ok g) → Keeps f g }
+    ensures kept { (forms : List Entry) (f g : Function) → IsSound f →
+        SplitComes forms BeforeReload f (Ok g) → PassKeeps f g }
 {
     split_all(alloc, desc, f, stage)
 }

@@ -11,8 +11,8 @@ use std::alloc::Global;
 /// When instructions are split.
 #[derive(Clone, Copy)]
 pub enum SplitStage {
-    /// Before registers have homes: new pseudo registers may be made, and a sequence that names a hard register other than those of
-    /// arguments counts as that of a form that fails.
+    /// Before registers have homes: new pseudo registers may be made, and a sequence that names a
+    /// hard register other than those of arguments counts as that of a form that fails.
     BeforeReload,
     /// Once they have homes, and the function its frame.
     AfterReload,

@@ -1,5 +1,5 @@
--- The standard names of instructions: GCC Internals, "Standard Pattern Names For Generation" (`mov`, `add`, `ashl`, `neg`, `extend`,
--- `cstore`, `cbranch`, `jump`, `call`, `call_value`, ..).
+-- The standard names of instructions: GCC Internals, "Standard Pattern Names For Generation"
+-- (`mov`, `add`, `ashl`, `neg`, `extend`, `cstore`, `cbranch`, `jump`, `call`, `call_value`, ..).
 use Rattle.std.specs.Prelude.{ℕ, ◌&&◌, not, Bool, true, false, if◌then◌else◌, List, [], ◌∷◌, ◌++◌, codes, Option, Some, None}
 use Rattle.std.specs.List.{list_all, flat_map}
 use Rattle.rtx_tree.specs.declared.class.Class.{Class}
@@ -47,8 +47,8 @@ word_of code.ZeroExtend = codes "zero_extend"
 word_of code.Truncate = codes "trunc"
 word_of _ = codes "mov"
 
--- A row: a word, the modes that the name tells, a count of operands, and the operands. There is none where a mode is wanting, or where
--- what stands as an operand is none.
+-- A row: a word, the modes that the name tells, a count of operands, and the operands. There is
+-- none where a mode is wanting, or where what stands as an operand is none.
 abbrev pub row : List ℕ → List Mode → List ℕ → List StandardOperand → Option Standard
 row word modes count operands =
     if list_all has_mode modes && list_all fits operands

@@ -1,5 +1,5 @@
--- The operands of an instruction that has a standard name, and what may stand there: GCC Internals, "Standard Pattern Names For
--- Generation" and "Registers and Memory".
+-- The operands of an instruction that has a standard name, and what may stand there: GCC Internals,
+-- "Standard Pattern Names For Generation" and "Registers and Memory".
 use Rattle.std.specs.Prelude.{ℕ, ◌&&◌, ◌==◌, not, Bool, true, false, if◌then◌else◌, List, [], ◌∷◌}
 use Rattle.rtx_tree.specs.declared.class.Class.{Class}
 use Rattle.rtx_tree.specs.declared.class.Class.TheVariants as class

@@ -21,7 +21,8 @@ fn one_input(alloc: Global, x: &Rtx, mode: Mode, a: &Rtx) -> Result<Items<Standa
     Ok(items)
 }
 
-/// What an instruction sets, and two values that it takes, each with the mode of a constant in its place.
+/// What an instruction sets, and two values that it takes, each with the mode of a constant in its
+/// place.
 fn two_inputs(
     alloc: Global,
     x: &Rtx,

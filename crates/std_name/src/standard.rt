@@ -21,7 +21,8 @@ pub struct StandardOperand {
     pub tree: Rtx,
     /// How it stands there.
     pub role: OperandRole,
-    /// The mode of a register that could stand in its place; `Void` where the form's operand says it.
+    /// The mode of a register that could stand in its place; `Void` where the form's operand says
+    /// it.
     pub mode: Mode,
 }
 

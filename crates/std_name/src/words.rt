@@ -81,8 +81,8 @@ fn all_fit(items: &[StandardOperand]) -> bool
     items.iter().all(|operand| fits(operand))
 }
 
-/// A row: a word, the modes that the name tells, a count of operands, and the operands. There is none where a mode is wanting, or where
-/// what stands as an operand is none.
+/// A row: a word, the modes that the name tells, a count of operands, and the operands. There is
+/// none where a mode is wanting, or where what stands as an operand is none.
 pub fn row(
     alloc: Global,
     word: &str,

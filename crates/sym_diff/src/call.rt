@@ -236,7 +236,8 @@ fn compared_both(
     }
 }
 
-/// The targets where they differ, else the first argument by its register, else the widths of the results.
+/// The targets where they differ, else the first argument by its register, else the widths of the
+/// results.
 pub fn compared_calls(
     maker: &mut TermMaker,
     alloc: Global,

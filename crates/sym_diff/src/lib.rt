@@ -1,8 +1,9 @@
 //! The comparison of two symbolic states: the first item in which they differ.
 //!
-//! [`difference_between`] compares the registers that are live behind, the stores, the jump, the call and the needs, in this order, and gives
-//! the first item that fails with its terms on both sides, or the first need of the second state that the first has not. It gives
-//! what its definition gives, unless memory runs out.
+//! [`difference_between`] compares the registers that are live behind, the stores, the jump, the
+//! call and the needs, in this order, and gives the first item that fails with its terms on both
+//! sides, or the first need of the second state that the first has not. It gives what its
+//! definition gives, unless memory runs out.
 #![tactic(auto)]
 
 mod call;

@@ -135,7 +135,8 @@ fn is_free(reg: u64) -> bool
     is_call_used(reg) && reg != 1
 }
 
-/// Whether the second changes a hard register, or `virtual-stack-vars`, that the first leaves alone.
+/// Whether the second changes a hard register, or `virtual-stack-vars`, that the first leaves
+/// alone.
 fn changes_alone(live: &RegSet, a: &[SymReg], b: &[SymReg], reg: u64) -> bool
     ensures { result ≡ spec.changes_alone live.now (held_spec (map changed_of a.now) reg)
         (held_spec (map changed_of b.now) reg) reg }

@@ -66,8 +66,8 @@ fn compared(
     }
 }
 
-/// The first item in which two states differ, over the registers that are live behind. The second state is one of lines, or else one of
-/// instructions.
+/// The first item in which two states differ, over the registers that are live behind. The second
+/// state is one of lines, or else one of instructions.
 #[tactic(auto, using(crate::proofs::FirstLaws::telling))]
 pub fn difference_between(
     maker: &mut TermMaker,

@@ -41,8 +41,8 @@ abbrev pub is_end : List Insn → Bool
 is_end [] = true
 is_end (i ∷ insns) = false
 
--- a jump, to a label whose uid has 32 bits, and a call are the last; a return, and a label, can't be
--- compared; a barrier, which holds nothing, is passed over
+-- a jump, to a label whose uid has 32 bits, and a call are the last; a return, and a label, can't
+-- be compared; a barrier, which holds nothing, is passed over
 abbrev pub fits_kind : Kind → Insn → Bool → Bool
 fits_kind Plain i last = is_shaped i
 fits_kind Jump i last = is_shaped i && (not (is_return i) && (has_target i.pattern && last))

@@ -1,6 +1,6 @@
--- What a line computes, as a term: RISC-V unprivileged manual, "RV32I Base Integer Instruction Set",
--- "RV64I Base Integer Instruction Set" and "'M' Standard Extension for Integer Multiplication and
--- Division". Each term is made, by the rules of the normal form, of terms in normal form.
+-- What a line computes, as a term: RISC-V unprivileged manual, "RV32I Base Integer Instruction
+-- Set", "RV64I Base Integer Instruction Set" and "'M' Standard Extension for Integer Multiplication
+-- and Division". Each term is made, by the rules of the normal form, of terms in normal form.
 use Rattle.std.specs.Prelude.{negsuc, zero, if◌then◌else◌, [], ◌∷◌}
 use Rattle.bits64.specs.declared.Width.{Width}
 use Rattle.bits64.specs.declared.Width.TheVariants.{W64}
@@ -62,7 +62,8 @@ signed_in_64 w t = if same_width w W64 then t else one [] heads.Sext W64 t
 
 -- what is written: the instructions on 32 bits read the low bits and sign-extend their result
 abbrev pub computed : Operation → Source → Width → Tree → Tree → Tree
-computed operation right w a b = signed_in_64 w (operated operation right w (low_bits w a) (low_bits w b))
+computed operation right w a b =
+    signed_in_64 w (operated operation right w (low_bits w a) (low_bits w b))
 
 -- ("Conditional Branches")
 abbrev pub relation_of : Comparison → Relation

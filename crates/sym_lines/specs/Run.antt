@@ -23,7 +23,8 @@ abbrev pub uid_of : ℤ → Option ℕ
 uid_of (pos uid) = if nat_lt uid (2 ^ 32) then Some uid else None
 uid_of (negsuc n) = None
 
--- the uid for which a symbol stands in a function: .L, the function's number, an underscore, the uid
+-- the uid for which a symbol stands in a function: .L, the function's number, an underscore, the
+-- uid
 abbrev pub label_uid : ℕ → List ℕ → Option ℕ
 label_uid function symbol =
     option_and_then uid_of (option_and_then number_in (behind (codes ".L" ++ (decimal function ++ codes "_")) symbol))
@@ -47,7 +48,8 @@ fits_action (Some other) rest = true
 -- the place of the first line that can't be compared
 abbrev pub bad_from : ℕ → List Line → Option ℕ
 bad_from index [] = None
-bad_from index (line ∷ lines) = if fits_action (action_of line) lines then bad_from (index + 1) lines else Some index
+bad_from index (line ∷ lines) =
+    if fits_action (action_of line) lines then bad_from (index + 1) lines else Some index
 
 abbrev pub bad_line : List Line → Option ℕ
 bad_line lines = bad_from 0 lines

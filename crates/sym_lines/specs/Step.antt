@@ -101,11 +101,13 @@ act (action.Compute operation w left right) index uid line s =
 act (action.Load w extension) index uid line s = let at = address s.regs line in
     sets index line (extended extension w (loaded s.stores w at)) (register_needs s.regs line.rs ++ Access at w ∷ []) s
 act (action.Store w) index uid line s = stores index w (address s.regs line) line s
-act action.SymbolAddress index uid line s = sets index line (own_symbol line.target) (Symbol line.target ∷ []) s
+act action.SymbolAddress index uid line s =
+    sets index line (own_symbol line.target) (Symbol line.target ∷ []) s
 act (action.Branch comparison left right) index uid line s =
     jumps index uid (compared (relation_of comparison) W64 (source s.regs line left) (source s.regs line right))
     (source_needs s.regs line left ++ source_needs s.regs line right) s
 act action.Jump index uid line s = jumps index uid (constant W8 1) [] s
 act action.Call index uid line s = calls index (own_symbol line.target) (Symbol line.target ∷ []) s
-act action.CallRegister index uid line s = calls index (register s.regs line.rs) (register_needs s.regs line.rs) s
+act action.CallRegister index uid line s =
+    calls index (register s.regs line.rs) (register_needs s.regs line.rs) s
 act (action.Return through) index uid line s = s

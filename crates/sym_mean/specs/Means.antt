@@ -36,8 +36,8 @@ left_at _ regs = regs
 
 -- ---- a jump
 
--- where the condition's number is 0 it falls through, else it goes to the label with the uid, if that
--- has 32 bits
+-- where the condition's number is 0 it falls through, else it goes to the label with the uid, if
+-- that has 32 bits
 abbrev pub LeadsOn : Bool → Option ℕ → InsnsEnd → Type 0
 LeadsOn true target ending = ending ≡ Falls
 LeadsOn false target ending = (uid : ℕ) × (ending ≡ Goes uid) × (uid_in uid ≡ target)

@@ -1,6 +1,6 @@
--- When what instructions need is there: a register has so many known bits, memory has the bytes of an
--- access that is aligned, a divisor is not 0, and a symbol has an address, each as they were before
--- the first instruction.
+-- When what instructions need is there: a register has so many known bits, memory has the bytes of
+-- an access that is aligned, a divisor is not 0, and a symbol has an address, each as they were
+-- before the first instruction.
 use Rattle.std.specs.Prelude.{ℕ, ◌==◌, not, Bool, false, if◌then◌else◌, List, Option, Some, None, is_some}
 use Rattle.std.specs.List.{list_all}
 use Rattle.bits64.specs.declared.Width.{Width}
@@ -12,8 +12,8 @@ use Rattle.term_mean.specs.Meaning.{Valuation, mean}
 use Rattle.sym_state.specs.State.{Need, Register, Lost, Access, Divisor, Symbol}
 use Rattle.sym_insns.specs.Value.{Made}
 
--- what there is before the first instruction or line: addresses of symbols, what is read of a register
--- in a width, and memory
+-- what there is before the first instruction or line: addresses of symbols, what is read of a
+-- register in a width, and memory
 pub record First : Type 0 where
   pub symbols : List SymbolAt
   pub reads : ℕ → Width → Option ℕ

@@ -19,7 +19,8 @@ held (c ∷ regs) reg = if c.reg == reg then Some c.value else held regs reg
 
 -- the low bits of a term, where it has so many; of any other, those that the register had at first
 abbrev pub term_held : Option (Option Tree) → ℕ → Width → Tree
-term_held (Some (Some t)) reg w = if narrower (width_of t) w then low_bits w (own_register reg) else low_bits w t
+term_held (Some (Some t)) reg w =
+    if narrower (width_of t) w then low_bits w (own_register reg) else low_bits w t
 term_held _ reg w = low_bits w (own_register reg)
 
 -- the low bits of a register
@@ -27,7 +28,8 @@ abbrev pub read : List Changed → ℕ → Width → Tree
 read regs zero w = constant w 0
 read regs (suc reg) w = term_held (held regs (suc reg)) (suc reg) w
 
--- a register that was not changed has to have the bits at first; of one that was, too few may be left
+-- a register that was not changed has to have the bits at first; of one that was, too few may be
+-- left
 abbrev pub need_of : Option (Option Tree) → ℕ → Width → List Need
 need_of None reg w = Register reg w ∷ []
 need_of (Some None) reg w = Lost reg w ∷ []
@@ -58,7 +60,8 @@ put regs (suc reg) value = placed regs (suc reg) value
 -- so many registers from a number on: those that a call need not preserve are unset
 abbrev pub left_from : ℕ → ℕ → List Changed → List Changed
 left_from zero reg regs = regs
-left_from (suc count) reg regs = left_from count (reg + 1) (if is_call_used reg then put regs reg None else regs)
+left_from (suc count) reg regs =
+    left_from count (reg + 1) (if is_call_used reg then put regs reg None else regs)
 
 -- what a call leaves
 abbrev pub left_by_call : List Changed → List Changed

@@ -1,7 +1,7 @@
 -- What instructions or lines come to, as terms over what registers, symbols and memory were before
--- the first of them: the registers that were changed, the stores in their order, where it leads, what
--- is called, and what has to be there for each step to have a meaning. (GCC Internals, "Side Effect
--- Expressions" says what an instruction may do.)
+-- the first of them: the registers that were changed, the stores in their order, where it leads,
+-- what is called, and what has to be there for each step to have a meaning. (GCC Internals, "Side
+-- Effect Expressions" says what an instruction may do.)
 use Rattle.std.specs.Prelude.{ℕ, suc, ◌≤◌, ◌&&◌, nat_le, Bool, true, List, [], ◌∷◌, Option, Some, None}
 use Rattle.std.specs.List.{list_all}
 use Rattle.bits64.specs.declared.Width.{Width}

@@ -19,7 +19,8 @@ use term_tree::{Term, is_narrower};
 
 /// The register among those that were changed, where it is one of them.
 fn held(regs: &[SymReg], reg: u64) -> Option<&SymReg>
-    ensures { option_map (λ r. (changed_of r.now).value) result ≡ spec.held (map changed_of regs.entry.now) reg }
+    ensures { option_map (λ r. (changed_of r.now).value) result ≡
+        spec.held (map changed_of regs.entry.now) reg }
 {
     for changed in regs {
         if changed.reg == reg {
@@ -86,7 +87,8 @@ pub fn read(
 
 /// What is needed of a register that was left with a term, or unset.
 fn need_left(left: &Option<Term>, reg: u64, w: Width) -> Option<NeedOf>
-    ensures { places.listed (option_map views.need_of result) ≡ spec.need_of (Some (option_map tree_of left.now)) reg w }
+    ensures { places.listed (option_map views.need_of result) ≡
+        spec.need_of (Some (option_map tree_of left.now)) reg w }
 {
     match left {
         Some(term) => {
@@ -102,7 +104,8 @@ fn need_left(left: &Option<Term>, reg: u64, w: Width) -> Option<NeedOf>
 
 /// What reading the low bits of a register needs.
 pub fn read_need(regs: &SymRegs, reg: u64, w: Width) -> Option<NeedOf>
-    ensures { places.listed (option_map views.need_of result) ≡ spec.read_needs (map changed_of regs.now) reg w }
+    ensures { places.listed (option_map views.need_of result) ≡
+        spec.read_needs (map changed_of regs.now) reg w }
 {
     if reg == 0 {
         return None;

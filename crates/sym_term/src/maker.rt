@@ -151,7 +151,8 @@ impl TermMaker {
     #[tactic(auto, using(crate::proofs::Means::cut_means))]
     pub fn cut(&mut self, w: Width, a: &Term) -> Result<Term, Memory>
         ensures low { IfOk result (λ r. tree_of r ≡ low_bits_spec w (tree_of a.now)) }
-        ensures meaning { (v : Valuation) → IfOk result (λ r. mean v (tree_of r) ≡ low w (mean v (tree_of a.now))) }
+        ensures meaning { (v : Valuation) →
+            IfOk result (λ r. mean v (tree_of r) ≡ low w (mean v (tree_of a.now))) }
         ensures width { IfOk result (λ r. width_of (tree_of r) ≡ w) }
     {
         low_bits(self.alloc, w, a)

@@ -320,17 +320,21 @@ fn normal_parts(alloc: Global, stores: &SymStores, parts: &[Term]) -> Result<Vec
 
 /// The normal form of a term under the stores so far, unless it has more nodes than the limit.
 ///
-/// `Size` tells that it has: `size` is one more than the limit, where counting stops. The normal form means what the
-/// term means, wherever the memory behind each store is the one before it with the store's value written.
+/// `Size` tells that it has: `size` is one more than the limit, where counting stops. The normal
+/// form means what the term means, wherever the memory behind each store is the one before it with
+/// the store's value written.
 ///
-/// The whole normal form is made before its nodes are counted. No rule puts a part twice into what it makes; what grows
-/// is a truncation or an extension that goes into parts, and is then put around each of them.
+/// The whole normal form is made before its nodes are counted. No rule puts a part twice into what
+/// it makes; what grows is a truncation or an extension that goes into parts, and is then put
+/// around each of them.
 #[tactic(auto, using(crate::proofs::Means::normal_means))]
 pub fn norm(alloc: Global, t: &Term, stores: &SymStores) -> Result<Term, TermRefusal>
     ensures normal { IfOk result (λ r. tree_of r ≡ spec.normal (map store_of stores.now) (tree_of t.now)) }
-    ensures meaning { (v : Valuation) → Stored v (map store_of stores.now) → IfOk result (λ r. mean v (tree_of r) ≡ mean v (tree_of t.now)) }
+    ensures meaning { (v : Valuation) → Stored v (map store_of stores.now) →
+        IfOk result (λ r. mean v (tree_of r) ≡ mean v (tree_of t.now)) }
     ensures fits { IfOk result (λ r. tree_size (spec.normal (map store_of stores.now) (tree_of t.now)) ≤ LIMIT) }
-    ensures size { (n : ℕ) → result ≡ Err (TermRefusal.Size n) → (n ≡ LIMIT + 1) × (LIMIT < tree_size (spec.normal (map store_of stores.now) (tree_of t.now))) }
+    ensures size { (n : ℕ) → result ≡ Err (TermRefusal.Size n) → (n ≡ LIMIT + 1) ×
+        (LIMIT < tree_size (spec.normal (map store_of stores.now) (tree_of t.now))) }
 {
     let normal = normal(alloc, t, stores)?;
     let nodes = size(&normal);

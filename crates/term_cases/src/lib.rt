@@ -1,6 +1,7 @@
 //! What is told of small cases of symbolic terms: their texts, their normal forms and comparisons.
 //!
-//! A case is an input of a table; [`answer`] tells what comes of it, which the case compares with what it wants.
+//! A case is an input of a table; [`answer`] tells what comes of it, which the case compares with
+//! what it wants.
 #![tactic(auto)]
 
 mod normal;

@@ -91,7 +91,8 @@ fn show_normal(alloc: Global, term: &Term, stores: &SymStores, told: &mut Told) 
     told.need(again.is_whole());
 }
 
-/// Appends the normal form of a term, with the stores that are given, and where it isn't its own normal form.
+/// Appends the normal form of a term, with the stores that are given, and where it isn't its own
+/// normal form.
 pub fn tell_normal(alloc: Global, given: &[u8], input: &[u8], told: &mut Told) {
     if let Some(stores) = stores_in(alloc, given)
         && let Some(term) = term_in(alloc, input)

@@ -180,7 +180,8 @@ fn head_of(name: &[u8]) -> Option<Head> {
     None
 }
 
-/// The term of a tree: `a0`, or an operator with its width and its parts, as `(sum64 5 (1 a0) (-1 a1))`.
+/// The term of a tree: `a0`, or an operator with its width and its parts, as `(sum64 5 (1 a0) (-1
+/// a1))`.
 #[cycle(term)]
 pub fn term_of(alloc: Global, tree: &Tree) -> Option<Term> {
     let [head, parts @ ..] = items(tree) else {

@@ -1,4 +1,5 @@
-//! Products and operators on bits at each width, and truncation to it, each from those of the widths below.
+//! Products and operators on bits at each width, and truncation to it, each from those of the
+//! widths below.
 ghost use Rattle.std.specs.Prelude.{◌≡◌, map, IfOk};
 ghost use Rattle.term_tree.specs.View.{tree_of};
 ghost use Rattle.term_tree.specs.declared.head.Joint.TheVariants.{And};

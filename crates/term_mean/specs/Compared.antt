@@ -1,4 +1,5 @@
--- What is made of terms in normal form besides operators and sums: comparisons, and the low bits of a term of any width.
+-- What is made of terms in normal form besides operators and sums: comparisons, and the low bits of
+-- a term of any width.
 use Rattle.std.specs.Prelude.{Bool, true, false, if◌then◌else◌, ◌-◌, ◌^◌, [], ◌∷◌}
 use Rattle.bits64.specs.declared.Width.{Width}
 use Rattle.bits64.specs.Words.{bits_of}

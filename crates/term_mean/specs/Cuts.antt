@@ -14,12 +14,14 @@ use Rattle.term_mean.specs.Sums.{summed}
 abbrev pub one_part : Head → Width → Tree → Tree
 one_part h w t = Node h w 0 [] (tree t no_trees)
 
--- an extension of t, cut to m bits, where q is t cut to m bits: the part where it is as wide, what is cut of it where it is wider, and
--- the same extension to m bits where it is narrower
+-- an extension of t, cut to m bits, where q is t cut to m bits: the part where it is as wide, what
+-- is cut of it where it is wider, and the same extension to m bits where it is narrower
 abbrev pub extension_cut : Head → Width → Tree → Tree → Tree
-extension_cut h m t q = if narrower m (width_of t) then q else (if same_width m (width_of t) then t else one_part h m t)
+extension_cut h m t q =
+    if narrower m (width_of t) then q else (if same_width m (width_of t) then t else one_part h m t)
 
--- what cutting to m bits makes of a node, from its parts and its cut parts; `make` makes products and operators on bits
+-- what cutting to m bits makes of a node, from its parts and its cut parts; `make` makes products
+-- and operators on bits
 abbrev pub cut_node : (Joint → List Tree → Tree) → Width → Head → Tree → Trees → List Tree → Tree
 cut_node make m heads.Mul t ps qs = make Mul qs
 cut_node make m heads.And t ps qs = make And qs
@@ -33,7 +35,8 @@ cut_node make m h t ps qs = one_part heads.Trunc m t
 -- a term that is wider, cut to m bits
 abbrev mutual
   pub cut : (Joint → List Tree → Tree) → Width → Tree → Tree
-  cut make m (Sum w c xs) = if narrower m w then summed m c (cut_atoms make m xs) else one_part heads.Trunc m (Sum w c xs)
+  cut make m (Sum w c xs) =
+      if narrower m w then summed m c (cut_atoms make m xs) else one_part heads.Trunc m (Sum w c xs)
   cut make m (Node h w n s ps) =
       if narrower m (own_width h w) then cut_node make m h (Node h w n s ps) ps (cut_all make m ps) else one_part heads.Trunc m (Node h w n s ps)
 

@@ -1,4 +1,5 @@
--- Extensions: those of one kind compose, one by the sign of one by zeros is one by zeros, and both go into operators on bits.
+-- Extensions: those of one kind compose, one by the sign of one by zeros is one by zeros, and both
+-- go into operators on bits.
 use Rattle.std.specs.Prelude.{ℕ, if◌then◌else◌, List, [], ◌∷◌}
 use Rattle.bits64.specs.declared.Width.{Width}
 use Rattle.bits64.specs.Words.{sign_extended, zero_extended}
@@ -36,12 +37,15 @@ abbrev pub of_zeros : Extension → Width → Width → Tree → Tree → Tree
 of_zeros e m v t p = if narrower (width_of p) v then extension Zero m p else extension e m t
 
 -- an extension of an operator on bits over parts ps, from their extensions
-abbrev pub extended_joint : (Joint → List Tree → Tree) → Extension → Width → Joint → Width → Tree → Trees → List Tree → Tree
+abbrev pub extended_joint : (Joint → List Tree → Tree) → Extension → Width → Joint → Width → Tree →
+    Trees → List Tree → Tree
 extended_joint make e m o v t ps [] = extension e m t
-extended_joint make e m o v t ps (q ∷ qs) = if all_of_width v ps then make o (q ∷ qs) else extension e m t
+extended_joint make e m o v t ps (q ∷ qs) =
+    if all_of_width v ps then make o (q ∷ qs) else extension e m t
 
 -- the extension of a node t of v bits, from its parts and their extensions
-abbrev pub extended_node : (Joint → List Tree → Tree) → Extension → Width → Head → Width → Tree → Trees → List Tree → Tree
+abbrev pub extended_node : (Joint → List Tree → Tree) → Extension → Width → Head → Width → Tree →
+    Trees → List Tree → Tree
 extended_node make e m heads.And v t ps qs = extended_joint make e m And v t ps qs
 extended_node make e m heads.Ior v t ps qs = extended_joint make e m Ior v t ps qs
 extended_node make e m heads.Xor v t ps qs = extended_joint make e m Xor v t ps qs
@@ -57,7 +61,8 @@ extended_sum e m v c (atom k t xs) = extension e m (Sum v c (atom k t xs))
 abbrev mutual
   pub extended : (Joint → List Tree → Tree) → Extension → Width → Tree → Tree
   extended make e m (Sum v c xs) = extended_sum e m v c xs
-  extended make e m (Node h v n s ps) = extended_node make e m h v (Node h v n s ps) ps (extended_all make e m ps)
+  extended make e m (Node h v n s ps) =
+      extended_node make e m h v (Node h v n s ps) ps (extended_all make e m ps)
 
   pub extended_all : (Joint → List Tree → Tree) → Extension → Width → Trees → List Tree
   extended_all make e m no_trees = []

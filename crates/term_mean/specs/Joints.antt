@@ -40,7 +40,8 @@ absorbs And w c = c == 0
 absorbs Ior w c = c == 2 ^ bits_of w - 1
 absorbs Xor w c = false
 
--- the parts, where the same part u as t stands already: a product has it twice, an exclusive or has neither
+-- the parts, where the same part u as t stands already: a product has it twice, an exclusive or has
+-- neither
 abbrev pub met : Joint → Tree → Tree → List Tree → List Tree
 met Mul t u ts = t ∷ u ∷ ts
 met And t u ts = u ∷ ts

@@ -42,22 +42,26 @@ less_kind Sign Zero = Zero
 less_kind Zero Sign = Zero
 less_kind Zero Zero = Zero
 
-abbrev pub less_extended : Option Operands → (Extension → Width → Tree → Tree → Tree) → Extension → Width → Tree → Tree → Tree
+abbrev pub less_extended : Option Operands → (Extension → Width → Tree → Tree → Tree) → Extension →
+    Width → Tree → Tree → Tree
 less_extended (Some x) again e w a b = again (less_kind e x.kind) x.width x.left x.right
 less_extended None again e w a b = less_bounds e w a b
 
 -- ---- nothing is less than itself
 
-abbrev pub less_unless : Ordering → (Extension → Width → Tree → Tree → Tree) → Extension → Width → Tree → Tree → Tree
+abbrev pub less_unless : Ordering → (Extension → Width → Tree → Tree → Tree) → Extension → Width →
+    Tree → Tree → Tree
 less_unless Equal again e w a b = constant W8 0
 less_unless Less again e w a b = less_extended (operands_in w a b) again e w a b
 less_unless Greater again e w a b = less_extended (operands_in w a b) again e w a b
 
-abbrev pub less_step : (Extension → Width → Tree → Tree → Tree) → Extension → Width → Tree → Tree → Tree
+abbrev pub less_step : (Extension → Width → Tree → Tree → Tree) → Extension → Width → Tree → Tree →
+    Tree
 less_step again e w a b =
     on_constants (constant_in a) (constant_in b) (less_head e) w (less_unless (tree_cmp a b) again e w a b)
 
--- a comparison of what was extended is made by the same rules, at a narrower width: that happens three times at most
+-- a comparison of what was extended is made by the same rules, at a narrower width: that happens
+-- three times at most
 unfoldable pub less_test : ℕ → Extension → Width → Tree → Tree → Tree
 less_test zero e w a b = two_parts (less_head e) w a b
 less_test (suc n) e w a b = less_step (less_test n) e w a b

@@ -1,5 +1,6 @@
--- Products and operators on bits at each width, and truncation to it. An `and` with the constant of 8, 16 or 32 ones, below its own width,
--- is an extension by zeros of what is cut of the rest; so each width needs truncation to those below it, and nothing above.
+-- Products and operators on bits at each width, and truncation to it. An `and` with the constant of
+-- 8, 16 or 32 ones, below its own width, is an extension by zeros of what is cut of the rest; so
+-- each width needs truncation to those below it, and nothing above.
 use Rattle.std.specs.Prelude.{ℕ, ◌-◌, ◌^◌, ◌==◌, if◌then◌else◌, List, [], ◌∷◌, Option, Some, None}
 use Rattle.bits64.specs.declared.Width.{Width}
 use Rattle.bits64.specs.declared.Width.TheVariants.{W8, W16, W32, W64}
@@ -33,7 +34,8 @@ mask_in W64 c = mask_8 c (mask_16 c (mask_32 c))
 abbrev pub masked : Option Width → (Width → Tree → Tree) → Width → ℕ → List Tree → Tree
 masked None narrow w c ts = finished And w c ts
 masked (Some k) narrow w c [] = finished And w c []
-masked (Some k) narrow w c (t ∷ ts) = extended (λ o us. joined o w us) Zero w (narrow k (plain And w (t ∷ ts)))
+masked (Some k) narrow w c (t ∷ ts) =
+    extended (λ o us. joined o w us) Zero w (narrow k (plain And w (t ∷ ts)))
 
 -- from a constant and the other parts, where `narrow` cuts to the widths below
 abbrev pub made_of : (Width → Tree → Tree) → Joint → Width → ℕ → List Tree → Tree

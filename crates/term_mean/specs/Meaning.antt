@@ -6,7 +6,8 @@ use Rattle.term_tree.specs.declared.head.Head.{Head}
 use Rattle.term_tree.specs.declared.head.Head.TheVariants.{Reg, Sym, Mul, Mulh, Mulhu, Mulhsu, Div, Udiv, Rem, Urem, And, Ior, Xor, Shl, Shr, Sar, Trunc, Zext, Sext, Lt, Ltu, Eq, Load}
 use Rattle.term_tree.specs.Tree.{Tree, Atoms, Trees, Sum, Node, no_atoms, atom, no_trees, tree, own_width, width_of}
 
--- what registers and symbols are, and the byte at each address of each memory: memory 0 is that of the beginning
+-- what registers and symbols are, and the byte at each address of each memory: memory 0 is that of
+-- the beginning
 pub record Valuation : Type 0 where
   pub reg : ℕ → ℕ
   pub sym : List ℕ → ℕ

@@ -1,4 +1,5 @@
--- The normal form of a term under a list of stores: first that of the parts, and then the rules of the head.
+-- The normal form of a term under a list of stores: first that of the parts, and then the rules of
+-- the head.
 use Rattle.std.specs.Prelude.{ℕ, List, [], ◌∷◌}
 use Rattle.bits64.specs.declared.Width.{Width}
 use Rattle.term_tree.specs.declared.head.Head.{Head}

@@ -1,5 +1,6 @@
--- Shifts: a count is cut to 8 bits, and where that is a constant it is modulo the width. A left shift by a constant is a product. A right
--- shift of a sum whose constant and coefficients are multiples of 2 ^ k, by k, is an extension of the quotient cut to the bits that are left.
+-- Shifts: a count is cut to 8 bits, and where that is a constant it is modulo the width. A left
+-- shift by a constant is a product. A right shift of a sum whose constant and coefficients are
+-- multiples of 2 ^ k, by k, is an extension of the quotient cut to the bits that are left.
 use Rattle.std.specs.Prelude.{ℕ, zero, suc, ◌/◌, ◌%◌, ◌^◌, ◌==◌, Bool, true, if◌then◌else◌, ◌&&◌, List, [], ◌∷◌, Option, Some, None}
 use Rattle.bits64.specs.declared.Width.{Width}
 use Rattle.bits64.specs.declared.Width.TheVariants.{W8, W16, W32, W64}

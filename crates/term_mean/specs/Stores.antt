@@ -1,4 +1,5 @@
--- Stores, and the memories behind them: memory n is memory n - 1 with the value of store n written at its address.
+-- Stores, and the memories behind them: memory n is memory n - 1 with the value of store n written
+-- at its address.
 use Rattle.std.specs.Prelude.{◌≡◌, ◌<◌, ℕ, suc, List, [], ◌∷◌, ◌+◌, ◌-◌, ◌/◌, ◌%◌, ◌^◌, nat_lt, if◌then◌else◌}
 use Rattle.bits64.specs.Words.{bytes_of}
 use Rattle.term_tree.specs.Tree.{Tree, width_of}

@@ -1,4 +1,5 @@
--- Sums: the constants are added, equal atoms are joined, coefficients are modulo 2 ^ w and zero ones dropped, and atoms stand in order.
+-- Sums: the constants are added, equal atoms are joined, coefficients are modulo 2 ^ w and zero
+-- ones dropped, and atoms stand in order.
 use Rattle.std.specs.Prelude.{ℕ, zero, suc, ◌+◌, ◌-◌, ◌*◌, ◌^◌, if◌then◌else◌, List, [], ◌∷◌, ◌++◌, Option, Some, None}
 use Rattle.std.specs.declared.cmp.Ordering.{Ordering}
 use Rattle.std.specs.declared.cmp.Ordering.TheVariants.{Less, Equal, Greater}
@@ -22,7 +23,8 @@ with_atom zero t xs = xs
 with_atom (suc k) t xs = (suc k, t) ∷ xs
 
 -- k times t before, at or after an atom x, where `later` has it among the atoms after that
-abbrev pub placed : Ordering → Width → ℕ → Tree → AtomTree → List AtomTree → List AtomTree → List AtomTree
+abbrev pub placed : Ordering → Width → ℕ → Tree → AtomTree → List AtomTree → List AtomTree →
+    List AtomTree
 placed Less w k t x xs later = with_atom (low w k) t (x ∷ xs)
 placed Equal w k t x xs later = with_atom (low w (k + x.0)) x.1 xs
 placed Greater w k t x xs later = x ∷ later
@@ -53,7 +55,8 @@ atoms_at w (Node h v n s ps) = (1, Node h v n s ps) ∷ []
 
 -- a sum, or the atom that it is alone
 abbrev pub sum : Width → ℕ → List AtomTree → Tree
-sum w zero ((suc zero, t) ∷ []) = if same_width (width_of t) w then t else Sum w 0 (atom 1 t no_atoms)
+sum w zero ((suc zero, t) ∷ []) =
+    if same_width (width_of t) w then t else Sum w 0 (atom 1 t no_atoms)
 sum w c xs = Sum w c (atoms_of xs)
 
 -- a + f * b

@@ -54,7 +54,9 @@ pub record Operands : Type 0 where
 
 -- an extension to w bits of a narrower term
 abbrev pub extension_of : Extension → Width → Width → Tree → Option Extended
-extension_of e w v t = if same_width v w && narrower (width_of t) w then Some (record { kind = e; width = width_of t }) else None
+extension_of e w v t =
+    if same_width v w &&
+    narrower (width_of t) w then Some (record { kind = e; width = width_of t }) else None
 
 abbrev pub extension_in : Width → Tree → Option Extended
 extension_in w (Node heads.Zext v n s (tree t no_trees)) = extension_of Zero w v t
@@ -69,10 +71,13 @@ same_kind Sign Sign = true
 
 -- the operand, where the term is an extension of the kind from the width
 abbrev pub operand_if : Extended → Extension → Width → Width → Tree → Option Tree
-operand_if x e w v t = if same_kind x.kind e && (same_width v w && same_width (width_of t) x.width) then Some t else None
+operand_if x e w v t =
+    if same_kind x.kind e &&
+    (same_width v w && same_width (width_of t) x.width) then Some t else None
 
 abbrev pub constant_if : Extended → Width → ℕ → Option Tree
-constant_if x w c = if low w (extended_by x.kind x.width c) == c then Some (constant x.width c) else None
+constant_if x w c =
+    if low w (extended_by x.kind x.width c) == c then Some (constant x.width c) else None
 
 abbrev pub operand_in : Extended → Width → Tree → Option Tree
 operand_in x w (Node heads.Zext v n s (tree t no_trees)) = operand_if x Zero w v t
@@ -81,7 +86,8 @@ operand_in x w (Sum v c no_atoms) = constant_if x w (low v c)
 operand_in x w _ = None
 
 abbrev pub operands_of : Extended → Option Tree → Option Tree → Option Operands
-operands_of x (Some a) (Some b) = Some (record { kind = x.kind; width = x.width; left = a; right = b })
+operands_of x (Some a) (Some b) =
+    Some (record { kind = x.kind; width = x.width; left = a; right = b })
 operands_of x (Some a) None = None
 operands_of x None b = None
 
@@ -114,7 +120,8 @@ zero_extended_test (Some x) again w t = again x.width (minus x.width x.left x.ri
 zero_extended_test None again w t = one_part heads.Eq w t
 
 abbrev pub zero_difference : (Width → Tree → Tree) → Width → Tree → Tree
-zero_difference again w t = zero_extended_test (let d = as_difference w t in operands_in w d.0 d.1) again w t
+zero_difference again w t =
+    zero_extended_test (let d = as_difference w t in operands_in w d.0 d.1) again w t
 
 -- of an exclusive or of two parts it is that of their difference
 abbrev pub zero_xor : (Width → Tree → Tree) → Width → Tree → Tree
@@ -139,6 +146,7 @@ unfoldable pub zero_test : ℕ → Width → Tree → Tree
 zero_test zero w t = one_part heads.Eq w t
 zero_test (suc n) w t = zero_chosen (zero_test n) w (nearer w t)
 
--- whether a term of w bits is 0: each round that goes on takes an operator away, so no more rounds are needed than the term has nodes
+-- whether a term of w bits is 0: each round that goes on takes an operator away, so no more rounds
+-- are needed than the term has nodes
 abbrev pub equals_zero : Width → Tree → Tree
 equals_zero w t = zero_test (tree_size t) w t

@@ -1,5 +1,5 @@
-//! Sums, products and operators on bits of terms that are in normal form already: constants are added or joined,
-//! equal atoms and parts are joined, and all stand in order.
+//! Sums, products and operators on bits of terms that are in normal form already: constants are
+//! added or joined, equal atoms and parts are joined, and all stand in order.
 //!
 //! Each call gives the term of its definition in `term_mean`, unless memory runs out.
 #![tactic(auto)]

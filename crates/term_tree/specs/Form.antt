@@ -1,4 +1,5 @@
--- Which terms are well-formed: the numbers fit their widths, and each head has parts of the number and the widths that it takes.
+-- Which terms are well-formed: the numbers fit their widths, and each head has parts of the number
+-- and the widths that it takes.
 use Rattle.std.specs.Prelude.{ℕ, ◌^◌, ◌==◌, nat_lt, Bool, true, false, ◌&&◌, List, [], ◌∷◌}
 use Rattle.bits64.specs.declared.Width.{Width}
 use Rattle.bits64.specs.declared.Width.TheVariants.{W64}
@@ -96,11 +97,13 @@ has_name _ s = no_name s
 abbrev mutual
   pub well_formed : Tree → Bool
   well_formed (Sum w c xs) = fits w c && well_formed_atoms w xs
-  well_formed (Node h w n s ps) = has_number h n && has_name h s && takes h w ps && well_formed_parts ps
+  well_formed (Node h w n s ps) =
+      has_number h n && has_name h s && takes h w ps && well_formed_parts ps
 
   pub well_formed_atoms : Width → Atoms → Bool
   well_formed_atoms w no_atoms = true
-  well_formed_atoms w (atom k t xs) = fits w k && same_width (width_of t) w && well_formed t && well_formed_atoms w xs
+  well_formed_atoms w (atom k t xs) =
+      fits w k && same_width (width_of t) w && well_formed t && well_formed_atoms w xs
 
   pub well_formed_parts : Trees → Bool
   well_formed_parts no_trees = true

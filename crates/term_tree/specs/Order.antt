@@ -1,5 +1,5 @@
--- The order of terms: registers by number, and then by head, width, number, name, and the parts from the left, fewer first. It is
--- lexicographic throughout.
+-- The order of terms: registers by number, and then by head, width, number, name, and the parts
+-- from the left, fewer first. It is lexicographic throughout.
 use Rattle.std.specs.Prelude.{ℕ, List, [], ◌∷◌}
 use Rattle.std.specs.declared.cmp.Ordering.{Ordering}
 use Rattle.std.specs.declared.cmp.Ordering.TheVariants.{Less, Equal, Greater}
@@ -70,7 +70,8 @@ abbrev mutual
   atoms_cmp no_atoms no_atoms = Equal
   atoms_cmp no_atoms (atom j u ys) = Less
   atoms_cmp (atom k t xs) no_atoms = Greater
-  atoms_cmp (atom k t xs) (atom j u ys) = ordering_then (tree_cmp t u) (ordering_then (nat_cmp k j) (atoms_cmp xs ys))
+  atoms_cmp (atom k t xs) (atom j u ys) =
+      ordering_then (tree_cmp t u) (ordering_then (nat_cmp k j) (atoms_cmp xs ys))
 
   pub trees_cmp : Trees → Trees → Ordering
   trees_cmp no_trees no_trees = Equal

@@ -6,7 +6,8 @@ use Rattle.term_tree.specs.declared.head.Head.{Head}
 use Rattle.term_tree.specs.declared.head.Head.TheVariants.{Lt, Ltu, Eq}
 
 mutual
-  -- a sum of a constant and atoms, or an operator over parts; a register has a number, a load that of its memory, a symbol a name
+  -- a sum of a constant and atoms, or an operator over parts; a register has a number, a load that
+  -- of its memory, a symbol a name
   pub data Tree : Type 0 where
     Sum : Width → ℕ → Atoms → Tree
     Node : Head → Width → ℕ → List ℕ → Trees → Tree
@@ -20,7 +21,8 @@ mutual
     no_trees : Trees
     tree : Tree → Trees → Trees
 
--- the width in a node is that of its number, but of a comparison that of its parts: its own number is 0 or 1, in 8 bits
+-- the width in a node is that of its number, but of a comparison that of its parts: its own number
+-- is 0 or 1, in 8 bits
 abbrev pub own_width : Head → Width → Width
 own_width Lt w = W8
 own_width Ltu w = W8

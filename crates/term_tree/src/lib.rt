@@ -1,10 +1,11 @@
-//! Symbolic terms: what a register, a stored value or a condition is, as an expression over the registers, symbols
-//! and memories with which a run begins.
+//! Symbolic terms: what a register, a stored value or a condition is, as an expression over the
+//! registers, symbols and memories with which a run begins.
 //!
-//! A [`Term`] is a sum of a constant and atoms with coefficients, or an operator over parts. Terms are plain data in
-//! contracts, so two of them are equal in a clause exactly where they are the same all the way down, and a copy
-//! equals its source. The definitions speak of a term as a tree, `tree_of`; `compare` is the order of trees,
-//! `is_well_formed` tells the trees whose widths and numbers fit, and `size` counts nodes up to a limit.
+//! A [`Term`] is a sum of a constant and atoms with coefficients, or an operator over parts. Terms
+//! are plain data in contracts, so two of them are equal in a clause exactly where they are the
+//! same all the way down, and a copy equals its source. The definitions speak of a term as a tree,
+//! `tree_of`; `compare` is the order of trees, `is_well_formed` tells the trees whose widths and
+//! numbers fit, and `size` counts nodes up to a limit.
 #![tactic(auto)]
 
 mod form;

@@ -87,7 +87,8 @@ fn compare_sum(w: Width, c: u64, atoms: &[Atom], b: &Term) -> Ordering
 /// The order of a node and a term.
 #[cycle(order)]
 fn compare_node(h: Head, w: Width, n: u64, s: &[u8], parts: &[Term], b: &Term) -> Ordering
-    ensures { result ≡ tree_cmp (Node h w n s.now (trees_of (map tree_of parts.now))) (tree_of b.now) }
+    ensures { result ≡
+        tree_cmp (Node h w n s.now (trees_of (map tree_of parts.now))) (tree_of b.now) }
 {
     match b {
         Term::Sum { .. } => match h {

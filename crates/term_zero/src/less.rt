@@ -159,7 +159,8 @@ fn less_test(
 #[tactic(auto, using(crate::proofs::Means::less_ends))]
 pub fn less_than(alloc: Global, e: Extension, w: Width, a: &Term, b: &Term) -> Result<Term, Memory>
     ensures comparison { IfOk result (λ r. tree_of r ≡ spec.less_than e w (tree_of a.now) (tree_of b.now)) }
-    ensures ends { (n : ℕ) → 4 ≤ n → IfOk result (λ r. tree_of r ≡ spec.less_test n e w (tree_of a.now) (tree_of b.now)) }
+    ensures ends { (n : ℕ) → 4 ≤ n →
+        IfOk result (λ r. tree_of r ≡ spec.less_test n e w (tree_of a.now) (tree_of b.now)) }
 {
     less_test(alloc, 4, e, w, a, b)
 }

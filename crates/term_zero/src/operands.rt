@@ -1,4 +1,5 @@
-//! Two extensions of one kind from one width; a constant counts as the extension of its low bits, where it is that.
+//! Two extensions of one kind from one width; a constant counts as the extension of its low bits,
+//! where it is that.
 ghost use Rattle.std.specs.Prelude.{◌≡◌, map, IfOk};
 ghost use Rattle.std.specs.Option.{option_or};
 ghost use Rattle.term_tree.specs.Tree.{trees_of};
@@ -191,7 +192,8 @@ fn operand_in(alloc: Global, x: Extended, w: Width, t: &Term) -> Result<Option<T
 }
 
 fn both(x: Extended, left: Option<Term>, right: Option<Term>) -> Option<Operands>
-    ensures { operands_found result ≡ spec.operands_of (extended_of x) (tree_found left) (tree_found right) }
+    ensures { operands_found result ≡
+        spec.operands_of (extended_of x) (tree_found left) (tree_found right) }
 {
     match left {
         Some(left) => match right {

@@ -176,7 +176,8 @@ pub enum Round {
 
 /// The test as it stands.
 fn ended(alloc: Global, w: Width, t: &Term) -> Result<Round, Memory>
-    ensures { (again : Width → Tree → Tree) → IfOk result (λ r. round_tree again r ≡ one_part_spec heads.Eq w (tree_of t.now)) }
+    ensures { (again : Width → Tree → Tree) →
+        IfOk result (λ r. round_tree again r ≡ one_part_spec heads.Eq w (tree_of t.now)) }
 {
     let answer = one_copy(alloc, Head::Eq, w, t)?;
     Ok(Round::Done { answer })
@@ -207,7 +208,8 @@ fn round_extended(
 }
 
 fn round_difference(alloc: Global, w: Width, t: &Term) -> Result<Round, Memory>
-    ensures { (again : Width → Tree → Tree) → IfOk result (λ r. round_tree again r ≡ spec.zero_difference again w (tree_of t.now)) }
+    ensures { (again : Width → Tree → Tree) →
+        IfOk result (λ r. round_tree again r ≡ spec.zero_difference again w (tree_of t.now)) }
 {
     let difference = as_difference(alloc, w, t)?;
     let operands = operands_in(alloc, w, &difference.left, &difference.right)?;
@@ -287,7 +289,8 @@ fn round_parted(
 
 /// Of an exclusive or of two parts it is the test of their difference.
 fn round_xor(alloc: Global, w: Width, t: &Term) -> Result<Round, Memory>
-    ensures { (again : Width → Tree → Tree) → IfOk result (λ r. round_tree again r ≡ spec.zero_xor again w (tree_of t.now)) }
+    ensures { (again : Width → Tree → Tree) →
+        IfOk result (λ r. round_tree again r ≡ spec.zero_xor again w (tree_of t.now)) }
 {
     let parts = xor_parts(alloc, w, t)?;
     round_parted(alloc, parts, w, t)
@@ -295,7 +298,8 @@ fn round_xor(alloc: Global, w: Width, t: &Term) -> Result<Round, Memory>
 
 /// Of a truth it is the opposite.
 fn round_truth(alloc: Global, w: Width, t: &Term) -> Result<Round, Memory>
-    ensures { (again : Width → Tree → Tree) → IfOk result (λ r. round_tree again r ≡ spec.zero_truth again w (tree_of t.now)) }
+    ensures { (again : Width → Tree → Tree) →
+        IfOk result (λ r. round_tree again r ≡ spec.zero_truth again w (tree_of t.now)) }
 {
     if is_truth(t) {
         let low = low_8(alloc, t)?;
@@ -308,7 +312,8 @@ fn round_truth(alloc: Global, w: Width, t: &Term) -> Result<Round, Memory>
 
 /// Of a constant it is its number.
 fn round_chosen(alloc: Global, w: Width, t: &Term) -> Result<Round, Memory>
-    ensures { (again : Width → Tree → Tree) → IfOk result (λ r. round_tree again r ≡ spec.zero_chosen again w (tree_of t.now)) }
+    ensures { (again : Width → Tree → Tree) →
+        IfOk result (λ r. round_tree again r ≡ spec.zero_chosen again w (tree_of t.now)) }
 {
     match constant_of(t) {
         Some(c) => Ok(Round::Done {
@@ -328,11 +333,13 @@ fn one_round(alloc: Global, w: Width, t: &Term) -> Result<Round, Memory>
 
 /// Whether a term of `w` bits is 0.
 ///
-/// Each round that goes on takes an operator away, so more rounds than the term has nodes would change nothing.
+/// Each round that goes on takes an operator away, so more rounds than the term has nodes would
+/// change nothing.
 #[tactic(auto, using(crate::proofs::Means::zero_ends))]
 pub fn equals_zero(alloc: Global, w: Width, t: &Term) -> Result<Term, Memory>
     ensures test { IfOk result (λ r. tree_of r ≡ spec.equals_zero w (tree_of t.now)) }
-    ensures ends { (n : ℕ) → tree_size (tree_of t.now) ≤ n → IfOk result (λ r. tree_of r ≡ spec.zero_test n w (tree_of t.now)) }
+    ensures ends { (n : ℕ) → tree_size (tree_of t.now) ≤ n →
+        IfOk result (λ r. tree_of r ≡ spec.zero_test n w (tree_of t.now)) }
 {
     rounds(alloc, w, t)
 }

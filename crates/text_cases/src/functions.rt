@@ -15,7 +15,8 @@ fn show_canonical(functions: &[Function], told: &mut Told) {
     }
 }
 
-/// Appends the canonical text of a text's functions, or the first construct outside. Whether there is none.
+/// Appends the canonical text of a text's functions, or the first construct outside. Whether there
+/// is none.
 fn push_canonical(alloc: Global, text: &[u8], told: &mut Told) -> bool {
     let Some(trees) = trees_in(alloc, text) else {
         told.fail();
@@ -44,7 +45,8 @@ fn push_joined(lines: &[u8], told: &mut Told) {
     }
 }
 
-/// Appends the canonical text of functions on one line, and whether it isn't read as the same again; or the first construct outside.
+/// Appends the canonical text of functions on one line, and whether it isn't read as the same
+/// again; or the first construct outside.
 pub fn tell_canonical(alloc: Global, text: &[u8], told: &mut Told) {
     let mut lines = Told::new(alloc);
     if push_canonical(alloc, text, &mut lines) {

@@ -1,4 +1,5 @@
--- Blanks: "White-space characters" of the C standard, without the vertical tab, which are also those of the text of RTL.
+-- Blanks: "White-space characters" of the C standard, without the vertical tab, which are also
+-- those of the text of RTL.
 use Rattle.std.specs.Prelude.{ℕ, ◌==◌, Bool, ◌||◌, List, [], ◌∷◌, if◌then◌else◌}
 
 -- a space, a tab, a newline, a carriage return or a form feed

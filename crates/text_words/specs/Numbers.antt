@@ -1,5 +1,6 @@
--- The numbers of C that stand in conditions and constants: "Integer constants" of the C standard, in decimal with no needless zero or
--- in hexadecimal, of no more than 64 bits and with no suffix. Octal ones are left out.
+-- The numbers of C that stand in conditions and constants: "Integer constants" of the C standard,
+-- in decimal with no needless zero or in hexadecimal, of no more than 64 bits and with no suffix.
+-- Octal ones are left out.
 use Rattle.std.specs.Prelude.{ℕ, ◌+◌, ◌-◌, ◌*◌, ◌^◌, ◌==◌, nat_le, nat_lt, ◌&&◌, ◌||◌, List, [], ◌∷◌, Option, Some, None, if◌then◌else◌, option_and_then}
 
 -- the number that a digit of up to 16 stands for; 16 for any other byte
@@ -14,7 +15,8 @@ digit_in base b = if nat_lt (digit_of b) base then Some (digit_of b) else None
 
 -- a number with one more digit behind it: no more than 64 bits
 abbrev pub with_digit : ℕ → ℕ → ℕ → Option ℕ
-with_digit value base digit = if nat_lt (value * base + digit) (2 ^ 64) then Some (value * base + digit) else None
+with_digit value base digit =
+    if nat_lt (value * base + digit) (2 ^ 64) then Some (value * base + digit) else None
 
 -- a number with more digits behind it
 abbrev pub read_digits : ℕ → ℕ → List ℕ → Option ℕ

@@ -1,9 +1,11 @@
-//! The words that several texts share, read and printed: decimal numbers, numbers of C, blanks, and the symbols of the assembler.
+//! The words that several texts share, read and printed: decimal numbers, numbers of C, blanks, and
+//! the symbols of the assembler.
 //!
-//! Promised: [`number_in`] gives the number of 64 signed bits whose decimal text the bytes are, and `None` exactly where
-//! they are the text of none; [`c_number_in`] gives the number that a text writes as C does; [`is_symbol`] tells exactly
-//! the symbols, [`same`] whether two texts are equal, and [`behind_blanks`] gives what stands behind the blanks of a text.
-//! None of them takes memory. [`print_text`], [`print_count`] and [`print_number`] append bytes, a count and a signed number
+//! Promised: [`number_in`] gives the number of 64 signed bits whose decimal text the bytes are, and
+//! `None` exactly where they are the text of none; [`c_number_in`] gives the number that a text
+//! writes as C does; [`is_symbol`] tells exactly the symbols, [`same`] whether two texts are equal,
+//! and [`behind_blanks`] gives what stands behind the blanks of a text. None of them takes memory.
+//! [`print_text`], [`print_count`] and [`print_number`] append bytes, a count and a signed number
 //! to a text.
 #![tactic(auto)]
 

@@ -45,8 +45,8 @@ fn read_digits(base: u64, digits: &[u8]) -> Option<u64>
     Some(value)
 }
 
-/// The number of 64 bits that a text writes as C does, in decimal with no needless zero or in hexadecimal, or `None` where it
-/// writes none.
+/// The number of 64 bits that a text writes as C does, in decimal with no needless zero or in
+/// hexadecimal, or `None` where it writes none.
 pub fn c_number_in(text: &[u8]) -> Option<u64>
     ensures { result ≡ spec.c_number_in text.now }
 {

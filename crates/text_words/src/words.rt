@@ -51,7 +51,8 @@ fn all_in_symbol(bytes: &[u8]) -> bool
     true
 }
 
-/// Whether the bytes are a symbol of the assembler's text: one byte or more, each of which may stand in one.
+/// Whether the bytes are a symbol of the assembler's text: one byte or more, each of which may
+/// stand in one.
 pub fn is_symbol(bytes: &[u8]) -> bool
     ensures { result ≡ spec.is_symbol bytes.now }
 {

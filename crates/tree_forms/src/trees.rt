@@ -28,7 +28,8 @@ fn expanded(alloc: Global, trees: &[Tree]) -> Result<Expanded, DescRefusal>
 ///
 /// # Errors
 ///
-/// `Limit` of `Forms` exactly where the trees make more than 20,000 forms, with 20,001; `Memory` where memory ran out.
+/// `Limit` of `Forms` exactly where the trees make more than 20,000 forms, with 20,001; `Memory`
+/// where memory ran out.
 pub fn forms_of_trees(alloc: Global, trees: &[Tree]) -> Result<Forms, DescRefusal>
     ensures { Gives trees.now result }
 {

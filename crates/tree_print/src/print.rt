@@ -58,11 +58,11 @@ fn print(tree: &Tree, out: &mut Vec<u8>) -> Result<(), Memory>
     }
 }
 
-/// Appends the text of a tree: on one line, but for what strings and blocks hold, with a space between each two items
-/// of a list or a vector. Where memory runs out `out` holds what it held.
+/// Appends the text of a tree: on one line, but for what strings and blocks hold, with a space
+/// between each two items of a list or a vector. Where memory runs out `out` holds what it held.
 ///
-/// Where each atom, string and block is one that a text may have, and at most 200 lists and vectors stand within each
-/// other, `read_trees` reads the text as that tree, places aside.
+/// Where each atom, string and block is one that a text may have, and at most 200 lists and vectors
+/// stand within each other, `read_trees` reads the text as that tree, places aside.
 #[tactic(auto, using(crate::proofs::PrintsBack::reads_back))]
 pub fn print_tree(tree: &Tree, out: &mut Vec<u8>) -> Result<(), Memory>
     ensures prints { OnOk result (out.new.items ≡ out.old.items ++ spec.printed_tree tree.now) }

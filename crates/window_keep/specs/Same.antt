@@ -1,7 +1,9 @@
--- When instructions do what a window of instructions does, over the registers that are live behind it: GCC Internals, "Insns" and
--- "Liveness information". From machines with one memory, of which the second knows what the first window uses, wherever the first window
--- has a meaning, so has the second; both go the same way, and leave the same memory; and of what is live as much is known. What the
--- first leaves alone keeps its number, but for registers that are free for a function's own steps.
+-- When instructions do what a window of instructions does, over the registers that are live behind
+-- it: GCC Internals, "Insns" and "Liveness information". From machines with one memory, of which
+-- the second knows what the first window uses, wherever the first window has a meaning, so has the
+-- second; both go the same way, and leave the same memory; and of what is live as much is known.
+-- What the first leaves alone keeps its number, but for registers that are free for a function's
+-- own steps.
 use Rattle.std.specs.Prelude.{◌≡◌, ℕ, ◌≤◌, ◌&&◌, ◌||◌, not, ◌==◌, Bool, true, false, List, [], ◌∷◌, Some}
 use Rattle.bits64.specs.declared.Width.{Width}
 use Rattle.rtx_tree.specs.Registers.{is_call_used, virtual_stack_vars}
@@ -23,14 +25,15 @@ use Rattle.func_keep.specs.Outcomes.{SameEvent}
 
 -- the low bits that are known of a register in the first machine are known in the second
 abbrev pub KnownToo : Regs → Regs → ℕ → Type 0
-KnownToo regs other reg = (w : Width) (value : ℕ) → reg_value regs reg w ≡ Some value → reg_value other reg w ≡ Some value
+KnownToo regs other reg =
+    (w : Width) (value : ℕ) → reg_value regs reg w ≡ Some value → reg_value other reg w ≡ Some value
 
 -- the same is known of it in both
 abbrev pub KnownAlike : Regs → Regs → ℕ → Type 0
 KnownAlike regs other reg = (w : Width) → reg_value regs reg w ≡ reg_value other reg w
 
--- a0 to a7 and t0 to t6, which a function's own steps may change where they are not live (RISC-V ELF psABI, "Integer Register
--- Convention")
+-- a0 to a7 and t0 to t6, which a function's own steps may change where they are not live (RISC-V
+-- ELF psABI, "Integer Register Convention")
 abbrev pub is_free : ℕ → Bool
 is_free reg = is_call_used reg && not (reg == 1)
 
@@ -40,7 +43,8 @@ is_free reg = is_call_used reg && not (reg == 1)
 pub data SameEnd : InsnsEnd → InsnsEnd → Type 0 where
   falls : SameEnd Falls Falls
   goes : (uid : ℕ) → SameEnd (Goes uid) (Goes uid)
-  calls : (event other : CallEvent) (w : Width) → SameEvent event other → SameEnd (Calls event w) (Calls other w)
+  calls : (event other : CallEvent) (w : Width) → SameEvent event other →
+      SameEnd (Calls event w) (Calls other w)
 
 -- beside what the first comes to
 pub record InsnsDo (before after : List Insn) (Live : ℕ → Type 0) (symbols : List SymbolAt) (ranges : List RangeAt) (other : Regs)
@@ -50,7 +54,8 @@ pub record InsnsDo (before after : List Insn) (Live : ℕ → Type 0) (symbols :
   pub same_end : SameEnd came.ending done.ending
   pub memory_is : done.memory ≡ came.memory
   pub agree : (reg : ℕ) → Live reg → IsKept came.ending reg → KnownToo came.regs done.regs reg
-  pub kept : (reg : ℕ) → reg ≤ virtual_stack_vars → window_defines before reg ≡ false → is_free reg ≡ false → KnownAlike other done.regs reg
+  pub kept : (reg : ℕ) → reg ≤ virtual_stack_vars → window_defines before reg ≡ false →
+      is_free reg ≡ false → KnownAlike other done.regs reg
 
 -- two machines from which they start
 pub record Starts (before : List Insn) (Live : ℕ → Type 0) (symbols : List SymbolAt) (regs other : Regs) (memory : List MemByte) : Type 0 where
@@ -87,7 +92,8 @@ leads_last [] = true
 leads_last (i ∷ []) = not (is_label i.kind)
 leads_last (i ∷ j ∷ insns) = is_plain i.kind && leads_last (j ∷ insns)
 
--- Instructions can stand in the place of a window: neither holds a label, each leads on from its last alone, and they do the same.
+-- Instructions can stand in the place of a window: neither holds a label, each leads on from its
+-- last alone, and they do the same.
 pub record CanReplace (before after : List Insn) (Live : ℕ → Type 0) : Type 0 where
   pub before_leads : leads_last before ≡ true
   pub after_leads : leads_last after ≡ true

@@ -1,6 +1,6 @@
--- A machine of instructions and one of lines beside it: what the first has in memory, the second has
--- too; the caller sees the same of both; and a register of the second has the low bits that are known
--- in the first. Room that only the second has costs nothing.
+-- A machine of instructions and one of lines beside it: what the first has in memory, the second
+-- has too; the caller sees the same of both; and a register of the second has the low bits that are
+-- known in the first. Room that only the second has costs nothing.
 use Rattle.std.specs.Prelude.{◌≡◌, ℕ, ◌<◌, ◌^◌, List, length, Option, Some, option_map}
 use Rattle.bits64.specs.declared.Width.{Width}
 use Rattle.bits64.specs.Words.{low}
@@ -19,11 +19,13 @@ reads regs reg w = option_map (low w) (register regs reg)
 
 -- the low bits that are known of a register in the first machine are those of the second
 abbrev pub Agrees : Regs → List (Option ℕ) → ℕ → Type 0
-Agrees regs code reg = (w : Width) (value : ℕ) → reg_value regs reg w ≡ Some value → reads code reg w ≡ Some value
+Agrees regs code reg =
+    (w : Width) (value : ℕ) → reg_value regs reg w ≡ Some value → reads code reg w ≡ Some value
 
 -- each byte of one memory is in the other
 abbrev pub Within : List MemByte → List MemByte → Type 0
-Within memory other = (address byte : ℕ) → byte_at memory address ≡ Some byte → byte_at other address ≡ Some byte
+Within memory other =
+    (address byte : ℕ) → byte_at memory address ≡ Some byte → byte_at other address ≡ Some byte
 
 -- 32 registers of 64 bits, and a memory
 pub record IsMachine (m : RvState) : Type 0 where

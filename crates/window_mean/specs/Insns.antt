@@ -1,6 +1,6 @@
--- What a window of instructions does to registers and memory, and how it ends: GCC Internals, "Insns",
--- "Side Effect Expressions", "Jump Patterns" and "Calls". It has no meaning where one of its
--- instructions has none.
+-- What a window of instructions does to registers and memory, and how it ends: GCC Internals,
+-- "Insns", "Side Effect Expressions", "Jump Patterns" and "Calls". It has no meaning where one of
+-- its instructions has none.
 use Rattle.std.specs.Prelude.{ℕ, List, [], ◌∷◌, Option, Some, None, option_map, option_and_then}
 use Rattle.bits64.specs.declared.Width.{Width}
 use Rattle.rtx_tree.specs.declared.function.Insn.{Insn}
@@ -39,7 +39,8 @@ come_to regs memory ending = record { regs = regs; memory = memory; ending = end
 -- ---- one instruction
 
 abbrev pub come_after : Regs → List MemByte → List Effect → InsnsCome
-come_after regs memory effects = come_to (regs_after effects regs) (memory_after effects memory) Falls
+come_after regs memory effects =
+    come_to (regs_after effects regs) (memory_after effects memory) Falls
 
 abbrev pub end_of_way : Way → InsnsEnd
 end_of_way way.Falls = Falls
@@ -47,7 +48,8 @@ end_of_way (way.Goes uid) = Goes uid
 end_of_way way.Leaves = Returns
 
 -- a label is in no window, and a barrier is passed over
-abbrev pub insn_comes : Kind → List SymbolAt → List RangeAt → Insn → Regs → List MemByte → Option InsnsCome
+abbrev pub insn_comes : Kind → List SymbolAt → List RangeAt → Insn → Regs → List MemByte →
+    Option InsnsCome
 insn_comes Plain symbols ranges i regs memory =
     option_map (come_after regs memory) (effects_of symbols regs memory i.pattern)
 insn_comes Jump symbols ranges i regs memory =
@@ -60,12 +62,14 @@ insn_comes Barrier symbols ranges i regs memory = Some (come_to regs memory Fall
 
 -- ---- some instructions
 
-abbrev pub goes_on : InsnsEnd → InsnsCome → (Regs → List MemByte → Option InsnsCome) → Option InsnsCome
+abbrev pub goes_on : InsnsEnd → InsnsCome → (Regs → List MemByte → Option InsnsCome) →
+    Option InsnsCome
 goes_on Falls came rest = rest came.regs came.memory
 goes_on _ came rest = Some came
 
 -- each goes on where the one before it falls through
-abbrev pub insns_come : List SymbolAt → List RangeAt → List Insn → Regs → List MemByte → Option InsnsCome
+abbrev pub insns_come : List SymbolAt → List RangeAt → List Insn → Regs → List MemByte →
+    Option InsnsCome
 insns_come symbols ranges [] regs memory = Some (come_to regs memory Falls)
 insns_come symbols ranges (i ∷ insns) regs memory =
     option_and_then (λ came. goes_on came.ending came (insns_come symbols ranges insns))

@@ -1,5 +1,5 @@
--- What a window of lines does to a machine, and how it ends: RISC-V unprivileged manual, "RV32I Base
--- Integer Instruction Set" and its like. It has no meaning where a line is stuck.
+-- What a window of lines does to a machine, and how it ends: RISC-V unprivileged manual, "RV32I
+-- Base Integer Instruction Set" and its like. It has no meaning where a line is stuck.
 use Rattle.std.specs.Prelude.{ℕ, List, [], ◌∷◌, Option, Some, None}
 use Rattle.rtx_tree.specs.declared.machine.World.{World}
 use Rattle.same_behaviour.specs.rv_text.declared.line.Line.{Line}
@@ -8,8 +8,8 @@ use Rattle.same_behaviour.specs.rv_line.declared.state.RvState.{RvState}
 use Rattle.same_behaviour.specs.rv_line.declared.state.LineEnd.{LineEnd}
 use Rattle.same_behaviour.specs.rv_line.declared.state.LineEnd.TheVariants as ends
 
--- it falls through to what follows, goes to a label with a text, calls the function at an address, or
--- returns
+-- it falls through to what follows, goes to a label with a text, calls the function at an address,
+-- or returns
 pub data LinesEnd : Type 0 where
   Falls : LinesEnd
   Goes : List ℕ → LinesEnd

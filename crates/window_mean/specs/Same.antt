@@ -1,7 +1,8 @@
--- When lines do what a window of instructions does, over the registers that are live behind it. From
--- machines that stand beside each other, wherever the instructions have a meaning, so have the lines;
--- they go the same way; the machines still stand beside each other; and of what is live as much is
--- known. What the instructions leave alone and no call changes keeps its number, and so does ra.
+-- When lines do what a window of instructions does, over the registers that are live behind it.
+-- From machines that stand beside each other, wherever the instructions have a meaning, so have the
+-- lines; they go the same way; the machines still stand beside each other; and of what is live as
+-- much is known. What the instructions leave alone and no call changes keeps its number, and so
+-- does ra.
 use Rattle.std.specs.Prelude.{◌≡◌, ℕ, true, false, List, Some}
 use Rattle.bits64.specs.declared.Width.{Width}
 use Rattle.rtx_tree.specs.Registers.{is_call_used}
@@ -29,7 +30,8 @@ use Rattle.window_mean.specs.Beside.{Agrees, Beside}
 -- both fall through, go to the same label of a function, or make the same call
 pub data SameEnd (number : ℕ) (ranges : List RangeAt) (m : RvState) : InsnsEnd → LinesEnd → Type 0 where
   falls : SameEnd number ranges m insns.Falls lines.Falls
-  goes : (uid : ℕ) → IsUid uid → SameEnd number ranges m (insns.Goes uid) (lines.Goes (label_text number uid))
+  goes : (uid : ℕ) → IsUid uid →
+      SameEnd number ranges m (insns.Goes uid) (lines.Goes (label_text number uid))
   calls : (event : CallEvent) (w : Width) (target : ℕ) → SameCall event (call_of ranges target m) →
       SameEnd number ranges m (insns.Calls event w) (lines.Calls target)
 
@@ -48,7 +50,8 @@ pub record LinesDo (number : ℕ) (insns : List Insn) (lines : List Line) (Live 
   pub agree : (reg : ℕ) → Live reg → IsKept came.ending reg → Agrees came.regs done.machine.regs reg
   pub kept : (reg : ℕ) → window_defines insns reg ≡ false → is_call_used reg ≡ false →
       register done.machine.regs reg ≡ register m.regs reg
-  pub return_address : window_defines insns 1 ≡ false → register done.machine.regs 1 ≡ register m.regs 1
+  pub return_address : window_defines insns 1 ≡ false →
+      register done.machine.regs 1 ≡ register m.regs 1
   pub entry_is : done.machine.entry_ra ≡ m.entry_ra
 
 -- two machines from which instructions and lines start

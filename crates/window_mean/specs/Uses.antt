@@ -1,4 +1,5 @@
--- What a window of instructions uses and defines: GCC Internals, "Insns" and "Liveness information".
+-- What a window of instructions uses and defines: GCC Internals, "Insns" and "Liveness
+-- information".
 use Rattle.std.specs.Prelude.{ℕ, Bool, false, ◌||◌, ◌&&◌, not, List, [], ◌∷◌}
 use Rattle.std.specs.List.{list_any}
 use Rattle.rtx_tree.specs.declared.function.Insn.{Insn}

@@ -1,5 +1,6 @@
--- Same behaviour where a run leaves to its caller what it found, of a function that has its frame: RISC-V ELF psABI, "Integer Register
--- Convention" (ra holds the return address; a function preserves sp and s0 to s11) and "Integer Calling Convention" (the stack).
+-- Same behaviour where a run leaves to its caller what it found, of a function that has its frame:
+-- RISC-V ELF psABI, "Integer Register Convention" (ra holds the return address; a function
+-- preserves sp and s0 to s11) and "Integer Calling Convention" (the stack).
 use Rattle.std.specs.Prelude.{◌≡◌, ◌≢◌, ℕ, ◌≤◌, ◌<◌, true, List, [], ◌∷◌, map, slice_get, slice_index, Option, Some}
 use Rattle.std.specs.List.{All}
 use Rattle.rtx_tree.specs.Tree.{head_of, kids_of}
@@ -32,10 +33,12 @@ abbrev pub LeavesAsFound : Start → Outcome → Type 0
 LeavesAsFound start (Returned value memory events kept) = kept ≡ found start
 LeavesAsFound start _ = Unit {0}
 
--- The items of a function do what it does, where of the room below sp so much is there for it, its locals at least, in each run
--- that has a value, leaves sp, ra and s0 to s11 as it found them, and never returns at the end of the chain.
+-- The items of a function do what it does, where of the room below sp so much is there for it, its
+-- locals at least, in each run that has a value, leaves sp, ra and s0 to s11 as it found them, and
+-- never returns at the end of the chain.
 abbrev pub SameWhereLeft : Function → List CodeItem → Type 0
-SameWhereLeft f items = (frame size : ℕ) (start : Start) (world : World) (n : ℕ) → f.locals ≤ size → size ≤ frame →
+SameWhereLeft f items =
+    (frame size : ℕ) (start : Start) (world : World) (n : ℕ) → f.locals ≤ size → size ≤ frame →
     IsLawful frame f.locals start → IsLawfulWorld start world →
     let seen = seen_by_rtl frame size start in
     run_of f seen world n ≢ Undefined → LeavesAsFound start (run_of f seen world n) → ¬ EndsAtExit f seen world n →

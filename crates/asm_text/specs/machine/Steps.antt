@@ -17,8 +17,10 @@ abbrev pub WrittenComes : List Entry → ℕ → ℕ → Function → Made → O
 WrittenComes forms number size f m told =
     (o : out_of.Outcome) × out.FunctionComes forms number m.function size o × (told ≡ told_for f m o)
 
--- A call appended the text and the parts of an assembly that has a property, and gave its summary, or it refused.
-abbrev pub AppendsAssembly : List ℕ → List ℕ → List (List CodeItem) → List (List CodeItem) → Result Summary Refusal → (Outcome → Type 0) →
+-- A call appended the text and the parts of an assembly that has a property, and gave its summary,
+-- or it refused.
+abbrev pub AppendsAssembly : List ℕ → List ℕ → List (List CodeItem) → List (List CodeItem) →
+    Result Summary Refusal → (Outcome → Type 0) →
     Type 0
 AppendsAssembly text text' parts parts' (Ok summary) P =
     (a : Assembly) × P (Ok a) × (text' ≡ text ++ a.text) × (parts' ≡ parts ++ a.parts) × (summary ≡ a.summary)

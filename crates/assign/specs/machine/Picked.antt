@@ -38,7 +38,8 @@ pub record AreAlike (rows others : List (List ℕ)) : Type 0 where
   pub one : IsTable width rows
   pub other : IsTable width others
 
--- each hard register is blocked for the registers of its own row, and for those of its holders' rows
+-- each hard register is blocked for the registers of its own row, and for those of its holders'
+-- rows
 abbrev pub AreBlocked : List (List ℕ) → List HomeOf → List (List ℕ) → Type 0
 AreBlocked rows homes blocked =
     (hard reg : ℕ) → hard < 64 → has_at blocked hard reg ≡ (beside rows reg hard || list_any (clashes (beside rows) reg hard) homes)

@@ -1,4 +1,5 @@
--- The grammar once more, with each tree as the list of its heads, which is what the parser makes. Only proofs speak of it.
+-- The grammar once more, with each tree as the list of its heads, which is what the parser makes.
+-- Only proofs speak of it.
 use Rattle.std.specs.Prelude.{◌≡◌, ℕ, ◌+◌, ◌<◌, ◌≤◌, ◌^◌, Bool, true, false, List, [], ◌∷◌, ◌++◌, Some, pos}
 use Rattle.rtx_tree.specs.declared.constants.Constant.{Constant}
 use Rattle.rtx_tree.specs.declared.code.Mode.{Mode}
@@ -24,8 +25,9 @@ use Rattle.c_words.specs.Words.{keyword_named, mode_named}
 use Rattle.c_words.specs.Atoms.{atom_of}
 use Rattle.c_cond.specs.Grammar.{open_round, close_round, comma, colon, semicolon, becomes, question, open_square, close_square, open_brace, close_brace, level, equality, unary_level, unary_of, expression, signature_of, predicate_parts, is_maker, comparison_of, comparison_with, value_mode_named, Sort, One, Parts, Statement, Statements, Condition}
 
--- The tokens are a text of this sort, and the list has the heads of its trees, each behind its parts. An expression of level p has no operator outside of
--- parentheses that binds less tightly than p.
+-- The tokens are a text of this sort, and the list has the heads of its trees, each behind its
+-- parts. An expression of level p has no operator outside of parentheses that binds less tightly
+-- than p.
 pub data Is (d : Dialect) (constants : List Constant) :
     Sort → List CondHead → List Token → Type 0 where
   number : (p n : ℕ) → Is d constants (One (part.Expression p)) (head.Number (signed W64 n) ∷ []) (token.Number n ∷ [])
@@ -53,12 +55,16 @@ pub data Is (d : Dialect) (constants : List Constant) :
   choice : (a b c : List CondHead) (ts us vs : List Token) →
       Is d constants (One (part.Expression 1)) a ts → Is d constants (One expression) b us → Is d constants (One expression) c vs →
       Is d constants (One expression) (a ++ (b ++ (c ++ head.Choose ∷ []))) (ts ++ (token.Mark question ∷ us ++ token.Mark colon ∷ vs))
-  operand : (word : List ℕ) (k : ℕ) → keyword_named word ≡ Some keyword.Operands → d ≡ dialect.Condition → k < 2 ^ 32 →
+  operand : (word : List ℕ) (k : ℕ) → keyword_named word ≡ Some keyword.Operands →
+      d ≡ dialect.Condition → k < 2 ^ 32 →
       Is d constants (One part.Operand) (head.Operand k ∷ []) (token.Word word ∷ token.Mark open_square ∷ token.Number k ∷ token.Mark close_square ∷ [])
-  tested : (word : List ℕ) → keyword_named word ≡ Some keyword.Op → d ≡ dialect.Test → Is d constants (One part.Operand) (head.Operand 0 ∷ []) (token.Word word ∷ [])
+  tested : (word : List ℕ) → keyword_named word ≡ Some keyword.Op → d ≡ dialect.Test →
+      Is d constants (One part.Operand) (head.Operand 0 ∷ []) (token.Word word ∷ [])
   window : (n : ℕ) → Is d constants (One part.Window) (head.Window n ∷ []) (token.Number n ∷ [])
-  any_mode : (word : List ℕ) (m : Mode) → mode_named word ≡ Some m → Is d constants (One part.AnyMode) (head.Mode m ∷ []) (token.Word word ∷ [])
-  value_mode : (word : List ℕ) (m : Mode) → value_mode_named word ≡ Some m → Is d constants (One part.ValueMode) (head.Mode m ∷ []) (token.Word word ∷ [])
+  any_mode : (word : List ℕ) (m : Mode) → mode_named word ≡ Some m →
+      Is d constants (One part.AnyMode) (head.Mode m ∷ []) (token.Word word ∷ [])
+  value_mode : (word : List ℕ) (m : Mode) → value_mode_named word ≡ Some m →
+      Is d constants (One part.ValueMode) (head.Mode m ∷ []) (token.Word word ∷ [])
   value_operand : (a : List CondHead) (ts : List Token) → Is d constants (One part.Operand) a ts →
       Is d constants (One part.Value) a ts
   made : (word : List ℕ) (c : Call) (parts : List CondHead) (ts : List Token) →
@@ -90,7 +96,8 @@ pub data Is (d : Dialect) (constants : List Constant) :
       keyword_named word ≡ Some keyword.If →
       Is d constants (One expression) a ts → Is d constants (Statement false) b us →
       Is d constants (Statement false) (a ++ (b ++ head.If ∷ [])) (token.Word word ∷ token.Mark open_round ∷ (ts ++ token.Mark close_round ∷ us))
-  when_else : (closed : Bool) (word other : List ℕ) (a b c : List CondHead) (ts us vs : List Token) →
+  when_else :
+      (closed : Bool) (word other : List ℕ) (a b c : List CondHead) (ts us vs : List Token) →
       keyword_named word ≡ Some keyword.If → keyword_named other ≡ Some keyword.Else →
       Is d constants (One expression) a ts → Is d constants (Statement true) b us → Is d constants (Statement closed) c vs →
       Is d constants (Statement closed) (a ++ (b ++ (c ++ head.IfElse ∷ []))) (token.Word word ∷ token.Mark open_round ∷ (ts ++ (token.Mark close_round ∷ us ++ token.Word other ∷ vs)))

@@ -1,5 +1,5 @@
--- How far a text goes on as some text of the grammar does, one byte after the other. Only private clauses and proofs
--- speak of it: where a text stops being one, is said in Beginning.
+-- How far a text goes on as some text of the grammar does, one byte after the other. Only private
+-- clauses and proofs speak of it: where a text stops being one, is said in Beginning.
 use Rattle.std.specs.Prelude.{ℕ, suc, Bool, true, false, ◌&&◌, ◌||◌, List, [], ◌∷◌, ◌++◌, Option, Some, None, if◌then◌else◌, option_and_then, take, drop, length, is_some}
 use Rattle.std.specs.Str.{bytes_eq}
 use Rattle.std.specs.List.{list_all, list_any}
@@ -26,7 +26,8 @@ is_taken d cs t (g ∷ gs) = is_some (takes d cs g t []) || (is_some (passed g) 
 
 -- whether a run that begins a word may go on as the word
 abbrev pub goes_on_as : List ℕ → List ℕ → Bool
-goes_on_as run word = bytes_eq (take (length run) word) run && list_all in_word (drop (length run) word)
+goes_on_as run word =
+    bytes_eq (take (length run) word) run && list_all in_word (drop (length run) word)
 
 abbrev pub run_taken : Dialect → List Constant → List Goal → List ℕ → Bool
 run_taken d cs gs run = is_taken d cs (token_of_run run) gs
@@ -35,10 +36,12 @@ run_taken d cs gs run = is_taken d cs (token_of_run run) gs
 abbrev pub word_taken : Dialect → List Constant → List Goal → List ℕ → List ℕ → Bool
 word_taken d cs gs run word = goes_on_as run word && run_taken d cs gs word
 
--- Whether a run is taken as it is, or with more behind it. A zero behind it makes a name that is not known, and a
--- number of 0x.
+-- Whether a run is taken as it is, or with more behind it. A zero behind it makes a name that is
+-- not known, and a number of 0x.
 abbrev pub run_goes_on : Dialect → List Constant → List (List ℕ) → List Goal → List ℕ → Bool
-run_goes_on d cs words gs run = run_taken d cs gs run || (run_taken d cs gs (run ++ 48 ∷ []) || list_any (word_taken d cs gs run) words)
+run_goes_on d cs words gs run =
+    run_taken d cs gs run ||
+    (run_taken d cs gs (run ++ 48 ∷ []) || list_any (word_taken d cs gs run) words)
 
 -- ---- operators that a byte may become
 
@@ -51,7 +54,9 @@ operator_taken d cs gs None = false
 operator_taken d cs gs (Some operator) = is_taken d cs (token.Operator operator) gs
 
 abbrev pub byte_goes_on : Dialect → List Constant → List Goal → ℕ → Bool
-byte_goes_on d cs gs a = is_taken d cs (token_of_byte a) gs || list_any (λ b. operator_taken d cs gs (operator_of_two a b)) second_bytes
+byte_goes_on d cs gs a =
+    is_taken d cs (token_of_byte a) gs ||
+    list_any (λ b. operator_taken d cs gs (operator_of_two a b)) second_bytes
 
 -- ---- bytes
 

@@ -1,5 +1,5 @@
--- The parser's own steps, one token after the other. Only private clauses and proofs speak of them: what a text is, is
--- said in Grammar.
+-- The parser's own steps, one token after the other. Only private clauses and proofs speak of them:
+-- what a text is, is said in Grammar.
 use Rattle.std.specs.Prelude.{◌≡◌, ℕ, ◌+◌, ◌^◌, ◌==◌, nat_le, nat_lt, ◌&&◌, Bool, true, false, List, [], ◌∷◌, ◌++◌, Option, Some, None, Result, Ok, Err, if◌then◌else◌, pos, option_map, option_and_then}
 use Rattle.rtx_tree.specs.declared.constants.Constant.{Constant}
 use Rattle.rtx_tree.specs.declared.code.Mode.{Mode}
@@ -39,11 +39,13 @@ abbrev pub parts_then : Signature → List Goal → List Goal
 parts_then signature.None gs = gs
 parts_then (signature.One x) gs = goal.Part x ∷ gs
 parts_then (signature.Two x y) gs = goal.Part x ∷ goal.Mark comma ∷ goal.Part y ∷ gs
-parts_then (signature.Three x y z) gs = goal.Part x ∷ goal.Mark comma ∷ goal.Part y ∷ goal.Mark comma ∷ goal.Part z ∷ gs
+parts_then (signature.Three x y z) gs =
+    goal.Part x ∷ goal.Mark comma ∷ goal.Part y ∷ goal.Mark comma ∷ goal.Part z ∷ gs
 
 -- the parts of a call in parentheses, and what comes then
 abbrev pub call_then : Signature → CondHead → List Goal → List Goal
-call_then parts h gs = goal.Mark open_round ∷ parts_then parts (goal.Mark close_round ∷ goal.Yield h ∷ gs)
+call_then parts h gs =
+    goal.Mark open_round ∷ parts_then parts (goal.Mark close_round ∷ goal.Yield h ∷ gs)
 
 -- behind an operand of an expression of level p may stand any operator that binds as tightly
 abbrev pub more : ℕ → List Goal → List Goal
@@ -59,7 +61,8 @@ by_atom p word (atom.Leaf h) gs = Some (goal.Yield h ∷ more p gs)
 by_atom p word (atom.Call c) gs = Some (call_then (signature_of c) (head.Call c) (more p gs))
 by_atom p word (atom.Compare property) gs =
     if nat_le p equality then Some (compare_then p property gs) else None
-by_atom p word atom.Predicate gs = Some (call_then predicate_parts (head.Predicate word) (more p gs))
+by_atom p word atom.Predicate gs =
+    Some (call_then predicate_parts (head.Predicate word) (more p gs))
 by_atom p word atom.Nothing gs = None
 
 abbrev pub primary : Dialect → List Constant → ℕ → Token → List Goal → Option (List Goal)
@@ -68,8 +71,10 @@ primary d cs p (token.Word word) gs = by_atom p word (atom_of d cs word) gs
 primary d cs p (token.Mark b) gs = if b == open_round then Some (goal.Part expression ∷ goal.Mark close_round ∷ more p gs) else None
 primary d cs p _ gs = None
 
-abbrev pub by_unary : Dialect → List Constant → ℕ → Token → List Goal → Option Unary → Option (List Goal)
-by_unary d cs p t gs (Some u) = Some (goal.Part (part.Expression unary_level) ∷ goal.Yield (head.Unary u) ∷ more p gs)
+abbrev pub by_unary : Dialect → List Constant → ℕ → Token → List Goal → Option Unary →
+    Option (List Goal)
+by_unary d cs p t gs (Some u) =
+    Some (goal.Part (part.Expression unary_level) ∷ goal.Yield (head.Unary u) ∷ more p gs)
 by_unary d cs p t gs None = primary d cs p t gs
 
 -- where an expression of level p must come
@@ -91,7 +96,8 @@ takes_more p q (token.Mark b) gs = if b == question then takes_question p q gs e
 takes_more p q _ gs = None
 
 abbrev pub operand_by : Dialect → Option Keyword → List Goal → Option (List Goal)
-operand_by dialect.Condition (Some keyword.Operands) gs = Some (goal.Mark open_square ∷ goal.Index ∷ gs)
+operand_by dialect.Condition (Some keyword.Operands) gs =
+    Some (goal.Mark open_square ∷ goal.Index ∷ gs)
 operand_by dialect.Test (Some keyword.Op) gs = Some (goal.Yield (head.Operand 0) ∷ gs)
 operand_by _ _ gs = None
 
@@ -149,7 +155,8 @@ statement_by _ gs = None
 
 abbrev pub takes_statement : Token → List Goal → Option (List Goal)
 takes_statement (token.Word word) gs = statement_by (keyword_named word) gs
-takes_statement (token.Mark b) gs = if b == open_brace then Some (goal.Statements ∷ goal.Mark close_brace ∷ gs) else None
+takes_statement (token.Mark b) gs =
+    if b == open_brace then Some (goal.Statements ∷ goal.Mark close_brace ∷ gs) else None
 takes_statement _ gs = None
 
 abbrev pub else_by : Option Keyword → List Goal → Option (List Goal)
@@ -171,10 +178,12 @@ abbrev pub takes_statements : Token → List Goal → Option (List Goal)
 takes_statements t gs = takes_statement t (goal.Statements ∷ goal.Yield head.Then ∷ gs)
 
 abbrev pub takes_comparison : Property → Token → List Goal → Option (List Goal)
-takes_comparison property t gs = option_map (λ equal. goal.Compared property equal ∷ gs) (comparison_of t)
+takes_comparison property t gs =
+    option_map (λ equal. goal.Compared property equal ∷ gs) (comparison_of t)
 
 abbrev pub takes_compared : Property → Bool → Token → List Goal → Option (List Goal)
-takes_compared property equal (token.Word word) gs = option_map (λ h. goal.Yield h ∷ gs) (comparison_with property equal word)
+takes_compared property equal (token.Word word) gs =
+    option_map (λ h. goal.Yield h ∷ gs) (comparison_with property equal word)
 takes_compared property equal _ gs = None
 
 abbrev pub takes_index : Token → List Goal → Option (List Goal)
@@ -217,7 +226,8 @@ abbrev pub taken_or : List CondHead → Option (List Goal) → Option Parser →
 taken_or code (Some goals) other = Some (at code goals)
 taken_or code None other = other
 
--- Behind a token: the first goal that takes it, where those before may be passed over. None where no text goes on so.
+-- Behind a token: the first goal that takes it, where those before may be passed over. None where
+-- no text goes on so.
 abbrev pub next : Dialect → List Constant → Token → List CondHead → List Goal → Option Parser
 next d cs t code [] = None
 next d cs t code (g ∷ gs) = taken_or code (takes d cs g t gs) (option_and_then (λ heads. next d cs t (code ++ heads) gs) (passed g))

@@ -1,4 +1,5 @@
--- What a condition is read with, as the code holds it. These definitions serve the contracts of private functions alone.
+-- What a condition is read with, as the code holds it. These definitions serve the contracts of
+-- private functions alone.
 use Rattle.std.specs.Prelude.{ℕ, Bool, List, [], ◌∷◌, Option, Some}
 use Rattle.rtx_tree.specs.declared.tree.Rtx.{Rtx}
 use Rattle.c_eval.specs.declared.known.Given.{Given}

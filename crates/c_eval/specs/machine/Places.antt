@@ -1,4 +1,5 @@
--- Where the parts of trees stand among heads. These definitions serve the contracts of private functions alone.
+-- Where the parts of trees stand among heads. These definitions serve the contracts of private
+-- functions alone.
 use Rattle.std.specs.Prelude.{◌≡◌, ℕ, ◌+◌, ◌==◌, if◌then◌else◌, ◌<◌, ◌≤◌, List, [], length, take, drop, Option, Some, None}
 use Rattle.c_cond.specs.c_words.declared.head.CondHead.{CondHead}
 use Rattle.c_cond.specs.declared.tree.Tree.{Tree}

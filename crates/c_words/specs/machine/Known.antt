@@ -1,5 +1,5 @@
--- The words that are known before a text is read, in a row. Only private clauses and proofs speak of them: what a word
--- means, is said in Words and Atoms.
+-- The words that are known before a text is read, in a row. Only private clauses and proofs speak
+-- of them: what a word means, is said in Words and Atoms.
 use Rattle.std.specs.Prelude.{ℕ, ◌-◌, List, [], ◌∷◌, ◌++◌, if◌then◌else◌, codes, map}
 use Rattle.rtx_tree.specs.declared.code.Code.{Code}
 use Rattle.rtx_tree.specs.declared.constants.Constant.{Constant}

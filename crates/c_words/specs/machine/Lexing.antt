@@ -1,5 +1,5 @@
--- The lexer's own steps, one byte after the other. Only private clauses and proofs speak of them: what the tokens of a
--- text are, is said in Tokens.
+-- The lexer's own steps, one byte after the other. Only private clauses and proofs speak of them:
+-- what the tokens of a text are, is said in Tokens.
 use Rattle.std.specs.Prelude.{ℕ, List, [], ◌∷◌, ◌++◌, Option, Some, None, if◌then◌else◌}
 use Rattle.c_words.specs.declared.head.Binary.{Binary}
 use Rattle.c_words.specs.declared.token.Token.{Token}

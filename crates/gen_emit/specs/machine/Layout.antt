@@ -1,4 +1,5 @@
--- Where the trees among heads stand, as the code finds it. These definitions serve the contracts of private functions alone.
+-- Where the trees among heads stand, as the code finds it. These definitions serve the contracts of
+-- private functions alone.
 use Rattle.std.specs.Prelude.{◌≡◌, ℕ, ◌+◌, ◌<◌, ◌≤◌, List, [], ◌∷◌, map, length, drop, slice_index_or}
 use Rattle.std.specs.List.{AllByRecursion}
 use Rattle.c_words.specs.declared.head.CondHead.{CondHead}
@@ -12,14 +13,16 @@ use Rattle.gen_emit.specs.declared.layout.Parts.TheVariants as parts
 abbrev pub tree_at : List CondHead → ℕ → Tree
 tree_at heads end = first_or_nothing (trees_at heads end)
 
--- the place right before the last tree of the heads that end at a place, or the first place where there is none
+-- the place right before the last tree of the heads that end at a place, or the first place where
+-- there is none
 pub record IsBefore (heads : List CondHead) (end start : ℕ) : Type 0 where
   pub back : start ≤ end
   pub rest : trees_at heads start ≡ drop 1 (trees_at heads end)
 
 -- the starts of the trees that end with the first heads
 abbrev pub AreStarts : List CondHead → List ℕ → Type 0
-AreStarts heads starts = (at : ℕ) → at < length starts → IsBefore heads (at + 1) (slice_index_or starts at 0)
+AreStarts heads starts =
+    (at : ℕ) → at < length starts → IsBefore heads (at + 1) (slice_index_or starts at 0)
 
 -- those of all heads
 pub record AreAllStarts (heads : List CondHead) (starts : List ℕ) : Type 0 where

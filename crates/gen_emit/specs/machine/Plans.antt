@@ -1,4 +1,5 @@
--- What stands in the place of a task. These definitions serve the contracts of private functions alone.
+-- What stands in the place of a task. These definitions serve the contracts of private functions
+-- alone.
 use Rattle.std.specs.Prelude.{◌≡◌, ℕ, suc, ◌+◌, ◌*◌, ◌<◌, ℤ, List, [], ◌∷◌, ◌++◌, length, sum, reverse, if◌then◌else◌, Option, Some, None, option_and_then}
 use Rattle.std.specs.List.{AllByRecursion, sum_by}
 use Rattle.rtx_tree.specs.declared.code.Mode.{Mode}
@@ -33,9 +34,12 @@ use Rattle.gen_emit.specs.machine.Tasks.{Going, given, do_op, stepped, values_of
 
 -- ---- what comes of tasks
 
-abbrev pub do_task : Facts → Accepts → List CondHead → Task → List Rtx → Draft → Going → Option Ended
-do_task f a heads (task.Run end) values d next = option_and_then (and_then (next values)) ((meaning f a (tree_at heads end)).run d)
-do_task f a heads (task.Make end) values d next = given next values ((meaning f a (tree_at heads end)).value d)
+abbrev pub do_task : Facts → Accepts → List CondHead → Task → List Rtx → Draft → Going →
+    Option Ended
+do_task f a heads (task.Run end) values d next =
+    option_and_then (and_then (next values)) ((meaning f a (tree_at heads end)).run d)
+do_task f a heads (task.Make end) values d next =
+    given next values ((meaning f a (tree_at heads end)).value d)
 do_task f a heads (task.Do o) values d next = do_op f.new_pseudos o values d next
 
 -- what comes of tasks, the next of which stands first
@@ -103,21 +107,29 @@ chosen (Some n) first second = if is_zero n then second else first
 abbrev pub plan_to_run : Facts → Accepts → List CondHead → Draft → CondHead → Parts → Plan
 plan_to_run f a heads d head.Nothing parts.None = plan.Nothing
 plan_to_run f a heads d head.Done parts.None = plan.Done
-plan_to_run f a heads d (head.Assign k) (parts.One value) = plan.Two (task.Make value) (task.Do (op.Assign k))
-plan_to_run f a heads d (head.Call call.EmitMove) (parts.Two target source) = plan.Three (task.Make target) (task.Make source) (task.Do op.Move)
+plan_to_run f a heads d (head.Assign k) (parts.One value) =
+    plan.Two (task.Make value) (task.Do (op.Assign k))
+plan_to_run f a heads d (head.Call call.EmitMove) (parts.Two target source) =
+    plan.Three (task.Make target) (task.Make source) (task.Do op.Move)
 plan_to_run f a heads d head.Then (parts.Two first rest) = plan.Two (task.Run first) (task.Run rest)
-plan_to_run f a heads d head.If (parts.Two test body) = chosen (number_in f a (tree_at heads test) d) (plan.One (task.Run body)) plan.Nothing
+plan_to_run f a heads d head.If (parts.Two test body) =
+    chosen (number_in f a (tree_at heads test) d) (plan.One (task.Run body)) plan.Nothing
 plan_to_run f a heads d head.IfElse (parts.Three test body other) = chosen (number_in f a (tree_at heads test) d) (plan.One (task.Run body)) (plan.One (task.Run other))
 plan_to_run f a heads d h p = plan.Fail
 
 -- the plan of a value
 abbrev pub plan_to_make : Facts → Accepts → List CondHead → Draft → CondHead → Parts → Plan
 plan_to_make f a heads d (head.Operand k) parts.None = plan.One (task.Do (op.Copy k))
-plan_to_make f a heads d (head.Call call.GenInt) (parts.One number) = constant (number_in f a (tree_at heads number) d)
-plan_to_make f a heads d (head.Call call.GenIntMode) (parts.Two number mode) = constant_in (number_in f a (tree_at heads number) d) (mode_of (tree_at heads mode))
-plan_to_make f a heads d (head.Call call.GenReg) (parts.One mode) = fresh (mode_of (tree_at heads mode))
-plan_to_make f a heads d (head.Call call.ForceReg) (parts.Two mode value) = forced (mode_of (tree_at heads mode)) value
-plan_to_make f a heads d (head.Call call.GenLowpart) (parts.Two mode value) = lowered (mode_of (tree_at heads mode)) value
+plan_to_make f a heads d (head.Call call.GenInt) (parts.One number) =
+    constant (number_in f a (tree_at heads number) d)
+plan_to_make f a heads d (head.Call call.GenIntMode) (parts.Two number mode) =
+    constant_in (number_in f a (tree_at heads number) d) (mode_of (tree_at heads mode))
+plan_to_make f a heads d (head.Call call.GenReg) (parts.One mode) =
+    fresh (mode_of (tree_at heads mode))
+plan_to_make f a heads d (head.Call call.ForceReg) (parts.Two mode value) =
+    forced (mode_of (tree_at heads mode)) value
+plan_to_make f a heads d (head.Call call.GenLowpart) (parts.Two mode value) =
+    lowered (mode_of (tree_at heads mode)) value
 plan_to_make f a heads d h p = plan.Fail
 
 -- ---- how much is to be done

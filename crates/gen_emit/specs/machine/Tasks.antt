@@ -1,4 +1,5 @@
--- What is still to be done while statements run. These definitions serve the contracts of private functions alone.
+-- What is still to be done while statements run. These definitions serve the contracts of private
+-- functions alone.
 use Rattle.std.specs.Prelude.{◌≡◌, Bool, List, [], ◌∷◌, ◌++◌, reverse, Option, Some, None, option_map, option_and_then}
 use Rattle.rtx_tree.specs.declared.tree.Rtx.{Rtx}
 use Rattle.rtx_tree.specs.Tree.{const_of}

@@ -16,7 +16,8 @@ use Rattle.insn_replace.specs.Replace as spec
 
 -- instructions are those that a sequence makes in the place of one of a function
 abbrev pub AreMade : Function → ℕ → List Rtx → List Insn → Type 0
-AreMade f place sequence insns = (i : Insn) → slice_get f.insns place ≡ Some i → insns ≡ spec.made f i sequence
+AreMade f place sequence insns =
+    (i : Insn) → slice_get f.insns place ≡ Some i → insns ≡ spec.made f i sequence
 
 -- a side is equated with an instruction of a function, over what is live behind it
 pub record IsSame (f : Function) (place : ℕ) (i : Insn) (side : Side) : Type 0 where

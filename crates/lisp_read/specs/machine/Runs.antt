@@ -53,7 +53,8 @@ Reaches bytes k s = run start empty (take k bytes) ≡ Some s
 
 -- at no place up to k bytes have more lists and vectors been open than may be
 abbrev pub IsShallow : List ℕ → ℕ → Type 0
-IsShallow bytes k = (j : ℕ) (s : State) → j ≤ k → Reaches bytes j s → length s.front.within ≤ most_open
+IsShallow bytes k =
+    (j : ℕ) (s : State) → j ≤ k → Reaches bytes j s → length s.front.within ≤ most_open
 
 -- no text goes on so: reading stops behind k bytes
 pub record StopsAt (bytes : List ℕ) (k : ℕ) : Type 0 where
@@ -61,7 +62,8 @@ pub record StopsAt (bytes : List ℕ) (k : ℕ) : Type 0 where
   pub in_text : k ≤ length bytes
   pub reached : Reaches bytes k state
   pub shallow : IsShallow bytes k
-  pub byte : k < length bytes → next (place_after start (take k bytes)) state (slice_index bytes k) ≡ None
+  pub byte : k < length bytes →
+      next (place_after start (take k bytes)) state (slice_index bytes k) ≡ None
   pub end : length bytes ≤ k → finish state ≡ None
 
 -- with the byte behind k bytes more lists and vectors are open than may be
@@ -75,12 +77,15 @@ pub record StopsDeep (bytes : List ℕ) (k : ℕ) : Type 0 where
   pub deep : most_open < length deeper.front.within
 
 abbrev pub Refuses : List ℕ → ReadRefusal → Type 0
-Refuses bytes (refusal.Syntax place) = (k : ℕ) × (place ≡ place_after start (take k bytes)) × StopsAt bytes k
-Refuses bytes (refusal.Depth place) = (k : ℕ) × (place ≡ place_after start (take k bytes)) × StopsDeep bytes k
+Refuses bytes (refusal.Syntax place) =
+    (k : ℕ) × (place ≡ place_after start (take k bytes)) × StopsAt bytes k
+Refuses bytes (refusal.Depth place) =
+    (k : ℕ) × (place ≡ place_after start (take k bytes)) × StopsDeep bytes k
 Refuses bytes refusal.Memory = Unit {0}
 
 abbrev pub Reads : List ℕ → Result (List Tree) ReadRefusal → Type 0
-Reads bytes (Ok trees) = (parts_in bytes ≡ Some (parts_of_all trees)) × IsShallow bytes (length bytes)
+Reads bytes (Ok trees) =
+    (parts_in bytes ≡ Some (parts_of_all trees)) × IsShallow bytes (length bytes)
 Reads bytes (Err e) = Refuses bytes e
 
 -- what the end of the text gives, at this place

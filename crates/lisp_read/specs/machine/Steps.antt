@@ -1,5 +1,5 @@
--- The reader's own steps, one byte after the other. Only private clauses and proofs speak of them: what a text is, is
--- said in Text.
+-- The reader's own steps, one byte after the other. Only private clauses and proofs speak of them:
+-- what a text is, is said in Text.
 use Rattle.std.specs.Prelude.{ℕ, suc, zero, ◌+◌, List, [], ◌∷◌, ◌++◌, Option, Some, None, if◌then◌else◌}
 use Rattle.rtx_tree.specs.declared.place.Place.{Place}
 use Rattle.lisp_read.specs.declared.class.Bracket.{Bracket}

@@ -22,5 +22,6 @@ pub record IsEndOf (f : Function) (node : Node) : Type 0 where
 -- there is a node for each place, and one for the end
 pub record AreNodes (f : Function) (nodes : List Node) : Type 0 where
   pub long : length nodes ≡ length f.insns + 1
-  pub each : (p : ℕ) (i : Insn) (node : Node) → slice_get f.insns p ≡ Some i → slice_get nodes p ≡ Some node → IsNodeOf f p i node
+  pub each : (p : ℕ) (i : Insn) (node : Node) → slice_get f.insns p ≡ Some i →
+      slice_get nodes p ≡ Some node → IsNodeOf f p i node
   pub last : (node : Node) → slice_get nodes (length f.insns) ≡ Some node → IsEndOf f node

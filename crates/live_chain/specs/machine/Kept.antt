@@ -4,7 +4,8 @@ use Rattle.rtx_tree.specs.declared.function.Function.{Function}
 use Rattle.live.specs.Live.{AreLiveRows}
 use Rattle.rtl_chain.specs.Counts.{greatest_uid, next_pseudo}
 
--- what is known of a function, of the rows of what is live, the greatest uid and the next pseudo register, is as the function has it
+-- what is known of a function, of the rows of what is live, the greatest uid and the next pseudo
+-- register, is as the function has it
 pub record IsKept (f : Function) (rows : Option (List (List ℕ))) (greatest next : Option ℕ) : Type 0 where
   pub live : IfSome rows (AreLiveRows f)
   pub uid : IfSome greatest (λ n. n ≡ greatest_uid f.insns)

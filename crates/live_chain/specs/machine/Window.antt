@@ -1,4 +1,5 @@
--- A window of a chain as it is seen from outside: GCC Internals, "Liveness information", "Insns" and "Jump Patterns".
+-- A window of a chain as it is seen from outside: GCC Internals, "Liveness information", "Insns"
+-- and "Jump Patterns".
 use Rattle.std.specs.Prelude.{◌≡◌, ℕ, ◌<◌, Bool, true, false, ◌||◌, ◌&&◌, not, List, [], ◌∷◌, length, drop}
 use Rattle.std.specs.List.{list_any}
 use Rattle.reg_rows.specs.Row.{has}
@@ -47,8 +48,8 @@ leads_last [] = true
 leads_last (i ∷ []) = is_inner i
 leads_last (i ∷ j ∷ window) = (is_inner i && not (is_jump_kind i.kind)) && leads_last (j ∷ window)
 
--- two windows are entered and left alike: they lead to the same places, and set the same of the registers that a return uses where they
--- are set
+-- two windows are entered and left alike: they lead to the same places, and set the same of the
+-- registers that a return uses where they are set
 pub record AreLikeEnds (old new : List Insn) : Type 0 where
   pub old_leads : leads_last old ≡ true
   pub new_leads : leads_last new ≡ true
@@ -58,7 +59,8 @@ pub record AreLikeEnds (old new : List Insn) : Type 0 where
 -- they ask for the same registers, and of the others that are live behind they define the same
 pub record AreLikeDemands (old new : List Insn) (behind : ℕ → Bool) : Type 0 where
   pub asks : (reg : ℕ) → asks_for old reg ≡ asks_for new reg
-  pub defines : (reg : ℕ) → asks_for old reg ≡ false → behind reg ≡ true → defines_in old reg ≡ defines_in new reg
+  pub defines : (reg : ℕ) → asks_for old reg ≡ false → behind reg ≡ true →
+      defines_in old reg ≡ defines_in new reg
 
 -- two windows are the same from outside, where these registers are live behind them
 pub record AreSameOutside (old new : List Insn) (behind : ℕ → Bool) : Type 0 where
@@ -67,12 +69,14 @@ pub record AreSameOutside (old new : List Insn) (behind : ℕ → Bool) : Type 0
 
 -- the register is live before the window, where these are live behind it
 abbrev pub is_live_before : List Insn → (ℕ → Bool) → ℕ → Bool
-is_live_before window behind reg = asks_for window reg || (not (defines_in window reg) && behind reg)
+is_live_before window behind reg =
+    asks_for window reg || (not (defines_in window reg) && behind reg)
 
 -- the rows of what is live before each instruction of the window, where these are live behind it
 pub record AreRowsOf (window : List Insn) (behind : ℕ → Bool) (rows : List (List ℕ)) : Type 0 where
   pub long : length rows ≡ length window
-  pub each : (k reg : ℕ) → k < length window → has_at rows k reg ≡ is_live_before (drop k window) behind reg
+  pub each : (k reg : ℕ) → k < length window →
+      has_at rows k reg ≡ is_live_before (drop k window) behind reg
 
 -- the first of the rows, or the row behind them where there is none, has the register
 abbrev pub first_has : List (List ℕ) → List ℕ → ℕ → Bool

@@ -21,9 +21,13 @@ is_touched node flags = place_flag node.first flags || place_flag node.second fl
 
 -- a place that is not touched is closed
 abbrev pub IsPending : List Node → List (List ℕ) → List Bool → Type 0
-IsPending nodes rows flags = (q : ℕ) (node : Node) → slice_get nodes q ≡ Some node → is_touched node flags ≡ false → IsClosedAt nodes rows q
+IsPending nodes rows flags =
+    (q : ℕ) (node : Node) → slice_get nodes q ≡ Some node → is_touched node flags ≡ false →
+    IsClosedAt nodes rows q
 
 -- the same in the middle of a round, where the places below p are still to be visited
 pub record IsMidway (nodes : List Node) (rows : List (List ℕ)) (before now : List Bool) (p : ℕ) : Type 0 where
-  pub done : (q : ℕ) (node : Node) → p ≤ q → slice_get nodes q ≡ Some node → is_touched node now ≡ false → IsClosedAt nodes rows q
-  pub todo : (q : ℕ) (node : Node) → q < p → slice_get nodes q ≡ Some node → is_touched node before ≡ false → is_touched node now ≡ false → IsClosedAt nodes rows q
+  pub done : (q : ℕ) (node : Node) → p ≤ q → slice_get nodes q ≡ Some node →
+      is_touched node now ≡ false → IsClosedAt nodes rows q
+  pub todo : (q : ℕ) (node : Node) → q < p → slice_get nodes q ≡ Some node →
+      is_touched node before ≡ false → is_touched node now ≡ false → IsClosedAt nodes rows q

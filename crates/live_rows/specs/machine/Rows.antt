@@ -34,4 +34,6 @@ IsSound nodes rows = (p reg : ℕ) → has_at rows p reg ≡ true → Reaches no
 
 -- the row of a place has what its node passes
 abbrev pub IsClosedAt : List Node → List (List ℕ) → ℕ → Type 0
-IsClosedAt nodes rows p = (node : Node) (reg : ℕ) → slice_get nodes p ≡ Some node → passes node rows reg ≡ true → has_at rows p reg ≡ true
+IsClosedAt nodes rows p =
+    (node : Node) (reg : ℕ) → slice_get nodes p ≡ Some node → passes node rows reg ≡ true →
+    has_at rows p reg ≡ true

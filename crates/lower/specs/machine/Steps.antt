@@ -8,9 +8,11 @@ use Rattle.lower.specs.Lower.{Answer, LowerFrom}
 
 -- what one function comes to from a place on, another comes to from a place of its own
 abbrev pub Reaches : List Entry → Function → ℕ → Function → ℕ → Type 0
-Reaches forms f place g end = (answer : Answer) → LowerFrom forms g end answer → LowerFrom forms f place answer
+Reaches forms f place g end =
+    (answer : Answer) → LowerFrom forms g end answer → LowerFrom forms f place answer
 
--- the instruction at a place is lowered, and another place is the one behind it: as many instructions stand behind as before
+-- the instruction at a place is lowered, and another place is the one behind it: as many
+-- instructions stand behind as before
 pub record PlaceReaches (forms : List Entry) (f : Function) (place : ℕ) (g : Function) (end : ℕ) : Type 0 where
   pub reaches : Reaches forms f place g end
   pub behind : length g.insns + (place + 1) ≡ length f.insns + end

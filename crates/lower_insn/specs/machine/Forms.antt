@@ -8,4 +8,5 @@ use Rattle.lower_insn.specs.Plan.{is_met_by}
 
 -- the condition of the form with an index holds with operands
 abbrev pub is_met_at : List Entry → Ops → ℕ → Bool
-is_met_at forms operands form = option_map_or (λ e. is_met_by (holds forms) operands e.form) (slice_get forms form) false
+is_met_at forms operands form =
+    option_map_or (λ e. is_met_by (holds forms) operands e.form) (slice_get forms form) false

@@ -1,4 +1,5 @@
--- The steps of the code, for the contracts of private functions alone. What is still to be made lies on a stack, the next part last.
+-- The steps of the code, for the contracts of private functions alone. What is still to be made
+-- lies on a stack, the next part last.
 use Rattle.std.specs.Prelude.{◌≡◌, ◌⊎◌, ℕ, Bool, true, false, List, [], ◌∷◌, ◌++◌, length, reverse, Some, None, Result, Ok, Err}
 use Rattle.rtx_tree.specs.declared.function.Insn.{Insn}
 use Rattle.rtx_tree.specs.declared.tree.Rtx.{Rtx}
@@ -32,12 +33,14 @@ with_part work part = record work { parts = work.parts ++ part ∷ [] }
 
 -- from some work other work is reached, or its refusal
 abbrev pub Advances : List Entry → Uids → Work → Result Work PassRefusal → Type 0
-Advances forms uids start (Ok work) = (answer : Answer) → Comes forms uids work answer → Comes forms uids start answer
+Advances forms uids start (Ok work) =
+    (answer : Answer) → Comes forms uids work answer → Comes forms uids start answer
 Advances forms uids start (Err e) = RefusesWith e (Comes forms uids start)
 
 -- other work, or all that there was to be made, or its refusal
 abbrev pub Moves : List Entry → Uids → Work → Result Progress PassRefusal → Type 0
-Moves forms uids start (Ok (On work)) = (answer : Answer) → Comes forms uids work answer → Comes forms uids start answer
+Moves forms uids start (Ok (On work)) =
+    (answer : Answer) → Comes forms uids work answer → Comes forms uids start answer
 Moves forms uids start (Ok (Done sequence)) = Comes forms uids start (Ok sequence)
 Moves forms uids start (Err e) = RefusesWith e (Comes forms uids start)
 
@@ -50,7 +53,8 @@ Counts forms x false = (is_note_tree x ≡ false) × IsUnmatched forms x
 abbrev pub LowersBy : List Entry → Insn → ℕ → Plan → Result Lowered PassRefusal → Type 0
 LowersBy forms i greatest plan (Ok l) =
     Lowers forms (uids_for i greatest) (parts_of false i.pattern plan) 0 plan.next (Ok l.sequence) × (l.form ≡ plan.form)
-LowersBy forms i greatest plan (Err e) = RefusesWith e (Lowers forms (uids_for i greatest) (parts_of false i.pattern plan) 0 plan.next)
+LowersBy forms i greatest plan (Err e) =
+    RefusesWith e (Lowers forms (uids_for i greatest) (parts_of false i.pattern plan) 0 plan.next)
 
 -- what an instruction was lowered to, as an answer
 abbrev pub as_insn : Result Lowered PassRefusal → InsnAnswer

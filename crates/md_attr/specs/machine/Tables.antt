@@ -1,4 +1,5 @@
--- When a table of attributes is that of some forms: whatever is looked up in it is what the forms say.
+-- When a table of attributes is that of some forms: whatever is looked up in it is what the forms
+-- say.
 use Rattle.std.specs.Prelude.{◌≡◌, ℕ, Bool, false, not, List, [], Option, Result, Ok, Err, codes, slice_get, option_map, option_and_then}
 use Rattle.std.specs.HashMap.{get_by}
 use Rattle.std.specs.Option.{option_map_or}
@@ -23,10 +24,12 @@ abbrev pub default_in : Defaults → List ℕ → Option (List ℕ)
 default_in defaults name = option_and_then (λ default. default) (definition_in defaults name)
 
 abbrev pub values_in : Attributes → List ℕ → ℕ → Option (List (List ℕ))
-values_in attrs name form = option_and_then (λ f. given_by name f.settings) (slice_get attrs.forms form)
+values_in attrs name form =
+    option_and_then (λ f. given_by name f.settings) (slice_get attrs.forms form)
 
 abbrev pub given_in : Attributes → List ℕ → ℕ → ℕ → Option (List ℕ)
-given_in attrs name form alternative = option_and_then (value_at alternative) (values_in attrs name form)
+given_in attrs name form alternative =
+    option_and_then (value_at alternative) (values_in attrs name form)
 
 abbrev pub value_in : Attributes → List ℕ → ℕ → ℕ → Option (List ℕ)
 value_in attrs name form alternative = option_map (λ default. or_default default (given_in attrs name form alternative)) (default_in attrs.defaults name)
@@ -51,5 +54,6 @@ settings_of e = settings_by e.form
 
 pub record AreAttributesOf (attrs : Attributes) (forms : List Entry) : Type 0 where
   pub defaults : (name : List ℕ) → default_in attrs.defaults name ≡ default_of forms name
-  pub given : (name : List ℕ) (form alternative : ℕ) → given_in attrs name form alternative ≡ given_of forms name form alternative
+  pub given : (name : List ℕ) (form alternative : ℕ) →
+      given_in attrs name form alternative ≡ given_of forms name form alternative
   pub alternatives : (form : ℕ) → alternatives_in attrs form ≡ alternatives_of forms form

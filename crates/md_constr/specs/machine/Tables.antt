@@ -1,4 +1,5 @@
--- When a table of constraints is that of some forms: whatever is looked up in it is what the forms say.
+-- When a table of constraints is that of some forms: whatever is looked up in it is what the forms
+-- say.
 use Rattle.std.specs.Prelude.{◌≡◌, ℕ, Bool, true, false, ◌&&◌, List, [], Option, Result, Ok, Err, map, slice_get}
 use Rattle.std.specs.HashMap.{get_by}
 use Rattle.std.specs.Option.{option_map_or}
@@ -36,7 +37,8 @@ abbrev pub meaning_in : Meanings → List ℕ → Option (Option Meaning)
 meaning_in meanings name = get_by (λ text. bytes_eq name text.items) meanings.by_name
 
 abbrev pub name_admits_in : Meanings → Accepts → List ℕ → Rtx → Bool
-name_admits_in meanings accepts name x = option_map_or (λ found. definition_admits found accepts x) (meaning_in meanings name) false
+name_admits_in meanings accepts name x =
+    option_map_or (λ found. definition_admits found accepts x) (meaning_in meanings name) false
 
 -- ---- what a definition means
 
@@ -64,31 +66,38 @@ constraints_of e = constraints_by e.form
 
 -- whether operands fit an alternative of a form that stands in a table
 abbrev pub found_fits : Named → ℕ → List (Option Rtx) → FormConstraints → Bool
-found_fits named alternative operands c = c.accepted && fit_together named c.operands c.inputs c.changed operands alternative c.constraints
+found_fits named alternative operands c =
+    c.accepted &&
+    fit_together named c.operands c.inputs c.changed operands alternative c.constraints
 
 abbrev pub fits_in : Constraints → Accepts → ℕ → ℕ → List (Option Rtx) → Bool
 fits_in table accepts form alternative operands = option_map_or (found_fits (name_admits_in table.meanings accepts) alternative operands) (slice_get table.forms form) false
 
 abbrev pub found_number_fits : Named → ℕ → List (Option Rtx) → ℕ → FormConstraints → Bool
-found_number_fits named alternative operands number c = c.accepted && fits_alone named c.inputs c.changed operands alternative number c.constraints
+found_number_fits named alternative operands number c =
+    c.accepted && fits_alone named c.inputs c.changed operands alternative number c.constraints
 
 abbrev pub number_fits_in : Constraints → Accepts → ℕ → ℕ → List (Option Rtx) → ℕ → Bool
 number_fits_in table accepts form alternative operands number = option_map_or (found_number_fits (name_admits_in table.meanings accepts) alternative operands number) (slice_get table.forms form) false
 
 abbrev pub found_number_admits : Named → ℕ → List (Option Rtx) → ℕ → Rtx → FormConstraints → Bool
-found_number_admits named alternative operands number x c = c.accepted && each_of number (constraint_admits named operands alternative x) c.constraints
+found_number_admits named alternative operands number x c =
+    c.accepted && each_of number (constraint_admits named operands alternative x) c.constraints
 
 abbrev pub number_admits_in : Constraints → Accepts → ℕ → ℕ → List (Option Rtx) → ℕ → Rtx → Bool
 number_admits_in table accepts form alternative operands number x = option_map_or (found_number_admits (name_admits_in table.meanings accepts) alternative operands number x) (slice_get table.forms form) false
 
 abbrev pub found_number_names : ℕ → ℕ → ℕ → FormConstraints → Bool
-found_number_names alternative number other c = some_of number (digit_stands alternative other) c.constraints
+found_number_names alternative number other c =
+    some_of number (digit_stands alternative other) c.constraints
 
 abbrev pub number_names_in : Constraints → ℕ → ℕ → ℕ → ℕ → Bool
-number_names_in table form alternative number other = option_map_or (found_number_names alternative number other) (slice_get table.forms form) false
+number_names_in table form alternative number other =
+    option_map_or (found_number_names alternative number other) (slice_get table.forms form) false
 
 abbrev pub found_number_clashes : ℕ → List (Option Rtx) → ℕ → FormConstraints → Bool
-found_number_clashes alternative operands number c = some_of number (operand_clashes c.inputs c.changed operands alternative) c.constraints
+found_number_clashes alternative operands number c =
+    some_of number (operand_clashes c.inputs c.changed operands alternative) c.constraints
 
 abbrev pub number_clashes_in : Constraints → ℕ → ℕ → List (Option Rtx) → ℕ → Bool
 number_clashes_in table form alternative operands number = option_map_or (found_number_clashes alternative operands number) (slice_get table.forms form) false
@@ -98,5 +107,6 @@ alternatives_in table form = option_map_or (λ c. c.alternatives) (slice_get tab
 
 -- what is looked up is what the forms say
 pub record AreConstraintsOf (table : Constraints) (forms : List Entry) : Type 0 where
-  pub names : (accepts : Accepts) (name : List ℕ) (x : Rtx) → name_admits_in table.meanings accepts name x ≡ name_admits forms accepts name x
+  pub names : (accepts : Accepts) (name : List ℕ) (x : Rtx) →
+      name_admits_in table.meanings accepts name x ≡ name_admits forms accepts name x
   pub rows : table.forms ≡ map constraints_of forms

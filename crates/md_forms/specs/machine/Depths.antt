@@ -1,6 +1,6 @@
 -- How deep the definitions of predicates go, for the contracts of private functions. One that names
--- only predicates without a definition has depth 0, any other is one deeper than the deepest that it
--- names. Within n rounds those are accepted whose depth is less than n.
+-- only predicates without a definition has depth 0, any other is one deeper than the deepest that
+-- it names. Within n rounds those are accepted whose depth is less than n.
 use Rattle.std.specs.Prelude.{◌≡◌, ℕ, ◌+◌, ◌<◌, nat_lt, Bool, false, List, Option, Some, None, map, length}
 use Rattle.md_forms.specs.declared.tables.PredicateDraft.{PredicateDraft}
 use Rattle.md_forms.specs.Predicates.{is_sound}

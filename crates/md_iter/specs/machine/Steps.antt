@@ -10,7 +10,8 @@ use Rattle.md_iter.specs.declared.refusal.IterRefusal.TheVariants as refusal
 use Rattle.md_iter.specs.Expansion.{most_forms, forms_with, PassesAt}
 
 abbrev pub GivesForms : Definitions → List Tree → Result (List Instance) IterRefusal → Type 0
-GivesForms definitions trees (Ok forms) = (forms ≡ forms_with definitions trees) × (length (forms_with definitions trees) ≤ most_forms)
+GivesForms definitions trees (Ok forms) =
+    (forms ≡ forms_with definitions trees) × (length (forms_with definitions trees) ≤ most_forms)
 GivesForms definitions trees (Err (refusal.Limit at)) = PassesAt definitions trees at
 GivesForms definitions trees (Err refusal.Memory) = Unit {0}
 

@@ -10,12 +10,14 @@ use Rattle.rtx_tree.specs.Operands.{operand_at}
 use Rattle.md_match.specs.Pattern.{Ops, placeholders, gives, gives_number, is_given, operand_of, instantiated, all_instantiated}
 use Rattle.md_match.specs.Match.{IsAsked, IsScratch, IsShort}
 
--- the pattern with the operands put in is the expression, and each operand is what its placeholder asks for
+-- the pattern with the operands put in is the expression, and each operand is what its placeholder
+-- asks for
 pub record Makes (pattern x : Rtx) (operands : Ops) : Type 0 where
   pub made : instantiated pattern operands ≡ Some x
   pub fit : AllByRecursion (IsAsked operands) (placeholders pattern)
 
--- some patterns with the operands put in are some expressions, one each, and each operand is what its placeholder asks for
+-- some patterns with the operands put in are some expressions, one each, and each operand is what
+-- its placeholder asks for
 pub record MakesAll (patterns xs : List Rtx) (operands : Ops) : Type 0 where
   pub made : all_instantiated patterns operands ≡ Some xs
   pub fit : AllByRecursion (IsAsked operands) (flat_map placeholders patterns)
@@ -54,8 +56,8 @@ Asks _ mode x = Unit {0}
 pub record Grows (a b : Ops) : Type 0 where
   pub keeps : (k : ℕ) (x : Rtx) → operand_at a k ≡ Some x → operand_at b k ≡ Some x
 
--- From old operands new ones are collected: those with the given numbers are there, and whatever grows from the old ones and
--- has the property grows from the new ones.
+-- From old operands new ones are collected: those with the given numbers are there, and whatever
+-- grows from the old ones and has the property grows from the new ones.
 pub record Collected (given : ℕ → Bool) (P : Ops → Type 0) (old new : Ops) : Type 0 where
   pub keeps : Grows old new
   pub below : (o : Ops) → Grows old o → P o → Grows new o

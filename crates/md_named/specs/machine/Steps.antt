@@ -11,5 +11,6 @@ use Rattle.run_refusal.specs.declared.refusal.Refusal.TheVariants as refusal
 abbrev pub DescribesRun : List Tree → Result (List Entry) Refusal → Type 0
 DescribesRun trees (Ok d) = (d ≡ forms_of trees) × (length (expanded trees) ≤ most_forms)
 DescribesRun trees (Err refusal.Memory) = Unit {0}
-DescribesRun trees (Err (refusal.Limit which count)) = (which ≡ limit.Forms) × (count ≡ 20001) × (most_forms < length (expanded trees))
+DescribesRun trees (Err (refusal.Limit which count)) =
+    (which ≡ limit.Forms) × (count ≡ 20001) × (most_forms < length (expanded trees))
 DescribesRun trees (Err e) = ⊥

@@ -1,4 +1,5 @@
--- How a table of predicates is made and asked. These definitions serve the contracts of private functions alone.
+-- How a table of predicates is made and asked. These definitions serve the contracts of private
+-- functions alone.
 use Rattle.std.specs.Prelude.{◌≡◌, ℕ, ◌+◌, ◌*◌, ◌<◌, min, Bool, false, not, List, length, take, Option, Some, None, Result, IfSome, if◌then◌else◌}
 use Rattle.std.specs.List.{find}
 use Rattle.std.specs.Str.{bytes_eq}
@@ -31,12 +32,14 @@ predicate_name e = if defines_predicate (head_named e.head) then e.name else Non
 -- this is kept of a definition
 pub record Keeps (nodes : List Node) (form : Result Form Reason) (d : Definition) : Type 0 where
   pub within : IfSome d.root (λ root. root < length nodes)
-  pub means : (other : Accepts) (x : Rtx) (m : Mode) → kept_holds other x m nodes (Some d) ≡ form_holds other x m form
+  pub means : (other : Accepts) (x : Rtx) (m : Mode) →
+      kept_holds other x m nodes (Some d) ≡ form_holds other x m form
 
 -- and the test alone
 pub record KeepsTest (nodes : List Node) (test : Option Test) (root : Option ℕ) : Type 0 where
   pub within : IfSome root (λ place. place < length nodes)
-  pub means : (other : Accepts) (x : Rtx) (m : Mode) → root_holds other x m nodes root ≡ tested other x m test
+  pub means : (other : Accepts) (x : Rtx) (m : Mode) →
+      root_holds other x m nodes root ≡ tested other x m test
 
 abbrev pub KeepsFirst : List Node → Option Definition → Option Entry → Type 0
 KeepsFirst nodes None None = Unit {0}
@@ -45,7 +48,8 @@ KeepsFirst nodes _ _ = ⊥
 
 -- of each name the first definition is kept
 abbrev pub AreKept : Definitions → List Entry → Type 0
-AreKept ds es = (name : List ℕ) → KeepsFirst ds.rows (definition_in ds name) (find (defines name) es)
+AreKept ds es =
+    (name : List ℕ) → KeepsFirst ds.rows (definition_in ds name) (find (defines name) es)
 
 -- a name has a definition now
 abbrev pub HasNow : List Node → Result Form Reason → Option Definition → Type 0
@@ -55,7 +59,8 @@ HasNow nodes form (Some d) = Keeps nodes form d
 -- that which it had, or else this one
 pub record Defines (old new : Definitions) (name : List ℕ) (form : Result Form Reason) : Type 0 where
   pub rows : take (length old.rows) new.rows ≡ old.rows
-  pub others : (other : List ℕ) → bytes_eq name other ≡ false → definition_in new other ≡ definition_in old other
+  pub others : (other : List ℕ) → bytes_eq name other ≡ false →
+      definition_in new other ≡ definition_in old other
   pub had : IfSome (definition_in old name) (λ d. definition_in new name ≡ Some d)
   pub made : definition_in old name ≡ None → HasNow new.rows form (definition_in new name)
 
@@ -67,7 +72,8 @@ asked_within table rounds = within (kept table.definitions) rounds
 
 -- the test whose root stands there holds
 abbrev pub at_holds : PredTable → Rtx → At → Bool
-at_holds table x at = holds_at (asked_within table at.rounds) x at.mode table.definitions.rows at.place
+at_holds table x at =
+    holds_at (asked_within table at.rounds) x at.mode table.definitions.rows at.place
 
 -- a part of the question there holds
 abbrev pub part_holds : PredTable → Rtx → At → ℕ → Bool
@@ -82,9 +88,11 @@ step_holds table x (step.Answer b) = b
 step_holds table x (step.Is at) = at_holds table x at
 step_holds table x (step.IsNot at) = not (at_holds table x at)
 
--- how many questions may be asked from there at most, one behind the other: each definition that is asked for begins anew
+-- how many questions may be asked from there at most, one behind the other: each definition that is
+-- asked for begins anew
 abbrev pub size_at : PredTable → At → ℕ
-size_at table at = at.rounds * (length table.definitions.rows + 1) + min at.place (length table.definitions.rows)
+size_at table at =
+    at.rounds * (length table.definitions.rows + 1) + min at.place (length table.definitions.rows)
 
 abbrev pub step_size : PredTable → Step → ℕ
 step_size table (step.Answer b) = 0

@@ -11,19 +11,26 @@ use Rattle.md_source.specs.Source.{Source, Outcome, shipped_name, text_of}
 
 -- what one text of a name comes to by itself, after so many bytes
 abbrev pub TextReads : List ℕ → ℕ → List ℕ → Outcome → Type 0
-TextReads name used text (Ok read) = (used + length text ≤ most_bytes) × (read.used ≡ used + length text) × ReadsAs text (Trees read.trees)
+TextReads name used text (Ok read) =
+    (used + length text ≤ most_bytes) × (read.used ≡ used + length text) ×
+    ReadsAs text (Trees read.trees)
 TextReads name used text (Err refusal.Text) = most_bytes < used + length text
-TextReads name used text (Err (refusal.Syntax file place)) = (used + length text ≤ most_bytes) × (file ≡ name) × ReadsAs text (Syntax place)
-TextReads name used text (Err refusal.Depth) = (used + length text ≤ most_bytes) × ((place : _) × ReadsAs text (Depth place))
+TextReads name used text (Err (refusal.Syntax file place)) =
+    (used + length text ≤ most_bytes) × (file ≡ name) × ReadsAs text (Syntax place)
+TextReads name used text (Err refusal.Depth) =
+    (used + length text ≤ most_bytes) × ((place : _) × ReadsAs text (Depth place))
 TextReads name used text (Err e) = ⊥
 
 -- the same of the file of a name, if its text is known
 abbrev pub FileReads : Source → ℕ → List ℕ → Outcome → Type 0
-FileReads source used name outcome = (text : List ℕ) → text_of source name ≡ Some text → TextReads name used text outcome
+FileReads source used name outcome =
+    (text : List ℕ) → text_of source name ≡ Some text → TextReads name used text outcome
 
--- a file was fetched: of a name that holds these bytes they were given, or they are more than the room
+-- a file was fetched: of a name that holds these bytes they were given, or they are more than the
+-- room
 abbrev pub Fetched : (List ℕ → Type 0) → ℕ → Result (Vec ℕ Global) SourceRefusal → Type 0
-Fetched holds room (Ok bytes) = (text : List ℕ) → holds text → (bytes.items ≡ text) × (length text ≤ room)
+Fetched holds room (Ok bytes) =
+    (text : List ℕ) → holds text → (bytes.items ≡ text) × (length text ≤ room)
 Fetched holds room (Err refusal.Text) = (text : List ℕ) → holds text → room < length text
 Fetched holds room (Err refusal.ReadFault) = Unit {0}
 Fetched holds room (Err refusal.Memory) = Unit {0}
@@ -35,7 +42,8 @@ IsSyntax name place refusal.Memory = Unit {0}
 IsSyntax name place e = e ≡ refusal.Syntax name place
 
 -- a name was asked for, unless memory ran out
-abbrev pub AsksName : {A : Type 0} → Option (List (List ℕ)) → Option (List (List ℕ)) → List ℕ → Result A SourceRefusal → Type 0
+abbrev pub AsksName : {A : Type 0} → Option (List (List ℕ)) → Option (List (List ℕ)) → List ℕ →
+    Result A SourceRefusal → Type 0
 AsksName before now name (Err refusal.Memory) = Grows before now name ⊎ (now ≡ before)
 AsksName before now name r = Grows before now name
 
@@ -45,6 +53,7 @@ pub data AsksFile (before now : Option (List (List ℕ))) (name : List ℕ) : Ty
   asked : name ≢ shipped_name → Grows before now name → AsksFile before now name
 
 -- after a refusal it may be missing
-abbrev pub AsksFor : {A : Type 0} → Option (List (List ℕ)) → Option (List (List ℕ)) → List ℕ → Result A SourceRefusal → Type 0
+abbrev pub AsksFor : {A : Type 0} → Option (List (List ℕ)) → Option (List (List ℕ)) → List ℕ →
+    Result A SourceRefusal → Type 0
 AsksFor before now name (Ok x) = AsksFile before now name
 AsksFor before now name (Err e) = AsksFile before now name ⊎ (now ≡ before)

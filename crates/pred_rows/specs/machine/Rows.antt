@@ -20,22 +20,26 @@ node_answer accepts x m before (node.Predicate name own) = accepts name x (mode_
 node_answer accepts x m before (node.And a b) = answer_at before a && answer_at before b
 node_answer accepts x m before (node.Ior a b) = answer_at before a || answer_at before b
 node_answer accepts x m before (node.Not a) = not (answer_at before a)
-node_answer accepts x m before (node.IfThenElse a b c) = if answer_at before a then answer_at before b else answer_at before c
+node_answer accepts x m before (node.IfThenElse a b c) =
+    if answer_at before a then answer_at before b else answer_at before c
 
 -- the answers of some nodes, and before them those of the nodes before them
 abbrev pub answers_behind : Accepts → Rtx → Mode → List Bool → List Node → List Bool
 answers_behind accepts x m before [] = before
-answers_behind accepts x m before (n ∷ ns) = answers_behind accepts x m (before ++ node_answer accepts x m before n ∷ []) ns
+answers_behind accepts x m before (n ∷ ns) =
+    answers_behind accepts x m (before ++ node_answer accepts x m before n ∷ []) ns
 
 -- the answers of the nodes of a row
 abbrev pub answers : Accepts → Rtx → Mode → List Node → List Bool
 answers accepts x m nodes = answers_behind accepts x m [] nodes
 
--- whether the test whose root stands at a place of a row holds for an operand that is asked for in a mode
+-- whether the test whose root stands at a place of a row holds for an operand that is asked for in
+-- a mode
 abbrev pub holds_at : Accepts → Rtx → Mode → List Node → ℕ → Bool
 holds_at accepts x m nodes root = answer_at (answers accepts x m nodes) root
 
 -- a test stands in a row, with its root at a place
 pub record IsRoot (nodes : List Node) (test : Test) (root : ℕ) : Type 0 where
   pub within : root < length nodes
-  pub means : (accepts : Accepts) (x : Rtx) (m : Mode) → holds_at accepts x m nodes root ≡ test_holds accepts x m test
+  pub means : (accepts : Accepts) (x : Rtx) (m : Mode) →
+      holds_at accepts x m nodes root ≡ test_holds accepts x m test

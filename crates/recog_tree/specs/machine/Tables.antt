@@ -16,7 +16,8 @@ is_tried_at keys insn place = option_map_or (is_tried_by insn) (slice_get keys p
 
 -- nothing from one place on and before another is tried
 abbrev pub NoneTried : List (Option Key) → Key → ℕ → ℕ → Type 0
-NoneTried keys insn from to = (place : ℕ) → from ≤ place → place < to → is_tried_at keys insn place ≡ false
+NoneTried keys insn from to =
+    (place : ℕ) → from ≤ place → place < to → is_tried_at keys insn place ≡ false
 
 -- the first place from another on of which what stands there is tried
 pub record IsNext (keys : List (Option Key)) (insn : Key) (from place : ℕ) : Type 0 where

@@ -57,9 +57,11 @@ pub record IsBetween (forms : List Entry) (uid : ℕ) (i : Insn) (given : Given)
   pub stands : new ≡ old ++ window_of uid i given plan
   pub free : next + 1 ≡ uid + length (window_of uid i given plan)
 
-abbrev pub AddsWindow : List Entry → ℕ → Insn → Given → Plan → List Insn → List Insn → Added → Type 0
+abbrev pub AddsWindow : List Entry → ℕ → Insn → Given → Plan → List Insn → List Insn → Added →
+    Type 0
 AddsWindow forms uid i given plan old new (Ok next) = IsBetween forms uid i given plan old new next
-AddsWindow forms uid i given plan old new (Err e) = RefusesAs e (AreStuck forms uid (moves_of given plan))
+AddsWindow forms uid i given plan old new (Err e) =
+    RefusesAs e (AreStuck forms uid (moves_of given plan))
 
 -- ---- instructions
 

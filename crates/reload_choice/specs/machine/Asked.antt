@@ -25,7 +25,8 @@ planned_in a given fits formed parts =
     plan_if (is_reachable (asks_in a) a.operands.now given fits formed parts) a.constraints.now a.alternative parts
 
 abbrev pub plan_in : Asked → Given → List Bool → Option Plan
-plan_in a given formed = plan_by (asks_in a) a.constraints.now a.operands.now given formed a.alternative
+plan_in a given formed =
+    plan_by (asks_in a) a.constraints.now a.operands.now given formed a.alternative
 
 -- the plan of an alternative of a form, over the constraints that were looked up
 abbrev pub plan_of : List Entry → ℕ → List OperandConstraint → Given → List Bool → ℕ → Option Plan

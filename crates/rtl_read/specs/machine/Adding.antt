@@ -10,7 +10,8 @@ abbrev pub behind : {A : Type 0} → List A → Parsed (List A) → Parsed (List
 behind before (stands xs) = stands (before ++ xs)
 behind before (construct place name) = construct place name
 
-abbrev pub Adds : {A : Type 0} → Result (Unit {0}) RtlRefusal → List A → List A → Parsed (List A) → Type 0
+abbrev pub Adds : {A : Type 0} → Result (Unit {0}) RtlRefusal → List A → List A → Parsed (List A) →
+    Type 0
 Adds (Ok done) before after p = behind before p ≡ stands after
 Adds (Err e) before after p = Refuses e p
 

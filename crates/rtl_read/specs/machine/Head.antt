@@ -26,7 +26,9 @@ is_parallel_code None = false
 is_parallel_code (Some c) = is_class_parallel (class_of_code c)
 
 abbrev pub is_parallel_head : List ℕ → Bool
-is_parallel_head text = let parts = cut 58 text in let words = cut 47 parts.0 in is_parallel_code (code_in words.0) && (is_none parts.1 && flags_pass words.1)
+is_parallel_head text =
+    let parts = cut 58 text in let words = cut 47 parts.0 in is_parallel_code (code_in words.0) &&
+    (is_none parts.1 && flags_pass words.1)
 
 abbrev pub is_parallel_text : Option (List ℕ) → Bool
 is_parallel_text None = false

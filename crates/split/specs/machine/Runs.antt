@@ -7,7 +7,8 @@ use Rattle.pass_refusal.specs.declared.refusal.PassRefusal.{PassRefusal}
 use Rattle.split.specs.declared.stage.SplitStage.{SplitStage}
 use Rattle.split.specs.Split.{Answer, SplitFrom, most_splits}
 
--- Of what instructions come to with some depths from a place on, behind them others: where others come to an answer from the end on, all do.
+-- Of what instructions come to with some depths from a place on, behind them others: where others
+-- come to an answer from the end on, all do.
 abbrev pub Reaches : List Entry → SplitStage → List ℕ → Function → ℕ → Function → ℕ → Type 0
 Reaches forms stage depths f place g end =
     (rest : List ℕ) (answer : Answer) → SplitFrom forms stage rest g end answer → SplitFrom forms stage (depths ++ rest) f place answer
@@ -22,7 +23,9 @@ SameBehind f behind g end = length g.insns + behind ≡ length f.insns + end
 
 -- so many instructions stand in the place of the one at a place, which follow from one split more
 pub record PlaceReaches (forms : List Entry) (stage : SplitStage) (depth : ℕ) (f : Function) (place : ℕ) (g : Function) (made : ℕ) : Type 0 where
-  pub reaches : (rest : List ℕ) (answer : Answer) → SplitFrom forms stage (replicate made (depth + 1) ++ rest) g place answer → SplitFrom forms stage (depth ∷ rest) f place answer
+  pub reaches : (rest : List ℕ) (answer : Answer) →
+      SplitFrom forms stage (replicate made (depth + 1) ++ rest) g place answer →
+      SplitFrom forms stage (depth ∷ rest) f place answer
   pub behind : SameBehind f (place + 1) g (place + made)
   pub shallow : depth < most_splits
 
@@ -32,13 +35,16 @@ pub record PlaceStays (forms : List Entry) (stage : SplitStage) (depth : ℕ) (f
   pub same : g ≡ f
 
 -- what was done with an instruction of a depth
-abbrev pub PlaceSplits : List Entry → SplitStage → ℕ → Function → ℕ → Function → Result (Option ℕ) PassRefusal → Type 0
-PlaceSplits forms stage depth f place g (Ok (Some made)) = PlaceReaches forms stage depth f place g made
+abbrev pub PlaceSplits : List Entry → SplitStage → ℕ → Function → ℕ → Function →
+    Result (Option ℕ) PassRefusal → Type 0
+PlaceSplits forms stage depth f place g (Ok (Some made)) =
+    PlaceReaches forms stage depth f place g made
 PlaceSplits forms stage depth f place g (Ok None) = PlaceStays forms stage depth f place g
 PlaceSplits forms stage depth f place g (Err e) = Stops forms stage (depth ∷ []) f place e
 
 -- what was done where a form was found for it
-abbrev pub FoundSplits : List Entry → SplitStage → ℕ → Function → ℕ → Function → Result ℕ PassRefusal → Type 0
+abbrev pub FoundSplits : List Entry → SplitStage → ℕ → Function → ℕ → Function →
+    Result ℕ PassRefusal → Type 0
 FoundSplits forms stage depth f place g (Ok made) = PlaceReaches forms stage depth f place g made
 FoundSplits forms stage depth f place g (Err e) = Stops forms stage (depth ∷ []) f place e
 
@@ -47,6 +53,9 @@ pub record RunReaches (forms : List Entry) (stage : SplitStage) (count depth : �
   pub behind : SameBehind f (place + count) g end
 
 -- so many instructions of one depth from a place on were split
-abbrev pub RunSplits : List Entry → SplitStage → ℕ → ℕ → Function → ℕ → Function → Result ℕ PassRefusal → Type 0
-RunSplits forms stage count depth f place g (Ok end) = RunReaches forms stage count depth f place g end
-RunSplits forms stage count depth f place g (Err e) = Stops forms stage (replicate count depth) f place e
+abbrev pub RunSplits : List Entry → SplitStage → ℕ → ℕ → Function → ℕ → Function →
+    Result ℕ PassRefusal → Type 0
+RunSplits forms stage count depth f place g (Ok end) =
+    RunReaches forms stage count depth f place g end
+RunSplits forms stage count depth f place g (Err e) =
+    Stops forms stage (replicate count depth) f place e

@@ -12,7 +12,8 @@ use Rattle.sym_lines.specs.Step.{register_needs, source_needs, args_from}
 
 -- needs of the line at a place stand behind those that were noted before
 abbrev pub AreNoted : List SymNeed → List SymNeed → ℕ → List Need → Type 0
-AreNoted before after index needs = map need_at_of after ≡ map need_at_of before ++ needs_at index needs
+AreNoted before after index needs =
+    map need_at_of after ≡ map need_at_of before ++ needs_at index needs
 
 -- what reading two sources needs
 abbrev pub both_needs : List Changed → Line → Source → Source → List Need

@@ -26,7 +26,8 @@ put_at regs at reg value =
 -- the low bits of a term that is left, or of what the register held at first
 abbrev pub term_left : Option Tree → ℕ → Width → Tree
 term_left None reg w = low_bits w (own_register reg)
-term_left (Some t) reg w = if narrower (width_of t) w then low_bits w (own_register reg) else low_bits w t
+term_left (Some t) reg w =
+    if narrower (width_of t) w then low_bits w (own_register reg) else low_bits w t
 
 -- at most one, as a list
 abbrev pub listed : {X : Type 0} → Option X → List X

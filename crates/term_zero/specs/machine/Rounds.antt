@@ -17,7 +17,8 @@ round_tree again (Next width term) = again width (tree_of term)
 
 -- the two parts of an exclusive or of the width
 abbrev pub xor_parts : Width → Tree → Option (Tree × Tree)
-xor_parts w (Node heads.Xor u n s (tree a (tree b no_trees))) = if same_width u w then Some (a, b) else None
+xor_parts w (Node heads.Xor u n s (tree a (tree b no_trees))) =
+    if same_width u w then Some (a, b) else None
 xor_parts w t = None
 
 abbrev pub zero_parted : Option (Tree × Tree) → (Width → Tree → Tree) → Width → Tree → Tree

@@ -8,5 +8,7 @@ use Rattle.tree_forms.specs.Trees.{most_forms, expanded, IsTooMany}
 
 -- the trees were expanded
 abbrev pub Expands : List Tree → Result Expanded DescRefusal → Type 0
-Expands trees (Ok e) = (e.forms ≡ expanded trees) × (e.constants ≡ all_constants_in trees) × (length (expanded trees) ≤ most_forms)
+Expands trees (Ok e) =
+    (e.forms ≡ expanded trees) × (e.constants ≡ all_constants_in trees) ×
+    (length (expanded trees) ≤ most_forms)
 Expands trees (Err e) = IsTooMany trees e

@@ -33,7 +33,8 @@ the_empty = []
 abbrev pub the_items : (X : Type 0) → List X → List X
 the_items X xs = xs
 
-pub the_items_listed : (X : Type 0) (xs : List X) → listed _ (children (the_former this) X xs) ≡ the_items X xs
+pub the_items_listed : (X : Type 0) (xs : List X) →
+    listed _ (children (the_former this) X xs) ≡ the_items X xs
 the_items_listed X xs = list-listed X xs
 
 -- the fields behind the list: one vector

@@ -47,7 +47,7 @@ impl From<Memory> for OutRefusal {
     }
 }
 
-/// That no form counts for an instruction.
+/// The refusal of an instruction for which no form counts.
 pub(crate) fn unmatched(alloc: Global, insn: &Insn) -> Result<OutRefusal, Memory>
     ensures { IfOk result (λ e. e ≡ spec.unmatched_insn insn.now) }
 {
@@ -57,7 +57,7 @@ pub(crate) fn unmatched(alloc: Global, insn: &Insn) -> Result<OutRefusal, Memory
     })
 }
 
-/// That the text is longer than an assembly may be.
+/// The refusal of a text that is longer than an assembly may be.
 pub(crate) fn too_long() -> OutRefusal
     ensures { result ≡ spec.too_long }
 {

@@ -23,7 +23,7 @@ pub struct Summary {
     pub lines: u64,
 }
 
-/// That of no function.
+/// The summary of no function.
 pub(crate) fn empty() -> Summary
     ensures { result ≡ spec.empty }
 {
@@ -49,7 +49,7 @@ fn line_count(items: &[CodeItem]) -> usize
     items.iter().filter(|item| is_code(item)).count()
 }
 
-/// That of a function, what the passes made of it, and its lines and labels.
+/// The summary of a function, what the passes made of it, and its lines and labels.
 pub(crate) fn summary_of(f: &Function, made: &Made, items: &[CodeItem]) -> Summary
     ensures { result ≡ spec.summary_of f.now made.now items.now }
 {

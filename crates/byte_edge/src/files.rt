@@ -46,7 +46,7 @@ impl From<Memory> for FetchFault {
 
 /// Where files come from.
 pub trait Files {
-    /// That a name holds these bytes, where it is told.
+    /// A name holds these bytes, where the object tells it.
     ghost holds: { Self → List ℕ → List ℕ → Type 0 };
 
     /// The names asked for so far, in order, where they are told.

@@ -45,7 +45,7 @@ impl Model for Cond {
     ghost invariant = { λ cond. IsWhole cond.heads };
 }
 
-/// The same heads once more.
+/// A copy of heads.
 fn heads_copy(alloc: Global, heads: &[CondHead]) -> Result<Items<CondHead>, Memory>
     ensures { IfOk result (λ copy. copy ≡ heads.now) }
 {
@@ -57,7 +57,7 @@ fn heads_copy(alloc: Global, heads: &[CondHead]) -> Result<Items<CondHead>, Memo
 }
 
 impl Cond {
-    /// The same condition once more.
+    /// A copy of the condition.
     pub fn copy(&self, alloc: Global) -> Result<Cond, Memory>
         ensures { IfOk result (λ cond. cond ≡ self.now) }
     {

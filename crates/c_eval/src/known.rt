@@ -12,7 +12,7 @@ use rtx_tree::{Operands, RegSet, Rtx};
 /// The operands that a condition may name.
 #[derive(Clone, Copy)]
 pub enum Given<'a> {
-    /// Those of a form.
+    /// The operands of a form.
     Operands(&'a Operands),
     /// The operand that a predicate tests, which is operand 0.
     Tested(&'a Rtx),

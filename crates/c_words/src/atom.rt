@@ -32,7 +32,7 @@ pub enum Property {
 /// What a word means where an expression may begin.
 #[derive(Debug, Drop)]
 pub enum Atom {
-    /// It is an expression by itself.
+    /// The word is an expression by itself.
     Leaf(CondHead),
     /// Its parts follow in parentheses.
     Call(Call),

@@ -138,7 +138,7 @@ pub enum CondHead {
 }
 
 impl CondHead {
-    /// The same head once more.
+    /// A copy of the head.
     pub fn copy(&self, alloc: Global) -> Result<CondHead, Memory>
         ensures { IfOk result (λ head. head ≡ self.now) }
     {

@@ -22,12 +22,12 @@ impl Told {
         }
     }
 
-    /// It is not whole.
+    /// Says that the text is not whole.
     pub fn fail(&mut self) {
         self.is_whole = false;
     }
 
-    /// It is not whole where a part of it is not told.
+    /// Says that the text is not whole where a part of it is not told.
     pub fn need(&mut self, is_told: bool) {
         self.is_whole &= is_told;
     }

@@ -92,7 +92,7 @@ fn is_matched(alloc: Global, desc: &Description, insn: &Insn) -> Result<bool, Me
     }
 }
 
-/// That some form matches an instruction, where it has a uid from one on.
+/// Refuses an instruction that no form matches, where it has a uid from one on.
 fn try_insn(alloc: Global, desc: &Description, first: u32, insn: &Insn) -> Result<(), PassRefusal>
     ensures { TriesInsn desc.now first insn.now result }
 {
@@ -105,7 +105,7 @@ fn try_insn(alloc: Global, desc: &Description, first: u32, insn: &Insn) -> Resul
     Err(unmatched(alloc, insn)?)
 }
 
-/// That some form matches each instruction that has a uid from one on.
+/// Refuses the first instruction with a uid from one on that no form matches.
 fn try_all(alloc: Global, desc: &Description, first: u32, insns: &[Insn]) -> Result<(), PassRefusal>
     ensures { TriesAll desc.now first insns.now result }
 {

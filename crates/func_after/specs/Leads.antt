@@ -1,4 +1,4 @@
--- That what the passes make of a function leads to lines with its behaviour: GCC Internals, "Passes
+-- What the passes make of a function leads to lines with its behaviour: GCC Internals, "Passes
 -- and Files of the Compiler".
 use Rattle.std.specs.Prelude.{◌≡◌, ◌≤◌, List}
 use Rattle.rtx_tree.specs.declared.constants.Constant.{Constant}

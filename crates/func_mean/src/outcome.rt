@@ -11,17 +11,17 @@ pub type Kept = Items<Option<u64>>;
 pub enum Outcome {
     /// A step had no value.
     Undefined,
-    /// It goes on.
+    /// The run goes on.
     Running {
         /// The calls so far.
         calls: Calls,
     },
-    /// It waits for the reply to its last call.
+    /// The run waits for the reply to its last call.
     Asked {
         /// The calls, with this one.
         calls: Calls,
     },
-    /// It returned.
+    /// The function returned.
     Returned {
         /// The result, where there is one.
         value: Option<u64>,

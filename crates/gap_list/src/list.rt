@@ -15,7 +15,7 @@ use std::mem;
 pub struct GapList<T> {
     /// The elements before the gap.
     front: Vec<T>,
-    /// Those behind it, the last first.
+    /// The elements behind the gap, the last first.
     back: Vec<T>,
 }
 

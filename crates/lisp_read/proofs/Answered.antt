@@ -4,13 +4,13 @@ use Rattle.lisp_read.specs.declared.tree.Tree.{Tree}
 use Rattle.lisp_read.specs.declared.read.ReadRefusal.{ReadRefusal}
 use Rattle.lisp_read.specs.declared.read.ReadRefusal.TheVariants as refusal
 use Rattle.lisp_read.specs.Part.{parts_of_all}
-use Rattle.lisp_read.specs.Answers.{Answers}
+use Rattle.lisp_read.specs.Answers.{Gives}
 use Rattle.lisp_read.specs.machine.Runs.{Reads}
 use Rattle.lisp_read.proofs.Sound.{text_of_parts}
 use Rattle.lisp_read.proofs.Stops.{syntax_place}
 use Rattle.lisp_read.proofs.Depths.{depth_place, never_where_read, never_where_stopped}
 
-pub answered : (bytes : List ℕ) (r : Result (List Tree) ReadRefusal) → Reads bytes r → Answers bytes r
+pub answered : (bytes : List ℕ) (r : Result (List Tree) ReadRefusal) → Reads bytes r → Gives bytes r
 answered bytes (Ok trees) h =
     let t = text_of_parts bytes (parts_of_all trees) h.0 in
     (record { nested = t.0; spelled = t.1 }, never_where_read bytes h.1)

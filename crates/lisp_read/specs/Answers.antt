@@ -6,8 +6,8 @@ use Rattle.lisp_read.specs.declared.read.ReadRefusal.TheVariants as refusal
 use Rattle.lisp_read.specs.Reading.{ReadsAs, Trees, Syntax, Depth}
 
 -- Each answer is the reading of the bytes; that memory ran out says nothing of them.
-abbrev pub Answers : List ℕ → Result (List Tree) ReadRefusal → Type 0
-Answers bytes (Ok trees) = ReadsAs bytes (Trees trees)
-Answers bytes (Err (refusal.Syntax place)) = ReadsAs bytes (Syntax place)
-Answers bytes (Err (refusal.Depth place)) = ReadsAs bytes (Depth place)
-Answers bytes (Err refusal.Memory) = Unit {0}
+abbrev pub Gives : List ℕ → Result (List Tree) ReadRefusal → Type 0
+Gives bytes (Ok trees) = ReadsAs bytes (Trees trees)
+Gives bytes (Err (refusal.Syntax place)) = ReadsAs bytes (Syntax place)
+Gives bytes (Err (refusal.Depth place)) = ReadsAs bytes (Depth place)
+Gives bytes (Err refusal.Memory) = Unit {0}

@@ -2,7 +2,7 @@
 ghost use Rattle.std.specs.Prelude.{◌≡◌, ◌+◌, ◌<◌, ◌≤◌, ◌^◌, length};
 ghost use Rattle.lisp_read.specs.Places.{advance};
 ghost use Rattle.lisp_read.specs.Reading.{Reading, ReadsAs};
-ghost use Rattle.lisp_read.specs.Answers.{Answers};
+ghost use Rattle.lisp_read.specs.Answers.{Gives};
 ghost use Rattle.lisp_read.specs.machine.Runs.{finish, Reads, Ends};
 ghost use Rattle.lisp_read.specs.machine.Reader.{state_of};
 
@@ -125,7 +125,7 @@ fn read_all(alloc: Global, bytes: &[u8]) -> Result<Trees, ReadRefusal>
 pub fn read_trees(alloc: Global, bytes: &[u8]) -> Result<Trees, ReadRefusal>
     requires { length bytes.now < 4294967295 }
     // The answer is the reading of the bytes, unless memory ran out.
-    ensures reads { Answers bytes.now result }
+    ensures reads { Gives bytes.now result }
     // Bytes have one reading at most.
     ensures one { (a b : Reading) → ReadsAs bytes.now a → ReadsAs bytes.now b → a ≡ b }
 {

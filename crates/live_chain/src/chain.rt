@@ -149,7 +149,7 @@ impl LiveChain {
     }
 
     /// One above the greatest number of a pseudo register of the chain, or 0 where it names none.
-    /// It takes no memory.
+    /// The call takes no memory.
     pub fn next_pseudo(&mut self) -> u64
         ensures next { result ≡ counts.next_pseudo self.old.insns }
         ensures same { self.new ≡ self.old }

@@ -60,7 +60,7 @@ fn constraint_copy(
     })
 }
 
-/// The same constraints once more.
+/// A copy of constraints.
 pub fn constraints_copy(
     alloc: Global,
     constraints: &[OperandConstraint],

@@ -52,9 +52,9 @@ pub enum FormHead {
 pub enum RegisterClass {
     /// All of them.
     General,
-    /// Those in which arguments stand.
+    /// The registers in which arguments stand.
     Args,
-    /// Those that a call leaves.
+    /// The registers that a call leaves.
     Saved,
     /// None.
     Nothing,

@@ -70,7 +70,7 @@ atom_text definitions choice is_head text = with_constant definitions.constants 
 
 -- ---- trees
 
--- The same tree with other texts. In strings and blocks only <..> is replaced. The first tree of a
+-- A tree with other texts. In strings and blocks only <..> is replaced. The first tree of a
 -- list is its head.
 abbrev pub substituted_step : Definitions → List Chosen → Tree-F (Bool → Tree) → Bool → Tree
 substituted_step definitions choice (Tree-F.Atom place text) is_head =

@@ -27,7 +27,7 @@ pub struct Expanded {
 
 /// Why the forms of one tree were not made.
 enum TreeRefusal {
-    /// They would be too many.
+    /// The forms would be too many.
     Limit,
     Memory,
 }

@@ -12,18 +12,18 @@ use Rattle.tree_forms.specs.Trees.{expanded, most_forms}
 use Rattle.md_list.specs.declared.refusal.ListRefusal.{ListRefusal}
 use Rattle.md_list.specs.declared.refusal.ListRefusal.TheVariants as refusal
 use Rattle.md_list.specs.Listing.{ListComes, list_of_trees}
-use Rattle.md_list.specs.Answers.{GivesList}
-use Rattle.md_list.specs.machine.Steps.{ListsTrees}
+use Rattle.md_list.specs.Answers.{Gives}
+use Rattle.md_list.specs.machine.Steps.{GivesTrees}
 
 -- the trees of a description were listed
-pub of_trees : (source : Source) (name : List ℕ) (trees : List Tree) (r : Result (Vec ℕ Global) ListRefusal) → DescriptionComes source name (Ok trees) → ListsTrees trees r → GivesList (ListComes source name) r
+pub of_trees : (source : Source) (name : List ℕ) (trees : List Tree) (r : Result (Vec ℕ Global) ListRefusal) → DescriptionComes source name (Ok trees) → GivesTrees trees r → Gives (ListComes source name) r
 of_trees source name trees (Ok text) come listed = subst (λ (t : List ℕ). ListComes source name (Ok t)) (sym listed.0) (ListComes.listed trees come listed.1)
 of_trees source name trees (Err refusal.Forms) come many = ListComes.too_many trees come many
 of_trees source name trees (Err refusal.Memory) come free = tt
 of_trees source name trees (Err (refusal.Source e)) come none = absurd none
 
 -- its files were refused
-pub of_refusal : (source : Source) (name : List ℕ) (e : SourceRefusal) → Refuses e (DescriptionComes source name) → GivesList (ListComes source name) (Err (refusal.Source e))
+pub of_refusal : (source : Source) (name : List ℕ) (e : SourceRefusal) → Refuses e (DescriptionComes source name) → Gives (ListComes source name) (Err (refusal.Source e))
 of_refusal source name source_refusal.ReadFault come = tt
 of_refusal source name source_refusal.Memory come = tt
 of_refusal source name source_refusal.Depth come = ListComes.refused source_refusal.Depth come
@@ -32,8 +32,8 @@ of_refusal source name source_refusal.Include come = ListComes.refused source_re
 of_refusal source name (source_refusal.Syntax file place) come = ListComes.refused (source_refusal.Syntax file place) come
 
 -- trees that were listed are no refusal of files
-pub no_fault : (trees : List Tree) (r : Result (Vec ℕ Global) ListRefusal) (e : SourceRefusal) → ListsTrees trees r → r ≡ Err (refusal.Source e) → ⊥
-no_fault trees r e listed is = subst (λ (x : Result (Vec ℕ Global) ListRefusal). ListsTrees trees x) is listed
+pub no_fault : (trees : List Tree) (r : Result (Vec ℕ Global) ListRefusal) (e : SourceRefusal) → GivesTrees trees r → r ≡ Err (refusal.Source e) → ⊥
+no_fault trees r e listed is = subst (λ (x : Result (Vec ℕ Global) ListRefusal). GivesTrees trees x) is listed
 
 -- ---- one answer
 

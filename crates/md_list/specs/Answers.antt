@@ -6,10 +6,10 @@ use Rattle.md_list.specs.declared.refusal.ListRefusal.{ListRefusal}
 use Rattle.md_list.specs.declared.refusal.ListRefusal.TheVariants as refusal
 
 -- a text or a refusal has a property; a fault and want of memory have theirs elsewhere
-abbrev pub GivesList : (Result (List ℕ) ListRefusal → Type 0) → Result (Vec ℕ Global) ListRefusal →
+abbrev pub Gives : (Result (List ℕ) ListRefusal → Type 0) → Result (Vec ℕ Global) ListRefusal →
     Type 0
-GivesList P (Ok text) = P (Ok text.items)
-GivesList P (Err refusal.Memory) = Unit {0}
-GivesList P (Err (refusal.Source source.ReadFault)) = Unit {0}
-GivesList P (Err (refusal.Source source.Memory)) = Unit {0}
-GivesList P (Err e) = P (Err e)
+Gives P (Ok text) = P (Ok text.items)
+Gives P (Err refusal.Memory) = Unit {0}
+Gives P (Err (refusal.Source source.ReadFault)) = Unit {0}
+Gives P (Err (refusal.Source source.Memory)) = Unit {0}
+Gives P (Err e) = P (Err e)

@@ -5,8 +5,8 @@ ghost use Rattle.md_source.specs.Source.{Source};
 ghost use Rattle.md_source.specs.Asked.{AreNamed, GrewBy, IsKnown};
 ghost use Rattle.md_source.specs.Answers.{Agrees};
 ghost use Rattle.md_source.specs.declared.refusal.SourceRefusal.TheVariants as source_refusal;
-ghost use Rattle.md_list.specs.Answers.{GivesList};
-ghost use Rattle.md_list.specs.machine.Steps.{ListsTrees};
+ghost use Rattle.md_list.specs.Answers.{Gives};
+ghost use Rattle.md_list.specs.machine.Steps.{GivesTrees};
 ghost use Rattle.md_list.specs.Listing as spec;
 ghost use Rattle.md_list.specs.declared.refusal.ListRefusal.{ListRefusal};
 ghost use Rattle.md_list.specs.declared.refusal.ListRefusal.TheVariants as refused;
@@ -33,7 +33,7 @@ fn list_forms(alloc: Global, forms: &Forms) -> Result<Vec<u8>, Memory>
 
 /// The list of a description's trees.
 fn list_trees(alloc: Global, trees: &[Tree]) -> Result<Vec<u8>, ListRefusal>
-    ensures { ListsTrees trees.now result }
+    ensures { GivesTrees trees.now result }
 {
     match forms_of_trees(alloc, trees) {
         Ok(forms) => Ok(list_forms(alloc, &forms)?),
@@ -52,7 +52,7 @@ fn list_trees(alloc: Global, trees: &[Tree]) -> Result<Vec<u8>, ListRefusal>
 pub fn list<F: Files>(alloc: Global, files: &mut F, name: &[u8]) -> Result<Vec<u8>, ListRefusal>
     // The answer is what the list comes to, by all that is known of the files, unless memory ran out or they failed.
     ensures gives { (source : Source) → Agrees source (F.holds files.old) →
-        GivesList (spec.ListComes source name.now) result }
+        Gives (spec.ListComes source name.now) result }
 
     // By files of which all that the description is made of is known, it comes to one answer.
     ensures one { (source : Source) → IsKnown source name.now → (a b : Result (List ℕ) ListRefusal) →

@@ -9,7 +9,7 @@ pub enum ListRefusal {
     /// Its files were refused.
     #[error("the files of the description were refused")]
     Source(SourceRefusal),
-    /// It has more than 20,000 forms.
+    /// The description has more than 20,000 forms.
     #[error("the description has too many forms")]
     Forms,
     /// Memory ran out.

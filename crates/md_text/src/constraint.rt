@@ -37,7 +37,7 @@ pub enum Letter {
 pub enum Member {
     /// What the letter says.
     Letter(Letter),
-    /// The same as the operand of this number, 0 to 9.
+    /// What is the same as the operand of this number, 0 to 9.
     Same(u8),
     /// What the constraint of this name, defined in the description, says.
     Defined(Name),
@@ -47,11 +47,11 @@ pub enum Member {
 /// first alternative, and is meant for all.
 #[derive(Clone, Copy, Debug, PartialEq, Eq)]
 pub enum Direction {
-    /// It reads it: no mark.
+    /// The operand is read: no mark.
     Input,
-    /// It writes it: `=`.
+    /// The operand is written: `=`.
     Output,
-    /// It reads and writes it: `+`.
+    /// The operand is read and written: `+`.
     Both,
 }
 

@@ -11,7 +11,7 @@ use text_words::is_blank;
 /// A mark or a member in the text of an alternative.
 #[derive(Drop)]
 pub enum Sign {
-    /// It has no effect.
+    /// A sign without effect.
     Nothing,
     Output,
     Both,

@@ -59,9 +59,9 @@ pub enum Template {
 #[derive(Debug, Drop)]
 pub enum Reading {
     Template(Template),
-    /// It is C code, or has C code for one of the alternatives.
+    /// C code, or C code for one of the alternatives.
     Code,
-    /// It has a sequence that is none of [`Piece`].
+    /// A text with a sequence that is none of [`Piece`].
     Outside,
 }
 

@@ -21,8 +21,8 @@ uses_between _ _ uses = []
 abbrev pub insn_for : Insn → ℕ → Rtx → Insn
 insn_for old uid x = record { uid = uid; kind = kind_of x; pattern = x; uses = uses_between old.kind (kind_of x) old.uses }
 
--- Those of a sequence in the place of a window that ends with an instruction: the last has its uid,
--- and the others take uids from a number on.
+-- The instructions of a sequence in the place of a window that ends with an instruction: the last
+-- has its uid, and the others take uids from a number on.
 abbrev pub insns_for : Insn → ℕ → List Rtx → List Insn
 insns_for old uid [] = []
 insns_for old uid (x ∷ []) = insn_for old old.uid x ∷ []

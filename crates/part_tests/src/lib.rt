@@ -1,7 +1,7 @@
 //! Tests of the parts on what no line of cases holds: inputs that are generated, files that fail,
 //! and values without a text.
 //!
-//! They stand in a crate of their own, since a crate with tests is proved twice.
+//! The tests stand in a crate of their own, since a crate with tests is proved twice.
 #![tactic(auto)]
 
 #[cfg(test)]

@@ -8,7 +8,7 @@ use pred_expr::Codes;
 use rtx_tree::Code;
 use std::alloc::Global;
 
-/// The same heads once more.
+/// A copy of heads.
 pub fn heads_copy(alloc: Global, heads: &[CondHead]) -> Result<Heads, Memory>
     ensures { IfOk result (λ copy. copy ≡ heads.now) }
 {
@@ -19,7 +19,7 @@ pub fn heads_copy(alloc: Global, heads: &[CondHead]) -> Result<Heads, Memory>
     Ok(copy)
 }
 
-/// The same codes once more.
+/// A copy of codes.
 pub fn codes_copy(alloc: Global, codes: &[Code]) -> Result<Codes, Memory>
     ensures { IfOk result (λ copy. copy ≡ codes.now) }
 {

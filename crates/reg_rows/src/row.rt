@@ -55,7 +55,7 @@ impl RegRow {
         }
     }
 
-    /// The same set once more, with the same room.
+    /// A copy of the set, with the same room.
     pub fn copy(&self, alloc: Global) -> Result<RegRow, Memory>
         ensures { IfOk result (λ row. row ≡ self.now) }
     {

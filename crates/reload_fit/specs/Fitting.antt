@@ -158,8 +158,9 @@ abbrev pub has_digit : Option Alternative → Bool
 has_digit None = false
 has_digit (Some a) = list_any is_digit a.members
 
--- It is moved at once: an earlyclobber clash, a slot inside a lowpart, an operator that is a
--- scratch or far, and a scratch that its constraint admits, since each scratch is given a register.
+-- The operand is moved at once: an earlyclobber clash, a slot inside a lowpart, an operator that is
+-- a scratch or far, and a scratch that its constraint admits, since each scratch is given a
+-- register.
 abbrev pub moves_at_once : Option Alternative → List Operand → Operand → Bool → Bool
 moves_at_once asked operands x admitted =
     clashes asked operands x || (is_part_of_slot x || (is_lost x || (x.is_scratch && admitted)))

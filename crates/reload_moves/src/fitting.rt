@@ -4,13 +4,13 @@ use plain_data::Items;
 /// How an operand stands in an alternative, before ties are looked at.
 #[derive(Clone, Copy)]
 pub enum Standing {
-    /// It stays as it is, with a register in its address where a slot holds its base.
+    /// The operand stays as it is, with a register in its address where a slot holds its base.
     Stays,
-    /// It stays at a far base.
+    /// The operand stays at a far base.
     Far,
-    /// Its digits decide.
+    /// The digits of the operand decide.
     Tied,
-    /// It is moved.
+    /// The operand is moved.
     Moves,
 }
 

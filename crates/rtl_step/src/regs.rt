@@ -105,7 +105,7 @@ impl Regs {
         }
     }
 
-    /// The same registers once more.
+    /// A copy of the registers.
     pub fn copy(&self) -> Result<Regs, Memory>
         ensures { IfOk result (λ regs. regs ≡ self.now) }
     {

@@ -13,7 +13,7 @@ use Rattle.md_source.specs.Answers.{Agrees}
 use Rattle.md_list.specs.declared.refusal.ListRefusal.{ListRefusal}
 use Rattle.md_list.specs.declared.refusal.ListRefusal.TheVariants as listing
 use Rattle.md_list.specs.Listing.{ListComes}
-use Rattle.md_list.specs.Answers.{GivesList}
+use Rattle.md_list.specs.Answers.{Gives as GivesList}
 use Rattle.func_input.specs.Outcome.{Outcome}
 use Rattle.func_input.specs.Outcome.{Gives as GivesText}
 use Rattle.rtlc_words.specs.declared.command.Command.{Command}

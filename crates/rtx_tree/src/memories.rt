@@ -106,7 +106,7 @@ impl Memories {
         }
     }
 
-    /// The same memory once more.
+    /// A copy of the memory.
     pub fn copy(&self, alloc: Global) -> Result<Memories, Memory>
         ensures { IfOk result (λ memory. memory ≡ self.now) }
     {

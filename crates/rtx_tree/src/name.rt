@@ -67,7 +67,7 @@ impl Name {
         self.bytes() == other.bytes()
     }
 
-    /// The same name once more.
+    /// A copy of the name.
     pub fn copy(&self, alloc: Global) -> Result<Name, Memory>
         ensures { IfOk result (λ name. name ≡ self.now) }
     {

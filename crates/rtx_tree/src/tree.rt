@@ -208,7 +208,7 @@ impl Rtx {
     }
 
     /// Puts another expression in the place of the part at a path that exists, and gives that part.
-    /// It takes no memory.
+    /// The call takes no memory.
     pub fn replace_at(&mut self, path: &[u32], new: Rtx) -> Rtx
         requires { IsSome (part_at self.old path.now) }
         ensures tree { self.new ≡ replaced_at path.now new self.old }
@@ -242,7 +242,7 @@ impl Rtx {
         false
     }
 
-    /// The same tree once more.
+    /// A copy of the tree.
     pub fn copy(&self, alloc: Global) -> Result<Rtx, Memory>
         ensures { IfOk result (λ tree. tree ≡ self.now) }
     {

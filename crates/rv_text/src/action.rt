@@ -63,9 +63,9 @@ pub enum Source {
 /// How two numbers are compared by a branch.
 #[derive(Clone, Copy, Debug)]
 pub enum Comparison {
-    /// They are equal.
+    /// The numbers are equal.
     Equal,
-    /// They differ.
+    /// The numbers differ.
     NotEqual,
     /// The first is less, as signed numbers.
     Less,

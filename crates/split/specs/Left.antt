@@ -25,8 +25,8 @@ AreLeft forms stage f =
 
 -- ---- the new instructions
 
--- It has the kind of its pattern, and the parts and modes that its codes ask for; and before
--- registers have homes it names no hard register but those of arguments.
+-- The instruction has the kind of its pattern, and the parts and modes that its codes ask for; and
+-- before registers have homes it names no hard register but those of arguments.
 pub record IsNew (stage : SplitStage) (i : Insn) : Type 0 where
   pub instruction : is_kind i.kind ≡ true
   pub shaped : is_shaped i ≡ true

@@ -96,8 +96,8 @@ abbrev pub IsAligned : Valuation → Option Call → Type 0
 IsAligned v None = Unit {0}
 IsAligned v (Some call) = mean v call.target % 4 ≡ 0
 
--- The same registers, symbols and first memory, and the memories behind the stores of a run. All
--- needs of the run were met.
+-- A valuation with the same registers, symbols and first memory, and with the memories behind the
+-- stores of a run. All needs of the run were met.
 pub record RunMeans (first : Valuation) (f : First) (ranges : List RangeAt) (s : State) (came : InsnsCome) : Type 0 where
   pub v : Valuation
   pub same_reg : (reg : ℕ) → v.reg reg ≡ first.reg reg

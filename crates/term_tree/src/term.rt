@@ -42,7 +42,7 @@ pub struct Atom {
 }
 
 impl Term {
-    /// The same term once more.
+    /// A copy of the term.
     #[cycle(copy)]
     pub fn copy(&self, alloc: Global) -> Result<Term, Memory>
         ensures { IfOk result (λ term. term ≡ self.now) }

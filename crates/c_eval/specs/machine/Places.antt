@@ -26,7 +26,7 @@ pub record IsStart (heads : List CondHead) (end start : ℕ) : Type 0 where
   pub rest : drop 1 (trees_at heads end) ≡ trees_at heads start
   pub inside : MoreUpTo heads start end
 
--- It is the last tree of the heads before its end, and is read so.
+-- the part is the last tree of the heads before its end, and is read so
 pub record IsPart (read : CondHead → List Reading → Reading) (heads : List CondHead) (part : Part) :
     Type 0 where
   pub within : part.end ≤ length heads

@@ -8,9 +8,9 @@ use Rattle.md_list.specs.declared.refusal.ListRefusal.{ListRefusal}
 use Rattle.md_list.specs.declared.refusal.ListRefusal.TheVariants as refusal
 
 -- trees were listed, or there are too many forms of them
-abbrev pub ListsTrees : List Tree → Result (Vec ℕ Global) ListRefusal → Type 0
-ListsTrees trees (Ok text) =
+abbrev pub GivesTrees : List Tree → Result (Vec ℕ Global) ListRefusal → Type 0
+GivesTrees trees (Ok text) =
     (text.items ≡ list_of_trees trees) × (length (expanded trees) ≤ most_forms)
-ListsTrees trees (Err refusal.Forms) = most_forms < length (expanded trees)
-ListsTrees trees (Err refusal.Memory) = Unit {0}
-ListsTrees trees (Err (refusal.Source e)) = ⊥
+GivesTrees trees (Err refusal.Forms) = most_forms < length (expanded trees)
+GivesTrees trees (Err refusal.Memory) = Unit {0}
+GivesTrees trees (Err (refusal.Source e)) = ⊥

@@ -1,6 +1,6 @@
 use Rattle.std.proofs.Common.{ℕ, List, Ok, Err, subst}
 use Rattle.md_list.specs.Listing.{ListComes}
-use Rattle.md_list.specs.Answers.{GivesList}
+use Rattle.md_list.specs.Answers.{Gives as GivesList}
 use Rattle.rtlc_run.specs.Answer.{CommandComes}
 use Rattle.rtlc_run.proofs.Commands.{list_unproduced, listing_is_own}
 use Rattle.rtlc_run.proofs.program.listed.Goals as goal

@@ -19,9 +19,9 @@ use Rattle.term_mean.specs.Meaning.{Valuation, mean}
 use Rattle.term_mean.specs.Compared.{low_bits}
 use Rattle.term_mean.proofs.CutLaws.{low-low}
 use Rattle.term_mean.proofs.ComparedLaws.{mean-low_bits}
-use Rattle.window_mean.specs.Insns.{InsnsEnd, Falls, Goes, Calls, Returns, InsnsCome}
-use Rattle.window_mean.specs.Same.{IsKept}
-use Rattle.window_mean.specs.Uses.{window_defines}
+use Rattle.agree_mean.specs.window_mean.Insns.{InsnsEnd, Falls, Goes, Calls, Returns, InsnsCome}
+use Rattle.agree_mean.specs.window_mean.Same.{IsKept}
+use Rattle.agree_mean.specs.window_mean.Uses.{window_defines}
 use Rattle.window_keep.specs.Same.{KnownToo, KnownAlike, SameEnd, Starts, is_free, falls, goes, calls}
 use Rattle.agree_mean.specs.sym_state.State.{State, Call, Runs, own_register}
 use Rattle.agree_mean.specs.sym_state.Registers.{held}

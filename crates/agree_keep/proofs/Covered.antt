@@ -18,7 +18,7 @@ use Rattle.rtl_step.specs.declared.regs.Known.{Known}
 use Rattle.rtl_step.specs.Regs.{Regs, known_in, reg_value}
 use Rattle.term_tree.specs.Tree.{Tree}
 use Rattle.term_mean.specs.Meaning.{Valuation, mean}
-use Rattle.window_mean.specs.Uses.{window_uses}
+use Rattle.agree_mean.specs.window_mean.Uses.{window_uses}
 use Rattle.window_keep.specs.Same.{KnownToo}
 use Rattle.agree_mean.specs.sym_state.State.{Need, NeedAt, Register, Lost, Access, Divisor, Symbol}
 use Rattle.agree_mean.specs.sym_diff.Registers.{same_tree}

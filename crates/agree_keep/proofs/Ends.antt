@@ -14,7 +14,7 @@ use Rattle.term_tree.specs.Tree.{Tree, width_of}
 use Rattle.term_mean.specs.Meaning.{Valuation, mean}
 use Rattle.term_mean.proofs.SumLaws.{mean-constant}
 use Rattle.window_keep.specs.func_keep.Outcomes.{HasEach}
-use Rattle.window_mean.specs.Insns.{InsnsEnd, Falls, Goes, Calls, InsnsCome}
+use Rattle.agree_mean.specs.window_mean.Insns.{InsnsEnd, Falls, Goes, Calls, InsnsCome}
 use Rattle.window_keep.specs.Same.{SameEnd}
 use Rattle.window_keep.specs.Same as window
 use Rattle.agree_mean.specs.sym_state.State.{State, Call, Jump, Runs}

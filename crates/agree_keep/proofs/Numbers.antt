@@ -12,7 +12,7 @@ use Rattle.rtl_step.specs.declared.regs.Known.{Known}
 use Rattle.rtl_step.specs.Regs.{Regs, known_in, reg_value}
 use Rattle.agree_mean.specs.same_behaviour.Lawful.{IsMemory, AreAddresses}
 use Rattle.term_mean.specs.Meaning.{Valuation}
-use Rattle.window_mean.specs.Uses.{window_uses}
+use Rattle.agree_mean.specs.window_mean.Uses.{window_uses}
 use Rattle.window_keep.specs.Same.{KnownToo}
 use Rattle.agree_mean.specs.sym_mean.Means.{IsFirst, first_of}
 use Rattle.agree_mean.proofs.sym_mean.Firsts.{first_shows}

@@ -16,8 +16,8 @@ use Rattle.term_mean.specs.Meaning.{Valuation, mean}
 use Rattle.term_mean.specs.Compared.{low_bits}
 use Rattle.term_mean.specs.Stores.{Stored}
 use Rattle.term_mean.proofs.CutLaws.{low-low}
-use Rattle.window_mean.specs.Insns.{InsnsCome, insns_come}
-use Rattle.window_mean.specs.Uses.{window_uses}
+use Rattle.agree_mean.specs.window_mean.Insns.{InsnsCome, insns_come}
+use Rattle.agree_mean.specs.window_mean.Uses.{window_uses}
 use Rattle.window_keep.specs.Same.{KnownToo}
 use Rattle.agree_mean.specs.sym_state.State.{State, Call, Runs, own_register}
 use Rattle.agree_mean.specs.sym_state.Registers.{held}

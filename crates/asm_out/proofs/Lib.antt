@@ -8,3 +8,4 @@ pub mod ReadLaws
 pub mod Calls
 pub mod WrittenLaws
 pub mod SpelledLaws
+pub use Rattle.equate.proofs as equate

@@ -11,10 +11,10 @@ use Rattle.rv_text.specs.declared.line.Line.{Line}
 use Rattle.rv_text.proofs.OneLine.{one_line}
 use Rattle.sym_state.specs.State.{State, Ran, Runs, ran}
 use Rattle.sym_state.specs.State as state
-use Rattle.sym_lines.specs.Run.{fits_action, bad_from, bad_line, run_from}
-use Rattle.sym_lines.specs.Run as lines
+use Rattle.equate.specs.sym_lines.Run.{fits_action, bad_from, bad_line, run_from}
+use Rattle.equate.specs.sym_lines.Run as lines
 use Rattle.sym_state.specs.State.{start}
-use Rattle.sym_insns.specs.Run as insns
+use Rattle.equate.specs.sym_insns.Run as insns
 use Rattle.equate.specs.Verdict.{Same}
 use Rattle.equate.specs.Side.{Lines, returns_by, is_one_return, is_one_return_line, both_return}
 use Rattle.equate.specs.Equated.{judged, Equated}

@@ -5,7 +5,7 @@ use Rattle.rtx_tree.specs.declared.limit.Limit.TheVariants.{TermSize, Output}
 use Rattle.term_text.specs.Text.{text_of}
 use Rattle.term_text.specs.declared.item.Item.TheVariants.{Need, Shape}
 use Rattle.sym_state.specs.State.{most_nodes}
-use Rattle.sym_diff.specs.Difference.{Difference, Differ, Lacks}
+use Rattle.equate.specs.sym_diff.Difference.{Difference, Differ, Lacks}
 use Rattle.equate.specs.Verdict.{Verdict, Same, Different, BadShape, TooLarge}
 use Rattle.asm_out.specs.declared.refusal.OutRefusal.{OutRefusal}
 use Rattle.asm_out.specs.declared.refusal.OutRefusal.TheVariants as refusal

@@ -19,7 +19,7 @@ use Rattle.c_words.specs.Tokens.{tokens_in}
 use Rattle.c_cond.specs.Grammar.{Sort, Statements, Condition, Is, IsText}
 use Rattle.c_cond.specs.declared.parse.CondRefusal.{CondRefusal}
 use Rattle.c_cond.specs.declared.parse.CondRefusal.TheVariants as refusal
-use Rattle.c_cond.specs.Answers.{Answers}
+use Rattle.c_cond.specs.Answers.{Gives as GivesText}
 use Rattle.c_cond.specs.machine.Refuses.{Refuses}
 use Rattle.c_cond.specs.Beginning.{Begins, IsOutside}
 use Rattle.c_words.specs.machine.Lexing.{read_in, read_all}
@@ -197,12 +197,12 @@ outside_statements d cs text offset e none =
     place d cs Statements goal.Statements refl (λ ts out f. (tree_of out, (is_statements d cs out ts f).is)) (λ ts t i. (heads_of_all (t ∷ []), read_statements d cs t ts i)) text offset e none
 
 pub refused_condition : (d : Dialect) (cs : List Constant) (text : List ℕ) (r : CondRefusal) → Refuses r (reach d cs (known_words cs) (at [] (goal.Condition ∷ [])) pending.Nothing text) →
-    result_of d cs (at [] (goal.Condition ∷ [])) (tokens_in text) ≡ None → Answers (IsText d cs Condition) text (Err r)
+    result_of d cs (at [] (goal.Condition ∷ [])) (tokens_in text) ≡ None → GivesText (IsText d cs Condition) text (Err r)
 refused_condition d cs text (refusal.Outside offset) e none = outside_condition d cs text offset e none
 refused_condition d cs text refusal.Memory e none = tt
 
 pub refused_statements : (d : Dialect) (cs : List Constant) (text : List ℕ) (r : CondRefusal) → Refuses r (reach d cs (known_words cs) (at [] (goal.Statements ∷ [])) pending.Nothing text) →
-    result_of d cs (at [] (goal.Statements ∷ [])) (tokens_in text) ≡ None → Answers (IsText d cs Statements) text (Err r)
+    result_of d cs (at [] (goal.Statements ∷ [])) (tokens_in text) ≡ None → GivesText (IsText d cs Statements) text (Err r)
 refused_statements d cs text (refusal.Outside offset) e none = outside_statements d cs text offset e none
 refused_statements d cs text refusal.Memory e none = tt
 

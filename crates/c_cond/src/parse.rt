@@ -5,7 +5,7 @@ ghost use Rattle.c_cond.specs.Tree.{both, heads_of, tree_of};
 ghost use Rattle.c_words.specs.declared.atom.Dialect.TheVariants as Dialect;
 ghost use Rattle.c_words.specs.Tokens.{tokens_in};
 ghost use Rattle.c_cond.specs.Grammar.{IsText, Condition, Statements};
-ghost use Rattle.c_cond.specs.Answers.{Answers};
+ghost use Rattle.c_cond.specs.Answers.{Gives as GivesText};
 ghost use Rattle.c_cond.specs.Beginning.{IsOutside};
 ghost use Rattle.c_words.specs.declared.lexer.Pending.TheVariants as Pending;
 ghost use Rattle.c_words.specs.machine.Known.{known_words};
@@ -195,7 +195,7 @@ fn condition_of(
     constants: &Constants,
     text: &[u8],
 ) -> Result<Cond, CondRefusal>
-    ensures { Answers (IsText dialect constants.now Condition) text.now result }
+    ensures { GivesText (IsText dialect constants.now Condition) text.now result }
 {
     match parse(alloc, dialect, constants, Goal::Condition, text) {
         Ok(heads) => Ok(Cond { heads }),
@@ -206,7 +206,7 @@ fn condition_of(
 
 /// The statements that a text is.
 fn statements_of(alloc: Global, constants: &Constants, text: &[u8]) -> Result<Prep, CondRefusal>
-    ensures { Answers (IsText Dialect.Condition constants.now Statements) text.now result }
+    ensures { GivesText (IsText Dialect.Condition constants.now Statements) text.now result }
 {
     match parse(alloc, Dialect::Condition, constants, Goal::Statements, text) {
         Ok(heads) => Ok(Prep { heads }),
@@ -229,7 +229,7 @@ fn statements_of(alloc: Global, constants: &Constants, text: &[u8]) -> Result<Pr
 /// prefix of it that begins a text of the grammar. `Memory` where memory ran out.
 pub fn parse_cond(alloc: Global, text: &[u8], constants: &Constants) -> Result<Cond, CondRefusal>
     // The answer is what the grammar says of the text, unless memory ran out.
-    ensures answers { Answers (IsText Dialect.Condition constants.now Condition) text.now result }
+    ensures answers { GivesText (IsText Dialect.Condition constants.now Condition) text.now result }
     // A text has one tree at most, and is outside at one place at most.
     ensures one { (a b : Tree) → IsText Dialect.Condition constants.now Condition text.now a →
         IsText Dialect.Condition constants.now Condition text.now b → a ≡ b }
@@ -248,7 +248,7 @@ pub fn parse_cond(alloc: Global, text: &[u8], constants: &Constants) -> Result<C
 /// `Outside` exactly where the text is not in the grammar, with the offset that ends the longest
 /// prefix of it that begins a text of the grammar. `Memory` where memory ran out.
 pub fn parse_test(alloc: Global, text: &[u8], constants: &Constants) -> Result<Cond, CondRefusal>
-    ensures answers { Answers (IsText Dialect.Test constants.now Condition) text.now result }
+    ensures answers { GivesText (IsText Dialect.Test constants.now Condition) text.now result }
     ensures one { (a b : Tree) → IsText Dialect.Test constants.now Condition text.now a →
         IsText Dialect.Test constants.now Condition text.now b → a ≡ b }
     ensures one_place { (a b : ℕ) →
@@ -265,7 +265,7 @@ pub fn parse_test(alloc: Global, text: &[u8], constants: &Constants) -> Result<C
 /// `Outside` exactly where the text is not in the grammar, with the offset that ends the longest
 /// prefix of it that begins a text of the grammar. `Memory` where memory ran out.
 pub fn parse_prep(alloc: Global, text: &[u8], constants: &Constants) -> Result<Prep, CondRefusal>
-    ensures answers { Answers (IsText Dialect.Condition constants.now Statements) text.now result }
+    ensures answers { GivesText (IsText Dialect.Condition constants.now Statements) text.now result }
     ensures one { (a b : Tree) → IsText Dialect.Condition constants.now Statements text.now a →
         IsText Dialect.Condition constants.now Statements text.now b → a ≡ b }
     ensures one_place { (a b : ℕ) →

@@ -10,7 +10,7 @@ use Rattle.md_forms.specs.declared.form.Entry.{Entry}
 use Rattle.md_forms.specs.Forms.{forms_of}
 use Rattle.same_behaviour.specs.Same.{Same}
 use Rattle.window_same.specs.Left.{SameWhereLeft}
-use Rattle.sym_insns.specs.Shape.{all_natural}
+use Rattle.lines_ready.specs.sym_insns.Shape.{all_natural}
 use Rattle.insn_sizes.specs.homes_mean.Placed.{all_sized}
 use Rattle.insn_sizes.specs.Sizes.{insn_natural, insn_sized, EachSized}
 use Rattle.assign.specs.Frame.{layout_of, IsFrame}

@@ -21,7 +21,7 @@ use Rattle.reg_uses.specs.Effects.{pattern_defines, pattern_uses}
 use Rattle.reg_uses.specs.Uses.{has_argument, insn_uses, insn_defines}
 use Rattle.window_same.specs.window_mean.Uses.{window_uses}
 use Rattle.form_needs.specs.Needs.{is_homeless, homeless_step, names_homeless}
-use Rattle.rtl_print.proofs.TreeText.{rtx_induction}
+use Rattle.func_input.proofs.rtl_print.TreeText.{rtx_induction}
 use Rattle.func_rules.proofs.Nodes.{all_pass}
 use Rattle.func_rules.proofs.Mentions.{defined_stands, used_stands}
 use Rattle.func_rules.proofs.Arguments.{stands_argument}

@@ -8,7 +8,7 @@ use Rattle.rtx_tree.specs.Patterns.{nothing_rtx}
 use Rattle.rtl_func.specs.Rules.{keeps}
 use Rattle.rtl_func.specs.Uids.{is_ruled}
 use Rattle.rtl_func.specs.declared.rules.InsnRule.{InsnRule}
-use Rattle.same_behaviour.specs.Ending.{IsUid}
+use Rattle.window_same.specs.same_behaviour.Ending.{IsUid}
 use Rattle.func_input.specs.Refused.{refused_behind}
 
 -- behind some functions it isn't refused

@@ -26,7 +26,7 @@ use Rattle.pass_ready.proofs.sym_insns.Shapes.{natural_out}
 use Rattle.func_keep.specs.Ends.{is_past, ends_past, EndsAtExit}
 use Rattle.func_keep.specs.Keeps.{Keeps, KeepsRun}
 use Rattle.func_keep.specs.Outcomes.{SameOutcome}
-use Rattle.keep_compose.proofs.Keeping.{outcome_refl}
+use Rattle.window_replace.proofs.keep_compose.Keeping.{outcome_refl}
 use Rattle.pass_ready.proofs.func_rules.Added.{return_keeps}
 use Rattle.pass_ready.proofs.func_rules.Chain.{before_end}
 use Rattle.pass_ready.proofs.func_rules.Returning.{longer, dropped_end, same_step, same_run, same_taken}

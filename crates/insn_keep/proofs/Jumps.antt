@@ -14,7 +14,7 @@ use Rattle.rtl_func.specs.declared.flow.Flow.TheVariants.{Goes, Branches, Stops}
 use Rattle.rtl_func.specs.Successors.{goes_to, branches_to, source_flow_by, source_flow, jump_flow_by, jump_flow}
 use Rattle.reg_uses.specs.Uses.{is_return}
 use Rattle.term_tree.specs.Tree.{width_of}
-use Rattle.sym_state.specs.State.{State, Runs, falls, start}
+use Rattle.pass_ready.specs.sym_state.State.{State, Runs, falls, start}
 use Rattle.pass_ready.specs.sym_insns.Effects.{uid_in, target_uid, jump_source, label_by, jump_label, has_target, effects_of}
 use Rattle.pass_ready.specs.sym_insns.Run.{after_kind, run_from, run}
 use Rattle.pass_ready.specs.sym_insns.Shape.{is_shaped, is_end, fits_kind, bad_from, bad_insn}

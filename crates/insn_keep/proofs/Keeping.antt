@@ -29,8 +29,8 @@ use Rattle.insn_replace.proofs.equate.VerdictLaws.{verdict_same}
 use Rattle.insn_replace.proofs.equate.Soundness.{few_keep}
 use Rattle.insn_replace.specs.Replace.{made, ReplacedComes}
 use Rattle.func_keep.specs.Keeps.{Keeps}
-use Rattle.keep_compose.proofs.Keeping.{keeps_refl, keeps_trans}
-use Rattle.window_keep.specs.Same.{CanReplace}
+use Rattle.window_replace.proofs.keep_compose.Keeping.{keeps_refl, keeps_trans}
+use Rattle.window_replace.specs.window_keep.Same.{CanReplace}
 use Rattle.window_replace.specs.window_same.ForLines.{MarksAreEmpty}
 use Rattle.window_replace.specs.Natural.{RegistersAreNatural}
 use Rattle.window_replace.proofs.Replacing.{replaced_keeps}

@@ -12,3 +12,6 @@ pub mod Finished
 pub use Rattle.insn_replace.proofs.equate as equate
 pub use Rattle.pass_ready.proofs.func_rules as func_rules
 pub use Rattle.pass_ready.proofs as pass_ready
+pub use Rattle.insn_replace.proofs as insn_replace
+pub use Rattle.insn_replace.proofs.pass_refusal as pass_refusal
+pub use Rattle.insn_replace.proofs.sym_mean as sym_mean

@@ -4,7 +4,7 @@ use Rattle.std.specs.List.{AllByRecursion}
 use Rattle.rtx_tree.specs.declared.function.Insn.{Insn}
 use Rattle.rtx_tree.specs.declared.function.Kind.{Kind}
 use Rattle.rtx_tree.specs.declared.function.Kind.TheVariants as kind
-use Rattle.sym_state.specs.State.{State, Runs, start}
+use Rattle.pass_ready.specs.sym_state.State.{State, Runs, start}
 use Rattle.pass_ready.specs.sym_insns.Run.{run_from, run}
 use Rattle.pass_ready.specs.sym_insns.Shape.{is_shaped, fits_kind, is_end, bad_from, bad_insn}
 use Rattle.insn_replace.proofs.sym_mean.Bools.{both_of}

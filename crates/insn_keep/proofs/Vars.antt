@@ -9,8 +9,8 @@ use Rattle.reg_uses.specs.Effects.{pattern_defines}
 use Rattle.reg_uses.specs.Uses.{insn_defines, is_call_kind}
 use Rattle.term_tree.specs.Tree.{Tree}
 use Rattle.window_mean.specs.Uses.{window_defines}
-use Rattle.sym_state.specs.State.{State, Runs}
-use Rattle.sym_state.specs.Registers.{held}
+use Rattle.pass_ready.specs.sym_state.State.{State, Runs}
+use Rattle.pass_ready.specs.sym_state.Registers.{held}
 use Rattle.pass_ready.specs.sym_insns.Run.{run}
 use Rattle.insn_replace.specs.sym_diff.Agree.{Agree, AgreesIn}
 use Rattle.insn_replace.specs.sym_diff.Registers.{one_calls}

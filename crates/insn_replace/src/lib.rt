@@ -8,4 +8,5 @@
 
 mod replace;
 
+pub use pass_refusal::PassRefusal;
 pub use replace::replace_insn;

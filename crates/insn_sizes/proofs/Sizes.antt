@@ -11,7 +11,7 @@ use Rattle.rtx_tree.specs.Tree.{head_of, kids_of}
 use Rattle.sym_insns.specs.Shape.{is_natural, all_natural}
 use Rattle.reload_mean.specs.pass_ready.Reloadable.{IsInsnReloadable, IsReloadable}
 use Rattle.reload_mean.proofs.window_replace.Trees.{natural_here, natural_kids}
-use Rattle.homes_mean.specs.Placed.{is_sized, sized_step, all_sized}
+use Rattle.reload_mean.specs.homes_mean.Placed.{is_sized, sized_step, all_sized}
 use Rattle.reload_mean.specs.Homes.{NumbersAreSized}
 use Rattle.insn_sizes.specs.Sizes.{insn_natural, insn_sized, EachSized}
 

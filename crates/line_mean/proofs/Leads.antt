@@ -20,8 +20,8 @@ use Rattle.term_mean.specs.Meaning.{Valuation, mean}
 use Rattle.term_mean.specs.Stores.{Stored}
 use Rattle.term_mean.specs.Sums.{constant}
 use Rattle.term_mean.proofs.SumLaws.{mean-constant}
-use Rattle.window_mean.specs.Lines.{LinesCome, come_to, line_goes_on, lines_come}
-use Rattle.window_mean.specs.Lines as window
+use Rattle.sym_mean.specs.window_mean.Lines.{LinesCome, come_to, line_goes_on, lines_come}
+use Rattle.sym_mean.specs.window_mean.Lines as window
 use Rattle.sym_lines.specs.sym_state.State as sym
 use Rattle.sym_lines.specs.sym_state.State.{State, Need, Access, Symbol, own_symbol}
 use Rattle.sym_lines.specs.sym_state.Registers.{held}

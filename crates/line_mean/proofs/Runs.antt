@@ -7,7 +7,7 @@ use Rattle.bits64.specs.Words.{low}
 use Rattle.rtx_tree.specs.declared.machine.SymbolAt.{SymbolAt}
 use Rattle.rtx_tree.specs.declared.machine.World.{World}
 use Rattle.run_memory.specs.Symbols.{symbol_address}
-use Rattle.window_mean.specs.same_behaviour.Lawful.{AreAddresses}
+use Rattle.sym_mean.specs.window_mean.same_behaviour.Lawful.{AreAddresses}
 use Rattle.rv_text.specs.Lines.{action_of}
 use Rattle.rv_text.specs.declared.action.Action.{Action}
 use Rattle.rv_text.specs.declared.line.Line.{Line}
@@ -16,9 +16,9 @@ use Rattle.rv_line.specs.declared.state.RvState.{RvState}
 use Rattle.term_mean.specs.Meaning.{Valuation, mean}
 use Rattle.term_mean.specs.Stores.{Stored}
 use Rattle.term_mean.proofs.SumLaws.{mean-constant}
-use Rattle.window_mean.specs.Beside.{IsMachine}
-use Rattle.window_mean.specs.Lines.{LinesCome, come_to, line_goes_on, lines_come}
-use Rattle.window_mean.specs.Lines as window
+use Rattle.sym_mean.specs.window_mean.Beside.{IsMachine}
+use Rattle.sym_mean.specs.window_mean.Lines.{LinesCome, come_to, line_goes_on, lines_come}
+use Rattle.sym_mean.specs.window_mean.Lines as window
 use Rattle.sym_lines.specs.sym_state.State as sym
 use Rattle.sym_lines.specs.sym_state.State.{State, Ran, Runs, start, is_within, ran}
 use Rattle.sym_lines.specs.Step.{act}

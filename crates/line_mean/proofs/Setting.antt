@@ -3,7 +3,7 @@ use Rattle.std.proofs.Common.{◌≡◌, ◌≢◌, ℕ, zero, suc, ◌<◌, ◌
 use Rattle.bits64.specs.declared.Width.TheVariants.{W64}
 use Rattle.rv_line.specs.Step as line
 use Rattle.rv_line.specs.declared.state.RvState.{RvState}
-use Rattle.window_mean.proofs.same_behaviour.Registers.{register_set, register_kept, length_written}
+use Rattle.sym_mean.proofs.window_mean.same_behaviour.Registers.{register_set, register_kept, length_written}
 use Rattle.term_tree.specs.Tree.{Tree, width_of}
 use Rattle.term_mean.specs.Meaning.{Valuation, mean}
 use Rattle.sym_lines.specs.sym_state.State.{State, NeedAt}

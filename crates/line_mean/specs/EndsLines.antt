@@ -4,8 +4,8 @@ use Rattle.std.specs.Prelude.{◌≡◌, ◌≢◌, ℕ, List, length, Option, S
 use Rattle.rtx_tree.specs.declared.machine.World.{World}
 use Rattle.rv_text.specs.declared.line.Line.{Line}
 use Rattle.rv_line.specs.declared.state.RvState.{RvState}
-use Rattle.window_mean.specs.Beside.{reads}
-use Rattle.window_mean.specs.Lines.{Falls, Goes, Calls, LinesCome, lines_come}
+use Rattle.sym_mean.specs.window_mean.Beside.{reads}
+use Rattle.sym_mean.specs.window_mean.Lines.{Falls, Goes, Calls, LinesCome, lines_come}
 use Rattle.term_mean.specs.Meaning.{Valuation, mean}
 use Rattle.sym_lines.specs.sym_state.State as sym
 use Rattle.sym_lines.specs.sym_state.State.{State, Call, Runs}

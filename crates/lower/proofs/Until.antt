@@ -4,7 +4,7 @@ use Rattle.rtx_tree.specs.declared.tree.Rtx.{Rtx}
 use Rattle.rtx_tree.specs.declared.function.Insn.{Insn}
 use Rattle.md_forms.specs.declared.form.Entry.{Entry}
 use Rattle.lower_insn.specs.form_needs.Needs.{needs_form}
-use Rattle.gen_emit.specs.declared.emission.Emission.{Emission}
+use Rattle.lower_insn.specs.gen_emit.declared.emission.Emission.{Emission}
 use Rattle.lower_insn.specs.declared.part.Part.{Part}
 use Rattle.lower_insn.specs.declared.part.Part.TheVariants.{Emitted}
 use Rattle.lower_insn.specs.declared.part.Plan.{Plan}

@@ -17,9 +17,9 @@ use Rattle.insn_keep.proofs.equate.VerdictLaws.{verdict_same}
 use Rattle.sym_insns.specs.Run.{run_from}
 use Rattle.sym_insns.specs.Shape.{all_natural, is_end, is_shaped, fits_kind, bad_from, bad_insn}
 use Rattle.sym_state.specs.State.{start}
-use Rattle.sym_mean.proofs.Bools.{both_of}
-use Rattle.sym_mean.proofs.Kept.{natural_insn}
-use Rattle.sym_mean.proofs.Ways.{fits_all, does_run}
+use Rattle.insn_keep.proofs.sym_mean.Bools.{both_of}
+use Rattle.insn_keep.proofs.sym_mean.Kept.{natural_insn}
+use Rattle.insn_keep.proofs.sym_mean.Ways.{fits_all, does_run}
 use Rattle.insn_keep.specs.insn_replace.Replace.{made, ReplacedComes}
 use Rattle.insn_keep.proofs.Marks.{made_kind}
 use Rattle.lower_keep.proofs.Keeping.{all_passes}

@@ -6,7 +6,7 @@ use Rattle.rtx_tree.specs.declared.tree.Rtx.{Rtx}
 use Rattle.rtx_tree.specs.declared.function.Insn.{Insn}
 use Rattle.md_match.specs.Pattern.{Ops}
 use Rattle.md_forms.specs.declared.form.Entry.{Entry}
-use Rattle.gen_emit.specs.declared.emission.Emission.{Emission}
+use Rattle.lower_insn.specs.gen_emit.declared.emission.Emission.{Emission}
 use Rattle.insn_keep.specs.md_emit.Emitted.{keeps_to_arguments}
 use Rattle.insn_keep.proofs.pass_ready.Places.{all_joined}
 use Rattle.lower_insn.specs.declared.part.Lowered.{Lowered}

@@ -10,8 +10,8 @@ use Rattle.md_match.specs.Pattern.{Ops}
 use Rattle.md_forms.specs.md_pattern.declared.reason.Reason.{Reason}
 use Rattle.md_forms.specs.declared.form.Form.{Form}
 use Rattle.md_forms.specs.declared.form.Entry.{Entry}
-use Rattle.md_attr.specs.Alternatives.{alternatives_of}
-use Rattle.md_attr.specs.Values.{is_enabled}
+use Rattle.md_constr.specs.md_attr.Alternatives.{alternatives_of}
+use Rattle.md_constr.specs.md_attr.Values.{is_enabled}
 use Rattle.md_pred.specs.Holds.{holds}
 use Rattle.md_constr.specs.Fits.{fits}
 use Rattle.md_recog.specs.declared.half.Half.TheVariants as half

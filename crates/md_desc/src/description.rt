@@ -1,8 +1,8 @@
 //! A description with its tables.
 ghost use Rattle.std.specs.Prelude.{◌≡◌, ◌↔◌, ◌≤◌, ◌<◌, Some, None, IfOk, IfSome, IsTrue, length};
-ghost use Rattle.md_attr.specs.Alternatives.{IsAlternative};
-ghost use Rattle.md_attr.specs.machine.Tables.{AreAttributesOf};
-ghost use Rattle.md_attr.specs.Values.{is_enabled};
+ghost use Rattle.md_constr.specs.md_attr.Alternatives.{IsAlternative};
+ghost use Rattle.md_constr.specs.md_attr.machine.Tables.{AreAttributesOf};
+ghost use Rattle.md_constr.specs.md_attr.Values.{is_enabled};
 ghost use Rattle.md_constr.specs.machine.Tables.{AreConstraintsOf};
 ghost use Rattle.md_constr.specs.Fits as constraints;
 ghost use Rattle.md_pred.specs.Holds.{holds};
@@ -12,8 +12,9 @@ ghost use Rattle.md_desc.specs.Recog as spec;
 ghost use Rattle.md_recog.specs.declared.recog.FormMatch.{FormMatch};
 
 use c_eval::Facts;
-use md_attr::{Attributes, enabled, has_alternative};
-use md_constr::{Constraints, fits, operand_admits, operand_fits};
+use md_constr::{
+    Attributes, Constraints, enabled, fits, has_alternative, operand_admits, operand_fits,
+};
 use md_forms::Forms;
 use md_pred::PredTable;
 use md_recog::{FormMatch, Steps};

@@ -1,6 +1,6 @@
 //! What counts at output.
 ghost use Rattle.std.specs.Prelude.{◌≡◌, ◌↔◌, ◌<◌, ℕ, Some, None, IfOk};
-ghost use Rattle.md_attr.specs.Alternatives.{alternatives_of};
+ghost use Rattle.md_constr.specs.md_attr.Alternatives.{alternatives_of};
 ghost use Rattle.md_desc.specs.Recog as spec;
 ghost use Rattle.md_desc.specs.machine.Steps as steps;
 ghost use Rattle.md_desc.specs.declared.output.Chosen.{Chosen};

@@ -101,7 +101,7 @@ fn expand_trees(
     definitions: &Definitions,
     trees: &[Tree],
 ) -> Result<Items<Instance>, IterRefusal>
-    ensures { steps.GivesForms definitions.now trees.now result }
+    ensures { steps.Gives definitions.now trees.now result }
 {
     let mut forms = Items::new(alloc);
     for at in 0..trees.len() {

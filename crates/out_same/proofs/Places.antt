@@ -9,19 +9,19 @@ use Rattle.rtx_tree.specs.RegSet.{has_reg}
 use Rattle.rv_text.specs.declared.line.Line.{Line}
 use Rattle.rv_text.specs.declared.line.CodeItem.{CodeItem}
 use Rattle.rv_text.specs.declared.line.CodeItem.TheVariants as item
-use Rattle.md_desc.specs.declared.output.Chosen.{Chosen}
+use Rattle.asm_out.specs.md_desc.declared.output.Chosen.{Chosen}
 use Rattle.md_forms.specs.declared.form.Entry.{Entry}
 use Rattle.live.specs.Live.{AreLiveAfter}
-use Rattle.form_needs.specs.Needs.{is_label}
-use Rattle.sym_diff.specs.Registers.{is_live}
-use Rattle.equate.specs.Side.{Lines, both_return}
-use Rattle.equate.proofs.VerdictLaws.{verdict_same}
-use Rattle.equate.proofs.Soundness.{few_do}
+use Rattle.asm_out.specs.form_needs.Needs.{is_label}
+use Rattle.asm_out.specs.sym_diff.Registers.{is_live}
+use Rattle.asm_out.specs.equate.Side.{Lines, both_return}
+use Rattle.asm_out.proofs.equate.VerdictLaws.{verdict_same}
+use Rattle.asm_out.proofs.equate.Soundness.{few_do}
 use Rattle.asm_out.specs.Written as written
 use Rattle.asm_out.specs.Written.{AreInsnLines, AreWritten}
 use Rattle.window_same.specs.Items.{IsLiveBehind, AreItemsAt, AreItemsFrom}
 use Rattle.window_same.specs.Items as items
-use Rattle.func_rules.specs.ForLines.{IsQuiet}
+use Rattle.pass_ready.specs.func_rules.ForLines.{IsQuiet}
 use Rattle.pass_ready.proofs.Places.{at_place}
 use Rattle.out_same.specs.Ready.{IsInsnWritable, AreWritable}
 use Rattle.out_same.proofs.Shapes.{runs_last, both_returning}

@@ -14,9 +14,9 @@ use Rattle.rv_text.specs.declared.action.Source.{Source}
 use Rattle.rv_text.specs.declared.action.Source.TheVariants as source
 use Rattle.rv_text.specs.declared.line.Line.{Line}
 use Rattle.sym_state.specs.State.{State, Ran, Runs, ran}
-use Rattle.sym_lines.specs.Run.{is_end, fits_action, bad_from, bad_line, run_from, run}
+use Rattle.asm_out.specs.sym_lines.Run.{is_end, fits_action, bad_from, bad_line, run_from, run}
 use Rattle.sym_state.specs.State as state
-use Rattle.equate.specs.Side.{Lines, is_jump, returns, is_one_return, returns_through, returns_by, is_one_return_line, both_return}
+use Rattle.asm_out.specs.equate.Side.{Lines, is_jump, returns, is_one_return, returns_through, returns_by, is_one_return_line, both_return}
 use Rattle.window_same.specs.Items.{IsReturnLine, ret, jr, is_call, calls_last}
 
 -- ---- a call is the last

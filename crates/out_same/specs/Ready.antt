@@ -10,8 +10,8 @@ use Rattle.rtl_step.specs.Step.{is_mark}
 use Rattle.reg_uses.specs.Effects.{effects_of, pattern_defines}
 use Rattle.same_behaviour.specs.Ending.{IsUid}
 use Rattle.window_same.specs.Left.{IsSetNamed}
-use Rattle.form_needs.specs.Needs.{needs_form, names_homeless, is_silent}
-use Rattle.func_rules.specs.ForLines.{UsesHard, IsQuiet}
+use Rattle.asm_out.specs.form_needs.Needs.{needs_form, names_homeless, is_silent}
+use Rattle.pass_ready.specs.func_rules.ForLines.{UsesHard, IsQuiet}
 
 pub record IsInsnWritable (i : Insn) : Type 0 where
   -- a label and a barrier define nothing, and a label has a number of 32 bits

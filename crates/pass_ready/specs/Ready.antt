@@ -7,7 +7,7 @@ use Rattle.rtx_tree.specs.declared.function.Function.{Function}
 use Rattle.rtx_tree.specs.declared.function.Kind.TheVariants.{Label}
 use Rattle.rtl_step.specs.Step.{is_mark}
 use Rattle.reg_uses.specs.Effects.{pattern_defines}
-use Rattle.same_behaviour.specs.Ending.{IsUid}
+use Rattle.func_rules.specs.same_behaviour.Ending.{IsUid}
 
 -- Labels and barriers define nothing, and a label has a number of 32 bits.
 pub record IsInsnReady (i : Insn) : Type 0 where

@@ -11,4 +11,5 @@ mod refusal;
 
 pub use compare::judge;
 pub use equate::Side;
+pub use form_needs::Description;
 pub use refusal::{PassRefusal, unmatched};

@@ -3,7 +3,7 @@ use Rattle.std.proofs.Common.{◌≡◌, ℕ, ◌+◌, ◌<◌, List, [], ◌∷
 use Rattle.std.specs.List.{flat_map}
 use Rattle.std.proofs.lemmas.List.{append-nil, at_drop_more}
 use Rattle.rtx_tree.specs.declared.constants.Constant.{Constant}
-use Rattle.lisp_read.specs.declared.tree.Tree.{Tree}
+use Rattle.md_pattern.specs.lisp_read.declared.tree.Tree.{Tree}
 use Rattle.md_pattern.specs.declared.reason.Reason.{Reason}
 use Rattle.md_pattern.specs.Reason.{judged_with}
 use Rattle.md_pattern.proofs.Each.{judged_assoc}

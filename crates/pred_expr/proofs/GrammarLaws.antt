@@ -9,7 +9,7 @@ use Rattle.c_cond.specs.declared.tree.Tree.{Tree}
 use Rattle.c_cond.specs.c_words.Tokens.{tokens_in}
 use Rattle.c_cond.specs.Tree.{tree_of}
 use Rattle.c_cond.specs.Grammar.{IsText, Condition, Statements}
-use Rattle.c_cond.specs.Answers.{Answers}
+use Rattle.c_cond.specs.Answers.{Gives as GivesText}
 use Rattle.c_cond.specs.Beginning.{IsOutside}
 use Rattle.c_cond.specs.declared.parse.CondRefusal.{CondRefusal}
 use Rattle.c_cond.specs.declared.parse.CondRefusal.TheVariants as refusal
@@ -27,8 +27,8 @@ Reads (Some tree) IsTree = IsTree tree
 Reads None IsTree = (tree : Tree) → IsTree tree → ⊥
 
 -- a text outside has no tree
-pub none_in : (P : List ℕ → Tree → Type 0) (bytes : List ℕ) (e : CondRefusal) (offset : ℕ) → e ≡ refusal.Outside offset → Answers P bytes (Err e) → (t : Tree) → P bytes t → ⊥
-none_in P bytes e offset is h = let o : IsOutside P bytes offset = subst (λ e. Answers P bytes (Err e)) is h in o.no_text
+pub none_in : (P : List ℕ → Tree → Type 0) (bytes : List ℕ) (e : CondRefusal) (offset : ℕ) → e ≡ refusal.Outside offset → GivesText P bytes (Err e) → (t : Tree) → P bytes t → ⊥
+none_in P bytes e offset is h = let o : IsOutside P bytes offset = subst (λ e. GivesText P bytes (Err e)) is h in o.no_text
 
 -- where a tree is the only one, the value is that tree
 is_the : (o : Option Tree) (P : Tree → Type 0) → Reads o P → ((a b : Tree) → P a → P b → a ≡ b) → (t : Tree) → P t → o ≡ Some t

@@ -4,12 +4,12 @@ use Rattle.std.proofs.lemmas.List.{take_all}
 use Rattle.std.proofs.lemmas.List.Folds.{flat_map-map}
 use Rattle.std.specs.List.{flat_map}
 use Rattle.rtx_tree.specs.declared.constants.Constant.{Constant}
-use Rattle.lisp_read.specs.declared.tree.Tree.{Tree, out-Tree}
-use Rattle.lisp_read.specs.declared.tree.Tree.TheOpen.{Tree-F}
-use Rattle.lisp_read.specs.declared.tree.Tree.TheFolds.{fold-Tree, fold_out-Tree, map-Tree}
-use Rattle.lisp_read.specs.Head.{mode_of_head}
-use Rattle.lisp_read.specs.Shape.{atom_of, items_at, items_of}
-use Rattle.lisp_read.specs.Expression.{inside_at}
+use Rattle.md_pattern.specs.lisp_read.declared.tree.Tree.{Tree, out-Tree}
+use Rattle.md_pattern.specs.lisp_read.declared.tree.Tree.TheOpen.{Tree-F}
+use Rattle.md_pattern.specs.lisp_read.declared.tree.Tree.TheFolds.{fold-Tree, fold_out-Tree, map-Tree}
+use Rattle.md_pattern.specs.lisp_read.Head.{mode_of_head}
+use Rattle.md_pattern.specs.lisp_read.Shape.{atom_of, items_at, items_of}
+use Rattle.md_pattern.specs.lisp_read.Expression.{inside_at}
 use Rattle.md_pattern.specs.declared.reason.Reason.{Reason}
 use Rattle.pred_expr.specs.declared.question.Test.{Test, out-Test}
 use Rattle.pred_expr.specs.declared.question.Test.TheFolds.{fold_out-Test}

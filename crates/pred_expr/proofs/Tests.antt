@@ -7,12 +7,12 @@ use Rattle.rtx_tree.specs.declared.code.Code.{Code}
 use Rattle.rtx_tree.specs.declared.code.Mode.{Mode}
 use Rattle.rtx_tree.specs.declared.constants.Constant.{Constant}
 use Rattle.c_cond.specs.declared.tree.Tree as c_tree
-use Rattle.lisp_read.specs.declared.tree.Tree.{Tree, roll-Tree, out-roll-Tree}
-use Rattle.lisp_read.specs.declared.tree.Tree.TheOpen.{Tree-F}
-use Rattle.lisp_read.specs.declared.tree.Tree.TheVariants as tree
-use Rattle.lisp_read.specs.Shape.{atom_of, items_at, items_of}
-use Rattle.lisp_read.proofs.TreeInduction.{Steps, induction}
-use Rattle.lisp_read.specs.Head.{mode_of_head}
+use Rattle.md_pattern.specs.lisp_read.declared.tree.Tree.{Tree, roll-Tree, out-roll-Tree}
+use Rattle.md_pattern.specs.lisp_read.declared.tree.Tree.TheOpen.{Tree-F}
+use Rattle.md_pattern.specs.lisp_read.declared.tree.Tree.TheVariants as tree
+use Rattle.md_pattern.specs.lisp_read.Shape.{atom_of, items_at, items_of}
+use Rattle.md_pattern.proofs.lisp_read.TreeInduction.{Steps, induction}
+use Rattle.md_pattern.specs.lisp_read.Head.{mode_of_head}
 use Rattle.md_pattern.specs.declared.reason.Reason.{Reason}
 use Rattle.md_pattern.specs.declared.reason.Reason.TheVariants as reason
 use Rattle.md_pattern.specs.Reason.{judged_with, judged_map}

@@ -11,12 +11,12 @@ use Rattle.rtx_tree.specs.declared.constants.Constant.{Constant}
 use Rattle.c_cond.specs.c_words.declared.atom.Dialect.TheVariants as dialect
 use Rattle.c_cond.specs.declared.tree.Tree as c_tree
 use Rattle.c_cond.specs.Grammar.{IsText, Condition}
-use Rattle.lisp_read.specs.declared.tree.Tree.{Tree}
-use Rattle.lisp_read.specs.declared.tree.Tree.TheOpen.{Tree-F}
-use Rattle.lisp_read.specs.declared.tree.Tree.TheFolds.{fold-Tree}
-use Rattle.lisp_read.specs.Shape.{atom_of, string_of, items_of}
-use Rattle.lisp_read.specs.Head.{code_in, code_of_head, mode_of_head}
-use Rattle.lisp_read.specs.Expression.{inside_at, inside_of}
+use Rattle.md_pattern.specs.lisp_read.declared.tree.Tree.{Tree}
+use Rattle.md_pattern.specs.lisp_read.declared.tree.Tree.TheOpen.{Tree-F}
+use Rattle.md_pattern.specs.lisp_read.declared.tree.Tree.TheFolds.{fold-Tree}
+use Rattle.md_pattern.specs.lisp_read.Shape.{atom_of, string_of, items_of}
+use Rattle.md_pattern.specs.lisp_read.Head.{code_in, code_of_head, mode_of_head}
+use Rattle.md_pattern.specs.lisp_read.Expression.{inside_at, inside_of}
 use Rattle.md_text.specs.Lists.{members}
 use Rattle.md_text.specs.Lists as lists
 use Rattle.md_pattern.specs.declared.reason.Reason.{Reason}

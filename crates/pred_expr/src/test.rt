@@ -1,22 +1,21 @@
 //! Reads a test from its tree.
 ghost use Rattle.std.specs.Prelude.{◌≡◌, ◌↔◌, ℕ, List, ◌∷◌, [], ◌++◌, IfOk, map};
 ghost use Rattle.std.specs.Option.{option_copied};
-ghost use Rattle.lisp_read.specs.Head.{code_in, code_named, mode_of_head};
-ghost use Rattle.lisp_read.specs.Shape.{atom_of};
+ghost use Rattle.md_pattern.specs.lisp_read.Head.{code_in, code_named, mode_of_head};
+ghost use Rattle.md_pattern.specs.lisp_read.Shape.{atom_of};
 ghost use Rattle.md_text.specs.Lists as lists;
 ghost use Rattle.md_pattern.specs.Reason.{judged_with};
 ghost use Rattle.md_pattern.specs.declared.reason.Reason.TheVariants as reason;
 ghost use Rattle.c_cond.specs.c_words.declared.atom.Dialect.TheVariants as Dialect;
 ghost use Rattle.c_cond.specs.Grammar.{IsText, Condition};
-ghost use Rattle.lisp_read.specs.declared.tree.Tree.{Tree};
+ghost use Rattle.md_pattern.specs.lisp_read.declared.tree.Tree.{Tree};
 ghost use Rattle.pred_expr.specs.declared.question.Test.{Test};
 ghost use Rattle.pred_expr.specs.Test as spec;
 ghost use Rattle.pred_expr.specs.Texts as texts;
 
 use crate::question::{Codes, Question, Test, Tests};
 use crate::texts::test_condition;
-use lisp_read::{Tree, atom, head_words, items, string};
-use md_pattern::{Judged, Reason, both, number_in};
+use md_pattern::{Judged, Reason, Tree, atom, both, head_words, items, number_in, string};
 use md_text::members_of;
 use plain_data::{Items, Memory};
 use rtx_tree::{Code, Constants, Mode, Name};

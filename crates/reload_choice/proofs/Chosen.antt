@@ -3,7 +3,7 @@ use Rattle.std.proofs.Common.{◌≡◌, ◌↔◌, ℕ, Bool, List, Option, Som
 use Rattle.std.proofs.lemmas.Result.{IfOk-weaker}
 use Rattle.md_forms.specs.declared.form.OperandConstraint.{OperandConstraint}
 use Rattle.md_forms.specs.declared.form.Entry.{Entry}
-use Rattle.md_desc.specs.md_attr.Alternatives.{alternatives_of}
+use Rattle.reload_fit.specs.md_desc.md_attr.Alternatives.{alternatives_of}
 use Rattle.reload_fit.specs.Fitting.{constraints_of}
 use Rattle.reload_choice.specs.declared.given.Given.{Given}
 use Rattle.reload_choice.specs.declared.given.Plan.{Plan}

@@ -8,8 +8,8 @@ use Rattle.md_forms.specs.declared.form.OperandConstraint.{OperandConstraint}
 use Rattle.md_forms.specs.declared.form.Form.{Form}
 use Rattle.md_forms.specs.declared.form.Entry.{Entry}
 use Rattle.md_pattern.specs.declared.reason.Reason.{Reason}
-use Rattle.md_desc.specs.md_attr.Alternatives.{alternatives_of}
-use Rattle.md_desc.specs.md_attr.Values.{is_enabled}
+use Rattle.reload_fit.specs.md_desc.md_attr.Alternatives.{alternatives_of}
+use Rattle.reload_fit.specs.md_desc.md_attr.Values.{is_enabled}
 use Rattle.reload_operands.specs.declared.operand.Operand.{Operand}
 use Rattle.reload_moves.specs.declared.fitting.Fitting.{Fitting}
 use Rattle.reload_moves.specs.declared.part.Part.{Part}

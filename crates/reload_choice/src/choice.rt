@@ -1,6 +1,6 @@
 //! The best alternative.
 ghost use Rattle.std.specs.Prelude.{◌≡◌, ◌↔◌, Some, None, IfOk, IfSome};
-ghost use Rattle.md_desc.specs.md_attr.Alternatives.{alternatives_of};
+ghost use Rattle.reload_fit.specs.md_desc.md_attr.Alternatives.{alternatives_of};
 ghost use Rattle.reload_choice.specs.declared.given.Plan.{Plan};
 ghost use Rattle.reload_choice.specs.Choice as spec;
 ghost use Rattle.reload_choice.specs.Sound.{IsSoundPlan};
@@ -11,10 +11,9 @@ ghost use Rattle.reload_choice.specs.machine.Least as least;
 use crate::cost::cost_of;
 use crate::given::{Given, Plan};
 use crate::movable::{formed_of, is_reached};
-use md_desc::Description;
 use md_forms::{Entry, OperandConstraint};
 use plain_data::{Items, Memory};
-use reload_fit::Asked;
+use reload_fit::{Asked, Description};
 use reload_moves::{Fitting, Part, asks_of, parts_of};
 use std::alloc::Global;
 

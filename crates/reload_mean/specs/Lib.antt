@@ -7,3 +7,4 @@ pub use Rattle.reload.specs.pass_ready as pass_ready
 pub use Rattle.reload.specs as reload
 pub use Rattle.moves_mean.specs.reload_choice as reload_choice
 pub use Rattle.moves_mean.specs.window_replace as window_replace
+pub use Rattle.homes_mean.specs as homes_mean

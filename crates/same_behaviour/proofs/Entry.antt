@@ -3,9 +3,9 @@ use Rattle.std.proofs.Common.{◌≡◌, ℕ, zero, suc, ◌≢◌, ◌≤◌, �
 use Rattle.std.proofs.lemmas.Bool.Decides.{nat_tests}
 use Rattle.std.proofs.lemmas.List.Folds.{list_any-append}
 use Rattle.std.specs.List.{filter, list_any}
-use Rattle.rtx_tree.specs.declared.memories.MemByte.{MemByte}
+use Rattle.rv_line.specs.rtx_tree.declared.memories.MemByte.{MemByte}
 use Rattle.rv_line.specs.run_memory.RunMemory.{is_in, is_visible, visible}
-use Rattle.rtx_tree.specs.declared.machine.Start.{Start}
+use Rattle.rv_line.specs.rtx_tree.declared.machine.Start.{Start}
 use Rattle.same_behaviour.specs.Lawful.{IsLawful, is_below_sp, locals_range, seen_by_rtl}
 
 pub same_or_not : (a b : ℕ) → (a ≡ b) ⊎ (a ≢ b)

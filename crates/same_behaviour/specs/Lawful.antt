@@ -4,13 +4,13 @@
 -- 16 at entry).
 use Rattle.std.specs.Prelude.{◌≡◌, ℕ, zero, suc, ◌+◌, ◌-◌, ◌%◌, ◌^◌, ◌≤◌, ◌<◌, ◌&&◌, ◌||◌, not, nat_le, nat_lt, Bool, true, false, List, [], ◌∷◌, ◌++◌, slice_index, IsSome}
 use Rattle.std.specs.List.{All, filter}
-use Rattle.rtx_tree.specs.Memories.{IsOrdered, byte_at}
-use Rattle.rtx_tree.specs.declared.memories.MemByte.{MemByte}
-use Rattle.rtx_tree.specs.declared.machine.RangeAt.{RangeAt}
-use Rattle.rtx_tree.specs.declared.machine.Reply.{Reply}
-use Rattle.rtx_tree.specs.declared.machine.SymbolAt.{SymbolAt}
-use Rattle.rtx_tree.specs.declared.machine.Start.{Start}
-use Rattle.rtx_tree.specs.declared.machine.World.{World}
+use Rattle.rv_line.specs.rtx_tree.Memories.{IsOrdered, byte_at}
+use Rattle.rv_line.specs.rtx_tree.declared.memories.MemByte.{MemByte}
+use Rattle.rv_line.specs.rtx_tree.declared.machine.RangeAt.{RangeAt}
+use Rattle.rv_line.specs.rtx_tree.declared.machine.Reply.{Reply}
+use Rattle.rv_line.specs.rtx_tree.declared.machine.SymbolAt.{SymbolAt}
+use Rattle.rv_line.specs.rtx_tree.declared.machine.Start.{Start}
+use Rattle.rv_line.specs.rtx_tree.declared.machine.World.{World}
 use Rattle.rv_line.specs.run_memory.RunMemory.{is_visible}
 
 -- ---- what a machine holds

@@ -3,10 +3,10 @@
 -- function preserves).
 use Rattle.std.specs.Prelude.{◌≡◌, ◌≢◌, ℕ, ◌-◌, ◌≤◌, List, length, slice_get, Option, Some, None, MatchOption, option_map}
 use Rattle.bits64.specs.Words.{low}
-use Rattle.rtx_tree.specs.declared.code.Mode.{Mode}
-use Rattle.rtx_tree.specs.declared.machine.Start.{Start}
-use Rattle.rtx_tree.specs.declared.machine.World.{World}
-use Rattle.rtx_tree.specs.declared.function.Function.{Function}
+use Rattle.rv_line.specs.rtx_tree.declared.code.Mode.{Mode}
+use Rattle.rv_line.specs.rtx_tree.declared.machine.Start.{Start}
+use Rattle.rv_line.specs.rtx_tree.declared.machine.World.{World}
+use Rattle.rv_line.specs.rtx_tree.declared.function.Function.{Function}
 use Rattle.func_mean.specs.rtl_step.Value.{width_of}
 use Rattle.func_mean.specs.rtl_step.declared.call.ArgValue.{ArgValue}
 use Rattle.func_mean.specs.rtl_step.declared.call.CallEvent.{CallEvent}

@@ -10,11 +10,11 @@ use Rattle.md_forms.specs.Forms.{names_of}
 use Rattle.form_needs.specs.Needs.{is_kind, name_at}
 use Rattle.rtl_func.specs.Kinds.{kinds_agree}
 use Rattle.rtl_func.specs.Modes.{shapes_agree}
-use Rattle.sym_insns.specs.Shape.{is_shaped, all_natural}
+use Rattle.insn_keep.specs.sym_insns.Shape.{is_shaped, all_natural}
 use Rattle.gen_emit.specs.declared.emission.Emission.{Emission}
 use Rattle.md_emit.specs.Emitted.{emitted_by}
 use Rattle.new_insns.specs.Replaced.{replaced}
-use Rattle.insn_replace.specs.Replace.{made, ReplacedComes}
+use Rattle.insn_keep.specs.insn_replace.Replace.{made, ReplacedComes}
 use Rattle.insn_keep.specs.pass_ready.Left.{SameMarks}
 use Rattle.insn_keep.proofs.Marks.{replaced_same, same_refl, same_trans}
 use Rattle.split.specs.declared.stage.SplitStage.{SplitStage}

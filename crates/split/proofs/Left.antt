@@ -12,7 +12,7 @@ use Rattle.md_forms.specs.declared.form.Entry.{Entry}
 use Rattle.md_forms.specs.Forms.{names_of}
 use Rattle.form_needs.specs.Needs.{name_at}
 use Rattle.new_insns.specs.Replaced.{replaced}
-use Rattle.insn_replace.specs.Replace.{made, ReplacedComes}
+use Rattle.insn_keep.specs.insn_replace.Replace.{made, ReplacedComes}
 use Rattle.split.specs.declared.stage.SplitStage.{SplitStage}
 use Rattle.split.specs.Split.{Answer, IsSplit, SplitFrom, SplitComes}
 use Rattle.split.specs.Left.{IsLeft, AreLeft}

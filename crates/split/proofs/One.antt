@@ -8,9 +8,9 @@ use Rattle.rtl_chain.specs.Counts.{next_pseudo}
 use Rattle.md_forms.specs.declared.form.Entry.{Entry}
 use Rattle.md_forms.specs.Forms.{names_of}
 use Rattle.form_needs.specs.Needs.{name_at}
-use Rattle.insn_replace.specs.Replace.{ReplacedComes}
-use Rattle.insn_replace.proofs.OneReplaced.{one_replaced}
-use Rattle.pass_refusal.specs.declared.refusal.PassRefusal.{PassRefusal}
+use Rattle.insn_keep.specs.insn_replace.Replace.{ReplacedComes}
+use Rattle.insn_keep.proofs.insn_replace.OneReplaced.{one_replaced}
+use Rattle.insn_keep.specs.pass_refusal.declared.refusal.PassRefusal.{PassRefusal}
 use Rattle.split.specs.declared.stage.SplitStage.{SplitStage}
 use Rattle.split.specs.Split.{Answer, IsSplit, IsUnsplit, SplitFrom, SplitComes, most_splits}
 use Rattle.split.proofs.Forms.{split_one, split_not}

@@ -9,11 +9,11 @@ use Rattle.rtl_chain.specs.Counts.{next_pseudo}
 use Rattle.md_forms.specs.declared.form.Entry.{Entry}
 use Rattle.md_forms.specs.Forms.{names_of}
 use Rattle.form_needs.specs.Needs.{name_at}
-use Rattle.insn_replace.specs.Replace.{ReplacedComes}
-use Rattle.insn_replace.specs.Done.{Replaces}
-use Rattle.pass_refusal.specs.Outcome.{RefusesWith}
-use Rattle.pass_refusal.specs.declared.refusal.PassRefusal.{PassRefusal}
-use Rattle.pass_refusal.specs.declared.refusal.PassRefusal.TheVariants as refusal
+use Rattle.insn_keep.specs.insn_replace.Replace.{ReplacedComes}
+use Rattle.insn_keep.specs.insn_replace.Done.{Replaces}
+use Rattle.insn_keep.specs.pass_refusal.Outcome.{RefusesWith}
+use Rattle.insn_keep.specs.pass_refusal.declared.refusal.PassRefusal.{PassRefusal}
+use Rattle.insn_keep.specs.pass_refusal.declared.refusal.PassRefusal.TheVariants as refusal
 use Rattle.split.specs.declared.stage.SplitStage.{SplitStage}
 use Rattle.split.specs.Split.{Answer, IsSplit, IsUnsplit, SplitFrom, SplitComes, most_splits, too_deep}
 use Rattle.split.specs.machine.Runs.{Stops, SameBehind, PlaceReaches, PlaceStays, PlaceSplits, FoundSplits, RunReaches}

@@ -14,8 +14,8 @@ use Rattle.gen_emit.specs.declared.emission.Emission.{Emission}
 use Rattle.form_needs.specs.Needs.{lower_facts, name_at}
 use Rattle.func_keep.specs.Keeps.{Keeps}
 use Rattle.keep_compose.proofs.Keeping.{keeps_refl, keeps_trans}
-use Rattle.window_same.specs.ForLines.{MarksAreEmpty}
-use Rattle.insn_replace.specs.Replace.{made, ReplacedComes}
+use Rattle.insn_keep.specs.window_same.ForLines.{MarksAreEmpty}
+use Rattle.insn_keep.specs.insn_replace.Replace.{made, ReplacedComes}
 use Rattle.insn_keep.specs.Sound.{IsSound, PassKeeps}
 use Rattle.insn_keep.proofs.Keeping.{Keep, each_keeps, insn_kept, replaced_does, kept_refl, kept_trans}
 use Rattle.insn_keep.proofs.Marks.{no_mark}

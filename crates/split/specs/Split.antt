@@ -17,9 +17,9 @@ use Rattle.md_recog.specs.Recog.{MatchesAt}
 use Rattle.form_needs.specs.Needs.{is_kind, lower_facts, output_facts, name_at}
 use Rattle.gen_emit.specs.declared.emission.Emission.{Emission}
 use Rattle.md_emit.specs.Emitted.{emitted_by, keeps_to_arguments}
-use Rattle.insn_replace.specs.Replace.{ReplacedComes}
-use Rattle.pass_refusal.specs.declared.refusal.PassRefusal.{PassRefusal}
-use Rattle.pass_refusal.specs.declared.refusal.PassRefusal.TheVariants as refusal
+use Rattle.insn_keep.specs.insn_replace.Replace.{ReplacedComes}
+use Rattle.insn_keep.specs.pass_refusal.declared.refusal.PassRefusal.{PassRefusal}
+use Rattle.insn_keep.specs.pass_refusal.declared.refusal.PassRefusal.TheVariants as refusal
 use Rattle.split.specs.declared.stage.SplitStage.{SplitStage}
 use Rattle.split.specs.declared.stage.SplitStage.TheVariants.{BeforeReload, AfterReload}
 

@@ -18,7 +18,7 @@ use Rattle.rtl_step.specs.declared.call.CallEvent.{CallEvent}
 use Rattle.term_tree.specs.Tree as term
 use Rattle.term_mean.specs.Meaning.{Valuation, mean}
 use Rattle.window_mean.specs.Insns.{Calls, come_to, insn_comes}
-use Rattle.sym_state.specs.State.{State}
+use Rattle.sym_insns.specs.sym_state.State.{State}
 use Rattle.sym_insns.specs.Value.{Made}
 use Rattle.sym_insns.specs.Effects as spec
 use Rattle.sym_mean.specs.Needs.{First, are_met, worth}

@@ -4,8 +4,8 @@ use Rattle.std.proofs.lemmas.Bool.Decides.{nat_tests}
 use Rattle.std.proofs.Common.{◌≡◌, ◌≢◌, ℕ, ◌==◌, nat_lt, Bool, true, false, cond, List, [], ◌∷◌, Option, Some, refl, sym, ◌∙◌, ap, arith, tests}
 use Rattle.std.specs.Prelude.{if◌then◌else◌}
 use Rattle.term_tree.specs.Tree.{Tree}
-use Rattle.sym_state.specs.State.{Changed}
-use Rattle.sym_state.specs.Registers.{changed, held, placed}
+use Rattle.sym_insns.specs.sym_state.State.{Changed}
+use Rattle.sym_insns.specs.sym_state.Registers.{changed, held, placed}
 
 -- ---- what is held after a register is placed
 

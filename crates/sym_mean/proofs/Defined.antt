@@ -18,8 +18,8 @@ use Rattle.rtl_func.specs.Shapes.{mode_at, number_at, has_mode, fits_row}
 use Rattle.reg_uses.specs.Effects as uses
 use Rattle.term_tree.specs.Tree.{Tree}
 use Rattle.term_mean.specs.Stores.{Store}
-use Rattle.sym_state.specs.State.{State, Changed}
-use Rattle.sym_state.specs.Registers.{held, put}
+use Rattle.sym_insns.specs.sym_state.State.{State, Changed}
+use Rattle.sym_insns.specs.sym_state.Registers.{held, put}
 use Rattle.sym_insns.specs.Value.{Made, made_of}
 use Rattle.sym_insns.specs.Effects as spec
 use Rattle.sym_mean.proofs.Changes.{same_number, held_placed, held_kept}

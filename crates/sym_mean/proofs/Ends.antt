@@ -12,7 +12,7 @@ use Rattle.rtl_step.specs.Regs.{Regs}
 use Rattle.rtl_step.specs.Call as call
 use Rattle.term_mean.specs.Meaning.{Valuation, mean}
 use Rattle.window_mean.specs.Insns.{InsnsEnd, Falls, Goes, Calls, Returns, come_to, goes_on, insns_come}
-use Rattle.sym_state.specs.State.{State, falls}
+use Rattle.sym_insns.specs.sym_state.State.{State, falls}
 use Rattle.sym_insns.specs.Value.{Made}
 use Rattle.sym_insns.specs.Effects as spec
 use Rattle.sym_mean.specs.Needs.{First, are_met}

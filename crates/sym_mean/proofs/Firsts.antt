@@ -9,7 +9,7 @@ use Rattle.rtx_tree.specs.Memories.{byte_at}
 use Rattle.rtl_step.specs.Regs.{Regs}
 use Rattle.window_mean.specs.same_behaviour.Lawful.{IsByte, IsMemory}
 use Rattle.term_mean.specs.Meaning.{Valuation}
-use Rattle.sym_state.specs.State.{start}
+use Rattle.sym_insns.specs.sym_state.State.{start}
 use Rattle.sym_mean.specs.Needs.{First}
 use Rattle.sym_mean.specs.Shows.{ShowsMemory, Shows}
 use Rattle.sym_mean.specs.Means.{first_of, IsFirst}

@@ -13,7 +13,7 @@ use Rattle.bits64.specs.declared.Width.TheVariants.{W8}
 use Rattle.rtl_step.specs.Call.{target_of, call_part}
 use Rattle.term_mean.specs.Meaning.{Valuation}
 use Rattle.term_mean.specs.Stores.{Store}
-use Rattle.sym_state.specs.State.{State, Need, NeedAt, needs_at, is_within}
+use Rattle.sym_insns.specs.sym_state.State.{State, Need, NeedAt, needs_at, is_within}
 use Rattle.sym_insns.specs.Value.{Made, made_of}
 use Rattle.sym_insns.specs.Effects as spec
 use Rattle.sym_insns.specs.Run.{after, after_kind, run_from}

@@ -14,7 +14,7 @@ use Rattle.rtl_step.specs.Jump as jump
 use Rattle.rtl_step.specs.declared.jump.Way.TheVariants as way
 use Rattle.term_mean.specs.Meaning.{Valuation, mean}
 use Rattle.window_mean.specs.Insns.{InsnsEnd, Falls, Goes, come_to, end_of_way, insn_comes}
-use Rattle.sym_state.specs.State.{State}
+use Rattle.sym_insns.specs.sym_state.State.{State}
 use Rattle.sym_insns.specs.Value.{Made, made_of}
 use Rattle.sym_insns.specs.Effects as spec
 use Rattle.sym_mean.specs.Needs.{First, are_met}

@@ -16,7 +16,7 @@ use Rattle.rtl_step.specs.Value as rtl
 use Rattle.rtl_step.specs.Jump as jump
 use Rattle.rtl_step.proofs.Values.{value_in}
 use Rattle.term_mean.specs.Meaning.{Valuation, mean}
-use Rattle.sym_state.specs.State.{State}
+use Rattle.sym_insns.specs.sym_state.State.{State}
 use Rattle.sym_insns.specs.Value.{Made, made_of}
 use Rattle.sym_mean.specs.Needs.{First, are_met, worth}
 use Rattle.sym_mean.specs.Shows.{IsOf, Shows}

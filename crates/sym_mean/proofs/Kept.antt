@@ -20,8 +20,8 @@ use Rattle.rtl_step.specs.Effect.{register_by}
 use Rattle.reg_uses.specs.Effects as uses
 use Rattle.reg_uses.specs.Uses.{is_call_kind, is_return, insn_defines}
 use Rattle.window_mean.specs.Uses.{window_defines}
-use Rattle.sym_state.specs.State.{State, Runs, start}
-use Rattle.sym_state.specs.Registers.{held, left_by_call}
+use Rattle.sym_insns.specs.sym_state.State.{State, Runs, start}
+use Rattle.sym_insns.specs.sym_state.Registers.{held, left_by_call}
 use Rattle.sym_insns.specs.Effects as spec
 use Rattle.sym_insns.specs.Run.{after_kind, run_from, run}
 use Rattle.sym_insns.specs.Shape.{all_natural, is_shaped, is_end, fits_kind, bad_from, bad_insn}

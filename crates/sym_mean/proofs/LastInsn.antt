@@ -10,7 +10,7 @@ use Rattle.rtx_tree.specs.declared.tree.Rtx.{out-Rtx}
 use Rattle.reg_uses.specs.Uses.{is_return}
 use Rattle.rtl_func.specs.Modes.{shapes_agree}
 use Rattle.rtl_func.specs.Calls.{is_argument, use_is_argument, are_distinct, used_registers, has_result, are_lawful_uses, call_result_agrees}
-use Rattle.sym_state.specs.State.{State, Changed, Arg, Call, Runs, falls, start}
+use Rattle.sym_insns.specs.sym_state.State.{State, Changed, Arg, Call, Runs, falls, start}
 use Rattle.sym_insns.specs.Effects as spec
 use Rattle.sym_insns.specs.Run.{after_kind, run_from, run}
 use Rattle.sym_insns.specs.Shape.{all_natural, is_shaped, is_end, fits_kind, bad_from, bad_insn}

@@ -9,8 +9,8 @@ use Rattle.rtl_step.specs.Regs.{Regs, known_in, reg_value, preserved}
 use Rattle.rtl_step.proofs.Registers.{get_kept}
 use Rattle.term_mean.specs.Meaning.{Valuation}
 use Rattle.window_mean.specs.Insns.{InsnsEnd, Falls, Goes, Calls, Returns}
-use Rattle.sym_state.specs.State.{Changed}
-use Rattle.sym_state.specs.Registers.{held, put, left_from, left_by_call}
+use Rattle.sym_insns.specs.sym_state.State.{Changed}
+use Rattle.sym_insns.specs.sym_state.Registers.{held, put, left_from, left_by_call}
 use Rattle.sym_mean.specs.Needs.{First}
 use Rattle.sym_mean.specs.Shows.{ShowsRegister}
 use Rattle.sym_mean.specs.Means.{left_at}

@@ -29,3 +29,4 @@ pub mod Used
 pub mod Values
 pub mod Ways
 pub mod Writes
+pub use Rattle.window_mean.proofs as window_mean

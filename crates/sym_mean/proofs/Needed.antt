@@ -17,7 +17,7 @@ use Rattle.rtl_step.specs.Call as call
 use Rattle.reg_uses.specs.Effects as uses
 use Rattle.reg_uses.specs.Uses.{has_argument}
 use Rattle.term_mean.specs.Stores.{Store}
-use Rattle.sym_state.specs.State.{State, Changed, Access}
+use Rattle.sym_insns.specs.sym_state.State.{State, Changed, Access}
 use Rattle.sym_insns.specs.Value.{Made, made_of}
 use Rattle.sym_insns.specs.Effects as spec
 use Rattle.sym_mean.proofs.CallShapes.{IsCall, alone, sets}

@@ -18,8 +18,8 @@ use Rattle.term_mean.proofs.SumLaws.{mean-cut, mean-constant}
 use Rattle.term_mean.proofs.CutLaws.{low-low}
 use Rattle.term_mean.proofs.ComparedLaws.{mean-low_bits}
 use Rattle.term_mean.proofs.NormalLaws.{mean-built}
-use Rattle.sym_state.specs.State.{State, own_register}
-use Rattle.sym_state.specs.Registers.{held, term_held, need_of}
+use Rattle.sym_insns.specs.sym_state.State.{State, own_register}
+use Rattle.sym_insns.specs.sym_state.Registers.{held, term_held, need_of}
 use Rattle.sym_insns.specs.Value.{of_register, load_at}
 use Rattle.sym_mean.specs.Needs.{First, worth}
 use Rattle.sym_mean.specs.Shows.{IsOf, ShowsRegister, ShowsMemory}

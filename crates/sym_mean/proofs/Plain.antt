@@ -15,7 +15,7 @@ use Rattle.rtl_step.specs.declared.effect.Effect.{Effect}
 use Rattle.term_tree.specs.Tree.{width_of}
 use Rattle.term_mean.specs.Meaning.{Valuation, mean}
 use Rattle.term_mean.specs.Stores.{Store}
-use Rattle.sym_state.specs.State.{State, Need, Access}
+use Rattle.sym_insns.specs.sym_state.State.{State, Need, Access}
 use Rattle.sym_insns.specs.Value.{Made, made_of}
 use Rattle.sym_insns.specs.Effects as spec
 use Rattle.sym_mean.specs.Needs.{First, are_met}

@@ -20,8 +20,8 @@ use Rattle.term_tree.specs.Tree.{Tree, width_of}
 use Rattle.term_tree.specs.Form.{narrower}
 use Rattle.term_mean.specs.Stores.{Store}
 use Rattle.term_mean.specs.Sums.{constant_in}
-use Rattle.sym_state.specs.State.{Changed, Need, Register, Lost, Access, Divisor, Symbol}
-use Rattle.sym_state.specs.Registers.{held, need_of, read_needs}
+use Rattle.sym_insns.specs.sym_state.State.{Changed, Need, Register, Lost, Access, Divisor, Symbol}
+use Rattle.sym_insns.specs.sym_state.Registers.{held, need_of, read_needs}
 use Rattle.sym_insns.specs.Value as spec
 use Rattle.sym_insns.specs.Value.{Made, Reading}
 use Rattle.sym_insns.specs.Shape.{is_natural, natural_step, all_natural}

@@ -9,7 +9,7 @@ use Rattle.rtl_step.specs.Regs.{Regs}
 use Rattle.term_mean.specs.Meaning.{Valuation}
 use Rattle.term_mean.specs.Stores.{Stored}
 use Rattle.window_mean.specs.Insns.{InsnsCome, insns_come}
-use Rattle.sym_state.specs.State.{State, Runs, start}
+use Rattle.sym_insns.specs.sym_state.State.{State, Runs, start}
 use Rattle.sym_insns.specs.Run.{run_from, run}
 use Rattle.sym_insns.specs.Shape.{bad_insn}
 use Rattle.sym_mean.specs.Needs.{First}

@@ -15,7 +15,7 @@ use Rattle.reg_uses.specs.Uses.{is_return}
 use Rattle.term_mean.specs.Meaning.{Valuation, mean}
 use Rattle.term_mean.specs.Stores.{Follow, Stored}
 use Rattle.window_mean.specs.Insns.{Falls, Calls, InsnsCome, come_to, come_after, insn_comes, insns_come}
-use Rattle.sym_state.specs.State.{State}
+use Rattle.sym_insns.specs.sym_state.State.{State}
 use Rattle.sym_insns.specs.Effects as spec
 use Rattle.sym_insns.specs.Run.{after_kind, run_from}
 use Rattle.sym_insns.specs.Shape.{is_shaped, is_end, fits_kind, bad_from}

@@ -14,8 +14,8 @@ use Rattle.rtl_step.specs.declared.regs.Known.{Known}
 use Rattle.term_tree.specs.Tree.{Tree, width_of}
 use Rattle.term_mean.specs.Meaning.{Valuation, mean}
 use Rattle.term_mean.specs.Stores.{Store}
-use Rattle.sym_state.specs.State.{State, Changed}
-use Rattle.sym_state.specs.Registers.{held, placed, put}
+use Rattle.sym_insns.specs.sym_state.State.{State, Changed}
+use Rattle.sym_insns.specs.sym_state.Registers.{held, placed, put}
 use Rattle.sym_insns.specs.Effects as spec
 use Rattle.sym_mean.specs.Needs.{First}
 use Rattle.sym_mean.specs.Meant.{meant}

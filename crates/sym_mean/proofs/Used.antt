@@ -12,8 +12,8 @@ use Rattle.rtl_step.specs.Call as call
 use Rattle.reg_uses.specs.Effects as uses
 use Rattle.reg_uses.specs.Uses.{has_argument, insn_uses, insn_defines, is_return}
 use Rattle.window_mean.specs.Uses.{window_uses}
-use Rattle.sym_state.specs.State.{State, Changed, Need, NeedAt, Register, Lost, Access, Divisor, Symbol, Runs, start, needs_at}
-use Rattle.sym_state.specs.Registers.{held}
+use Rattle.sym_insns.specs.sym_state.State.{State, Changed, Need, NeedAt, Register, Lost, Access, Divisor, Symbol, Runs, start, needs_at}
+use Rattle.sym_insns.specs.sym_state.Registers.{held}
 use Rattle.sym_insns.specs.Effects as spec
 use Rattle.sym_insns.specs.Run.{after_kind, run_from, run}
 use Rattle.sym_insns.specs.Shape.{is_shaped, is_end, fits_kind, bad_from, bad_insn}

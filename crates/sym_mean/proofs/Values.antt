@@ -33,9 +33,9 @@ use Rattle.term_mean.proofs.SumLaws.{mean-constant}
 use Rattle.term_mean.proofs.ComparedLaws.{mean-low_bits, width-low_bits}
 use Rattle.term_mean.proofs.ShiftLaws.{constant-is}
 use Rattle.term_mean.proofs.NormalWidths.{width-built}
-use Rattle.sym_state.specs.State.{State, Need, own_register, own_symbol}
-use Rattle.sym_state.specs.State as state
-use Rattle.sym_state.specs.Registers.{held, read, term_held}
+use Rattle.sym_insns.specs.sym_state.State.{State, Need, own_register, own_symbol}
+use Rattle.sym_insns.specs.sym_state.State as state
+use Rattle.sym_insns.specs.sym_state.Registers.{held, read, term_held}
 use Rattle.sym_insns.specs.Value as spec
 use Rattle.sym_insns.specs.Value.{Made, Reading}
 use Rattle.sym_mean.specs.Needs.{First, is_met, are_met, worth}

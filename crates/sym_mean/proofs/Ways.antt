@@ -14,7 +14,7 @@ use Rattle.rtl_func.specs.Calls.{call_result_agrees}
 use Rattle.term_mean.specs.Meaning.{Valuation}
 use Rattle.term_mean.specs.Stores.{Store, Follow}
 use Rattle.window_mean.specs.Insns.{InsnsCome, goes_on, insns_come}
-use Rattle.sym_state.specs.State.{State, Runs, ran}
+use Rattle.sym_insns.specs.sym_state.State.{State, Runs, ran}
 use Rattle.sym_insns.specs.Effects as spec
 use Rattle.sym_insns.specs.Shape.{all_natural, is_shaped, is_end, fits_kind, bad_from}
 use Rattle.sym_mean.specs.Needs.{First, are_met}

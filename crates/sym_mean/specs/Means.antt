@@ -16,7 +16,7 @@ use Rattle.rtl_step.specs.declared.call.CallEvent.{CallEvent}
 use Rattle.term_tree.specs.Tree as term
 use Rattle.term_mean.specs.Meaning.{Valuation, mean}
 use Rattle.window_mean.specs.Insns.{InsnsEnd, Falls, Goes, Calls, InsnsCome}
-use Rattle.sym_state.specs.State.{State, Jump, Arg, Call, NeedAt}
+use Rattle.sym_insns.specs.sym_state.State.{State, Jump, Arg, Call, NeedAt}
 use Rattle.sym_insns.specs.Effects.{uid_in}
 use Rattle.sym_mean.specs.Needs.{First, is_met}
 use Rattle.sym_mean.specs.Shows.{IsOf, ShowsMemory, Shows}

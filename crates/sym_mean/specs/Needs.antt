@@ -9,7 +9,7 @@ use Rattle.rtx_tree.specs.declared.memories.MemByte.{MemByte}
 use Rattle.run_memory.specs.RunMemory.{load}
 use Rattle.run_memory.specs.Symbols.{symbol_address}
 use Rattle.term_mean.specs.Meaning.{Valuation, mean}
-use Rattle.sym_state.specs.State.{Need, Register, Lost, Access, Divisor, Symbol}
+use Rattle.sym_insns.specs.sym_state.State.{Need, Register, Lost, Access, Divisor, Symbol}
 use Rattle.sym_insns.specs.Value.{Made}
 
 -- what there is before the first instruction or line: addresses of symbols, what is read of a

@@ -12,8 +12,8 @@ use Rattle.rtl_step.specs.Regs.{Regs, known_of, reg_value}
 use Rattle.term_tree.specs.Tree.{Tree, width_of}
 use Rattle.term_mean.specs.Meaning.{Valuation, mean}
 use Rattle.term_mean.specs.Stores.{Stored}
-use Rattle.sym_state.specs.State.{State}
-use Rattle.sym_state.specs.Registers.{held}
+use Rattle.sym_insns.specs.sym_state.State.{State}
+use Rattle.sym_insns.specs.sym_state.Registers.{held}
 use Rattle.sym_mean.specs.Needs.{First}
 
 -- registers and symbols of a valuation are those before the first instruction, which have 64 bits

@@ -1,9 +1,9 @@
 -- The laws that the contracts name.
-use Rattle.term_mean.proofs.NormalLaws.{mean-normal, mean-built}
-use Rattle.term_mean.proofs.NormalWidths.{width-built}
-use Rattle.term_mean.proofs.SumLaws.{mean-summed}
-use Rattle.term_mean.proofs.Widths.{width-summed}
-use Rattle.term_mean.proofs.ComparedLaws.{mean-compared, mean-low_bits, width-low_bits}
+use Rattle.term_cuts.proofs.term_mean.NormalLaws.{mean-normal, mean-built}
+use Rattle.term_cuts.proofs.term_mean.NormalWidths.{width-built}
+use Rattle.term_cuts.proofs.term_mean.SumLaws.{mean-summed}
+use Rattle.term_cuts.proofs.term_mean.Widths.{width-summed}
+use Rattle.term_cuts.proofs.term_mean.ComparedLaws.{mean-compared, mean-low_bits, width-low_bits}
 use Rattle.sym_term.proofs.Steps.{source-step, same-is}
 use Rattle.std.proofs.lemmas.Option.{slice_get-map}
 

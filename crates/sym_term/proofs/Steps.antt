@@ -11,8 +11,8 @@ use Rattle.term_tree.proofs.OrderLaws.{tree_cmp-equal}
 use Rattle.term_sums.proofs.TotalLaws.{tree_cmp_total}
 use Rattle.bits64.specs.declared.Width.{Width}
 use Rattle.term_tree.specs.Tree.{Tree}
-use Rattle.term_mean.specs.Stores.{Store}
-use Rattle.term_mean.specs.Loads.{lies_apart, source}
+use Rattle.term_cuts.specs.term_mean.Stores.{Store}
+use Rattle.term_cuts.specs.term_mean.Loads.{lies_apart, source}
 
 pub source-step : (stores : List Store) (w : Width) (a : Tree) (n : ℕ) → 0 < n → source stores w a n ≡ cond (lies_apart w a (slice_get stores (n - 1))) (source stores w a (n - 1)) n
 source-step stores w a zero h = absurd (omega arith)

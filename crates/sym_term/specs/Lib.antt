@@ -1,2 +1,2 @@
 pub mod Views
-pub use Rattle.term_mean.specs as term_mean
+pub use Rattle.term_cuts.specs.term_mean as term_mean

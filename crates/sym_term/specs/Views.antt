@@ -1,6 +1,6 @@
 -- What the code's own types are in the words of the definitions.
 use Rattle.term_tree.specs.View.{tree_of}
-use Rattle.term_mean.specs.Stores.{Store}
+use Rattle.term_cuts.specs.term_mean.Stores.{Store}
 use Rattle.sym_term.specs.declared.stores.SymStore.{SymStore}
 
 abbrev pub store_of : SymStore → Store

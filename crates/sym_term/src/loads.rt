@@ -3,7 +3,7 @@ ghost use Rattle.std.specs.Prelude.{◌≡◌, map, slice_get, IfOk};
 ghost use Rattle.std.specs.Option.{option_copied};
 ghost use Rattle.bits64.specs.Words.{bytes_of};
 ghost use Rattle.term_tree.specs.View.{tree_of};
-ghost use Rattle.term_mean.specs.Loads as spec;
+ghost use Rattle.term_cuts.specs.term_mean.Loads as spec;
 ghost use Rattle.sym_term.specs.Views.{store_of};
 
 use crate::stores::{SymStore, SymStores};

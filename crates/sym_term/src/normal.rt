@@ -2,11 +2,11 @@
 ghost use Rattle.std.specs.Prelude.{ℕ, ◌≡◌, ◌+◌, ◌≤◌, ◌<◌, [], ◌∷◌, map, vec_len, IfOk};
 ghost use Rattle.term_tree.specs.Tree.{tree_size, trees_of, atoms_of, Node, tree, no_trees};
 ghost use Rattle.term_tree.specs.View.{tree_of, atom_of};
-ghost use Rattle.term_mean.specs.Meaning.{Valuation, mean};
-ghost use Rattle.term_mean.specs.Stores.{Stored};
-ghost use Rattle.term_mean.specs.Sums.{summed as summed_spec};
-ghost use Rattle.term_mean.specs.Shifts.{plain_two as plain_two_spec};
-ghost use Rattle.term_mean.specs.Normal as spec;
+ghost use Rattle.term_cuts.specs.term_mean.Meaning.{Valuation, mean};
+ghost use Rattle.term_cuts.specs.term_mean.Stores.{Stored};
+ghost use Rattle.term_cuts.specs.term_mean.Sums.{summed as summed_spec};
+ghost use Rattle.term_cuts.specs.term_mean.Shifts.{plain_two as plain_two_spec};
+ghost use Rattle.term_cuts.specs.term_mean.Normal as spec;
 ghost use Rattle.sym_term.specs.Views.{store_of};
 
 use crate::loads::loaded;

@@ -3,7 +3,7 @@ ghost use Rattle.std.specs.Prelude.{◌≡◌, ◌%◌, ◌^◌, ◌<◌, map, I
 ghost use Rattle.bits64.specs.Words.{bits_of};
 ghost use Rattle.term_tree.specs.Tree.{atoms_of};
 ghost use Rattle.term_tree.specs.View.{tree_of, atom_of};
-ghost use Rattle.term_mean.specs.Shifts as spec;
+ghost use Rattle.term_cuts.specs.term_mean.Shifts as spec;
 
 use bits64::Width;
 use plain_data::Memory;

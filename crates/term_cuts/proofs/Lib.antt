@@ -1,0 +1,1 @@
+pub use Rattle.term_mean.proofs as term_mean

@@ -1,0 +1,1 @@
+pub use Rattle.term_mean.specs as term_mean

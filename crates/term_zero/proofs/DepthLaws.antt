@@ -8,12 +8,12 @@ use Rattle.bits64.specs.Words.{bits_of}
 use Rattle.term_tree.specs.declared.head.Extension.{Extension}
 use Rattle.term_tree.specs.Tree.{Tree}
 use Rattle.term_tree.specs.Order.{tree_cmp}
-use Rattle.term_mean.specs.Meaning.{Valuation}
-use Rattle.term_mean.specs.Sums.{constant_in}
-use Rattle.term_mean.specs.Shifts.{on_constants}
-use Rattle.term_mean.specs.Zero.{Operands, operands_in}
-use Rattle.term_mean.specs.Less.{less_head, less_kind, less_extended, less_unless, less_step, less_test, less_than}
-use Rattle.term_mean.proofs.OperandLaws.{operands-are}
+use Rattle.term_cuts.specs.term_mean.Meaning.{Valuation}
+use Rattle.term_cuts.specs.term_mean.Sums.{constant_in}
+use Rattle.term_cuts.specs.term_mean.Shifts.{on_constants}
+use Rattle.term_cuts.specs.term_mean.Zero.{Operands, operands_in}
+use Rattle.term_cuts.specs.term_mean.Less.{less_head, less_kind, less_extended, less_unless, less_step, less_test, less_than}
+use Rattle.term_cuts.proofs.term_mean.OperandLaws.{operands-are}
 
 -- how many widths there are up to one
 abbrev depth : Width → ℕ

@@ -1,6 +1,6 @@
 -- The laws that the contracts name.
-use Rattle.term_mean.proofs.RelationLaws.{mean-related}
-use Rattle.term_mean.proofs.LessLaws.{less_test-none, less_test-step}
+use Rattle.term_cuts.proofs.term_mean.RelationLaws.{mean-related}
+use Rattle.term_cuts.proofs.term_mean.LessLaws.{less_test-none, less_test-step}
 use Rattle.term_zero.proofs.RoundLaws.{equals_zero-enough}
 use Rattle.term_zero.proofs.DepthLaws.{less_than-enough}
 

@@ -7,9 +7,9 @@ use Rattle.bits64.specs.Words.{bits_of, low, sum_of, product_of}
 use Rattle.term_tree.specs.Tree.{Tree, Atoms, Trees, AtomTree, Sum, Node, no_atoms, atom, no_trees, tree, width_of, atoms_of, list_of_atoms, tree_size, atoms_size, trees_size}
 use Rattle.term_tree.specs.Form.{same_width}
 use Rattle.term_tree.specs.Order.{tree_cmp, numbers_cmp}
-use Rattle.term_mean.specs.Sums.{with_atom, placed, insert, in_order, scaled, constant_at, atoms_at, sum, constant, plus_times, minus, negated}
-use Rattle.term_mean.specs.Zero.{numbers_of, first_of, nearer}
-use Rattle.term_mean.proofs.SumLaws.{atoms_of-list_of}
+use Rattle.term_cuts.specs.term_mean.Sums.{with_atom, placed, insert, in_order, scaled, constant_at, atoms_at, sum, constant, plus_times, minus, negated}
+use Rattle.term_cuts.specs.term_mean.Zero.{numbers_of, first_of, nearer}
+use Rattle.term_cuts.proofs.term_mean.SumLaws.{atoms_of-list_of}
 
 -- the nodes of a term that have parts, sums aside
 abbrev mutual

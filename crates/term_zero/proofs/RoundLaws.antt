@@ -7,10 +7,10 @@ use Rattle.bits64.specs.Words.{bits_of, low, difference_of}
 use Rattle.term_tree.specs.declared.head.Head.TheVariants as heads
 use Rattle.term_tree.specs.Tree.{Tree, Sum, Node, no_atoms, atom, no_trees, tree, tree_size}
 use Rattle.term_tree.specs.Form.{same_width}
-use Rattle.term_mean.specs.Sums.{constant, constant_in, minus}
-use Rattle.term_mean.specs.Masks.{low_8}
-use Rattle.term_mean.specs.Truths.{is_truth, opposite}
-use Rattle.term_mean.specs.Zero.{nearer, Extended, Operands, extension_in, operand_in, operands_of, operands_as, operands_in, from_zero, as_difference, zero_extended_test, zero_difference, zero_xor, zero_constant, zero_chosen, zero_test, equals_zero}
+use Rattle.term_cuts.specs.term_mean.Sums.{constant, constant_in, minus}
+use Rattle.term_cuts.specs.term_mean.Masks.{low_8}
+use Rattle.term_cuts.specs.term_mean.Truths.{is_truth, opposite}
+use Rattle.term_cuts.specs.term_mean.Zero.{nearer, Extended, Operands, extension_in, operand_in, operands_of, operands_as, operands_in, from_zero, as_difference, zero_extended_test, zero_difference, zero_xor, zero_constant, zero_chosen, zero_test, equals_zero}
 use Rattle.term_zero.specs.machine.Rounds.{xor_parts, zero_parted}
 use Rattle.term_zero.proofs.OperatorLaws.{operators, operators-below, operators-minus, operators-nearer}
 

@@ -2,8 +2,8 @@
 ghost use Rattle.std.specs.Prelude.{◌≡◌, IfOk};
 ghost use Rattle.term_tree.specs.Tree.{own_width as own_width_spec};
 ghost use Rattle.term_tree.specs.View.{tree_of};
-ghost use Rattle.term_mean.specs.Meaning as meaning;
-ghost use Rattle.term_mean.specs.Shifts as spec;
+ghost use Rattle.term_cuts.specs.term_mean.Meaning as meaning;
+ghost use Rattle.term_cuts.specs.term_mean.Shifts as spec;
 
 use bits64::{Width, div, lt, ltu, mulh, mulhsu, mulhu, rem, sar, shl, shr, udiv, urem};
 use plain_data::{Items, Memory};

@@ -2,7 +2,7 @@
 ghost use Rattle.std.specs.Prelude.{ℕ, ◌≡◌, ◌≤◌, IfOk};
 ghost use Rattle.term_tree.specs.declared.head.Extension.TheVariants.{Zero};
 ghost use Rattle.term_tree.specs.View.{tree_of};
-ghost use Rattle.term_mean.specs.Less as spec;
+ghost use Rattle.term_cuts.specs.term_mean.Less as spec;
 ghost use Rattle.term_zero.specs.machine.Views.{operands_found};
 
 use crate::constants::{on_constants, two_copies};

@@ -4,7 +4,7 @@ ghost use Rattle.std.specs.Prelude.{◌≡◌, map, IfOk};
 ghost use Rattle.std.specs.Option.{option_or};
 ghost use Rattle.term_tree.specs.Tree.{trees_of};
 ghost use Rattle.term_tree.specs.View.{tree_of};
-ghost use Rattle.term_mean.specs.Zero as spec;
+ghost use Rattle.term_cuts.specs.term_mean.Zero as spec;
 ghost use Rattle.term_zero.specs.machine.Views.{extended_of, extended_found, tree_found, operands_found};
 
 use bits64::{Width, trunc};

@@ -1,11 +1,11 @@
 //! Comparisons of two terms, as terms of 8 bits that are not in normal form.
 ghost use Rattle.std.specs.Prelude.{◌≡◌, ℕ, IfOk};
 ghost use Rattle.term_tree.specs.View.{tree_of};
-ghost use Rattle.term_mean.specs.Meaning.{Valuation, mean, truth};
+ghost use Rattle.term_cuts.specs.term_mean.Meaning.{Valuation, mean, truth};
 ghost use Rattle.term_tree.specs.declared.head.Head.TheVariants as heads;
-ghost use Rattle.term_mean.specs.Cuts.{one_part as one_part_spec};
-ghost use Rattle.term_mean.specs.Shifts.{two_parts as two_parts_spec};
-ghost use Rattle.term_mean.specs.Relations as spec;
+ghost use Rattle.term_cuts.specs.term_mean.Cuts.{one_part as one_part_spec};
+ghost use Rattle.term_cuts.specs.term_mean.Shifts.{two_parts as two_parts_spec};
+ghost use Rattle.term_cuts.specs.term_mean.Relations as spec;
 
 use crate::constants::two_parts;
 use bits64::Width;

@@ -2,7 +2,7 @@
 ghost use Rattle.std.specs.Prelude.{◌≡◌, map, IfOk};
 ghost use Rattle.term_tree.specs.Tree.{trees_of};
 ghost use Rattle.term_tree.specs.View.{tree_of};
-ghost use Rattle.term_mean.specs.Truths as spec;
+ghost use Rattle.term_cuts.specs.term_mean.Truths as spec;
 
 use bits64::Width;
 use plain_data::Memory;

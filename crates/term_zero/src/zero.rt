@@ -5,9 +5,9 @@ ghost use Rattle.term_tree.specs.declared.head.Head.TheVariants as heads;
 ghost use Rattle.term_tree.specs.Tree.{Tree, trees_of, atoms_of, tree_size};
 ghost use Rattle.term_tree.specs.Order.{numbers_cmp};
 ghost use Rattle.term_tree.specs.View.{tree_of, atom_of};
-ghost use Rattle.term_mean.specs.Sums.{minus as minus_spec};
-ghost use Rattle.term_mean.specs.Cuts.{one_part as one_part_spec};
-ghost use Rattle.term_mean.specs.Zero as spec;
+ghost use Rattle.term_cuts.specs.term_mean.Sums.{minus as minus_spec};
+ghost use Rattle.term_cuts.specs.term_mean.Cuts.{one_part as one_part_spec};
+ghost use Rattle.term_cuts.specs.term_mean.Zero as spec;
 ghost use Rattle.term_zero.specs.machine.Rounds.{round_tree, zero_parted, xor_parts as xor_parts_spec};
 ghost use Rattle.term_zero.specs.machine.Views.{operands_found, difference_found, parts_found};
 

@@ -13,8 +13,8 @@ use Rattle.rtx_tree.specs.declared.function.Kind.TheVariants.{Plain, Call, Label
 use Rattle.rtx_tree.specs.declared.machine.RangeAt.{RangeAt}
 use Rattle.rtx_tree.specs.declared.machine.SymbolAt.{SymbolAt}
 use Rattle.rtx_tree.specs.declared.memories.MemByte.{MemByte}
-use Rattle.rtl_step.specs.Regs.{Regs, reg_value}
-use Rattle.rtl_step.specs.declared.call.CallEvent.{CallEvent}
+use Rattle.window_mean.specs.rtl_step.Regs.{Regs, reg_value}
+use Rattle.window_mean.specs.rtl_step.declared.call.CallEvent.{CallEvent}
 use Rattle.window_mean.specs.same_behaviour.Lawful.{AreAddresses, IsMemory}
 use Rattle.window_mean.specs.Insns.{InsnsEnd, Falls, Goes, Calls, InsnsCome, insns_come}
 use Rattle.window_mean.specs.Same.{IsKept}

@@ -17,3 +17,4 @@ pub mod Walk
 pub mod Ends
 pub mod Replacing
 pub use Rattle.window_same.proofs as window_same
+pub use Rattle.keep_compose.proofs as keep_compose

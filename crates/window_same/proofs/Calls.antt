@@ -5,7 +5,7 @@ use Rattle.std.specs.Prelude.{slice_get}
 use Rattle.std.proofs.lemmas.List.Elements.{All-head, All-drop}
 use Rattle.rtl_step.specs.declared.call.CallEvent.{CallEvent}
 use Rattle.rv_line.specs.declared.outcome.CodeCall.{CodeCall}
-use Rattle.same_behaviour.specs.Same.{SameCall, SameCalls}
+use Rattle.window_mean.specs.same_behaviour.Same.{SameCall, SameCalls}
 
 alone : (event : CallEvent) (call : CodeCall) → SameCall event call → SameCalls (event ∷ []) (call ∷ [])
 alone event call same = (refl, λ i e c at at'. by_place i e c at at')

@@ -19,8 +19,8 @@ use Rattle.rtl_step.specs.Regs.{Regs, known_in, known_of, with_reg}
 use Rattle.func_mean.specs.Run as func
 use Rattle.rv_line.specs.Run as lines
 use Rattle.rv_line.specs.Step.{register}
-use Rattle.same_behaviour.specs.Lawful.{IsWord, IsByte, IsMemory, AreWords, IsLawful, is_below_sp, seen_by_rtl}
-use Rattle.same_behaviour.proofs.Entry.{same_or_not, visible_at_entry}
+use Rattle.window_mean.specs.same_behaviour.Lawful.{IsWord, IsByte, IsMemory, AreWords, IsLawful, is_below_sp, seen_by_rtl}
+use Rattle.window_mean.proofs.same_behaviour.Entry.{same_or_not, visible_at_entry}
 use Rattle.window_mean.specs.Beside.{Agrees, Beside, IsMachine}
 use Rattle.window_same.proofs.Replies.{agrees_zero, held, register_at, low_in}
 use Rattle.window_same.proofs.Small.{is_here, is_other, ◌also◌}

@@ -13,8 +13,8 @@ use Rattle.rv_line.specs.Run as lines
 use Rattle.rv_line.specs.Run.{Running}
 use Rattle.rv_line.specs.declared.outcome.CodeOutcome.{CodeOutcome}
 use Rattle.rv_line.specs.declared.state.RvState.{RvState}
-use Rattle.same_behaviour.specs.Lawful.{IsLawful, IsLawfulWorld, seen_by_rtl}
-use Rattle.same_behaviour.specs.Same.{SameOutcome}
+use Rattle.window_mean.specs.same_behaviour.Lawful.{IsLawful, IsLawfulWorld, seen_by_rtl}
+use Rattle.window_mean.specs.same_behaviour.Same.{SameOutcome}
 use Rattle.window_same.specs.ForLines.{MarksAreEmpty}
 use Rattle.window_same.specs.Items.{AreItemsFrom}
 use Rattle.window_same.proofs.Entry.{agrees_at_entry, beside_at_entry}

@@ -42,8 +42,8 @@ use Rattle.rv_line.specs.Run as lines
 use Rattle.rv_line.specs.Run.{after_call}
 use Rattle.rv_line.specs.Step.{register}
 use Rattle.rv_line.specs.declared.state.RvState.{RvState}
-use Rattle.same_behaviour.specs.Lawful.{seen_by_rtl}
-use Rattle.same_behaviour.proofs.Registers.{low_same}
+use Rattle.window_mean.specs.same_behaviour.Lawful.{seen_by_rtl}
+use Rattle.window_mean.proofs.same_behaviour.Registers.{low_same}
 use Rattle.window_mean.specs.Beside.{Agrees, IsMachine}
 use Rattle.window_mean.specs.Insns as window
 use Rattle.window_mean.specs.Insns.{InsnsEnd, InsnsCome, insns_come, insn_comes, come_to}

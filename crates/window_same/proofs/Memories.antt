@@ -9,8 +9,8 @@ use Rattle.rtx_tree.specs.declared.memories.MemByte.{MemByte}
 use Rattle.rtx_tree.proofs.MemoryPlaces.{ordered_stays}
 use Rattle.rtx_tree.proofs.MemoryWrites.{byte_at-with_byte, byte_at-with_byte_other, byte_at-with_byte_same}
 use Rattle.run_memory.specs.RunMemory.{written, visible, is_visible}
-use Rattle.same_behaviour.specs.Lawful.{IsByte, IsMemory}
-use Rattle.same_behaviour.proofs.Entry.{same_or_not}
+use Rattle.window_mean.specs.same_behaviour.Lawful.{IsByte, IsMemory}
+use Rattle.window_mean.proofs.same_behaviour.Entry.{same_or_not}
 use Rattle.window_mean.specs.Beside.{Within}
 
 -- ---- it stays a memory

@@ -18,9 +18,9 @@ use Rattle.rv_text.specs.declared.line.Line.{Line}
 use Rattle.rv_text.specs.declared.line.CodeItem.{CodeItem}
 use Rattle.rv_text.specs.declared.line.CodeItem.TheVariants.{Label, Code}
 use Rattle.rv_line.specs.Run.{next_line, behind_label}
-use Rattle.same_behaviour.specs.Ending.{IsUid}
-use Rattle.same_behaviour.proofs.Labels.{label_test}
-use Rattle.same_behaviour.proofs.Places.{get_dropped, drop_next}
+use Rattle.window_mean.specs.same_behaviour.Ending.{IsUid}
+use Rattle.window_mean.proofs.same_behaviour.Labels.{label_test}
+use Rattle.window_mean.proofs.same_behaviour.Places.{get_dropped, drop_next}
 use Rattle.window_same.specs.ForLines.{MarksAreEmpty}
 use Rattle.window_same.specs.Items.{AreItemsAt, AreItemsFrom}
 use Rattle.window_same.specs.Items as items_of

@@ -22,9 +22,9 @@ use Rattle.run_memory.specs.RunMemory.{written}
 use Rattle.rv_line.specs.Run.{left_from, after_call}
 use Rattle.rv_line.specs.Step.{register}
 use Rattle.rv_line.specs.declared.state.RvState.{RvState}
-use Rattle.same_behaviour.specs.Lawful.{IsWord, IsByte}
-use Rattle.same_behaviour.proofs.Entry.{same_or_not}
-use Rattle.same_behaviour.proofs.Registers.{register_set, register_kept, length_written}
+use Rattle.window_mean.specs.same_behaviour.Lawful.{IsWord, IsByte}
+use Rattle.window_mean.proofs.same_behaviour.Entry.{same_or_not}
+use Rattle.window_mean.proofs.same_behaviour.Registers.{register_set, register_kept, length_written}
 use Rattle.window_mean.specs.Beside.{Agrees, Beside, IsMachine}
 use Rattle.window_same.proofs.Memories.{memory_written, within_written, visible_written}
 use Rattle.window_same.proofs.Small.{is_here, is_other}

@@ -25,7 +25,7 @@ use Rattle.rv_text.specs.declared.line.Line.{Line}
 use Rattle.rv_line.specs.Step.{register, step, step_as, return_end}
 use Rattle.rv_line.specs.declared.state.RvState.{RvState}
 use Rattle.rv_line.specs.declared.state.LineEnd.TheVariants as ends
-use Rattle.same_behaviour.specs.Same.{SameResult}
+use Rattle.window_mean.specs.same_behaviour.Same.{SameResult}
 use Rattle.window_mean.specs.Beside.{Agrees}
 use Rattle.window_same.specs.Items.{IsReturnLine, ret, jr}
 

@@ -37,8 +37,8 @@ use Rattle.rv_line.specs.Run.{Running, next_line}
 use Rattle.rv_line.specs.declared.state.RvState.{RvState}
 use Rattle.rv_line.specs.declared.state.LineEnd.TheVariants as ends
 use Rattle.run_memory.specs.RunMemory.{visible}
-use Rattle.same_behaviour.specs.Lawful.{IsLawfulWorld}
-use Rattle.same_behaviour.proofs.Places.{get_dropped, get_past, drop_next}
+use Rattle.window_mean.specs.same_behaviour.Lawful.{IsLawfulWorld}
+use Rattle.window_mean.proofs.same_behaviour.Places.{get_dropped, get_past, drop_next}
 use Rattle.window_mean.specs.Beside.{Agrees, Beside}
 use Rattle.window_mean.specs.Insns as window
 use Rattle.window_mean.specs.Insns.{InsnsCome, insns_come, insn_comes, come_to}

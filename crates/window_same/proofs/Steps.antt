@@ -42,10 +42,10 @@ use Rattle.rv_line.specs.declared.outcome.CodeCall.{CodeCall}
 use Rattle.rv_line.specs.declared.outcome.CodeOutcome.{CodeOutcome}
 use Rattle.rv_line.specs.declared.outcome.CodeOutcome.TheVariants as code
 use Rattle.rv_line.specs.declared.state.RvState.{RvState}
-use Rattle.same_behaviour.specs.Ending.{IsUid}
-use Rattle.same_behaviour.specs.Lawful.{IsLawfulReply, IsLawfulWorld}
-use Rattle.same_behaviour.specs.Same.{SameOutcome, SameCall, SameCalls, at_entry}
-use Rattle.same_behaviour.proofs.Places.{get_dropped, get_past, drop_next}
+use Rattle.window_mean.specs.same_behaviour.Ending.{IsUid}
+use Rattle.window_mean.specs.same_behaviour.Lawful.{IsLawfulReply, IsLawfulWorld}
+use Rattle.window_mean.specs.same_behaviour.Same.{SameOutcome, SameCall, SameCalls, at_entry}
+use Rattle.window_mean.proofs.same_behaviour.Places.{get_dropped, get_past, drop_next}
 use Rattle.window_mean.specs.Beside.{Agrees, Beside, IsMachine}
 use Rattle.window_mean.specs.Insns as insn_end
 use Rattle.window_mean.specs.Insns.{InsnsEnd, InsnsCome, insns_come}

@@ -19,7 +19,7 @@ use Rattle.rv_text.specs.declared.action.Source.TheVariants.{First, ReturnAddres
 use Rattle.rv_text.specs.declared.line.Line.{Line}
 use Rattle.rv_text.specs.declared.line.CodeItem.{CodeItem}
 use Rattle.rv_text.specs.declared.line.CodeItem.TheVariants.{Label, Code}
-use Rattle.same_behaviour.specs.Ending.{IsUid}
+use Rattle.window_mean.specs.same_behaviour.Ending.{IsUid}
 use Rattle.window_mean.specs.Same.{DoSame}
 use Rattle.window_mean.specs.Uses.{window_uses}
 

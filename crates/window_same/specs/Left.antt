@@ -20,8 +20,8 @@ use Rattle.func_keep.specs.Ends.{EndsAtExit}
 use Rattle.reg_uses.specs.Effects.{effects_of, place_is}
 use Rattle.rv_text.specs.declared.line.CodeItem.{CodeItem}
 use Rattle.rv_line.specs.Run as lines
-use Rattle.same_behaviour.specs.Lawful.{IsLawful, IsLawfulWorld, seen_by_rtl}
-use Rattle.same_behaviour.specs.Same.{SameOutcome}
+use Rattle.window_mean.specs.same_behaviour.Lawful.{IsLawful, IsLawfulWorld, seen_by_rtl}
+use Rattle.window_mean.specs.same_behaviour.Same.{SameOutcome}
 
 -- what sp, ra and s0 to s11 hold at entry
 abbrev pub found : Start → List (Option ℕ)

@@ -2,7 +2,7 @@
 use Rattle.std.specs.Prelude.{◌≡◌, ℕ, List, [], Some, Result, Ok, Err}
 use Rattle.rv_text.specs.declared.line.Line.{Line}
 use Rattle.term_tree.specs.View.{tree_of}
-use Rattle.sym_diff.specs.Difference.{Differ, Lacks}
+use Rattle.equate.specs.sym_diff.Difference.{Differ, Lacks}
 use Rattle.equate.specs.Verdict.{Verdict, Same, Different, BadShape}
 use Rattle.equate.specs.declared.verdict.Verdict as code
 use Rattle.equate.specs.declared.verdict.Verdict.TheVariants as verdict

@@ -2,8 +2,8 @@
 use Rattle.std.specs.Prelude.{◌≡◌, ◌≤◌, List, length}
 use Rattle.tree_forms.specs.Trees.{most_forms}
 use Rattle.md_forms.specs.declared.form.Entry.{Entry}
-use Rattle.md_attr.specs.declared.attributes.Attributes.{Attributes}
-use Rattle.md_attr.specs.machine.Tables.{AreAttributesOf}
+use Rattle.md_constr.specs.md_attr.declared.attributes.Attributes.{Attributes}
+use Rattle.md_constr.specs.md_attr.machine.Tables.{AreAttributesOf}
 use Rattle.md_pred.specs.declared.table.PredTable.{PredTable}
 use Rattle.md_pred.specs.Holds.{holds}
 use Rattle.md_pred.specs.machine.Table.{accepted_by}

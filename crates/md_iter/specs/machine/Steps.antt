@@ -9,11 +9,11 @@ use Rattle.md_iter.specs.declared.refusal.IterRefusal.{IterRefusal}
 use Rattle.md_iter.specs.declared.refusal.IterRefusal.TheVariants as refusal
 use Rattle.md_iter.specs.Expansion.{most_forms, forms_with, PassesAt}
 
-abbrev pub GivesForms : Definitions → List Tree → Result (List Instance) IterRefusal → Type 0
-GivesForms definitions trees (Ok forms) =
+abbrev pub Gives : Definitions → List Tree → Result (List Instance) IterRefusal → Type 0
+Gives definitions trees (Ok forms) =
     (forms ≡ forms_with definitions trees) × (length (forms_with definitions trees) ≤ most_forms)
-GivesForms definitions trees (Err (refusal.Limit at)) = PassesAt definitions trees at
-GivesForms definitions trees (Err refusal.Memory) = Unit {0}
+Gives definitions trees (Err (refusal.Limit at)) = PassesAt definitions trees at
+Gives definitions trees (Err refusal.Memory) = Unit {0}
 
 abbrev pub IsTooMany : TreeRefusal → List Instance → List Instance → Type 0
 IsTooMany tree_refusal.Limit before more = most_forms < length before + length more

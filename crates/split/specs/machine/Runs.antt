@@ -2,8 +2,8 @@
 use Rattle.std.specs.Prelude.{◌≡◌, ℕ, ◌+◌, ◌<◌, List, [], ◌∷◌, ◌++◌, length, replicate, Option, Some, None, Result, Ok, Err}
 use Rattle.rtx_tree.specs.declared.function.Function.{Function}
 use Rattle.md_forms.specs.declared.form.Entry.{Entry}
-use Rattle.pass_refusal.specs.Outcome.{RefusesWith}
-use Rattle.pass_refusal.specs.declared.refusal.PassRefusal.{PassRefusal}
+use Rattle.insn_keep.specs.pass_refusal.Outcome.{RefusesWith}
+use Rattle.insn_keep.specs.pass_refusal.declared.refusal.PassRefusal.{PassRefusal}
 use Rattle.split.specs.declared.stage.SplitStage.{SplitStage}
 use Rattle.split.specs.Split.{Answer, SplitFrom, most_splits}
 

@@ -5,8 +5,8 @@ use Rattle.term_tree.specs.declared.head.Head.TheVariants as heads
 use Rattle.term_tree.specs.Tree.{Tree, Node, no_trees, tree}
 use Rattle.term_tree.specs.Form.{same_width}
 use Rattle.term_tree.specs.View.{tree_of}
-use Rattle.term_mean.specs.Sums.{minus}
-use Rattle.term_mean.specs.Zero.{zero_difference}
+use Rattle.term_cuts.specs.term_mean.Sums.{minus}
+use Rattle.term_cuts.specs.term_mean.Zero.{zero_difference}
 use Rattle.term_zero.specs.declared.zero.Round.{Round}
 use Rattle.term_zero.specs.declared.zero.Round.TheVariants.{Done, Next}
 

@@ -3,7 +3,7 @@ use Rattle.std.specs.Prelude.{Option, Some, None}
 use Rattle.term_tree.specs.Tree.{Tree}
 use Rattle.term_tree.specs.View.{tree_of}
 use Rattle.term_tree.specs.declared.term.Term.{Term}
-use Rattle.term_mean.specs.Zero.{Extended, Operands}
+use Rattle.term_cuts.specs.term_mean.Zero.{Extended, Operands}
 use Rattle.term_zero.specs.declared.operands.Extended as code_extended
 use Rattle.term_zero.specs.declared.operands.Operands as code_operands
 use Rattle.term_zero.specs.declared.zero.Difference.{Difference}

@@ -1,4 +1,4 @@
-use Rattle.lisp_read.proofs.Names.{code_found}
+use Rattle.md_pattern.proofs.lisp_read.Names.{code_found}
 use Rattle.pred_expr.proofs.test.code_named.Goals as goal
 
 pub returns : goal.returns

@@ -1,6 +1,6 @@
 use Rattle.std.proofs.Common.{◌≡◌, map}
 use Rattle.term_tree.specs.View.{tree_of}
-use Rattle.term_mean.specs.Loads.{source}
+use Rattle.term_cuts.specs.term_mean.Loads.{source}
 use Rattle.sym_term.specs.Views.{store_of}
 use Rattle.sym_term.proofs.loads.source.Given as goal
 

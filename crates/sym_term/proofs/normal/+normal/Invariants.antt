@@ -1,7 +1,7 @@
 use Rattle.std.proofs.Common.{◌≡◌, map, drop, ◌++◌}
 use Rattle.term_tree.specs.Tree.{trees_of, atoms_of}
 use Rattle.term_tree.specs.View.{tree_of, atom_of}
-use Rattle.term_mean.specs.Normal.{normal_atoms, normal_all}
+use Rattle.term_cuts.specs.term_mean.Normal.{normal_atoms, normal_all}
 use Rattle.sym_term.specs.Views.{store_of}
 use Rattle.sym_term.proofs.normal.+normal.Given as goal
 

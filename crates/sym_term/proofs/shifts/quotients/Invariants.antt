@@ -1,7 +1,7 @@
 use Rattle.std.proofs.Common.{◌≡◌, map, drop, ◌++◌}
 use Rattle.term_tree.specs.Tree.{atoms_of}
 use Rattle.term_tree.specs.View.{atom_of}
-use Rattle.term_mean.specs.Shifts.{quotients}
+use Rattle.term_cuts.specs.term_mean.Shifts.{quotients}
 use Rattle.sym_term.proofs.shifts.quotients.Given as goal
 
 abbrev pub invariant-loop-atom : goal.invariant-loop-atom

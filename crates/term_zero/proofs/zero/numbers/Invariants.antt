@@ -1,7 +1,7 @@
 use Rattle.std.proofs.Common.{◌≡◌, map, drop, ◌++◌, [], ◌∷◌}
 use Rattle.term_tree.specs.Tree.{atoms_of}
 use Rattle.term_tree.specs.View.{atom_of}
-use Rattle.term_mean.specs.Zero.{coefficients}
+use Rattle.term_cuts.specs.term_mean.Zero.{coefficients}
 use Rattle.term_zero.proofs.zero.numbers.Given as goal
 
 abbrev pub invariant-loop-atom : goal.invariant-loop-atom

@@ -1,6 +1,6 @@
 use Rattle.std.proofs.Common.{ap, sym, ◌∙◌, suc}
 use Rattle.term_tree.specs.View.{tree_of}
-use Rattle.term_mean.specs.Zero.{zero_test}
+use Rattle.term_cuts.specs.term_mean.Zero.{zero_test}
 use Rattle.term_zero.specs.machine.Rounds.{round_tree}
 use Rattle.term_zero.proofs.OperatorLaws.{operators}
 use Rattle.term_zero.proofs.RoundLaws.{rounds-begin, answer-same, next-same, next-fewer}

@@ -1,6 +1,6 @@
 use Rattle.std.proofs.Common.{◌≡◌, suc}
 use Rattle.term_tree.specs.View.{tree_of}
-use Rattle.term_mean.specs.Zero.{zero_test, equals_zero}
+use Rattle.term_cuts.specs.term_mean.Zero.{zero_test, equals_zero}
 use Rattle.term_zero.proofs.OperatorLaws.{operators}
 use Rattle.term_zero.proofs.zero.rounds.Given as goal
 

@@ -1,5 +1,5 @@
 use Rattle.std.proofs.Common.{◌-◌}
-use Rattle.md_attr.specs.Alternatives.{alternatives_of}
+use Rattle.md_constr.specs.md_attr.Alternatives.{alternatives_of}
 use Rattle.md_desc.proofs.Lowest.{NoneBelow}
 use Rattle.md_desc.proofs.description.Description.lowest.Given as goal
 

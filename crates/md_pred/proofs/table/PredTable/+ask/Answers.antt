@@ -1,5 +1,5 @@
 use Rattle.std.proofs.Common.{◌≡◌, List, ap, ◌∙◌}
-use Rattle.c_words.specs.declared.head.CondHead.{CondHead}
+use Rattle.md_forms.specs.c_words.declared.head.CondHead.{CondHead}
 use Rattle.md_forms.specs.c_cond.Tree.{tree_of}
 use Rattle.pred_rows.specs.Tests.{condition_holds}
 use Rattle.md_pred.specs.machine.Steps.{asked_within}

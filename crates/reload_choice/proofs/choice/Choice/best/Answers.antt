@@ -1,5 +1,5 @@
 use Rattle.std.proofs.Common.{rules}
-use Rattle.md_desc.specs.md_attr.Alternatives.{alternatives_of}
+use Rattle.reload_fit.specs.md_desc.md_attr.Alternatives.{alternatives_of}
 use Rattle.reload_choice.specs.Choice.{plan_among}
 use Rattle.reload_choice.proofs.LeastLaws.{keeps_next}
 use Rattle.reload_choice.proofs.choice.Choice.best.Goals as goal

@@ -54,9 +54,9 @@ pub type Insns = Items<Insn>;
 /// A function.
 #[derive(Drop)]
 pub struct Function {
-    /// Its symbol.
+    /// The function's symbol.
     pub name: Name,
-    /// Its chain, in order.
+    /// The function's chain, in order.
     pub insns: Insns,
     /// The bytes of its locals, which stand just below `virtual-stack-vars`.
     pub locals: u32,

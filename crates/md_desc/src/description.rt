@@ -69,7 +69,7 @@ impl Description {
         })
     }
 
-    /// Its forms, in order.
+    /// The description's forms, in order.
     pub fn forms(&self) -> &Forms
         ensures forms { result.now ≡ self.now }
         ensures short { length result.now ≤ most_forms }
@@ -77,7 +77,7 @@ impl Description {
         &self.forms
     }
 
-    /// Its predicates.
+    /// The description's predicates.
     pub fn preds(&self) -> &PredTable
         ensures { accepted_by result.now ≡ holds self.now }
     {

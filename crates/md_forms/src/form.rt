@@ -12,7 +12,7 @@ use rtx_tree::{Kids, Name};
 pub struct OperandConstraint {
     /// The operand's number.
     pub operand: u32,
-    /// Its alternatives; none at all where any operand will do.
+    /// The alternatives; none at all where any operand will do.
     pub constraint: Constraint,
 }
 
@@ -53,7 +53,7 @@ pub struct Form {
 pub struct Entry {
     /// The text of its head, or `-` where it has none.
     pub head: Name,
-    /// Its name, where it has one.
+    /// The form's name, where it has one.
     pub name: Option<Name>,
     /// What it says, or why it is set aside.
     pub form: Judged<Form>,

@@ -17,7 +17,7 @@ pub struct At {
 /// What answers a question.
 #[derive(Clone, Copy)]
 pub enum Step {
-    /// This.
+    /// The answer itself.
     Answer(bool),
     /// The answer to another question.
     Is(At),

@@ -13,7 +13,7 @@ pub struct Given {
     pub kind: Kind,
     /// The instruction, with homes put in.
     pub insn: Rtx,
-    /// Its operands.
+    /// The operands of the instruction.
     pub operands: Items<Operand>,
     /// What it changes as a whole.
     pub whole: Whole,

@@ -13,7 +13,7 @@ pub struct Base {
 /// An operand of an instruction.
 #[derive(Drop)]
 pub struct Operand {
-    /// Its number in the pattern.
+    /// The operand's number in the pattern.
     pub number: u32,
     /// The operand itself, with its homes.
     pub tree: Rtx,

@@ -26,13 +26,13 @@ Answer = Result Function PassRefusal
 abbrev pub most_frame : ℕ
 most_frame = 1048560
 
--- that a frame is larger
+-- the refusal of a frame that is larger
 abbrev pub too_large : Layout → PassRefusal
 too_large layout = refusal.Limit Frame layout.size
 
 -- ---- the new instructions
 
--- they have the uids from one on
+-- new instructions have the uids from one on
 abbrev pub is_new : ℕ → Insn → Bool
 is_new first i = nat_le first i.uid
 

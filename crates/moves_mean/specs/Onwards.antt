@@ -19,7 +19,7 @@ pub data Onwards (world : World) (g : Function) (Told : Regs → List MemByte �
       Onwards world g Told k next last →
       Onwards world g Told (suc k) u last
 
--- they are plain instructions with these patterns
+-- plain instructions with given patterns, in order
 abbrev pub ArePlain : List Insn → List Rtx → Type 0
 ArePlain [] [] = Unit {0}
 ArePlain [] (x ∷ xs) = ⊥

@@ -23,7 +23,7 @@ pub struct SymReg {
 /// Registers that were changed, in increasing order.
 pub type SymRegs = Items<SymReg>;
 
-/// Where it leads.
+/// Where a run leads.
 #[derive(Drop)]
 pub struct SymJump {
     /// The condition, of 8 bits: 0 where it leads on to what follows.
@@ -110,7 +110,7 @@ pub struct SymState {
     pub regs: SymRegs,
     /// The stores, in order.
     pub stores: SymStores,
-    /// Where it leads.
+    /// Where the run leads.
     pub jump: SymJump,
     /// The call, where there is one.
     pub call: Option<SymCall>,

@@ -21,7 +21,7 @@ pub enum Item {
         /// The store's place among the stores, counted from 0.
         index: u32,
     },
-    /// Where it leads.
+    /// Where a side leads.
     Jump,
     /// What is called.
     Call,

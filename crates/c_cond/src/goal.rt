@@ -39,7 +39,7 @@ pub enum Goal {
 }
 
 impl Goal {
-    /// Whether it may be passed over.
+    /// Whether the goal may be passed over.
     pub fn may_pass(&self) -> bool
         ensures { result ≡ is_some (passed self.now) }
     {

@@ -53,7 +53,7 @@ pub struct Made {
 pub struct Printed {
     /// The form's output.
     pub output: Output,
-    /// What it gives attributes, in the order of the text.
+    /// What the form gives attributes, in the order of the text.
     pub attributes: Items<Attribute>,
 }
 
@@ -74,15 +74,15 @@ pub struct Defined {
 /// What its head doesn't have is empty.
 #[derive(Drop)]
 pub struct Draft {
-    /// What it is.
+    /// The head of the form.
     pub head: FormHead,
-    /// What it matches.
+    /// What the form matches.
     pub matched: Matched,
-    /// What it makes.
+    /// What the form makes.
     pub made: Made,
-    /// How it is printed.
+    /// How the form is printed.
     pub printed: Printed,
-    /// What it defines.
+    /// What the form defines.
     pub defined: Defined,
 }
 

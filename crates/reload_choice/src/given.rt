@@ -15,14 +15,14 @@ pub struct Given {
     pub insn: Rtx,
     /// The operands of the instruction.
     pub operands: Items<Operand>,
-    /// What it changes as a whole.
+    /// What the instruction changes as a whole.
     pub whole: Whole,
 }
 
 /// What is done with the operands of an instruction.
 #[derive(Drop)]
 pub struct Plan {
-    /// What it costs.
+    /// What the plan costs.
     pub cost: u64,
     /// The operands, with what is moved.
     pub parts: Items<Part>,

@@ -25,7 +25,7 @@ outcome_behind piece (Err e) = Err e
 
 -- ---- what a call has done
 
--- it refused as it should, or memory ran out
+-- a call that refused as it should, or for which memory ran out
 abbrev pub RefusesWith : OutRefusal → (Outcome → Type 0) → Type 0
 RefusesWith refusal.Memory P = Unit {0}
 RefusesWith e P = P (Err e)
@@ -35,7 +35,7 @@ abbrev pub Gives : Outcome → (Outcome → Type 0) → Type 0
 Gives (Ok piece) P = P (Ok piece)
 Gives (Err e) P = RefusesWith e P
 
--- it appended a text and its items, or it refused
+-- a call that appended a text and its items, or refused
 abbrev pub Appends : {A : Type 0} → List ℕ → List ℕ → List CodeItem → List CodeItem →
     Result A OutRefusal → (Outcome → Type 0) → Type 0
 Appends text text' items items' (Ok x) P =

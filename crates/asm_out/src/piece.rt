@@ -15,7 +15,7 @@ use text_words::print_text;
 pub struct Piece {
     /// The text.
     pub text: Name,
-    /// Its lines and labels.
+    /// The lines and labels that the text spells.
     pub items: Items<CodeItem>,
 }
 

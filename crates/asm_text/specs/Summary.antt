@@ -31,7 +31,7 @@ summary_of f m items = record {
   lines = line_count items;
 }
 
--- of two together
+-- the summary of two summaries' functions together: each number is the sum
 abbrev pub plus : Summary → Summary → Summary
 plus a b = record {
   instructions = a.instructions + b.instructions;

@@ -26,7 +26,7 @@ pub type Parts = Items<CodeItems>;
 /// The assembly of some functions.
 #[derive(Drop)]
 pub struct Assembly {
-    /// Its text.
+    /// The text of all the functions, one behind the other.
     pub text: Name,
     /// The lines and labels that the parts of the text spell, in the order of the functions.
     pub parts: Parts,

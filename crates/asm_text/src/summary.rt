@@ -72,7 +72,8 @@ fn sum(a: u64, b: u64) -> Result<u64, Memory>
     }
 }
 
-/// That of two together. A sum of 2^64 or more finds no memory.
+/// The summary of two summaries' functions together: each number is the sum. A sum of 2^64 or more
+/// gives `Memory`.
 pub(crate) fn plus(a: Summary, b: Summary) -> Result<Summary, Memory>
     ensures { IfOk result (λ both. both ≡ spec.plus a b) }
 {

@@ -18,7 +18,7 @@ pub enum Home {
 pub struct HomeOf {
     /// The pseudo's number, from 0.
     pub pseudo: u32,
-    /// Where it lives.
+    /// The home of the pseudo register.
     pub home: Home,
 }
 

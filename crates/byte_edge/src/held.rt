@@ -24,7 +24,7 @@ impl Model for Held {
 impl Held {
     ghost use Rattle.std.specs.Prelude.{◌≡◌, ◌++◌, IfOk, min, take};
 
-    /// These bytes, of which none is taken yet.
+    /// The bytes given, none taken yet. Copying them may find no memory.
     pub fn new(alloc: Global, bytes: &[u8]) -> Result<Held, Memory>
         ensures { IfOk result (λ held. held ≡ bytes.now) }
     {

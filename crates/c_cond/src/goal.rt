@@ -12,11 +12,11 @@ use std::marker::Model;
 /// What must come next, or may.
 #[derive(Drop)]
 pub enum Goal {
-    /// This byte must come.
+    /// A given byte must come.
     Mark(u8),
     /// Nothing: all parts of this head have come.
     Yield(CondHead),
-    /// Such a part must come.
+    /// A given part of a condition must come.
     Part(Part),
     /// An expression may go on by an operator of these levels.
     More { from: u8, to: u8 },
@@ -39,7 +39,7 @@ pub enum Goal {
 }
 
 impl Goal {
-    /// Whether it may be passed over.
+    /// Whether the goal may be passed over.
     pub fn may_pass(&self) -> bool
         ensures { result ≡ is_some (passed self.now) }
     {

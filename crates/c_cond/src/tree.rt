@@ -6,8 +6,8 @@ use plain_data::Items;
 /// tree, whose depth has no limit, but its heads, each behind the parts that belong to it.
 #[derive(Drop)]
 pub struct Tree {
-    /// What it is.
+    /// The head of the tree.
     pub head: CondHead,
-    /// What it is made of.
+    /// The parts of the tree, in order.
     pub parts: Items<Tree>,
 }

@@ -52,7 +52,7 @@ pub fn is_dead(dead: &[RegSet], place: u64, x: &Rtx) -> Option<i64>
     Some(truth(regs.contains(reg)))
 }
 
-/// Of a comparison with `==` or `!=`.
+/// What a comparison with `==` or `!=` is worth.
 fn compared(equal: bool, same: bool) -> i64
     ensures { result ≡ spec.compared equal same }
 {

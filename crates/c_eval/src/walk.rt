@@ -17,11 +17,11 @@ use c_cond::{Call, CondHead};
 /// A part of a tree.
 #[derive(Clone, Copy)]
 pub struct Part {
-    /// The place of its first head.
+    /// The place of the part's first head.
     pub start: usize,
-    /// The place behind its last head.
+    /// The place behind the part's last head.
     pub end: usize,
-    /// What it is read as.
+    /// What the part is read as.
     pub reading: Reading,
 }
 

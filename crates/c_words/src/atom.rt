@@ -34,7 +34,7 @@ pub enum Property {
 pub enum Atom {
     /// The word is an expression by itself.
     Leaf(CondHead),
-    /// Its parts follow in parentheses.
+    /// The word is called: operands follow in parentheses.
     Call(Call),
     /// An operand follows in parentheses, and a comparison.
     Compare(Property),

@@ -32,7 +32,7 @@ impl Told {
         self.is_whole &= is_told;
     }
 
-    /// Whether it is whole.
+    /// Whether the text is whole.
     pub fn is_whole(&self) -> bool {
         self.is_whole
     }

@@ -27,7 +27,7 @@ abbrev pub code_outcome : Function → List CodeItem → ℕ → List ℕ → Co
 code_outcome f items steps args =
     code.run items (code_start f args) (world_of f (lines_for steps)) (lines_for steps)
 
--- both, a line for each
+-- both outcomes, a line for each
 abbrev pub eval_text : Function → List CodeItem → ℕ → List ℕ → List ℕ
 eval_text f items steps args =
     ending_line (codes "rtl") (rtl_ending (rtl_outcome f steps args)) ++ ending_line (codes "code") (code_ending f.result (code_outcome f items steps args))
@@ -54,7 +54,8 @@ ComesToSame f items steps args = rtl_outcome f steps args ≢ outcomes.Undefined
     SameOutcome f.result (code_start f args) (rtl_outcome f steps args)
     (code.run items (code_start f args) (world_of f (lines_for steps)) k)
 
--- so it is where they have the behaviour of the function, whose frame fits in the stack
+-- the outcomes agree where the lines have the behaviour of the function, whose frame fits in the
+-- stack
 abbrev pub AgreeAsSame : Function → List CodeItem → ℕ → List ℕ → Type 0
 AgreeAsSame f items steps args =
     (least : ℕ) → Same least f items → least ≤ stack_room → f.locals ≤ stack_room →

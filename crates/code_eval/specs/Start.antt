@@ -19,7 +19,7 @@ stack_top = 1179648
 abbrev pub stack_room : ℕ
 stack_room = 1048576
 
--- so many bytes that are zero, from an address on
+-- a number of bytes that are zero, from an address on
 unfoldable pub zeros : ℕ → ℕ → List MemByte
 zeros address zero = []
 zeros address (suc count) = record { address = address; byte = 0 } ∷ zeros (address + 1) count

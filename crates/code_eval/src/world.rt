@@ -81,7 +81,7 @@ fn symbols_of(alloc: Global, insns: &[Insn]) -> Result<Symbols, Memory>
     Ok(symbols)
 }
 
-/// So many replies that are zero and write nothing.
+/// `count` replies that are zero and write nothing.
 #[tactic(auto, using(crate::proofs::Zeros::one_more))]
 fn zero_replies(alloc: Global, count: u64) -> Result<Replies, Memory>
     ensures { IfOk result (λ replies. replies ≡ replicate count spec.zero_reply) }

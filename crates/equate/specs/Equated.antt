@@ -29,6 +29,6 @@ verdict before after live =
     if both_return before after then Same else
     judged (is_lines after) live (insns.run before) (run_side after)
 
--- they are equated
+-- two sides that are equated
 abbrev pub Equated : List Insn → Side → List ℕ → Type 0
 Equated before after live = verdict before after live ≡ Same

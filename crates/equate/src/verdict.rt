@@ -10,14 +10,14 @@ use term_tree::Term;
 pub enum Side {
     /// Instructions.
     Insns {
-        /// In order.
+        /// The instructions, in order.
         insns: Insns,
     },
     /// Lines.
     Lines {
         /// The number of the function that the lines' labels name.
         function: u32,
-        /// In order.
+        /// The lines, in order.
         lines: Items<Line>,
     },
 }
@@ -29,7 +29,7 @@ pub enum Verdict {
     Same,
     /// An item of which the sides have different terms.
     Differ {
-        /// Which.
+        /// The item.
         item: Item,
         /// The term of the instructions.
         left: Term,
@@ -45,7 +45,7 @@ pub enum Verdict {
     },
     /// A part that can't be compared.
     Shape {
-        /// Its place, counted from 0.
+        /// The part's place, counted from 0.
         index: u32,
     },
 }

@@ -15,11 +15,11 @@ use Rattle.c_eval.specs.declared.facts.Facts.{Facts}
 
 -- ---- what conditions know at each stage
 
--- registers have no homes yet, and new ones may be made
+-- what is known at lower: registers have no homes yet, and new ones may be made
 abbrev pub lower_facts : Facts
 lower_facts = record { reloaded = false; new_pseudos = true; dead = [] }
 
--- they have
+-- what is known at output: registers have homes, and none may be made
 abbrev pub output_facts : Facts
 output_facts = record { reloaded = true; new_pseudos = false; dead = [] }
 

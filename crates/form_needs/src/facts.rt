@@ -18,7 +18,7 @@ pub fn lower_facts(alloc: Global) -> Facts
     }
 }
 
-/// What they know once registers have homes.
+/// What conditions know once registers have homes.
 pub fn output_facts(alloc: Global) -> Facts
     ensures { result ≡ spec.output_facts }
 {

@@ -26,13 +26,13 @@ Answer = Result Function PassRefusal
 abbrev pub most_frame : ℕ
 most_frame = 1048560
 
--- that a frame is larger
+-- the refusal of a frame that is larger
 abbrev pub too_large : Layout → PassRefusal
 too_large layout = refusal.Limit Frame layout.size
 
 -- ---- the new instructions
 
--- they have the uids from one on
+-- new instructions have the uids from one on
 abbrev pub is_new : ℕ → Insn → Bool
 is_new first i = nat_le first i.uid
 
@@ -42,7 +42,7 @@ pub record IsMatched (forms : List Entry) (i : Insn) : Type 0 where
   pub operands : Ops
   pub matches : MatchesAt forms output_facts i.pattern form operands
 
--- or it is not new
+-- some form matches an instruction, if it is new
 abbrev pub IsMatchedIfNew : List Entry → ℕ → Insn → Type 0
 IsMatchedIfNew forms first i = is_new first i ≡ true → IsMatched forms i
 
@@ -61,8 +61,8 @@ pub record IsFirstUnmatched (forms : List Entry) (first : ℕ) (insns : List Ins
 
 -- ---- the function
 
--- it has its frame, or it is refused: a frame that is too large, before all else, or the first new
--- instruction that no form matches
+-- a function that has its frame, or is refused: for a frame that is too large, before all else, or
+-- for the first new instruction that no form matches
 pub data FrameComes (forms : List Entry) (f : Function) (layout : Layout) : Answer → Type 0 where
   large : most_frame < layout.size → FrameComes forms f layout (Err (too_large layout))
   unmatched : (g : Function) (i : Insn) → layout.size ≤ most_frame → IsFramed layout f g →

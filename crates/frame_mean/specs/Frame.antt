@@ -100,7 +100,7 @@ epilogue layout = if layout.size == 0 then [] else frame_left layout
 abbrev pub plain_with : ℕ → Rtx → Insn
 plain_with uid x = record { uid = uid; kind = Plain; pattern = x; uses = [] }
 
--- those of patterns, with uids from one on
+-- plain instructions of patterns, with uids from one on
 abbrev pub plain_insns : ℕ → List Rtx → List Insn
 plain_insns uid [] = []
 plain_insns uid (x ∷ more) = plain_with uid x ∷ plain_insns (uid + 1) more

@@ -55,7 +55,7 @@ refused_for function at (passes.NotEquated uid rule item left right) =
 refused_for function at (passes.Limit which count) = refusal.Limit which count
 refused_for function at passes.Memory = refusal.Memory
 
--- and for that of a function whose registers get no homes
+-- the refusal for a function whose registers get no homes
 abbrev pub unreloaded_for : List ℕ → ReloadRefusal → Refusal
 unreloaded_for function (reloading.Unmatched uid insn) =
     refusal.Unmatched function uid stage.Reload insn
@@ -70,7 +70,7 @@ abbrev pub told_for : Made → Stage → Result Function PassRefusal → Answer
 told_for m at (Ok g) = Ok (with_function m g)
 told_for m at (Err e) = Err (refused_for m.function.name at e)
 
--- and with the layout of its frame
+-- the function that reload gives, with the layout of its frame, or the refusal
 abbrev pub told_reloaded : List ℕ → Layout → Result Function ReloadRefusal → Answer
 told_reloaded name layout (Ok g) = Ok (record { function = g; layout = layout })
 told_reloaded name layout (Err e) = Err (unreloaded_for name e)

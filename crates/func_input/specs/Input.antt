@@ -79,7 +79,8 @@ InputGives = InputComesTo AreThemselves
 
 -- ---- what a call has done
 
--- it refused as it should, or memory ran out; it tells no fault and nothing of the words
+-- a call that refused as it should, or for which memory ran out; it tells no fault and nothing of
+-- the words
 abbrev pub RefusesWith : {A : Type 0} → Refusal → (Result A Refusal → Type 0) → Type 0
 RefusesWith refusal.Memory P = Unit {0}
 RefusesWith refusal.Usage P = ⊥
@@ -87,7 +88,7 @@ RefusesWith refusal.ReadFault P = ⊥
 RefusesWith refusal.WriteFault P = ⊥
 RefusesWith e P = P (Err e)
 
--- it read the bytes as functions, or it refused them
+-- a call that read the bytes as functions, or refused them
 abbrev pub Reads : List ℕ → Given → Type 0
 Reads bytes (Ok functions) = IsRead bytes functions
 Reads bytes (Err e) = RefusesWith e (InputGives bytes)

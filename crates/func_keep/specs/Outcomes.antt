@@ -14,7 +14,7 @@ HasEach args others =
     (i : ℕ) (arg : ArgValue) → slice_get args i ≡ Some arg →
     (j : ℕ) × (slice_get others j ≡ Some arg)
 
--- the same target, arguments, in whatever order, and visible memory
+-- two calls with the same target, arguments, in whatever order, and visible memory
 pub record SameEvent (event other : CallEvent) : Type 0 where
   pub target_is : other.target ≡ event.target
   pub passes : HasEach event.args other.args

@@ -8,7 +8,7 @@ use Rattle.rtl_step.specs.Step.{is_mark}
 use Rattle.window_same.specs.window_mean.Uses.{window_uses}
 use Rattle.window_same.specs.Items.{is_quiet}
 
--- it is no label and no barrier, and uses hard registers alone
+-- an instruction that is no label and no barrier, and uses hard registers alone
 pub record UsesHard (i : Insn) : Type 0 where
   pub is_none : is_mark i.kind ≡ false
   pub hard : (reg : ℕ) → 31 < reg → window_uses (i ∷ []) reg ≡ false

@@ -119,9 +119,9 @@ fn last_parts(heads: &[CondHead], starts: &[usize], at: usize, count: usize) -> 
 /// A tree: its head, and its parts.
 #[derive(Clone, Copy)]
 pub struct Node<'a> {
-    /// What it is.
+    /// The head of the tree.
     pub head: &'a CondHead,
-    /// What it is made of.
+    /// The parts of the tree.
     pub parts: Parts,
 }
 

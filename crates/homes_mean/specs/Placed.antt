@@ -45,7 +45,7 @@ is_sized _ number = true
 abbrev pub sized_step : Rtx-F Bool → Bool
 sized_step x = is_sized x.code x.number && list_all (λ here. here) x.kids
 
--- so is each number in a tree
+-- each number in a tree has its size
 abbrev pub all_sized : Rtx → Bool
 all_sized = fold-Rtx Bool sized_step
 
@@ -59,7 +59,7 @@ abbrev pub label_by : Code → List Rtx → Rtx → Rtx
 label_by Set (place ∷ source ∷ []) x = source_label (head_of source).code (kids_of source) source
 label_by _ kids x = x
 
--- its parts are constants: (label_ref UID)
+-- a label whose parts are constants: (label_ref UID)
 abbrev pub names_constant : Rtx → Bool
 names_constant label = list_all (is_constant is_any) (kids_of label)
 

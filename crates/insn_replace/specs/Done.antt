@@ -7,8 +7,8 @@ use Rattle.pass_refusal.specs.Outcome.{RefusesWith}
 use Rattle.pass_refusal.specs.declared.refusal.PassRefusal.{PassRefusal}
 use Rattle.insn_replace.specs.Replace.{ReplacedComes}
 
--- it left the function that the sequence comes to, and told how many instructions this has; or it
--- refused as it should, or memory ran out
+-- a replacement: it left the function that the sequence comes to, and told how many instructions
+-- this has; or it refused as it should, or memory ran out
 abbrev pub Replaces : Result ℕ PassRefusal → Function → Function → ℕ → List ℕ → List Rtx → Type 0
 Replaces (Ok n) f g place rule sequence =
     (i : Insn) → slice_get f.insns place ≡ Some i → ReplacedComes f place i rule sequence (Ok g) × (n ≡ length sequence)

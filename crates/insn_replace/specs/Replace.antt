@@ -29,7 +29,7 @@ pub data ReplacedComes (f : Function) (place : ℕ) (i : Insn) (rule : List ℕ)
       Equated (i ∷ []) (Insns (made f i sequence)) live →
       ReplacedComes f place i rule sequence (Ok (windows.replaced f place (place + 1) (made f i sequence)))
 
--- it comes to one thing
+-- a replacement comes to one thing
 abbrev pub OneReplaced : Type 0
 OneReplaced =
     (f : Function) (place : ℕ) (i : Insn) (rule : List ℕ) (sequence : List Rtx) (a b : Result Function PassRefusal) →

@@ -67,7 +67,7 @@ is_constant t = head_is is_class_number (head_of t)
 abbrev pub exactly : List Position → List Tree → Option (List Position)
 exactly ps items = if length items == length ps + 1 then Some ps else None
 
--- the same with anything behind, which is passed over
+-- expressions at these positions behind the head, and anything behind, which is passed over
 abbrev pub at_least : List Position → List Tree → Option (List Position)
 at_least ps items = if nat_lt (length ps) (length items) then Some ps else None
 

@@ -11,7 +11,7 @@ pub data Parsed (A : Type 0) : Type 0 where
   stands : A → Parsed A
   construct : Place → List ℕ → Parsed A
 
--- this tree itself is outside
+-- a tree that is itself outside
 abbrev pub outside : {A : Type 0} → Tree → Parsed A
 outside t = construct (place_of t) (tree_name t)
 

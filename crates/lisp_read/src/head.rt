@@ -10,7 +10,7 @@ use rtx_tree::{Code, Mode};
 pub struct Opening {
     /// What the expression is.
     pub code: Code,
-    /// Its mode, or `Void`.
+    /// The mode that is written, or `Void`.
     pub mode: Mode,
 }
 

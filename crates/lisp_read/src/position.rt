@@ -148,7 +148,7 @@ impl Position {
         }
     }
 
-    /// Whether this register may stand here.
+    /// Whether a register may stand at the position.
     pub fn admits_register(self, reg: u32) -> bool
         ensures { result ≡ spec.admits_register self reg }
     {

@@ -53,6 +53,6 @@ LowerComes forms f answer = LowerFrom forms f 0 answer
 abbrev pub IsMatchedInsn : List Entry → Insn → Type 0
 IsMatchedInsn forms i = needs_form i ≡ true → IsMatched forms i.pattern
 
--- and so for each instruction of a function
+-- some form matches each instruction of a function that needs one
 abbrev pub AreMatched : List Entry → Function → Type 0
 AreMatched forms f = All (IsMatchedInsn forms) f.insns

@@ -25,7 +25,7 @@ default_of forms name = option_and_then default_by (definition_of defines_attrib
 abbrev pub given_by : List ℕ → List Attribute → Option (List (List ℕ))
 given_by name settings = option_map (λ a. a.values) (find (λ a. bytes_eq a.name name) settings)
 
--- that of an alternative: one value alone is that of each
+-- the value of an alternative: one value alone is that of each
 abbrev pub value_at : ℕ → List (List ℕ) → Option (List ℕ)
 value_at alternative (v ∷ []) = Some v
 value_at alternative values = slice_get values alternative

@@ -19,7 +19,7 @@ use rtx_tree::{Operands, Rtx, same};
 pub struct Asked<'a, P: Preds> {
     /// The constraints that the description defines.
     pub meanings: &'a Meanings,
-    /// Its predicates.
+    /// The predicates that the description defines.
     pub preds: &'a P,
     /// The operands of the form.
     pub operands: &'a Operands,

@@ -15,7 +15,7 @@ use std::alloc::Global;
 /// What a form asks of its operands.
 #[derive(Drop)]
 pub struct FormConstraints {
-    /// Whether it is an accepted form. What follows is empty where it is none.
+    /// Whether the form is an accepted one. What follows is empty where it is none.
     pub accepted: bool,
     /// The constraints of its operands, in the order of the text.
     pub constraints: Items<OperandConstraint>,

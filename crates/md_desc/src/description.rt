@@ -70,7 +70,7 @@ impl Description {
         })
     }
 
-    /// Its forms, in order.
+    /// The description's forms, in order.
     pub fn forms(&self) -> &Forms
         ensures forms { result.now ≡ self.now }
         ensures short { length result.now ≤ most_forms }
@@ -78,7 +78,7 @@ impl Description {
         &self.forms
     }
 
-    /// Its predicates.
+    /// The description's predicates.
     pub fn preds(&self) -> &PredTable
         ensures { accepted_by result.now ≡ holds self.now }
     {

@@ -52,7 +52,7 @@ abbrev pub behind_and : List ℕ → List ℕ
 behind_and (a ∷ b ∷ rest) = rest
 behind_and _ = []
 
--- it is joined to that of the instruction where it begins with &&
+-- the condition of a split, which is joined to that of the instruction where it begins with &&
 abbrev pub split_under : List Constant → List (List ℕ) → Option Tree → List ℕ → Judged cond.Tree
 split_under constants values insn text =
     if is_and (behind_blanks text) then and_text constants (condition_in constants values insn) (behind_and (behind_blanks text))
@@ -91,6 +91,6 @@ statements_by_text constants (Some text) = statements_of constants text
 abbrev pub statements_by : List Constant → Tree → Judged cond.Tree
 statements_by constants t = statements_by_text constants (written t)
 
--- they may lack
+-- statements may lack
 unfoldable pub statements_in : List Constant → Option Tree → Judged cond.Tree
 statements_in constants t = if_there nothing (statements_by constants) t

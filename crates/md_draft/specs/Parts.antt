@@ -36,7 +36,7 @@ abbrev pub attributes_by : Tree → Judged (List Attribute)
 attributes_by t =
     or_aside reason.Parts (if is_vector t then lists.each attribute_in (vector_of t) else None)
 
--- it may lack
+-- the vector of attributes may lack
 unfoldable pub attributes_in : Option Tree → Judged (List Attribute)
 attributes_in t = if_there [] attributes_by t
 

@@ -14,7 +14,7 @@ use rtx_tree::{Constants, Name};
 use std::alloc::Global;
 use text_words::{all_blank, behind_blanks};
 
-/// Both conditions, each of which is one by itself.
+/// The conjunction of two conditions, each of which is one by itself.
 fn both_hold(a: Judged<Cond>, b: Judged<Cond>) -> Result<Judged<Cond>, Memory>
     ensures { IfOk result (λ cond. cond ≡ spec.both_hold a b) }
 {

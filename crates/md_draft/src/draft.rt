@@ -51,9 +51,9 @@ pub struct Made {
 /// How a form is printed, and what it gives attributes.
 #[derive(Drop)]
 pub struct Printed {
-    /// Its output.
+    /// The form's output.
     pub output: Output,
-    /// What it gives attributes, in the order of the text.
+    /// What the form gives attributes, in the order of the text.
     pub attributes: Items<Attribute>,
 }
 
@@ -74,15 +74,15 @@ pub struct Defined {
 /// What its head doesn't have is empty.
 #[derive(Drop)]
 pub struct Draft {
-    /// What it is.
+    /// The head of the form.
     pub head: FormHead,
-    /// What it matches.
+    /// What the form matches.
     pub matched: Matched,
-    /// What it makes.
+    /// What the form makes.
     pub made: Made,
-    /// How it is printed.
+    /// How the form is printed.
     pub printed: Printed,
-    /// What it defines.
+    /// What the form defines.
     pub defined: Defined,
 }
 
@@ -91,8 +91,8 @@ pub struct Draft {
 pub struct DraftEntry {
     /// The text of its head, or `-` where it has none.
     pub head: Name,
-    /// Its name: its second part, where that is a string of one byte or more.
+    /// The form's name: its second part, where that is a string of one byte or more.
     pub name: Option<Name>,
-    /// Its draft, or the smallest reason that its own text gives.
+    /// The form's draft, or the smallest reason that its own text gives.
     pub draft: Judged<Draft>,
 }

@@ -46,7 +46,7 @@ predicates_known tables d =
 unfoldable pub matched : Draft → List ℕ
 matched d = flat_map operands_in d.matched.patterns.trees
 
--- and those of the operands of its new sequence
+-- the numbers of the operands of the form, with those of its new sequence
 unfoldable pub all_operands : Draft → List ℕ
 all_operands d = matched d ++ flat_map operands_in d.made.sequence.trees
 
@@ -169,7 +169,7 @@ template_of _ = template.One []
 
 -- ---- the reasons of a form whose own text is in order
 
--- its constraints, none where they aren't known
+-- the form's constraints, none where they aren't known
 abbrev pub constraints_of : Tables → Draft → List OperandConstraint
 constraints_of tables d = unwrap_or (constraints_in tables.constraint_names d) []
 
@@ -177,7 +177,7 @@ abbrev pub stand_where_known : Tables → Draft → Option (List OperandConstrai
 stand_where_known tables d None = false
 stand_where_known tables d (Some ks) = constraints_stand (matched d) tables.constraints ks
 
--- they are known, and stand
+-- the form's constraints are known, and stand
 abbrev pub constraints_known : Tables → Draft → Bool
 constraints_known tables d = stand_where_known tables d (constraints_in tables.constraint_names d)
 
@@ -195,7 +195,7 @@ has_reason tables d reason.Template =
     not (output_stands (alternatives_of tables d) d.printed.output)
 has_reason tables d _ = false
 
--- these reasons in the order of their numbers
+-- the reasons of a form whose own text is in order, in the order of their numbers
 abbrev pub later_reasons : List Reason
 later_reasons =
     reason.Predicate ∷ reason.Constraint ∷ reason.Attribute ∷ reason.Operands ∷ reason.Template ∷ []

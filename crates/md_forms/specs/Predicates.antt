@@ -21,7 +21,7 @@ is_accepted ds accepted name =
 abbrev pub is_known : List PredicateDraft → List Bool → List ℕ → Bool
 is_known ds accepted name = is_own name || is_accepted ds accepted name
 
--- its own parts are in order, and it names known predicates alone
+-- a definition whose own parts are in order, and which names known predicates alone
 abbrev pub is_sound : List PredicateDraft → List Bool → PredicateDraft → Bool
 is_sound ds accepted d = d.whole && list_all (is_known ds accepted) d.uses
 

@@ -14,7 +14,7 @@ use std::marker::Model;
 pub trait Named {
     ghost name: { Self → List ℕ };
 
-    /// Its name.
+    /// The name of the definition.
     fn name(&self) -> &[u8]
         ensures { result.now ≡ name self.now };
 }

@@ -12,14 +12,14 @@ use rtx_tree::{Kids, Name};
 pub struct OperandConstraint {
     /// The operand's number.
     pub operand: u32,
-    /// Its alternatives; none at all where any operand will do.
+    /// The alternatives; none at all where any operand will do.
     pub constraint: Constraint,
 }
 
 /// What an accepted form says. What its head doesn't have is empty.
 #[derive(Drop)]
 pub struct Form {
-    /// What it defines.
+    /// The head of the form.
     pub head: FormHead,
     /// The instructions that it matches, or, for an expander, those that it makes. Several elements
     /// of one instruction are a `parallel`.
@@ -34,9 +34,9 @@ pub struct Form {
     pub sequence: Kids,
     /// The constraints of its operands, in the order of the text.
     pub constraints: Items<OperandConstraint>,
-    /// What it gives attributes, in the order of the text. Of one attribute the first counts.
+    /// What the form gives attributes, in the order of the text. Of one attribute the first counts.
     pub attributes: Items<Attribute>,
-    /// How it is printed. The empty one has no lines.
+    /// How the form is printed. The empty output has no lines.
     pub template: Template,
     /// The test of a predicate, or of a constraint.
     pub test: Option<Test>,
@@ -53,9 +53,9 @@ pub struct Form {
 pub struct Entry {
     /// The text of its head, or `-` where it has none.
     pub head: Name,
-    /// Its name, where it has one.
+    /// The form's name, where it has one.
     pub name: Option<Name>,
-    /// What it says, or why it is set aside.
+    /// What the form says, or why it is set aside.
     pub form: Judged<Form>,
 }
 

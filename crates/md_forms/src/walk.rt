@@ -13,7 +13,7 @@ enum Stage {
     New,
     /// The definitions that it names come first.
     Begun,
-    /// Its depth was found, if it has one.
+    /// The definition's depth was found, if it has one.
     Done,
 }
 

@@ -25,7 +25,7 @@ abbrev pub value_named : List Chosen → DefinitionKind → List ℕ → Option 
 value_named choice kind name =
     option_map (λ c. c.value.name) (find (λ c. is_iterator kind name c.iterator) choice)
 
--- that value, or the name as it stands
+-- the value that a choice gives a name, or the name as it stands
 abbrev pub value_or_name : List Chosen → DefinitionKind → List ℕ → List ℕ
 value_or_name choice kind name = unwrap_or (value_named choice kind name) name
 

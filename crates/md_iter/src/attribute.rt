@@ -15,11 +15,11 @@ use text_words::same;
 /// A text that stands for `<..>`.
 #[derive(Clone, Copy)]
 pub enum Filling<'a> {
-    /// These bytes.
+    /// Bytes as they are written.
     Written(&'a [u8]),
-    /// These bytes in capitals.
+    /// Bytes that are put in capitals.
     Capitals(&'a [u8]),
-    /// These bytes in small letters.
+    /// Bytes that are put in small letters.
     Small(&'a [u8]),
 }
 

@@ -6,7 +6,7 @@ use thiserror::Error;
 /// Why a description has no list.
 #[derive(Debug, Drop, Error)]
 pub enum ListRefusal {
-    /// Its files were refused.
+    /// The description's files were refused.
     #[error("the files of the description were refused")]
     Source(SourceRefusal),
     /// The description has more than 20,000 forms.

@@ -48,7 +48,8 @@ fn collect(
     }
 }
 
-// The same for some patterns and expressions, one each.
+// The operands, with those that some patterns, one for each expression, give where they were
+// missing; `None` only where no operands make the expressions of the patterns.
 #[cycle(collecting)]
 #[tactic(auto, using(crate::proofs::Reaching::reaches_start, crate::proofs::Reaching::reaches_next, crate::proofs::Reaching::reaches_none, crate::proofs::Reaching::reaches_end, crate::proofs::Reaching::other_length))]
 fn collect_all(

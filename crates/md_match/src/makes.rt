@@ -33,7 +33,7 @@ fn makes(pattern: &Rtx, insn: &Rtx, operands: &Operands) -> bool
     }
 }
 
-// The same of some patterns and expressions, one each.
+// Whether some patterns with the operands put in are the expressions, one each.
 #[cycle(making)]
 #[tactic(auto, using(crate::proofs::Parts::other_length, crate::proofs::Parts::decides_start, crate::proofs::Parts::decides_next, crate::proofs::Parts::decides_not, crate::proofs::Parts::decides_end))]
 fn makes_all(patterns: &[Rtx], insns: &[Rtx], operands: &Operands) -> bool

@@ -22,7 +22,7 @@ pub fn has_mode(wanted: Mode, x: &Rtx) -> bool
     accepts_mode(wanted, x.mode)
 }
 
-/// Whether it is a register other than `virtual-stack-vars`, or the low part of one.
+/// Whether `x` is a register other than `virtual-stack-vars`, or the low part of one.
 pub fn is_register(x: &Rtx) -> bool
     ensures { result ≡ spec.is_register x.now }
 {
@@ -36,21 +36,21 @@ pub fn is_register(x: &Rtx) -> bool
     }
 }
 
-/// Whether it is a constant.
+/// Whether `x` is a constant.
 pub fn is_constant(x: &Rtx) -> bool
     ensures { result ≡ spec.is_constant x.now }
 {
     matches!(x.code, Code::ConstInt)
 }
 
-/// Whether it is a symbol's address.
+/// Whether `x` is a symbol's address.
 pub fn is_symbol(x: &Rtx) -> bool
     ensures { result ≡ spec.is_symbol x.now }
 {
     matches!(x.code, Code::SymbolRef)
 }
 
-/// Whether it is memory at a legitimate address.
+/// Whether `x` is memory at a legitimate address.
 pub fn is_memory(x: &Rtx) -> bool
     ensures { result ≡ spec.is_memory x.now }
 {
@@ -63,7 +63,7 @@ pub fn is_memory(x: &Rtx) -> bool
     }
 }
 
-/// Whether it is memory at a far address.
+/// Whether `x` is memory at a far address.
 pub fn is_far(x: &Rtx) -> bool
     ensures { result ≡ spec.is_far x.now }
 {
@@ -76,7 +76,7 @@ pub fn is_far(x: &Rtx) -> bool
     }
 }
 
-/// Whether it is a comparison.
+/// Whether `x` is a comparison.
 pub fn is_comparison(x: &Rtx) -> bool
     ensures { result ≡ spec.is_comparison x.now }
 {

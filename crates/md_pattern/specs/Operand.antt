@@ -22,7 +22,7 @@ numbered n = option_map (λ k. operand_with k []) (number_in n)
 abbrev pub predicated : Tree → Tree → Option Operand
 predicated n p = option_and_then (λ k. option_map (operand_with k) (string_of p)) (number_in n)
 
--- the same with a constraint
+-- NUMBER "PREDICATE" "CONSTRAINT"
 abbrev pub with_constraint : Option Operand → Tree → Option Operand
 with_constraint o c = option_and_then (λ x. option_map (constrained x) (string_of c)) o
 

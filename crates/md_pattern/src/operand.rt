@@ -27,7 +27,7 @@ pub struct Operand {
     pub number: u32,
     /// The name of its predicate, or empty.
     pub predicate: Name,
-    /// Its constraint, where one is written.
+    /// The operand's constraint, where one is written.
     pub texts: OperandTexts,
 }
 

@@ -5,15 +5,15 @@ ghost use Rattle.md_pattern.specs.Reason as spec;
 /// Why a form of a description is set aside. The reasons are in the order of their numbers.
 #[derive(Clone, Copy, Debug, PartialEq, Eq)]
 pub enum Reason {
-    /// Its head isn't taken.
+    /// The form's head isn't taken.
     Head,
-    /// Its parts are missing, too many or of the wrong kind, or it is too long.
+    /// Parts are missing, too many or of the wrong kind, or the form is too long.
     Parts,
     /// A code or a register number is outside.
     Code,
     /// A mode is outside.
     Mode,
-    /// Its output is C code.
+    /// The output is C code.
     CCode,
     /// A condition is outside the grammar.
     Condition,

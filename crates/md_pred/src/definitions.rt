@@ -18,7 +18,7 @@ use std::alloc::Global;
 /// What is kept of the definition of a predicate.
 #[derive(Clone, Copy)]
 pub struct Definition {
-    /// Its head.
+    /// The head of the definition.
     pub head: FormHead,
     /// The root of its test; none where it accepts nothing.
     pub root: Option<usize>,

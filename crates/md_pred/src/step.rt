@@ -6,7 +6,7 @@ use rtx_tree::Mode;
 /// A question that a table is asked.
 #[derive(Clone, Copy)]
 pub struct At {
-    /// Where it stands.
+    /// The place of the question's node.
     pub place: usize,
     /// The mode in which the operand is asked for.
     pub mode: Mode,
@@ -17,7 +17,7 @@ pub struct At {
 /// What answers a question.
 #[derive(Clone, Copy)]
 pub enum Step {
-    /// This.
+    /// The answer itself.
     Answer(bool),
     /// The answer to another question.
     Is(At),

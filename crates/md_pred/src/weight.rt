@@ -16,18 +16,19 @@ fn joined(most: u32, second: u32) -> u32 {
     most.max(second.saturating_add(1))
 }
 
-/// Of a question of two parts.
+/// The weight of a question of two parts.
 fn of_two(a: u32, b: u32) -> u32 {
     joined(a.max(b), a.min(b))
 }
 
-/// Of a question of three parts.
+/// The weight of a question of three parts.
 fn of_three(a: u32, b: u32, c: u32) -> u32 {
     let most = a.max(b);
     joined(most.max(c), a.min(b).max(most.min(c)))
 }
 
-/// Of a node, by those of the nodes that it asks and of the root of the predicate that it names.
+/// The weight of a node, by those of the nodes that it asks and of the root of the predicate that
+/// it names.
 fn weight_of(node: &Node, target: Option<usize>, weights: &[u32]) -> u32 {
     match node {
         Node::Codes(_) | Node::Condition(_) => 0,

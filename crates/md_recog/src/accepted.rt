@@ -53,7 +53,8 @@ fn are_accepted<P: Preds>(pattern: &Rtx, insn: &Rtx, preds: &P) -> bool
     }
 }
 
-// The same of some patterns and expressions, one each.
+// Whether each predicate of some patterns accepts its operand, where the patterns make the
+// expressions, one each, of operands.
 #[cycle(accepting)]
 fn all_accepted<P: Preds>(patterns: &[Rtx], insns: &[Rtx], preds: &P) -> bool
     ensures { (operands : Ops) → MakesAll patterns.now insns.now operands →

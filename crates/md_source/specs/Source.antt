@@ -32,7 +32,7 @@ text_of source name = if bytes_eq name shipped_name then Some shipped_text else 
 abbrev pub Outcome : Type 0
 Outcome = Result Gathered SourceRefusal
 
--- the same with some trees in front
+-- an outcome with some trees in front
 abbrev pub in_front : List Tree → Outcome → Outcome
 in_front trees (Ok more) = Ok (record { trees = trees ++ more.trees; used = more.used })
 in_front trees (Err e) = Err e

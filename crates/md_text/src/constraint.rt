@@ -66,7 +66,7 @@ pub struct Alternative {
     pub slight: u64,
     /// How many `!` stand there.
     pub severe: u64,
-    /// What it admits, in order.
+    /// What the alternative admits, in order.
     pub members: Items<Member>,
 }
 

@@ -11,15 +11,15 @@ use Rattle.rtl_step.specs.Step.{step}
 use Rattle.rtl_step.specs.declared.step.State.{State}
 use Rattle.rtl_step.specs.declared.step.StepEnd.TheVariants.{Next}
 
--- So many steps lead from one state to another, each to the next instruction. Behind each of them
--- all is as told.
+-- A number of steps that leads from one state to another, each step to the next instruction.
+-- Behind each of them all is as told.
 pub data Onwards (world : World) (g : Function) (Told : Regs → List MemByte → Type 0) : ℕ → State → State → Type 0 where
   stays : (u : State) → Onwards world g Told zero u u
   on : (k : ℕ) (u next last : State) → step world g u ≡ (Next, next) → Told next.regs next.memory →
       Onwards world g Told k next last →
       Onwards world g Told (suc k) u last
 
--- they are plain instructions with these patterns
+-- plain instructions with given patterns, in order
 abbrev pub ArePlain : List Insn → List Rtx → Type 0
 ArePlain [] [] = Unit {0}
 ArePlain [] (x ∷ xs) = ⊥

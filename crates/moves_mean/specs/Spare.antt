@@ -19,6 +19,6 @@ KnowsRest regs other = (reg : ℕ) → is_spare reg ≡ false → KnownToo regs 
 abbrev pub KeepsRest : Regs → Regs → Type 0
 KeepsRest regs other = (reg : ℕ) → is_spare reg ≡ false → get other reg ≡ get regs reg
 
--- none of them stands in a tree
+-- no spare register stands in a tree
 abbrev pub NamesNoSpare : Rtx → Type 0
 NamesNoSpare x = (reg : ℕ) → mentions_reg reg x ≡ true → is_spare reg ≡ false

@@ -32,7 +32,7 @@ fn is_told(alloc: Global, table: &str, text: &Told, want: &str) -> bool {
     }
 }
 
-/// Whether this is told of a text in 200 vectors.
+/// Whether a text in 200 vectors is told as is wanted.
 fn is_told_200_deep(alloc: Global, middle: &str, want: &str) -> bool {
     let text = nested(alloc, 200, "[", middle, "]");
     is_told(alloc, "texts", &text, want)

@@ -4,7 +4,7 @@ use Rattle.std.specs.Prelude.{Result, Ok, Err}
 use Rattle.pass_refusal.specs.declared.refusal.PassRefusal.{PassRefusal}
 use Rattle.pass_refusal.specs.declared.refusal.PassRefusal.TheVariants as refusal
 
--- it refused as it should, or memory ran out
+-- a call that refused as it should, or for which memory ran out
 abbrev pub RefusesWith : {A : Type 0} → PassRefusal → (Result A PassRefusal → Type 0) → Type 0
 RefusesWith refusal.Memory P = Unit {0}
 RefusesWith e P = P (Err e)

@@ -33,7 +33,7 @@ pub enum Question {
 /// A test of an operand.
 #[derive(Drop)]
 pub struct Test {
-    /// What it asks.
+    /// What the test asks.
     pub question: Question,
     /// The tests that it is made of.
     pub parts: Tests,

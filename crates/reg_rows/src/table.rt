@@ -7,7 +7,7 @@ use crate::row::RegRow;
 use plain_data::Memory;
 use std::alloc::Global;
 
-/// So many rows of no registers, each with room for 64 in each of `width` words.
+/// `count` rows of no registers, each with room for 64 in each of `width` words.
 pub fn empty_rows(alloc: Global, count: usize, width: usize) -> Result<Vec<RegRow>, Memory>
     ensures long { IfOk result (λ rows. vec_len rows ≡ count) }
     ensures none { IfOk result (λ rows. (at reg : ℕ) → has_at rows.items at reg ≡ false) }

@@ -4,7 +4,7 @@ use Rattle.std.specs.Prelude.{Result, Ok, Err}
 use Rattle.reload.specs.declared.refusal.ReloadRefusal.{ReloadRefusal}
 use Rattle.reload.specs.declared.refusal.ReloadRefusal.TheVariants as refusal
 
--- it refused as it should, or memory ran out
+-- a call that refused as it should, or for which memory ran out
 abbrev pub RefusesAs : ReloadRefusal → (ReloadRefusal → Type 0) → Type 0
 RefusesAs refusal.Memory P = Unit {0}
 RefusesAs e P = P e

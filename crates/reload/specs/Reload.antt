@@ -38,7 +38,7 @@ use Rattle.reload.specs.declared.refusal.ReloadRefusal.TheVariants as refusal
 abbrev pub placed : Layout → Insn → Rtx
 placed layout i = framed layout.size i.pattern
 
--- and with the homes of its registers
+-- the pattern of an instruction, with the homes of its registers and the frame put in
 abbrev pub with_homes : List HomeOf → Layout → Insn → Rtx
 with_homes homes layout i = homed homes layout (placed layout i)
 
@@ -126,7 +126,7 @@ pub data MatchReloads (forms : List Entry) (form : ℕ) (given : Given) (uid : �
   stuck : (plan : Plan) (before : List Rtx) (x : Rtx) → IsChosen forms form given plan →
       IsStuck forms (moves_of given plan) before x →
       MatchReloads forms form given uid i (Err (refusal.Unmatched (uid + length before) x))
-  -- it stands between its moves
+  -- the instruction stands between its moves
   made : (plan : Plan) → IsChosen forms form given plan →
       All (IsMatched forms) (moves_of given plan) →
       MatchReloads forms form given uid i (Ok (window_of uid i given plan))

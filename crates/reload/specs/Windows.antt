@@ -17,10 +17,8 @@ use Rattle.reload_choice.specs.Sound.{IsSoundPlan}
 use Rattle.reload.specs.Reload.{alone, given_by, moves_of, window_of, IsMatch, IsMatched}
 
 -- What stands in the place of an instruction, where uids are free from one on: the instruction
--- itself, with its uid, its
--- kind and what its call reads, but another pattern. (Nothing of constraints and cost is said here:
--- meaning needs only
--- that the plan is sound.)
+-- itself, with its uid, its kind and what its call reads, but another pattern. (Nothing of
+-- constraints and cost is said here: meaning needs only that the plan is sound.)
 pub data IsWindow (forms : List Entry) (homes : List HomeOf) (layout : Layout) (uid : ℕ)
     (i : Insn) : List Insn → Type 0 where
   -- what needs no form stands there alone: a label and a barrier as they were, a use or a clobber
@@ -28,8 +26,7 @@ pub data IsWindow (forms : List Entry) (homes : List HomeOf) (layout : Layout) (
   stays : needs_form i ≡ false → IsWindow forms homes layout uid i
       (with_pattern i (alone homes layout i) ∷ [])
   -- what needs one was matched by a form before its registers had homes, and stands between the
-  -- moves of a sound plan,
-  -- which some forms match
+  -- moves of a sound plan, which some forms match
   made : (form : ℕ) (pattern : Rtx) (found : Ops) (plan : Plan) → needs_form i ≡ true →
       IsMatch forms layout i form pattern found →
       IsSoundPlan (given_by homes layout i pattern found) plan →
@@ -37,9 +34,8 @@ pub data IsWindow (forms : List Entry) (homes : List HomeOf) (layout : Layout) (
       IsWindow forms homes layout uid i (window_of uid i (given_by homes layout i pattern found)
       plan)
 
--- And so for each instruction of a chain, one behind the other. A window takes one uid less of
--- those that are free
--- than it has instructions.
+-- A chain in which a window stands for each instruction of another one, one behind the other. A
+-- window takes one uid less of those that are free than it has instructions.
 pub data AreWindows (forms : List Entry) (homes : List HomeOf) (layout : Layout) : ℕ → List Insn →
     List Insn → Type 0 where
   none : (uid : ℕ) → AreWindows forms homes layout uid [] []

@@ -67,7 +67,7 @@ insns_at (Base into place) x = base_insns into x.base
 insns_at (In into place base) x = in_insn into base x ∷ []
 insns_at (Out from place base) x = out_insn from base x ∷ []
 
--- those of a move of the operand at a place
+-- the patterns of a move of the operand at a place
 abbrev pub at_place : List Operand → ℕ → Move → List Rtx
 at_place operands place m = option_map_or (insns_at m) (slice_get operands place) []
 
@@ -78,7 +78,7 @@ insns_of operands (Base into place) = at_place operands place (Base into place)
 insns_of operands (In into place base) = at_place operands place (In into place base)
 insns_of operands (Out from place base) = at_place operands place (Out from place base)
 
--- those of some moves
+-- the patterns of some moves
 abbrev pub all_insns : List Operand → List Move → List Rtx
 all_insns operands moves = flat_map (insns_of operands) moves
 

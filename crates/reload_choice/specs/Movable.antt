@@ -112,7 +112,7 @@ shares_with_all operands parts p = list_all (shares_well operands p) parts
 
 -- ---- what has a register in its address
 
--- it stands in no low part
+-- an operand that stands in no low part, if a register stands in its address
 abbrev pub is_clear : Part → Operand → Bool
 is_clear p x = not x.in_lowpart || not (p.needs.has_base || is_some p.needs.far)
 

@@ -48,7 +48,7 @@ pub record IsSoundPlan (given : Given) (plan : Plan) : Type 0 where
       28 ≤ register_for (asks_of plan.parts) a
   pub greatest : (a : Ask) → is_asked (asks_of plan.parts) a ≡ true →
       register_for (asks_of plan.parts) a ≤ 31
-  -- and no other has the same
+  -- no two asks have the same register
   pub apart : (a b : Ask) → is_asked (asks_of plan.parts) a ≡ true →
       is_asked (asks_of plan.parts) b ≡ true →
       register_for (asks_of plan.parts) a ≡ register_for (asks_of plan.parts) b → a ≡ b

@@ -13,16 +13,16 @@ pub struct Given {
     pub kind: Kind,
     /// The instruction, with homes put in.
     pub insn: Rtx,
-    /// Its operands.
+    /// The operands of the instruction.
     pub operands: Items<Operand>,
-    /// What it changes as a whole.
+    /// What the instruction changes as a whole.
     pub whole: Whole,
 }
 
 /// What is done with the operands of an instruction.
 #[derive(Drop)]
 pub struct Plan {
-    /// What it costs.
+    /// What the plan costs.
     pub cost: u64,
     /// The operands, with what is moved.
     pub parts: Items<Part>,

@@ -56,6 +56,6 @@ far_offset x = if is_far x then offset_in_memory (out-Rtx x).kids else None
 abbrev pub slot_offset : Base → ℤ
 slot_offset base = cast_signed w64 base.slot
 
--- the same where the slot is far; a near one has none
+-- what is added to sp where the slot of a base is far; a near one has none
 abbrev pub slot_far : Base → Option ℤ
 slot_far base = if is_near (slot_offset base) then None else Some (slot_offset base)

@@ -35,7 +35,7 @@ use Rattle.reload_fit.specs.Addressed.{on_register, far_offset, slot_far}
 pub record Asks : Type 0 where
   -- what stands in the constraint of an operand; none where the operand has no constraint
   pub asked : ℕ → Option Alternative
-  -- its constraint admits a tree, digits apart; no constraint admits anything
+  -- the constraint of an operand admits a tree, digits apart; no constraint admits anything
   pub admits : ℕ → Rtx → Bool
 
 abbrev pub asked_in : List OperandConstraint → ℕ → ℕ → Option Alternative

@@ -20,7 +20,7 @@ use Rattle.reload_homes.specs.Rewritten.{rewritten}
 abbrev pub sp_plus : Mode → ℤ → Rtx
 sp_plus mode c = if int_eq c (pos 0) then reg_of mode stack_pointer else node_of Plus mode (reg_of mode stack_pointer ∷ const_of c ∷ [])
 
--- the same, of the number that is left in 64 signed bits
+-- sp plus the number that is left of one in 64 signed bits
 abbrev pub from_sp : Mode → ℤ → Rtx
 from_sp mode c = sp_plus mode (int_wrap w64 c)
 

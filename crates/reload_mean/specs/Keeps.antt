@@ -16,8 +16,9 @@ use Rattle.moves_mean.specs.frame_mean.Keeps.{Restores}
 
 -- ---- the same outcome
 
--- Both go on, are at a call without a reply, or have returned: with the same calls, and the same
--- value and visible memory. Nothing is said of the registers that a function preserves.
+-- Two outcomes that come to the same: both go on, are at a call without a reply, or have returned,
+-- with the same calls, and the same value and visible memory. Nothing is said of the registers that
+-- a function preserves.
 abbrev pub ComesToSame : Outcome → Outcome → Type 0
 ComesToSame (Running events) (Running others) = others ≡ events
 ComesToSame (Asked events) (Asked others) = others ≡ events

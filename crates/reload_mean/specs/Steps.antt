@@ -32,8 +32,8 @@ pub record Pair : Type 0 where
 abbrev pub Kept : Pair → State → Type 0
 Kept c u = IsKept c.f.locals c.layout c.start u
 
--- so many steps of the second lead from one state to another, and all of it stays at each state at
--- which one of them is made
+-- a number of steps of the second leads from one state to another, and all of the frame stays at
+-- each state at which one of them is made
 pub data Leads (c : Pair) : ℕ → State → State → Type 0 where
   none : (u : State) → Leads c zero u u
   more : (k : ℕ) (u next last : State) (e : StepEnd) → Kept c u → step c.world c.g u ≡ (e, next) →
@@ -54,7 +54,7 @@ pub data StepsBeside (c : Pair) (At : ℕ → ℕ → Type 0) (s u : State) : Ty
       Leads c k u u' →
       taken_from c.world c.f 1 s ≤ taken_from c.world c.g k u → Beside c At s' u' →
       StepsBeside c At s u
-  -- both end in the same way, and only both at once past the last instruction
+  -- the two runs end in the same way, and only both at once past the last instruction
   end : (e : StepEnd) (s' u' u'' : State) (k : ℕ) → step c.world c.f s ≡ (e, s') →
       goes_on e ≡ false → Leads c k u u' → Kept c u' →
       step c.world c.g u' ≡ (e, u'') → ComesToSame (ended c.f e s') (ended c.g e u'') →
@@ -63,7 +63,7 @@ pub data StepsBeside (c : Pair) (At : ℕ → ℕ → Type 0) (s u : State) : Ty
   -- the first has no value, and nothing is asked
   never : (s' : State) → step c.world c.f s ≡ (ends.Undefined, s') → StepsBeside c At s u
 
--- and so for each two states that stand beside each other
+-- the steps of each two states that stand beside each other stand beside each other
 pub record StepsUnderHomes (c : Pair) (At : ℕ → ℕ → Type 0) : Type 0 where
   pub first : At 0 0
   pub steps : (s u : State) → Beside c At s u → StepsBeside c At s u

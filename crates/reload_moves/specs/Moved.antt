@@ -14,7 +14,7 @@ use Rattle.reload_moves.specs.declared.part.Part.{Part}
 abbrev pub is_marked : List Bool → ℕ → Bool
 is_marked row place = unwrap_or (slice_get row place) false
 
--- so many rounds as there are operands, each of which marks more; one more would add nothing
+-- as many rounds as there are operands, each of which marks more; one more would add nothing
 abbrev pub rounds : (List Bool → List Bool) → List Fitting → List Bool → List Bool
 rounds step [] row = row
 rounds step (_ ∷ more) row = rounds step more (step row)
@@ -95,7 +95,7 @@ link_of moved f = if is_tied f.standing then unwrap_or (named_by moved f) f.plac
 abbrev pub link : List Fitting → List Bool → ℕ → ℕ
 link fits moved place = option_map_or (link_of moved) (slice_get fits place) place
 
--- so many links on as there are operands
+-- the place as many links on as there are operands
 abbrev pub end_of : (ℕ → ℕ) → List Fitting → ℕ → ℕ
 end_of next [] place = place
 end_of next (_ ∷ more) place = end_of next more (next place)
@@ -138,7 +138,7 @@ leads row place g = is_marked row g.place && leads_to g.digits place
 abbrev pub one_leads : List Fitting → List Bool → ℕ → Bool
 one_leads fits row place = list_any (leads row place) fits
 
--- it is marked, or the digits of a marked one lead to it
+-- an operand is marked, or the digits of a marked one lead to it
 abbrev pub is_led_to : List Fitting → List Bool → Fitting → Bool
 is_led_to fits row f = is_marked row f.place || one_leads fits row f.place
 

@@ -26,7 +26,7 @@ end_far_of asks p = register_for asks (ask ResultFar p.place)
 
 -- ---- what is moved once
 
--- it stands in front of an operand with which it shares
+-- an operand stands in front of one with which it shares
 abbrev pub is_in_front : Part → Part → Bool
 is_in_front p q = nat_lt q.place p.place && (q.holder == p.holder)
 

@@ -19,7 +19,7 @@ pub enum Standing {
 pub struct Digit {
     /// Where the operand that it names stands among the operands.
     pub place: usize,
-    /// Whether that is the same tree.
+    /// Whether the operand that it names is the same tree.
     pub same: bool,
 }
 
@@ -41,9 +41,9 @@ pub struct Needs {
 /// An operand in an alternative.
 #[derive(Drop)]
 pub struct Fitting {
-    /// Where it stands among the operands.
+    /// The operand's place among the operands.
     pub place: usize,
-    /// How it stands in the alternative.
+    /// How the operand stands in the alternative.
     pub standing: Standing,
     /// The digits of its constraint, in order.
     pub digits: Items<Digit>,

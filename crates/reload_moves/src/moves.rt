@@ -5,21 +5,21 @@
 pub enum Move {
     /// A far base is made.
     Far {
-        /// In this register.
+        /// The register in which it is made.
         into: u32,
-        /// So far from `sp`.
+        /// How far it lies from `sp`, in bytes.
         offset: i64,
     },
     /// The base that a slot holds is loaded.
     Base {
-        /// Into this register.
+        /// The register that takes it.
         into: u32,
         /// Where the operand stands whose base it is.
         place: usize,
     },
     /// An input is moved.
     In {
-        /// Into this register.
+        /// The register that takes it.
         into: u32,
         /// Where the operand stands.
         place: usize,
@@ -28,7 +28,7 @@ pub enum Move {
     },
     /// A result is moved.
     Out {
-        /// Out of this register.
+        /// The register that holds it.
         from: u32,
         /// Where the operand stands.
         place: usize,

@@ -60,7 +60,7 @@ abbrev pub is_operator_code : Code → Bool
 is_operator_code MatchOperator = true
 is_operator_code _ = false
 
--- its own mode, or else that of its placeholder; where neither has one, there is none
+-- an operand's own mode, or else that of its placeholder; where neither has one, there is none
 abbrev pub mode_or : Mode → Mode → Mode
 mode_or Void other = other
 mode_or own other = own

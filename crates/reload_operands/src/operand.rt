@@ -13,7 +13,7 @@ pub struct Base {
 /// An operand of an instruction.
 #[derive(Drop)]
 pub struct Operand {
-    /// Its number in the pattern.
+    /// The operand's number in the pattern.
     pub number: u32,
     /// The operand itself, with its homes.
     pub tree: Rtx,
@@ -22,7 +22,7 @@ pub struct Operand {
     pub mode: Mode,
     /// Whether a `match_operator` gives it.
     pub is_operator: bool,
-    /// Whether it is a `scratch`.
+    /// Whether the operand is a `scratch`.
     pub is_scratch: bool,
     /// Whether its predicate is `address_operand`.
     pub is_address: bool,
@@ -37,9 +37,9 @@ pub struct Operand {
     /// scratch. It may be no input and no output then, though the instruction takes it or changes
     /// it.
     pub is_hidden: bool,
-    /// Whether it is a register, or the low part of one, that lives in a slot.
+    /// Whether the operand is a register, or the low part of one, that lives in a slot.
     pub in_slot: bool,
-    /// Whether it has a place inside a low part.
+    /// Whether the operand has a place inside a low part.
     pub in_lowpart: bool,
     /// The base of its address, or of the sum that it is, where that lives in a slot.
     pub base: Option<Base>,

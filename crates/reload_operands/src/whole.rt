@@ -10,9 +10,9 @@ use std::alloc::Global;
 /// What is asked of an instruction of which a result is to be moved.
 #[derive(Clone, Copy)]
 pub struct Whole {
-    /// Whether it changes a register twice before homes are put in.
+    /// Whether the instruction changes a register twice before homes are put in.
     pub twice_before: bool,
-    /// Whether it changes a register twice with its homes.
+    /// Whether the instruction changes a register twice with its homes.
     pub twice_after: bool,
 }
 

@@ -11,7 +11,7 @@ use Rattle.rtl_func.specs.declared.names.Names.{Names}
 abbrev pub is_among : Names → List ℕ → Bool
 is_among names name = contains_by (λ text. bytes_eq name text.items) names.texts
 
--- they are the names of these functions
+-- the names are those of some functions
 abbrev pub AreNames : List Function → Names → Type 0
 AreNames functions names =
     (name : List ℕ) → is_among names name ≡ list_any (has_name name) functions

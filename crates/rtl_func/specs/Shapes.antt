@@ -164,7 +164,7 @@ fits_none class.Counter mode reg = not (has_mode mode)
 fits_none class.Scratch mode reg = has_mode mode
 fits_none _ mode reg = false
 
--- of one part
+-- what a class asks of the mode and of one part
 abbrev pub fits_one : Class → Mode → Rtx → Bool
 fits_one class.Memory mode address = has_mode mode && is_operand DI address
 fits_one class.Lowpart mode whole =
@@ -181,7 +181,7 @@ fits_one _ mode x = false
 abbrev pub is_called : Rtx → Rtx → Bool
 is_called place size = is_memory_class (class_at place) && is_constant size
 
--- of two parts
+-- what a class asks of the mode and of two parts
 abbrev pub fits_two : Class → Mode → Rtx → Rtx → Bool
 fits_two class.Binary mode a b = has_mode mode && (is_operand mode a && is_operand mode b)
 fits_two class.Shift mode a count = has_mode mode && (is_operand mode a && is_some_operand count)
@@ -197,7 +197,7 @@ is_choice test label next =
     is_comparison_class (class_at test) &&
     (is_label_class (class_at label) && is_counter_class (class_at next))
 
--- of three parts
+-- what a class asks of the mode and of three parts
 abbrev pub fits_three : Class → Mode → Rtx → Rtx → Rtx → Bool
 fits_three class.Branch mode test label next = not (has_mode mode) && is_choice test label next
 fits_three _ mode a b c = false

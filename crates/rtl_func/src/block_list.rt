@@ -11,9 +11,9 @@ use std::alloc::Global;
 /// A basic block: the places from `first` on, below `end`.
 #[derive(Clone, Copy)]
 pub struct Block {
-    /// Its first place.
+    /// The block's first place.
     pub first: u32,
-    /// The place past its last.
+    /// The place past the block's last.
     pub end: u32,
 }
 

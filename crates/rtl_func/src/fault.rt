@@ -5,9 +5,9 @@ ghost use Rattle.rtl_func.specs.Faults as spec;
 /// A rule that fails at a uid.
 #[derive(Clone, Copy)]
 pub struct Fault {
-    /// Where it fails.
+    /// The uid at which the rule fails.
     pub uid: u32,
-    /// Its number.
+    /// The rule's number.
     pub rule: u8,
 }
 

@@ -55,7 +55,7 @@ impl Search {
     }
 }
 
-/// So many places, none of them found.
+/// `count` places, none of them found.
 fn none_found(alloc: Global, count: usize) -> Result<Items<bool>, Memory>
     ensures { IfOk result (λ found. found ≡ replicate count false) }
 {

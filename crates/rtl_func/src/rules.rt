@@ -22,11 +22,11 @@ use std::alloc::Global;
 /// A rule that each instruction keeps or breaks.
 #[derive(Clone, Copy)]
 pub enum InsnRule {
-    /// Each label that it names stands.
+    /// Each label that the instruction names stands.
     LabelsStand,
-    /// Its kind is its pattern's.
+    /// The instruction's kind is its pattern's.
     KindsAgree,
-    /// Its pattern is one of the table, each part with the mode that it has there.
+    /// The pattern is one of the table, each part with the mode that it has there.
     ModesAgree,
     /// A pseudo has the mode of its first mention.
     OneModeAPseudo,

@@ -28,7 +28,7 @@ pub record IsReadableAt (p : Position) (x : Rtx) : Type 0 where
   pub shallow : depth_of tree ≤ most_open
   pub stands_for : read_at p tree ≡ stands x
 
--- its text is read as one tree, which stands for it at that position
+-- the text of an expression is read as one tree, which stands for it at a position
 pub record ReadsBackAt (p : Position) (x : Rtx) : Type 0 where
   pub tree : Tree
   pub reads : ReadsAs (printed x) (Trees (tree ∷ []))
@@ -68,7 +68,7 @@ abbrev pub AreReadable : List Function → Type 0
 AreReadable [] = Unit {0}
 AreReadable (f ∷ fs) = IsReadable f × AreReadable fs
 
--- its canonical text is read as one tree, which stands for it
+-- the canonical text of a function is read as one tree, which stands for it
 pub record ReadsBack (f : Function) : Type 0 where
   pub tree : Tree
   pub reads : ReadsAs (printed_function f) (Trees (tree ∷ []))

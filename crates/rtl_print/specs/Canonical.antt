@@ -25,7 +25,7 @@ abbrev pub printed_uses : List ArgUse → List ℕ
 printed_uses [] = codes "(nil)"
 printed_uses (u ∷ us) = printed_link u ++ (printed_uses us ++ codes ")")
 
--- so many closing parentheses
+-- a number of closing parentheses
 abbrev pub closed : ℕ → List ℕ
 closed count = replicate count 41
 
@@ -33,7 +33,7 @@ closed count = replicate count 41
 abbrev pub numbered : List ℕ → Insn → List ℕ
 numbered word i = word ++ spaced (decimal i.uid)
 
--- the same with what it does
+-- a word, and the number and the pattern of an instruction
 abbrev pub doing : List ℕ → Insn → List ℕ
 doing word i = numbered word i ++ spaced (printed i.pattern)
 

@@ -106,7 +106,7 @@ is_whole_link (h ∷ element ∷ more ∷ []) =
     is_link_head (atom_of h) && is_nested element && is_nested more
 is_whole_link _ = false
 
--- its use, and what the chain behind it gives
+-- the use of a link, and what the chain behind it gives
 abbrev pub link_by : List Tree → List (Parsed (List ArgUse)) → Parsed (List ArgUse)
 link_by (h ∷ element ∷ more ∷ []) (x ∷ y ∷ rest ∷ []) =
     parsed_then (use_of element) (λ first. parsed_map (λ uses. first ∷ uses) rest)

@@ -126,7 +126,7 @@ fn add_barrier(alloc: Global, insns: &mut Insns) -> Result<(), RtlRefusal>
     Ok(())
 }
 
-/// Whether this is the head of a note or of an edge of a block, which are passed over.
+/// Whether a head is that of a note or of an edge of a block, which are passed over.
 fn is_passed(head: &Tree) -> bool
     ensures { result ≡ spec.is_passed head.now }
 {

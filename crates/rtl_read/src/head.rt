@@ -110,7 +110,7 @@ fn flags_pass(flags: Option<&[u8]>) -> bool
     }
 }
 
-/// Whether this is the head of a `parallel`, which has no mode.
+/// Whether a text is the head of a `parallel`, which has no mode.
 pub fn is_parallel_head(text: &[u8]) -> bool
     ensures { result ≡ own.is_parallel_head text.now }
 {

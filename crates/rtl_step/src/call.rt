@@ -21,7 +21,7 @@ pub struct ArgValue {
     pub reg: u8,
     /// The mode in which it is read.
     pub mode: Mode,
-    /// Its value in that mode.
+    /// The register's value in that mode.
     pub value: u64,
 }
 
@@ -31,9 +31,9 @@ pub type ArgValues = Items<ArgValue>;
 /// What a called function sees.
 #[derive(Drop)]
 pub struct CallEvent {
-    /// Its address, a multiple of 4.
+    /// The called function's address, a multiple of 4.
     pub target: u64,
-    /// Its arguments.
+    /// The call's arguments.
     pub args: ArgValues,
     /// The visible memory.
     pub memory: Memories,

@@ -17,14 +17,14 @@ pub enum Effect {
     Nothing,
     /// A register is set.
     Sets {
-        /// Which.
+        /// The register's number.
         reg: u64,
         /// What is known of it then.
         known: Known,
     },
     /// A register is unset.
     Unsets {
-        /// Which.
+        /// The register's number.
         reg: u64,
     },
     /// Memory is written.

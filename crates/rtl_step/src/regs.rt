@@ -16,7 +16,7 @@ use std::marker::Model;
 pub struct Known {
     /// How many bits are known.
     pub width: Width,
-    /// These bits.
+    /// The bits that are known.
     pub value: u64,
 }
 

@@ -25,7 +25,8 @@ abbrev pub WritesLines : Source → List ℕ → Option (List ℕ) → Option (L
 WritesLines files name input old new =
     IfSome input (λ bytes. (forms : List Entry) × FormsCome files name (Ok forms) × (functions : List Function) × IsInput bytes functions × (a : Assembly) × IsAssembly forms 0 functions a × Appends old new a.text)
 
--- and it does what the functions of the input do, each in the frame that it has by the description
+-- the text does what the functions of the input do, each in the frame that it has by the
+-- description
 abbrev pub WritesSame : Source → List ℕ → Option (List ℕ) → Option (List ℕ) → Option (List ℕ) →
     Type 0
 WritesSame files name input old new =
@@ -64,27 +65,27 @@ abbrev pub WritesDump : Pass → Source → List ℕ → Option (List ℕ) → O
 WritesDump pass files name input old new =
     IfSome input (λ bytes. (forms : List Entry) × FormsCome files name (Ok forms) × (functions : List Function) × IsInput bytes functions × (text : List ℕ) × dump.FunctionsCome forms pass functions (Ok text) × Appends old new text)
 
--- status 0, or want of memory
+-- an input is done: its status is 0, or that of want of memory
 abbrev pub IsDone : ℕ → Type 0
 IsDone status = (status ≡ 0) ⊎ (status ≡ 8)
 
--- an input that has an assembly by a description ends so
+-- an input that has an assembly by a description is done
 abbrev pub Completes : Source → List ℕ → Option (List ℕ) → ℕ → Type 0
 Completes files name input status = (forms : List Entry) → FormsCome files name (Ok forms) →
     IfSome input (λ bytes. (functions : List Function) (a : Assembly) → IsInput bytes functions → AssemblyComes forms functions (Ok a) → IsDone status)
 
--- and so does one of which a function is tried that it has
+-- an input that has the function that is tried, and an assembly by a description, is done
 abbrev pub CompletesFor : Source → List ℕ → Option (List ℕ) → List ℕ → ℕ → Type 0
 CompletesFor files name input function status =
     (forms : List Entry) → FormsCome files name (Ok forms) →
     IfSome input (λ bytes. (functions : List Function) (a : Assembly) → IsInput bytes functions → AssemblyComes forms functions (Ok a) → has_named functions function ≡ true → IsDone status)
 
--- and so does one of which each instruction has a form of a description
+-- an input of which each instruction has a form of a description is done
 abbrev pub CompletesBy : Source → List ℕ → Option (List ℕ) → ℕ → Type 0
 CompletesBy files name input status = (forms : List Entry) → FormsCome files name (Ok forms) →
     IfSome input (λ bytes. (functions : List Function) (text : List ℕ) → IsInput bytes functions → FunctionsCome forms functions (Ok text) → IsDone status)
 
--- and so does one whose functions have a text behind a pass
+-- an input whose functions have a text behind a pass is done
 abbrev pub CompletesDump : Pass → Source → List ℕ → Option (List ℕ) → ℕ → Type 0
 CompletesDump pass files name input status =
     (forms : List Entry) → FormsCome files name (Ok forms) →

@@ -67,15 +67,15 @@ fn input_bytes<S: Source>(alloc: Global, input: &mut S) -> Result<Vec<u8>, Refus
 /// What is made of the functions of the input by a description.
 #[derive(Drop)]
 enum Task {
-    /// Their assembly.
+    /// The functions' assembly.
     Assemble,
     /// The form of each instruction.
     Recognise,
-    /// What they are behind a pass.
+    /// The functions behind a pass.
     Show {
         pass: Pass,
     },
-    /// The outcomes of one of them and of its code.
+    /// The outcomes of one of the functions and of its code.
     Try {
         function: Name,
         steps: u16,
@@ -462,8 +462,8 @@ pub fn run<F: Files, S: Source, K: Sink, E: Sink>(
         spoken.command_of (words_of words.now) ≡ Some (commands.Asm name) → result ≡ 0 →
         WritesSame known (spec.described name) (S.left input.old) (K.taken output.old) (K.taken output.new) }
 
-    // And they are the only ones: of each text there is one list of lines and labels that it spells, and the text of some functions is cut
-    // into their parts in one way.
+    // The lines and labels of a text are the only ones: each text spells one list of them, and the
+    // text of some functions is cut into their parts in one way.
     ensures spelled { (text : List ℕ) (a b : List CodeItem) → Spells text a → Spells text b → a ≡ b }
     ensures parts { (functions : List Function) (text : List ℕ) (a b : List (List CodeItem)) →
         AreParts functions text a → AreParts functions text b → a ≡ b }

@@ -55,7 +55,7 @@ fn is_listed(alloc: Global, text: &[u8], status: u8, line: &str) -> bool {
     )
 }
 
-/// So many times the same text.
+/// A text, `count` times over.
 fn repeated(alloc: Global, text: &str, count: u32) -> Told {
     let mut whole = Told::new(alloc);
     for _ in 0..count {

@@ -37,12 +37,12 @@ abbrev pub described_by : List ℕ → Option (List ℕ) → List (List ℕ) →
 described_by name None words = Some (record { description = Some name; positional = words })
 described_by name (Some other) words = None
 
--- the same arguments with a description, which is named once
+-- arguments with a description, which is named once
 abbrev pub described : List ℕ → Option Arguments → Option Arguments
 described name None = None
 described name (Some a) = described_by name a.description a.positional
 
--- the same with a positional word in front
+-- arguments with a positional word in front
 abbrev pub positioned : List ℕ → Option Arguments → Option Arguments
 positioned word None = None
 positioned word (Some a) =

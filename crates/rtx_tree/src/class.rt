@@ -70,7 +70,7 @@ pub enum Parts {
     Symbol,
     /// An expression and the offset 0.
     Lowpart,
-    /// So many expressions.
+    /// `count` expressions.
     Expressions { count: usize },
     /// A vector of expressions.
     Vector,

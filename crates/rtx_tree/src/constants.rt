@@ -5,9 +5,9 @@ use plain_data::Items;
 /// A name that stands for a number.
 #[derive(Debug, Drop)]
 pub struct Constant {
-    /// What stands in the text.
+    /// The name, as it stands in the text.
     pub name: Name,
-    /// What it stands for.
+    /// The number for which the name stands.
     pub number: i64,
 }
 

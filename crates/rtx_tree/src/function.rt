@@ -40,9 +40,9 @@ pub type ArgUses = Items<ArgUse>;
 pub struct Insn {
     /// The number that names it, unlike any other of the function; 0 for a barrier.
     pub uid: u32,
-    /// What it is.
+    /// What the instruction is.
     pub kind: Kind,
-    /// What it does; `(parallel [])` for a label or a barrier.
+    /// What the instruction does; `(parallel [])` for a label or a barrier.
     pub pattern: Rtx,
     /// What a call's target reads; for others none.
     pub uses: ArgUses,
@@ -54,9 +54,9 @@ pub type Insns = Items<Insn>;
 /// A function.
 #[derive(Drop)]
 pub struct Function {
-    /// Its symbol.
+    /// The function's symbol.
     pub name: Name,
-    /// Its chain, in order.
+    /// The function's chain, in order.
     pub insns: Insns,
     /// The bytes of its locals, which stand just below `virtual-stack-vars`.
     pub locals: u32,

@@ -20,7 +20,7 @@ pub type Ranges = Items<RangeAt>;
 pub struct SymbolAt {
     /// The symbol.
     pub name: Name,
-    /// Where it stands.
+    /// The symbol's address.
     pub address: u64,
 }
 
@@ -33,9 +33,9 @@ pub type ByteWrites = Items<MemByte>;
 /// What a called function does.
 #[derive(Drop)]
 pub struct Reply {
-    /// What it leaves in `a0`.
+    /// What the function leaves in `a0`.
     pub value: u64,
-    /// What it writes into memory.
+    /// The bytes that the function writes into memory.
     pub writes: ByteWrites,
 }
 

@@ -10,9 +10,9 @@ use std::marker::Model;
 /// A byte of memory.
 #[derive(Clone, Copy)]
 pub struct MemByte {
-    /// Where it stands.
+    /// The byte's address.
     pub address: u64,
-    /// What stands there.
+    /// The byte itself.
     pub byte: u8,
 }
 

@@ -19,7 +19,7 @@ pub type Path = Items<u32>;
 /// An expression: a code with its parts.
 #[derive(Drop)]
 pub struct Rtx {
-    /// What it is.
+    /// The expression's code.
     pub code: Code,
     /// The mode of its value, or `Void`.
     pub mode: Mode,

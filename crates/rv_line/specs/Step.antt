@@ -47,7 +47,7 @@ source_value state line ReturnAddress = register state.regs 1
 source_value state line Immediate = Some (cast_unsigned w64 line.imm)
 source_value state line (Constant number) = Some (cast_unsigned w64 number)
 
--- of two numbers, or none where one is missing
+-- what a function gives of two numbers, or none where one is missing
 abbrev pub of_both : {X : Type 0} → (ℕ → ℕ → X) → Option ℕ → Option ℕ → Option X
 of_both f left right = option_and_then (λ a. option_map (f a) right) left
 

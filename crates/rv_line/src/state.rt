@@ -26,7 +26,7 @@ pub enum LineEnd {
     Jumped,
     /// A function is called.
     Called {
-        /// Its address.
+        /// The called function's address.
         target: u64,
     },
     /// The function returns.

@@ -95,9 +95,9 @@ pub enum Action {
         operation: Operation,
         /// How many bits it works on.
         width: Width,
-        /// Its first number.
+        /// The operation's first number.
         left: Source,
-        /// Its second number.
+        /// The operation's second number.
         right: Source,
     },
     /// `rd` becomes what stands in memory at `rs` plus the line's number.
@@ -118,9 +118,9 @@ pub enum Action {
     Branch {
         /// The comparison.
         comparison: Comparison,
-        /// Its first number.
+        /// The comparison's first number.
         left: Source,
-        /// Its second number.
+        /// The comparison's second number.
         right: Source,
     },
     /// The next line is that behind the line's label.

@@ -78,7 +78,7 @@ impl<'a> LineParts<'a> {
         }
     }
 
-    /// This line with what an operand names taken from another one.
+    /// The line with what an operand names taken from another one.
     pub fn with(self, operand: Operand, from: LineParts<'a>) -> LineParts<'a>
         ensures { parts_view result ≡
             spec.put operand (parts_view from.entry) (parts_view self.entry) }

@@ -35,7 +35,7 @@ pub record SameArg (call : CodeCall) (arg : ArgValue) : Type 0 where
 abbrev pub SameArgs : CodeCall → List ArgValue → Type 0
 SameArgs call args = (i : ℕ) (arg : ArgValue) → slice_get args i ≡ Some arg → SameArg call arg
 
--- the same target, arguments and visible memory
+-- two calls with the same target, arguments and visible memory
 pub record SameCall (event : CallEvent) (call : CodeCall) : Type 0 where
   pub target_is : call.target ≡ event.target
   pub args_are : SameArgs call event.args

@@ -15,7 +15,7 @@ StandsIn f i = (place : ℕ) × (slice_get f.insns place ≡ Some i)
 
 -- ---- no form splits an instruction any more
 
--- it was tried, with new pseudo registers numbered from some number on
+-- an instruction that was tried, with new pseudo registers numbered from some number on
 abbrev pub IsLeft : List Entry → SplitStage → Insn → Type 0
 IsLeft forms stage i = (next : ℕ) × IsUnsplit forms stage next i
 

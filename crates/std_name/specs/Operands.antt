@@ -38,7 +38,7 @@ is_vars x = is_vars_by (class_at x) (number_at x)
 abbrev pub is_target : Rtx → Bool
 is_target x = is_place x && not (is_vars x)
 
--- it may stand in its role
+-- an operand may stand in its role
 abbrev pub fits_role : OperandRole → Rtx → Bool
 fits_role Target x = is_target x
 fits_role Input x = is_leaf x

@@ -19,7 +19,7 @@ pub enum OperandRole {
 pub struct StandardOperand {
     /// What stands in the instruction.
     pub tree: Rtx,
-    /// How it stands there.
+    /// How the operand stands in the instruction.
     pub role: OperandRole,
     /// The mode of a register that could stand in its place; `Void` where the form's operand says
     /// it.

@@ -20,16 +20,16 @@ use term_tree::Term;
 pub enum SymDifference {
     /// An item of which the states have different terms.
     Differ {
-        /// Which.
+        /// The item.
         item: Item,
         /// The first state's term.
         left: Term,
-        /// The second's.
+        /// The second state's term.
         right: Term,
     },
     /// A need of the second state that the first has not.
     Lacks {
-        /// Its register, address, divisor or symbol.
+        /// The need's register, address, divisor or symbol.
         term: Term,
     },
 }

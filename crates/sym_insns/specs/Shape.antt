@@ -30,8 +30,8 @@ natural_step x = is_natural x.code x.number && list_all (λ here. here) x.kids
 abbrev pub all_natural : Rtx → Bool
 all_natural = fold-Rtx Bool natural_step
 
--- it has the parts of its code, the kind of its pattern and the modes of its parts; a call has its
--- result in a0 and different arguments; a parallel holds set, use and clobber alone
+-- an instruction has the parts of its code, the kind of its pattern and the modes of its parts; a
+-- call has its result in a0 and different arguments; a parallel holds set, use and clobber alone
 abbrev pub is_shaped : Insn → Bool
 is_shaped i =
     kinds_agree i.kind i.pattern && (shapes_agree i.pattern && (all_natural i.pattern &&

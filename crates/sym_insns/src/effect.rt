@@ -27,14 +27,14 @@ pub enum EffectOf {
     Nothing,
     /// A register is set.
     Sets {
-        /// Which.
+        /// The register's number.
         reg: u64,
         /// What is known of it then.
         value: Term,
     },
     /// A register is unset.
     Unsets {
-        /// Which.
+        /// The register's number.
         reg: u64,
     },
     /// Memory is written.
@@ -49,9 +49,9 @@ pub enum EffectOf {
 /// What one part of an instruction does, and what it needs.
 #[derive(Drop)]
 pub struct EffectedOf {
-    /// What it does.
+    /// What the part does.
     pub effect: EffectOf,
-    /// What it needs.
+    /// What the part needs.
     pub needs: Needs,
 }
 

@@ -27,7 +27,7 @@ use Rattle.sym_lines.specs.Compute.{computed, relation_of}
 abbrev pub register : List Changed → ℕ → Tree
 register regs reg = read regs reg W64
 
--- that a register is set
+-- the needs of a register that is read: it is set
 abbrev pub register_needs : List Changed → ℕ → List Need
 register_needs regs reg = read_needs regs reg W8
 

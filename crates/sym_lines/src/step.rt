@@ -235,7 +235,7 @@ fn arg(maker: &mut TermMaker, alloc: Global, regs: &SymRegs, reg: u8) -> Result<
     })
 }
 
-/// So many registers from one on, as they stand.
+/// The registers from `first` on, `count` of them, as they stand.
 fn args_from(
     maker: &mut TermMaker,
     alloc: Global,

@@ -106,7 +106,7 @@ pub record RunMeans (first : Valuation) (f : First) (ranges : List RangeAt) (s :
   pub met : all_met v f s.needs ≡ true
   pub means : Means v f ranges s came
 
--- it comes to what the state tells
+-- a run of instructions comes to what the state tells
 pub record Comes (v : Valuation) (f : First) (ranges : List RangeAt) (s : State) (came : Option InsnsCome) : Type 0 where
   pub come : InsnsCome
   pub comes : came ≡ Some come

@@ -14,6 +14,6 @@ meant v (spec.Sets reg t) = rtl.Sets reg (known_of (width_of t) (mean v t))
 meant v (spec.Unsets reg) = rtl.Unsets reg
 meant v (spec.Stores address value) = rtl.Stores (width_of value) (mean v address) (mean v value)
 
--- it is had where its needs are met
+-- what an effect is worth: it is had where its needs are met
 abbrev pub effect_worth : Valuation → First → spec.Effected → Option Effect
 effect_worth v f e = if are_met v f e.needs then Some (meant v e.effect) else None

@@ -10,7 +10,7 @@ use Rattle.term_tree.specs.Form.{same_width}
 use Rattle.sym_term.specs.term_mean.Stores.{Store}
 use Rattle.sym_term.specs.term_mean.Normal.{built}
 
--- so many ones, as a coefficient -1
+-- the bits of a width, all of them ones: as a coefficient -1
 abbrev pub minus_one : Width → ℕ
 minus_one w = 2 ^ bits_of w - 1
 

@@ -57,7 +57,7 @@ abbrev pub put : List Changed → ℕ → Option Tree → List Changed
 put regs zero value = regs
 put regs (suc reg) value = placed regs (suc reg) value
 
--- so many registers from a number on: those that a call need not preserve are unset
+-- a number of registers from one on: those that a call need not preserve are unset
 abbrev pub left_from : ℕ → ℕ → List Changed → List Changed
 left_from zero reg regs = regs
 left_from (suc count) reg regs =

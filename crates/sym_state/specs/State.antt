@@ -71,7 +71,7 @@ pub record State : Type 0 where
   pub call : Option Call
   pub needs : List NeedAt
 
--- it leads on to what follows
+-- a step that leads on to what follows
 abbrev pub falls : Jump
 falls = record { condition = nothing; target = None }
 

@@ -14,7 +14,7 @@ use term_tree::Term;
 /// A register that was changed.
 #[derive(Drop)]
 pub struct SymReg {
-    /// Its number, which is not 0.
+    /// The register's number, which is not 0.
     pub reg: u64,
     /// The bits that are known of it, or `None` where it is unset.
     pub value: Option<Term>,
@@ -23,7 +23,7 @@ pub struct SymReg {
 /// Registers that were changed, in increasing order.
 pub type SymRegs = Items<SymReg>;
 
-/// Where it leads.
+/// Where a run leads.
 #[derive(Drop)]
 pub struct SymJump {
     /// The condition, of 8 bits: 0 where it leads on to what follows.
@@ -58,16 +58,16 @@ pub struct SymCall {
 /// What has to be there for a step to have a meaning.
 #[derive(Drop)]
 pub enum NeedOf {
-    /// So many known bits of a register.
+    /// Known bits of a register, `width` of them.
     Register {
-        /// Which.
+        /// The register's number.
         reg: u64,
         /// How many bits.
         width: Width,
     },
     /// More bits of a register than the same instructions or lines left known: nothing meets it.
     Lost {
-        /// Which.
+        /// The register's number.
         reg: u64,
         /// How many bits.
         width: Width,
@@ -86,7 +86,7 @@ pub enum NeedOf {
     },
     /// An address of a symbol.
     Symbol {
-        /// Its name.
+        /// The symbol's name.
         name: Name,
     },
 }
@@ -94,7 +94,7 @@ pub enum NeedOf {
 /// A need of an instruction or a line.
 #[derive(Drop)]
 pub struct SymNeed {
-    /// Its place, counted from 0.
+    /// The place of the instruction or line, counted from 0.
     pub index: u32,
     /// The need.
     pub what: NeedOf,
@@ -110,7 +110,7 @@ pub struct SymState {
     pub regs: SymRegs,
     /// The stores, in order.
     pub stores: SymStores,
-    /// Where it leads.
+    /// Where the run leads.
     pub jump: SymJump,
     /// The call, where there is one.
     pub call: Option<SymCall>,

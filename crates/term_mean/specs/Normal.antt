@@ -25,7 +25,7 @@ built_one stores heads.Eq w n s a = equals_zero w a
 built_one stores heads.Load w n s a = loaded stores w n a
 built_one stores h w n s a = Node h w n s (tree a no_trees)
 
--- of two
+-- what the rules of a head make of two normal parts
 abbrev pub built_two : Head → Width → ℕ → List ℕ → Tree → Tree → Tree
 built_two heads.Mulh w n s a b = plain_two heads.Mulh w a b
 built_two heads.Mulhu w n s a b = plain_two heads.Mulhu w a b

@@ -114,7 +114,7 @@ as_difference w t = from_zero w t
 
 -- ---- the test
 
--- of two extensions it is that of what they extend
+-- the test of a difference of two extensions is that of what they extend
 abbrev pub zero_extended_test : Option Operands → (Width → Tree → Tree) → Width → Tree → Tree
 zero_extended_test (Some x) again w t = again x.width (minus x.width x.left x.right)
 zero_extended_test None again w t = one_part heads.Eq w t

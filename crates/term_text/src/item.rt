@@ -13,15 +13,15 @@ use text_words::print_count;
 pub enum Item {
     /// A register.
     Register {
-        /// Its number.
+        /// The register's number.
         reg: u64,
     },
     /// A store.
     Store {
-        /// Its place among the stores, counted from 0.
+        /// The store's place among the stores, counted from 0.
         index: u32,
     },
-    /// Where it leads.
+    /// Where a side leads.
     Jump,
     /// What is called.
     Call,
@@ -29,7 +29,7 @@ pub enum Item {
     Need,
     /// An instruction or a line that can't be compared.
     Shape {
-        /// Its place, counted from 0.
+        /// The place of the instruction or line, counted from 0.
         index: u32,
     },
 }

@@ -74,7 +74,7 @@ fn less_kind(e: Extension, kind: Extension) -> Extension
     }
 }
 
-/// Of two extensions it is that of what they extend.
+/// A comparison by less: of two extensions it is that of what they extend.
 #[cycle(less)]
 fn less_extended(
     alloc: Global,

@@ -192,7 +192,7 @@ fn next_minus(alloc: Global, w: Width, a: &Term, b: &Term) -> Result<Round, Memo
     Ok(Round::Next { width: w, term })
 }
 
-/// Of the difference of two extensions it is the test of that of what they extend.
+/// One round of the test: of the difference of two extensions it is that of what they extend.
 fn round_extended(
     alloc: Global,
     operands: Option<Operands>,
@@ -287,7 +287,7 @@ fn round_parted(
     }
 }
 
-/// Of an exclusive or of two parts it is the test of their difference.
+/// One round of the test: of an exclusive or of two parts it is that of their difference.
 fn round_xor(alloc: Global, w: Width, t: &Term) -> Result<Round, Memory>
     ensures { (again : Width → Tree → Tree) →
         IfOk result (λ r. round_tree again r ≡ spec.zero_xor again w (tree_of t.now)) }
@@ -296,7 +296,7 @@ fn round_xor(alloc: Global, w: Width, t: &Term) -> Result<Round, Memory>
     round_parted(alloc, parts, w, t)
 }
 
-/// Of a truth it is the opposite.
+/// One round of the test: of a truth it is the opposite.
 fn round_truth(alloc: Global, w: Width, t: &Term) -> Result<Round, Memory>
     ensures { (again : Width → Tree → Tree) →
         IfOk result (λ r. round_tree again r ≡ spec.zero_truth again w (tree_of t.now)) }
@@ -310,7 +310,7 @@ fn round_truth(alloc: Global, w: Width, t: &Term) -> Result<Round, Memory>
     }
 }
 
-/// Of a constant it is its number.
+/// One round of the test: of a constant its number decides.
 fn round_chosen(alloc: Global, w: Width, t: &Term) -> Result<Round, Memory>
     ensures { (again : Width → Tree → Tree) →
         IfOk result (λ r. round_tree again r ≡ spec.zero_chosen again w (tree_of t.now)) }

@@ -28,7 +28,7 @@ abbrev pub KnownToo : Regs → Regs → ℕ → Type 0
 KnownToo regs other reg =
     (w : Width) (value : ℕ) → reg_value regs reg w ≡ Some value → reg_value other reg w ≡ Some value
 
--- the same is known of it in both
+-- of a register the same is known in both
 abbrev pub KnownAlike : Regs → Regs → ℕ → Type 0
 KnownAlike regs other reg = (w : Width) → reg_value regs reg w ≡ reg_value other reg w
 
@@ -86,7 +86,7 @@ abbrev pub is_call : Kind → Bool
 is_call Call = true
 is_call _ = false
 
--- it leads on from its last alone, and holds no label
+-- a window that leads on from its last alone, and holds no label
 abbrev pub leads_last : List Insn → Bool
 leads_last [] = true
 leads_last (i ∷ []) = not (is_label i.kind)

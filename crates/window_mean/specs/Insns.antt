@@ -19,8 +19,8 @@ use Rattle.same_behaviour.specs.rtl_step.declared.effect.Effect.{Effect}
 use Rattle.same_behaviour.specs.rtl_step.declared.jump.Way.{Way}
 use Rattle.same_behaviour.specs.rtl_step.declared.jump.Way.TheVariants as way
 
--- it falls through to what follows, goes to the label with a uid, calls a function, whose result is
--- then known in a width, or returns
+-- a window of instructions falls through to what follows, goes to the label with a uid, calls a
+-- function, whose result is then known in a width, or returns
 pub data InsnsEnd : Type 0 where
   Falls : InsnsEnd
   Goes : ℕ → InsnsEnd

@@ -8,8 +8,8 @@ use Rattle.same_behaviour.specs.rv_line.declared.state.RvState.{RvState}
 use Rattle.same_behaviour.specs.rv_line.declared.state.LineEnd.{LineEnd}
 use Rattle.same_behaviour.specs.rv_line.declared.state.LineEnd.TheVariants as ends
 
--- it falls through to what follows, goes to a label with a text, calls the function at an address,
--- or returns
+-- a window of lines falls through to what follows, goes to a label with a text, calls the function
+-- at an address, or returns
 pub data LinesEnd : Type 0 where
   Falls : LinesEnd
   Goes : List ℕ → LinesEnd

@@ -54,7 +54,7 @@ abbrev pub IsSetNamed : Code → List Rtx → Type 0
 IsSetNamed Set (place ∷ parts) = IsNamed place
 IsSetNamed _ parts = Unit {0}
 
--- so it is with the place of each `set`
+-- the place of each `set` is named
 abbrev pub SetsAreNamed : Function → Type 0
 SetsAreNamed f = (index : ℕ) (i : Insn) → slice_get f.insns index ≡ Some i → i.kind ≡ Plain →
     All (λ x. IsSetNamed (head_of x).code (kids_of x)) (effects_of i.pattern)

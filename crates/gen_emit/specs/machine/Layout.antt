@@ -24,7 +24,7 @@ abbrev pub AreStarts : List CondHead → List ℕ → Type 0
 AreStarts heads starts =
     (at : ℕ) → at < length starts → IsBefore heads (at + 1) (slice_index_or starts at 0)
 
--- those of all heads
+-- the starts of all heads
 pub record AreAllStarts (heads : List CondHead) (starts : List ℕ) : Type 0 where
   pub each : AreStarts heads starts
   pub all : length starts ≡ length heads

@@ -75,7 +75,7 @@ step_of plan.Fail = step.Fail
 step_of plan.Done = step.Done
 step_of _ = step.Next
 
--- these tasks are made the next ones
+-- the tasks with new ones, which are made the next
 abbrev pub with_tasks : List Task → List Task → List Task
 with_tasks new tasks = tasks ++ reverse new
 

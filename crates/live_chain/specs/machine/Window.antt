@@ -56,7 +56,8 @@ pub record AreLikeEnds (old new : List Insn) : Type 0 where
   pub flow : flow_behind old ≡ flow_behind new
   pub sets : (reg : ℕ) → has_reg kept_registers reg ≡ true → sets_in old reg ≡ sets_in new reg
 
--- they ask for the same registers, and of the others that are live behind they define the same
+-- two windows that ask for the same registers, and of the others that are live behind define the
+-- same
 pub record AreLikeDemands (old new : List Insn) (behind : ℕ → Bool) : Type 0 where
   pub asks : (reg : ℕ) → asks_for old reg ≡ asks_for new reg
   pub defines : (reg : ℕ) → asks_for old reg ≡ false → behind reg ≡ true →

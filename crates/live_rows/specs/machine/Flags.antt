@@ -25,7 +25,7 @@ IsPending nodes rows flags =
     (q : ℕ) (node : Node) → slice_get nodes q ≡ Some node → is_touched node flags ≡ false →
     IsClosedAt nodes rows q
 
--- the same in the middle of a round, where the places below p are still to be visited
+-- rows in the middle of a round, where the places below p are still to be visited
 pub record IsMidway (nodes : List Node) (rows : List (List ℕ)) (before now : List Bool) (p : ℕ) : Type 0 where
   pub done : (q : ℕ) (node : Node) → p ≤ q → slice_get nodes q ≡ Some node →
       is_touched node now ≡ false → IsClosedAt nodes rows q

@@ -12,7 +12,7 @@ at_place (Some q) rows reg = has_at rows q reg
 abbrev pub after : Node → List (List ℕ) → ℕ → Bool
 after node rows reg = at_place node.first rows reg || at_place node.second rows reg
 
--- and the node does not define it
+-- a place that may follow has the register, and the node does not define it
 abbrev pub passes : Node → List (List ℕ) → ℕ → Bool
 passes node rows reg = after node rows reg && not (defines node reg)
 

@@ -29,13 +29,13 @@ use Rattle.md_pred.specs.machine.Table.{definition_in, kept, kept_holds, root_ho
 abbrev pub predicate_name : Entry → Option (List ℕ)
 predicate_name e = if defines_predicate (head_named e.head) then e.name else None
 
--- this is kept of a definition
+-- what is kept of a definition
 pub record Keeps (nodes : List Node) (form : Result Form Reason) (d : Definition) : Type 0 where
   pub within : IfSome d.root (λ root. root < length nodes)
   pub means : (other : Accepts) (x : Rtx) (m : Mode) →
       kept_holds other x m nodes (Some d) ≡ form_holds other x m form
 
--- and the test alone
+-- what is kept of a test alone
 pub record KeepsTest (nodes : List Node) (test : Option Test) (root : Option ℕ) : Type 0 where
   pub within : IfSome root (λ place. place < length nodes)
   pub means : (other : Accepts) (x : Rtx) (m : Mode) →
@@ -56,7 +56,7 @@ abbrev pub HasNow : List Node → Result Form Reason → Option Definition → T
 HasNow nodes form None = ⊥
 HasNow nodes form (Some d) = Keeps nodes form d
 
--- that which it had, or else this one
+-- a name has the definition that it had, or else a new one
 pub record Defines (old new : Definitions) (name : List ℕ) (form : Result Form Reason) : Type 0 where
   pub rows : take (length old.rows) new.rows ≡ old.rows
   pub others : (other : List ℕ) → bytes_eq name other ≡ false →

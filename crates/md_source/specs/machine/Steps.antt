@@ -21,7 +21,7 @@ TextReads name used text (Err refusal.Depth) =
     (used + length text ≤ most_bytes) × ((place : _) × ReadsAs text (Depth place))
 TextReads name used text (Err e) = ⊥
 
--- the same of the file of a name, if its text is known
+-- what the file of a name reads as, if its text is known
 abbrev pub FileReads : Source → ℕ → List ℕ → Outcome → Type 0
 FileReads source used name outcome =
     (text : List ℕ) → text_of source name ≡ Some text → TextReads name used text outcome

@@ -20,7 +20,7 @@ pub record AreRoots (nodes : List Node) (tests : List Test) (roots : List ℕ) :
   pub means : (accepts : Accepts) (x : Rtx) (m : Mode) →
       map (answer_at (answers accepts x m nodes)) roots ≡ map (test_holds accepts x m) tests
 
--- it never holds
+-- a node that never holds
 abbrev pub IsNever : Node → Type 0
 IsNever node =
     (accepts : Accepts) (x : Rtx) (m : Mode) (before : List Bool) →

@@ -14,7 +14,7 @@ use Rattle.reload_choice.specs.Choice.{plan_if, plan_by}
 abbrev pub asks_in : Asked → Asks
 asks_in a = asks_by a.desc.now a.form a.constraints.now a.alternative
 
--- it is reachable, if four registers suffice
+-- an alternative is reachable, if four registers suffice
 abbrev pub is_reached : Asked → Given → List Fitting → List Bool → List Part → Bool
 is_reached a given fits formed parts =
     is_suited (asks_in a) a.operands.now given fits formed parts && stays_formed given parts

@@ -42,12 +42,12 @@ TaskComes task.Recognise = RecogComes
 TaskComes (task.Show pass) = DumpComes pass
 TaskComes (task.Try function steps args) = EvalComes function steps args
 
--- it names no function among the bytes
+-- a task that names no function among the bytes
 abbrev pub Misuses : Task → List ℕ → Type 0
 Misuses (task.Try function steps args) bytes = IsUnnamed bytes function
 Misuses _ bytes = ⊥
 
--- it names no function of the input
+-- a task that names no function of the input
 abbrev pub MisusesInput : Task → Option (List ℕ) → Type 0
 MisusesInput (task.Try function steps args) input = IfSome input (λ bytes. IsUnnamed bytes function)
 MisusesInput _ input = ⊥

@@ -21,7 +21,8 @@ Stops forms stage depths f place e = RefusesWith e (λ (answer : Answer). (rest 
 abbrev pub SameBehind : Function → ℕ → Function → ℕ → Type 0
 SameBehind f behind g end = length g.insns + behind ≡ length f.insns + end
 
--- so many instructions stand in the place of the one at a place, which follow from one split more
+-- a number of instructions stands in the place of the one at a place, which follow from one split
+-- more
 pub record PlaceReaches (forms : List Entry) (stage : SplitStage) (depth : ℕ) (f : Function) (place : ℕ) (g : Function) (made : ℕ) : Type 0 where
   pub reaches : (rest : List ℕ) (answer : Answer) →
       SplitFrom forms stage (replicate made (depth + 1) ++ rest) g place answer →
@@ -29,7 +30,7 @@ pub record PlaceReaches (forms : List Entry) (stage : SplitStage) (depth : ℕ) 
   pub behind : SameBehind f (place + 1) g (place + made)
   pub shallow : depth < most_splits
 
--- it stays
+-- the instruction at a place stays
 pub record PlaceStays (forms : List Entry) (stage : SplitStage) (depth : ℕ) (f : Function) (place : ℕ) (g : Function) : Type 0 where
   pub reaches : Reaches forms stage (depth ∷ []) f place g (place + 1)
   pub same : g ≡ f
@@ -52,7 +53,7 @@ pub record RunReaches (forms : List Entry) (stage : SplitStage) (count depth : �
   pub reaches : Reaches forms stage (replicate count depth) f place g end
   pub behind : SameBehind f (place + count) g end
 
--- so many instructions of one depth from a place on were split
+-- a number of instructions of one depth from a place on was split
 abbrev pub RunSplits : List Entry → SplitStage → ℕ → ℕ → Function → ℕ → Function →
     Result ℕ PassRefusal → Type 0
 RunSplits forms stage count depth f place g (Ok end) =

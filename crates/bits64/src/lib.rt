@@ -14,7 +14,7 @@ ghost use Rattle.bits64.specs.Words.{DivisionOverflows, quotient_signed, quotien
 ghost use Rattle.bits64.specs.Words.{shifted_left, shifted_right, shifted_arithmetic, less_signed, less_unsigned};
 
 /// How many bits of a word are meant.
-#[derive(Clone, Copy, Debug, PartialEq, Eq, PartialOrd, Ord)]
+#[derive(Clone, Copy, Debug)]
 pub enum Width {
     /// A byte, GCC's `QI`.
     W8,

@@ -50,7 +50,7 @@ impl Source for QuietSource {
 }
 
 /// A sink that takes all, and keeps no more than the count of the bytes. No write fails.
-#[derive(Debug, Drop)]
+#[derive(Drop)]
 pub struct QuietSink {
     count: u64,
 }

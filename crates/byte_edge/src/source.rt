@@ -9,7 +9,7 @@ use std::alloc::{AllocError, Global};
 use thiserror::Error;
 
 /// A read or a write failed.
-#[derive(Clone, Copy, Debug, PartialEq, Eq, Error)]
+#[derive(Clone, Copy, Debug, Error)]
 #[error("a read or a write failed")]
 pub struct Failed;
 
@@ -34,7 +34,7 @@ pub trait Source {
 }
 
 /// Why a source was not read to its end.
-#[derive(Clone, Copy, Debug, PartialEq, Eq, Error)]
+#[derive(Clone, Copy, Debug, Error)]
 pub enum ReadAll {
     /// A read failed.
     #[error("a read failed")]

@@ -5,7 +5,7 @@ ghost use Rattle.c_eval.specs.Value as spec;
 use rtx_tree::Mode;
 
 /// What a part of a condition is read as.
-#[derive(Clone, Copy, Debug, PartialEq, Eq)]
+#[derive(Clone, Copy)]
 pub enum Reading {
     /// A number: the value of an expression.
     Number(i64),

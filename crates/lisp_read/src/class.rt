@@ -4,7 +4,7 @@ ghost use Rattle.lisp_read.specs.Class.{class_of, is_atom_class};
 ghost use Rattle.lisp_read.specs.declared.class.ByteClass.TheVariants as class;
 
 /// A list in parentheses or a vector in brackets.
-#[derive(Clone, Copy, Debug, PartialEq, Eq)]
+#[derive(Clone, Copy, PartialEq, Eq)]
 pub enum Bracket {
     /// A list, in parentheses.
     Round,
@@ -13,7 +13,7 @@ pub enum Bracket {
 }
 
 /// The kind of a byte. Bytes of one class may stand in the same places.
-#[derive(Clone, Copy, Debug, PartialEq, Eq)]
+#[derive(Clone, Copy, PartialEq, Eq)]
 pub enum ByteClass {
     Zero,
     /// A space, a tab, a carriage return or a form feed.

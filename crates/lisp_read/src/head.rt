@@ -6,7 +6,7 @@ ghost use Rattle.lisp_read.specs.Head as spec;
 use rtx_tree::{Code, Mode};
 
 /// The code and the mode that open the list of an expression.
-#[derive(Clone, Copy, Debug, PartialEq, Eq)]
+#[derive(Clone, Copy)]
 pub struct Opening {
     /// What the expression is.
     pub code: Code,

@@ -5,7 +5,7 @@ ghost use Rattle.lisp_read.specs.Positions as spec;
 use rtx_tree::{Class, HeadMode, Mode, VIRTUAL_STACK_VARS};
 
 /// Where an expression stands.
-#[derive(Clone, Copy, Debug, PartialEq, Eq)]
+#[derive(Clone, Copy)]
 pub enum Position {
     /// By itself: any expression but those of descriptions.
     Top,

@@ -15,7 +15,7 @@ use std::alloc::Global;
 use thiserror::Error;
 
 /// Why bytes were not read as trees.
-#[derive(Clone, Copy, Debug, PartialEq, Eq, Error)]
+#[derive(Clone, Copy, Debug, Error)]
 pub enum ReadRefusal {
     /// The bytes are no text. The place ends the longest prefix of them that begins a text.
     #[error("syntax")]

@@ -18,7 +18,7 @@ use std::mem;
 const DEPTH: usize = 200;
 
 /// Why a byte was not read.
-#[derive(Clone, Copy, Debug, PartialEq, Eq)]
+#[derive(Clone, Copy)]
 pub enum StepError {
     /// No text goes on so.
     Syntax,

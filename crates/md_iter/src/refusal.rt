@@ -3,7 +3,7 @@ use plain_data::Memory;
 use thiserror::Error;
 
 /// Why a description was not expanded.
-#[derive(Clone, Copy, Debug, PartialEq, Eq, Error)]
+#[derive(Clone, Copy, Debug, Error)]
 pub enum IterRefusal {
     /// There are more than 20,000 forms. This tree, counted from 0, is the one that passes that
     /// number.

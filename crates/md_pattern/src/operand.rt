@@ -9,7 +9,7 @@ use rtx_tree::Name;
 use std::alloc::Global;
 
 /// The constraint that a pattern gives one of its operands.
-#[derive(Debug, Drop)]
+#[derive(Drop)]
 pub struct OperandText {
     /// The operand's number.
     pub operand: u32,

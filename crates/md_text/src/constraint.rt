@@ -12,7 +12,7 @@ use std::alloc::Global;
 use text_words::all_blank;
 
 /// What a letter of the manual admits.
-#[derive(Clone, Copy, Debug, PartialEq, Eq)]
+#[derive(Clone, Copy, Debug)]
 pub enum Letter {
     /// `r`: a register.
     Register,
@@ -33,7 +33,7 @@ pub enum Letter {
 }
 
 /// What an alternative admits. An operand has to meet one of the members.
-#[derive(Debug, Drop)]
+#[derive(Drop)]
 pub enum Member {
     /// What the letter says.
     Letter(Letter),
@@ -45,7 +45,7 @@ pub enum Member {
 
 /// What an instruction does with an operand, as its constraint is marked. The mark stands in the
 /// first alternative, and is meant for all.
-#[derive(Clone, Copy, Debug, PartialEq, Eq)]
+#[derive(Clone, Copy)]
 pub enum Direction {
     /// The operand is read: no mark.
     Input,
@@ -56,7 +56,7 @@ pub enum Direction {
 }
 
 /// One alternative of a constraint. One without members accepts anything.
-#[derive(Debug, Drop)]
+#[derive(Drop)]
 pub struct Alternative {
     /// The mark `=` or `+`.
     pub direction: Direction,

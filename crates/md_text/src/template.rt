@@ -10,7 +10,7 @@ use rtx_tree::Name;
 use std::alloc::Global;
 
 /// How an operand is printed.
-#[derive(Clone, Copy, Debug, PartialEq, Eq)]
+#[derive(Clone, Copy, Debug)]
 pub enum Print {
     /// `%0`: as what it is.
     Plain,
@@ -31,7 +31,7 @@ pub enum Print {
 }
 
 /// A piece of a line.
-#[derive(Clone, Copy, Debug, PartialEq, Eq)]
+#[derive(Clone, Copy)]
 pub enum Piece {
     /// A byte as it is.
     Byte(u8),
@@ -45,7 +45,7 @@ pub enum Piece {
 pub type Line = Items<Piece>;
 
 /// What a form is printed as.
-#[derive(Debug, Drop)]
+#[derive(Drop)]
 pub enum Template {
     /// `#`: it isn't printed, but always split.
     Split,
@@ -56,7 +56,7 @@ pub enum Template {
 }
 
 /// What the output part of a form is.
-#[derive(Debug, Drop)]
+#[derive(Drop)]
 pub enum Reading {
     Template(Template),
     /// C code, or C code for one of the alternatives.

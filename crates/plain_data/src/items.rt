@@ -9,7 +9,7 @@ use std::marker::Model;
 use std::mem;
 
 /// A growing list. Contracts see it as the list of its elements, whatever its capacity and address.
-#[derive(Debug, Drop)]
+#[derive(Drop)]
 pub struct Items<T> {
     vec: Vec<T>,
 }

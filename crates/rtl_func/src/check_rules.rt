@@ -16,7 +16,7 @@ use std::alloc::Global;
 use thiserror::Error;
 
 /// Why a function is refused.
-#[derive(Clone, Copy, Debug, PartialEq, Eq, Error)]
+#[derive(Clone, Copy, Debug, Error)]
 pub enum CheckRefusal {
     /// The lowest uid at which a rule fails, and the lowest rule that fails there.
     #[error("ill formed")]

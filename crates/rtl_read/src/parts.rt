@@ -2,7 +2,7 @@
 use rtx_tree::{Insns, Mode};
 
 /// The register of a function's result.
-#[derive(Clone, Copy, Debug, PartialEq, Eq)]
+#[derive(Clone, Copy)]
 pub struct Returned {
     /// The mode of the result.
     pub mode: Mode,

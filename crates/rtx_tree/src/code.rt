@@ -7,7 +7,7 @@ ghost use Rattle.rtx_tree.specs.machine.Row.{row_view};
 use crate::class::Class;
 
 /// A machine mode: the width of a value. `Void` stands where an expression has none.
-#[derive(Clone, Copy, Debug, PartialEq, Eq)]
+#[derive(Clone, Copy, Debug)]
 pub enum Mode {
     /// No mode.
     Void,
@@ -22,7 +22,7 @@ pub enum Mode {
 }
 
 /// The code at the head of an expression: what it is.
-#[derive(Clone, Copy, Debug, PartialEq, Eq)]
+#[derive(Clone, Copy, Debug)]
 pub enum Code {
     /// A register.
     Reg,

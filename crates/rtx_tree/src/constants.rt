@@ -3,7 +3,7 @@ use crate::name::Name;
 use plain_data::Items;
 
 /// A name that stands for a number.
-#[derive(Debug, Drop)]
+#[derive(Drop)]
 pub struct Constant {
     /// The name, as it stands in the text.
     pub name: Name,

@@ -9,7 +9,7 @@ use plain_data::Items;
 use std::alloc::Global;
 
 /// What stands in a place of a function's chain.
-#[derive(Clone, Copy, Debug, PartialEq, Eq)]
+#[derive(Clone, Copy, Debug)]
 pub enum Kind {
     /// An instruction that goes on to the next.
     Plain,
@@ -24,7 +24,7 @@ pub enum Kind {
 }
 
 /// A register that a call's target reads.
-#[derive(Clone, Copy, Debug, PartialEq, Eq)]
+#[derive(Clone, Copy)]
 pub struct ArgUse {
     /// The hard register's number.
     pub reg: u8,

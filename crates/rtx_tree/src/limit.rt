@@ -6,7 +6,7 @@ ghost use Rattle.rtx_tree.specs.Limit.{limit_name};
 pub const MOST_BYTES: usize = 16_777_216;
 
 /// A quantity that has a limit.
-#[derive(Clone, Copy, Debug, PartialEq, Eq)]
+#[derive(Clone, Copy, Debug)]
 pub enum Limit {
     /// Bytes of a text.
     Text,

@@ -1,7 +1,7 @@
 //! Places in a text.
 
 /// Where a byte stands in a text. Lines, columns and offsets are counted in bytes.
-#[derive(Clone, Copy, Debug, PartialEq, Eq)]
+#[derive(Clone, Copy, Debug)]
 pub struct Place {
     /// The line, from 1.
     pub line: u32,

@@ -1,7 +1,7 @@
 //! The operators of terms.
 
 /// The operator of a term, in the order of terms.
-#[derive(Clone, Copy, Debug, PartialEq, Eq)]
+#[derive(Clone, Copy)]
 pub enum Head {
     /// A register, by its number.
     Reg,
@@ -54,7 +54,7 @@ pub enum Head {
 }
 
 /// An operator whose parts may stand in any order and grouping.
-#[derive(Clone, Copy, Debug, PartialEq, Eq)]
+#[derive(Clone, Copy)]
 pub enum Joint {
     /// A product.
     Mul,
@@ -67,7 +67,7 @@ pub enum Joint {
 }
 
 /// With what an extension fills the bits above.
-#[derive(Clone, Copy, Debug, PartialEq, Eq)]
+#[derive(Clone, Copy, Debug)]
 pub enum Extension {
     /// With zeros: the unsigned number stays.
     Zero,
@@ -76,7 +76,7 @@ pub enum Extension {
 }
 
 /// A comparison of two numbers; those that end in `u` are of unsigned numbers.
-#[derive(Clone, Copy, Debug, PartialEq, Eq)]
+#[derive(Clone, Copy)]
 pub enum Relation {
     Eq,
     Ne,

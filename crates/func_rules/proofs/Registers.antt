@@ -1,53 +1,21 @@
--- Which registers an instruction that keeps the rules uses and defines: of the hard ones a0 to a7 alone, and so none that a function
--- preserves; and none above 31 where none stands in its pattern.
-use Rattle.std.proofs.Common.{◌≡◌, ℕ, ◌<◌, Bool, true, false, ◌||◌, ◌&&◌, ◌==◌, not, List, [], ◌∷◌, map, refl, sym, ap, subst, ◌∙◌, inl, inr, arith}
-use Rattle.std.specs.Prelude.{ℤ, pos, nat_le, nat_lt}
+-- Registers above 31: none is an argument, and one that stands in a tree has no home.
+use Rattle.std.proofs.Common.{◌≡◌, ℕ, ◌<◌, Bool, true, false, ◌||◌, ◌==◌, List, [], ◌∷◌, map, refl, sym, ap, subst, ◌∙◌, inl, inr, arith}
+use Rattle.std.specs.Prelude.{ℤ, pos, nat_le}
 use Rattle.std.specs.List.{list_any, list_all, AllByRecursion}
-use Rattle.std.proofs.lemmas.Bool.{false≢true, false_from_ne_true, and_parts, or_cases, or_from, or_left, or_right, and_right, eqb-true, leb-true, lt-ltb, ltb-true}
+use Rattle.std.proofs.lemmas.Bool.{false≢true, and_parts, or_cases, or_left, or_right, eqb-true, leb-true, lt-ltb}
 use Rattle.std.proofs.lemmas.Bool.Decides.{Decides-int_eq}
 use Rattle.rtx_tree.specs.declared.code.Code.{Code}
 use Rattle.rtx_tree.specs.declared.code.Code.TheVariants.{Reg}
-use Rattle.rtx_tree.specs.declared.function.ArgUse.{ArgUse}
-use Rattle.rtx_tree.specs.declared.function.Insn.{Insn}
 use Rattle.rtx_tree.specs.declared.tree.Rtx.{Rtx}
 use Rattle.rtx_tree.specs.declared.tree.Rtx.TheFolds.{fold_out-Rtx}
 use Rattle.rtx_tree.specs.RegSet.{has_reg}
 use Rattle.rtx_tree.specs.Tree.{head_of, kids_of, is_reg_numbered, mentions_reg}
 use Rattle.rtx_tree.proofs.Trees.{mentions_out}
-use Rattle.rtl_func.specs.Calls as rules
-use Rattle.rtl_func.specs.Calls.{is_argument, use_is_argument, argument_registers}
-use Rattle.rv_regs.specs.Registers.{kept_registers}
-use Rattle.reg_uses.specs.Effects.{pattern_defines, pattern_uses}
-use Rattle.reg_uses.specs.Uses.{has_argument, insn_uses, insn_defines}
-use Rattle.window_same.specs.window_mean.Uses.{window_uses}
+use Rattle.rtl_func.specs.Calls.{is_argument}
 use Rattle.form_needs.specs.Needs.{is_homeless, homeless_step, names_homeless}
 use Rattle.func_input.proofs.rtl_print.TreeText.{rtx_induction}
-use Rattle.func_rules.proofs.Nodes.{all_pass}
-use Rattle.func_rules.proofs.Mentions.{defined_stands, used_stands}
-use Rattle.func_rules.proofs.Arguments.{stands_argument}
 
--- ---- hard registers
-
-pattern_keeps : (pattern : Rtx) (uses : List ArgUse) → argument_registers pattern uses ≡ true → all_pass rules.has_argument pattern ≡ true
-pattern_keeps pattern uses keep = (and_parts (all_pass rules.has_argument pattern) (list_all use_is_argument uses) keep).0
-
--- a hard register that the pattern defines is one of a0 to a7
-pub defines_argument : (pattern : Rtx) (uses : List ArgUse) → argument_registers pattern uses ≡ true → (reg : ℕ) → reg < 32 →
-    pattern_defines reg pattern ≡ true → is_argument reg ≡ true
-defines_argument pattern uses keep reg hard defines =
-    stands_argument reg hard pattern (pattern_keeps pattern uses keep) (defined_stands reg pattern defines)
-
--- and so is one that it uses
-pub uses_argument : (pattern : Rtx) (uses : List ArgUse) → argument_registers pattern uses ≡ true → (reg : ℕ) → reg < 32 →
-    pattern_uses reg pattern ≡ true → is_argument reg ≡ true
-uses_argument pattern uses keep reg hard used =
-    stands_argument reg hard pattern (pattern_keeps pattern uses keep) (used_stands reg pattern used)
-
--- ---- registers that a function preserves
-
--- a hard register that is no argument
-abbrev is_other : ℕ → Bool
-is_other reg = nat_lt reg 32 && not (is_argument reg)
+-- ---- registers of a list
 
 pub one_of : (test : ℕ → Bool) (regs : List ℕ) → list_all test regs ≡ true → (reg : ℕ) → has_reg regs reg ≡ true → test reg ≡ true
 one_of test [] all reg is = absurd (false≢true is)
@@ -57,17 +25,6 @@ one_of test (r ∷ regs) all reg is =
       | inl here ↦ subst (λ n. test n ≡ true) (eqb-true r reg here) both.0
       | inr more ↦ one_of test regs both.1 reg more
     ]
-
-turned : (b : Bool) → not b ≡ true → b ≡ true → ⊥
-turned true is here = false≢true is
-turned false is here = false≢true here
-
--- none of ra, sp and s0 to s11 is defined
-pub defines_no_kept : (pattern : Rtx) (uses : List ArgUse) → argument_registers pattern uses ≡ true → (reg : ℕ) →
-    has_reg kept_registers reg ≡ true → pattern_defines reg pattern ≡ false
-defines_no_kept pattern uses keep reg kept =
-    let other = and_parts (nat_lt reg 32) (not (is_argument reg)) (one_of is_other kept_registers refl reg kept) in
-    false_from_ne_true (pattern_defines reg pattern) (λ defines. turned (is_argument reg) other.1 (defines_argument pattern uses keep reg (ltb-true reg 32 other.0) defines))
 
 -- ---- registers above 31
 
@@ -110,22 +67,3 @@ module _ (reg : ℕ) (above : 31 < reg) where
 
   pub is_no_argument : is_argument reg ≡ true → ⊥
   is_no_argument is = let le = leb-true reg 17 (and_parts (nat_le 10 reg) (nat_le reg 17) is).1 in omega (arith, le, above)
-
-  none_handed : (uses : List ArgUse) → list_all use_is_argument uses ≡ true → has_argument reg uses ≡ true → ⊥
-  none_handed [] all is = false≢true is
-  none_handed (u ∷ uses) all is =
-      let both = and_parts (use_is_argument u) (list_all use_is_argument uses) all in
-      elim (or_cases (u.reg == reg) (has_argument reg uses) is) [
-        | inl here ↦ is_no_argument (subst (λ r. is_argument r ≡ true) (eqb-true u.reg reg here) both.0)
-        | inr more ↦ none_handed uses both.1 more
-      ]
-
-  -- an instruction in whose pattern none stands uses none
-  pub uses_none : (i : Insn) → argument_registers i.pattern i.uses ≡ true → names_homeless i.pattern ≡ false → insn_uses i reg ≡ false
-  uses_none i keep homes = or_from (pattern_uses reg i.pattern) (has_argument reg i.uses)
-      (false_from_ne_true (pattern_uses reg i.pattern) (λ used. false≢true (sym homes ∙ stands_homeless i.pattern (used_stands reg i.pattern used))))
-      (false_from_ne_true (has_argument reg i.uses) (none_handed i.uses (and_parts (all_pass rules.has_argument i.pattern) (list_all use_is_argument i.uses) keep).1))
-
-  pub window_uses_none : (i : Insn) → argument_registers i.pattern i.uses ≡ true → names_homeless i.pattern ≡ false →
-      window_uses (i ∷ []) reg ≡ false
-  window_uses_none i keep homes = or_from (insn_uses i reg) _ (uses_none i keep homes) (and_right (not (insn_defines i reg)) false refl)

@@ -1,13 +1,15 @@
 -- Wrapping a quotient, and what quotient and remainder make together.
-use Rattle.std.proofs.Common.{◌≡◌, ◌<◌, ◌≤◌, ◌-◌, ◌^◌, ◌/◌, ◌%◌, ◌==◌, ℕ, zero, suc, ℤ, pos, negsuc, neg_ℤ, ◌+ℤ◌, ◌*ℤ◌, w64, to_z, of_z, arith, unsigned_abs, int_div, int_rem, FitsSigned, Bool, true, false, cond, nat_lt, if◌then◌else◌, refl, ap, ◌∙◌, inl, inr}
+use Rattle.std.proofs.Common.{◌≡◌, ◌<◌, ◌≤◌, ◌-◌, ◌^◌, ◌/◌, ◌%◌, ◌==◌, ℕ, zero, suc, ℤ, pos, negsuc, neg_ℤ, ◌+ℤ◌, ◌*ℤ◌, w64, to_z, of_z, arith, unsigned_abs, int_div, int_rem, FitsSigned, Bool, true, false, cond, nat_lt, if◌then◌else◌, refl, ap, ◌∙◌, inl, inr, sym}
 use borrow.Author.Tests.{eqb-true}
+use Rattle.std.specs.Prelude.{int_lt}
+use Rattle.std.proofs.lemmas.Bool.{false≢true}
 use Rattle.std.proofs.Math.Nat.{div-le_self, mod-le, mod-mod, eq-or-lt_of_le}
 use Rattle.std.proofs.lemmas.Nat.{div_below}
 use Rattle.std.proofs.lemmas.Int.{quot-rem}
 use Rattle.bits64.specs.declared.Width.{Width}
 use Rattle.bits64.specs.declared.Width.TheVariants.{W8, W16, W32, W64}
 use Rattle.bits64.specs.Words.{bits_of, low, signed, wrapped, quotient_signed, remainder_signed, DivisionOverflows}
-use Rattle.bits64.proofs.Readings.{LiesWithin, signed-wrapped, signed-fits}
+use Rattle.bits64.proofs.Readings.{LiesWithin, signed-wrapped, signed-fits, by_half, low-fits}
 
 -- a number that was wrapped to 64 bits wraps to the same narrower number
 pub wrapped-casts : (w : Width) (z : ℤ) → unsigned_abs z < 2 ^ 64 → wrapped w (to_z w64 (of_z w64 z)) ≡ wrapped w z
@@ -110,3 +112,36 @@ dividend_of w a b no_overflow = go (low w b == 0) refl
 pub dividend_is : (w : Width) (a b r : ℕ) → r ≡ remainder_signed w a b → (DivisionOverflows w a b → ⊥) → signed w (quotient_signed w a b) *ℤ signed w b +ℤ signed w r ≡ signed w a
 dividend_is w a b r e no_overflow =
     ap (λ k. signed w (quotient_signed w a b) *ℤ signed w b +ℤ signed w k) e ∙ dividend_of w a b no_overflow
+
+-- ---- the least number divided by -1 gives itself
+
+least_wraps : (w : Width) → wrapped w (int_div (neg_ℤ (pos (2 ^ (bits_of w - 1)))) (neg_ℤ (pos 1))) ≡ wrapped w (neg_ℤ (pos (2 ^ (bits_of w - 1))))
+least_wraps W8 = refl
+least_wraps W16 = refl
+least_wraps W32 = refl
+least_wraps W64 = refl
+
+low_back : (w : Width) (n : ℕ) → n < 2 ^ bits_of w → wrapped w (negsuc (2 ^ bits_of w - 1 - n)) ≡ n
+low_back W8 n f = grind arith
+low_back W16 n f = grind arith
+low_back W32 n f = grind arith
+low_back W64 n f = grind arith
+
+wrapped-signed : (w : Width) (a : ℕ) → wrapped w (signed w a) ≡ low w a
+wrapped-signed w a = by_half (λ z. wrapped w z ≡ low w a) w a (λ h. mod-mod a (2 ^ bits_of w)) (λ h. low_back w (low w a) (low-fits w a))
+
+overflow_of : (w : Width) (a b : ℕ) → DivisionOverflows w a b → quotient_signed w a b ≡ low w a
+overflow_of w a b (least, minus_one) = go (low w b == 0) refl
+  where
+    go : (t : Bool) → (low w b == 0) ≡ t → cond t (2 ^ bits_of w - 1) (wrapped w (int_div (signed w a) (signed w b))) ≡ low w a
+    go true e = absurd (false≢true (ap (λ z. int_lt z (pos 0)) (sym (signed-zero w b (eqb-true _ _ e)) ∙ minus_one)))
+    go false e =
+        ap (λ z. wrapped w (int_div z (signed w b))) least
+        ∙ ap (λ z. wrapped w (int_div (neg_ℤ (pos (2 ^ (bits_of w - 1)))) z)) minus_one
+        ∙ least_wraps w
+        ∙ sym (ap (wrapped w) least)
+        ∙ wrapped-signed w a
+
+-- the same of a number that is the quotient
+pub overflow_is : (w : Width) (a b q : ℕ) → q ≡ quotient_signed w a b → DivisionOverflows w a b → q ≡ low w a
+overflow_is w a b q e overflows = e ∙ overflow_of w a b overflows

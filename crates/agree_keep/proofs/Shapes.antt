@@ -4,7 +4,8 @@ use Rattle.rtx_tree.specs.declared.function.Insn.{Insn}
 use Rattle.rtx_tree.specs.declared.function.Kind.{Kind}
 use Rattle.rtx_tree.specs.declared.function.Kind.TheVariants as kind
 use Rattle.reg_uses.specs.Uses.{is_return}
-use Rattle.window_keep.specs.Same.{is_plain, is_label, leads_last}
+use Rattle.rtx_tree.specs.Patterns.{is_label_kind}
+use Rattle.window_keep.specs.Same.{is_plain, leads_last}
 use Rattle.agree_mean.specs.sym_state.State.{State, Runs, start}
 use Rattle.agree_mean.specs.sym_insns.Effects.{has_target}
 use Rattle.agree_mean.specs.sym_insns.Run.{run_from, run}
@@ -12,7 +13,7 @@ use Rattle.agree_mean.specs.sym_insns.Shape.{is_shaped, fits_kind, bad_from, bad
 use Rattle.agree_mean.proofs.sym_mean.Bools.{both_of}
 use Rattle.agree_mean.proofs.sym_mean.Ways.{fits_all, does_run}
 
-last_none : (k : Kind) (i : Insn) (last : Bool) → fits_kind k i last ≡ true → not (is_label k) ≡ true
+last_none : (k : Kind) (i : Insn) (last : Bool) → fits_kind k i last ≡ true → not (is_label_kind k) ≡ true
 last_none kind.Plain i last fits = refl
 last_none kind.Jump i last fits = refl
 last_none kind.Call i last fits = refl

@@ -129,3 +129,42 @@ fn calls_without_a_reply_are_told(rt: HostRuntime) {
     };
     assert!(rt; text.as_slice() == b"rtl: asked, calls 0\ncode: asked, calls 0\n".as_slice());
 }
+
+/// Functions of different names but for the last, which has the name of the first.
+fn many_functions(alloc: Global, count: u32) -> Told {
+    let mut text = Told::new(alloc);
+    for number in 1..count {
+        text.text("(function \"f");
+        text.show(number);
+        text.text("\" (insn-chain))");
+    }
+    text.text("(function \"f1\" (insn-chain))");
+    text
+}
+
+#[test]
+fn names_are_looked_up_at_once(rt: HostRuntime) {
+    let text = many_functions(rt.alloc(), 32_000);
+    assert!(rt; text.is_whole());
+    assert!(rt; is_assembled(rt.alloc(), &text.out, 2, "rtlc: f1:0: rule 10\n"));
+}
+
+/// A `parallel` of clobbers of different pseudo registers, and at the end the first once more.
+fn long_parallel(alloc: Global, count: u32) -> Told {
+    let mut text = Told::new(alloc);
+    text.text("(function \"p\" (insn-chain (cinsn 5 (parallel [");
+    for number in 0..count {
+        text.text("(clobber (reg:DI <");
+        text.show(number);
+        text.text(">)) ");
+    }
+    text.text("(clobber (reg:DI <0>))]))))");
+    text
+}
+
+#[test]
+fn registers_of_a_parallel_are_looked_up_at_once(rt: HostRuntime) {
+    let text = long_parallel(rt.alloc(), 10_000);
+    assert!(rt; text.is_whole());
+    assert!(rt; is_assembled(rt.alloc(), &text.out, 2, "rtlc: p:5: rule 8\n"));
+}

@@ -6,10 +6,11 @@
 -- own steps.
 use Rattle.std.specs.Prelude.{◌≡◌, ℕ, ◌≤◌, ◌&&◌, ◌||◌, not, ◌==◌, Bool, true, false, List, [], ◌∷◌, Some}
 use Rattle.bits64.specs.declared.Width.{Width}
+use Rattle.rtx_tree.specs.Patterns.{is_label_kind}
 use Rattle.rtx_tree.specs.Registers.{is_call_used, virtual_stack_vars}
 use Rattle.rtx_tree.specs.declared.function.Insn.{Insn}
 use Rattle.rtx_tree.specs.declared.function.Kind.{Kind}
-use Rattle.rtx_tree.specs.declared.function.Kind.TheVariants.{Plain, Call, Label, Barrier}
+use Rattle.rtx_tree.specs.declared.function.Kind.TheVariants.{Plain, Barrier}
 use Rattle.rtx_tree.specs.declared.machine.RangeAt.{RangeAt}
 use Rattle.rtx_tree.specs.declared.machine.SymbolAt.{SymbolAt}
 use Rattle.rtx_tree.specs.declared.memories.MemByte.{MemByte}
@@ -78,18 +79,10 @@ is_plain Plain = true
 is_plain Barrier = true
 is_plain _ = false
 
-abbrev pub is_label : Kind → Bool
-is_label Label = true
-is_label _ = false
-
-abbrev pub is_call : Kind → Bool
-is_call Call = true
-is_call _ = false
-
 -- a window that leads on from its last alone, and holds no label
 abbrev pub leads_last : List Insn → Bool
 leads_last [] = true
-leads_last (i ∷ []) = not (is_label i.kind)
+leads_last (i ∷ []) = not (is_label_kind i.kind)
 leads_last (i ∷ j ∷ insns) = is_plain i.kind && leads_last (j ∷ insns)
 
 -- Instructions can stand in the place of a window: neither holds a label, each leads on from its

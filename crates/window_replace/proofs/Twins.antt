@@ -6,7 +6,6 @@ use Rattle.rtx_tree.specs.declared.function.Function.{Function}
 use Rattle.rtx_tree.specs.declared.function.Insn.{Insn}
 use Rattle.rtx_tree.specs.declared.function.Kind.{Kind}
 use Rattle.rtx_tree.specs.declared.function.Kind.TheVariants as kind
-use Rattle.window_keep.specs.Same as keep
 use Rattle.window_keep.specs.Same.{is_plain, leads_last}
 use Rattle.window_replace.specs.Replaced as parts
 use Rattle.window_replace.specs.Replaced.{AreReplaced}
@@ -21,7 +20,7 @@ plain_no_label kind.Jump is = absurd (let no : ⊥ = cc in no)
 plain_no_label kind.Call is = absurd (let no : ⊥ = cc in no)
 plain_no_label kind.Label is = absurd (let no : ⊥ = cc in no)
 
-last_no_label : (k : Kind) → not (keep.is_label k) ≡ true → is_label_kind k ≡ false
+last_no_label : (k : Kind) → not (is_label_kind k) ≡ true → is_label_kind k ≡ false
 last_no_label kind.Plain is = refl
 last_no_label kind.Barrier is = refl
 last_no_label kind.Jump is = refl

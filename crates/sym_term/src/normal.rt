@@ -109,25 +109,7 @@ fn build_one(
         Head::Sext => extended(alloc, &AtWidth { width: w }, Extension::Sign, w, &a),
         Head::Eq => equals_zero(alloc, w, &a),
         Head::Load => loaded(alloc, stores, w, number, a),
-        Head::Reg
-        | Head::Sym
-        | Head::Sum
-        | Head::Mul
-        | Head::Mulh
-        | Head::Mulhu
-        | Head::Mulhsu
-        | Head::Div
-        | Head::Udiv
-        | Head::Rem
-        | Head::Urem
-        | Head::And
-        | Head::Ior
-        | Head::Xor
-        | Head::Shl
-        | Head::Shr
-        | Head::Sar
-        | Head::Lt
-        | Head::Ltu => one_node(alloc, head, w, number, name, a),
+        _ => one_node(alloc, head, w, number, name, a),
     }
 }
 
@@ -166,18 +148,7 @@ fn build_two(
         Head::Sar => shifted(alloc, head, w, a, &b),
         Head::Lt => less_than(alloc, Extension::Sign, w, &a, &b),
         Head::Ltu => less_than(alloc, Extension::Zero, w, &a, &b),
-        Head::Reg
-        | Head::Sym
-        | Head::Sum
-        | Head::Mul
-        | Head::And
-        | Head::Ior
-        | Head::Xor
-        | Head::Trunc
-        | Head::Zext
-        | Head::Sext
-        | Head::Eq
-        | Head::Load => two_node(alloc, head, w, number, name, a, b),
+        _ => two_node(alloc, head, w, number, name, a, b),
     }
 }
 
@@ -239,26 +210,7 @@ pub fn build(
         Head::And => made_at(alloc, w, Joint::And, parts.as_slice()),
         Head::Ior => made_at(alloc, w, Joint::Ior, parts.as_slice()),
         Head::Xor => made_at(alloc, w, Joint::Xor, parts.as_slice()),
-        Head::Reg
-        | Head::Sym
-        | Head::Sum
-        | Head::Mulh
-        | Head::Mulhu
-        | Head::Mulhsu
-        | Head::Div
-        | Head::Udiv
-        | Head::Rem
-        | Head::Urem
-        | Head::Shl
-        | Head::Shr
-        | Head::Sar
-        | Head::Trunc
-        | Head::Zext
-        | Head::Sext
-        | Head::Lt
-        | Head::Ltu
-        | Head::Eq
-        | Head::Load => build_parts(alloc, stores, head, w, number, name, parts),
+        _ => build_parts(alloc, stores, head, w, number, name, parts),
     }
 }
 

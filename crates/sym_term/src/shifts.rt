@@ -195,27 +195,7 @@ fn by_nonzero(alloc: Global, head: Head, w: Width, a: Term, k: u64) -> Result<Te
                 count,
             )
         }
-        Head::Reg
-        | Head::Sym
-        | Head::Sum
-        | Head::Mul
-        | Head::Mulh
-        | Head::Mulhu
-        | Head::Mulhsu
-        | Head::Div
-        | Head::Udiv
-        | Head::Rem
-        | Head::Urem
-        | Head::And
-        | Head::Ior
-        | Head::Xor
-        | Head::Trunc
-        | Head::Zext
-        | Head::Sext
-        | Head::Lt
-        | Head::Ltu
-        | Head::Eq
-        | Head::Load => two_parts(alloc, head, w, a, count),
+        _ => two_parts(alloc, head, w, a, count),
     }
 }
 

@@ -100,23 +100,7 @@ pub fn cut<M: Makes>(alloc: Global, makes: &M, m: Width, t: &Term) -> Result<Ter
                 [] => one_copy(alloc, Head::Trunc, m, t),
                 [_p, _q, ..] => one_copy(alloc, Head::Trunc, m, t),
             },
-            Head::Reg
-            | Head::Sym
-            | Head::Sum
-            | Head::Mulh
-            | Head::Mulhu
-            | Head::Mulhsu
-            | Head::Div
-            | Head::Udiv
-            | Head::Rem
-            | Head::Urem
-            | Head::Shl
-            | Head::Shr
-            | Head::Sar
-            | Head::Lt
-            | Head::Ltu
-            | Head::Eq
-            | Head::Load => one_copy(alloc, Head::Trunc, m, t),
+            _ => one_copy(alloc, Head::Trunc, m, t),
         },
     }
 }

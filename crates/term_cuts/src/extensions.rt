@@ -135,25 +135,7 @@ pub fn extended<M: Makes>(
                 [] => extension(alloc, e, m, t),
                 [_p, _q, ..] => extension(alloc, e, m, t),
             },
-            Head::Reg
-            | Head::Sym
-            | Head::Sum
-            | Head::Mul
-            | Head::Mulh
-            | Head::Mulhu
-            | Head::Mulhsu
-            | Head::Div
-            | Head::Udiv
-            | Head::Rem
-            | Head::Urem
-            | Head::Shl
-            | Head::Shr
-            | Head::Sar
-            | Head::Trunc
-            | Head::Lt
-            | Head::Ltu
-            | Head::Eq
-            | Head::Load => extension(alloc, e, m, t),
+            _ => extension(alloc, e, m, t),
         },
     }
 }

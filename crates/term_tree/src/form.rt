@@ -144,15 +144,7 @@ fn does_take(head: Head, w: Width, parts: &[Term]) -> bool
         Head::Zext | Head::Sext => is_one_narrower(w, parts),
         Head::Eq => is_one(w, parts),
         Head::Load => is_one(Width::W64, parts),
-        Head::Mulh
-        | Head::Mulhu
-        | Head::Mulhsu
-        | Head::Div
-        | Head::Udiv
-        | Head::Rem
-        | Head::Urem
-        | Head::Lt
-        | Head::Ltu => are_two(w, parts),
+        _ => are_two(w, parts),
     }
 }
 

@@ -61,18 +61,7 @@ pub fn binary_number(head: Head, w: Width, x: u64, y: u64) -> u64
         Head::Sar => sar(x, y, w),
         Head::Lt => truth(lt(x, y, w)),
         Head::Ltu => truth(ltu(x, y, w)),
-        Head::Reg
-        | Head::Sym
-        | Head::Sum
-        | Head::Mul
-        | Head::And
-        | Head::Ior
-        | Head::Xor
-        | Head::Trunc
-        | Head::Zext
-        | Head::Sext
-        | Head::Eq
-        | Head::Load => 0,
+        _ => 0,
     }
 }
 

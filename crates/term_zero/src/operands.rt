@@ -66,28 +66,7 @@ fn extension_in(w: Width, t: &Term) -> Option<Extended>
                 [] => None,
                 [_p, _q, ..] => None,
             },
-            Head::Reg
-            | Head::Sym
-            | Head::Sum
-            | Head::Mul
-            | Head::Mulh
-            | Head::Mulhu
-            | Head::Mulhsu
-            | Head::Div
-            | Head::Udiv
-            | Head::Rem
-            | Head::Urem
-            | Head::And
-            | Head::Ior
-            | Head::Xor
-            | Head::Shl
-            | Head::Shr
-            | Head::Sar
-            | Head::Trunc
-            | Head::Lt
-            | Head::Ltu
-            | Head::Eq
-            | Head::Load => None,
+            _ => None,
         },
     }
 }
@@ -165,28 +144,7 @@ fn operand_in(alloc: Global, x: Extended, w: Width, t: &Term) -> Result<Option<T
                 [] => Ok(None),
                 [_p, _q, ..] => Ok(None),
             },
-            Head::Reg
-            | Head::Sym
-            | Head::Sum
-            | Head::Mul
-            | Head::Mulh
-            | Head::Mulhu
-            | Head::Mulhsu
-            | Head::Div
-            | Head::Udiv
-            | Head::Rem
-            | Head::Urem
-            | Head::And
-            | Head::Ior
-            | Head::Xor
-            | Head::Shl
-            | Head::Shr
-            | Head::Sar
-            | Head::Trunc
-            | Head::Lt
-            | Head::Ltu
-            | Head::Eq
-            | Head::Load => Ok(None),
+            _ => Ok(None),
         },
     }
 }

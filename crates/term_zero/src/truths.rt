@@ -53,25 +53,7 @@ pub fn is_truth(t: &Term) -> bool
                 [_p] => false,
                 [_p, _q, _r, ..] => false,
             },
-            Head::Reg
-            | Head::Sym
-            | Head::Sum
-            | Head::Mul
-            | Head::Mulh
-            | Head::Mulhu
-            | Head::Mulhsu
-            | Head::Div
-            | Head::Udiv
-            | Head::Rem
-            | Head::Urem
-            | Head::And
-            | Head::Ior
-            | Head::Shl
-            | Head::Shr
-            | Head::Sar
-            | Head::Trunc
-            | Head::Sext
-            | Head::Load => false,
+            _ => false,
         },
     }
 }

@@ -235,29 +235,7 @@ fn xor_parts(alloc: Global, w: Width, t: &Term) -> Result<Option<Difference>, Me
                 [_a] => Ok(None),
                 [_a, _b, _c, ..] => Ok(None),
             },
-            Head::Reg
-            | Head::Sym
-            | Head::Sum
-            | Head::Mul
-            | Head::Mulh
-            | Head::Mulhu
-            | Head::Mulhsu
-            | Head::Div
-            | Head::Udiv
-            | Head::Rem
-            | Head::Urem
-            | Head::And
-            | Head::Ior
-            | Head::Shl
-            | Head::Shr
-            | Head::Sar
-            | Head::Trunc
-            | Head::Zext
-            | Head::Sext
-            | Head::Lt
-            | Head::Ltu
-            | Head::Eq
-            | Head::Load => Ok(None),
+            _ => Ok(None),
         },
     }
 }

@@ -76,7 +76,8 @@ fn lacks(alloc: Global, uid: u32, rule: Name, term: &Term) -> Result<OutRefusal,
 }
 
 fn bad_shape(alloc: Global, uid: u32, rule: Name, index: u32) -> Result<OutRefusal, Memory>
-    ensures { IfOk result (λ e. e ≡ OutRefusal.NotEquated uid rule (Item.Shape index) spec.dash spec.dash) }
+    ensures { IfOk result (λ e. e ≡ OutRefusal.NotEquated uid rule
+        (Item.Shape index) spec.dash spec.dash) }
 {
     let left = dash(alloc)?;
     let right = dash(alloc)?;
@@ -122,7 +123,8 @@ fn act_on(
     uid: u32,
     verdict: &Verdict,
 ) -> Result<(), OutRefusal>
-    ensures { Judges result uid (needs.name_at (names_of description.now) form) (verdict_of verdict.now) }
+    ensures { Judges result uid (needs.name_at (names_of description.now) form)
+        (verdict_of verdict.now) }
 {
     if is_same(verdict) {
         return Ok(());

@@ -29,7 +29,8 @@ fn write_opening(
     out: &mut Vec<u8>,
     items: &mut Vec<CodeItem>,
 ) -> Result<(), OutRefusal>
-    ensures { (forms : List Entry) (number : ℕ) → Appends out.old.items out.new.items items.old.items items.new.items result
+    ensures { (forms : List Entry) (number : ℕ) →
+        Appends out.old.items out.new.items items.old.items items.new.items result
         (PartsCome (PartComes forms number f.now) (length out.old.items) (Opening ∷ [])) }
 {
     let piece = opening(alloc, &f.name)?;
@@ -43,7 +44,8 @@ fn write_closing(
     out: &mut Vec<u8>,
     items: &mut Vec<CodeItem>,
 ) -> Result<(), OutRefusal>
-    ensures { (forms : List Entry) (number : ℕ) → Appends out.old.items out.new.items items.old.items items.new.items result
+    ensures { (forms : List Entry) (number : ℕ) →
+        Appends out.old.items out.new.items items.old.items items.new.items result
         (PartsCome (PartComes forms number f.now) (length out.old.items) (Closing ∷ [])) }
 {
     let piece = closing(alloc, &f.name)?;
@@ -60,7 +62,8 @@ fn write_chain(
     items: &mut Vec<CodeItem>,
 ) -> Result<(), OutRefusal>
     ensures { Appends out.old.items out.new.items items.old.items items.new.items result
-        (PartsCome (PartComes description.now number f.now) (length out.old.items) (places_from 0 f.now.insns)) }
+        (PartsCome (PartComes description.now number f.now) (length out.old.items)
+        (places_from 0 f.now.insns)) }
 {
     if f.insns.len() > u32::MAX as usize {
         return Err(OutRefusal::Memory);
@@ -123,8 +126,10 @@ pub fn write_function(
         FunctionComes forms number f size (Ok piece) → IsWritten forms number f piece }
     ensures within { (forms : List Entry) (number : ℕ) (f : Function) (size : ℕ) (piece : Piece) →
         FunctionComes forms number f size (Ok piece) → size + length piece.text ≤ most_output }
-    ensures spelled { (forms : List Entry) (number : ℕ) (f : Function) (place : ℕ) (insns : List Insn) (text : List ℕ)
-        (items : List CodeItem) → number < 2 ^ 32 → AreWritten forms number f place insns text items → Spells text items }
+    ensures spelled { (forms : List Entry) (number : ℕ) (f : Function) (place : ℕ)
+        (insns : List Insn) (text : List ℕ)
+        (items : List CodeItem) → number < 2 ^ 32 →
+        AreWritten forms number f place insns text items → Spells text items }
 {
     write_parts(alloc, description, number, f, out, items)
 }

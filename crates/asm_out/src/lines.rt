@@ -42,7 +42,8 @@ pub fn text_of(
     insn: &Insn,
     chosen: &Chosen,
 ) -> Result<Vec<u8>, Memory>
-    ensures { IfOk result (λ text. text.items ≡ spec.text_of description.now number insn.now chosen.now) }
+    ensures { IfOk result (λ text.
+        text.items ≡ spec.text_of description.now number insn.now chosen.now) }
 {
     let mut text = Vec::new(alloc);
     if let Some(template) = template_at(description.forms().as_slice(), chosen.form) {
@@ -106,7 +107,8 @@ fn code_of(alloc: Global, lines: Items<Line>) -> Result<Items<CodeItem>, Memory>
 
 /// The text that is written for an instruction, with its lines.
 pub fn code_piece(alloc: Global, text: &[u8], lines: Items<Line>) -> Result<Piece, Memory>
-    ensures { IfOk result (λ piece. piece ≡ record { text = spec.written text.now; items = map item.Code lines }) }
+    ensures { IfOk result (λ piece.
+        piece ≡ record { text = spec.written text.now; items = map item.Code lines }) }
 {
     let text = written(alloc, text)?;
     let items = code_of(alloc, lines)?;

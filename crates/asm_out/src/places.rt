@@ -105,7 +105,8 @@ fn write_place(
     requires labels { (uid : ℕ) → map.get nat_cmp labels.now uid ≡ place_of uid f.now.insns }
     requires rows { AreLiveRows f.now rows.now }
     ensures { Appends out.old.items out.new.items items.old.items items.new.items result
-        (PartsCome (PartComes description.now number f.now) (length out.old.items) (Place place insn.now ∷ [])) }
+        (PartsCome (PartComes description.now number f.now) (length out.old.items)
+        (Place place insn.now ∷ [])) }
 {
     let piece = item_piece(alloc, description, number, f, labels, rows, place, insn)?;
     append_piece(piece, out, items)
@@ -126,7 +127,8 @@ pub fn write_places(
     requires labels { (uid : ℕ) → map.get nat_cmp labels.now uid ≡ place_of uid f.now.insns }
     requires rows { AreLiveRows f.now rows.now }
     ensures { Appends out.old.items out.new.items items.old.items items.new.items result
-        (PartsCome (PartComes description.now number f.now) (length out.old.items) (places_from 0 f.now.insns)) }
+        (PartsCome (PartComes description.now number f.now) (length out.old.items)
+        (places_from 0 f.now.insns)) }
 {
     for (place, insn) in f.insns.as_slice().iter().enumerate() {
         write_place(

@@ -33,7 +33,8 @@ pub fn compile(
 ) -> Result<Assembly, Refusal>
     ensures gives { Gives result (FunctionsCome description.now functions.now) }
 
-    // The lines of each function are those of the forms, each part of the text spells the lines and labels beside it, and the text is within its limit.
+    // The lines of each function are those of the forms, each part of the text spells the lines and
+    // labels beside it, and the text is within its limit.
     ensures lines { (forms : List Entry) (functions : List Function) (a : Assembly) →
         AssemblyComes forms functions (Ok a) → IsAssembly forms 0 functions a }
     ensures spelled { (forms : List Entry) (functions : List Function) (a : Assembly) →
@@ -41,9 +42,11 @@ pub fn compile(
     ensures within { (forms : List Entry) (functions : List Function) (a : Assembly) →
         AssemblyComes forms functions (Ok a) → length a.text ≤ most_output }
 
-    // By the forms of a description, the lines and labels of each sound function have its behaviour, in each frame that has the room at
+    // By the forms of a description, the lines and labels of each sound function have its
+    // behaviour, in each frame that has the room at
     // least of which the passes laid out its frame.
-    ensures behaves { (forms : List Entry) (functions : List Function) (a : Assembly) → IsDescribed forms → AreSound functions →
+    ensures behaves { (forms : List Entry) (functions : List Function) (a : Assembly) →
+        IsDescribed forms → AreSound functions →
         AssemblyComes forms functions (Ok a) → AreSame forms functions a.parts }
 {
     check_functions(alloc, functions)?;

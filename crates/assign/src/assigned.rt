@@ -48,7 +48,8 @@ fn pick_in_order(
     requires table { IsTable width rows.now }
     requires pseudos { All (λ k. registers.pseudo k < 2 ^ 32) pseudos.now }
     ensures pseudos { IfOk result (λ homes. map (λ x. x.pseudo) homes ≡ pseudos.now) }
-    ensures picked { IfOk result (λ homes. IsPicked (beside rows.now) tables.allocation_order homes) }
+    ensures picked { IfOk result (λ homes.
+        IsPicked (beside rows.now) tables.allocation_order homes) }
 {
     let order = allocation_order();
     let homes = pick(alloc, rows, width, &order, pseudos)?;
@@ -62,7 +63,8 @@ pub fn assign(alloc: Global, f: &Function, live: &[RegRow]) -> Result<Homes, Mem
     requires live { AreLiveRows f.now live.now }
     requires room { HaveRoom f.now live.now }
     ensures homes { IfOk result (λ homes. AreHomes f.now homes) }
-    ensures one { IfOk result (λ homes. (other : List HomeOf) → AreHomes f.now other → other ≡ homes) }
+    ensures one { IfOk result (λ homes. (other : List HomeOf) → AreHomes f.now other →
+        other ≡ homes) }
 {
     let named = named_row(alloc, f.insns.as_slice())?;
     let pseudos = pseudos_of(alloc, &named)?;

@@ -25,7 +25,8 @@ pub fn registers_of(alloc: Global, insns: &[Insn]) -> Result<Regs, Memory>
 
 fn add_pseudo(named: &RegRow, k: u32, pseudos: &mut Regs) -> Result<(), Memory>
     requires { pseudo k < 2 ^ 32 }
-    ensures { OnOk result (pseudos.new ≡ (if has named.now (pseudo k) then pseudos.old ++ k ∷ [] else pseudos.old)) }
+    ensures { OnOk result (pseudos.new ≡
+        (if has named.now (pseudo k) then pseudos.old ++ k ∷ [] else pseudos.old)) }
 {
     if named.contains(FIRST_PSEUDO + k) {
         pseudos.push(k)

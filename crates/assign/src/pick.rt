@@ -16,7 +16,8 @@ fn block(rows: &[RegRow], reg: u32, hard: usize, blocked: &mut [RegRow])
     requires { AreAlike rows.now blocked.old }
     ensures alike { AreAlike rows.now blocked.new }
     ensures each { (x y : ℕ) → has_at blocked.new x y ≡
-        (has_at blocked.old x y || ((nat_lt x (length blocked.old) && hard == x) && has_at rows.now reg y)) }
+        (has_at blocked.old x y || ((nat_lt x (length blocked.old) && hard == x) && has_at rows.now
+        reg y)) }
 {
     if let Some(row) = rows.get(reg as usize)
         && hard < blocked.len()
@@ -58,7 +59,8 @@ fn block_home(rows: &[RegRow], reg: u32, home: Home, blocked: &mut [RegRow])
     requires { AreAlike rows.now blocked.old }
     ensures alike { AreAlike rows.now blocked.new }
     ensures each { (x y : ℕ) → has_at blocked.new x y ≡
-        (has_at blocked.old x y || ((nat_lt x (length blocked.old) && is_hard home x) && has_at rows.now reg y)) }
+        (has_at blocked.old x y || ((nat_lt x (length blocked.old) && is_hard home x) && has_at
+        rows.now reg y)) }
 {
     match home {
         Home::Hard { reg: hard } => block(rows, reg, usize::from(hard), blocked),

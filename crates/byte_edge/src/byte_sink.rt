@@ -74,9 +74,11 @@ impl Sink for ByteSink {
             result from.now }
         ensures cause { HasCause (sink_faults self.old) (sink_faults self.new) result }
 
-        // Exactly the chosen calls and those without room fail, and any other takes all that it can.
+        // Exactly the chosen calls and those without room fail, and any other takes all that it
+        // can.
         ensures fails { IsErr result ↔ (IsToFail (sink_calls self.old) ⊎
-            (room_of self.old < length (taken_of self.old) + min (length from.now) (most_of self.old))) }
+            (room_of self.old < length (taken_of self.old) + min (length from.now)
+            (most_of self.old))) }
         ensures full { IfOk result (λ n. n ≡ min (length from.now) (most_of self.old)) }
         ensures counted { sink_calls self.new ≡
             (if is_ok result then passed (sink_calls self.old) else failed (sink_calls self.old)) }

@@ -57,7 +57,8 @@ impl Source for ByteSource {
         ensures fails { IsErr result ↔ IsToFail (source_calls self.old) }
         ensures full { IfOk result (λ n. n ≡ min (length into.new) (length (left_of self.old))) }
         ensures counted { source_calls self.new ≡
-            (if is_ok result then passed (source_calls self.old) else failed (source_calls self.old)) }
+            (if is_ok result then passed (source_calls self.old) else failed
+            (source_calls self.old)) }
     {
         if self.calls.begin() {
             self.calls.fail();

@@ -34,7 +34,8 @@ impl QuietFiles {
         ensures ok { OnOk result
             (PutsFile (quiet_entries_of self.old) (quiet_entries_of self.new) name.now bytes.now) }
         ensures last { OnOk result
-            (quiet_entries_of self.new ≡ quiet_entries_of self.old ++ entry name.now bytes.now ∷ []) }
+            (quiet_entries_of self.new ≡ quiet_entries_of self.old ++ entry name.now bytes.now ∷
+            []) }
         ensures asked { quiet_asked_of self.new ≡ quiet_asked_of self.old }
         ensures err { OnErr result (self.new ≡ self.old) }
     {

@@ -65,7 +65,8 @@ const CHUNK: usize = 4096;
 /// where more than `limit` bytes were taken.
 pub fn read_all<S: Source>(alloc: Global, source: &mut S, limit: usize) -> Result<Vec<u8>, ReadAll>
     ensures all { IfOk result (λ bytes.
-        Consumes (S.left source.old) (S.left source.new) bytes.items × IsAtEnd (S.left source.new)) }
+        Consumes (S.left source.old) (S.left source.new) bytes.items ×
+        IsAtEnd (S.left source.new)) }
     ensures within { IfOk result (λ bytes. vec_len bytes ≤ limit) }
 
     // What a refused call has taken, and that there was too much.

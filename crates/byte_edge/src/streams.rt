@@ -73,11 +73,13 @@ impl<R: Read> Source for StdSource<R> {
     /// Reads once, and passes on what the reader gives. Each `Failed` is counted.
     fn read(&mut self, into: &mut [u8]) -> Result<usize, Failed>
         ensures bound { IfOk result (λ n. n ≤ length into.new) }
-        ensures bytes { ReadConsumes (R.remaining (std_reader self.old)) (R.remaining (std_reader self.new))
+        ensures bytes { ReadConsumes (R.remaining (std_reader self.old))
+            (R.remaining (std_reader self.new))
             result into.new }
         ensures cause { HasCause (std_source_faults self.old) (std_source_faults self.new) result }
         ensures counted { std_source_faults self.new ≡
-            (if is_ok result then std_source_faults self.old else one_more (std_source_faults self.old)) }
+            (if is_ok result then std_source_faults self.old else one_more
+            (std_source_faults self.old)) }
     {
         let read = read_some(&mut self.reader, into);
         if read.is_err() {
@@ -125,11 +127,13 @@ impl<W: Write> Sink for StdSink<W> {
     fn write(&mut self, from: &[u8]) -> Result<usize, Failed>
         ensures bound { IfOk result (λ n. n ≤ length from.now) }
         ensures some { IfOk result (λ n. 0 < length from.now → 0 < n) }
-        ensures bytes { WriteAppends (W.contents (std_writer self.old)) (W.contents (std_writer self.new))
+        ensures bytes { WriteAppends (W.contents (std_writer self.old))
+            (W.contents (std_writer self.new))
             result from.now }
         ensures cause { HasCause (std_sink_faults self.old) (std_sink_faults self.new) result }
         ensures counted { std_sink_faults self.new ≡
-            (if is_ok result then std_sink_faults self.old else one_more (std_sink_faults self.old)) }
+            (if is_ok result then std_sink_faults self.old else one_more
+            (std_sink_faults self.old)) }
     {
         if from.is_empty() {
             return Ok(0);

@@ -57,7 +57,8 @@ fn run_taken(
     goals: &Goals,
     run: &[u8],
 ) -> Result<bool, Memory>
-    ensures { IfOk result (λ taken. taken ≡ spec.run_taken dialect constants.now goals.now run.now) }
+    ensures { IfOk result (λ taken.
+        taken ≡ spec.run_taken dialect constants.now goals.now run.now) }
 {
     let run = Items::from_vec(Vec::from_slice(alloc, run)?);
     goals.is_taken(alloc, dialect, constants, &token_of_run(run))
@@ -72,7 +73,8 @@ fn word_taken(
     goals: &Goals,
     run: &[u8],
 ) -> Result<bool, Memory>
-    ensures { IfOk result (λ taken. taken ≡ list_any (spec.word_taken dialect constants.now goals.now run.now) words.now) }
+    ensures { IfOk result (λ taken.
+        taken ≡ list_any (spec.word_taken dialect constants.now goals.now run.now) words.now) }
 {
     for word in words {
         if goes_on_as(run, word.bytes()) {
@@ -101,7 +103,8 @@ fn run_goes_on(
     goals: &Goals,
     run: &[u8],
 ) -> Result<bool, Memory>
-    ensures { IfOk result (λ taken. taken ≡ spec.run_goes_on dialect constants.now words.now goals.now run.now) }
+    ensures { IfOk result (λ taken.
+        taken ≡ spec.run_goes_on dialect constants.now words.now goals.now run.now) }
 {
     if run_taken(alloc, dialect, constants, goals, run)? {
         return Ok(true);
@@ -121,7 +124,9 @@ fn operator_taken(
     goals: &Goals,
     first: u8,
 ) -> Result<bool, Memory>
-    ensures { IfOk result (λ taken. taken ≡ list_any (λ b. spec.operator_taken dialect constants.now goals.now (tokens.operator_of_two first b)) spec.second_bytes) }
+    ensures { IfOk result (λ taken.
+        taken ≡ list_any (λ b. spec.operator_taken dialect constants.now goals.now
+        (tokens.operator_of_two first b)) spec.second_bytes) }
 {
     for second in second_bytes() {
         if let Some(operator) = operator_of_two(first, *second) {
@@ -140,7 +145,8 @@ fn byte_goes_on(
     goals: &Goals,
     first: u8,
 ) -> Result<bool, Memory>
-    ensures { IfOk result (λ taken. taken ≡ spec.byte_goes_on dialect constants.now goals.now first) }
+    ensures { IfOk result (λ taken.
+        taken ≡ spec.byte_goes_on dialect constants.now goals.now first) }
 {
     if goals.is_taken(alloc, dialect, constants, &token_of_byte(first))? {
         return Ok(true);
@@ -157,7 +163,8 @@ fn goes_on(
     goals: &Goals,
     pending: &Pending,
 ) -> Result<bool, Memory>
-    ensures { IfOk result (λ taken. taken ≡ spec.goes_on dialect constants.now words.now goals.now pending.now) }
+    ensures { IfOk result (λ taken.
+        taken ≡ spec.goes_on dialect constants.now words.now goals.now pending.now) }
 {
     match pending {
         Pending::Nothing => Ok(true),
@@ -193,7 +200,8 @@ fn read(
     byte: u8,
 ) -> Result<(), StepError>
     ensures lexer { OnOk result (lexer.new ≡ at [] (read_byte lexer.old byte).pending) }
-    ensures parser { Steps result parser.new (spec.kept dialect constants.now words.now parser.old (read_byte lexer.old byte)) }
+    ensures parser { Steps result parser.new (spec.kept dialect constants.now words.now parser.old
+        (read_byte lexer.old byte)) }
 {
     lexer.read(alloc, byte)?;
     let tokens = mem::replace(&mut lexer.tokens, Items::new(alloc));
@@ -221,7 +229,8 @@ fn reach_from(
     mut parser: Parser,
     text: &[u8],
 ) -> Result<usize, Memory>
-    ensures { IfOk result (λ count. count ≡ spec.reach dialect constants.now words.now parser Pending.Nothing text.now) }
+    ensures { IfOk result (λ count.
+        count ≡ spec.reach dialect constants.now words.now parser Pending.Nothing text.now) }
 {
     let mut lexer = Lexer::new(alloc);
     for (count, byte) in text.iter().enumerate() {
@@ -250,7 +259,9 @@ pub fn reach(
     goal: Goal,
     text: &[u8],
 ) -> Result<usize, Memory>
-    ensures { IfOk result (λ count. count ≡ spec.reach dialect constants.now (known_words constants.now) (steps.at [] (goal ∷ [])) Pending.Nothing text.now) }
+    ensures { IfOk result (λ count.
+        count ≡ spec.reach dialect constants.now (known_words constants.now)
+        (steps.at [] (goal ∷ [])) Pending.Nothing text.now) }
 {
     let words = known_words(alloc, constants)?;
     let parser = Parser::new(alloc, goal)?;

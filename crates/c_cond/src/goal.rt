@@ -93,7 +93,8 @@ impl Goals {
 
     /// What must come first.
     pub fn pop(&mut self) -> Option<Goal>
-        ensures { MatchOption result ((self.old ≡ []) × (self.new ≡ [])) (λ goal. self.old ≡ goal ∷ self.new) }
+        ensures { MatchOption result ((self.old ≡ []) × (self.new ≡ [])) (λ goal.
+            self.old ≡ goal ∷ self.new) }
     {
         self.goals.pop()
     }

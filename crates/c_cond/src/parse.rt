@@ -141,7 +141,8 @@ fn parse_tokens(
     goal: Goal,
     tokens: &[Token],
 ) -> Result<Items<CondHead>, StepError>
-    ensures { Gives result (spec.result_of dialect constants.now (spec.at [] (goal ∷ [])) tokens.now) }
+    ensures { Gives result (spec.result_of dialect constants.now
+        (spec.at [] (goal ∷ [])) tokens.now) }
 {
     let mut parser = Parser::new(alloc, goal)?;
     for token in tokens {
@@ -158,7 +159,8 @@ fn parse(
     goal: Goal,
     text: &[u8],
 ) -> Result<Items<CondHead>, StepError>
-    ensures { Gives result (spec.result_of dialect constants.now (spec.at [] (goal ∷ [])) (tokens_in text.now)) }
+    ensures { Gives result (spec.result_of dialect constants.now (spec.at [] (goal ∷ []))
+        (tokens_in text.now)) }
 {
     let tokens = tokens_in(alloc, text)?;
     parse_tokens(
@@ -178,7 +180,8 @@ fn outside(
     goal: Goal,
     text: &[u8],
 ) -> CondRefusal
-    ensures { Refuses result (front.reach dialect constants.now (known_words constants.now) (spec.at [] (goal ∷ [])) Pending.Nothing text.now) }
+    ensures { Refuses result (front.reach dialect constants.now (known_words constants.now)
+        (spec.at [] (goal ∷ [])) Pending.Nothing text.now) }
 {
     match reach(alloc, dialect, constants.as_slice(), goal, text) {
         Ok(count) => CondRefusal::Outside {
@@ -265,7 +268,8 @@ pub fn parse_test(alloc: Global, text: &[u8], constants: &Constants) -> Result<C
 /// `Outside` exactly where the text is not in the grammar, with the offset that ends the longest
 /// prefix of it that begins a text of the grammar. `Memory` where memory ran out.
 pub fn parse_prep(alloc: Global, text: &[u8], constants: &Constants) -> Result<Prep, CondRefusal>
-    ensures answers { GivesText (IsText Dialect.Condition constants.now Statements) text.now result }
+    ensures answers { GivesText (IsText Dialect.Condition constants.now Statements) text.now
+        result }
     ensures one { (a b : Tree) → IsText Dialect.Condition constants.now Statements text.now a →
         IsText Dialect.Condition constants.now Statements text.now b → a ≡ b }
     ensures one_place { (a b : ℕ) →

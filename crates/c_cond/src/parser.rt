@@ -52,7 +52,8 @@ impl Parser {
 
     /// What a goal gives that may be passed over; `false` where it may not.
     fn pass(&mut self, goal: Goal) -> Result<bool, Memory>
-        ensures code { IfOk result (λ passed. spec.Passes passed self.old.code self.new.code (spec.passed goal)) }
+        ensures code { IfOk result (λ passed.
+            spec.Passes passed self.old.code self.new.code (spec.passed goal)) }
         ensures goals { self.new.goals ≡ self.old.goals }
     {
         match goal {
@@ -74,7 +75,8 @@ impl Parser {
         constants: &[Constant],
         token: &Token,
     ) -> Result<(), StepError>
-        ensures { Steps result self.new (spec.next dialect constants.now token.now self.old.code self.old.goals) }
+        ensures { Steps result self.new
+            (spec.next dialect constants.now token.now self.old.code self.old.goals) }
     {
         loop {
             let Some(goal) = self.goals.pop() else {

@@ -120,7 +120,8 @@ impl Goals {
         from: u8,
         token: &Token,
     ) -> Result<bool, Memory>
-        ensures { Takes result self.old self.new (spec.primary dialect constants.now from token.now self.old) }
+        ensures { Takes result self.old self.new
+            (spec.primary dialect constants.now from token.now self.old) }
     {
         match token {
             Token::Number(number) => {
@@ -151,7 +152,8 @@ impl Goals {
         from: u8,
         token: &Token,
     ) -> Result<bool, Memory>
-        ensures { Takes result self.old self.new (spec.takes_expression dialect constants.now from token.now self.old) }
+        ensures { Takes result self.old self.new
+            (spec.takes_expression dialect constants.now from token.now self.old) }
     {
         match unary_of(token) {
             Some(operator) => {
@@ -202,7 +204,8 @@ impl Goals {
     }
 
     fn operands(&mut self, dialect: Dialect) -> Result<bool, Memory>
-        ensures { Takes result self.old self.new (spec.operand_by dialect (Option.Some keyword.Operands) self.old) }
+        ensures { Takes result self.old self.new
+            (spec.operand_by dialect (Option.Some keyword.Operands) self.old) }
     {
         match dialect {
             Dialect::Condition => {
@@ -215,7 +218,8 @@ impl Goals {
     }
 
     fn tested(&mut self, dialect: Dialect) -> Result<bool, Memory>
-        ensures { Takes result self.old self.new (spec.operand_by dialect (Option.Some keyword.Op) self.old) }
+        ensures { Takes result self.old self.new
+            (spec.operand_by dialect (Option.Some keyword.Op) self.old) }
     {
         match dialect {
             Dialect::Condition => Ok(false),
@@ -317,7 +321,8 @@ impl Goals {
         part: Part,
         token: &Token,
     ) -> Result<bool, Memory>
-        ensures { Takes result self.old self.new (spec.takes_part dialect constants.now part token.now self.old) }
+        ensures { Takes result self.old self.new
+            (spec.takes_part dialect constants.now part token.now self.old) }
     {
         match part {
             Part::Expression { level } => self.expression(alloc, dialect, constants, level, token),
@@ -349,7 +354,8 @@ impl Goals {
     }
 
     fn statement_by(&mut self, keyword: Keyword) -> Result<bool, Memory>
-        ensures { Takes result self.old self.new (spec.statement_by (Option.Some keyword) self.old) }
+        ensures { Takes result self.old self.new
+            (spec.statement_by (Option.Some keyword) self.old) }
     {
         match keyword {
             Keyword::Operands => {
@@ -466,7 +472,8 @@ impl Goals {
     }
 
     fn comparison(&mut self, property: Property, token: &Token) -> Result<bool, Memory>
-        ensures { Takes result self.old self.new (spec.takes_comparison property token.now self.old) }
+        ensures { Takes result self.old self.new
+            (spec.takes_comparison property token.now self.old) }
     {
         match comparison_of(token) {
             Some(equal) => {
@@ -484,7 +491,8 @@ impl Goals {
         equal: bool,
         token: &Token,
     ) -> Result<bool, Memory>
-        ensures { Takes result self.old self.new (spec.takes_compared property equal token.now self.old) }
+        ensures { Takes result self.old self.new
+            (spec.takes_compared property equal token.now self.old) }
     {
         match token {
             Token::Word(word) => match comparison_with(alloc, property, equal, word.bytes())? {
@@ -536,7 +544,8 @@ impl Goals {
         goal: &Goal,
         token: &Token,
     ) -> Result<bool, Memory>
-        ensures { Takes result self.old self.new (spec.takes dialect constants.now goal.now token.now self.old) }
+        ensures { Takes result self.old self.new
+            (spec.takes dialect constants.now goal.now token.now self.old) }
     {
         match goal {
             Goal::Mark(byte) => Ok(is_mark(*byte, token)),
@@ -563,7 +572,8 @@ fn takes(
     goal: &Goal,
     token: &Token,
 ) -> Result<bool, Memory>
-    ensures { IfOk result (λ taken. taken ≡ is_some (spec.takes dialect constants.now goal.now token.now [])) }
+    ensures { IfOk result (λ taken.
+        taken ≡ is_some (spec.takes dialect constants.now goal.now token.now [])) }
 {
     Goals::new(alloc).take(alloc, dialect, constants, goal, token)
 }

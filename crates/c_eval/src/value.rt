@@ -48,7 +48,8 @@ impl<P: Preds> Known<'_, P> {
 
     /// Whether a register is dead at a place.
     fn dead_of(&self, place: Reading, x: Reading) -> Option<i64>
-        ensures { result ≡ spec.dead_of self.now.dead.now (operands_given self.now.operands) place x }
+        ensures { result ≡ spec.dead_of self.now.dead.now
+            (operands_given self.now.operands) place x }
     {
         let place = place.place()?;
         is_dead(self.dead, place, self.operands.of(x)?)
@@ -56,7 +57,9 @@ impl<P: Preds> Known<'_, P> {
 
     /// The value of a call.
     fn call_value(&self, call: Call, parts: &[Reading]) -> Option<i64>
-        ensures { result ≡ spec.call_value (spec.setting (facts_given self.now.reloaded self.now.new_pseudos self.now.dead.now) (operands_given self.now.operands) (P.accepts self.now.preds.now)) call parts.now }
+        ensures { result ≡ spec.call_value
+            (spec.setting (facts_given self.now.reloaded self.now.new_pseudos self.now.dead.now)
+            (operands_given self.now.operands) (P.accepts self.now.preds.now)) call parts.now }
     {
         match (call, parts) {
             (Call::CanCreatePseudo, []) => Some(truth(self.new_pseudos)),
@@ -71,7 +74,8 @@ impl<P: Preds> Known<'_, P> {
 
     /// Whether a predicate accepts an operand in a mode.
     fn accepted_of(&self, name: &Name, x: Reading, mode: Reading) -> Option<i64>
-        ensures { result ≡ spec.accepted_of (P.accepts self.now.preds.now) (operands_given self.now.operands) name.now x mode }
+        ensures { result ≡ spec.accepted_of (P.accepts self.now.preds.now)
+            (operands_given self.now.operands) name.now x mode }
     {
         let x = self.operands.of(x)?;
         let mode = mode.mode()?;
@@ -80,7 +84,9 @@ impl<P: Preds> Known<'_, P> {
 
     /// The value of an expression by its parts. Other heads have none.
     fn value_by(&self, head: &CondHead, parts: &[Reading]) -> Option<i64>
-        ensures { result ≡ spec.value_by (spec.setting (facts_given self.now.reloaded self.now.new_pseudos self.now.dead.now) (operands_given self.now.operands) (P.accepts self.now.preds.now)) head.now parts.now }
+        ensures { result ≡ spec.value_by
+            (spec.setting (facts_given self.now.reloaded self.now.new_pseudos self.now.dead.now)
+            (operands_given self.now.operands) (P.accepts self.now.preds.now)) head.now parts.now }
     {
         match (head, parts) {
             (CondHead::Number(number), []) => Some(*number),

@@ -13,7 +13,8 @@ use rtx_tree::{Operands, Rtx};
 
 /// What the last tree of a row of heads is read as. No memory is taken, and nesting has no limit.
 pub fn read<P: Preds>(heads: &[CondHead], facts: &Facts, operands: &Operands, preds: &P) -> Reading
-    ensures { result ≡ spec.reading_of (spec.setting facts.now operands.now (P.accepts preds.now)) (tree_of heads.now) }
+    ensures { result ≡ spec.reading_of (spec.setting facts.now operands.now (P.accepts preds.now))
+        (tree_of heads.now) }
 {
     let known = Known {
         reloaded: facts.reloaded,

@@ -98,7 +98,8 @@ fn atom_of_name(
     constants: &[Constant],
     word: &[u8],
 ) -> Result<Atom, Memory>
-    ensures { IfOk result (λ atom. atom ≡ spec.atom_of_name dialect word.now (words.constant_named constants.now word.now)) }
+    ensures { IfOk result (λ atom.
+        atom ≡ spec.atom_of_name dialect word.now (words.constant_named constants.now word.now)) }
 {
     match constant_named(constants, word) {
         Some(number) => Ok(Atom::Leaf(CondHead::Number(number))),

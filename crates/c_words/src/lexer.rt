@@ -114,7 +114,8 @@ impl Lexer {
 
     /// A byte behind one that may be the first of an operator.
     fn behind_byte(&mut self, alloc: Global, first: u8, byte: u8) -> Result<(), Memory>
-        ensures { OnOk result (self.new ≡ behind_two self.old.tokens first byte (spec.operator_of_two first byte)) }
+        ensures { OnOk result (self.new ≡ behind_two self.old.tokens first byte
+            (spec.operator_of_two first byte)) }
     {
         match operator_of_two(first, byte) {
             Some(operator) => {

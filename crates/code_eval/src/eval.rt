@@ -49,7 +49,8 @@ fn rtl_run(
     args: [u64; 8],
 ) -> Result<Ending, Memory>
     requires { world.now ≡ worlds.world_of f.now (spec.lines_for steps) }
-    ensures { IfOk result (λ ending. ending ≡ endings.rtl_ending (spec.rtl_outcome f.now steps args)) }
+    ensures { IfOk result (λ ending.
+        ending ≡ endings.rtl_ending (spec.rtl_outcome f.now steps args)) }
 {
     let start = rtl_start(alloc, f, args)?;
     let outcome = rtl_outcome(alloc, f, &start, world, steps)?;
@@ -66,7 +67,8 @@ fn code_run(
     args: [u64; 8],
 ) -> Result<Ending, Memory>
     requires { world.now ≡ worlds.world_of f.now (spec.lines_for steps) }
-    ensures { IfOk result (λ ending. ending ≡ endings.code_ending f.now.result (spec.code_outcome f.now items.now steps args)) }
+    ensures { IfOk result (λ ending.
+        ending ≡ endings.code_ending f.now.result (spec.code_outcome f.now items.now steps args)) }
 {
     let start = code_start(alloc, f, args)?;
     let outcome = run_lines(alloc, items, &start, world, lines_for(steps))?;
@@ -74,7 +76,9 @@ fn code_run(
 }
 
 fn lines_of(alloc: Global, rtl: Ending, code: Ending) -> Result<Vec<u8>, Memory>
-    ensures { IfOk result (λ text. text.items ≡ endings.ending_line (codes "rtl") rtl ++ endings.ending_line (codes "code") code) }
+    ensures { IfOk result (λ text.
+        text.items ≡ endings.ending_line (codes "rtl") rtl ++ endings.ending_line
+        (codes "code") code) }
 {
     let mut text = Vec::new(alloc);
     print_line(b"rtl", rtl, &mut text)?;

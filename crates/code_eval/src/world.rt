@@ -47,7 +47,8 @@ fn push_symbol(alloc: Global, name: &Name, symbols: &mut Symbols) -> Result<(), 
 
 /// Puts the symbol that a tree is, if it is one, behind others.
 fn push_symbol_here(alloc: Global, x: &Rtx, symbols: &mut Symbols) -> Result<(), Memory>
-    ensures made { OnOk result (symbols.new ≡ spec.with_symbols symbols.old (spec.symbol_here (head_of x.now).code (head_of x.now).name)) }
+    ensures made { OnOk result (symbols.new ≡ spec.with_symbols symbols.old
+        (spec.symbol_here (head_of x.now).code (head_of x.now).name)) }
     ensures addresses { OnOk result (AreAddresses symbols.old → AreAddresses symbols.new) }
 {
     match x.code {
@@ -59,7 +60,8 @@ fn push_symbol_here(alloc: Global, x: &Rtx, symbols: &mut Symbols) -> Result<(),
 /// Puts the symbols of a tree behind others, in the order of its text.
 #[tactic(auto, using(crate::proofs::Symbols::symbols_first))]
 fn push_symbols_in(alloc: Global, x: &Rtx, symbols: &mut Symbols) -> Result<(), Memory>
-    ensures made { OnOk result (symbols.new ≡ spec.with_symbols symbols.old (spec.symbols_in x.now)) }
+    ensures made { OnOk result (symbols.new ≡ spec.with_symbols symbols.old
+        (spec.symbols_in x.now)) }
     ensures addresses { OnOk result (AreAddresses symbols.old → AreAddresses symbols.new) }
 {
     push_symbol_here(alloc, x, symbols)?;

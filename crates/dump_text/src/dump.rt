@@ -40,7 +40,8 @@ fn dump_functions(
     functions: &[Function],
     out: &mut Vec<u8>,
 ) -> Result<(), Refusal>
-    ensures { AppendedSome out.old.items out.new.items result (FunctionsCome desc.now pass functions.now) }
+    ensures { AppendedSome out.old.items out.new.items result
+        (FunctionsCome desc.now pass functions.now) }
 {
     for f in functions {
         dump_function(alloc, desc, pass, f, out)?;

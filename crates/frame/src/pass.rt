@@ -62,7 +62,8 @@ fn finished(alloc: Global, f: Function) -> Result<Function, Memory>
 
 /// The function with a frame, where its chain is finished.
 fn with_frame(alloc: Global, layout: &Layout, first: u32, f: Function) -> Result<Function, Memory>
-    ensures { IfOk result (λ g. g ≡ spec.with_insns f (spec.framed_insns layout.now first f.insns)) }
+    ensures { IfOk result (λ g. g ≡ spec.with_insns f
+        (spec.framed_insns layout.now first f.insns)) }
 {
     let Function {
         name,
@@ -84,7 +85,8 @@ fn with_frame(alloc: Global, layout: &Layout, first: u32, f: Function) -> Result
 /// Whether some form matches an instruction.
 fn is_matched(alloc: Global, desc: &Description, insn: &Insn) -> Result<bool, Memory>
     ensures { IfOk result (λ b.
-        MatchBool b (framed.IsMatched desc.now insn.now) (NoneMatches desc.now needs.output_facts insn.now.pattern)) }
+        MatchBool b (framed.IsMatched desc.now insn.now)
+        (NoneMatches desc.now needs.output_facts insn.now.pattern)) }
 {
     match desc.recog(alloc, &insn.pattern, &output_facts(alloc))? {
         Some(_) => Ok(true),
@@ -135,9 +137,11 @@ pub fn frame(
     ensures one { (forms : List Entry) (f : Function) (layout : Layout) (a b : Answer) →
         FrameComes forms f layout a → FrameComes forms f layout b → a ≡ b }
 
-    // In the frame of a layout in which all have a place of their own it does what the function does in one that others
+    // In the frame of a layout in which all have a place of their own it does what the function
+    // does in one that others
     // make and leave, and its caller finds sp, ra and s0 to s11 as they were.
-    ensures keeps { (forms : List Entry) (f g : Function) (layout : Layout) → IsLaidOut f.locals layout → RegistersAreNatural f →
+    ensures keeps { (forms : List Entry) (f g : Function) (layout : Layout) →
+        IsLaidOut f.locals layout → RegistersAreNatural f →
         FrameComes forms f layout (Ok g) → KeepsInFrame f layout g }
 
     // Labels and barriers stay, and uids that differ still do.

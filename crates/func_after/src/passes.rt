@@ -70,7 +70,8 @@ pub fn after(alloc: Global, desc: &Description, f: &Function) -> Result<Made, Re
     ensures one { (forms : List Entry) (f : Function) (a b : spec.Answer) → AfterComes forms f a →
         AfterComes forms f b → a ≡ b }
 
-    // By the forms of a description, lines that do what a sound function then does have the behaviour of the function.
+    // By the forms of a description, lines that do what a sound function then does have the
+    // behaviour of the function.
     ensures leads { (forms : List Entry) (f : Function) (m : Made) → IsDescribed forms → IsSound f →
         AfterComes forms f (Ok m) → LeadsToLines f m }
 {

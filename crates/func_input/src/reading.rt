@@ -31,7 +31,8 @@ fn trees_of(alloc: Global, bytes: &[u8]) -> Result<Trees, Refusal>
     requires { length bytes.now ≤ most_bytes }
     ensures trees { IfOk result (λ trees. ReadsAs bytes.now (Trees trees)) }
     ensures refused { IfErr result (λ e. RefusesWith e (InputGives bytes.now)) }
-    ensures unread { IfErr result (λ e. e ≢ refused.Memory → (trees : List Tree) → ReadsAs bytes.now (Trees trees) → ⊥) }
+    ensures unread { IfErr result (λ e. e ≢ refused.Memory → (trees : List Tree) →
+        ReadsAs bytes.now (Trees trees) → ⊥) }
 {
     match read_trees(alloc, bytes) {
         Ok(trees) => Ok(trees),
@@ -47,7 +48,8 @@ fn trees_of(alloc: Global, bytes: &[u8]) -> Result<Trees, Refusal>
 /// The functions of an input's trees.
 fn parse(alloc: Global, trees: &Trees) -> Result<Functions, Refusal>
     ensures parses { Parses trees.now result }
-    ensures outside { IfErr result (λ e. e ≢ refused.Memory → (functions : List Function) → functions_in trees.now ≢ stands functions) }
+    ensures outside { IfErr result (λ e. e ≢ refused.Memory → (functions : List Function) →
+        functions_in trees.now ≢ stands functions) }
 {
     match functions_of(alloc, trees.as_slice()) {
         Ok(functions) => Ok(functions),
@@ -65,7 +67,8 @@ fn parse(alloc: Global, trees: &Trees) -> Result<Functions, Refusal>
 pub fn read_functions(alloc: Global, bytes: &[u8]) -> Result<Functions, Refusal>
     requires { length bytes.now ≤ most_bytes }
     ensures reads { Reads bytes.now result }
-    ensures unread { IfErr result (λ e. e ≢ refused.Memory → (functions : List Function) → IsRead bytes.now functions → ⊥) }
+    ensures unread { IfErr result (λ e. e ≢ refused.Memory → (functions : List Function) →
+        IsRead bytes.now functions → ⊥) }
     ensures input { (bytes : List ℕ) (functions : List Function) →
         IsInput bytes functions ↔ InputGives bytes (Ok functions) }
     ensures one { (bytes : List ℕ) (a b : Given) → InputGives bytes a → InputGives bytes b → a ≡ b }

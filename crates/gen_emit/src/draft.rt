@@ -57,7 +57,8 @@ impl Draft {
 
     /// A new pseudo register of a mode, where one may be made. One past 32 bits finds no memory.
     pub fn fresh(&mut self, alloc: Global, may: bool, mode: Mode) -> Result<Option<Rtx>, Memory>
-        ensures { IfOk result (λ r. spec.fresh may mode self.old ≡ option_map (λ x. spec.made x self.new) r) }
+        ensures { IfOk result (λ r. spec.fresh may mode self.old ≡ option_map (λ x.
+            spec.made x self.new) r) }
     {
         if !may {
             return Ok(None);
@@ -77,7 +78,8 @@ impl Draft {
         mode: Mode,
         value: Rtx,
     ) -> Result<Option<Rtx>, Memory>
-        ensures { IfOk result (λ r. spec.forced may mode (spec.made value self.old) ≡ option_map (λ x. spec.made x self.new) r) }
+        ensures { IfOk result (λ r. spec.forced may mode (spec.made value self.old) ≡ option_map
+            (λ x. spec.made x self.new) r) }
     {
         if is_register(&value) {
             return Ok(Some(value));

@@ -77,7 +77,8 @@ pub fn emit<P: Preds>(
     operands: Operands,
     next: u32,
 ) -> Result<Option<Emission>, Memory>
-    ensures { IfOk result (λ r. r ≡ spec.emitted (P.accepts preds.now) facts.now form.now operands next) }
+    ensures { IfOk result (λ r. r ≡ spec.emitted
+        (P.accepts preds.now) facts.now form.now operands next) }
 {
     let draft = Draft::new(alloc, operands, next);
     match run(alloc, &form.statements, preds, facts, draft)? {

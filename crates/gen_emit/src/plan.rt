@@ -143,7 +143,8 @@ impl<P: Preds> Program<'_, P> {
     /// The number that an expression is, by the place at which it ends.
     fn number(&self, draft: &Draft, end: usize) -> Option<i64>
         requires { layout.IsEnd self.now.heads.now end }
-        ensures { result ≡ spec.number_in self.now.facts.now (P.accepts self.now.preds.now) (layout.tree_at self.now.heads.now end) draft.now }
+        ensures { result ≡ spec.number_in self.now.facts.now (P.accepts self.now.preds.now)
+            (layout.tree_at self.now.heads.now end) draft.now }
     {
         read(&self.heads[..end], self.facts, &draft.operands, self.preds).number()
     }
@@ -160,7 +161,9 @@ impl<P: Preds> Program<'_, P> {
     /// One of two plans, by what a condition is worth.
     fn choose(&self, draft: &Draft, test: usize, first: Plan, second: Plan) -> Plan
         requires { layout.IsEnd self.now.heads.now test }
-        ensures { result ≡ plans.chosen (spec.number_in self.now.facts.now (P.accepts self.now.preds.now) (layout.tree_at self.now.heads.now test) draft.now) first second }
+        ensures { result ≡ plans.chosen
+            (spec.number_in self.now.facts.now (P.accepts self.now.preds.now)
+            (layout.tree_at self.now.heads.now test) draft.now) first second }
     {
         match self.number(draft, test) {
             None => Plan::Fail,
@@ -172,7 +175,8 @@ impl<P: Preds> Program<'_, P> {
     /// The plan of a statement, by its head and its parts.
     fn plan_to_run(&self, draft: &Draft, head: &CondHead, parts: Parts) -> Plan
         requires { AllByRecursion (layout.IsEnd self.now.heads.now) (layout.ends_of parts) }
-        ensures { result ≡ plans.plan_to_run self.now.facts.now (P.accepts self.now.preds.now) self.now.heads.now draft.now head.now parts }
+        ensures { result ≡ plans.plan_to_run self.now.facts.now
+            (P.accepts self.now.preds.now) self.now.heads.now draft.now head.now parts }
     {
         match (head, parts) {
             (CondHead::Nothing, Parts::None) => Plan::Nothing,
@@ -201,7 +205,8 @@ impl<P: Preds> Program<'_, P> {
     pub fn to_run(&self, draft: &Draft, end: usize) -> Plan
         requires starts { layout.AreAllStarts self.now.heads.now self.now.starts.now }
         requires end { layout.IsEnd self.now.heads.now end }
-        ensures { plans.IsPlan self.now.facts.now (P.accepts self.now.preds.now) self.now.heads.now draft.now (Task.Run end) result }
+        ensures { plans.IsPlan self.now.facts.now
+            (P.accepts self.now.preds.now) self.now.heads.now draft.now (Task.Run end) result }
     {
         let node = node_at(self.heads, self.starts, end);
         self.plan_to_run(draft, node.head, node.parts)
@@ -210,7 +215,8 @@ impl<P: Preds> Program<'_, P> {
     /// The plan of a value, by its head and its parts.
     fn plan_to_make(&self, draft: &Draft, head: &CondHead, parts: Parts) -> Plan
         requires { AllByRecursion (layout.IsEnd self.now.heads.now) (layout.ends_of parts) }
-        ensures { result ≡ plans.plan_to_make self.now.facts.now (P.accepts self.now.preds.now) self.now.heads.now draft.now head.now parts }
+        ensures { result ≡ plans.plan_to_make self.now.facts.now
+            (P.accepts self.now.preds.now) self.now.heads.now draft.now head.now parts }
     {
         match (head, parts) {
             (CondHead::Operand(number), Parts::None) => Plan::One(Task::Do(Op::Copy(*number))),
@@ -235,7 +241,8 @@ impl<P: Preds> Program<'_, P> {
     pub fn to_make(&self, draft: &Draft, end: usize) -> Plan
         requires starts { layout.AreAllStarts self.now.heads.now self.now.starts.now }
         requires end { layout.IsEnd self.now.heads.now end }
-        ensures { plans.IsPlan self.now.facts.now (P.accepts self.now.preds.now) self.now.heads.now draft.now (Task.Make end) result }
+        ensures { plans.IsPlan self.now.facts.now
+            (P.accepts self.now.preds.now) self.now.heads.now draft.now (Task.Make end) result }
     {
         let node = node_at(self.heads, self.starts, end);
         self.plan_to_make(draft, node.head, node.parts)

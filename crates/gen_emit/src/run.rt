@@ -25,7 +25,10 @@ impl<P: Preds> Program<'_, P> {
         requires starts { layout.AreAllStarts self.now.heads.now self.now.starts.now }
         requires task { plans.IsTask self.now.heads.now task }
         requires tasks { plans.AreTasks self.now.heads.now tasks.old }
-        ensures { IfOk result (λ step. plans.Steps self.now.facts.now (P.accepts self.now.preds.now) self.now.heads.now task tasks.old state.old step tasks.new state.new) }
+        ensures { IfOk result (λ step.
+            plans.Steps self.now.facts.now
+            (P.accepts self.now.preds.now) self.now.heads.now task tasks.old state.old step
+            tasks.new state.new) }
     {
         match task {
             Task::Run(end) => follow(tasks, self.to_run(&state.draft, end)),
@@ -43,7 +46,8 @@ impl<P: Preds> Program<'_, P> {
     ) -> Result<Option<Ended>, Memory>
         requires starts { layout.AreAllStarts self.now.heads.now self.now.starts.now }
         requires tasks { plans.AreTasks self.now.heads.now tasks }
-        ensures { IfOk result (λ r. r ≡ plans.outcome self.now.facts.now (P.accepts self.now.preds.now) self.now.heads.now tasks state) }
+        ensures { IfOk result (λ r. r ≡ plans.outcome self.now.facts.now
+            (P.accepts self.now.preds.now) self.now.heads.now tasks state) }
     {
         while let Some(task) = tasks.pop() {
             match self.step(alloc, &mut tasks, &mut state, task)? {
@@ -75,7 +79,8 @@ pub fn run<P: Preds>(
     facts: &Facts,
     draft: Draft,
 ) -> Result<Option<Ended>, Memory>
-    ensures { IfOk result (λ r. r ≡ (spec.meaning facts.now (P.accepts preds.now) statements.now).run draft) }
+    ensures { IfOk result (λ r. r ≡
+        (spec.meaning facts.now (P.accepts preds.now) statements.now).run draft) }
 {
     let heads = statements.heads();
     let starts = starts_of(alloc, heads)?;

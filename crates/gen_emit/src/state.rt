@@ -97,7 +97,8 @@ impl State {
     }
 
     fn emit_move(&mut self, alloc: Global) -> Result<Step, Memory>
-        ensures { (may : Bool) → IfOk result (λ step. spec.Does may Op.Move self.old step self.new) }
+        ensures { (may : Bool) → IfOk result (λ step.
+            spec.Does may Op.Move self.old step self.new) }
     {
         let Some(source) = self.values.pop() else {
             return Ok(Step::Fail);

@@ -65,7 +65,8 @@ fn compare(
     requires within { place < length chain.old.insns }
     requires short { sides.side_length (side_of side.now) < 2 ^ 32 }
     ensures compares { (i : Insn) → slice_get chain.old.insns place ≡ Some i →
-        steps.Compares result chain.old place i (needs.name_at (names_of desc.now) form) (side_of side.now) }
+        steps.Compares result chain.old place i (needs.name_at (names_of desc.now) form)
+        (side_of side.now) }
     ensures same { chain.new ≡ chain.old }
 {
     let live = chain.live_after(alloc, place)?;
@@ -110,7 +111,8 @@ pub fn replace_insn(
     sequence: Kids,
 ) -> Result<u32, PassRefusal>
     requires { place < length chain.old.insns }
-    ensures gives { Replaces result chain.old chain.new place (needs.name_at (names_of desc.now) form) sequence }
+    ensures gives { Replaces result chain.old chain.new place
+        (needs.name_at (names_of desc.now) form) sequence }
     ensures kept { OnErr result (chain.new ≡ chain.old) }
     ensures one { OneReplaced }
 {

@@ -159,7 +159,8 @@ fn positions_of(class: Class, items: &[Tree]) -> Option<&'static [Position]>
 /// The positions of an expression's parts, which are lists and vectors.
 fn parts_of(class: Class, items: &[Tree]) -> Option<&'static [Position]>
     ensures parts { option_copied result ≡ spec.parts_of_class class items.now }
-    ensures within { MatchOption (spec.parts_of_class class items.now) (Unit {0}) (λ ps. length ps < length items.now) }
+    ensures within { MatchOption (spec.parts_of_class class items.now) (Unit {0}) (λ ps.
+        length ps < length items.now) }
 {
     let positions = positions_of(class, items)?;
     if all_nested(&items[1..1 + positions.len()]) {
@@ -199,7 +200,8 @@ fn elements(alloc: Global, tree: &Tree) -> Result<Kids, RtlRefusal>
 /// `(parallel [PATTERNS])`.
 #[cycle(read)]
 fn parallel(alloc: Global, tree: &Tree) -> Result<Rtx, RtlRefusal>
-    ensures { Gives result (spec.parallel_by tree.now (shape.items_of tree.now) (map spec.meaning_of (shape.items_of tree.now))) }
+    ensures { Gives result (spec.parallel_by tree.now (shape.items_of tree.now)
+        (map spec.meaning_of (shape.items_of tree.now))) }
 {
     match items(tree) {
         [_, vector] if is_nested(vector) => {
@@ -227,7 +229,8 @@ fn each_at(alloc: Global, positions: &[Position], items: &[Tree]) -> Result<Kids
 /// An expression that is made of others.
 #[cycle(read)]
 fn node(alloc: Global, head: Opening, tree: &Tree) -> Result<Rtx, RtlRefusal>
-    ensures { Gives result (spec.node_by tree.now head (spec.parts_of_class (spec.class_of head) (shape.items_of tree.now)) (map spec.meaning_of (shape.items_of tree.now))) }
+    ensures { Gives result (spec.node_by tree.now head (spec.parts_of_class (spec.class_of head)
+        (shape.items_of tree.now)) (map spec.meaning_of (shape.items_of tree.now))) }
 {
     let items = items(tree);
     match parts_of(head.code.class(), items) {
@@ -242,7 +245,8 @@ fn node(alloc: Global, head: Opening, tree: &Tree) -> Result<Rtx, RtlRefusal>
 /// The expression of a list with a head.
 #[cycle(read)]
 fn list(alloc: Global, position: Position, head: Opening, tree: &Tree) -> Result<Rtx, RtlRefusal>
-    ensures { Gives result (spec.list_by (spec.class_of head) position head tree.now (map spec.meaning_of (shape.items_of tree.now))) }
+    ensures { Gives result (spec.list_by (spec.class_of head) position head tree.now
+        (map spec.meaning_of (shape.items_of tree.now))) }
 {
     let class = head.code.class();
     match class {

@@ -145,7 +145,8 @@ fn word_of(
     mode: Mode,
     word: &Tree,
 ) -> Result<Option<Rtx>, Memory>
-    ensures { IfOk result (λ x. x ≡ option_and_then (spec.word_at class position mode) (atom_of word.now)) }
+    ensures { IfOk result (λ x. x ≡ option_and_then (spec.word_at class position mode)
+        (atom_of word.now)) }
 {
     match atom(word) {
         Some(text) => word_at(alloc, class, position, mode, text.bytes()),

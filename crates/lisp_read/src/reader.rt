@@ -64,7 +64,8 @@ impl Reader {
 
     /// Opens a list or vector.
     fn open(&mut self, alloc: Global, here: Place, kind: Bracket) -> Result<(), StepError>
-        ensures { Gives result (state_of self.new) (at (opened (front_of self.old) kind here) Mode.Between) }
+        ensures { Gives result (state_of self.new)
+            (at (opened (front_of self.old) kind here) Mode.Between) }
     {
         let before = mem::replace(&mut self.items, Items::new(alloc));
         self.stack.push(Frame {
@@ -146,7 +147,8 @@ impl Reader {
         place: Place,
         mut text: Items<u8>,
     ) -> Result<(), StepError>
-        ensures { Gives result (state_of self.new) (in_atom here (front_of self.old) byte class place text) }
+        ensures { Gives result (state_of self.new)
+            (in_atom here (front_of self.old) byte class place text) }
     {
         if class.is_atom() {
             text.push(byte)?;
@@ -169,7 +171,8 @@ impl Reader {
         place: Place,
         mut text: Items<u8>,
     ) -> Result<(), StepError>
-        ensures { Gives result (state_of self.new) (in_string (front_of self.old) byte class place text) }
+        ensures { Gives result (state_of self.new)
+            (in_string (front_of self.old) byte class place text) }
     {
         match class {
             ByteClass::Zero => return Err(StepError::Syntax),
@@ -202,7 +205,8 @@ impl Reader {
         mut text: Items<u8>,
     ) -> Result<(), StepError>
         requires { depth + 1 < 2 ^ 64 }
-        ensures gives { Gives result (state_of self.new) (in_block (front_of self.old) byte class place depth text) }
+        ensures gives { Gives result (state_of self.new)
+            (in_block (front_of self.old) byte class place depth text) }
         ensures depth { OnOk result (block_depth self.new.mode ≤ depth + 1) }
     {
         match class {
@@ -240,7 +244,8 @@ impl Reader {
         class: ByteClass,
         place: Place,
     ) -> Result<(), StepError>
-        ensures { Gives result (state_of self.new) (in_slash here (front_of self.old) byte class place) }
+        ensures { Gives result (state_of self.new)
+            (in_slash here (front_of self.old) byte class place) }
     {
         if class == ByteClass::Star {
             self.mode = Mode::Comment;
@@ -266,7 +271,8 @@ impl Reader {
     /// A byte in a comment, maybe behind a `*`.
     fn comment(&mut self, class: ByteClass, star: bool) -> Result<(), StepError>
         ensures { Gives result (state_of self.new)
-            (if star then in_comment_star (front_of self.old) class else in_comment (front_of self.old) class) }
+            (if star then in_comment_star (front_of self.old) class else in_comment
+            (front_of self.old) class) }
     {
         self.mode = match class {
             ByteClass::Zero => return Err(StepError::Syntax),
@@ -285,7 +291,8 @@ impl Reader {
         place: Place,
         mut text: Items<u8>,
     ) -> Result<(), StepError>
-        ensures { Gives result (state_of self.new) (in_string_escape (front_of self.old) byte class place text) }
+        ensures { Gives result (state_of self.new)
+            (in_string_escape (front_of self.old) byte class place text) }
     {
         if class == ByteClass::Zero {
             return Err(StepError::Syntax);
@@ -304,7 +311,8 @@ impl Reader {
         depth: u64,
         mut text: Items<u8>,
     ) -> Result<(), StepError>
-        ensures gives { Gives result (state_of self.new) (in_block_escape (front_of self.old) byte class place depth text) }
+        ensures gives { Gives result (state_of self.new)
+            (in_block_escape (front_of self.old) byte class place depth text) }
         ensures depth { OnOk result (block_depth self.new.mode ≤ depth + 1) }
     {
         if class == ByteClass::Zero {

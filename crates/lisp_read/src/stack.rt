@@ -65,7 +65,8 @@ impl Stack {
 
     /// Takes the innermost away.
     pub fn pop(&mut self) -> Option<Frame>
-        ensures { MatchOption result ((self.old ≡ []) × (self.new ≡ [])) (λ frame. self.old ≡ frame ∷ self.new) }
+        ensures { MatchOption result ((self.old ≡ []) × (self.new ≡ [])) (λ frame.
+            self.old ≡ frame ∷ self.new) }
     {
         self.frames.pop()
     }

@@ -18,7 +18,8 @@ use std::alloc::Global;
 
 /// Adds the registers of the row of a place, if it is one.
 fn add_place(rows: &[RegRow], place: Option<u32>, set: &mut RegSet) -> Result<(), Memory>
-    ensures { OnOk result ((reg : ℕ) → has_reg set.new reg ≡ (has_reg set.old reg || at_place place rows.now reg)) }
+    ensures { OnOk result ((reg : ℕ) →
+        has_reg set.new reg ≡ (has_reg set.old reg || at_place place rows.now reg)) }
 {
     let Some(place) = place else {
         return Ok(());
@@ -31,7 +32,8 @@ fn add_place(rows: &[RegRow], place: Option<u32>, set: &mut RegSet) -> Result<()
 
 /// The registers that are live at the places to which an instruction leads.
 fn live_at(alloc: Global, rows: &[RegRow], next: Successors) -> Result<RegSet, Memory>
-    ensures { (f : Function) (place : ℕ) → AreLiveRows f rows.now → places_in next ≡ successors_of f.insns place →
+    ensures { (f : Function) (place : ℕ) → AreLiveRows f rows.now →
+        places_in next ≡ successors_of f.insns place →
         IfOk result (AreLiveAfter f place) }
 {
     let mut set = RegSet::new(alloc);

@@ -15,7 +15,8 @@ use rtx_tree::{Function, Insn};
 use std::alloc::Global;
 
 fn add_all(regs: &mut Regs, more: &[u32]) -> Result<(), Memory>
-    ensures { OnOk result ((reg : ℕ) → has_reg regs.new reg ≡ (has_reg regs.old reg || has_reg more.now reg)) }
+    ensures { OnOk result ((reg : ℕ) →
+        has_reg regs.new reg ≡ (has_reg regs.old reg || has_reg more.now reg)) }
 {
     for reg in more {
         regs.push(*reg)?;
@@ -25,7 +26,9 @@ fn add_all(regs: &mut Regs, more: &[u32]) -> Result<(), Memory>
 
 /// What an instruction uses, where `returns` is what a return uses.
 fn uses_of(alloc: Global, insn: &Insn, returns: &[u32]) -> Result<Regs, Memory>
-    ensures { IfOk result (λ regs. (reg : ℕ) → has_reg regs reg ≡ (uses.insn_uses insn.now reg || (uses.is_return insn.now && has_reg returns.now reg))) }
+    ensures { IfOk result (λ regs. (reg : ℕ) →
+        has_reg regs reg ≡ (uses.insn_uses insn.now reg ||
+        (uses.is_return insn.now && has_reg returns.now reg))) }
 {
     let mut regs = insn_uses(alloc, insn)?;
     if is_return(insn) {

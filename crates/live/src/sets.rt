@@ -13,7 +13,8 @@ const MOST_WORDS: usize = 1 << 26;
 
 /// Adds register `reg` if the row has it.
 fn add_register(row: &RegRow, reg: u32, set: &mut RegSet) -> Result<(), Memory>
-    ensures { OnOk result ((other : ℕ) → has_reg set.new other ≡ (has_reg set.old other || (other == reg && has row.now other))) }
+    ensures { OnOk result ((other : ℕ) →
+        has_reg set.new other ≡ (has_reg set.old other || (other == reg && has row.now other))) }
 {
     if row.contains(reg) {
         set.insert(reg)
@@ -32,7 +33,8 @@ fn is_passed(row: &RegRow, reg: usize) -> bool
 
 /// Adds the registers of a row. A row past `u32` finds no memory.
 pub fn add_row(row: &RegRow, set: &mut RegSet) -> Result<(), Memory>
-    ensures { OnOk result ((reg : ℕ) → has_reg set.new reg ≡ (has_reg set.old reg || has row.now reg)) }
+    ensures { OnOk result ((reg : ℕ) →
+        has_reg set.new reg ≡ (has_reg set.old reg || has row.now reg)) }
 {
     if row.width() > MOST_WORDS {
         return Err(Memory);

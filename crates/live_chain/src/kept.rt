@@ -120,7 +120,8 @@ pub fn rows_joined(
     requires order { first ≤ end }
     requires within { IfSome rows (λ rows. end ≤ length rows) }
     ensures { (f : Function) →
-        IfSome inside (λ inside. IfSome rows (λ rows. AreLiveRows f (splice rows first end inside))) →
+        IfSome inside (λ inside. IfSome rows (λ rows.
+        AreLiveRows f (splice rows first end inside))) →
         IfSome result (AreLiveRows f) }
 {
     let mut rows = rows?;

@@ -20,7 +20,8 @@ fn take_out(row: &mut RegRow, regs: &[u32])
 }
 
 fn put_in(row: &mut RegRow, regs: &[u32]) -> Result<(), Memory>
-    ensures { OnOk result ((reg : ℕ) → has row.new reg ≡ (has row.old reg || has_reg regs.now reg)) }
+    ensures { OnOk result ((reg : ℕ) →
+        has row.new reg ≡ (has row.old reg || has_reg regs.now reg)) }
 {
     for reg in regs {
         row.make_room(*reg)?;

@@ -15,7 +15,8 @@ use std::alloc::Global;
 fn rows_of_uses(alloc: Global, nodes: &[Node], width: usize) -> Result<Vec<RegRow>, Memory>
     requires { All (Fits width) nodes.now }
     ensures long { IfOk result (λ rows. vec_len rows ≡ length nodes.now) }
-    ensures each { IfOk result (λ rows. (at reg : ℕ) → has_at rows.items at reg ≡ uses_at nodes.now at reg) }
+    ensures each { IfOk result (λ rows. (at reg : ℕ) →
+        has_at rows.items at reg ≡ uses_at nodes.now at reg) }
     ensures table { IfOk result (λ rows. IsTable width rows.items) }
 {
     let mut rows = Vec::new(alloc);

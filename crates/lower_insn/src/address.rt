@@ -33,7 +33,8 @@ fn set_address(
     address: &Rtx,
     so_far: Prepared,
 ) -> Result<Prepared, Memory>
-    ensures { IfOk result (λ more. more ≡ spec.joined so_far (spec.address_set operand.now address.now so_far.next)) }
+    ensures { IfOk result (λ more.
+        more ≡ spec.joined so_far (spec.address_set operand.now address.now so_far.next)) }
 {
     let next = so_far.next;
     let reg = pseudo(next)?;
@@ -49,7 +50,8 @@ fn address_at(
     address: &Rtx,
     so_far: Prepared,
 ) -> Result<Prepared, Memory>
-    ensures { IfOk result (λ more. more ≡ spec.joined so_far (spec.addressed_at operand.now address.now so_far.next)) }
+    ensures { IfOk result (λ more.
+        more ≡ spec.joined so_far (spec.addressed_at operand.now address.now so_far.next)) }
 {
     if legitimate_address(address) {
         keep(so_far, copy_of(alloc, operand)?)
@@ -64,7 +66,8 @@ fn address_one(
     operand: &StandardOperand,
     so_far: Prepared,
 ) -> Result<Prepared, Memory>
-    ensures { IfOk result (λ more. more ≡ spec.joined so_far (spec.addressed_one operand.now so_far.next)) }
+    ensures { IfOk result (λ more.
+        more ≡ spec.joined so_far (spec.addressed_one operand.now so_far.next)) }
 {
     match (operand.tree.code, operand.tree.kids.as_slice()) {
         (Code::Mem, [address]) => address_at(alloc, operand, address, so_far),

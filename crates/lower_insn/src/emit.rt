@@ -41,7 +41,8 @@ fn if_kept(emission: Emission) -> Option<Emission>
 
 /// Whether some form matches a pattern.
 pub(crate) fn is_matched(alloc: Global, desc: &Description, x: &Rtx) -> Result<bool, Memory>
-    ensures { IfOk result (λ b. MatchBool b (IsMatched desc.now x.now) (IsUnmatched desc.now x.now)) }
+    ensures { IfOk result (λ b. MatchBool b (IsMatched desc.now x.now)
+        (IsUnmatched desc.now x.now)) }
 {
     match desc.recog(alloc, x, &lower_facts(alloc))? {
         Some(_) => Ok(true),

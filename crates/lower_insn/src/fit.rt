@@ -55,7 +55,8 @@ fn set_input(
     operand: &StandardOperand,
     so_far: Prepared,
 ) -> Result<Prepared, Memory>
-    ensures { IfOk result (λ more. more ≡ spec.joined so_far (spec.input_set mode operand.now so_far.next)) }
+    ensures { IfOk result (λ more.
+        more ≡ spec.joined so_far (spec.input_set mode operand.now so_far.next)) }
 {
     let next = so_far.next;
     let reg = pseudo(next)?;
@@ -71,7 +72,8 @@ fn move_target(
     operand: &StandardOperand,
     so_far: Prepared,
 ) -> Result<Prepared, Memory>
-    ensures { IfOk result (λ more. more ≡ spec.joined so_far (spec.target_moved mode operand.now so_far.next)) }
+    ensures { IfOk result (λ more.
+        more ≡ spec.joined so_far (spec.target_moved mode operand.now so_far.next)) }
 {
     let next = so_far.next;
     let reg = pseudo(next)?;
@@ -87,7 +89,9 @@ fn replace(
     operand: &StandardOperand,
     so_far: Prepared,
 ) -> Result<Option<Prepared>, Memory>
-    ensures { IfOk result (λ more. more ≡ option_map (spec.joined so_far) (spec.replaced_by operand.now.role mode operand.now so_far.next)) }
+    ensures { IfOk result (λ more.
+        more ≡ option_map (spec.joined so_far)
+        (spec.replaced_by operand.now.role mode operand.now so_far.next)) }
 {
     match operand.role {
         OperandRole::Input => Ok(Some(set_input(alloc, mode, operand, so_far)?)),
@@ -105,7 +109,9 @@ fn fit_at(
     placeholder: &Rtx,
     so_far: Prepared,
 ) -> Result<Option<Prepared>, Memory>
-    ensures { IfOk result (λ more. more ≡ option_map (spec.joined so_far) (spec.fitted_at (holds desc.now) held operand.now so_far.next placeholder.now)) }
+    ensures { IfOk result (λ more.
+        more ≡ option_map (spec.joined so_far)
+        (spec.fitted_at (holds desc.now) held operand.now so_far.next placeholder.now)) }
 {
     if !refuses(desc, placeholder, &operand.tree) {
         return Ok(Some(keep(so_far, copy_of(alloc, operand)?)?));
@@ -127,7 +133,9 @@ fn fit_one(
     operand: &StandardOperand,
     so_far: Prepared,
 ) -> Result<Option<Prepared>, Memory>
-    ensures { IfOk result (λ more. more ≡ option_map (spec.joined so_far) (spec.fitted_one (holds desc.now) patterns.now held number operand.now so_far.next)) }
+    ensures { IfOk result (λ more.
+        more ≡ option_map (spec.joined so_far)
+        (spec.fitted_one (holds desc.now) patterns.now held number operand.now so_far.next)) }
 {
     match placeholder_of(patterns, number) {
         Some(placeholder) => fit_at(alloc, desc, held, operand, placeholder, so_far),
@@ -146,7 +154,8 @@ pub(crate) fn fitted(
     operands: &[StandardOperand],
     next: u32,
 ) -> Result<Option<Prepared>, Memory>
-    ensures { IfOk result (λ all. all ≡ spec.fitted (holds desc.now) patterns.now held 0 operands.now next) }
+    ensures { IfOk result (λ all. all ≡ spec.fitted
+        (holds desc.now) patterns.now held 0 operands.now next) }
 {
     let mut so_far = nothing(alloc, next);
     let mut number = 0;

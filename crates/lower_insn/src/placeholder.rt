@@ -35,7 +35,8 @@ fn itself_if(test: bool, x: &Rtx) -> Option<&Rtx>
 #[cycle(seeking)]
 #[tactic(auto, using(crate::proofs::Placeholders::operand_found, crate::proofs::Placeholders::operator_found, crate::proofs::Placeholders::operator_parts, crate::proofs::Placeholders::itself_parts, crate::proofs::Placeholders::first_of_more, crate::proofs::Placeholders::goes_on))]
 fn placeholder_in(number: u32, x: &Rtx) -> Option<&Rtx>
-    ensures { option_copied result ≡ find (pattern.gives_number number) (pattern.placeholders x.now) }
+    ensures { option_copied result ≡ find (pattern.gives_number number)
+        (pattern.placeholders x.now) }
 {
     match role_of(x.code) {
         Role::Operand => itself_if(gives_number(number, x), x),

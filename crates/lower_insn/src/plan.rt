@@ -49,7 +49,8 @@ fn prepare(
     operands: &[StandardOperand],
     next: u32,
 ) -> Result<Option<Prepared>, Memory>
-    ensures { IfOk result (λ all. all ≡ spec.prepared_for (holds desc.now) patterns.now held operands.now next) }
+    ensures { IfOk result (λ all. all ≡ spec.prepared_for
+        (holds desc.now) patterns.now held operands.now next) }
 {
     let a = addressed(alloc, operands, next)?;
     match fitted(alloc, desc, patterns, held, a.operands.as_slice(), a.next)? {

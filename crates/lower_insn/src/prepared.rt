@@ -41,7 +41,8 @@ pub(crate) fn set_before(
     operand: StandardOperand,
     next: u32,
 ) -> Result<Prepared, Memory>
-    ensures { IfOk result (λ more. more ≡ spec.joined so_far (spec.prepared (setting ∷ []) (operand ∷ []) [] next)) }
+    ensures { IfOk result (λ more.
+        more ≡ spec.joined so_far (spec.prepared (setting ∷ []) (operand ∷ []) [] next)) }
 {
     let mut more = so_far;
     more.before.push(setting)?;
@@ -58,7 +59,8 @@ pub(crate) fn set_behind(
     setting: Rtx,
     next: u32,
 ) -> Result<Prepared, Memory>
-    ensures { IfOk result (λ more. more ≡ spec.joined so_far (spec.prepared [] (operand ∷ []) (setting ∷ []) next)) }
+    ensures { IfOk result (λ more.
+        more ≡ spec.joined so_far (spec.prepared [] (operand ∷ []) (setting ∷ []) next)) }
 {
     let mut more = so_far;
     more.operands.push(operand)?;

@@ -110,7 +110,8 @@ fn add(number: u32, count: usize) -> Result<u32, Memory>
 /// The uid of what is made next.
 #[tactic(auto, using(crate::proofs::Steps::uid_before))]
 fn uid_at(uids: Uids, work: &Work) -> Result<u32, Memory>
-    ensures { IfOk result (λ uid. uid ≡ spec.uid_at uids (reverse work.now.parts) (length work.now.sequence)) }
+    ensures { IfOk result (λ uid. uid ≡ spec.uid_at uids (reverse work.now.parts)
+        (length work.now.sequence)) }
 {
     if work.parts.is_empty() {
         Ok(uids.own)
@@ -120,7 +121,8 @@ fn uid_at(uids: Uids, work: &Work) -> Result<u32, Memory>
 }
 
 fn shown_uid(uids: Uids, made: bool, work: &Work) -> Result<u32, Memory>
-    ensures { IfOk result (λ uid. uid ≡ spec.shown_uid uids made (reverse work.now.parts) (length work.now.sequence)) }
+    ensures { IfOk result (λ uid. uid ≡ spec.shown_uid uids made (reverse work.now.parts)
+        (length work.now.sequence)) }
 {
     if made {
         uid_at(uids, work)
@@ -131,7 +133,8 @@ fn shown_uid(uids: Uids, made: bool, work: &Work) -> Result<u32, Memory>
 
 /// The refusal of a pattern for which no form counts, and which would be made next.
 fn unmatched(uids: Uids, made: bool, work: &Work, x: Rtx) -> Result<PassRefusal, Memory>
-    ensures { IfOk result (λ e. e ≡ spec.unmatched_at uids made (reverse work.now.parts) (length work.now.sequence) x) }
+    ensures { IfOk result (λ e. e ≡ spec.unmatched_at uids made (reverse work.now.parts)
+        (length work.now.sequence) x) }
 {
     Ok(PassRefusal::Unmatched {
         uid: shown_uid(uids, made, work)?,
@@ -152,7 +155,13 @@ fn make(work: Work, x: Rtx) -> Result<Work, Memory>
 
 /// Work with more parts, which are the next.
 fn put(work: Work, parts: Items<Part>, next: u32) -> Result<Work, Memory>
-    ensures { IfOk result (λ more. more ≡ record { parts = work.parts ++ reverse parts; sequence = work.sequence; next = next }) }
+    ensures { IfOk result (λ more.
+        more ≡ record {
+          parts = work.parts ++ reverse parts;
+          sequence = work.sequence;
+          next =
+              next;
+        }) }
 {
     Ok(Work {
         parts: put_all(work.parts, parts)?,

@@ -50,7 +50,9 @@ impl Defaults {
 
     /// A definition, which counts where the name has none yet.
     fn put(&mut self, alloc: Global, name: &[u8], default: Option<Name>) -> Result<(), Memory>
-        ensures { OnOk result ((other : List ℕ) → definition_in self.new other ≡ option_or (definition_in self.old other) (if bytes_eq name.now other then Some default else None)) }
+        ensures { OnOk result ((other : List ℕ) →
+            definition_in self.new other ≡ option_or (definition_in self.old other)
+            (if bytes_eq name.now other then Some default else None)) }
     {
         if self.definition_of(name).is_none() {
             self.by_name.insert(Vec::from_slice(alloc, name)?, default)?;
@@ -60,7 +62,10 @@ impl Defaults {
 
     /// The definition in a form, if it has one.
     fn add(&mut self, alloc: Global, entry: &Entry) -> Result<(), Memory>
-        ensures { OnOk result ((name : List ℕ) → definition_in self.new name ≡ option_or (definition_in self.old name) (if defines defines_attribute name entry.now then Some (spec.default_by entry.now) else None)) }
+        ensures { OnOk result ((name : List ℕ) →
+            definition_in self.new name ≡ option_or (definition_in self.old name)
+            (if defines defines_attribute name entry.now then Some
+            (spec.default_by entry.now) else None)) }
     {
         match defined(entry) {
             Some(name) => self.put(alloc, name.bytes(), default_by(alloc, entry)?),
@@ -98,7 +103,8 @@ fn default_by(alloc: Global, entry: &Entry) -> Result<Option<Name>, Memory>
 
 /// What the first definitions of attributes give, in some forms.
 pub fn defaults_of(alloc: Global, forms: &[Entry]) -> Result<Defaults, Memory>
-    ensures { IfOk result (λ defaults. (name : List ℕ) → default_in defaults name ≡ spec.default_of forms.now name) }
+    ensures { IfOk result (λ defaults. (name : List ℕ) →
+        default_in defaults name ≡ spec.default_of forms.now name) }
 {
     let mut defaults = Defaults::new(alloc);
     for entry in forms {

@@ -66,7 +66,8 @@ fn none_far(operands: &Operands, numbers: &[u64]) -> bool
 
 impl<P: Preds> Asked<'_, P> {
     fn member_admits(&self, x: &Rtx, member: &Member) -> bool
-        ensures { result ≡ spec.member_admits (tables.name_admits_in self.now.meanings.now (P.accepts self.now.preds.now)) self.now.operands.now x.now member.now }
+        ensures { result ≡ spec.member_admits (tables.name_admits_in self.now.meanings.now
+            (P.accepts self.now.preds.now)) self.now.operands.now x.now member.now }
     {
         match member {
             Member::Letter(letter) => letter_admits(*letter, x),
@@ -76,21 +77,25 @@ impl<P: Preds> Asked<'_, P> {
     }
 
     fn one_admits(&self, x: &Rtx, members: &[Member]) -> bool
-        ensures { result ≡ list_any (spec.member_admits (tables.name_admits_in self.now.meanings.now (P.accepts self.now.preds.now)) self.now.operands.now x.now) members.now }
+        ensures { result ≡ list_any (spec.member_admits (tables.name_admits_in self.now.meanings.now
+            (P.accepts self.now.preds.now)) self.now.operands.now x.now) members.now }
     {
         members.iter().any(|member| self.member_admits(x, member))
     }
 
     /// Whether an operand meets one of some members; no members accept anything.
     fn meets(&self, x: &Rtx, members: &[Member]) -> bool
-        ensures { result ≡ spec.meets (tables.name_admits_in self.now.meanings.now (P.accepts self.now.preds.now)) self.now.operands.now x.now members.now }
+        ensures { result ≡ spec.meets (tables.name_admits_in self.now.meanings.now
+            (P.accepts self.now.preds.now)) self.now.operands.now x.now members.now }
     {
         members.is_empty() || self.one_admits(x, members)
     }
 
     /// Whether an operand fits an alternative of its constraint.
     fn fits_in(&self, constraint: &OperandConstraint, x: &Rtx, alternative: &Alternative) -> bool
-        ensures { result ≡ spec.fits_in (tables.name_admits_in self.now.meanings.now (P.accepts self.now.preds.now)) self.now.inputs.now self.now.changed.now self.now.operands.now constraint.now x.now alternative.now }
+        ensures { result ≡ spec.fits_in (tables.name_admits_in self.now.meanings.now
+            (P.accepts self.now.preds.now)) self.now.inputs.now self.now.changed.now
+            self.now.operands.now constraint.now x.now alternative.now }
     {
         self.meets(x, alternative.members.as_slice())
             && !clashes_in(
@@ -104,7 +109,9 @@ impl<P: Preds> Asked<'_, P> {
     }
 
     fn fits_at(&self, constraint: &OperandConstraint, x: &Rtx) -> bool
-        ensures { result ≡ spec.fits_at (tables.name_admits_in self.now.meanings.now (P.accepts self.now.preds.now)) self.now.inputs.now self.now.changed.now self.now.operands.now self.now.alternative constraint.now x.now }
+        ensures { result ≡ spec.fits_at (tables.name_admits_in self.now.meanings.now
+            (P.accepts self.now.preds.now)) self.now.inputs.now self.now.changed.now
+            self.now.operands.now self.now.alternative constraint.now x.now }
     {
         if constraint.constraint.is_empty() {
             return true;
@@ -117,7 +124,9 @@ impl<P: Preds> Asked<'_, P> {
 
     /// Whether the operand of a constraint fits, where there is one.
     fn operand_fits(&self, constraint: &OperandConstraint) -> bool
-        ensures { result ≡ spec.operand_fits (tables.name_admits_in self.now.meanings.now (P.accepts self.now.preds.now)) self.now.inputs.now self.now.changed.now self.now.operands.now self.now.alternative constraint.now }
+        ensures { result ≡ spec.operand_fits (tables.name_admits_in self.now.meanings.now
+            (P.accepts self.now.preds.now)) self.now.inputs.now self.now.changed.now
+            self.now.operands.now self.now.alternative constraint.now }
     {
         match self.operands.get(constraint.operand as usize) {
             Some(x) => self.fits_at(constraint, x),
@@ -126,7 +135,9 @@ impl<P: Preds> Asked<'_, P> {
     }
 
     fn all_fit(&self, constraints: &[OperandConstraint]) -> bool
-        ensures { result ≡ spec.all_fit (tables.name_admits_in self.now.meanings.now (P.accepts self.now.preds.now)) self.now.inputs.now self.now.changed.now self.now.operands.now self.now.alternative constraints.now }
+        ensures { result ≡ spec.all_fit (tables.name_admits_in self.now.meanings.now
+            (P.accepts self.now.preds.now)) self.now.inputs.now self.now.changed.now
+            self.now.operands.now self.now.alternative constraints.now }
     {
         constraints
             .iter()
@@ -135,13 +146,17 @@ impl<P: Preds> Asked<'_, P> {
 
     /// Whether all operands fit, of which some have these constraints.
     pub fn fit_together(&self, constraints: &[OperandConstraint]) -> bool
-        ensures { result ≡ spec.fit_together (tables.name_admits_in self.now.meanings.now (P.accepts self.now.preds.now)) self.now.numbers.now self.now.inputs.now self.now.changed.now self.now.operands.now self.now.alternative constraints.now }
+        ensures { result ≡ spec.fit_together (tables.name_admits_in self.now.meanings.now
+            (P.accepts self.now.preds.now)) self.now.numbers.now self.now.inputs.now
+            self.now.changed.now self.now.operands.now self.now.alternative constraints.now }
     {
         none_far(self.operands, self.numbers) && self.all_fit(constraints)
     }
 
     fn constraint_admits(&self, constraint: &OperandConstraint, x: &Rtx) -> bool
-        ensures { result ≡ spec.constraint_admits (tables.name_admits_in self.now.meanings.now (P.accepts self.now.preds.now)) self.now.operands.now self.now.alternative x.now constraint.now }
+        ensures { result ≡ spec.constraint_admits (tables.name_admits_in self.now.meanings.now
+            (P.accepts self.now.preds.now)) self.now.operands.now self.now.alternative x.now
+            constraint.now }
     {
         if constraint.constraint.is_empty() {
             return true;
@@ -153,7 +168,10 @@ impl<P: Preds> Asked<'_, P> {
     }
 
     fn each_fits(&self, constraints: &[OperandConstraint], number: u32) -> bool
-        ensures { result ≡ spec.each_of number (spec.operand_fits (tables.name_admits_in self.now.meanings.now (P.accepts self.now.preds.now)) self.now.inputs.now self.now.changed.now self.now.operands.now self.now.alternative) constraints.now }
+        ensures { result ≡ spec.each_of number
+            (spec.operand_fits (tables.name_admits_in self.now.meanings.now
+            (P.accepts self.now.preds.now)) self.now.inputs.now self.now.changed.now
+            self.now.operands.now self.now.alternative) constraints.now }
     {
         constraints.iter().all(|constraint| constraint.operand != number
             || self.operand_fits(constraint))
@@ -161,7 +179,9 @@ impl<P: Preds> Asked<'_, P> {
 
     /// Whether the operand with a number fits, by each of its constraints.
     pub fn fits_alone(&self, constraints: &[OperandConstraint], number: u32) -> bool
-        ensures { result ≡ spec.fits_alone (tables.name_admits_in self.now.meanings.now (P.accepts self.now.preds.now)) self.now.inputs.now self.now.changed.now self.now.operands.now self.now.alternative number constraints.now }
+        ensures { result ≡ spec.fits_alone (tables.name_admits_in self.now.meanings.now
+            (P.accepts self.now.preds.now)) self.now.inputs.now self.now.changed.now
+            self.now.operands.now self.now.alternative number constraints.now }
     {
         !is_far_at(self.operands, u64::from(number)) && self.each_fits(constraints, number)
     }
@@ -169,7 +189,10 @@ impl<P: Preds> Asked<'_, P> {
     /// Whether a tree is admitted in the place of the operand with a number, by each of its
     /// constraints.
     pub fn number_admits(&self, constraints: &[OperandConstraint], number: u32, x: &Rtx) -> bool
-        ensures { result ≡ spec.each_of number (spec.constraint_admits (tables.name_admits_in self.now.meanings.now (P.accepts self.now.preds.now)) self.now.operands.now self.now.alternative x.now) constraints.now }
+        ensures { result ≡ spec.each_of number
+            (spec.constraint_admits (tables.name_admits_in self.now.meanings.now
+            (P.accepts self.now.preds.now)) self.now.operands.now self.now.alternative x.now)
+            constraints.now }
     {
         constraints.iter().all(|constraint| constraint.operand != number
             || self.constraint_admits(constraint, x))

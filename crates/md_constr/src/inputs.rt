@@ -14,7 +14,8 @@ use std::slice;
 type Numbers = Items<u64>;
 
 fn push_taken_here(x: &Rtx, numbers: &mut Numbers) -> Result<(), Memory>
-    ensures { OnOk result (numbers.new ≡ numbers.old ++ spec.taken_here (head_of x.now).code (head_of x.now).number) }
+    ensures { OnOk result (numbers.new ≡ numbers.old ++ spec.taken_here (head_of x.now).code
+        (head_of x.now).number) }
 {
     match x.code {
         Code::MatchOperand | Code::MatchDup | Code::MatchOperator => {
@@ -58,7 +59,8 @@ fn push_taken_at(target: &Rtx, numbers: &mut Numbers) -> Result<(), Memory>
 
 #[tactic(auto, using(crate::proofs::InputLaws::appended_both))]
 fn push_taken_by_set(target: &Rtx, source: &Rtx, numbers: &mut Numbers) -> Result<(), Memory>
-    ensures { OnOk result (numbers.new ≡ numbers.old ++ (spec.taken_at target.now ++ spec.taken_in source.now)) }
+    ensures { OnOk result (numbers.new ≡ numbers.old ++
+        (spec.taken_at target.now ++ spec.taken_in source.now)) }
 {
     push_taken_at(target, numbers)?;
     push_taken(source, numbers)

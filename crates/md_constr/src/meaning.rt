@@ -25,7 +25,8 @@ pub enum Meaning {
 
 impl Meaning {
     fn of_test(alloc: Global, test: &Test) -> Result<Meaning, Memory>
-        ensures { IfOk result (λ m. (accepts : Accepts) (x : Rtx) → tables.meaning_admits m accepts x ≡ spec.admits_by accepts None (Some test.now) x) }
+        ensures { IfOk result (λ m. (accepts : Accepts) (x : Rtx) →
+            tables.meaning_admits m accepts x ≡ spec.admits_by accepts None (Some test.now) x) }
     {
         let mut rows = TestRows::new(alloc);
         let root = rows.push(alloc, test)?;
@@ -34,7 +35,8 @@ impl Meaning {
 
     /// What the constraint means that a form defines.
     pub fn of(alloc: Global, form: &Form) -> Result<Meaning, Memory>
-        ensures { IfOk result (λ m. (accepts : Accepts) (x : Rtx) → tables.meaning_admits m accepts x ≡ spec.form_admits accepts form.now x) }
+        ensures { IfOk result (λ m. (accepts : Accepts) (x : Rtx) →
+            tables.meaning_admits m accepts x ≡ spec.form_admits accepts form.now x) }
     {
         match (form.class, &form.test) {
             (Some(class), _) => Ok(Meaning::Registers(class)),

@@ -54,7 +54,9 @@ impl Meanings {
 
     /// A definition, which counts where the name has none yet.
     fn put(&mut self, alloc: Global, name: &[u8], meaning: Option<Meaning>) -> Result<(), Memory>
-        ensures { OnOk result ((other : List ℕ) → tables.meaning_in self.new other ≡ option_or (tables.meaning_in self.old other) (if bytes_eq name.now other then Some meaning else None)) }
+        ensures { OnOk result ((other : List ℕ) →
+            tables.meaning_in self.new other ≡ option_or (tables.meaning_in self.old other)
+            (if bytes_eq name.now other then Some meaning else None)) }
     {
         if self.meaning_of(name).is_none() {
             self.by_name.insert(Vec::from_slice(alloc, name)?, meaning)?;
@@ -64,7 +66,11 @@ impl Meanings {
 
     /// The definition in a form, if it has one.
     fn add(&mut self, alloc: Global, entry: &Entry) -> Result<(), Memory>
-        ensures { OnOk result ((name : List ℕ) → option_map tables.definition_admits (tables.meaning_in self.new name) ≡ option_or (option_map tables.definition_admits (tables.meaning_in self.old name)) (if defines defines_constraint name entry.now then Some (tables.entry_admits entry.now) else None)) }
+        ensures { OnOk result ((name : List ℕ) →
+            option_map tables.definition_admits (tables.meaning_in self.new name) ≡ option_or
+            (option_map tables.definition_admits (tables.meaning_in self.old name))
+            (if defines defines_constraint name entry.now then Some
+            (tables.entry_admits entry.now) else None)) }
     {
         match defined(entry) {
             Some(name) => self.put(alloc, name.bytes(), meaning_by(alloc, entry)?),
@@ -95,7 +101,8 @@ fn defined(entry: &Entry) -> Option<&Name>
 
 /// What the constraint means that a form defines, if it is accepted.
 fn meaning_by(alloc: Global, entry: &Entry) -> Result<Option<Meaning>, Memory>
-    ensures { IfOk result (λ m. (accepts : Accepts) (x : Rtx) → tables.definition_admits m accepts x ≡ tables.entry_admits entry.now accepts x) }
+    ensures { IfOk result (λ m. (accepts : Accepts) (x : Rtx) →
+        tables.definition_admits m accepts x ≡ tables.entry_admits entry.now accepts x) }
 {
     match &entry.form {
         Ok(form) => Ok(Some(Meaning::of(alloc, form)?)),
@@ -105,7 +112,8 @@ fn meaning_by(alloc: Global, entry: &Entry) -> Result<Option<Meaning>, Memory>
 
 /// What the first definitions of constraints mean, in some forms.
 pub fn meanings_of(alloc: Global, forms: &[Entry]) -> Result<Meanings, Memory>
-    ensures { IfOk result (λ meanings. (accepts : Accepts) (name : List ℕ) (x : Rtx) → tables.name_admits_in meanings accepts name x ≡ spec.name_admits forms.now accepts name x) }
+    ensures { IfOk result (λ meanings. (accepts : Accepts) (name : List ℕ) (x : Rtx) →
+        tables.name_admits_in meanings accepts name x ≡ spec.name_admits forms.now accepts name x) }
 {
     let mut meanings = Meanings::new(alloc);
     for entry in forms {

@@ -46,7 +46,8 @@ impl Constraints {
         alternative: u32,
         operands: &Operands,
     ) -> bool
-        ensures { result ≡ tables.found_fits (tables.name_admits_in self.now.meanings (P.accepts preds.now)) alternative operands.now found.now }
+        ensures { result ≡ tables.found_fits (tables.name_admits_in self.now.meanings
+            (P.accepts preds.now)) alternative operands.now found.now }
     {
         let asked = Asked {
             meanings: &self.meanings,
@@ -78,7 +79,8 @@ impl Constraints {
         operands: &Operands,
         number: u32,
     ) -> bool
-        ensures { result ≡ tables.found_number_fits (tables.name_admits_in self.now.meanings (P.accepts preds.now)) alternative operands.now number found.now }
+        ensures { result ≡ tables.found_number_fits (tables.name_admits_in self.now.meanings
+            (P.accepts preds.now)) alternative operands.now number found.now }
     {
         let asked = Asked {
             meanings: &self.meanings,
@@ -100,7 +102,8 @@ impl Constraints {
         operands: &Operands,
         number: u32,
     ) -> bool
-        ensures { result ≡ tables.number_fits_in self.now (P.accepts preds.now) form alternative operands.now number }
+        ensures { result ≡ tables.number_fits_in self.now
+            (P.accepts preds.now) form alternative operands.now number }
     {
         match self.constraints_of(form) {
             Some(found) => self.found_number_fits(preds, found, alternative, operands, number),
@@ -117,7 +120,8 @@ impl Constraints {
         number: u32,
         x: &Rtx,
     ) -> bool
-        ensures { result ≡ tables.found_number_admits (tables.name_admits_in self.now.meanings (P.accepts preds.now)) alternative operands.now number x.now found.now }
+        ensures { result ≡ tables.found_number_admits (tables.name_admits_in self.now.meanings
+            (P.accepts preds.now)) alternative operands.now number x.now found.now }
     {
         let asked = Asked {
             meanings: &self.meanings,
@@ -140,7 +144,8 @@ impl Constraints {
         number: u32,
         x: &Rtx,
     ) -> bool
-        ensures { result ≡ tables.number_admits_in self.now (P.accepts preds.now) form alternative operands.now number x.now }
+        ensures { result ≡ tables.number_admits_in self.now
+            (P.accepts preds.now) form alternative operands.now number x.now }
     {
         match self.constraints_of(form) {
             Some(found) => {

@@ -116,7 +116,8 @@ impl Description {
 
     /// Whether operands fit an alternative of an accepted form.
     pub fn fits(&self, form: u32, alternative: u32, operands: &Operands) -> bool
-        ensures { result ≡ constraints.fits self.now (holds self.now) form alternative operands.now }
+        ensures { result ≡ constraints.fits self.now
+            (holds self.now) form alternative operands.now }
     {
         fits(&self.constraints, &self.preds, form, alternative, operands)
     }
@@ -153,7 +154,8 @@ impl Description {
         number: u32,
         x: &Rtx,
     ) -> bool
-        ensures { result ≡ constraints.number_admits self.now (holds self.now) form alternative operands.now number x.now }
+        ensures { result ≡ constraints.number_admits self.now
+            (holds self.now) form alternative operands.now number x.now }
     {
         let preds = &self.preds;
         operand_admits(
@@ -180,8 +182,10 @@ impl Description {
         requires name { blank.name ≡ L.name }
         requires parts { blank.parts ≡ L.parts }
         requires some { 0 < blank.parts }
-        ensures first { IfOk result (λ r. (m : FormMatch) → (r ≡ Some m) ↔ spec.IsFirst self.now facts.now insn.now from m) }
-        ensures none { IfOk result (λ r. r ≡ None → spec.NoneBehind self.now facts.now insn.now from) }
+        ensures first { IfOk result (λ r. (m : FormMatch) →
+            (r ≡ Some m) ↔ spec.IsFirst self.now facts.now insn.now from m) }
+        ensures none { IfOk result (λ r. r ≡ None →
+            spec.NoneBehind self.now facts.now insn.now from) }
         ensures small { IfOk result (λ r. IfSome r (λ m. m.form < most_forms)) }
     {
         let mut steps = Steps::<L>::new(blank);
@@ -206,8 +210,10 @@ impl Description {
         facts: &Facts,
         from: u32,
     ) -> Result<Option<FormMatch>, Memory>
-        ensures first { IfOk result (λ r. (m : FormMatch) → (r ≡ Some m) ↔ spec.IsFirst self.now facts.now insn.now from m) }
-        ensures none { IfOk result (λ r. r ≡ None → spec.NoneBehind self.now facts.now insn.now from) }
+        ensures first { IfOk result (λ r. (m : FormMatch) →
+            (r ≡ Some m) ↔ spec.IsFirst self.now facts.now insn.now from m) }
+        ensures none { IfOk result (λ r. r ≡ None →
+            spec.NoneBehind self.now facts.now insn.now from) }
         ensures small { IfOk result (λ r. IfSome r (λ m. m.form < most_forms)) }
     {
         self.first_counted::<Brand>(alloc, insn, facts, from, Blank::new(1))
@@ -220,7 +226,8 @@ impl Description {
         insn: &Rtx,
         facts: &Facts,
     ) -> Result<Option<FormMatch>, Memory>
-        ensures first { IfOk result (λ r. (m : FormMatch) → (r ≡ Some m) ↔ spec.IsFirst self.now facts.now insn.now 0 m) }
+        ensures first { IfOk result (λ r. (m : FormMatch) →
+            (r ≡ Some m) ↔ spec.IsFirst self.now facts.now insn.now 0 m) }
         ensures none { IfOk result (λ r. r ≡ None → spec.NoneMatches self.now facts.now insn.now) }
     {
         self.first_from(alloc, insn, facts, 0)

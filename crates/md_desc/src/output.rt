@@ -61,7 +61,8 @@ impl Description {
     /// a number are wanted as memory is.
     #[tactic(auto, using(crate::proofs::Lowest::is_lowest, crate::proofs::Lowest::none_lowest, crate::proofs::Lowest::goes_on))]
     fn lowest(&self, form: u32, operands: &Operands) -> Result<Option<u32>, Memory>
-        ensures { IfOk result (λ r. (alternative : ℕ) → (r ≡ Some alternative) ↔ spec.IsLowest self.now form operands.now alternative) }
+        ensures { IfOk result (λ r. (alternative : ℕ) →
+            (r ≡ Some alternative) ↔ spec.IsLowest self.now form operands.now alternative) }
     {
         let mut alternative: u32 = 0;
         while self.has_alternative(form, alternative) {
@@ -104,8 +105,10 @@ impl Description {
         insn: &Rtx,
         facts: &Facts,
     ) -> Result<Option<Chosen>, Memory>
-        ensures chosen { IfOk result (λ r. (c : Chosen) → (r ≡ Some c) ↔ spec.IsChosen self.now facts.now insn.now c) }
-        ensures none { IfOk result (λ r. r ≡ None → spec.NoneMatchesOut self.now facts.now insn.now) }
+        ensures chosen { IfOk result (λ r. (c : Chosen) →
+            (r ≡ Some c) ↔ spec.IsChosen self.now facts.now insn.now c) }
+        ensures none { IfOk result (λ r. r ≡ None →
+            spec.NoneMatchesOut self.now facts.now insn.now) }
     {
         let mut from: u32 = 0;
         while let Some(found) = self.first_from(alloc, insn, facts, from)? {

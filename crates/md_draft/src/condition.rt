@@ -78,7 +78,8 @@ pub fn condition_in(
     values: &[Name],
     tree: Option<&Tree>,
 ) -> Result<Judged<Cond>, Memory>
-    ensures { IfOk result (λ cond. cond ≡ spec.condition_in constants.now values.now (option_copied tree.entry)) }
+    ensures { IfOk result (λ cond.
+        cond ≡ spec.condition_in constants.now values.now (option_copied tree.entry)) }
 {
     match tree {
         Some(tree) => condition_by(alloc, constants, values, tree),
@@ -94,7 +95,8 @@ fn split_under(
     insn: Option<&Tree>,
     text: &[u8],
 ) -> Result<Judged<Cond>, Memory>
-    ensures { IfOk result (λ cond. cond ≡ spec.split_under constants.now values.now (option_copied insn.entry) text.now) }
+    ensures { IfOk result (λ cond.
+        cond ≡ spec.split_under constants.now values.now (option_copied insn.entry) text.now) }
 {
     match behind_blanks(text) {
         [b'&', b'&', rest @ ..] => {
@@ -114,7 +116,9 @@ pub fn split_condition_in(
     insn: Option<&Tree>,
     tree: Option<&Tree>,
 ) -> Result<Judged<Cond>, Memory>
-    ensures { IfOk result (λ cond. cond ≡ spec.split_condition_in constants.now values.now (option_copied insn.entry) (option_copied tree.entry)) }
+    ensures { IfOk result (λ cond.
+        cond ≡ spec.split_condition_in constants.now values.now (option_copied insn.entry)
+        (option_copied tree.entry)) }
 {
     let Some(tree) = tree else {
         return Ok(Ok(no_condition(alloc)?));
@@ -142,7 +146,8 @@ pub fn statements_in(
     constants: &Constants,
     tree: Option<&Tree>,
 ) -> Result<Judged<Prep>, Memory>
-    ensures { IfOk result (λ prep. prep ≡ spec.statements_in constants.now (option_copied tree.entry)) }
+    ensures { IfOk result (λ prep.
+        prep ≡ spec.statements_in constants.now (option_copied tree.entry)) }
 {
     let Some(tree) = tree else {
         return Ok(Ok(no_statements(alloc)?));

@@ -31,7 +31,8 @@ fn matched_in(
     head: FormHead,
     items: &[Tree],
 ) -> Result<Judged<Matched>, Memory>
-    ensures { IfOk result (λ matched. matched ≡ spec.matched_in constants.now values.now head items.now) }
+    ensures { IfOk result (λ matched.
+        matched ≡ spec.matched_in constants.now values.now head items.now) }
 {
     let places = layout_of(head);
     let patterns = patterns_in(alloc, constants, head, part_at(items, places.patterns))?;
@@ -159,7 +160,8 @@ fn matched_and_made(
     head: FormHead,
     items: &[Tree],
 ) -> Result<Judged<(Matched, Made)>, Memory>
-    ensures { IfOk result (λ parts. parts ≡ both (spec.matched_in constants.now values.now head items.now)
+    ensures { IfOk result (λ parts.
+        parts ≡ both (spec.matched_in constants.now values.now head items.now)
         (spec.made_in constants.now values.now head items.now)) }
 {
     let matched = matched_in(alloc, constants, values, head, items)?;
@@ -209,7 +211,8 @@ fn whole_draft(
     head: FormHead,
     items: &[Tree],
 ) -> Result<Judged<Draft>, Memory>
-    ensures { IfOk result (λ draft. draft ≡ spec.whole_draft constants.now values.now head items.now) }
+    ensures { IfOk result (λ draft.
+        draft ≡ spec.whole_draft constants.now values.now head items.now) }
 {
     let matched_and_made = matched_and_made(alloc, constants, values, head, items)?;
     let printed_and_defined = printed_and_defined(alloc, constants, head, items)?;
@@ -241,7 +244,8 @@ fn draft_by(
     head: &[u8],
     items: &[Tree],
 ) -> Result<Judged<Draft>, Memory>
-    ensures { IfOk result (λ draft. draft ≡ spec.draft_by constants.now values.now (head_named head.now) items.now) }
+    ensures { IfOk result (λ draft.
+        draft ≡ spec.draft_by constants.now values.now (head_named head.now) items.now) }
 {
     match FormHead::named(head) {
         Some(head) => draft_in(alloc, constants, values, head, items),
@@ -308,7 +312,8 @@ fn headed(
     head: &Name,
     items: &[Tree],
 ) -> Result<DraftEntry, Memory>
-    ensures { IfOk result (λ entry. entry ≡ spec.headed constants.now values.now head.now items.now) }
+    ensures { IfOk result (λ entry.
+        entry ≡ spec.headed constants.now values.now head.now items.now) }
 {
     let head_text = head.copy(alloc)?;
     let name = name_of(alloc, items)?;
@@ -333,7 +338,8 @@ pub fn entry_of(
     ensures entry { IfOk result (λ entry. entry ≡ spec.entry_of constants.now values.now tree.now) }
 
     // A form that has parts has no reason, and any other has the smallest of its reasons.
-    ensures reasons { IsSmallest (Applies constants.now values.now tree.now) (spec.entry_of constants.now values.now tree.now).draft }
+    ensures reasons { IsSmallest (Applies constants.now values.now tree.now)
+        (spec.entry_of constants.now values.now tree.now).draft }
 {
     let items = items(tree);
     match head_in(items) {

@@ -140,7 +140,8 @@ pub fn patterns_in(
     head: FormHead,
     tree: Option<&Tree>,
 ) -> Result<Judged<Patterns>, Memory>
-    ensures { IfOk result (λ patterns. patterns ≡ spec.patterns_in constants.now head (option_copied tree.entry)) }
+    ensures { IfOk result (λ patterns.
+        patterns ≡ spec.patterns_in constants.now head (option_copied tree.entry)) }
 {
     let Some(tree) = tree else {
         return Ok(Ok(no_patterns(alloc)));
@@ -159,7 +160,8 @@ pub fn sequence_in(
     constants: &Constants,
     tree: Option<&Tree>,
 ) -> Result<Judged<Patterns>, Memory>
-    ensures { IfOk result (λ patterns. patterns ≡ spec.sequence_in constants.now (option_copied tree.entry)) }
+    ensures { IfOk result (λ patterns.
+        patterns ≡ spec.sequence_in constants.now (option_copied tree.entry)) }
 {
     match tree {
         Some(tree) => patterns_of(alloc, tree, constants),

@@ -70,7 +70,8 @@ fn attribute_vector(alloc: Global, tree: &Tree) -> Result<Judged<Items<Attribute
 /// The attributes of a form, which may lack.
 #[tactic(auto, unfolding(crate::specs::Parts::attributes_in))]
 pub fn attributes_in(alloc: Global, tree: Option<&Tree>) -> Result<Judged<Items<Attribute>>, Memory>
-    ensures { IfOk result (λ attributes. attributes ≡ spec.attributes_in (option_copied tree.entry)) }
+    ensures { IfOk result (λ attributes.
+        attributes ≡ spec.attributes_in (option_copied tree.entry)) }
 {
     match tree {
         Some(tree) => attribute_vector(alloc, tree),

@@ -27,8 +27,12 @@ fn split_counted<L: Ledger>(
     requires name { blank.name ≡ L.name }
     requires parts { blank.parts ≡ L.parts }
     requires some { 0 < blank.parts }
-    ensures first { IfOk result (λ r. (m : FormMatch) → (r ≡ Some m) ↔ IsFirst (holds desc.now) facts.now half.Split (insn.now ∷ []) desc.now from m) }
-    ensures none { IfOk result (λ r. r ≡ None → NoneBetween (holds desc.now) facts.now half.Split (insn.now ∷ []) desc.now from (length desc.now)) }
+    ensures first { IfOk result (λ r. (m : FormMatch) →
+        (r ≡ Some m) ↔ IsFirst (holds desc.now) facts.now half.Split
+        (insn.now ∷ []) desc.now from m) }
+    ensures none { IfOk result (λ r. r ≡ None →
+        NoneBetween (holds desc.now) facts.now half.Split (insn.now ∷ []) desc.now from
+        (length desc.now)) }
 {
     let mut steps = Steps::<L>::new(blank);
     first_match(
@@ -56,8 +60,12 @@ pub fn split_of(
     facts: &Facts,
     from: u32,
 ) -> Result<Option<FormMatch>, Memory>
-    ensures first { IfOk result (λ r. (m : FormMatch) → (r ≡ Some m) ↔ IsFirst (holds desc.now) facts.now half.Split (insn.now ∷ []) desc.now from m) }
-    ensures none { IfOk result (λ r. r ≡ None → NoneBetween (holds desc.now) facts.now half.Split (insn.now ∷ []) desc.now from (length desc.now)) }
+    ensures first { IfOk result (λ r. (m : FormMatch) →
+        (r ≡ Some m) ↔ IsFirst (holds desc.now) facts.now half.Split
+        (insn.now ∷ []) desc.now from m) }
+    ensures none { IfOk result (λ r. r ≡ None →
+        NoneBetween (holds desc.now) facts.now half.Split (insn.now ∷ []) desc.now from
+        (length desc.now)) }
 {
     split_counted::<Brand>(alloc, desc, insn, facts, from, Blank::new(1))
 }

@@ -152,7 +152,8 @@ fn constraints_of(
     names: &[Name],
     texts: &[OperandText],
 ) -> Result<Option<Items<OperandConstraint>>, Memory>
-    ensures { IfOk result (λ constraints. constraints ≡ lists.each (spec.constraint_in names.now) texts.now) }
+    ensures { IfOk result (λ constraints.
+        constraints ≡ lists.each (spec.constraint_in names.now) texts.now) }
 {
     let mut constraints = Items::new(alloc);
     for text in texts {

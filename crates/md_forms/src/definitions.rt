@@ -43,7 +43,8 @@ impl<D: Named> Model for Definitions<D> {
 
 /// Where the names of some definitions stand first.
 fn places_of<D: Named>(alloc: Global, all: &[D]) -> Result<Places, Memory>
-    ensures { IfOk result (λ places. (name : List ℕ) → place_in places name ≡ position (λ d. bytes_eq (D.name d) name) all.now) }
+    ensures { IfOk result (λ places. (name : List ℕ) →
+        place_in places name ≡ position (λ d. bytes_eq (D.name d) name) all.now) }
 {
     let mut places = Places::new(alloc);
     for at in 0..all.len() {

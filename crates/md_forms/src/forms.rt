@@ -68,7 +68,8 @@ pub fn forms_of(alloc: Global, forms: &[Instance], constants: &Constants) -> Res
     ensures forms { IfOk result (λ all. all ≡ spec.forms_of constants.now forms.now) }
 
     // A form that is taken has no reason, and any other has the smallest of its reasons.
-    ensures reasons { (form : Instance) → IsSmallest (reasons.Applies constants.now (reasons.tables_in constants.now forms.now) form)
+    ensures reasons { (form : Instance) →
+        IsSmallest (reasons.Applies constants.now (reasons.tables_in constants.now forms.now) form)
         (reasons.judged_in constants.now forms.now form) }
 {
     let entries = entries_of(alloc, constants, forms)?;

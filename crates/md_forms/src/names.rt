@@ -14,7 +14,8 @@ use std::alloc::Global;
 // ---- predicates
 
 fn push_predicate(alloc: Global, x: &Rtx, names: &mut Items<Name>) -> Result<(), Memory>
-    ensures { OnOk result (names.new ≡ names.old ++ spec.predicate_here (head_of x.now).code (head_of x.now).name) }
+    ensures { OnOk result (names.new ≡ names.old ++ spec.predicate_here (head_of x.now).code
+        (head_of x.now).name) }
 {
     match x.code {
         Code::MatchOperand | Code::MatchOperator => names.push(x.name.copy(alloc)?),
@@ -92,7 +93,8 @@ pub fn predicates_named(alloc: Global, draft: &Draft) -> Result<Items<Name>, Mem
 // ---- operands
 
 fn push_operand(x: &Rtx, numbers: &mut Items<u64>) -> Result<(), Memory>
-    ensures { OnOk result (numbers.new ≡ numbers.old ++ spec.operand_here (head_of x.now).code (head_of x.now).number) }
+    ensures { OnOk result (numbers.new ≡ numbers.old ++ spec.operand_here (head_of x.now).code
+        (head_of x.now).number) }
 {
     match x.code {
         Code::MatchOperand | Code::MatchScratch | Code::MatchOperator => {
@@ -126,7 +128,8 @@ pub fn push_all_operands(trees: &[Rtx], numbers: &mut Items<u64>) -> Result<(), 
 }
 
 fn push_dup(x: &Rtx, numbers: &mut Items<u64>) -> Result<(), Memory>
-    ensures { OnOk result (numbers.new ≡ numbers.old ++ spec.dup_here (head_of x.now).code (head_of x.now).number) }
+    ensures { OnOk result (numbers.new ≡ numbers.old ++ spec.dup_here (head_of x.now).code
+        (head_of x.now).number) }
 {
     match x.code {
         Code::MatchDup | Code::MatchOpDup => numbers.push(x.number.cast_unsigned()),

@@ -33,7 +33,9 @@ impl Places {
 
     /// A name stands at a place, which counts where it stands nowhere yet.
     pub fn put(&mut self, alloc: Global, name: &[u8], place: usize) -> Result<(), Memory>
-        ensures { OnOk result ((other : List ℕ) → place_in self.new other ≡ option_or (place_in self.old other) (if bytes_eq name.now other then Some place else None)) }
+        ensures { OnOk result ((other : List ℕ) →
+            place_in self.new other ≡ option_or (place_in self.old other)
+            (if bytes_eq name.now other then Some place else None)) }
     {
         if self.place_of(name).is_none() {
             self.by_name.insert(Vec::from_slice(alloc, name)?, place)?;

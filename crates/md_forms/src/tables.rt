@@ -184,7 +184,8 @@ fn is_sound(
     accepted: &[bool],
     draft: &Judged<Draft>,
 ) -> Result<bool, Memory>
-    ensures { IfOk result (λ sound. sound ≡ spec.is_sound (is_known predicates.now accepted.now) draft.now) }
+    ensures { IfOk result (λ sound.
+        sound ≡ spec.is_sound (is_known predicates.now accepted.now) draft.now) }
 {
     match draft {
         Ok(draft) => {
@@ -201,7 +202,8 @@ fn constraint_of(
     accepted: &[bool],
     entry: &DraftEntry,
 ) -> Result<Option<ConstraintDraft>, Memory>
-    ensures { IfOk result (λ d. d ≡ spec.constraint_of (is_known predicates.now accepted.now) entry.now) }
+    ensures { IfOk result (λ d. d ≡ spec.constraint_of
+        (is_known predicates.now accepted.now) entry.now) }
 {
     match constraint_name(entry) {
         Some(name) => Ok(Some(ConstraintDraft {
@@ -219,7 +221,8 @@ fn constraints_of(
     accepted: &[bool],
     entries: &[DraftEntry],
 ) -> Result<Items<ConstraintDraft>, Memory>
-    ensures { IfOk result (λ ds. ds ≡ spec.constraints_of (is_known predicates.now accepted.now) entries.now) }
+    ensures { IfOk result (λ ds. ds ≡ spec.constraints_of
+        (is_known predicates.now accepted.now) entries.now) }
 {
     let mut found = Items::new(alloc);
     for entry in entries {

@@ -17,7 +17,8 @@ fn push_closed(
     name: &[u8],
     out: &mut Vec<u8>,
 ) -> Result<(), Memory>
-    ensures { OnOk result (out.new.items ≡ out.old.items ++ spec.closed (filling definitions.now (map chosen_of choices.now)) name.now) }
+    ensures { OnOk result (out.new.items ≡ out.old.items ++ spec.closed
+        (filling definitions.now (map chosen_of choices.now)) name.now) }
 {
     match filling_of(definitions, choices, name) {
         Some(filling) => filling.push(out),
@@ -39,8 +40,12 @@ fn step(
     byte: u8,
     out: &mut Vec<u8>,
 ) -> Result<Option<Vec<u8>>, Memory>
-    ensures written { OnOk result (out.new.items ≡ out.old.items ++ (spec.next (filling definitions.now (map chosen_of choices.now)) (spec.begun name) byte).0) }
-    ensures begun { IfOk result (λ new. spec.begun new ≡ (spec.next (filling definitions.now (map chosen_of choices.now)) (spec.begun name) byte).1) }
+    ensures written { OnOk result (out.new.items ≡ out.old.items ++
+        (spec.next (filling definitions.now (map chosen_of choices.now))
+        (spec.begun name) byte).0) }
+    ensures begun { IfOk result (λ new.
+        spec.begun new ≡ (spec.next (filling definitions.now (map chosen_of choices.now))
+        (spec.begun name) byte).1) }
 {
     match (name, byte) {
         (None, b'<') => Ok(Some(Vec::new(alloc))),
@@ -82,7 +87,8 @@ pub fn filled(
     choices: &[Choice],
     text: &[u8],
 ) -> Result<Vec<u8>, Memory>
-    ensures { IfOk result (λ out. out.items ≡ spec.filled (filling definitions.now (map chosen_of choices.now)) text.now) }
+    ensures { IfOk result (λ out. out.items ≡ spec.filled
+        (filling definitions.now (map chosen_of choices.now)) text.now) }
 {
     let mut out = Vec::new(alloc);
     let mut name = None;

@@ -57,7 +57,8 @@ fn add<'a>(
     iterator: Option<&'a FormIterator>,
     used: &mut Vec<&'a FormIterator>,
 ) -> Result<(), Memory>
-    ensures { OnOk result (lent used.new.items ≡ spec.added (lent used.old.items) (option_copied iterator.entry)) }
+    ensures { OnOk result (lent used.new.items ≡ spec.added (lent used.old.items)
+        (option_copied iterator.entry)) }
 {
     if let Some(iterator) = iterator {
         if !has(used.as_slice(), iterator.kind, iterator.name.bytes()) {
@@ -74,7 +75,8 @@ fn add_of_atom<'a>(
     text: &[u8],
     used: &mut Vec<&'a FormIterator>,
 ) -> Result<(), Memory>
-    ensures { OnOk result (lent used.new.items ≡ fold spec.added (lent used.old.items) (spec.used_by_atom iterators.entry.now is_head text.now)) }
+    ensures { OnOk result (lent used.new.items ≡ fold spec.added (lent used.old.items)
+        (spec.used_by_atom iterators.entry.now is_head text.now)) }
 {
     match cut(text, b':') {
         Some((code, mode)) => {
@@ -97,7 +99,8 @@ fn add_of_trees<'a>(
     head_first: bool,
     used: &mut Vec<&'a FormIterator>,
 ) -> Result<(), Memory>
-    ensures { OnOk result (lent used.new.items ≡ fold spec.added (lent used.old.items) (spec.uses_of iterators.entry.now trees.now head_first)) }
+    ensures { OnOk result (lent used.new.items ≡ fold spec.added (lent used.old.items)
+        (spec.uses_of iterators.entry.now trees.now head_first)) }
 {
     let mut is_head = head_first;
     for tree in trees {
@@ -114,7 +117,8 @@ fn add_of_tree<'a>(
     is_head: bool,
     used: &mut Vec<&'a FormIterator>,
 ) -> Result<(), Memory>
-    ensures { OnOk result (lent used.new.items ≡ fold spec.added (lent used.old.items) (spec.uses iterators.entry.now tree.now is_head)) }
+    ensures { OnOk result (lent used.new.items ≡ fold spec.added (lent used.old.items)
+        (spec.uses iterators.entry.now tree.now is_head)) }
 {
     match tree {
         Tree::Atom { text, .. } => add_of_atom(iterators, is_head, text.bytes(), used),
@@ -130,7 +134,8 @@ pub fn iterators_of<'a>(
     iterators: &'a [FormIterator],
     form: &Tree,
 ) -> Result<Vec<&'a FormIterator>, Memory>
-    ensures { IfOk result (λ used. lent used.items ≡ spec.iterators_of iterators.entry.now form.now) }
+    ensures { IfOk result (λ used.
+        lent used.items ≡ spec.iterators_of iterators.entry.now form.now) }
 {
     let mut used = Vec::new(alloc);
     add_of_tree(iterators, form, false, &mut used)?;
@@ -159,7 +164,8 @@ pub fn choice_at<'a>(
 ) -> Result<Vec<Choice<'a>>, Memory>
     requires count { count ≡ spec.choice_count (lent used.now) }
     requires at { at < count }
-    ensures { IfOk result (λ choices. slice_get (spec.choices (lent used.now)) at ≡ Some (map chosen_of choices.items)) }
+    ensures { IfOk result (λ choices.
+        slice_get (spec.choices (lent used.now)) at ≡ Some (map chosen_of choices.items)) }
 {
     let mut choices = Vec::new(alloc);
     let mut block = count;

@@ -51,9 +51,11 @@ fn expand_form(
     forms: &mut Items<Instance>,
 ) -> Result<(), TreeRefusal>
     requires { length forms.old ≤ spec.most_forms }
-    ensures ok { OnOk result (forms.new ≡ forms.old ++ spec.forms_of_form definitions.now form.now) }
+    ensures ok { OnOk result (forms.new ≡ forms.old ++ spec.forms_of_form definitions.now
+        form.now) }
     ensures bound { OnOk result (length forms.new ≤ spec.most_forms) }
-    ensures limit { IfErr result (λ e. steps.IsTooMany e forms.old (spec.forms_of_form definitions.now form.now)) }
+    ensures limit { IfErr result (λ e.
+        steps.IsTooMany e forms.old (spec.forms_of_form definitions.now form.now)) }
 {
     let used = iterators_of(alloc, definitions.iterators.as_slice(), form)?;
     let count = choice_count(used.as_slice());
@@ -75,9 +77,11 @@ fn expand_tree(
     forms: &mut Items<Instance>,
 ) -> Result<(), TreeRefusal>
     requires { length forms.old ≤ spec.most_forms }
-    ensures ok { OnOk result (forms.new ≡ forms.old ++ spec.forms_of_tree definitions.now tree.now) }
+    ensures ok { OnOk result (forms.new ≡ forms.old ++ spec.forms_of_tree definitions.now
+        tree.now) }
     ensures bound { OnOk result (length forms.new ≤ spec.most_forms) }
-    ensures limit { IfErr result (λ e. steps.IsTooMany e forms.old (spec.forms_of_tree definitions.now tree.now)) }
+    ensures limit { IfErr result (λ e.
+        steps.IsTooMany e forms.old (spec.forms_of_tree definitions.now tree.now)) }
 {
     if is_form(alloc, tree)? {
         expand_form(alloc, definitions, tree, forms)

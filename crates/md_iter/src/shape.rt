@@ -48,7 +48,8 @@ pub fn vector(tree: &Tree) -> Option<&[Tree]>
 
 /// What stands before and behind the first of a byte.
 pub fn cut(text: &[u8], byte: u8) -> Option<(&[u8], &[u8])>
-    ensures { option_map (λ parts. (parts.0.now, parts.1.now)) result ≡ spec.cut byte text.entry.now }
+    ensures { option_map (λ parts.
+        (parts.0.now, parts.1.now)) result ≡ spec.cut byte text.entry.now }
 {
     for (at, other) in text.iter().enumerate() {
         if *other == byte {

@@ -45,7 +45,8 @@ fn push_value(
     name: &[u8],
     out: &mut Vec<u8>,
 ) -> Result<(), Memory>
-    ensures { OnOk result (out.new.items ≡ out.old.items ++ spec.value_or_name (map chosen_of choices.now) kind name.now) }
+    ensures { OnOk result (out.new.items ≡ out.old.items ++ spec.value_or_name
+        (map chosen_of choices.now) kind name.now) }
 {
     match value_named(choices, kind, name) {
         Some(value) => out.extend_from_slice(value.bytes())?,
@@ -60,7 +61,8 @@ fn push_code(
     code: &[u8],
     out: &mut Vec<u8>,
 ) -> Result<(), Memory>
-    ensures { OnOk result (out.new.items ≡ out.old.items ++ spec.code_under (map chosen_of choices.now) is_head code.now) }
+    ensures { OnOk result (out.new.items ≡ out.old.items ++ spec.code_under
+        (map chosen_of choices.now) is_head code.now) }
 {
     if is_head {
         push_value(choices, DefinitionKind::Code, code, out)
@@ -77,7 +79,8 @@ fn push_with_mode(
     mode: &[u8],
     out: &mut Vec<u8>,
 ) -> Result<(), Memory>
-    ensures { OnOk result (out.new.items ≡ out.old.items ++ spec.with_mode (map chosen_of choices.now) is_head code.now mode.now) }
+    ensures { OnOk result (out.new.items ≡ out.old.items ++ spec.with_mode
+        (map chosen_of choices.now) is_head code.now mode.now) }
 {
     push_code(choices, is_head, code, out)?;
     out.push(b':')?;
@@ -90,7 +93,8 @@ fn push_without_mode(
     text: &[u8],
     out: &mut Vec<u8>,
 ) -> Result<(), Memory>
-    ensures { OnOk result (out.new.items ≡ out.old.items ++ spec.without_mode (map chosen_of choices.now) is_head text.now) }
+    ensures { OnOk result (out.new.items ≡ out.old.items ++ spec.without_mode
+        (map chosen_of choices.now) is_head text.now) }
 {
     if is_head {
         push_value(choices, DefinitionKind::Code, text, out)
@@ -106,7 +110,8 @@ fn with_values(
     is_head: bool,
     text: &[u8],
 ) -> Result<Vec<u8>, Memory>
-    ensures { IfOk result (λ out. out.items ≡ spec.with_values (map chosen_of choices.now) is_head text.now) }
+    ensures { IfOk result (λ out. out.items ≡ spec.with_values
+        (map chosen_of choices.now) is_head text.now) }
 {
     let mut out = Vec::new(alloc);
     match cut(text, b':') {
@@ -143,7 +148,8 @@ fn atom_text(
     is_head: bool,
     text: &[u8],
 ) -> Result<Name, Memory>
-    ensures { IfOk result (λ name. name ≡ spec.atom_text definitions.now (map chosen_of choices.now) is_head text.now) }
+    ensures { IfOk result (λ name.
+        name ≡ spec.atom_text definitions.now (map chosen_of choices.now) is_head text.now) }
 {
     let put = with_values(alloc, choices, is_head, text)?;
     let text = filled(alloc, definitions, choices, put.as_slice())?;
@@ -162,7 +168,8 @@ fn filled_name(
     choices: &[Choice],
     text: &[u8],
 ) -> Result<Name, Memory>
-    ensures { IfOk result (λ name. name ≡ spec.filled_text definitions.now (map chosen_of choices.now) text.now) }
+    ensures { IfOk result (λ name.
+        name ≡ spec.filled_text definitions.now (map chosen_of choices.now) text.now) }
 {
     Ok(Name::from_vec(filled(alloc, definitions, choices, text)?))
 }
@@ -177,7 +184,8 @@ fn substituted_trees(
     trees: &[Tree],
     head_first: bool,
 ) -> Result<Trees, Memory>
-    ensures { IfOk result (λ out. out ≡ spec.substituted_trees definitions.now (map chosen_of choices.now) trees.now head_first) }
+    ensures { IfOk result (λ out. out ≡ spec.substituted_trees definitions.now
+        (map chosen_of choices.now) trees.now head_first) }
 {
     let mut out = Items::new(alloc);
     let mut is_head = head_first;
@@ -197,7 +205,8 @@ fn substituted(
     tree: &Tree,
     is_head: bool,
 ) -> Result<Tree, Memory>
-    ensures { IfOk result (λ out. out ≡ spec.substituted definitions.now (map chosen_of choices.now) tree.now is_head) }
+    ensures { IfOk result (λ out. out ≡ spec.substituted definitions.now
+        (map chosen_of choices.now) tree.now is_head) }
 {
     match tree {
         Tree::Atom { place, text } => Ok(Tree::Atom {
@@ -225,7 +234,8 @@ fn substituted(
 
 /// The conditions of the values of a choice, in the order of the iterators.
 fn conditions_of(alloc: Global, choices: &[Choice]) -> Result<Items<Name>, Memory>
-    ensures { IfOk result (λ conditions. conditions ≡ spec.conditions_of (map chosen_of choices.now)) }
+    ensures { IfOk result (λ conditions.
+        conditions ≡ spec.conditions_of (map chosen_of choices.now)) }
 {
     let mut conditions = Items::new(alloc);
     for choice in choices {
@@ -241,7 +251,8 @@ pub fn form_under(
     choices: &[Choice],
     form: &Tree,
 ) -> Result<Instance, Memory>
-    ensures { IfOk result (λ out. out ≡ spec.form_under definitions.now form.now (map chosen_of choices.now)) }
+    ensures { IfOk result (λ out. out ≡ spec.form_under definitions.now form.now
+        (map chosen_of choices.now)) }
 {
     let tree = substituted(alloc, definitions, choices, form, false)?;
     Ok(Instance {

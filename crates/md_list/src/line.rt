@@ -32,7 +32,8 @@ fn print_words(
     form: &Judged<Form>,
     out: &mut Vec<u8>,
 ) -> Result<(), Memory>
-    ensures { OnOk result (out.new.items ≡ out.old.items ++ spec.line_with index head.now name.now form.now) }
+    ensures { OnOk result (out.new.items ≡ out.old.items ++ spec.line_with index head.now name.now
+        form.now) }
 {
     print_count(index, out)?;
     out.push(b' ')?;
@@ -49,7 +50,8 @@ fn print_words(
 #[tactic(auto, using(crate::proofs::Lines::printed_next, crate::proofs::Lines::printed_ends))]
 pub fn print_list(entries: &[Entry], names: &[Name], out: &mut Vec<u8>) -> Result<(), Memory>
     requires { length names.now ≡ length entries.now }
-    ensures { OnOk result (out.new.items ≡ out.old.items ++ spec.lines_from 0 entries.now names.now) }
+    ensures { OnOk result (out.new.items ≡ out.old.items ++ spec.lines_from 0 entries.now
+        names.now) }
 {
     for at in 0..entries.len() {
         let entry = &entries[at];

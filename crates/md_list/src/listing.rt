@@ -50,12 +50,14 @@ fn list_trees(alloc: Global, trees: &[Tree]) -> Result<Vec<u8>, ListRefusal>
 /// `Source` where the files of the description are refused, as [`gather`] says; `Forms` exactly
 /// where there are more than 20,000 forms; `Memory` where memory ran out.
 pub fn list<F: Files>(alloc: Global, files: &mut F, name: &[u8]) -> Result<Vec<u8>, ListRefusal>
-    // The answer is what the list comes to, by all that is known of the files, unless memory ran out or they failed.
+    // The answer is what the list comes to, by all that is known of the files, unless memory ran
+    // out or they failed.
     ensures gives { (source : Source) → Agrees source (F.holds files.old) →
         Gives (spec.ListComes source name.now) result }
 
     // By files of which all that the description is made of is known, it comes to one answer.
-    ensures one { (source : Source) → IsKnown source name.now → (a b : Result (List ℕ) ListRefusal) →
+    ensures one { (source : Source) → IsKnown source name.now →
+        (a b : Result (List ℕ) ListRefusal) →
         spec.ListComes source name.now a → spec.ListComes source name.now b → a ≡ b }
 
     // Files are asked only for what is named, and stay as they are.

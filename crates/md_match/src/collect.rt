@@ -19,7 +19,8 @@ fn collect(
     insn: &Rtx,
     operands: Operands,
 ) -> Result<Option<Operands>, Memory>
-    ensures { IfOk result (Collects (λ k. is_given_in k pattern.now) (Makes pattern.now insn.now) operands) }
+    ensures { IfOk result (Collects (λ k.
+        is_given_in k pattern.now) (Makes pattern.now insn.now) operands) }
 {
     match role_of(pattern.code) {
         Role::Operand => place(alloc, pattern, insn, operands),
@@ -58,7 +59,8 @@ fn collect_all(
     insns: &[Rtx],
     operands: Operands,
 ) -> Result<Option<Operands>, Memory>
-    ensures { IfOk result (Collects (is_given_by patterns.now) (MakesAll patterns.now insns.now) operands) }
+    ensures { IfOk result (Collects (is_given_by patterns.now)
+        (MakesAll patterns.now insns.now) operands) }
 {
     if patterns.len() != insns.len() {
         return Ok(None);
@@ -82,7 +84,8 @@ pub fn collect_each(
     insns: &[&Rtx],
     operands: Operands,
 ) -> Result<Option<Operands>, Memory>
-    ensures { IfOk result (Collects (is_given_by patterns.now) (MakesAll patterns.now (map (λ insn. insn.now) insns.now)) operands) }
+    ensures { IfOk result (Collects (is_given_by patterns.now) (MakesAll patterns.now (map (λ insn.
+        insn.now) insns.now)) operands) }
 {
     if patterns.len() != insns.len() {
         return Ok(None);
@@ -104,7 +107,8 @@ fn place(
     insn: &Rtx,
     operands: Operands,
 ) -> Result<Option<Operands>, Memory>
-    ensures { IfOk result (Collects (λ k. gives_number k placeholder.now) (Gives placeholder.now insn.now) operands) }
+    ensures { IfOk result (Collects (λ k.
+        gives_number k placeholder.now) (Gives placeholder.now insn.now) operands) }
 {
     if !gives(placeholder.code) {
         return Ok(Some(operands));

@@ -17,7 +17,8 @@ use std::alloc::Global;
 pub fn instantiate(alloc: Global, pattern: &Rtx, operands: &Operands) -> Result<Option<Rtx>, Memory>
     ensures made { IfOk result (λ r. r ≡ instantiated pattern.now operands.now) }
     ensures none { IfOk result (λ r. is_none r ≡ is_lacking pattern.now operands.now) }
-    ensures inverse { IfOk result (λ r. IfSome r (λ insn. Suits (pattern.now ∷ []) operands.now → MatchesOne pattern.now insn operands.now)) }
+    ensures inverse { IfOk result (λ r. IfSome r (λ insn. Suits (pattern.now ∷ []) operands.now →
+        MatchesOne pattern.now insn operands.now)) }
 {
     instance(alloc, pattern, operands)
 }

@@ -54,7 +54,8 @@ fn makes_all(patterns: &[Rtx], insns: &[Rtx], operands: &Operands) -> bool
 /// is what its placeholder asks for.
 #[tactic(auto, using(crate::proofs::Parts::other_length, crate::proofs::Parts::decides_start, crate::proofs::Parts::decides_next, crate::proofs::Parts::decides_not, crate::proofs::Parts::decides_end))]
 pub fn makes_each(patterns: &[Rtx], insns: &[&Rtx], operands: &Operands) -> bool
-    ensures { IsTrue result ↔ MakesAll patterns.now (map (λ insn. insn.now) insns.now) operands.now }
+    ensures { IsTrue result ↔ MakesAll patterns.now (map (λ insn.
+        insn.now) insns.now) operands.now }
 {
     if patterns.len() != insns.len() {
         return false;
@@ -100,7 +101,8 @@ fn names_head(placeholder: &Rtx, insn: &Rtx, operands: &Operands) -> bool
 
 // An operator's operand is the whole expression; its dup repeats the head.
 fn names_operator(operator: &Rtx, insn: &Rtx, operands: &Operands) -> bool
-    ensures { IsTrue result ↔ NamesOperator (head_of operator.now).code operator.now insn.now operands.now }
+    ensures { IsTrue result ↔ NamesOperator
+        (head_of operator.now).code operator.now insn.now operands.now }
 {
     match operator.code {
         Code::MatchOperator => names(operator, insn, operands),
@@ -110,7 +112,8 @@ fn names_operator(operator: &Rtx, insn: &Rtx, operands: &Operands) -> bool
 
 // Whether the expression is what the placeholder asks for.
 fn asks_for(placeholder: &Rtx, insn: &Rtx) -> bool
-    ensures { IsTrue result ↔ Asks (head_of placeholder.now).code (head_of placeholder.now).mode insn.now }
+    ensures { IsTrue result ↔ Asks (head_of placeholder.now).code
+        (head_of placeholder.now).mode insn.now }
 {
     match placeholder.code {
         Code::MatchScratch => is_scratch(placeholder.mode, insn),

@@ -23,7 +23,8 @@ pub fn match_shapes<L: Ledger>(
     insns: &[&Rtx],
     steps: &mut Steps<L>,
 ) -> Result<Option<Operands>, Memory>
-    ensures operands { IfOk result (λ r. (operands : Ops) → (r ≡ Some operands) ↔ Matches patterns.now (map (λ insn. insn.now) insns.now) operands) }
+    ensures operands { IfOk result (λ r. (operands : Ops) →
+        (r ≡ Some operands) ↔ Matches patterns.now (map (λ insn. insn.now) insns.now) operands) }
     ensures step { steps.new ≡ steps.old + 1 }
     ensures one { (patterns insns : List Rtx) (a b : Ops) → Matches patterns insns a →
         Matches patterns insns b → a ≡ b }
@@ -47,7 +48,8 @@ pub fn match_shape<L: Ledger>(
     insn: &Rtx,
     steps: &mut Steps<L>,
 ) -> Result<Option<Operands>, Memory>
-    ensures operands { IfOk result (λ r. (operands : Ops) → (r ≡ Some operands) ↔ MatchesOne pattern.now insn.now operands) }
+    ensures operands { IfOk result (λ r. (operands : Ops) →
+        (r ≡ Some operands) ↔ MatchesOne pattern.now insn.now operands) }
     ensures step { steps.new ≡ steps.old + 1 }
 {
     match_shapes(alloc, slice::from_ref(pattern), &[insn], steps)

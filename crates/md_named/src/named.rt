@@ -68,15 +68,18 @@ pub fn description_of<F: Files>(
     files: &mut F,
     name: &[u8],
 ) -> Result<Description, Refusal>
-    // The answer is what the description comes to, by all that is known of the files, unless memory ran out or they failed.
+    // The answer is what the description comes to, by all that is known of the files, unless memory
+    // ran out or they failed.
     ensures gives { (source : Source) → Agrees source (F.holds files.old) →
         Gives result (spec.FormsCome source name.now) }
 
     // By files of which all that the description is made of is known, it comes to one answer.
-    ensures one { (source : Source) → IsKnown source name.now → (a b : Result (List Entry) Refusal) →
+    ensures one { (source : Source) → IsKnown source name.now →
+        (a b : Result (List Entry) Refusal) →
         spec.FormsCome source name.now a → spec.FormsCome source name.now b → a ≡ b }
 
-    // The predicates of forms are what the trees of their definitions say: which tests these are, which predicates are accepted, and
+    // The predicates of forms are what the trees of their definitions say: which tests these are,
+    // which predicates are accepted, and
     // which operands those accept.
     ensures predicates { (constants : List Constant) (forms : List Instance) →
         PredicatesAre constants forms }

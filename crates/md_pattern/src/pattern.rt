@@ -80,7 +80,8 @@ fn judged_added(
 /// One expression alone.
 #[tactic(auto, using(crate::proofs::Each::each_alone))]
 fn only(alloc: Global, pattern: Judged<Pattern>) -> Result<Judged<Patterns>, Memory>
-    ensures { IfOk result (λ patterns. patterns ≡ judged_with spec.in_front pattern (Ok spec.no_patterns)) }
+    ensures { IfOk result (λ patterns.
+        patterns ≡ judged_with spec.in_front pattern (Ok spec.no_patterns)) }
 {
     match pattern {
         Ok(Pattern { tree, texts }) => {
@@ -155,7 +156,8 @@ fn register(
 }
 
 fn number_in(constants: &[Constant], parts: &[Tree]) -> Judged<i64>
-    ensures { result ≡ spec.or_aside reason.Parts (option_and_then (word.number_of constants.now) (spec.word_in parts.now)) }
+    ensures { result ≡ spec.or_aside reason.Parts (option_and_then (word.number_of constants.now)
+        (spec.word_in parts.now)) }
 {
     let Some(word) = word_in(parts) else {
         return Err(Reason::Parts);
@@ -260,7 +262,8 @@ fn plain_operand(
     mode: Judged<Mode>,
     operand: Option<Operand>,
 ) -> Result<Judged<Pattern>, Memory>
-    ensures { IfOk result (λ pattern. pattern ≡ spec.operand_by code mode operand (Ok spec.no_patterns)) }
+    ensures { IfOk result (λ pattern.
+        pattern ≡ spec.operand_by code mode operand (Ok spec.no_patterns)) }
 {
     matching(code, mode, operand, Ok(no_patterns(alloc)))
 }
@@ -269,7 +272,8 @@ fn plain_operand(
 #[cycle(read)]
 #[tactic(auto, using(crate::proofs::Each::joined_first, crate::proofs::Each::each_next, crate::proofs::Each::each_ends))]
 fn each(alloc: Global, constants: &[Constant], trees: &[Tree]) -> Result<Judged<Patterns>, Memory>
-    ensures { IfOk result (λ patterns. patterns ≡ spec.each (map (spec.meaning_of constants.now) trees.now)) }
+    ensures { IfOk result (λ patterns.
+        patterns ≡ spec.each (map (spec.meaning_of constants.now) trees.now)) }
 {
     let mut patterns = Ok(no_patterns(alloc));
     for tree in trees {
@@ -300,7 +304,9 @@ fn node(
     mode: Judged<Mode>,
     parts: &[Tree],
 ) -> Result<Judged<Pattern>, Memory>
-    ensures { IfOk result (λ pattern. pattern ≡ judged_with (spec.node_with code) mode (spec.each (map (spec.meaning_of constants.now) parts.now))) }
+    ensures { IfOk result (λ pattern.
+        pattern ≡ judged_with (spec.node_with code) mode
+        (spec.each (map (spec.meaning_of constants.now) parts.now))) }
 {
     let kids = each(alloc, constants, parts)?;
     Ok(node_of(alloc, code, mode, kids))
@@ -314,7 +320,8 @@ fn parallel(
     mode: Judged<Mode>,
     parts: &[Tree],
 ) -> Result<Judged<Pattern>, Memory>
-    ensures { IfOk result (λ pattern. pattern ≡ spec.parallel_by code mode (map (spec.meaning_of constants.now) parts.now)) }
+    ensures { IfOk result (λ pattern.
+        pattern ≡ spec.parallel_by code mode (map (spec.meaning_of constants.now) parts.now)) }
 {
     match parts {
         [vector] => {
@@ -333,7 +340,9 @@ fn operator(
     mode: Judged<Mode>,
     parts: &[Tree],
 ) -> Result<Judged<Pattern>, Memory>
-    ensures { IfOk result (λ pattern. pattern ≡ spec.operator_by code mode parts.now (map (spec.meaning_of constants.now) parts.now)) }
+    ensures { IfOk result (λ pattern.
+        pattern ≡ spec.operator_by code mode parts.now
+        (map (spec.meaning_of constants.now) parts.now)) }
 {
     match parts {
         [number, predicate, vector] => {
@@ -353,7 +362,9 @@ fn operator_dup(
     mode: Judged<Mode>,
     parts: &[Tree],
 ) -> Result<Judged<Pattern>, Memory>
-    ensures { IfOk result (λ pattern. pattern ≡ spec.operator_dup_by code mode parts.now (map (spec.meaning_of constants.now) parts.now)) }
+    ensures { IfOk result (λ pattern.
+        pattern ≡ spec.operator_dup_by code mode parts.now
+        (map (spec.meaning_of constants.now) parts.now)) }
 {
     match parts {
         [number, vector] => {
@@ -374,7 +385,9 @@ fn lowpart(
     mode: Judged<Mode>,
     parts: &[Tree],
 ) -> Result<Judged<Pattern>, Memory>
-    ensures { IfOk result (λ pattern. pattern ≡ spec.node_by (spec.is_lowpart parts.now) code mode (take 1 (map (spec.meaning_of constants.now) parts.now))) }
+    ensures { IfOk result (λ pattern.
+        pattern ≡ spec.node_by (spec.is_lowpart parts.now) code mode
+        (take 1 (map (spec.meaning_of constants.now) parts.now))) }
 {
     match parts {
         [inner, offset] if is_word(offset, b"0") => {
@@ -394,7 +407,9 @@ fn expressions(
     count: usize,
     parts: &[Tree],
 ) -> Result<Judged<Pattern>, Memory>
-    ensures { IfOk result (λ pattern. pattern ≡ spec.node_by (length parts.now == count) code mode (map (spec.meaning_of constants.now) parts.now)) }
+    ensures { IfOk result (λ pattern.
+        pattern ≡ spec.node_by (length parts.now == count) code mode
+        (map (spec.meaning_of constants.now) parts.now)) }
 {
     if parts.len() == count {
         node(alloc, constants, code, mode, parts)
@@ -412,7 +427,9 @@ fn behind(
     mode: Judged<Mode>,
     parts: &[Tree],
 ) -> Result<Judged<Pattern>, Memory>
-    ensures { IfOk result (λ pattern. pattern ≡ spec.behind constants.now code mode (parts_of (class_of_code code)) parts.now (map (spec.meaning_of constants.now) parts.now)) }
+    ensures { IfOk result (λ pattern.
+        pattern ≡ spec.behind constants.now code mode (parts_of (class_of_code code)) parts.now
+        (map (spec.meaning_of constants.now) parts.now)) }
 {
     match code.class().parts() {
         Parts::Register => Ok(register(alloc, constants, mode, parts)),
@@ -437,7 +454,9 @@ fn list(
     head: &[u8],
     parts: &[Tree],
 ) -> Result<Judged<Pattern>, Memory>
-    ensures { IfOk result (λ pattern. pattern ≡ spec.of_code constants.now (code_of_head head.now) (mode_of_head head.now) parts.now (map (spec.meaning_of constants.now) parts.now)) }
+    ensures { IfOk result (λ pattern.
+        pattern ≡ spec.of_code constants.now (code_of_head head.now)
+        (mode_of_head head.now) parts.now (map (spec.meaning_of constants.now) parts.now)) }
 {
     let (code, mode) = head_words(head);
     match code {

@@ -48,8 +48,10 @@ fn mode_fits(head: FormHead, mode: Mode, x: &Rtx) -> bool
 impl PredTable {
     /// What a definition comes to, from which definitions may be asked for so often.
     fn begun(&self, definition: Option<Definition>, x: &Rtx, mode: Mode, rounds: usize) -> Step
-        ensures value { steps.step_holds self.now x.now result ≡ tables.kept_holds (steps.asked_within self.now rounds) x.now mode self.now.definitions.rows definition }
-        ensures size { steps.step_size self.now result ≤ (rounds + 1) * (length self.now.definitions.rows + 1) }
+        ensures value { steps.step_holds self.now x.now result ≡ tables.kept_holds
+            (steps.asked_within self.now rounds) x.now mode self.now.definitions.rows definition }
+        ensures size { steps.step_size self.now result ≤ (rounds + 1) *
+            (length self.now.definitions.rows + 1) }
     {
         match definition {
             Some(
@@ -70,7 +72,8 @@ impl PredTable {
     pub(crate) fn asked(&self, name: &Name, x: &Rtx, mode: Mode, rounds: usize) -> Step
         ensures value { steps.step_holds self.now x.now result ≡
             steps.asked_within self.now rounds name.now x.now mode }
-        ensures size { steps.step_size self.now result ≤ rounds * (length self.now.definitions.rows + 1) }
+        ensures size { steps.step_size self.now result ≤ rounds *
+            (length self.now.definitions.rows + 1) }
     {
         match Own::named(name.bytes()) {
             Some(own) => Step::Answer(own.accepts(mode, x)),
@@ -111,7 +114,10 @@ impl PredTable {
     #[cycle(ask)]
     fn joined(&self, at: At, first: usize, last: usize, decides: bool, x: &Rtx) -> Step
         requires { at.place < length self.now.definitions.rows }
-        ensures value { steps.step_holds self.now x.now result ≡ (if decides then steps.part_holds self.now x.now at first || steps.part_holds self.now x.now at last else steps.part_holds self.now x.now at first && steps.part_holds self.now x.now at last) }
+        ensures value { steps.step_holds self.now x.now result ≡
+            (if decides then steps.part_holds self.now x.now at first || steps.part_holds self.now
+            x.now at last else steps.part_holds self.now x.now at first && steps.part_holds self.now
+            x.now at last) }
         ensures size { steps.step_size self.now result ≤ steps.size_at self.now at }
     {
         if self.answer(self.part(at, first), x) == decides {
@@ -125,7 +131,10 @@ impl PredTable {
     #[cycle(ask)]
     fn lighter_first(&self, at: At, a: usize, b: usize, decides: bool, x: &Rtx) -> Step
         requires { at.place < length self.now.definitions.rows }
-        ensures value { steps.step_holds self.now x.now result ≡ (if decides then steps.part_holds self.now x.now at a || steps.part_holds self.now x.now at b else steps.part_holds self.now x.now at a && steps.part_holds self.now x.now at b) }
+        ensures value { steps.step_holds self.now x.now result ≡
+            (if decides then steps.part_holds self.now x.now at a || steps.part_holds self.now x.now
+            at b else steps.part_holds self.now x.now at a && steps.part_holds self.now x.now at
+            b) }
         ensures size { steps.step_size self.now result ≤ steps.size_at self.now at }
     {
         if self.weight(a) < self.weight(b) {
@@ -139,7 +148,9 @@ impl PredTable {
     #[cycle(ask)]
     fn chosen(&self, at: At, a: usize, b: usize, c: usize, x: &Rtx) -> Step
         requires { at.place < length self.now.definitions.rows }
-        ensures value { steps.step_holds self.now x.now result ≡ (if steps.part_holds self.now x.now at a then steps.part_holds self.now x.now at b else steps.part_holds self.now x.now at c) }
+        ensures value { steps.step_holds self.now x.now result ≡
+            (if steps.part_holds self.now x.now at a then steps.part_holds self.now x.now at b else
+            steps.part_holds self.now x.now at c) }
         ensures size { steps.step_size self.now result ≤ steps.size_at self.now at }
     {
         if self.answer(self.part(at, a), x) {
@@ -153,7 +164,9 @@ impl PredTable {
     #[cycle(ask)]
     fn chosen_last(&self, at: At, a: usize, b: usize, c: usize, x: &Rtx) -> Step
         requires { at.place < length self.now.definitions.rows }
-        ensures value { steps.step_holds self.now x.now result ≡ (if steps.part_holds self.now x.now at a then steps.part_holds self.now x.now at b else steps.part_holds self.now x.now at c) }
+        ensures value { steps.step_holds self.now x.now result ≡
+            (if steps.part_holds self.now x.now at a then steps.part_holds self.now x.now at b else
+            steps.part_holds self.now x.now at c) }
         ensures size { steps.step_size self.now result ≤ steps.size_at self.now at }
     {
         let then = self.answer(self.part(at, b), x);
@@ -171,7 +184,9 @@ impl PredTable {
     #[cycle(ask)]
     fn choice(&self, at: At, a: usize, b: usize, c: usize, x: &Rtx) -> Step
         requires { at.place < length self.now.definitions.rows }
-        ensures value { steps.step_holds self.now x.now result ≡ (if steps.part_holds self.now x.now at a then steps.part_holds self.now x.now at b else steps.part_holds self.now x.now at c) }
+        ensures value { steps.step_holds self.now x.now result ≡
+            (if steps.part_holds self.now x.now at a then steps.part_holds self.now x.now at b else
+            steps.part_holds self.now x.now at c) }
         ensures size { steps.step_size self.now result ≤ steps.size_at self.now at }
     {
         if self.is_heaviest(a, b, c) {

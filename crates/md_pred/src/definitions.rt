@@ -104,7 +104,9 @@ impl Definitions {
     /// Keeps the definition of a name that has none.
     fn put(&mut self, alloc: Global, name: &[u8], definition: Definition) -> Result<(), Memory>
         requires { table.definition_in self.old name.now ≡ None }
-        ensures names { OnOk result ((other : List ℕ) → table.definition_in self.new other ≡ option_or (table.definition_in self.old other) (if bytes_eq name.now other then Some definition else None)) }
+        ensures names { OnOk result ((other : List ℕ) →
+            table.definition_in self.new other ≡ option_or (table.definition_in self.old other)
+            (if bytes_eq name.now other then Some definition else None)) }
         ensures rows { OnOk result (self.new.rows ≡ self.old.rows) }
     {
         self.by_name
@@ -125,7 +127,8 @@ impl Definitions {
 
     /// Keeps what a form defines.
     fn add(&mut self, alloc: Global, entry: &Entry) -> Result<(), Memory>
-        ensures { OnOk result ((es : List Entry) → steps.AreKept self.old es → steps.AreKept self.new (es ++ entry.now ∷ [])) }
+        ensures { OnOk result ((es : List Entry) → steps.AreKept self.old es →
+            steps.AreKept self.new (es ++ entry.now ∷ [])) }
     {
         match predicate_name(entry) {
             Some(name) => self.define(alloc, name.bytes(), &entry.form),

@@ -21,7 +21,9 @@ fn names_predicate(code: Code) -> bool
 
 /// Whether the predicate of a placeholder, if it names one, accepts an expression.
 fn is_accepted<P: Preds>(placeholder: &Rtx, insn: &Rtx, preds: &P) -> bool
-    ensures { result ≡ (if spec.names_predicate (head_of placeholder.now).code then P.accepts preds.now (head_of placeholder.now).name insn.now (head_of placeholder.now).mode else true) }
+    ensures { result ≡ (if spec.names_predicate
+        (head_of placeholder.now).code then P.accepts preds.now
+        (head_of placeholder.now).name insn.now (head_of placeholder.now).mode else true) }
 {
     if !names_predicate(placeholder.code) {
         return true;
@@ -29,7 +31,8 @@ fn is_accepted<P: Preds>(placeholder: &Rtx, insn: &Rtx, preds: &P) -> bool
     preds.holds(&placeholder.name, insn, placeholder.mode)
 }
 
-// Whether each predicate of a pattern accepts its operand, where the pattern makes the expression of operands.
+// Whether each predicate of a pattern accepts its operand, where the pattern makes the expression
+// of operands.
 #[cycle(accepting)]
 #[tactic(auto, using(crate::proofs::Placed::operand_accepted, crate::proofs::Placed::operator_accepted, crate::proofs::Placed::operator_refused, crate::proofs::Placed::itself_other, crate::proofs::Placed::itself_accepted))]
 fn are_accepted<P: Preds>(pattern: &Rtx, insn: &Rtx, preds: &P) -> bool

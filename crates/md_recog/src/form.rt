@@ -26,7 +26,9 @@ fn match_form<P: Preds, L: Ledger>(
     preds: &P,
     steps: &mut Steps<L>,
 ) -> Result<Option<Operands>, Memory>
-    ensures operands { IfOk result (λ r. (operands : Ops) → (r ≡ Some operands) ↔ FormMatches (P.accepts preds.now) facts.now half (map (λ insn. insn.now) insns.now) form.now operands) }
+    ensures operands { IfOk result (λ r. (operands : Ops) →
+        (r ≡ Some operands) ↔ FormMatches (P.accepts preds.now) facts.now half (map (λ insn.
+        insn.now) insns.now) form.now operands) }
     ensures step { steps.new ≤ steps.old + 1 }
 {
     if !half.is_of(form.head) {
@@ -61,7 +63,9 @@ pub fn match_entry<P: Preds, L: Ledger>(
     preds: &P,
     steps: &mut Steps<L>,
 ) -> Result<Option<Operands>, Memory>
-    ensures operands { IfOk result (λ r. (operands : Ops) → (r ≡ Some operands) ↔ EntryMatches (P.accepts preds.now) facts.now half (map (λ insn. insn.now) insns.now) entry.now operands) }
+    ensures operands { IfOk result (λ r. (operands : Ops) →
+        (r ≡ Some operands) ↔ EntryMatches (P.accepts preds.now) facts.now half (map (λ insn.
+        insn.now) insns.now) entry.now operands) }
     ensures step { steps.new ≤ steps.old + 1 }
 {
     match &entry.form {

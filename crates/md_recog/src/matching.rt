@@ -32,7 +32,9 @@ pub fn match_insns<P: Preds, L: Ledger>(
     preds: &P,
     steps: &mut Steps<L>,
 ) -> Result<Option<Operands>, Memory>
-    ensures operands { IfOk result (λ r. (operands : Ops) → (r ≡ Some operands) ↔ IsMatch (P.accepts preds.now) facts.now patterns.now condition.now (map (λ insn. insn.now) insns.now) operands) }
+    ensures operands { IfOk result (λ r. (operands : Ops) →
+        (r ≡ Some operands) ↔ IsMatch (P.accepts preds.now) facts.now patterns.now condition.now
+        (map (λ insn. insn.now) insns.now) operands) }
     ensures step { steps.new ≡ steps.old + 1 }
 {
     if !each_accepted(patterns, insns, preds) {

@@ -35,7 +35,9 @@ pub fn match_at<P: Preds, L: Ledger>(
     steps: &mut Steps<L>,
 ) -> Result<Option<FormMatch>, Memory>
     requires { form < length forms.now }
-    ensures here { IfOk result (λ r. (m : FormMatch) → (r ≡ Some m) ↔ MatchesHere (P.accepts preds.now) facts.now half (map (λ insn. insn.now) insns.now) forms.now form m) }
+    ensures here { IfOk result (λ r. (m : FormMatch) →
+        (r ≡ Some m) ↔ MatchesHere (P.accepts preds.now) facts.now half (map (λ insn.
+        insn.now) insns.now) forms.now form m) }
     ensures step { steps.new ≤ steps.old + 1 }
 {
     match match_entry(
@@ -65,8 +67,12 @@ pub fn first_match<P: Preds, L: Ledger>(
     steps: &mut Steps<L>,
 ) -> Result<Option<FormMatch>, Memory>
     requires { length forms.now < 2 ^ 32 }
-    ensures first { IfOk result (λ r. (m : FormMatch) → (r ≡ Some m) ↔ IsFirst (P.accepts preds.now) facts.now half (map (λ insn. insn.now) insns.now) forms.now from m) }
-    ensures none { IfOk result (λ r. r ≡ None → NoneBetween (P.accepts preds.now) facts.now half (map (λ insn. insn.now) insns.now) forms.now from (length forms.now)) }
+    ensures first { IfOk result (λ r. (m : FormMatch) →
+        (r ≡ Some m) ↔ IsFirst (P.accepts preds.now) facts.now half (map (λ insn.
+        insn.now) insns.now) forms.now from m) }
+    ensures none { IfOk result (λ r. r ≡ None →
+        NoneBetween (P.accepts preds.now) facts.now half (map (λ insn.
+        insn.now) insns.now) forms.now from (length forms.now)) }
     ensures tries { steps.new ≤ steps.old + length forms.now }
 {
     for form in from..forms.len() as u32 {

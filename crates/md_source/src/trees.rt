@@ -89,12 +89,14 @@ fn gather_from<F: Files>(
 /// file would be the 17th within each other; it is not asked for. `ReadFault` where the files
 /// failed. `Memory` where memory ran out.
 pub fn gather<F: Files>(alloc: Global, files: &mut F, name: &[u8]) -> Result<Trees, SourceRefusal>
-    // The answer is what the description comes to, by all that is known of the files, unless memory ran out or they failed.
+    // The answer is what the description comes to, by all that is known of the files, unless memory
+    // ran out or they failed.
     ensures gives { (source : Source) → Agrees source (F.holds files.old) →
         Gives result (DescriptionComes source name.now) }
 
     // By files of which all that the description is made of is known, it comes to one answer.
-    ensures one { (source : Source) → IsKnown source name.now → (a b : Result (List Tree) SourceRefusal) →
+    ensures one { (source : Source) → IsKnown source name.now →
+        (a b : Result (List Tree) SourceRefusal) →
         DescriptionComes source name.now a → DescriptionComes source name.now b → a ≡ b }
 
     // Files are asked only for what is named, and stay as they are.

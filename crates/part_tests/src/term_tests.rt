@@ -82,7 +82,8 @@ fn stepped(alloc: Global) -> Result<Term, TermRefusal> {
     Ok(t)
 }
 
-// One step after the other, as lines of code multiply a register by itself: 1,048,575 factors are just few enough, and
+// One step after the other, as lines of code multiply a register by itself: 1,048,575 factors are
+// just few enough, and
 // one more is too many.
 #[test]
 fn step_by_step(rt: HostRuntime) {

@@ -74,7 +74,8 @@ fn lacks(alloc: Global, uid: u32, rule: Name, term: &Term) -> Result<PassRefusal
 }
 
 fn bad_shape(alloc: Global, uid: u32, rule: Name, index: u32) -> Result<PassRefusal, Memory>
-    ensures { IfOk result (λ e. e ≡ PassRefusal.NotEquated uid rule (Item.Shape index) spec.dash spec.dash) }
+    ensures { IfOk result (λ e. e ≡ PassRefusal.NotEquated uid rule
+        (Item.Shape index) spec.dash spec.dash) }
 {
     let left = dash(alloc)?;
     let right = dash(alloc)?;
@@ -120,7 +121,8 @@ fn act_on(
     uid: u32,
     verdict: &Verdict,
 ) -> Result<(), PassRefusal>
-    ensures { Judges result uid (needs.name_at (names_of description.now) form) (verdict_of verdict.now) }
+    ensures { Judges result uid (needs.name_at (names_of description.now) form)
+        (verdict_of verdict.now) }
 {
     if is_same(verdict) {
         return Ok(());

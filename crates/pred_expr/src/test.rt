@@ -130,7 +130,8 @@ fn codes(alloc: Global, parts: &[Tree]) -> Result<Judged<Test>, Memory>
 }
 
 fn condition(alloc: Global, constants: &Constants, parts: &[Tree]) -> Result<Judged<Test>, Memory>
-    ensures { IfOk result (λ test. test ≡ spec.condition_by constants.now (spec.text_in parts.now)) }
+    ensures { IfOk result (λ test.
+        test ≡ spec.condition_by constants.now (spec.text_in parts.now)) }
 {
     let Some(text) = text_in(parts) else {
         return Ok(Err(Reason::Parts));
@@ -197,7 +198,8 @@ fn judged_added(tests: Judged<Tests>, test: Judged<Test>) -> Result<Judged<Tests
 #[cycle(read)]
 #[tactic(auto, using(crate::proofs::Each::joined_first, crate::proofs::Each::joined_ends))]
 fn each(alloc: Global, constants: &Constants, trees: &[Tree]) -> Result<Judged<Tests>, Memory>
-    ensures { IfOk result (λ tests. tests ≡ spec.each (map (spec.test_of constants.now) trees.now)) }
+    ensures { IfOk result (λ tests.
+        tests ≡ spec.each (map (spec.test_of constants.now) trees.now)) }
 {
     let mut tests = Ok(Items::new(alloc));
     for tree in trees {
@@ -216,7 +218,8 @@ fn joined(
     count: usize,
     parts: &[Tree],
 ) -> Result<Judged<Test>, Memory>
-    ensures { IfOk result (λ test. test ≡ spec.joined question count (map (spec.test_of constants.now) parts.now)) }
+    ensures { IfOk result (λ test.
+        test ≡ spec.joined question count (map (spec.test_of constants.now) parts.now)) }
 {
     if parts.len() != count {
         return Ok(Err(Reason::Parts));
@@ -236,7 +239,9 @@ fn behind(
     mode: Option<Mode>,
     parts: &[Tree],
 ) -> Result<Judged<Test>, Memory>
-    ensures { IfOk result (λ test. test ≡ spec.behind constants.now kind mode parts.now (map (spec.test_of constants.now) parts.now)) }
+    ensures { IfOk result (λ test.
+        test ≡ spec.behind constants.now kind mode parts.now
+        (map (spec.test_of constants.now) parts.now)) }
 {
     match kind {
         TestKind::Codes => codes(alloc, parts),
@@ -256,7 +261,9 @@ fn list(
     head: &[u8],
     parts: &[Tree],
 ) -> Result<Judged<Test>, Memory>
-    ensures { IfOk result (λ test. test ≡ spec.of_kind constants.now (spec.kind_of head.now) (mode_of_head head.now) parts.now (map (spec.test_of constants.now) parts.now)) }
+    ensures { IfOk result (λ test.
+        test ≡ spec.of_kind constants.now (spec.kind_of head.now) (mode_of_head head.now) parts.now
+        (map (spec.test_of constants.now) parts.now)) }
 {
     match kind_of(head) {
         Some(kind) => behind(alloc, constants, kind, head_words(head).1, parts),
@@ -290,7 +297,8 @@ pub fn test_of(alloc: Global, tree: &Tree, constants: &Constants) -> Result<Judg
     ensures value { IfOk result (λ test. test ≡ spec.test_of constants.now tree.now) }
     ensures tests { (t : Tree) (x : Test) →
         (spec.test_of constants.now t ≡ Ok x) ↔ spec.IsTest constants.now t x }
-    ensures grammar { (bytes : List ℕ) → texts.Says reason.Condition (IsText Dialect.Test constants.now Condition bytes)
+    ensures grammar { (bytes : List ℕ) →
+        texts.Says reason.Condition (IsText Dialect.Test constants.now Condition bytes)
         (texts.test_condition_of constants.now bytes) }
 {
     test_in(alloc, constants, tree)

@@ -14,7 +14,8 @@ use std::alloc::Global;
 /// The condition of a form that a text is, or `Condition` where the text is outside the grammar.
 pub fn condition(alloc: Global, text: &[u8], constants: &Constants) -> Result<Judged<Cond>, Memory>
     ensures value { IfOk result (λ cond. cond ≡ spec.condition_of constants.now text.now) }
-    ensures grammar { (bytes : List ℕ) → spec.Says reason.Condition (IsText Dialect.Condition constants.now Condition bytes)
+    ensures grammar { (bytes : List ℕ) →
+        spec.Says reason.Condition (IsText Dialect.Condition constants.now Condition bytes)
         (spec.condition_of constants.now bytes) }
 {
     match parse_cond(alloc, text, constants) {
@@ -43,7 +44,8 @@ pub(crate) fn test_condition(
 /// grammar.
 pub fn statements(alloc: Global, text: &[u8], constants: &Constants) -> Result<Judged<Prep>, Memory>
     ensures value { IfOk result (λ prep. prep ≡ spec.statements_of constants.now text.now) }
-    ensures grammar { (bytes : List ℕ) → spec.Says reason.Statements (IsText Dialect.Condition constants.now Statements bytes)
+    ensures grammar { (bytes : List ℕ) →
+        spec.Says reason.Statements (IsText Dialect.Condition constants.now Statements bytes)
         (spec.statements_of constants.now bytes) }
 {
     match parse_prep(alloc, text, constants) {

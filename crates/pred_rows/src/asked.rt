@@ -56,7 +56,8 @@ pub fn holds_at<P: Preds>(nodes: &[Node], root: usize, preds: &P, x: &Rtx, mode:
 /// The answer of a node behind some others.
 #[cycle(asked)]
 fn node_answer<P: Preds>(before: &[Node], node: &Node, preds: &P, x: &Rtx, mode: Mode) -> bool
-    ensures { result ≡ rows.node_answer (P.accepts preds.now) x.now mode (rows.answers (P.accepts preds.now) x.now mode before.now) node.now }
+    ensures { result ≡ rows.node_answer (P.accepts preds.now) x.now mode
+        (rows.answers (P.accepts preds.now) x.now mode before.now) node.now }
 {
     match node {
         Node::Codes(codes) => has_code(codes.as_slice(), x),

@@ -43,7 +43,8 @@ fn print_chosen(
     chosen: &Chosen,
     out: &mut Vec<u8>,
 ) -> Result<(), Memory>
-    ensures { OnOk result (out.new.items ≡ out.old.items ++ spec.line_of names.now function.now uid chosen.now.form chosen.now.alternative) }
+    ensures { OnOk result (out.new.items ≡ out.old.items ++ spec.line_of names.now function.now uid
+        chosen.now.form chosen.now.alternative) }
 {
     print_part(function.bytes(), b' ', out)?;
     print_number(u64::from(uid), b' ', out)?;
@@ -61,7 +62,8 @@ fn print_insn(
     out: &mut Vec<u8>,
 ) -> Result<(), Refusal>
     requires { names.now ≡ names_of desc.now }
-    ensures { AppendedSome out.old.items out.new.items result (OutputComes desc.now function.now insn.now) }
+    ensures { AppendedSome out.old.items out.new.items result
+        (OutputComes desc.now function.now insn.now) }
 {
     if !needs_form(insn) {
         return Ok(());
@@ -86,7 +88,8 @@ pub(crate) fn print_insns(
     out: &mut Vec<u8>,
 ) -> Result<(), Refusal>
     requires { names.now ≡ names_of desc.now }
-    ensures { AppendedSome out.old.items out.new.items result (EachComes (OutputComes desc.now function.now) insns.now) }
+    ensures { AppendedSome out.old.items out.new.items result
+        (EachComes (OutputComes desc.now function.now) insns.now) }
 {
     for insn in insns {
         print_insn(alloc, desc, names, function, insn, out)?;

@@ -44,7 +44,8 @@ fn print_functions(
     out: &mut Vec<u8>,
 ) -> Result<(), Refusal>
     requires { names.now ≡ names_of desc.now }
-    ensures { AppendedSome out.old.items out.new.items result (FunctionsCome desc.now functions.now) }
+    ensures { AppendedSome out.old.items out.new.items result
+        (FunctionsCome desc.now functions.now) }
 {
     for f in functions {
         print_function(alloc, desc, names, f, out)?;

@@ -34,8 +34,12 @@ pub fn recog<P: Preds, L: Ledger>(
 ) -> Result<Option<FormMatch>, Memory>
     requires tables { AreTablesOf tables.now forms.now }
     requires short { length forms.now < 2 ^ 32 }
-    ensures first { IfOk result (λ r. (m : FormMatch) → (r ≡ Some m) ↔ IsFirst (P.accepts preds.now) facts.now half.Insn (insn.now ∷ []) forms.now from m) }
-    ensures none { IfOk result (λ r. r ≡ None → NoneBetween (P.accepts preds.now) facts.now half.Insn (insn.now ∷ []) forms.now from (length forms.now)) }
+    ensures first { IfOk result (λ r. (m : FormMatch) →
+        (r ≡ Some m) ↔ IsFirst (P.accepts preds.now) facts.now half.Insn
+        (insn.now ∷ []) forms.now from m) }
+    ensures none { IfOk result (λ r. r ≡ None →
+        NoneBetween (P.accepts preds.now) facts.now half.Insn (insn.now ∷ []) forms.now from
+        (length forms.now)) }
     ensures tries { steps.new ≤ steps.old + count_by (is_tried insn.now) forms.now }
     ensures keyed { (entry : Entry) (operands : Ops) →
         EntryMatches (P.accepts preds.now) facts.now half.Insn (insn.now ∷ []) entry operands →

@@ -49,7 +49,8 @@ fn is_tried_at(keys: &[Option<Key>], insn: Key, place: u32) -> bool
 /// key.
 fn next_of(keys: &[Option<Key>], insn: Key, from: u32) -> Option<u32>
     requires { length keys.now < 2 ^ 32 }
-    ensures { MatchOption result (NoneTried keys.now insn from (length keys.now)) (λ place. IsNext keys.now insn from place) }
+    ensures { MatchOption result (NoneTried keys.now insn from (length keys.now)) (λ place.
+        IsNext keys.now insn from place) }
 {
     for place in from..keys.len() as u32 {
         if is_tried_at(keys, insn, place) {
@@ -62,7 +63,8 @@ fn next_of(keys: &[Option<Key>], insn: Key, from: u32) -> Option<u32>
 /// The first form from an index on that is tried for an instruction with a key.
 pub fn next_tried(tables: &Tables, insn: Key, from: u32) -> Option<u32>
     requires { length tables.now.keys < 2 ^ 32 }
-    ensures { MatchOption result (NoneTried tables.now.keys insn from (length tables.now.keys)) (λ place. IsNext tables.now.keys insn from place) }
+    ensures { MatchOption result (NoneTried tables.now.keys insn from (length tables.now.keys))
+        (λ place. IsNext tables.now.keys insn from place) }
 {
     next_of(tables.keys.as_slice(), insn, from)
 }

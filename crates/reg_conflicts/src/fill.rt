@@ -43,7 +43,8 @@ fn add_insn(
     ensures width { length set.new ≡ length set.old }
     ensures table { IsTable (length set.old) rows.new }
     ensures each { OnOk result ((x y : ℕ) → has_at rows.new x y ≡
-        (has_at rows.old x y || (is_beside f.now live.now at insn.now x y || is_beside f.now live.now at insn.now y x))) }
+        (has_at rows.old x y || (is_beside f.now live.now at insn.now x y || is_beside f.now
+        live.now at insn.now y x))) }
 {
     let defines = insn_defines(alloc, insn)?;
     collect(live, successors_by(labels, f.insns.as_slice(), at), set);

@@ -101,7 +101,9 @@ pub fn mark(rows: &mut [RegRow], regs: &[u32], set: &RegRow)
     requires small { 64 * length set.now < 2 ^ 32 }
     requires room { All (λ reg. reg < 64 * length set.now) regs.now }
     ensures table { IsTable (length set.now) rows.new }
-    ensures each { (x y : ℕ) → has_at rows.new x y ≡ (has_at rows.old x y || ((has set.now y && has_reg regs.now x) || (has set.now x && has_reg regs.now y))) }
+    ensures each { (x y : ℕ) → has_at rows.new x y ≡
+        (has_at rows.old x y || ((has set.now y && has_reg regs.now x) ||
+        (has set.now x && has_reg regs.now y))) }
 {
     for reg in regs {
         mark_one(rows, *reg, set);

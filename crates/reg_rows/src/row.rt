@@ -121,7 +121,8 @@ impl RegRow {
     /// Takes register `reg` out of the set.
     pub fn remove(&mut self, reg: u32)
         ensures width { length self.new ≡ length self.old }
-        ensures each { (other : ℕ) → has self.new other ≡ (has self.old other && not (other == reg)) }
+        ensures each { (other : ℕ) → has self.new other ≡
+            (has self.old other && not (other == reg)) }
     {
         words::remove(self.words.as_mut_slice(), reg);
     }
@@ -138,7 +139,8 @@ impl RegRow {
     pub fn join(&mut self, from: &RegRow) -> bool
         requires { length self.old ≡ length from.now }
         ensures width { length self.new ≡ length self.old }
-        ensures each { (other : ℕ) → has self.new other ≡ (has self.old other || has from.now other) }
+        ensures each { (other : ℕ) → has self.new other ≡
+            (has self.old other || has from.now other) }
         ensures same { result ≡ false → self.new ≡ self.old }
         ensures grown { result ≡ true → sum self.old < sum self.new }
         ensures fits { sum self.new ≤ length self.new * (2 ^ 64 - 1) }

@@ -12,7 +12,8 @@ use rtx_tree::{Code, HARD_REGS, Insn, Kind, Rtx, reg_call_used};
 use std::alloc::Global;
 
 fn add_effect_defines(x: &Rtx, regs: &mut Regs) -> Result<(), Memory>
-    ensures { OnOk result ((reg : ℕ) → has_reg regs.new reg ≡ (has_reg regs.old reg || spec.effect_defines reg x.now)) }
+    ensures { OnOk result ((reg : ℕ) →
+        has_reg regs.new reg ≡ (has_reg regs.old reg || spec.effect_defines reg x.now)) }
 {
     match (x.code, x.kids.as_slice()) {
         (Code::Set | Code::Clobber, [place, ..]) => add_place(place, regs),
@@ -21,7 +22,8 @@ fn add_effect_defines(x: &Rtx, regs: &mut Regs) -> Result<(), Memory>
 }
 
 fn add_all_defines(effects: &[Rtx], regs: &mut Regs) -> Result<(), Memory>
-    ensures { OnOk result ((reg : ℕ) → has_reg regs.new reg ≡ (has_reg regs.old reg || spec.all_define reg effects.now)) }
+    ensures { OnOk result ((reg : ℕ) →
+        has_reg regs.new reg ≡ (has_reg regs.old reg || spec.all_define reg effects.now)) }
 {
     for x in effects {
         add_effect_defines(x, regs)?;
@@ -30,7 +32,8 @@ fn add_all_defines(effects: &[Rtx], regs: &mut Regs) -> Result<(), Memory>
 }
 
 fn add_pattern_defines(x: &Rtx, regs: &mut Regs) -> Result<(), Memory>
-    ensures { OnOk result ((reg : ℕ) → has_reg regs.new reg ≡ (has_reg regs.old reg || spec.pattern_defines reg x.now)) }
+    ensures { OnOk result ((reg : ℕ) →
+        has_reg regs.new reg ≡ (has_reg regs.old reg || spec.pattern_defines reg x.now)) }
 {
     match x.code {
         Code::Parallel => add_all_defines(x.kids.as_slice(), regs),
@@ -39,7 +42,8 @@ fn add_pattern_defines(x: &Rtx, regs: &mut Regs) -> Result<(), Memory>
 }
 
 fn add_if_call_used(reg: u8, regs: &mut Regs) -> Result<(), Memory>
-    ensures { OnOk result ((other : ℕ) → has_reg regs.new other ≡ (has_reg regs.old other || (other == reg && is_call_used other))) }
+    ensures { OnOk result ((other : ℕ) →
+        has_reg regs.new other ≡ (has_reg regs.old other || (other == reg && is_call_used other))) }
 {
     if reg_call_used(reg) {
         regs.push(u32::from(reg))
@@ -49,7 +53,8 @@ fn add_if_call_used(reg: u8, regs: &mut Regs) -> Result<(), Memory>
 }
 
 fn add_call_used(regs: &mut Regs) -> Result<(), Memory>
-    ensures { OnOk result ((reg : ℕ) → has_reg regs.new reg ≡ (has_reg regs.old reg || is_call_used reg)) }
+    ensures { OnOk result ((reg : ℕ) →
+        has_reg regs.new reg ≡ (has_reg regs.old reg || is_call_used reg)) }
 {
     for reg in 0..HARD_REGS {
         add_if_call_used(reg, regs)?;
@@ -58,7 +63,9 @@ fn add_call_used(regs: &mut Regs) -> Result<(), Memory>
 }
 
 fn add_call_defines(kind: Kind, regs: &mut Regs) -> Result<(), Memory>
-    ensures { OnOk result ((reg : ℕ) → has_reg regs.new reg ≡ (has_reg regs.old reg || (insns.is_call_kind kind && is_call_used reg))) }
+    ensures { OnOk result ((reg : ℕ) →
+        has_reg regs.new reg ≡ (has_reg regs.old reg ||
+        (insns.is_call_kind kind && is_call_used reg))) }
 {
     match kind {
         Kind::Call => add_call_used(regs),

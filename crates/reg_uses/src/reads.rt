@@ -9,7 +9,8 @@ use rtx_tree::{Code, Rtx};
 
 /// Adds the register that the tree is, if it is one. A number past `u32` finds no memory.
 pub fn add_register(x: &Rtx, regs: &mut Regs) -> Result<(), Memory>
-    ensures { OnOk result ((reg : ℕ) → has_reg regs.new reg ≡ (has_reg regs.old reg || spec.is_register reg x.now)) }
+    ensures { OnOk result ((reg : ℕ) →
+        has_reg regs.new reg ≡ (has_reg regs.old reg || spec.is_register reg x.now)) }
 {
     if !matches!(x.code, Code::Reg) || x.number <= 0 {
         return Ok(());
@@ -23,7 +24,8 @@ pub fn add_register(x: &Rtx, regs: &mut Regs) -> Result<(), Memory>
 /// Adds each register that the tree reads.
 #[tactic(auto, using(crate::proofs::ReadLaws::reads_out))]
 pub fn add_reads(x: &Rtx, regs: &mut Regs) -> Result<(), Memory>
-    ensures { OnOk result ((reg : ℕ) → has_reg regs.new reg ≡ (has_reg regs.old reg || spec.reads reg x.now)) }
+    ensures { OnOk result ((reg : ℕ) →
+        has_reg regs.new reg ≡ (has_reg regs.old reg || spec.reads reg x.now)) }
 {
     add_register(x, regs)?;
     for kid in x.kids.as_slice() {
@@ -34,7 +36,8 @@ pub fn add_reads(x: &Rtx, regs: &mut Regs) -> Result<(), Memory>
 
 /// Adds the register of a place: itself, or that of which it is the low part.
 pub fn add_place(place: &Rtx, regs: &mut Regs) -> Result<(), Memory>
-    ensures { OnOk result ((reg : ℕ) → has_reg regs.new reg ≡ (has_reg regs.old reg || spec.place_is reg place.now)) }
+    ensures { OnOk result ((reg : ℕ) →
+        has_reg regs.new reg ≡ (has_reg regs.old reg || spec.place_is reg place.now)) }
 {
     match (place.code, place.kids.as_slice()) {
         (Code::Subreg, [whole, ..]) => add_register(whole, regs),

@@ -47,7 +47,8 @@ const RESULT: u32 = 10;
 
 /// Adds the register of the function's result, if there is one.
 fn add_result(f: &Function, regs: &mut Regs) -> Result<(), Memory>
-    ensures { OnOk result ((reg : ℕ) → has_reg regs.new reg ≡ (has_reg regs.old reg || insns.is_result f.now reg)) }
+    ensures { OnOk result ((reg : ℕ) →
+        has_reg regs.new reg ≡ (has_reg regs.old reg || insns.is_result f.now reg)) }
 {
     match f.result {
         None => Ok(()),
@@ -56,7 +57,9 @@ fn add_result(f: &Function, regs: &mut Regs) -> Result<(), Memory>
 }
 
 fn add_if_set(f: &Function, kept: u8, regs: &mut Regs) -> Result<(), Memory>
-    ensures { OnOk result ((reg : ℕ) → has_reg regs.new reg ≡ (has_reg regs.old reg || (kept == reg && insns.function_sets f.now reg))) }
+    ensures { OnOk result ((reg : ℕ) →
+        has_reg regs.new reg ≡ (has_reg regs.old reg ||
+        (kept == reg && insns.function_sets f.now reg))) }
 {
     let reg = u32::from(kept);
     if any_insn_sets(f.insns.as_slice(), reg) {
@@ -67,7 +70,9 @@ fn add_if_set(f: &Function, kept: u8, regs: &mut Regs) -> Result<(), Memory>
 }
 
 fn add_those_set(f: &Function, all: &[u8], regs: &mut Regs) -> Result<(), Memory>
-    ensures { OnOk result ((reg : ℕ) → has_reg regs.new reg ≡ (has_reg regs.old reg || (has_reg all.now reg && insns.function_sets f.now reg))) }
+    ensures { OnOk result ((reg : ℕ) →
+        has_reg regs.new reg ≡ (has_reg regs.old reg ||
+        (has_reg all.now reg && insns.function_sets f.now reg))) }
 {
     for kept in all {
         add_if_set(f, *kept, regs)?;

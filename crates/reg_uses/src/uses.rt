@@ -12,7 +12,8 @@ use std::alloc::Global;
 
 /// Adds what a `set` of a place reads besides its source: the address, where it is memory.
 fn add_place_reads(place: &Rtx, regs: &mut Regs) -> Result<(), Memory>
-    ensures { OnOk result ((reg : ℕ) → has_reg regs.new reg ≡ (has_reg regs.old reg || spec.place_reads reg place.now)) }
+    ensures { OnOk result ((reg : ℕ) →
+        has_reg regs.new reg ≡ (has_reg regs.old reg || spec.place_reads reg place.now)) }
 {
     match place.code {
         Code::Mem => add_reads(place, regs),
@@ -21,7 +22,8 @@ fn add_place_reads(place: &Rtx, regs: &mut Regs) -> Result<(), Memory>
 }
 
 fn add_effect_uses(x: &Rtx, regs: &mut Regs) -> Result<(), Memory>
-    ensures { OnOk result ((reg : ℕ) → has_reg regs.new reg ≡ (has_reg regs.old reg || spec.effect_uses reg x.now)) }
+    ensures { OnOk result ((reg : ℕ) →
+        has_reg regs.new reg ≡ (has_reg regs.old reg || spec.effect_uses reg x.now)) }
 {
     match (x.code, x.kids.as_slice()) {
         (Code::Set, [place, source]) => {
@@ -34,7 +36,8 @@ fn add_effect_uses(x: &Rtx, regs: &mut Regs) -> Result<(), Memory>
 }
 
 fn add_all_uses(effects: &[Rtx], regs: &mut Regs) -> Result<(), Memory>
-    ensures { OnOk result ((reg : ℕ) → has_reg regs.new reg ≡ (has_reg regs.old reg || spec.all_use reg effects.now)) }
+    ensures { OnOk result ((reg : ℕ) →
+        has_reg regs.new reg ≡ (has_reg regs.old reg || spec.all_use reg effects.now)) }
 {
     for x in effects {
         add_effect_uses(x, regs)?;
@@ -43,7 +46,8 @@ fn add_all_uses(effects: &[Rtx], regs: &mut Regs) -> Result<(), Memory>
 }
 
 fn add_pattern_uses(x: &Rtx, regs: &mut Regs) -> Result<(), Memory>
-    ensures { OnOk result ((reg : ℕ) → has_reg regs.new reg ≡ (has_reg regs.old reg || spec.pattern_uses reg x.now)) }
+    ensures { OnOk result ((reg : ℕ) →
+        has_reg regs.new reg ≡ (has_reg regs.old reg || spec.pattern_uses reg x.now)) }
 {
     match x.code {
         Code::Parallel => add_all_uses(x.kids.as_slice(), regs),
@@ -52,7 +56,8 @@ fn add_pattern_uses(x: &Rtx, regs: &mut Regs) -> Result<(), Memory>
 }
 
 fn add_arguments(uses: &[ArgUse], regs: &mut Regs) -> Result<(), Memory>
-    ensures { OnOk result ((reg : ℕ) → has_reg regs.new reg ≡ (has_reg regs.old reg || insns.has_argument reg uses.now)) }
+    ensures { OnOk result ((reg : ℕ) →
+        has_reg regs.new reg ≡ (has_reg regs.old reg || insns.has_argument reg uses.now)) }
 {
     for argument in uses {
         regs.push(u32::from(argument.reg))?;

@@ -54,7 +54,8 @@ fn add_window(
     insns: &mut Insns,
 ) -> Result<u32, ReloadRefusal>
     requires { length (asks_of plan.now.parts) ≤ 4 }
-    ensures { AddsWindow setting.now.desc.now uid insn.now given.now plan.now insns.old insns.new result }
+    ensures { AddsWindow setting.now.desc.now uid insn.now given.now plan.now insns.old insns.new
+        result }
 {
     let before = insns_before(setting.alloc, given, plan)?;
     let between = insn_between(setting.alloc, given, plan)?;
@@ -66,7 +67,8 @@ fn add_window(
 
 /// The refusal of an instruction of which no alternative is reachable.
 fn unsatisfied(setting: &Setting, uid: u32, form: u32, insn: Rtx) -> Result<ReloadRefusal, Memory>
-    ensures { IfOk result (λ e. e ≡ ReloadRefusal.Unsatisfied uid (needs.name_at (names_of setting.now.desc.now) form) insn) }
+    ensures { IfOk result (λ e. e ≡ ReloadRefusal.Unsatisfied uid
+        (needs.name_at (names_of setting.now.desc.now) form) insn) }
 {
     let names = names_of(setting.alloc, setting.desc.forms().as_slice())?;
     let form = Name::of(setting.alloc, name_at(names.as_slice(), form))?;
@@ -83,7 +85,8 @@ fn add_given(
     given: Given,
     insns: &mut Insns,
 ) -> Result<u32, ReloadRefusal>
-    ensures { Adds (spec.MatchReloads setting.now.desc.now form given uid insn.now) uid insns.old insns.new result }
+    ensures { Adds (spec.MatchReloads setting.now.desc.now form given uid insn.now) uid insns.old
+        insns.new result }
 {
     match best_plan(setting.alloc, setting.desc, form, &given)? {
         Some(plan) => add_window(setting, uid, insn, &given, &plan, insns),
@@ -104,7 +107,8 @@ fn add_match(
     requires needs { needs.needs_form insn.now ≡ true }
     requires placed { placed.now ≡ spec.placed setting.now.layout.now insn.now }
     requires first { IsFirst setting.now.desc.now needs.lower_facts placed.now 0 found.now }
-    ensures { Adds (spec.InsnReloads setting.now.desc.now setting.now.homes.now setting.now.layout.now uid insn.now)
+    ensures { Adds (spec.InsnReloads setting.now.desc.now setting.now.homes.now
+        setting.now.layout.now uid insn.now)
         uid insns.old insns.new result }
 {
     let pattern = &patterns_at(setting.desc, found.form)[0];
@@ -121,7 +125,8 @@ fn add_needing(
 ) -> Result<u32, ReloadRefusal>
     requires ordered { AreOrdered setting.now.homes.now setting.now.layout.now }
     requires needs { needs.needs_form insn.now ≡ true }
-    ensures { Adds (spec.InsnReloads setting.now.desc.now setting.now.homes.now setting.now.layout.now uid insn.now)
+    ensures { Adds (spec.InsnReloads setting.now.desc.now setting.now.homes.now
+        setting.now.layout.now uid insn.now)
         uid insns.old insns.new result }
 {
     let placed = setting.placed(insn)?;
@@ -143,7 +148,8 @@ fn is_mark(insn: &Insn) -> bool
 /// The pattern of an instruction that needs no form: that of a label or a barrier stays.
 fn alone(setting: &Setting, insn: &Insn) -> Result<Rtx, Memory>
     requires { AreOrdered setting.now.homes.now setting.now.layout.now }
-    ensures { IfOk result (λ x. x ≡ spec.alone setting.now.homes.now setting.now.layout.now insn.now) }
+    ensures { IfOk result (λ x. x ≡ spec.alone setting.now.homes.now setting.now.layout.now
+        insn.now) }
 {
     if is_mark(insn) {
         return insn.pattern.copy(setting.alloc);
@@ -160,7 +166,8 @@ pub(crate) fn add_insn(
     insns: &mut Insns,
 ) -> Result<u32, ReloadRefusal>
     requires { AreOrdered setting.now.homes.now setting.now.layout.now }
-    ensures { Adds (spec.InsnReloads setting.now.desc.now setting.now.homes.now setting.now.layout.now uid insn.now)
+    ensures { Adds (spec.InsnReloads setting.now.desc.now setting.now.homes.now
+        setting.now.layout.now uid insn.now)
         uid insns.old insns.new result }
 {
     if needs_form(insn) {

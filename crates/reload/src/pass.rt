@@ -35,7 +35,8 @@ fn next_uid(insns: &[Insn]) -> Result<u32, Memory>
 /// What a chain comes to, where uids are free from one on.
 fn reloaded(setting: &Setting, uid: u32, chain: &[Insn]) -> Result<Insns, ReloadRefusal>
     requires { AreOrdered setting.now.homes.now setting.now.layout.now }
-    ensures { Gives result (spec.ChainReloads setting.now.desc.now setting.now.homes.now setting.now.layout.now uid chain.now) }
+    ensures { Gives result (spec.ChainReloads setting.now.desc.now setting.now.homes.now
+        setting.now.layout.now uid chain.now) }
 {
     let mut insns = Items::new(setting.alloc);
     let mut next = uid;
@@ -80,11 +81,15 @@ pub fn reload(
     ensures gives { Gives result (spec.FunctionReloads desc.now homes.now layout.now f) }
 
     // A function comes to one thing.
-    ensures one { (forms : List Entry) (homes : List HomeOf) (layout : Layout) (f : Function) (a b : spec.Answer) →
-        spec.FunctionReloads forms homes layout f a → spec.FunctionReloads forms homes layout f b → a ≡ b }
+    ensures one { (forms : List Entry) (homes : List HomeOf) (layout : Layout) (f : Function)
+        (a b : spec.Answer) →
+        spec.FunctionReloads forms homes layout f a → spec.FunctionReloads forms homes layout f b →
+        a ≡ b }
 
-    // Each instruction that needs a form stands between the moves of a sound plan, and each other alone with its homes.
-    ensures windows { (forms : List Entry) (homes : List HomeOf) (layout : Layout) (f g : Function) →
+    // Each instruction that needs a form stands between the moves of a sound plan, and each other
+    // alone with its homes.
+    ensures windows { (forms : List Entry) (homes : List HomeOf) (layout : Layout)
+        (f g : Function) →
         spec.FunctionReloads forms homes layout f (Ok g) → HasWindows forms homes layout f g }
 
     // Labels and barriers stay, and uids that differ still do.

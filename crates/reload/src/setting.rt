@@ -43,7 +43,8 @@ impl Setting<'_> {
 
     /// The first form that matches a tree, before registers have homes.
     pub fn first_match(&self, x: &Rtx) -> Result<Option<FormMatch>, Memory>
-        ensures { IfOk result (λ r. MatchOption r (NoneMatches self.now.desc.now needs.lower_facts x.now)
+        ensures { IfOk result (λ r. MatchOption r
+            (NoneMatches self.now.desc.now needs.lower_facts x.now)
             (λ m. IsFirst self.now.desc.now needs.lower_facts x.now 0 m)) }
     {
         self.desc.recog(self.alloc, x, &lower_facts(self.alloc))
@@ -71,7 +72,8 @@ impl Setting<'_> {
     ) -> Result<Given, Memory>
         requires { AreOrdered self.now.homes.now self.now.layout.now }
         ensures { IfOk result (λ given.
-            given ≡ spec.given_of self.now.homes.now self.now.layout.now kind placed.now pattern.now found.now) }
+            given ≡ spec.given_of self.now.homes.now self.now.layout.now kind placed.now pattern.now
+            found.now) }
     {
         let insn = self.homed(placed)?;
         let operands = operands_of(

@@ -25,7 +25,8 @@ fn planned(
     formed: &[bool],
     parts: Items<Part>,
 ) -> Result<Option<Plan>, Memory>
-    ensures { IfOk result (λ plan. plan ≡ planned_in asked.now given.now fits.now formed.now parts) }
+    ensures { IfOk result (λ plan.
+        plan ≡ planned_in asked.now given.now fits.now formed.now parts) }
 {
     let asks = asks_of(asked.alloc, parts.as_slice())?;
     if asks.len() > 4 || !is_reached(asked, given, fits, formed, parts.as_slice())? {
@@ -63,7 +64,9 @@ struct Choice<'a> {
 
 impl Choice<'_> {
     fn plan_in(&self, alternative: u32) -> Result<Option<Plan>, Memory>
-        ensures { IfOk result (λ plan. plan ≡ plan_of self.now.desc.now self.now.form self.now.constraints.now self.now.given.now self.now.formed.now alternative) }
+        ensures { IfOk result (λ plan.
+            plan ≡ plan_of self.now.desc.now self.now.form self.now.constraints.now
+            self.now.given.now self.now.formed.now alternative) }
     {
         let asked = Asked {
             alloc: self.alloc,
@@ -77,7 +80,9 @@ impl Choice<'_> {
     }
 
     fn plan_at(&self, alternative: u32) -> Result<Option<Plan>, Memory>
-        ensures { IfOk result (λ plan. plan ≡ spec.plan_among self.now.desc.now self.now.form self.now.constraints.now self.now.given.now self.now.formed.now alternative) }
+        ensures { IfOk result (λ plan.
+            plan ≡ spec.plan_among self.now.desc.now self.now.form self.now.constraints.now
+            self.now.given.now self.now.formed.now alternative) }
     {
         if self.desc.enabled(self.form, alternative) {
             self.plan_in(alternative)
@@ -89,7 +94,10 @@ impl Choice<'_> {
     /// The best plan. More alternatives than have a number are wanted as memory is.
     #[tactic(auto, using(crate::proofs::LeastLaws::keeps_first, crate::proofs::LeastLaws::keeps_whole))]
     fn best(&self) -> Result<Option<Plan>, Memory>
-        ensures { IfOk result (λ plan. plan ≡ least.best_upto (spec.plan_among self.now.desc.now self.now.form self.now.constraints.now self.now.given.now self.now.formed.now) (alternatives_of self.now.desc.now self.now.form)) }
+        ensures { IfOk result (λ plan.
+            plan ≡ least.best_upto (spec.plan_among self.now.desc.now self.now.form
+            self.now.constraints.now self.now.given.now self.now.formed.now)
+            (alternatives_of self.now.desc.now self.now.form)) }
     {
         let mut best = None;
         let mut alternative: u32 = 0;
@@ -144,7 +152,8 @@ pub fn best_plan(
     form: u32,
     given: &Given,
 ) -> Result<Option<Plan>, Memory>
-    ensures best { IfOk result (λ r. (plan : Plan) → (r ≡ Some plan) ↔ spec.IsChosen desc.now form given.now plan) }
+    ensures best { IfOk result (λ r. (plan : Plan) →
+        (r ≡ Some plan) ↔ spec.IsChosen desc.now form given.now plan) }
     ensures none { IfOk result (λ r. r ≡ None → spec.NoneReaches desc.now form given.now) }
     ensures sound { IfOk result (λ r. IfSome r (IsSoundPlan given.now)) }
 {

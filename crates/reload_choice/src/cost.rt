@@ -102,7 +102,8 @@ pub fn cost_of(
     parts: &[Part],
 ) -> Result<u64, Memory>
     requires { length asks.now ≤ 4 }
-    ensures { IfOk result (λ cost. cost ≡ spec.moves_cost asks.now parts.now + spec.marks constraints.now alternative) }
+    ensures { IfOk result (λ cost.
+        cost ≡ spec.moves_cost asks.now parts.now + spec.marks constraints.now alternative) }
 {
     let moves = moves_cost(alloc, asks, parts)?;
     sum(moves, marks(constraints, alternative)?)

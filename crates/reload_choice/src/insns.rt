@@ -162,7 +162,8 @@ pub fn insns_before(alloc: Global, given: &Given, plan: &Plan) -> Result<Kids, M
 /// The instruction with all that is new in it.
 pub fn between(alloc: Global, given: &Given, parts: &[Part]) -> Result<Rtx, Memory>
     requires { length (asks_of parts.now) ≤ 4 }
-    ensures { IfOk result (λ insn. insn ≡ spec.between given.now.pattern given.now.operands parts.now given.now.insn) }
+    ensures { IfOk result (λ insn.
+        insn ≡ spec.between given.now.pattern given.now.operands parts.now given.now.insn) }
 {
     let asks = asks_of(alloc, parts)?;
     let news = news_of(alloc, asks.as_slice(), given.operands.as_slice(), parts)?;
@@ -172,7 +173,8 @@ pub fn between(alloc: Global, given: &Given, parts: &[Part]) -> Result<Rtx, Memo
 /// The instruction of a plan.
 pub fn insn_between(alloc: Global, given: &Given, plan: &Plan) -> Result<Rtx, Memory>
     requires { length (asks_of plan.now.parts) ≤ 4 }
-    ensures { IfOk result (λ insn. insn ≡ spec.between given.now.pattern given.now.operands plan.now.parts given.now.insn) }
+    ensures { IfOk result (λ insn.
+        insn ≡ spec.between given.now.pattern given.now.operands plan.now.parts given.now.insn) }
 {
     between(alloc, given, plan.parts.as_slice())
 }

@@ -197,7 +197,8 @@ fn may_move(
     place: usize,
     x: &Operand,
 ) -> Result<bool, Memory>
-    ensures { IfOk result (λ may. may ≡ spec.may_move (asks_in asked.now) asked.now.operands.now fits.now formed.now place x.now) }
+    ensures { IfOk result (λ may. may ≡ spec.may_move
+        (asks_in asked.now) asked.now.operands.now fits.now formed.now place x.now) }
 {
     if can_be_replaced(formed, place, x) {
         asked.takes_register(fits, place, x.mode)
@@ -212,7 +213,8 @@ fn may_move_at(
     formed: &[bool],
     place: usize,
 ) -> Result<bool, Memory>
-    ensures { IfOk result (λ may. may ≡ spec.may_move_at (asks_in asked.now) asked.now.operands.now fits.now formed.now place) }
+    ensures { IfOk result (λ may. may ≡ spec.may_move_at
+        (asks_in asked.now) asked.now.operands.now fits.now formed.now place) }
 {
     match asked.operands.get(place) {
         Some(x) => may_move(asked, fits, formed, place, x),
@@ -221,7 +223,8 @@ fn may_move_at(
 }
 
 fn part_may_move(asked: &Asked, fits: &[Fitting], formed: &[bool], p: &Part) -> Result<bool, Memory>
-    ensures { IfOk result (λ may. may ≡ spec.part_may_move (asks_in asked.now) asked.now.operands.now fits.now formed.now p.now) }
+    ensures { IfOk result (λ may. may ≡ spec.part_may_move
+        (asks_in asked.now) asked.now.operands.now fits.now formed.now p.now) }
 {
     if p.is_moved {
         may_move_at(asked, fits, formed, p.place)
@@ -237,7 +240,9 @@ fn moving_row(
     formed: &[bool],
     parts: &[Part],
 ) -> Result<Items<bool>, Memory>
-    ensures { IfOk result (λ row. row ≡ map (spec.part_may_move (asks_in asked.now) asked.now.operands.now fits.now formed.now) parts.now) }
+    ensures { IfOk result (λ row. row ≡ map
+        (spec.part_may_move (asks_in asked.now) asked.now.operands.now fits.now formed.now)
+        parts.now) }
 {
     let mut row = Items::new(asked.alloc);
     for p in parts {
@@ -258,7 +263,8 @@ fn all_may_move(
     formed: &[bool],
     parts: &[Part],
 ) -> Result<bool, Memory>
-    ensures { IfOk result (λ may. may ≡ spec.all_may_move (asks_in asked.now) asked.now.operands.now fits.now formed.now parts.now) }
+    ensures { IfOk result (λ may. may ≡ spec.all_may_move
+        (asks_in asked.now) asked.now.operands.now fits.now formed.now parts.now) }
 {
     let row = moving_row(asked, fits, formed, parts)?;
     Ok(are_all(row.as_slice()))
@@ -272,7 +278,9 @@ fn is_suited(
     formed: &[bool],
     parts: &[Part],
 ) -> Result<bool, Memory>
-    ensures { IfOk result (λ suited. suited ≡ spec.is_suited (asks_in asked.now) asked.now.operands.now given.now fits.now formed.now parts.now) }
+    ensures { IfOk result (λ suited.
+        suited ≡ spec.is_suited (asks_in asked.now) asked.now.operands.now given.now fits.now
+        formed.now parts.now) }
 {
     if all_share_well(given.operands.as_slice(), parts) && all_good(given, parts) {
         all_may_move(asked, fits, formed, parts)
@@ -300,7 +308,8 @@ pub fn is_reached(
     parts: &[Part],
 ) -> Result<bool, Memory>
     requires { length (asks_of parts.now) ≤ 4 }
-    ensures { IfOk result (λ reached. reached ≡ is_reached asked.now given.now fits.now formed.now parts.now) }
+    ensures { IfOk result (λ reached.
+        reached ≡ is_reached asked.now given.now fits.now formed.now parts.now) }
 {
     if is_suited(asked, given, fits, formed, parts)? {
         stays_formed(asked.alloc, given, parts)

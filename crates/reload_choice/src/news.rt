@@ -33,7 +33,8 @@ fn put_new(
     news: &mut Operands,
 ) -> Result<(), Memory>
     requires { length asks.now ≤ 4 }
-    ensures { OnOk result (news.new ≡ spec.with_new news.old x.now (spec.new_tree asks.now p.now x.now)) }
+    ensures { OnOk result (news.new ≡ spec.with_new news.old x.now
+        (spec.new_tree asks.now p.now x.now)) }
 {
     match new_tree(alloc, asks, p, x)? {
         Some(tree) => news.put(x.number, tree),

@@ -51,7 +51,8 @@ impl Asked<'_> {
 
     /// Whether the constraint of the operand with a number admits a tree, digits apart.
     pub fn admits(&self, number: u32, x: &Rtx) -> bool
-        ensures { result ≡ (spec.asks_by self.now.desc.now self.now.form self.now.constraints.now self.now.alternative).admits number x.now }
+        ensures { result ≡ (spec.asks_by self.now.desc.now self.now.form self.now.constraints.now
+            self.now.alternative).admits number x.now }
     {
         let nothing = Operands::new(self.alloc);
         self.desc

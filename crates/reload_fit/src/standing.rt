@@ -174,7 +174,8 @@ fn push_digit(
     member: &Member,
     digits: &mut Items<Digit>,
 ) -> Result<(), Memory>
-    ensures { OnOk result (digits.new ≡ digits.old ++ cons_option (spec.digit_in operands.now x.now member.now) []) }
+    ensures { OnOk result (digits.new ≡ digits.old ++ cons_option
+        (spec.digit_in operands.now x.now member.now) []) }
 {
     match digit_in(operands, x, member) {
         Some(digit) => digits.push(digit),
@@ -188,7 +189,8 @@ fn push_digits(
     members: &[Member],
     digits: &mut Items<Digit>,
 ) -> Result<(), Memory>
-    ensures { OnOk result (digits.new ≡ digits.old ++ spec.digits_among operands.now x.now members.now) }
+    ensures { OnOk result (digits.new ≡ digits.old ++ spec.digits_among operands.now x.now
+        members.now) }
 {
     for member in members {
         push_digit(operands, x, member, digits)?;
@@ -203,7 +205,8 @@ fn digits_of(
     operands: &[Operand],
     x: &Operand,
 ) -> Result<Items<Digit>, Memory>
-    ensures { IfOk result (λ digits. digits ≡ spec.digits_of (option_copied asked.entry) operands.now x.now) }
+    ensures { IfOk result (λ digits.
+        digits ≡ spec.digits_of (option_copied asked.entry) operands.now x.now) }
 {
     let mut digits = Items::new(alloc);
     match asked {
@@ -215,14 +218,18 @@ fn digits_of(
 
 impl Asked<'_> {
     fn is_admitted(&self, x: &Operand) -> Result<bool, Memory>
-        ensures { IfOk result (λ admitted. admitted ≡ spec.is_admitted (spec.asks_by self.now.desc.now self.now.form self.now.constraints.now self.now.alternative) x.now) }
+        ensures { IfOk result (λ admitted.
+            admitted ≡ spec.is_admitted (spec.asks_by self.now.desc.now self.now.form
+            self.now.constraints.now self.now.alternative) x.now) }
     {
         let tree = shown(self.alloc, self.asked(x.number), x)?;
         Ok(self.admits(x.number, &tree))
     }
 
     fn fitting_at(&self, place: usize, x: &Operand) -> Result<Fitting, Memory>
-        ensures { IfOk result (λ f. f ≡ spec.fitting_at (spec.asks_by self.now.desc.now self.now.form self.now.constraints.now self.now.alternative) self.now.operands.now place x.now) }
+        ensures { IfOk result (λ f. f ≡ spec.fitting_at
+            (spec.asks_by self.now.desc.now self.now.form self.now.constraints.now
+            self.now.alternative) self.now.operands.now place x.now) }
     {
         let is_admitted = self.is_admitted(x)?;
         let asked = self.asked(x.number);
@@ -236,7 +243,9 @@ impl Asked<'_> {
 
     /// How each operand stands in the alternative.
     pub fn fittings(&self) -> Result<Items<Fitting>, Memory>
-        ensures { IfOk result (λ fits. fits ≡ spec.fittings_of (spec.asks_by self.now.desc.now self.now.form self.now.constraints.now self.now.alternative) self.now.operands.now) }
+        ensures { IfOk result (λ fits.
+            fits ≡ spec.fittings_of (spec.asks_by self.now.desc.now self.now.form
+            self.now.constraints.now self.now.alternative) self.now.operands.now) }
     {
         let mut fits = Items::new(self.alloc);
         for x in self.operands {

@@ -253,7 +253,8 @@ fn push_turn(asks: &[Ask], parts: &[Part], p: &Part, moves: &mut Items<Move>) ->
 
 fn push_turns(asks: &[Ask], parts: &[Part], moves: &mut Items<Move>) -> Result<(), Memory>
     requires { length asks.now ≤ 4 }
-    ensures { OnOk result (moves.new ≡ moves.old ++ flat_map (spec.turn_moves asks.now parts.now) parts.now) }
+    ensures { OnOk result (moves.new ≡ moves.old ++ flat_map
+        (spec.turn_moves asks.now parts.now) parts.now) }
 {
     for p in parts {
         push_turn(asks, parts, p, moves)?;
@@ -263,7 +264,8 @@ fn push_turns(asks: &[Ask], parts: &[Part], moves: &mut Items<Move>) -> Result<(
 
 fn push_fars(asks: &[Ask], parts: &[Part], moves: &mut Items<Move>) -> Result<(), Memory>
     requires { length asks.now ≤ 4 }
-    ensures { OnOk result (moves.new ≡ moves.old ++ flat_map (spec.far_moves asks.now parts.now) parts.now) }
+    ensures { OnOk result (moves.new ≡ moves.old ++ flat_map
+        (spec.far_moves asks.now parts.now) parts.now) }
 {
     for p in parts {
         push_far_moves(asks, parts, p, moves)?;

@@ -47,7 +47,8 @@ fn address_of(x: &Rtx) -> Option<&Rtx>
 }
 
 fn changes_hard(effect: &Rtx, address: &Rtx) -> bool
-    ensures { result ≡ option_map_or (λ reg. spec.is_hard reg && mentions_reg reg address.now) (spec.changed_register effect.now) false }
+    ensures { result ≡ option_map_or (λ reg.
+        spec.is_hard reg && mentions_reg reg address.now) (spec.changed_register effect.now) false }
 {
     match changed_register(effect) {
         Some(reg) => reg < 32 && mentions(address, reg),
@@ -57,7 +58,9 @@ fn changes_hard(effect: &Rtx, address: &Rtx) -> bool
 
 fn changes_slot(homes: &Homes, effect: &Rtx, address: &Rtx) -> bool
     requires { IsStrictlyIncreasing (pseudos homes.now) }
-    ensures { result ≡ option_map_or (λ reg. lives_in_slot homes.now reg && mentions_reg reg address.now) (spec.changed_register effect.now) false }
+    ensures { result ≡ option_map_or (λ reg.
+        lives_in_slot homes.now reg && mentions_reg reg address.now)
+        (spec.changed_register effect.now) false }
 {
     match changed_register(effect) {
         Some(reg) => lives_in_slot(homes, reg) && mentions(address, reg),
@@ -66,7 +69,9 @@ fn changes_slot(homes: &Homes, effect: &Rtx, address: &Rtx) -> bool
 }
 
 fn any_changes_hard(effects: &[Rtx], address: &Rtx) -> bool
-    ensures { result ≡ list_any (λ effect. option_map_or (λ reg. spec.is_hard reg && mentions_reg reg address.now) (spec.changed_register effect) false) effects.now }
+    ensures { result ≡ list_any (λ effect.
+        option_map_or (λ reg. spec.is_hard reg && mentions_reg reg address.now)
+        (spec.changed_register effect) false) effects.now }
 {
     effects.iter().any(|effect| changes_hard(effect, address))
 }
@@ -80,7 +85,9 @@ fn changes_hard_in(insn: &Rtx, address: &Rtx) -> bool
 
 fn any_changes_slot(homes: &Homes, effects: &[Rtx], address: &Rtx) -> bool
     requires { IsStrictlyIncreasing (pseudos homes.now) }
-    ensures { result ≡ list_any (λ effect. option_map_or (λ reg. lives_in_slot homes.now reg && mentions_reg reg address.now) (spec.changed_register effect) false) effects.now }
+    ensures { result ≡ list_any (λ effect.
+        option_map_or (λ reg. lives_in_slot homes.now reg && mentions_reg reg address.now)
+        (spec.changed_register effect) false) effects.now }
 {
     effects
         .iter()
@@ -107,7 +114,8 @@ fn changes_hard_at(insn: &Rtx, x: &Rtx) -> bool
 
 fn changes_slot_at(homes: &Homes, insn: &Rtx, x: &Rtx) -> bool
     requires { IsStrictlyIncreasing (pseudos homes.now) }
-    ensures { result ≡ option_map_or (spec.changes_in (lives_in_slot homes.now) insn.now) (spec.address_of x.now) false }
+    ensures { result ≡ option_map_or (spec.changes_in (lives_in_slot homes.now) insn.now)
+        (spec.address_of x.now) false }
 {
     match address_of(x) {
         Some(address) => changes_slot_in(homes, insn, address),

@@ -65,7 +65,8 @@ fn target_takes(target: &Rtx, number: u32) -> bool
 
 #[tactic(auto, using(crate::proofs::NumberLaws::has_in_both))]
 fn set_takes(target: &Rtx, source: &Rtx, number: u32) -> bool
-    ensures { result ≡ (spec.has_number number (inputs.taken_at target.now) || spec.has_number number (inputs.taken_in source.now)) }
+    ensures { result ≡ (spec.has_number number
+        (inputs.taken_at target.now) || spec.has_number number (inputs.taken_in source.now)) }
 {
     target_takes(target, number) || takes(source, number)
 }

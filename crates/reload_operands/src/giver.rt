@@ -45,7 +45,8 @@ pub fn giver(pattern: &Rtx, number: u32) -> Option<&Rtx>
 #[cycle(finding)]
 #[tactic(auto, using(crate::proofs::GiverLaws::among_found, crate::proofs::GiverLaws::among_next))]
 fn giver_among(patterns: &[Rtx], number: u32) -> Option<&Rtx>
-    ensures { option_copied result ≡ find (gives_number number) (flat_map placeholders patterns.now) }
+    ensures { option_copied result ≡ find (gives_number number)
+        (flat_map placeholders patterns.now) }
 {
     for pattern in patterns {
         if let Some(found) = giver(pattern, number) {

@@ -50,7 +50,8 @@ fn inside_low(number: u32, pattern: &Rtx, inside: bool, x: &Rtx) -> bool
 #[cycle(looking)]
 #[tactic(auto, using(crate::proofs::InsideLaws::looks_start, crate::proofs::InsideLaws::looks_true, crate::proofs::InsideLaws::looks_next))]
 fn any_inside(number: u32, patterns: &[Rtx], inside: bool, trees: &[Rtx]) -> bool
-    ensures { result ≡ spec.any_inside (map (spec.inside_low number) patterns.now) inside trees.now }
+    ensures { result ≡ spec.any_inside
+        (map (spec.inside_low number) patterns.now) inside trees.now }
 {
     for i in 0..patterns.len().min(trees.len()) {
         if inside_low(number, &patterns[i], inside, &trees[i]) {

@@ -70,7 +70,8 @@ fn put_in_parts(
     news: &Operands,
     trees: &[Rtx],
 ) -> Result<Kids, Memory>
-    ensures { IfOk result (λ r. r ≡ spec.parts_by (map (λ p. spec.put p news.now) patterns.now) trees.now) }
+    ensures { IfOk result (λ r. r ≡ spec.parts_by (map (λ p.
+        spec.put p news.now) patterns.now) trees.now) }
 {
     if patterns.len() != trees.len() {
         return copies(alloc, trees);

@@ -66,7 +66,9 @@ fn operand_for(
     x: &Rtx,
 ) -> Result<Operand, Memory>
     requires { AreOrdered homes.now layout.now }
-    ensures { IfOk result (λ operand. operand ≡ spec.operand_for pattern.now placed.now homed.now homes.now layout.now number placeholder.now x.now) }
+    ensures { IfOk result (λ operand.
+        operand ≡ spec.operand_for pattern.now placed.now homed.now homes.now layout.now number
+        placeholder.now x.now) }
 {
     let tree = with_homes(alloc, x, homes, layout)?;
     let base = base_of(homes, layout, x);
@@ -103,7 +105,8 @@ fn add_operand(
     operands: &mut Items<Operand>,
 ) -> Result<(), Memory>
     requires { AreOrdered homes.now layout.now }
-    ensures { OnOk result (operands.new ≡ operands.old ++ spec.operand_with pattern.now found.now placed.now homed.now homes.now layout.now number) }
+    ensures { OnOk result (operands.new ≡ operands.old ++ spec.operand_with pattern.now found.now
+        placed.now homed.now homes.now layout.now number) }
 {
     let Some(placeholder) = giver(pattern, number) else {
         return Ok(());
@@ -137,7 +140,9 @@ pub fn operands_of(
     layout: &Layout,
 ) -> Result<Items<Operand>, Memory>
     requires { AreOrdered homes.now layout.now }
-    ensures { IfOk result (λ operands. operands ≡ spec.operands_of pattern.now found.now placed.now homed.now homes.now layout.now) }
+    ensures { IfOk result (λ operands.
+        operands ≡ spec.operands_of pattern.now found.now placed.now homed.now homes.now
+        layout.now) }
 {
     let numbers = numbers_of(alloc, pattern)?;
     let mut operands = Items::new(alloc);

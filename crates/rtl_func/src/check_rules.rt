@@ -56,7 +56,8 @@ fn note_name(names: &Names, f: &Function, first: &mut Option<Fault>)
 /// The first place at which a function breaks a rule, behind the functions with these names.
 fn first_of_function(alloc: Global, names: &Names, f: &Function) -> Result<Option<Fault>, Memory>
     requires { length f.now.insns < 2 ^ 32 }
-    ensures { IfOk result (λ first. (before : List Function) → AreNames before names.now → first ≡ first_fault (spec.faults_of before f.now)) }
+    ensures { IfOk result (λ first. (before : List Function) → AreNames before names.now →
+        first ≡ first_fault (spec.faults_of before f.now)) }
 {
     let mut first = None;
     note_uids(alloc, f.insns.as_slice(), &mut first)?;

@@ -49,8 +49,13 @@ fn are_simple(parts: &[Rtx]) -> bool
 /// Notes the register that a part changes, and tells whether it is another than those noted and
 /// those were different ones.
 fn note_change(changed: &mut BTreeSet<u64>, part: &Rtx, differ: bool) -> Result<bool, Memory>
-    ensures differ { IfOk result (λ still. still ≡ (not (changes.is_known (set.contains nat_cmp changed.old) (spec.changed_register part.now)) && differ)) }
-    ensures changed { OnOk result ((reg : ℕ) → set.contains nat_cmp changed.new reg ≡ (changes.is_register (spec.changed_register part.now) reg || set.contains nat_cmp changed.old reg)) }
+    ensures differ { IfOk result (λ still.
+        still ≡ (not (changes.is_known (set.contains nat_cmp changed.old)
+        (spec.changed_register part.now)) && differ)) }
+    ensures changed { OnOk result ((reg : ℕ) →
+        set.contains nat_cmp changed.new reg ≡
+        (changes.is_register (spec.changed_register part.now) reg || set.contains nat_cmp
+        changed.old reg)) }
 {
     match changed_register(part) {
         None => Ok(differ),
@@ -63,7 +68,8 @@ fn note_change(changed: &mut BTreeSet<u64>, part: &Rtx, differ: bool) -> Result<
 
 /// Whether parts change different registers.
 fn changes_differ(alloc: Global, parts: &[Rtx]) -> Result<bool, Memory>
-    ensures { IfOk result (λ differ. differ ≡ are_distinct (filter_map spec.changed_register parts.now)) }
+    ensures { IfOk result (λ differ.
+        differ ≡ are_distinct (filter_map spec.changed_register parts.now)) }
 {
     let mut changed = BTreeSet::new(alloc);
     let mut differ = true;

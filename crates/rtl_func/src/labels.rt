@@ -20,7 +20,9 @@ fn is_label(kind: Kind) -> bool
 }
 
 fn put(labels: &mut Labels, insn: &Insn, place: u32) -> Result<(), Memory>
-    ensures { OnOk result ((uid : ℕ) → map.get nat_cmp labels.new uid ≡ spec.placed insn.now place uid (map.get nat_cmp labels.old uid)) }
+    ensures { OnOk result ((uid : ℕ) →
+        map.get nat_cmp labels.new uid ≡ spec.placed insn.now place uid
+        (map.get nat_cmp labels.old uid)) }
 {
     if is_label(insn.kind) {
         labels.insert(u64::from(insn.uid), place)?;
@@ -31,7 +33,8 @@ fn put(labels: &mut Labels, insn: &Insn, place: u32) -> Result<(), Memory>
 /// The labels of a chain.
 pub fn labels_of(alloc: Global, insns: &[Insn]) -> Result<Labels, Memory>
     requires { length insns.now < 2 ^ 32 }
-    ensures { IfOk result (λ labels. (uid : ℕ) → map.get nat_cmp labels uid ≡ place_of uid insns.now) }
+    ensures { IfOk result (λ labels. (uid : ℕ) →
+        map.get nat_cmp labels uid ≡ place_of uid insns.now) }
 {
     let mut labels = BTreeMap::new(alloc);
     for place in (0..insns.len()).rev() {

@@ -33,7 +33,9 @@ impl Names {
 
     /// Puts a name among them.
     pub fn put(&mut self, alloc: Global, name: &Name) -> Result<(), Memory>
-        ensures { OnOk result ((other : List ℕ) → spec.is_among self.new other ≡ (spec.is_among self.old other || bytes_eq name.now other)) }
+        ensures { OnOk result ((other : List ℕ) →
+            spec.is_among self.new other ≡
+            (spec.is_among self.old other || bytes_eq name.now other)) }
     {
         self.texts.insert(Vec::from_slice(alloc, name.bytes())?)?;
         Ok(())

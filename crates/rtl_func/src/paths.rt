@@ -81,7 +81,8 @@ fn started(alloc: Global, insns: &[Insn]) -> Result<Search, Memory>
 fn look_at(labels: &Labels, insns: &[Insn], search: &mut Search, place: u32) -> Result<(), Memory>
     requires short { length insns.now < 2 ^ 32 }
     requires labels { (uid : ℕ) → map.get nat_cmp labels.now uid ≡ place_of uid insns.now }
-    ensures { OnOk result (search.new ≡ spec.with_places search.old (successors_of insns.now place)) }
+    ensures { OnOk result (search.new ≡ spec.with_places search.old
+        (successors_of insns.now place)) }
 {
     let next = successors_by(labels, insns, place);
     search.find_some(next.first)?;

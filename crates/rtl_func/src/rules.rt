@@ -144,7 +144,8 @@ fn note_rule(
     first: &mut Option<Fault>,
 ) -> Result<(), Memory>
     requires { AreTables f.now tables.now }
-    ensures { OnOk result (first.new ≡ earlier first.old (first_fault (spec.rule_faults f.now rule))) }
+    ensures { OnOk result (first.new ≡ earlier first.old
+        (first_fault (spec.rule_faults f.now rule))) }
 {
     let insns = f.insns.as_slice();
     for insn in insns {
@@ -164,7 +165,8 @@ pub fn note_rules(
     first: &mut Option<Fault>,
 ) -> Result<(), Memory>
     requires { AreTables f.now tables.now }
-    ensures { OnOk result (first.new ≡ earlier first.old (first_fault (spec.all_rule_faults f.now spec.insn_rules))) }
+    ensures { OnOk result (first.new ≡ earlier first.old
+        (first_fault (spec.all_rule_faults f.now spec.insn_rules))) }
 {
     for rule in insn_rules() {
         note_rule(alloc, *rule, f, tables, first)?;

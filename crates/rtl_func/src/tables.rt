@@ -45,7 +45,9 @@ pub fn register_at(x: &Rtx) -> Option<u64>
 
 /// Keeps a pseudo's mode, if the tree is one and was not met before.
 fn put_mode(modes: &mut Modes, x: &Rtx) -> Result<(), Memory>
-    ensures { OnOk result ((reg : ℕ) → map.get nat_cmp modes.new reg ≡ option_or (map.get nat_cmp modes.old reg) (spec.mode_in (spec.mention_of x.now) reg)) }
+    ensures { OnOk result ((reg : ℕ) →
+        map.get nat_cmp modes.new reg ≡ option_or (map.get nat_cmp modes.old reg)
+        (spec.mode_in (spec.mention_of x.now) reg)) }
 {
     let Some(reg) = register_at(x) else {
         return Ok(());
@@ -59,7 +61,9 @@ fn put_mode(modes: &mut Modes, x: &Rtx) -> Result<(), Memory>
 
 /// Keeps the modes of the pseudos in a tree, in the order of the tree.
 fn put_modes(modes: &mut Modes, x: &Rtx) -> Result<(), Memory>
-    ensures { OnOk result ((reg : ℕ) → map.get nat_cmp modes.new reg ≡ option_or (map.get nat_cmp modes.old reg) (spec.first_mode (spec.mentions_in x.now) reg)) }
+    ensures { OnOk result ((reg : ℕ) →
+        map.get nat_cmp modes.new reg ≡ option_or (map.get nat_cmp modes.old reg)
+        (spec.first_mode (spec.mentions_in x.now) reg)) }
 {
     put_mode(modes, x)?;
     for kid in x.kids.as_slice() {
@@ -70,7 +74,8 @@ fn put_modes(modes: &mut Modes, x: &Rtx) -> Result<(), Memory>
 
 /// The modes of a chain's pseudos.
 fn modes_of(alloc: Global, insns: &[Insn]) -> Result<Modes, Memory>
-    ensures { IfOk result (λ modes. (reg : ℕ) → map.get nat_cmp modes reg ≡ spec.first_mode (spec.mentions insns.now) reg) }
+    ensures { IfOk result (λ modes. (reg : ℕ) →
+        map.get nat_cmp modes reg ≡ spec.first_mode (spec.mentions insns.now) reg) }
 {
     let mut modes = BTreeMap::new(alloc);
     for insn in insns {

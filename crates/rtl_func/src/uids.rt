@@ -21,8 +21,11 @@ fn is_uid(uid: u32) -> bool
 
 /// Notes a uid that is none, or that was met, and puts it among those met.
 fn note_uid(met: &mut BTreeSet<u32>, uid: u32, first: &mut Option<Fault>) -> Result<(), Memory>
-    ensures first { OnOk result (first.new ≡ earlier first.old (first_fault (rules.uid_fault (spec.is_uid uid && not (set.contains nat_cmp met.old uid)) uid))) }
-    ensures met { OnOk result ((other : ℕ) → set.contains nat_cmp met.new other ≡ (uid == other || set.contains nat_cmp met.old other)) }
+    ensures first { OnOk result (first.new ≡ earlier first.old
+        (first_fault (rules.uid_fault (spec.is_uid uid && not
+        (set.contains nat_cmp met.old uid)) uid))) }
+    ensures met { OnOk result ((other : ℕ) →
+        set.contains nat_cmp met.new other ≡ (uid == other || set.contains nat_cmp met.old other)) }
 {
     if !(is_uid(uid) && !met.contains(&uid)) {
         note(first, uid, 1);
@@ -33,7 +36,8 @@ fn note_uid(met: &mut BTreeSet<u32>, uid: u32, first: &mut Option<Fault>) -> Res
 
 /// Notes each uid that is none, or that one before has.
 pub fn note_uids(alloc: Global, insns: &[Insn], first: &mut Option<Fault>) -> Result<(), Memory>
-    ensures { OnOk result (first.new ≡ earlier first.old (first_fault (rules.uid_faults insns.now))) }
+    ensures { OnOk result (first.new ≡ earlier first.old
+        (first_fault (rules.uid_faults insns.now))) }
 {
     let mut met = BTreeSet::new(alloc);
     for insn in insns {

@@ -31,7 +31,8 @@ pub(crate) fn print_head(code: Code, mode: Mode, out: &mut Vec<u8>) -> Result<()
 
 /// Prints `<k>` for pseudo register `k`.
 fn print_pseudo(pseudo: u64, out: &mut Vec<u8>) -> Result<(), Memory>
-    ensures { OnOk result (out.new.items ≡ out.old.items ++ (codes "<" ++ (decimal pseudo ++ codes ">"))) }
+    ensures { OnOk result (out.new.items ≡ out.old.items ++
+        (codes "<" ++ (decimal pseudo ++ codes ">"))) }
 {
     out.push(b'<')?;
     print_count(pseudo, out)?;
@@ -76,7 +77,8 @@ fn print_starred(name: &[u8], out: &mut Vec<u8>) -> Result<(), Memory>
 }
 
 fn print_symbol(name: &[u8], out: &mut Vec<u8>) -> Result<(), Memory>
-    ensures { OnOk result (out.new.items ≡ out.old.items ++ (codes " (\"" ++ (spec.starred name.now ++ codes "\")"))) }
+    ensures { OnOk result (out.new.items ≡ out.old.items ++
+        (codes " (\"" ++ (spec.starred name.now ++ codes "\")"))) }
 {
     out.extend_from_slice(b" (\"")?;
     print_starred(name, out)?;

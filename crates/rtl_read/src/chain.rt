@@ -54,7 +54,8 @@ fn add_insn(
     parts: &[Tree],
     insns: &mut Insns,
 ) -> Result<(), RtlRefusal>
-    ensures { Adds result insns.old insns.new (spec.insn_by kind tree.now (spec.insn_parts parts.now)) }
+    ensures { Adds result insns.old insns.new
+        (spec.insn_by kind tree.now (spec.insn_parts parts.now)) }
 {
     match parts {
         [number, part, ..] if is_nested(part) => match number_of(number) {
@@ -109,7 +110,8 @@ fn add_label(
     parts: &[Tree],
     insns: &mut Insns,
 ) -> Result<(), RtlRefusal>
-    ensures { Adds result insns.old insns.new (spec.label_by tree.now (spec.leading_number parts.now)) }
+    ensures { Adds result insns.old insns.new
+        (spec.label_by tree.now (spec.leading_number parts.now)) }
 {
     let Some(uid) = leading_number(parts) else {
         return Err(outside(alloc, tree));

@@ -121,7 +121,8 @@ pub fn event_of(
     x: &Rtx,
     uses: &[ArgUse],
 ) -> Result<Option<CallEvent>, Memory>
-    ensures { IfOk result (λ event. event ≡ spec.event_of symbols.now regs.now memory.now ranges.now x.now uses.now) }
+    ensures { IfOk result (λ event.
+        event ≡ spec.event_of symbols.now regs.now memory.now ranges.now x.now uses.now) }
 {
     let Some(target) = target_value(symbols, regs, memory, x) else {
         return Ok(None);

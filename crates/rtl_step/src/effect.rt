@@ -152,7 +152,8 @@ fn all_effects(
     memory: &Memories,
     parts: &[Rtx],
 ) -> Result<Option<Items<Effect>>, Memory>
-    ensures { IfOk result (λ effects. effects ≡ spec.all_effects symbols.now regs.now memory.now parts.now) }
+    ensures { IfOk result (λ effects.
+        effects ≡ spec.all_effects symbols.now regs.now memory.now parts.now) }
 {
     let mut effects = Items::new(alloc);
     for part in parts {
@@ -171,7 +172,8 @@ fn one_effect(
     memory: &Memories,
     x: &Rtx,
 ) -> Result<Option<Items<Effect>>, Memory>
-    ensures { IfOk result (λ effects. effects ≡ spec.one_effect symbols.now regs.now memory.now x.now) }
+    ensures { IfOk result (λ effects.
+        effects ≡ spec.one_effect symbols.now regs.now memory.now x.now) }
 {
     match effect_of(symbols, regs, memory, x) {
         None => Ok(None),
@@ -192,7 +194,8 @@ pub fn effects_of(
     memory: &Memories,
     x: &Rtx,
 ) -> Result<Option<Items<Effect>>, Memory>
-    ensures { IfOk result (λ effects. effects ≡ spec.effects_of symbols.now regs.now memory.now x.now) }
+    ensures { IfOk result (λ effects.
+        effects ≡ spec.effects_of symbols.now regs.now memory.now x.now) }
 {
     match x.code {
         Code::Parallel => all_effects(alloc, symbols, regs, memory, x.kids.as_slice()),

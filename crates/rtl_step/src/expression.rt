@@ -171,7 +171,8 @@ fn value_of_one(
     a: &Rtx,
     w: Width,
 ) -> Option<u64>
-    ensures { result ≡ spec.value_of_one memory.now (class_of_code code) code (spec.reading_of symbols.now regs.now memory.now a.now) w }
+    ensures { result ≡ spec.value_of_one memory.now (class_of_code code) code
+        (spec.reading_of symbols.now regs.now memory.now a.now) w }
 {
     match code.class() {
         Class::Memory => load(memory, w, value(symbols, regs, memory, a, Width::W64)?),
@@ -193,7 +194,8 @@ fn value_of_parts(
     parts: &[Rtx],
     w: Width,
 ) -> Option<u64>
-    ensures { result ≡ spec.value_of_parts (class_of_code code) code (map (spec.reading_of symbols.now regs.now memory.now) parts.now) w }
+    ensures { result ≡ spec.value_of_parts (class_of_code code) code
+        (map (spec.reading_of symbols.now regs.now memory.now) parts.now) w }
 {
     let [a, b] = parts else {
         return None;

@@ -56,7 +56,9 @@ fn plain_step(
     world: &World,
 ) -> Result<StepEnd, Memory>
     requires { place + 1 < 2 ^ 32 }
-    ensures step { IfOk result (λ e. (e, state.new) ≡ spec.after_effects state.old place (effects_of world.now.symbols state.old.regs state.old.memory insn.now.pattern)) }
+    ensures step { IfOk result (λ e.
+        (e, state.new) ≡ spec.after_effects state.old place
+        (effects_of world.now.symbols state.old.regs state.old.memory insn.now.pattern)) }
     ensures err { OnErr result (state.new ≡ state.old) }
 {
     let effects = effects_of(
@@ -101,7 +103,8 @@ fn return_step(mode: Option<Mode>, state: &State) -> StepEnd
 fn jump_step(f: &Function, insn: &Insn, place: u32, state: &mut State, world: &World) -> StepEnd
     requires place { place + 1 < 2 ^ 32 }
     requires places { length f.now.insns < 2 ^ 32 }
-    ensures { (result, state.new) ≡ spec.after_jump f.now state.old place (jump_of world.now.symbols state.old.regs state.old.memory insn.now.pattern) }
+    ensures { (result, state.new) ≡ spec.after_jump f.now state.old place
+        (jump_of world.now.symbols state.old.regs state.old.memory insn.now.pattern) }
 {
     match jump_of(&world.symbols, &state.regs, &state.memory, &insn.pattern) {
         None => StepEnd::Undefined,
@@ -136,7 +139,8 @@ fn reply(
     reply: &Reply,
 ) -> Result<StepEnd, Memory>
     requires { place + 1 < 2 ^ 32 }
-    ensures step { IfOk result (λ e. (e, state.new) ≡ spec.replied state.old place w event reply.now) }
+    ensures step { IfOk result (λ e.
+        (e, state.new) ≡ spec.replied state.old place w event reply.now) }
     ensures err { OnErr result (state.new ≡ state.old) }
 {
     let regs = regs_replied(&state.regs, w, reply.value)?;
@@ -155,7 +159,9 @@ fn call_step(
     world: &World,
 ) -> Result<StepEnd, Memory>
     requires { place + 1 < 2 ^ 32 }
-    ensures step { IfOk result (λ e. (e, state.new) ≡ spec.after_event world.now state.old place (spec.width_after insn.now) (spec.insn_event world.now.symbols state.old insn.now)) }
+    ensures step { IfOk result (λ e.
+        (e, state.new) ≡ spec.after_event world.now state.old place (spec.width_after insn.now)
+        (spec.insn_event world.now.symbols state.old insn.now)) }
     ensures err { OnErr result (state.new ≡ state.old) }
 {
     let Some(w) = result_width(&insn.pattern) else {

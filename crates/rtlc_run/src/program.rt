@@ -45,7 +45,8 @@ use std::alloc::Global;
 
 /// The bytes of the input, to its end.
 fn input_bytes<S: Source>(alloc: Global, input: &mut S) -> Result<Vec<u8>, Refusal>
-    ensures all { IfOk result (λ bytes. Consumes (S.left input.old) (S.left input.new) bytes.items × IsAtEnd (S.left input.new)) }
+    ensures all { IfOk result (λ bytes. Consumes (S.left input.old) (S.left input.new) bytes.items ×
+        IsAtEnd (S.left input.new)) }
     ensures within { IfOk result (λ bytes. length bytes.items ≤ most_bytes) }
     ensures cause { IfErr result (InputRefused (S.left input.old)) }
     ensures fault { result ≡ Err Refusal.ReadFault →
@@ -232,14 +233,20 @@ fn made_by<F: Files, S: Source>(
     name: &Option<Name>,
     task: &Task,
 ) -> Result<Vec<u8>, Refusal>
-    ensures gives { (known : Known) → Agrees known (F.holds files.old) → Gives result (ByForms (TaskComes task.now) known (S.left input.old) (spec.described name.now)) }
+    ensures gives { (known : Known) → Agrees known (F.holds files.old) →
+        Gives result (ByForms (TaskComes task.now) known (S.left input.old)
+        (spec.described name.now)) }
     ensures asked { (known : Known) → Agrees known (F.holds files.old) →
         GrewBy (AreNamed known (spec.described name.now)) (F.asked files.old) (F.asked files.new) }
     ensures usage { result ≡ Err Refusal.Usage → MisusesInput task.now (S.left input.old) }
     ensures unwritten { result ≢ Err Refusal.WriteFault }
-    ensures behind { result ≡ Err Refusal.ReadFault → ¬ Rose (F.fault_count files.old) (F.fault_count files.new) →
-        (known : Known) → Agrees known (F.holds files.old) → (forms : List Entry) × FormsCome known (spec.described name.now) (Ok forms) }
-    ensures fault { result ≡ Err Refusal.ReadFault → Rose (S.fault_count input.old) (S.fault_count input.new) ⊎ Rose (F.fault_count files.old) (F.fault_count files.new) }
+    ensures behind { result ≡ Err Refusal.ReadFault →
+        ¬ Rose (F.fault_count files.old) (F.fault_count files.new) →
+        (known : Known) → Agrees known (F.holds files.old) → (forms : List Entry) ×
+        FormsCome known (spec.described name.now) (Ok forms) }
+    ensures fault { result ≡ Err Refusal.ReadFault →
+        Rose (S.fault_count input.old) (S.fault_count input.new) ⊎
+        Rose (F.fault_count files.old) (F.fault_count files.new) }
     ensures quiet { result ≢ Err Refusal.ReadFault →
         S.fault_count input.new ≡ S.fault_count input.old }
     ensures calm { result ≢ Err Refusal.ReadFault →
@@ -263,9 +270,12 @@ fn produced<F: Files, S: Source>(
         GrewBy (MayBeAsked known (Some command)) (F.asked files.old) (F.asked files.new) }
     ensures unwritten { result ≢ Err Refusal.WriteFault }
     ensures usage { result ≡ Err Refusal.Usage → IsMisused (Some command) (S.left input.old) }
-    ensures behind { result ≡ Err Refusal.ReadFault → ¬ Rose (F.fault_count files.old) (F.fault_count files.new) →
+    ensures behind { result ≡ Err Refusal.ReadFault →
+        ¬ Rose (F.fault_count files.old) (F.fault_count files.new) →
         (known : Known) → Agrees known (F.holds files.old) → HasForms known (Some command) }
-    ensures fault { result ≡ Err Refusal.ReadFault → Rose (S.fault_count input.old) (S.fault_count input.new) ⊎ Rose (F.fault_count files.old) (F.fault_count files.new) }
+    ensures fault { result ≡ Err Refusal.ReadFault →
+        Rose (S.fault_count input.old) (S.fault_count input.new) ⊎
+        Rose (F.fault_count files.old) (F.fault_count files.new) }
     ensures quiet { result ≢ Err Refusal.ReadFault →
         S.fault_count input.new ≡ S.fault_count input.old }
     ensures calm { result ≢ Err Refusal.ReadFault →
@@ -312,10 +322,16 @@ fn answered<F: Files, S: Source>(
     ensures usage { result ≡ Err Refusal.Usage →
         IsMisused (spoken.command_of (words_of words.now)) (S.left input.old) }
     ensures unwritten { result ≢ Err Refusal.WriteFault }
-    ensures behind { result ≡ Err Refusal.ReadFault → ¬ Rose (F.fault_count files.old) (F.fault_count files.new) →
-        (known : Known) → Agrees known (F.holds files.old) → HasForms known (spoken.command_of (words_of words.now)) }
-    ensures asked { (known : Known) → Agrees known (F.holds files.old) → GrewBy (MayBeAsked known (spoken.command_of (words_of words.now))) (F.asked files.old) (F.asked files.new) }
-    ensures fault { result ≡ Err Refusal.ReadFault → Rose (S.fault_count input.old) (S.fault_count input.new) ⊎ Rose (F.fault_count files.old) (F.fault_count files.new) }
+    ensures behind { result ≡ Err Refusal.ReadFault →
+        ¬ Rose (F.fault_count files.old) (F.fault_count files.new) →
+        (known : Known) → Agrees known (F.holds files.old) →
+        HasForms known (spoken.command_of (words_of words.now)) }
+    ensures asked { (known : Known) → Agrees known (F.holds files.old) →
+        GrewBy (MayBeAsked known (spoken.command_of (words_of words.now))) (F.asked files.old)
+        (F.asked files.new) }
+    ensures fault { result ≡ Err Refusal.ReadFault →
+        Rose (S.fault_count input.old) (S.fault_count input.new) ⊎
+        Rose (F.fault_count files.old) (F.fault_count files.new) }
     ensures quiet { result ≢ Err Refusal.ReadFault →
         S.fault_count input.new ≡ S.fault_count input.old }
     ensures calm { result ≢ Err Refusal.ReadFault →
@@ -339,21 +355,33 @@ fn attempt<F: Files, S: Source, K: Sink>(
     input: &mut S,
     output: &mut K,
 ) -> Result<(), Refusal>
-    ensures done { (known : Known) → Agrees known (F.holds files.old) → OnOk result (Writes (words_of words.now) known (S.left input.old) (K.taken output.old) (K.taken output.new)) }
+    ensures done { (known : Known) → Agrees known (F.holds files.old) →
+        OnOk result (Writes (words_of words.now) known (S.left input.old) (K.taken output.old)
+        (K.taken output.new)) }
     ensures cause { (known : Known) → Agrees known (F.holds files.old) →
         IfErr result (IsRefused (words_of words.now) known (S.left input.old)) }
-    ensures front { result ≡ Err Refusal.WriteFault → (known : Known) → Agrees known (F.holds files.old) → WritesFront (words_of words.now) known (S.left input.old) (K.taken output.old) (K.taken output.new) }
+    ensures front { result ≡ Err Refusal.WriteFault → (known : Known) →
+        Agrees known (F.holds files.old) →
+        WritesFront (words_of words.now) known (S.left input.old) (K.taken output.old)
+        (K.taken output.new) }
     ensures usage { result ≡ Err Refusal.Usage →
         IsMisused (spoken.command_of (words_of words.now)) (S.left input.old) }
-    ensures nothing { OnErr result (result ≢ Err Refusal.WriteFault → K.taken output.new ≡ K.taken output.old) }
-    ensures behind { result ≡ Err Refusal.ReadFault → ¬ Rose (F.fault_count files.old) (F.fault_count files.new) →
-        (known : Known) → Agrees known (F.holds files.old) → HasForms known (spoken.command_of (words_of words.now)) }
-    ensures asked { (known : Known) → Agrees known (F.holds files.old) → GrewBy (MayBeAsked known (spoken.command_of (words_of words.now))) (F.asked files.old) (F.asked files.new) }
+    ensures nothing { OnErr result (result ≢ Err Refusal.WriteFault →
+        K.taken output.new ≡ K.taken output.old) }
+    ensures behind { result ≡ Err Refusal.ReadFault →
+        ¬ Rose (F.fault_count files.old) (F.fault_count files.new) →
+        (known : Known) → Agrees known (F.holds files.old) →
+        HasForms known (spoken.command_of (words_of words.now)) }
+    ensures asked { (known : Known) → Agrees known (F.holds files.old) →
+        GrewBy (MayBeAsked known (spoken.command_of (words_of words.now))) (F.asked files.old)
+        (F.asked files.new) }
     ensures files { reads_files (spoken.command_of (words_of words.now)) ≡ false →
         files.new ≡ files.old }
     ensures input { reads_input (spoken.command_of (words_of words.now)) ≡ false →
         input.new ≡ input.old }
-    ensures fault { result ≡ Err Refusal.ReadFault → Rose (S.fault_count input.old) (S.fault_count input.new) ⊎ Rose (F.fault_count files.old) (F.fault_count files.new) }
+    ensures fault { result ≡ Err Refusal.ReadFault →
+        Rose (S.fault_count input.old) (S.fault_count input.new) ⊎
+        Rose (F.fault_count files.old) (F.fault_count files.new) }
     ensures quiet { result ≢ Err Refusal.ReadFault →
         S.fault_count input.new ≡ S.fault_count input.old }
     ensures calm { result ≢ Err Refusal.ReadFault →
@@ -391,7 +419,8 @@ pub fn out_of_memory<E: Sink>(errors: &mut E) -> u8
 /// Tells of a refusal whose line has values in it, and gives the status.
 fn report_values<E: Sink>(alloc: Global, errors: &mut E, refusal: &Refusal) -> u8
     requires { has_values refusal.now ≡ true }
-    ensures { Reports refusal.now result (E.taken errors.old) (E.taken errors.new) (E.fault_count errors.old) (E.fault_count errors.new) }
+    ensures { Reports refusal.now result (E.taken errors.old) (E.taken errors.new)
+        (E.fault_count errors.old) (E.fault_count errors.new) }
 {
     match line(alloc, refusal) {
         Ok(text) => {
@@ -405,7 +434,8 @@ fn report_values<E: Sink>(alloc: Global, errors: &mut E, refusal: &Refusal) -> u
 /// Tells of a refusal on its line, and gives the status: that of the refusal, or 8 where its line
 /// finds no memory.
 fn report<E: Sink>(alloc: Global, errors: &mut E, refusal: &Refusal) -> u8
-    ensures { Reports refusal.now result (E.taken errors.old) (E.taken errors.new) (E.fault_count errors.old) (E.fault_count errors.new) }
+    ensures { Reports refusal.now result (E.taken errors.old) (E.taken errors.new)
+        (E.fault_count errors.old) (E.fault_count errors.new) }
 {
     match fixed_line(refusal) {
         Some(text) => {
@@ -433,112 +463,159 @@ pub fn run<F: Files, S: Source, K: Sink, E: Sink>(
     output: &mut K,
     errors: &mut E,
 ) -> u8
-    // The answer: where no count rose and memory was there, the run ends with the answer to the words, the files and the input.
+    // The answer: where no count rose and memory was there, the run ends with the answer to the
+    // words, the files and the input.
     ensures answer { (known : Known) → Agrees known (F.holds files.old) →
         ¬ Rose (F.fault_count files.old) (F.fault_count files.new) →
         ¬ Rose (S.fault_count input.old) (S.fault_count input.new) →
         ¬ Rose (K.fault_count output.old) (K.fault_count output.new) → result ≢ 8 →
-        IsAnswered (words_of words.now) known (S.left input.old) result (K.taken output.old) (K.taken output.new)
-        (E.taken errors.old) (E.taken errors.new) (E.fault_count errors.old) (E.fault_count errors.new) }
+        IsAnswered (words_of words.now) known (S.left input.old) result (K.taken output.old)
+        (K.taken output.new)
+        (E.taken errors.old) (E.taken errors.new) (E.fault_count errors.old)
+        (E.fault_count errors.new) }
 
     // Where enough is known there is one.
-    ensures one { (known : Known) (left : Option (List ℕ)) (a b : Outcome) → IsKnownFor known left (spoken.command_of (words_of words.now)) →
-        Answers (words_of words.now) known left a → Answers (words_of words.now) known left b → a ≡ b }
+    ensures one { (known : Known) (left : Option (List ℕ)) (a b : Outcome) →
+        IsKnownFor known left (spoken.command_of (words_of words.now)) →
+        Answers (words_of words.now) known left a → Answers (words_of words.now) known left b →
+        a ≡ b }
 
-    // `asm`: the text of status 0 by its lines, which are those of the description's forms; and an input that has an assembly is written.
+    // `asm`: the text of status 0 by its lines, which are those of the description's forms; and an
+    // input that has an assembly is written.
     ensures lines { (known : Known) → Agrees known (F.holds files.old) → (name : Option (List ℕ)) →
         spoken.command_of (words_of words.now) ≡ Some (commands.Asm name) → result ≡ 0 →
-        WritesLines known (spec.described name) (S.left input.old) (K.taken output.old) (K.taken output.new) }
+        WritesLines known (spec.described name) (S.left input.old) (K.taken output.old)
+        (K.taken output.new) }
 
-    ensures complete { (known : Known) → Agrees known (F.holds files.old) → (name : Option (List ℕ)) →
-        spoken.command_of (words_of words.now) ≡ Some (commands.Asm name) → IsKnown known (spec.described name) →
+    ensures complete { (known : Known) → Agrees known (F.holds files.old) →
+        (name : Option (List ℕ)) →
+        spoken.command_of (words_of words.now) ≡ Some (commands.Asm name) →
+        IsKnown known (spec.described name) →
         ¬ Rose (F.fault_count files.old) (F.fault_count files.new) →
         ¬ Rose (S.fault_count input.old) (S.fault_count input.new) →
-        ¬ Rose (K.fault_count output.old) (K.fault_count output.new) → Completes known (spec.described name) (S.left input.old) result }
+        ¬ Rose (K.fault_count output.old) (K.fault_count output.new) →
+        Completes known (spec.described name) (S.left input.old) result }
 
-    // What the text of status 0 does: the lines that it spells for each function do what the function does, whatever the description,
+    // What the text of status 0 does: the lines that it spells for each function do what the
+    // function does, whatever the description,
     // where there is room for the frame that the function has by it.
-    ensures behaves { (known : Known) → Agrees known (F.holds files.old) → (name : Option (List ℕ)) →
+    ensures behaves { (known : Known) → Agrees known (F.holds files.old) →
+        (name : Option (List ℕ)) →
         spoken.command_of (words_of words.now) ≡ Some (commands.Asm name) → result ≡ 0 →
-        WritesSame known (spec.described name) (S.left input.old) (K.taken output.old) (K.taken output.new) }
+        WritesSame known (spec.described name) (S.left input.old) (K.taken output.old)
+        (K.taken output.new) }
 
     // The lines and labels of a text are the only ones: each text spells one list of them, and the
     // text of some functions is cut into their parts in one way.
-    ensures spelled { (text : List ℕ) (a b : List CodeItem) → Spells text a → Spells text b → a ≡ b }
+    ensures spelled { (text : List ℕ) (a b : List CodeItem) → Spells text a → Spells text b →
+        a ≡ b }
     ensures parts { (functions : List Function) (text : List ℕ) (a b : List (List CodeItem)) →
         AreParts functions text a → AreParts functions text b → a ≡ b }
 
-    // An endless run takes jumps or makes calls without end, and so asks an endless run of the lines.
+    // An endless run takes jumps or makes calls without end, and so asks an endless run of the
+    // lines.
     ensures endless { TakesEnough }
 
-    // `eval`: the text of status 0 has the outcomes that are defined for a function, over the lines and labels that its part of the
-    // assembly of the input spells; it is tried fairly, so that where its outcome has a value its lines come to the same one. And a
+    // `eval`: the text of status 0 has the outcomes that are defined for a function, over the lines
+    // and labels that its part of the
+    // assembly of the input spells; it is tried fairly, so that where its outcome has a value its
+    // lines come to the same one. And a
     // function of an input that has an assembly has them.
-    ensures evaluates { (known : Known) → Agrees known (F.holds files.old) → (name : Option (List ℕ)) (function : List ℕ) (steps : ℕ) (args : List ℕ) →
-        spoken.command_of (words_of words.now) ≡ Some (commands.Eval name function steps args) → result ≡ 0 →
-        WritesOutcomes known (spec.described name) (S.left input.old) function steps args (K.taken output.old) (K.taken output.new) }
+    ensures evaluates { (known : Known) → Agrees known (F.holds files.old) →
+        (name : Option (List ℕ)) (function : List ℕ) (steps : ℕ) (args : List ℕ) →
+        spoken.command_of (words_of words.now) ≡ Some (commands.Eval name function steps args) →
+        result ≡ 0 →
+        WritesOutcomes known (spec.described name) (S.left input.old) function steps args
+        (K.taken output.old) (K.taken output.new) }
 
-    ensures tried { (known : Known) → Agrees known (F.holds files.old) → (name : Option (List ℕ)) (function : List ℕ) (steps : ℕ) (args : List ℕ) →
-        spoken.command_of (words_of words.now) ≡ Some (commands.Eval name function steps args) → IsKnown known (spec.described name) →
+    ensures tried { (known : Known) → Agrees known (F.holds files.old) →
+        (name : Option (List ℕ)) (function : List ℕ) (steps : ℕ) (args : List ℕ) →
+        spoken.command_of (words_of words.now) ≡ Some (commands.Eval name function steps args) →
+        IsKnown known (spec.described name) →
         ¬ Rose (F.fault_count files.old) (F.fault_count files.new) →
         ¬ Rose (S.fault_count input.old) (S.fault_count input.new) →
-        ¬ Rose (K.fault_count output.old) (K.fault_count output.new) → CompletesFor known (spec.described name) (S.left input.old) function result }
+        ¬ Rose (K.fault_count output.old) (K.fault_count output.new) →
+        CompletesFor known (spec.described name) (S.left input.old) function result }
 
-    // `list`: the text of status 0 is the list of the description's forms, and a description that has a list is listed.
+    // `list`: the text of status 0 is the list of the description's forms, and a description that
+    // has a list is listed.
     ensures lists { (known : Known) → Agrees known (F.holds files.old) → (name : Option (List ℕ)) →
         spoken.command_of (words_of words.now) ≡ Some (commands.List name) → result ≡ 0 →
         WritesList known (spec.described name) (K.taken output.old) (K.taken output.new) }
 
-    ensures listed { (known : Known) → Agrees known (F.holds files.old) → (name : Option (List ℕ)) (text : List ℕ) →
-        spoken.command_of (words_of words.now) ≡ Some (commands.List name) → IsKnown known (spec.described name) →
-        ListComes known (spec.described name) (Ok text) → ¬ Rose (F.fault_count files.old) (F.fault_count files.new) →
+    ensures listed { (known : Known) → Agrees known (F.holds files.old) →
+        (name : Option (List ℕ)) (text : List ℕ) →
+        spoken.command_of (words_of words.now) ≡ Some (commands.List name) →
+        IsKnown known (spec.described name) →
+        ListComes known (spec.described name) (Ok text) →
+        ¬ Rose (F.fault_count files.old) (F.fault_count files.new) →
         ¬ Rose (S.fault_count input.old) (S.fault_count input.new) →
         ¬ Rose (K.fault_count output.old) (K.fault_count output.new) → IsDone result }
 
-    // `recog`: the text of status 0 tells the form and the alternative of each instruction of the input, by the description's forms; and an input
+    // `recog`: the text of status 0 tells the form and the alternative of each instruction of the
+    // input, by the description's forms; and an input
     // of which each instruction has them is told.
-    ensures recognises { (known : Known) → Agrees known (F.holds files.old) → (name : Option (List ℕ)) →
+    ensures recognises { (known : Known) → Agrees known (F.holds files.old) →
+        (name : Option (List ℕ)) →
         spoken.command_of (words_of words.now) ≡ Some (commands.Recog name) → result ≡ 0 →
-        WritesForms known (spec.described name) (S.left input.old) (K.taken output.old) (K.taken output.new) }
+        WritesForms known (spec.described name) (S.left input.old) (K.taken output.old)
+        (K.taken output.new) }
 
-    ensures recognised { (known : Known) → Agrees known (F.holds files.old) → (name : Option (List ℕ)) →
-        spoken.command_of (words_of words.now) ≡ Some (commands.Recog name) → IsKnown known (spec.described name) →
+    ensures recognised { (known : Known) → Agrees known (F.holds files.old) →
+        (name : Option (List ℕ)) →
+        spoken.command_of (words_of words.now) ≡ Some (commands.Recog name) →
+        IsKnown known (spec.described name) →
         ¬ Rose (F.fault_count files.old) (F.fault_count files.new) →
         ¬ Rose (S.fault_count input.old) (S.fault_count input.new) →
-        ¬ Rose (K.fault_count output.old) (K.fault_count output.new) → CompletesBy known (spec.described name) (S.left input.old) result }
+        ¬ Rose (K.fault_count output.old) (K.fault_count output.new) →
+        CompletesBy known (spec.described name) (S.left input.old) result }
 
-    // `dump`: the text of status 0 has each function of the input as it is behind the pass, by the description's forms; and an input of which
+    // `dump`: the text of status 0 has each function of the input as it is behind the pass, by the
+    // description's forms; and an input of which
     // each function comes through the pass is told.
-    ensures dumps { (known : Known) → Agrees known (F.holds files.old) → (name : Option (List ℕ)) (pass : Pass) →
+    ensures dumps { (known : Known) → Agrees known (F.holds files.old) →
+        (name : Option (List ℕ)) (pass : Pass) →
         spoken.command_of (words_of words.now) ≡ Some (commands.Dump name pass) → result ≡ 0 →
-        WritesDump pass known (spec.described name) (S.left input.old) (K.taken output.old) (K.taken output.new) }
+        WritesDump pass known (spec.described name) (S.left input.old) (K.taken output.old)
+        (K.taken output.new) }
 
-    ensures dumped { (known : Known) → Agrees known (F.holds files.old) → (name : Option (List ℕ)) (pass : Pass) →
-        spoken.command_of (words_of words.now) ≡ Some (commands.Dump name pass) → IsKnown known (spec.described name) →
+    ensures dumped { (known : Known) → Agrees known (F.holds files.old) →
+        (name : Option (List ℕ)) (pass : Pass) →
+        spoken.command_of (words_of words.now) ≡ Some (commands.Dump name pass) →
+        IsKnown known (spec.described name) →
         ¬ Rose (F.fault_count files.old) (F.fault_count files.new) →
         ¬ Rose (S.fault_count input.old) (S.fault_count input.new) →
-        ¬ Rose (K.fault_count output.old) (K.fault_count output.new) → CompletesDump pass known (spec.described name) (S.left input.old) result }
+        ¬ Rose (K.fault_count output.old) (K.fault_count output.new) →
+        CompletesDump pass known (spec.described name) (S.left input.old) result }
 
     // Each status has its cause.
     ensures statuses { Contains (0 ∷ 1 ∷ 2 ∷ 3 ∷ 4 ∷ 5 ∷ 6 ∷ 7 ∷ 8 ∷ []) result }
-    ensures ok { result ≡ 0 → (known : Known) → Agrees known (F.holds files.old) → Writes (words_of words.now) known (S.left input.old) (K.taken output.old) (K.taken output.new) }
+    ensures ok { result ≡ 0 → (known : Known) → Agrees known (F.holds files.old) →
+        Writes (words_of words.now) known (S.left input.old) (K.taken output.old)
+        (K.taken output.new) }
     ensures usage { result ≡ 1 →
         IsMisused (spoken.command_of (words_of words.now)) (S.left input.old) }
     ensures cause { result ≢ 0 → (known : Known) → Agrees known (F.holds files.old) →
         HasCause (words_of words.now) known (S.left input.old) result }
-    ensures read { result ≡ 6 → Rose (S.fault_count input.old) (S.fault_count input.new) ⊎ Rose (F.fault_count files.old) (F.fault_count files.new) }
+    ensures read { result ≡ 6 → Rose (S.fault_count input.old) (S.fault_count input.new) ⊎
+        Rose (F.fault_count files.old) (F.fault_count files.new) }
     ensures write { result ≡ 7 → Rose (K.fault_count output.old) (K.fault_count output.new) }
     // A fault of the input comes behind all that refuses a description.
     ensures behind { result ≡ 6 → ¬ Rose (F.fault_count files.old) (F.fault_count files.new) →
-        (known : Known) → Agrees known (F.holds files.old) → HasForms known (spoken.command_of (words_of words.now)) }
+        (known : Known) → Agrees known (F.holds files.old) →
+        HasForms known (spoken.command_of (words_of words.now)) }
 
     // What is written: the text, a front of it after a write fault, and else nothing.
-    ensures front { result ≡ 7 → (known : Known) → Agrees known (F.holds files.old) → WritesFront (words_of words.now) known (S.left input.old) (K.taken output.old) (K.taken output.new) }
+    ensures front { result ≡ 7 → (known : Known) → Agrees known (F.holds files.old) →
+        WritesFront (words_of words.now) known (S.left input.old) (K.taken output.old)
+        (K.taken output.new) }
     ensures nothing { result ≢ 0 → result ≢ 7 → K.taken output.new ≡ K.taken output.old }
 
     // What is told: the line of a refusal of that status with its cause, and with 0 nothing.
-    ensures told { result ≢ 0 → ¬ Rose (E.fault_count errors.old) (E.fault_count errors.new) → (known : Known) → Agrees known (F.holds files.old) →
-        TellsCause (words_of words.now) known (S.left input.old) result (E.taken errors.old) (E.taken errors.new) }
+    ensures told { result ≢ 0 → ¬ Rose (E.fault_count errors.old) (E.fault_count errors.new) →
+        (known : Known) → Agrees known (F.holds files.old) →
+        TellsCause (words_of words.now) known (S.left input.old) result (E.taken errors.old)
+        (E.taken errors.new) }
 
     ensures silent { result ≡ 0 → E.taken errors.new ≡ E.taken errors.old }
 
@@ -546,9 +623,12 @@ pub fn run<F: Files, S: Source, K: Sink, E: Sink>(
     ensures quiet { result ≢ 6 → S.fault_count input.new ≡ S.fault_count input.old }
     ensures calm { result ≢ 6 → F.fault_count files.new ≡ F.fault_count files.old }
 
-    // Files are asked for the description that is named, if any, and for what is included, never for the shipped one; the input is read by all but
+    // Files are asked for the description that is named, if any, and for what is included, never
+    // for the shipped one; the input is read by all but
     // `list`.
-    ensures asked { (known : Known) → Agrees known (F.holds files.old) → GrewBy (MayBeAsked known (spoken.command_of (words_of words.now))) (F.asked files.old) (F.asked files.new) }
+    ensures asked { (known : Known) → Agrees known (F.holds files.old) →
+        GrewBy (MayBeAsked known (spoken.command_of (words_of words.now))) (F.asked files.old)
+        (F.asked files.new) }
     ensures files { reads_files (spoken.command_of (words_of words.now)) ≡ false →
         files.new ≡ files.old }
     ensures input { reads_input (spoken.command_of (words_of words.now)) ≡ false →

@@ -68,7 +68,9 @@ fn described(
     description: Option<&str>,
     words: &[&str],
 ) -> Result<Option<Option<Name>>, Memory>
-    ensures { IfOk result (λ found. found ≡ spec.only_description (option_map (λ s. s.now) description.entry) (words_of words.now)) }
+    ensures { IfOk result (λ found.
+        found ≡ spec.only_description (option_map (λ s.
+        s.now) description.entry) (words_of words.now)) }
 {
     match words {
         [] => Ok(Some(name_of(alloc, description)?)),
@@ -83,7 +85,9 @@ fn eval_with(
     steps: &str,
     args: &[&str],
 ) -> Result<Option<Command>, Memory>
-    ensures { IfOk result (λ command. command ≡ spec.eval_with (option_map (λ s. s.now) description.entry) function.now (spec.steps_in steps.now) (spec.args_in (words_of args.now))) }
+    ensures { IfOk result (λ command.
+        command ≡ spec.eval_with (option_map (λ s. s.now) description.entry) function.now
+        (spec.steps_in steps.now) (spec.args_in (words_of args.now))) }
 {
     match (steps_in(steps), args_in(args)) {
         (Some(steps), Some(args)) => Ok(Some(Command::Eval {
@@ -101,7 +105,8 @@ fn eval_of(
     description: Option<&str>,
     words: &[&str],
 ) -> Result<Option<Command>, Memory>
-    ensures { IfOk result (λ command. command ≡ spec.eval_by (option_map (λ s. s.now) description.entry) (words_of words.now)) }
+    ensures { IfOk result (λ command.
+        command ≡ spec.eval_by (option_map (λ s. s.now) description.entry) (words_of words.now)) }
 {
     match words {
         [function, steps, args @ ..] => eval_with(alloc, description, function, steps, args),
@@ -114,7 +119,9 @@ fn dump_with(
     description: Option<&str>,
     name: &str,
 ) -> Result<Option<Command>, Memory>
-    ensures { IfOk result (λ command. command ≡ option_map (λ pass. Command.Dump (option_map (λ s. s.now) description.entry) pass) (pass_named name.now)) }
+    ensures { IfOk result (λ command.
+        command ≡ option_map (λ pass. Command.Dump (option_map (λ s. s.now) description.entry) pass)
+        (pass_named name.now)) }
 {
     match Pass::named(name) {
         Some(pass) => {
@@ -130,7 +137,8 @@ fn dump_of(
     description: Option<&str>,
     words: &[&str],
 ) -> Result<Option<Command>, Memory>
-    ensures { IfOk result (λ command. command ≡ spec.dump_by (option_map (λ s. s.now) description.entry) (words_of words.now)) }
+    ensures { IfOk result (λ command.
+        command ≡ spec.dump_by (option_map (λ s. s.now) description.entry) (words_of words.now)) }
 {
     match words {
         [name] => dump_with(alloc, description, name),
@@ -145,7 +153,9 @@ fn command_by(
     description: Option<&str>,
     words: &[&str],
 ) -> Result<Option<Command>, Memory>
-    ensures { IfOk result (λ command. command ≡ spec.command_by name.now (option_map (λ s. s.now) description.entry) (words_of words.now)) }
+    ensures { IfOk result (λ command.
+        command ≡ spec.command_by name.now (option_map (λ s.
+        s.now) description.entry) (words_of words.now)) }
 {
     match name {
         "asm" => Ok(described(alloc, description, words)?.map(|description| Command::Asm {
@@ -169,7 +179,9 @@ fn command_with(
     name: &str,
     found: &ArgMatches<'_>,
 ) -> Result<Option<Command>, Memory>
-    ensures { IfOk result (λ command. command ≡ spec.command_named name.now (Some (arguments_of (rows_of (found_of found.now))))) }
+    ensures { IfOk result (λ command.
+        command ≡ spec.command_named name.now
+        (Some (arguments_of (rows_of (found_of found.now))))) }
 {
     let words = found.get_strs("words").unwrap_or(&[]);
     command_by(alloc, name, found.get_str("md"), words)

@@ -39,7 +39,8 @@ fn with_command<'a>(
     alloc: Global,
     name: &'a str,
 ) -> Result<Command<'a>, AllocError>
-    ensures { IfOk result (λ command. app_of command ≡ spec.with_leaf (app_of program.entry) name.entry.now) }
+    ensures { IfOk result (λ command.
+        app_of command ≡ spec.with_leaf (app_of program.entry) name.entry.now) }
 {
     program.subcommand(subcommand(alloc, name)?)
 }
@@ -72,7 +73,8 @@ pub(crate) fn parsed<'a>(
     alloc: Global,
     words: &'a [&'a str],
 ) -> Result<Option<ArgMatches<'a>>, Memory>
-    ensures { IfOk result (λ matches. option_and_then subcommand_rows_of matches ≡ spec.found_in (words_of words.entry.now)) }
+    ensures { IfOk result (λ matches.
+        option_and_then subcommand_rows_of matches ≡ spec.found_in (words_of words.entry.now)) }
 {
     match program(alloc)?.try_get_matches_from(words) {
         Ok(matches) => Ok(Some(matches)),

@@ -293,7 +293,8 @@ impl Code {
 
     /// The code with this name, or `None` where no code has it.
     pub fn named(name: &[u8]) -> Option<Code>
-        ensures { MatchOption result ((code : Code) → code_name code ≢ name.now) (λ code. code_name code ≡ name.now) }
+        ensures { MatchOption result ((code : Code) → code_name code ≢ name.now) (λ code.
+            code_name code ≡ name.now) }
     {
         for code in Code::all() {
             if code.is_named(name) {
@@ -337,7 +338,8 @@ impl Mode {
 
     /// The mode other than `Void` with this name, or `None` where none has it.
     pub fn named(name: &[u8]) -> Option<Mode>
-        ensures { MatchOption result ((mode : Mode) → mode ≢ Mode.Void → mode_name mode ≢ name.now) (λ mode. (mode ≢ Mode.Void) × (mode_name mode ≡ name.now)) }
+        ensures { MatchOption result ((mode : Mode) → mode ≢ Mode.Void →
+            mode_name mode ≢ name.now) (λ mode. (mode ≢ Mode.Void) × (mode_name mode ≡ name.now)) }
     {
         for mode in named_modes() {
             if mode.is_named(name) {

@@ -118,7 +118,8 @@ impl Memories {
 /// The place in the list of the byte at an address, found by halves.
 fn place_of(bytes: &[MemByte], address: u64) -> Option<usize>
     requires { IsOrdered bytes.now }
-    ensures { MatchOption result (spec.byte_at bytes.now address ≡ None) (IsPlaceOf bytes.now address) }
+    ensures { MatchOption result (spec.byte_at bytes.now address ≡ None)
+        (IsPlaceOf bytes.now address) }
 {
     let mut low = 0;
     let mut high = bytes.len();

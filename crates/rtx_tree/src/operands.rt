@@ -102,7 +102,8 @@ impl Operands {
     pub fn put(&mut self, number: u32, tree: Rtx) -> Result<(), Memory>
         ensures ok { OnOk result (self.new ≡ put_at self.old number tree) }
         ensures placed { OnOk result (operand_at self.new number ≡ Option.Some tree) }
-        ensures others { OnOk result ((k : ℕ) → k ≢ number → operand_at self.new k ≡ operand_at self.old k) }
+        ensures others { OnOk result ((k : ℕ) → k ≢ number →
+            operand_at self.new k ≡ operand_at self.old k) }
         ensures err { OnErr result (self.new ≡ self.old) }
     {
         put_in(&mut self.items, number, tree)

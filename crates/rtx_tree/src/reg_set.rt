@@ -56,7 +56,8 @@ impl RegSet {
 
     /// Puts register `reg` into the set. After `Memory` the set is as before.
     pub fn insert(&mut self, reg: u32) -> Result<(), Memory>
-        ensures ok { OnOk result ((other : ℕ) → has_reg self.new other ≡ (has_reg self.old other || other == reg)) }
+        ensures ok { OnOk result ((other : ℕ) →
+            has_reg self.new other ≡ (has_reg self.old other || other == reg)) }
         ensures err { OnErr result (self.new ≡ self.old) }
     {
         self.row.make_room(reg)?;

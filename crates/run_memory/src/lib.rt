@@ -69,7 +69,8 @@ fn write_number(memory: &mut Memories, address: u64, count: u64, number: u64)
 /// Writes the low bits of a number at an address. Where a load there has no value it answers false,
 /// and memory is as before.
 pub fn store(memory: &mut Memories, w: Width, address: u64, value: u64) -> bool
-    ensures { MatchBool result (spec.store w memory.old address value ≡ Some memory.new) ((spec.store w memory.old address value ≡ None) × (memory.new ≡ memory.old)) }
+    ensures { MatchBool result (spec.store w memory.old address value ≡ Some memory.new)
+        ((spec.store w memory.old address value ≡ None) × (memory.new ≡ memory.old)) }
 {
     if load(memory, w, address).is_none() {
         return false;

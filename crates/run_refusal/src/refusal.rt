@@ -127,7 +127,8 @@ fn syntax_line(file: &Name, place: Place, out: &mut Vec<u8>) -> Result<(), Memor
 }
 
 fn print_construct(name: &Name, out: &mut Vec<u8>) -> Result<(), Memory>
-    ensures { OnOk result (out.new.items ≡ out.old.items ++ (codes ": construct " ++ (name.now ++ codes "\n"))) }
+    ensures { OnOk result (out.new.items ≡ out.old.items ++
+        (codes ": construct " ++ (name.now ++ codes "\n"))) }
 {
     print_text(b": construct ", out)?;
     print_text(name.bytes(), out)?;
@@ -164,7 +165,8 @@ fn print_at(function: &Name, uid: u32, out: &mut Vec<u8>) -> Result<(), Memory>
 }
 
 fn print_rule(rule: u8, out: &mut Vec<u8>) -> Result<(), Memory>
-    ensures { OnOk result (out.new.items ≡ out.old.items ++ (codes "rule " ++ (decimal rule ++ codes "\n"))) }
+    ensures { OnOk result (out.new.items ≡ out.old.items ++
+        (codes "rule " ++ (decimal rule ++ codes "\n"))) }
 {
     print_text(b"rule ", out)?;
     print_count(u64::from(rule), out)?;
@@ -200,7 +202,8 @@ fn unmatched_line(
     insn: &Rtx,
     out: &mut Vec<u8>,
 ) -> Result<(), Memory>
-    ensures { OnOk result (out.new.items ≡ out.old.items ++ spec.unmatched_line function.now uid stage insn.now) }
+    ensures { OnOk result (out.new.items ≡ out.old.items ++ spec.unmatched_line function.now uid
+        stage insn.now) }
 {
     print_at(function, uid, out)?;
     print_stage(stage, out)?;
@@ -223,7 +226,8 @@ fn unsatisfied_line(
     insn: &Rtx,
     out: &mut Vec<u8>,
 ) -> Result<(), Memory>
-    ensures { OnOk result (out.new.items ≡ out.old.items ++ spec.unsatisfied_line function.now uid form.now insn.now) }
+    ensures { OnOk result (out.new.items ≡ out.old.items ++ spec.unsatisfied_line function.now uid
+        form.now insn.now) }
 {
     print_at(function, uid, out)?;
     print_unsatisfied(form, out)?;
@@ -250,7 +254,8 @@ fn print_both(left: &Name, right: &Name, out: &mut Vec<u8>) -> Result<(), Memory
 
 /// Prints `ITEM: LEFT and RIGHT`.
 fn print_sides(item: Item, left: &Name, right: &Name, out: &mut Vec<u8>) -> Result<(), Memory>
-    ensures { OnOk result (out.new.items ≡ out.old.items ++ spec.sides_text item left.now right.now) }
+    ensures { OnOk result (out.new.items ≡ out.old.items ++ spec.sides_text item left.now
+        right.now) }
 {
     print_item(item, out)?;
     print_text(b": ", out)?;
@@ -266,7 +271,8 @@ fn not_equated_line(
     right: &Name,
     out: &mut Vec<u8>,
 ) -> Result<(), Memory>
-    ensures { OnOk result (out.new.items ≡ out.old.items ++ spec.not_equated_line function.now uid rule.now item left.now right.now) }
+    ensures { OnOk result (out.new.items ≡ out.old.items ++ spec.not_equated_line function.now uid
+        rule.now item left.now right.now) }
 {
     print_at(function, uid, out)?;
     print_form(rule, out)?;
@@ -315,7 +321,8 @@ fn print_line(refusal: &Refusal, out: &mut Vec<u8>) -> Result<(), Memory>
 
 /// The line of a refusal whose line has no values in it.
 pub fn fixed_line(refusal: &Refusal) -> Option<&'static [u8]>
-    ensures { MatchOption result (spec.has_values refusal.now ≡ true) (λ text. (text.now ≡ spec.line_of refusal.now) × (spec.has_values refusal.now ≡ false)) }
+    ensures { MatchOption result (spec.has_values refusal.now ≡ true) (λ text.
+        (text.now ≡ spec.line_of refusal.now) × (spec.has_values refusal.now ≡ false)) }
 {
     match refusal {
         Refusal::Usage => Some(b"rtlc: the words are not a command\n"),

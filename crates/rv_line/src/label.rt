@@ -9,7 +9,8 @@ use rv_text::{CodeItem, Line};
 
 /// What is left of a text behind its front, or `None` where it doesn't begin with it.
 fn behind<'a>(text: &'a [u8], front: &[u8]) -> Option<&'a [u8]>
-    ensures { MatchOption result ((rest : List ℕ) → text.entry.now ≢ front.now ++ rest) (λ rest. text.entry.now ≡ front.now ++ rest.now) }
+    ensures { MatchOption result ((rest : List ℕ) → text.entry.now ≢ front.now ++ rest) (λ rest.
+        text.entry.now ≡ front.now ++ rest.now) }
 {
     if text.len() < front.len() {
         return None;
@@ -25,7 +26,9 @@ fn is_decimal(text: &[u8], number: u32) -> bool
 }
 
 fn behind_decimal<'a>(text: &'a [u8], number: u32) -> Option<&'a [u8]>
-    ensures { MatchOption result ((rest : List ℕ) → text.entry.now ≢ decimal number ++ rest) (λ rest. text.entry.now ≡ decimal number ++ rest.now) }
+    ensures { MatchOption result ((rest : List ℕ) →
+        text.entry.now ≢ decimal number ++ rest) (λ rest.
+        text.entry.now ≡ decimal number ++ rest.now) }
 {
     behind(text, Buffer::new().format(number).as_bytes())
 }
@@ -69,7 +72,8 @@ pub(crate) fn behind_label<'a>(items: &'a [CodeItem], target: &[u8]) -> Option<&
 
 /// The first line, and what stands behind it.
 pub(crate) fn next_line(items: &[CodeItem]) -> Option<(&Line, &[CodeItem])>
-    ensures { option_map (λ next. (next.0.now, next.1.now)) result ≡ spec.next_line items.entry.now }
+    ensures { option_map (λ next. (next.0.now, next.1.now)) result ≡ spec.next_line
+        items.entry.now }
 {
     for (at, item) in items.iter().enumerate() {
         if let CodeItem::Code { line } = item {

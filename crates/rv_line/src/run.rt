@@ -65,7 +65,8 @@ impl<'a> CodeState<'a> {
 
     /// Goes on behind a call, if it has a reply.
     fn take_reply(&mut self, alloc: Global, rest: &'a [CodeItem]) -> Option<CodeOutcome>
-        ensures { Turns result (running_view self.new) (spec.replied self.old.replies.now rest.entry.now (running_view self.old)) }
+        ensures { Turns result (running_view self.new)
+            (spec.replied self.old.replies.now rest.entry.now (running_view self.old)) }
     {
         match self.replies {
             [] => Some(CodeOutcome::Asked {
@@ -88,7 +89,9 @@ impl<'a> CodeState<'a> {
         target: u64,
         rest: &'a [CodeItem],
     ) -> Result<Option<CodeOutcome>, Memory>
-        ensures { IfOk result (λ ended. Turns ended (running_view self.new) (spec.called ranges.now target rest.entry.now (running_view self.old))) }
+        ensures { IfOk result (λ ended.
+            Turns ended (running_view self.new) (spec.called ranges.now target rest.entry.now
+            (running_view self.old))) }
     {
         let call = call_of(alloc, ranges, target, &self.machine)?;
         self.calls.push(call)?;
@@ -97,7 +100,8 @@ impl<'a> CodeState<'a> {
 
     /// Goes on behind a label, if it stands there.
     fn jump(&mut self, behind: Option<&'a [CodeItem]>) -> Option<CodeOutcome>
-        ensures { Turns result (running_view self.new) (spec.jumped (option_map (λ rest. rest.now) behind.entry) (running_view self.old)) }
+        ensures { Turns result (running_view self.new) (spec.jumped (option_map (λ rest.
+            rest.now) behind.entry) (running_view self.old)) }
     {
         match behind {
             None => Some(CodeOutcome::Stuck),
@@ -110,7 +114,8 @@ impl<'a> CodeState<'a> {
 
     /// Returns.
     fn returned(&mut self, alloc: Global, ranges: &Ranges) -> Result<CodeOutcome, Memory>
-        ensures { IfOk result (λ outcome. outcome ≡ spec.returned ranges.now (running_view self.old)) }
+        ensures { IfOk result (λ outcome.
+            outcome ≡ spec.returned ranges.now (running_view self.old)) }
     {
         Ok(CodeOutcome::Returned {
             value: self.machine.register(10),
@@ -130,7 +135,10 @@ impl<'a> CodeState<'a> {
         line: &Line,
         rest: &'a [CodeItem],
     ) -> Result<Option<CodeOutcome>, Memory>
-        ensures { IfOk result (λ ended. Turns ended (running_view self.new) (spec.after_line end ranges.now items.entry.now line.now rest.entry.now (running_view self.old))) }
+        ensures { IfOk result (λ ended.
+            Turns ended (running_view self.new)
+            (spec.after_line end ranges.now items.entry.now line.now rest.entry.now
+            (running_view self.old))) }
     {
         match end {
             LineEnd::Next => {
@@ -152,7 +160,9 @@ impl<'a> CodeState<'a> {
         ranges: &Ranges,
         items: &'a [CodeItem],
     ) -> Result<Option<CodeOutcome>, Memory>
-        ensures { IfOk result (λ ended. Turns ended (running_view self.new) (spec.turn world.now ranges.now items.entry.now (running_view self.old))) }
+        ensures { IfOk result (λ ended.
+            Turns ended (running_view self.new) (spec.turn world.now ranges.now items.entry.now
+            (running_view self.old))) }
     {
         let Some((line, rest)) = next_line(self.rest) else {
             return Ok(Some(CodeOutcome::Stuck));

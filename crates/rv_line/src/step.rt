@@ -67,7 +67,8 @@ fn value_of(
     left: Source,
     right: Source,
 ) -> Option<u64>
-    ensures { result ≡ spec.of_both (spec.computed operation w) (spec.source_value state.now line.now left) (spec.source_value state.now line.now right) }
+    ensures { result ≡ spec.of_both (spec.computed operation w)
+        (spec.source_value state.now line.now left) (spec.source_value state.now line.now right) }
 {
     let a = state.source(line, left)?;
     let b = state.source(line, right)?;
@@ -82,7 +83,8 @@ fn holds(
     left: Source,
     right: Source,
 ) -> Option<bool>
-    ensures { result ≡ spec.of_both (spec.compares comparison) (spec.source_value state.now line.now left) (spec.source_value state.now line.now right) }
+    ensures { result ≡ spec.of_both (spec.compares comparison)
+        (spec.source_value state.now line.now left) (spec.source_value state.now line.now right) }
 {
     let a = state.source(line, left)?;
     let b = state.source(line, right)?;

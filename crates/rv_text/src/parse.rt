@@ -95,7 +95,8 @@ fn is_decimal(number: i64, text: &[u8]) -> bool
 }
 
 fn if_written(number: i64, least: i64, most: i64, text: &[u8]) -> Option<i64>
-    ensures { result ≡ (if lines.is_within least most number && bytes_eq (signed_decimal number) text.now then Some number else None) }
+    ensures { result ≡ (if lines.is_within least most number && bytes_eq
+        (signed_decimal number) text.now then Some number else None) }
 {
     if is_within(number, least, most) && is_decimal(number, text) {
         Some(number)
@@ -143,7 +144,8 @@ fn pair(number: Option<i64>, reg: Option<u8>) -> Option<(i64, u8)>
 }
 
 fn read_place(text: &[u8], least: i64, most: i64) -> Option<(i64, u8)>
-    ensures { Finds (λ place. lines.place_text (lines.number_text least most place.0) (lines.register_text place.1) ≡ Some text.now) result }
+    ensures { Finds (λ place. lines.place_text (lines.number_text least most place.0)
+        (lines.register_text place.1) ≡ Some text.now) result }
 {
     match split_place(text) {
         None => None,
@@ -198,7 +200,8 @@ fn set_imm<'a>(parts: LineParts<'a>, imm: Option<i64>) -> Option<LineParts<'a>>
 }
 
 fn set_place<'a>(parts: LineParts<'a>, place: Option<(i64, u8)>) -> Option<LineParts<'a>>
-    ensures { option_map parts_view result ≡ option_map (λ place. record (parts_view parts.entry) { rs = place.1; imm = place.0 }) place }
+    ensures { option_map parts_view result ≡ option_map (λ place.
+        record (parts_view parts.entry) { rs = place.1; imm = place.0 }) place }
 {
     match place {
         None => None,
@@ -207,25 +210,29 @@ fn set_place<'a>(parts: LineParts<'a>, place: Option<(i64, u8)>) -> Option<LineP
 }
 
 fn read_rd<'a>(text: &[u8], parts: LineParts<'a>) -> Option<LineParts<'a>>
-    ensures { Finds (Sets Operand.Rd text.now (parts_view parts.entry)) (option_map parts_view result) }
+    ensures { Finds (Sets Operand.Rd text.now (parts_view parts.entry))
+        (option_map parts_view result) }
 {
     set_rd(parts, read_register(text))
 }
 
 fn read_rs<'a>(text: &[u8], parts: LineParts<'a>) -> Option<LineParts<'a>>
-    ensures { Finds (Sets Operand.Rs text.now (parts_view parts.entry)) (option_map parts_view result) }
+    ensures { Finds (Sets Operand.Rs text.now (parts_view parts.entry))
+        (option_map parts_view result) }
 {
     set_rs(parts, read_register(text))
 }
 
 fn read_rt<'a>(text: &[u8], parts: LineParts<'a>) -> Option<LineParts<'a>>
-    ensures { Finds (Sets Operand.Rt text.now (parts_view parts.entry)) (option_map parts_view result) }
+    ensures { Finds (Sets Operand.Rt text.now (parts_view parts.entry))
+        (option_map parts_view result) }
 {
     set_rt(parts, read_register(text))
 }
 
 fn read_imm<'a>(text: &[u8], least: i64, most: i64, parts: LineParts<'a>) -> Option<LineParts<'a>>
-    ensures { Finds (Sets (Operand.Number least most) text.now (parts_view parts.entry)) (option_map parts_view result) }
+    ensures { Finds (Sets (Operand.Number least most) text.now (parts_view parts.entry))
+        (option_map parts_view result) }
 {
     set_imm(parts, read_number(text, least, most))
 }
@@ -236,13 +243,15 @@ fn read_rs_and_imm<'a>(
     most: i64,
     parts: LineParts<'a>,
 ) -> Option<LineParts<'a>>
-    ensures { Finds (Sets (Operand.Place least most) text.now (parts_view parts.entry)) (option_map parts_view result) }
+    ensures { Finds (Sets (Operand.Place least most) text.now (parts_view parts.entry))
+        (option_map parts_view result) }
 {
     set_place(parts, read_place(text, least, most))
 }
 
 fn read_target<'a>(text: &'a [u8], parts: LineParts<'a>) -> Option<LineParts<'a>>
-    ensures { Finds (Sets Operand.Target text.entry.now (parts_view parts.entry)) (option_map parts_view result) }
+    ensures { Finds (Sets Operand.Target text.entry.now (parts_view parts.entry))
+        (option_map parts_view result) }
 {
     if is_symbol(text) {
         Some(LineParts {
@@ -255,7 +264,8 @@ fn read_target<'a>(text: &'a [u8], parts: LineParts<'a>) -> Option<LineParts<'a>
 }
 
 fn read_ra<'a>(text: &[u8], parts: LineParts<'a>) -> Option<LineParts<'a>>
-    ensures { Finds (Sets Operand.Ra text.now (parts_view parts.entry)) (option_map parts_view result) }
+    ensures { Finds (Sets Operand.Ra text.now (parts_view parts.entry))
+        (option_map parts_view result) }
 {
     if text == b"ra".as_slice() {
         Some(parts)
@@ -266,7 +276,8 @@ fn read_ra<'a>(text: &[u8], parts: LineParts<'a>) -> Option<LineParts<'a>>
 
 /// Reads one operand.
 fn read_operand<'a>(operand: Operand, text: &'a [u8], parts: LineParts<'a>) -> Option<LineParts<'a>>
-    ensures { Finds (Sets operand text.entry.now (parts_view parts.entry)) (option_map parts_view result) }
+    ensures { Finds (Sets operand text.entry.now (parts_view parts.entry))
+        (option_map parts_view result) }
 {
     match operand {
         Operand::Rd => read_rd(text, parts),
@@ -286,7 +297,8 @@ fn read_operands_from<'a>(
     bytes: &'a [u8],
     parts: LineParts<'a>,
 ) -> Option<LineParts<'a>>
-    ensures { Finds (IsListedFrom operand others.now bytes.entry.now (parts_view parts.entry)) (option_map parts_view result) }
+    ensures { Finds (IsListedFrom operand others.now bytes.entry.now (parts_view parts.entry))
+        (option_map parts_view result) }
 {
     let [next, others @ ..] = others else {
         return read_operand(operand, bytes, parts);
@@ -307,7 +319,8 @@ fn read_operands<'a>(
     bytes: &'a [u8],
     parts: LineParts<'a>,
 ) -> Option<LineParts<'a>>
-    ensures { Finds (IsListed operands.now bytes.entry.now (parts_view parts.entry)) (option_map parts_view result) }
+    ensures { Finds (IsListed operands.now bytes.entry.now (parts_view parts.entry))
+        (option_map parts_view result) }
 {
     match operands {
         [] if bytes.is_empty() => Some(parts),
@@ -318,7 +331,8 @@ fn read_operands<'a>(
 
 /// Reads what stands behind the mnemonic of a row.
 fn read_row<'a>(row: Row, name: &'a [u8], rest: &'a [u8]) -> Option<LineParts<'a>>
-    ensures { Finds (IsRestOf (row_view row) name.entry.now rest.entry.now) (option_map parts_view result) }
+    ensures { Finds (IsRestOf (row_view row) name.entry.now rest.entry.now)
+        (option_map parts_view result) }
 {
     let operands = behind_blanks(rest);
     if operands.len() == rest.len() && !row.operands.is_empty() {

@@ -22,7 +22,8 @@ fn print_register(reg: u8, out: &mut Vec<u8>) -> Result<(), Memory>
 }
 
 fn print_place(number: i64, reg: u8, out: &mut Vec<u8>) -> Result<(), Memory>
-    ensures { OnOk result (out.new.items ≡ out.old.items ++ (signed_decimal number ++ (40 ∷ (unwrap_or (spec.register_text reg) [] ++ 41 ∷ [])))) }
+    ensures { OnOk result (out.new.items ≡ out.old.items ++
+        (signed_decimal number ++ (40 ∷ (unwrap_or (spec.register_text reg) [] ++ 41 ∷ [])))) }
 {
     print_number(number, out)?;
     out.push(b'(')?;
@@ -46,7 +47,8 @@ fn print_operand(operand: Operand, line: &Line, out: &mut Vec<u8>) -> Result<(),
 }
 
 fn print_operands(operands: &[Operand], line: &Line, out: &mut Vec<u8>) -> Result<(), Memory>
-    ensures { OnOk result (out.new.items ≡ out.old.items ++ spec.shown_all 9 operands.now line.now) }
+    ensures { OnOk result (out.new.items ≡ out.old.items ++ spec.shown_all 9 operands.now
+        line.now) }
 {
     let mut separator = b'\t';
     for operand in operands {
@@ -59,7 +61,8 @@ fn print_operands(operands: &[Operand], line: &Line, out: &mut Vec<u8>) -> Resul
 
 /// A line with its mnemonic and operands.
 fn print_row(operands: &[Operand], line: &Line, out: &mut Vec<u8>) -> Result<(), Memory>
-    ensures { OnOk result (out.new.items ≡ out.old.items ++ (9 ∷ (line.now.name ++ spec.shown_all 9 operands.now line.now))) }
+    ensures { OnOk result (out.new.items ≡ out.old.items ++
+        (9 ∷ (line.now.name ++ spec.shown_all 9 operands.now line.now))) }
 {
     out.push(b'\t')?;
     print_text(line.name.bytes(), out)?;

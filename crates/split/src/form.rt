@@ -68,7 +68,8 @@ pub fn first_split(
     next: u32,
     insn: &Insn,
 ) -> Result<Option<FormSplit>, Memory>
-    ensures some { IfOk result (λ r. (s : FormSplit) → r ≡ Some s → IsSplit desc.now stage next insn.now s.form s.sequence) }
+    ensures some { IfOk result (λ r. (s : FormSplit) → r ≡ Some s →
+        IsSplit desc.now stage next insn.now s.form s.sequence) }
     ensures none { IfOk result (λ r. r ≡ None → IsUnsplit desc.now stage next insn.now) }
 {
     if !is_instruction(insn.kind) {

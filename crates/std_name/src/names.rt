@@ -13,7 +13,8 @@ use std::alloc::Global;
 
 /// What an instruction sets, and one value that it takes.
 fn one_input(alloc: Global, x: &Rtx, mode: Mode, a: &Rtx) -> Result<Items<StandardOperand>, Memory>
-    ensures { IfOk result (λ items. items ≡ operands.target x.now ∷ operands.input mode a.now ∷ []) }
+    ensures { IfOk result (λ items.
+        items ≡ operands.target x.now ∷ operands.input mode a.now ∷ []) }
 {
     let mut items = Items::new(alloc);
     items.push(target(alloc, x)?)?;
@@ -31,7 +32,9 @@ fn two_inputs(
     other: Mode,
     b: &Rtx,
 ) -> Result<Items<StandardOperand>, Memory>
-    ensures { IfOk result (λ items. items ≡ operands.target x.now ∷ operands.input mode a.now ∷ operands.input other b.now ∷ []) }
+    ensures { IfOk result (λ items.
+        items ≡ operands.target x.now ∷ operands.input mode a.now ∷ operands.input other b.now ∷
+        []) }
 {
     let mut items = one_input(alloc, x, mode, a)?;
     items.push(input(alloc, other, b)?)?;
@@ -159,7 +162,8 @@ fn compare_row(
 
 /// The row of an instruction that sets a place to a value.
 fn value_row(alloc: Global, x: &Rtx, source: &Rtx) -> Result<Option<Standard>, Memory>
-    ensures { IfOk result (λ r. r ≡ spec.value_row (class_at source.now) x.now source.now (spec.kids_of source.now)) }
+    ensures { IfOk result (λ r. r ≡ spec.value_row (class_at source.now) x.now source.now
+        (spec.kids_of source.now)) }
 {
     match (class_at(source), source.kids.as_slice()) {
         (Class::Binary, [a, b]) => binary_row(alloc, x, source, a, source.mode, b),
@@ -212,7 +216,8 @@ fn compared_branch(
 }
 
 fn branch_by(alloc: Global, test: &Rtx, label: &Rtx) -> Result<Option<Standard>, Memory>
-    ensures { IfOk result (λ r. r ≡ spec.branch_by (class_at test.now) test.now (spec.kids_of test.now) (class_at label.now) (spec.kids_of label.now)) }
+    ensures { IfOk result (λ r. r ≡ spec.branch_by (class_at test.now) test.now
+        (spec.kids_of test.now) (class_at label.now) (spec.kids_of label.now)) }
 {
     match (
         class_at(test),

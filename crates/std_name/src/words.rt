@@ -52,7 +52,8 @@ pub fn word_of(code: Code) -> &'static str
 }
 
 fn name_of(alloc: Global, word: &str, modes: &[Mode], count: &str) -> Result<Name, Memory>
-    ensures { IfOk result (λ name. name ≡ word.now ++ (flat_map spec.letters modes.now ++ count.now)) }
+    ensures { IfOk result (λ name.
+        name ≡ word.now ++ (flat_map spec.letters modes.now ++ count.now)) }
 {
     let mut text = Vec::new(alloc);
     print_text(word.as_bytes(), &mut text)?;

@@ -80,7 +80,8 @@ pub fn difference_between(
     ensures first { IfOk result (λ found. option_map difference_of found ≡
         spec.difference of_lines live.now (state_of a.now) (state_of b.now)) }
     ensures tells { IfOk result (λ found.
-        Tells of_lines live.now (state_of a.now) (state_of b.now) (option_map difference_of found)) }
+        Tells of_lines live.now (state_of a.now) (state_of b.now)
+        (option_map difference_of found)) }
 {
     compared(maker, alloc, of_lines, live, a, b)
 }

@@ -61,7 +61,8 @@ fn compute(
     right: Source,
 ) -> Result<(), Memory>
     ensures { OnOk result (state_of state.new
-        ≡ spec.act (actions.Compute operation w left right) index None line.now (state_of state.old)) }
+        ≡ spec.act (actions.Compute operation w left right) index None line.now
+        (state_of state.old)) }
 {
     let term = value_of(maker, alloc, &state.regs, line, operation, w, left, right)?;
     need_sources(&mut state.needs, index, &state.regs, line, left, right)?;
@@ -261,7 +262,8 @@ fn call(
     state: &mut SymState,
     target: Term,
 ) -> Result<(), Memory>
-    ensures { OnOk result (state_of state.new ≡ parts.called (tree_of target) (state_of state.old)) }
+    ensures { OnOk result (state_of state.new ≡ parts.called (tree_of target)
+        (state_of state.old)) }
 {
     let args = args_from(maker, alloc, &state.regs, 8, 10)?;
     leave_by_call(&mut state.regs)?;

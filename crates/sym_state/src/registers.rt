@@ -38,7 +38,8 @@ fn term_left(
     reg: u64,
     w: Width,
 ) -> Result<Term, Memory>
-    ensures { IfOk result (λ term. tree_of term ≡ places.term_left (option_map tree_of left.now) reg w) }
+    ensures { IfOk result (λ term.
+        tree_of term ≡ places.term_left (option_map tree_of left.now) reg w) }
 {
     match left {
         Some(term) => {
@@ -60,7 +61,9 @@ fn term_held(
     reg: u64,
     w: Width,
 ) -> Result<Term, Memory>
-    ensures { IfOk result (λ term. tree_of term ≡ spec.term_held (option_map (λ r. (changed_of r.now).value) found.entry) reg w) }
+    ensures { IfOk result (λ term.
+        tree_of term ≡ spec.term_held (option_map (λ r.
+        (changed_of r.now).value) found.entry) reg w) }
 {
     match found {
         Some(changed) => term_left(maker, alloc, &changed.value, reg, w),
@@ -143,7 +146,8 @@ fn is_at(regs: &[SymReg], at: usize, reg: u64) -> bool
 #[tactic(auto, using(crate::proofs::Placing::changes_seen))]
 fn put_at(regs: &mut SymRegs, at: usize, reg: u64, value: Option<Term>) -> Result<(), Memory>
     requires { at ≤ length regs.old }
-    ensures { OnOk result (map changed_of regs.new ≡ places.put_at (map changed_of regs.old) at reg (option_map tree_of value)) }
+    ensures { OnOk result (map changed_of regs.new ≡ places.put_at (map changed_of regs.old) at reg
+        (option_map tree_of value)) }
 {
     if is_at(regs.as_slice(), at, reg) {
         regs.replace(at, SymReg { reg, value });
@@ -156,7 +160,8 @@ fn put_at(regs: &mut SymRegs, at: usize, reg: u64, value: Option<Term>) -> Resul
 /// Sets a register to the known bits of a term, or unsets it. Register zero keeps nothing.
 #[tactic(auto, using(crate::proofs::Placing::puts))]
 pub fn put(regs: &mut SymRegs, reg: u64, value: Option<Term>) -> Result<(), Memory>
-    ensures { OnOk result (map changed_of regs.new ≡ spec.put (map changed_of regs.old) reg (option_map tree_of value)) }
+    ensures { OnOk result (map changed_of regs.new ≡ spec.put (map changed_of regs.old) reg
+        (option_map tree_of value)) }
 {
     if reg == 0 {
         return Ok(());

@@ -57,7 +57,8 @@ fn may_move(
     a: &Term,
     index: u64,
 ) -> Result<bool, Memory>
-    ensures { IfOk result (λ r. r ≡ spec.lies_apart w (tree_of a.now) (slice_get (map store_of stores.now) index)) }
+    ensures { IfOk result (λ r. r ≡ spec.lies_apart w (tree_of a.now)
+        (slice_get (map store_of stores.now) index)) }
 {
     match store_at(stores, index) {
         None => Ok(false),

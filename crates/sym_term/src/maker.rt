@@ -46,14 +46,16 @@ fn same_in(alloc: Global, w: Width, a: Term, b: Term) -> Result<Term, Memory>
 }
 
 fn not_same(alloc: Global, w: Width, a: Term, b: Term) -> Result<Term, Memory>
-    ensures { IfOk result (λ r. tree_of r ≡ opposite_spec (same_in_spec w (tree_of a) (tree_of b))) }
+    ensures { IfOk result (λ r. tree_of r ≡ opposite_spec
+        (same_in_spec w (tree_of a) (tree_of b))) }
 {
     let same = same_in(alloc, w, a, b)?;
     opposite(alloc, same)
 }
 
 fn not_less(alloc: Global, e: Extension, w: Width, a: &Term, b: &Term) -> Result<Term, Memory>
-    ensures { IfOk result (λ r. tree_of r ≡ opposite_spec (less_than_spec e w (tree_of a.now) (tree_of b.now))) }
+    ensures { IfOk result (λ r. tree_of r ≡ opposite_spec
+        (less_than_spec e w (tree_of a.now) (tree_of b.now))) }
 {
     let less = less_than(alloc, e, w, a, b)?;
     opposite(alloc, less)
@@ -115,8 +117,12 @@ impl TermMaker {
         name: Name,
         parts: Vec<Term>,
     ) -> Result<Term, Memory>
-        ensures built { IfOk result (λ r. tree_of r ≡ built_spec (map store_of stores.now) head w number name (map tree_of parts.items)) }
-        ensures meaning { (v : Valuation) → Stored v (map store_of stores.now) → IfOk result (λ r. mean v (tree_of r) ≡ mean v (Node head w number name (trees_of (map tree_of parts.items)))) }
+        ensures built { IfOk result (λ r.
+            tree_of r ≡ built_spec (map store_of stores.now) head w number name
+            (map tree_of parts.items)) }
+        ensures meaning { (v : Valuation) → Stored v (map store_of stores.now) →
+            IfOk result (λ r. mean v (tree_of r) ≡ mean v
+            (Node head w number name (trees_of (map tree_of parts.items)))) }
         ensures width { IfOk result (λ r. width_of (tree_of r) ≡ own_width head w) }
     {
         build(self.alloc, stores, head, w, number, name, parts)
@@ -125,8 +131,11 @@ impl TermMaker {
     /// A sum of a constant and terms in normal form with coefficients.
     #[tactic(auto, using(crate::proofs::Means::summed_means))]
     pub fn summed(&mut self, w: Width, constant: u64, terms: &[Atom]) -> Result<Term, Memory>
-        ensures summed { IfOk result (λ r. tree_of r ≡ summed_spec w constant (map atom_of terms.now)) }
-        ensures meaning { (v : Valuation) → IfOk result (λ r. mean v (tree_of r) ≡ low w (constant + weight v (map atom_of terms.now))) }
+        ensures summed { IfOk result (λ r.
+            tree_of r ≡ summed_spec w constant (map atom_of terms.now)) }
+        ensures meaning { (v : Valuation) →
+            IfOk result (λ r. mean v (tree_of r) ≡ low w
+            (constant + weight v (map atom_of terms.now))) }
         ensures width { IfOk result (λ r. width_of (tree_of r) ≡ w) }
     {
         summed(self.alloc, w, constant, terms)
@@ -141,8 +150,11 @@ impl TermMaker {
         a: Term,
         b: Term,
     ) -> Result<Term, Memory>
-        ensures compared { IfOk result (λ r. tree_of r ≡ compared_spec relation w (tree_of a) (tree_of b)) }
-        ensures meaning { (v : Valuation) → IfOk result (λ r. mean v (tree_of r) ≡ truth (holds relation w (mean v (tree_of a)) (mean v (tree_of b)))) }
+        ensures compared { IfOk result (λ r.
+            tree_of r ≡ compared_spec relation w (tree_of a) (tree_of b)) }
+        ensures meaning { (v : Valuation) →
+            IfOk result (λ r. mean v (tree_of r) ≡ truth
+            (holds relation w (mean v (tree_of a)) (mean v (tree_of b)))) }
     {
         compared(self.alloc, relation, w, a, b)
     }

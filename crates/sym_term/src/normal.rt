@@ -83,7 +83,8 @@ fn two_node(
     a: Term,
     b: Term,
 ) -> Result<Term, Memory>
-    ensures { IfOk result (λ r. tree_of r ≡ Node head w number name (tree (tree_of a) (tree (tree_of b) no_trees))) }
+    ensures { IfOk result (λ r. tree_of r ≡ Node head w number name
+        (tree (tree_of a) (tree (tree_of b) no_trees))) }
 {
     let mut parts = Vec::new(alloc);
     parts.push(a)?;
@@ -101,7 +102,8 @@ fn build_one(
     name: Name,
     a: Term,
 ) -> Result<Term, Memory>
-    ensures { IfOk result (λ r. tree_of r ≡ spec.built_one (map store_of stores.now) head w number name (tree_of a)) }
+    ensures { IfOk result (λ r. tree_of r ≡ spec.built_one
+        (map store_of stores.now) head w number name (tree_of a)) }
 {
     match head {
         Head::Trunc => cut_to(alloc, w, &a),
@@ -133,7 +135,8 @@ fn build_two(
     a: Term,
     b: Term,
 ) -> Result<Term, Memory>
-    ensures { IfOk result (λ r. tree_of r ≡ spec.built_two head w number name (tree_of a) (tree_of b)) }
+    ensures { IfOk result (λ r. tree_of r ≡ spec.built_two head w number name (tree_of a)
+        (tree_of b)) }
 {
     match head {
         Head::Mulh => plain_two(alloc, head, w, a, b),
@@ -180,7 +183,8 @@ fn build_parts(
     name: Name,
     parts: Vec<Term>,
 ) -> Result<Term, Memory>
-    ensures { IfOk result (λ r. tree_of r ≡ spec.built_parts (map store_of stores.now) head w number name (map tree_of parts.items)) }
+    ensures { IfOk result (λ r. tree_of r ≡ spec.built_parts
+        (map store_of stores.now) head w number name (map tree_of parts.items)) }
 {
     match parts.as_slice() {
         [] => Ok(node(head, w, number, name, parts)),
@@ -203,7 +207,8 @@ pub fn build(
     name: Name,
     parts: Vec<Term>,
 ) -> Result<Term, Memory>
-    ensures { IfOk result (λ r. tree_of r ≡ spec.built (map store_of stores.now) head w number name (map tree_of parts.items)) }
+    ensures { IfOk result (λ r. tree_of r ≡ spec.built (map store_of stores.now) head w number name
+        (map tree_of parts.items)) }
 {
     match head {
         Head::Mul => made_at(alloc, w, Joint::Mul, parts.as_slice()),
@@ -247,7 +252,8 @@ fn normal_sum(
     constant: u64,
     atoms: &[Atom],
 ) -> Result<Term, Memory>
-    ensures { IfOk result (λ r. tree_of r ≡ summed_spec w constant (spec.normal_atoms (map store_of stores.now) (atoms_of (map atom_of atoms.now)))) }
+    ensures { IfOk result (λ r. tree_of r ≡ summed_spec w constant
+        (spec.normal_atoms (map store_of stores.now) (atoms_of (map atom_of atoms.now)))) }
 {
     let mut normals = Vec::new(alloc);
     for atom in atoms {
@@ -261,7 +267,8 @@ fn normal_sum(
 
 #[cycle(normal)]
 fn normal_parts(alloc: Global, stores: &SymStores, parts: &[Term]) -> Result<Vec<Term>, Memory>
-    ensures { IfOk result (λ r. map tree_of r.items ≡ spec.normal_all (map store_of stores.now) (trees_of (map tree_of parts.now))) }
+    ensures { IfOk result (λ r. map tree_of r.items ≡ spec.normal_all (map store_of stores.now)
+        (trees_of (map tree_of parts.now))) }
 {
     let mut normals = Vec::new(alloc);
     for part in parts {
@@ -281,10 +288,12 @@ fn normal_parts(alloc: Global, stores: &SymStores, parts: &[Term]) -> Result<Vec
 /// around each of them.
 #[tactic(auto, using(crate::proofs::Means::normal_means))]
 pub fn norm(alloc: Global, t: &Term, stores: &SymStores) -> Result<Term, TermRefusal>
-    ensures normal { IfOk result (λ r. tree_of r ≡ spec.normal (map store_of stores.now) (tree_of t.now)) }
+    ensures normal { IfOk result (λ r.
+        tree_of r ≡ spec.normal (map store_of stores.now) (tree_of t.now)) }
     ensures meaning { (v : Valuation) → Stored v (map store_of stores.now) →
         IfOk result (λ r. mean v (tree_of r) ≡ mean v (tree_of t.now)) }
-    ensures fits { IfOk result (λ r. tree_size (spec.normal (map store_of stores.now) (tree_of t.now)) ≤ LIMIT) }
+    ensures fits { IfOk result (λ r.
+        tree_size (spec.normal (map store_of stores.now) (tree_of t.now)) ≤ LIMIT) }
     ensures size { (n : ℕ) → result ≡ Err (TermRefusal.Size n) → (n ≡ LIMIT + 1) ×
         (LIMIT < tree_size (spec.normal (map store_of stores.now) (tree_of t.now))) }
 {

@@ -67,7 +67,8 @@ fn does_divide_all(d: u64, atoms: &[Atom]) -> bool
 /// The atoms, each coefficient divided.
 fn quotients(alloc: Global, d: u64, atoms: &[Atom]) -> Result<Vec<Atom>, Memory>
     requires { 0 < d }
-    ensures { IfOk result (λ r. map atom_of r.items ≡ spec.quotients d (atoms_of (map atom_of atoms.now))) }
+    ensures { IfOk result (λ r. map atom_of r.items ≡ spec.quotients d
+        (atoms_of (map atom_of atoms.now))) }
 {
     let mut quotients = Vec::new(alloc);
     for atom in atoms {
@@ -90,7 +91,8 @@ fn exact(
     atoms: &[Atom],
 ) -> Result<Term, Memory>
     requires { 0 < d }
-    ensures { IfOk result (λ r. tree_of r ≡ spec.exact e w m d constant (atoms_of (map atom_of atoms.now))) }
+    ensures { IfOk result (λ r. tree_of r ≡ spec.exact e w m d constant
+        (atoms_of (map atom_of atoms.now))) }
 {
     let quotient = sum(w, constant / d, quotients(alloc, d, atoms)?);
     let low = cut_to(alloc, m, &quotient)?;
@@ -118,7 +120,8 @@ fn right_to(
     b: Term,
 ) -> Result<Term, Memory>
     requires { k < 64 }
-    ensures { IfOk result (λ r. tree_of r ≡ spec.right_exact (Some m) head e w k (tree_of a) (tree_of b)) }
+    ensures { IfOk result (λ r. tree_of r ≡ spec.right_exact (Some m) head e w k (tree_of a)
+        (tree_of b)) }
 {
     let d = power(k);
     match a {
@@ -155,7 +158,8 @@ fn right_exact(
     b: Term,
 ) -> Result<Term, Memory>
     requires { k < 64 }
-    ensures { IfOk result (λ r. tree_of r ≡ spec.right_exact left head e w k (tree_of a) (tree_of b)) }
+    ensures { IfOk result (λ r. tree_of r ≡ spec.right_exact left head e w k (tree_of a)
+        (tree_of b)) }
 {
     match left {
         None => two_parts(alloc, head, w, a, b),

@@ -114,7 +114,8 @@ fn cut_extension<M: Makes>(
     m: Width,
     p: &Term,
 ) -> Result<Term, Memory>
-    ensures { IfOk result (λ r. tree_of r ≡ spec.extension_cut head m (tree_of p.now) (spec.cut (M.made makes.now) m (tree_of p.now))) }
+    ensures { IfOk result (λ r. tree_of r ≡ spec.extension_cut head m (tree_of p.now)
+        (spec.cut (M.made makes.now) m (tree_of p.now))) }
 {
     if is_narrower(m, p.width()) {
         cut(alloc, makes, m, p)
@@ -133,7 +134,8 @@ fn cut_atoms<M: Makes>(
     constant: u64,
     atoms: &[Atom],
 ) -> Result<Term, Memory>
-    ensures { IfOk result (λ r. tree_of r ≡ summed_spec m constant (spec.cut_atoms (M.made makes.now) m (atoms_of (map atom_of atoms.now)))) }
+    ensures { IfOk result (λ r. tree_of r ≡ summed_spec m constant
+        (spec.cut_atoms (M.made makes.now) m (atoms_of (map atom_of atoms.now)))) }
 {
     let mut cuts = Vec::new(alloc);
     for atom in atoms {
@@ -152,7 +154,8 @@ fn cut_all<M: Makes>(
     m: Width,
     parts: &[Term],
 ) -> Result<Vec<Term>, Memory>
-    ensures { IfOk result (λ r. map tree_of r.items ≡ spec.cut_all (M.made makes.now) m (trees_of (map tree_of parts.now))) }
+    ensures { IfOk result (λ r. map tree_of r.items ≡ spec.cut_all (M.made makes.now) m
+        (trees_of (map tree_of parts.now))) }
 {
     let mut cuts = Vec::new(alloc);
     for part in parts {

@@ -152,7 +152,8 @@ fn extended_joint<M: Makes>(
     parts: &[Term],
     extensions: Vec<Term>,
 ) -> Result<Term, Memory>
-    ensures { IfOk result (λ r. tree_of r ≡ spec.extended_joint (M.made makes.now) e m o v (tree_of t.now) (trees_of (map tree_of parts.now)) (map tree_of extensions.items)) }
+    ensures { IfOk result (λ r. tree_of r ≡ spec.extended_joint (M.made makes.now) e m o v
+        (tree_of t.now) (trees_of (map tree_of parts.now)) (map tree_of extensions.items)) }
 {
     if !extensions.is_empty() && are_of_width(v, parts) {
         makes.make(alloc, o, extensions)
@@ -169,7 +170,8 @@ fn extended_all<M: Makes>(
     m: Width,
     parts: &[Term],
 ) -> Result<Vec<Term>, Memory>
-    ensures { IfOk result (λ r. map tree_of r.items ≡ spec.extended_all (M.made makes.now) e m (trees_of (map tree_of parts.now))) }
+    ensures { IfOk result (λ r. map tree_of r.items ≡ spec.extended_all (M.made makes.now) e m
+        (trees_of (map tree_of parts.now))) }
 {
     let mut extensions = Vec::new(alloc);
     for part in parts {

@@ -85,7 +85,9 @@ fn under_mask<N: Narrows>(
     k: Width,
     parts: Vec<Term>,
 ) -> Result<Term, Memory>
-    ensures { IfOk result (λ r. tree_of r ≡ extended_spec (λ o us. joined_spec o w us) Zero w (N.narrowed narrows.now k (plain_spec And w (map tree_of parts.items)))) }
+    ensures { IfOk result (λ r. tree_of r ≡ extended_spec (λ o us.
+        joined_spec o w us) Zero w (N.narrowed narrows.now k
+        (plain_spec And w (map tree_of parts.items)))) }
 {
     let rest = plain(alloc, Joint::And, w, parts);
     let low = narrows.narrow(alloc, k, &rest)?;
@@ -100,7 +102,8 @@ fn masked<N: Narrows>(
     c: u64,
     parts: Vec<Term>,
 ) -> Result<Term, Memory>
-    ensures { IfOk result (λ r. tree_of r ≡ spec.masked mask (N.narrowed narrows.now) w c (map tree_of parts.items)) }
+    ensures { IfOk result (λ r. tree_of r ≡ spec.masked mask (N.narrowed narrows.now) w c
+        (map tree_of parts.items)) }
 {
     match mask {
         None => finished(alloc, Joint::And, w, c, parts),
@@ -121,7 +124,8 @@ fn made_of<N: Narrows>(
     c: u64,
     parts: Vec<Term>,
 ) -> Result<Term, Memory>
-    ensures { IfOk result (λ r. tree_of r ≡ spec.made_of (N.narrowed narrows.now) o w c (map tree_of parts.items)) }
+    ensures { IfOk result (λ r. tree_of r ≡ spec.made_of (N.narrowed narrows.now) o w c
+        (map tree_of parts.items)) }
 {
     match o {
         Joint::And => masked(alloc, narrows, mask_in(w, c), w, c, parts),
@@ -138,7 +142,8 @@ fn made<N: Narrows>(
     w: Width,
     terms: &[Term],
 ) -> Result<Term, Memory>
-    ensures { IfOk result (λ r. tree_of r ≡ spec.made (N.narrowed narrows.now) o w (map tree_of terms.now)) }
+    ensures { IfOk result (λ r. tree_of r ≡ spec.made (N.narrowed narrows.now) o w
+        (map tree_of terms.now)) }
 {
     let Gathered { constant, parts } = gather(alloc, o, w, terms)?;
     made_of(alloc, narrows, o, w, trunc(constant, w), parts)

@@ -115,14 +115,16 @@ fn with_part(
     c: u64,
     mut parts: Vec<Term>,
 ) -> Result<Term, Memory>
-    ensures { IfOk result (λ r. tree_of r ≡ spec.node_of o w (spec.with_part o (sums_spec.constant w c) (map tree_of parts.items))) }
+    ensures { IfOk result (λ r. tree_of r ≡ spec.node_of o w
+        (spec.with_part o (sums_spec.constant w c) (map tree_of parts.items))) }
 {
     put_part(o, &mut parts, constant_term(alloc, w, c))?;
     Ok(node_of(alloc, o, w, parts))
 }
 
 fn scaled(alloc: Global, w: Width, c: u64, parts: Vec<Term>) -> Result<Term, Memory>
-    ensures { IfOk result (λ r. tree_of r ≡ sums_spec.times w c (spec.plain Joint.Mul w (map tree_of parts.items))) }
+    ensures { IfOk result (λ r. tree_of r ≡ sums_spec.times w c
+        (spec.plain Joint.Mul w (map tree_of parts.items))) }
 {
     let product = plain(alloc, Joint::Mul, w, parts);
     times(alloc, w, c, &product)

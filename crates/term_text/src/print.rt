@@ -46,7 +46,8 @@ fn head_name(head: Head) -> &'static str
 }
 
 fn print_pseudo(pseudo: u64, out: &mut Vec<u8>) -> Result<(), Memory>
-    ensures { OnOk result (out.new.items ≡ out.old.items ++ (codes "<" ++ (decimal pseudo ++ codes ">"))) }
+    ensures { OnOk result (out.new.items ≡ out.old.items ++
+        (codes "<" ++ (decimal pseudo ++ codes ">"))) }
 {
     out.push(b'<')?;
     print_count(pseudo, out)?;
@@ -150,7 +151,8 @@ fn print(t: &Term, out: &mut Vec<u8>) -> Result<(), Memory>
 #[cycle(print)]
 #[tactic(auto, using(term_tree::proofs::ViewLaws::view_laws))]
 fn print_first(atoms: &[Atom], out: &mut Vec<u8>) -> Result<(), Memory>
-    ensures { OnOk result (out.new.items ≡ out.old.items ++ spec.first_text (atoms_of (map atom_of atoms.now))) }
+    ensures { OnOk result (out.new.items ≡ out.old.items ++ spec.first_text
+        (atoms_of (map atom_of atoms.now))) }
 {
     match atoms {
         [] => Ok(()),
@@ -160,7 +162,10 @@ fn print_first(atoms: &[Atom], out: &mut Vec<u8>) -> Result<(), Memory>
 
 #[cycle(print)]
 fn print_sum(w: Width, constant: u64, atoms: &[Atom], out: &mut Vec<u8>) -> Result<(), Memory>
-    ensures { OnOk result (out.new.items ≡ out.old.items ++ (spec.opened heads.Sum w ++ (codes " " ++ (spec.number_text w constant ++ (spec.atoms_text w (atoms_of (map atom_of atoms.now)) ++ codes ")"))))) }
+    ensures { OnOk result (out.new.items ≡ out.old.items ++
+        (spec.opened heads.Sum w ++ (codes " " ++
+        (spec.number_text w constant ++
+        (spec.atoms_text w (atoms_of (map atom_of atoms.now)) ++ codes ")"))))) }
 {
     print_opened(Head::Sum, w, out)?;
     out.push(b' ')?;
@@ -179,7 +184,9 @@ fn print_node(
     parts: &[Term],
     out: &mut Vec<u8>,
 ) -> Result<(), Memory>
-    ensures { OnOk result (out.new.items ≡ out.old.items ++ (spec.opened head w ++ (spec.own_text head number name.now ++ (spec.parts_text (trees_of (map tree_of parts.now)) ++ codes ")")))) }
+    ensures { OnOk result (out.new.items ≡ out.old.items ++
+        (spec.opened head w ++ (spec.own_text head number name.now ++
+        (spec.parts_text (trees_of (map tree_of parts.now)) ++ codes ")")))) }
 {
     print_opened(head, w, out)?;
     print_own(head, number, name, out)?;
@@ -191,7 +198,9 @@ fn print_node(
 /// One atom, with a space in front.
 #[cycle(print)]
 fn print_atom(w: Width, x: &Atom, out: &mut Vec<u8>) -> Result<(), Memory>
-    ensures { OnOk result (out.new.items ≡ out.old.items ++ (codes " (" ++ (spec.number_text w (atom_of x.now).0 ++ (codes " " ++ (spec.text_of (atom_of x.now).1 ++ codes ")"))))) }
+    ensures { OnOk result (out.new.items ≡ out.old.items ++
+        (codes " (" ++ (spec.number_text w (atom_of x.now).0 ++
+        (codes " " ++ (spec.text_of (atom_of x.now).1 ++ codes ")"))))) }
 {
     out.extend_from_slice(b" (")?;
     print_signed(w, x.coefficient, out)?;
@@ -203,7 +212,8 @@ fn print_atom(w: Width, x: &Atom, out: &mut Vec<u8>) -> Result<(), Memory>
 
 #[cycle(print)]
 fn print_atoms(w: Width, atoms: &[Atom], out: &mut Vec<u8>) -> Result<(), Memory>
-    ensures { OnOk result (out.new.items ≡ out.old.items ++ spec.atoms_text w (atoms_of (map atom_of atoms.now))) }
+    ensures { OnOk result (out.new.items ≡ out.old.items ++ spec.atoms_text w
+        (atoms_of (map atom_of atoms.now))) }
 {
     for x in atoms {
         print_atom(w, x, out)?;
@@ -213,7 +223,8 @@ fn print_atoms(w: Width, atoms: &[Atom], out: &mut Vec<u8>) -> Result<(), Memory
 
 #[cycle(print)]
 fn print_part(t: &Term, out: &mut Vec<u8>) -> Result<(), Memory>
-    ensures { OnOk result (out.new.items ≡ out.old.items ++ (codes " " ++ spec.text_of (tree_of t.now))) }
+    ensures { OnOk result (out.new.items ≡ out.old.items ++
+        (codes " " ++ spec.text_of (tree_of t.now))) }
 {
     out.push(b' ')?;
     print(t, out)
@@ -221,7 +232,8 @@ fn print_part(t: &Term, out: &mut Vec<u8>) -> Result<(), Memory>
 
 #[cycle(print)]
 fn print_parts(parts: &[Term], out: &mut Vec<u8>) -> Result<(), Memory>
-    ensures { OnOk result (out.new.items ≡ out.old.items ++ spec.parts_text (trees_of (map tree_of parts.now))) }
+    ensures { OnOk result (out.new.items ≡ out.old.items ++ spec.parts_text
+        (trees_of (map tree_of parts.now))) }
 {
     for t in parts {
         print_part(t, out)?;

@@ -37,7 +37,8 @@ fn is_number(c: Option<u64>, n: u64) -> bool
 
 /// Unsigned, below 1 is 0, and above 0 is not 0.
 fn less_bounds_unsigned(alloc: Global, w: Width, a: &Term, b: &Term) -> Result<Term, Memory>
-    ensures { IfOk result (λ r. tree_of r ≡ spec.less_bounds_unsigned w (tree_of a.now) (tree_of b.now)) }
+    ensures { IfOk result (λ r. tree_of r ≡ spec.less_bounds_unsigned w (tree_of a.now)
+        (tree_of b.now)) }
 {
     if is_number(constant_of(b), 1) {
         return equals_zero(alloc, w, a);
@@ -85,7 +86,8 @@ fn less_extended(
     a: &Term,
     b: &Term,
 ) -> Result<Term, Memory>
-    ensures { IfOk result (λ r. tree_of r ≡ spec.less_extended (operands_found operands) (spec.less_test rounds) e w (tree_of a.now) (tree_of b.now)) }
+    ensures { IfOk result (λ r. tree_of r ≡ spec.less_extended (operands_found operands)
+        (spec.less_test rounds) e w (tree_of a.now) (tree_of b.now)) }
 {
     match operands {
         None => less_bounds(alloc, e, w, a, b),
@@ -111,7 +113,8 @@ fn less_unless(
     a: &Term,
     b: &Term,
 ) -> Result<Term, Memory>
-    ensures { IfOk result (λ r. tree_of r ≡ spec.less_unless order (spec.less_test rounds) e w (tree_of a.now) (tree_of b.now)) }
+    ensures { IfOk result (λ r. tree_of r ≡ spec.less_unless order (spec.less_test rounds) e w
+        (tree_of a.now) (tree_of b.now)) }
 {
     match order {
         Ordering::Equal => Ok(constant_term(alloc, Width::W8, 0)),
@@ -137,7 +140,8 @@ fn less_test(
     a: &Term,
     b: &Term,
 ) -> Result<Term, Memory>
-    ensures { IfOk result (λ r. tree_of r ≡ spec.less_test rounds e w (tree_of a.now) (tree_of b.now)) }
+    ensures { IfOk result (λ r. tree_of r ≡ spec.less_test rounds e w (tree_of a.now)
+        (tree_of b.now)) }
 {
     if rounds == 0 {
         return two_copies(alloc, less_head(e), w, a, b);
@@ -158,7 +162,8 @@ fn less_test(
 /// The rules go on at narrower widths alone, so more than four rounds would change nothing.
 #[tactic(auto, using(crate::proofs::Means::less_ends))]
 pub fn less_than(alloc: Global, e: Extension, w: Width, a: &Term, b: &Term) -> Result<Term, Memory>
-    ensures comparison { IfOk result (λ r. tree_of r ≡ spec.less_than e w (tree_of a.now) (tree_of b.now)) }
+    ensures comparison { IfOk result (λ r.
+        tree_of r ≡ spec.less_than e w (tree_of a.now) (tree_of b.now)) }
     ensures ends { (n : ℕ) → 4 ≤ n →
         IfOk result (λ r. tree_of r ≡ spec.less_test n e w (tree_of a.now) (tree_of b.now)) }
 {

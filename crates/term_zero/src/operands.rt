@@ -95,7 +95,8 @@ fn operand_if(
     v: Width,
     t: &Term,
 ) -> Result<Option<Term>, Memory>
-    ensures { IfOk result (λ r. tree_found r ≡ spec.operand_if (extended_of x) e w v (tree_of t.now)) }
+    ensures { IfOk result (λ r. tree_found r ≡ spec.operand_if (extended_of x) e w v
+        (tree_of t.now)) }
 {
     if is_same_kind(x.kind, e) && (is_same_width(v, w) && is_same_width(t.width(), x.width)) {
         let copy = t.copy(alloc)?;
@@ -183,7 +184,8 @@ fn operands_as(
     a: &Term,
     b: &Term,
 ) -> Result<Option<Operands>, Memory>
-    ensures { IfOk result (λ r. operands_found r ≡ spec.operands_as (extended_found extended) w (tree_of a.now) (tree_of b.now)) }
+    ensures { IfOk result (λ r. operands_found r ≡ spec.operands_as (extended_found extended) w
+        (tree_of a.now) (tree_of b.now)) }
 {
     match extended {
         None => Ok(None),
@@ -197,7 +199,8 @@ fn operands_as(
 
 /// What two terms extend, at least one of them being an extension.
 pub fn operands_in(alloc: Global, w: Width, a: &Term, b: &Term) -> Result<Option<Operands>, Memory>
-    ensures { IfOk result (λ r. operands_found r ≡ spec.operands_in w (tree_of a.now) (tree_of b.now)) }
+    ensures { IfOk result (λ r. operands_found r ≡ spec.operands_in w (tree_of a.now)
+        (tree_of b.now)) }
 {
     operands_as(
         alloc,

@@ -35,7 +35,8 @@ fn difference(alloc: Global, w: Width, a: Term, b: Term) -> Result<Term, Memory>
 }
 
 fn equal(alloc: Global, w: Width, a: Term, b: Term) -> Result<Term, Memory>
-    ensures { IfOk result (λ r. tree_of r ≡ one_part_spec heads.Eq w (spec.difference w (tree_of a) (tree_of b))) }
+    ensures { IfOk result (λ r. tree_of r ≡ one_part_spec heads.Eq w
+        (spec.difference w (tree_of a) (tree_of b))) }
 {
     let difference = difference(alloc, w, a, b)?;
     one_part(alloc, Head::Eq, w, difference)
@@ -54,14 +55,16 @@ fn opposite_of(alloc: Global, t: Term) -> Result<Term, Memory>
 }
 
 fn opposite_less(alloc: Global, head: Head, w: Width, a: Term, b: Term) -> Result<Term, Memory>
-    ensures { IfOk result (λ r. tree_of r ≡ spec.opposite_of (two_parts_spec head w (tree_of a) (tree_of b))) }
+    ensures { IfOk result (λ r. tree_of r ≡ spec.opposite_of
+        (two_parts_spec head w (tree_of a) (tree_of b))) }
 {
     let less = two_parts(alloc, head, w, a, b)?;
     opposite_of(alloc, less)
 }
 
 fn not_equal(alloc: Global, w: Width, a: Term, b: Term) -> Result<Term, Memory>
-    ensures { IfOk result (λ r. tree_of r ≡ spec.opposite_of (one_part_spec heads.Eq w (spec.difference w (tree_of a) (tree_of b)))) }
+    ensures { IfOk result (λ r. tree_of r ≡ spec.opposite_of
+        (one_part_spec heads.Eq w (spec.difference w (tree_of a) (tree_of b)))) }
 {
     let equal = equal(alloc, w, a, b)?;
     opposite_of(alloc, equal)
@@ -71,7 +74,9 @@ fn not_equal(alloc: Global, w: Width, a: Term, b: Term) -> Result<Term, Memory>
 #[tactic(auto, using(crate::proofs::Means::related_means))]
 pub fn relate(alloc: Global, relation: Relation, w: Width, a: Term, b: Term) -> Result<Term, Memory>
     ensures term { IfOk result (λ r. tree_of r ≡ spec.related relation w (tree_of a) (tree_of b)) }
-    ensures meaning { (v : Valuation) → IfOk result (λ r. mean v (tree_of r) ≡ truth (spec.holds relation w (mean v (tree_of a)) (mean v (tree_of b)))) }
+    ensures meaning { (v : Valuation) →
+        IfOk result (λ r. mean v (tree_of r) ≡ truth (spec.holds relation w (mean v (tree_of a))
+        (mean v (tree_of b)))) }
 {
     match relation {
         Relation::Eq => equal(alloc, w, a, b),

@@ -47,7 +47,8 @@ fn compare_numbers(a: &[u64], b: &[u64]) -> Ordering
 }
 
 fn numbers(alloc: Global, constant: u64, atoms: &[Atom]) -> Result<Vec<u64>, Memory>
-    ensures { IfOk result (λ r. r.items ≡ spec.coefficients (atoms_of (map atom_of atoms.now)) (constant ∷ [])) }
+    ensures { IfOk result (λ r. r.items ≡ spec.coefficients (atoms_of (map atom_of atoms.now))
+        (constant ∷ [])) }
 {
     let mut numbers = Vec::new(alloc);
     for atom in atoms {
@@ -185,7 +186,9 @@ fn ended(alloc: Global, w: Width, t: &Term) -> Result<Round, Memory>
 
 /// The test of a difference.
 fn next_minus(alloc: Global, w: Width, a: &Term, b: &Term) -> Result<Round, Memory>
-    ensures { (again : Width → Tree → Tree) → IfOk result (λ r. round_tree again r ≡ again w (minus_spec w (tree_of a.now) (tree_of b.now))) }
+    ensures { (again : Width → Tree → Tree) →
+        IfOk result (λ r. round_tree again r ≡ again w
+        (minus_spec w (tree_of a.now) (tree_of b.now))) }
 {
     let left = a.copy(alloc)?;
     let term = minus(alloc, w, left, b)?;
@@ -199,7 +202,9 @@ fn round_extended(
     w: Width,
     t: &Term,
 ) -> Result<Round, Memory>
-    ensures { (again : Width → Tree → Tree) → IfOk result (λ r. round_tree again r ≡ spec.zero_extended_test (operands_found operands) again w (tree_of t.now)) }
+    ensures { (again : Width → Tree → Tree) →
+        IfOk result (λ r. round_tree again r ≡ spec.zero_extended_test
+        (operands_found operands) again w (tree_of t.now)) }
 {
     match operands {
         None => ended(alloc, w, t),
@@ -241,7 +246,8 @@ fn xor_parts(alloc: Global, w: Width, t: &Term) -> Result<Option<Difference>, Me
 }
 
 fn parts_if(alloc: Global, is: bool, a: &Term, b: &Term) -> Result<Option<Difference>, Memory>
-    ensures { IfOk result (λ r. parts_found r ≡ (if is then Some (tree_of a.now, tree_of b.now) else None)) }
+    ensures { IfOk result (λ r. parts_found r ≡
+        (if is then Some (tree_of a.now, tree_of b.now) else None)) }
 {
     if !is {
         return Ok(None);
@@ -257,7 +263,9 @@ fn round_parted(
     w: Width,
     t: &Term,
 ) -> Result<Round, Memory>
-    ensures { (again : Width → Tree → Tree) → IfOk result (λ r. round_tree again r ≡ zero_parted (parts_found parts) again w (tree_of t.now)) }
+    ensures { (again : Width → Tree → Tree) →
+        IfOk result (λ r. round_tree again r ≡ zero_parted (parts_found parts) again w
+        (tree_of t.now)) }
 {
     match parts {
         None => round_difference(alloc, w, t),
@@ -303,7 +311,9 @@ fn round_chosen(alloc: Global, w: Width, t: &Term) -> Result<Round, Memory>
 
 /// One round of the test.
 fn one_round(alloc: Global, w: Width, t: &Term) -> Result<Round, Memory>
-    ensures { (again : Width → Tree → Tree) → IfOk result (λ r. round_tree again r ≡ spec.zero_chosen again w (spec.nearer w (tree_of t.now))) }
+    ensures { (again : Width → Tree → Tree) →
+        IfOk result (λ r. round_tree again r ≡ spec.zero_chosen again w
+        (spec.nearer w (tree_of t.now))) }
 {
     let chosen = nearer(alloc, w, t)?;
     round_chosen(alloc, w, &chosen)

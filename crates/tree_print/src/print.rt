@@ -33,7 +33,8 @@ fn print_separated(trees: &[Tree], out: &mut Vec<u8>) -> Result<(), Memory>
 /// Appends trees in brackets.
 #[cycle(print)]
 fn print_bracketed(left: u8, trees: &[Tree], right: u8, out: &mut Vec<u8>) -> Result<(), Memory>
-    ensures { OnOk result (out.new.items ≡ out.old.items ++ (left ∷ (spec.separated trees.now ++ right ∷ []))) }
+    ensures { OnOk result (out.new.items ≡ out.old.items ++
+        (left ∷ (spec.separated trees.now ++ right ∷ []))) }
 {
     out.push(left)?;
     print_separated(trees, out)?;

@@ -56,8 +56,7 @@ impl Stored {
     /// Puts the name at the end of those asked for. After `Memory` all is as before.
     pub fn ask(&mut self, name: &[u8]) -> Result<(), Memory>
         ensures ok { OnOk result (self.new ≡ record self.old {
-          asked = self.old.asked ++ name.now ∷
-              [];
+          asked = self.old.asked ++ name.now ∷ [];
         }) }
         ensures err { OnErr result (self.new ≡ self.old) }
     {

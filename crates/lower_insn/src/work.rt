@@ -159,8 +159,7 @@ fn put(work: Work, parts: Items<Part>, next: u32) -> Result<Work, Memory>
         more ≡ record {
           parts = work.parts ++ reverse parts;
           sequence = work.sequence;
-          next =
-              next;
+          next = next;
         }) }
 {
     Ok(Work {

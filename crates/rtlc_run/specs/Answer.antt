@@ -53,7 +53,8 @@ evaluated steps args (Err e) = Err e
 -- some forms, where they are tried fairly
 abbrev pub EvalComes : List ℕ → ℕ → List ℕ → List Entry → List ℕ → Outcome → Type 0
 EvalComes function steps args forms bytes outcome =
-    (answer : Result Coded Refusal) × CodeComes forms bytes function answer × (outcome ≡ evaluated steps args answer) ×
+    (answer : Result Coded Refusal) × CodeComes forms bytes function answer ×
+    (outcome ≡ evaluated steps args answer) ×
     IfOk answer (λ c. IsFair c.function steps args)
 
 -- `recog` over the bytes of an input
@@ -211,4 +212,5 @@ TellsCause words files input status errors errors' =
 abbrev pub IsAnswered : List (List ℕ) → Source → Option (List ℕ) → ℕ →
     (output output' errors errors' : Option (List ℕ)) → (faults faults' : ℕ) → Type 0
 IsAnswered words files input status output output' errors errors' faults faults' =
-    (a : Outcome) × Answers words files input a × EndsWith a status output output' errors errors' faults faults'
+    (a : Outcome) × Answers words files input a ×
+    EndsWith a status output output' errors errors' faults faults'

@@ -23,14 +23,17 @@ use Rattle.code_eval.specs.Eval.{eval_text, IsFair, ComesToSame}
 abbrev pub WritesLines : Source → List ℕ → Option (List ℕ) → Option (List ℕ) → Option (List ℕ) →
     Type 0
 WritesLines files name input old new =
-    IfSome input (λ bytes. (forms : List Entry) × FormsCome files name (Ok forms) × (functions : List Function) × IsInput bytes functions × (a : Assembly) × IsAssembly forms 0 functions a × Appends old new a.text)
+    IfSome input (λ bytes. (forms : List Entry) × FormsCome files name (Ok forms) ×
+    (functions : List Function) × IsInput bytes functions × (a : Assembly) ×
+    IsAssembly forms 0 functions a × Appends old new a.text)
 
 -- the text does what the functions of the input do, each in the frame that it has by the
 -- description
 abbrev pub WritesSame : Source → List ℕ → Option (List ℕ) → Option (List ℕ) → Option (List ℕ) →
     Type 0
 WritesSame files name input old new =
-    IfSome input (λ bytes. (forms : List Entry) × FormsCome files name (Ok forms) × (functions : List Function) × IsInput bytes functions ×
+    IfSome input (λ bytes. (forms : List Entry) × FormsCome files name (Ok forms) ×
+    (functions : List Function) × IsInput bytes functions ×
     (text : List ℕ) × DoesSame forms functions text × Appends old new text)
 
 -- The trial of a function and its code is fair, and where the function's outcome has a value, its
@@ -44,7 +47,9 @@ pub record IsTried (c : Coded) (steps : ℕ) (args : List ℕ) : Type 0 where
 abbrev pub WritesOutcomes : Source → List ℕ → Option (List ℕ) → List ℕ → ℕ → List ℕ →
     Option (List ℕ) → Option (List ℕ) → Type 0
 WritesOutcomes files name input function steps args old new =
-    IfSome input (λ bytes. (forms : List Entry) × FormsCome files name (Ok forms) × (c : Coded) × IsCoded forms bytes function c × IsTried c steps args × Appends old new (eval_text c.function c.items steps args))
+    IfSome input (λ bytes. (forms : List Entry) × FormsCome files name (Ok forms) × (c : Coded) ×
+    IsCoded forms bytes function c × IsTried c steps args ×
+    Appends old new (eval_text c.function c.items steps args))
 
 -- the list of a description was written, and nothing else
 abbrev pub WritesList : Source → List ℕ → Option (List ℕ) → Option (List ℕ) → Type 0
@@ -56,14 +61,18 @@ WritesList files name old new =
 abbrev pub WritesForms : Source → List ℕ → Option (List ℕ) → Option (List ℕ) → Option (List ℕ) →
     Type 0
 WritesForms files name input old new =
-    IfSome input (λ bytes. (forms : List Entry) × FormsCome files name (Ok forms) × (functions : List Function) × IsInput bytes functions × (text : List ℕ) × FunctionsCome forms functions (Ok text) × Appends old new text)
+    IfSome input (λ bytes. (forms : List Entry) × FormsCome files name (Ok forms) ×
+    (functions : List Function) × IsInput bytes functions × (text : List ℕ) ×
+    FunctionsCome forms functions (Ok text) × Appends old new text)
 
 -- the functions of the input as they are behind a pass were written, by the forms of a description,
 -- and nothing else
 abbrev pub WritesDump : Pass → Source → List ℕ → Option (List ℕ) → Option (List ℕ) →
     Option (List ℕ) → Type 0
 WritesDump pass files name input old new =
-    IfSome input (λ bytes. (forms : List Entry) × FormsCome files name (Ok forms) × (functions : List Function) × IsInput bytes functions × (text : List ℕ) × dump.FunctionsCome forms pass functions (Ok text) × Appends old new text)
+    IfSome input (λ bytes. (forms : List Entry) × FormsCome files name (Ok forms) ×
+    (functions : List Function) × IsInput bytes functions × (text : List ℕ) ×
+    dump.FunctionsCome forms pass functions (Ok text) × Appends old new text)
 
 -- an input is done: its status is 0, or that of want of memory
 abbrev pub IsDone : ℕ → Type 0
@@ -72,21 +81,25 @@ IsDone status = (status ≡ 0) ⊎ (status ≡ 8)
 -- an input that has an assembly by a description is done
 abbrev pub Completes : Source → List ℕ → Option (List ℕ) → ℕ → Type 0
 Completes files name input status = (forms : List Entry) → FormsCome files name (Ok forms) →
-    IfSome input (λ bytes. (functions : List Function) (a : Assembly) → IsInput bytes functions → AssemblyComes forms functions (Ok a) → IsDone status)
+    IfSome input (λ bytes. (functions : List Function) (a : Assembly) → IsInput bytes functions →
+    AssemblyComes forms functions (Ok a) → IsDone status)
 
 -- an input that has the function that is tried, and an assembly by a description, is done
 abbrev pub CompletesFor : Source → List ℕ → Option (List ℕ) → List ℕ → ℕ → Type 0
 CompletesFor files name input function status =
     (forms : List Entry) → FormsCome files name (Ok forms) →
-    IfSome input (λ bytes. (functions : List Function) (a : Assembly) → IsInput bytes functions → AssemblyComes forms functions (Ok a) → has_named functions function ≡ true → IsDone status)
+    IfSome input (λ bytes. (functions : List Function) (a : Assembly) → IsInput bytes functions →
+    AssemblyComes forms functions (Ok a) → has_named functions function ≡ true → IsDone status)
 
 -- an input of which each instruction has a form of a description is done
 abbrev pub CompletesBy : Source → List ℕ → Option (List ℕ) → ℕ → Type 0
 CompletesBy files name input status = (forms : List Entry) → FormsCome files name (Ok forms) →
-    IfSome input (λ bytes. (functions : List Function) (text : List ℕ) → IsInput bytes functions → FunctionsCome forms functions (Ok text) → IsDone status)
+    IfSome input (λ bytes. (functions : List Function) (text : List ℕ) → IsInput bytes functions →
+    FunctionsCome forms functions (Ok text) → IsDone status)
 
 -- an input whose functions have a text behind a pass is done
 abbrev pub CompletesDump : Pass → Source → List ℕ → Option (List ℕ) → ℕ → Type 0
 CompletesDump pass files name input status =
     (forms : List Entry) → FormsCome files name (Ok forms) →
-    IfSome input (λ bytes. (functions : List Function) (text : List ℕ) → IsInput bytes functions → dump.FunctionsCome forms pass functions (Ok text) → IsDone status)
+    IfSome input (λ bytes. (functions : List Function) (text : List ℕ) → IsInput bytes functions →
+    dump.FunctionsCome forms pass functions (Ok text) → IsDone status)

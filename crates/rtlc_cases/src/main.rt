@@ -1,14 +1,17 @@
 //! The cases of the whole program and of the calls that it is made of. Each word names a file of
 //! cases: `rtlc_cases` tries each case, and prints for each file how many are right, and each that
-//! is wrong, with what was wanted and what came. Two files are wrong on purpose.
+//! is wrong, with what was wanted and what came. Two files are wrong on purpose. Behind the cases
+//! the program is run at the real edge, on the standard input and on files as they stand on disk.
 #![tactic(auto)]
 
+mod edge;
 mod tables;
 
 use anyhow::{Result, ensure};
 use byte_edge::{DiskFiles, Files, Sink, StdSink, write_all_of};
 use case_runs::judge_runs;
 use case_text::{Report, Told, is_table};
+use edge::try_edge;
 use std::alloc::Global;
 use std::{env, str};
 use tables::judge_tables;
@@ -82,5 +85,5 @@ fn main(rt: HostRuntime) -> Result<()> {
     let mut told = Told::new(alloc);
     show_counts("all", &counts, &mut told);
     write_all_of(&mut output, &told.out)?;
-    Ok(())
+    try_edge(&rt)
 }

@@ -2,8 +2,6 @@
 //! description that is not there, one of more than 64 KiB, an input of more than 64 KiB, and an
 //! output of more than 64 KiB. What it tells of a refusal goes to the output too, and behind each
 //! run stands its status.
-#![tactic(auto)]
-
 use anyhow::Result;
 use byte_edge::{DiskFiles, StdSink, StdSource, write_all_of};
 use rtlc_run::run;
@@ -33,9 +31,10 @@ fn try_words(rt: &HostRuntime, words: &[&str]) -> Result<()> {
     Ok(write_all_of(&mut output, told.as_bytes())?)
 }
 
-fn main(rt: HostRuntime) -> Result<()> {
+/// Runs the program at the real edge, on each list of words.
+pub fn try_edge(rt: &HostRuntime) -> Result<()> {
     for words in &RUNS {
-        try_words(&rt, words)?;
+        try_words(rt, words)?;
     }
     Ok(())
 }

@@ -4,5 +4,3 @@
 //! `proofs/Keeping.antt`, are that the function with the sequence does what the function did, and
 //! has again what is asked, so that the next instruction can be replaced.
 #![tactic(auto)]
-
-pub use insn_replace::{PassRefusal, replace_insn};

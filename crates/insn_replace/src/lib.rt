@@ -8,5 +8,4 @@
 
 mod replace;
 
-pub use pass_refusal::PassRefusal;
 pub use replace::replace_insn;

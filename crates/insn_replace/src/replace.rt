@@ -10,8 +10,9 @@ ghost use Rattle.insn_replace.specs.Replace.{OneReplaced};
 ghost use Rattle.insn_replace.specs.machine.Compared as steps;
 
 use live_chain::LiveChain;
+use md_desc::Description;
 use new_insns::insns_for;
-use pass_refusal::{Description, PassRefusal, Side, judge};
+use pass_refusal::{PassRefusal, Side, judge};
 use plain_data::{Items, Memory};
 use rtx_tree::{Insns, Kids};
 use std::alloc::Global;

@@ -24,7 +24,6 @@ mod meanings;
 mod table;
 
 pub use inputs::{changed_of, inputs_of, operands_of, outputs_of};
-pub use md_attr::{Attributes, enabled, has_alternative};
 pub use table::{
     Constraints, alternatives_of, fits, operand_admits, operand_admits_apart, operand_clashes,
     operand_fits, operand_names,

@@ -12,9 +12,8 @@ ghost use Rattle.md_desc.specs.Recog as spec;
 ghost use Rattle.md_recog.specs.declared.recog.FormMatch.{FormMatch};
 
 use c_eval::Facts;
-use md_constr::{
-    Attributes, Constraints, enabled, fits, has_alternative, operand_admits, operand_fits,
-};
+use md_attr::{Attributes, enabled, has_alternative};
+use md_constr::{Constraints, fits, operand_admits, operand_fits};
 use md_forms::Forms;
 use md_pred::PredTable;
 use md_recog::{FormMatch, Steps};

@@ -12,7 +12,6 @@ mod pattern;
 mod reason;
 mod word;
 
-pub use lisp_read::{Tree, atom, head_words, items, string};
 pub use operand::{OperandText, OperandTexts, number_in};
 pub use pattern::{Pattern, Patterns, pattern_of, patterns_of};
 pub use reason::{Judged, Reason, both};

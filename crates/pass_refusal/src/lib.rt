@@ -11,5 +11,4 @@ mod refusal;
 
 pub use compare::judge;
 pub use equate::Side;
-pub use form_needs::Description;
 pub use refusal::{PassRefusal, unmatched};

@@ -15,7 +15,8 @@ ghost use Rattle.pred_expr.specs.Texts as texts;
 
 use crate::question::{Codes, Question, Test, Tests};
 use crate::texts::test_condition;
-use md_pattern::{Judged, Reason, Tree, atom, both, head_words, items, number_in, string};
+use lisp_read::{Tree, atom, head_words, items, string};
+use md_pattern::{Judged, Reason, both, number_in};
 use md_text::members_of;
 use plain_data::{Items, Memory};
 use rtx_tree::{Code, Constants, Mode, Name};

@@ -11,9 +11,10 @@ ghost use Rattle.reload_choice.specs.machine.Least as least;
 use crate::cost::cost_of;
 use crate::given::{Given, Plan};
 use crate::movable::{formed_of, is_reached};
+use md_desc::Description;
 use md_forms::{Entry, OperandConstraint};
 use plain_data::{Items, Memory};
-use reload_fit::{Asked, Description};
+use reload_fit::Asked;
 use reload_moves::{Fitting, Part, asks_of, parts_of};
 use std::alloc::Global;
 

@@ -16,4 +16,3 @@ mod taken;
 
 pub use addressed::{address_on, on_register, slot_far};
 pub use asked::Asked;
-pub use md_desc::Description;

@@ -19,9 +19,10 @@ ghost use Rattle.split.specs.machine.Runs.{FoundSplits, PlaceSplits, RunSplits};
 
 use crate::form::{FormSplit, first_split};
 use crate::stage::SplitStage;
-use insn_keep::{PassRefusal, replace_insn};
+use insn_replace::replace_insn;
 use live_chain::LiveChain;
 use md_desc::Description;
+use pass_refusal::PassRefusal;
 use plain_data::Memory;
 use rtx_tree::{Function, Limit};
 use std::alloc::Global;

@@ -13,7 +13,7 @@ ghost use Rattle.term_cuts.specs.term_mean.Compared.{same_in as same_in_spec, co
 ghost use Rattle.term_cuts.specs.term_mean.Normal.{built as built_spec};
 ghost use Rattle.term_cuts.specs.term_mean.Truths.{opposite as opposite_spec};
 ghost use Rattle.term_cuts.specs.term_mean.Less.{less_than as less_than_spec};
-ghost use Rattle.term_cuts.proofs.term_mean.SumLaws.{weight};
+ghost use Rattle.term_mean.proofs.SumLaws.{weight};
 ghost use Rattle.sym_term.specs.Views.{store_of};
 
 use crate::normal::build;

@@ -21,6 +21,15 @@ fn is_read(alloc: Global, limit: usize, failing: u64) -> bool {
     }
 }
 
+/// The number of a refusal, in the order of its cases.
+fn number_of(refusal: ReadAll) -> u32 {
+    match refusal {
+        ReadAll::Fault => 0,
+        ReadAll::TooLong => 1,
+        ReadAll::Memory => 2,
+    }
+}
+
 /// Whether a text is refused so with so much room where a call is to fail, and with so many faults.
 fn is_refused(alloc: Global, limit: usize, failing: u64, want: ReadAll, faults: u64) -> bool {
     let Ok(mut source) = ByteSource::new(alloc, TEXT, &[failing]) else {
@@ -28,7 +37,7 @@ fn is_refused(alloc: Global, limit: usize, failing: u64, want: ReadAll, faults: 
     };
     match read_all(alloc, &mut source, limit) {
         Ok(_) => false,
-        Err(refusal) => refusal == want && source.faults() == faults,
+        Err(refusal) => number_of(refusal) == number_of(want) && source.faults() == faults,
     }
 }
 

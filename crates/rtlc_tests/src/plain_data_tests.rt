@@ -25,9 +25,3 @@ fn items_stand_in_order(rt: HostRuntime) {
     assert!(rt; vec.as_slice() == [21, 13].as_slice());
     assert!(rt; Items::from_vec(vec).len() == 2);
 }
-
-#[test]
-fn want_of_memory_is_one_error(rt: HostRuntime) {
-    let error = Memory;
-    assert!(rt; error == Memory);
-}

@@ -10,22 +10,23 @@ use Rattle.md_forms.specs.declared.form.Entry.{Entry}
 use Rattle.md_forms.specs.Forms.{names_of}
 use Rattle.md_desc.specs.declared.output.Chosen.{Chosen}
 use Rattle.form_needs.specs.Needs.{name_at}
-use Rattle.equate.specs.Side.{Lines}
-use Rattle.equate.specs.Verdict.{Verdict}
-use Rattle.equate.specs.Equated.{verdict, Equated}
+use Rattle.pass_refusal.specs.equate.Side.{Lines}
+use Rattle.pass_refusal.specs.equate.Equated.{verdict, Equated}
 use Rattle.asm_out.specs.declared.piece.Piece.{Piece}
-use Rattle.asm_out.specs.declared.refusal.OutRefusal.{OutRefusal}
+use Rattle.pass_refusal.specs.declared.refusal.PassRefusal.{PassRefusal}
 use Rattle.asm_out.specs.Filled.{text_of, written}
-use Rattle.asm_out.specs.Refused.{most_output, too_long, refused_by, unmatched_insn}
-use Rattle.asm_out.specs.Outcome.{Outcome, RefusesWith, Appends}
+use Rattle.pass_refusal.specs.Refused.{unmatched_insn}
+use Rattle.pass_refusal.specs.Outcome.{RefusesWith}
+use Rattle.asm_out.specs.Refused.{most_output, too_long}
+use Rattle.asm_out.specs.Outcome.{Outcome, Appends}
 use Rattle.asm_out.specs.Comes.{IsTried, PlaceComes, code_piece, limited}
-use Rattle.asm_out.specs.machine.Steps.{IsRefusal}
-use Rattle.asm_out.proofs.Refusing.{refuses_map, refuses_as}
+use Rattle.pass_refusal.specs.machine.Steps.{IsRefusal}
+use Rattle.pass_refusal.proofs.Refusing.{refuses_map}
 
 -- a piece that is too long
-pub piece_too_long : (size : ℕ) (piece : Piece) (e : OutRefusal) → e ≡ too_long → nat_le (size + length piece.text) most_output ≡ false → RefusesWith e (λ o. o ≡ limited size (Ok piece))
+pub piece_too_long : (size : ℕ) (piece : Piece) (e : PassRefusal) → e ≡ too_long → nat_le (size + length piece.text) most_output ≡ false → RefusesWith e (λ o. o ≡ limited size (Ok piece))
 piece_too_long size piece e is past =
-    subst (λ (e : OutRefusal). RefusesWith e (λ o. o ≡ limited size (Ok piece))) (sym is) (ap (λ b. if b then Ok piece else Err too_long) (sym past))
+    subst (λ (e : PassRefusal). RefusesWith e (λ o. o ≡ limited size (Ok piece))) (sym is) (ap (λ b. if b then Ok piece else Err too_long) (sym past))
 
 -- and one that is not
 pub piece_appended : (t t' : List ℕ) (i i' : List CodeItem) (piece : Piece) → nat_le (length t + length piece.text) most_output ≡ true → t' ≡ t ++ piece.text → i' ≡ i ++ piece.items →
@@ -33,17 +34,13 @@ pub piece_appended : (t t' : List ℕ) (i i' : List CodeItem) (piece : Piece) �
 piece_appended t t' i i' piece room text items = (piece, ap (λ b. if b then Ok piece else Err too_long) (sym room), text, items)
 
 -- an instruction for which no form counts
-pub told_unmatched : (i : Insn) (e : OutRefusal) (P : Outcome → Type 0) → e ≡ unmatched_insn i → P (Err (unmatched_insn i)) → RefusesWith e P
-told_unmatched i e P is holds = subst (λ (e : OutRefusal). RefusesWith e P) (sym is) holds
+pub told_unmatched : (i : Insn) (e : PassRefusal) (P : Outcome → Type 0) → e ≡ unmatched_insn i → P (Err (unmatched_insn i)) → RefusesWith e P
+told_unmatched i e P is holds = subst (λ (e : PassRefusal). RefusesWith e P) (sym is) holds
 
 module _ (forms : List Entry) (number : ℕ) (f : Function) (place : ℕ) (i : Insn) (c : Chosen) (lines : List Line) (live : List ℕ) (tried : IsTried forms number f place i c lines live) where
   -- a comparison that fails
-  refusal_comes : (o : Outcome) → IsRefusal i.uid (name_at (names_of forms) c.form) (verdict (i ∷ []) (Lines number lines) live) o → PlaceComes forms number f place i o
-  refusal_comes (Ok piece) is = absurd is
-  refusal_comes (Err e) is = PlaceComes.refused c lines live e tried is
-
-  pub judged_wrong : (e : OutRefusal) → RefusesWith e (IsRefusal i.uid (name_at (names_of forms) c.form) (verdict (i ∷ []) (Lines number lines) live)) → RefusesWith e (PlaceComes forms number f place i)
-  judged_wrong e r = refuses_map e (IsRefusal i.uid (name_at (names_of forms) c.form) (verdict (i ∷ []) (Lines number lines) live)) (PlaceComes forms number f place i) (λ e is. refusal_comes (Err e) is) r
+  pub judged_wrong : (e : PassRefusal) → RefusesWith e (IsRefusal i.uid (name_at (names_of forms) c.form) (verdict (i ∷ []) (Lines number lines) live)) → RefusesWith e (PlaceComes forms number f place i)
+  judged_wrong e r = refuses_map e (IsRefusal i.uid (name_at (names_of forms) c.form) (verdict (i ∷ []) (Lines number lines) live)) (PlaceComes forms number f place i) (λ e is. PlaceComes.refused c lines live e tried is) r
 
   -- and one that does not
   pub judged_same : (piece : Piece) → Equated (i ∷ []) (Lines number lines) live → piece ≡ code_piece forms number i c lines → PlaceComes forms number f place i (Ok piece)
@@ -60,7 +57,3 @@ pub not_silent : (label needs : Bool) → label ≡ false → (not label && not 
 not_silent true needs l s = cc
 not_silent false true l s = refl
 not_silent false false l s = cc
-
--- what a verdict refuses, or the like
-pub judges_refused : (uid : ℕ) (rule : List ℕ) (v : Verdict) (e : OutRefusal) → refused_by uid rule v ≡ Some e → RefusesWith e (IsRefusal uid rule v)
-judges_refused uid rule v e is = refuses_as e (IsRefusal uid rule v) is

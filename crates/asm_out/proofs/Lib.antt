@@ -1,4 +1,3 @@
-pub mod Refusing
 pub mod PartLaws
 pub mod PlacesLaws
 pub mod Sorted
@@ -8,4 +7,4 @@ pub mod ReadLaws
 pub mod Calls
 pub mod WrittenLaws
 pub mod SpelledLaws
-pub use Rattle.equate.proofs as equate
+pub use Rattle.pass_refusal.proofs.equate as equate

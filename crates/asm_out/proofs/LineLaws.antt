@@ -9,15 +9,15 @@ use Rattle.rv_text.specs.Text.{IsTextOf}
 use Rattle.rv_text.specs.declared.action.Action.{Action}
 use Rattle.rv_text.specs.declared.line.Line.{Line}
 use Rattle.rv_text.proofs.OneLine.{one_line}
-use Rattle.sym_state.specs.State.{State, Ran, Runs, ran}
-use Rattle.sym_state.specs.State as state
-use Rattle.equate.specs.sym_lines.Run.{fits_action, bad_from, bad_line, run_from}
-use Rattle.equate.specs.sym_lines.Run as lines
-use Rattle.sym_state.specs.State.{start}
-use Rattle.equate.specs.sym_insns.Run as insns
-use Rattle.equate.specs.Verdict.{Same}
-use Rattle.equate.specs.Side.{Lines, returns_by, is_one_return, is_one_return_line, both_return}
-use Rattle.equate.specs.Equated.{judged, Equated}
+use Rattle.pass_refusal.specs.equate.sym_state.State.{State, Ran, Runs, ran}
+use Rattle.pass_refusal.specs.equate.sym_state.State as state
+use Rattle.pass_refusal.specs.equate.sym_lines.Run.{fits_action, bad_from, bad_line, run_from}
+use Rattle.pass_refusal.specs.equate.sym_lines.Run as lines
+use Rattle.pass_refusal.specs.equate.sym_state.State.{start}
+use Rattle.pass_refusal.specs.equate.sym_insns.Run as insns
+use Rattle.pass_refusal.specs.equate.Verdict.{Same}
+use Rattle.pass_refusal.specs.equate.Side.{Lines, returns_by, is_one_return, is_one_return_line, both_return}
+use Rattle.pass_refusal.specs.equate.Equated.{judged, Equated}
 use Rattle.asm_out.specs.Filled.{IsReadAs, no_line}
 
 -- ---- one list of lines

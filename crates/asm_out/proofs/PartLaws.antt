@@ -5,11 +5,12 @@ use Rattle.std.proofs.lemmas.List.{append-nil, length-append}
 use Rattle.std.proofs.lemmas.Bool.{leb-true}
 use Rattle.rv_text.specs.declared.line.CodeItem.{CodeItem}
 use Rattle.asm_out.specs.declared.piece.Piece.{Piece}
-use Rattle.asm_out.specs.declared.refusal.OutRefusal.{OutRefusal}
+use Rattle.pass_refusal.specs.declared.refusal.PassRefusal.{PassRefusal}
 use Rattle.asm_out.specs.Refused.{most_output, too_long}
-use Rattle.asm_out.specs.Outcome.{Outcome, nothing, joined, outcome_behind, RefusesWith, Appends}
+use Rattle.pass_refusal.specs.Outcome.{RefusesWith}
+use Rattle.asm_out.specs.Outcome.{Outcome, nothing, joined, outcome_behind, Appends}
 use Rattle.asm_out.specs.Comes.{Part, PartsCome, limited}
-use Rattle.asm_out.proofs.Refusing.{refuses_map}
+use Rattle.pass_refusal.proofs.Refusing.{refuses_map}
 
 -- ---- pieces
 
@@ -34,7 +35,7 @@ pub behind_ok : (a : Piece) (o : Outcome) (piece : Piece) → outcome_behind a o
 behind_ok a (Ok b) piece h = (b, refl, cc)
 behind_ok a (Err e) piece h = cc
 
-pub behind_err : (a : Piece) (o : Outcome) (e : OutRefusal) → outcome_behind a o ≡ Err e → o ≡ Err e
+pub behind_err : (a : Piece) (o : Outcome) (e : PassRefusal) → outcome_behind a o ≡ Err e → o ≡ Err e
 behind_err a (Ok b) e h = cc
 behind_err a (Err d) e h = h
 
@@ -71,13 +72,13 @@ module _ (comes : Part → Outcome → Type 0) where
   pub parts_then : (size : ℕ) (xs ys : List Part) (piece : Piece) (o : Outcome) → PartsCome comes size xs (Ok piece) → PartsCome comes (size + length piece.text) ys o → PartsCome comes size (xs ++ ys) (outcome_behind piece o)
   parts_then size xs ys piece o first more = then_by size xs ys (Ok piece) piece o first refl more
 
-  wrong_by : (size : ℕ) (xs ys : List Part) (a : Outcome) (e : OutRefusal) → PartsCome comes size xs a → a ≡ Err e → PartsCome comes size (xs ++ ys) (Err e)
+  wrong_by : (size : ℕ) (xs ys : List Part) (a : Outcome) (e : PassRefusal) → PartsCome comes size xs a → a ≡ Err e → PartsCome comes size (xs ++ ys) (Err e)
   wrong_by _ _ ys _ e (PartsCome.none size) h = cc
   wrong_by _ _ ys _ e (PartsCome.refused size p parts o d here lim) h = subst (PartsCome comes size (p ∷ (parts ++ ys))) h (PartsCome.refused size p (parts ++ ys) o d here lim)
   wrong_by _ _ ys _ e (PartsCome.goes_on size p parts o first rest here lim tail) h =
       PartsCome.goes_on size p (parts ++ ys) o first (Err e) here lim (wrong_by (size + length first.text) parts ys rest e tail (behind_err first rest e h))
 
-  pub parts_wrong : (size : ℕ) (xs ys : List Part) (e : OutRefusal) → PartsCome comes size xs (Err e) → PartsCome comes size (xs ++ ys) (Err e)
+  pub parts_wrong : (size : ℕ) (xs ys : List Part) (e : PassRefusal) → PartsCome comes size xs (Err e) → PartsCome comes size (xs ++ ys) (Err e)
   parts_wrong size xs ys e first = wrong_by size xs ys (Err e) e first refl
 
   -- one part, by what it comes to
@@ -116,7 +117,7 @@ module _ (comes : Part → Outcome → Type 0) where
   pub appends_none : (t : List ℕ) (i : List CodeItem) → Appends {A = Unit {0}} t t i i (Ok tt) (PartsCome comes (length t) [])
   appends_none t i = (nothing, PartsCome.none (length t), sym (append-nil t), sym (append-nil i))
 
-  pub appends_then : {A B : Type 0} (t t' t'' : List ℕ) (i i' i'' : List CodeItem) (x : A) (r : Result B OutRefusal) (xs ys : List Part) →
+  pub appends_then : {A B : Type 0} (t t' t'' : List ℕ) (i i' i'' : List CodeItem) (x : A) (r : Result B PassRefusal) (xs ys : List Part) →
       Appends t t' i i' (Ok x) (PartsCome comes (length t) xs) → Appends t' t'' i' i'' r (PartsCome comes (length t') ys) → Appends t t'' i i'' r (PartsCome comes (length t) (xs ++ ys))
   appends_then t t' t'' i i' i'' x (Ok y) xs ys first last =
       let sizes : length t' ≡ length t + length first.0.text = ap length first.2 ∙ length-append t first.0.text in (
@@ -130,11 +131,11 @@ module _ (comes : Part → Outcome → Type 0) where
       refuses_map e (PartsCome comes (length t') ys) (PartsCome comes (length t) (xs ++ ys))
       (λ e is. parts_then (length t) xs ys first.0 (Err e) first.1 (subst (λ n. PartsCome comes n ys (Err e)) sizes is)) last
 
-  pub appends_wrong : (size : ℕ) (xs ys : List Part) (e : OutRefusal) → RefusesWith e (PartsCome comes size xs) → RefusesWith e (PartsCome comes size (xs ++ ys))
+  pub appends_wrong : (size : ℕ) (xs ys : List Part) (e : PassRefusal) → RefusesWith e (PartsCome comes size xs) → RefusesWith e (PartsCome comes size (xs ++ ys))
   appends_wrong size xs ys e r = refuses_map e (PartsCome comes size xs) (PartsCome comes size (xs ++ ys)) (λ e is. parts_wrong size xs ys e is) r
 
   -- one part, by the piece to which it comes
-  pub part_appended : {A : Type 0} (t t' : List ℕ) (i i' : List CodeItem) (r : Result A OutRefusal) (p : Part) (piece : Piece) →
+  pub part_appended : {A : Type 0} (t t' : List ℕ) (i i' : List CodeItem) (r : Result A PassRefusal) (p : Part) (piece : Piece) →
       comes p (Ok piece) → Appends t t' i i' r (λ o. o ≡ limited (length t) (Ok piece)) → Appends t t' i i' r (PartsCome comes (length t) (p ∷ []))
   part_appended t t' i i' (Ok x) p piece here done = (done.0, subst (PartsCome comes (length t) (p ∷ [])) (sym done.1) (one_part (length t) p (Ok piece) here), done.2, done.3)
   part_appended t t' i i' (Err e) p piece here done =
@@ -142,5 +143,5 @@ module _ (comes : Part → Outcome → Type 0) where
       (λ e is. subst (PartsCome comes (length t) (p ∷ [])) (sym is) (one_part (length t) p (Ok piece) here)) done
 
   -- or by its refusal
-  pub part_wrong : (size : ℕ) (p : Part) (e : OutRefusal) → RefusesWith e (comes p) → RefusesWith e (PartsCome comes size (p ∷ []))
+  pub part_wrong : (size : ℕ) (p : Part) (e : PassRefusal) → RefusesWith e (comes p) → RefusesWith e (PartsCome comes size (p ∷ []))
   part_wrong size p e r = refuses_map e (comes p) (PartsCome comes size (p ∷ [])) (λ e is. PartsCome.refused size p [] (Err e) e is refl) r

@@ -13,13 +13,13 @@ use Rattle.md_desc.specs.Recog.{NoneMatchesOut}
 use Rattle.md_output.specs.Filled.{lines_of}
 use Rattle.form_needs.specs.Needs.{is_kind, is_note, is_label, is_held, output_facts, name_at}
 use Rattle.form_needs.proofs.OneChosen.{chosen_one, chosen_not}
-use Rattle.equate.specs.Side.{Lines}
-use Rattle.equate.specs.Verdict.{Verdict}
-use Rattle.equate.specs.Equated.{verdict}
+use Rattle.pass_refusal.specs.equate.Side.{Lines}
+use Rattle.pass_refusal.specs.equate.Verdict.{Verdict}
+use Rattle.pass_refusal.specs.equate.Equated.{verdict}
 use Rattle.asm_out.specs.declared.piece.Piece.{Piece}
-use Rattle.asm_out.specs.declared.refusal.OutRefusal.{OutRefusal}
+use Rattle.pass_refusal.specs.declared.refusal.PassRefusal.{PassRefusal}
 use Rattle.asm_out.specs.Filled.{text_of, AreLinesOf}
-use Rattle.asm_out.specs.Refused.{unmatched_insn, refused_by}
+use Rattle.pass_refusal.specs.Refused.{unmatched_insn, refused_by}
 use Rattle.asm_out.specs.Outcome.{Outcome, nothing}
 use Rattle.asm_out.specs.Comes.{IsTried, PlaceComes, code_piece, label_piece, Part, Opening, Place, Closing, PartComes, parts_of, FunctionComes}
 use Rattle.asm_out.proofs.LineLaws.{lines_one}
@@ -81,7 +81,7 @@ asked i = asked_by (is_label i.kind) (is_kind i.kind) (is_note (head_of i.patter
 -- ---- what comes of each
 
 module _ (forms : List Entry) (number : ℕ) (f : Function) (place : ℕ) (i : Insn) where
-  abbrev outcome_by : Option OutRefusal → Piece → Outcome
+  abbrev outcome_by : Option PassRefusal → Piece → Outcome
   outcome_by None piece = Ok piece
   outcome_by (Some e) piece = Err e
 

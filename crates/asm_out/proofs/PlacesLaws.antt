@@ -3,9 +3,10 @@ use Rattle.std.proofs.Common.{◌≡◌, ℕ, ◌+◌, ◌<◌, ◌≤◌, List,
 use Rattle.std.proofs.lemmas.List.{take_more, take_all, take-append-drop, length-take-le}
 use Rattle.rtx_tree.specs.declared.function.Insn.{Insn}
 use Rattle.rv_text.specs.declared.line.CodeItem.{CodeItem}
-use Rattle.asm_out.specs.declared.refusal.OutRefusal.{OutRefusal}
+use Rattle.pass_refusal.specs.declared.refusal.PassRefusal.{PassRefusal}
 use Rattle.asm_out.specs.Comes.{Part, Place, PartsCome, places_from}
-use Rattle.asm_out.specs.Outcome.{Outcome, Appends, RefusesWith}
+use Rattle.pass_refusal.specs.Outcome.{RefusesWith}
+use Rattle.asm_out.specs.Outcome.{Outcome, Appends}
 use Rattle.asm_out.proofs.PartLaws.{appends_then, appends_wrong, appends_none}
 
 places-append : (place : ℕ) (xs ys : List Insn) → places_from place (xs ++ ys) ≡ places_from place xs ++ places_from (place + length xs) ys
@@ -31,7 +32,7 @@ module _ (comes : Part → Outcome → Type 0) where
       subst (λ (ps : List Part). Appends {A = Unit {0}} t t'' i i'' (Ok tt) (PartsCome comes (length t) ps)) (sym (places_more k insns x within is))
       (appends_then comes {A = Unit {0}} {B = Unit {0}} t t' t'' i i' i'' tt (Ok tt) (places_from 0 (take k insns)) (Place k x ∷ []) first last)
 
-  pub places_wrong : (t t' : List ℕ) (i i' : List CodeItem) (insns : List Insn) (k : ℕ) (x : Insn) (e : OutRefusal) → k < length insns → x ≡ get_or insns k x →
+  pub places_wrong : (t t' : List ℕ) (i i' : List CodeItem) (insns : List Insn) (k : ℕ) (x : Insn) (e : PassRefusal) → k < length insns → x ≡ get_or insns k x →
       Appends {A = Unit {0}} t t' i i' (Ok tt) (PartsCome comes (length t) (places_from 0 (take k insns))) → RefusesWith e (PartsCome comes (length t') (Place k x ∷ [])) → RefusesWith e (PartsCome comes (length t) (places_from 0 insns))
   places_wrong t t' i i' insns k x e within is first last =
       let here : Appends {A = Unit {0}} t t' i i' (Err e) (PartsCome comes (length t) (places_from 0 (take k insns) ++ Place k x ∷ [])) =

@@ -11,14 +11,15 @@ use Rattle.md_forms.specs.declared.form.Entry.{Entry}
 use Rattle.md_forms.specs.Forms.{names_of}
 use Rattle.md_desc.specs.declared.output.Chosen.{Chosen}
 use Rattle.md_desc.specs.Recog.{IsChosen, NoneMatchesOut}
-use Rattle.form_needs.specs.Needs.{is_label, is_silent, needs_form, is_held, output_facts, name_at}
-use Rattle.equate.specs.Side.{Lines}
-use Rattle.equate.specs.Equated.{verdict, Equated}
+use Rattle.pass_refusal.specs.form_needs.Needs.{is_label, is_silent, needs_form, is_held, output_facts, name_at}
+use Rattle.pass_refusal.specs.equate.Side.{Lines}
+use Rattle.pass_refusal.specs.equate.Equated.{verdict, Equated}
 use Rattle.asm_out.specs.declared.piece.Piece.{Piece}
-use Rattle.asm_out.specs.declared.refusal.OutRefusal.{OutRefusal}
+use Rattle.pass_refusal.specs.declared.refusal.PassRefusal.{PassRefusal}
+use Rattle.pass_refusal.specs.Refused.{unmatched_insn, refused_by}
 use Rattle.asm_out.specs.Frame.{opening_lines, closing_line, label_line}
 use Rattle.asm_out.specs.Filled.{text_of, written, AreLinesOf}
-use Rattle.asm_out.specs.Refused.{unmatched_insn, refused_by, too_long, most_output}
+use Rattle.asm_out.specs.Refused.{too_long, most_output}
 use Rattle.asm_out.specs.Outcome.{Outcome, only_text, nothing, outcome_behind}
 
 -- ---- instructions
@@ -52,7 +53,7 @@ pub data PlaceComes (forms : List Entry) (number : ℕ) (f : Function) (place : 
   unmatched : needs_form i ≡ true → is_held i ≡ false →
       NoneMatchesOut forms output_facts i.pattern →
       PlaceComes forms number f place i (Err (unmatched_insn i))
-  refused : (c : Chosen) (lines : List Line) (live : List ℕ) (e : OutRefusal) →
+  refused : (c : Chosen) (lines : List Line) (live : List ℕ) (e : PassRefusal) →
       IsTried forms number f place i c lines live →
       refused_by i.uid (name_at (names_of forms) c.form) (verdict (i ∷ []) (Lines number lines) live) ≡ Some e →
       PlaceComes forms number f place i (Err e)
@@ -91,7 +92,7 @@ limited size (Err e) = Err e
 -- what parts come to behind a text of a size: their pieces in order, or the first refusal
 pub data PartsCome (comes : Part → Outcome → Type 0) : ℕ → List Part → Outcome → Type 0 where
   none : (size : ℕ) → PartsCome comes size [] (Ok nothing)
-  refused : (size : ℕ) (p : Part) (parts : List Part) (o : Outcome) (e : OutRefusal) → comes p o →
+  refused : (size : ℕ) (p : Part) (parts : List Part) (o : Outcome) (e : PassRefusal) → comes p o →
       limited size o ≡ Err e →
       PartsCome comes size (p ∷ parts) (Err e)
   goes_on :

@@ -2,11 +2,11 @@
 use Rattle.std.specs.Prelude.{◌≡◌, ℕ, List, [], ◌++◌, Result, Ok, Err}
 use Rattle.rv_text.specs.declared.line.CodeItem.{CodeItem}
 use Rattle.asm_out.specs.declared.piece.Piece.{Piece}
-use Rattle.asm_out.specs.declared.refusal.OutRefusal.{OutRefusal}
-use Rattle.asm_out.specs.declared.refusal.OutRefusal.TheVariants as refusal
+use Rattle.pass_refusal.specs.declared.refusal.PassRefusal.{PassRefusal}
+use Rattle.pass_refusal.specs.Outcome.{RefusesWith}
 
 abbrev pub Outcome : Type 0
-Outcome = Result Piece OutRefusal
+Outcome = Result Piece PassRefusal
 
 -- a text of which nothing is an item
 abbrev pub only_text : List ℕ → Piece
@@ -23,21 +23,9 @@ abbrev pub outcome_behind : Piece → Outcome → Outcome
 outcome_behind piece (Ok rest) = Ok (joined piece rest)
 outcome_behind piece (Err e) = Err e
 
--- ---- what a call has done
-
--- a call that refused as it should, or for which memory ran out
-abbrev pub RefusesWith : OutRefusal → (Outcome → Type 0) → Type 0
-RefusesWith refusal.Memory P = Unit {0}
-RefusesWith e P = P (Err e)
-
--- what is told is given; a refusal is the one that is told; want of memory is free
-abbrev pub Gives : Outcome → (Outcome → Type 0) → Type 0
-Gives (Ok piece) P = P (Ok piece)
-Gives (Err e) P = RefusesWith e P
-
 -- a call that appended a text and its items, or refused
 abbrev pub Appends : {A : Type 0} → List ℕ → List ℕ → List CodeItem → List CodeItem →
-    Result A OutRefusal → (Outcome → Type 0) → Type 0
+    Result A PassRefusal → (Outcome → Type 0) → Type 0
 Appends text text' items items' (Ok x) P =
     (piece : Piece) × P (Ok piece) × (text' ≡ text ++ piece.text) × (items' ≡ items ++ piece.items)
 Appends text text' items items' (Err e) P = RefusesWith e P

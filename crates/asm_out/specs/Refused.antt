@@ -1,39 +1,12 @@
--- Why no lines are written for an instruction.
-use Rattle.std.specs.Prelude.{ℕ, ◌+◌, List, codes, Option, Some, None}
-use Rattle.rtx_tree.specs.declared.function.Insn.{Insn}
-use Rattle.rtx_tree.specs.declared.limit.Limit.TheVariants.{TermSize, Output}
-use Rattle.term_text.specs.Text.{text_of}
-use Rattle.term_text.specs.declared.item.Item.TheVariants.{Need, Shape}
-use Rattle.sym_state.specs.State.{most_nodes}
-use Rattle.equate.specs.sym_diff.Difference.{Difference, Differ, Lacks}
-use Rattle.equate.specs.Verdict.{Verdict, Same, Different, BadShape, TooLarge}
-use Rattle.asm_out.specs.declared.refusal.OutRefusal.{OutRefusal}
-use Rattle.asm_out.specs.declared.refusal.OutRefusal.TheVariants as refusal
+-- How long an assembly may be.
+use Rattle.std.specs.Prelude.{ℕ, ◌+◌}
+use Rattle.rtx_tree.specs.declared.limit.Limit.TheVariants.{Output}
+use Rattle.pass_refusal.specs.declared.refusal.PassRefusal.{PassRefusal}
+use Rattle.pass_refusal.specs.declared.refusal.PassRefusal.TheVariants as refusal
 
 -- how many bytes an assembly may have: 256 MiB
 abbrev pub most_output : ℕ
 most_output = 268435456
 
-abbrev pub unmatched_insn : Insn → OutRefusal
-unmatched_insn i = refusal.Unmatched i.uid i.pattern
-
-abbrev pub too_long : OutRefusal
+abbrev pub too_long : PassRefusal
 too_long = refusal.Limit Output (most_output + 1)
-
--- what is shown where a side has no term
-abbrev pub dash : List ℕ
-dash = codes "-"
-
--- the first item in which the sides differ, with both terms; or the term that has to be there for
--- the lines alone
-abbrev pub difference_refusal : ℕ → List ℕ → Difference → OutRefusal
-difference_refusal uid rule (Differ item left right) =
-    refusal.NotEquated uid rule item (text_of left) (text_of right)
-difference_refusal uid rule (Lacks term) = refusal.NotEquated uid rule Need dash (text_of term)
-
--- what a verdict refuses, by the uid of the instruction and the name of the form
-abbrev pub refused_by : ℕ → List ℕ → Verdict → Option OutRefusal
-refused_by uid rule Same = None
-refused_by uid rule (Different d) = Some (difference_refusal uid rule d)
-refused_by uid rule (BadShape index) = Some (refusal.NotEquated uid rule (Shape index) dash dash)
-refused_by uid rule TooLarge = Some (refusal.Limit TermSize (most_nodes + 1))

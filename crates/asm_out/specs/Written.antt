@@ -15,8 +15,8 @@ use Rattle.md_desc.specs.declared.output.Chosen.{Chosen}
 use Rattle.md_desc.specs.Recog.{IsChosen}
 use Rattle.md_output.specs.Filled.{lines_of}
 use Rattle.form_needs.specs.Needs.{is_label, is_silent, needs_form, is_held, output_facts}
-use Rattle.equate.specs.Side.{Lines}
-use Rattle.equate.specs.Equated.{Equated}
+use Rattle.pass_refusal.specs.equate.Side.{Lines}
+use Rattle.pass_refusal.specs.equate.Equated.{Equated}
 use Rattle.asm_out.specs.declared.piece.Piece.{Piece}
 use Rattle.asm_out.specs.Frame.{framed, label_line}
 use Rattle.asm_out.specs.Filled.{text_of, written}

@@ -1,29 +1,57 @@
 //! What an instruction comes to by the form that is chosen for it.
-ghost use Rattle.std.specs.Prelude.{◌≡◌, ◌<◌, ◌^◌, ℕ, true, false, length};
+ghost use Rattle.std.specs.Prelude.{◌≡◌, ◌∷◌, [], ◌<◌, ◌^◌, ℕ, true, false, length};
 ghost use Rattle.std.specs.Ordering.{nat_cmp};
 ghost use Rattle.std.specs.BTreeMap as map;
 ghost use Rattle.rtx_tree.specs.Patterns.{place_of};
 ghost use Rattle.form_needs.specs.Needs as needs;
 ghost use Rattle.live.specs.Live.{AreLiveRows};
 ghost use Rattle.md_desc.specs.Recog.{IsChosen};
-ghost use Rattle.equate.specs.Views.{side_of};
+ghost use Rattle.md_forms.specs.Forms.{names_of};
+ghost use Rattle.pass_refusal.specs.equate.Side as sides;
+ghost use Rattle.pass_refusal.specs.equate.Equated.{verdict};
+ghost use Rattle.pass_refusal.specs.equate.Views.{side_of};
+ghost use Rattle.pass_refusal.specs.machine.Steps.{Judges};
 ghost use Rattle.asm_out.specs.Comes.{PlaceComes};
-ghost use Rattle.asm_out.specs.Outcome.{Gives};
+ghost use Rattle.pass_refusal.specs.Outcome.{Gives};
 ghost use Rattle.asm_out.specs.machine.Steps as steps;
 
-use crate::compare::judge;
 use crate::lines::{code_piece, read_lines, text_of};
 use crate::piece::Piece;
-use crate::refusal::OutRefusal;
-use equate::Side;
 use live::live_after_by;
 use md_desc::{Chosen, Description};
+use pass_refusal::{PassRefusal, Side, judge};
 use plain_data::Items;
 use reg_rows::RegRow;
 use rtl_func::Labels;
-use rtx_tree::{Function, Insn};
+use rtx_tree::{Function, Insn, RegSet};
 use rv_text::Line;
 use std::alloc::Global;
+use std::slice;
+
+/// Compares an instruction with the lines that stand for it by a form, over the registers that are
+/// live behind it.
+fn compare(
+    alloc: Global,
+    description: &Description,
+    form: u32,
+    insn: &Insn,
+    side: &Side,
+    live: &RegSet,
+) -> Result<(), PassRefusal>
+    requires { sides.side_length (side_of side.now) < 2 ^ 32 }
+    ensures { Judges result insn.now.uid (needs.name_at (names_of description.now) form)
+        (verdict (insn.now ∷ []) (side_of side.now) live.now) }
+{
+    judge(
+        alloc,
+        description,
+        form,
+        insn.uid,
+        slice::from_ref(insn),
+        side,
+        live,
+    )
+}
 
 /// The lines of a side.
 fn lines_in(alloc: Global, side: Side) -> Items<Line>
@@ -48,7 +76,7 @@ pub fn chosen_piece(
     place: u32,
     insn: &Insn,
     chosen: &Chosen,
-) -> Result<Piece, OutRefusal>
+) -> Result<Piece, PassRefusal>
     requires short { length f.now.insns < 2 ^ 32 }
     requires labels { (uid : ℕ) → map.get nat_cmp labels.now uid ≡ place_of uid f.now.insns }
     requires rows { AreLiveRows f.now rows.now }
@@ -60,13 +88,13 @@ pub fn chosen_piece(
     let text = text_of(alloc, description, number, insn, chosen)?;
     let lines = read_lines(alloc, text.as_slice())?;
     if lines.len() > u32::MAX as usize {
-        return Err(OutRefusal::Memory);
+        return Err(PassRefusal::Memory);
     }
     let live = live_after_by(alloc, f, labels, rows, place)?;
     let side = Side::Lines {
         function: number,
         lines,
     };
-    judge(alloc, description, chosen.form, insn, &side, &live)?;
+    compare(alloc, description, chosen.form, insn, &side, &live)?;
     Ok(code_piece(alloc, text.as_slice(), lines_in(alloc, side))?)
 }

@@ -14,9 +14,9 @@ ghost use Rattle.asm_out.specs.Written.{AreWritten, IsWritten};
 use crate::frame::{closing, opening};
 use crate::piece::append_piece;
 use crate::places::write_places;
-use crate::refusal::OutRefusal;
 use live::live_rows_of;
 use md_desc::Description;
+use pass_refusal::PassRefusal;
 use rtl_func::labels_of;
 use rtx_tree::Function;
 use rv_text::CodeItem;
@@ -28,7 +28,7 @@ fn write_opening(
     f: &Function,
     out: &mut Vec<u8>,
     items: &mut Vec<CodeItem>,
-) -> Result<(), OutRefusal>
+) -> Result<(), PassRefusal>
     ensures { (forms : List Entry) (number : ℕ) →
         Appends out.old.items out.new.items items.old.items items.new.items result
         (PartsCome (PartComes forms number f.now) (length out.old.items) (Opening ∷ [])) }
@@ -43,7 +43,7 @@ fn write_closing(
     f: &Function,
     out: &mut Vec<u8>,
     items: &mut Vec<CodeItem>,
-) -> Result<(), OutRefusal>
+) -> Result<(), PassRefusal>
     ensures { (forms : List Entry) (number : ℕ) →
         Appends out.old.items out.new.items items.old.items items.new.items result
         (PartsCome (PartComes forms number f.now) (length out.old.items) (Closing ∷ [])) }
@@ -60,13 +60,13 @@ fn write_chain(
     f: &Function,
     out: &mut Vec<u8>,
     items: &mut Vec<CodeItem>,
-) -> Result<(), OutRefusal>
+) -> Result<(), PassRefusal>
     ensures { Appends out.old.items out.new.items items.old.items items.new.items result
         (PartsCome (PartComes description.now number f.now) (length out.old.items)
         (places_from 0 f.now.insns)) }
 {
     if f.insns.len() > u32::MAX as usize {
-        return Err(OutRefusal::Memory);
+        return Err(PassRefusal::Memory);
     }
     let labels = labels_of(alloc, f.insns.as_slice())?;
     let rows = live_rows_of(alloc, f)?;
@@ -90,7 +90,7 @@ fn write_parts(
     f: &Function,
     out: &mut Vec<u8>,
     items: &mut Vec<CodeItem>,
-) -> Result<(), OutRefusal>
+) -> Result<(), PassRefusal>
     ensures { Appends out.old.items out.new.items items.old.items items.new.items result
         (FunctionComes description.now number f.now (length out.old.items)) }
 {
@@ -117,7 +117,7 @@ pub fn write_function(
     f: &Function,
     out: &mut Vec<u8>,
     items: &mut Vec<CodeItem>,
-) -> Result<(), OutRefusal>
+) -> Result<(), PassRefusal>
     ensures appends { Appends out.old.items out.new.items items.old.items items.new.items result
         (FunctionComes description.now number f.now (length out.old.items)) }
     ensures one { (forms : List Entry) (number : ℕ) (f : Function) (size : ℕ) (a b : Outcome) →

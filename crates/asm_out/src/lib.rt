@@ -9,7 +9,6 @@
 #![tactic(auto)]
 
 mod chosen;
-mod compare;
 mod frame;
 mod function;
 mod lines;
@@ -19,4 +18,4 @@ mod refusal;
 
 pub use function::write_function;
 pub use piece::Piece;
-pub use refusal::{MOST_OUTPUT, OutRefusal};
+pub use refusal::MOST_OUTPUT;

@@ -4,7 +4,8 @@ ghost use Rattle.asm_out.specs.Comes.{limited};
 ghost use Rattle.asm_out.specs.Outcome.{Appends};
 ghost use Rattle.asm_out.specs.Refused.{most_output};
 
-use crate::refusal::{MOST_OUTPUT, OutRefusal, too_long};
+use crate::refusal::{MOST_OUTPUT, too_long};
+use pass_refusal::PassRefusal;
 use plain_data::{Items, Memory};
 use rtx_tree::Name;
 use rv_text::CodeItem;
@@ -38,7 +39,7 @@ pub fn append_piece(
     piece: Piece,
     out: &mut Vec<u8>,
     items: &mut Vec<CodeItem>,
-) -> Result<(), OutRefusal>
+) -> Result<(), PassRefusal>
     ensures { Appends out.old.items out.new.items items.old.items items.new.items result
         (λ o. o ≡ limited (length out.old.items) (Ok piece)) }
 {

@@ -6,14 +6,15 @@ ghost use Rattle.rtx_tree.specs.Patterns.{place_of};
 ghost use Rattle.form_needs.specs.Needs as needs;
 ghost use Rattle.live.specs.Live.{AreLiveRows};
 ghost use Rattle.asm_out.specs.Comes.{PlaceComes, PartComes, PartsCome, Place, places_from};
-ghost use Rattle.asm_out.specs.Outcome.{Gives, Appends};
+ghost use Rattle.asm_out.specs.Outcome.{Appends};
+ghost use Rattle.pass_refusal.specs.Outcome.{Gives};
 
 use crate::chosen::chosen_piece;
 use crate::frame::{label, only_text};
 use crate::piece::{Piece, append_piece};
-use crate::refusal::{OutRefusal, unmatched};
 use form_needs::{is_held, is_silent, output_facts};
 use md_desc::Description;
+use pass_refusal::{PassRefusal, unmatched};
 use reg_rows::RegRow;
 use rtl_func::Labels;
 use rtx_tree::{Function, Insn, Kind};
@@ -30,7 +31,7 @@ fn insn_piece(
     rows: &[RegRow],
     place: u32,
     insn: &Insn,
-) -> Result<Piece, OutRefusal>
+) -> Result<Piece, PassRefusal>
     requires short { length f.now.insns < 2 ^ 32 }
     requires labels { (uid : ℕ) → map.get nat_cmp labels.now uid ≡ place_of uid f.now.insns }
     requires rows { AreLiveRows f.now rows.now }
@@ -70,7 +71,7 @@ fn item_piece(
     rows: &[RegRow],
     place: u32,
     insn: &Insn,
-) -> Result<Piece, OutRefusal>
+) -> Result<Piece, PassRefusal>
     requires short { length f.now.insns < 2 ^ 32 }
     requires labels { (uid : ℕ) → map.get nat_cmp labels.now uid ≡ place_of uid f.now.insns }
     requires rows { AreLiveRows f.now rows.now }
@@ -100,7 +101,7 @@ fn write_place(
     insn: &Insn,
     out: &mut Vec<u8>,
     items: &mut Vec<CodeItem>,
-) -> Result<(), OutRefusal>
+) -> Result<(), PassRefusal>
     requires short { length f.now.insns < 2 ^ 32 }
     requires labels { (uid : ℕ) → map.get nat_cmp labels.now uid ≡ place_of uid f.now.insns }
     requires rows { AreLiveRows f.now rows.now }
@@ -122,7 +123,7 @@ pub fn write_places(
     rows: &[RegRow],
     out: &mut Vec<u8>,
     items: &mut Vec<CodeItem>,
-) -> Result<(), OutRefusal>
+) -> Result<(), PassRefusal>
     requires short { length f.now.insns < 2 ^ 32 }
     requires labels { (uid : ℕ) → map.get nat_cmp labels.now uid ≡ place_of uid f.now.insns }
     requires rows { AreLiveRows f.now rows.now }

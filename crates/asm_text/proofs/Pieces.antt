@@ -7,15 +7,17 @@ use Rattle.md_forms.specs.declared.form.Entry.{Entry}
 use Rattle.func_input.specs.Input.{RefusesWith}
 use Rattle.func_input.specs.machine.Steps.{IsOrMemory}
 use Rattle.func_input.proofs.Refusing.{refuses_map, made_refuses}
-use Rattle.func_after.specs.After.{AfterComes}
+use Rattle.func_after.specs.After.{AfterComes, refused_for}
+use Rattle.func_after.proofs.PassLaws.{told_for}
+use Rattle.rtx_tree.specs.declared.stage.Stage.TheVariants.{Output}
 use Rattle.func_after.specs.declared.made.Made.{Made}
-use Rattle.asm_out.specs.declared.refusal.OutRefusal.{OutRefusal}
-use Rattle.asm_out.specs.declared.refusal.OutRefusal.TheVariants as out_refusal
+use Rattle.asm_out.specs.pass_refusal.declared.refusal.PassRefusal.{PassRefusal}
+use Rattle.asm_out.specs.pass_refusal.Outcome as pass
 use Rattle.asm_out.specs.Comes as out
 use Rattle.asm_out.specs.Outcome as out_of
 use Rattle.asm_text.specs.declared.summary.Summary.{Summary}
 use Rattle.asm_text.specs.Summary.{summary_of}
-use Rattle.asm_text.specs.Assembly.{Outcome, alone, refused_for, FunctionComes}
+use Rattle.asm_text.specs.Assembly.{Outcome, alone, FunctionComes}
 use Rattle.asm_text.specs.machine.Steps.{AppendsAssembly, WrittenComes}
 
 -- ---- a function as it comes to output
@@ -29,20 +31,12 @@ piece_written forms number f m text text' none items parts parts' x empty writte
     let parts_are = is ∙ ap (λ (i : List CodeItem). parts ++ i ∷ []) items_are in
     (alone f m written.0, (Ok written.0, written.1, refl), written.2, parts_are, ap (summary_of f m) items_are)
 
-told_refused : (forms : List Entry) (number size : ℕ) (f : Function) (m : Made) (e : OutRefusal) →
-    out_of.RefusesWith e (out.FunctionComes forms number m.function size) →
-    RefusesWith (refused_for f.name e) (WrittenComes forms number size f m)
-told_refused forms number size f m out_refusal.Memory r = tt
-told_refused forms number size f m (out_refusal.Unmatched uid insn) r = (Err (out_refusal.Unmatched uid insn), r, refl)
-told_refused forms number size f m (out_refusal.NotEquated uid rule item left right) r =
-    (Err (out_refusal.NotEquated uid rule item left right), r, refl)
-told_refused forms number size f m (out_refusal.Limit which count) r = (Err (out_refusal.Limit which count), r, refl)
-
-pub piece_refused : (forms : List Entry) (number size : ℕ) (f : Function) (m : Made) (e : OutRefusal) (told : Refusal) →
-    out_of.RefusesWith e (out.FunctionComes forms number m.function size) → IsOrMemory told (refused_for f.name e) →
+pub piece_refused : (forms : List Entry) (number size : ℕ) (f : Function) (m : Made) (e : PassRefusal) (told : Refusal) →
+    pass.RefusesWith e (out.FunctionComes forms number m.function size) → IsOrMemory told (refused_for f.name Output e) →
     RefusesWith told (WrittenComes forms number size f m)
 piece_refused forms number size f m e told r is =
-    made_refuses told (refused_for f.name e) (WrittenComes forms number size f m) (told_refused forms number size f m e r) is
+    made_refuses told (refused_for f.name Output e) (WrittenComes forms number size f m)
+    (told_for f.name Output e (out.FunctionComes forms number m.function size) (WrittenComes forms number size f m) (λ e comes. (Err e, comes, refl)) r) is
 
 -- ---- a function
 

@@ -4,28 +4,15 @@ use Rattle.std.specs.Prelude.{◌<◌, ◌^◌, ℕ, ◌+◌, List, [], ◌∷�
 use Rattle.rtx_tree.specs.declared.function.Function.{Function}
 use Rattle.rtx_tree.specs.declared.stage.Stage.TheVariants.{Output}
 use Rattle.run_refusal.specs.declared.refusal.Refusal.{Refusal}
-use Rattle.run_refusal.specs.declared.refusal.Refusal.TheVariants as refusal
 use Rattle.md_forms.specs.declared.form.Entry.{Entry}
-use Rattle.func_after.specs.After.{AfterComes}
+use Rattle.func_after.specs.After.{AfterComes, refused_for}
 use Rattle.func_after.specs.declared.made.Made.{Made}
 use Rattle.asm_out.specs.declared.piece.Piece.{Piece}
-use Rattle.asm_out.specs.declared.refusal.OutRefusal.{OutRefusal}
-use Rattle.asm_out.specs.declared.refusal.OutRefusal.TheVariants as out_refusal
 use Rattle.asm_out.specs.Comes as out
 use Rattle.asm_out.specs.Outcome as out_of
 use Rattle.asm_text.specs.declared.assembly.Assembly.{Assembly}
 use Rattle.asm_text.specs.Summary as summaries
 use Rattle.asm_text.specs.Summary.{summary_of, plus}
-
--- ---- refusals
-
--- the refusal of a run for that of a function at output
-abbrev pub refused_for : List ℕ → OutRefusal → Refusal
-refused_for function (out_refusal.Unmatched uid insn) = refusal.Unmatched function uid Output insn
-refused_for function (out_refusal.NotEquated uid rule item left right) =
-    refusal.NotEquated function uid rule item left right
-refused_for function (out_refusal.Limit which count) = refusal.Limit which count
-refused_for function out_refusal.Memory = refusal.Memory
 
 -- ---- assemblies
 
@@ -54,7 +41,7 @@ outcome_behind a (Err e) = Err e
 -- its summary; or the refusal of the run
 abbrev pub told_for : Function → Made → out_of.Outcome → Outcome
 told_for f m (Ok piece) = Ok (alone f m piece)
-told_for f m (Err e) = Err (refused_for f.name e)
+told_for f m (Err e) = Err (refused_for f.name Output e)
 
 -- What a function with a number comes to behind a text of a size: what refuses it before output, or
 -- else what it comes to there.

@@ -1,14 +1,12 @@
 //! The assembly of functions.
 ghost use Rattle.std.specs.Prelude.{◌≡◌, length};
-ghost use Rattle.func_input.specs.machine.Steps.{IsOrMemory};
-ghost use Rattle.asm_text.specs.Assembly as spec;
 ghost use Rattle.asm_text.specs.Assembly.{FunctionComes, AssemblyComes};
 ghost use Rattle.asm_text.specs.Compile.{Gives};
 ghost use Rattle.asm_text.specs.machine.Steps.{AppendsAssembly, WrittenComes};
 
 use crate::summary::{Summary, empty, plus, summary_of};
-use asm_out::{OutRefusal, write_function};
-use func_after::{Made, after};
+use asm_out::write_function;
+use func_after::{Made, after, refused_at};
 use func_input::next_number;
 use md_desc::Description;
 use plain_data::Items;
@@ -34,39 +32,6 @@ pub struct Assembly {
     pub summary: Summary,
 }
 
-/// The refusal of the run for that of a function at output.
-fn refused_for(alloc: Global, function: &Name, refusal: OutRefusal) -> Refusal
-    ensures { IsOrMemory result (spec.refused_for function.now refusal) }
-{
-    let Ok(function) = function.copy(alloc) else {
-        return Refusal::Memory;
-    };
-    match refusal {
-        OutRefusal::Unmatched { uid, insn } => Refusal::Unmatched {
-            function,
-            uid,
-            stage: Stage::Output,
-            insn,
-        },
-        OutRefusal::NotEquated {
-            uid,
-            rule,
-            item,
-            left,
-            right,
-        } => Refusal::NotEquated {
-            function,
-            uid,
-            rule,
-            item,
-            left,
-            right,
-        },
-        OutRefusal::Limit { which, count } => Refusal::Limit { which, count },
-        OutRefusal::Memory => Refusal::Memory,
-    }
-}
-
 /// Appends the text and the items of what the passes made of a function with a number, and gives
 /// the summary of both.
 fn write_after(
@@ -88,7 +53,7 @@ fn write_after(
             parts.push(Items::from_vec(items))?;
             Ok(summary)
         }
-        Err(e) => Err(refused_for(alloc, &f.name, e)),
+        Err(e) => Err(refused_at(alloc, &f.name, Stage::Output, e)),
     }
 }
 

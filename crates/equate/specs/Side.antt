@@ -1,5 +1,5 @@
 -- What is compared with instructions: instructions, or the lines of a function that has a number.
--- And the one window that leads back to the caller on both sides.
+-- `both_return` is the one window that leads back to the caller on both sides.
 use Rattle.std.specs.Prelude.{ℕ, ◌&&◌, ◌==◌, Bool, true, false, List, [], ◌∷◌, length, Option, Some}
 use Rattle.rtx_tree.specs.declared.function.Insn.{Insn}
 use Rattle.rtx_tree.specs.declared.function.Kind.{Kind}

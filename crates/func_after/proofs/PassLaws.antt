@@ -24,10 +24,11 @@ use Rattle.reload.specs.declared.refusal.ReloadRefusal.TheVariants as reloading
 use Rattle.frame.specs.Framed.{FrameComes}
 use Rattle.func_input.specs.Input.{RefusesWith}
 use Rattle.func_after.specs.declared.made.Made.{Made}
+use Rattle.run_refusal.specs.declared.refusal.Refusal.{Refusal}
 use Rattle.func_after.specs.After.{Answer, refused_for, unreloaded_for, PassComes}
 
 -- a refusal of a pass that is told, where what follows from it is known
-told_for : (name : List ℕ) (at : Stage) (e : PassRefusal) (P : Result Function PassRefusal → Type 0) (Q : Answer → Type 0) →
+pub told_for : {A B : Type 0} (name : List ℕ) (at : Stage) (e : PassRefusal) (P : Result A PassRefusal → Type 0) (Q : Result B Refusal → Type 0) →
     ((e : PassRefusal) → P (Err e) → Q (Err (refused_for name at e))) → pass.RefusesWith e P → RefusesWith (refused_for name at e) Q
 told_for name at passes.Memory P Q follows r = tt
 told_for name at (passes.Unmatched uid insn) P Q follows r = follows (passes.Unmatched uid insn) r

@@ -13,4 +13,4 @@ mod refusal;
 
 pub use made::Made;
 pub use passes::{after, behind};
-pub use refusal::unmatched;
+pub use refusal::{refused_at, unmatched};

@@ -1,5 +1,6 @@
 //! What is told of an instruction, and of a pass.
 ghost use Rattle.std.specs.Prelude.{◌≡◌, IfOk};
+ghost use Rattle.func_input.specs.machine.Steps.{IsOrMemory};
 ghost use Rattle.func_after.specs.After as spec;
 
 use pass_refusal::PassRefusal;
@@ -53,6 +54,16 @@ pub(crate) fn refused_for(function: Name, stage: Stage, refusal: PassRefusal) ->
         },
         PassRefusal::Limit { which, count } => Refusal::Limit { which, count },
         PassRefusal::Memory => Refusal::Memory,
+    }
+}
+
+/// The refusal of the run for that of a function at a stage, or want of memory.
+pub fn refused_at(alloc: Global, function: &Name, stage: Stage, refusal: PassRefusal) -> Refusal
+    ensures { IsOrMemory result (spec.refused_for function.now stage refusal) }
+{
+    match function.copy(alloc) {
+        Ok(function) => refused_for(function, stage, refusal),
+        Err(_) => Refusal::Memory,
     }
 }
 

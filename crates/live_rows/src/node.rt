@@ -11,6 +11,6 @@ pub struct Node {
     pub defines: Items<u32>,
     /// A place that may follow it. One that the graph does not have counts for nothing.
     pub first: Option<u32>,
-    /// Another such place.
+    /// Another place that may follow it.
     pub second: Option<u32>,
 }

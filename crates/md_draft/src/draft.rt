@@ -33,7 +33,7 @@ pub struct Matched {
     /// The instructions that it matches, or, for an expander, those that it makes, with the
     /// constraints in their text.
     pub patterns: Patterns,
-    /// When it holds. The empty condition is true.
+    /// The condition under which the form holds. The empty condition is true.
     pub condition: Cond,
 }
 

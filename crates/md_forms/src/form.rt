@@ -24,7 +24,7 @@ pub struct Form {
     /// The instructions that it matches, or, for an expander, those that it makes. Several elements
     /// of one instruction are a `parallel`.
     pub patterns: Kids,
-    /// When it holds. The empty condition is true.
+    /// The condition under which the form holds. The empty condition is true.
     pub condition: Cond,
     /// When the split half of an instruction and its split holds.
     pub split_condition: Cond,

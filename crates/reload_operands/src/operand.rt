@@ -32,10 +32,10 @@ pub struct Operand {
     pub is_output: bool,
     /// Whether the pattern clobbers it.
     pub is_clobbered: bool,
-    /// Whether it stands inside an effect of which the pattern doesn't say what it does with it:
-    /// one that an operator matches as a whole, or one that is no `clobber` and has it as a
-    /// scratch. It may be no input and no output then, though the instruction takes it or changes
-    /// it.
+    /// Whether the operand stands inside an effect of which the pattern doesn't say what it does
+    /// with it: one that an operator matches as a whole, or one that is no `clobber` and has it as
+    /// a scratch. The operand may be no input and no output then, though the instruction takes it
+    /// or changes it.
     pub is_hidden: bool,
     /// Whether the operand is a register, or the low part of one, that lives in a slot.
     pub in_slot: bool,

@@ -5,8 +5,8 @@ use Rattle.asm_out.specs.Comes.{IsTried}
 use Rattle.asm_out.proofs.Calls.{judged_wrong, judged_same, code_piece_is}
 use Rattle.asm_out.proofs.chosen.chosen_piece.Goals as goal
 
-pub returns-in_err-judge : goal.returns-in_err-judge
-returns-in_err-judge c =
+pub returns-in_err-compare : goal.returns-in_err-compare
+returns-in_err-compare c =
     let a = c.args in
     let tried : IsTried a.description.now a.number a.f.now a.place a.insn.now a.chosen.now c.in_ok-lines.lines c.in_ok-live.live = record {
       needs = c.requires.needs;
@@ -15,9 +15,9 @@ returns-in_err-judge c =
       read = subst (λ (t : List ℕ). AreLinesOf t c.in_ok-lines.lines) (c.as_slice.ensures.value ∙ c.in_ok-text.ensures) c.in_ok-lines.ensures;
       live_after = c.in_ok-live.ensures;
     } in
-    let p = err_from_is_err_and c.from_residual-in_err-judge.result c.from_residual-in_err-judge.ensures.1 in
+    let p = err_from_is_err_and c.from_residual-in_err-compare.result c.from_residual-in_err-compare.ensures.1 in
     rw (p.1, p.2)
-    (judged_wrong a.description.now a.number a.f.now a.place a.insn.now a.chosen.now c.in_ok-lines.lines c.in_ok-live.live tried c.in_err-judge.field-0.0 c.in_err-judge.ensures)
+    (judged_wrong a.description.now a.number a.f.now a.place a.insn.now a.chosen.now c.in_ok-lines.lines c.in_ok-live.live tried c.in_err-compare.field-0.0 c.in_err-compare.ensures)
 
 pub returns : goal.returns
 returns c =
@@ -30,6 +30,6 @@ returns c =
       live_after = c.in_ok-live.ensures;
     } in
     let piece = c.in_ok-code_piece.field-0 in
-    judged_same a.description.now a.number a.f.now a.place a.insn.now a.chosen.now c.in_ok-lines.lines c.in_ok-live.live tried piece c.in_ok-judge.ensures
+    judged_same a.description.now a.number a.f.now a.place a.insn.now a.chosen.now c.in_ok-lines.lines c.in_ok-live.live tried piece c.in_ok-compare.ensures
     (code_piece_is a.description.now a.number a.insn.now a.chosen.now c.in_ok-lines.lines c.lines_in.result c.as_slice-2.result.now piece c.in_ok-code_piece.ensures
     (c.as_slice-2.ensures.value ∙ c.in_ok-text.ensures) c.lines_in.ensures)

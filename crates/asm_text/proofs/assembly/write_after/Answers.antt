@@ -15,4 +15,4 @@ returns-in_ok-push-in-Ok c =
 pub returns-in-Err : goal.returns-in-Err
 returns-in-Err c =
     piece_refused c.args.description.now c.args.number (length c.args.text.now.items) c.args.f.now c.args.made.now c.in-Err.e
-    c.refused_for.result c.in-Err.ensures.appends c.refused_for.ensures
+    c.refused_at.result c.in-Err.ensures.appends c.refused_at.ensures

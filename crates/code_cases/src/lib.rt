@@ -35,6 +35,7 @@ pub fn answer(alloc: Global, table: &str, given: &[u8], input: &[u8], told: &mut
         "writes" => memory::tell_writes(alloc, given, input, told),
         "visible" => memory::tell_visible(alloc, given, input, told),
         "uses" => registers::tell_uses(alloc, input, told),
+        "one register" => registers::tell_asked(alloc, input, told),
         "live registers" => registers::tell_live(alloc, input, told),
         "live rows" => registers::tell_rows(alloc, input, told),
         "conflicts" => registers::tell_conflicts(alloc, input, told),

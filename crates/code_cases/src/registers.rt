@@ -8,7 +8,7 @@ use live_rows::{Node, live_rows};
 use plain_data::{Items, Memory};
 use reg_conflicts::conflict_rows;
 use reg_rows::{RegRow, has};
-use reg_uses::{insn_defines, insn_uses, is_return, return_uses};
+use reg_uses::{does_define, does_use, insn_defines, insn_uses, is_return, return_uses};
 use rtx_tree::Insn;
 use rv_regs::{allocation_order, kept_registers, saved_registers};
 use std::alloc::Global;
@@ -48,6 +48,36 @@ pub fn tell_uses(alloc: Global, input: &[u8], told: &mut Told) {
     }
     told.apart("at the end");
     show_found(return_uses(alloc, &f), told);
+}
+
+fn show_asked(insn: &Insn, reg: u32, told: &mut Told) {
+    told.gap();
+    match (does_use(insn, reg), does_define(insn, reg)) {
+        (true, true) => told.text("both"),
+        (true, false) => told.text("uses"),
+        (false, true) => told.text("defines"),
+        (false, false) => told.text("neither"),
+    }
+}
+
+/// Appends what each instruction of a chain does with some registers, each asked by itself.
+pub fn tell_asked(alloc: Global, input: &[u8], told: &mut Told) {
+    if let Some((chain, regs)) = halves(input)
+        && let Some(regs) = numbers(alloc, regs)
+        && let Some(f) = function_in(alloc, chain.as_bytes())
+    {
+        for insn in f.insns.as_slice() {
+            for reg in regs.as_slice() {
+                match u32::try_from(*reg) {
+                    Ok(reg) => show_asked(insn, reg, told),
+                    Err(_) => told.fail(),
+                }
+            }
+            told.text(";");
+        }
+    } else {
+        told.fail();
+    }
 }
 
 /// Appends the registers below 96 that are live before each place of a function.

@@ -1,6 +1,6 @@
 //! The heads of conditions and statements.
 use crate::iterators::constants_in;
-use c_cond::{CondRefusal, parse_cond, parse_prep, parse_test};
+use c_cond::{Cond, CondRefusal, parse_cond, parse_prep, parse_test};
 use c_words::CondHead;
 use case_text::Told;
 use std::alloc::Global;
@@ -67,13 +67,21 @@ fn show_refusal(refusal: CondRefusal, told: &mut Told) {
     }
 }
 
+/// Appends the heads of a condition, by its copy.
+fn show_copy(alloc: Global, cond: &Cond, told: &mut Told) {
+    match cond.copy(alloc) {
+        Ok(copy) => show(copy.heads(), told),
+        Err(_) => told.fail(),
+    }
+}
+
 /// Appends the heads of what a condition is parsed to, or from where on it is outside.
 pub fn tell_cond(alloc: Global, given: &[u8], text: &[u8], told: &mut Told) {
     let Some(list) = constants_in(alloc, given) else {
         return told.fail();
     };
     match parse_cond(alloc, text, &list) {
-        Ok(cond) => show(cond.heads(), told),
+        Ok(cond) => show_copy(alloc, &cond, told),
         Err(refusal) => show_refusal(refusal, told),
     }
 }

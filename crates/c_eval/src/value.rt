@@ -113,7 +113,9 @@ impl<P: Preds> Known<'_, P> {
 }
 
 impl<P: Preds> Reads for Known<'_, P> {
-    ghost read_by = { λ known. spec.read_by (spec.setting (facts_given known.reloaded known.new_pseudos known.dead.now) (operands_given known.operands) (P.accepts known.preds.now)) };
+    ghost read_by = { λ known. spec.read_by (spec.setting
+        (facts_given known.reloaded known.new_pseudos known.dead.now)
+        (operands_given known.operands) (P.accepts known.preds.now)) };
 
     fn read(&self, head: &CondHead, parts: &[Reading]) -> Reading {
         match (head, parts) {

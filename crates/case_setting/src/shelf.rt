@@ -14,7 +14,8 @@ use std::alloc::Global;
 struct Shelf {
     files: ByteFiles,
     names: Items<Items<u8>>,
-    ghost others: { (name : List ℕ) → ¬ Contains names name → file_of (entries_of files) name ≡ None },
+    ghost others: { (name : List ℕ) →
+        ¬ Contains names name → file_of (entries_of files) name ≡ None },
 }
 
 /// Whether a name is among names.

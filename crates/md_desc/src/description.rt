@@ -47,7 +47,9 @@ impl Model for Description {
 
     ghost view = { λ description. description.forms };
 
-    ghost invariant = { λ description. AreTablesOf description.forms description.preds description.constraints description.attributes description.tables };
+    ghost invariant = { λ description.
+        AreTablesOf description.forms description.preds description.constraints
+        description.attributes description.tables };
 }
 
 impl Description {

@@ -38,7 +38,8 @@ impl<D: Named> Model for Definitions<D> {
 
     ghost view = { λ ds. ds.all };
 
-    ghost invariant = { λ ds. (name : List ℕ) → place_in ds.places name ≡ position (λ d. bytes_eq (D.name d) name) ds.all };
+    ghost invariant = { λ ds. (name : List ℕ) →
+        place_in ds.places name ≡ position (λ d. bytes_eq (D.name d) name) ds.all };
 }
 
 /// Where the names of some definitions stand first.

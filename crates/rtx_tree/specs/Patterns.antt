@@ -4,7 +4,7 @@ use Rattle.std.specs.Prelude.{ℕ, pos, ◌==◌, ◌&&◌, Bool, true, false, L
 use Rattle.std.specs.List.{position_from}
 use Rattle.std.specs.Int.{cast_unsigned, w64}
 use Rattle.rtx_tree.specs.declared.code.Code.{Code}
-use Rattle.rtx_tree.specs.declared.code.Code.TheVariants.{Plus, Set, Parallel, Pc, LabelRef, IfThenElse, Return}
+use Rattle.rtx_tree.specs.declared.code.Code.TheVariants.{Plus, Set, Parallel, Pc, LabelRef, Return}
 use Rattle.rtx_tree.specs.declared.code.Mode.TheVariants.{Void, DI}
 use Rattle.rtx_tree.specs.declared.function.Kind.{Kind}
 use Rattle.rtx_tree.specs.declared.function.Kind.TheVariants.{Label}
@@ -21,25 +21,9 @@ sum_rtx a b = node_of Plus DI (a ∷ b ∷ [])
 abbrev pub set_rtx : Rtx → Rtx → Rtx
 set_rtx target source = node_of Set Void (target ∷ source ∷ [])
 
--- (pc)
-abbrev pub pc_rtx : Rtx
-pc_rtx = leaf_of Pc Void (pos 0)
-
 -- (label_ref UID)
 abbrev pub label_rtx : ℕ → Rtx
 label_rtx uid = node_of LabelRef Void (const_of (pos uid) ∷ [])
-
--- (set (pc) (label_ref UID))
-abbrev pub jump_rtx : ℕ → Rtx
-jump_rtx uid = set_rtx pc_rtx (label_rtx uid)
-
--- (CODE A B), a comparison without a mode
-abbrev pub test_rtx : Code → Rtx → Rtx → Rtx
-test_rtx code a b = node_of code Void (a ∷ b ∷ [])
-
--- (set (pc) (if_then_else TEST (label_ref UID) (pc)))
-abbrev pub branch_rtx : Rtx → ℕ → Rtx
-branch_rtx test uid = set_rtx pc_rtx (node_of IfThenElse Void (test ∷ label_rtx uid ∷ pc_rtx ∷ []))
 
 -- (return)
 abbrev pub return_rtx : Rtx

@@ -14,10 +14,10 @@ ghost use Rattle.md_named.specs.Answers.{Gives};
 ghost use Rattle.md_named.specs.machine.Steps.{DescribesRun};
 
 use byte_edge::Files;
-use lisp_read::Tree;
+use lisp_read::{MOST_OPEN, Tree};
 use md_desc::{DescRefusal, Description, describe};
-use md_source::{SourceRefusal, gather};
-use rtx_tree::Limit;
+use md_source::{MOST_WITHIN, SourceRefusal, gather};
+use rtx_tree::{Limit, MOST_BYTES};
 use run_refusal::Refusal;
 use std::alloc::Global;
 
@@ -29,15 +29,15 @@ pub fn source_refused(refusal: SourceRefusal) -> Refusal
         SourceRefusal::Syntax { file, place } => Refusal::Syntax { file, place },
         SourceRefusal::Depth => Refusal::Limit {
             which: Limit::Depth,
-            count: 201,
+            count: MOST_OPEN as u64 + 1,
         },
         SourceRefusal::Include => Refusal::Limit {
             which: Limit::Include,
-            count: 17,
+            count: MOST_WITHIN as u64 + 1,
         },
         SourceRefusal::Text => Refusal::Limit {
             which: Limit::Text,
-            count: 16_777_217,
+            count: MOST_BYTES as u64 + 1,
         },
         SourceRefusal::ReadFault => Refusal::ReadFault,
         SourceRefusal::Memory => Refusal::Memory,

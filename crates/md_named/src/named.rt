@@ -9,6 +9,7 @@ ghost use Rattle.md_source.specs.Answers.{Agrees};
 ghost use Rattle.md_forms.specs.declared.form.Entry.{Entry};
 ghost use Rattle.run_refusal.specs.declared.refusal.Refusal.{Refusal};
 ghost use Rattle.pred_mean.specs.Meaning.{PredicatesAre};
+ghost use Rattle.pred_mean.specs.Texts.{TextsAreRead};
 ghost use Rattle.md_named.specs.Named as spec;
 ghost use Rattle.md_named.specs.Answers.{Gives};
 ghost use Rattle.md_named.specs.machine.Steps.{DescribesRun};
@@ -83,6 +84,10 @@ pub fn description_of<F: Files>(
     // which operands those accept.
     ensures predicates { (constants : List Constant) (forms : List Instance) →
         PredicatesAre constants forms }
+
+    // The conditions and statements of forms are what the grammar says of their texts: which trees
+    // these are, and which texts are set aside.
+    ensures texts { (constants : List Constant) → TextsAreRead constants }
 
     // Files are asked only for what is named, and stay as they are.
     ensures asked { (source : Source) → Agrees source (F.holds files.old) →

@@ -1,11 +1,11 @@
 -- What the readings of bytes give.
-use Rattle.std.proofs.Common.{◌≡◌, ◌≤◌, ℕ, length, List, Result, Ok, Err, codes}
+use Rattle.std.proofs.Common.{◌≡◌, ◌+◌, ◌≤◌, ℕ, length, List, Result, Ok, Err, codes}
 use Rattle.std.specs.Prelude.{IfErr}
 use Rattle.rtx_tree.specs.declared.place.Place.{Place}
 use Rattle.rtx_tree.specs.declared.function.Function.{Function}
 use Rattle.rtx_tree.specs.declared.limit.Limit.TheVariants as limit
 use Rattle.lisp_read.specs.declared.tree.Tree.{Tree}
-use Rattle.lisp_read.specs.Reading.{ReadsAs, Trees, Syntax, Depth}
+use Rattle.lisp_read.specs.Reading.{ReadsAs, Trees, Syntax, Depth, most_open}
 use Rattle.lisp_read.specs.Parsed.{stands}
 use Rattle.rtl_read.specs.Syntax.{functions_in}
 use Rattle.run_refusal.specs.declared.refusal.Refusal.{Refusal}
@@ -22,8 +22,8 @@ syntax_refused bytes place e within is r =
     made_refuses e (refusal.Syntax (codes "-") place) (InputGives bytes) (InputComesTo.read (Syntax place) (Err (refusal.Syntax (codes "-") place)) within r (ReadingComesTo.syntax place)) is
 
 -- a place where the bytes go too deep
-pub depth_refused : (bytes : List ℕ) (place : Place) → length bytes ≤ most_bytes → ReadsAs bytes (Depth place) → InputGives bytes (Err (refusal.Limit limit.Depth 201))
-depth_refused bytes place within r = InputComesTo.read (Depth place) (Err (refusal.Limit limit.Depth 201)) within r (ReadingComesTo.depth place)
+pub depth_refused : (bytes : List ℕ) (place : Place) → length bytes ≤ most_bytes → ReadsAs bytes (Depth place) → InputGives bytes (Err (refusal.Limit limit.Depth (most_open + 1)))
+depth_refused bytes place within r = InputComesTo.read (Depth place) (Err (refusal.Limit limit.Depth (most_open + 1))) within r (ReadingComesTo.depth place)
 
 -- what was parsed of the trees, is read of the bytes
 pub parsed_reads : (bytes : List ℕ) (trees : List Tree) (result : Result (List Function) Refusal) → length bytes ≤ most_bytes → ReadsAs bytes (Trees trees) → Parses trees result → Reads bytes result

@@ -1,11 +1,11 @@
 -- The functions of an input, and what its bytes come to by a last step over its functions.
-use Rattle.std.specs.Prelude.{◌≡◌, ◌<◌, ◌≤◌, ℕ, List, length, codes, Some, None, Result, Ok, Err}
+use Rattle.std.specs.Prelude.{◌≡◌, ◌+◌, ◌<◌, ◌≤◌, ℕ, List, length, codes, Some, None, Result, Ok, Err}
 use Rattle.rtx_tree.specs.Limit.{most_bytes}
 use Rattle.rtx_tree.specs.declared.place.Place.{Place}
 use Rattle.rtx_tree.specs.declared.function.Function.{Function}
 use Rattle.rtx_tree.specs.declared.limit.Limit.TheVariants as limit
 use Rattle.lisp_read.specs.declared.tree.Tree.{Tree}
-use Rattle.lisp_read.specs.Reading.{Reading, ReadsAs, Trees, Syntax, Depth}
+use Rattle.lisp_read.specs.Reading.{Reading, ReadsAs, Trees, Syntax, Depth, most_open}
 use Rattle.lisp_read.specs.Parsed.{stands, construct}
 use Rattle.rtl_read.specs.Syntax.{functions_in}
 use Rattle.run_refusal.specs.declared.refusal.Refusal.{Refusal}
@@ -42,7 +42,8 @@ pub data FunctionsComeTo {A : Type 0} (last : List Function → Result A Refusal
 pub data ReadingComesTo {A : Type 0} (last : List Function → Result A Refusal → Type 0) : Reading → Result A Refusal → Type 0 where
   syntax : (place : Place) →
       ReadingComesTo last (Syntax place) (Err (refusal.Syntax (codes "-") place))
-  depth : (place : Place) → ReadingComesTo last (Depth place) (Err (refusal.Limit limit.Depth 201))
+  depth : (place : Place) →
+      ReadingComesTo last (Depth place) (Err (refusal.Limit limit.Depth (most_open + 1)))
   outside : (trees : List Tree) (place : Place) (name : List ℕ) →
       functions_in trees ≡ construct place name →
       ReadingComesTo last (Trees trees) (Err (refusal.Construct place name))
@@ -53,7 +54,7 @@ pub data ReadingComesTo {A : Type 0} (last : List Function → Result A Refusal 
 -- What the bytes of an input come to. How many there are is looked at first, then their reading.
 pub data InputComesTo {A : Type 0} (last : List Function → Result A Refusal → Type 0) (bytes : List ℕ) : Result A Refusal → Type 0 where
   too_long : most_bytes < length bytes →
-      InputComesTo last bytes (Err (refusal.Limit limit.Text 16777217))
+      InputComesTo last bytes (Err (refusal.Limit limit.Text (most_bytes + 1)))
   read : (reading : Reading) (outcome : Result A Refusal) → length bytes ≤ most_bytes →
       ReadsAs bytes reading → ReadingComesTo last reading outcome → InputComesTo last bytes outcome
 

@@ -10,7 +10,7 @@ ghost use Rattle.func_input.specs.Input.{IsRead, IsInput, Given, InputGives, Ref
 ghost use Rattle.func_input.specs.machine.Steps.{IsOrMemory, Parses};
 ghost use Rattle.run_refusal.specs.declared.refusal.Refusal.TheVariants as refused;
 
-use lisp_read::{ReadRefusal, Trees, read_trees};
+use lisp_read::{MOST_OPEN, ReadRefusal, Trees, read_trees};
 use rtl_read::{RtlRefusal, functions_of};
 use rtx_tree::{Functions, Limit, Name, Place};
 use run_refusal::Refusal;
@@ -39,7 +39,7 @@ fn trees_of(alloc: Global, bytes: &[u8]) -> Result<Trees, Refusal>
         Err(ReadRefusal::Syntax { place }) => Err(syntax(alloc, place)),
         Err(ReadRefusal::Depth { .. }) => Err(Refusal::Limit {
             which: Limit::Depth,
-            count: 201,
+            count: MOST_OPEN as u64 + 1,
         }),
         Err(ReadRefusal::Memory) => Err(Refusal::Memory),
     }

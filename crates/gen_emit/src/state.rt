@@ -61,7 +61,7 @@ fn copied(alloc: Global, x: Option<&Rtx>) -> Result<Option<Rtx>, Memory>
 impl State {
     /// Makes a value the last, where there is one; else the form fails.
     fn give(&mut self, value: Option<Rtx>) -> Result<Step, Memory>
-        ensures { IfOk result (λ step. spec.Gives value self.old step self.new) }
+        ensures { IfOk result (λ step. spec.MakesLast value self.old step self.new) }
     {
         let Some(value) = value else {
             return Ok(Step::Fail);

@@ -32,6 +32,7 @@ pub use expression::rtx_of_tree;
 pub use head::head_words;
 pub use leaf::quoted_name;
 pub use read::{ReadRefusal, read_trees};
+pub use reader::MOST_OPEN;
 pub use refusal::RtlRefusal;
 pub use shape::{atom, is_nested, is_vector, is_word, items, outside, string, vector};
 pub use tree::{Tree, Trees};

@@ -15,7 +15,7 @@ use std::alloc::Global;
 use std::mem;
 
 /// How many lists and vectors may be open within each other.
-const DEPTH: usize = 200;
+pub const MOST_OPEN: usize = 200;
 
 /// Why a byte was not read.
 #[derive(Clone, Copy)]
@@ -363,7 +363,7 @@ impl Reader {
         ensures depth { OnOk result (block_depth self.new.mode ≤ block_depth self.old.mode + 1) }
     {
         self.advance(alloc, here, byte)?;
-        if self.stack.len() > DEPTH {
+        if self.stack.len() > MOST_OPEN {
             return Err(StepError::Depth);
         }
         Ok(())

@@ -12,7 +12,7 @@ use Rattle.md_draft.specs.Head.{head_named}
 use Rattle.md_draft.specs.Layout.{layout_of, is_whole}
 use Rattle.md_draft.specs.Draft as draft
 use Rattle.md_draft.specs.Draft.{draft_in, draft_by, whole_draft, matched_in, made_in, printed_in, defined_in, matched_with, made_with, printed_with, defined_with, draft_with, head_in, headed, entry_by, entry_of}
-use Rattle.md_draft.specs.Reasons.{Gives, Applies, IsSmallest, head_of}
+use Rattle.md_draft.specs.Reasons.{HasReason, Applies, IsSmallest, head_of}
 use Rattle.md_draft.proofs.Smallest.{Of, Or, alone, change, pair, with}
 
 module _ (constants : List Constant) (values : List (List ℕ)) (h : FormHead) (ts : List Tree) where
@@ -55,60 +55,60 @@ module _ (constants : List Constant) (values : List (List ℕ)) (h : FormHead) (
       (pair OfMatched OfMade (matched_in constants values h ts) (made_in constants values h ts) matched made) (pair OfPrinted OfDefined (printed_in h ts) (defined_in constants h ts) printed defined)
 
   module _ (is : is_whole (layout_of h) ts ≡ true) where
-    to : (r : Reason) → OfAll r → Gives constants values h ts r
-    to r (inl (inl (inl e))) = Gives.patterns r is e
-    to r (inl (inl (inr e))) = Gives.condition r is e
-    to r (inl (inr (inl e))) = Gives.split_condition r is e
-    to r (inl (inr (inr (inl e)))) = Gives.sequence r is e
-    to r (inl (inr (inr (inr e)))) = Gives.statements r is e
-    to r (inr (inl (inl e))) = Gives.output r is e
-    to r (inr (inl (inr e))) = Gives.attributes r is e
-    to r (inr (inr (inl (inl e)))) = Gives.test r is e
-    to r (inr (inr (inl (inr e)))) = Gives.class r is e
-    to r (inr (inr (inr (inl e)))) = Gives.values_given r is e
-    to r (inr (inr (inr (inr e)))) = Gives.default r is e
+    to : (r : Reason) → OfAll r → HasReason constants values h ts r
+    to r (inl (inl (inl e))) = HasReason.patterns r is e
+    to r (inl (inl (inr e))) = HasReason.condition r is e
+    to r (inl (inr (inl e))) = HasReason.split_condition r is e
+    to r (inl (inr (inr (inl e)))) = HasReason.sequence r is e
+    to r (inl (inr (inr (inr e)))) = HasReason.statements r is e
+    to r (inr (inl (inl e))) = HasReason.output r is e
+    to r (inr (inl (inr e))) = HasReason.attributes r is e
+    to r (inr (inr (inl (inl e)))) = HasReason.test r is e
+    to r (inr (inr (inl (inr e)))) = HasReason.class r is e
+    to r (inr (inr (inr (inl e)))) = HasReason.values_given r is e
+    to r (inr (inr (inr (inr e)))) = HasReason.default r is e
 
     not_both : {A : Type 0} → is_whole (layout_of h) ts ≡ false → A
     not_both wrong = absurd (true≢false (sym is ∙ wrong))
 
-    from : (r : Reason) → Gives constants values h ts r → OfAll r
-    from _ (Gives.count wrong) = not_both wrong
-    from r (Gives.patterns _ _ e) = inl (inl (inl e))
-    from r (Gives.condition _ _ e) = inl (inl (inr e))
-    from r (Gives.split_condition _ _ e) = inl (inr (inl e))
-    from r (Gives.sequence _ _ e) = inl (inr (inr (inl e)))
-    from r (Gives.statements _ _ e) = inl (inr (inr (inr e)))
-    from r (Gives.output _ _ e) = inr (inl (inl e))
-    from r (Gives.attributes _ _ e) = inr (inl (inr e))
-    from r (Gives.test _ _ e) = inr (inr (inl (inl e)))
-    from r (Gives.class _ _ e) = inr (inr (inl (inr e)))
-    from r (Gives.values_given _ _ e) = inr (inr (inr (inl e)))
-    from r (Gives.default _ _ e) = inr (inr (inr (inr e)))
+    from : (r : Reason) → HasReason constants values h ts r → OfAll r
+    from _ (HasReason.count wrong) = not_both wrong
+    from r (HasReason.patterns _ _ e) = inl (inl (inl e))
+    from r (HasReason.condition _ _ e) = inl (inl (inr e))
+    from r (HasReason.split_condition _ _ e) = inl (inr (inl e))
+    from r (HasReason.sequence _ _ e) = inl (inr (inr (inl e)))
+    from r (HasReason.statements _ _ e) = inl (inr (inr (inr e)))
+    from r (HasReason.output _ _ e) = inr (inl (inl e))
+    from r (HasReason.attributes _ _ e) = inr (inl (inr e))
+    from r (HasReason.test _ _ e) = inr (inr (inl (inl e)))
+    from r (HasReason.class _ _ e) = inr (inr (inl (inr e)))
+    from r (HasReason.values_given _ _ e) = inr (inr (inr (inl e)))
+    from r (HasReason.default _ _ e) = inr (inr (inr (inr e)))
 
-    when_whole : IsSmallest (Gives constants values h ts) (whole_draft constants values h ts)
-    when_whole = change OfAll (Gives constants values h ts) (whole_draft constants values h ts) to from whole
+    when_whole : IsSmallest (HasReason constants values h ts) (whole_draft constants values h ts)
+    when_whole = change OfAll (HasReason constants values h ts) (whole_draft constants values h ts) to from whole
 
   -- a form with other parts has no other reason
-  only_parts : is_whole (layout_of h) ts ≡ false → (r : Reason) → Gives constants values h ts r → 2 ≤ number_of r
-  only_parts wrong _ (Gives.count _) = omega arith
-  only_parts wrong r (Gives.patterns _ is _) = absurd (true≢false (sym is ∙ wrong))
-  only_parts wrong r (Gives.condition _ is _) = absurd (true≢false (sym is ∙ wrong))
-  only_parts wrong r (Gives.split_condition _ is _) = absurd (true≢false (sym is ∙ wrong))
-  only_parts wrong r (Gives.sequence _ is _) = absurd (true≢false (sym is ∙ wrong))
-  only_parts wrong r (Gives.statements _ is _) = absurd (true≢false (sym is ∙ wrong))
-  only_parts wrong r (Gives.output _ is _) = absurd (true≢false (sym is ∙ wrong))
-  only_parts wrong r (Gives.attributes _ is _) = absurd (true≢false (sym is ∙ wrong))
-  only_parts wrong r (Gives.test _ is _) = absurd (true≢false (sym is ∙ wrong))
-  only_parts wrong r (Gives.class _ is _) = absurd (true≢false (sym is ∙ wrong))
-  only_parts wrong r (Gives.values_given _ is _) = absurd (true≢false (sym is ∙ wrong))
-  only_parts wrong r (Gives.default _ is _) = absurd (true≢false (sym is ∙ wrong))
+  only_parts : is_whole (layout_of h) ts ≡ false → (r : Reason) → HasReason constants values h ts r → 2 ≤ number_of r
+  only_parts wrong _ (HasReason.count _) = omega arith
+  only_parts wrong r (HasReason.patterns _ is _) = absurd (true≢false (sym is ∙ wrong))
+  only_parts wrong r (HasReason.condition _ is _) = absurd (true≢false (sym is ∙ wrong))
+  only_parts wrong r (HasReason.split_condition _ is _) = absurd (true≢false (sym is ∙ wrong))
+  only_parts wrong r (HasReason.sequence _ is _) = absurd (true≢false (sym is ∙ wrong))
+  only_parts wrong r (HasReason.statements _ is _) = absurd (true≢false (sym is ∙ wrong))
+  only_parts wrong r (HasReason.output _ is _) = absurd (true≢false (sym is ∙ wrong))
+  only_parts wrong r (HasReason.attributes _ is _) = absurd (true≢false (sym is ∙ wrong))
+  only_parts wrong r (HasReason.test _ is _) = absurd (true≢false (sym is ∙ wrong))
+  only_parts wrong r (HasReason.class _ is _) = absurd (true≢false (sym is ∙ wrong))
+  only_parts wrong r (HasReason.values_given _ is _) = absurd (true≢false (sym is ∙ wrong))
+  only_parts wrong r (HasReason.default _ is _) = absurd (true≢false (sym is ∙ wrong))
 
-  by_count : (b : Bool) → is_whole (layout_of h) ts ≡ b → IsSmallest (Gives constants values h ts) (draft_in constants values h ts)
+  by_count : (b : Bool) → is_whole (layout_of h) ts ≡ b → IsSmallest (HasReason constants values h ts) (draft_in constants values h ts)
   unfolding draft_in
   by_count true is = rw is (when_whole is)
-  by_count false wrong = rw wrong (Gives.count wrong, only_parts wrong)
+  by_count false wrong = rw wrong (HasReason.count wrong, only_parts wrong)
 
-  pub of_head : IsSmallest (Gives constants values h ts) (draft_in constants values h ts)
+  pub of_head : IsSmallest (HasReason constants values h ts) (draft_in constants values h ts)
   of_head = by_count (is_whole (layout_of h) ts) refl
 
 one_le : (r : Reason) → 1 ≤ number_of r
@@ -130,7 +130,7 @@ module _ (constants : List Constant) (values : List (List ℕ)) (t : Tree) where
   without_head none = (Applies.headless none, λ s has. one_le s)
 
   with_head : (h : FormHead) → head_of t ≡ Some h → IsSmallest (Applies constants values t) (draft_in constants values h (items_of t))
-  with_head h is = change (Gives constants values h (items_of t)) (Applies constants values t) (draft_in constants values h (items_of t)) (λ r gives. Applies.of_head h r is gives) back (of_head constants values h (items_of t))
+  with_head h is = change (HasReason constants values h (items_of t)) (Applies constants values t) (draft_in constants values h (items_of t)) (λ r gives. Applies.of_head h r is gives) back (of_head constants values h (items_of t))
     where
       some_is : (g k : FormHead) → Some g ≡ Some k → g ≡ k
       some_is g k e = cc
@@ -138,9 +138,9 @@ module _ (constants : List Constant) (values : List (List ℕ)) (t : Tree) where
       none_some : (k : FormHead) → ◌≡◌ {A = Option FormHead} None (Some k) → ⊥
       none_some k e = cc
 
-      back : (r : Reason) → Applies constants values t r → Gives constants values h (items_of t) r
+      back : (r : Reason) → Applies constants values t r → HasReason constants values h (items_of t) r
       back _ (Applies.headless none) = absurd (none_some h (sym none ∙ is))
-      back r (Applies.of_head k _ other gives) = subst (λ (x : FormHead). Gives constants values x (items_of t) r) (some_is k h (sym other ∙ is)) gives
+      back r (Applies.of_head k _ other gives) = subst (λ (x : FormHead). HasReason constants values x (items_of t) r) (some_is k h (sym other ∙ is)) gives
 
   by_named : (o : Option FormHead) → head_of t ≡ o → IsSmallest (Applies constants values t) (draft_by constants values o (items_of t))
   by_named None none = without_head none

@@ -19,36 +19,36 @@ head_of t = option_and_then head_named (head_in (items_of t))
 
 -- the reasons that a form with a head has; its parts are looked at where there are as many as the
 -- head takes
-pub data Gives (constants : List Constant) (values : List (List ℕ)) (h : FormHead) (ts : List Tree) : Reason → Type 0 where
-  count : is_whole (layout_of h) ts ≡ false → Gives constants values h ts reason.Parts
+pub data HasReason (constants : List Constant) (values : List (List ℕ)) (h : FormHead) (ts : List Tree) : Reason → Type 0 where
+  count : is_whole (layout_of h) ts ≡ false → HasReason constants values h ts reason.Parts
   patterns : (r : Reason) → is_whole (layout_of h) ts ≡ true →
-      draft.patterns_in constants h ts ≡ Err r → Gives constants values h ts r
+      draft.patterns_in constants h ts ≡ Err r → HasReason constants values h ts r
   condition : (r : Reason) → is_whole (layout_of h) ts ≡ true →
-      draft.condition_in constants values h ts ≡ Err r → Gives constants values h ts r
+      draft.condition_in constants values h ts ≡ Err r → HasReason constants values h ts r
   split_condition : (r : Reason) → is_whole (layout_of h) ts ≡ true →
-      draft.split_condition_in constants values h ts ≡ Err r → Gives constants values h ts r
+      draft.split_condition_in constants values h ts ≡ Err r → HasReason constants values h ts r
   sequence : (r : Reason) → is_whole (layout_of h) ts ≡ true →
-      draft.sequence_in constants h ts ≡ Err r → Gives constants values h ts r
+      draft.sequence_in constants h ts ≡ Err r → HasReason constants values h ts r
   statements : (r : Reason) → is_whole (layout_of h) ts ≡ true →
-      draft.statements_in constants h ts ≡ Err r → Gives constants values h ts r
+      draft.statements_in constants h ts ≡ Err r → HasReason constants values h ts r
   output : (r : Reason) → is_whole (layout_of h) ts ≡ true → draft.output_in h ts ≡ Err r →
-      Gives constants values h ts r
+      HasReason constants values h ts r
   attributes : (r : Reason) → is_whole (layout_of h) ts ≡ true → draft.attributes_in h ts ≡ Err r →
-      Gives constants values h ts r
+      HasReason constants values h ts r
   test : (r : Reason) → is_whole (layout_of h) ts ≡ true → draft.test_in constants h ts ≡ Err r →
-      Gives constants values h ts r
+      HasReason constants values h ts r
   class : (r : Reason) → is_whole (layout_of h) ts ≡ true → draft.class_in h ts ≡ Err r →
-      Gives constants values h ts r
+      HasReason constants values h ts r
   values_given : (r : Reason) → is_whole (layout_of h) ts ≡ true → draft.values_in h ts ≡ Err r →
-      Gives constants values h ts r
+      HasReason constants values h ts r
   default : (r : Reason) → is_whole (layout_of h) ts ≡ true → draft.default_in h ts ≡ Err r →
-      Gives constants values h ts r
+      HasReason constants values h ts r
 
 -- the reasons that a tree has as a form, by its own text
 pub data Applies (constants : List Constant) (values : List (List ℕ)) (t : Tree) : Reason → Type 0 where
   headless : head_of t ≡ None → Applies constants values t reason.Head
   of_head : (h : FormHead) (r : Reason) → head_of t ≡ Some h →
-      Gives constants values h (items_of t) r → Applies constants values t r
+      HasReason constants values h (items_of t) r → Applies constants values t r
 
 -- what has no reason was made, and what was not has the smallest of its reasons
 abbrev pub IsSmallest : {A : Type 0} → (Reason → Type 0) → Result A Reason → Type 0

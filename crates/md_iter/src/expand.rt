@@ -13,7 +13,7 @@ use rtx_tree::Constants;
 use std::alloc::Global;
 
 /// The greatest number of forms.
-const MOST_FORMS: usize = 20_000;
+pub const MOST_FORMS: usize = 20_000;
 
 /// A description without its iterators.
 #[derive(Drop)]

@@ -10,7 +10,7 @@ use Rattle.rtx_tree.specs.Operands.{operand_at}
 use Rattle.md_match.specs.declared.role.Role.{Role}
 use Rattle.md_match.specs.declared.role.Role.TheVariants.{Operand, Operator, Itself}
 use Rattle.md_match.specs.Pattern.{Ops, role_of, gives, gives_number, placeholders, placeholders_as}
-use Rattle.md_match.specs.machine.Collected.{Makes, MakesAll, Names, NamesOperator, Gives, Grows, Collected, Collects, is_given_by, is_given_in}
+use Rattle.md_match.specs.machine.Collected.{Makes, MakesAll, Names, NamesOperator, NamesGiven, Grows, Collected, Collects, is_given_by, is_given_in}
 use Rattle.md_match.proofs.Anys.{or_false}
 use Rattle.md_match.proofs.Placeholders.{placeholders_out}
 use Rattle.md_match.proofs.Nodes.{operand_named, operator_named, operator_parts, itself_head, itself_parts}
@@ -72,8 +72,8 @@ parts_given p ps i k = ap (λ qs. is_given_by qs i) (sym k)
 parts_of : (p x : Rtx) (ps xs : List Rtx) (o : Ops) → ps ≡ kids_of p → xs ≡ kids_of x → MakesAll (kids_of p) (kids_of x) o → MakesAll ps xs o
 parts_of p x ps xs o k l m = subst (λ qs. MakesAll qs xs o) (sym k) (subst (λ ys. MakesAll (kids_of p) ys o) (sym l) m)
 
-pub collects_operand : (p x : Rtx) (old : Ops) (r : Option Ops) → role_of (head_of p).code ≡ Operand → Collects (λ k. gives_number k p) (Gives p x) old r → Collects (λ k. is_given_in k p) (Makes p x) old r
-collects_operand p x old r e = collects_by (Gives p x) (Makes p x) (λ k. gives_number k p) (λ k. is_given_in k p) old r
+pub collects_operand : (p x : Rtx) (old : Ops) (r : Option Ops) → role_of (head_of p).code ≡ Operand → Collects (λ k. gives_number k p) (NamesGiven p x) old r → Collects (λ k. is_given_in k p) (Makes p x) old r
+collects_operand p x old r e = collects_by (NamesGiven p x) (Makes p x) (λ k. gives_number k p) (λ k. is_given_in k p) old r
     (λ o m. λ given. operand_named p x o e m) (λ k. given_as p Operand k e ∙ sym (or_false (gives_number k p)))
 
 operator_gives : (c : Code) (p x : Rtx) (o : Ops) → role_of c ≡ Operator → NamesOperator c p x o → gives c ≡ true → Names p x o
@@ -82,15 +82,15 @@ operator_gives MatchOperand p x o e n given = absurd (let none : ⊥ = cc in non
 operator_gives MatchScratch p x o e n given = absurd (let none : ⊥ = cc in none)
 operator_gives _ p x o e n given = absurd (let none : ⊥ = cc in none)
 
-pub made_gives : (p x : Rtx) (o : Ops) → role_of (head_of p).code ≡ Operator → Makes p x o → Gives p x o
+pub made_gives : (p x : Rtx) (o : Ops) → role_of (head_of p).code ≡ Operator → Makes p x o → NamesGiven p x o
 made_gives p x o e m = operator_gives (head_of p).code p x o e (operator_named p x o e m)
 
-pub operator_nowhere : (p x : Rtx) → role_of (head_of p).code ≡ Operator → ((o : Ops) → Gives p x o → ⊥) → (o : Ops) → Makes p x o → ⊥
+pub operator_nowhere : (p x : Rtx) → role_of (head_of p).code ≡ Operator → ((o : Ops) → NamesGiven p x o → ⊥) → (o : Ops) → Makes p x o → ⊥
 operator_nowhere p x e never o m = never o (made_gives p x o e m)
 
 pub collects_operator : (p x : Rtx) (ps xs : List Rtx) (old more : Ops) (r : Option Ops) → role_of (head_of p).code ≡ Operator → ps ≡ kids_of p → xs ≡ kids_of x →
-    Collected (λ k. gives_number k p) (Gives p x) old more → Collects (is_given_by ps) (MakesAll ps xs) more r → Collects (λ k. is_given_in k p) (Makes p x) old r
-collects_operator p x ps xs old more r e k l = collects_both (Gives p x) (MakesAll ps xs) (Makes p x) (λ i. gives_number i p) (is_given_by ps) (λ i. is_given_in i p) old more r
+    Collected (λ k. gives_number k p) (NamesGiven p x) old more → Collects (is_given_by ps) (MakesAll ps xs) more r → Collects (λ k. is_given_in k p) (Makes p x) old r
+collects_operator p x ps xs old more r e k l = collects_both (NamesGiven p x) (MakesAll ps xs) (Makes p x) (λ i. gives_number i p) (is_given_by ps) (λ i. is_given_in i p) old more r
     (λ o m. (made_gives p x o e m, parts_of p x ps xs o k l (operator_parts p x o e m))) (λ i. given_as p Operator i e ∙ ap (λ b. gives_number i p || b) (parts_given p ps i k))
 
 pub itself_nowhere : (p x : Rtx) → role_of (head_of p).code ≡ Itself → (head_of p ≡ head_of x → ⊥) → (o : Ops) → Makes p x o → ⊥

@@ -9,7 +9,7 @@ use Rattle.rtx_tree.specs.Tree.{head_of}
 use Rattle.rtx_tree.specs.Operands.{operand_at, put_at}
 use Rattle.rtx_tree.proofs.OperandLaws.{read_placed, read_other}
 use Rattle.md_match.specs.Pattern.{Ops, gives, gives_number, operand_numbered}
-use Rattle.md_match.specs.machine.Collected.{Gives, Grows, Collected}
+use Rattle.md_match.specs.machine.Collected.{NamesGiven, Grows, Collected}
 use Rattle.md_match.proofs.Short.{put_short}
 
 and_first : (a b : Bool) → (a && b) ≡ true → a ≡ true
@@ -38,7 +38,7 @@ module _ (p x y : Rtx) (old : Ops) (k : ℕ) (n : (head_of p).number ≡ pos k) 
       go j z e (inl same) = absurd (let f : operand_at old k ≡ Some z = subst (λ i. operand_at old i ≡ Some z) same e in let none : ⊥ = cc in none)
       go j z e (inr other) = read_other old k y j other ∙ e
 
-  put_below : (o : Ops) → Grows old o → Gives p x o → Grows (put_at old k y) o
+  put_below : (o : Ops) → Grows old o → NamesGiven p x o → Grows (put_at old k y) o
   put_below o grows given = record { keeps = λ j z e. go j z e (cases_eq j k) }
     where
       named : operand_at o k ≡ Some x
@@ -57,7 +57,7 @@ module _ (p x y : Rtx) (old : Ops) (k : ℕ) (n : (head_of p).number ≡ pos k) 
   put_only j s (inl same) = inr (ap (λ i. gives_number i p) same ∙ gives_it p k n g)
   put_only j s (inr other) = inl (ap is_some (sym (read_other old k y j other)) ∙ s)
 
-  collected : Collected (λ j. gives_number j p) (Gives p x) old (put_at old k y)
+  collected : Collected (λ j. gives_number j p) (NamesGiven p x) old (put_at old k y)
   collected = record {
     keeps = put_grows;
     below = put_below;
@@ -66,5 +66,5 @@ module _ (p x y : Rtx) (old : Ops) (k : ℕ) (n : (head_of p).number ≡ pos k) 
     short = put_short old k y;
   }
 
-pub collected_put : (p x y : Rtx) (old new : Ops) (k : ℕ) → (head_of p).number ≡ pos k → gives (head_of p).code ≡ true → operand_at old k ≡ None → y ≡ x → new ≡ put_at old k y → Collected (λ j. gives_number j p) (Gives p x) old new
-collected_put p x y old new k n g free copied e = subst (Collected (λ j. gives_number j p) (Gives p x) old) (sym e) (collected p x y old k n g free copied)
+pub collected_put : (p x y : Rtx) (old new : Ops) (k : ℕ) → (head_of p).number ≡ pos k → gives (head_of p).code ≡ true → operand_at old k ≡ None → y ≡ x → new ≡ put_at old k y → Collected (λ j. gives_number j p) (NamesGiven p x) old new
+collected_put p x y old new k n g free copied e = subst (Collected (λ j. gives_number j p) (NamesGiven p x) old) (sym e) (collected p x y old k n g free copied)

@@ -1,7 +1,7 @@
 //! Collects the operands that a pattern gives from an expression.
 ghost use Rattle.std.specs.Prelude.{◌≡◌, IfOk, map};
 ghost use Rattle.md_match.specs.Pattern.{gives_number};
-ghost use Rattle.md_match.specs.machine.Collected.{Makes, MakesAll, Gives, Collects, is_given_by, is_given_in};
+ghost use Rattle.md_match.specs.machine.Collected.{Makes, MakesAll, NamesGiven, Collects, is_given_by, is_given_in};
 
 use crate::makes::same_head;
 use crate::role::{Role, gives, role_of};
@@ -108,7 +108,7 @@ fn place(
     operands: Operands,
 ) -> Result<Option<Operands>, Memory>
     ensures { IfOk result (Collects (λ k.
-        gives_number k placeholder.now) (Gives placeholder.now insn.now) operands) }
+        gives_number k placeholder.now) (NamesGiven placeholder.now insn.now) operands) }
 {
     if !gives(placeholder.code) {
         return Ok(Some(operands));

@@ -9,15 +9,16 @@ ghost use Rattle.md_source.specs.Answers.{Agrees};
 ghost use Rattle.md_forms.specs.declared.form.Entry.{Entry};
 ghost use Rattle.run_refusal.specs.declared.refusal.Refusal.{Refusal};
 ghost use Rattle.pred_mean.specs.Meaning.{PredicatesAre};
+ghost use Rattle.pred_mean.specs.Texts.{TextsAreRead};
 ghost use Rattle.md_named.specs.Named as spec;
 ghost use Rattle.md_named.specs.Answers.{Gives};
 ghost use Rattle.md_named.specs.machine.Steps.{DescribesRun};
 
 use byte_edge::Files;
-use lisp_read::Tree;
+use lisp_read::{MOST_OPEN, Tree};
 use md_desc::{DescRefusal, Description, describe};
-use md_source::{SourceRefusal, gather};
-use rtx_tree::Limit;
+use md_source::{MOST_WITHIN, SourceRefusal, gather};
+use rtx_tree::{Limit, MOST_BYTES};
 use run_refusal::Refusal;
 use std::alloc::Global;
 
@@ -29,15 +30,15 @@ pub fn source_refused(refusal: SourceRefusal) -> Refusal
         SourceRefusal::Syntax { file, place } => Refusal::Syntax { file, place },
         SourceRefusal::Depth => Refusal::Limit {
             which: Limit::Depth,
-            count: 201,
+            count: MOST_OPEN as u64 + 1,
         },
         SourceRefusal::Include => Refusal::Limit {
             which: Limit::Include,
-            count: 17,
+            count: MOST_WITHIN as u64 + 1,
         },
         SourceRefusal::Text => Refusal::Limit {
             which: Limit::Text,
-            count: 16_777_217,
+            count: MOST_BYTES as u64 + 1,
         },
         SourceRefusal::ReadFault => Refusal::ReadFault,
         SourceRefusal::Memory => Refusal::Memory,
@@ -83,6 +84,10 @@ pub fn description_of<F: Files>(
     // which operands those accept.
     ensures predicates { (constants : List Constant) (forms : List Instance) →
         PredicatesAre constants forms }
+
+    // The conditions and statements of forms are what the grammar says of their texts: which trees
+    // these are, and which texts are set aside.
+    ensures texts { (constants : List Constant) → TextsAreRead constants }
 
     // Files are asked only for what is named, and stay as they are.
     ensures asked { (source : Source) → Agrees source (F.holds files.old) →

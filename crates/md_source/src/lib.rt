@@ -18,4 +18,4 @@ mod trees;
 
 pub use read::SHIPPED;
 pub use refusal::SourceRefusal;
-pub use trees::gather;
+pub use trees::{MOST_WITHIN, gather};

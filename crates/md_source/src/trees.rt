@@ -16,8 +16,8 @@ use lisp_read::Trees;
 use plain_data::{Items, Memory};
 use std::alloc::Global;
 
-/// How many files may stand within each other.
-const MOST_WITHIN: usize = 16;
+/// How many files may stand within each other, the description itself among them.
+pub const MOST_WITHIN: usize = 16;
 
 /// Trees, and how many bytes were read by then.
 #[derive(Drop)]

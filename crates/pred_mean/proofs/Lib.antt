@@ -9,3 +9,4 @@ pub mod Known
 pub mod Judged
 pub mod Meant
 pub mod Predicates
+pub mod Texts

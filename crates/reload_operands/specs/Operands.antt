@@ -1,9 +1,8 @@
 -- What reload knows of the operands of an instruction: GCC Internals, "RTL Template", "Simple
 -- Constraints" and "RTL passes" (reload). The instruction is matched where references to the frame
 -- are put in and homes are not; with its homes it is handed in too.
-use Rattle.std.specs.Prelude.{ℕ, ℤ, pos, negsuc, Bool, true, false, ◌==◌, nat_lt, List, [], ◌∷◌, Option, Some, if◌then◌else◌, is_some, codes}
+use Rattle.std.specs.Prelude.{ℕ, ℤ, pos, negsuc, Bool, true, false, ◌==◌, nat_lt, List, [], ◌∷◌, Option, Some, if◌then◌else◌, is_some}
 use Rattle.std.specs.List.{find, flat_map}
-use Rattle.std.specs.Str.{bytes_eq}
 use Rattle.rtx_tree.specs.declared.code.Code.{Code}
 use Rattle.rtx_tree.specs.declared.code.Code.TheVariants.{Scratch, MatchOperator}
 use Rattle.rtx_tree.specs.declared.code.Mode.{Mode}
@@ -11,6 +10,9 @@ use Rattle.rtx_tree.specs.declared.code.Mode.TheVariants.{Void}
 use Rattle.rtx_tree.specs.declared.tree.Rtx.{Rtx}
 use Rattle.rtx_tree.specs.Operands.{operand_at}
 use Rattle.rtx_tree.specs.Tree.{head_of}
+use Rattle.md_operand.specs.declared.own.Own.{Own}
+use Rattle.md_operand.specs.declared.own.Own.TheVariants as owns
+use Rattle.md_operand.specs.Operand.{own_named}
 use Rattle.md_match.specs.Pattern.{Ops, gives, gives_number, placeholders}
 use Rattle.assign.specs.declared.home.HomeOf.{HomeOf}
 use Rattle.assign.specs.declared.places.Layout.{Layout}
@@ -60,6 +62,11 @@ abbrev pub is_operator_code : Code → Bool
 is_operator_code MatchOperator = true
 is_operator_code _ = false
 
+-- whether a predicate is that of addresses
+abbrev pub is_address_predicate : Option Own → Bool
+is_address_predicate (Some owns.Address) = true
+is_address_predicate _ = false
+
 -- an operand's own mode, or else that of its placeholder; where neither has one, there is none
 abbrev pub mode_or : Mode → Mode → Mode
 mode_or Void other = other
@@ -74,7 +81,7 @@ operand_for pattern placed with_homes homes layout k p x = record {
   mode = mode_or (head_of x).mode (head_of p).mode;
   is_operator = is_operator_code (head_of p).code;
   is_scratch = is_scratch_code (head_of x).code;
-  is_address = bytes_eq (head_of p).name (codes "address_operand");
+  is_address = is_address_predicate (own_named (head_of p).name);
   is_input = is_input pattern k;
   is_output = is_output pattern k;
   is_clobbered = is_clobbered pattern k;

@@ -1,8 +1,8 @@
 //! The operands of an instruction.
-ghost use Rattle.std.specs.Prelude.{◌≡◌, ◌++◌, [], ◌∷◌, if◌then◌else◌, IfOk, OnOk, MatchOption, option_map, option_and_then, codes};
+ghost use Rattle.std.specs.Prelude.{◌≡◌, ◌++◌, [], ◌∷◌, if◌then◌else◌, IfOk, OnOk, MatchOption, option_map, option_and_then};
 ghost use Rattle.std.specs.Option.{option_copied};
-ghost use Rattle.std.specs.Str.{bytes_eq};
 ghost use Rattle.rtx_tree.specs.Tree.{head_of};
+ghost use Rattle.md_operand.specs.Operand.{own_named};
 ghost use Rattle.reload_homes.specs.Homes.{AreOrdered};
 ghost use Rattle.reload_operands.specs.Operands as spec;
 
@@ -14,6 +14,7 @@ use crate::inside::in_lowpart;
 use crate::numbers::numbers_of;
 use crate::operand::Operand;
 use assign::{Homes, Layout};
+use md_operand::Own;
 use plain_data::{Items, Memory};
 use reload_homes::with_homes;
 use rtx_tree::{Code, Mode, Operands, Rtx};
@@ -40,16 +41,10 @@ fn is_scratch(x: &Rtx) -> bool
     matches!(x.code, Code::Scratch)
 }
 
-fn is(name: &[u8], word: &[u8]) -> bool
-    ensures { result ≡ bytes_eq name.now word.now }
-{
-    name == word
-}
-
 fn is_address(placeholder: &Rtx) -> bool
-    ensures { result ≡ bytes_eq (head_of placeholder.now).name (codes "address_operand") }
+    ensures { result ≡ spec.is_address_predicate (own_named (head_of placeholder.now).name) }
 {
-    is(placeholder.name.bytes(), b"address_operand")
+    matches!(Own::named(placeholder.name.bytes()), Some(Own::Address))
 }
 
 /// What is known of an operand, by its number, its placeholder and its tree before homes are put

@@ -1,5 +1,5 @@
 -- There is one answer by a description, and what it says of a text that was written.
-use Rattle.std.proofs.Common.{◌≡◌, ℕ, ◌≤◌, List, Result, Ok, Err, Option, Some, None, refl, sym, ap, subst, ◌∙◌, arith}
+use Rattle.std.proofs.Common.{◌≡◌, ℕ, ◌+◌, ◌≤◌, List, Result, Ok, Err, Option, Some, None, refl, sym, ap, subst, ◌∙◌, arith}
 use Rattle.std.specs.Prelude.{IfSome, IfOk, IsSome}
 use Rattle.std.specs.Io.KnownBytes.{Appends}
 use Rattle.rtx_tree.specs.declared.limit.Limit.TheVariants as limit
@@ -9,7 +9,7 @@ use Rattle.md_source.specs.Source.{Source}
 use Rattle.md_source.specs.Asked.{IsKnown}
 use Rattle.md_forms.specs.declared.form.Entry.{Entry}
 use Rattle.md_iter.specs.Definition.{all_constants_in}
-use Rattle.tree_forms.specs.Trees.{expanded, forms_of}
+use Rattle.tree_forms.specs.Trees.{expanded, forms_of, most_forms}
 use Rattle.md_named.specs.Named.{source_refused, FormsCome}
 use Rattle.md_named.proofs.Forms.{one_answer as one_forms}
 use Rattle.func_input.specs.Outcome.{Outcome}
@@ -128,7 +128,7 @@ described_is : (known : Source) (name : List ℕ) (given : Given) (forms : List 
     IsDescribed forms
 described_is known name _ forms is (FormsCome.refused e comes) = absurd (not_both forms (source_refused e) (sym is))
 described_is known name _ forms is (FormsCome.too_many trees comes many) =
-    absurd (not_both forms (refusal.Limit limit.Forms 20001) (sym is))
+    absurd (not_both forms (refusal.Limit limit.Forms (most_forms + 1)) (sym is))
 described_is known name _ forms is (FormsCome.described trees comes few) =
     (all_constants_in trees, expanded trees, sym (same_ok (forms_of trees) forms is))
 

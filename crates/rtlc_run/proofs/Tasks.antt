@@ -1,5 +1,5 @@
 -- What a task makes of the input, from what the description and the input gave.
-use Rattle.std.proofs.Common.{◌≡◌, ℕ, ◌<◌, List, length, Result, Ok, Err, Option, Some, None, Vec, refl, sym, subst, arith}
+use Rattle.std.proofs.Common.{◌≡◌, ℕ, ◌+◌, ◌<◌, List, length, Result, Ok, Err, Option, Some, None, Vec, refl, sym, subst, arith}
 use Rattle.std.specs.Prelude.{IfSome}
 use Rattle.std.specs.declared.alloc.Global.{Global}
 use Rattle.std.specs.Io.KnownBytes.{Consumes, IsAtEnd}
@@ -47,12 +47,12 @@ forms_are_own known name _ h = (λ is. cc, λ is. cc)
 -- ---- an input that was not read
 
 -- bytes that are too many are no functions
-too_many : (t : Task) (forms : List Entry) (bytes : List ℕ) → most_bytes < length bytes → TaskComes t forms bytes (Err (refusal.Limit limit.Text 16777217))
-too_many task.Assemble forms bytes long = (Err (refusal.Limit limit.Text 16777217), InputComesTo.too_long long, refl)
+too_many : (t : Task) (forms : List Entry) (bytes : List ℕ) → most_bytes < length bytes → TaskComes t forms bytes (Err (refusal.Limit limit.Text (most_bytes + 1)))
+too_many task.Assemble forms bytes long = (Err (refusal.Limit limit.Text (most_bytes + 1)), InputComesTo.too_long long, refl)
 too_many task.Recognise forms bytes long = InputComesTo.too_long long
 too_many (task.Show pass) forms bytes long = InputComesTo.too_long long
 too_many (task.Try function steps args) forms bytes long =
-    (Err (refusal.Limit limit.Text 16777217), CodeComes.unread (refusal.Limit limit.Text 16777217) (λ functions read. let within = read.within in omega (arith, long, within)) (InputComesTo.too_long long), refl, tt)
+    (Err (refusal.Limit limit.Text (most_bytes + 1)), CodeComes.unread (refusal.Limit limit.Text (most_bytes + 1)) (λ functions read. let within = read.within in omega (arith, long, within)) (InputComesTo.too_long long), refl, tt)
 
 too_many_left : (t : Task) (forms : List Entry) (left : Option (List ℕ)) (count : ℕ) → InputRefused left (refusal.Limit limit.Text count) → IfSome left (λ bytes. TaskComes t forms bytes (Err (refusal.Limit limit.Text count)))
 too_many_left t forms None count h = tt

@@ -1,6 +1,6 @@
 -- What the program answers. It is one answer for the words, the files and the bytes of the input: a
 -- text, or a refusal with its values.
-use Rattle.std.specs.Prelude.{◌≡◌, ◌⊎◌, ℕ, List, [], unwrap_or, Some, None, IsSome, Result, Ok, Err, IfSome, IfOk, Bool, true, false}
+use Rattle.std.specs.Prelude.{◌≡◌, ◌⊎◌, ◌+◌, ℕ, List, [], unwrap_or, Some, None, IsSome, Result, Ok, Err, IfSome, IfOk, Bool, true, false}
 use Rattle.std.specs.declared.option.Option.{Option}
 use Rattle.std.specs.Io.KnownBytes.{Appends}
 use Rattle.byte_edge.specs.Causes.{Rose, TakesFront}
@@ -14,6 +14,7 @@ use Rattle.md_list.specs.declared.refusal.ListRefusal.{ListRefusal}
 use Rattle.md_list.specs.declared.refusal.ListRefusal.TheVariants as listing
 use Rattle.md_list.specs.Listing.{ListComes}
 use Rattle.md_forms.specs.declared.form.Entry.{Entry}
+use Rattle.tree_forms.specs.Trees.{most_forms}
 use Rattle.md_named.specs.Named.{source_refused, FormsCome}
 use Rattle.func_input.specs.Input.{InputComesTo}
 use Rattle.func_input.specs.Outcome.{Outcome}
@@ -36,7 +37,7 @@ described name = unwrap_or name shipped_name
 
 abbrev pub list_refused : ListRefusal → Refusal
 list_refused (listing.Source e) = source_refused e
-list_refused listing.Forms = refusal.Limit limit.Forms 20001
+list_refused listing.Forms = refusal.Limit limit.Forms (most_forms + 1)
 list_refused listing.Memory = refusal.Memory
 
 abbrev pub list_told : Result (List ℕ) ListRefusal → Outcome

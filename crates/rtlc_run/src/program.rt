@@ -33,6 +33,7 @@ use byte_edge::{Files, ReadAll, Sink, Source, read_all, write_all_of};
 use code_eval::eval_text;
 use dump_text::dump_of;
 use md_desc::Description;
+use md_iter::MOST_FORMS;
 use md_list::{ListRefusal, list};
 use md_named::{description_of, source_refused};
 use md_source::SHIPPED;
@@ -59,7 +60,7 @@ fn input_bytes<S: Source>(alloc: Global, input: &mut S) -> Result<Vec<u8>, Refus
         Err(ReadAll::Fault) => Err(Refusal::ReadFault),
         Err(ReadAll::TooLong) => Err(Refusal::Limit {
             which: Limit::Text,
-            count: 16_777_217,
+            count: MOST_BYTES as u64 + 1,
         }),
         Err(ReadAll::Memory) => Err(Refusal::Memory),
     }
@@ -191,7 +192,7 @@ fn list_refused(refusal: ListRefusal) -> Refusal
         ListRefusal::Source(refusal) => source_refused(refusal),
         ListRefusal::Forms => Refusal::Limit {
             which: Limit::Forms,
-            count: 20_001,
+            count: MOST_FORMS as u64 + 1,
         },
         ListRefusal::Memory => Refusal::Memory,
     }

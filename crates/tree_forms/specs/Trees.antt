@@ -1,6 +1,6 @@
 -- The forms of a machine description's trees, expanded over its iterators (GCC Internals,
 -- "Iterators"), of which there are at most 20,000.
-use Rattle.std.specs.Prelude.{◌≡◌, ◌≤◌, ◌<◌, ℕ, List, length, Result, Ok, Err}
+use Rattle.std.specs.Prelude.{◌≡◌, ◌+◌, ◌≤◌, ◌<◌, ℕ, List, length, Result, Ok, Err}
 use Rattle.rtx_tree.specs.declared.limit.Limit.TheVariants as limit
 use Rattle.lisp_read.specs.declared.tree.Tree.{Tree}
 use Rattle.md_iter.specs.declared.substitution.Instance.{Instance}
@@ -28,7 +28,7 @@ forms_of trees = forms.forms_of (all_constants_in trees) (expanded trees)
 -- there are too many forms, or memory ran out
 abbrev pub IsTooMany : List Tree → DescRefusal → Type 0
 IsTooMany trees (refusal.Limit which count) =
-    (which ≡ limit.Forms) × (count ≡ 20001) × (most_forms < length (expanded trees))
+    (which ≡ limit.Forms) × (count ≡ most_forms + 1) × (most_forms < length (expanded trees))
 IsTooMany trees refusal.Memory = Unit {0}
 
 -- what is told is given; a refusal is the one that is told; want of memory is free

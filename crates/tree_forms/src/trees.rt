@@ -5,7 +5,7 @@ ghost use Rattle.tree_forms.specs.machine.Steps.{Expands};
 use crate::refusal::DescRefusal;
 use lisp_read::Tree;
 use md_forms::{Forms, forms_of};
-use md_iter::{Expanded, IterRefusal, expand_forms};
+use md_iter::{Expanded, IterRefusal, MOST_FORMS, expand_forms};
 use rtx_tree::Limit;
 use std::alloc::Global;
 
@@ -18,7 +18,7 @@ fn expanded(alloc: Global, trees: &[Tree]) -> Result<Expanded, DescRefusal>
         Ok(expanded) => Ok(expanded),
         Err(IterRefusal::Limit { .. }) => Err(DescRefusal::Limit {
             which: Limit::Forms,
-            count: 20_001,
+            count: MOST_FORMS as u64 + 1,
         }),
         Err(IterRefusal::Memory) => Err(DescRefusal::Memory),
     }

@@ -54,6 +54,6 @@ abbrev pub with_value : Rtx → State → State
 with_value x s = record s { values = s.values ++ x ∷ [] }
 
 -- a value is made the last, where there is one
-abbrev pub Gives : Option Rtx → State → Step → State → Type 0
-Gives None before s after = s ≡ step.Fail
-Gives (Some x) before s after = (s ≡ step.Next) × (after ≡ with_value x before)
+abbrev pub MakesLast : Option Rtx → State → Step → State → Type 0
+MakesLast None before s after = s ≡ step.Fail
+MakesLast (Some x) before s after = (s ≡ step.Next) × (after ≡ with_value x before)

@@ -35,8 +35,8 @@ abbrev pub Names : Rtx → Rtx → Ops → Type 0
 Names pattern x operands = operand_of pattern operands ≡ Some x
 
 -- where a placeholder gives its operand, that is this expression
-abbrev pub Gives : Rtx → Rtx → Ops → Type 0
-Gives pattern x operands = gives (head_of pattern).code ≡ true → Names pattern x operands
+abbrev pub NamesGiven : Rtx → Rtx → Ops → Type 0
+NamesGiven pattern x operands = gives (head_of pattern).code ≡ true → Names pattern x operands
 
 -- the operand that a placeholder names has the head of this expression
 abbrev pub NamesHead : Rtx → Rtx → Ops → Type 0

@@ -1,5 +1,5 @@
 -- The steps of the code: for the contracts of private functions alone.
-use Rattle.std.specs.Prelude.{◌≡◌, ◌≢◌, ◌<◌, ℕ, length, List, Result, Ok, Err, IfSome, Vec}
+use Rattle.std.specs.Prelude.{◌≡◌, ◌≢◌, ◌+◌, ◌<◌, ℕ, length, List, Result, Ok, Err, IfSome, Vec}
 use Rattle.std.specs.declared.option.Option.{Option}
 use Rattle.std.specs.declared.alloc.Global.{Global}
 use Rattle.rtx_tree.specs.Limit.{most_bytes}
@@ -30,7 +30,7 @@ IsOwn r = (r ≢ Err refusal.Usage) × (r ≢ Err refusal.WriteFault)
 -- why the bytes of an input were not read
 abbrev pub InputRefused : Option (List ℕ) → Refusal → Type 0
 InputRefused input (refusal.Limit limit.Text count) =
-    (count ≡ 16777217) × IfSome input (λ bytes. most_bytes < length bytes)
+    (count ≡ most_bytes + 1) × IfSome input (λ bytes. most_bytes < length bytes)
 InputRefused input refusal.ReadFault = Unit {0}
 InputRefused input refusal.Memory = Unit {0}
 InputRefused input e = ⊥

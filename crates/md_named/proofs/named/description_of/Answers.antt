@@ -1,5 +1,6 @@
 use Rattle.std.proofs.Common.{subst}
 use Rattle.pred_mean.proofs.Predicates.{predicates_are}
+use Rattle.pred_mean.proofs.Texts.{texts_are_read}
 use Rattle.md_named.specs.machine.Steps.{DescribesRun}
 use Rattle.md_named.proofs.Forms.{of_trees, of_refusal, one_answer}
 use Rattle.md_named.proofs.named.description_of.Goals as goal
@@ -22,3 +23,9 @@ returns-in-Ok-clause-predicates g c = predicates_are
 
 pub returns-in-Err-clause-predicates : goal.returns-in-Err-clause-predicates
 returns-in-Err-clause-predicates g c = predicates_are
+
+pub returns-in-Ok-clause-texts : goal.returns-in-Ok-clause-texts
+returns-in-Ok-clause-texts g c = texts_are_read
+
+pub returns-in-Err-clause-texts : goal.returns-in-Err-clause-texts
+returns-in-Err-clause-texts g c = texts_are_read

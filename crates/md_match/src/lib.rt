@@ -22,7 +22,6 @@ mod role;
 mod steps;
 
 pub use instance::instantiate;
-pub use makes::same_head;
 pub use matching::{match_shape, match_shapes};
 pub use role::{Role, operand_of, role_of};
 pub use steps::Steps;

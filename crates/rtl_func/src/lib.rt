@@ -30,7 +30,7 @@ mod tables;
 mod trees;
 mod uids;
 
-pub use block_list::{Block, blocks};
+pub use block_list::{Block, blocks, is_jump};
 pub use calls::{call_result_agrees, call_target_agrees};
 pub use check_rules::{CheckRefusal, check, check_behind};
 pub use edges::{successors, successors_by};

@@ -13,7 +13,8 @@ use c_eval::Preds;
 use md_match::{Role, role_of};
 use rtx_tree::{Code, Rtx, same_head};
 
-fn names_predicate(code: Code) -> bool
+/// Whether a placeholder of this code names a predicate.
+pub fn names_predicate(code: Code) -> bool
     ensures { result ≡ spec.names_predicate code }
 {
     matches!(code, Code::MatchOperand | Code::MatchOperator)

@@ -7,15 +7,17 @@ use crate::number::truth;
 use c_cond::Call;
 use rtx_tree::{Code, Mode, RegSet, Rtx, same};
 
+/// Whether two codes are the same.
 #[tactic(auto, using(crate::proofs::Same::code_is))]
-fn same_code(a: Code, b: Code) -> bool
+pub fn same_code(a: Code, b: Code) -> bool
     ensures { result ≡ spec.same_code a b }
 {
     a.same(b)
 }
 
+/// Whether two modes are the same.
 #[tactic(auto, using(crate::proofs::Same::mode_is))]
-fn same_mode(a: Mode, b: Mode) -> bool
+pub fn same_mode(a: Mode, b: Mode) -> bool
     ensures { result ≡ spec.same_mode a b }
 {
     a.same(b)
@@ -73,13 +75,14 @@ pub fn mode_is(mode: Mode, equal: bool, x: &Rtx) -> i64
     compared(equal, same_mode(x.mode, mode))
 }
 
-fn same_tree(a: &Rtx, b: &Rtx) -> bool
+/// Whether two trees are the same.
+pub fn same_tree(a: &Rtx, b: &Rtx) -> bool
     ensures { result ≡ spec.same_tree a.now b.now }
 {
     same(a, b)
 }
 
-/// Whether two trees are the same.
+/// The truth of whether two trees are the same.
 pub fn equal(a: &Rtx, b: &Rtx) -> i64
     ensures { result ≡ numbers.truth (spec.same_tree a.now b.now) }
 {

@@ -6,6 +6,8 @@
 //! [`eval_test`] and [`test_worth`] give what the test of a predicate is worth for an operand, and
 //! [`read`] what the last tree of a row of heads is read as. None of them takes memory, and their
 //! calls are nested no deeper than a number has bits, however deep a condition is (`src/walk.rt`).
+//! Whether codes, modes and trees are the same is told as definitions ask for it, and [`size_of`]
+//! is how many parts a head has.
 #![tactic(auto)]
 
 mod accessor;
@@ -19,7 +21,9 @@ mod value;
 mod walk;
 mod worth;
 
+pub use accessor::{same_code, same_mode, same_tree};
 pub use facts::{DeadTable, Facts};
 pub use preds::Preds;
 pub use reading::Reading;
+pub use walk::size_of;
 pub use worth::{eval, eval_test, read, test_worth};

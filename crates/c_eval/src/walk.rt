@@ -43,7 +43,7 @@ fn call_size(call: Call) -> usize
 }
 
 /// How many parts a head has.
-fn size_of(head: &CondHead) -> usize
+pub fn size_of(head: &CondHead) -> usize
     ensures value { result ≡ tree.size_of head.now }
     ensures bound { result ≤ 3 }
 {

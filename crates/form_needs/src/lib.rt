@@ -11,4 +11,4 @@ mod needs;
 
 pub use facts::{lower_facts, name_at, output_facts};
 pub use md_desc::Description;
-pub use needs::{is_held, is_silent, needs_form};
+pub use needs::{is_held, is_kind, is_silent, needs_form};

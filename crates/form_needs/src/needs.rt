@@ -5,7 +5,8 @@ ghost use Rattle.form_needs.specs.Needs as spec;
 
 use rtx_tree::{Code, Insn, Kind, Rtx};
 
-fn is_kind(kind: Kind) -> bool
+/// Whether a place of this kind is an instruction.
+pub fn is_kind(kind: Kind) -> bool
     ensures { result ≡ spec.is_kind kind }
 {
     matches!(kind, Kind::Plain | Kind::Jump | Kind::Call)

@@ -1,12 +1,11 @@
 //! Where the trees among heads stand.
 ghost use Rattle.std.specs.Prelude.{◌≡◌, ◌≤◌, length, map, reverse, take, drop, IfOk};
 ghost use Rattle.std.specs.List.{AllByRecursion};
-ghost use Rattle.c_words.specs.declared.head.CondHead.TheVariants as CondHead;
-ghost use Rattle.c_cond.specs.Tree as tree;
 ghost use Rattle.c_eval.specs.machine.Places.{trees_at};
 ghost use Rattle.gen_emit.specs.machine.Layout as spec;
 
-use c_cond::{Call, CondHead};
+use c_cond::CondHead;
+use c_eval::size_of;
 use plain_data::{Items, Memory};
 use std::alloc::Global;
 
@@ -21,41 +20,6 @@ pub enum Parts {
     Two(usize, usize),
     /// Three.
     Three(usize, usize, usize),
-}
-
-/// How many parts a call has.
-fn call_size(call: Call) -> usize
-    ensures value { result ≡ tree.size_of (CondHead.Call call) }
-    ensures bound { result ≤ 3 }
-{
-    match call {
-        Call::CanCreatePseudo => 0,
-        Call::InRange => 3,
-        Call::RtxEqual
-        | Call::RegDead
-        | Call::GenIntMode
-        | Call::ForceReg
-        | Call::GenLowpart
-        | Call::EmitMove => 2,
-        _ => 1,
-    }
-}
-
-/// How many parts a head has.
-fn size_of(head: &CondHead) -> usize
-    ensures value { result ≡ tree.size_of head.now }
-    ensures bound { result ≤ 3 }
-{
-    match head {
-        CondHead::CodeIs { .. }
-        | CondHead::ModeIs { .. }
-        | CondHead::Unary(_)
-        | CondHead::Assign(_) => 1,
-        CondHead::Binary(_) | CondHead::Predicate(_) | CondHead::If | CondHead::Then => 2,
-        CondHead::Choose | CondHead::IfElse => 3,
-        CondHead::Call(call) => call_size(*call),
-        _ => 0,
-    }
 }
 
 /// The place right before the last tree that ends at a place.

@@ -1,11 +1,11 @@
 //! What stands while values are made, and what is done to it.
-ghost use Rattle.std.specs.Prelude.{◌≡◌, Bool, IfOk};
-ghost use Rattle.std.specs.Option.{option_copied};
+ghost use Rattle.std.specs.Prelude.{Bool, IfOk};
 ghost use Rattle.gen_emit.specs.machine.Tasks as spec;
 ghost use Rattle.gen_emit.specs.declared.state.Op.TheVariants as Op;
 
 use crate::draft::Draft;
 use crate::values::low_part;
+use md_match::copy_of;
 use plain_data::{Items, Memory};
 use rtx_tree::{Mode, Rtx};
 use std::alloc::Global;
@@ -49,15 +49,6 @@ pub struct State {
     pub draft: Draft,
 }
 
-fn copied(alloc: Global, x: Option<&Rtx>) -> Result<Option<Rtx>, Memory>
-    ensures { IfOk result (λ r. r ≡ option_copied x.entry) }
-{
-    match x {
-        None => Ok(None),
-        Some(tree) => Ok(Some(tree.copy(alloc)?)),
-    }
-}
-
 impl State {
     /// Makes a value the last, where there is one; else the form fails.
     fn give(&mut self, value: Option<Rtx>) -> Result<Step, Memory>
@@ -74,7 +65,7 @@ impl State {
         ensures { (may : Bool) →
             IfOk result (λ step. spec.Does may (Op.Copy number) self.old step self.new) }
     {
-        let value = copied(alloc, self.draft.operands.get(number as usize))?;
+        let value = copy_of(alloc, self.draft.operands.get(number as usize))?;
         self.give(value)
     }
 

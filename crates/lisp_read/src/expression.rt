@@ -1,6 +1,5 @@
 //! Reads an expression of RTL from its tree.
 ghost use Rattle.std.specs.Prelude.{◌≡◌, ◌<◌, MatchOption, map, drop, length};
-ghost use Rattle.std.specs.List.{list_all};
 ghost use Rattle.std.specs.Option.{option_copied};
 ghost use Rattle.lisp_read.specs.Expression as spec;
 ghost use Rattle.lisp_read.specs.Parsed.{Gives, each_parsed};
@@ -11,7 +10,7 @@ use crate::head::{Opening, head_in};
 use crate::leaf::{symbol, word};
 use crate::position::Position;
 use crate::refusal::RtlRefusal;
-use crate::shape::{atom, is_nested, is_vector, is_word, items, outside, vector};
+use crate::shape::{all_nested, atom, is_nested, is_vector, is_word, items, outside, vector};
 use crate::tree::Tree;
 use plain_data::Items;
 use rtx_tree::{Class, Code, Kids, Mode, Rtx};
@@ -66,17 +65,6 @@ fn is_constant(tree: &Tree) -> bool
         Some(head) => matches!(head.code.class(), Class::Constant),
         None => false,
     }
-}
-
-fn all_nested(trees: &[Tree]) -> bool
-    ensures { result ≡ list_all shape.is_nested trees.now }
-{
-    for tree in trees {
-        if !is_nested(tree) {
-            return false;
-        }
-    }
-    true
 }
 
 /// Expressions at these positions behind the head, and no more.

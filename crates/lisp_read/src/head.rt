@@ -29,7 +29,7 @@ fn first_of(text: &[u8], byte: u8) -> Option<usize>
 }
 
 /// What stands before the first byte of this kind, and what stands behind it.
-fn cut(text: &[u8], byte: u8) -> (&[u8], Option<&[u8]>)
+pub fn cut(text: &[u8], byte: u8) -> (&[u8], Option<&[u8]>)
     ensures front { result.0.now ≡ (spec.cut byte text.now).0 }
     ensures back { option_copied result.1 ≡ (spec.cut byte text.now).1 }
 {
@@ -47,7 +47,7 @@ fn code_named(name: &[u8]) -> Option<Code>
 }
 
 /// The code with a name, `simple_return` being a return.
-fn code_in(name: &[u8]) -> Option<Code>
+pub fn code_in(name: &[u8]) -> Option<Code>
     ensures { result ≡ spec.code_in name.now }
 {
     if name == b"simple_return".as_slice() {
@@ -82,7 +82,7 @@ fn is_flag(byte: u8) -> bool
 }
 
 /// Whether the text is flags with a slash between each two.
-fn are_flags(text: &[u8]) -> bool
+pub fn are_flags(text: &[u8]) -> bool
     ensures { result ≡ spec.are_flags true text.now }
 {
     let mut due = true;

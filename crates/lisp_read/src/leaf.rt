@@ -16,7 +16,7 @@ use std::alloc::Global;
 use text_words::{is_symbol, number_in};
 
 /// A number from 0 up to, and without, a limit.
-fn below(limit: u64, number: i64) -> Option<u32>
+pub fn below(limit: u64, number: i64) -> Option<u32>
     requires { limit ≤ 4294967296 }
     ensures { result ≡ spec.below limit number }
 {

@@ -1,5 +1,6 @@
 //! What a tree of the text is, looked at from outside.
 ghost use Rattle.std.specs.Prelude.{◌≡◌};
+ghost use Rattle.std.specs.List.{list_all};
 ghost use Rattle.std.specs.Option.{option_copied};
 ghost use Rattle.lisp_read.specs.Shape.{place_of, atom_of, string_of, items_of, vector_of, is_vector, is_nested, is_word, first_atom, first_there};
 ghost use Rattle.lisp_read.specs.Parsed.{IsOutside};
@@ -77,6 +78,18 @@ pub fn is_nested(tree: &Tree) -> bool
         Tree::List { .. } | Tree::Vector { .. } => true,
         _ => false,
     }
+}
+
+/// Whether all are lists and vectors.
+pub fn all_nested(trees: &[Tree]) -> bool
+    ensures { result ≡ list_all is_nested trees.now }
+{
+    for tree in trees {
+        if !is_nested(tree) {
+            return false;
+        }
+    }
+    true
 }
 
 /// Whether the tree is the atom of this text.

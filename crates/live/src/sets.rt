@@ -1,5 +1,5 @@
 //! Rows as sets of registers.
-ghost use Rattle.std.specs.Prelude.{◌≡◌, ℕ, ◌*◌, ◌/◌, ◌%◌, ◌<◌, ◌==◌, ◌||◌, ◌&&◌, OnOk, length, slice_index};
+ghost use Rattle.std.specs.Prelude.{◌≡◌, ℕ, ◌==◌, ◌||◌, ◌&&◌, OnOk};
 ghost use Rattle.rtx_tree.specs.RegSet.{has_reg};
 ghost use Rattle.reg_rows.specs.Row.{has};
 
@@ -23,14 +23,6 @@ fn add_register(row: &RegRow, reg: u32, set: &mut RegSet) -> Result<(), Memory>
     }
 }
 
-/// Whether a word begins with register `reg` and is 0.
-fn is_passed(row: &RegRow, reg: usize) -> bool
-    requires { reg < 64 * length row.now }
-    ensures { result ≡ (reg % 64 == 0 && slice_index row.now (reg / 64) == 0) }
-{
-    reg % WORD == 0 && row.is_zero(reg / WORD)
-}
-
 /// Adds the registers of a row. A row past `u32` finds no memory.
 pub fn add_row(row: &RegRow, set: &mut RegSet) -> Result<(), Memory>
     ensures { OnOk result ((reg : ℕ) →
@@ -42,7 +34,7 @@ pub fn add_row(row: &RegRow, set: &mut RegSet) -> Result<(), Memory>
     let end = row.width() * WORD;
     let mut reg = 0;
     while reg < end {
-        if is_passed(row, reg) {
+        if row.is_passed(reg) {
             reg += WORD;
             continue;
         }

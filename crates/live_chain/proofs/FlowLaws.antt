@@ -11,10 +11,11 @@ use Rattle.rtx_tree.specs.declared.tree.Rtx.{Rtx}
 use Rattle.rtx_tree.specs.Patterns.{is_label, is_label_kind, place_of}
 use Rattle.rtl_func.specs.declared.flow.Flow.{Flow}
 use Rattle.rtl_func.specs.declared.flow.Flow.TheVariants.{Falls, Goes, Branches, Stops}
+use Rattle.rtl_func.specs.Blocks.{is_jump_kind}
 use Rattle.rtl_func.specs.Successors.{flow_by, flow_of, flow_places, label_places, successors_by, successors_of}
 use Rattle.rtl_func.specs.Paths.{has_place}
 use Rattle.reg_uses.specs.Uses.{is_return}
-use Rattle.live_chain.specs.machine.Window.{is_inner, is_jump_kind, leads_last}
+use Rattle.live_chain.specs.machine.Window.{is_inner, leads_last}
 use Rattle.live_chain.proofs.MoveLaws.{IsMoved, first_moved}
 
 -- the places to which a flow leads, where the next place is this

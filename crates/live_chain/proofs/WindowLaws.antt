@@ -15,10 +15,11 @@ use Rattle.reg_rows.specs.Row.{has}
 use Rattle.reg_rows.specs.Table.{has_at}
 use Rattle.reg_uses.specs.Uses.{insn_uses, insn_defines}
 use Rattle.rtl_func.specs.declared.flow.Flow.TheVariants.{Falls}
+use Rattle.rtl_func.specs.Blocks.{is_jump_kind}
 use Rattle.rtl_func.specs.Successors.{flow_by, flow_of, jump_flow}
 use Rattle.live_chain.specs.declared.demand.Demand.{Demand}
 use Rattle.live_chain.specs.machine.Demand.{IsDemandOf}
-use Rattle.live_chain.specs.machine.Window.{asks_for, defines_in, flow_behind, is_inner, is_jump_kind, leads_last, is_live_before, AreRowsOf, first_has}
+use Rattle.live_chain.specs.machine.Window.{asks_for, defines_in, flow_behind, is_inner, leads_last, is_live_before, AreRowsOf, first_has}
 use Rattle.live_chain.proofs.FlowLaws.{falls_by}
 use Rattle.live_chain.proofs.RowLaws.{last_of}
 

@@ -1,6 +1,6 @@
 //! The row of what is live after a place.
-ghost use Rattle.std.specs.Prelude.{◌≡◌, ℕ, ◌*◌, ◌/◌, ◌%◌, ◌<◌, ◌^◌, ◌==◌, ◌||◌, ◌&&◌, ◌↔◌};
-ghost use Rattle.std.specs.Prelude.{true, IfOk, OnOk, length, slice_index};
+ghost use Rattle.std.specs.Prelude.{◌≡◌, ℕ, ◌<◌, ◌^◌, ◌==◌, ◌||◌, ◌&&◌, ◌↔◌};
+ghost use Rattle.std.specs.Prelude.{true, IfOk, OnOk, length};
 ghost use Rattle.reg_rows.specs.Row.{has};
 ghost use Rattle.rtx_tree.specs.declared.function.Function.{Function};
 ghost use Rattle.live_rows.specs.machine.Rows.{at_place};
@@ -16,14 +16,6 @@ use std::alloc::Global;
 const WORD: usize = u64::BITS as usize;
 // so many words have a bit for each `u32`
 const MOST_WORDS: usize = 1 << 26;
-
-/// Whether a word begins with register `reg` and is 0.
-fn is_passed(row: &RegRow, reg: usize) -> bool
-    requires { reg < 64 * length row.now }
-    ensures { result ≡ (reg % 64 == 0 && slice_index row.now (reg / 64) == 0) }
-{
-    reg % WORD == 0 && row.is_zero(reg / WORD)
-}
 
 /// Adds register `reg` if the row has it.
 fn add_register(row: &RegRow, reg: u32, to: &mut RegRow) -> Result<(), Memory>
@@ -47,7 +39,7 @@ fn add_row(row: &RegRow, to: &mut RegRow) -> Result<(), Memory>
     let end = row.width() * WORD;
     let mut reg = 0;
     while reg < end {
-        if is_passed(row, reg) {
+        if row.is_passed(reg) {
             reg += WORD;
             continue;
         }

@@ -5,13 +5,7 @@ ghost use Rattle.rtl_func.specs.Successors as spec;
 
 use gap_list::GapList;
 use rtl_func::Successors;
-use rtx_tree::{Code, Insn, Kind, Rtx};
-
-fn is_label(insn: &Insn, uid: u64) -> bool
-    ensures { result ≡ patterns.is_label uid insn.now }
-{
-    matches!(insn.kind, Kind::Label) && u64::from(insn.uid) == uid
-}
+use rtx_tree::{Code, Insn, Kind, Rtx, is_label};
 
 /// The place of the first label with a uid, if it stands.
 fn label_place(insns: &GapList<Insn>, uid: u64) -> Option<u32>

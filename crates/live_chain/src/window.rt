@@ -3,10 +3,12 @@ ghost use Rattle.std.specs.Prelude.{◌≡◌, ◌&&◌, not, true, MatchOption}
 ghost use Rattle.std.specs.List.{list_all};
 ghost use Rattle.rtx_tree.specs.Patterns as patterns;
 ghost use Rattle.rtl_func.specs.declared.flow.Flow.TheVariants.{Falls};
+ghost use Rattle.rtl_func.specs.Blocks.{is_jump_kind};
 ghost use Rattle.rtl_func.specs.Successors.{source_flow, jump_flow};
 ghost use Rattle.live_chain.specs.machine.Window as spec;
 
 use reg_uses::is_return;
+use rtl_func::is_jump;
 use rtx_tree::{Code, Insn, Kind, Rtx};
 
 /// Whether an instruction is neither a label nor a return.
@@ -16,16 +18,10 @@ fn is_inner(insn: &Insn) -> bool
     !matches!(insn.kind, Kind::Label) && !is_return(insn)
 }
 
-fn is_jump(insn: &Insn) -> bool
-    ensures { result ≡ spec.is_jump_kind insn.now.kind }
-{
-    matches!(insn.kind, Kind::Jump)
-}
-
 /// Whether each of some instructions is neither a label nor a return, nor a jump.
 fn all_pass(insns: &[Insn]) -> bool
     ensures { result ≡
-        list_all (λ i. spec.is_inner i && not (spec.is_jump_kind i.kind)) insns.now }
+        list_all (λ i. spec.is_inner i && not (is_jump_kind i.kind)) insns.now }
 {
     insns.iter().all(|insn| is_inner(insn) && !is_jump(insn))
 }

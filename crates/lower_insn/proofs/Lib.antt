@@ -1,6 +1,5 @@
 pub mod Joined
 pub mod Numbered
-pub mod Placeholders
 pub mod First
 pub mod Refusing
 pub mod Steps

@@ -2,26 +2,20 @@
 ghost use Rattle.std.specs.Prelude.{◌≡◌, ◌∷◌, option_map, IfOk};
 ghost use Rattle.rtx_tree.specs.Tree.{head_of};
 ghost use Rattle.md_pred.specs.Holds.{holds};
-ghost use Rattle.md_recog.specs.Match as matching;
 ghost use Rattle.lower_insn.specs.Settings as spec;
 
 use crate::part::Prepared;
-use crate::placeholder::placeholder_of;
 use crate::prepared::{
     behind, copy_of, keep, nothing, pseudo, set_before, set_behind, setting, with_tree,
 };
 use c_eval::Preds;
 use md_desc::Description;
+use md_match::giver_among;
+use md_recog::names_predicate;
 use plain_data::Memory;
-use rtx_tree::{Code, Mode, Rtx};
+use rtx_tree::{Mode, Rtx};
 use std::alloc::Global;
 use std_name::{OperandRole, StandardOperand};
-
-fn names_predicate(code: Code) -> bool
-    ensures { result ≡ matching.names_predicate code }
-{
-    matches!(code, Code::MatchOperand | Code::MatchOperator)
-}
 
 /// Whether the predicate that a placeholder names accepts a tree.
 fn accepts(desc: &Description, placeholder: &Rtx, x: &Rtx) -> bool
@@ -137,7 +131,7 @@ fn fit_one(
         more ≡ option_map (spec.joined so_far)
         (spec.fitted_one (holds desc.now) patterns.now held number operand.now so_far.next)) }
 {
-    match placeholder_of(patterns, number) {
+    match giver_among(patterns, number) {
         Some(placeholder) => fit_at(alloc, desc, held, operand, placeholder, so_far),
         None => Ok(Some(keep(so_far, copy_of(alloc, operand)?)?)),
     }

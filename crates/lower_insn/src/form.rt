@@ -7,8 +7,6 @@ ghost use Rattle.lower_insn.specs.Plan as spec;
 ghost use Rattle.lower_insn.specs.machine.Forms.{is_met_at};
 
 use crate::prepared::behind;
-use c_cond::Cond;
-use c_eval::{Facts, Preds, eval};
 use form_needs::lower_facts;
 use md_desc::Description;
 use md_emit::named;
@@ -33,13 +31,6 @@ pub(crate) fn numbered(alloc: Global, operands: &[StandardOperand]) -> Result<Op
     Ok(numbered)
 }
 
-/// Whether a condition is not 0 with operands.
-fn holds_with<P: Preds>(cond: &Cond, facts: &Facts, operands: &Operands, preds: &P) -> bool
-    ensures { result ≡ matching.is_met (P.accepts preds.now) facts.now cond.now operands.now }
-{
-    eval(cond, facts, operands, preds) != 0
-}
-
 /// Whether the condition of a form holds with operands.
 fn is_met(alloc: Global, desc: &Description, operands: &Operands, form: &Form) -> bool
     ensures { result ≡
@@ -47,7 +38,7 @@ fn is_met(alloc: Global, desc: &Description, operands: &Operands, form: &Form) -
 {
     let preds = desc.preds();
     let facts = lower_facts(alloc);
-    holds_with(&form.condition, &facts, operands, preds)
+    md_recog::is_met(&form.condition, &facts, operands, preds)
 }
 
 fn is_met_by(alloc: Global, desc: &Description, operands: &Operands, entry: &Entry) -> bool

@@ -15,7 +15,6 @@ mod fit;
 mod form;
 mod insn;
 mod part;
-mod placeholder;
 mod plan;
 mod prepared;
 mod work;

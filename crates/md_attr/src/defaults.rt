@@ -2,14 +2,13 @@
 ghost use Rattle.std.specs.Prelude.{◌≡◌, List, ℕ, None, Some, OnOk, IfOk, if◌then◌else◌};
 ghost use Rattle.std.specs.Option.{option_copied, option_or};
 ghost use Rattle.std.specs.Str.{bytes_eq};
-ghost use Rattle.md_forms.specs.md_draft.Head.{head_named};
 ghost use Rattle.md_forms.specs.Tables.{defines_attribute};
 ghost use Rattle.md_attr.specs.Alternatives.{defined, defines};
 ghost use Rattle.md_attr.specs.machine.Tables.{definition_in, default_in};
 ghost use Rattle.md_attr.specs.Values as spec;
 
 use indexmap::IndexMap;
-use md_forms::{Entry, FormHead};
+use md_forms::{Entry, FormHead, defines_attribute};
 use plain_data::Memory;
 use rtx_tree::Name;
 use std::alloc::Global;
@@ -74,17 +73,11 @@ impl Defaults {
     }
 }
 
-fn is_definition(entry: &Entry) -> bool
-    ensures { result ≡ defines_attribute (head_named entry.now.head) }
-{
-    matches!(FormHead::named(entry.head.bytes()), Some(FormHead::Attr))
-}
-
 /// The name of the attribute that a form defines.
 fn defined(entry: &Entry) -> Option<&Name>
     ensures { option_copied result ≡ defined defines_attribute entry.now }
 {
-    if is_definition(entry) {
+    if defines_attribute(FormHead::named(entry.head.bytes())) {
         entry.name.as_ref()
     } else {
         None

@@ -1,11 +1,10 @@
 //! What forms give attributes.
 ghost use Rattle.std.specs.Prelude.{◌≡◌, IfOk, map};
 ghost use Rattle.std.specs.Option.{option_copied};
-ghost use Rattle.md_forms.specs.Checks as checks;
 ghost use Rattle.md_attr.specs.machine.Tables as tables;
 ghost use Rattle.md_attr.specs.Values as spec;
 
-use md_forms::{Attribute, Entry, OperandConstraint};
+use md_forms::{Attribute, Entry, alternatives, copied_names};
 use plain_data::{Items, Memory};
 use rtx_tree::Name;
 use std::alloc::Global;
@@ -18,28 +17,6 @@ pub struct FormSettings {
     pub settings: Items<Attribute>,
     /// How many alternatives the form has, which is 0 where it is set aside.
     pub alternatives: usize,
-}
-
-/// How many alternatives a form has.
-fn alternatives(constraints: &[OperandConstraint]) -> usize
-    ensures { result ≡ checks.alternatives constraints.now }
-{
-    for constraint in constraints {
-        if constraint.constraint.len() > 0 {
-            return constraint.constraint.len();
-        }
-    }
-    1
-}
-
-fn copied_names(alloc: Global, names: &[Name]) -> Result<Items<Name>, Memory>
-    ensures { IfOk result (λ all. all ≡ names.now) }
-{
-    let mut all = Items::new(alloc);
-    for name in names {
-        all.push(name.copy(alloc)?)?;
-    }
-    Ok(all)
 }
 
 fn copied(alloc: Global, setting: &Attribute) -> Result<Attribute, Memory>

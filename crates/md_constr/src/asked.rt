@@ -1,18 +1,17 @@
 //! Whether operands fit.
 ghost use Rattle.std.specs.Prelude.{◌≡◌};
 ghost use Rattle.std.specs.List.{list_any};
-ghost use Rattle.c_eval.specs.Value.{same_tree};
 ghost use Rattle.md_constr.specs.Fits as spec;
 ghost use Rattle.md_constr.specs.machine.Tables as tables;
 
 use crate::admits::letter_admits;
 use crate::early::clashes_in;
 use crate::meanings::Meanings;
-use c_eval::Preds;
+use c_eval::{Preds, same_tree};
 use md_forms::OperandConstraint;
 use md_operand::is_far;
 use md_text::{Alternative, Member};
-use rtx_tree::{Operands, Rtx, same};
+use rtx_tree::{Operands, Rtx};
 
 /// What is known where an operand is asked for.
 #[derive(Drop)]
@@ -31,12 +30,6 @@ pub struct Asked<'a, P: Preds> {
     pub changed: &'a [u64],
     /// The alternative.
     pub alternative: usize,
-}
-
-fn same_tree(x: &Rtx, y: &Rtx) -> bool
-    ensures { result ≡ same_tree x.now y.now }
-{
-    same(x, y)
 }
 
 fn is_same(operands: &Operands, number: u8, x: &Rtx) -> bool

@@ -1,13 +1,12 @@
 //! What forms ask of their operands.
 ghost use Rattle.std.specs.Prelude.{◌≡◌, IfOk, map};
-ghost use Rattle.md_forms.specs.Checks as checks;
 ghost use Rattle.md_constr.specs.machine.Tables as tables;
 
 use crate::copies::constraints_copy;
 use crate::digits::digit_stands;
 use crate::early::operand_clashes;
 use crate::inputs::{changed_of, inputs_of, operands_of};
-use md_forms::{Entry, Form, OperandConstraint};
+use md_forms::{Entry, Form, OperandConstraint, alternatives};
 use plain_data::{Items, Memory};
 use rtx_tree::Operands;
 use std::alloc::Global;
@@ -49,18 +48,6 @@ impl FormConstraints {
         self.constraints.as_slice().iter().any(|constraint| constraint.operand == number
             && operand_clashes(inputs, changed, operands, alternative, constraint))
     }
-}
-
-/// How many alternatives a form has.
-fn alternatives(constraints: &[OperandConstraint]) -> usize
-    ensures { result ≡ checks.alternatives constraints.now }
-{
-    for constraint in constraints {
-        if constraint.constraint.len() > 0 {
-            return constraint.constraint.len();
-        }
-    }
-    1
 }
 
 fn constraints_in(alloc: Global, form: &Form) -> Result<FormConstraints, Memory>

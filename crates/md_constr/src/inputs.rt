@@ -159,7 +159,7 @@ fn push_each_changed_by(effects: &[Rtx], numbers: &mut Numbers) -> Result<(), Me
 }
 
 /// The effects of a pattern: those of a `parallel`, or itself.
-fn effects_of(pattern: &Rtx) -> &[Rtx]
+pub fn effects_of(pattern: &Rtx) -> &[Rtx]
     ensures { result.now ≡ spec.effects_of pattern.now }
 {
     match pattern.code {

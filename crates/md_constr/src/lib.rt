@@ -23,7 +23,7 @@ mod meaning;
 mod meanings;
 mod table;
 
-pub use inputs::{changed_of, inputs_of, operands_of, outputs_of};
+pub use inputs::{changed_of, effects_of, inputs_of, operands_of, outputs_of};
 pub use table::{
     Constraints, alternatives_of, fits, operand_admits, operand_admits_apart, operand_clashes,
     operand_fits, operand_names,

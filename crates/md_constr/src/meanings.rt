@@ -4,7 +4,6 @@ ghost use Rattle.std.specs.Option.{option_copied, option_map, option_or};
 ghost use Rattle.std.specs.Str.{bytes_eq};
 ghost use Rattle.rtx_tree.specs.declared.tree.Rtx.{Rtx};
 ghost use Rattle.pred_rows.specs.Tests.{Accepts};
-ghost use Rattle.md_forms.specs.md_draft.Head.{head_named};
 ghost use Rattle.md_forms.specs.Tables.{defines_constraint};
 ghost use Rattle.md_attr.specs.Alternatives.{defined, defines};
 ghost use Rattle.md_constr.specs.Admits as spec;
@@ -13,7 +12,7 @@ ghost use Rattle.md_constr.specs.machine.Tables as tables;
 use crate::meaning::Meaning;
 use c_eval::Preds;
 use indexmap::IndexMap;
-use md_forms::{Entry, FormHead};
+use md_forms::{Entry, FormHead, defines_constraint};
 use plain_data::Memory;
 use rtx_tree::{Name, Rtx};
 use std::alloc::Global;
@@ -79,20 +78,11 @@ impl Meanings {
     }
 }
 
-fn is_definition(entry: &Entry) -> bool
-    ensures { result ≡ defines_constraint (head_named entry.now.head) }
-{
-    matches!(
-        FormHead::named(entry.head.bytes()),
-        Some(FormHead::Constraint | FormHead::RegisterConstraint | FormHead::MemoryConstraint)
-    )
-}
-
 /// The name of the constraint that a form defines.
 fn defined(entry: &Entry) -> Option<&Name>
     ensures { option_copied result ≡ defined defines_constraint entry.now }
 {
-    if is_definition(entry) {
+    if defines_constraint(FormHead::named(entry.head.bytes())) {
         entry.name.as_ref()
     } else {
         None

@@ -6,23 +6,13 @@ ghost use Rattle.md_draft.specs.Patterns as spec;
 
 use crate::head::FormHead;
 use lisp_read::{Tree, atom, head_words, items, vector};
-use md_pattern::{Judged, Patterns, Reason, patterns_of};
+use md_pattern::{Judged, Patterns, Reason, no_patterns, patterns_of};
 use plain_data::{Items, Memory};
 use rtx_tree::{Code, Constants, Kids, Mode, Rtx};
 use std::alloc::Global;
 
 /// The greatest number of instructions of a window.
 const MOST_WINDOW: usize = 16;
-
-/// No patterns at all.
-fn no_patterns(alloc: Global) -> Patterns
-    ensures { result ≡ spec.no_patterns }
-{
-    Patterns {
-        trees: Items::new(alloc),
-        texts: Items::new(alloc),
-    }
-}
 
 /// Several elements of one instruction are a `parallel`.
 fn as_one(alloc: Global, trees: Kids) -> Result<Kids, Memory>

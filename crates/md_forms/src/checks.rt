@@ -232,7 +232,7 @@ fn constraint_stands(
 }
 
 /// How many alternatives a form has.
-fn alternatives(constraints: &[OperandConstraint]) -> usize
+pub fn alternatives(constraints: &[OperandConstraint]) -> usize
     ensures { result ≡ spec.alternatives constraints.now }
 {
     for constraint in constraints {

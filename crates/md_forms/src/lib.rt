@@ -18,8 +18,10 @@ mod shown;
 mod tables;
 mod walk;
 
+pub use checks::alternatives;
 pub use form::{Entry, Form, Forms, OperandConstraint};
 pub use forms::forms_of;
 pub use md_draft::{Attribute, FormHead, RegisterClass};
 pub use md_pattern::{Judged, Reason};
 pub use shown::names_of;
+pub use tables::{copied_names, defines_attribute, defines_constraint, defines_predicate};

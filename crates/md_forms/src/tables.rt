@@ -77,13 +77,15 @@ pub struct Tables {
 
 // ---- what a head defines
 
-fn defines_predicate(head: Option<FormHead>) -> bool
+/// Whether a head defines a predicate.
+pub fn defines_predicate(head: Option<FormHead>) -> bool
     ensures { result ≡ spec.defines_predicate head }
 {
     matches!(head, Some(FormHead::Predicate | FormHead::SpecialPredicate))
 }
 
-fn defines_constraint(head: Option<FormHead>) -> bool
+/// Whether a head defines a constraint.
+pub fn defines_constraint(head: Option<FormHead>) -> bool
     ensures { result ≡ spec.defines_constraint head }
 {
     matches!(
@@ -92,7 +94,8 @@ fn defines_constraint(head: Option<FormHead>) -> bool
     )
 }
 
-fn defines_attribute(head: Option<FormHead>) -> bool
+/// Whether a head defines an attribute.
+pub fn defines_attribute(head: Option<FormHead>) -> bool
     ensures { result ≡ spec.defines_attribute head }
 {
     matches!(head, Some(FormHead::Attr))
@@ -262,7 +265,8 @@ pub fn is_among(names: &[Name], name: &[u8]) -> bool
     names.iter().any(|other| same(other.bytes(), name))
 }
 
-fn copied(alloc: Global, names: &[Name]) -> Result<Items<Name>, Memory>
+/// A copy of names.
+pub fn copied_names(alloc: Global, names: &[Name]) -> Result<Items<Name>, Memory>
     ensures { IfOk result (λ all. all ≡ names.now) }
 {
     let mut all = Items::new(alloc);
@@ -287,7 +291,7 @@ fn attribute_draft(
                 draft.defined.values.as_slice(),
                 draft.defined.default.bytes(),
             ),
-            values: copied(alloc, draft.defined.values.as_slice())?,
+            values: copied_names(alloc, draft.defined.values.as_slice())?,
         }),
         Err(_) => Ok(AttributeDraft {
             name,

@@ -15,7 +15,8 @@ use Rattle.md_iter.specs.declared.definition.FormIterator.{FormIterator}
 use Rattle.md_iter.specs.declared.definition.Entry.{Entry}
 use Rattle.md_iter.specs.declared.definition.IteratorAttribute.{IteratorAttribute}
 use Rattle.md_iter.specs.declared.definition.Definitions.{Definitions}
-use Rattle.md_iter.specs.Shape.{atom_of, string_of, items_of, vector_of}
+use Rattle.lisp_read.specs.Shape.{atom_of, string_of, items_of}
+use Rattle.md_iter.specs.Shape.{vector_of}
 use Rattle.text_words.specs.Numbers.{c_number_in}
 
 -- the number that a constant is defined as: one of C, with a minus in front or none, in 64 bits

@@ -3,8 +3,8 @@ ghost use Rattle.std.specs.Prelude.{◌≡◌, IfOk, option_map};
 ghost use Rattle.md_iter.specs.Definition as spec;
 
 use crate::number::number_in;
-use crate::shape::{atom, items, string, vector};
-use lisp_read::Tree;
+use crate::shape::vector;
+use lisp_read::{Tree, atom, items, string};
 use plain_data::{Items, Memory};
 use rtx_tree::{Constant, Constants, Name};
 use std::alloc::Global;

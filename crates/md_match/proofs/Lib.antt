@@ -8,6 +8,7 @@ pub mod OnePattern
 pub mod Parts
 pub mod Seen
 pub mod Placeholders
+pub mod GiverLaws
 pub mod Placing
 pub mod Reaching
 mod RtxInduction

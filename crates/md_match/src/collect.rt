@@ -3,10 +3,9 @@ ghost use Rattle.std.specs.Prelude.{◌≡◌, IfOk, map};
 ghost use Rattle.md_match.specs.Pattern.{gives_number};
 ghost use Rattle.md_match.specs.machine.Collected.{Makes, MakesAll, NamesGiven, Collects, is_given_by, is_given_in};
 
-use crate::makes::same_head;
 use crate::role::{Role, gives, role_of};
 use plain_data::Memory;
-use rtx_tree::{Operands, Rtx};
+use rtx_tree::{Operands, Rtx, same_head};
 use std::alloc::Global;
 
 /// The operands, with those that the pattern gives where they were missing; `None` only where no

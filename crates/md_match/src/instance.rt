@@ -59,7 +59,8 @@ fn instances(alloc: Global, patterns: &[Rtx], operands: &Operands) -> Result<Opt
     Ok(Some(kids))
 }
 
-fn copy_of(alloc: Global, operand: Option<&Rtx>) -> Result<Option<Rtx>, Memory>
+/// A copy of an operand, where there is one.
+pub fn copy_of(alloc: Global, operand: Option<&Rtx>) -> Result<Option<Rtx>, Memory>
     ensures { IfOk result (λ r. r ≡ option_copied operand.entry) }
 {
     match operand {

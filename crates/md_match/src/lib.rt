@@ -7,7 +7,7 @@
 //! a pattern, and gives `None` exactly where one that the pattern names is missing. Each is the
 //! inverse of the other: what is matched is instantiated back, and what is instantiated, with
 //! operands that are only those that the pattern gives and as its placeholders ask, is matched with
-//! the same operands. `specs/Pattern.antt` says what a pattern makes of operands,
+//! the same operands. [`giver`] is the placeholder that gives an operand. `specs/Pattern.antt` says what a pattern makes of operands,
 //! `specs/Match.antt` when patterns match.
 //!
 //! A pattern's dups may stand in front of the operand that they repeat. A call goes as deep as the
@@ -15,14 +15,15 @@
 #![tactic(auto)]
 
 mod collect;
+mod givers;
 mod instance;
 mod makes;
 mod matching;
 mod role;
 mod steps;
 
-pub use instance::instantiate;
-pub use makes::same_head;
+pub use givers::{giver, giver_among};
+pub use instance::{copy_of, instantiate};
 pub use matching::{match_shape, match_shapes};
-pub use role::{Role, operand_of, role_of};
+pub use role::{Role, gives, operand_of, role_of};
 pub use steps::Steps;

@@ -7,7 +7,7 @@ ghost use Rattle.md_match.specs.Match.{IsScratch};
 ghost use Rattle.md_match.specs.machine.Collected.{Makes, MakesAll, Names, NamesHead, NamesOperator, Asks};
 
 use crate::role::{Role, operand_of, role_of};
-use rtx_tree::{Code, Mode, Operands, Rtx, same};
+use rtx_tree::{Code, Mode, Operands, Rtx, same, same_head};
 
 /// Whether the pattern with the operands put in is the expression, and each operand is what its
 /// placeholder asks for.
@@ -128,26 +128,4 @@ fn is_scratch(mode: Mode, insn: &Rtx) -> bool
         return false;
     }
     mode.same(Mode::Void) || insn.mode.same(mode)
-}
-
-fn same_number(a: i64, b: i64) -> bool
-    ensures { IsTrue result ↔ (a ≡ b) }
-{
-    a == b
-}
-
-/// Whether two expressions have the same code, mode, number and name.
-pub fn same_head(a: &Rtx, b: &Rtx) -> bool
-    ensures { IsTrue result ↔ (head_of a.now ≡ head_of b.now) }
-{
-    if !a.code.same(b.code) {
-        return false;
-    }
-    if !a.mode.same(b.mode) {
-        return false;
-    }
-    if !same_number(a.number, b.number) {
-        return false;
-    }
-    a.name.same(&b.name)
 }

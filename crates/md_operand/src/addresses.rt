@@ -5,7 +5,8 @@ ghost use Rattle.md_operand.specs.Addresses as spec;
 use rtx_tree::{Code, Rtx, VIRTUAL_STACK_VARS};
 use rv_regs::STACK_POINTER;
 
-fn is_stack_vars(x: &Rtx) -> bool
+/// Whether an expression is `virtual-stack-vars`.
+pub fn is_stack_vars(x: &Rtx) -> bool
     ensures { result ≡ spec.is_stack_vars x.now }
 {
     matches!(x.code, Code::Reg) && x.number == i64::from(VIRTUAL_STACK_VARS)
@@ -24,7 +25,8 @@ pub fn is_base(x: &Rtx) -> bool
     matches!(x.code, Code::Reg) && x.number != i64::from(VIRTUAL_STACK_VARS)
 }
 
-fn is_constant(x: &Rtx) -> bool
+/// Whether an expression is a constant.
+pub fn is_any_constant(x: &Rtx) -> bool
     ensures { result ≡ spec.is_constant spec.is_any x.now }
 {
     matches!(x.code, Code::ConstInt)
@@ -34,14 +36,14 @@ fn is_constant(x: &Rtx) -> bool
 fn is_near_constant(x: &Rtx) -> bool
     ensures { result ≡ spec.is_constant spec.is_near x.now }
 {
-    is_constant(x) && x.number >= -2048 && x.number <= 2047
+    is_any_constant(x) && x.number >= -2048 && x.number <= 2047
 }
 
 /// Whether an expression is a constant of more than 12 bits, signed.
 fn is_beyond_constant(x: &Rtx) -> bool
     ensures { result ≡ spec.is_constant spec.is_beyond x.now }
 {
-    is_constant(x) && !(x.number >= -2048 && x.number <= 2047)
+    is_any_constant(x) && !(x.number >= -2048 && x.number <= 2047)
 }
 
 /// Whether an expression is what a load or a store addresses by itself.
@@ -60,7 +62,7 @@ pub fn frame_reference(x: &Rtx) -> bool
     ensures { result ≡ spec.is_frame_reference x.now }
 {
     match (x.code, x.kids.as_slice()) {
-        (Code::Plus, [base, offset]) => is_stack_vars(base) && is_constant(offset),
+        (Code::Plus, [base, offset]) => is_stack_vars(base) && is_any_constant(offset),
         _ => is_stack_vars(x),
     }
 }

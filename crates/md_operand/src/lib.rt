@@ -14,6 +14,8 @@ mod addresses;
 mod kinds;
 mod own;
 
-pub use addresses::{far_address, frame_reference, legitimate_address};
+pub use addresses::{
+    far_address, frame_reference, is_any_constant, is_stack_vars, legitimate_address,
+};
 pub use kinds::{is_constant, is_far, is_memory, is_register, is_symbol};
 pub use own::Own;

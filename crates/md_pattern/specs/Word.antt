@@ -1,10 +1,11 @@
 -- The words of patterns: numbers, names of constants, and registers. GCC Internals, "Constants" and
 -- "Registers and Memory".
-use Rattle.std.specs.Prelude.{ℕ, ℤ, pos, negsuc, ◌^◌, nat_lt, List, Option, Some, None, if◌then◌else◌, option_map, option_and_then}
+use Rattle.std.specs.Prelude.{ℕ, ℤ, ◌^◌, List, Option, option_map, option_and_then}
 use Rattle.std.specs.List.{find}
 use Rattle.std.specs.Option.{option_or}
 use Rattle.std.specs.Str.{bytes_eq}
 use Rattle.rtx_tree.specs.declared.constants.Constant.{Constant}
+use Rattle.lisp_read.specs.Leaf.{below}
 use Rattle.text_words.specs.Words.{number_in}
 
 -- the number of the first constant of a name
@@ -15,11 +16,6 @@ constant_named constants name =
 -- a number, or the name of a constant
 abbrev pub number_of : List Constant → List ℕ → Option ℤ
 number_of constants text = option_or (number_in text) (constant_named constants text)
-
--- a number from 0 up to, and without, a limit
-abbrev pub below : ℕ → ℤ → Option ℕ
-below limit (pos n) = if nat_lt n limit then Some n else None
-below limit (negsuc n) = None
 
 -- a hard register, by its number
 abbrev pub register_of : List Constant → List ℕ → Option ℕ

@@ -13,5 +13,5 @@ mod reason;
 mod word;
 
 pub use operand::{OperandText, OperandTexts, number_in};
-pub use pattern::{Pattern, Patterns, pattern_of, patterns_of};
+pub use pattern::{Pattern, Patterns, no_patterns, pattern_of, patterns_of};
 pub use reason::{Judged, Reason, both};

@@ -35,7 +35,8 @@ pub struct Patterns {
     pub texts: OperandTexts,
 }
 
-fn no_patterns(alloc: Global) -> Patterns
+/// No patterns at all.
+pub fn no_patterns(alloc: Global) -> Patterns
     ensures { result ≡ spec.no_patterns }
 {
     Patterns {

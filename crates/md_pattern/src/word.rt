@@ -1,7 +1,8 @@
 //! The words of patterns: numbers, names of constants, and registers.
-ghost use Rattle.std.specs.Prelude.{◌≡◌, ◌≤◌};
+ghost use Rattle.std.specs.Prelude.{◌≡◌};
 ghost use Rattle.md_pattern.specs.Word as spec;
 
+use lisp_read::below;
 use rtx_tree::Constant;
 use text_words::number_in;
 
@@ -24,18 +25,6 @@ pub fn number_of(constants: &[Constant], text: &[u8]) -> Option<i64>
     match number_in(text) {
         Some(number) => Some(number),
         None => constant_named(constants, text),
-    }
-}
-
-/// A number from 0 up to, and without, a limit.
-fn below(limit: u64, number: i64) -> Option<u32>
-    requires { limit ≤ 4294967296 }
-    ensures { result ≡ spec.below limit number }
-{
-    if number >= 0 && number.unsigned_abs() < limit {
-        Some(number as u32)
-    } else {
-        None
     }
 }
 

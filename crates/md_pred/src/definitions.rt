@@ -3,12 +3,11 @@ ghost use Rattle.std.specs.Prelude.{◌≡◌, ℕ, List, [], ◌∷◌, ◌++�
 ghost use Rattle.std.specs.Option.{option_copied, option_or};
 ghost use Rattle.std.specs.Str.{bytes_eq};
 ghost use Rattle.md_forms.specs.declared.form.Entry.{Entry};
-ghost use Rattle.md_forms.specs.Tables.{defines_predicate};
 ghost use Rattle.md_pred.specs.machine.Steps as steps;
 ghost use Rattle.md_pred.specs.machine.Table as table;
 
 use indexmap::IndexMap;
-use md_forms::{Entry, Form, FormHead, Judged};
+use md_forms::{Entry, Form, FormHead, Judged, defines_predicate};
 use plain_data::Memory;
 use pred_expr::Test;
 use pred_rows::TestRows;
@@ -33,18 +32,11 @@ pub struct Definitions {
     pub by_name: IndexMap<Vec<u8>, Definition>,
 }
 
-/// Whether a head defines a predicate.
-fn is_predicate(head: Option<FormHead>) -> bool
-    ensures { result ≡ defines_predicate head }
-{
-    matches!(head, Some(FormHead::Predicate | FormHead::SpecialPredicate))
-}
-
 /// The name of the predicate that a form defines.
 fn predicate_name(entry: &Entry) -> Option<&Name>
     ensures { option_copied result ≡ steps.predicate_name entry.now }
 {
-    if is_predicate(FormHead::named(entry.head.bytes())) {
+    if defines_predicate(FormHead::named(entry.head.bytes())) {
         entry.name.as_ref()
     } else {
         None

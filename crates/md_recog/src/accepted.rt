@@ -10,10 +10,11 @@ ghost use Rattle.md_match.specs.machine.Collected.{Makes, MakesAll};
 ghost use Rattle.md_recog.specs.Match as spec;
 
 use c_eval::Preds;
-use md_match::{Role, role_of, same_head};
-use rtx_tree::{Code, Rtx};
+use md_match::{Role, role_of};
+use rtx_tree::{Code, Rtx, same_head};
 
-fn names_predicate(code: Code) -> bool
+/// Whether a placeholder of this code names a predicate.
+pub fn names_predicate(code: Code) -> bool
     ensures { result ≡ spec.names_predicate code }
 {
     matches!(code, Code::MatchOperand | Code::MatchOperator)

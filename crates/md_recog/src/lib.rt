@@ -15,7 +15,8 @@ mod half;
 mod matching;
 mod recog;
 
+pub use accepted::names_predicate;
 pub use half::{Half, is_instruction};
-pub use matching::match_insns;
+pub use matching::{is_met, match_insns};
 pub use md_match::Steps;
 pub use recog::{FormMatch, first_match, match_at};

@@ -14,7 +14,7 @@ use std::alloc::Global;
 use std::sync::ledger::Ledger;
 
 /// Whether a condition is not 0 with operands.
-fn is_met<P: Preds>(condition: &Cond, facts: &Facts, operands: &Operands, preds: &P) -> bool
+pub fn is_met<P: Preds>(condition: &Cond, facts: &Facts, operands: &Operands, preds: &P) -> bool
     ensures { result ≡ spec.is_met (P.accepts preds.now) facts.now condition.now operands.now }
 {
     eval(condition, facts, operands, preds) != 0

@@ -1,7 +1,7 @@
 //! Reads a test from its tree.
 ghost use Rattle.std.specs.Prelude.{◌≡◌, ◌↔◌, ℕ, List, ◌∷◌, [], ◌++◌, IfOk, map};
 ghost use Rattle.std.specs.Option.{option_copied};
-ghost use Rattle.md_pattern.specs.lisp_read.Head.{code_in, code_named, mode_of_head};
+ghost use Rattle.md_pattern.specs.lisp_read.Head.{code_in, mode_of_head};
 ghost use Rattle.md_pattern.specs.lisp_read.Shape.{atom_of};
 ghost use Rattle.md_text.specs.Lists as lists;
 ghost use Rattle.md_pattern.specs.Reason.{judged_with};
@@ -15,7 +15,7 @@ ghost use Rattle.pred_expr.specs.Texts as texts;
 
 use crate::question::{Codes, Question, Test, Tests};
 use crate::texts::test_condition;
-use lisp_read::{Tree, atom, head_words, items, string};
+use lisp_read::{Tree, atom, code_in, head_words, items, string};
 use md_pattern::{Judged, Reason, both, number_in};
 use md_text::members_of;
 use plain_data::{Items, Memory};
@@ -82,23 +82,6 @@ fn text_in(parts: &[Tree]) -> Option<&Name>
     match parts {
         [text] => string(text),
         _ => None,
-    }
-}
-
-fn code_named(name: &[u8]) -> Option<Code>
-    ensures { result ≡ code_named name.now }
-{
-    Code::named(name)
-}
-
-/// The code with a name, `simple_return` being a return.
-fn code_in(name: &[u8]) -> Option<Code>
-    ensures { result ≡ code_in name.now }
-{
-    if name == b"simple_return".as_slice() {
-        Some(Code::Return)
-    } else {
-        code_named(name)
     }
 }
 

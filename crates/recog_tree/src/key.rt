@@ -1,8 +1,8 @@
 //! The key of an instruction, and that of a form.
 ghost use Rattle.std.specs.Prelude.{◌≡◌};
-ghost use Rattle.c_eval.specs.Value as value;
 ghost use Rattle.recog_tree.specs.Key as spec;
 
+use c_eval::same_code;
 use md_forms::{Entry, Form};
 use md_match::{Role, role_of};
 use md_recog::is_instruction;
@@ -22,12 +22,6 @@ fn is_wild(code: Code) -> bool
     ensures { result ≡ spec.is_wild code }
 {
     !matches!(role_of(code), Role::Itself)
-}
-
-fn same_code(a: Code, b: Code) -> bool
-    ensures { result ≡ value.same_code a b }
-{
-    a.same(b)
 }
 
 /// The code of the part with a number.

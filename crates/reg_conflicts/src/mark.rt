@@ -1,5 +1,5 @@
 //! What is live after a place, and the rows of what is defined there.
-ghost use Rattle.std.specs.Prelude.{◌≡◌, ℕ, ◌*◌, ◌/◌, ◌%◌, ◌<◌, ◌^◌, ◌==◌, ◌||◌, ◌&&◌, length, slice_index, All};
+ghost use Rattle.std.specs.Prelude.{◌≡◌, ℕ, ◌*◌, ◌<◌, ◌^◌, ◌==◌, ◌||◌, ◌&&◌, length, All};
 ghost use Rattle.rtx_tree.specs.RegSet.{has_reg};
 ghost use Rattle.reg_rows.specs.Row.{has};
 ghost use Rattle.reg_rows.specs.Table.{has_at, IsTable};
@@ -35,14 +35,6 @@ pub fn collect(live: &[RegRow], next: Successors, set: &mut RegRow)
     add_place(live, next.second, set);
 }
 
-/// Whether a word begins with register `reg` and is 0.
-fn is_passed(set: &RegRow, reg: usize) -> bool
-    requires { reg < 64 * length set.now }
-    ensures { result ≡ (reg % 64 == 0 && slice_index set.now (reg / 64) == 0) }
-{
-    reg % WORD == 0 && set.is_zero(reg / WORD)
-}
-
 /// Adds register `reg` to the row of another, if the set has that one.
 fn mark_other(rows: &mut [RegRow], other: usize, reg: u32, set: &RegRow)
     requires table { IsTable (length set.now) rows.old }
@@ -71,7 +63,7 @@ fn mark_others(rows: &mut [RegRow], reg: u32, set: &RegRow)
     let end = set.width() * WORD;
     let mut other = 0;
     while other < end {
-        if is_passed(set, other) {
+        if set.is_passed(other) {
             other += WORD;
             continue;
         }

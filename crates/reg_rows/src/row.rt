@@ -1,11 +1,13 @@
 //! A set of registers with room for those below a number.
-ghost use Rattle.std.specs.Prelude.{◌≡◌, ℕ, ◌-◌, ◌*◌, ◌^◌, ◌<◌, ◌≤◌, ◌==◌, ◌||◌, ◌&&◌, not, true, false, length, sum, slice_index, [], All, IfOk, OnOk};
+ghost use Rattle.std.specs.Prelude.{◌≡◌, ℕ, ◌-◌, ◌*◌, ◌/◌, ◌%◌, ◌^◌, ◌<◌, ◌≤◌, ◌==◌, ◌||◌, ◌&&◌, not, true, false, length, sum, slice_index, [], All, IfOk, OnOk};
 ghost use Rattle.reg_rows.specs.Row.{has, lists};
 
 use crate::words;
 use plain_data::Memory;
 use std::alloc::Global;
 use std::marker::Model;
+
+const WORD: usize = u64::BITS as usize;
 
 /// A set of registers by their numbers, with room for 64 in each word. Contracts see the words.
 #[derive(Drop)]
@@ -85,12 +87,12 @@ impl RegRow {
         self.words.len()
     }
 
-    /// Whether a word is 0: then the set has no register of it.
-    pub fn is_zero(&self, word: usize) -> bool
-        requires { word < length self.now }
-        ensures { result ≡ (slice_index self.now word == 0) }
+    /// Whether a word begins with register `reg` and is 0: then the set has no register of it.
+    pub fn is_passed(&self, reg: usize) -> bool
+        requires { reg < 64 * length self.now }
+        ensures { result ≡ (reg % 64 == 0 && slice_index self.now (reg / 64) == 0) }
     {
-        self.words[word] == 0
+        reg % WORD == 0 && self.words[reg / WORD] == 0
     }
 
     /// Whether the set has register `reg`.

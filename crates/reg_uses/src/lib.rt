@@ -19,7 +19,7 @@ pub use asked::{does_define, does_read, does_use};
 pub use defines::insn_defines;
 use plain_data::Items;
 pub use reads::add_reads;
-pub use returns::{is_return, return_uses};
+pub use returns::{any_insn_sets, is_return, return_uses};
 pub use uses::insn_uses;
 
 /// Registers by their numbers.

@@ -36,7 +36,8 @@ fn insn_sets(insn: &Insn, reg: u32) -> bool
     }
 }
 
-fn any_insn_sets(chain: &[Insn], reg: u32) -> bool
+/// Whether one of some instructions sets a register.
+pub fn any_insn_sets(chain: &[Insn], reg: u32) -> bool
     ensures { result ≡ list_any (insns.insn_sets reg) chain.now }
 {
     chain.iter().any(|insn| insn_sets(insn, reg))

@@ -1,20 +1,18 @@
 //! What can be moved.
 ghost use Rattle.std.specs.Prelude.{◌≡◌, ◌≤◌, length, map, IfOk};
-ghost use Rattle.c_eval.specs.Value.{same_mode, same_tree};
-ghost use Rattle.rtx_tree.specs.Tree.{head_of};
-ghost use Rattle.reload_fit.specs.Fitting as fit;
 ghost use Rattle.reload_moves.specs.Registers.{asks_of};
 ghost use Rattle.reload_choice.specs.Movable as spec;
 ghost use Rattle.reload_choice.specs.machine.Asked.{asks_in, is_reached};
 
 use crate::given::Given;
 use crate::insns::between;
+use c_eval::{same_mode, same_tree};
 use plain_data::{Items, Memory};
-use reload_fit::Asked;
+use reload_fit::{Asked, is_memory};
 use reload_moves::{Fitting, Part, is_marked, is_result};
 use reload_operands::{Operand, Whole, put};
 use rtl_func::{call_modes_agree, kinds_agree, shapes_agree};
-use rtx_tree::{Code, Kind, Mode, Operands, Rtx, same};
+use rtx_tree::{Kind, Mode, Operands, Rtx};
 use std::alloc::Global;
 
 fn is_mode(mode: Mode) -> bool
@@ -63,12 +61,6 @@ fn can_be_replaced(formed: &[bool], place: usize, x: &Operand) -> bool
     !x.is_operator && !x.is_hidden && is_mode(x.mode) && !x.in_lowpart && is_marked(formed, place)
 }
 
-fn is_memory(x: &Rtx) -> bool
-    ensures { result ≡ fit.is_memory_code (head_of x.now).code }
-{
-    matches!(x.code, Code::Mem)
-}
-
 fn may_land(x: &Operand) -> bool
     ensures { result ≡ spec.may_land x.now }
 {
@@ -85,18 +77,6 @@ fn may_end(given: &Given, x: &Operand) -> bool
     ensures { result ≡ spec.may_end given.now x.now }
 {
     may_have_results(given.kind, given.whole) && !x.is_clobbered && may_land(x)
-}
-
-fn same_tree(x: &Rtx, y: &Rtx) -> bool
-    ensures { result ≡ same_tree x.now y.now }
-{
-    same(x, y)
-}
-
-fn same_mode(a: Mode, b: Mode) -> bool
-    ensures { result ≡ same_mode a b }
-{
-    a.same(b)
 }
 
 fn are_same_inputs(x: &Operand, y: &Operand) -> bool

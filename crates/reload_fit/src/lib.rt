@@ -16,3 +16,4 @@ mod taken;
 
 pub use addressed::{address_on, on_register, slot_far};
 pub use asked::Asked;
+pub use standing::is_memory;

@@ -2,28 +2,23 @@
 ghost use Rattle.std.specs.Prelude.{◌≡◌, ◌==◌, ◌++◌, [], IfOk, OnOk};
 ghost use Rattle.std.specs.List.{position_from, cons_option};
 ghost use Rattle.std.specs.Option.{option_copied};
-ghost use Rattle.c_eval.specs.Value.{same_tree};
 ghost use Rattle.rtx_tree.specs.Tree.{head_of};
 ghost use Rattle.reload_fit.specs.Addressed as addressed;
 ghost use Rattle.reload_fit.specs.Fitting as spec;
 
 use crate::addressed::{far_offset, on_register, slot_far};
 use crate::asked::{Asked, has_address_letter, has_digit, is_early, number_in, shares_register};
+use c_eval::same_tree;
 use md_operand::is_far;
 use md_text::{Alternative, Member};
 use plain_data::{Items, Memory};
 use reload_moves::{Digit, Fitting, Needs, Standing};
 use reload_operands::{Base, Operand};
-use rtx_tree::{Code, Rtx, same};
+use rtx_tree::{Code, Rtx};
 use std::alloc::Global;
 
-fn same_tree(x: &Rtx, y: &Rtx) -> bool
-    ensures { result ≡ same_tree x.now y.now }
-{
-    same(x, y)
-}
-
-fn is_memory(x: &Rtx) -> bool
+/// Whether a tree is memory, at any address.
+pub fn is_memory(x: &Rtx) -> bool
     ensures { result ≡ spec.is_memory_code (head_of x.now).code }
 {
     matches!(x.code, Code::Mem)

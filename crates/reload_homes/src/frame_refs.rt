@@ -1,13 +1,12 @@
 //! References to the frame.
 ghost use Rattle.std.specs.Prelude.{◌≡◌, ℤ, pos, ◌+ℤ◌, IfOk};
 ghost use Rattle.std.specs.Int.{int_wrap, w64};
-ghost use Rattle.rtx_tree.specs.Tree.{head_of};
-ghost use Rattle.md_operand.specs.Addresses as addresses;
 ghost use Rattle.reload_homes.specs.FrameRefs as spec;
 
 use crate::parts::with_parts;
+use md_operand::{is_any_constant, is_stack_vars};
 use plain_data::{Items, Memory};
-use rtx_tree::{Code, Mode, Rtx, VIRTUAL_STACK_VARS};
+use rtx_tree::{Code, Mode, Rtx};
 use rv_regs::STACK_POINTER;
 use std::alloc::Global;
 
@@ -45,22 +44,10 @@ fn sum_of(size: u64, number: i64) -> i64
     size.cast_signed().wrapping_add(number)
 }
 
-fn is_stack_vars(x: &Rtx) -> bool
-    ensures { result ≡ addresses.is_stack_vars x.now }
-{
-    matches!(x.code, Code::Reg) && x.number == i64::from(VIRTUAL_STACK_VARS)
-}
-
-fn is_constant(x: &Rtx) -> bool
-    ensures { result ≡ addresses.is_constant addresses.is_any x.now }
-{
-    matches!(x.code, Code::ConstInt)
-}
-
 fn number_added(base: &Rtx, constant: &Rtx) -> Option<i64>
     ensures { result ≡ spec.number_added base.now constant.now }
 {
-    if is_stack_vars(base) && is_constant(constant) {
+    if is_stack_vars(base) && is_any_constant(constant) {
         Some(constant.number)
     } else {
         None

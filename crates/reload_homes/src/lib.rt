@@ -16,3 +16,4 @@ mod parts;
 pub use frame_refs::{from_sp, with_frame};
 pub use homes::{place_for, register_at, register_in, with_homes};
 pub use lookup::{home_at, slot_offset};
+pub use parts::with_parts;

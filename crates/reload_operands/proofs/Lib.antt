@@ -4,5 +4,4 @@ pub mod InsideLaws
 pub mod NumberLaws
 pub mod OrderLaws
 pub mod RisingLaws
-pub mod GiverLaws
 pub mod ChangeLaws

@@ -10,8 +10,9 @@ ghost use Rattle.reload_operands.specs.Changes as spec;
 
 use crate::bases::lives_in_slot;
 use crate::directions::is_changed_by;
-use crate::effects::{changed_register, changes_memory, effects_of};
+use crate::effects::{changed_register, changes_memory};
 use assign::Homes;
+use md_constr::effects_of;
 use rtx_tree::{Code, Rtx};
 
 fn is_register(x: &Rtx, reg: u64) -> bool

@@ -6,7 +6,7 @@ ghost use Rattle.rtx_tree.specs.Tree.{head_of};
 ghost use Rattle.md_constr.specs.Inputs as inputs;
 ghost use Rattle.reload_operands.specs.Directions as spec;
 
-use crate::effects::effects_of;
+use md_constr::effects_of;
 use rtx_tree::{Code, Rtx};
 
 fn is_numbered(x: &Rtx, number: u32) -> bool

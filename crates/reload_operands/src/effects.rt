@@ -1,22 +1,10 @@
-//! The effects of an instruction, and what each of them changes.
+//! What each effect of an instruction changes.
 ghost use Rattle.std.specs.Prelude.{◌≡◌, ◌<◌, ◌^◌, IfSome};
 ghost use Rattle.std.specs.Option.{option_copied};
-ghost use Rattle.md_constr.specs.Inputs as inputs;
 ghost use Rattle.reload_operands.specs.Changes as spec;
 
 use reload_homes::register_at;
 use rtx_tree::{Code, Rtx};
-use std::slice;
-
-/// The effects of an instruction or a pattern: those of a `parallel`, or itself.
-pub fn effects_of(insn: &Rtx) -> &[Rtx]
-    ensures { result.now ≡ inputs.effects_of insn.now }
-{
-    match insn.code {
-        Code::Parallel => insn.kids.as_slice(),
-        _ => slice::from_ref(insn),
-    }
-}
 
 /// What a `set` or a `clobber` changes.
 pub fn target_of(effect: &Rtx) -> Option<&Rtx>

@@ -12,7 +12,6 @@ mod bases;
 mod changes;
 mod directions;
 mod effects;
-mod giver;
 mod inside;
 mod news;
 mod numbers;

@@ -1,11 +1,11 @@
 //! New trees in the places of operands.
 ghost use Rattle.std.specs.Prelude.{◌≡◌, IfOk, map, unwrap_or};
 ghost use Rattle.std.specs.Option.{option_copied};
-ghost use Rattle.rtx_tree.specs.Tree.{head_of, tree_of};
 ghost use Rattle.reload_operands.specs.Put as spec;
 
 use md_match::{Role, operand_of, role_of};
 use plain_data::{Items, Memory};
+use reload_homes::with_parts;
 use rtx_tree::{Kids, Operands, Rtx};
 use std::alloc::Global;
 
@@ -16,18 +16,6 @@ fn new_or_own(alloc: Global, new: Option<&Rtx>, own: &Rtx) -> Result<Rtx, Memory
         Some(new) => new.copy(alloc),
         None => own.copy(alloc),
     }
-}
-
-fn with_parts(alloc: Global, head: &Rtx, kids: Kids) -> Result<Rtx, Memory>
-    ensures { IfOk result (λ r. r ≡ tree_of (head_of head.now) kids) }
-{
-    Ok(Rtx {
-        code: head.code,
-        mode: head.mode,
-        number: head.number,
-        name: head.name.copy(alloc)?,
-        kids,
-    })
 }
 
 fn copies(alloc: Global, trees: &[Rtx]) -> Result<Kids, Memory>

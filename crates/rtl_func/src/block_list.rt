@@ -23,7 +23,8 @@ fn is_label(insn: &Insn) -> bool
     matches!(insn.kind, Kind::Label)
 }
 
-fn is_jump(insn: &Insn) -> bool
+/// Whether an instruction is a jump.
+pub fn is_jump(insn: &Insn) -> bool
     ensures { result ≡ spec.is_jump_kind insn.now.kind }
 {
     matches!(insn.kind, Kind::Jump)

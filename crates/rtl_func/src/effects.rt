@@ -6,9 +6,8 @@ ghost use Rattle.std.specs.BTreeSet as set;
 ghost use Rattle.rtl_func.specs.Calls.{are_distinct};
 ghost use Rattle.rtl_func.specs.Effects as spec;
 ghost use Rattle.rtl_func.specs.machine.Changes as changes;
-ghost use Rattle.rtl_func.specs.Shapes.{is_constant};
 
-use crate::shape::class_at;
+use crate::shape::{class_at, is_constant};
 use crate::tables::register_at;
 use plain_data::Memory;
 use rtx_tree::{Class, Code, Rtx};
@@ -134,12 +133,6 @@ fn is_local_offset(locals: u32, offset: i64) -> bool
     ensures { result ≡ spec.is_local_offset locals offset }
 {
     offset <= 0 && 0 <= offset + i64::from(locals)
-}
-
-fn is_constant(x: &Rtx) -> bool
-    ensures { result ≡ is_constant x.now }
-{
-    matches!(class_at(x), Class::Constant)
 }
 
 fn is_lawful_sum(locals: u32, a: &Rtx, b: &Rtx) -> bool

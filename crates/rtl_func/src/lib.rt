@@ -30,7 +30,7 @@ mod tables;
 mod trees;
 mod uids;
 
-pub use block_list::{Block, blocks};
+pub use block_list::{Block, blocks, is_jump};
 pub use calls::{call_result_agrees, call_target_agrees};
 pub use check_rules::{CheckRefusal, check, check_behind};
 pub use edges::{successors, successors_by};
@@ -39,6 +39,7 @@ pub use flow::Successors;
 pub use labels::{Labels, labels_of};
 pub use names::Names;
 pub use paths::reaches_exit;
+pub use shape::{class_at, is_called, is_constant, is_place};
 pub use trees::{
     argument_registers, call_modes_agree, kinds_agree, parallels_hold_simple, shapes_agree,
 };

@@ -43,13 +43,15 @@ fn is_narrower(a: Mode, b: Mode) -> bool
     has_mode(a) && mode_bits(a) < mode_bits(b)
 }
 
-fn is_constant(x: &Rtx) -> bool
+/// Whether a tree is a constant.
+pub fn is_constant(x: &Rtx) -> bool
     ensures { result ≡ spec.is_constant x.now }
 {
     matches!(class_at(x), Class::Constant)
 }
 
-fn is_place(x: &Rtx) -> bool
+/// Whether a tree is a register, memory, or the low part of a register.
+pub fn is_place(x: &Rtx) -> bool
     ensures { result ≡ spec.is_place x.now }
 {
     matches!(
@@ -167,7 +169,8 @@ fn is_choice(test: &Rtx, label: &Rtx, next: &Rtx) -> bool
     matches!(class_at(test), Class::Comparison) && (is_label(label) && is_counter(next))
 }
 
-fn is_called(place: &Rtx, size: &Rtx) -> bool
+/// Whether a call may have these parts: memory and a constant.
+pub fn is_called(place: &Rtx, size: &Rtx) -> bool
     ensures { result ≡ spec.is_called place.now size.now }
 {
     matches!(class_at(place), Class::Memory) && is_constant(size)

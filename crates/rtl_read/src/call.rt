@@ -10,8 +10,8 @@ ghost use Rattle.rtl_read.specs.Call as spec;
 
 use crate::head::{head_of_list, head_word, is_parallel_head, named_code};
 use crate::pattern::{expression, pattern};
-use crate::word::{all_nested, is_alone};
-use lisp_read::{RtlRefusal, Tree, atom, is_nested, items, outside};
+use crate::word::is_alone;
+use lisp_read::{RtlRefusal, Tree, all_nested, atom, is_nested, items, outside};
 use plain_data::Items;
 use rtx_tree::{ArgUse, ArgUses, Code, Kids, Mode, Name, Rtx};
 use std::alloc::Global;

@@ -8,8 +8,8 @@ ghost use Rattle.lisp_read.specs.Shape as shape;
 
 use crate::call::{call, uses};
 use crate::pattern::pattern;
-use crate::word::{all_nested, number_of};
-use lisp_read::{RtlRefusal, Tree, is_nested, is_word, items, outside};
+use crate::word::number_of;
+use lisp_read::{RtlRefusal, Tree, all_nested, is_nested, is_word, items, outside};
 use plain_data::Items;
 use rtx_tree::{ArgUses, Code, Insn, Insns, Kind, Mode, Rtx};
 use std::alloc::Global;

@@ -1,11 +1,10 @@
 //! The words of RTL's text, and lists by the word that they begin with.
 ghost use Rattle.std.specs.Prelude.{◌≡◌};
-ghost use Rattle.std.specs.List.{list_all};
 ghost use Rattle.lisp_read.specs.Leaf.{uid_in};
 ghost use Rattle.lisp_read.specs.Shape as shape;
 ghost use Rattle.rtl_read.specs.Word as spec;
 
-use lisp_read::{Tree, atom, is_nested, is_word, items};
+use lisp_read::{Tree, atom, is_word, items};
 use text_words::number_in;
 
 /// A number of 32 bits.
@@ -43,16 +42,4 @@ pub fn is_alone(tree: &Tree, word: &[u8]) -> bool
         [head] => is_word(head, word),
         _ => false,
     }
-}
-
-/// Whether all are lists and vectors.
-pub fn all_nested(trees: &[Tree]) -> bool
-    ensures { result ≡ list_all shape.is_nested trees.now }
-{
-    for tree in trees {
-        if !is_nested(tree) {
-            return false;
-        }
-    }
-    true
 }

@@ -93,7 +93,8 @@ impl Function {
 /// Functions, in order.
 pub type Functions = Items<Function>;
 
-fn is_label(insn: &Insn, uid: u64) -> bool
+/// Whether an instruction is the label with this uid.
+pub fn is_label(insn: &Insn, uid: u64) -> bool
     ensures { result ≡ spec.is_label uid insn.now }
 {
     matches!(insn.kind, Kind::Label) && u64::from(insn.uid) == uid

@@ -28,7 +28,9 @@ mod tree;
 pub use class::{Class, HeadMode, Parts};
 pub use code::{Code, Mode};
 pub use constants::{Constant, Constants};
-pub use function::{ArgUse, ArgUses, Function, Functions, Insn, Insns, Kind, label_place};
+pub use function::{
+    ArgUse, ArgUses, Function, Functions, Insn, Insns, Kind, is_label, label_place,
+};
 pub use limit::{Limit, MOST_BYTES};
 pub use machine::{ByteWrites, RangeAt, Ranges, Replies, Reply, Start, SymbolAt, Symbols, World};
 pub use memories::{MemByte, Memories};
@@ -40,4 +42,4 @@ pub use registers::{
     FIRST_PSEUDO, HARD_REGS, VIRTUAL_STACK_VARS, pseudo, reg_call_used, reg_name, reg_number,
 };
 pub use stage::Stage;
-pub use tree::{Kids, Path, Rtx, same};
+pub use tree::{Kids, Path, Rtx, same, same_head};

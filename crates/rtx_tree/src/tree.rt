@@ -37,7 +37,8 @@ fn same_number(a: i64, b: i64) -> bool
     a == b
 }
 
-fn same_head(a: &Rtx, b: &Rtx) -> bool
+/// Whether two expressions have the same code, mode, number and name.
+pub fn same_head(a: &Rtx, b: &Rtx) -> bool
     ensures { IsTrue result ↔ (head_of a.now ≡ head_of b.now) }
 {
     if !a.code.same(b.code) {

@@ -1,18 +1,18 @@
 //! The first form that splits an instruction.
 ghost use Rattle.std.specs.Prelude.{◌≡◌, IfOk, None, Some};
 ghost use Rattle.split.specs.declared.form.FormSplit.{FormSplit};
-ghost use Rattle.form_needs.specs.Needs as needs;
 ghost use Rattle.split.specs.Split as spec;
 ghost use Rattle.split.specs.Split.{IsSplit, IsUnsplit};
 
 use crate::stage::{SplitStage, facts_of, is_admitted};
 use c_eval::Facts;
+use form_needs::is_kind;
 use gen_emit::Emission;
 use md_desc::Description;
 use md_emit::{emit, split_of};
 use md_recog::FormMatch;
 use plain_data::Memory;
-use rtx_tree::{Insn, Kids, Kind};
+use rtx_tree::{Insn, Kids};
 use std::alloc::Global;
 
 /// A form that splits an instruction, with what stands in its place.
@@ -52,13 +52,6 @@ fn given_by(
     }
 }
 
-/// Whether an item of a chain is an instruction.
-fn is_instruction(kind: Kind) -> bool
-    ensures { result ≡ needs.is_kind kind }
-{
-    matches!(kind, Kind::Plain | Kind::Jump | Kind::Call)
-}
-
 /// The first form that splits an instruction, where new pseudo registers are numbered from one on,
 /// or `None` where there is none.
 pub fn first_split(
@@ -72,7 +65,7 @@ pub fn first_split(
         IsSplit desc.now stage next insn.now s.form s.sequence) }
     ensures none { IfOk result (λ r. r ≡ None → IsUnsplit desc.now stage next insn.now) }
 {
-    if !is_instruction(insn.kind) {
+    if !is_kind(insn.kind) {
         return Ok(None);
     }
     let end = desc.forms().len() as u32;

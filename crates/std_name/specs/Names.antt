@@ -1,6 +1,6 @@
 -- The standard names of instructions: GCC Internals, "Standard Pattern Names For Generation"
 -- (`mov`, `add`, `ashl`, `neg`, `extend`, `cstore`, `cbranch`, `jump`, `call`, `call_value`, ..).
-use Rattle.std.specs.Prelude.{ℕ, ◌&&◌, not, Bool, true, false, if◌then◌else◌, List, [], ◌∷◌, ◌++◌, codes, Option, Some, None}
+use Rattle.std.specs.Prelude.{ℕ, ◌&&◌, not, Bool, if◌then◌else◌, List, [], ◌∷◌, ◌++◌, codes, Option, Some, None}
 use Rattle.std.specs.List.{list_all, flat_map}
 use Rattle.rtx_tree.specs.declared.class.Class.{Class}
 use Rattle.rtx_tree.specs.declared.class.Class.TheVariants as class
@@ -10,7 +10,7 @@ use Rattle.rtx_tree.specs.declared.code.Mode.{Mode}
 use Rattle.rtx_tree.specs.declared.code.Mode.TheVariants.{Void, QI, HI, SI, DI}
 use Rattle.rtx_tree.specs.declared.tree.Rtx.{Rtx, out-Rtx}
 use Rattle.rtx_tree.specs.Patterns.{is_pc}
-use Rattle.rtl_func.specs.Shapes.{class_at, mode_at, has_mode, is_constant}
+use Rattle.rtl_func.specs.Shapes.{class_at, mode_at, has_mode, is_constant, is_called}
 use Rattle.std_name.specs.declared.standard.StandardOperand.{StandardOperand}
 use Rattle.std_name.specs.declared.standard.Standard.{Standard}
 use Rattle.std_name.specs.Operands.{is_vars, fits, target, input, fixed}
@@ -61,14 +61,7 @@ row_where holds standard = if holds then standard else None
 
 -- ---- calls
 
-abbrev pub is_memory_class : Class → Bool
-is_memory_class class.Memory = true
-is_memory_class _ = false
-
 -- (call (mem ADDRESS) (const_int SIZE))
-abbrev pub is_called : Rtx → Rtx → Bool
-is_called place size = is_memory_class (class_at place) && is_constant size
-
 abbrev pub call_row : Rtx → Rtx → Option Standard
 call_row place size =
     row_where (is_called place size) (row (codes "call") [] [] (input Void place ∷ fixed size ∷ []))

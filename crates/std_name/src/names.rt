@@ -4,10 +4,11 @@ ghost use Rattle.rtl_func.specs.Shapes.{class_at};
 ghost use Rattle.std_name.specs.Names as spec;
 ghost use Rattle.std_name.specs.Operands as operands;
 
-use crate::operands::{class_at, fixed, input, is_constant, is_vars, target};
+use crate::operands::{fixed, input, is_vars, target};
 use crate::standard::{Standard, StandardOperand};
 use crate::words::{row, word_of};
 use plain_data::{Items, Memory};
+use rtl_func::{class_at, is_called, is_constant};
 use rtx_tree::{Class, Mode, Rtx};
 use std::alloc::Global;
 
@@ -55,12 +56,6 @@ fn push_compared(
     items.push(fixed(alloc, test)?)?;
     items.push(input(alloc, mode, a)?)?;
     items.push(input(alloc, mode, b)?)
-}
-
-fn is_called(place: &Rtx, size: &Rtx) -> bool
-    ensures { result ≡ spec.is_called place.now size.now }
-{
-    matches!(class_at(place), Class::Memory) && is_constant(size)
 }
 
 fn call_row(alloc: Global, place: &Rtx, size: &Rtx) -> Result<Option<Standard>, Memory>

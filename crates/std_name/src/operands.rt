@@ -1,35 +1,12 @@
 //! Operands of instructions that have standard names.
 ghost use Rattle.std.specs.Prelude.{◌≡◌, IfOk};
-ghost use Rattle.rtl_func.specs.Shapes as shapes;
 ghost use Rattle.std_name.specs.Operands as spec;
 
 use crate::standard::{OperandRole, StandardOperand};
 use plain_data::Memory;
+use rtl_func::{class_at, is_place};
 use rtx_tree::{Class, Mode, Rtx, VIRTUAL_STACK_VARS};
 use std::alloc::Global;
-
-/// What a tree is, by its code.
-pub fn class_at(x: &Rtx) -> Class
-    ensures { result ≡ shapes.class_at x.now }
-{
-    x.code.class()
-}
-
-/// Whether a tree is a constant.
-pub fn is_constant(x: &Rtx) -> bool
-    ensures { result ≡ shapes.is_constant x.now }
-{
-    matches!(class_at(x), Class::Constant)
-}
-
-fn is_place(x: &Rtx) -> bool
-    ensures { result ≡ shapes.is_place x.now }
-{
-    matches!(
-        class_at(x),
-        Class::Register | Class::Memory | Class::Lowpart
-    )
-}
 
 fn is_leaf(x: &Rtx) -> bool
     ensures { result ≡ spec.is_leaf x.now }

@@ -14,23 +14,10 @@ use crate::numbers::{Numbers, put_changed};
 use plain_data::{Items, Memory};
 use rtx_tree::{HARD_REGS, RegSet, VIRTUAL_STACK_VARS, reg_call_used};
 use std::alloc::Global;
-use sym_state::{SymReg, own_register};
+use sym_state::{SymReg, held, own_register};
 use sym_term::TermMaker;
 use term_text::Item;
 use term_tree::{Term, is_narrower};
-
-/// The register among those that were changed, where it is one of them.
-fn held(regs: &[SymReg], reg: u64) -> Option<&SymReg>
-    ensures { option_map (λ r. (changed_of r.now).value) result ≡
-        held_spec (map changed_of regs.entry.now) reg }
-{
-    for changed in regs {
-        if changed.reg == reg {
-            return Some(changed);
-        }
-    }
-    None
-}
 
 /// Whether a register was changed.
 fn is_changed(regs: &[SymReg], reg: u64) -> bool

@@ -17,7 +17,7 @@ mod terms;
 
 pub use makers::{less_one, one, sum, truth_in, two};
 pub use refusal::SymRefusal;
-pub use registers::{leave_by_call, put, read, read_need};
+pub use registers::{held, leave_by_call, put, read, read_need};
 pub use state::{
     NeedOf, SymArg, SymArgs, SymCall, SymJump, SymNeed, SymNeeds, SymReg, SymRegs, SymState,
 };

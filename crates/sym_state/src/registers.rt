@@ -18,7 +18,7 @@ use term_sums::constant_term;
 use term_tree::{Term, is_narrower};
 
 /// The register among those that were changed, where it is one of them.
-fn held(regs: &[SymReg], reg: u64) -> Option<&SymReg>
+pub fn held(regs: &[SymReg], reg: u64) -> Option<&SymReg>
     ensures { option_map (λ r. (changed_of r.now).value) result ≡
         spec.held (map changed_of regs.entry.now) reg }
 {

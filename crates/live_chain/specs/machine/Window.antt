@@ -4,8 +4,6 @@ use Rattle.std.specs.Prelude.{◌≡◌, ℕ, ◌<◌, Bool, true, false, ◌||�
 use Rattle.std.specs.List.{list_any}
 use Rattle.reg_rows.specs.Row.{has}
 use Rattle.reg_rows.specs.Table.{has_at}
-use Rattle.rtx_tree.specs.declared.function.Kind.{Kind}
-use Rattle.rtx_tree.specs.declared.function.Kind.TheVariants.{Jump}
 use Rattle.rtx_tree.specs.declared.function.Insn.{Insn}
 use Rattle.rtx_tree.specs.Patterns.{is_label_kind}
 use Rattle.rtx_tree.specs.RegSet.{has_reg}
@@ -13,6 +11,7 @@ use Rattle.rv_regs.specs.Registers.{kept_registers}
 use Rattle.reg_uses.specs.Uses.{insn_uses, insn_defines, insn_sets, is_return}
 use Rattle.rtl_func.specs.declared.flow.Flow.{Flow}
 use Rattle.rtl_func.specs.declared.flow.Flow.TheVariants.{Falls}
+use Rattle.rtl_func.specs.Blocks.{is_jump_kind}
 use Rattle.rtl_func.specs.Successors.{flow_of}
 
 -- the window asks for a register: it uses it before it defines it
@@ -33,10 +32,6 @@ abbrev pub flow_behind : List Insn → Flow
 flow_behind [] = Falls
 flow_behind (i ∷ []) = flow_of i
 flow_behind (i ∷ j ∷ window) = flow_behind (j ∷ window)
-
-abbrev pub is_jump_kind : Kind → Bool
-is_jump_kind Jump = true
-is_jump_kind _ = false
 
 -- neither a label nor a return
 abbrev pub is_inner : Insn → Bool

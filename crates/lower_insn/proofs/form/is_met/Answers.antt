@@ -7,6 +7,6 @@ use Rattle.lower_insn.proofs.form.is_met.Goals as goal
 
 pub returns : goal.returns
 returns c =
-    c.holds_with.ensures ∙
+    c.is_met.ensures ∙
     (ap (λ (a : Accepts). is_met a c.lower_facts-facts.result c.args.form.now.condition c.args.operands.now) c.preds-preds.ensures ∙
     ap (λ (f : Facts). is_met (holds c.args.desc.now) f c.args.form.now.condition c.args.operands.now) c.lower_facts-facts.ensures)

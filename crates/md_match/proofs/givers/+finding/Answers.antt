@@ -1,6 +1,6 @@
 use Rattle.std.proofs.Common.{rules, sym}
-use Rattle.reload_operands.proofs.GiverLaws.{among_found}
-use Rattle.reload_operands.proofs.giver.+finding.Goals as goal
+use Rattle.md_match.proofs.GiverLaws.{among_found}
+use Rattle.md_match.proofs.givers.+finding.Goals as goal
 
 pub giver_among-returns-in-Some : goal.giver_among-returns-in-Some
 giver_among-returns-in-Some t c =

@@ -8,9 +8,11 @@ use Rattle.rtx_tree.specs.Tree.{head_of, kids_of}
 use Rattle.md_match.specs.declared.role.Role.{Role}
 use Rattle.md_match.specs.declared.role.Role.TheVariants.{Operand, Operator, Itself}
 use Rattle.md_match.specs.Pattern.{role_of, gives_number, placeholders, placeholders_as}
+use Rattle.md_match.proofs.Parts.{opened}
 use Rattle.md_match.proofs.Placeholders.{placeholders_out}
-use Rattle.reload_operands.specs.Operands.{giver}
-use Rattle.reload_operands.proofs.Opened.{opened}
+
+abbrev pub giver : Rtx → ℕ → Option Rtx
+giver p k = find (gives_number k) (placeholders p)
 
 -- the first of the one list, or else of the other
 abbrev pub or_first : Option Rtx → Option Rtx → Option Rtx

@@ -2,37 +2,34 @@
 ghost use Rattle.std.specs.Prelude.{◌≡◌, flat_map};
 ghost use Rattle.std.specs.List.{find};
 ghost use Rattle.std.specs.Option.{option_copied};
-ghost use Rattle.md_match.specs.Pattern.{gives_number, placeholders};
-ghost use Rattle.reload_operands.specs.Operands as spec;
+ghost use Rattle.md_match.specs.Pattern as spec;
 
-use md_match::{Role, role_of};
-use rtx_tree::{Code, Rtx};
+use crate::role::{Role, gives, role_of};
+use rtx_tree::Rtx;
 
-fn gives(placeholder: &Rtx, number: u32) -> bool
-    ensures { result ≡ gives_number number placeholder.now }
+fn gives_number(placeholder: &Rtx, number: u32) -> bool
+    ensures { result ≡ spec.gives_number number placeholder.now }
 {
-    matches!(
-        placeholder.code,
-        Code::MatchOperand | Code::MatchScratch | Code::MatchOperator
-    ) && placeholder.number == i64::from(number)
+    gives(placeholder.code) && placeholder.number == i64::from(number)
 }
 
 /// The first placeholder of a pattern that gives the operand with a number.
 #[cycle(finding)]
 #[tactic(auto, using(crate::proofs::GiverLaws::operand_here, crate::proofs::GiverLaws::operand_other, crate::proofs::GiverLaws::operator_here, crate::proofs::GiverLaws::operator_inside, crate::proofs::GiverLaws::itself_inside))]
 pub fn giver(pattern: &Rtx, number: u32) -> Option<&Rtx>
-    ensures { option_copied result ≡ spec.giver pattern.now number }
+    ensures { option_copied result ≡ find (spec.gives_number number)
+        (spec.placeholders pattern.now) }
 {
     match role_of(pattern.code) {
         Role::Operand => {
-            if gives(pattern, number) {
+            if gives_number(pattern, number) {
                 Some(pattern)
             } else {
                 None
             }
         }
         Role::Operator => {
-            if gives(pattern, number) {
+            if gives_number(pattern, number) {
                 Some(pattern)
             } else {
                 giver_among(pattern.kids.as_slice(), number)
@@ -42,11 +39,12 @@ pub fn giver(pattern: &Rtx, number: u32) -> Option<&Rtx>
     }
 }
 
+/// The first placeholder of some patterns that gives the operand with a number.
 #[cycle(finding)]
 #[tactic(auto, using(crate::proofs::GiverLaws::among_found, crate::proofs::GiverLaws::among_next))]
-fn giver_among(patterns: &[Rtx], number: u32) -> Option<&Rtx>
-    ensures { option_copied result ≡ find (gives_number number)
-        (flat_map placeholders patterns.now) }
+pub fn giver_among(patterns: &[Rtx], number: u32) -> Option<&Rtx>
+    ensures { option_copied result ≡ find (spec.gives_number number)
+        (flat_map spec.placeholders patterns.now) }
 {
     for pattern in patterns {
         if let Some(found) = giver(pattern, number) {

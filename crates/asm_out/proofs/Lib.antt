@@ -1,7 +1,6 @@
 pub mod Refusing
 pub mod PartLaws
 pub mod PlacesLaws
-pub mod Sorted
 pub mod LineLaws
 pub mod PlaceOne
 pub mod ReadLaws

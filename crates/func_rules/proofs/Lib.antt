@@ -7,6 +7,7 @@ pub mod Registers
 pub mod Chain
 pub mod Returning
 pub mod Standing
+pub mod Entries
 pub mod Reading
 pub mod Marks
 pub mod Jumps

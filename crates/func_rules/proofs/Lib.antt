@@ -1,7 +1,6 @@
 pub mod Kept
 pub mod Uids
 pub mod Mentions
-pub mod Nodes
 pub mod Arguments
 pub mod Registers
 pub mod Chain

@@ -12,6 +12,8 @@ use Rattle.rtx_tree.specs.declared.machine.SymbolAt.{SymbolAt}
 use Rattle.rtx_tree.specs.declared.memories.MemByte.{MemByte}
 use Rattle.rtx_tree.specs.declared.tree.Rtx.{Rtx}
 use Rattle.rtl_func.specs.Shapes.{mode_at, is_effect, is_effect_class, is_shaped}
+use Rattle.rtl_func.proofs.Nodes as nodes
+use Rattle.rtl_func.proofs.Nodes.{all_pass}
 use Rattle.rtl_step.specs.Effect.{effect_of, address_of, address_part, register_of, register_by, set_place}
 use Rattle.rtl_step.specs.Regs.{Regs}
 use Rattle.rtl_step.specs.Value.{width_of}
@@ -34,8 +36,6 @@ use Rattle.moves_mean.proofs.InputPlaces.{StandsThere, no_parts, empty}
 use Rattle.moves_mean.proofs.InsnTurns.{effect_codes}
 use Rattle.moves_mean.proofs.Matched.{IsLow, made_by, made_length, alone, front, no_kids, row_of}
 use Rattle.moves_mean.proofs.NewTrees.{is_lowpart, is_lowpart_class, is_whole, whole_low}
-use Rattle.moves_mean.proofs.Nodes as nodes
-use Rattle.moves_mean.proofs.Nodes.{all_pass}
 use Rattle.moves_mean.proofs.SetValues.{SetReads, set_reads, at_valued}
 use Rattle.moves_mean.proofs.SetWidth.{no_register}
 use Rattle.moves_mean.proofs.TakenThere.{IsAt, part_at, PartThere, taken_there, parts_there}

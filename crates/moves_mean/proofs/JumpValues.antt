@@ -19,6 +19,8 @@ use Rattle.rtx_tree.specs.declared.memories.MemByte.{MemByte}
 use Rattle.rtx_tree.specs.declared.tree.Rtx.{Rtx}
 use Rattle.rtl_func.specs.Kinds.{is_jump_by, is_jump_tree}
 use Rattle.rtl_func.specs.Shapes.{class_at, mode_at, is_constant, is_constant_class, is_label_class, is_counter_class, is_comparison_class, is_jump_source_class, is_effect, is_effect_class, is_shaped}
+use Rattle.rtl_func.proofs.Nodes as nodes
+use Rattle.rtl_func.proofs.Nodes.{all_pass}
 use Rattle.rtl_step.specs.Jump.{way_of, jump_of}
 use Rattle.rtl_step.specs.Regs.{Regs}
 use Rattle.rtl_step.specs.Value.{value_of}
@@ -43,8 +45,6 @@ use Rattle.moves_mean.proofs.JumpTrees.{put_alone, IsJump, returns, sets, IsSour
 use Rattle.moves_mean.proofs.Jumping.{comparison_any}
 use Rattle.moves_mean.proofs.Matched.{IsLow}
 use Rattle.moves_mean.proofs.NewTrees.{is_whole}
-use Rattle.moves_mean.proofs.Nodes as nodes
-use Rattle.moves_mean.proofs.Nodes.{all_pass}
 use Rattle.moves_mean.proofs.PutParts.{each_put, over_is}
 use Rattle.moves_mean.proofs.SetValues.{at_valued}
 use Rattle.moves_mean.proofs.TakenThere.{IsAt, part_at, PartThere, taken_there, parts_there}

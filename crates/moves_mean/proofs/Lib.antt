@@ -1,5 +1,4 @@
 pub mod NewTrees
-pub mod Nodes
 pub mod Readings
 pub mod ReadTrees
 pub mod Putting

@@ -20,6 +20,8 @@ use Rattle.rtx_tree.specs.declared.tree.Rtx.{Rtx, out-roll-Rtx}
 use Rattle.rtx_tree.specs.declared.tree.Rtx.TheOpen.{Rtx-F}
 use Rattle.rtl_func.specs.Kinds.{is_jump_by, is_jump_tree, is_call_by, is_call_tree, kinds_agree}
 use Rattle.rtl_func.specs.Shapes.{class_at, is_effect, is_effect_class, is_call_class, is_shaped}
+use Rattle.rtl_func.proofs.Nodes as nodes
+use Rattle.rtl_func.proofs.Nodes.{all_pass}
 use Rattle.rtl_step.specs.Effect.{address_of, address_part}
 use Rattle.rtl_step.specs.Jump.{jump_of}
 use Rattle.rtl_step.specs.Regs.{Regs}
@@ -55,8 +57,6 @@ use Rattle.moves_mean.proofs.InsnTurns.{IsBeside, operator_becomes, operand_stay
 use Rattle.moves_mean.proofs.JumpTrees.{IsJump, returns, sets, jump_is, is_bare_class, bare_kids, pc_class}
 use Rattle.moves_mean.proofs.NewTrees.{Becomes, AllBecome, is_lowpart, is_whole, whole_low}
 use Rattle.moves_mean.proofs.NewTrees as trees
-use Rattle.moves_mean.proofs.Nodes as nodes
-use Rattle.moves_mean.proofs.Nodes.{all_pass}
 use Rattle.moves_mean.proofs.PlainInner.{other, known, fetched, formed}
 use Rattle.moves_mean.proofs.PutParts.{each_put, over_is, parts_are}
 use Rattle.moves_mean.proofs.Putting.{put_becomes}

@@ -19,7 +19,7 @@ use Rattle.rtl_func.specs.Nodes.{nodes_of}
 use Rattle.rtl_func.specs.Rules.{keeps}
 use Rattle.rtl_func.specs.Shapes.{is_effect_class, is_shaped, is_bare, fits_row, has_call_mode, has_call_mode_by}
 use Rattle.rtl_func.proofs.NodeLaws.{nodes_out}
-use Rattle.rtl_func.proofs.Nodes.{all_pass}
+use Rattle.rtl_func.proofs.AllPass.{all_pass}
 use Rattle.rtl_chain.specs.End.{return_insn}
 
 -- a return has no parts

@@ -13,7 +13,7 @@ use Rattle.rtx_tree.specs.Tree.{head_of, kids_of, is_reg_numbered, mentions_reg}
 use Rattle.rtx_tree.proofs.Trees.{mentions_out}
 use Rattle.rtl_func.specs.Calls.{is_argument, is_hard_argument, has_argument}
 use Rattle.rtl_func.specs.Modes.{register_by}
-use Rattle.rtl_func.proofs.Nodes.{all_pass, pass_out}
+use Rattle.rtl_func.proofs.AllPass.{all_pass, pass_out}
 use Rattle.func_input.proofs.rtl_print.TreeText.{rtx_induction}
 
 module _ (reg : ℕ) (hard : reg < 32) where

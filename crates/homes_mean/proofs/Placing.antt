@@ -23,10 +23,10 @@ use Rattle.rtx_tree.proofs.Trees.{head_of-tree, kids_of-tree, mentions_out}
 use Rattle.run_memory.specs.RunMemory.{load}
 use Rattle.rtl_step.specs.Regs.{Regs, reg_value}
 use Rattle.rtl_step.specs.Value.{Reading, width_of, value_of, of_one}
+use Rattle.rtl_step.proofs.Too.{Too, too_two}
 use Rattle.md_operand.specs.Addresses.{is_stack_vars, is_constant, is_any}
 use Rattle.text_words.specs.Words.{fits_i64}
 use Rattle.window_mean.specs.Beside.{Within}
-use Rattle.homes_mean.proofs.Too.{Too, too_two}
 use Rattle.assign.specs.declared.home.Home.{Home}
 use Rattle.assign.specs.declared.home.Home.TheVariants.{Hard, Slot}
 use Rattle.assign.specs.declared.home.HomeOf.{HomeOf}

@@ -15,7 +15,7 @@ use Rattle.run_memory.proofs.Laws.{Apart}
 use Rattle.rtl_func.specs.Calls.{are_distinct}
 use Rattle.rtl_func.specs.Effects.{changed_register, changes_once_by, changes_once, parallels_change_once}
 use Rattle.rtl_func.specs.Paths.{has_place}
-use Rattle.rtl_func.proofs.Nodes.{itself}
+use Rattle.rtl_func.proofs.AllPass.{itself}
 use Rattle.rtl_step.specs.Regs.{Regs}
 use Rattle.rtl_step.specs.Value.{value_of}
 use Rattle.rtl_step.specs.declared.effect.Effect.{Effect}

@@ -21,7 +21,7 @@ use Rattle.rtx_tree.specs.declared.tree.Rtx.{Rtx}
 use Rattle.rtx_tree.proofs.Trees.{head_of-tree}
 use Rattle.run_memory.specs.RunMemory.{load}
 use Rattle.rtl_func.specs.Shapes.{class_at, mode_at, number_at, is_bare, fits_row, is_shaped}
-use Rattle.rtl_func.proofs.Nodes.{all_pass, itself, within}
+use Rattle.rtl_func.proofs.AllPass.{all_pass, itself, within}
 use Rattle.rtl_step.specs.Regs.{Regs, reg_value}
 use Rattle.rtl_step.specs.Value.{value_of, of_one, of_two, binary}
 use Rattle.rv_regs.specs.Registers.{stack_pointer}

@@ -13,8 +13,8 @@ use Rattle.rtx_tree.specs.declared.code.Mode.{Mode}
 use Rattle.rtx_tree.specs.declared.tree.Rtx.{Rtx, out-roll-Rtx}
 use Rattle.rtx_tree.specs.declared.tree.Rtx.TheOpen.{Rtx-F}
 use Rattle.rtl_func.specs.Shapes.{class_at, mode_at, number_at, is_effect, is_effect_class, is_true_register, is_narrower, fits_row, is_bare, is_shaped}
-use Rattle.rtl_func.proofs.Nodes as nodes
-use Rattle.rtl_func.proofs.Nodes.{all_pass}
+use Rattle.rtl_func.proofs.AllPass as nodes
+use Rattle.rtl_func.proofs.AllPass.{all_pass}
 use Rattle.md_match.proofs.Instantiated.{each_made, made_itself}
 use Rattle.md_match.specs.Pattern.{Ops, role_of, operand_of, instantiated}
 use Rattle.md_match.specs.declared.role.Role.{Role}

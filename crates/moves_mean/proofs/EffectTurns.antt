@@ -14,7 +14,7 @@ use Rattle.rtx_tree.specs.declared.machine.SymbolAt.{SymbolAt}
 use Rattle.rtx_tree.specs.declared.memories.MemByte.{MemByte}
 use Rattle.rtx_tree.specs.declared.tree.Rtx.{Rtx}
 use Rattle.rtl_func.specs.Shapes.{class_at, mode_at, is_place, is_effect, is_effect_class, is_shaped}
-use Rattle.rtl_func.proofs.Nodes.{all_pass}
+use Rattle.rtl_func.proofs.AllPass.{all_pass}
 use Rattle.rtl_step.specs.Effect.{effect_of, effect_by, clobber_effect, clobber_by, address_of, register_of, register_by, set_place}
 use Rattle.rtl_step.specs.Regs.{Regs}
 use Rattle.rtl_step.specs.Value.{width_of}

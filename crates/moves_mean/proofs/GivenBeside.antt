@@ -11,7 +11,7 @@ use Rattle.rtx_tree.specs.declared.machine.SymbolAt.{SymbolAt}
 use Rattle.rtx_tree.specs.declared.memories.MemByte.{MemByte}
 use Rattle.rtx_tree.specs.declared.tree.Rtx.{Rtx}
 use Rattle.rtl_func.specs.Shapes.{is_effect, is_shaped}
-use Rattle.rtl_func.proofs.Nodes.{all_pass}
+use Rattle.rtl_func.proofs.AllPass.{all_pass}
 use Rattle.rtl_step.specs.Regs.{Regs}
 use Rattle.md_constr.specs.Inputs.{effects_by, effects_of, changed_here, changed_whole, changed_at_by, changed_at}
 use Rattle.md_match.specs.Pattern.{Ops, role_of, operand_numbered, instantiated}

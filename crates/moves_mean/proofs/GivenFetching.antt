@@ -11,7 +11,7 @@ use Rattle.rtx_tree.specs.declared.memories.MemByte.{MemByte}
 use Rattle.rtx_tree.specs.declared.tree.Rtx.{Rtx}
 use Rattle.run_memory.specs.RunMemory.{load}
 use Rattle.rtl_func.specs.Shapes.{is_shaped}
-use Rattle.rtl_func.proofs.Nodes.{all_pass}
+use Rattle.rtl_func.proofs.AllPass.{all_pass}
 use Rattle.rtl_step.specs.Regs.{Regs, reg_value}
 use Rattle.rv_regs.specs.Registers.{stack_pointer}
 use Rattle.same_behaviour.specs.Lawful.{IsMemory}

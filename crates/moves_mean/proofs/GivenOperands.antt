@@ -8,7 +8,7 @@ use Rattle.rtx_tree.specs.declared.code.Mode.{Mode}
 use Rattle.rtx_tree.specs.declared.code.Mode.TheVariants.{Void, QI, HI, SI, DI}
 use Rattle.rtx_tree.specs.declared.tree.Rtx.{Rtx}
 use Rattle.rtl_func.specs.Shapes.{mode_at, is_shaped}
-use Rattle.rtl_func.proofs.Nodes.{all_pass, within}
+use Rattle.rtl_func.proofs.AllPass.{all_pass, within}
 use Rattle.rtl_step.specs.Value.{width_of}
 use Rattle.sym_insns.specs.Shape.{all_natural}
 use Rattle.assign.specs.declared.home.Home.TheVariants.{Slot}

@@ -20,7 +20,7 @@ use Rattle.rtx_tree.specs.declared.machine.SymbolAt.{SymbolAt}
 use Rattle.rtx_tree.specs.declared.memories.MemByte.{MemByte}
 use Rattle.rtx_tree.specs.declared.tree.Rtx.{Rtx, out-roll-Rtx}
 use Rattle.rtx_tree.specs.declared.tree.Rtx.TheOpen.{Rtx-F}
-use Rattle.rtl_func.proofs.Nodes.{all_pass, pass_out}
+use Rattle.rtl_func.proofs.AllPass.{all_pass, pass_out}
 use Rattle.rtl_step.specs.Effect.{address_part, address_of, effect_of, effects_by, effects_of, one_effect}
 use Rattle.rtl_step.specs.Regs.{Regs}
 use Rattle.rtl_step.specs.Value.{value_of}

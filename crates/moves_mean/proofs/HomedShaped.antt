@@ -17,8 +17,8 @@ use Rattle.rtx_tree.specs.declared.code.Mode.TheVariants.{Void, DI}
 use Rattle.rtx_tree.specs.declared.tree.Rtx.{Rtx, out-Rtx, out-roll-Rtx}
 use Rattle.rtx_tree.specs.declared.tree.Rtx.TheOpen.{Rtx-F}
 use Rattle.rtl_func.specs.Shapes.{class_at, mode_at, number_at, has_mode, same_mode, is_value_class, is_constant_class, is_narrower, is_true_register, fits_one, is_operand, is_register_number, fits_row, is_bare, is_shaped}
-use Rattle.rtl_func.proofs.Nodes as nodes
-use Rattle.rtl_func.proofs.Nodes.{all_pass, pass_out}
+use Rattle.rtl_func.proofs.AllPass as nodes
+use Rattle.rtl_func.proofs.AllPass.{all_pass, pass_out}
 use Rattle.sym_insns.specs.Shape.{all_natural}
 use Rattle.assign.specs.declared.home.Home.{Home}
 use Rattle.assign.specs.declared.home.Home.TheVariants.{Hard, Slot}

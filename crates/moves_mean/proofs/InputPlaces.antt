@@ -12,8 +12,8 @@ use Rattle.rtx_tree.specs.declared.code.Code.{Code}
 use Rattle.rtx_tree.specs.declared.code.Code.TheVariants as code
 use Rattle.rtx_tree.specs.declared.tree.Rtx.{Rtx}
 use Rattle.rtl_func.specs.Shapes.{is_shaped}
-use Rattle.rtl_func.proofs.Nodes as nodes
-use Rattle.rtl_func.proofs.Nodes.{all_pass}
+use Rattle.rtl_func.proofs.AllPass as nodes
+use Rattle.rtl_func.proofs.AllPass.{all_pass}
 use Rattle.md_constr.specs.Inputs.{taken_here, taken_in}
 use Rattle.md_match.proofs.Instantiated.{each_made, made_operand}
 use Rattle.md_match.proofs.Placeholders.{placeholders_out}

@@ -15,7 +15,7 @@ use Rattle.rtx_tree.specs.declared.memories.MemByte.{MemByte}
 use Rattle.rtx_tree.specs.declared.tree.Rtx.{Rtx}
 use Rattle.rtl_func.specs.Calls.{is_argument}
 use Rattle.rtl_func.specs.Kinds.{kinds_agree, is_jump_tree, is_call_tree}
-use Rattle.rtl_func.proofs.Nodes.{all_pass}
+use Rattle.rtl_func.proofs.AllPass.{all_pass}
 use Rattle.rtl_step.specs.Call.{call_part, event_of, args_of, result_width, target_of, target_value}
 use Rattle.rtl_step.specs.Effect.{effects_of}
 use Rattle.rtl_step.specs.Jump.{jump_of}

@@ -16,8 +16,8 @@ use Rattle.rtx_tree.specs.declared.code.Mode.{Mode}
 use Rattle.rtx_tree.specs.declared.tree.Rtx.{Rtx, out-roll-Rtx}
 use Rattle.rtx_tree.specs.declared.tree.Rtx.TheOpen.{Rtx-F}
 use Rattle.rtl_func.specs.Shapes.{class_at, mode_at, number_at, is_true_register, is_narrower, is_bare, fits_row, is_shaped}
-use Rattle.rtl_func.proofs.Nodes as nodes
-use Rattle.rtl_func.proofs.Nodes.{all_pass}
+use Rattle.rtl_func.proofs.AllPass as nodes
+use Rattle.rtl_func.proofs.AllPass.{all_pass}
 use Rattle.md_match.proofs.Instantiated.{each_made, made_operand, made_itself, made_operator, made_no_operator}
 use Rattle.md_match.specs.Pattern.{Ops, role_of, operand_of, operand_numbered, instantiated}
 use Rattle.md_match.specs.declared.role.Role.{Role}

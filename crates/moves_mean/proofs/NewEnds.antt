@@ -19,7 +19,7 @@ use Rattle.rtx_tree.specs.declared.tree.Rtx.{Rtx, out-roll-Rtx}
 use Rattle.rtx_tree.specs.declared.tree.Rtx.TheOpen.{Rtx-F}
 use Rattle.rtx_tree.proofs.Trees.{head_of-tree, kids_of-tree}
 use Rattle.rtl_func.specs.Shapes.{class_at, mode_at}
-use Rattle.rtl_func.proofs.Nodes.{all_pass, pass_out}
+use Rattle.rtl_func.proofs.AllPass.{all_pass, pass_out}
 use Rattle.rtl_step.specs.Effect.{address_of, register_of}
 use Rattle.rtl_step.specs.Regs.{Regs, known_of, reg_value}
 use Rattle.rtl_step.specs.Value.{width_of, value_of}

@@ -15,7 +15,7 @@ use Rattle.rtx_tree.specs.declared.function.Insn.{Insn}
 use Rattle.rtx_tree.specs.declared.tree.Rtx.{Rtx}
 use Rattle.rtx_tree.proofs.Trees.{head_of-tree, kids_of-tree}
 use Rattle.rtl_func.specs.Shapes.{is_effect, is_shaped}
-use Rattle.rtl_func.proofs.Nodes.{all_pass, within}
+use Rattle.rtl_func.proofs.AllPass.{all_pass, within}
 use Rattle.rtl_step.specs.Effect.{effect_by, effect_of, effects_by, effects_of, all_effects, address_part, address_of, set_effect}
 use Rattle.rtl_step.specs.Value.{value_of}
 use Rattle.rtl_step.specs.declared.effect.Effect.{Effect}

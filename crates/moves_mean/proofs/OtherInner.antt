@@ -20,8 +20,8 @@ use Rattle.rtx_tree.specs.declared.tree.Rtx.{Rtx, out-roll-Rtx}
 use Rattle.rtx_tree.specs.declared.tree.Rtx.TheOpen.{Rtx-F}
 use Rattle.rtl_func.specs.Kinds.{is_jump_by, is_jump_tree, is_call_by, is_call_tree, kinds_agree}
 use Rattle.rtl_func.specs.Shapes.{class_at, is_effect, is_effect_class, is_call_class, is_shaped}
-use Rattle.rtl_func.proofs.Nodes as nodes
-use Rattle.rtl_func.proofs.Nodes.{all_pass}
+use Rattle.rtl_func.proofs.AllPass as nodes
+use Rattle.rtl_func.proofs.AllPass.{all_pass}
 use Rattle.rtl_step.specs.Effect.{address_of, address_part}
 use Rattle.rtl_step.specs.Jump.{jump_of}
 use Rattle.rtl_step.specs.Regs.{Regs}

@@ -14,7 +14,7 @@ use Rattle.rtl_func.specs.Kinds.{is_plain_tree, kinds_agree}
 use Rattle.rtl_func.specs.Modes.{shapes_agree, call_modes_agree, modes_agree}
 use Rattle.rtl_func.specs.Nodes.{nodes_of}
 use Rattle.rtl_func.specs.Shapes.{is_effect, is_shaped}
-use Rattle.rtl_func.proofs.Nodes.{all_pass}
+use Rattle.rtl_func.proofs.AllPass.{all_pass}
 use Rattle.rtl_step.specs.Effect.{effects_of}
 use Rattle.rtl_step.specs.Regs.{Regs}
 use Rattle.rtl_step.specs.declared.effect.Effect.{Effect}

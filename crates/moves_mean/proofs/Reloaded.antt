@@ -15,7 +15,7 @@ use Rattle.rtl_func.specs.Kinds.{kinds_agree}
 use Rattle.rtl_func.specs.Modes.{shapes_agree}
 use Rattle.rtl_func.specs.Nodes.{nodes_of}
 use Rattle.rtl_func.specs.Shapes.{is_effect, is_register_number, is_shaped}
-use Rattle.rtl_func.proofs.Nodes.{all_pass}
+use Rattle.rtl_func.proofs.AllPass.{all_pass}
 use Rattle.rtl_step.specs.Effect.{address_of}
 use Rattle.rtl_step.specs.declared.step.State.{State}
 use Rattle.same_behaviour.specs.Lawful.{IsMemory}

@@ -12,7 +12,7 @@ use Rattle.rtx_tree.specs.declared.machine.SymbolAt.{SymbolAt}
 use Rattle.rtx_tree.specs.declared.memories.MemByte.{MemByte}
 use Rattle.rtx_tree.specs.declared.tree.Rtx.{Rtx}
 use Rattle.rtl_func.specs.Shapes.{is_effect, mode_at}
-use Rattle.rtl_func.proofs.Nodes.{all_pass}
+use Rattle.rtl_func.proofs.AllPass.{all_pass}
 use Rattle.rtl_step.specs.Effect.{effects_of, address_of}
 use Rattle.rtl_step.specs.Regs.{Regs, known_of}
 use Rattle.rtl_step.specs.Value.{width_of, value_of}

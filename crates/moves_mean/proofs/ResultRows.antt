@@ -11,7 +11,7 @@ use Rattle.rtx_tree.specs.declared.memories.MemByte.{MemByte}
 use Rattle.rtx_tree.specs.declared.tree.Rtx.{Rtx}
 use Rattle.rtx_tree.proofs.Trees.{head_of-tree, kids_of-tree}
 use Rattle.rtl_func.specs.Shapes.{is_shaped}
-use Rattle.rtl_func.proofs.Nodes.{all_pass}
+use Rattle.rtl_func.proofs.AllPass.{all_pass}
 use Rattle.sym_insns.specs.Shape.{all_natural}
 use Rattle.rtl_step.specs.Effect.{effect_of, effect_by, set_effect}
 use Rattle.rtl_step.specs.Regs.{Regs}

@@ -14,8 +14,8 @@ use Rattle.rtx_tree.specs.declared.tree.Rtx.{Rtx}
 use Rattle.rtx_tree.proofs.Trees.{head_of-tree, kids_of-tree}
 use Rattle.rtl_func.specs.Effects.{changed_register, parallels_change_once}
 use Rattle.rtl_func.specs.Shapes.{is_effect, is_effect_class, is_shaped}
-use Rattle.rtl_func.proofs.Nodes as nodes
-use Rattle.rtl_func.proofs.Nodes.{all_pass}
+use Rattle.rtl_func.proofs.AllPass as nodes
+use Rattle.rtl_func.proofs.AllPass.{all_pass}
 use Rattle.rtl_step.specs.Effect.{effect_of, all_effects, one_effect, effects_of, effects_by}
 use Rattle.rtl_step.specs.Regs.{Regs}
 use Rattle.rtl_step.specs.declared.effect.Effect.{Effect}

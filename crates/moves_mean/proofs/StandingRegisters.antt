@@ -13,7 +13,7 @@ use Rattle.rtx_tree.specs.declared.tree.Rtx.{Rtx, out-roll-Rtx}
 use Rattle.rtx_tree.specs.declared.tree.Rtx.TheOpen.{Rtx-F}
 use Rattle.rtx_tree.proofs.Trees.{head_of-tree, mentions_out}
 use Rattle.rtl_func.specs.Shapes.{is_shaped}
-use Rattle.rtl_func.proofs.Nodes.{all_pass, itself, within}
+use Rattle.rtl_func.proofs.AllPass.{all_pass, itself, within}
 use Rattle.md_operand.specs.Addresses.{is_stack_vars, is_constant, is_any}
 use Rattle.assign.specs.declared.home.Home.{Home}
 use Rattle.assign.specs.declared.home.Home.TheVariants.{Hard}

@@ -8,8 +8,8 @@ use Rattle.rtx_tree.proofs.Trees.{kids_of-tree}
 use Rattle.rtx_tree.specs.Tree.{head_of, kids_of}
 use Rattle.rtx_tree.specs.declared.tree.Rtx.{Rtx}
 use Rattle.rtl_func.specs.Shapes.{is_shaped}
-use Rattle.rtl_func.proofs.Nodes as nodes
-use Rattle.rtl_func.proofs.Nodes.{all_pass}
+use Rattle.rtl_func.proofs.AllPass as nodes
+use Rattle.rtl_func.proofs.AllPass.{all_pass}
 use Rattle.md_constr.specs.Inputs.{taken_here, taken_in}
 use Rattle.md_match.proofs.Instantiated.{each_made}
 use Rattle.md_match.specs.Match.{IsAsked}

@@ -21,8 +21,8 @@ use Rattle.run_memory.specs.RunMemory.{load}
 use Rattle.rtl_func.specs.Effects.{place_register_by, place_register, changed_by, changed_register}
 use Rattle.rtl_func.specs.Modes as modes
 use Rattle.rtl_func.specs.Shapes.{class_at, mode_at, number_at, is_shaped}
-use Rattle.rtl_func.proofs.Nodes as nodes
-use Rattle.rtl_func.proofs.Nodes.{all_pass}
+use Rattle.rtl_func.proofs.AllPass as nodes
+use Rattle.rtl_func.proofs.AllPass.{all_pass}
 use Rattle.rtl_step.specs.Effect.{effect_of, effect_by, register_of, address_part, address_of, set_place, set_effect, clobber_by, clobber_effect}
 use Rattle.rtl_step.specs.Effect as effects
 use Rattle.rtl_step.specs.Regs.{Regs, known_of, reg_value}

@@ -16,7 +16,7 @@ use Rattle.md_forms.specs.declared.form.Entry.{Entry}
 use Rattle.reload.specs.form_needs.Needs.{is_note, needs_form}
 use Rattle.rtl_func.specs.Nodes.{nodes_of}
 use Rattle.rtl_func.specs.Shapes.{is_effect, is_shaped}
-use Rattle.rtl_func.proofs.Nodes.{all_pass}
+use Rattle.rtl_func.proofs.AllPass.{all_pass}
 use Rattle.rtl_step.specs.Step.{is_mark}
 use Rattle.moves_mean.specs.sym_insns.Shape.{is_natural, all_natural}
 use Rattle.assign.specs.Homes.{AreHomes}

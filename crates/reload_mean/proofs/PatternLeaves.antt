@@ -13,7 +13,7 @@ use Rattle.rtx_tree.specs.declared.code.Mode.{Mode}
 use Rattle.rtx_tree.specs.declared.constants.Constant.{Constant}
 use Rattle.rtx_tree.specs.declared.tree.Rtx.{Rtx}
 use Rattle.rtx_tree.proofs.Trees.{head_of-tree, kids_of-tree}
-use Rattle.rtl_func.proofs.Nodes.{all_pass, pass_out}
+use Rattle.rtl_func.proofs.AllPass.{all_pass, pass_out}
 use Rattle.lisp_read.specs.Head.{code_of_head, mode_of_head}
 use Rattle.lisp_read.specs.Shape.{atom_of, items_at, items_of, vector_at, vector_of, is_vector}
 use Rattle.lisp_read.specs.declared.tree.Tree.{Tree, roll-Tree, out-roll-Tree}

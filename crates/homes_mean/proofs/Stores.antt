@@ -101,7 +101,7 @@ fewer_written memory address (suc fewer) (suc count) number few there =
 abbrev pub IsWithin : Width → Width → Type 0
 IsWithin w v = bytes_of w ≤ bytes_of v
 
-bytes_bits : (w : Width) → 256 ^ bytes_of w ≡ 2 ^ bits_of w
+pub bytes_bits : (w : Width) → 256 ^ bytes_of w ≡ 2 ^ bits_of w
 bytes_bits W8 = refl
 bytes_bits W16 = refl
 bytes_bits W32 = refl

@@ -41,12 +41,11 @@ use Rattle.moves_mean.proofs.CallValues as call
 use Rattle.moves_mean.proofs.Calling.{SameResult}
 use Rattle.moves_mean.proofs.Chosen.{given}
 use Rattle.moves_mean.proofs.ElementTurns.{NewFor, stays_for, moves_for, part_new, key_by, target_key, key_of, memory_code_of}
-use Rattle.moves_mean.proofs.ElementValues.{two_of}
 use Rattle.moves_mean.proofs.Fetching.{Fetching}
 use Rattle.moves_mean.proofs.GivenBeside.{first_of}
 use Rattle.moves_mean.proofs.GivenNews.{own, mode, tree, result_at, Reads, Lost, Free, IsResultAt, operand_of}
 use Rattle.moves_mean.proofs.HiddenTurns.{Read, effect_over}
-use Rattle.moves_mean.proofs.InsnTurns.{operator_becomes, operand_stays}
+use Rattle.moves_mean.proofs.InsnTurns.{operator_becomes, operand_stays, two_of}
 use Rattle.moves_mean.proofs.JumpTrees.{is_bare_class, bare_kids}
 use Rattle.moves_mean.proofs.NewTrees.{Becomes, AllBecome, is_whole}
 use Rattle.moves_mean.proofs.NewTrees as trees

@@ -39,7 +39,7 @@ use Rattle.reload_operands.proofs.NumberLaws.{has_in_both, has_in_each}
 use Rattle.moves_mean.specs.Places.{AtOnePlace, first, later, At, here, inside}
 use Rattle.moves_mean.proofs.Addresses.{memory_kid}
 use Rattle.moves_mean.proofs.Besides.{no_place, beside_head, part_beside}
-use Rattle.moves_mean.proofs.ElementValues.{taken_role, none_at, one_at, two_of}
+use Rattle.moves_mean.proofs.ElementValues.{taken_role, none_at, one_at}
 use Rattle.moves_mean.proofs.GivenBeside.{first_of, second_of}
 use Rattle.moves_mean.proofs.InputPlaces.{StandsThere, is_operator_of, no_operator_of, at_pass}
 use Rattle.moves_mean.proofs.InputValues.{pattern_other}
@@ -50,6 +50,7 @@ use Rattle.moves_mean.proofs.NewTrees.{is_whole}
 use Rattle.moves_mean.proofs.PutParts.{each_put, over_is}
 use Rattle.moves_mean.proofs.TakenThere.{IsAt, part_at, taken_there}
 use Rattle.moves_mean.proofs.Valued.{IsThere, HasValue, operand_valued}
+use Rattle.moves_mean.proofs.InsnTurns.{two_of}
 
 -- ---- the parts of a call
 

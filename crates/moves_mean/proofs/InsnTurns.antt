@@ -58,6 +58,17 @@ pub effects_are : (y : Rtx) → (head_of y).code ≡ code.Parallel → is_shaped
 effects_are y is shaped = parallel_row (head_of y).code (mode_at y) (number_at y) (kids_of y) is
     (and_parts (is_bare (class_at y) (number_at y) (head_of y).name) _ shaped).1
 
+pub two_of : (us : List Rtx) → length us ≡ 2 → (a : Rtx) × ((b : Rtx) × (us ≡ a ∷ b ∷ []))
+two_of [] is = absurd (omega (arith, is))
+two_of (a ∷ []) is = absurd (omega (arith, is))
+two_of (a ∷ b ∷ []) is = (a, (b, refl))
+two_of (a ∷ b ∷ c ∷ us) is = absurd (omega (arith, is))
+
+one_of : (us : List Rtx) → length us ≡ 1 → (a : Rtx) × (us ≡ a ∷ [])
+one_of [] is = absurd (omega (arith, is))
+one_of (a ∷ []) is = (a, refl)
+one_of (a ∷ b ∷ us) is = absurd (omega (arith, is))
+
 module _ (symbols : List SymbolAt) (regs other : Regs) (m : List MemByte) (known : KnowsRest regs other)
     (own : ℕ → ℕ) (mode : ℕ → Mode) (tree : ℕ → Rtx) (Free : ℕ → Type 0) (result_at : ℤ → Option ℕ) (news : Ops) (Reads Lost : ℤ → Type 0)
     (none_new : (number : ℤ) → operand_numbered news number ≡ None → result_at number ≡ None) where
@@ -125,17 +136,6 @@ module _ (symbols : List SymbolAt) (regs other : Regs) (m : List MemByte) (known
       by : (c : Code) → c ≢ code.Set → key_by result_at c (kids_of q) ≡ None
       by code.Set other = absurd (other refl)
       by _ other = refl
-
-  two_of : (us : List Rtx) → length us ≡ 2 → (a : Rtx) × ((b : Rtx) × (us ≡ a ∷ b ∷ []))
-  two_of [] is = absurd (omega (arith, is))
-  two_of (a ∷ []) is = absurd (omega (arith, is))
-  two_of (a ∷ b ∷ []) is = (a, (b, refl))
-  two_of (a ∷ b ∷ c ∷ us) is = absurd (omega (arith, is))
-
-  one_of : (us : List Rtx) → length us ≡ 1 → (a : Rtx) × (us ≡ a ∷ [])
-  one_of [] is = absurd (omega (arith, is))
-  one_of (a ∷ []) is = (a, refl)
-  one_of (a ∷ b ∷ us) is = absurd (omega (arith, is))
 
   abbrev AsKey : Rtx → Rtx → Type 0
   AsKey q x = Turns (key_of result_at q) x (put q news x)

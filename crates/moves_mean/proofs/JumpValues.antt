@@ -37,7 +37,7 @@ use Rattle.reload_operands.specs.Put.{put, parts_by}
 use Rattle.reload_operands.proofs.NumberLaws.{has_in_both, has_in_each, takes_out}
 use Rattle.moves_mean.specs.Places.{AtOnePlace, first, later, At, here, inside, is_leaf, is_leaf_as}
 use Rattle.moves_mean.proofs.Besides.{no_place, beside_head, part_beside}
-use Rattle.moves_mean.proofs.ElementValues.{IsValued, taken_role, low_nothing, is_subreg, not_low, none_at, one_at, two_of, valued_of}
+use Rattle.moves_mean.proofs.ElementValues.{IsValued, taken_role, low_nothing, is_subreg, not_low, none_at, one_at, valued_of}
 use Rattle.moves_mean.proofs.GivenBeside.{first_of, second_of}
 use Rattle.moves_mean.proofs.InputPlaces.{StandsThere, no_operator_of, is_operator_of, at_pass, empty}
 use Rattle.moves_mean.proofs.InputValues.{pattern_other}
@@ -49,6 +49,7 @@ use Rattle.moves_mean.proofs.PutParts.{each_put, over_is}
 use Rattle.moves_mean.proofs.SetValues.{at_valued}
 use Rattle.moves_mean.proofs.TakenThere.{IsAt, part_at, PartThere, taken_there, parts_there}
 use Rattle.moves_mean.proofs.Valued.{IsThere, HasValue, constant_valued}
+use Rattle.moves_mean.proofs.InsnTurns.{two_of}
 
 comparison_class : (k : Class) → is_comparison_class k ≡ true → k ≡ class.Comparison
 comparison_class class.Comparison is = refl

@@ -48,12 +48,11 @@ use Rattle.moves_mean.specs.Spare.{KnowsRest, NamesNoSpare}
 use Rattle.moves_mean.proofs.Addresses.{IsNewTree, is_new_class, AddressToo}
 use Rattle.moves_mean.proofs.Chosen.{given, asks, news}
 use Rattle.moves_mean.proofs.ElementTurns.{NewFor, stays_for, moves_for, AllNew, AllReads, all_read, part_new, key_by, target_key, key_of, memory_code_of}
-use Rattle.moves_mean.proofs.ElementValues.{two_of}
 use Rattle.moves_mean.proofs.Fetching.{Fetching}
 use Rattle.moves_mean.proofs.GivenBeside.{none_new, whole_beside, first_of, second_of}
 use Rattle.moves_mean.proofs.GivenNews.{own, mode, tree, result_at, Reads, Lost, Free, AreFetched, IsResultAt, operand_of}
 use Rattle.moves_mean.proofs.HiddenTurns.{Read}
-use Rattle.moves_mean.proofs.InsnTurns.{IsBeside, operator_becomes, operand_stays}
+use Rattle.moves_mean.proofs.InsnTurns.{IsBeside, operator_becomes, operand_stays, two_of}
 use Rattle.moves_mean.proofs.JumpTrees.{IsJump, returns, sets, jump_is, is_bare_class, bare_kids, pc_class}
 use Rattle.moves_mean.proofs.NewTrees.{Becomes, AllBecome, is_lowpart, is_whole, whole_low}
 use Rattle.moves_mean.proofs.NewTrees as trees

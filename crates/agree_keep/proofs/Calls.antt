@@ -19,23 +19,10 @@ use Rattle.agree_mean.specs.sym_state.State.{Arg}
 use Rattle.agree_mean.specs.sym_diff.Compared.{arg_at, result_bits}
 use Rattle.agree_mean.specs.sym_mean.Means.{ArgsMean, result_width}
 use Rattle.agree_mean.proofs.sym_mean.Bools.{both_of}
-
-same_reg : (n : ℕ) → (n == n) ≡ true
-same_reg n = grind (arith, nat_tests)
-
-other_reg : (a b : ℕ) → a ≢ b → (a == b) ≡ false
-other_reg a b differ = grind (arith, nat_tests, differ)
+use Rattle.agree_mean.proofs.Calls.{same_reg, other_reg, not_false, or_right}
 
 one_reg : (a b : ℕ) → (a == b) ≡ true → a ≡ b
 one_reg a b is = grind (arith, nat_tests, is)
-
-not_false : (b : Bool) → not b ≡ true → b ≡ false
-not_false true is = absurd (let no : ⊥ = cc in no)
-not_false false is = refl
-
-or_right : (a b : Bool) → b ≡ true → (a || b) ≡ true
-or_right true b is = refl
-or_right false b is = is
 
 -- ---- a value that is handed over, by its term
 

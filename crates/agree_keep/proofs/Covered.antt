@@ -1,13 +1,11 @@
 -- What instructions need is met, where each of their needs is one of a window's and these are met: of what the window uses the other
 -- machine knows as much.
 use Rattle.std.proofs.Common.{◌≡◌, ◌≤◌, ℕ, zero, suc, ◌+◌, ◌==◌, ◌&&◌, ◌||◌, nat_le, Bool, true, false, List, [], ◌∷◌, Option, Some, None, refl, sym, ◌∙◌, ap, subst, arith, tests}
-use Rattle.std.proofs.lemmas.Bool.Decides.{nat_tests}
 use Rattle.std.proofs.lemmas.Slice.Eq.{bytes_eq-Decides}
 use Rattle.std.specs.Prelude.{not, if◌then◌else◌, is_some, option_and_then}
 use Rattle.std.specs.FinMap.{get}
 use Rattle.std.specs.List.{All, list_all}
 use Rattle.bits64.specs.declared.Width.{Width}
-use Rattle.bits64.specs.declared.Width.TheVariants.{W8, W16, W32, W64}
 use Rattle.bits64.specs.Words.{bits_of, low}
 use Rattle.rtx_tree.specs.declared.machine.SymbolAt.{SymbolAt}
 use Rattle.rtx_tree.specs.declared.memories.MemByte.{MemByte}
@@ -16,42 +14,18 @@ use Rattle.run_memory.specs.RunMemory.{load}
 use Rattle.run_memory.specs.Symbols.{symbol_address}
 use Rattle.rtl_step.specs.declared.regs.Known.{Known}
 use Rattle.rtl_step.specs.Regs.{Regs, known_in, reg_value}
-use Rattle.term_tree.specs.Tree.{Tree}
 use Rattle.term_mean.specs.Meaning.{Valuation, mean}
 use Rattle.agree_mean.specs.window_mean.Uses.{window_uses}
 use Rattle.window_keep.specs.Same.{KnownToo}
 use Rattle.agree_mean.specs.sym_state.State.{Need, NeedAt, Register, Lost, Access, Divisor, Symbol}
 use Rattle.agree_mean.specs.sym_diff.Registers.{same_tree}
 use Rattle.agree_mean.specs.sym_diff.Compared.{covers, is_covered}
-use Rattle.agree_mean.proofs.sym_term.Steps.{same-is}
 use Rattle.agree_mean.specs.sym_mean.Needs.{First, is_met}
 use Rattle.agree_mean.specs.sym_mean.Means.{first_of, all_met}
 use Rattle.agree_mean.proofs.sym_mean.Bools.{both_of}
 use Rattle.agree_mean.proofs.sym_mean.Used.{IsGoodNeed, IsUsed}
 use Rattle.agree_mean.proofs.Codes.{asked, asked_used}
-
-same_terms : (t u : Tree) → same_tree t u ≡ true → t ≡ u
-same_terms t u same = (same-is t u).0 same
-
-same_reg : (a b : ℕ) → (a == b) ≡ true → a ≡ b
-same_reg a b is = grind (arith, nat_tests, is)
-
--- a width by its bits
-abbrev width_in : ℕ → Width
-width_in bits = if bits == 8 then W8 else (if bits == 16 then W16 else (if bits == 32 then W32 else W64))
-
-width_back : (w : Width) → width_in (bits_of w) ≡ w
-width_back W8 = refl
-width_back W16 = refl
-width_back W32 = refl
-width_back W64 = refl
-
-same_width : (w u : Width) → (bits_of w == bits_of u) ≡ true → w ≡ u
-same_width w u is = sym (width_back w) ∙ ap width_in (same_reg (bits_of w) (bits_of u) is) ∙ width_back u
-
-some_of : (o : Option ℕ) → is_some o ≡ true → (x : ℕ) × (o ≡ Some x)
-some_of None is = absurd (let no : ⊥ = cc in no)
-some_of (Some x) is = (x, refl)
+use Rattle.agree_mean.proofs.Covered.{same_terms, same_width, same_reg, some_of}
 
 -- ---- registers
 

@@ -1,8 +1,7 @@
 -- Where a window ends and where instructions end whose symbolic states agree: both fall through, go to one label, or make the same call.
-use Rattle.std.proofs.Common.{◌≡◌, ℕ, ◌%◌, ◌^◌, ◌<◌, ◌==◌, Bool, true, false, nat_lt, List, Option, Some, None, refl, sym, ◌∙◌, ap, subst, arith}
-use Rattle.std.proofs.lemmas.Bool.Decides.{nat_tests}
+use Rattle.std.proofs.Common.{◌≡◌, ℕ, ◌^◌, ◌<◌, ◌==◌, Bool, true, false, List, Option, Some, None, refl, sym, ◌∙◌, ap, subst}
 use Rattle.std.specs.Prelude.{if◌then◌else◌}
-use Rattle.bits64.specs.declared.Width.TheVariants.{W8, W64}
+use Rattle.bits64.specs.declared.Width.TheVariants.{W8}
 use Rattle.rtx_tree.specs.declared.function.Insn.{Insn}
 use Rattle.rtx_tree.specs.declared.machine.RangeAt.{RangeAt}
 use Rattle.rtx_tree.specs.declared.machine.SymbolAt.{SymbolAt}
@@ -25,39 +24,11 @@ use Rattle.agree_mean.specs.sym_diff.Compared.{target_term, arg_at}
 use Rattle.agree_mean.specs.sym_diff.Agree.{Agree, CallsAgree, SameCall}
 use Rattle.agree_mean.specs.sym_mean.Means.{EndMeans, CallMeans, ArgsMean, LeadsOn}
 use Rattle.agree_mean.proofs.sym_mean.LastInsn.{HandsOver, EndsWell, ends_well}
+use Rattle.agree_mean.proofs.Agreeing.{same_way, widths_differ, uid_small, shown_uid}
 use Rattle.agree_keep.proofs.Calls.{numbers_at, each_passed, widths_same}
 use Rattle.agree_keep.proofs.Told.{Told}
 
 -- ---- where a jump leads
-
-falls_or_goes : {A : Type 0} (uid : ℕ) (ending : InsnsEnd) → ending ≡ Falls → ending ≡ Goes uid → A
-falls_or_goes uid ending first second = absurd (let both : Falls ≡ Goes uid = sym first ∙ second in let no : ⊥ = cc in no)
-
--- one window leads one way, whatever it is told by
-same_way : (b c : Bool) (target : Option ℕ) (ending : InsnsEnd) → LeadsOn b target ending → LeadsOn c target ending → b ≡ c
-same_way true true target ending first second = refl
-same_way false false target ending first second = refl
-same_way true false target ending first second = falls_or_goes second.0 ending first second.1
-same_way false true target ending first second = falls_or_goes first.0 ending second first.1
-
-pub widths_differ : {A : Type 0} → W64 ≡ W8 → A
-widths_differ same = absurd (let no : ⊥ = cc in no)
-
-uid_small : (uid x : ℕ) → uid_in uid ≡ Some x → (uid < 2 ^ 32) × (uid ≡ x)
-uid_small uid x is = by (nat_lt uid (2 ^ 32)) refl is
-  where
-    by : (b : Bool) → nat_lt uid (2 ^ 32) ≡ b → (if b then Some uid else None) ≡ Some x → (uid < 2 ^ 32) × (uid ≡ x)
-    by true small is = (grind (arith, nat_tests, small), let same : uid ≡ x = cc in same)
-    by false large is = absurd (let no : ⊥ = cc in no)
-
--- the uids of two targets that are shown by one term
-shown_uid : (uid other : ℕ) → uid < 2 ^ 32 → other < 2 ^ 32 → target_term (Some uid) ≡ target_term (Some other) → uid ≡ other
-shown_uid uid other first second same =
-    let numbers : uid % 2 ^ 64 ≡ other % 2 ^ 64 = sym (mean-constant nowhere W64 uid) ∙ ap (mean nowhere) same ∙ mean-constant nowhere W64 other in
-    omega (arith, numbers, first, second)
-  where
-    nowhere : Valuation
-    nowhere = record { reg = λ reg. 0; sym = λ name. 0; memory = λ number address. 0 }
 
 pub one_target : (uid other : ℕ) (first second : Option ℕ) → uid_in uid ≡ first → uid_in other ≡ second → target_term first ≡ target_term second → (first ≡ None → ⊥) → uid ≡ other
 one_target uid other None second is is' same some = absurd (some refl)

@@ -17,7 +17,7 @@ use Rattle.window_keep.specs.Same.{KnownToo}
 use Rattle.agree_mean.specs.sym_mean.Means.{IsFirst, first_of}
 use Rattle.agree_mean.proofs.sym_mean.Firsts.{first_shows}
 use Rattle.agree_mean.proofs.Behind.{zero_one}
-use Rattle.agree_mean.proofs.Codes.{symbol_number, symbol_is, symbol_word, byte_number, byte_is, asked, asked_reads}
+use Rattle.agree_mean.proofs.Codes.{symbol_number, symbol_is, symbol_word, byte_number, byte_is, asked, asked_reads, zero_low}
 
 -- ---- bits above those of a width
 
@@ -83,12 +83,6 @@ filled_differ (Some k) w is same = by (nat_le (bits_of w) (bits_of k.width)) ref
     by : (b : Bool) → nat_le (bits_of w) (bits_of k.width) ≡ b → (if b then Some (low w k.value) else None) ≡ None → ⊥
     by true less is = let no : ⊥ = cc in no
     by false less is = above_differ w k.width k.value (grind (arith, tests, less)) same
-
-zero_low : (w : Width) → 0 ≡ low w 0
-zero_low W8 = refl
-zero_low W16 = refl
-zero_low W32 = refl
-zero_low W64 = refl
 
 pub other_reads : (regs : Regs) (above reg : ℕ) (w : Width) (value : ℕ) → reg_value regs reg w ≡ Some value → value ≡ low w (other_number regs above reg)
 other_reads regs above zero w value is = let same : 0 ≡ value = cc in sym same ∙ zero_low w

@@ -51,7 +51,7 @@ falls_or_goes : {A : Type 0} (uid : ℕ) (ending : InsnsEnd) → ending ≡ rtl.
 falls_or_goes uid ending first second = absurd (let both : rtl.Falls ≡ rtl.Goes uid = sym first ∙ second in let no : ⊥ = cc in no)
 
 -- one window leads one way, whatever it is told by
-same_way : (b c : Bool) (target : Option ℕ) (ending : InsnsEnd) → LeadsOn b target ending → LeadsOn c target ending → b ≡ c
+pub same_way : (b c : Bool) (target : Option ℕ) (ending : InsnsEnd) → LeadsOn b target ending → LeadsOn c target ending → b ≡ c
 same_way true true target ending first second = refl
 same_way false false target ending first second = refl
 same_way true false target ending first second = falls_or_goes second.0 ending first second.1
@@ -63,14 +63,14 @@ is_zero n is = grind (arith, nat_tests, is)
 not_zero : (n : ℕ) → n ≢ 0 → (n == 0) ≡ false
 not_zero n is = grind (arith, nat_tests, is)
 
-widths_differ : {A : Type 0} → W64 ≡ W8 → A
+pub widths_differ : {A : Type 0} → W64 ≡ W8 → A
 widths_differ same = absurd (let no : ⊥ = cc in no)
 
 none_shown : {A : Type 0} (uid : ℕ) → target_term (Some uid) ≡ target_term None → A
 none_shown uid same = widths_differ (ap width_of same)
 
 -- the uids of two targets that are shown by one term
-shown_uid : (uid other : ℕ) → uid < 2 ^ 32 → other < 2 ^ 32 → target_term (Some uid) ≡ target_term (Some other) → uid ≡ other
+pub shown_uid : (uid other : ℕ) → uid < 2 ^ 32 → other < 2 ^ 32 → target_term (Some uid) ≡ target_term (Some other) → uid ≡ other
 shown_uid uid other first second same =
     let numbers : uid % 2 ^ 64 ≡ other % 2 ^ 64 = sym (mean-constant nowhere W64 uid) ∙ ap (mean nowhere) same ∙ mean-constant nowhere W64 other in
     omega (arith, numbers, first, second)
@@ -78,7 +78,7 @@ shown_uid uid other first second same =
     nowhere : Valuation
     nowhere = record { reg = λ reg. 0; sym = λ name. 0; memory = λ number address. 0 }
 
-uid_small : (uid x : ℕ) → uid_in uid ≡ Some x → (uid < 2 ^ 32) × (uid ≡ x)
+pub uid_small : (uid x : ℕ) → uid_in uid ≡ Some x → (uid < 2 ^ 32) × (uid ≡ x)
 uid_small uid x is = by (nat_lt uid (2 ^ 32)) refl is
   where
     by : (b : Bool) → nat_lt uid (2 ^ 32) ≡ b → (if b then Some uid else None) ≡ Some x → (uid < 2 ^ 32) × (uid ≡ x)

@@ -32,17 +32,17 @@ both_true : (a b : Bool) → (a && b) ≡ true → (a ≡ true) × (b ≡ true)
 both_true true b is = (refl, is)
 both_true false b is = absurd (let no : ⊥ = cc in no)
 
-same_reg : (n : ℕ) → (n == n) ≡ true
+pub same_reg : (n : ℕ) → (n == n) ≡ true
 same_reg n = grind (arith, nat_tests)
 
-other_reg : (a b : ℕ) → a ≢ b → (a == b) ≡ false
+pub other_reg : (a b : ℕ) → a ≢ b → (a == b) ≡ false
 other_reg a b differ = grind (arith, nat_tests, differ)
 
-not_false : (b : Bool) → not b ≡ true → b ≡ false
+pub not_false : (b : Bool) → not b ≡ true → b ≡ false
 not_false true is = absurd (let no : ⊥ = cc in no)
 not_false false is = refl
 
-or_right : (a b : Bool) → b ≡ true → (a || b) ≡ true
+pub or_right : (a b : Bool) → b ≡ true → (a || b) ≡ true
 or_right true b is = refl
 or_right false b is = is
 

@@ -68,7 +68,7 @@ own_number regs (suc reg) = value_known (get regs (suc reg))
 abbrev pub own_valuation : List SymbolAt → Regs → List MemByte → Valuation
 own_valuation symbols regs memory = record { reg = own_number regs; sym = symbol_number symbols; memory = λ number. byte_number memory }
 
-zero_low : (w : Width) → 0 ≡ low w 0
+pub zero_low : (w : Width) → 0 ≡ low w 0
 zero_low W8 = refl
 zero_low W16 = refl
 zero_low W32 = refl

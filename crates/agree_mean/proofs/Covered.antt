@@ -35,10 +35,10 @@ both_true : (a b : Bool) → (a && b) ≡ true → (a ≡ true) × (b ≡ true)
 both_true true b is = (refl, is)
 both_true false b is = absurd (let no : ⊥ = cc in no)
 
-same_terms : (t u : Tree) → same_tree t u ≡ true → t ≡ u
+pub same_terms : (t u : Tree) → same_tree t u ≡ true → t ≡ u
 same_terms t u same = (same-is t u).0 same
 
-same_width : (w u : Width) → (bits_of w == bits_of u) ≡ true → w ≡ u
+pub same_width : (w u : Width) → (bits_of w == bits_of u) ≡ true → w ≡ u
 same_width W8 W8 is = refl
 same_width W16 W16 is = refl
 same_width W32 W32 is = refl
@@ -56,10 +56,10 @@ same_width W64 W8 is = absurd (let no : ⊥ = cc in no)
 same_width W64 W16 is = absurd (let no : ⊥ = cc in no)
 same_width W64 W32 is = absurd (let no : ⊥ = cc in no)
 
-same_reg : (a b : ℕ) → (a == b) ≡ true → a ≡ b
+pub same_reg : (a b : ℕ) → (a == b) ≡ true → a ≡ b
 same_reg a b is = grind (arith, nat_tests, is)
 
-some_of : (o : Option ℕ) → is_some o ≡ true → (x : ℕ) × (o ≡ Some x)
+pub some_of : (o : Option ℕ) → is_some o ≡ true → (x : ℕ) × (o ≡ Some x)
 some_of None is = absurd (let no : ⊥ = cc in no)
 some_of (Some x) is = (x, refl)
 

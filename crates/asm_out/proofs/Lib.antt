@@ -1,6 +1,5 @@
 pub mod PartLaws
 pub mod PlacesLaws
-pub mod Sorted
 pub mod LineLaws
 pub mod PlaceOne
 pub mod ReadLaws

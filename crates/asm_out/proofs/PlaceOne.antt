@@ -24,7 +24,7 @@ use Rattle.asm_out.specs.Outcome.{Outcome, nothing}
 use Rattle.asm_out.specs.Comes.{IsTried, PlaceComes, code_piece, label_piece, Part, Opening, Place, Closing, PartComes, parts_of, FunctionComes}
 use Rattle.asm_out.proofs.LineLaws.{lines_one}
 use Rattle.asm_out.proofs.PartLaws.{parts_one}
-use Rattle.asm_out.proofs.Sorted.{live_one}
+use Rattle.live.proofs.LiveLists.{live_one}
 
 -- ---- what is asked of an item
 

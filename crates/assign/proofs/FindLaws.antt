@@ -1,5 +1,5 @@
 -- What is found first, and what some and none of the first elements of a list pass.
-use Rattle.std.proofs.Common.{◌≡◌, ℕ, zero, suc, ◌<◌, Bool, true, false, ◌⊎◌, List, [], ◌∷◌, ◌++◌, length, take, Some, None, cond, refl, sym, ap, ◌∙◌, inl, inr, arith}
+use Rattle.std.proofs.Common.{◌≡◌, ℕ, zero, suc, ◌<◌, Bool, true, false, List, [], ◌∷◌, take, Some, None, cond, refl, sym, ap, ◌∙◌, inl, inr, arith}
 use Rattle.std.specs.Prelude.{slice_get, All}
 use Rattle.std.specs.List.{list_any, find}
 use Rattle.std.proofs.lemmas.Bool.{cases_Bool, or_cases, or_parts, false≢true}
@@ -56,13 +56,3 @@ find_none f (y ∷ xs) (suc i) x e w =
 pub find_within : {X : Type 0} (f g : X → Bool) (xs : List X) → All (λ x. f x ≡ g x) xs → find f xs ≡ find g xs
 find_within f g [] h = refl
 find_within f g (x ∷ xs) h = ap (λ b. cond b (Some x) (find f xs)) (h 0 x (omega arith)) ∙ ap (λ o. cond (g x) (Some x) o) (find_within f g xs (λ k d l. h (suc k) d (omega arith)))
-
-pub slice_get-push : {X : Type 0} (xs : List X) (y : X) (k : ℕ) (x : X) → slice_get (xs ++ y ∷ []) k ≡ Some x → ((k < length xs) × (slice_get xs k ≡ Some x)) ⊎ ((k ≡ length xs) × (y ≡ x))
-slice_get-push [] y zero x e = inr (refl, same_Some y x e)
-slice_get-push [] y (suc k) x e = absurd (none-some x e)
-slice_get-push (z ∷ xs) y zero x e = inl (omega arith, e)
-slice_get-push (z ∷ xs) y (suc k) x e =
-    elim (slice_get-push xs y k x e) [
-      | inl (l, w) ↦ inl (omega arith, w)
-      | inr (l, w) ↦ inr (ap suc l, w)
-    ]

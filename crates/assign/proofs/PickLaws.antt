@@ -9,9 +9,10 @@ use Rattle.assign.specs.declared.home.Home.{Home}
 use Rattle.assign.specs.declared.home.Home.TheVariants.{Hard, Slot}
 use Rattle.assign.specs.declared.home.HomeOf.{HomeOf}
 use Rattle.reg_rows.specs.Table.{has_at}
+use Rattle.reg_conflicts.proofs.live.NodeLaws.{slice_get-push}
 use Rattle.assign.specs.Homes.{register}
 use Rattle.assign.specs.machine.Picked.{is_hard, clashes, is_free, home_from, beside, AreBlocked, IsPicked, IsRefused}
-use Rattle.assign.proofs.FindLaws.{some_of, none_of, find_first, find_none, find_within, slice_get-push}
+use Rattle.assign.proofs.FindLaws.{some_of, none_of, find_first, find_none, find_within}
 
 is_hard-true : (home : Home) (h : ℕ) → is_hard home h ≡ true → home ≡ Hard h
 is_hard-true (Hard r) h e = ap Hard (eqb-true r h e)

@@ -59,6 +59,10 @@ mode_apart a b e = sym (called a) ∙ (ap mode_called e ∙ called b)
 mode_decides : (a b : Mode) → Decides (same_mode a b) (a ≡ b)
 mode_decides a b = (λ e. mode_apart a b ((bytes_eq-Decides (mode_name a) (mode_name b)).0 e), λ e. (bytes_eq-Decides (mode_name a) (mode_name b)).1 (ap mode_name e))
 
+-- modes that are the same are one
+pub same_modes : (a b : Mode) → same_mode a b ≡ true → a ≡ b
+same_modes a b same = (mode_decides a b).0 same
+
 pub mode_is : (a b : Mode) (found : Bool) → (IsTrue found ↔ (a ≡ b)) → found ≡ same_mode a b
 mode_is a b found is = one_answer found (same_mode a b) is (mode_decides a b)
 
@@ -112,6 +116,10 @@ sound_kids (k ∷ kids) (y ∷ ys) holds =
 sound : (x : Rtx) → Sound x
 sound = ind-Rtx Sound (λ x y is.
     sound_layer x (subst (λ (z : Rtx-F Rtx). (ys : List Rtx) → all_same (map same_tree z.kids) ys ≡ true → z.kids ≡ ys) is (sound_kids y.kids)))
+
+-- trees that are the same are one
+pub same_trees : (x y : Rtx) → same_tree x y ≡ true → x ≡ y
+same_trees x y same = sound x y same
 
 whole_kids : (kids : List ((x : Rtx) × Whole x)) → all_same (map same_tree (map (λ e. e.0) kids)) (map (λ e. e.0) kids) ≡ true
 whole_kids [] = refl

@@ -23,7 +23,7 @@ pub equated_does : EquatedDoesSame
 equated_does before number lines live equated other = few_do before number lines live equated other (λ reg. is_live live reg ≡ true) (λ reg lives. lives)
 
 -- instructions are no line that returns
-no_return : (before after : List Insn) → both_return before (Insns after) ≡ false
+pub no_return : (before after : List Insn) → both_return before (Insns after) ≡ false
 no_return before after = by (is_one_return before)
   where
     by : (b : Bool) → (b && false) ≡ false

@@ -1,15 +1,15 @@
 -- Registers by what a look-up gives.
-use Rattle.std.proofs.Common.{◌≡◌, ◌≢◌, ℕ, zero, suc, ◌==◌, ◌<◌, ◌^◌, if◌then◌else◌, true, false, Some, None, refl, sym, ap, ◌∙◌, arith}
+use Rattle.std.proofs.Common.{◌≡◌, ◌≢◌, ℕ, zero, suc, ◌==◌, ◌<◌, ◌^◌, if◌then◌else◌, false, Some, refl, sym, ap, ◌∙◌, arith}
 use Rattle.std.proofs.lemmas.Bool.Decides.{nat_tests}
 use Rattle.std.specs.Cmp.{nat_cmp_total}
 use Rattle.std.specs.FinMap.{get, get-insert}
-use Rattle.std.specs.Prelude.{option_and_then, nat_le}
-use Rattle.bits64.specs.Words.{low, bits_of}
+use Rattle.std.specs.Prelude.{option_and_then}
+use Rattle.bits64.specs.Words.{low}
 use Rattle.bits64.specs.declared.Width.{Width}
-use Rattle.bits64.specs.declared.Width.TheVariants.{W8, W16, W32, W64}
+use Rattle.bits64.specs.declared.Width.TheVariants.{W64}
 use Rattle.rtl_step.specs.Regs.{Regs, known_in, known_of, reg_value, with_reg}
 use Rattle.rtl_step.specs.declared.regs.Known.{Known}
-use Rattle.window_replace.proofs.window_same.Replies.{low_in}
+use Rattle.window_replace.proofs.window_same.Entry.{known_wide}
 use Rattle.window_replace.proofs.window_same.Small.{is_here, is_other}
 
 pub differs : (r n : ℕ) → (r == n) ≡ false → r ≢ n
@@ -32,15 +32,6 @@ set_other regs (suc r) k q other = get-insert nat_cmp_total regs (suc r) k q ∙
 pub value_alike : (regs other : Regs) (r : ℕ) (w : Width) → get other r ≡ get regs r → reg_value other r w ≡ reg_value regs r w
 value_alike regs other zero w same = refl
 value_alike regs other (suc r) w same = ap (option_and_then (known_in w)) same
-
-fits_all : (w : Width) → nat_le (bits_of w) 64 ≡ true
-fits_all W8 = refl
-fits_all W16 = refl
-fits_all W32 = refl
-fits_all W64 = refl
-
-known_wide : (w : Width) (value : ℕ) → known_in w (known_of W64 value) ≡ Some (low w value)
-known_wide w value = ap (λ b. if b then Some (low w (low W64 value)) else None) (fits_all w) ∙ ap Some (low_in w W64 value (fits_all w))
 
 -- the low bits of a register that is known to hold a number
 pub holds_low : (regs : Regs) (r x : ℕ) (w : Width) → r ≢ 0 → get regs r ≡ Some (known_of W64 x) → reg_value regs r w ≡ Some (low w x)

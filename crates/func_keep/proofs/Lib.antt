@@ -1,0 +1,1 @@
+pub use Rattle.same_behaviour.proofs as same_behaviour

@@ -19,8 +19,8 @@ use Rattle.rtl_func.specs.Nodes.{nodes_of}
 use Rattle.rtl_func.specs.Rules.{keeps}
 use Rattle.rtl_func.specs.Shapes.{is_effect_class, is_shaped, is_bare, fits_row, has_call_mode, has_call_mode_by}
 use Rattle.rtl_func.proofs.NodeLaws.{nodes_out}
+use Rattle.rtl_func.proofs.AllPass.{all_pass}
 use Rattle.rtl_chain.specs.End.{return_insn}
-use Rattle.func_rules.proofs.Nodes.{all_pass}
 
 -- a return has no parts
 return_nodes : nodes_of return_rtx ≡ return_rtx ∷ []

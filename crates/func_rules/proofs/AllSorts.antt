@@ -18,9 +18,9 @@ use Rattle.rtl_func.specs.Kinds.{is_jump_by, is_plain_tree, kinds_agree}
 use Rattle.rtl_func.specs.Modes.{shapes_agree, call_modes_agree}
 use Rattle.rtl_func.specs.Shapes.{is_effect, is_effect_class, is_call_class, is_shaped}
 use Rattle.rtl_func.specs.Uids.{is_ruled_kind}
+use Rattle.rtl_func.proofs.AllPass.{all_pass, itself}
 use Rattle.func_rules.specs.Admitted.{StandsAt, AreLabels, IsWellFormed}
 use Rattle.func_rules.specs.Sorts.{IsSort, label, barrier, sets, uses, clobbers, at_once, returns, jumps, calls}
-use Rattle.func_rules.proofs.Nodes.{all_pass, itself}
 use Rattle.func_rules.proofs.Jumps.{jump_leads}
 
 module _ (f : Function) (is : IsWellFormed f) (place : ℕ) (i : Insn) (at : StandsAt f.insns place i) where

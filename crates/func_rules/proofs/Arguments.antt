@@ -13,8 +13,8 @@ use Rattle.rtx_tree.specs.Tree.{head_of, kids_of, is_reg_numbered, mentions_reg}
 use Rattle.rtx_tree.proofs.Trees.{mentions_out}
 use Rattle.rtl_func.specs.Calls.{is_argument, is_hard_argument, has_argument}
 use Rattle.rtl_func.specs.Modes.{register_by}
+use Rattle.rtl_func.proofs.AllPass.{all_pass, pass_out}
 use Rattle.func_input.proofs.rtl_print.TreeText.{rtx_induction}
-use Rattle.func_rules.proofs.Nodes.{all_pass, pass_out}
 
 module _ (reg : ℕ) (hard : reg < 32) where
   of_number : (n : ℤ) → n ≡ pos reg → is_hard_argument (register_by (class_of_code Reg) (cast_unsigned w64 n)) ≡ true →

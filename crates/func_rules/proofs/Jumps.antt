@@ -14,10 +14,10 @@ use Rattle.rtl_func.specs.Kinds.{is_jump_by, uid_stands, label_stands}
 use Rattle.rtl_func.specs.Shapes.{class_at, mode_at, number_at, has_mode, is_place, is_place_class, is_place, is_bare, is_shaped, fits_row, is_set_to, is_choice, is_counter_class, is_label_class, is_comparison_class, is_jump_source_class}
 use Rattle.rtl_func.specs.Successors.{goes_to, branches_to, source_flow, source_flow_by, jump_flow_by}
 use Rattle.rtl_func.specs.declared.flow.Flow.TheVariants.{Stops}
+use Rattle.rtl_func.proofs.AllPass.{all_pass, itself, within}
 use Rattle.reg_uses.specs.Uses.{is_return_code}
 use Rattle.func_rules.specs.Sorts.{Leads}
 use Rattle.func_rules.specs.Sorts as sorts
-use Rattle.func_rules.proofs.Nodes.{all_pass, itself, within}
 
 -- ---- codes
 

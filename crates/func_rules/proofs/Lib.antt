@@ -1,12 +1,12 @@
 pub mod Kept
 pub mod Uids
 pub mod Mentions
-pub mod Nodes
 pub mod Arguments
 pub mod Registers
 pub mod Chain
 pub mod Returning
 pub mod Standing
+pub mod Entries
 pub mod Reading
 pub mod Marks
 pub mod Jumps

@@ -14,6 +14,10 @@ pub any_stands : {A : Type 0} (P : A → Type 0) → ((x : A) → P x) → (p : 
 any_stands P is (stands x) = is x
 any_stands P is (construct place name) = tt
 
+pub weaker : {A : Type 0} (P Q : A → Type 0) → ((x : A) → P x → Q x) → (p : Parsed A) → IfStands P p → IfStands Q p
+weaker P Q next (stands x) is = next x is
+weaker P Q next (construct place name) is = tt
+
 pub map_stands : {A B : Type 0} (P : B → Type 0) (f : A → B) (p : Parsed A) → IfStands (λ x. P (f x)) p → IfStands P (parsed_map f p)
 map_stands P f (stands x) is = is
 map_stands P f (construct place name) is = tt

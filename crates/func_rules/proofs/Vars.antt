@@ -16,8 +16,8 @@ use Rattle.rtx_tree.specs.Tree.{head_of, kids_of, is_reg_numbered}
 use Rattle.rtl_func.specs.Effects.{place_register_by, place_register, changed_by, changed_register, is_stack_register, sums_locals, has_stack_variables, stack_variables}
 use Rattle.rtl_func.specs.Modes.{register_by, register_at, shapes_agree}
 use Rattle.rtl_func.specs.Shapes.{class_at, mode_at, number_at, is_effect, is_bare, fits_row, is_shaped}
+use Rattle.rtl_func.proofs.AllPass.{all_pass, itself, within}
 use Rattle.reg_uses.specs.Effects.{is_register, place_is_by, place_is, effect_defines_by, effect_defines, effects_by, effects_of, pattern_defines}
-use Rattle.func_rules.proofs.Nodes.{all_pass, itself, within}
 
 -- ---- places
 

@@ -19,9 +19,9 @@ use Rattle.rtl_step.specs.Effect.{address_of}
 use Rattle.rtl_step.specs.Regs.{Regs, reg_value}
 use Rattle.rtl_step.specs.Value.{width_of, value_of, of_two}
 use Rattle.rtl_step.specs.declared.call.ArgValue.{ArgValue}
+use Rattle.rtl_step.proofs.Too.{Too, too_then, too_map, too_two}
 use Rattle.reg_uses.specs.Effects.{reads, place_reads, effect_uses, effect_uses_by, effects_by, pattern_uses}
 use Rattle.reg_uses.specs.Uses.{has_argument}
-use Rattle.homes_mean.proofs.Too.{Too, too_then, too_map, too_two}
 use Rattle.assign.specs.declared.home.Home.TheVariants.{Hard}
 use Rattle.assign.specs.declared.home.HomeOf.{HomeOf}
 use Rattle.assign.specs.declared.places.Layout.{Layout}

@@ -17,6 +17,7 @@ use Rattle.rtl_step.specs.Call.{call_part, target_of, event_of, regs_replied}
 use Rattle.rtl_step.specs.Regs.{reg_value}
 use Rattle.rtl_step.specs.declared.call.CallEvent.{CallEvent}
 use Rattle.rtl_step.specs.declared.step.State.{State}
+use Rattle.rtl_step.proofs.Too.{Too}
 use Rattle.rtl_func.specs.Calls.{is_argument}
 use Rattle.rtl_func.specs.Paths.{leads}
 use Rattle.rv_regs.specs.Registers.{saved_registers}
@@ -25,7 +26,6 @@ use Rattle.reg_uses.specs.Uses.{insn_uses, insn_defines, is_call_kind, has_argum
 use Rattle.live.specs.Live.{IsLive, AtUse, Passing}
 use Rattle.same_behaviour.specs.Lawful.{IsLawfulReply}
 use Rattle.same_behaviour.proofs.Entry.{same_or_not}
-use Rattle.homes_mean.proofs.Too.{Too}
 use Rattle.window_same.proofs.Memories.{within_written, visible_written}
 use Rattle.window_same.proofs.Small.{and_none}
 use Rattle.window_same.proofs.Sets.{call_defines}

@@ -1,4 +1,3 @@
-pub mod Too
 pub mod Stores
 pub mod Grows
 pub mod Trees

@@ -23,10 +23,11 @@ use Rattle.rtx_tree.proofs.Trees.{head_of-tree, kids_of-tree, mentions_out}
 use Rattle.run_memory.specs.RunMemory.{load}
 use Rattle.rtl_step.specs.Regs.{Regs, reg_value}
 use Rattle.rtl_step.specs.Value.{Reading, width_of, value_of, of_one}
+use Rattle.rtl_step.proofs.Too.{Too, too_two}
+use Rattle.rtl_step.proofs.Readings.{AllRead}
 use Rattle.md_operand.specs.Addresses.{is_stack_vars, is_constant, is_any}
 use Rattle.text_words.specs.Words.{fits_i64}
 use Rattle.window_mean.specs.Beside.{Within}
-use Rattle.homes_mean.proofs.Too.{Too, too_two}
 use Rattle.assign.specs.declared.home.Home.{Home}
 use Rattle.assign.specs.declared.home.Home.TheVariants.{Hard, Slot}
 use Rattle.assign.specs.declared.home.HomeOf.{HomeOf}
@@ -36,7 +37,7 @@ use Rattle.reload_homes.specs.Homes.{home_of, slot_offset, slot_address, place_b
 use Rattle.reload_homes.proofs.Rewrites.{framed_reference, framed_over, homed_register, homed_over}
 use Rattle.homes_mean.specs.Stands.{content_in}
 use Rattle.homes_mean.specs.Placed.{is_sized, all_sized, placed}
-use Rattle.homes_mean.proofs.Grows.{AllRead, leaf_too, value_grows}
+use Rattle.homes_mean.proofs.Grows.{leaf_too, value_grows}
 use Rattle.homes_mean.proofs.Offsets.{wrap_natural, wrap_sum, low_cut, from_sp_is, known_each, sum_low}
 use Rattle.homes_mean.proofs.Trees.{constant_code, tree_induction, sized_here, sized_kids, register_code, numbered, as_read, value_at, reg_is, mem_is, reg_alone, const_alone, lowpart_is, plus_is, mentions_kid}
 

@@ -2,7 +2,6 @@
 use Rattle.std.proofs.Common.{◌≡◌, ◌≢◌, ℕ, zero, suc, ◌+◌, ◌*◌, ◌/◌, ◌%◌, ◌^◌, ◌<◌, ◌≤◌, ◌⊎◌, ⊎_elim, inl, inr, Bool, true, false, cond, List, [], ◌∷◌, refl, sym, ap, subst, ◌∙◌, arith}
 use Rattle.std.proofs.lemmas.Bool.Decides.{nat_tests}
 use Rattle.std.proofs.lemmas.Bool.{false≢true}
-use Rattle.std.proofs.Math.Nat.{div-add-mod, mod-lt, mod-eq_of_lt, mul-add-mod_self_left, pow-succ'}
 use Rattle.std.specs.Prelude.{Option, Some, None, is_some, option_map, option_and_then, if◌then◌else◌}
 use Rattle.bits64.specs.declared.Width.{Width}
 use Rattle.bits64.specs.declared.Width.TheVariants.{W8, W16, W32, W64}
@@ -12,7 +11,7 @@ use Rattle.rtx_tree.specs.declared.machine.RangeAt.{RangeAt}
 use Rattle.rtx_tree.specs.declared.memories.MemByte.{MemByte}
 use Rattle.rtx_tree.proofs.MemoryWrites.{byte_at-with_byte, byte_at-with_byte_same, byte_at-with_byte_other, has-with_byte, with_byte_missing}
 use Rattle.run_memory.specs.RunMemory.{number_at, with_number, is_aligned, load, visible, is_visible}
-use Rattle.run_memory.proofs.Laws.{Apart, byte_at-with_number_other}
+use Rattle.run_memory.proofs.Laws.{Apart, byte_at-with_number_other, low_bytes, pow-pos, pow_step}
 use Rattle.same_behaviour.proofs.Entry.{same_or_not}
 use Rattle.window_mean.specs.Beside.{Within}
 
@@ -78,23 +77,6 @@ there_alike memory other same address (suc count) there =
     both_there (byte_at other address) (number_at other (address + 1) count) (sym (same address) ∙ parts.0)
     (there_alike memory other same (address + 1) count parts.1)
 
-some_power : (count : ℕ) → 0 < 256 ^ count
-some_power zero = omega arith
-some_power (suc count) = rw pow-succ' (omega (arith, some_power count))
-
-next_power : (count : ℕ) → 256 * 256 ^ count ≡ 256 ^ suc count
-next_power count = rw pow-succ' refl
-
-low_bytes : (number above : ℕ) → 0 < above → number % 256 + 256 * (number / 256 % above) ≡ number % (256 * above)
-low_bytes number above some =
-    let rest : ℕ = number % 256 + 256 * (number / 256 % above) in
-    let quotient : ℕ = number / 256 / above in
-    let high : above * quotient + number / 256 % above ≡ number / 256 = div-add-mod (number / 256) above in
-    let whole : 256 * above * quotient + rest ≡ number = omega arith in
-    let small : number / 256 % above < above = mod-lt (number / 256) some in
-    let less : rest < 256 * above = omega arith in
-    sym (mod-eq_of_lt less) ∙ (sym (mul-add-mod_self_left (256 * above) quotient rest) ∙ ap (λ n. n % (256 * above)) whole)
-
 -- of a number that is written, fewer bytes are its low ones
 pub fewer_written : (memory : List MemByte) (address fewer count number : ℕ) → fewer ≤ count → is_some (number_at memory address count) ≡ true →
     number_at (with_number memory address count number) address fewer ≡ Some (number % 256 ^ fewer)
@@ -111,7 +93,7 @@ fewer_written memory address (suc fewer) (suc count) number few there =
     let rest = fewer_written after (address + 1) fewer count (number / 256) (omega (arith, few)) still in
     ap (λ b. joined b (number_at (with_number after (address + 1) count (number / 256)) (address + 1) fewer)) byte
     ∙ (ap (joined (Some (number % 256))) rest
-    ∙ ap Some (low_bytes number (256 ^ fewer) (some_power fewer) ∙ ap (λ n. number % n) (next_power fewer)))
+    ∙ ap Some (low_bytes number (256 ^ fewer) (pow-pos fewer) ∙ ap (λ n. number % n) (pow_step fewer)))
 
 -- ---- loads
 
@@ -119,7 +101,7 @@ fewer_written memory address (suc fewer) (suc count) number few there =
 abbrev pub IsWithin : Width → Width → Type 0
 IsWithin w v = bytes_of w ≤ bytes_of v
 
-bytes_bits : (w : Width) → 256 ^ bytes_of w ≡ 2 ^ bits_of w
+pub bytes_bits : (w : Width) → 256 ^ bytes_of w ≡ 2 ^ bits_of w
 bytes_bits W8 = refl
 bytes_bits W16 = refl
 bytes_bits W32 = refl

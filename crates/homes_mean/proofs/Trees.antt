@@ -24,8 +24,8 @@ use Rattle.run_memory.specs.RunMemory.{load}
 use Rattle.rtl_step.specs.Regs.{Regs, reg_value}
 use Rattle.rtl_step.specs.Value.{Reading, width_of, value_by, value_of, of_one, of_two}
 use Rattle.rtl_step.proofs.Values.{value_read}
+use Rattle.rtl_step.proofs.Too.{Too}
 use Rattle.md_operand.specs.Addresses.{is_constant_at, is_any}
-use Rattle.homes_mean.proofs.Too.{Too}
 use Rattle.homes_mean.specs.Placed.{is_sized, sized_step, all_sized}
 
 -- ---- induction

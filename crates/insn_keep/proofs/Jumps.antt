@@ -24,7 +24,8 @@ use Rattle.insn_replace.proofs.sym_mean.Bools.{both_of}
 use Rattle.insn_replace.proofs.sym_mean.Growth.{made_jump, jump_is, goes_from}
 use Rattle.insn_replace.proofs.sym_mean.JumpShapes.{Leads, to_label, by_test, IsJump}
 use Rattle.insn_replace.proofs.sym_mean.Ways.{jump_of, fits_all, does_run}
-use Rattle.insn_replace.proofs.agree_keep.Ends.{widths_differ, one_target}
+use Rattle.insn_replace.proofs.agree_keep.agree_mean.Agreeing.{widths_differ}
+use Rattle.insn_replace.proofs.agree_keep.Ends.{one_target}
 use Rattle.pass_ready.specs.func_rules.Sorts as sorts
 use Rattle.pass_ready.specs.Reloadable.{LeadsWithin}
 

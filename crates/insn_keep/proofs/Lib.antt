@@ -10,7 +10,6 @@ pub mod Keeping
 pub mod Inputs
 pub mod Finished
 pub use Rattle.insn_replace.proofs.equate as equate
-pub use Rattle.pass_ready.proofs.func_rules as func_rules
 pub use Rattle.pass_ready.proofs as pass_ready
 pub use Rattle.insn_replace.proofs as insn_replace
 pub use Rattle.insn_replace.proofs.pass_refusal as pass_refusal

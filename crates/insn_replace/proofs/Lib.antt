@@ -1,5 +1,4 @@
 pub mod Calls
-pub mod LiveLists
 pub mod MadeLaws
 pub mod OneReplaced
 pub use Rattle.pass_refusal.proofs.agree_keep as agree_keep

@@ -4,6 +4,7 @@ use Rattle.rtx_tree.specs.declared.function.Insn.{Insn}
 use Rattle.rtx_tree.specs.declared.function.Function.{Function}
 use Rattle.rtx_tree.specs.declared.tree.Rtx.{Rtx}
 use Rattle.live.specs.Live.{AreLiveAfter}
+use Rattle.live.proofs.LiveLists.{live_one}
 use Rattle.new_insns.specs.Replaced.{replaced}
 use Rattle.pass_refusal.specs.equate.Side.{Insns}
 use Rattle.pass_refusal.specs.equate.Verdict.{Verdict}
@@ -11,7 +12,6 @@ use Rattle.pass_refusal.specs.equate.Equated.{verdict}
 use Rattle.pass_refusal.specs.Refused.{refused_by}
 use Rattle.pass_refusal.specs.declared.refusal.PassRefusal.{PassRefusal}
 use Rattle.insn_replace.specs.Replace.{made, ReplacedComes, OneReplaced}
-use Rattle.insn_replace.proofs.LiveLists.{live_one}
 
 module _ (f : Function) (place : ℕ) (i : Insn) (rule : List ℕ) (sequence : List Rtx) where
   abbrev outcome_by : Option PassRefusal → Result Function PassRefusal

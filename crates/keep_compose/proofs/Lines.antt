@@ -1,15 +1,11 @@
 -- What has the behaviour of a function has that of each function that it does the same as.
-use Rattle.std.proofs.Common.{◌≡◌, ◌≢◌, ℕ, ◌≤◌, ◌||◌, not, arith, cond, Bool, true, false, List, [], ◌∷◌, map, Option, Some, refl, sym, ap, subst, ◌∙◌}
-use Rattle.std.proofs.lemmas.List.Elements.{All-filter, All-weaker}
-use Rattle.std.proofs.lemmas.List.Kept.{IsStrictlyIncreasing-filter}
-use Rattle.std.specs.List.{filter}
-use Rattle.std.specs.List.Sorted.{IsStrictlyIncreasing}
+use Rattle.std.proofs.Common.{◌≢◌, ℕ, ◌≤◌, ◌||◌, not, arith, List, Option, Some, sym, subst, ◌∙◌}
+use Rattle.std.proofs.lemmas.List.Elements.{All-weaker}
 use Rattle.std.specs.Prelude.{slice_get}
 use Rattle.rtx_tree.specs.declared.code.Mode.{Mode}
 use Rattle.rtx_tree.specs.declared.function.Function.{Function}
 use Rattle.rtx_tree.specs.declared.machine.Start.{Start}
 use Rattle.rtx_tree.specs.declared.machine.World.{World}
-use Rattle.rtx_tree.specs.declared.memories.MemByte.{MemByte}
 use Rattle.rtl_step.specs.declared.call.ArgValue.{ArgValue}
 use Rattle.rtl_step.specs.declared.call.CallEvent.{CallEvent}
 use Rattle.func_mean.specs.Run.{run_of, taken}
@@ -20,39 +16,14 @@ use Rattle.rv_line.specs.Run as lines
 use Rattle.rv_line.specs.declared.outcome.CodeCall.{CodeCall}
 use Rattle.rv_line.specs.declared.outcome.CodeOutcome.{CodeOutcome}
 use Rattle.rv_line.specs.declared.outcome.CodeOutcome.TheVariants as code
-use Rattle.func_keep.specs.same_behaviour.Lawful.{IsByte, IsMemory, IsLawful, IsLawfulReply, IsLawfulWorld, is_below_sp, seen_by_rtl}
+use Rattle.func_keep.specs.same_behaviour.Lawful.{IsLawful, IsLawfulReply, IsLawfulWorld, is_below_sp, seen_by_rtl}
 use Rattle.func_keep.specs.same_behaviour.Same as same
 use Rattle.func_keep.specs.same_behaviour.Same.{Same, SameFrom, SameCall, SameCalls, SameArg, SameArgs, SameResult}
+use Rattle.func_keep.proofs.same_behaviour.Kept.{memory_kept}
 use Rattle.func_keep.specs.Outcomes.{SameEvent, SameEvents, SameOutcome}
 use Rattle.func_keep.specs.Keeps.{Keeps, IsMachineStart, IsMachineReply, IsMachineWorld}
 use Rattle.keep_compose.proofs.Events.{beside}
 use Rattle.keep_compose.proofs.Keeping.{has_value}
-
--- ---- a part of memory that goes by the addresses is a memory
-
-module _ (test : ℕ → Bool) where
-  abbrev kept : List MemByte → List MemByte
-  kept memory = filter (λ (b : MemByte). test b.address) memory
-
-  abbrev addresses : List MemByte → List ℕ
-  addresses memory = map (λ (b : MemByte). b.address) memory
-
-  addresses_kept : (memory : List MemByte) → addresses (kept memory) ≡ filter test (addresses memory)
-  addresses_kept [] = refl
-  addresses_kept (b ∷ memory) = by_test (test b.address) (addresses_kept memory)
-    where
-      by_test : (is : Bool) → addresses (kept memory) ≡ filter test (addresses memory) →
-          addresses (cond is (b ∷ kept memory) (kept memory)) ≡ cond is (b.address ∷ filter test (addresses memory)) (filter test
-          (addresses memory))
-      by_test true rest = ap (λ xs. b.address ∷ xs) rest
-      by_test false rest = rest
-
-  pub memory_kept : (memory : List MemByte) → IsMemory memory → IsMemory (kept memory)
-  memory_kept memory is = record {
-    ordered = let P : List ℕ → Type 0 = λ xs. IsStrictlyIncreasing xs in
-        subst P (sym (addresses_kept memory)) (IsStrictlyIncreasing-filter test (addresses memory) is.ordered);
-    bytes = All-filter (λ (b : MemByte). test b.address) IsByte memory is.bytes;
-  }
 
 -- ---- starts and worlds
 

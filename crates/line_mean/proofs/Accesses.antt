@@ -2,13 +2,14 @@
 use Rattle.std.proofs.Common.{◌≡◌, ℕ, zero, suc, ◌+◌, ◌*◌, ◌/◌, ◌%◌, ◌^◌, ◌<◌, ◌&&◌, Bool, true, false, List, [], ◌∷◌, ◌++◌, length, Option, Some, None, refl, sym, ◌∙◌, ap, arith}
 use Rattle.std.specs.Prelude.{if◌then◌else◌, is_some, option_map, option_and_then}
 use Rattle.std.specs.Int.{cast_unsigned, w64}
-use Rattle.std.proofs.Math.Nat.{div-add-mod, mod-lt, mod-eq_of_lt, mul-add-mod_self_left, pow-succ'}
+use Rattle.std.proofs.Math.Nat.{mod-eq_of_lt, pow-succ'}
 use Rattle.bits64.specs.declared.Width.{Width}
 use Rattle.bits64.specs.declared.Width.TheVariants.{W8, W16, W32, W64}
 use Rattle.bits64.specs.Words.{bits_of, bytes_of, low, sum_of, sign_extended, zero_extended, signed}
 use Rattle.rtx_tree.specs.declared.memories.MemByte.{MemByte}
 use Rattle.rtx_tree.specs.Memories.{with_byte}
 use Rattle.run_memory.specs.RunMemory.{load, store, with_number}
+use Rattle.run_memory.proofs.Laws.{low_bytes, pow-pos}
 use Rattle.rv_text.specs.declared.line.Line.{Line}
 use Rattle.rv_text.specs.declared.action.Extension.{Extension}
 use Rattle.rv_text.specs.declared.action.Extension.TheVariants.{Sign, Zero}
@@ -37,25 +38,11 @@ use Rattle.line_mean.proofs.Computing.{is_64, extended_whole}
 
 -- ---- a number that is stored goes by its low bytes
 
-low_bytes : (number above : ℕ) → 0 < above → number % 256 + 256 * (number / 256 % above) ≡ number % (256 * above)
-low_bytes number above some =
-    let rest : ℕ = number % 256 + 256 * (number / 256 % above) in
-    let quotient : ℕ = number / 256 / above in
-    let high : above * quotient + number / 256 % above ≡ number / 256 = div-add-mod (number / 256) above in
-    let whole : 256 * above * quotient + rest ≡ number = omega arith in
-    let small : number / 256 % above < above = mod-lt (number / 256) some in
-    let less : rest < 256 * above = omega arith in
-    sym (mod-eq_of_lt less) ∙ (sym (mul-add-mod_self_left (256 * above) quotient rest) ∙ ap (λ n. n % (256 * above)) whole)
-
-power_some : (count : ℕ) → 0 < 256 ^ count
-power_some zero = omega arith
-power_some (suc count) = rw pow-succ' (omega (arith, power_some count))
-
 low_written : (memory : List MemByte) (at count n : ℕ) → with_number memory at count (n % 256 ^ count) ≡ with_number memory at count n
 low_written memory at zero n = refl
 low_written memory at (suc count) n =
     let power : 256 ^ suc count ≡ 256 * 256 ^ count = rw pow-succ' refl in
-    let parts : n % 256 ^ suc count ≡ n % 256 + 256 * (n / 256 % 256 ^ count) = ap (λ k. n % k) power ∙ sym (low_bytes n (256 ^ count) (power_some count)) in
+    let parts : n % 256 ^ suc count ≡ n % 256 + 256 * (n / 256 % 256 ^ count) = ap (λ k. n % k) power ∙ sym (low_bytes n (256 ^ count) (pow-pos count)) in
     let byte : n % 256 ^ suc count % 256 ≡ n % 256 = omega (arith, parts) in
     let rest : n % 256 ^ suc count / 256 ≡ n / 256 % 256 ^ count = omega (arith, parts) in
     ap (λ b. with_number (with_byte memory at b) (at + 1) count (n % 256 ^ suc count / 256)) byte

@@ -1,5 +1,5 @@
 -- What a line computes: the number of the term is what the line writes.
-use Rattle.std.proofs.Common.{◌≡◌, ℕ, zero, ◌-◌, ◌%◌, ◌^◌, ◌<◌, ◌≤◌, Bool, true, false, [], ◌∷◌, Some, refl, sym, ◌∙◌, ap, arith}
+use Rattle.std.proofs.Common.{◌≡◌, ℕ, zero, ◌-◌, ◌%◌, ◌^◌, ◌<◌, Bool, true, false, [], ◌∷◌, Some, refl, sym, ◌∙◌, ap, arith}
 use Rattle.std.specs.Prelude.{negsuc, if◌then◌else◌, bit_and, bit_xor}
 use Rattle.std.specs.Int.{cast_unsigned, w64}
 use Rattle.std.proofs.Math.Nat.{mod-mod, mod-eq_of_lt, div-lt_iff_lt-mul}
@@ -30,13 +30,8 @@ use Rattle.sym_lines.specs.Compute as spec
 use Rattle.sym_mean.proofs.Numbers.{complemented}
 use Rattle.sym_mean.proofs.Operations as made
 use Rattle.sym_mean.proofs.Operations.{Makes, below, mean_below, wrapped_below, low_below, two_made}
+use Rattle.sym_mean.proofs.Parts.{at_most_64}
 use Rattle.line_mean.proofs.Results.{results_low}
-
-at_most_64 : (w : Width) → bits_of w ≤ bits_of W64
-at_most_64 W8 = omega arith
-at_most_64 W16 = omega arith
-at_most_64 W32 = omega arith
-at_most_64 W64 = omega arith
 
 -- all 64 bits with their sign above are themselves
 pub extended_whole : (a : ℕ) → a < 2 ^ 64 → sign_extended W64 a ≡ a

@@ -5,7 +5,7 @@ use Rattle.rtx_tree.specs.declared.function.Insn.{Insn}
 use Rattle.rtx_tree.specs.declared.function.Function.{Function}
 use Rattle.rtl_func.specs.Calls.{use_is_argument}
 use Rattle.rtl_func.specs.Calls as rules
-use Rattle.reload_mean.proofs.func_rules.Nodes.{all_pass}
+use Rattle.rtl_func.proofs.AllPass.{all_pass}
 use Rattle.out_same.specs.pass_ready.Ready.{IsInsnReady}
 use Rattle.out_same.specs.pass_ready.Reloadable.{IsInsnReloadable}
 use Rattle.out_same.proofs.pass_ready.Places.{all_at, at_place}

@@ -12,7 +12,7 @@ use Rattle.live_rows.specs.machine.Rows.{at_place}
 use Rattle.live.specs.Live.{IsLiveAfter, AreLiveAfter, AreLiveRows}
 
 -- a row of one of two places has the register
-in_rows : (a b : Option ℕ) (rows : List (List ℕ)) (reg : ℕ) → (at_place a rows reg || at_place b rows reg) ≡ true → (q : ℕ) × (has_place (option_to_list a ++ option_to_list b) q ≡ true) × (has_at rows q reg ≡ true)
+pub in_rows : (a b : Option ℕ) (rows : List (List ℕ)) (reg : ℕ) → (at_place a rows reg || at_place b rows reg) ≡ true → (q : ℕ) × (has_place (option_to_list a ++ option_to_list b) q ≡ true) × (has_at rows q reg ≡ true)
 in_rows None None rows reg h = absurd (false≢true h)
 in_rows None (Some q) rows reg h = (q, or_left (eqb q q) false (eq-eqb q q refl), h)
 in_rows (Some p) None rows reg h =
@@ -29,7 +29,7 @@ in_rows (Some p) (Some q) rows reg h =
 one_place : (p q : ℕ) (more : Bool) (rows : List (List ℕ)) (reg : ℕ) → eqb p q ≡ true → has_at rows q reg ≡ true → has_at rows p reg ≡ true
 one_place p q more rows reg is h = subst (λ p. has_at rows p reg ≡ true) (sym (eqb-true p q is)) h
 
-from_rows : (a b : Option ℕ) (rows : List (List ℕ)) (reg q : ℕ) → has_place (option_to_list a ++ option_to_list b) q ≡ true → has_at rows q reg ≡ true → (at_place a rows reg || at_place b rows reg) ≡ true
+pub from_rows : (a b : Option ℕ) (rows : List (List ℕ)) (reg q : ℕ) → has_place (option_to_list a ++ option_to_list b) q ≡ true → has_at rows q reg ≡ true → (at_place a rows reg || at_place b rows reg) ≡ true
 from_rows None None rows reg q place h = absurd (false≢true place)
 from_rows None (Some b) rows reg q place h =
     elim (or_cases (eqb b q) false place) [

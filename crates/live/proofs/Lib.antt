@@ -1,3 +1,4 @@
 pub mod NodeLaws
 pub mod SetLaws
 pub mod AfterLaws
+pub mod LiveLists

@@ -60,7 +60,7 @@ from_live f nodes are reg p (Passing _ q i at free leads rest) =
 
 -- ---- one node more
 
-slice_get-push : {X : Type 0} (xs : List X) (y : X) (k : ℕ) (x : X) → slice_get (xs ++ y ∷ []) k ≡ Some x → ((k < length xs) × (slice_get xs k ≡ Some x)) ⊎ ((k ≡ length xs) × (y ≡ x))
+pub slice_get-push : {X : Type 0} (xs : List X) (y : X) (k : ℕ) (x : X) → slice_get (xs ++ y ∷ []) k ≡ Some x → ((k < length xs) × (slice_get xs k ≡ Some x)) ⊎ ((k ≡ length xs) × (y ≡ x))
 slice_get-push [] y zero x e = inr (refl, same_Some y x e)
 slice_get-push [] y (suc k) x e = absurd (none-some x e)
 slice_get-push (z ∷ xs) y zero x e = inl (omega arith, e)

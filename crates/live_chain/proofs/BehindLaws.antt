@@ -1,15 +1,15 @@
 -- A row that is filled from others.
-use Rattle.std.proofs.Common.{◌≡◌, ◌↔◌, ℕ, ◌+◌, ◌*◌, ◌/◌, ◌%◌, ◌≤◌, Bool, true, false, ◌||◌, ◌&&◌, eqb, ltb, List, [], ◌++◌, length, get_or, Option, None, Some, refl, sym, ap, subst, ◌∙◌, inl, inr, arith, eq-eqb}
+use Rattle.std.proofs.Common.{◌≡◌, ◌↔◌, ℕ, ◌+◌, ◌*◌, ◌/◌, ◌%◌, ◌≤◌, Bool, true, false, ◌||◌, ◌&&◌, ltb, List, [], ◌++◌, length, get_or, Option, refl, sym, ap, subst, ◌∙◌, inl, inr, arith}
 use Rattle.std.specs.Option.{option_to_list}
-use Rattle.std.proofs.lemmas.Bool.{cases_lt, lt-ltb, le-ltb, or_cases, or_left, or_right, eqb-true, false≢true, and_left}
+use Rattle.std.proofs.lemmas.Bool.{cases_lt, lt-ltb, le-ltb, and_left}
 use Rattle.rtx_tree.specs.declared.function.Function.{Function}
 use Rattle.reg_rows.specs.Row.{has}
-use Rattle.reg_rows.specs.Table.{has_at}
 use Rattle.reg_rows.proofs.WordLaws.{has_past, has_zero_word}
 use Rattle.rtl_func.specs.Paths.{has_place}
 use Rattle.rtl_func.specs.Successors.{successors_of}
 use Rattle.live_rows.specs.machine.Rows.{at_place}
 use Rattle.live.specs.Live.{IsLiveAfter, AreLiveRows}
+use Rattle.live.proofs.AfterLaws.{in_rows, from_rows}
 
 -- no register is in a row of no words
 pub has_none : (reg : ℕ) → has [] reg ≡ false
@@ -46,44 +46,6 @@ taken_all old new row reg le taken other =
     ]
 
 -- ---- the rows of the places to which a place leads
-
-in_rows : (a b : Option ℕ) (rows : List (List ℕ)) (reg : ℕ) → (at_place a rows reg || at_place b rows reg) ≡ true → (q : ℕ) × (has_place (option_to_list a ++ option_to_list b) q ≡ true) × (has_at rows q reg ≡ true)
-in_rows None None rows reg h = absurd (false≢true h)
-in_rows None (Some q) rows reg h = (q, or_left (eqb q q) false (eq-eqb q q refl), h)
-in_rows (Some p) None rows reg h =
-    elim (or_cases (has_at rows p reg) false h) [
-      | inl h ↦ (p, or_left (eqb p p) false (eq-eqb p p refl), h)
-      | inr never ↦ absurd (false≢true never)
-    ]
-in_rows (Some p) (Some q) rows reg h =
-    elim (or_cases (has_at rows p reg) (has_at rows q reg) h) [
-      | inl h ↦ (p, or_left (eqb p p) (eqb q p || false) (eq-eqb p p refl), h)
-      | inr h ↦ (q, or_right (eqb p q) (eqb q q || false) (or_left (eqb q q) false (eq-eqb q q refl)), h)
-    ]
-
-one_place : (p q reg : ℕ) (rows : List (List ℕ)) → eqb p q ≡ true → has_at rows q reg ≡ true → has_at rows p reg ≡ true
-one_place p q reg rows is h = subst (λ p. has_at rows p reg ≡ true) (sym (eqb-true p q is)) h
-
-from_rows : (a b : Option ℕ) (rows : List (List ℕ)) (reg q : ℕ) → has_place (option_to_list a ++ option_to_list b) q ≡ true → has_at rows q reg ≡ true → (at_place a rows reg || at_place b rows reg) ≡ true
-from_rows None None rows reg q place h = absurd (false≢true place)
-from_rows None (Some b) rows reg q place h =
-    elim (or_cases (eqb b q) false place) [
-      | inl is ↦ one_place b q reg rows is h
-      | inr never ↦ absurd (false≢true never)
-    ]
-from_rows (Some a) None rows reg q place h =
-    elim (or_cases (eqb a q) false place) [
-      | inl is ↦ or_left (has_at rows a reg) false (one_place a q reg rows is h)
-      | inr never ↦ absurd (false≢true never)
-    ]
-from_rows (Some a) (Some b) rows reg q place h =
-    elim (or_cases (eqb a q) (eqb b q || false) place) [
-      | inl is ↦ or_left (has_at rows a reg) (has_at rows b reg) (one_place a q reg rows is h)
-      | inr rest ↦ elim (or_cases (eqb b q) false rest) [
-        | inl is ↦ or_right (has_at rows a reg) (has_at rows b reg) (one_place b q reg rows is h)
-        | inr never ↦ absurd (false≢true never)
-      ]
-    ]
 
 -- what the rows have of the places to which a place leads is live after it
 pub after_is : (f : Function) (rows : List (List ℕ)) (place : ℕ) (a b : Option ℕ) (one two : ℕ → Bool) → AreLiveRows f rows → option_to_list a ++ option_to_list b ≡ successors_of f.insns place →

@@ -1,4 +1,3 @@
-pub mod Until
 pub mod Matched
 pub mod Places
 pub mod OneLower

@@ -11,8 +11,8 @@ use Rattle.insn_replace.proofs.OneReplaced.{one_replaced}
 use Rattle.pass_refusal.specs.declared.refusal.PassRefusal.{PassRefusal}
 use Rattle.lower_insn.specs.declared.part.Lowered.{Lowered}
 use Rattle.lower_insn.specs.Lowered.{InsnAnswer}
+use Rattle.lower_insn.proofs.One.{insn_one}
 use Rattle.lower.specs.Lower.{Answer, LowersIn, LowerFrom, LowerComes, rule_of}
-use Rattle.lower.proofs.Until.{insn_lowers_one}
 
 same_at : (insns : List Insn) (place : ℕ) (i j : Insn) → slice_get insns place ≡ Some i → slice_get insns place ≡ Some j → i ≡ j
 same_at insns place i j at there = let both : Some i ≡ Some j = sym at ∙ there in let same : i ≡ j = cc in same
@@ -45,7 +45,7 @@ past insns place i end at = absurd (let within = slice_get_within insns place i 
 module _ (forms : List Entry) (f : Function) (place : ℕ) (i j : Insn) (at : slice_get f.insns place ≡ Some i) (there : slice_get f.insns place ≡ Some j) where
   same_answer : (a b : InsnAnswer) → LowersIn forms f i a → LowersIn forms f j b → a ≡ b
   same_answer a b x y =
-      insn_lowers_one forms j (greatest_uid f.insns) (next_pseudo f.insns) a b (subst (λ (k : Insn). LowersIn forms f k a) (same_at f.insns place i j at there) x) y
+      insn_one forms j (greatest_uid f.insns) (next_pseudo f.insns) a b (subst (λ (k : Insn). LowersIn forms f k a) (same_at f.insns place i j at there) x) y
 
   same_comes : (l m : Lowered) (a b : Answer) → LowersIn forms f i (Ok (Some l)) → LowersIn forms f j (Ok (Some m)) →
       ReplacedComes f place i (rule_of forms l) l.sequence a → ReplacedComes f place j (rule_of forms m) m.sequence b → a ≡ b

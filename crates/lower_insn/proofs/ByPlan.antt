@@ -6,12 +6,12 @@ use Rattle.md_forms.specs.declared.form.Entry.{Entry}
 use Rattle.form_needs.specs.Needs.{needs_form}
 use Rattle.pass_refusal.specs.declared.refusal.PassRefusal.{PassRefusal}
 use Rattle.pass_refusal.specs.Outcome.{Gives}
+use Rattle.pass_refusal.proofs.Refusing.{refuses_map}
 use Rattle.lower_insn.specs.declared.part.Lowered.{Lowered}
 use Rattle.lower_insn.specs.declared.part.Plan.{Plan}
 use Rattle.lower_insn.specs.Plan.{planned}
 use Rattle.lower_insn.specs.Lowered.{InsnLowers, IsMatched, IsUnmatched, Lowers, parts_of, uids_for}
 use Rattle.lower_insn.specs.machine.Work.{LowersBy, Stays, as_insn}
-use Rattle.lower_insn.proofs.Refusing.{refuses_map}
 
 module _ (forms : List Entry) (i : Insn) where
   pub by_plan : (greatest next : ℕ) (plan : Plan) (result : Result Lowered PassRefusal) → needs_form i ≡ true → IsUnmatched forms i.pattern →

@@ -4,8 +4,8 @@ use Rattle.std.specs.List.{AllByRecursion}
 use Rattle.std.proofs.lemmas.Bool.{and_parts, and_from}
 use Rattle.rtx_tree.specs.declared.tree.Rtx.{Rtx}
 use Rattle.rtl_func.specs.Calls.{has_argument, argument_registers}
+use Rattle.rtl_func.proofs.AllPass.{all_pass}
 use Rattle.insn_keep.specs.md_emit.Emitted.{keeps_to_arguments}
-use Rattle.insn_keep.proofs.func_rules.Nodes.{all_pass}
 
 -- a pattern keeps to the rule of argument registers
 abbrev pub KeepsArguments : Rtx → Type 0

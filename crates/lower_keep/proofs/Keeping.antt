@@ -17,10 +17,10 @@ use Rattle.rtx_tree.proofs.Trees.{head_of-tree, kids_of-tree}
 use Rattle.rtl_func.specs.Calls.{is_argument, is_hard_argument, has_argument}
 use Rattle.rtl_func.specs.Modes.{register_by}
 use Rattle.rtl_func.specs.Nodes.{nodes_of}
+use Rattle.rtl_func.proofs.AllPass.{all_pass, pass_out, itself, within}
 use Rattle.rtl_print.proofs.TreeText.{rtx_induction}
 use Rattle.sym_insns.specs.Shape.{is_natural, all_natural}
 use Rattle.sym_insns.proofs.Shapes.{natural_out}
-use Rattle.insn_keep.proofs.func_rules.Nodes.{all_pass, pass_out, itself, within}
 
 -- ---- tests of all members of a list
 

@@ -1,5 +1,5 @@
 -- What the list of a description comes to, by what its files come to.
-use Rattle.std.proofs.Common.{◌≡◌, ◌≤◌, ◌<◌, ℕ, List, Result, Ok, Err, Vec, length, refl, sym, ap, subst, arith}
+use Rattle.std.proofs.Common.{◌≡◌, ℕ, List, Result, Ok, Err, Vec, refl, sym, ap, subst}
 use Rattle.std.specs.declared.alloc.Global.{Global}
 use Rattle.lisp_read.specs.declared.tree.Tree.{Tree}
 use Rattle.md_source.specs.declared.refusal.SourceRefusal.{SourceRefusal}
@@ -7,8 +7,8 @@ use Rattle.md_source.specs.declared.refusal.SourceRefusal.TheVariants as source_
 use Rattle.md_source.specs.Source.{Source, DescriptionComes}
 use Rattle.md_source.specs.Asked.{IsKnown}
 use Rattle.md_source.specs.Answers.{Refuses}
-use Rattle.md_source.proofs.One.{one_description}
-use Rattle.tree_forms.specs.Trees.{expanded, most_forms}
+use Rattle.md_source.proofs.One.{one_description, ok_is, err_is, ok_no_err}
+use Rattle.tree_forms.proofs.TooMany.{many_or_few}
 use Rattle.md_list.specs.declared.refusal.ListRefusal.{ListRefusal}
 use Rattle.md_list.specs.declared.refusal.ListRefusal.TheVariants as refusal
 use Rattle.md_list.specs.Listing.{ListComes, list_of_trees}
@@ -37,29 +37,14 @@ no_fault trees r e listed is = subst (λ (x : Result (Vec ℕ Global) ListRefusa
 
 -- ---- one answer
 
-abbrev Described : Type 0
-Described = Result (List Tree) SourceRefusal
-
-same_ok : (a b : List Tree) → ◌≡◌ {A = Described} (Ok a) (Ok b) → a ≡ b
-same_ok a b e = cc
-
-same_err : (a b : SourceRefusal) → ◌≡◌ {A = Described} (Err a) (Err b) → a ≡ b
-same_err a b e = cc
-
-not_both : (a : List Tree) (b : SourceRefusal) → ◌≡◌ {A = Described} (Ok a) (Err b) → ⊥
-not_both a b e = cc
-
-many_or_few : (ts us : List Tree) → ts ≡ us → most_forms < length (expanded ts) → length (expanded us) ≤ most_forms → ⊥
-many_or_few ts us same many few = let e = ap (λ (l : List Tree). length (expanded l)) same in omega arith
-
 pub one_list : (source : Source) (name : List ℕ) (a b : Result (List ℕ) ListRefusal) → IsKnown source name → ListComes source name a → ListComes source name b → a ≡ b
 one_list source name _ _ known (ListComes.refused e p) (ListComes.refused f q) =
-    ap (λ (r : SourceRefusal). Err (refusal.Source r)) (same_err e f (one_description source name (Err e) (Err f) known p q))
-one_list source name _ _ known (ListComes.refused e p) (ListComes.too_many us q many) = absurd (not_both us e (one_description source name (Ok us) (Err e) known q p))
-one_list source name _ _ known (ListComes.refused e p) (ListComes.listed us q few) = absurd (not_both us e (one_description source name (Ok us) (Err e) known q p))
-one_list source name _ _ known (ListComes.too_many ts p many) (ListComes.refused f q) = absurd (not_both ts f (one_description source name (Ok ts) (Err f) known p q))
+    ap (λ (r : SourceRefusal). Err (refusal.Source r)) (err_is e f (one_description source name (Err e) (Err f) known p q))
+one_list source name _ _ known (ListComes.refused e p) (ListComes.too_many us q many) = absurd (ok_no_err us e (one_description source name (Ok us) (Err e) known q p))
+one_list source name _ _ known (ListComes.refused e p) (ListComes.listed us q few) = absurd (ok_no_err us e (one_description source name (Ok us) (Err e) known q p))
+one_list source name _ _ known (ListComes.too_many ts p many) (ListComes.refused f q) = absurd (ok_no_err ts f (one_description source name (Ok ts) (Err f) known p q))
 one_list source name _ _ known (ListComes.too_many ts p many) (ListComes.too_many us q more) = refl
-one_list source name _ _ known (ListComes.too_many ts p many) (ListComes.listed us q few) = absurd (many_or_few ts us (same_ok ts us (one_description source name (Ok ts) (Ok us) known p q)) many few)
-one_list source name _ _ known (ListComes.listed ts p few) (ListComes.refused f q) = absurd (not_both ts f (one_description source name (Ok ts) (Err f) known p q))
-one_list source name _ _ known (ListComes.listed ts p few) (ListComes.too_many us q many) = absurd (many_or_few us ts (same_ok us ts (one_description source name (Ok us) (Ok ts) known q p)) many few)
-one_list source name _ _ known (ListComes.listed ts p few) (ListComes.listed us q less) = ap (λ (l : List Tree). Ok (list_of_trees l)) (same_ok ts us (one_description source name (Ok ts) (Ok us) known p q))
+one_list source name _ _ known (ListComes.too_many ts p many) (ListComes.listed us q few) = absurd (many_or_few ts us (ok_is ts us (one_description source name (Ok ts) (Ok us) known p q)) many few)
+one_list source name _ _ known (ListComes.listed ts p few) (ListComes.refused f q) = absurd (ok_no_err ts f (one_description source name (Ok ts) (Err f) known p q))
+one_list source name _ _ known (ListComes.listed ts p few) (ListComes.too_many us q many) = absurd (many_or_few us ts (ok_is us ts (one_description source name (Ok us) (Ok ts) known q p)) many few)
+one_list source name _ _ known (ListComes.listed ts p few) (ListComes.listed us q less) = ap (λ (l : List Tree). Ok (list_of_trees l)) (ok_is ts us (one_description source name (Ok ts) (Ok us) known p q))

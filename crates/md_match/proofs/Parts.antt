@@ -20,12 +20,12 @@ all_split : {A : Type 0} (P : A → Type 0) (xs ys : List A) → AllByRecursion 
 all_split P [] ys a = (tt, a)
 all_split P (x ∷ xs) ys a = let rest = all_split P xs ys a.1 in ((a.0, rest.0), rest.1)
 
-front : (a : Option Rtx) (more : Option (List Rtx)) (x : Rtx) (xs : List Rtx) → option_and_then (λ x. option_map (λ xs. x ∷ xs) more) a ≡ Some (x ∷ xs) → (a ≡ Some x) × (more ≡ Some xs)
+pub front : (a : Option Rtx) (more : Option (List Rtx)) (x : Rtx) (xs : List Rtx) → option_and_then (λ x. option_map (λ xs. x ∷ xs) more) a ≡ Some (x ∷ xs) → (a ≡ Some x) × (more ≡ Some xs)
 front None more x xs e = absurd (let none : ⊥ = cc in none)
 front (Some y) None x xs e = absurd (let none : ⊥ = cc in none)
 front (Some y) (Some ys) x xs e = (cc, cc)
 
-no_front : (a : Option Rtx) (more : Option (List Rtx)) → option_and_then (λ x. option_map (λ xs. x ∷ xs) more) a ≡ Some [] → ⊥
+pub no_front : (a : Option Rtx) (more : Option (List Rtx)) → option_and_then (λ x. option_map (λ xs. x ∷ xs) more) a ≡ Some [] → ⊥
 no_front None more e = cc
 no_front (Some y) None e = cc
 no_front (Some y) (Some ys) e = cc

@@ -1,5 +1,5 @@
 -- What the description of a name comes to, by what its files come to.
-use Rattle.std.proofs.Common.{◌≡◌, ◌≤◌, ◌<◌, ℕ, List, Result, Ok, Err, length, refl, sym, ap, subst, arith}
+use Rattle.std.proofs.Common.{◌≡◌, ℕ, List, Result, Ok, Err, refl, sym, ap, subst}
 use Rattle.rtx_tree.specs.declared.limit.Limit.{Limit}
 use Rattle.rtx_tree.specs.declared.limit.Limit.TheVariants as limit
 use Rattle.lisp_read.specs.declared.tree.Tree.{Tree}
@@ -8,9 +8,10 @@ use Rattle.md_source.specs.declared.refusal.SourceRefusal.TheVariants as source_
 use Rattle.md_source.specs.Source.{Source, DescriptionComes}
 use Rattle.md_source.specs.Asked.{IsKnown}
 use Rattle.md_source.specs.Answers.{Refuses}
-use Rattle.md_source.proofs.One.{one_description}
+use Rattle.md_source.proofs.One.{one_description, ok_is, err_is, ok_no_err}
 use Rattle.md_forms.specs.declared.form.Entry.{Entry}
-use Rattle.tree_forms.specs.Trees.{expanded, forms_of, most_forms}
+use Rattle.tree_forms.specs.Trees.{forms_of}
+use Rattle.tree_forms.proofs.TooMany.{many_or_few}
 use Rattle.run_refusal.specs.declared.refusal.Refusal.{Refusal}
 use Rattle.run_refusal.specs.declared.refusal.Refusal.TheVariants as refusal
 use Rattle.md_named.specs.Named.{source_refused, FormsCome}
@@ -60,28 +61,13 @@ is_fault (source_refusal.Syntax file place) r is same = cc
 
 -- ---- one answer
 
-abbrev Gathered : Type 0
-Gathered = Result (List Tree) SourceRefusal
-
-same_ok : (a b : List Tree) → ◌≡◌ {A = Gathered} (Ok a) (Ok b) → a ≡ b
-same_ok a b e = cc
-
-same_err : (a b : SourceRefusal) → ◌≡◌ {A = Gathered} (Err a) (Err b) → a ≡ b
-same_err a b e = cc
-
-not_both : (a : List Tree) (b : SourceRefusal) → ◌≡◌ {A = Gathered} (Ok a) (Err b) → ⊥
-not_both a b e = cc
-
-many_or_few : (ts us : List Tree) → ts ≡ us → most_forms < length (expanded ts) → length (expanded us) ≤ most_forms → ⊥
-many_or_few ts us same many few = let e = ap (λ (l : List Tree). length (expanded l)) same in omega arith
-
 pub one_answer : (source : Source) (name : List ℕ) (a b : Result (List Entry) Refusal) → IsKnown source name → FormsCome source name a → FormsCome source name b → a ≡ b
-one_answer source name _ _ known (FormsCome.refused e p) (FormsCome.refused f q) = ap (λ (r : SourceRefusal). Err (source_refused r)) (same_err e f (one_description source name (Err e) (Err f) known p q))
-one_answer source name _ _ known (FormsCome.refused e p) (FormsCome.too_many us q many) = absurd (not_both us e (one_description source name (Ok us) (Err e) known q p))
-one_answer source name _ _ known (FormsCome.refused e p) (FormsCome.described us q few) = absurd (not_both us e (one_description source name (Ok us) (Err e) known q p))
-one_answer source name _ _ known (FormsCome.too_many ts p many) (FormsCome.refused f q) = absurd (not_both ts f (one_description source name (Ok ts) (Err f) known p q))
+one_answer source name _ _ known (FormsCome.refused e p) (FormsCome.refused f q) = ap (λ (r : SourceRefusal). Err (source_refused r)) (err_is e f (one_description source name (Err e) (Err f) known p q))
+one_answer source name _ _ known (FormsCome.refused e p) (FormsCome.too_many us q many) = absurd (ok_no_err us e (one_description source name (Ok us) (Err e) known q p))
+one_answer source name _ _ known (FormsCome.refused e p) (FormsCome.described us q few) = absurd (ok_no_err us e (one_description source name (Ok us) (Err e) known q p))
+one_answer source name _ _ known (FormsCome.too_many ts p many) (FormsCome.refused f q) = absurd (ok_no_err ts f (one_description source name (Ok ts) (Err f) known p q))
 one_answer source name _ _ known (FormsCome.too_many ts p many) (FormsCome.too_many us q more) = refl
-one_answer source name _ _ known (FormsCome.too_many ts p many) (FormsCome.described us q few) = absurd (many_or_few ts us (same_ok ts us (one_description source name (Ok ts) (Ok us) known p q)) many few)
-one_answer source name _ _ known (FormsCome.described ts p few) (FormsCome.refused f q) = absurd (not_both ts f (one_description source name (Ok ts) (Err f) known p q))
-one_answer source name _ _ known (FormsCome.described ts p few) (FormsCome.too_many us q many) = absurd (many_or_few us ts (same_ok us ts (one_description source name (Ok us) (Ok ts) known q p)) many few)
-one_answer source name _ _ known (FormsCome.described ts p few) (FormsCome.described us q less) = ap (λ (l : List Tree). Ok (forms_of l)) (same_ok ts us (one_description source name (Ok ts) (Ok us) known p q))
+one_answer source name _ _ known (FormsCome.too_many ts p many) (FormsCome.described us q few) = absurd (many_or_few ts us (ok_is ts us (one_description source name (Ok ts) (Ok us) known p q)) many few)
+one_answer source name _ _ known (FormsCome.described ts p few) (FormsCome.refused f q) = absurd (ok_no_err ts f (one_description source name (Ok ts) (Err f) known p q))
+one_answer source name _ _ known (FormsCome.described ts p few) (FormsCome.too_many us q many) = absurd (many_or_few us ts (ok_is us ts (one_description source name (Ok us) (Ok ts) known q p)) many few)
+one_answer source name _ _ known (FormsCome.described ts p few) (FormsCome.described us q less) = ap (λ (l : List Tree). Ok (forms_of l)) (ok_is ts us (one_description source name (Ok ts) (Ok us) known p q))

@@ -120,3 +120,14 @@ one_description source name (Ok a) (Ok b) known p q =
 one_description source name (Ok a) (Err e) known p q = let no = one_file source name 1 0 name (Ok (record { trees = a; used = p.0 })) (Err e) known IsNamed.itself p.1 q in cc
 one_description source name (Err d) (Ok b) known p q = let no = one_file source name 1 0 name (Err d) (Ok (record { trees = b; used = q.0 })) known IsNamed.itself p q.1 in cc
 one_description source name (Err d) (Err e) known p q = let same : ◌≡◌ {A = Outcome} (Err d) (Err e) = one_file source name 1 0 name (Err d) (Err e) known IsNamed.itself p q in cc
+
+-- ---- trees or a refusal
+
+pub ok_is : (a b : List Tree) → ◌≡◌ {A = Result (List Tree) SourceRefusal} (Ok a) (Ok b) → a ≡ b
+ok_is a b e = cc
+
+pub err_is : (a b : SourceRefusal) → ◌≡◌ {A = Result (List Tree) SourceRefusal} (Err a) (Err b) → a ≡ b
+err_is a b e = cc
+
+pub ok_no_err : (a : List Tree) (b : SourceRefusal) → ◌≡◌ {A = Result (List Tree) SourceRefusal} (Ok a) (Err b) → ⊥
+ok_no_err a b e = cc

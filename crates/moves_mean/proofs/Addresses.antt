@@ -15,15 +15,16 @@ use Rattle.rtx_tree.specs.declared.machine.SymbolAt.{SymbolAt}
 use Rattle.rtx_tree.specs.declared.memories.MemByte.{MemByte}
 use Rattle.rtx_tree.specs.declared.tree.Rtx.{Rtx}
 use Rattle.rtl_func.specs.Shapes.{class_at, mode_at, number_at, has_mode, is_operand, is_bare, fits_row, is_shaped}
+use Rattle.rtl_func.proofs.AllPass.{all_pass, itself, within}
 use Rattle.rtl_step.specs.Effect.{address_of, address_part}
 use Rattle.rtl_step.specs.Regs.{Regs}
 use Rattle.rtl_step.specs.Value.{width_of, value_of}
+use Rattle.rtl_step.proofs.Too.{Too}
 use Rattle.sym_insns.specs.Shape.{all_natural}
-use Rattle.frame_mean.proofs.window_replace.Known.{Too, both_of, or_first}
+use Rattle.frame_mean.proofs.window_replace.Known.{both_of, or_first}
 use Rattle.frame_mean.proofs.window_replace.Trees.{natural_kids, mentions_kid}
 use Rattle.moves_mean.specs.Spare.{KnowsRest, NamesNoSpare}
 use Rattle.moves_mean.proofs.NewTrees.{Becomes, AllBecome, same, new, over, none, next}
-use Rattle.moves_mean.proofs.Nodes.{all_pass, itself, within}
 use Rattle.moves_mean.proofs.Readings.{ReadsAs, operand_own, own_here}
 use Rattle.moves_mean.proofs.ReadTrees.{read_in, reads_as}
 

@@ -15,6 +15,7 @@ use Rattle.run_memory.proofs.Laws.{Apart}
 use Rattle.rtl_func.specs.Calls.{are_distinct}
 use Rattle.rtl_func.specs.Effects.{changed_register, changes_once_by, changes_once, parallels_change_once}
 use Rattle.rtl_func.specs.Paths.{has_place}
+use Rattle.rtl_func.proofs.AllPass.{itself}
 use Rattle.rtl_step.specs.Regs.{Regs}
 use Rattle.rtl_step.specs.Value.{value_of}
 use Rattle.rtl_step.specs.declared.effect.Effect.{Effect}
@@ -29,7 +30,6 @@ use Rattle.reload_choice.specs.declared.given.Plan.{Plan}
 use Rattle.moves_mean.proofs.Chosen.{given}
 use Rattle.moves_mean.proofs.Keyed.{Keyed, IsIn, MayPass, MayPassBy, AreOrderly}
 use Rattle.moves_mean.proofs.Keying.{with_keys}
-use Rattle.moves_mean.proofs.Nodes.{all_pass, itself}
 use Rattle.moves_mean.proofs.Orderly.{SetsMemory, Differ, IsOutside, IsSole, pair_passes}
 use Rattle.moves_mean.proofs.ResultRows.{Key, Row, Rows, none, more}
 

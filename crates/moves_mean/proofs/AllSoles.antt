@@ -12,6 +12,7 @@ use Rattle.rtx_tree.specs.declared.machine.SymbolAt.{SymbolAt}
 use Rattle.rtx_tree.specs.declared.memories.MemByte.{MemByte}
 use Rattle.rtx_tree.specs.declared.tree.Rtx.{Rtx}
 use Rattle.rtx_tree.proofs.Trees.{head_of-tree}
+use Rattle.rtl_func.proofs.AllPass.{all_pass}
 use Rattle.run_memory.proofs.Laws.{Apart}
 use Rattle.rtl_step.specs.Regs.{Regs}
 use Rattle.rtl_step.specs.Value.{value_of}
@@ -35,7 +36,6 @@ use Rattle.moves_mean.proofs.AllOrderly.{AllSole}
 use Rattle.moves_mean.proofs.Chosen.{given}
 use Rattle.moves_mean.proofs.InputPlaces.{no_operator_of}
 use Rattle.moves_mean.proofs.NewsLaws.{operand_of_match}
-use Rattle.moves_mean.proofs.Nodes.{all_pass}
 use Rattle.moves_mean.proofs.Orderly.{SetsMemory}
 use Rattle.moves_mean.proofs.ResultRows.{Key, Row, Rows, none, more, IsKeyedRow, keyed_row}
 use Rattle.moves_mean.proofs.SoleRows.{sole_rows, none_other, pair_is}

@@ -21,6 +21,7 @@ use Rattle.rtx_tree.specs.declared.tree.Rtx.{Rtx}
 use Rattle.rtx_tree.proofs.Trees.{head_of-tree}
 use Rattle.run_memory.specs.RunMemory.{load}
 use Rattle.rtl_func.specs.Shapes.{class_at, mode_at, number_at, is_bare, fits_row, is_shaped}
+use Rattle.rtl_func.proofs.AllPass.{all_pass, itself, within}
 use Rattle.rtl_step.specs.Regs.{Regs, reg_value}
 use Rattle.rtl_step.specs.Value.{value_of, of_one, of_two, binary}
 use Rattle.rv_regs.specs.Registers.{stack_pointer}
@@ -30,7 +31,6 @@ use Rattle.reload_operands.specs.declared.operand.Base.{Base}
 use Rattle.reload_choice.specs.reload_fit.Addressed.{address_on, offset_in_sum, offset_in_memory, far_offset, slot_offset}
 use Rattle.moves_mean.proofs.Fetches.{offset_by}
 use Rattle.moves_mean.proofs.Loads.{on_value}
-use Rattle.moves_mean.proofs.Nodes.{all_pass, itself, within}
 use Rattle.moves_mean.proofs.Settings.{value_mem}
 use Rattle.moves_mean.proofs.Valued.{by_row}
 

@@ -13,6 +13,8 @@ use Rattle.rtx_tree.specs.declared.code.Mode.{Mode}
 use Rattle.rtx_tree.specs.declared.tree.Rtx.{Rtx, out-roll-Rtx}
 use Rattle.rtx_tree.specs.declared.tree.Rtx.TheOpen.{Rtx-F}
 use Rattle.rtl_func.specs.Shapes.{class_at, mode_at, number_at, is_effect, is_effect_class, is_true_register, is_narrower, fits_row, is_bare, is_shaped}
+use Rattle.rtl_func.proofs.AllPass as nodes
+use Rattle.rtl_func.proofs.AllPass.{all_pass}
 use Rattle.md_match.proofs.Instantiated.{each_made, made_itself}
 use Rattle.md_match.specs.Pattern.{Ops, role_of, operand_of, instantiated}
 use Rattle.md_match.specs.declared.role.Role.{Role}
@@ -26,8 +28,6 @@ use Rattle.reload_homes.proofs.Rewrites.{homed_register, homed_over}
 use Rattle.reload_operands.specs.Put.{is_lowpart_code, is_lowpart, any_inside, inside_low}
 use Rattle.moves_mean.specs.Places.{AtOnePlace, StandsFor, itself, part}
 use Rattle.moves_mean.proofs.Matched.{IsLow, IsMade, OneBeside, one_beside, made_by, made_length, over_made, alone, one_part, front, register_low, no_kids}
-use Rattle.moves_mean.proofs.Nodes as nodes
-use Rattle.moves_mean.proofs.Nodes.{all_pass}
 
 module _ (homes : List HomeOf) (layout : Layout) (found : Ops) where
   abbrev hm : Rtx → Rtx

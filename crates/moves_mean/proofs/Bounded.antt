@@ -28,6 +28,7 @@ use Rattle.rtl_step.specs.Regs.{Regs, known_in, reg_value}
 use Rattle.rtl_step.specs.Value.{Reading, unary, binary, shifted, compared, converted, truth, of_one, of_two, first_width, count_width, value_of_none, value_of_one, value_of_two, value_by, reading_step, reading_of, value_of}
 use Rattle.rtl_step.specs.declared.regs.Known.{Known}
 use Rattle.same_behaviour.specs.Lawful.{IsByte, IsMemory}
+use Rattle.homes_mean.proofs.Stores.{bytes_bits}
 
 -- ---- numbers
 
@@ -185,12 +186,6 @@ number_small memory bytes address (suc count) v is =
         let power : 256 * 256 ^ count ≡ 256 ^ suc count = rw pow-succ' refl in
         subst (λ p. v < p) power (subst (λ v. v < 256 * 256 ^ count) same
         (more_bytes b r (256 ^ count) (byte_small memory bytes address b first) (second r refl)))
-
-bytes_bits : (w : Width) → 256 ^ bytes_of w ≡ 2 ^ bits_of w
-bytes_bits W8 = refl
-bytes_bits W16 = refl
-bytes_bits W32 = refl
-bytes_bits W64 = refl
 
 -- what is loaded
 pub load_fits : (memory : List MemByte) → IsMemory memory → (w : Width) (address : ℕ) → Fits w (load w memory address)

@@ -16,6 +16,8 @@ use Rattle.rtx_tree.specs.declared.machine.SymbolAt.{SymbolAt}
 use Rattle.rtx_tree.specs.declared.memories.MemByte.{MemByte}
 use Rattle.rtx_tree.specs.declared.tree.Rtx.{Rtx}
 use Rattle.rtl_func.specs.Shapes.{class_at, is_effect, is_effect_class, is_shaped}
+use Rattle.rtl_func.proofs.AllPass as nodes
+use Rattle.rtl_func.proofs.AllPass.{all_pass}
 use Rattle.rtl_step.specs.Call.{is_result, is_result_by, target_value}
 use Rattle.rtl_step.specs.Regs.{Regs}
 use Rattle.md_constr.specs.Inputs as inputs
@@ -39,17 +41,14 @@ use Rattle.moves_mean.proofs.CallValues as call
 use Rattle.moves_mean.proofs.Calling.{SameResult}
 use Rattle.moves_mean.proofs.Chosen.{given}
 use Rattle.moves_mean.proofs.ElementTurns.{NewFor, stays_for, moves_for, part_new, key_by, target_key, key_of, memory_code_of}
-use Rattle.moves_mean.proofs.ElementValues.{two_of}
 use Rattle.moves_mean.proofs.Fetching.{Fetching}
 use Rattle.moves_mean.proofs.GivenBeside.{first_of}
 use Rattle.moves_mean.proofs.GivenNews.{own, mode, tree, result_at, Reads, Lost, Free, IsResultAt, operand_of}
 use Rattle.moves_mean.proofs.HiddenTurns.{Read, effect_over}
-use Rattle.moves_mean.proofs.InsnTurns.{operator_becomes, operand_stays}
+use Rattle.moves_mean.proofs.InsnTurns.{operator_becomes, operand_stays, two_of}
 use Rattle.moves_mean.proofs.JumpTrees.{is_bare_class, bare_kids}
 use Rattle.moves_mean.proofs.NewTrees.{Becomes, AllBecome, is_whole}
 use Rattle.moves_mean.proofs.NewTrees as trees
-use Rattle.moves_mean.proofs.Nodes as nodes
-use Rattle.moves_mean.proofs.Nodes.{all_pass}
 use Rattle.moves_mean.proofs.OtherInner.{TurnsInto, g, x, y, all_news, o, kn, Into, beside, head_is, target_same, set_into, operator_into, operand_into, call_into}
 use Rattle.moves_mean.proofs.PutParts.{each_put, over_is}
 use Rattle.moves_mean.proofs.ResultKeys.{keyed_result}

@@ -20,6 +20,8 @@ use Rattle.rtx_tree.specs.declared.tree.Rtx.{Rtx, out-roll-Rtx}
 use Rattle.rtx_tree.specs.declared.tree.Rtx.TheOpen.{Rtx-F}
 use Rattle.rtl_func.specs.Kinds.{is_call_by, is_call_tree}
 use Rattle.rtl_func.specs.Shapes.{class_at, mode_at, number_at, has_mode, is_operand, is_constant, is_memory_class, is_call_class, is_called, is_effect, is_effect_class, fits_row, is_shaped}
+use Rattle.rtl_func.proofs.AllPass as nodes
+use Rattle.rtl_func.proofs.AllPass.{all_pass}
 use Rattle.rtl_step.specs.Call.{target_by, target_of, is_result, is_result_by, call_by, call_part, aligned_target, target_value}
 use Rattle.rtl_step.specs.Effect.{address_of, address_part}
 use Rattle.rtl_step.specs.Regs.{Regs}
@@ -37,7 +39,7 @@ use Rattle.reload_operands.proofs.NumberLaws.{has_in_both, has_in_each}
 use Rattle.moves_mean.specs.Places.{AtOnePlace, first, later, At, here, inside}
 use Rattle.moves_mean.proofs.Addresses.{memory_kid}
 use Rattle.moves_mean.proofs.Besides.{no_place, beside_head, part_beside}
-use Rattle.moves_mean.proofs.ElementValues.{taken_role, none_at, one_at, two_of}
+use Rattle.moves_mean.proofs.ElementValues.{taken_role, none_at, one_at}
 use Rattle.moves_mean.proofs.GivenBeside.{first_of, second_of}
 use Rattle.moves_mean.proofs.InputPlaces.{StandsThere, is_operator_of, no_operator_of, at_pass}
 use Rattle.moves_mean.proofs.InputValues.{pattern_other}
@@ -45,11 +47,10 @@ use Rattle.moves_mean.proofs.JumpTrees.{row_at, is_bare_class, bare_kids}
 use Rattle.moves_mean.proofs.JumpValues.{Valued, alone, IsItself, replaced, in_value, no_parts_there, constant_there, over_head, untrue', Answer, itself_there, in_target, in_source}
 use Rattle.moves_mean.proofs.Matched.{IsLow}
 use Rattle.moves_mean.proofs.NewTrees.{is_whole}
-use Rattle.moves_mean.proofs.Nodes as nodes
-use Rattle.moves_mean.proofs.Nodes.{all_pass}
 use Rattle.moves_mean.proofs.PutParts.{each_put, over_is}
 use Rattle.moves_mean.proofs.TakenThere.{IsAt, part_at, taken_there}
 use Rattle.moves_mean.proofs.Valued.{IsThere, HasValue, operand_valued}
+use Rattle.moves_mean.proofs.InsnTurns.{two_of}
 
 -- ---- the parts of a call
 

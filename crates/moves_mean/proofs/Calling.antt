@@ -20,15 +20,16 @@ use Rattle.rtx_tree.specs.declared.tree.Rtx.{Rtx}
 use Rattle.run_memory.specs.RunMemory.{visible}
 use Rattle.rtl_func.specs.Kinds.{is_call_by, is_call_tree}
 use Rattle.rtl_func.specs.Shapes.{class_at, mode_at, number_at, has_mode, is_memory_class, is_constant, is_called, is_call_class, fits_row, is_shaped}
+use Rattle.rtl_func.proofs.AllPass.{all_pass}
 use Rattle.rtl_step.specs.Call.{is_result, call_by, target_by, target_of, aligned_target, target_value, result_width, result_width_by, arg_of, args_of, event_of}
 use Rattle.rtl_step.specs.Effect.{address_of}
 use Rattle.rtl_step.specs.Regs.{Regs, reg_value}
 use Rattle.rtl_step.specs.Value.{width_of, value_of}
+use Rattle.rtl_step.proofs.Too.{Too, too_then, too_map, too_two}
 use Rattle.window_keep.specs.Same.{KnownToo}
-use Rattle.frame_mean.proofs.window_replace.Known.{Too, too_then, too_map, too_two, both_of}
+use Rattle.frame_mean.proofs.window_replace.Known.{both_of}
 use Rattle.moves_mean.specs.Spare.{is_spare, KnowsRest}
 use Rattle.moves_mean.proofs.NewTrees.{Becomes, AllBecome, none, next}
-use Rattle.moves_mean.proofs.Nodes.{all_pass}
 use Rattle.moves_mean.proofs.Addresses.{is_new_class, IsNewTree, IsOver, AddressToo, address_becomes}
 use Rattle.moves_mean.proofs.Jumping.{Good, AllGood, good_kids, good_first, good_rest, over_of, row_of}
 

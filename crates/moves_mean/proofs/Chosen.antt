@@ -6,6 +6,7 @@ use Rattle.rtx_tree.specs.Tree.{reg_of}
 use Rattle.rtx_tree.specs.declared.function.Kind.{Kind}
 use Rattle.rtx_tree.specs.declared.tree.Rtx.{Rtx}
 use Rattle.rtl_func.specs.Shapes.{is_shaped}
+use Rattle.rtl_func.proofs.AllPass.{all_pass}
 use Rattle.md_match.specs.Pattern.{Ops, operand_numbered, instantiated}
 use Rattle.assign.specs.declared.home.HomeOf.{HomeOf}
 use Rattle.assign.specs.declared.places.Layout.{Layout}
@@ -28,7 +29,6 @@ use Rattle.moves_mean.specs.Chosen.{chosen_from}
 use Rattle.moves_mean.specs.Places.{StandsFor}
 use Rattle.moves_mean.proofs.Matched.{IsFound, IsLow, places}
 use Rattle.moves_mean.proofs.NewsLaws.{IsNewFor, new_for, IsOperandOf, operand_of_match, moved_place, result_numbered}
-use Rattle.moves_mean.proofs.Nodes.{all_pass}
 
 -- a moved operand's new tree is its register
 pub moved_tree : (asks : List Ask) (p : Part) (x : Operand) (r : Rtx) → p.is_moved ≡ true → new_tree asks p x ≡ Some r → r ≡ reg_of x.mode (own_of asks p)

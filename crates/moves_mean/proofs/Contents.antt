@@ -12,6 +12,7 @@ use Rattle.run_memory.specs.RunMemory.{load}
 use Rattle.rtl_step.specs.Regs.{Regs, known_of}
 use Rattle.rtl_step.specs.Value.{width_of, value_of}
 use Rattle.c_eval.specs.Value.{same_tree, same_mode}
+use Rattle.c_eval.proofs.Same.{same_trees, same_modes}
 use Rattle.reload_operands.specs.declared.operand.Base.{Base}
 use Rattle.reload_operands.specs.declared.operand.Operand.{Operand}
 use Rattle.reload_moves.specs.declared.ask.Ask.{Ask}
@@ -31,7 +32,6 @@ use Rattle.moves_mean.proofs.Based.{address_part, base_part, on_slot, base_value
 use Rattle.moves_mean.proofs.Fetches.{offset_by}
 use Rattle.moves_mean.proofs.Fetching.{asks, Fetching, Says, own, base, far, Told}
 use Rattle.moves_mean.proofs.Firsts.{of_own, of_base, of_far}
-use Rattle.moves_mean.proofs.SameTrees.{tree_is, mode_is}
 
 module _ (symbols : List SymbolAt) (regs : Regs) (memory : List MemByte) (sp : ℕ) (given : Given) (plan : Plan) where
   abbrev at_ask : Ask → ℕ
@@ -106,7 +106,7 @@ module _ (symbols : List SymbolAt) (regs : Regs) (memory : List MemByte) (sp : �
         let both = same_inputs x.is_input y.is_input (same_tree x.tree y.tree) (same_mode x.mode y.mode)
         (sym (f.sound.says i p x part).input ∙ first.1) (sym (f.sound.says j q y part').input ∙ second.1)
         (and_parts _ (are_same_outputs x y && is_alone x y) may).0 in
-        (tree_is x.tree y.tree both.0, mode_is x.mode y.mode both.1)
+        (same_trees x.tree y.tree both.0, same_modes x.mode y.mode both.1)
 
     -- what stands at one place is one
     parts_same : (i j : ℕ) (p q : Part) (x y : Operand) → IsPart given plan i p x → IsPart given plan j q y → p.place ≡ q.place → x ≡ y
@@ -148,7 +148,7 @@ module _ (symbols : List SymbolAt) (regs : Regs) (memory : List MemByte) (sp : �
         (parts_same j i q p y x part' part (base_result q.is_moved q p.place same))
     bases_same false i j p q x y m same part part' =
         let staying = base_staying q.is_moved q p.holder same in
-        tree_is y.tree x.tree (f.sound.kept j i q p y x part' part staying.1 (stays q.is_moved staying.0))
+        same_trees y.tree x.tree (f.sound.kept j i q p y x part' part staying.1 (stays q.is_moved staying.0))
       where
         stays : (b : Bool) → b ≡ false → b ≡ false
         stays b is = is
@@ -176,7 +176,7 @@ module _ (symbols : List SymbolAt) (regs : Regs) (memory : List MemByte) (sp : �
         absurd (base_other q.is_moved q (ask StayingFar p.holder) StayingFar same refl (inr refl))
     far_told other _ _ (far j q y m part' stays far_is') i p x n same part far_is holds =
         let kept : q.is_moved ≡ false = not_true q.is_moved (and_parts (not q.is_moved) _ stays).0 in
-        let tree : y.tree ≡ x.tree = tree_is y.tree x.tree (f.sound.kept j i q p y x part' part (same_ask_place _ _ same) kept) in
+        let tree : y.tree ≡ x.tree = same_trees y.tree x.tree (f.sound.kept j i q p y x part' part (same_ask_place _ _ same) kept) in
         let e : Some m ≡ Some n = sym far_is' ∙ (f.sound.says j q y part').far ∙ ap far_offset tree ∙
         sym (f.sound.says i p x part).far ∙ far_is in
         holds_as other (ask StayingFar p.holder) _ W64 (offset_by symbols memory sp n) (ap at_ask same) refl

@@ -9,6 +9,7 @@ use Rattle.rtx_tree.specs.declared.machine.SymbolAt.{SymbolAt}
 use Rattle.rtx_tree.specs.declared.memories.MemByte.{MemByte}
 use Rattle.rtx_tree.specs.declared.tree.Rtx.{Rtx}
 use Rattle.rtl_func.specs.Shapes.{is_effect, is_shaped}
+use Rattle.rtl_func.proofs.AllPass.{all_pass}
 use Rattle.rtl_step.specs.Effect.{effects_of}
 use Rattle.rtl_step.specs.Regs.{Regs}
 use Rattle.rtl_step.specs.declared.effect.Effect.{Effect}
@@ -33,7 +34,6 @@ use Rattle.moves_mean.proofs.Chosen.{given, asks, known_of}
 use Rattle.moves_mean.proofs.GivenNews.{result_at, operand_of}
 use Rattle.moves_mean.proofs.InputPlaces.{no_operator_of}
 use Rattle.moves_mean.proofs.Keying.{with_keys}
-use Rattle.moves_mean.proofs.Nodes.{all_pass}
 use Rattle.moves_mean.proofs.ResultNumbers.{one_number, found_in}
 use Rattle.moves_mean.proofs.ResultRows.{Key}
 use Rattle.moves_mean.proofs.ResultsHeld.{IsLast}

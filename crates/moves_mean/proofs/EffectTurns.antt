@@ -14,6 +14,7 @@ use Rattle.rtx_tree.specs.declared.machine.SymbolAt.{SymbolAt}
 use Rattle.rtx_tree.specs.declared.memories.MemByte.{MemByte}
 use Rattle.rtx_tree.specs.declared.tree.Rtx.{Rtx}
 use Rattle.rtl_func.specs.Shapes.{class_at, mode_at, is_place, is_effect, is_effect_class, is_shaped}
+use Rattle.rtl_func.proofs.AllPass.{all_pass}
 use Rattle.rtl_step.specs.Effect.{effect_of, effect_by, clobber_effect, clobber_by, address_of, register_of, register_by, set_place}
 use Rattle.rtl_step.specs.Regs.{Regs}
 use Rattle.rtl_step.specs.Value.{width_of}
@@ -31,8 +32,6 @@ use Rattle.moves_mean.proofs.ElementTurns.{effect_code, key_of, NewFor, stays_fo
 use Rattle.moves_mean.proofs.Keying.{TurnedAs, stays, result, unsets}
 use Rattle.moves_mean.proofs.NewTrees.{Becomes, AllBecome, is_whole, is_lowpart, is_lowpart_class}
 use Rattle.moves_mean.proofs.NewTrees as trees
-use Rattle.moves_mean.proofs.Nodes as nodes
-use Rattle.moves_mean.proofs.Nodes.{all_pass}
 use Rattle.moves_mean.proofs.PutParts.{IsOver, put_over}
 use Rattle.moves_mean.proofs.Putting.{MayStand, put_becomes}
 use Rattle.moves_mean.proofs.SetTurns.{Fit, fit_first, fit_second, plain_set, TargetToo, register_same, memory_too, set_stays, target_over}

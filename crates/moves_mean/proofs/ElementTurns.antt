@@ -18,6 +18,8 @@ use Rattle.rtx_tree.specs.declared.tree.Rtx.{Rtx, out-roll-Rtx}
 use Rattle.rtx_tree.specs.declared.tree.Rtx.TheOpen.{Rtx-F}
 use Rattle.rtl_func.specs.Kinds.{is_plain_tree}
 use Rattle.rtl_func.specs.Shapes.{class_at, mode_at, is_place, is_operand, is_effect, is_effect_class, is_shaped}
+use Rattle.rtl_func.proofs.AllPass as nodes
+use Rattle.rtl_func.proofs.AllPass.{all_pass}
 use Rattle.rtl_step.specs.Effect.{effect_of, effect_by, set_effect, set_place, clobber_effect, clobber_by, address_of, address_part, register_of, register_by}
 use Rattle.rtl_step.specs.Regs.{Regs, known_of}
 use Rattle.rtl_step.specs.Value.{width_of, value_of, of_two}
@@ -34,8 +36,6 @@ use Rattle.moves_mean.proofs.Addresses.{is_new_class, IsNewTree, AddressToo, add
 use Rattle.moves_mean.proofs.Keying.{TurnedAs, stays, result, unsets}
 use Rattle.moves_mean.proofs.NewTrees.{Becomes, is_whole, is_lowpart, whole_low}
 use Rattle.moves_mean.proofs.NewTrees as trees
-use Rattle.moves_mean.proofs.Nodes as nodes
-use Rattle.moves_mean.proofs.Nodes.{all_pass}
 use Rattle.moves_mean.proofs.PutParts.{each_put, IsOver, over_is, parts_are, put_over}
 use Rattle.moves_mean.proofs.Putting.{MayStand, put_becomes}
 use Rattle.moves_mean.proofs.SetTurns.{Fit, fit_first, fit_second, plain_set, TargetToo, register_same, memory_too, set_stays, target_over, source_too}

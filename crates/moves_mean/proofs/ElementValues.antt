@@ -1,5 +1,5 @@
 -- What an effect of a pattern takes has a value, where the instruction's effect beside it is made.
-use Rattle.std.proofs.Common.{◌≡◌, ◌≢◌, ◌⊎◌, inl, inr, ℕ, ◌&&◌, ◌||◌, Bool, true, false, List, [], ◌∷◌, ◌++◌, length, map, Option, Some, None, refl, sym, ap, subst, ◌∙◌, arith}
+use Rattle.std.proofs.Common.{◌≡◌, ◌≢◌, ◌⊎◌, inl, inr, ℕ, ◌&&◌, ◌||◌, Bool, true, false, List, [], ◌∷◌, ◌++◌, length, map, Option, Some, None, refl, sym, ap, subst, ◌∙◌}
 use Rattle.std.proofs.lemmas.Bool.{and_parts, or_cases}
 use Rattle.std.specs.List.{flat_map, list_all, list_any}
 use Rattle.std.specs.Prelude.{ℤ, pos, option_and_then}
@@ -12,6 +12,8 @@ use Rattle.rtx_tree.specs.declared.machine.SymbolAt.{SymbolAt}
 use Rattle.rtx_tree.specs.declared.memories.MemByte.{MemByte}
 use Rattle.rtx_tree.specs.declared.tree.Rtx.{Rtx}
 use Rattle.rtl_func.specs.Shapes.{mode_at, is_effect, is_effect_class, is_shaped}
+use Rattle.rtl_func.proofs.AllPass as nodes
+use Rattle.rtl_func.proofs.AllPass.{all_pass}
 use Rattle.rtl_step.specs.Effect.{effect_of, address_of, address_part, register_of, register_by, set_place}
 use Rattle.rtl_step.specs.Regs.{Regs}
 use Rattle.rtl_step.specs.Value.{width_of}
@@ -31,11 +33,9 @@ use Rattle.moves_mean.proofs.ElementTurns.{effect_code}
 use Rattle.moves_mean.proofs.GivenBeside.{first_of, second_of}
 use Rattle.moves_mean.proofs.HomedTrees.{lowpart_row, true_code}
 use Rattle.moves_mean.proofs.InputPlaces.{StandsThere, no_parts, empty}
-use Rattle.moves_mean.proofs.InsnTurns.{effect_codes}
+use Rattle.moves_mean.proofs.InsnTurns.{effect_codes, two_of}
 use Rattle.moves_mean.proofs.Matched.{IsLow, made_by, made_length, alone, front, no_kids, row_of}
 use Rattle.moves_mean.proofs.NewTrees.{is_lowpart, is_lowpart_class, is_whole, whole_low}
-use Rattle.moves_mean.proofs.Nodes as nodes
-use Rattle.moves_mean.proofs.Nodes.{all_pass}
 use Rattle.moves_mean.proofs.SetValues.{SetReads, set_reads, at_valued}
 use Rattle.moves_mean.proofs.SetWidth.{no_register}
 use Rattle.moves_mean.proofs.TakenThere.{IsAt, part_at, PartThere, taken_there, parts_there}
@@ -75,12 +75,6 @@ none_at _ _ _ _ (later q y r z ps xs more) is = let no : ⊥ = cc in no
 pub one_at : (ps xs : List Rtx) (q y a : Rtx) → AtOnePlace ps xs q y → xs ≡ a ∷ [] → y ≡ a
 one_at _ _ _ _ a (first q y ps xs) is = let same : y ≡ a = cc in same
 one_at _ _ _ _ a (later q y r z ps xs more) is = absurd (none_at ps xs q y more (let none : xs ≡ [] = cc in none))
-
-pub two_of : (us : List Rtx) → length us ≡ 2 → (a : Rtx) × ((b : Rtx) × (us ≡ a ∷ b ∷ []))
-two_of [] is = absurd (omega (arith, is))
-two_of (a ∷ []) is = absurd (omega (arith, is))
-two_of (a ∷ b ∷ []) is = (a, (b, refl))
-two_of (a ∷ b ∷ c ∷ us) is = absurd (omega (arith, is))
 
 module _ (homes : List HomeOf) (layout : Layout) (found : Ops) (symbols : List SymbolAt) (regs : Regs) (m : List MemByte) where
   abbrev hm : Rtx → Rtx

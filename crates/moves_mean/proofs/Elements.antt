@@ -16,7 +16,7 @@ use Rattle.rtl_step.specs.Regs.{Regs, known_of}
 use Rattle.rtl_step.specs.Value.{width_of, value_of, of_two}
 use Rattle.rtl_step.specs.declared.effect.Effect.{Effect}
 use Rattle.rtl_step.specs.declared.effect.Effect.TheVariants.{Sets, Stores}
-use Rattle.frame_mean.proofs.window_replace.Known.{Too, too_two}
+use Rattle.rtl_step.proofs.Too.{Too, too_two}
 use Rattle.moves_mean.proofs.Readings.{IsOwn, ReadsAs}
 use Rattle.moves_mean.proofs.ReadTrees.{read_in}
 

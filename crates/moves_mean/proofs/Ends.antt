@@ -6,7 +6,7 @@ use Rattle.bits64.specs.declared.Width.TheVariants.{W64}
 use Rattle.rtx_tree.specs.declared.machine.SymbolAt.{SymbolAt}
 use Rattle.rtx_tree.specs.declared.memories.MemByte.{MemByte}
 use Rattle.rtx_tree.specs.declared.tree.Rtx.{Rtx}
-use Rattle.rtl_step.specs.Effect.{effects_of, reg_after, regs_after, bytes_after, memory_after}
+use Rattle.rtl_step.specs.Effect.{effects_of, reg_after, regs_after, bytes_after}
 use Rattle.rtl_step.specs.Regs.{Regs, known_of, reg_value}
 use Rattle.rtl_step.specs.declared.effect.Effect.{Effect}
 use Rattle.rtl_step.specs.declared.effect.Effect.TheVariants.{Nothing, Sets, Unsets, Stores}
@@ -65,16 +65,6 @@ module _ (symbols : List SymbolAt) (Told : Regs → List MemByte → Type 0)
     pub told : Told after (bytes_after o m)
     pub others : (q : ℕ) → q ≢ far → get after q ≡ get (reg_after o r) q
 
-  -- one that stands alone
-  pub near_end : (x : Rtx) (r : Regs) (m : List MemByte) (o : Effect) (far : ℕ) → effects_of symbols r m x ≡ Some (o ∷ []) → Stays o → Told r m →
-      Ended (x ∷ []) r m o far
-  near_end x r m o far is stays told = record {
-    after = reg_after o r;
-    runs = next x [] r m (o ∷ []) (reg_after o r) (bytes_after o m) is (stays r m told) (done (reg_after o r) (bytes_after o m));
-    told = stays r m told;
-    others = λ q other. refl;
-  }
-
   -- one at a far base, which is made before it
   pub far_end : (x : Rtx) (r : Regs) (m : List MemByte) (o : Effect) (far sp : ℕ) (n : ℤ) → is_spare far ≡ true → far ≢ 0 → 2 ≢ far →
       reg_value r 2 W64 ≡ Some sp →
@@ -96,31 +86,6 @@ module _ (symbols : List SymbolAt) (Told : Regs → List MemByte → Type 0)
       not_far : (q : ℕ) → is_spare q ≡ false → q ≢ far
       not_far q kept same = apart_of far q is kept (sym same)
 
-  -- Each of some effects, one behind the other, by registers that are held through all of them.
-  pub data Ends (hs : List Held) : List Effect → List Rtx → Type 0 where
-    nothing : Ends hs [] []
-    ends : (o : Effect) (os : List Effect) (code more : List Rtx) (far : ℕ) → is_spare far ≡ true → IsFresh symbols [] far hs → IsOnRest o →
-        ((r : Regs) (m : List MemByte) → Told r m → Holds r hs → Ended code r m o far) → Ends hs os more → Ends hs (o ∷ os) (code ++ more)
-
-  -- what they come to
-  pub record AllEnded (code : List Rtx) (r : Regs) (m : List MemByte) (os : List Effect) : Type 0 where
-    pub after : Regs
-    pub runs : Straight symbols Told code r m after (memory_after os m)
-    pub others : (q : ℕ) → is_spare q ≡ false → get after q ≡ get (regs_after os r) q
-
   pub fresh_holds : (hs : List Held) (far : ℕ) (a b : Regs) → IsFresh symbols [] far hs → ((q : ℕ) → q ≢ far → get b q ≡ get a q) → Holds a hs → Holds b hs
   fresh_holds [] far a b fresh others holds = tt
   fresh_holds (h ∷ hs) far a b fresh others holds = (others h.reg fresh.0 ∙ holds.0, fresh_holds hs far a b fresh.1 others holds.1)
-
-  pub all_end : (hs : List Held) (os : List Effect) (code : List Rtx) → Ends hs os code → AreSpare hs → (r : Regs) (m : List MemByte) → Told r m →
-      Holds r hs → AllEnded code r m os
-  all_end hs _ _ nothing are r m told holds = record { after = r; runs = done r m; others = λ q kept. refl }
-  all_end hs _ _ (ends o os code more far is fresh on one later) are r m told holds =
-      let e = one r m told holds in
-      let all = all_end hs os more later are e.after (bytes_after o m) e.told
-      (fresh_holds hs far (reg_after o r) e.after fresh e.others (still_holds hs o r are on holds)) in record {
-        after = all.after;
-        runs = straight_both symbols Told code more r m e.after (bytes_after o m) all.after (memory_after os (bytes_after o m)) e.runs all.runs;
-        others = λ q kept. all.others q kept ∙
-            after_alike os e.after (reg_after o r) q (e.others q (λ same. apart_of far q is kept (sym same)));
-      }

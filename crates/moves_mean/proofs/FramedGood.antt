@@ -17,11 +17,11 @@ use Rattle.rtx_tree.specs.declared.tree.Rtx.{Rtx, out-roll-Rtx}
 use Rattle.rtx_tree.specs.declared.tree.Rtx.TheOpen.{Rtx-F}
 use Rattle.rtx_tree.proofs.Trees.{head_of-tree, kids_of-tree, mentions_out}
 use Rattle.rtl_func.specs.Shapes.{class_at, mode_at, number_at, is_narrower, is_true_register, is_bare, fits_row, is_shaped}
+use Rattle.rtl_func.proofs.AllPass.{all_pass, itself, within}
 use Rattle.sym_insns.specs.Shape.{is_natural, all_natural}
 use Rattle.reload_homes.specs.FrameRefs.{frame_offset, framed}
 use Rattle.reload_homes.proofs.Rewrites.{framed_reference, framed_over}
 use Rattle.moves_mean.proofs.FramedTrees.{FrameCase, alone, sum, frame_case, row_of, case_mode, keeps_vars, all_alike, first_by}
-use Rattle.moves_mean.proofs.Nodes.{all_pass, itself, within}
 use Rattle.moves_mean.proofs.Shaping.{row_too, is_low}
 use Rattle.moves_mean.proofs.SmallTrees.{tree_induction, tree_shaped, sp_shaped, natural_out, sp_natural, one_or_other, or_second, stands_part, in_sp}
 

@@ -11,6 +11,7 @@ use Rattle.rtx_tree.specs.declared.machine.SymbolAt.{SymbolAt}
 use Rattle.rtx_tree.specs.declared.memories.MemByte.{MemByte}
 use Rattle.rtx_tree.specs.declared.tree.Rtx.{Rtx}
 use Rattle.rtl_func.specs.Shapes.{is_effect, is_shaped}
+use Rattle.rtl_func.proofs.AllPass.{all_pass}
 use Rattle.rtl_step.specs.Regs.{Regs}
 use Rattle.md_constr.specs.Inputs.{effects_by, effects_of, changed_here, changed_whole, changed_at_by, changed_at}
 use Rattle.md_match.specs.Pattern.{Ops, role_of, operand_numbered, instantiated}
@@ -30,7 +31,6 @@ use Rattle.moves_mean.proofs.GivenNews.{own, mode, tree, result_at, Reads, Lost,
 use Rattle.moves_mean.proofs.InsnTurns.{IsBeside}
 use Rattle.moves_mean.proofs.Matched.{IsLow}
 use Rattle.moves_mean.proofs.NewsLaws.{moved_place, none_moved}
-use Rattle.moves_mean.proofs.Nodes.{all_pass}
 use Rattle.moves_mean.proofs.TakenPlaces.{any_place, itself_number, IsEffectOf, IsRead, source_read, target_read, operator_hidden}
 use Rattle.moves_mean.proofs.WholeTurns.{IsWholeBeside}
 

@@ -11,6 +11,7 @@ use Rattle.rtx_tree.specs.declared.memories.MemByte.{MemByte}
 use Rattle.rtx_tree.specs.declared.tree.Rtx.{Rtx}
 use Rattle.run_memory.specs.RunMemory.{load}
 use Rattle.rtl_func.specs.Shapes.{is_shaped}
+use Rattle.rtl_func.proofs.AllPass.{all_pass}
 use Rattle.rtl_step.specs.Regs.{Regs, reg_value}
 use Rattle.rv_regs.specs.Registers.{stack_pointer}
 use Rattle.same_behaviour.specs.Lawful.{IsMemory}
@@ -36,7 +37,6 @@ use Rattle.moves_mean.proofs.Fetching.{Fetching}
 use Rattle.moves_mean.proofs.GivenBases.{HasSlot, slot_there_is}
 use Rattle.moves_mean.proofs.GivenOperands.{operand_is, base_is}
 use Rattle.moves_mean.proofs.HomedQuiet.{HasQuietHomes}
-use Rattle.moves_mean.proofs.Nodes.{all_pass}
 use Rattle.moves_mean.proofs.Valued.{HasValue}
 
 -- what a state has of a frame whose lowest address sp is

@@ -14,6 +14,7 @@ use Rattle.rtx_tree.specs.declared.machine.SymbolAt.{SymbolAt}
 use Rattle.rtx_tree.specs.declared.memories.MemByte.{MemByte}
 use Rattle.rtx_tree.specs.declared.tree.Rtx.{Rtx}
 use Rattle.rtl_func.specs.Shapes.{class_at, mode_at, is_shaped}
+use Rattle.rtl_func.proofs.AllPass.{all_pass}
 use Rattle.rtl_step.specs.Regs.{Regs}
 use Rattle.rtl_step.specs.Value.{width_of}
 use Rattle.md_match.specs.Pattern.{Ops, operand_numbered, instantiated}
@@ -40,7 +41,6 @@ use Rattle.moves_mean.proofs.Addresses.{IsNewTree}
 use Rattle.moves_mean.proofs.Chosen.{given, asks, news, moved_tree, known_of, IsNewAt, new_at}
 use Rattle.moves_mean.proofs.ElementTurns.{NewFor, stays_for, moves_for}
 use Rattle.moves_mean.proofs.NewsLaws.{moved_place, result_numbered}
-use Rattle.moves_mean.proofs.Nodes.{all_pass}
 use Rattle.moves_mean.proofs.TakenPlaces.{IsRead}
 use Rattle.moves_mean.proofs.Valued.{HasValue}
 

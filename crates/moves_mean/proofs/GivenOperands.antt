@@ -8,6 +8,7 @@ use Rattle.rtx_tree.specs.declared.code.Mode.{Mode}
 use Rattle.rtx_tree.specs.declared.code.Mode.TheVariants.{Void, QI, HI, SI, DI}
 use Rattle.rtx_tree.specs.declared.tree.Rtx.{Rtx}
 use Rattle.rtl_func.specs.Shapes.{mode_at, is_shaped}
+use Rattle.rtl_func.proofs.AllPass.{all_pass, within}
 use Rattle.rtl_step.specs.Value.{width_of}
 use Rattle.sym_insns.specs.Shape.{all_natural}
 use Rattle.assign.specs.declared.home.Home.TheVariants.{Slot}
@@ -23,7 +24,6 @@ use Rattle.reload_operands.specs.declared.operand.Operand.{Operand}
 use Rattle.moves_mean.proofs.FoundParts.{operand_has}
 use Rattle.moves_mean.proofs.GivenBases.{based_there, mode_there}
 use Rattle.moves_mean.proofs.HomedQuiet.{HasQuietHomes, homed_quiet}
-use Rattle.moves_mean.proofs.Nodes.{all_pass, within}
 use Rattle.moves_mean.proofs.OnRegister.{IsOperand}
 use Rattle.moves_mean.proofs.SmallTrees.{natural_out, or_second, stands_part}
 

@@ -20,6 +20,7 @@ use Rattle.rtx_tree.specs.declared.machine.SymbolAt.{SymbolAt}
 use Rattle.rtx_tree.specs.declared.memories.MemByte.{MemByte}
 use Rattle.rtx_tree.specs.declared.tree.Rtx.{Rtx, out-roll-Rtx}
 use Rattle.rtx_tree.specs.declared.tree.Rtx.TheOpen.{Rtx-F}
+use Rattle.rtl_func.proofs.AllPass.{all_pass, pass_out}
 use Rattle.rtl_step.specs.Effect.{address_part, address_of, effect_of, effects_by, effects_of, one_effect}
 use Rattle.rtl_step.specs.Regs.{Regs}
 use Rattle.rtl_step.specs.Value.{value_of}
@@ -51,7 +52,6 @@ use Rattle.moves_mean.proofs.Chosen.{given}
 use Rattle.moves_mean.proofs.ElementTurns.{memory_code_of}
 use Rattle.moves_mean.proofs.LeftRegisters.{AreOnHard, lists_leave}
 use Rattle.moves_mean.proofs.NewsLaws.{operand_of_match}
-use Rattle.moves_mean.proofs.Nodes.{all_pass, pass_out}
 use Rattle.moves_mean.proofs.OnRegister.{IsOperand}
 use Rattle.moves_mean.proofs.ResultsEnd.{Among, AllAmong, Reached}
 use Rattle.moves_mean.proofs.RowsThere.{alone_front}

@@ -12,6 +12,8 @@ use Rattle.rtx_tree.specs.declared.machine.SymbolAt.{SymbolAt}
 use Rattle.rtx_tree.specs.declared.memories.MemByte.{MemByte}
 use Rattle.rtx_tree.specs.declared.tree.Rtx.{Rtx}
 use Rattle.rtl_func.specs.Shapes.{class_at, mode_at, is_place, is_operand, is_effect, is_effect_class}
+use Rattle.rtl_func.proofs.AllPass as nodes
+use Rattle.rtl_func.proofs.AllPass.{all_pass}
 use Rattle.rtl_step.specs.Effect.{effect_of, effect_by, clobber_effect, address_of, set_place}
 use Rattle.rtl_step.specs.Regs.{Regs}
 use Rattle.rtl_step.specs.Value.{width_of}
@@ -22,8 +24,6 @@ use Rattle.moves_mean.proofs.EffectTurns.{effect_class, clobber_same, memory_clo
 use Rattle.moves_mean.proofs.ElementTurns.{effect_code, memory_code_of}
 use Rattle.moves_mean.proofs.NewTrees.{Becomes, AllBecome, is_whole, is_lowpart, whole_low}
 use Rattle.moves_mean.proofs.NewTrees as trees
-use Rattle.moves_mean.proofs.Nodes as nodes
-use Rattle.moves_mean.proofs.Nodes.{all_pass}
 use Rattle.moves_mean.proofs.PutParts.{IsOver}
 use Rattle.moves_mean.proofs.SetTurns.{Fit, fit_first, fit_second, plain_set, TargetToo, register_same, memory_too, set_stays, target_over}
 use Rattle.moves_mean.proofs.SetWidth.{binary_none, no_register}

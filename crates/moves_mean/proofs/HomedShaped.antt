@@ -17,6 +17,8 @@ use Rattle.rtx_tree.specs.declared.code.Mode.TheVariants.{Void, DI}
 use Rattle.rtx_tree.specs.declared.tree.Rtx.{Rtx, out-Rtx, out-roll-Rtx}
 use Rattle.rtx_tree.specs.declared.tree.Rtx.TheOpen.{Rtx-F}
 use Rattle.rtl_func.specs.Shapes.{class_at, mode_at, number_at, has_mode, same_mode, is_value_class, is_constant_class, is_narrower, is_true_register, fits_one, is_operand, is_register_number, fits_row, is_bare, is_shaped}
+use Rattle.rtl_func.proofs.AllPass as nodes
+use Rattle.rtl_func.proofs.AllPass.{all_pass, pass_out}
 use Rattle.sym_insns.specs.Shape.{all_natural}
 use Rattle.assign.specs.declared.home.Home.{Home}
 use Rattle.assign.specs.declared.home.Home.TheVariants.{Hard, Slot}
@@ -29,8 +31,6 @@ use Rattle.frame_mean.proofs.window_replace.Trees.{natural_kids}
 use Rattle.moves_mean.proofs.HomedShapes.{is_replaced_class, is_home_class, Alike, AllAlike, row_fits, none, next}
 use Rattle.moves_mean.proofs.HomedTrees.{induction, low_placed, low_code}
 use Rattle.moves_mean.proofs.NewTrees.{is_lowpart_class}
-use Rattle.moves_mean.proofs.Nodes as nodes
-use Rattle.moves_mean.proofs.Nodes.{all_pass, pass_out}
 
 fits_head : RtxHead → List Rtx → Bool
 fits_head h kids = is_bare (class_of_code h.code) (cast_unsigned w64 h.number) h.name && fits_row (class_of_code h.code) h.mode (cast_unsigned w64 h.number) kids

@@ -28,8 +28,6 @@ use Rattle.rv_regs.specs.Registers.{stack_pointer}
 use Rattle.frame_mean.proofs.window_replace.Trees.{natural_kids}
 use Rattle.moves_mean.proofs.HomedTrees.{induction, low_placed, low_code}
 use Rattle.moves_mean.proofs.NewTrees.{is_lowpart_class}
-use Rattle.moves_mean.proofs.Nodes as nodes
-use Rattle.moves_mean.proofs.Nodes.{all_pass, pass_out}
 
 -- a register or the low part of one; what stands for one
 abbrev pub is_replaced_class : Class → Bool

@@ -18,6 +18,8 @@ use Rattle.rtx_tree.specs.declared.tree.Rtx.TheOpen.{Rtx-F}
 use Rattle.std.specs.Int.{int_wrap, w64}
 use Rattle.std.specs.Ordering.{int_eq}
 use Rattle.rtl_func.specs.Shapes.{class_at, mode_at, number_at, is_true_register, is_narrower, is_bare, fits_row, is_shaped}
+use Rattle.rtl_func.proofs.AllPass as nodes
+use Rattle.rtl_func.proofs.AllPass.{all_pass, pass_out}
 use Rattle.sym_insns.specs.Shape.{is_natural, natural_step, all_natural}
 use Rattle.assign.specs.declared.home.Home.{Home}
 use Rattle.assign.specs.declared.home.Home.TheVariants.{Hard, Slot}
@@ -29,8 +31,6 @@ use Rattle.reload_homes.proofs.Rewrites.{homed_register, homed_over}
 use Rattle.rv_regs.specs.Registers.{stack_pointer}
 use Rattle.frame_mean.proofs.window_replace.Trees.{natural_kids, natural_here}
 use Rattle.moves_mean.proofs.NewTrees.{is_lowpart_class, is_lowpart, is_whole}
-use Rattle.moves_mean.proofs.Nodes as nodes
-use Rattle.moves_mean.proofs.Nodes.{all_pass, pass_out}
 
 all_of : (P : Rtx → Type 0) (kids : List ((x : Rtx) × P x)) → AllByRecursion P (map (λ (k : (x : Rtx) × P x). k.0) kids)
 all_of P [] = tt

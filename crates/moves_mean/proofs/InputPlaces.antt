@@ -12,6 +12,8 @@ use Rattle.rtx_tree.specs.declared.code.Code.{Code}
 use Rattle.rtx_tree.specs.declared.code.Code.TheVariants as code
 use Rattle.rtx_tree.specs.declared.tree.Rtx.{Rtx}
 use Rattle.rtl_func.specs.Shapes.{is_shaped}
+use Rattle.rtl_func.proofs.AllPass as nodes
+use Rattle.rtl_func.proofs.AllPass.{all_pass}
 use Rattle.md_constr.specs.Inputs.{taken_here, taken_in}
 use Rattle.md_match.proofs.Instantiated.{each_made, made_operand}
 use Rattle.md_match.proofs.Placeholders.{placeholders_out}
@@ -30,8 +32,6 @@ use Rattle.moves_mean.specs.Places.{AtOnePlace, first, later, At, here, inside, 
 use Rattle.moves_mean.proofs.Besides.{IsPartBeside, part_beside}
 use Rattle.moves_mean.proofs.HomedTrees.{induction}
 use Rattle.moves_mean.proofs.Matched.{IsLow, IsMade, IsPlace, whole, lowpart, is_place, made_by, made_length, alone, front, no_kids}
-use Rattle.moves_mean.proofs.Nodes as nodes
-use Rattle.moves_mean.proofs.Nodes.{all_pass}
 
 -- ---- lists
 

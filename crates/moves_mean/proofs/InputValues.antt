@@ -10,6 +10,8 @@ use Rattle.rtx_tree.specs.declared.machine.SymbolAt.{SymbolAt}
 use Rattle.rtx_tree.specs.declared.memories.MemByte.{MemByte}
 use Rattle.rtx_tree.specs.declared.tree.Rtx.{Rtx}
 use Rattle.rtl_func.specs.Shapes.{is_effect, is_shaped}
+use Rattle.rtl_func.proofs.AllPass as nodes
+use Rattle.rtl_func.proofs.AllPass.{all_pass}
 use Rattle.rtl_step.specs.Effect.{effect_of, all_effects, one_effect, effects_of, effects_by}
 use Rattle.rtl_step.specs.Regs.{Regs}
 use Rattle.rtl_step.specs.declared.effect.Effect.{Effect}
@@ -28,8 +30,6 @@ use Rattle.moves_mean.proofs.ElementValues.{IsValued, taken_role, element_valued
 use Rattle.moves_mean.proofs.InputPlaces.{found_at}
 use Rattle.moves_mean.proofs.Matched.{IsLow}
 use Rattle.moves_mean.proofs.NewTrees.{is_whole}
-use Rattle.moves_mean.proofs.Nodes as nodes
-use Rattle.moves_mean.proofs.Nodes.{all_pass}
 use Rattle.moves_mean.proofs.TakenThere.{IsAt, part_at}
 use Rattle.moves_mean.proofs.WholeTurns.{is_parallel, front_is, alone_is, effects_exist}
 

@@ -18,6 +18,7 @@ use Rattle.rtx_tree.specs.declared.tree.Rtx.{Rtx, out-roll-Rtx}
 use Rattle.rtx_tree.specs.declared.tree.Rtx.TheOpen.{Rtx-F}
 use Rattle.rtl_func.specs.Kinds.{is_plain_tree}
 use Rattle.rtl_func.specs.Shapes.{class_at, mode_at, number_at, has_mode, is_effect, is_effect_class, fits_row, is_bare, is_shaped}
+use Rattle.rtl_func.proofs.AllPass.{all_pass}
 use Rattle.rtl_step.specs.Effect.{effect_of, all_effects, one_effect, effects_of, effects_by}
 use Rattle.rtl_step.specs.Regs.{Regs}
 use Rattle.rtl_step.specs.declared.effect.Effect.{Effect}
@@ -38,8 +39,6 @@ use Rattle.moves_mean.proofs.Keying as keying
 use Rattle.moves_mean.proofs.Keying.{TurnedAs, AllTurnedAs, HasAllKeyed, all_keyed, one_keyed_alone}
 use Rattle.moves_mean.proofs.NewTrees.{Becomes, AllBecome, is_whole}
 use Rattle.moves_mean.proofs.NewTrees as trees
-use Rattle.moves_mean.proofs.Nodes as nodes
-use Rattle.moves_mean.proofs.Nodes.{all_pass}
 use Rattle.moves_mean.proofs.PutParts.{each_put, IsOver, over_is, parts_are}
 use Rattle.moves_mean.proofs.Putting.{put_becomes}
 use Rattle.moves_mean.proofs.SetTurns.{Fit}
@@ -58,6 +57,17 @@ parallel_row _ mode number kids is fits = absurd (let no : ⊥ = cc in no)
 pub effects_are : (y : Rtx) → (head_of y).code ≡ code.Parallel → is_shaped y ≡ true → list_all is_effect (kids_of y) ≡ true
 effects_are y is shaped = parallel_row (head_of y).code (mode_at y) (number_at y) (kids_of y) is
     (and_parts (is_bare (class_at y) (number_at y) (head_of y).name) _ shaped).1
+
+pub two_of : (us : List Rtx) → length us ≡ 2 → (a : Rtx) × ((b : Rtx) × (us ≡ a ∷ b ∷ []))
+two_of [] is = absurd (omega (arith, is))
+two_of (a ∷ []) is = absurd (omega (arith, is))
+two_of (a ∷ b ∷ []) is = (a, (b, refl))
+two_of (a ∷ b ∷ c ∷ us) is = absurd (omega (arith, is))
+
+one_of : (us : List Rtx) → length us ≡ 1 → (a : Rtx) × (us ≡ a ∷ [])
+one_of [] is = absurd (omega (arith, is))
+one_of (a ∷ []) is = (a, refl)
+one_of (a ∷ b ∷ us) is = absurd (omega (arith, is))
 
 module _ (symbols : List SymbolAt) (regs other : Regs) (m : List MemByte) (known : KnowsRest regs other)
     (own : ℕ → ℕ) (mode : ℕ → Mode) (tree : ℕ → Rtx) (Free : ℕ → Type 0) (result_at : ℤ → Option ℕ) (news : Ops) (Reads Lost : ℤ → Type 0)
@@ -126,17 +136,6 @@ module _ (symbols : List SymbolAt) (regs other : Regs) (m : List MemByte) (known
       by : (c : Code) → c ≢ code.Set → key_by result_at c (kids_of q) ≡ None
       by code.Set other = absurd (other refl)
       by _ other = refl
-
-  two_of : (us : List Rtx) → length us ≡ 2 → (a : Rtx) × ((b : Rtx) × (us ≡ a ∷ b ∷ []))
-  two_of [] is = absurd (omega (arith, is))
-  two_of (a ∷ []) is = absurd (omega (arith, is))
-  two_of (a ∷ b ∷ []) is = (a, (b, refl))
-  two_of (a ∷ b ∷ c ∷ us) is = absurd (omega (arith, is))
-
-  one_of : (us : List Rtx) → length us ≡ 1 → (a : Rtx) × (us ≡ a ∷ [])
-  one_of [] is = absurd (omega (arith, is))
-  one_of (a ∷ []) is = (a, refl)
-  one_of (a ∷ b ∷ us) is = absurd (omega (arith, is))
 
   abbrev AsKey : Rtx → Rtx → Type 0
   AsKey q x = Turns (key_of result_at q) x (put q news x)

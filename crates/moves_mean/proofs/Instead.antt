@@ -10,8 +10,8 @@ use Rattle.rtl_step.specs.Regs.{Regs, known_in, reg_value}
 use Rattle.rtl_step.specs.declared.effect.Effect.{Effect}
 use Rattle.rtl_step.specs.declared.effect.Effect.TheVariants.{Nothing, Sets, Unsets, Stores}
 use Rattle.rtl_step.specs.declared.regs.Known.{Known}
+use Rattle.rtl_step.proofs.Too.{Too}
 use Rattle.window_keep.specs.Same.{KnownToo}
-use Rattle.frame_mean.proofs.window_replace.Known.{Too}
 use Rattle.moves_mean.specs.Spare.{is_spare, KnowsRest}
 use Rattle.moves_mean.proofs.Cells.{known_made, known_is}
 

@@ -29,8 +29,6 @@ use Rattle.md_match.specs.Pattern.{Ops, role_of, operand_of, operand_numbered}
 use Rattle.md_match.specs.declared.role.Role.TheVariants.{Operand}
 use Rattle.reload_operands.specs.Put.{put, parts_by}
 use Rattle.reload_operands.proofs.PutLaws.{put_operand}
-use Rattle.moves_mean.proofs.Nodes as nodes
-use Rattle.moves_mean.proofs.Nodes.{all_pass}
 use Rattle.moves_mean.proofs.PutParts.{each_put, over_is}
 use Rattle.moves_mean.proofs.Valued.{IsThere}
 

@@ -19,6 +19,8 @@ use Rattle.rtx_tree.specs.declared.memories.MemByte.{MemByte}
 use Rattle.rtx_tree.specs.declared.tree.Rtx.{Rtx}
 use Rattle.rtl_func.specs.Kinds.{is_jump_by, is_jump_tree}
 use Rattle.rtl_func.specs.Shapes.{class_at, mode_at, is_constant, is_constant_class, is_label_class, is_counter_class, is_comparison_class, is_jump_source_class, is_effect, is_effect_class, is_shaped}
+use Rattle.rtl_func.proofs.AllPass as nodes
+use Rattle.rtl_func.proofs.AllPass.{all_pass}
 use Rattle.rtl_step.specs.Jump.{way_of, jump_of}
 use Rattle.rtl_step.specs.Regs.{Regs}
 use Rattle.rtl_step.specs.Value.{value_of}
@@ -35,7 +37,7 @@ use Rattle.reload_operands.specs.Put.{put, parts_by}
 use Rattle.reload_operands.proofs.NumberLaws.{has_in_both, has_in_each, takes_out}
 use Rattle.moves_mean.specs.Places.{AtOnePlace, first, later, At, here, inside, is_leaf, is_leaf_as}
 use Rattle.moves_mean.proofs.Besides.{no_place, beside_head, part_beside}
-use Rattle.moves_mean.proofs.ElementValues.{IsValued, taken_role, low_nothing, is_subreg, not_low, none_at, one_at, two_of, valued_of}
+use Rattle.moves_mean.proofs.ElementValues.{IsValued, taken_role, low_nothing, is_subreg, not_low, none_at, one_at, valued_of}
 use Rattle.moves_mean.proofs.GivenBeside.{first_of, second_of}
 use Rattle.moves_mean.proofs.InputPlaces.{StandsThere, no_operator_of, is_operator_of, at_pass, empty}
 use Rattle.moves_mean.proofs.InputValues.{pattern_other}
@@ -43,12 +45,11 @@ use Rattle.moves_mean.proofs.JumpTrees.{put_alone, IsJump, returns, sets, IsSour
 use Rattle.moves_mean.proofs.Jumping.{comparison_any}
 use Rattle.moves_mean.proofs.Matched.{IsLow}
 use Rattle.moves_mean.proofs.NewTrees.{is_whole}
-use Rattle.moves_mean.proofs.Nodes as nodes
-use Rattle.moves_mean.proofs.Nodes.{all_pass}
 use Rattle.moves_mean.proofs.PutParts.{each_put, over_is}
 use Rattle.moves_mean.proofs.SetValues.{at_valued}
 use Rattle.moves_mean.proofs.TakenThere.{IsAt, part_at, PartThere, taken_there, parts_there}
 use Rattle.moves_mean.proofs.Valued.{IsThere, HasValue, constant_valued}
+use Rattle.moves_mean.proofs.InsnTurns.{two_of}
 
 comparison_class : (k : Class) → is_comparison_class k ≡ true → k ≡ class.Comparison
 comparison_class class.Comparison is = refl

@@ -18,17 +18,18 @@ use Rattle.rtx_tree.specs.declared.memories.MemByte.{MemByte}
 use Rattle.rtx_tree.specs.declared.tree.Rtx.{Rtx}
 use Rattle.rtl_func.specs.Kinds.{is_jump_by, is_jump_tree}
 use Rattle.rtl_func.specs.Shapes.{class_at, mode_at, number_at, has_mode, is_place_class, is_counter_class, is_jump_source_class, is_comparison_class, is_label_class, is_constant, is_constant_class, is_set_to, is_choice, is_bare, fits_row, is_shaped}
+use Rattle.rtl_func.proofs.AllPass.{all_pass, itself, within}
 use Rattle.rtl_step.specs.Jump as jump
 use Rattle.rtl_step.specs.Jump.{jump_of}
 use Rattle.rtl_step.specs.Regs.{Regs}
 use Rattle.rtl_step.specs.Value.{value_by, value_of}
 use Rattle.rtl_step.specs.declared.jump.Way.TheVariants as way
+use Rattle.rtl_step.proofs.Too.{Too, too_map, too_two}
 use Rattle.sym_insns.specs.Shape.{all_natural}
-use Rattle.frame_mean.proofs.window_replace.Known.{Too, too_map, too_two, both_of, or_first, or_later}
+use Rattle.frame_mean.proofs.window_replace.Known.{both_of, or_first, or_later}
 use Rattle.frame_mean.proofs.window_replace.Trees.{natural_kids, mentions_kid}
 use Rattle.moves_mean.specs.Spare.{KnowsRest, NamesNoSpare}
 use Rattle.moves_mean.proofs.NewTrees.{Becomes, AllBecome, none, next}
-use Rattle.moves_mean.proofs.Nodes.{all_pass, itself, within}
 use Rattle.moves_mean.proofs.ReadTrees.{read_in, NameNoSpare}
 use Rattle.moves_mean.proofs.Valued.{by_row, some_width}
 use Rattle.moves_mean.proofs.Addresses.{is_new_class, IsNewTree, IsOver, is_over, becomes_reads}

@@ -13,6 +13,7 @@ use Rattle.rtx_tree.specs.declared.function.Kind.TheVariants as kind
 use Rattle.rtx_tree.specs.declared.memories.MemByte.{MemByte}
 use Rattle.rtx_tree.specs.declared.tree.Rtx.{Rtx}
 use Rattle.rtl_func.specs.Shapes.{is_shaped}
+use Rattle.rtl_func.proofs.AllPass.{all_pass, within}
 use Rattle.rtl_step.specs.Effect.{effects_of, address_of, regs_after, memory_after}
 use Rattle.rtl_step.specs.Regs.{Regs}
 use Rattle.rtl_step.specs.Value.{value_of}
@@ -43,7 +44,6 @@ use Rattle.moves_mean.proofs.GivenSteady.{IsElsewhere, elsewhere, slot_there, ad
 use Rattle.moves_mean.proofs.Keyed.{effects_in, last_of}
 use Rattle.moves_mean.proofs.Keying.{with_keys}
 use Rattle.moves_mean.proofs.LeftRegisters.{AreOnHard}
-use Rattle.moves_mean.proofs.Nodes.{all_pass, within}
 use Rattle.moves_mean.proofs.OldAddresses.{HasOld, IsBack, AllBack, insn_back}
 use Rattle.moves_mean.proofs.OnRegister.{IsOperand}
 use Rattle.moves_mean.proofs.OwnHeld.{none_last}

@@ -15,6 +15,7 @@ use Rattle.rtx_tree.specs.declared.memories.MemByte.{MemByte}
 use Rattle.rtx_tree.specs.declared.tree.Rtx.{Rtx}
 use Rattle.rtl_func.specs.Calls.{is_argument}
 use Rattle.rtl_func.specs.Kinds.{kinds_agree, is_jump_tree, is_call_tree}
+use Rattle.rtl_func.proofs.AllPass.{all_pass}
 use Rattle.rtl_step.specs.Call.{call_part, event_of, args_of, result_width, target_of, target_value}
 use Rattle.rtl_step.specs.Effect.{effects_of}
 use Rattle.rtl_step.specs.Jump.{jump_of}
@@ -67,7 +68,6 @@ use Rattle.moves_mean.proofs.JumpValues.{jump_valued}
 use Rattle.moves_mean.proofs.Keeping.{Stay, stay_rest}
 use Rattle.moves_mean.proofs.Keyed.{Keyed, effects_in, with_kept, kept_of}
 use Rattle.moves_mean.proofs.Matched.{IsLow}
-use Rattle.moves_mean.proofs.Nodes.{all_pass}
 use Rattle.moves_mean.proofs.OtherInner.{jump_into}
 use Rattle.moves_mean.proofs.PlainAround as around
 use Rattle.moves_mean.proofs.PlainInner.{before, other, known, formed, IsFormed, formed_parts}

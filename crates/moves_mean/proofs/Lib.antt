@@ -1,5 +1,4 @@
 pub mod NewTrees
-pub mod Nodes
 pub mod Readings
 pub mod ReadTrees
 pub mod Putting
@@ -28,7 +27,6 @@ pub mod PutValues
 pub mod AsksBefore
 pub mod Bounded
 pub mod Based
-pub mod SameTrees
 pub mod OnRegister
 pub mod Fetching
 pub mod FetchOne

@@ -16,6 +16,8 @@ use Rattle.rtx_tree.specs.declared.code.Mode.{Mode}
 use Rattle.rtx_tree.specs.declared.tree.Rtx.{Rtx, out-roll-Rtx}
 use Rattle.rtx_tree.specs.declared.tree.Rtx.TheOpen.{Rtx-F}
 use Rattle.rtl_func.specs.Shapes.{class_at, mode_at, number_at, is_true_register, is_narrower, is_bare, fits_row, is_shaped}
+use Rattle.rtl_func.proofs.AllPass as nodes
+use Rattle.rtl_func.proofs.AllPass.{all_pass}
 use Rattle.md_match.proofs.Instantiated.{each_made, made_operand, made_itself, made_operator, made_no_operator}
 use Rattle.md_match.specs.Pattern.{Ops, role_of, operand_of, operand_numbered, instantiated}
 use Rattle.md_match.specs.declared.role.Role.{Role}
@@ -29,8 +31,6 @@ use Rattle.reload_homes.proofs.Rewrites.{homed_register, homed_over}
 use Rattle.reload_operands.specs.Put.{is_lowpart_code, is_lowpart, any_inside, is_inside, inside_low}
 use Rattle.reload_operands.proofs.InsideLaws.{inside_operand, inside_operator, inside_itself}
 use Rattle.moves_mean.specs.Places.{AtOnePlace, first, later, StandsFor, itself, part}
-use Rattle.moves_mean.proofs.Nodes as nodes
-use Rattle.moves_mean.proofs.Nodes.{all_pass}
 
 -- ---- trees within the table
 

@@ -31,7 +31,6 @@ use Rattle.moves_mean.proofs.Cells.{IsThere, AreThere}
 use Rattle.moves_mean.proofs.Ends.{Stays}
 use Rattle.moves_mean.proofs.Endings.{EndedNear}
 use Rattle.moves_mean.proofs.Keyed.{Keyed, effects_in}
-use Rattle.moves_mean.proofs.Nodes.{all_pass}
 use Rattle.moves_mean.proofs.OutEffects.{IsPlaceSet, in_register, in_memory, IsOut, StandsOut, set_again, own_value, set_effects, there_after, among_there, all_there, ends_near}
 use Rattle.moves_mean.proofs.SteadyAddress.{Leaves, AllLeave, all_leave, AreLeft}
 use Rattle.moves_mean.proofs.ResultsEnd.{Among, AllAmong, Reached, ReachedBy, EndsNear, code_of}

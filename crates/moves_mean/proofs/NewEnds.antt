@@ -19,6 +19,7 @@ use Rattle.rtx_tree.specs.declared.tree.Rtx.{Rtx, out-roll-Rtx}
 use Rattle.rtx_tree.specs.declared.tree.Rtx.TheOpen.{Rtx-F}
 use Rattle.rtx_tree.proofs.Trees.{head_of-tree, kids_of-tree}
 use Rattle.rtl_func.specs.Shapes.{class_at, mode_at}
+use Rattle.rtl_func.proofs.AllPass.{all_pass, pass_out}
 use Rattle.rtl_step.specs.Effect.{address_of, register_of}
 use Rattle.rtl_step.specs.Regs.{Regs, known_of, reg_value}
 use Rattle.rtl_step.specs.Value.{width_of, value_of}
@@ -44,7 +45,6 @@ use Rattle.moves_mean.proofs.Fetching.{spare_some, spare_no_pointer}
 use Rattle.moves_mean.proofs.GivenSteady.{leaf_free}
 use Rattle.moves_mean.proofs.Keyed.{Keyed, effects_in}
 use Rattle.moves_mean.proofs.NearEnds.{there_still, reached_left}
-use Rattle.moves_mean.proofs.Nodes.{all_pass, pass_out}
 use Rattle.moves_mean.proofs.OnRegister.{IsOperand, based_mode, based_class, based_new, far_mode, far_class, far_new}
 use Rattle.moves_mean.proofs.OutEffects.{IsPlaceSet, in_register, in_memory, IsOut, StandsOut, set_again, own_value, set_effects}
 use Rattle.moves_mean.proofs.Registers.{value_alike}

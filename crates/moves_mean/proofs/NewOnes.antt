@@ -19,7 +19,7 @@ use Rattle.rtl_func.specs.Shapes.{class_at, mode_at}
 use Rattle.rtl_step.specs.Regs.{Regs, known_of}
 use Rattle.rtl_step.specs.Value.{width_of, value_of, value_by, of_one}
 use Rattle.rtl_step.proofs.Values.{value_read}
-use Rattle.frame_mean.proofs.window_replace.Known.{Too, too_then}
+use Rattle.rtl_step.proofs.Too.{Too, too_then}
 use Rattle.moves_mean.proofs.Readings.{IsFree, ReadsAs}
 use Rattle.moves_mean.proofs.ReadTrees.{read_in}
 use Rattle.moves_mean.proofs.Registers.{holds_low}

@@ -17,6 +17,7 @@ use Rattle.rtx_tree.specs.declared.memories.MemByte.{MemByte}
 use Rattle.rtx_tree.specs.declared.tree.Rtx.{Rtx}
 use Rattle.rtx_tree.proofs.Trees.{head_of-tree}
 use Rattle.rtl_func.specs.Shapes.{class_at, mode_at, number_at, mode_bits, has_mode, is_narrower, is_bare, fits_row, is_shaped}
+use Rattle.rtl_func.proofs.AllPass.{itself}
 use Rattle.rtl_step.specs.Regs.{Regs}
 use Rattle.rtl_step.specs.Value.{Reading, width_of, value_by, value_of}
 use Rattle.same_behaviour.specs.Lawful.{IsMemory}
@@ -36,7 +37,6 @@ use Rattle.moves_mean.proofs.Bounded.{value_low}
 use Rattle.moves_mean.proofs.Contents.{Contents}
 use Rattle.moves_mean.proofs.Fetching.{asks, Fetching, spare_of, spare_some}
 use Rattle.moves_mean.proofs.NewOnes.{constant_free, moved_reads}
-use Rattle.moves_mean.proofs.Nodes.{itself}
 use Rattle.moves_mean.proofs.OnRegister.{based_new, far_new}
 use Rattle.moves_mean.proofs.Readings.{IsFree, moded, same_width}
 use Rattle.moves_mean.proofs.ReadTrees.{read_in}

@@ -15,6 +15,7 @@ use Rattle.rtx_tree.specs.declared.function.Insn.{Insn}
 use Rattle.rtx_tree.specs.declared.tree.Rtx.{Rtx}
 use Rattle.rtx_tree.proofs.Trees.{head_of-tree, kids_of-tree}
 use Rattle.rtl_func.specs.Shapes.{is_effect, is_shaped}
+use Rattle.rtl_func.proofs.AllPass.{all_pass, within}
 use Rattle.rtl_step.specs.Effect.{effect_by, effect_of, effects_by, effects_of, all_effects, address_part, address_of, set_effect}
 use Rattle.rtl_step.specs.Value.{value_of}
 use Rattle.rtl_step.specs.declared.effect.Effect.{Effect}
@@ -31,7 +32,6 @@ use Rattle.homes_mean.proofs.Becoming.{positive_test}
 use Rattle.homes_mean.proofs.Setting.{Setting, named_of, IsCounted, home_least}
 use Rattle.homes_mean.proofs.Trees.{sized_kids, mentions_kid}
 use Rattle.moves_mean.proofs.GivenSteady.{other_list, other_effects}
-use Rattle.moves_mean.proofs.Nodes.{all_pass, within}
 use Rattle.moves_mean.proofs.OutEffects.{IsPlaceSet, in_register, in_memory, set_out}
 use Rattle.moves_mean.proofs.OutsideSlots.{effect_framed, has_effect, two_kids}
 use Rattle.moves_mean.proofs.RowsThere.{effects_front, alone_front}

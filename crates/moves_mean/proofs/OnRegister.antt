@@ -18,12 +18,13 @@ use Rattle.rtx_tree.specs.declared.memories.MemByte.{MemByte}
 use Rattle.rtx_tree.specs.declared.tree.Rtx.{Rtx}
 use Rattle.rtx_tree.proofs.Trees.{head_of-tree, kids_of-tree}
 use Rattle.rtl_func.specs.Shapes.{class_at, mode_at, is_shaped}
+use Rattle.rtl_func.proofs.AllPass.{all_pass, within}
 use Rattle.rtl_step.specs.Regs.{Regs, known_of, reg_value}
 use Rattle.rtl_step.specs.Value.{width_of, value_of}
+use Rattle.rtl_step.proofs.Too.{Too}
 use Rattle.rv_regs.specs.Registers.{stack_pointer}
 use Rattle.same_behaviour.specs.Lawful.{IsMemory}
 use Rattle.sym_insns.specs.Shape.{all_natural}
-use Rattle.frame_mean.proofs.window_replace.Known.{Too}
 use Rattle.reload_operands.specs.declared.operand.Base.{Base}
 use Rattle.reload_operands.specs.declared.operand.Operand.{Operand}
 use Rattle.reload_choice.specs.reload_fit.Addressed.{address_on, addressed_by, addressed, address_in, on_register, far_offset}
@@ -34,7 +35,6 @@ use Rattle.moves_mean.proofs.Bounded.{load_fits, fits_low}
 use Rattle.moves_mean.proofs.Fetches.{offset_by}
 use Rattle.moves_mean.proofs.Loads.{at_address, on_value}
 use Rattle.moves_mean.proofs.NewOnes.{memory_reads, address_reads}
-use Rattle.moves_mean.proofs.Nodes.{all_pass, within}
 use Rattle.moves_mean.proofs.Registers.{holds_low}
 use Rattle.moves_mean.proofs.Settings.{value_reg}
 

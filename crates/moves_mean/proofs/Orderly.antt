@@ -3,7 +3,7 @@ use Rattle.std.proofs.Common.{◌≡◌, ◌≢◌, ◌⊎◌, inl, inr, ℕ, �
 use Rattle.std.specs.Prelude.{option_and_then}
 use Rattle.bits64.specs.Words.{bytes_of}
 use Rattle.bits64.specs.declared.Width.{Width}
-use Rattle.bits64.specs.declared.Width.TheVariants.{W8, W16, W32, W64}
+use Rattle.bits64.specs.declared.Width.TheVariants.{W64}
 use Rattle.rtx_tree.specs.Tree.{head_of, kids_of}
 use Rattle.rtx_tree.specs.declared.code.Code.TheVariants as code
 use Rattle.rtx_tree.specs.declared.function.Kind.{Kind}
@@ -24,6 +24,7 @@ use Rattle.assign.specs.declared.home.Home.TheVariants.{Slot}
 use Rattle.assign.specs.declared.home.HomeOf.{HomeOf}
 use Rattle.assign.specs.declared.places.Layout.{Layout}
 use Rattle.reload_homes.specs.Homes.{home_of, slot_offset, slot_address, homed}
+use Rattle.homes_mean.proofs.After.{eight_bytes}
 use Rattle.reload_operands.specs.declared.operand.Operand.{Operand}
 use Rattle.reload_moves.specs.declared.part.Part.{Part}
 use Rattle.reload_choice.specs.Sound.{IsSoundPlan}
@@ -48,12 +49,6 @@ turned a n b k (inr after) = inl after
 
 whole_bytes : (n : ℕ) → n ≤ n
 whole_bytes n = omega arith
-
-eight_bytes : (w : Width) → bytes_of w ≤ 8
-eight_bytes W8 = omega arith
-eight_bytes W16 = omega arith
-eight_bytes W32 = omega arith
-eight_bytes W64 = omega arith
 
 -- a set of memory, before homes are put in
 pub record SetsMemory (v : Rtx) : Type 0 where

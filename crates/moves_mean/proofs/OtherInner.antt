@@ -20,6 +20,8 @@ use Rattle.rtx_tree.specs.declared.tree.Rtx.{Rtx, out-roll-Rtx}
 use Rattle.rtx_tree.specs.declared.tree.Rtx.TheOpen.{Rtx-F}
 use Rattle.rtl_func.specs.Kinds.{is_jump_by, is_jump_tree, is_call_by, is_call_tree, kinds_agree}
 use Rattle.rtl_func.specs.Shapes.{class_at, is_effect, is_effect_class, is_call_class, is_shaped}
+use Rattle.rtl_func.proofs.AllPass as nodes
+use Rattle.rtl_func.proofs.AllPass.{all_pass}
 use Rattle.rtl_step.specs.Effect.{address_of, address_part}
 use Rattle.rtl_step.specs.Jump.{jump_of}
 use Rattle.rtl_step.specs.Regs.{Regs}
@@ -46,17 +48,14 @@ use Rattle.moves_mean.specs.Spare.{KnowsRest, NamesNoSpare}
 use Rattle.moves_mean.proofs.Addresses.{IsNewTree, is_new_class, AddressToo}
 use Rattle.moves_mean.proofs.Chosen.{given, asks, news}
 use Rattle.moves_mean.proofs.ElementTurns.{NewFor, stays_for, moves_for, AllNew, AllReads, all_read, part_new, key_by, target_key, key_of, memory_code_of}
-use Rattle.moves_mean.proofs.ElementValues.{two_of}
 use Rattle.moves_mean.proofs.Fetching.{Fetching}
 use Rattle.moves_mean.proofs.GivenBeside.{none_new, whole_beside, first_of, second_of}
 use Rattle.moves_mean.proofs.GivenNews.{own, mode, tree, result_at, Reads, Lost, Free, AreFetched, IsResultAt, operand_of}
 use Rattle.moves_mean.proofs.HiddenTurns.{Read}
-use Rattle.moves_mean.proofs.InsnTurns.{IsBeside, operator_becomes, operand_stays}
+use Rattle.moves_mean.proofs.InsnTurns.{IsBeside, operator_becomes, operand_stays, two_of}
 use Rattle.moves_mean.proofs.JumpTrees.{IsJump, returns, sets, jump_is, is_bare_class, bare_kids, pc_class}
 use Rattle.moves_mean.proofs.NewTrees.{Becomes, AllBecome, is_lowpart, is_whole, whole_low}
 use Rattle.moves_mean.proofs.NewTrees as trees
-use Rattle.moves_mean.proofs.Nodes as nodes
-use Rattle.moves_mean.proofs.Nodes.{all_pass}
 use Rattle.moves_mean.proofs.PlainInner.{other, known, fetched, formed}
 use Rattle.moves_mean.proofs.PutParts.{each_put, over_is, parts_are}
 use Rattle.moves_mean.proofs.Putting.{put_becomes}

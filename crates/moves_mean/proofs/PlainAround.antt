@@ -9,6 +9,7 @@ use Rattle.rtx_tree.specs.declared.function.Kind.TheVariants as kinds
 use Rattle.rtx_tree.specs.declared.machine.SymbolAt.{SymbolAt}
 use Rattle.rtx_tree.specs.declared.memories.MemByte.{MemByte}
 use Rattle.rtx_tree.specs.declared.tree.Rtx.{Rtx}
+use Rattle.rtl_func.proofs.AllPass.{all_pass}
 use Rattle.rtl_step.specs.Effect.{effects_of, regs_after, memory_after}
 use Rattle.rtl_step.specs.Regs.{Regs}
 use Rattle.rtl_step.specs.declared.effect.Effect.{Effect}
@@ -39,7 +40,6 @@ use Rattle.moves_mean.proofs.GivenNews.{IsResultAt, result_at}
 use Rattle.moves_mean.proofs.Keyed.{Keyed, effects_in, kept_of, out_of, IsIn, MayPassBy, AreOrderly, keyed_delays}
 use Rattle.moves_mean.proofs.Keying.{with_keys, keyed_instead}
 use Rattle.moves_mean.proofs.NewTrees.{is_whole}
-use Rattle.moves_mean.proofs.Nodes.{all_pass}
 use Rattle.moves_mean.proofs.PlainInner.{g, x, y, before, other, Effects, plain_keyed}
 use Rattle.moves_mean.proofs.ResultKeys.{result_places, results_distinct, result_in, keyed_result}
 use Rattle.moves_mean.proofs.TakenThere.{IsAt}

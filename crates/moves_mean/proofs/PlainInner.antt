@@ -14,6 +14,7 @@ use Rattle.rtl_func.specs.Kinds.{is_plain_tree, kinds_agree}
 use Rattle.rtl_func.specs.Modes.{shapes_agree, call_modes_agree, modes_agree}
 use Rattle.rtl_func.specs.Nodes.{nodes_of}
 use Rattle.rtl_func.specs.Shapes.{is_effect, is_shaped}
+use Rattle.rtl_func.proofs.AllPass.{all_pass}
 use Rattle.rtl_step.specs.Effect.{effects_of}
 use Rattle.rtl_step.specs.Regs.{Regs}
 use Rattle.rtl_step.specs.declared.effect.Effect.{Effect}
@@ -40,7 +41,6 @@ use Rattle.moves_mean.proofs.GivenNews.{own, mode, tree, result_at, Reads, Lost,
 use Rattle.moves_mean.proofs.NewPlaces.{new_place}
 use Rattle.moves_mean.proofs.NewReads.{new_tree_is}
 use Rattle.moves_mean.proofs.NewTrees.{is_whole}
-use Rattle.moves_mean.proofs.Nodes.{all_pass}
 use Rattle.moves_mean.proofs.SetTurns.{Fit}
 use Rattle.moves_mean.proofs.TakenThere.{IsAt}
 use Rattle.moves_mean.proofs.WholeTurns.{InsnKeyed, insn_keyed, effects_exist}

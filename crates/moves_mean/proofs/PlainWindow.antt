@@ -1,12 +1,11 @@
 -- A plain instruction with its moves, in a function: so many steps as they are lead to what the instruction leaves, and what stays through
 -- the run stays at each of them.
-use Rattle.std.proofs.Common.{ℕ, length, List, [], ◌∷◌, ◌++◌}
+use Rattle.std.proofs.Common.{ℕ, length, List, [], ◌∷◌}
 use Rattle.rtx_tree.specs.declared.function.Function.{Function}
 use Rattle.rtx_tree.specs.declared.function.Insn.{Insn}
 use Rattle.rtx_tree.specs.declared.machine.Start.{Start}
 use Rattle.rtx_tree.specs.declared.machine.World.{World}
 use Rattle.rtx_tree.specs.declared.memories.MemByte.{MemByte}
-use Rattle.rtx_tree.specs.declared.tree.Rtx.{Rtx}
 use Rattle.rtl_step.specs.Effect.{regs_after, memory_after}
 use Rattle.rtl_step.specs.Regs.{Regs}
 use Rattle.rtl_step.specs.declared.effect.Effect.{Effect}
@@ -14,10 +13,9 @@ use Rattle.rtl_step.specs.declared.step.State.{State}
 use Rattle.assign.specs.declared.places.Layout.{Layout}
 use Rattle.frame_mean.proofs.window_replace.Stands.{Stands}
 use Rattle.moves_mean.specs.Spare.{KnowsRest}
-use Rattle.moves_mean.specs.Onwards.{Onwards, ArePlain}
+use Rattle.moves_mean.specs.Onwards.{Onwards}
 use Rattle.moves_mean.specs.Tame.{AreTame}
-use Rattle.moves_mean.proofs.Stepping.{passes}
-use Rattle.moves_mean.proofs.Window.{AllStay, IsAround, around_leads}
+use Rattle.moves_mean.proofs.Window.{AllStay}
 use Rattle.moves_mean.proofs.Keeping.{Stay, stay_rest, stay_tame}
 
 module _ (world : World) (g : Function) (locals : ℕ) (layout : Layout) (start : Start) (u : State) where
@@ -39,18 +37,3 @@ module _ (world : World) (g : Function) (locals : ℕ) (layout : Layout) (start 
     pub steps : Onwards world g Told (length insns) u (record u { next = next_place; regs = regs; memory = memory_after es u.memory })
     pub stands : Stands g.insns next_place rest q
     pub known : KnowsRest (regs_after es u.regs) regs
-
-  pub window_comes : (es : List Effect) (before : List Rtx) (y : Rtx) (behind : List Rtx) (insns rest : List Insn) (q : ℕ) → Told u.regs u.memory →
-      IsAround world.symbols Told (stay_rest locals layout start u) u.regs u.memory es before y behind →
-      ArePlain insns (before ++ y ∷ behind) → Stands g.insns u.next (insns ++ rest) q → ComesTo es insns rest
-  window_comes es before y behind insns rest q told around plain stands =
-      let leads = around_leads world.symbols Told (stay_rest locals layout start u) u.regs u.memory es before y behind told around in
-      let passed = passes world g u Told (before ++ y ∷ behind) u.regs u.memory leads.after (memory_after es u.memory) leads.runs insns rest u.next q plain stands in
-      record {
-        next_place = passed.next_place;
-        q = passed.q;
-        regs = leads.after;
-        steps = passed.steps;
-        stands = passed.stands;
-        known = leads.known;
-      }

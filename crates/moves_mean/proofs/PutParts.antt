@@ -8,6 +8,8 @@ use Rattle.std.proofs.lemmas.List.{length-map}
 use Rattle.rtx_tree.proofs.Trees.{head_of-tree, kids_of-tree, tree_of-parts}
 use Rattle.rtx_tree.specs.Tree.{head_of, kids_of, tree_of}
 use Rattle.rtx_tree.specs.declared.tree.Rtx.{Rtx}
+use Rattle.rtl_func.proofs.AllPass as nodes
+use Rattle.rtl_func.proofs.AllPass.{all_pass}
 use Rattle.md_match.specs.Pattern.{Ops, role_of, operand_numbered}
 use Rattle.md_match.specs.declared.role.Role.{Role}
 use Rattle.md_match.specs.declared.role.Role.TheVariants.{Operand, Operator, Itself}
@@ -16,8 +18,6 @@ use Rattle.reload_operands.proofs.PutLaws.{put_operator, put_itself}
 use Rattle.moves_mean.specs.Places.{AtOnePlace, first, later, StandsFor, part}
 use Rattle.moves_mean.proofs.Addresses.{all_same}
 use Rattle.moves_mean.proofs.NewTrees.{Becomes, AllBecome, none, next, is_whole}
-use Rattle.moves_mean.proofs.Nodes as nodes
-use Rattle.moves_mean.proofs.Nodes.{all_pass}
 use Rattle.moves_mean.proofs.Putting.{MayStand, put_becomes}
 
 -- each part, with new trees put in

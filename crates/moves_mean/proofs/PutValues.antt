@@ -5,6 +5,7 @@ use Rattle.rtx_tree.specs.declared.machine.SymbolAt.{SymbolAt}
 use Rattle.rtx_tree.specs.declared.memories.MemByte.{MemByte}
 use Rattle.rtx_tree.specs.declared.tree.Rtx.{Rtx}
 use Rattle.rtl_func.specs.Shapes.{is_shaped}
+use Rattle.rtl_func.proofs.AllPass.{all_pass}
 use Rattle.rtl_step.specs.Regs.{Regs}
 use Rattle.sym_insns.specs.Shape.{all_natural}
 use Rattle.md_match.specs.Pattern.{Ops, operand_numbered}
@@ -13,7 +14,6 @@ use Rattle.moves_mean.specs.Places.{StandsFor}
 use Rattle.moves_mean.specs.Spare.{KnowsRest, NamesNoSpare}
 use Rattle.moves_mean.proofs.Addresses.{IsNewTree, becomes_reads}
 use Rattle.moves_mean.proofs.NewTrees.{is_whole}
-use Rattle.moves_mean.proofs.Nodes.{all_pass}
 use Rattle.moves_mean.proofs.Putting.{put_becomes}
 use Rattle.moves_mean.proofs.Readings.{ReadsAs}
 use Rattle.moves_mean.proofs.ReadTrees.{read_in}

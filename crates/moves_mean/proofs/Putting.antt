@@ -9,14 +9,14 @@ use Rattle.rtx_tree.specs.declared.tree.Rtx.{Rtx, roll-Rtx, out-roll-Rtx}
 use Rattle.rtx_tree.specs.declared.tree.Rtx.TheFolds.{fold-roll-Rtx, ind-Rtx, map-Rtx}
 use Rattle.rtx_tree.specs.declared.tree.Rtx.TheOpen.{Rtx-F}
 use Rattle.rtx_tree.proofs.Trees.{tree_of-parts, head_of-tree, kids_of-tree}
+use Rattle.rtl_func.proofs.AllPass as nodes
+use Rattle.rtl_func.proofs.AllPass.{all_pass}
 use Rattle.md_match.specs.declared.role.Role.{Role}
 use Rattle.md_match.specs.declared.role.Role.TheVariants.{Operand, Operator, Itself}
 use Rattle.md_match.specs.Pattern.{Ops, role_of, operand_numbered}
 use Rattle.reload_operands.specs.Put.{each_by, parts_by, put_as, put_step, put}
 use Rattle.moves_mean.specs.Places.{AtOnePlace, first, later, StandsFor, itself, part}
 use Rattle.moves_mean.proofs.NewTrees.{Becomes, AllBecome, same, new, over, none, next, is_lowpart, is_whole, whole_low}
-use Rattle.moves_mean.proofs.Nodes as nodes
-use Rattle.moves_mean.proofs.Nodes.{all_pass}
 
 module _ (New : Rtx → Rtx → Type 0) (news : Ops) where
   -- what is new for the operand that stands there may stand there

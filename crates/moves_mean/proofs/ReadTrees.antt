@@ -15,15 +15,16 @@ use Rattle.rtx_tree.specs.declared.machine.SymbolAt.{SymbolAt}
 use Rattle.rtx_tree.specs.declared.memories.MemByte.{MemByte}
 use Rattle.rtx_tree.specs.declared.tree.Rtx.{Rtx}
 use Rattle.rtl_func.specs.Shapes.{class_at, mode_at, number_at, is_bare, fits_row, is_shaped}
+use Rattle.rtl_func.proofs.AllPass.{all_pass, itself, within}
 use Rattle.rtl_step.specs.Regs.{Regs}
 use Rattle.rtl_step.specs.Value.{Reading, width_of, value_by, value_of, value_of_one, value_of_two}
 use Rattle.rtl_step.proofs.Values.{value_read}
-use Rattle.frame_mean.proofs.window_replace.Known.{Too, both_of, or_first, or_later, values_too}
+use Rattle.rtl_step.proofs.Too.{Too}
+use Rattle.frame_mean.proofs.window_replace.Known.{both_of, or_first, or_later, values_too}
 use Rattle.frame_mean.proofs.window_replace.Trees.{natural_kids, mentions_kid}
 use Rattle.sym_insns.specs.Shape.{all_natural}
 use Rattle.moves_mean.specs.Spare.{is_spare, KnowsRest, NamesNoSpare}
 use Rattle.moves_mean.proofs.NewTrees.{Becomes, AllBecome, same, new, over, none, next, is_lowpart, is_lowpart_class}
-use Rattle.moves_mean.proofs.Nodes.{all_pass, itself, within}
 use Rattle.moves_mean.proofs.Readings.{IsOwn, ReadsAs, ReadsTree, one_reads, two_reads}
 
 -- an expression as its outside reads it

@@ -17,7 +17,7 @@ use Rattle.rtx_tree.specs.declared.tree.Rtx.{Rtx, out-Rtx}
 use Rattle.run_memory.specs.RunMemory.{load}
 use Rattle.rtl_func.specs.Shapes.{class_at, mode_at, number_at, has_mode, same_mode, is_constant_class, is_constant, is_value, is_operand, is_some_operand, is_moded, are_compared, is_bare, fits_row, fits_one, fits_two, is_shaped}
 use Rattle.rtl_step.specs.Value.{Reading, width_of, unary, binary, shifted, compared, converted, of_one, of_two, of_converted, of_compared, first_width, count_width, value_of_one, value_of_two}
-use Rattle.frame_mean.proofs.window_replace.Known.{Too, too_then, too_two}
+use Rattle.rtl_step.proofs.Too.{Too, too_then, too_two}
 use Rattle.moves_mean.proofs.NewTrees.{is_lowpart_class}
 
 -- ---- readings

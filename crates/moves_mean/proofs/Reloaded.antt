@@ -15,6 +15,7 @@ use Rattle.rtl_func.specs.Kinds.{kinds_agree}
 use Rattle.rtl_func.specs.Modes.{shapes_agree}
 use Rattle.rtl_func.specs.Nodes.{nodes_of}
 use Rattle.rtl_func.specs.Shapes.{is_effect, is_register_number, is_shaped}
+use Rattle.rtl_func.proofs.AllPass.{all_pass}
 use Rattle.rtl_step.specs.Effect.{address_of}
 use Rattle.rtl_step.specs.declared.step.State.{State}
 use Rattle.same_behaviour.specs.Lawful.{IsMemory}
@@ -44,7 +45,6 @@ use Rattle.moves_mean.proofs.HomedShaped.{homed_shaped}
 use Rattle.moves_mean.proofs.HomedTrees.{homed_natural, homed_whole}
 use Rattle.moves_mean.proofs.InputPlaces.{no_operator_of}
 use Rattle.moves_mean.proofs.NewTrees.{is_whole}
-use Rattle.moves_mean.proofs.Nodes.{all_pass}
 use Rattle.moves_mean.proofs.TakenThere.{IsAt}
 
 -- what is known of an instruction: it is within the table of codes, a pattern matches it where references to the frame are put in, and a plan

@@ -10,6 +10,7 @@ use Rattle.rtx_tree.specs.declared.function.Kind.TheVariants as kinds
 use Rattle.rtx_tree.specs.declared.machine.SymbolAt.{SymbolAt}
 use Rattle.rtx_tree.specs.declared.memories.MemByte.{MemByte}
 use Rattle.rtx_tree.specs.declared.tree.Rtx.{Rtx}
+use Rattle.rtl_func.proofs.AllPass.{all_pass}
 use Rattle.rtl_step.specs.Effect.{effects_of, regs_after}
 use Rattle.rtl_step.specs.Regs.{Regs, known_of}
 use Rattle.rtl_step.specs.declared.effect.Effect.{Effect}
@@ -45,7 +46,6 @@ use Rattle.moves_mean.proofs.Keyed.{Keyed, effects_in, last_of}
 use Rattle.moves_mean.proofs.Keying.{with_keys, AreOnRest}
 use Rattle.moves_mean.proofs.NewEnds.{based_stands, far_ends}
 use Rattle.moves_mean.proofs.NewTrees.{is_whole}
-use Rattle.moves_mean.proofs.Nodes.{all_pass}
 use Rattle.moves_mean.proofs.OutEffects.{IsOut, StandsOut}
 use Rattle.moves_mean.proofs.OwnHeld.{one_stays, own_held, own_fresh, own_gives}
 use Rattle.moves_mean.proofs.PlainAround.{are_keys}

@@ -12,6 +12,7 @@ use Rattle.rtx_tree.specs.declared.machine.SymbolAt.{SymbolAt}
 use Rattle.rtx_tree.specs.declared.memories.MemByte.{MemByte}
 use Rattle.rtx_tree.specs.declared.tree.Rtx.{Rtx}
 use Rattle.rtl_func.specs.Shapes.{is_effect, mode_at}
+use Rattle.rtl_func.proofs.AllPass.{all_pass}
 use Rattle.rtl_step.specs.Effect.{effects_of, address_of}
 use Rattle.rtl_step.specs.Regs.{Regs, known_of}
 use Rattle.rtl_step.specs.Value.{width_of, value_of}
@@ -46,7 +47,6 @@ use Rattle.moves_mean.proofs.Keyed.{Keyed, effects_in, last_of}
 use Rattle.moves_mean.proofs.Keying.{with_keys}
 use Rattle.moves_mean.proofs.NearEnds.{there_still, stands_out, near_end}
 use Rattle.moves_mean.proofs.NewTrees.{is_whole}
-use Rattle.moves_mean.proofs.Nodes.{all_pass}
 use Rattle.moves_mean.proofs.OnRegister.{based_mode}
 use Rattle.moves_mean.proofs.OutEffects.{IsOut, set_out, StandsOut}
 use Rattle.moves_mean.proofs.OwnHeld.{none_last, one_stays, own_held, own_gives}

@@ -11,6 +11,7 @@ use Rattle.rtx_tree.specs.declared.memories.MemByte.{MemByte}
 use Rattle.rtx_tree.specs.declared.tree.Rtx.{Rtx}
 use Rattle.rtx_tree.proofs.Trees.{head_of-tree, kids_of-tree}
 use Rattle.rtl_func.specs.Shapes.{is_shaped}
+use Rattle.rtl_func.proofs.AllPass.{all_pass}
 use Rattle.sym_insns.specs.Shape.{all_natural}
 use Rattle.rtl_step.specs.Effect.{effect_of, effect_by, set_effect}
 use Rattle.rtl_step.specs.Regs.{Regs}
@@ -30,7 +31,6 @@ use Rattle.reload_choice.specs.declared.given.Plan.{Plan}
 use Rattle.moves_mean.proofs.Chosen.{given, known_of}
 use Rattle.moves_mean.proofs.ElementTurns.{target_key, key_by, key_of}
 use Rattle.moves_mean.proofs.GivenNews.{IsResultAt, result_at}
-use Rattle.moves_mean.proofs.Nodes.{all_pass}
 use Rattle.moves_mean.proofs.ResultKeys.{keyed_is, keyed_result}
 use Rattle.moves_mean.proofs.TakenPlaces.{IsEffectOf}
 

@@ -17,6 +17,7 @@ use Rattle.rtl_step.specs.Regs.{Regs, known_of}
 use Rattle.rtl_step.specs.declared.effect.Effect.{Effect}
 use Rattle.rtl_step.specs.declared.effect.Effect.TheVariants.{Nothing, Sets, Unsets, Stores}
 use Rattle.c_eval.specs.Value.{same_tree}
+use Rattle.c_eval.proofs.Same.{same_trees}
 use Rattle.md_match.specs.Pattern.{Ops}
 use Rattle.assign.specs.declared.home.HomeOf.{HomeOf}
 use Rattle.assign.specs.declared.places.Layout.{Layout}
@@ -38,7 +39,6 @@ use Rattle.moves_mean.proofs.Keying.{with_keys, AllKeyed, AreOnRest, AreResults,
 use Rattle.moves_mean.proofs.Orderly.{overrides}
 use Rattle.moves_mean.proofs.ResultKeys.{keyed_result}
 use Rattle.moves_mean.proofs.ResultRows.{Key, Row, Rows, none, more, IsKeyedRow, keyed_row}
-use Rattle.moves_mean.proofs.SameTrees.{tree_is}
 
 -- ---- one place is no two
 
@@ -195,7 +195,7 @@ module _ (homes : List HomeOf) (layout : Layout) (kind : Kind) (w pattern : Rtx)
         (sym (own_here j l) ∙ same ∙ own_here k l') in
         let may = sound.shared j k r.p r'.p r.x r'.x r.part r'.part (shares r.p r'.p moved.0 moved'.0 holder) in
         let outputs = (and_parts (are_same_outputs r.x r'.x) (is_alone r.x r'.x) (and_parts (are_same_inputs r.x r'.x) _ may).1).0 in
-        let trees = tree_is r.x.tree r'.x.tree (outputs_same (same_tree r.x.tree r'.x.tree) r.x.is_output r'.x.is_output outputs
+        let trees = same_trees r.x.tree r'.x.tree (outputs_same (same_tree r.x.tree r'.x.tree) r.x.is_output r'.x.is_output outputs
         (sym (sound.says j r.p r.x r.part).output ∙ moved.1) (sym (sound.says k r'.p r'.x r'.part).output ∙ moved'.1)) in
         elim (two_apart places keyed j k l.effect l'.effect orderly differ l.is l'.is) [
           | inl apart ↦ clash l.effect l'.effect (overrides symbols regs m r.x.tree (hm r.s) (hm r'.s) l.effect l'.effect r.does

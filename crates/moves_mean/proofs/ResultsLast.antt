@@ -13,6 +13,8 @@ use Rattle.rtx_tree.specs.declared.function.Kind.{Kind}
 use Rattle.rtx_tree.specs.declared.machine.SymbolAt.{SymbolAt}
 use Rattle.rtx_tree.specs.declared.memories.MemByte.{MemByte}
 use Rattle.rtx_tree.specs.declared.tree.Rtx.{Rtx}
+use Rattle.rtl_func.proofs.AllPass as nodes
+use Rattle.rtl_func.proofs.AllPass.{all_pass}
 use Rattle.rtl_step.specs.Regs.{Regs}
 use Rattle.rtl_step.specs.declared.effect.Effect.{Effect}
 use Rattle.md_constr.specs.Inputs as inputs
@@ -35,8 +37,6 @@ use Rattle.moves_mean.proofs.ElementTurns.{key_of}
 use Rattle.moves_mean.proofs.GivenNews.{result_at}
 use Rattle.moves_mean.proofs.InputPlaces.{is_operator_as, is_operator_of, no_operator_of}
 use Rattle.moves_mean.proofs.Keying.{with_keys}
-use Rattle.moves_mean.proofs.Nodes as nodes
-use Rattle.moves_mean.proofs.Nodes.{all_pass}
 use Rattle.moves_mean.proofs.ResultRows.{Key, Row, Rows, none, more, two_made}
 use Rattle.moves_mean.proofs.ResultsHeld.{IsLast, last_later, last_here}
 use Rattle.moves_mean.proofs.RowsThere.{made_over, made_front}

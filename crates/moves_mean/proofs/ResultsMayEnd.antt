@@ -12,6 +12,7 @@ use Rattle.rtx_tree.specs.declared.memories.MemByte.{MemByte}
 use Rattle.rtx_tree.specs.declared.tree.Rtx.{Rtx}
 use Rattle.run_memory.proofs.Laws.{Apart}
 use Rattle.rtl_func.specs.Shapes.{is_effect}
+use Rattle.rtl_func.proofs.AllPass.{all_pass}
 use Rattle.rtl_step.specs.Effect.{effects_of, regs_after, memory_after}
 use Rattle.rtl_step.specs.Regs.{Regs, known_of}
 use Rattle.rtl_step.specs.Value.{value_of}
@@ -44,7 +45,6 @@ use Rattle.moves_mean.proofs.InputPlaces.{no_operator_of}
 use Rattle.moves_mean.proofs.Keyed.{Keyed, effects_in, kept_of, last_of, out_of, AreOrderly}
 use Rattle.moves_mean.proofs.Keying.{with_keys, AllKeyed, AreOnRest}
 use Rattle.moves_mean.proofs.NewTrees.{is_whole}
-use Rattle.moves_mean.proofs.Nodes.{all_pass}
 use Rattle.moves_mean.proofs.OwnHeld as held
 use Rattle.moves_mean.proofs.OwnHeld.{no_places, none_last, some_stay, own_held, own_holds}
 use Rattle.moves_mean.proofs.PlainAround.{keyed, MayEnd, none_end}

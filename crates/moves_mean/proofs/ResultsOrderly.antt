@@ -12,6 +12,7 @@ use Rattle.rtx_tree.specs.declared.tree.Rtx.{Rtx}
 use Rattle.run_memory.proofs.Laws.{Apart}
 use Rattle.rtl_func.specs.Effects.{changed_register, parallels_change_once}
 use Rattle.rtl_func.specs.Shapes.{is_effect, is_shaped}
+use Rattle.rtl_func.proofs.AllPass.{all_pass}
 use Rattle.rtl_step.specs.Effect.{effects_of}
 use Rattle.rtl_step.specs.Regs.{Regs}
 use Rattle.rtl_step.specs.Value.{value_of}
@@ -37,7 +38,6 @@ use Rattle.moves_mean.proofs.GivenNews.{result_at}
 use Rattle.moves_mean.proofs.InputPlaces.{no_operator_of}
 use Rattle.moves_mean.proofs.Keyed.{IsIn, MayPassBy, AreOrderly}
 use Rattle.moves_mean.proofs.Keying.{with_keys}
-use Rattle.moves_mean.proofs.Nodes.{all_pass}
 use Rattle.moves_mean.proofs.ResultKeys.{result_places, result_in, keyed_result}
 use Rattle.moves_mean.proofs.ResultRows.{Key, Row, Rows, none, more}
 use Rattle.moves_mean.proofs.RowsThere.{AllRows, all_rows}

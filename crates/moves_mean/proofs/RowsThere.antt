@@ -14,6 +14,8 @@ use Rattle.rtx_tree.specs.declared.tree.Rtx.{Rtx}
 use Rattle.rtx_tree.proofs.Trees.{head_of-tree, kids_of-tree}
 use Rattle.rtl_func.specs.Effects.{changed_register, parallels_change_once}
 use Rattle.rtl_func.specs.Shapes.{is_effect, is_effect_class, is_shaped}
+use Rattle.rtl_func.proofs.AllPass as nodes
+use Rattle.rtl_func.proofs.AllPass.{all_pass}
 use Rattle.rtl_step.specs.Effect.{effect_of, all_effects, one_effect, effects_of, effects_by}
 use Rattle.rtl_step.specs.Regs.{Regs}
 use Rattle.rtl_step.specs.declared.effect.Effect.{Effect}
@@ -31,8 +33,6 @@ use Rattle.reload_choice.specs.Sound.{IsSoundPlan}
 use Rattle.reload_choice.specs.declared.given.Plan.{Plan}
 use Rattle.moves_mean.proofs.AllOrderly.{AllDiffer, parallel_differs}
 use Rattle.moves_mean.proofs.Chosen.{given}
-use Rattle.moves_mean.proofs.Nodes as nodes
-use Rattle.moves_mean.proofs.Nodes.{all_pass}
 use Rattle.moves_mean.proofs.ResultRows.{Row, Rows, none, more}
 use Rattle.moves_mean.proofs.TakenPlaces.{IsEffectOf}
 use Rattle.moves_mean.proofs.WholeTurns.{is_parallel, front_is}

@@ -17,18 +17,18 @@ use Rattle.rtx_tree.specs.declared.memories.MemByte.{MemByte}
 use Rattle.rtx_tree.specs.declared.tree.Rtx.{Rtx}
 use Rattle.rtl_func.specs.Kinds.{is_jump_by, is_jump_tree, is_plain_tree}
 use Rattle.rtl_func.specs.Shapes.{class_at, mode_at, number_at, has_mode, is_place, is_place_class, is_operand, is_set_to, is_call_class, is_counter_class, is_jump_source_class, is_bare, fits_row, is_shaped}
+use Rattle.rtl_func.proofs.AllPass.{all_pass, itself, within}
 use Rattle.rtl_step.specs.Effect.{effect_of, set_effect, clobber_effect, clobber_by, address_of, address_part, register_of, register_by}
 use Rattle.rtl_step.specs.Regs.{Regs}
 use Rattle.rtl_step.specs.Value.{width_of}
 use Rattle.rtl_step.specs.declared.effect.Effect.{Effect}
 use Rattle.sym_insns.specs.Shape.{all_natural}
-use Rattle.frame_mean.proofs.window_replace.Known.{Too, both_of, or_first, or_later}
+use Rattle.frame_mean.proofs.window_replace.Known.{both_of, or_first, or_later}
 use Rattle.frame_mean.proofs.window_replace.Trees.{natural_kids, mentions_kid}
 use Rattle.moves_mean.specs.Spare.{KnowsRest, NamesNoSpare}
 use Rattle.moves_mean.proofs.Addresses.{AddressToo, IsNewTree, address_becomes, becomes_reads}
 use Rattle.moves_mean.proofs.Elements.{register_stays, memory_stays, source_reads}
 use Rattle.moves_mean.proofs.NewTrees.{Becomes, AllBecome, none, next, over, is_lowpart, is_lowpart_class}
-use Rattle.moves_mean.proofs.Nodes.{all_pass, itself, within}
 use Rattle.moves_mean.proofs.PutParts.{IsOver}
 use Rattle.moves_mean.proofs.Readings.{IsOwn, operand_own, own_here}
 use Rattle.moves_mean.proofs.Turning.{IsSetting, IsLone, SourceToo, setting_opened, lone_opened}

@@ -18,6 +18,8 @@ use Rattle.rtx_tree.specs.declared.memories.MemByte.{MemByte}
 use Rattle.rtx_tree.specs.declared.tree.Rtx.{Rtx}
 use Rattle.run_memory.specs.RunMemory.{load}
 use Rattle.rtl_func.specs.Shapes.{class_at, mode_at, number_at, has_mode, is_place_class, is_place, is_operand, is_set_to, is_call_class, is_counter_class, is_jump_source_class, is_bare, fits_row, is_shaped}
+use Rattle.rtl_func.proofs.AllPass as nodes
+use Rattle.rtl_func.proofs.AllPass.{all_pass}
 use Rattle.rtl_step.specs.Effect.{effect_of, set_effect, set_place, address_of, address_part, register_of, register_by}
 use Rattle.rtl_step.specs.Regs.{Regs, known_of}
 use Rattle.rtl_step.specs.Value.{width_of, value_of, value_by, of_two, Reading}
@@ -28,8 +30,6 @@ use Rattle.md_match.specs.declared.role.Role.TheVariants.{Operand}
 use Rattle.moves_mean.specs.Places.{AtOnePlace, first, later, At, here, inside}
 use Rattle.moves_mean.proofs.Addresses.{memory_kid, memory_code}
 use Rattle.moves_mean.proofs.NewTrees.{is_lowpart, is_whole, whole_low}
-use Rattle.moves_mean.proofs.Nodes as nodes
-use Rattle.moves_mean.proofs.Nodes.{all_pass}
 use Rattle.moves_mean.proofs.ReadTrees.{read_in}
 use Rattle.moves_mean.proofs.SetWidth.{set_width, no_register}
 use Rattle.moves_mean.proofs.Turning.{IsSetting, setting_opened}

@@ -18,8 +18,8 @@ use Rattle.rtx_tree.specs.declared.tree.Rtx.TheFolds.{fold_out-Rtx, ind-Rtx}
 use Rattle.rtx_tree.specs.declared.tree.Rtx.TheOpen.{Rtx-F}
 use Rattle.rtx_tree.proofs.Trees.{kids_of-tree, mentions_out}
 use Rattle.rtl_func.specs.Shapes.{has_mode, same_mode, is_constant_class, is_value_class, is_operand, is_register_number, is_bare, fits_row, is_shaped}
+use Rattle.rtl_func.proofs.AllPass.{all_pass, pass_out}
 use Rattle.sym_insns.specs.Shape.{is_natural, natural_step, all_natural}
-use Rattle.moves_mean.proofs.Nodes.{all_pass, pass_out}
 
 -- ---- induction
 

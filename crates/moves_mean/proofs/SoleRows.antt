@@ -33,6 +33,8 @@ use Rattle.reload_homes.proofs.Rewrites.{homed_over}
 use Rattle.reload_operands.specs.Bases.{lives_in_slot}
 use Rattle.rtx_tree.proofs.Trees.{head_of-tree}
 use Rattle.rtx_tree.specs.Tree.{tree_of}
+use Rattle.rtl_func.proofs.AllPass as nodes
+use Rattle.rtl_func.proofs.AllPass.{all_pass}
 use Rattle.reload_operands.specs.Changes.{target_by, target_of, is_memory_code, changes_memory, is_place_of, is_other_memory, any_other_memory}
 use Rattle.reload_operands.specs.Directions.{has_number}
 use Rattle.reload_choice.specs.Movable.{may_have_results, may_land}
@@ -46,8 +48,6 @@ use Rattle.moves_mean.proofs.GivenNews.{result_at}
 use Rattle.moves_mean.proofs.NewsLaws.{operand_of_match}
 use Rattle.moves_mean.proofs.RowsThere.{made_over}
 use Rattle.moves_mean.proofs.InputPlaces.{is_operator_as, is_operator_of, no_operator_of}
-use Rattle.moves_mean.proofs.Nodes as nodes
-use Rattle.moves_mean.proofs.Nodes.{all_pass}
 use Rattle.moves_mean.proofs.Orderly.{SetsMemory}
 use Rattle.moves_mean.proofs.ResultKeys.{IsKeyed, keyed_is}
 use Rattle.moves_mean.proofs.ResultRows.{Key, Row, Rows, none, more, two_made, IsKeyedRow, keyed_row}

@@ -13,6 +13,7 @@ use Rattle.rtx_tree.specs.declared.tree.Rtx.{Rtx, out-roll-Rtx}
 use Rattle.rtx_tree.specs.declared.tree.Rtx.TheOpen.{Rtx-F}
 use Rattle.rtx_tree.proofs.Trees.{head_of-tree, mentions_out}
 use Rattle.rtl_func.specs.Shapes.{is_shaped}
+use Rattle.rtl_func.proofs.AllPass.{all_pass, itself, within}
 use Rattle.md_operand.specs.Addresses.{is_stack_vars, is_constant, is_any}
 use Rattle.assign.specs.declared.home.Home.{Home}
 use Rattle.assign.specs.declared.home.Home.TheVariants.{Hard}
@@ -24,7 +25,6 @@ use Rattle.reload_homes.proofs.Rewrites.{framed_over, homed_register, homed_over
 use Rattle.homes_mean.proofs.Trees.{constant_code}
 use Rattle.moves_mean.proofs.Based.{leaf_alone}
 use Rattle.moves_mean.proofs.HomedQuiet.{RegisterCase, whole, low, case_of}
-use Rattle.moves_mean.proofs.Nodes.{all_pass, itself, within}
 use Rattle.moves_mean.proofs.SmallTrees.{tree_induction, one_or_other, or_second, no_number, stands_there, in_register}
 
 -- ---- small trees

@@ -14,6 +14,8 @@ use Rattle.rtx_tree.specs.declared.machine.SymbolAt.{SymbolAt}
 use Rattle.rtx_tree.specs.declared.memories.MemByte.{MemByte}
 use Rattle.rtx_tree.specs.declared.tree.Rtx.{Rtx}
 use Rattle.rtl_func.specs.Shapes.{class_at, mode_at}
+use Rattle.rtl_func.proofs.AllPass as nodes
+use Rattle.rtl_func.proofs.AllPass.{all_pass}
 use Rattle.rtl_step.specs.Effect.{reg_after, regs_after}
 use Rattle.rtl_step.specs.Regs.{Regs, reg_value}
 use Rattle.rtl_step.specs.Value.{Reading, width_of, value_of, value_of_one, value_by}
@@ -25,8 +27,6 @@ use Rattle.window_keep.specs.Same.{KnownToo}
 use Rattle.frame_mean.proofs.window_replace.Known.{values_too}
 use Rattle.moves_mean.specs.Spare.{is_spare, NamesNoSpare, KnowsRest}
 use Rattle.moves_mean.proofs.HomedTrees.{induction}
-use Rattle.moves_mean.proofs.Nodes as nodes
-use Rattle.moves_mean.proofs.Nodes.{all_pass}
 use Rattle.moves_mean.proofs.ReadTrees.{read_in}
 use Rattle.moves_mean.proofs.Registers.{set_other, unset_other, value_alike}
 

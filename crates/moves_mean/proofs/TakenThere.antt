@@ -8,6 +8,8 @@ use Rattle.rtx_tree.proofs.Trees.{kids_of-tree}
 use Rattle.rtx_tree.specs.Tree.{head_of, kids_of}
 use Rattle.rtx_tree.specs.declared.tree.Rtx.{Rtx}
 use Rattle.rtl_func.specs.Shapes.{is_shaped}
+use Rattle.rtl_func.proofs.AllPass as nodes
+use Rattle.rtl_func.proofs.AllPass.{all_pass}
 use Rattle.md_constr.specs.Inputs.{taken_here, taken_in}
 use Rattle.md_match.proofs.Instantiated.{each_made}
 use Rattle.md_match.specs.Match.{IsAsked}
@@ -26,8 +28,6 @@ use Rattle.moves_mean.proofs.Besides.{IsPartBeside, part_beside}
 use Rattle.moves_mean.proofs.HomedTrees.{induction}
 use Rattle.moves_mean.proofs.InputPlaces.{found_at, each_asked, each_leaf, StandsThere, place_of_taken, taken_itself, asked_kids, low_taken}
 use Rattle.moves_mean.proofs.Matched.{IsLow, IsMade, IsPlace, whole, lowpart, is_place, made_by, made_length, alone, front, no_kids}
-use Rattle.moves_mean.proofs.Nodes as nodes
-use Rattle.moves_mean.proofs.Nodes.{all_pass}
 
 each_holds : (P : Rtx → Type 0) (ps xs : List Rtx) (q y : Rtx) → AtOnePlace ps xs q y → AllByRecursion P ps → P q
 each_holds P _ _ _ _ (first p x ps xs) all = all.0

@@ -21,6 +21,8 @@ use Rattle.run_memory.specs.RunMemory.{load}
 use Rattle.rtl_func.specs.Effects.{place_register_by, place_register, changed_by, changed_register}
 use Rattle.rtl_func.specs.Modes as modes
 use Rattle.rtl_func.specs.Shapes.{class_at, mode_at, number_at, is_shaped}
+use Rattle.rtl_func.proofs.AllPass as nodes
+use Rattle.rtl_func.proofs.AllPass.{all_pass}
 use Rattle.rtl_step.specs.Effect.{effect_of, effect_by, register_of, address_part, address_of, set_place, set_effect, clobber_by, clobber_effect}
 use Rattle.rtl_step.specs.Effect as effects
 use Rattle.rtl_step.specs.Regs.{Regs, known_of, reg_value}
@@ -42,8 +44,6 @@ use Rattle.reload_operands.specs.Changes.{target_by}
 use Rattle.moves_mean.proofs.ElementTurns.{effect_code}
 use Rattle.moves_mean.proofs.HomedQuiet.{RegisterCase, whole, low, case_of}
 use Rattle.moves_mean.proofs.HomedTrees.{low_placed}
-use Rattle.moves_mean.proofs.Nodes as nodes
-use Rattle.moves_mean.proofs.Nodes.{all_pass}
 use Rattle.moves_mean.proofs.SetWidth.{set_width}
 use Rattle.moves_mean.proofs.SmallTrees.{natural_out}
 

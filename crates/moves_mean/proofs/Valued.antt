@@ -18,13 +18,13 @@ use Rattle.rtx_tree.specs.declared.memories.MemByte.{MemByte}
 use Rattle.rtx_tree.specs.declared.tree.Rtx.{Rtx, out-Rtx}
 use Rattle.run_memory.specs.RunMemory.{load}
 use Rattle.rtl_func.specs.Shapes.{class_at, mode_at, number_at, has_mode, same_mode, mode_bits, is_constant, is_constant_class, is_value, is_operand, is_some_operand, is_moded, are_compared, is_narrower, is_bare, fits_row, fits_one, fits_two, is_shaped}
+use Rattle.rtl_func.proofs.AllPass as nodes
+use Rattle.rtl_func.proofs.AllPass.{all_pass}
 use Rattle.rtl_step.specs.Regs.{Regs}
 use Rattle.rtl_step.specs.Value.{Reading, width_of, unary, binary, shifted, compared, converted, of_one, of_two, of_converted, of_compared, first_width, count_width, value_by, value_of, value_of_one, value_of_two}
 use Rattle.rtl_step.proofs.Values.{value_read}
 use Rattle.moves_mean.specs.Places.{AtOnePlace, first, later, StandsFor, itself, part}
 use Rattle.moves_mean.proofs.NewTrees.{is_lowpart_class, is_lowpart, is_whole, whole_low}
-use Rattle.moves_mean.proofs.Nodes as nodes
-use Rattle.moves_mean.proofs.Nodes.{all_pass}
 use Rattle.moves_mean.proofs.Readings.{IsOwn, same_width, moded, constant_modeless, own_here}
 use Rattle.moves_mean.proofs.ReadTrees.{read_in}
 

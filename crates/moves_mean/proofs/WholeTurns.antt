@@ -14,6 +14,8 @@ use Rattle.rtx_tree.specs.declared.memories.MemByte.{MemByte}
 use Rattle.rtx_tree.specs.declared.tree.Rtx.{Rtx}
 use Rattle.rtl_func.specs.Kinds.{is_plain_tree}
 use Rattle.rtl_func.specs.Shapes.{is_effect, is_effect_class, is_shaped}
+use Rattle.rtl_func.proofs.AllPass as nodes
+use Rattle.rtl_func.proofs.AllPass.{all_pass}
 use Rattle.rtl_step.specs.Effect.{effect_of, all_effects, one_effect, effects_of, effects_by}
 use Rattle.rtl_step.specs.Regs.{Regs}
 use Rattle.rtl_step.specs.declared.effect.Effect.{Effect}
@@ -34,8 +36,6 @@ use Rattle.moves_mean.proofs.Keying as keying
 use Rattle.moves_mean.proofs.Keying.{AllTurnedAs, HasAllKeyed, all_keyed, one_keyed_alone}
 use Rattle.moves_mean.proofs.NewTrees.{Becomes, AllBecome, is_whole}
 use Rattle.moves_mean.proofs.NewTrees as trees
-use Rattle.moves_mean.proofs.Nodes as nodes
-use Rattle.moves_mean.proofs.Nodes.{all_pass}
 use Rattle.moves_mean.proofs.PutParts.{each_put, IsOver, over_is, parts_are}
 use Rattle.moves_mean.proofs.ReadTrees.{NameNoSpare}
 use Rattle.moves_mean.proofs.SetTurns.{Fit}

@@ -1,16 +1,14 @@
 -- What a tree stands for as a test, by what the trees in it stand for; and the predicates that a test names.
-use Rattle.std.proofs.Common.{◌≡◌, ℕ, ◌≤◌, ◌-◌, List, [], ◌∷◌, ◌++◌, Some, Result, map, take, drop, length, length-drop, get_or, refl, sym, ap, ◌∙◌, append_assoc, arith}
-use Rattle.std.proofs.lemmas.List.{take_all}
+use Rattle.std.proofs.Common.{◌≡◌, ℕ, ◌≤◌, ◌-◌, List, [], ◌∷◌, ◌++◌, Some, Result, map, take, drop, length, get_or, refl, sym, ap, ◌∙◌, append_assoc, arith}
 use Rattle.std.proofs.lemmas.List.Folds.{flat_map-map}
 use Rattle.std.specs.List.{flat_map}
 use Rattle.rtx_tree.specs.declared.constants.Constant.{Constant}
 use Rattle.md_pattern.specs.lisp_read.declared.tree.Tree.{Tree, out-Tree}
-use Rattle.md_pattern.specs.lisp_read.declared.tree.Tree.TheOpen.{Tree-F}
-use Rattle.md_pattern.specs.lisp_read.declared.tree.Tree.TheFolds.{fold-Tree, fold_out-Tree, map-Tree}
+use Rattle.md_pattern.specs.lisp_read.declared.tree.Tree.TheFolds.{fold-Tree, fold_out-Tree}
 use Rattle.md_pattern.specs.lisp_read.Head.{mode_of_head}
-use Rattle.md_pattern.specs.lisp_read.Shape.{atom_of, items_at, items_of}
-use Rattle.md_pattern.specs.lisp_read.Expression.{inside_at}
+use Rattle.md_pattern.specs.lisp_read.Shape.{atom_of, items_of}
 use Rattle.md_pattern.specs.declared.reason.Reason.{Reason}
+use Rattle.md_pattern.proofs.Meanings.{inside_map, list_inside, behind}
 use Rattle.pred_expr.specs.declared.question.Test.{Test, out-Test}
 use Rattle.pred_expr.specs.declared.question.Test.TheFolds.{fold_out-Test}
 use Rattle.pred_expr.specs.Test.{predicate_of, predicates_step, predicates_of, kind_of, list_by, of_kind, each_read, test_step, test_of}
@@ -26,31 +24,13 @@ unfolding test_of reading
 each_read_map constants [] = refl
 each_read_map constants (t ∷ ts) = ap (λ (xs : List Judgement). test_of constants t ∷ xs) (each_read_map constants ts)
 
-inside_map : (constants : List Constant) (o : Tree-F Tree) → each_read (inside_at (map-Tree Tree (Tree → Judgement) (reading constants) o)) (inside_at o) ≡ map (test_of constants) (inside_at o)
-inside_map constants (Tree-F.Atom place text) = refl
-inside_map constants (Tree-F.Str place text) = refl
-inside_map constants (Tree-F.Block place text) = refl
-inside_map constants (Tree-F.List place items) = each_read_map constants items
-inside_map constants (Tree-F.Vector place items) = each_read_map constants items
-
-list_inside : (constants : List Constant) (o : Tree-F Tree) → list_by constants (items_at o) (map (test_of constants) (inside_at o)) ≡ list_by constants (items_at o) (map (test_of constants) (items_at o))
-list_inside constants (Tree-F.Atom place text) = refl
-list_inside constants (Tree-F.Str place text) = refl
-list_inside constants (Tree-F.Block place text) = refl
-list_inside constants (Tree-F.List place items) = refl
-list_inside constants (Tree-F.Vector place items) = refl
-
 -- a list, by its items
 pub test_out : (constants : List Constant) (t : Tree) → test_of constants t ≡ list_by constants (items_of t) (map (test_of constants) (items_of t))
 unfolding test_of reading
 test_out constants t =
     ap (λ (read : Tree → Judgement). read t) (fold_out-Tree (Tree → Judgement) (test_step constants) t)
-    ∙ ap (list_by constants (items_of t)) (inside_map constants (out-Tree t))
-    ∙ list_inside constants (out-Tree t)
-
--- what stands behind the first of some trees, as the code cuts it
-behind : (items : List Tree) → take (length items - 1) (drop 1 items) ≡ drop 1 items
-behind items = take_all (length items - 1) (drop 1 items) (rw (length-drop 1 items) (omega arith))
+    ∙ ap (list_by constants (items_of t)) (inside_map each_read (reading constants) (test_of constants) (each_read_map constants) (out-Tree t))
+    ∙ list_inside (list_by constants) (λ xs ys. refl) (test_of constants) (out-Tree t)
 
 at_head : (constants : List Constant) (items : List Tree) (h : Tree) (text : List ℕ) → 1 ≤ length items → h ≡ get_or items 0 h → Some text ≡ atom_of h →
     list_by constants items (map (test_of constants) items) ≡ of_kind constants (kind_of text) (mode_of_head text) (drop 1 items) (map (test_of constants) (drop 1 items))

@@ -1,8 +1,9 @@
 -- The parts of what a pattern makes, place by place.
-use Rattle.std.proofs.Common.{◌≡◌, ◌⊎◌, inl, inr, ℕ, zero, suc, List, [], ◌∷◌, Option, Some, None, refl}
-use Rattle.std.specs.Prelude.{option_map, option_and_then, slice_get}
+use Rattle.std.proofs.Common.{◌≡◌, ◌⊎◌, inl, inr, ℕ, zero, suc, List, [], ◌∷◌, Some, None, refl}
+use Rattle.std.specs.Prelude.{slice_get}
 use Rattle.rtx_tree.specs.declared.tree.Rtx.{Rtx}
 use Rattle.md_match.specs.Pattern.{Ops, instantiated, all_instantiated}
+use Rattle.md_match.proofs.Parts.{front, no_front}
 
 -- what patterns and the expressions that they make have at a place: neither has anything, or each an expression
 pub record BothAt (ps xs : List Rtx) (o : Ops) (k : ℕ) : Type 0 where
@@ -17,16 +18,6 @@ NeitherAt ps xs k = (slice_get ps k ≡ None) × (slice_get xs k ≡ None)
 
 abbrev pub At : List Rtx → List Rtx → Ops → ℕ → Type 0
 At ps xs o k = (NeitherAt ps xs k) ⊎ BothAt ps xs o k
-
-front : (a : Option Rtx) (more : Option (List Rtx)) (x : Rtx) (xs : List Rtx) → option_and_then (λ x. option_map (λ xs. x ∷ xs) more) a ≡ Some (x ∷ xs) → (a ≡ Some x) × (more ≡ Some xs)
-front None more x xs e = absurd (let none : ⊥ = cc in none)
-front (Some y) None x xs e = absurd (let none : ⊥ = cc in none)
-front (Some y) (Some ys) x xs e = (cc, cc)
-
-no_front : (a : Option Rtx) (more : Option (List Rtx)) → option_and_then (λ x. option_map (λ xs. x ∷ xs) more) a ≡ Some [] → ⊥
-no_front None more e = cc
-no_front (Some y) None e = cc
-no_front (Some y) (Some ys) e = cc
 
 behind : (p x : Rtx) (ps xs : List Rtx) (o : Ops) (k : ℕ) → At ps xs o k → At (p ∷ ps) (x ∷ xs) o (suc k)
 behind p x ps xs o k (inl none) = inl none

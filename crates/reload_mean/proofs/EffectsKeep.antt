@@ -21,10 +21,10 @@ use Rattle.rtl_func.specs.Calls.{call_result_agrees}
 use Rattle.rtl_func.specs.Kinds.{kinds_agree}
 use Rattle.rtl_func.specs.Modes.{register_by, register_at, shapes_agree}
 use Rattle.rtl_func.specs.Shapes.{class_at, mode_at, number_at, has_mode, is_place, is_scratch_class, is_call_class, is_counter_class, is_jump_source_class, is_operand, is_effect, is_set_to, fits_row, is_shaped}
+use Rattle.rtl_func.proofs.AllPass.{all_pass, pass_out, itself, within}
 use Rattle.rtl_step.specs.Step.{is_mark}
 use Rattle.reg_uses.specs.Effects.{is_register, place_is_by, place_is, effect_defines_by, effect_defines, effects_by}
 use Rattle.moves_mean.specs.sym_insns.Shape.{is_natural, all_natural}
-use Rattle.reload.proofs.func_rules.Nodes.{all_pass, pass_out, itself, within}
 use Rattle.reload.specs.pass_ready.Reloadable.{IsInsnReloadable}
 use Rattle.moves_mean.proofs.window_replace.Trees.{natural_here, natural_kids}
 use Rattle.window_same.proofs.Small.{or_false}

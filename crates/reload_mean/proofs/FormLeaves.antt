@@ -9,6 +9,7 @@ use Rattle.rtx_tree.specs.declared.code.Code.TheVariants.{Parallel}
 use Rattle.rtx_tree.specs.declared.code.Mode.TheVariants.{Void}
 use Rattle.rtx_tree.specs.declared.constants.Constant.{Constant}
 use Rattle.rtx_tree.specs.declared.tree.Rtx.{Rtx}
+use Rattle.rtl_func.proofs.AllPass.{all_pass}
 use Rattle.lisp_read.specs.Shape.{vector_of, items_of}
 use Rattle.lisp_read.specs.declared.tree.Tree.{Tree}
 use Rattle.md_iter.specs.declared.substitution.Instance.{Instance}
@@ -35,7 +36,6 @@ use Rattle.md_forms.specs.Checks.{unless, form_with, constraints_of, reason_of, 
 use Rattle.md_forms.specs.Forms.{judged_form, finished, forms_in, draft_entry, forms_of}
 use Rattle.md_forms.specs.Tables.{tables_of}
 use Rattle.moves_mean.specs.Places.{is_leaf}
-use Rattle.moves_mean.proofs.Nodes.{all_pass}
 use Rattle.reload.specs.Reload.{patterns_by, patterns_in, patterns_at}
 use Rattle.reload_mean.proofs.PatternLeaves.{OnOk, on_map, on_both, Any, any_read, HasLeaves, HaveLeaves, tree_leaf, PatternsLeaves, patterns_leaves}
 

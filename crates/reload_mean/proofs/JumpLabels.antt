@@ -16,7 +16,7 @@ use Rattle.md_operand.specs.Addresses as address
 use Rattle.md_operand.specs.Addresses.{is_any, is_constant_at}
 use Rattle.rtl_func.specs.Kinds.{is_jump_by, is_jump_tree}
 use Rattle.rtl_func.specs.Shapes.{mode_at, number_at, class_at, has_mode, is_bare, is_constant, is_constant_class, is_place_class, is_counter_class, is_jump_source_class, is_comparison_class, is_label_class, is_choice, is_set_to, fits_row, is_shaped}
-use Rattle.reload.proofs.func_rules.Nodes.{all_pass, itself, within}
+use Rattle.rtl_func.proofs.AllPass.{all_pass, itself, within}
 use Rattle.homes_mean.specs.Placed.{source_label, label_by, names_constant}
 
 row_of : (x : Rtx) → all_pass is_shaped x ≡ true → fits_row (class_at x) (mode_at x) (number_at x)

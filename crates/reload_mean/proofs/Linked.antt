@@ -5,6 +5,7 @@ use Rattle.std.specs.Prelude.{slice_get}
 use Rattle.rtx_tree.specs.declared.function.Function.{Function}
 use Rattle.rtx_tree.specs.declared.function.Insn.{Insn}
 use Rattle.rtx_tree.specs.declared.tree.Rtx.{Rtx}
+use Rattle.rtl_func.proofs.AllPass.{all_pass}
 use Rattle.rtl_step.specs.declared.step.State.{State}
 use Rattle.md_match.specs.Pattern.{Ops}
 use Rattle.md_forms.specs.declared.form.Entry.{Entry}
@@ -24,7 +25,6 @@ use Rattle.moves_mean.proofs.CallInner.{plan_results}
 use Rattle.moves_mean.proofs.InputPlaces.{no_operator_of}
 use Rattle.moves_mean.proofs.Keeping.{Stay}
 use Rattle.moves_mean.proofs.Leads as leads
-use Rattle.moves_mean.proofs.Nodes.{all_pass}
 use Rattle.moves_mean.proofs.PlainAround.{none_behind}
 use Rattle.moves_mean.proofs.PlainLeads.{plain_leads}
 use Rattle.moves_mean.proofs.Reloaded.{IsReloaded}

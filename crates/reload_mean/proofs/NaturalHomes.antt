@@ -16,6 +16,7 @@ use Rattle.md_forms.specs.declared.form.Entry.{Entry}
 use Rattle.reload.specs.form_needs.Needs.{is_note, needs_form}
 use Rattle.rtl_func.specs.Nodes.{nodes_of}
 use Rattle.rtl_func.specs.Shapes.{is_effect, is_shaped}
+use Rattle.rtl_func.proofs.AllPass.{all_pass}
 use Rattle.rtl_step.specs.Step.{is_mark}
 use Rattle.moves_mean.specs.sym_insns.Shape.{is_natural, all_natural}
 use Rattle.assign.specs.Homes.{AreHomes}
@@ -33,7 +34,6 @@ use Rattle.moves_mean.proofs.FoundParts.{operand_has}
 use Rattle.moves_mean.proofs.FramedGood.{framed_natural}
 use Rattle.moves_mean.proofs.HomedTrees.{homed_natural}
 use Rattle.moves_mean.proofs.NewsLaws.{operand_of_match}
-use Rattle.moves_mean.proofs.Nodes.{all_pass}
 use Rattle.reload.specs.Reload.{placed, with_homes, given_by, IsMatch}
 use Rattle.reload.specs.Windows.{HasWindows}
 use Rattle.reload_mean.proofs.EffectsKeep.{vars_kept}

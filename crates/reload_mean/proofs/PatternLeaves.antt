@@ -13,6 +13,7 @@ use Rattle.rtx_tree.specs.declared.code.Mode.{Mode}
 use Rattle.rtx_tree.specs.declared.constants.Constant.{Constant}
 use Rattle.rtx_tree.specs.declared.tree.Rtx.{Rtx}
 use Rattle.rtx_tree.proofs.Trees.{head_of-tree, kids_of-tree}
+use Rattle.rtl_func.proofs.AllPass.{all_pass, pass_out}
 use Rattle.lisp_read.specs.Head.{code_of_head, mode_of_head}
 use Rattle.lisp_read.specs.Shape.{atom_of, items_at, items_of, vector_at, vector_of, is_vector}
 use Rattle.lisp_read.specs.declared.tree.Tree.{Tree, roll-Tree, out-roll-Tree}
@@ -32,7 +33,6 @@ use Rattle.md_pattern.specs.Operand.{numbered, predicated, operand_in, scratch_i
 use Rattle.md_pattern.specs.Pattern.{Meaning, no_patterns, in_front, each, bare, or_aside, mode_for, node_with, matching_with, register_by, word_in, number_by, symbol_by, node_by, is_lowpart, parallel_by, operand_by, operator_by, operator_dup_by, behind, of_code, of_head, list_by, meaning_of, pattern_of, patterns_of}
 use Rattle.md_pattern.proofs.Meanings.{pattern_out, vector_out}
 use Rattle.moves_mean.specs.Places.{is_leaf_as, is_leaf}
-use Rattle.moves_mean.proofs.Nodes.{all_pass, pass_out}
 
 -- ---- what is read
 

@@ -18,10 +18,10 @@ use Rattle.rtl_func.specs.Kinds.{kinds_agree, is_nothing_by}
 use Rattle.rtl_func.specs.Modes.{shapes_agree}
 use Rattle.rtl_func.specs.Shapes.{is_effect}
 use Rattle.rtl_func.specs.Shapes as shapes
+use Rattle.rtl_func.proofs.AllPass.{all_pass}
 use Rattle.rtl_step.specs.Step.{is_mark}
 use Rattle.reg_uses.specs.Effects.{effect_defines, effects_by}
 use Rattle.reg_uses.specs.Uses.{insn_defines, has_argument, is_call_kind}
-use Rattle.reload.proofs.func_rules.Nodes.{all_pass}
 use Rattle.reload.specs.pass_ready.Reloadable.{IsInsnReloadable, IsReloadable}
 use Rattle.reload.proofs.pass_ready.Places.{at_place}
 use Rattle.window_same.proofs.Small.{and_none}

@@ -18,8 +18,8 @@ use Rattle.rtx_tree.proofs.Trees.{mentions_out}
 use Rattle.rtl_func.specs.Calls.{is_argument, has_argument}
 use Rattle.rtl_func.specs.Kinds.{is_nothing, is_nothing_by}
 use Rattle.rtl_func.specs.Shapes.{mode_at, number_at, has_mode, is_register_number, is_bare, class_at, fits_row, is_shaped}
+use Rattle.rtl_func.proofs.AllPass.{all_pass, itself, within}
 use Rattle.moves_mean.specs.sym_insns.Shape.{is_natural, all_natural}
-use Rattle.reload.proofs.func_rules.Nodes.{all_pass, itself, within}
 use Rattle.reload.proofs.func_rules.Arguments.{stands_argument}
 use Rattle.moves_mean.proofs.window_replace.Trees.{natural_here, natural_kids}
 use Rattle.homes_mean.specs.Stands.{has_home}

@@ -15,8 +15,8 @@ use Rattle.md_forms.specs.declared.form.Entry.{Entry}
 use Rattle.reload.specs.form_needs.Needs.{is_kind, is_note, needs_form}
 use Rattle.rtl_func.specs.Kinds.{kinds_agree}
 use Rattle.rtl_func.specs.Modes.{shapes_agree}
+use Rattle.rtl_func.proofs.AllPass.{all_pass}
 use Rattle.rtl_step.specs.Step.{is_mark}
-use Rattle.reload.proofs.func_rules.Nodes.{all_pass}
 use Rattle.assign.specs.Frame.{IsFrame}
 use Rattle.assign.specs.Homes.{AreHomes}
 use Rattle.assign.specs.declared.home.HomeOf.{HomeOf}

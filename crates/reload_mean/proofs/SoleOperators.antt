@@ -11,6 +11,7 @@ use Rattle.rtx_tree.specs.declared.code.Code.{Code}
 use Rattle.rtx_tree.specs.declared.code.Code.TheVariants as code
 use Rattle.rtx_tree.specs.declared.tree.Rtx.{Rtx}
 use Rattle.rtx_tree.specs.declared.tree.Rtx.TheFolds.{fold_out-Rtx}
+use Rattle.rtl_func.proofs.AllPass.{all_pass, pass_out}
 use Rattle.md_match.specs.declared.role.Role.{Role}
 use Rattle.md_match.specs.declared.role.Role.TheVariants as role
 use Rattle.md_match.specs.Pattern.{role_of, placeholders, placeholders_as, gives, gives_number}
@@ -19,7 +20,6 @@ use Rattle.md_forms.specs.Checks.{has, are_distinct}
 use Rattle.md_forms.specs.Names.{operand_here, operands_step, operands_in}
 use Rattle.moves_mean.specs.reload_operands.Operands.{is_operator_code}
 use Rattle.moves_mean.proofs.InputPlaces.{is_operator_as, no_operator_of}
-use Rattle.moves_mean.proofs.Nodes.{all_pass, pass_out}
 use Rattle.moves_mean.proofs.SmallTrees.{tree_induction}
 
 -- ---- lists

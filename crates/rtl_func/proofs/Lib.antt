@@ -1,6 +1,7 @@
 pub mod BlockLaws
 pub mod SearchLaws
 pub mod NodeLaws
+pub mod AllPass
 pub mod PathLaws
 pub mod ModeLaws
 pub mod NameLaws

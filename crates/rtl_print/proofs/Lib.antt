@@ -20,7 +20,6 @@ pub mod Atoms
 pub mod Admitted
 pub mod Shallow
 pub mod TreeText
-pub mod Peaks
 pub mod ReadBack
 pub mod RtxBack
 pub mod Shapes

@@ -1,5 +1,5 @@
 -- Pieces of a text: which parts they spell, wherever they stand, and what may stand before them.
-use Rattle.std.proofs.Common.{◌≡◌, ℕ, true, false, List, [], ◌∷◌, ◌++◌, map, refl, sym, ap, subst, ◌∙◌, append_assoc}
+use Rattle.std.proofs.Common.{◌≡◌, ℕ, true, false, List, [], ◌∷◌, ◌++◌, refl, sym, ap, subst, ◌∙◌, append_assoc}
 use Rattle.std.proofs.lemmas.List.{map-append, append-nil}
 use Rattle.std.proofs.lemmas.List.Concat.{flat_map-cons}
 use Rattle.rtx_tree.specs.declared.place.Place.{Place}
@@ -13,10 +13,10 @@ use Rattle.lisp_read.specs.Places.{advance, place_after}
 use Rattle.lisp_read.specs.Text as text
 use Rattle.lisp_read.specs.Text.{Spells, EndsAtom}
 use Rattle.lisp_read.proofs.Runs.{place_after-append}
-use Rattle.tree_print.specs.Print.{nowhere, AreAdmitted}
+use Rattle.tree_print.specs.Print.{nowhere}
 use Rattle.tree_print.proofs.Nested.{parts_of_nested}
 use Rattle.tree_print.proofs.Printed.{printed_atom, printed_string}
-use Rattle.tree_print.proofs.SpellsPrinted.{SpelledAs, SpellsAs, spells_printed}
+use Rattle.tree_print.proofs.SpellsPrinted.{SpelledAs, SpellsAs, spells_printed, admitted_front, admitted_back, then_more}
 use Rattle.tree_print.proofs.Unplaced.{bare}
 use Rattle.rtl_print.proofs.Written.{atom, string, list}
 
@@ -25,25 +25,7 @@ pub record Piece (ps : List Part) (bytes : List ℕ) : Type 0 where
   pub spells : SpellsAs ps bytes
   pub apart : (rest : List ℕ) → EndsAtom rest → EndsAtom (bytes ++ rest)
 
--- ---- what is admitted
-
-admitted_front : (ps qs : List Part) → AreAdmitted (ps ++ qs) → AreAdmitted ps
-admitted_front [] qs h = tt
-admitted_front (p ∷ ps) qs h = (h.0, admitted_front ps qs h.1)
-
-admitted_back : (ps qs : List Part) → AreAdmitted (ps ++ qs) → AreAdmitted qs
-admitted_back [] qs h = h
-admitted_back (p ∷ ps) qs h = admitted_back ps qs h.1
-
 -- ---- pieces one behind the other
-
--- some parts and then some more
-then_more : (here there : Place) (ps rs qs : List Part) (more bytes : List ℕ) → (s : SpelledAs there rs qs more) → SpelledAs here ps (s.parts ++ qs) bytes → SpelledAs here (ps ++ rs) qs bytes
-then_more here there ps rs qs more bytes s t = record {
-  parts = t.parts ++ s.parts;
-  same = map-append bare t.parts s.parts ∙ (ap (λ (x : List Part). x ++ map bare s.parts) t.same ∙ (ap (λ (x : List Part). map bare ps ++ x) s.same ∙ sym (map-append bare ps rs)));
-  spelled = subst (λ (x : List Part). Spells here x bytes) (sym (append_assoc t.parts s.parts qs)) t.spelled;
-}
 
 pub join : (ps rs : List Part) (a b : List ℕ) → SpellsAs ps a → Piece rs b → SpellsAs (ps ++ rs) (a ++ b)
 join ps rs a b first second here qs rest admitted ends spelled =

@@ -1,2 +1,4 @@
 pub mod Registers
 pub mod Values
+pub mod Too
+pub mod Readings

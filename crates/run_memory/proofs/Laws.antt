@@ -61,7 +61,7 @@ both_has (Some b) None = refl
 both_has (Some b) (Some r) = refl
 
 -- memories with the same addresses have numbers in the same places
-has-number : (memory other : List MemByte) → ((q : ℕ) → is_some (byte_at memory q) ≡ is_some (byte_at other q)) → (address count : ℕ) → is_some (number_at memory address count) ≡ is_some (number_at other address count)
+pub has-number : (memory other : List MemByte) → ((q : ℕ) → is_some (byte_at memory q) ≡ is_some (byte_at other q)) → (address count : ℕ) → is_some (number_at memory address count) ≡ is_some (number_at other address count)
 unfolding both_bytes
 has-number memory other same address zero = refl
 has-number memory other same address (suc count) =
@@ -85,14 +85,14 @@ has-load_written w writes memory address = by (is_aligned w address)
     by false = refl
 
 -- the low bytes of a number are its lowest and those above
-pow_step : (count : ℕ) → 256 * 256 ^ count ≡ 256 ^ suc count
+pub pow_step : (count : ℕ) → 256 * 256 ^ count ≡ 256 ^ suc count
 pow_step count = rw pow-succ' refl
 
-pow-pos : (count : ℕ) → 0 < 256 ^ count
+pub pow-pos : (count : ℕ) → 0 < 256 ^ count
 pow-pos zero = omega arith
 pow-pos (suc count) = rw pow-succ' (omega (arith, pow-pos count))
 
-low_bytes : (number above : ℕ) → 0 < above → number % 256 + 256 * (number / 256 % above) ≡ number % (256 * above)
+pub low_bytes : (number above : ℕ) → 0 < above → number % 256 + 256 * (number / 256 % above) ≡ number % (256 * above)
 low_bytes number above some =
     let rest : ℕ = number % 256 + 256 * (number / 256 % above) in
     let quotient : ℕ = number / 256 / above in

@@ -13,9 +13,10 @@ use Rattle.new_insns.specs.Made.{kind_of, insn_for, insns_for}
 use Rattle.insn_keep.specs.sym_state.State.{State, Runs, ran}
 use Rattle.insn_keep.specs.sym_insns.Run.{run_from}
 use Rattle.insn_keep.specs.sym_insns.Shape.{is_shaped, is_end, fits_kind, bad_from, bad_insn}
-use Rattle.insn_keep.specs.pass_refusal.equate.Side.{Insns, is_one_return, both_return}
+use Rattle.insn_keep.specs.pass_refusal.equate.Side.{Insns}
 use Rattle.insn_keep.specs.pass_refusal.equate.Equated.{Equated}
 use Rattle.insn_keep.proofs.pass_refusal.equate.VerdictLaws.{verdict_same}
+use Rattle.insn_keep.proofs.pass_refusal.equate.Soundness.{no_return}
 use Rattle.insn_keep.specs.insn_replace.Replace.{made, ReplacedComes}
 
 -- ---- what stands in lists
@@ -126,13 +127,6 @@ each_shaped index (j ∷ insns) i none (suc place, at) is =
 runs_good : (bad : Option ℕ) (came : Option State) (s : State) → ran bad came ≡ Runs s → bad ≡ None
 runs_good None came s runs = refl
 runs_good (Some index) came s runs = cc
-
-no_return : (before after : List Insn) → both_return before (Insns after) ≡ false
-no_return before after = by (is_one_return before)
-  where
-    by : (b : Bool) → (b && false) ≡ false
-    by true = refl
-    by false = refl
 
 -- what is equated has a shape
 pub equated_shaped : (before after : List Insn) (live : List ℕ) (i : Insn) → Equated before (Insns after) live → In after i → is_kind i.kind ≡ true → is_shaped i ≡ true

@@ -1,5 +1,5 @@
 -- What operations on terms mean: each is the operation of the expression on the numbers of the terms.
-use Rattle.std.proofs.Common.{◌≡◌, ℕ, ◌-◌, ◌%◌, ◌^◌, ◌<◌, ◌≤◌, ◌==◌, Bool, true, false, List, [], ◌∷◌, Option, Some, refl, sym, ◌∙◌, ap, arith}
+use Rattle.std.proofs.Common.{◌≡◌, ℕ, ◌-◌, ◌%◌, ◌^◌, ◌<◌, ◌==◌, Bool, true, false, List, [], ◌∷◌, Option, Some, refl, sym, ◌∙◌, ap, arith}
 use Rattle.std.specs.Prelude.{ℤ, pos, negsuc, if◌then◌else◌, bit_and, bit_or, bit_xor}
 use Rattle.std.proofs.Math.Nat.{mod-lt, mod-le, mod-eq_of_lt, div-le_self}
 use Rattle.std.proofs.lemmas.Nat.{pow_pos, and_mask, and_mod, or_mod, xor_mod, or_comm}
@@ -32,17 +32,12 @@ use Rattle.term_mean.proofs.TruthLaws.{small_truth}
 use Rattle.term_mean.specs.Truths.{opposite}
 use Rattle.sym_insns.specs.Value as spec
 use Rattle.sym_mean.proofs.Numbers.{negated, complemented, added, subtracted, multiplied}
+use Rattle.sym_mean.proofs.Parts.{at_most_64}
 
 -- a term that an operation makes: its number, and its width
 pub record Makes (v : Valuation) (number : Option ℕ) (t : Tree) (w : Width) : Type 0 where
   pub number_is : number ≡ Some (mean v t)
   pub width_is : width_of t ≡ w
-
-at_most_64 : (w : Width) → bits_of w ≤ bits_of W64
-at_most_64 W8 = omega arith
-at_most_64 W16 = omega arith
-at_most_64 W32 = omega arith
-at_most_64 W64 = omega arith
 
 -- ---- `neg` and `not`
 

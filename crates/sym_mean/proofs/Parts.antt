@@ -8,6 +8,7 @@ use Rattle.bits64.specs.Words.{bits_of, bytes_of, low}
 use Rattle.rtx_tree.specs.declared.memories.MemByte.{MemByte}
 use Rattle.rtx_tree.specs.Memories.{byte_at}
 use Rattle.run_memory.specs.RunMemory.{number_at, is_aligned, load}
+use Rattle.run_memory.proofs.Laws.{has-number}
 use Rattle.rtl_step.specs.Regs.{Regs, known_of, known_in, reg_value}
 use Rattle.term_tree.specs.declared.head.Head.TheVariants as heads
 use Rattle.term_tree.specs.Tree.{Tree, width_of}
@@ -32,7 +33,7 @@ no_bits W16 = refl
 no_bits W32 = refl
 no_bits W64 = refl
 
-at_most_64 : (w : Width) → bits_of w ≤ bits_of W64
+pub at_most_64 : (w : Width) → bits_of w ≤ bits_of W64
 at_most_64 W8 = omega arith
 at_most_64 W16 = omega arith
 at_most_64 W32 = omega arith
@@ -82,28 +83,12 @@ module _ (v : Valuation) (f : First) (of : IsOf v f) where
 unfoldable pub both_bytes : Option ℕ → Option ℕ → Option ℕ
 both_bytes byte rest = option_and_then (λ b. option_map (λ r. b + 256 * r) rest) byte
 
-both_has : (byte rest : Option ℕ) → is_some (both_bytes byte rest) ≡ (is_some byte && is_some rest)
-unfolding both_bytes
-both_has None rest = refl
-both_has (Some b) None = refl
-both_has (Some b) (Some r) = refl
-
-has_number : (memory other : List MemByte) → ((q : ℕ) → is_some (byte_at memory q) ≡ is_some (byte_at other q)) → (address count : ℕ) →
-    is_some (number_at memory address count) ≡ is_some (number_at other address count)
-unfolding both_bytes
-has_number memory other same address zero = refl
-has_number memory other same address (suc count) =
-    both_has (byte_at memory address) (number_at memory (address + 1) count)
-    ∙ (ap (λ b. b && is_some (number_at memory (address + 1) count)) (same address)
-    ∙ (ap (λ b. is_some (byte_at other address) && b) (has_number memory other same (address + 1) count)
-    ∙ sym (both_has (byte_at other address) (number_at other (address + 1) count))))
-
 pub has_load : (w : Width) (memory other : List MemByte) (address : ℕ) → ((q : ℕ) → is_some (byte_at memory q) ≡ is_some (byte_at other q)) →
     is_some (load w memory address) ≡ is_some (load w other address)
 has_load w memory other address same = by (is_aligned w address)
   where
     by : (b : Bool) → is_some (if b then number_at memory address (bytes_of w) else None) ≡ is_some (if b then number_at other address (bytes_of w) else None)
-    by true = has_number memory other same address (bytes_of w)
+    by true = has-number memory other same address (bytes_of w)
     by false = refl
 
 -- the two of a number that is there

@@ -7,6 +7,7 @@ use Rattle.md_iter.specs.declared.substitution.Instance.{Instance}
 use Rattle.md_iter.specs.declared.definition.Definitions.{Definitions}
 use Rattle.md_iter.specs.Definition.{definitions_in}
 use Rattle.md_iter.specs.Expansion.{forms_of, forms_of_tree, forms_with, most_forms, PassesAt}
+use Rattle.tree_forms.specs.Trees.{expanded}
 
 front_has_fewer : (d : Definitions) (front back : List Tree) → length (forms_with d front) ≤ length (forms_with d (front ++ back))
 front_has_fewer d front back =
@@ -21,3 +22,7 @@ passes trees at p =
     subst (λ (l : List Tree). length (forms_with d (take (at + 1) trees)) ≤ length (forms_with d l)) (take-append-drop (at + 1) trees) (front_has_fewer d (take (at + 1) trees) (drop (at + 1) trees)) in
     let after = p.after in
     omega (arith, fewer, after)
+
+-- trees have too many forms or they don't
+pub many_or_few : (ts us : List Tree) → ts ≡ us → most_forms < length (expanded ts) → length (expanded us) ≤ most_forms → ⊥
+many_or_few ts us same many few = let e = ap (λ (l : List Tree). length (expanded l)) same in omega arith

@@ -1,6 +1,7 @@
 -- How many lists and vectors are open within the parts of a tree: as many as its depth at most.
 use Rattle.std.proofs.Common.{◌≡◌, ◌≤◌, ℕ, suc, ◌+◌, ◌-◌, max, Bool, true, false, cond, List, [], ◌∷◌, ◌++◌, length, map, Option, Some, None, refl, sym, ap, subst, ◌∙◌, append_assoc, arith}
 use Rattle.std.specs.List.{AllByRecursion}
+use Rattle.std.proofs.lemmas.List.{append-nil}
 use Rattle.std.proofs.lemmas.List.Concat.{flat_map-cons}
 use Rattle.rtx_tree.specs.declared.place.Place.{Place}
 use Rattle.lisp_read.specs.declared.class.Bracket.{Bracket}
@@ -13,7 +14,7 @@ use Rattle.tree_print.specs.Print.{depth_of, greatest}
 use Rattle.lisp_read.proofs.PartLemmas.{parts_of-Atom, parts_of-Str, parts_of-Block}
 use Rattle.tree_print.proofs.Nested.{parts_of_nested}
 use Rattle.lisp_read.proofs.Decodes.{nested}
-use Rattle.lisp_read.proofs.TreeInduction.{Steps, induction}
+use Rattle.lisp_read.proofs.TreeInduction.{Steps, each, induction}
 use Rattle.tree_print.proofs.Printed.{depth-nested}
 
 -- ---- what a tree opens it closes
@@ -55,6 +56,10 @@ balances = record {
 pub balanced : (t : Tree) (w : List Bracket) (more : List Part) → still_open w (parts_of t ++ more) ≡ still_open w more
 unfolding Balanced
 balanced t = induction Balanced balances t
+
+-- and so do trees
+pub trees_balanced : (ts : List Tree) (w : List Bracket) (more : List Part) → still_open w (parts_of_all ts ++ more) ≡ still_open w more
+trees_balanced ts = all_balanced ts (each Balanced balances ts)
 
 -- ---- how many the parts close that they do not open
 
@@ -149,3 +154,7 @@ peaks = record {
 pub below_depth : (t : Tree) (most : ℕ) → depth_of t ≤ most → Below most (parts_of t ++ [])
 unfolding PeaksTree
 below_depth t most le = (induction PeaksTree peaks t most [] (omega (arith, le)) tt).1
+
+-- the parts of trees close nowhere more than the deepest is deep
+pub all_below : (ts : List Tree) (most : ℕ) → greatest (map depth_of ts) ≤ most → Below most (parts_of_all ts)
+all_below ts most le = subst (Below most) (append-nil (parts_of_all ts)) (all_peaks ts (each PeaksTree peaks ts) most [] (omega (arith, le)) tt).1

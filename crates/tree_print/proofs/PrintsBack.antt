@@ -26,7 +26,7 @@ use Rattle.tree_print.proofs.SpellsPrinted.{SpelledAs, spells_printed}
 
 -- ---- what is open does not depend on places
 
-still_open_bare : (w : List Bracket) (ps : List Part) → still_open w (map bare ps) ≡ still_open w ps
+pub still_open_bare : (w : List Bracket) (ps : List Part) → still_open w (map bare ps) ≡ still_open w ps
 still_open_bare w [] = refl
 still_open_bare w (Open k p ∷ ps) = still_open_bare (k ∷ w) ps
 still_open_bare [] (Close k ∷ ps) = refl
@@ -46,11 +46,11 @@ closings_bare (Atom p t ∷ ps) = closings_bare ps
 closings_bare (Str p t ∷ ps) = closings_bare ps
 closings_bare (Block p t ∷ ps) = closings_bare ps
 
-to_bare : (most : ℕ) (ps : List Part) → Below most ps → Below most (map bare ps)
+pub to_bare : (most : ℕ) (ps : List Part) → Below most ps → Below most (map bare ps)
 to_bare most [] h = tt
 to_bare most (x ∷ ps) h = (subst (λ (n : ℕ). n ≤ most) (sym (closings_bare (x ∷ ps))) h.0, to_bare most ps h.1)
 
-of_bare : (most : ℕ) (ps : List Part) → Below most (map bare ps) → Below most ps
+pub of_bare : (most : ℕ) (ps : List Part) → Below most (map bare ps) → Below most ps
 of_bare most [] h = tt
 of_bare most (x ∷ ps) h = (subst (λ (n : ℕ). n ≤ most) (closings_bare (x ∷ ps)) h.0, of_bare most ps h.1)
 
@@ -62,7 +62,7 @@ behind bytes all j s h reached =
     run_finished (run (place_after start (take j bytes)) s (drop j bytes)) all
     (sym (ap (λ (o : Option State). o >>= finish) (ap (run start empty) (sym (take-append-drop j bytes)) ∙ (run-append start empty (take j bytes) (drop j bytes) ∙ rw reached refl))) ∙ h)
 
-shallow : (bytes : List ℕ) (all : List Part) → parts_in bytes ≡ Some all → Below most_open all → IsShallow bytes (length bytes)
+pub shallow : (bytes : List ℕ) (all : List Part) → parts_in bytes ≡ Some all → Below most_open all → IsShallow bytes (length bytes)
 shallow bytes all h below j s le reached =
     let rest : Sounds (Rest s.mode) (place_after start (take j bytes)) s.front (fr [] all) (drop j bytes) =
     sound (drop j bytes) s.mode (place_after start (take j bytes)) s.front (fr [] all) (behind bytes all j s h reached) in

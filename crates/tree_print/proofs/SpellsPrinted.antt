@@ -31,18 +31,18 @@ pub record SpelledAs (here : Place) (ps qs : List Part) (bytes : List ℕ) : Typ
   pub spelled : Spells here (parts ++ qs) bytes
 
 -- some parts and then some more
-then_more : (here there : Place) (ps rs qs : List Part) (more bytes : List ℕ) → (s : SpelledAs there rs qs more) → SpelledAs here ps (s.parts ++ qs) bytes → SpelledAs here (ps ++ rs) qs bytes
+pub then_more : (here there : Place) (ps rs qs : List Part) (more bytes : List ℕ) → (s : SpelledAs there rs qs more) → SpelledAs here ps (s.parts ++ qs) bytes → SpelledAs here (ps ++ rs) qs bytes
 then_more here there ps rs qs more bytes s t = record {
   parts = t.parts ++ s.parts;
   same = map-append bare t.parts s.parts ∙ (ap (λ (x : List Part). x ++ map bare s.parts) t.same ∙ (ap (λ (x : List Part). map bare ps ++ x) s.same ∙ sym (map-append bare ps rs)));
   spelled = subst (λ (x : List Part). Spells here x bytes) (sym (append_assoc t.parts s.parts qs)) t.spelled;
 }
 
-admitted_front : (ps qs : List Part) → AreAdmitted (ps ++ qs) → AreAdmitted ps
+pub admitted_front : (ps qs : List Part) → AreAdmitted (ps ++ qs) → AreAdmitted ps
 admitted_front [] qs h = tt
 admitted_front (p ∷ ps) qs h = (h.0, admitted_front ps qs h.1)
 
-admitted_back : (ps qs : List Part) → AreAdmitted (ps ++ qs) → AreAdmitted qs
+pub admitted_back : (ps qs : List Part) → AreAdmitted (ps ++ qs) → AreAdmitted qs
 admitted_back [] qs h = h
 admitted_back (p ∷ ps) qs h = admitted_back ps qs h.1
 

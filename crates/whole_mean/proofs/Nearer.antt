@@ -12,8 +12,8 @@ use Rattle.rtx_tree.specs.declared.machine.Start.{Start}
 use Rattle.rtx_tree.specs.declared.machine.World.{World}
 use Rattle.rtx_tree.specs.declared.memories.MemByte.{MemByte}
 use Rattle.same_behaviour.specs.Lawful.{IsLawful, IsLawfulReply, IsLawfulWorld, is_below_sp, seen_by_rtl}
+use Rattle.same_behaviour.proofs.Kept.{memory_kept}
 use Rattle.func_keep.specs.Keeps.{IsMachineStart}
-use Rattle.keep_compose.proofs.Lines.{memory_kept}
 use Rattle.window_same.proofs.Small.{or_true}
 use Rattle.reload_mean.proofs.homes_mean.Entry.{kept_byte}
 

@@ -23,11 +23,12 @@ use Rattle.rtl_step.specs.Value.{width_of, value_of, of_two}
 use Rattle.rtl_step.specs.declared.effect.Effect.{Effect}
 use Rattle.rtl_step.specs.declared.effect.Effect.TheVariants.{Nothing, Sets, Unsets, Stores}
 use Rattle.rtl_step.specs.declared.regs.Known.{Known}
+use Rattle.rtl_step.proofs.Too.{Too, too_map, too_two}
 use Rattle.reg_uses.specs.Effects.{is_register, reads, place_is, place_is_by, place_reads, place_reads_by, effect_uses_by, effect_defines_by, effect_uses, effect_defines, effects_by, all_use, all_define, pattern_uses, pattern_defines}
 use Rattle.window_keep.specs.Same.{KnownToo}
 use Rattle.window_same.proofs.Small.{is_here}
 use Rattle.sym_insns.specs.Shape.{is_natural, all_natural}
-use Rattle.window_replace.proofs.Known.{Too, too_map, too_two, both_of, or_first, or_later, number_of, Had, values_too}
+use Rattle.window_replace.proofs.Known.{both_of, or_first, or_later, number_of, Had, values_too}
 use Rattle.window_replace.proofs.Trees.{natural_here, natural_kids, reads_it, mentions_kid, is_it}
 
 -- ---- what is known behind an effect

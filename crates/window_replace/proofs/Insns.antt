@@ -23,11 +23,12 @@ use Rattle.rtl_step.specs.Jump.{jump_of}
 use Rattle.rtl_step.specs.Regs.{Regs, reg_value}
 use Rattle.rtl_step.specs.Value.{width_of, value_of}
 use Rattle.rtl_step.specs.declared.call.ArgValue.{ArgValue}
+use Rattle.rtl_step.proofs.Too.{Too, too_then, too_map, too_two}
 use Rattle.reg_uses.specs.Effects.{reads, place_reads, effect_uses_by, effects_by, all_use, pattern_uses}
 use Rattle.reg_uses.specs.Uses.{has_argument}
 use Rattle.window_keep.specs.Same.{KnownToo}
 use Rattle.sym_insns.specs.Shape.{all_natural}
-use Rattle.window_replace.proofs.Known.{Too, too_then, too_map, too_two, both_of, or_first, or_later, Had, values_too}
+use Rattle.window_replace.proofs.Known.{both_of, or_first, or_later, Had, values_too}
 use Rattle.window_replace.proofs.Trees.{natural_kids, reads_it, mentions_kid}
 use Rattle.window_replace.proofs.Effects.{AsMuch}
 

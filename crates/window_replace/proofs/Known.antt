@@ -1,7 +1,7 @@
 -- What has a value by registers has it by others of which as much is known.
 use Rattle.std.proofs.lemmas.Bool.Decides.{nat_tests}
-use Rattle.std.proofs.Common.{◌≡◌, ℕ, zero, suc, ◌==◌, ◌&&◌, ◌||◌, Bool, true, false, List, [], ◌∷◌, map, Option, Some, None, refl, sym, ◌∙◌, ap, subst, arith, tests}
-use Rattle.std.specs.Prelude.{ℤ, pos, negsuc, option_and_then, option_map}
+use Rattle.std.proofs.Common.{◌≡◌, ℕ, zero, suc, ◌==◌, ◌&&◌, ◌||◌, Bool, true, false, List, [], ◌∷◌, map, refl, sym, ◌∙◌, ap, subst, arith, tests}
+use Rattle.std.specs.Prelude.{ℤ, pos, negsuc}
 use Rattle.std.specs.Int.{cast_unsigned, w64}
 use Rattle.std.specs.List.{list_all, list_any}
 use Rattle.bits64.specs.declared.Width.{Width}
@@ -20,30 +20,11 @@ use Rattle.rtx_tree.specs.declared.tree.Rtx.TheOpen.{Rtx-F}
 use Rattle.run_memory.specs.RunMemory.{load}
 use Rattle.rtl_step.specs.Regs.{Regs}
 use Rattle.rtl_step.specs.Value as rtl
-use Rattle.rtl_step.specs.Value.{Reading, of_two, of_one, of_converted, of_compared, compared, converted, first_width, count_width, value_of}
+use Rattle.rtl_step.specs.Value.{Reading, value_of}
+use Rattle.rtl_step.proofs.Too.{Too, too_then}
+use Rattle.rtl_step.proofs.Readings.{Reads, AllRead, converted_too, two_too}
 use Rattle.window_keep.specs.Same.{KnownToo}
 use Rattle.sym_insns.specs.Shape.{is_natural, natural_step, all_natural}
-
--- ---- values
-
--- where the first has a value, the second has it
-abbrev pub Too : {A : Type 0} → Option A → Option A → Type 0
-Too {A} a b = (v : A) → a ≡ Some v → b ≡ Some v
-
-pub too_then : {A B : Type 0} (g : A → Option B) (a b : Option A) → Too a b → Too (option_and_then g a) (option_and_then g b)
-too_then g None b too v is = absurd (let no : ⊥ = cc in no)
-too_then g (Some x) b too v is = ap (option_and_then g) (too x refl) ∙ is
-
-pub too_map : {A B : Type 0} (g : A → B) (a b : Option A) → Too a b → Too (option_map g a) (option_map g b)
-too_map g None b too v is = absurd (let no : ⊥ = cc in no)
-too_map g (Some x) b too v is = ap (option_map g) (too x refl) ∙ is
-
-pub too_two : {A B C : Type 0} (g : A → B → Option C) (a a' : Option A) (b b' : Option B) → Too a a' → Too b b' →
-    Too (of_two g a b) (of_two g a' b')
-too_two g None a' b b' first second v is = absurd (let no : ⊥ = cc in no)
-too_two g (Some x) a' None b' first second v is = absurd (let no : ⊥ = cc in no)
-too_two g (Some x) a' (Some y) b' first second v is =
-    ap (λ o. of_two g o b') (first x refl) ∙ ap (of_two g (Some x)) (second y refl) ∙ is
 
 -- ---- truths
 
@@ -89,16 +70,6 @@ module _ (symbols : List SymbolAt) (regs other : Regs) (memory : List MemByte) w
 
   -- ---- expressions, by their parts
 
-  record Reads (r r' : Reading) : Type 0 where
-    widths : r'.width ≡ r.width
-    values : (w : Width) → Too (r.value w) (r'.value w)
-
-  abbrev AllRead : List Reading → List Reading → Type 0
-  AllRead [] [] = Unit {0}
-  AllRead [] (r ∷ rs) = ⊥
-  AllRead (r ∷ rs) [] = ⊥
-  AllRead (r ∷ rs) (r' ∷ rs') = Reads r r' × AllRead rs rs'
-
   none_too : (k : Class) (c : Code) (n : ℤ) (name : List ℕ) (w : Width) → class_of_code c ≡ k → is_natural c n ≡ true →
       ((q : ℕ) → is_reg_numbered c n (suc q) ≡ true → KnownToo regs other (suc q)) →
       Too (rtl.value_of_none symbols regs k n name w) (rtl.value_of_none symbols other k n name w)
@@ -110,17 +81,6 @@ module _ (symbols : List SymbolAt) (regs other : Regs) (memory : List MemByte) w
   none_too class.Symbol c n name w is natural own = λ v is. is
   none_too k c n name w is natural own = λ v none. absurd (let no : ⊥ = cc in no)
 
-  converted_by : (c : Code) (r r' : Reading) (w : Width) (own : Option Width) → Reads r r' →
-      Too (option_and_then (λ own. of_one (converted c own w) (r.value own)) own)
-      (option_and_then (λ own. of_one (converted c own w) (r'.value own)) own)
-  converted_by c r r' w None reads = λ v none. absurd (let no : ⊥ = cc in no)
-  converted_by c r r' w (Some own) reads = too_then (converted c own w) (r.value own) (r'.value own) (reads.values own)
-
-  converted_too : (c : Code) (r r' : Reading) (w : Width) → Reads r r' → Too (of_converted c r w) (of_converted c r' w)
-  converted_too c r r' w reads = subst
-      (λ own. Too (of_converted c r w) (option_and_then (λ own. of_one (converted c own w) (r'.value own)) own))
-      (sym reads.widths) (converted_by c r r' w r.width reads)
-
   one_too : (k : Class) (c : Code) (r r' : Reading) (w : Width) → Reads r r' →
       Too (rtl.value_of_one memory k c r w) (rtl.value_of_one memory k c r' w)
   one_too class.Memory c r r' w reads = too_then (load w memory) (r.value W64) (r'.value W64) (reads.values W64)
@@ -129,37 +89,6 @@ module _ (symbols : List SymbolAt) (regs other : Regs) (memory : List MemByte) w
   one_too class.Extension c r r' w reads = converted_too c r r' w reads
   one_too class.Truncation c r r' w reads = converted_too c r r' w reads
   one_too k c r r' w reads = λ v none. absurd (let no : ⊥ = cc in no)
-
-  compared_by : (c : Code) (a a' b b' : Reading) (own : Option Width) → Reads a a' → Reads b b' →
-      Too (option_and_then (λ own. of_two (compared c own) (a.value own) (b.value own)) own)
-      (option_and_then (λ own. of_two (compared c own) (a'.value own) (b'.value own)) own)
-  compared_by c a a' b b' None first second = λ v none. absurd (let no : ⊥ = cc in no)
-  compared_by c a a' b b' (Some own) first second =
-      too_two (compared c own) (a.value own) (a'.value own) (b.value own) (b'.value own) (first.values own) (second.values own)
-
-  compared_too : (c : Code) (a a' b b' : Reading) → Reads a a' → Reads b b' → Too (of_compared c a b) (of_compared c a' b')
-  compared_too c a a' b b' first second = subst
-      (λ own. Too (of_compared c a b) (option_and_then (λ own. of_two (compared c own) (a'.value own) (b'.value own)) own))
-      (sym (ap (λ o. first_width o b'.width) first.widths ∙ ap (first_width a.width) second.widths))
-      (compared_by c a a' b b' (first_width a.width b.width) first second)
-
-  shifted_too : (c : Code) (a a' b b' : Reading) (w : Width) → Reads a a' → Reads b b' →
-      Too (of_two (rtl.shifted c w) (a.value w) (b.value (count_width b.width)))
-      (of_two (rtl.shifted c w) (a'.value w) (b'.value (count_width b'.width)))
-  shifted_too c a a' b b' w first second = subst
-      (λ own. Too (of_two (rtl.shifted c w) (a.value w) (b.value (count_width b.width)))
-      (of_two (rtl.shifted c w) (a'.value w) (b'.value (count_width own))))
-      (sym second.widths)
-      (too_two (rtl.shifted c w) (a.value w) (a'.value w) (b.value (count_width b.width)) (b'.value (count_width b.width))
-      (first.values w) (second.values (count_width b.width)))
-
-  two_too : (k : Class) (c : Code) (a a' b b' : Reading) (w : Width) → Reads a a' → Reads b b' →
-      Too (rtl.value_of_two k c a b w) (rtl.value_of_two k c a' b' w)
-  two_too class.Binary c a a' b b' w first second =
-      too_two (rtl.binary c w) (a.value w) (a'.value w) (b.value w) (b'.value w) (first.values w) (second.values w)
-  two_too class.Shift c a a' b b' w first second = shifted_too c a a' b b' w first second
-  two_too class.Comparison c a a' b b' w first second = compared_too c a a' b b' first second
-  two_too k c a a' b b' w first second = λ v none. absurd (let no : ⊥ = cc in no)
 
   value_too : (c : Code) (n : ℤ) (name : List ℕ) (rs rs' : List Reading) (w : Width) → is_natural c n ≡ true →
       ((q : ℕ) → is_reg_numbered c n (suc q) ≡ true → KnownToo regs other (suc q)) → AllRead rs rs' →

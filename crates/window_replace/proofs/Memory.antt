@@ -1,31 +1,16 @@
 -- What a step of a function writes into a memory leaves a memory.
-use Rattle.std.proofs.Common.{ℕ, zero, suc, ◌<◌, ◌^◌, ◌%◌, ◌/◌, ◌+◌, ◌==◌, arith, if◌then◌else◌, Bool, true, false, List, [], ◌∷◌, Option, Some, None}
+use Rattle.std.proofs.Common.{ℕ, zero, suc, ◌%◌, ◌/◌, ◌+◌, arith, List, [], ◌∷◌, Option, Some, None}
 use Rattle.std.specs.Prelude.{unwrap_or, option_map}
-use Rattle.std.proofs.lemmas.List.Elements.{All-map, All-weaker}
 use Rattle.bits64.specs.declared.Width.{Width}
 use Rattle.bits64.specs.Words.{bytes_of}
-use Rattle.rtx_tree.specs.Memories.{with_byte, with_byte_here}
+use Rattle.rtx_tree.specs.Memories.{with_byte}
 use Rattle.rtx_tree.specs.declared.memories.MemByte.{MemByte}
-use Rattle.rtx_tree.proofs.MemoryPlaces.{ordered_stays}
 use Rattle.run_memory.specs.RunMemory.{load, with_number}
 use Rattle.rtl_step.specs.Effect.{bytes_after, memory_after}
 use Rattle.rtl_step.specs.declared.effect.Effect.{Effect}
 use Rattle.rtl_step.specs.declared.effect.Effect.TheVariants.{Nothing, Sets, Unsets, Stores}
-use Rattle.same_behaviour.specs.Lawful.{IsByte, IsMemory}
-
-byte_stays : (address byte : ℕ) → byte < 2 ^ 8 → (b : MemByte) → IsByte b → IsByte (with_byte_here address byte b)
-byte_stays address byte small b is = record { address = is.address; byte = chosen (b.address == address) }
-  where
-    chosen : (here : Bool) → (if here then byte else b.byte) < 2 ^ 8
-    chosen true = small
-    chosen false = is.byte
-
-memory_with : (memory : List MemByte) (address byte : ℕ) → byte < 2 ^ 8 → IsMemory memory → IsMemory (with_byte memory address byte)
-memory_with memory address byte small is = record {
-  ordered = ordered_stays memory address byte is.ordered;
-  bytes = All-map IsByte (with_byte_here address byte) memory
-      (All-weaker IsByte (λ b. IsByte (with_byte_here address byte b)) (byte_stays address byte small) memory is.bytes);
-}
+use Rattle.same_behaviour.specs.Lawful.{IsMemory}
+use Rattle.window_same.proofs.Memories.{memory_with}
 
 numbered : (count address number : ℕ) (memory : List MemByte) → IsMemory memory → IsMemory (with_number memory address count number)
 numbered zero address number memory is = is

@@ -17,7 +17,7 @@ use Rattle.rtl_step.specs.declared.jump.Way.{Way}
 use Rattle.rtl_step.specs.declared.step.State.{State}
 use Rattle.rtl_step.specs.declared.step.StepEnd.TheVariants as ends
 use Rattle.rtl_func.specs.Paths.{leads}
-use Rattle.reg_uses.specs.Uses.{return_uses, is_call_kind}
+use Rattle.reg_uses.specs.Uses.{return_uses}
 use Rattle.same_behaviour.specs.Lawful.{IsMemory}
 use Rattle.live.specs.Live.{IsLive, IsLiveAfter, AtEnd, Passing}
 use Rattle.window_mean.specs.Insns as window
@@ -38,18 +38,9 @@ use Rattle.window_replace.proofs.Outside.{insn_both, plain_defines}
 use Rattle.window_replace.proofs.Setting.{Setting, Site, new_of, Alike, Waits, Related, outside, inside, Moves, Simulates, EndsWell}
 use Rattle.window_replace.proofs.Stands.{Stands, stands_behind, stands_mark, there_is, step_is, step_returns, end_is, past_end}
 use Rattle.window_replace.proofs.Twins.{first_no_label, rest_leads}
+use Rattle.window_same.proofs.Places.{mark_calls_not, mark_jumps_not}
 
 -- ---- labels and barriers
-
-mark_calls_not : (k : Kind) → is_mark k ≡ true → is_call_kind k ≡ false
-mark_calls_not kind.Plain marks = refl
-mark_calls_not kind.Jump marks = refl
-mark_calls_not kind.Call marks = absurd (let no : ⊥ = cc in no)
-mark_calls_not kind.Label marks = refl
-mark_calls_not kind.Barrier marks = refl
-
-mark_jumps_not : (k : Kind) → is_mark k ≡ true → k ≢ kind.Jump
-mark_jumps_not k marks is = let no : true ≡ false = sym marks ∙ ap is_mark is in cc
 
 kind_jumps_not : (i : Insn) (k : Kind) → i.kind ≡ k → k ≢ kind.Jump → i.kind ≢ kind.Jump
 kind_jumps_not i k is other jumps = other (sym is ∙ jumps)

@@ -1,12 +1,8 @@
 -- The two machines at entry: they stand beside each other, and what the function knows of a hard register the code has.
-use Rattle.std.proofs.Common.{◌≡◌, ◌≢◌, ℕ, zero, suc, ◌≤◌, ◌<◌, ◌==◌, ◌||◌, not, arith, cond, if◌then◌else◌, ⊎_elim, Bool, true, false, List, [], ◌∷◌, map, Option, Some, None, refl, sym, ap, subst, ◌∙◌}
+use Rattle.std.proofs.Common.{◌≡◌, ◌≢◌, ℕ, zero, suc, ◌≤◌, ◌<◌, ◌==◌, ◌||◌, not, arith, cond, if◌then◌else◌, ⊎_elim, Bool, true, false, List, [], ◌∷◌, Option, Some, None, refl, sym, ap, subst, ◌∙◌}
 use Rattle.std.proofs.lemmas.Bool.Decides.{nat_tests}
-use Rattle.std.proofs.lemmas.List.Elements.{All-filter}
-use Rattle.std.proofs.lemmas.List.Kept.{IsStrictlyIncreasing-filter}
 use Rattle.std.specs.Cmp.{nat_cmp_total}
 use Rattle.std.specs.FinMap.{empty, get, get-empty, get-insert}
-use Rattle.std.specs.List.{filter}
-use Rattle.std.specs.List.Sorted.{IsStrictlyIncreasing}
 use Rattle.std.specs.Ordering.{nat_cmp, eq_by_cmp}
 use Rattle.std.specs.Prelude.{slice_get, option_and_then, option_map, IfSome, nat_le}
 use Rattle.bits64.specs.Words.{low, bits_of}
@@ -19,8 +15,9 @@ use Rattle.rtl_step.specs.Regs.{Regs, known_in, known_of, with_reg}
 use Rattle.func_mean.specs.Run as func
 use Rattle.rv_line.specs.Run as lines
 use Rattle.rv_line.specs.Step.{register}
-use Rattle.window_mean.specs.same_behaviour.Lawful.{IsWord, IsByte, IsMemory, AreWords, IsLawful, is_below_sp, seen_by_rtl}
+use Rattle.window_mean.specs.same_behaviour.Lawful.{IsWord, AreWords, IsLawful, is_below_sp, seen_by_rtl}
 use Rattle.window_mean.proofs.same_behaviour.Entry.{same_or_not, visible_at_entry}
+use Rattle.window_mean.proofs.same_behaviour.Kept.{kept, memory_kept}
 use Rattle.window_mean.specs.Beside.{Agrees, Beside, IsMachine}
 use Rattle.window_same.proofs.Replies.{agrees_zero, held, register_at, low_in}
 use Rattle.window_same.proofs.Small.{is_here, is_other, ◌also◌}
@@ -28,31 +25,8 @@ use Rattle.window_same.proofs.Small.{is_here, is_other, ◌also◌}
 -- ---- a part of memory that goes by the addresses
 
 module _ (test : ℕ → Bool) where
-  abbrev kept : List MemByte → List MemByte
-  kept memory = filter (λ (b : MemByte). test b.address) memory
-
-  abbrev addresses : List MemByte → List ℕ
-  addresses memory = map (λ (b : MemByte). b.address) memory
-
-  addresses_kept : (memory : List MemByte) → addresses (kept memory) ≡ filter test (addresses memory)
-  addresses_kept [] = refl
-  addresses_kept (b ∷ memory) = by_test (test b.address) (addresses_kept memory)
-    where
-      by_test : (is : Bool) → addresses (kept memory) ≡ filter test (addresses memory) →
-          addresses (cond is (b ∷ kept memory) (kept memory)) ≡ cond is (b.address ∷ filter test (addresses memory)) (filter test
-          (addresses memory))
-      by_test true rest = ap (λ xs. b.address ∷ xs) rest
-      by_test false rest = rest
-
-  memory_kept : (memory : List MemByte) → IsMemory memory → IsMemory (kept memory)
-  memory_kept memory is = record {
-    ordered = let P : List ℕ → Type 0 = λ xs. IsStrictlyIncreasing xs in
-        subst P (sym (addresses_kept memory)) (IsStrictlyIncreasing-filter test (addresses memory) is.ordered);
-    bytes = All-filter (λ (b : MemByte). test b.address) IsByte memory is.bytes;
-  }
-
   -- what is in the part is in the whole
-  within_kept : (memory : List MemByte) (address byte : ℕ) → byte_at (kept memory) address ≡ Some byte →
+  within_kept : (memory : List MemByte) (address byte : ℕ) → byte_at (kept test memory) address ≡ Some byte →
       (byte_at memory address ≡ Some byte) × (test address ≡ true)
   within_kept [] address byte has = absurd (let no : ⊥ = cc in no)
   within_kept (b ∷ memory) address byte has = ⊎_elim
@@ -64,18 +38,18 @@ module _ (test : ℕ → Bool) where
       not_here : b.address ≢ address → (b.address == address) ≡ false
       not_here other = grind (arith, nat_tests, other)
 
-      elsewhere : (is : Bool) → b.address ≢ address → byte_at (cond is (b ∷ kept memory) (kept memory)) address ≡ Some byte →
-          byte_at (kept memory) address ≡ Some byte
-      elsewhere true other has = sym (ap (λ c. if c then Some b.byte else byte_at (kept memory) address) (not_here other)) ∙ has
+      elsewhere : (is : Bool) → b.address ≢ address → byte_at (cond is (b ∷ kept test memory) (kept test memory)) address ≡ Some byte →
+          byte_at (kept test memory) address ≡ Some byte
+      elsewhere true other has = sym (ap (λ c. if c then Some b.byte else byte_at (kept test memory) address) (not_here other)) ∙ has
       elsewhere false other has = has
 
       at_here : (is : Bool) → test b.address ≡ is → b.address ≡ address →
-          (byte_at (kept memory) address ≡ Some byte → (byte_at memory address ≡ Some byte) × (test address ≡ true)) →
-          byte_at (cond is (b ∷ kept memory) (kept memory)) address ≡ Some byte →
+          (byte_at (kept test memory) address ≡ Some byte → (byte_at memory address ≡ Some byte) × (test address ≡ true)) →
+          byte_at (cond is (b ∷ kept test memory) (kept test memory)) address ≡ Some byte →
           (byte_at (b ∷ memory) address ≡ Some byte) × (test address ≡ true)
       at_here true is here later has = let yes : (b.address == address) ≡ true = grind (arith, nat_tests, here) in (
         ap (λ c. if c then Some b.byte else byte_at memory address) yes ∙
-            sym (ap (λ c. if c then Some b.byte else byte_at (kept memory) address) yes) ∙ has,
+            sym (ap (λ c. if c then Some b.byte else byte_at (kept test memory) address) yes) ∙ has,
         sym (ap test here) ∙ is,
       )
       at_here false is here later has =
@@ -94,7 +68,7 @@ fits_all W16 = refl
 fits_all W32 = refl
 fits_all W64 = refl
 
-known_wide : (w : Width) (value : ℕ) → known_in w (known_of W64 value) ≡ Some (low w value)
+pub known_wide : (w : Width) (value : ℕ) → known_in w (known_of W64 value) ≡ Some (low w value)
 known_wide w value = ap (λ b. if b then Some (low w (low W64 value)) else None) (fits_all w) ∙ ap Some (low_in w W64 value (fits_all w))
 
 agrees_with : (regs : Regs) (code : List (Option ℕ)) (t value reg : ℕ) → reg < 32 → (t < 32 → register code t ≡ Some value) →

@@ -22,7 +22,7 @@ byte_stays address byte small b is = record { address = is.address; byte = chose
     chosen true = small
     chosen false = is.byte
 
-memory_with : (memory : List MemByte) (address byte : ℕ) → byte < 2 ^ 8 → IsMemory memory → IsMemory (with_byte memory address byte)
+pub memory_with : (memory : List MemByte) (address byte : ℕ) → byte < 2 ^ 8 → IsMemory memory → IsMemory (with_byte memory address byte)
 memory_with memory address byte small is = record {
   ordered = ordered_stays memory address byte is.ordered;
   bytes = All-map IsByte (with_byte_here address byte) memory

@@ -37,10 +37,10 @@ kind_passes k i rest place b is marks =
 mark_is : (k : Kind) (i : Insn) → i.kind ≡ k → is_mark i.kind ≡ is_mark k
 mark_is k i is = ap is_mark is
 
-mark_jumps_not : (k : Kind) → is_mark k ≡ true → k ≢ kind.Jump
+pub mark_jumps_not : (k : Kind) → is_mark k ≡ true → k ≢ kind.Jump
 mark_jumps_not k marks is = let no : true ≡ false = sym marks ∙ ap is_mark is in let none : ⊥ = cc in none
 
-mark_calls_not : (k : Kind) → is_mark k ≡ true → is_call_kind k ≡ false
+pub mark_calls_not : (k : Kind) → is_mark k ≡ true → is_call_kind k ≡ false
 mark_calls_not kind.Plain marks = refl
 mark_calls_not kind.Jump marks = refl
 mark_calls_not kind.Call marks = absurd (let no : ⊥ = cc in no)

@@ -6,7 +6,6 @@ pub mod Arguments
 pub mod Registers
 pub mod Chain
 pub mod Returning
-pub mod Standing
 pub mod Reading
 pub mod Marks
 pub mod Jumps

@@ -19,7 +19,7 @@ use Rattle.rtl_read.specs.Function.{locals_of, crtl_of, says_nothing, says_chain
 use Rattle.rtl_read.specs.Word.{is_headed}
 use Rattle.rtl_read.specs.Syntax.{functions_in}
 use Rattle.func_rules.specs.Admitted.{BarriersDoNothing}
-use Rattle.func_rules.proofs.Standing.{IfStands, any_stands, map_stands, then_stands, all_stand, at_place}
+use Rattle.lisp_read.proofs.Standing.{IfStands, any_stands, map_stands, then_stands, all_stand, at_place}
 
 -- ---- instructions
 

@@ -25,7 +25,7 @@ use Rattle.rtl_read.specs.Word.{is_headed}
 use Rattle.rtl_read.specs.Syntax.{functions_in}
 use Rattle.func_input.specs.Input.{IsInput}
 use Rattle.sym_insns.specs.Shape.{all_natural}
-use Rattle.func_rules.proofs.Standing.{IfStands, any_stands, map_stands, then_stands, each_stands, all_stand, at_place}
+use Rattle.lisp_read.proofs.Standing.{IfStands, any_stands, map_stands, then_stands, each_stands, all_stand, at_place}
 use Rattle.read_natural.proofs.Trees.{Natural, natural_node, natural_read}
 
 stands_where : {A : Type 0} (P : A → Type 0) (p : Parsed A) → ((x : A) → p ≡ stands x → P x) → IfStands P p

@@ -1,5 +1,5 @@
 -- Trees whose parts have as many kids as the rows of their codes say.
-use Rattle.std.proofs.Common.{◌≡◌, ℕ, zero, suc, List, [], ◌∷◌, length, sym, subst}
+use Rattle.std.proofs.Common.{ℕ, zero, suc, List, [], ◌∷◌, length, sym, subst}
 use Rattle.std.specs.Prelude.{IfSome, option_and_then, slice_get}
 use Rattle.std.specs.List.{AllByRecursion}
 use Rattle.rtx_tree.specs.declared.tree.Rtx.{Rtx, out-roll-Rtx}

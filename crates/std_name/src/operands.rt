@@ -25,10 +25,7 @@ pub fn is_constant(x: &Rtx) -> bool
 fn is_place(x: &Rtx) -> bool
     ensures { result ≡ shapes.is_place x.now }
 {
-    matches!(
-        class_at(x),
-        Class::Register | Class::Memory | Class::Lowpart
-    )
+    class_at(x).is_place()
 }
 
 fn is_leaf(x: &Rtx) -> bool

@@ -3,7 +3,7 @@ use Rattle.std.proofs.Common.{◌≡◌, ℕ, Bool, true, ◌&&◌, not, List, [
 use Rattle.std.specs.Int.{cast_unsigned, w64}
 use Rattle.std.specs.List.{list_all, flat_map, filter_map, cons_option}
 use Rattle.std.proofs.lemmas.Bool.{and_from}
-use Rattle.rtx_tree.specs.Code.{class_of_code}
+use Rattle.rtx_tree.specs.Code.{class_of_code, is_effect_class}
 use Rattle.rtx_tree.specs.declared.function.Insn.{Insn}
 use Rattle.rtx_tree.specs.declared.function.Function.{Function}
 use Rattle.rtx_tree.specs.declared.tree.Rtx.{Rtx, out-Rtx, out-roll-Rtx}
@@ -17,7 +17,7 @@ use Rattle.rtl_func.specs.Kinds.{label_stands, uid_stands, is_jump_by}
 use Rattle.rtl_func.specs.Modes.{register_by, mention_by, mention_of, keeps_mode, has_its_mode, mentions_in}
 use Rattle.rtl_func.specs.Nodes.{nodes_of}
 use Rattle.rtl_func.specs.Rules.{keeps}
-use Rattle.rtl_func.specs.Shapes.{is_effect_class, is_shaped, is_bare, fits_row, has_call_mode, has_call_mode_by}
+use Rattle.rtl_func.specs.Shapes.{is_shaped, is_bare, fits_row, has_call_mode, has_call_mode_by}
 use Rattle.rtl_func.proofs.NodeLaws.{nodes_out}
 use Rattle.rtl_func.proofs.AllPass.{all_pass}
 use Rattle.rtl_chain.specs.End.{return_insn}

@@ -3,7 +3,7 @@ use Rattle.std.proofs.Common.{◌≡◌, ℕ, zero, suc, ◌+◌, Bool, true, �
 use Rattle.std.specs.Prelude.{slice_get}
 use Rattle.std.specs.List.{position_from}
 use Rattle.std.proofs.lemmas.Bool.{false≢true, cases_Bool, and_parts, and_from, eq-eqb, eqb-true}
-use Rattle.rtx_tree.specs.Code.{class_of_code}
+use Rattle.rtx_tree.specs.Code.{class_of_code, is_effect_class}
 use Rattle.rtx_tree.specs.declared.code.Code.{Code}
 use Rattle.rtx_tree.specs.declared.code.Code.TheVariants.{Set, Use, Clobber, Parallel, Call, Return}
 use Rattle.rtx_tree.specs.declared.function.Insn.{Insn}
@@ -16,7 +16,7 @@ use Rattle.rtx_tree.specs.Tree.{head_of, kids_of}
 use Rattle.rtl_func.specs.declared.rules.InsnRule.TheVariants.{LabelsStand, KindsAgree, ModesAgree}
 use Rattle.rtl_func.specs.Kinds.{is_jump_by, is_plain_tree, kinds_agree}
 use Rattle.rtl_func.specs.Modes.{shapes_agree, call_modes_agree}
-use Rattle.rtl_func.specs.Shapes.{is_effect, is_effect_class, is_call_class, is_shaped}
+use Rattle.rtl_func.specs.Shapes.{is_effect, is_call_class, is_shaped}
 use Rattle.rtl_func.specs.Uids.{is_ruled_kind}
 use Rattle.rtl_func.proofs.AllPass.{all_pass, itself}
 use Rattle.func_rules.specs.Admitted.{StandsAt, AreLabels, IsWellFormed}

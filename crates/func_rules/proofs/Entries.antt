@@ -13,7 +13,7 @@ use Rattle.rtl_read.specs.Chain.{InsnParts, insn_by, insn_parts, call_by, label_
 use Rattle.rtl_read.specs.Function.{locals_of, crtl_of, says_nothing, says_chain, says_locals, says_result, said_by, said_too, all_said, function_from, function_by, function_parts, function_of}
 use Rattle.rtl_read.specs.Word.{is_headed}
 use Rattle.rtl_read.specs.Syntax.{functions_in}
-use Rattle.func_rules.proofs.Standing.{IfStands, any_stands, weaker, map_stands, then_stands, all_stand, at_place}
+use Rattle.lisp_read.proofs.Standing.{IfStands, any_stands, weaker, map_stands, then_stands, all_stand, at_place}
 
 -- what holds of the instructions of each sort of entry
 pub record OfSorts (P : Insn → Type 0) : Type 0 where

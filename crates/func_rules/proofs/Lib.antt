@@ -5,7 +5,6 @@ pub mod Arguments
 pub mod Registers
 pub mod Chain
 pub mod Returning
-pub mod Standing
 pub mod Entries
 pub mod Reading
 pub mod Marks

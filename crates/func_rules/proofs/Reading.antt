@@ -16,7 +16,7 @@ use Rattle.rtl_read.specs.Chain.{InsnParts, insn_with, insn_by, call_with, call_
 use Rattle.rtl_read.specs.Syntax.{functions_in}
 use Rattle.func_rules.specs.Admitted.{BarriersDoNothing}
 use Rattle.func_rules.proofs.Entries.{OfSorts, each_read}
-use Rattle.func_rules.proofs.Standing.{IfStands, any_stands, map_stands, then_stands}
+use Rattle.lisp_read.proofs.Standing.{IfStands, any_stands, map_stands, then_stands}
 
 abbrev DoesNothing : Insn → Type 0
 DoesNothing i = i.kind ≡ Barrier → i.pattern ≡ nothing_rtx

@@ -25,3 +25,6 @@ pub mod Each
 pub mod Names
 pub mod Meanings
 pub mod Parts
+pub mod Standing
+pub mod RowPositions
+pub mod RowParts

@@ -5,44 +5,12 @@ use Rattle.rtx_tree.specs.declared.code.Mode.{Mode}
 use Rattle.rtx_tree.specs.declared.code.Mode.TheVariants.{Void, SI}
 use Rattle.rtx_tree.specs.Registers.{virtual_stack_vars}
 use Rattle.rtx_tree.specs.declared.class.Class.{Class}
-use Rattle.rtx_tree.specs.declared.class.Class.TheVariants.{Register, Constant, Symbol, Memory, Lowpart, Unary, Binary, Shift, Extension, Truncation, Comparison, Setting, Use, Clobber, Parallel, Call, Return, Counter, Label, Branch, Scratch, Operand, OperandAgain, OperandScratch, Operator, OperatorAgain}
+use Rattle.rtx_tree.specs.declared.class.Class.TheVariants.{Register, Constant, Memory, Comparison, Call, Counter, Label, Branch, Scratch, Operand, OperandAgain, OperandScratch, Operator, OperatorAgain}
 use Rattle.rtx_tree.specs.declared.class.HeadMode.{HeadMode}
 use Rattle.rtx_tree.specs.declared.class.HeadMode.TheVariants.{Needed, Optional, Ignored, Absent}
-use Rattle.rtx_tree.specs.Code.{head_mode_of}
+use Rattle.rtx_tree.specs.Code.{head_mode_of, is_value_class, is_place_class, is_effect_class}
 use Rattle.lisp_read.specs.declared.position.Position.{Position}
 use Rattle.lisp_read.specs.declared.position.Position.TheVariants as position
-
--- what has a value, also as an address or a shift count
-abbrev pub is_value : Class → Bool
-is_value Register = true
-is_value Constant = true
-is_value Symbol = true
-is_value Memory = true
-is_value Lowpart = true
-is_value Unary = true
-is_value Binary = true
-is_value Shift = true
-is_value Extension = true
-is_value Truncation = true
-is_value Comparison = true
-is_value _ = false
-
--- what may be set
-abbrev pub is_place : Class → Bool
-is_place Register = true
-is_place Lowpart = true
-is_place Memory = true
-is_place _ = false
-
--- what an instruction or an element of a `parallel` may be
-abbrev pub is_pattern : Class → Bool
-is_pattern Setting = true
-is_pattern Use = true
-is_pattern Clobber = true
-is_pattern Parallel = true
-is_pattern Call = true
-is_pattern Return = true
-is_pattern _ = false
 
 -- what stands in a description's patterns alone
 abbrev pub is_of_pattern : Class → Bool
@@ -56,13 +24,13 @@ is_of_pattern _ = false
 -- which classes may stand at a position
 abbrev pub admits : Position → Class → Bool
 admits position.Top c = not (is_of_pattern c)
-admits position.Value c = is_value c
-admits position.Place c = is_place c
+admits position.Value c = is_value_class c
+admits position.Place c = is_place_class c
 admits position.Clobbered Scratch = true
-admits position.Clobbered c = is_place c
+admits position.Clobbered c = is_place_class c
 admits position.Source Call = true
-admits position.Source c = is_value c
-admits position.Pattern c = is_pattern c
+admits position.Source c = is_value_class c
+admits position.Pattern c = is_effect_class c
 admits position.Pc Counter = true
 admits position.Jump Label = true
 admits position.Jump Branch = true

@@ -1,6 +1,7 @@
 //! Reads an expression of RTL from its tree.
-ghost use Rattle.std.specs.Prelude.{◌≡◌, ◌<◌, MatchOption, map, drop, length};
+ghost use Rattle.std.specs.Prelude.{◌≡◌, ◌<◌, IfOk, MatchOption, map, drop, length};
 ghost use Rattle.std.specs.Option.{option_copied};
+ghost use Rattle.rtx_tree.specs.Tree.{HaveTheirParts};
 ghost use Rattle.lisp_read.specs.Expression as spec;
 ghost use Rattle.lisp_read.specs.Parsed.{Gives, each_parsed};
 ghost use Rattle.lisp_read.specs.declared.position.Position.TheVariants as position;
@@ -259,7 +260,8 @@ fn read_at(alloc: Global, position: Position, tree: &Tree) -> Result<Rtx, RtlRef
     }
 }
 
-/// Reads one expression of RTL: any but those that stand in descriptions alone.
+/// Reads one expression of RTL: any but those that stand in descriptions alone. Each part of it has
+/// as many kids as the row of its code says.
 ///
 /// Flags such as `/c` are passed over, and so is whatever follows a register's name, a memory's
 /// address, a constant's number, a label's uid or a symbol's name in its list, and a label's mode.
@@ -271,8 +273,10 @@ fn read_at(alloc: Global, position: Position, tree: &Tree) -> Result<Rtx, RtlRef
 ///
 /// `Construct` where a tree in it is outside the language, with the first such tree. `Memory` where
 /// memory ran out.
+#[tactic(auto, using(crate::proofs::RowParts::read_parts))]
 pub fn rtx_of_tree(alloc: Global, tree: &Tree) -> Result<Rtx, RtlRefusal>
-    ensures { Gives result (spec.rtx_in tree.now) }
+    ensures gives { Gives result (spec.rtx_in tree.now) }
+    ensures parts { IfOk result HaveTheirParts }
 {
     read_at(alloc, Position::Top, tree)
 }

@@ -10,9 +10,9 @@
 //!
 //! [`rtx_of_tree`] gives the expression that a tree stands for, or the first tree in it that is
 //! outside the language: `specs/Positions.antt` is the table of what may stand where,
-//! `specs/Expression.antt` the table of the parts of each code, `specs/Head.antt` and
-//! `specs/Leaf.antt` say what the words are. It goes as deep as the tree, which is bounded where
-//! `read_trees` gave it.
+//! `specs/Expression.antt` says at which position each part of a code stands, `specs/Head.antt` and
+//! `specs/Leaf.antt` what the words are. There are as many parts as the row of the code says. It
+//! goes as deep as the tree, which is bounded where `read_trees` gave it.
 #![tactic(auto)]
 
 mod class;

@@ -35,40 +35,6 @@ pub enum Position {
     Inner,
 }
 
-fn is_value(class: Class) -> bool
-    ensures { result ≡ spec.is_value class }
-{
-    matches!(
-        class,
-        Class::Register
-            | Class::Constant
-            | Class::Symbol
-            | Class::Memory
-            | Class::Lowpart
-            | Class::Unary
-            | Class::Binary
-            | Class::Shift
-            | Class::Extension
-            | Class::Truncation
-            | Class::Comparison
-    )
-}
-
-fn is_place(class: Class) -> bool
-    ensures { result ≡ spec.is_place class }
-{
-    matches!(class, Class::Register | Class::Lowpart | Class::Memory)
-}
-
-fn is_pattern(class: Class) -> bool
-    ensures { result ≡ spec.is_pattern class }
-{
-    matches!(
-        class,
-        Class::Setting | Class::Use | Class::Clobber | Class::Parallel | Class::Call | Class::Return
-    )
-}
-
 /// Whether an expression of this class stands in a description's patterns alone.
 fn is_of_pattern(class: Class) -> bool
     ensures { result ≡ spec.is_of_pattern class }
@@ -122,11 +88,11 @@ impl Position {
     {
         match self {
             Position::Top => !is_of_pattern(class),
-            Position::Value => is_value(class),
-            Position::Place => is_place(class),
-            Position::Clobbered => matches!(class, Class::Scratch) || is_place(class),
-            Position::Source => matches!(class, Class::Call) || is_value(class),
-            Position::Pattern => is_pattern(class),
+            Position::Value => class.is_value(),
+            Position::Place => class.is_place(),
+            Position::Clobbered => matches!(class, Class::Scratch) || class.is_place(),
+            Position::Source => matches!(class, Class::Call) || class.is_value(),
+            Position::Pattern => class.is_effect(),
             Position::Pc => matches!(class, Class::Counter),
             Position::Jump => matches!(class, Class::Label | Class::Branch),
             Position::Test => matches!(class, Class::Comparison),

@@ -5,14 +5,14 @@ use Rattle.std.proofs.lemmas.List.{length-map}
 use Rattle.std.specs.List.{list_all}
 use Rattle.std.specs.Prelude.{ℤ, pos, option_map}
 use Rattle.rtx_tree.proofs.Trees.{kids_of-tree, head_of-tree}
-use Rattle.rtx_tree.specs.Code.{class_of_code}
+use Rattle.rtx_tree.specs.Code.{class_of_code, is_effect_class}
 use Rattle.rtx_tree.specs.Tree.{RtxHead, head_of, kids_of, tree_of}
 use Rattle.rtx_tree.specs.declared.code.Code.{Code}
 use Rattle.rtx_tree.specs.declared.code.Code.TheVariants as code
 use Rattle.rtx_tree.specs.declared.code.Mode.{Mode}
 use Rattle.rtx_tree.specs.declared.tree.Rtx.{Rtx, out-roll-Rtx}
 use Rattle.rtx_tree.specs.declared.tree.Rtx.TheOpen.{Rtx-F}
-use Rattle.rtl_func.specs.Shapes.{class_at, mode_at, number_at, is_effect, is_effect_class, is_true_register, is_narrower, fits_row, is_bare, is_shaped}
+use Rattle.rtl_func.specs.Shapes.{class_at, mode_at, number_at, is_effect, is_true_register, is_narrower, fits_row, is_bare, is_shaped}
 use Rattle.rtl_func.proofs.AllPass as nodes
 use Rattle.rtl_func.proofs.AllPass.{all_pass}
 use Rattle.md_match.proofs.Instantiated.{each_made, made_itself}

@@ -3,7 +3,7 @@ use Rattle.std.proofs.Common.{◌≡◌, ◌≢◌, ◌⊎◌, inl, inr, ℕ, Bo
 use Rattle.std.specs.List.{list_all}
 use Rattle.std.specs.Prelude.{ℤ, unwrap_or, option_and_then}
 use Rattle.std.proofs.lemmas.Bool.{and_parts}
-use Rattle.rtx_tree.specs.Code.{class_of_code}
+use Rattle.rtx_tree.specs.Code.{class_of_code, is_effect_class}
 use Rattle.rtx_tree.specs.Tree.{RtxHead, head_of, kids_of, reg_of}
 use Rattle.rtx_tree.specs.declared.class.Class.{Class}
 use Rattle.rtx_tree.specs.declared.class.Class.TheVariants as class
@@ -13,7 +13,7 @@ use Rattle.rtx_tree.specs.declared.code.Mode.{Mode}
 use Rattle.rtx_tree.specs.declared.machine.SymbolAt.{SymbolAt}
 use Rattle.rtx_tree.specs.declared.memories.MemByte.{MemByte}
 use Rattle.rtx_tree.specs.declared.tree.Rtx.{Rtx}
-use Rattle.rtl_func.specs.Shapes.{class_at, mode_at, is_place, is_effect, is_effect_class, is_shaped}
+use Rattle.rtl_func.specs.Shapes.{class_at, mode_at, is_place, is_effect, is_shaped}
 use Rattle.rtl_func.proofs.AllPass.{all_pass}
 use Rattle.rtl_step.specs.Effect.{effect_of, effect_by, clobber_effect, clobber_by, address_of, register_of, register_by, set_place}
 use Rattle.rtl_step.specs.Regs.{Regs}

@@ -17,7 +17,7 @@ use Rattle.rtx_tree.specs.declared.memories.MemByte.{MemByte}
 use Rattle.rtx_tree.specs.declared.tree.Rtx.{Rtx, out-roll-Rtx}
 use Rattle.rtx_tree.specs.declared.tree.Rtx.TheOpen.{Rtx-F}
 use Rattle.rtl_func.specs.Kinds.{is_plain_tree}
-use Rattle.rtl_func.specs.Shapes.{class_at, mode_at, is_place, is_operand, is_effect, is_effect_class, is_shaped}
+use Rattle.rtl_func.specs.Shapes.{class_at, mode_at, is_place, is_operand, is_effect, is_shaped}
 use Rattle.rtl_func.proofs.AllPass as nodes
 use Rattle.rtl_func.proofs.AllPass.{all_pass}
 use Rattle.rtl_step.specs.Effect.{effect_of, effect_by, set_effect, set_place, clobber_effect, clobber_by, address_of, address_part, register_of, register_by}

@@ -5,7 +5,7 @@ use Rattle.std.proofs.lemmas.Bool.{and_parts}
 use Rattle.std.specs.Int.{cast_unsigned, int_wrap, w64}
 use Rattle.std.specs.Ordering.{int_eq}
 use Rattle.std.specs.Prelude.{ℤ, pos, ◌+ℤ◌}
-use Rattle.rtx_tree.specs.Code.{class_of_code}
+use Rattle.rtx_tree.specs.Code.{class_of_code, is_value_class, is_place_class}
 use Rattle.rtx_tree.specs.Tree.{RtxHead, head_of, kids_of, node_of, reg_of, const_of}
 use Rattle.rtx_tree.specs.declared.class.Class.{Class}
 use Rattle.rtx_tree.specs.declared.class.Class.TheVariants as class
@@ -16,7 +16,7 @@ use Rattle.rtx_tree.specs.declared.tree.Rtx.{Rtx}
 use Rattle.rtx_tree.proofs.Trees.{head_of-tree}
 use Rattle.rtl_func.specs.Modes.{register_by}
 use Rattle.rtl_func.specs.Effects.{place_register_by, place_register, changed_by, changed_register, is_stack_register}
-use Rattle.rtl_func.specs.Shapes.{class_at, mode_at, number_at, has_mode, is_value_class, is_constant_class, is_place, is_place_class, is_bare, fits_row, is_shaped}
+use Rattle.rtl_func.specs.Shapes.{class_at, mode_at, number_at, has_mode, is_constant_class, is_place, is_bare, fits_row, is_shaped}
 use Rattle.md_operand.specs.Addresses.{is_stack_vars}
 use Rattle.reload_homes.specs.FrameRefs.{from_sp, offset_by, frame_offset, framed}
 use Rattle.reload_homes.proofs.Rewrites.{framed_reference, framed_over}

@@ -11,7 +11,7 @@ use Rattle.rtx_tree.specs.declared.code.Code.TheVariants as code
 use Rattle.rtx_tree.specs.declared.machine.SymbolAt.{SymbolAt}
 use Rattle.rtx_tree.specs.declared.memories.MemByte.{MemByte}
 use Rattle.rtx_tree.specs.declared.tree.Rtx.{Rtx}
-use Rattle.rtl_func.specs.Shapes.{class_at, mode_at, is_place, is_operand, is_effect, is_effect_class}
+use Rattle.rtl_func.specs.Shapes.{class_at, mode_at, is_place, is_operand, is_effect}
 use Rattle.rtl_func.proofs.AllPass as nodes
 use Rattle.rtl_func.proofs.AllPass.{all_pass}
 use Rattle.rtl_step.specs.Effect.{effect_of, effect_by, clobber_effect, address_of, set_place}

@@ -6,7 +6,7 @@ use Rattle.std.specs.List.{AllByRecursion, list_all}
 use Rattle.std.specs.Ordering.{int_eq}
 use Rattle.std.specs.Prelude.{ℤ, pos, negsuc}
 use Rattle.rtx_tree.proofs.Trees.{head_of-tree, kids_of-tree}
-use Rattle.rtx_tree.specs.Code.{class_of_code}
+use Rattle.rtx_tree.specs.Code.{class_of_code, is_value_class}
 use Rattle.rtx_tree.specs.Tree.{RtxHead, head_of, kids_of, tree_of, node_of, reg_of, const_of}
 use Rattle.rtx_tree.specs.declared.class.Class.{Class}
 use Rattle.rtx_tree.specs.declared.class.Class.TheVariants as class
@@ -16,7 +16,7 @@ use Rattle.rtx_tree.specs.declared.code.Mode.{Mode}
 use Rattle.rtx_tree.specs.declared.code.Mode.TheVariants.{Void, DI}
 use Rattle.rtx_tree.specs.declared.tree.Rtx.{Rtx, out-Rtx, out-roll-Rtx}
 use Rattle.rtx_tree.specs.declared.tree.Rtx.TheOpen.{Rtx-F}
-use Rattle.rtl_func.specs.Shapes.{class_at, mode_at, number_at, has_mode, same_mode, is_value_class, is_constant_class, is_narrower, is_true_register, fits_one, is_operand, is_register_number, fits_row, is_bare, is_shaped}
+use Rattle.rtl_func.specs.Shapes.{class_at, mode_at, number_at, has_mode, same_mode, is_constant_class, is_narrower, is_true_register, fits_one, is_operand, is_register_number, fits_row, is_bare, is_shaped}
 use Rattle.rtl_func.proofs.AllPass as nodes
 use Rattle.rtl_func.proofs.AllPass.{all_pass, pass_out}
 use Rattle.sym_insns.specs.Shape.{all_natural}

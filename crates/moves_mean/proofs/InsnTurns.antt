@@ -5,7 +5,7 @@ use Rattle.std.specs.Prelude.{ℤ, option_map, option_and_then, unwrap_or}
 use Rattle.std.proofs.lemmas.Bool.{and_parts}
 use Rattle.std.proofs.lemmas.Bool.Decides.{nat_tests}
 use Rattle.rtx_tree.proofs.Trees.{kids_of-tree}
-use Rattle.rtx_tree.specs.Code.{class_of_code}
+use Rattle.rtx_tree.specs.Code.{class_of_code, is_effect_class}
 use Rattle.rtx_tree.specs.Tree.{RtxHead, head_of, kids_of}
 use Rattle.rtx_tree.specs.declared.class.Class.{Class}
 use Rattle.rtx_tree.specs.declared.class.Class.TheVariants as class
@@ -17,7 +17,7 @@ use Rattle.rtx_tree.specs.declared.memories.MemByte.{MemByte}
 use Rattle.rtx_tree.specs.declared.tree.Rtx.{Rtx, out-roll-Rtx}
 use Rattle.rtx_tree.specs.declared.tree.Rtx.TheOpen.{Rtx-F}
 use Rattle.rtl_func.specs.Kinds.{is_plain_tree}
-use Rattle.rtl_func.specs.Shapes.{class_at, mode_at, number_at, has_mode, is_effect, is_effect_class, fits_row, is_bare, is_shaped}
+use Rattle.rtl_func.specs.Shapes.{class_at, mode_at, number_at, has_mode, is_effect, fits_row, is_bare, is_shaped}
 use Rattle.rtl_func.proofs.AllPass.{all_pass}
 use Rattle.rtl_step.specs.Effect.{effect_of, all_effects, one_effect, effects_of, effects_by}
 use Rattle.rtl_step.specs.Regs.{Regs}

@@ -5,7 +5,7 @@ use Rattle.std.specs.List.{flat_map, list_all, list_any}
 use Rattle.std.specs.Prelude.{ℤ, pos}
 use Rattle.bits64.specs.declared.Width.TheVariants.{W64}
 use Rattle.rtx_tree.proofs.Trees.{head_of-tree, kids_of-tree}
-use Rattle.rtx_tree.specs.Code.{class_of_code}
+use Rattle.rtx_tree.specs.Code.{class_of_code, is_effect_class}
 use Rattle.rtx_tree.specs.Operands.{put_at}
 use Rattle.rtx_tree.specs.Patterns.{is_pc, is_pc_code}
 use Rattle.rtx_tree.specs.Tree.{RtxHead, head_of, kids_of, tree_of, reg_of}
@@ -18,7 +18,7 @@ use Rattle.rtx_tree.specs.declared.machine.SymbolAt.{SymbolAt}
 use Rattle.rtx_tree.specs.declared.memories.MemByte.{MemByte}
 use Rattle.rtx_tree.specs.declared.tree.Rtx.{Rtx}
 use Rattle.rtl_func.specs.Kinds.{is_jump_by, is_jump_tree}
-use Rattle.rtl_func.specs.Shapes.{class_at, mode_at, is_constant, is_constant_class, is_label_class, is_counter_class, is_comparison_class, is_jump_source_class, is_effect, is_effect_class, is_shaped}
+use Rattle.rtl_func.specs.Shapes.{class_at, mode_at, is_constant, is_constant_class, is_label_class, is_counter_class, is_comparison_class, is_jump_source_class, is_effect, is_shaped}
 use Rattle.rtl_func.proofs.AllPass as nodes
 use Rattle.rtl_func.proofs.AllPass.{all_pass}
 use Rattle.rtl_step.specs.Jump.{way_of, jump_of}

@@ -5,7 +5,7 @@ use Rattle.std.specs.List.{list_all}
 use Rattle.std.proofs.lemmas.Bool.{and_parts}
 use Rattle.bits64.specs.declared.Width.{Width}
 use Rattle.bits64.specs.declared.Width.TheVariants.{W64}
-use Rattle.rtx_tree.specs.Code.{class_of_code}
+use Rattle.rtx_tree.specs.Code.{class_of_code, is_place_class}
 use Rattle.rtx_tree.specs.Patterns.{is_pc, is_pc_code, label_uid, label_of}
 use Rattle.rtx_tree.specs.Tree.{RtxHead, head_of, kids_of, mentions_reg}
 use Rattle.rtx_tree.specs.declared.class.Class.{Class}
@@ -17,7 +17,7 @@ use Rattle.rtx_tree.specs.declared.machine.SymbolAt.{SymbolAt}
 use Rattle.rtx_tree.specs.declared.memories.MemByte.{MemByte}
 use Rattle.rtx_tree.specs.declared.tree.Rtx.{Rtx}
 use Rattle.rtl_func.specs.Kinds.{is_jump_by, is_jump_tree}
-use Rattle.rtl_func.specs.Shapes.{class_at, mode_at, number_at, has_mode, is_place_class, is_counter_class, is_jump_source_class, is_comparison_class, is_label_class, is_constant, is_constant_class, is_set_to, is_choice, is_bare, fits_row, is_shaped}
+use Rattle.rtl_func.specs.Shapes.{class_at, mode_at, number_at, has_mode, is_counter_class, is_jump_source_class, is_comparison_class, is_label_class, is_constant, is_constant_class, is_set_to, is_choice, is_bare, fits_row, is_shaped}
 use Rattle.rtl_func.proofs.AllPass.{all_pass, itself, within}
 use Rattle.rtl_step.specs.Jump as jump
 use Rattle.rtl_step.specs.Jump.{jump_of}

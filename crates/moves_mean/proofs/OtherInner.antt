@@ -4,7 +4,7 @@ use Rattle.std.proofs.lemmas.Bool.{and_parts, or_left}
 use Rattle.std.specs.List.{list_all, list_any}
 use Rattle.std.specs.Prelude.{ℤ, pos, slice_get, unwrap_or}
 use Rattle.rtx_tree.proofs.Trees.{head_of-tree, kids_of-tree, tree_of-parts}
-use Rattle.rtx_tree.specs.Code.{class_of_code}
+use Rattle.rtx_tree.specs.Code.{class_of_code, is_effect_class}
 use Rattle.rtx_tree.specs.Patterns.{is_pc, is_pc_code}
 use Rattle.rtx_tree.specs.Tree.{RtxHead, head_of, kids_of, tree_of, reg_of}
 use Rattle.rtx_tree.specs.declared.class.Class.{Class}
@@ -19,7 +19,7 @@ use Rattle.rtx_tree.specs.declared.memories.MemByte.{MemByte}
 use Rattle.rtx_tree.specs.declared.tree.Rtx.{Rtx, out-roll-Rtx}
 use Rattle.rtx_tree.specs.declared.tree.Rtx.TheOpen.{Rtx-F}
 use Rattle.rtl_func.specs.Kinds.{is_jump_by, is_jump_tree, is_call_by, is_call_tree, kinds_agree}
-use Rattle.rtl_func.specs.Shapes.{class_at, is_effect, is_effect_class, is_call_class, is_shaped}
+use Rattle.rtl_func.specs.Shapes.{class_at, is_effect, is_call_class, is_shaped}
 use Rattle.rtl_func.proofs.AllPass as nodes
 use Rattle.rtl_func.proofs.AllPass.{all_pass}
 use Rattle.rtl_step.specs.Effect.{address_of, address_part}

@@ -6,7 +6,7 @@ use Rattle.std.specs.Ordering.{int_eq}
 use Rattle.std.specs.Prelude.{ℤ, ◌+ℤ◌, pos, is_some, slice_get, option_map, option_and_then}
 use Rattle.bits64.specs.Words.{bytes_of}
 use Rattle.bits64.specs.declared.Width.{Width}
-use Rattle.rtx_tree.specs.Code.{class_of_code}
+use Rattle.rtx_tree.specs.Code.{class_of_code, is_effect_class}
 use Rattle.rtx_tree.specs.Tree.{RtxHead, head_of, kids_of, node_of, reg_of, const_of}
 use Rattle.rtx_tree.specs.declared.code.Code.{Code}
 use Rattle.rtx_tree.specs.declared.code.Code.TheVariants as code
@@ -18,7 +18,7 @@ use Rattle.rtx_tree.specs.declared.tree.Rtx.{Rtx}
 use Rattle.rtx_tree.proofs.Trees.{head_of-tree, kids_of-tree}
 use Rattle.run_memory.specs.RunMemory.{load}
 use Rattle.run_memory.proofs.Laws.{Apart}
-use Rattle.rtl_func.specs.Shapes.{is_effect, is_effect_class}
+use Rattle.rtl_func.specs.Shapes.{is_effect}
 use Rattle.rtl_step.specs.Effect.{effect_by, effect_of, effects_by, effects_of, one_effect, all_effects, register_by, set_effect}
 use Rattle.rtl_step.specs.Regs.{Regs, known_of}
 use Rattle.rtl_step.specs.declared.effect.Effect.{Effect}

@@ -4,7 +4,7 @@ use Rattle.std.specs.List.{list_all, list_any}
 use Rattle.std.proofs.lemmas.Bool.{and_parts}
 use Rattle.bits64.specs.declared.Width.{Width}
 use Rattle.rtx_tree.proofs.Trees.{same_parts}
-use Rattle.rtx_tree.specs.Code.{class_of_code}
+use Rattle.rtx_tree.specs.Code.{class_of_code, is_place_class}
 use Rattle.rtx_tree.specs.Patterns.{is_pc, is_pc_code}
 use Rattle.rtx_tree.specs.Tree.{RtxHead, head_of, kids_of, mentions_reg}
 use Rattle.rtx_tree.specs.declared.class.Class.{Class}
@@ -16,7 +16,7 @@ use Rattle.rtx_tree.specs.declared.machine.SymbolAt.{SymbolAt}
 use Rattle.rtx_tree.specs.declared.memories.MemByte.{MemByte}
 use Rattle.rtx_tree.specs.declared.tree.Rtx.{Rtx}
 use Rattle.rtl_func.specs.Kinds.{is_jump_by, is_jump_tree, is_plain_tree}
-use Rattle.rtl_func.specs.Shapes.{class_at, mode_at, number_at, has_mode, is_place, is_place_class, is_operand, is_set_to, is_call_class, is_counter_class, is_jump_source_class, is_bare, fits_row, is_shaped}
+use Rattle.rtl_func.specs.Shapes.{class_at, mode_at, number_at, has_mode, is_place, is_operand, is_set_to, is_call_class, is_counter_class, is_jump_source_class, is_bare, fits_row, is_shaped}
 use Rattle.rtl_func.proofs.AllPass.{all_pass, itself, within}
 use Rattle.rtl_step.specs.Effect.{effect_of, set_effect, clobber_effect, clobber_by, address_of, address_part, register_of, register_by}
 use Rattle.rtl_step.specs.Regs.{Regs}

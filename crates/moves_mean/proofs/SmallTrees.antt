@@ -7,7 +7,7 @@ use Rattle.std.specs.Int.{cast_unsigned, w64}
 use Rattle.std.specs.List.{AllByRecursion, list_all, list_any}
 use Rattle.std.specs.Ordering.{int_eq}
 use Rattle.std.specs.Prelude.{ℤ, pos, nat_le, nat_lt}
-use Rattle.rtx_tree.specs.Code.{class_of_code}
+use Rattle.rtx_tree.specs.Code.{class_of_code, is_value_class}
 use Rattle.rtx_tree.specs.Tree.{head_of, kids_of, node_of, reg_of, const_of, is_reg_numbered, mentions_reg}
 use Rattle.rtx_tree.specs.declared.code.Code.{Code}
 use Rattle.rtx_tree.specs.declared.code.Code.TheVariants as code
@@ -17,7 +17,7 @@ use Rattle.rtx_tree.specs.declared.tree.Rtx.{Rtx, out-Rtx, roll-Rtx, out-roll-Rt
 use Rattle.rtx_tree.specs.declared.tree.Rtx.TheFolds.{fold_out-Rtx, ind-Rtx}
 use Rattle.rtx_tree.specs.declared.tree.Rtx.TheOpen.{Rtx-F}
 use Rattle.rtx_tree.proofs.Trees.{kids_of-tree, mentions_out}
-use Rattle.rtl_func.specs.Shapes.{has_mode, same_mode, is_constant_class, is_value_class, is_operand, is_register_number, is_bare, fits_row, is_shaped}
+use Rattle.rtl_func.specs.Shapes.{has_mode, same_mode, is_constant_class, is_operand, is_register_number, is_bare, fits_row, is_shaped}
 use Rattle.rtl_func.proofs.AllPass.{all_pass, pass_out}
 use Rattle.sym_insns.specs.Shape.{is_natural, natural_step, all_natural}
 

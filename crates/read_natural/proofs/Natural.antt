@@ -22,7 +22,7 @@ use Rattle.rtl_read.specs.Syntax.{functions_in}
 use Rattle.func_input.specs.Input.{IsInput}
 use Rattle.sym_insns.specs.Shape.{all_natural}
 use Rattle.func_rules.proofs.Entries.{OfSorts, each_read}
-use Rattle.func_rules.proofs.Standing.{weaker, IfStands, any_stands, map_stands, then_stands, each_stands}
+use Rattle.lisp_read.proofs.Standing.{weaker, IfStands, any_stands, map_stands, then_stands, each_stands}
 use Rattle.read_natural.proofs.Trees.{Natural, natural_node, natural_read}
 
 stands_where : {A : Type 0} (P : A → Type 0) (p : Parsed A) → ((x : A) → p ≡ stands x → P x) → IfStands P p

@@ -3,7 +3,7 @@ use Rattle.std.proofs.Common.{◌≡◌, ℕ, ◌&&◌, ◌||◌, not, Bool, tru
 use Rattle.std.specs.List.{list_all}
 use Rattle.std.specs.Prelude.{ℤ}
 use Rattle.std.proofs.lemmas.Bool.{false≢true, and_parts}
-use Rattle.rtx_tree.specs.Code.{class_of_code}
+use Rattle.rtx_tree.specs.Code.{class_of_code, is_place_class}
 use Rattle.rtx_tree.specs.Patterns.{is_pc_code}
 use Rattle.rtx_tree.specs.Tree.{head_of, kids_of}
 use Rattle.rtx_tree.specs.declared.class.Class.{Class}
@@ -15,7 +15,7 @@ use Rattle.rtx_tree.specs.declared.tree.Rtx.{Rtx}
 use Rattle.md_operand.specs.Addresses as address
 use Rattle.md_operand.specs.Addresses.{is_any, is_constant_at}
 use Rattle.rtl_func.specs.Kinds.{is_jump_by, is_jump_tree}
-use Rattle.rtl_func.specs.Shapes.{mode_at, number_at, class_at, has_mode, is_bare, is_constant, is_constant_class, is_place_class, is_counter_class, is_jump_source_class, is_comparison_class, is_label_class, is_choice, is_set_to, fits_row, is_shaped}
+use Rattle.rtl_func.specs.Shapes.{mode_at, number_at, class_at, has_mode, is_bare, is_constant, is_constant_class, is_counter_class, is_jump_source_class, is_comparison_class, is_label_class, is_choice, is_set_to, fits_row, is_shaped}
 use Rattle.rtl_func.proofs.AllPass.{all_pass, itself, within}
 use Rattle.homes_mean.specs.Placed.{source_label, label_by, names_constant}
 

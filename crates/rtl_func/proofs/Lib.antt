@@ -6,4 +6,5 @@ pub mod PathLaws
 pub mod ModeLaws
 pub mod NameLaws
 pub mod RuleLaws
+pub mod ShapeLaws
 pub mod FaultLaws

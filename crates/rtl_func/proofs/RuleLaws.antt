@@ -24,7 +24,7 @@ all_within : (test : Rtx → Bool) (kids : List Rtx) → list_all test (flat_map
 all_within test [] = refl
 all_within test (k ∷ kids) = all-append test (nodes_of k) (flat_map nodes_of kids) ∙ ap (λ rest. list_all test (nodes_of k) && rest) (all_within test kids)
 
-all_out : (test : Rtx → Bool) (x : Rtx) → list_all test (nodes_of x) ≡ (test x && list_all (λ k. list_all test (nodes_of k)) (kids_of x))
+pub all_out : (test : Rtx → Bool) (x : Rtx) → list_all test (nodes_of x) ≡ (test x && list_all (λ k. list_all test (nodes_of k)) (kids_of x))
 all_out test x = ap (list_all test) (nodes_out x) ∙ ap (λ rest. test x && rest) (all_within test (kids_of x))
 
 pub tree_out : (rule : TreeRule) (x : Rtx) → trees_keep rule x ≡ (tree_keeps rule x && list_all (trees_keep rule) (kids_of x))

@@ -4,7 +4,7 @@
 use Rattle.std.specs.Prelude.{ℕ, ◌||◌, ◌&&◌, ◌==◌, nat_le, nat_lt, not, Bool, true, false, List, [], ◌∷◌}
 use Rattle.std.specs.Int.{cast_unsigned, w64}
 use Rattle.std.specs.List.{list_all}
-use Rattle.rtx_tree.specs.Code.{class_of_code}
+use Rattle.rtx_tree.specs.Code.{class_of_code, is_value_class, is_place_class, is_effect_class}
 use Rattle.rtx_tree.specs.declared.code.Mode.{Mode}
 use Rattle.rtx_tree.specs.declared.code.Mode.TheVariants.{Void, QI, HI, SI, DI}
 use Rattle.rtx_tree.specs.declared.tree.Rtx.{Rtx, out-Rtx}
@@ -51,44 +51,15 @@ is_constant_class _ = false
 abbrev pub is_constant : Rtx → Bool
 is_constant x = is_constant_class (class_at x)
 
--- a place that is set: a register, its low part, or memory
-abbrev pub is_place_class : Class → Bool
-is_place_class class.Register = true
-is_place_class class.Memory = true
-is_place_class class.Lowpart = true
-is_place_class _ = false
-
+-- a place that is set
 abbrev pub is_place : Rtx → Bool
 is_place x = is_place_class (class_at x)
 
 -- a value
-abbrev pub is_value_class : Class → Bool
-is_value_class class.Register = true
-is_value_class class.Constant = true
-is_value_class class.Symbol = true
-is_value_class class.Memory = true
-is_value_class class.Lowpart = true
-is_value_class class.Binary = true
-is_value_class class.Unary = true
-is_value_class class.Shift = true
-is_value_class class.Extension = true
-is_value_class class.Truncation = true
-is_value_class class.Comparison = true
-is_value_class _ = false
-
 abbrev pub is_value : Rtx → Bool
 is_value x = is_value_class (class_at x)
 
 -- an effect
-abbrev pub is_effect_class : Class → Bool
-is_effect_class class.Setting = true
-is_effect_class class.Use = true
-is_effect_class class.Clobber = true
-is_effect_class class.Parallel = true
-is_effect_class class.Call = true
-is_effect_class class.Return = true
-is_effect_class _ = false
-
 abbrev pub is_effect : Rtx → Bool
 is_effect x = is_effect_class (class_at x)
 

@@ -54,39 +54,20 @@ pub fn is_constant(x: &Rtx) -> bool
 pub fn is_place(x: &Rtx) -> bool
     ensures { result ≡ spec.is_place x.now }
 {
-    matches!(
-        class_at(x),
-        Class::Register | Class::Memory | Class::Lowpart
-    )
+    class_at(x).is_place()
 }
 
 fn is_value(x: &Rtx) -> bool
     ensures { result ≡ spec.is_value x.now }
 {
-    matches!(
-        class_at(x),
-        Class::Register
-            | Class::Constant
-            | Class::Symbol
-            | Class::Memory
-            | Class::Lowpart
-            | Class::Binary
-            | Class::Unary
-            | Class::Shift
-            | Class::Extension
-            | Class::Truncation
-            | Class::Comparison
-    )
+    class_at(x).is_value()
 }
 
 /// Whether a tree is an effect.
 pub fn is_effect(x: &Rtx) -> bool
     ensures { result ≡ spec.is_effect x.now }
 {
-    matches!(
-        class_at(x),
-        Class::Setting | Class::Use | Class::Clobber | Class::Parallel | Class::Call | Class::Return
-    )
+    class_at(x).is_effect()
 }
 
 fn is_operand(mode: Mode, x: &Rtx) -> bool

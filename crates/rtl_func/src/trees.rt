@@ -1,5 +1,6 @@
 //! What the rules ask of each tree within a pattern, whatever the function is.
-ghost use Rattle.std.specs.Prelude.{◌≡◌};
+ghost use Rattle.std.specs.Prelude.{◌≡◌, IsTrue};
+ghost use Rattle.rtx_tree.specs.Tree.{HaveTheirParts};
 ghost use Rattle.rtl_func.specs.Calls as calls;
 ghost use Rattle.rtl_func.specs.Effects as effects;
 ghost use Rattle.rtl_func.specs.Kinds as kinds;
@@ -71,7 +72,9 @@ pub fn kinds_agree(kind: Kind, pattern: &Rtx) -> bool
 /// Whether a pattern is an effect whose trees have the parts of their rows of the table, each with
 /// its mode. The mode of a call's memory is not asked.
 pub fn shapes_agree(pattern: &Rtx) -> bool
-    ensures { result ≡ modes.shapes_agree pattern.now }
+    ensures agree { result ≡ modes.shapes_agree pattern.now }
+    // Then each tree in it has as many kids as the row of its code says.
+    ensures parts { IsTrue result → HaveTheirParts pattern.now }
 {
     is_effect(pattern) && trees_keep(TreeRule::IsShaped, pattern)
 }

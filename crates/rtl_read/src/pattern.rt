@@ -9,17 +9,17 @@ ghost use Rattle.rtl_read.specs.machine.Head as head;
 use crate::head::named_code;
 use lisp_read::{RtlRefusal, Tree, outside, rtx_of_tree};
 use plain_data::Memory;
-use rtx_tree::{Code, Rtx};
+use rtx_tree::Rtx;
 use std::alloc::Global;
 
-/// Whether the head of the tree names the code of a pattern.
+/// Whether the head of the tree names the code of an effect.
 fn names_pattern(tree: &Tree) -> bool
     ensures { result ≡ head.names_pattern tree.now }
 {
-    matches!(
-        named_code(tree),
-        Some(Code::Set | Code::Use | Code::Clobber | Code::Parallel | Code::Call | Code::Return)
-    )
+    match named_code(tree) {
+        Some(code) => code.class().is_effect(),
+        None => false,
+    }
 }
 
 /// What an instruction does.

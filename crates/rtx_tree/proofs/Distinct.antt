@@ -1,7 +1,10 @@
 -- A list of names in which a test finds no name twice holds each at one place alone.
-use Rattle.std.proofs.Common.{◌≡◌, ℕ, zero, suc, Bool, true, false, ◌&&◌, ◌||◌, not, List, [], ◌∷◌, Some, refl, ap}
-use Rattle.std.specs.Prelude.{slice_get, bytes_eq}
+use Rattle.std.proofs.Common.{◌≡◌, ℕ, zero, suc, Bool, true, false, ◌&&◌, ◌||◌, not, List, [], ◌∷◌, map, Some, refl, ap, ◌∙◌}
+use Rattle.std.specs.Prelude.{slice_get, bytes_eq, option_map}
+use Rattle.std.proofs.lemmas.Option.{slice_get-map}
 use Rattle.std.proofs.lemmas.Slice.Eq.{bytes_eq-Decides}
+use Rattle.rtx_tree.specs.declared.code.Code.{Code}
+use Rattle.rtx_tree.specs.Code.{code_name, all_codes, HasOnce}
 use Rattle.rtx_tree.specs.Registers.{reg_names}
 
 abbrev is_in : List ℕ → List (List ℕ) → Bool
@@ -35,3 +38,11 @@ one_place (first ∷ names) (suc i) (suc j) name different here there = ap suc (
 -- no two registers have one name
 pub one_register : (i j : ℕ) (name : List ℕ) → slice_get reg_names i ≡ Some name → slice_get reg_names j ≡ Some name → i ≡ j
 one_register i j name = one_place reg_names i j name refl
+
+-- a code stands where its name does
+name_at : (c : Code) (i : ℕ) → slice_get all_codes i ≡ Some c → slice_get (map code_name all_codes) i ≡ Some (code_name c)
+name_at c i here = slice_get-map code_name all_codes i ∙ ap (option_map code_name) here
+
+-- no two codes of the list have one name, so none stands twice
+pub has_once : HasOnce
+has_once c i j here there = one_place (map code_name all_codes) i j (code_name c) refl (name_at c i here) (name_at c j there)

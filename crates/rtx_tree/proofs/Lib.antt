@@ -7,5 +7,6 @@ pub mod MemoryLaws
 pub mod MemoryPlaces
 pub mod MemoryWrites
 pub mod OperandLaws
+pub mod PartLaws
 pub mod Results
 pub mod Trees

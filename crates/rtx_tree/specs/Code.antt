@@ -1,8 +1,8 @@
 -- The table of RTL's codes, and the machine modes: GCC Internals, "RTL Expressions", "RTL Classes"
 -- and "Machine Modes". Each code has its name and its class; a class says what stands behind the
--- code in its list, whether a mode is written there, and, by its name, what an expression of the
--- code is.
-use Rattle.std.specs.Prelude.{◌≡◌, ℕ, List, [], ◌∷◌, Some, slice_get, codes}
+-- code in its list, how many kids its tree has, whether a mode is written there, whether it is a
+-- value, a place or an effect, and, by its name, what an expression of the code is.
+use Rattle.std.specs.Prelude.{◌≡◌, ℕ, Bool, true, false, List, [], ◌∷◌, Some, slice_get, codes}
 use Rattle.rtx_tree.specs.declared.code.Code.{Code}
 use Rattle.rtx_tree.specs.declared.code.Code.TheVariants as code
 use Rattle.rtx_tree.specs.declared.code.Mode.{Mode}
@@ -103,6 +103,10 @@ all_codes =
 abbrev pub HasEvery : Type 0
 HasEvery = (c : Code) → (place : ℕ) × (slice_get all_codes place ≡ Some c)
 
+-- no code stands at two places of the list
+abbrev pub HasOnce : Type 0
+HasOnce = (c : Code) (a b : ℕ) → slice_get all_codes a ≡ Some c → slice_get all_codes b ≡ Some c → a ≡ b
+
 -- ---- the classes
 
 -- what stands behind a code in its list ("RTL Template"). In a function a label is its uid alone
@@ -134,6 +138,16 @@ parts_of class.OperandScratch = Scratch
 parts_of class.Operator = Operator
 parts_of class.OperatorAgain = OperatorDup
 
+-- how many kids a tree has by what stands behind its code: words are no kids, and neither is a
+-- lowpart's offset; a vector is any number of kids
+abbrev pub HasKids : Parts → ℕ → Type 0
+HasKids (Expressions count) kids = kids ≡ count
+HasKids Lowpart kids = kids ≡ 1
+HasKids Vector kids = Unit {0}
+HasKids Operator kids = Unit {0}
+HasKids OperatorDup kids = Unit {0}
+HasKids _ kids = kids ≡ 0
+
 -- whether a mode is written behind the code
 abbrev pub head_mode_of : Class → HeadMode
 head_mode_of class.Register = Needed
@@ -152,6 +166,38 @@ head_mode_of class.Operator = Needed
 head_mode_of class.Comparison = Optional
 head_mode_of class.Label = Ignored
 head_mode_of _ = Absent
+
+-- what has a value, also as an address or a shift count
+abbrev pub is_value_class : Class → Bool
+is_value_class class.Register = true
+is_value_class class.Constant = true
+is_value_class class.Symbol = true
+is_value_class class.Memory = true
+is_value_class class.Lowpart = true
+is_value_class class.Unary = true
+is_value_class class.Binary = true
+is_value_class class.Shift = true
+is_value_class class.Extension = true
+is_value_class class.Truncation = true
+is_value_class class.Comparison = true
+is_value_class _ = false
+
+-- what may be set
+abbrev pub is_place_class : Class → Bool
+is_place_class class.Register = true
+is_place_class class.Memory = true
+is_place_class class.Lowpart = true
+is_place_class _ = false
+
+-- an effect: what an instruction or an element of a `parallel` may be
+abbrev pub is_effect_class : Class → Bool
+is_effect_class class.Setting = true
+is_effect_class class.Use = true
+is_effect_class class.Clobber = true
+is_effect_class class.Parallel = true
+is_effect_class class.Call = true
+is_effect_class class.Return = true
+is_effect_class _ = false
 
 -- ---- the modes
 

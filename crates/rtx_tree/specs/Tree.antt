@@ -1,7 +1,8 @@
 -- Expressions of RTL as trees: GCC Internals, "RTL Objects" and "RTL Expressions".
-use Rattle.std.specs.Prelude.{ℕ, suc, ℤ, pos, Bool, false, ◌||◌, List, [], ◌∷◌, sum, Option, Some, None, option_map, option_and_then, slice_get, slice_set}
+use Rattle.std.specs.Prelude.{ℕ, suc, ℤ, pos, Bool, false, ◌||◌, List, [], ◌∷◌, length, sum, Option, Some, None, IfSome, option_map, option_and_then, slice_get, slice_set}
 use Rattle.std.specs.Ordering.{int_eq}
 use Rattle.std.specs.List.{list_any}
+use Rattle.rtx_tree.specs.Code.{class_of_code, parts_of, HasKids}
 use Rattle.rtx_tree.specs.declared.code.Code.{Code}
 use Rattle.rtx_tree.specs.declared.code.Code.TheVariants.{Reg, ConstInt}
 use Rattle.rtx_tree.specs.declared.code.Mode.{Mode}
@@ -23,6 +24,10 @@ head_of x =
 
 abbrev pub kids_of : Rtx → List Rtx
 kids_of x = (out-Rtx x).kids
+
+-- the tree has as many kids as the row of its code says
+abbrev pub HasItsParts : Rtx → Type 0
+HasItsParts x = HasKids (parts_of (class_of_code (out-Rtx x).code)) (length (kids_of x))
 
 -- the tree of a head and kids
 abbrev pub tree_of : RtxHead → List Rtx → Rtx
@@ -68,6 +73,10 @@ part_at x (k ∷ path) = option_and_then (λ kid. part_at kid path) (slice_get (
 abbrev pub changed_at : {A : Type 0} → List A → ℕ → Option A → List A
 changed_at items place None = items
 changed_at items place (Some item) = slice_set items place item
+
+-- the tree and each part of it has as many kids as the row of its code says
+abbrev pub HaveTheirParts : Rtx → Type 0
+HaveTheirParts x = (path : List ℕ) → IfSome (part_at x path) HasItsParts
 
 -- the tree with another part at a path of kid indices that exists
 abbrev pub replaced_at : List ℕ → Rtx → Rtx → Rtx

@@ -153,4 +153,47 @@ impl Class {
             _ => HeadMode::Absent,
         }
     }
+
+    /// Whether an expression of this class has a value.
+    pub fn is_value(self) -> bool
+        ensures { result ≡ spec.is_value_class self }
+    {
+        matches!(
+            self,
+            Class::Register
+                | Class::Constant
+                | Class::Symbol
+                | Class::Memory
+                | Class::Lowpart
+                | Class::Unary
+                | Class::Binary
+                | Class::Shift
+                | Class::Extension
+                | Class::Truncation
+                | Class::Comparison
+        )
+    }
+
+    /// Whether an expression of this class may be set.
+    pub fn is_place(self) -> bool
+        ensures { result ≡ spec.is_place_class self }
+    {
+        matches!(self, Class::Register | Class::Memory | Class::Lowpart)
+    }
+
+    /// Whether an expression of this class is an effect, as an instruction or an element of a
+    /// `parallel` may be.
+    pub fn is_effect(self) -> bool
+        ensures { result ≡ spec.is_effect_class self }
+    {
+        matches!(
+            self,
+            Class::Setting
+                | Class::Use
+                | Class::Clobber
+                | Class::Parallel
+                | Class::Call
+                | Class::Return
+        )
+    }
 }

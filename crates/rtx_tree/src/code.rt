@@ -1,7 +1,7 @@
 //! The codes and machine modes of RTL, with their names.
 ghost use Rattle.std.specs.Prelude.{◌≡◌, ◌≢◌, ◌↔◌, IsTrue, MatchOption};
 ghost use Rattle.rtx_tree.specs.Code as spec;
-ghost use Rattle.rtx_tree.specs.Code.{HasEvery, class_of_code, code_name, mode_name};
+ghost use Rattle.rtx_tree.specs.Code.{HasEvery, HasOnce, class_of_code, code_name, mode_name};
 ghost use Rattle.rtx_tree.specs.machine.Row.{row_view};
 
 use crate::class::Class;
@@ -255,10 +255,11 @@ impl Code {
     ghost use Rattle.rtx_tree.specs.declared.code.Code.{Code};
 
     /// Every code, once.
-    #[tactic(auto, using(crate::proofs::Codes::has_every))]
+    #[tactic(auto, using(crate::proofs::Codes::has_every, crate::proofs::Distinct::has_once))]
     pub fn all() -> &'static [Code]
         ensures all { result.now ≡ spec.all_codes }
         ensures every { HasEvery }
+        ensures once { HasOnce }
     {
         &CODES
     }

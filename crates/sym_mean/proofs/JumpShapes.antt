@@ -3,7 +3,7 @@ use Rattle.std.proofs.Common.{◌≡◌, ℕ, ◌&&◌, Bool, true, false, List,
 use Rattle.std.specs.List.{list_all, flat_map, AllByRecursion}
 use Rattle.std.specs.Int.{cast_unsigned, w64}
 use Rattle.std.proofs.lemmas.List.Folds.{list_all-append}
-use Rattle.rtx_tree.specs.Code.{class_of_code}
+use Rattle.rtx_tree.specs.Code.{class_of_code, is_place_class}
 use Rattle.rtx_tree.specs.Patterns.{is_pc, is_pc_code, label_of, label_uid}
 use Rattle.rtx_tree.specs.declared.class.Class.{Class}
 use Rattle.rtx_tree.specs.declared.class.Class.TheVariants as class
@@ -14,7 +14,7 @@ use Rattle.rtx_tree.specs.declared.tree.Rtx.{Rtx, out-Rtx}
 use Rattle.rtl_func.specs.Kinds.{is_jump_by, is_jump_tree}
 use Rattle.rtl_func.specs.Modes.{shapes_agree}
 use Rattle.rtl_func.specs.Nodes.{nodes_of}
-use Rattle.rtl_func.specs.Shapes.{class_at, mode_at, number_at, is_bare, is_effect, is_place_class, is_jump_source_class, is_counter_class, is_comparison_class, is_label_class, is_set_to, is_choice, fits_two, fits_row, is_shaped}
+use Rattle.rtl_func.specs.Shapes.{class_at, mode_at, number_at, is_bare, is_effect, is_jump_source_class, is_counter_class, is_comparison_class, is_label_class, is_set_to, is_choice, fits_two, fits_row, is_shaped}
 use Rattle.rtl_func.proofs.NodeLaws.{nodes_out}
 use Rattle.reg_uses.specs.Uses.{is_return_code}
 use Rattle.sym_mean.proofs.Bools.{both_of, other_of, none_of}

@@ -2,15 +2,14 @@
 use Rattle.std.specs.Prelude.{ℕ, Bool, true, false, ◌&&◌, is_none, List, Option, Some, None}
 use Rattle.rtx_tree.specs.declared.code.Code.{Code}
 use Rattle.lisp_read.specs.declared.tree.Tree.{Tree}
-use Rattle.rtx_tree.specs.Code.{class_of_code}
+use Rattle.rtx_tree.specs.Code.{class_of_code, is_effect_class}
 use Rattle.lisp_read.specs.Head.{cut, code_in, are_flags}
-use Rattle.lisp_read.specs.Positions.{is_pattern}
 use Rattle.rtl_read.specs.Word.{named_code}
 use Rattle.rtl_read.specs.Call.{is_class_parallel}
 
 abbrev pub is_pattern_code : Option Code → Bool
 is_pattern_code None = false
-is_pattern_code (Some c) = is_pattern (class_of_code c)
+is_pattern_code (Some c) = is_effect_class (class_of_code c)
 
 abbrev pub names_pattern : Tree → Bool
 names_pattern t = is_pattern_code (named_code t)

@@ -1,9 +1,8 @@
 -- The smallest of some reasons, of two things and of what is made of both.
-use Rattle.std.proofs.Common.{◌≡◌, ◌≤◌, ◌⊎◌, ℕ, Bool, true, false, Result, Ok, Err, refl, sym, ap, ◌∙◌, inl, inr, ⊎_elim, arith, nat_le, if◌then◌else◌}
+use Rattle.std.proofs.Common.{◌≡◌, ◌≤◌, ◌⊎◌, Bool, true, false, Result, Ok, Err, refl, ap, inl, inr, ⊎_elim, arith, nat_le, if◌then◌else◌}
 use Rattle.std.proofs.lemmas.Bool.{leb-true, leb-false}
 use Rattle.md_pattern.specs.declared.reason.Reason.{Reason}
-use Rattle.md_pattern.specs.Reason.{number_of, smaller, both, judged_map, judged_with}
-use Rattle.md_draft.specs.Reasons.{IsSmallest}
+use Rattle.md_pattern.specs.Reason.{number_of, smaller, both, judged_map, judged_with, IsSmallest}
 
 -- the reason that something gives
 abbrev pub Of : {A : Type 0} → Result A Reason → Reason → Type 0

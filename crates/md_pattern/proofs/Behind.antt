@@ -1,8 +1,7 @@
 -- What is read behind a code gives the smallest of the reasons that stand there.
-use Rattle.std.proofs.Common.{◌≡◌, ◌≤◌, ◌⊎◌, inl, inr, ⊎_elim, ℕ, true, false, true≢false, List, [], ◌∷◌, Option, Some, None, Result, Err, map, refl, sym, subst, ◌∙◌, arith}
+use Rattle.std.proofs.Common.{◌≡◌, ◌≤◌, inr, ⊎_elim, ℕ, true, false, true≢false, List, [], ◌∷◌, Option, Some, None, Result, Err, map, refl, sym, subst, ◌∙◌, arith}
 use Rattle.std.specs.Prelude.{is_some, Contains}
 use Rattle.std.specs.List.{AllByRecursion}
-use Rattle.std.proofs.lemmas.List.Elements.{Contains-push, Contains-push_cases, Contains-append_left, Contains-append_right, Contains-append_cases}
 use Rattle.rtx_tree.specs.declared.class.Parts.{Parts}
 use Rattle.rtx_tree.specs.declared.class.Parts.TheVariants as parts
 use Rattle.rtx_tree.specs.declared.constants.Constant.{Constant}
@@ -17,17 +16,13 @@ use Rattle.md_pattern.specs.Reason.{number_of, IsSmallest}
 use Rattle.md_pattern.specs.Word.{register_of}
 use Rattle.md_pattern.specs.Pattern.{in_front, each, or_aside, word_in, meaning_of, pattern_of, patterns_of}
 use Rattle.md_pattern.specs.HasReason.{kinds_of, are_kinds, expressions_among, HasReason, VectorHasReason}
-use Rattle.md_pattern.proofs.Smallest.{Or, change, with}
-use Rattle.md_pattern.proofs.Taken.{none_in, ArePlain, nothing_among}
+use Rattle.md_pattern.proofs.Smallest.{Or, Among, none_in, one_more, change}
+use Rattle.md_pattern.proofs.Taken.{ArePlain, nothing_among}
 
 -- a tree gives the smallest of its reasons, as an expression and as a vector of expressions
 pub record Judged (cs : List Constant) (t : Tree) : Type 0 where
   pub pattern : IsSmallest (HasReason cs t) (pattern_of cs t)
   pub vector : IsSmallest (VectorHasReason cs t) (patterns_of cs t)
-
--- one of these has the reason
-abbrev pub Among : List Constant → List Tree → Reason → Type 0
-Among cs us r = (u : Tree) × Contains us u × HasReason cs u r
 
 -- the reasons of what stands behind a code, but for the mode
 pub data Behind (cs : List Constant) (p : Parts) (ts : List Tree) : Reason → Type 0 where
@@ -35,7 +30,7 @@ pub data Behind (cs : List Constant) (p : Parts) (ts : List Tree) : Reason → T
   register : (text : List ℕ) → p ≡ parts.Register → word_in ts ≡ Some text →
       register_of cs text ≡ None → Behind cs p ts reason.Code
   inside : (r : Reason) → are_kinds cs (kinds_of p) ts ≡ true →
-      Among cs (expressions_among (kinds_of p) ts) r → Behind cs p ts r
+      Among (HasReason cs) (expressions_among (kinds_of p) ts) r → Behind cs p ts r
 
 -- patterns have no reason with a smaller number
 pub two_le : (cs : List Constant) (t : Tree) (r : Reason) → HasReason cs t r → 2 ≤ number_of r
@@ -46,29 +41,9 @@ two_le cs t _ (HasReason.no_register _ word c w text is p a none) = omega arith
 two_le cs t _ (HasReason.no_mode _ word c ts is none) = omega arith
 two_le cs t r (HasReason.inside _ word c ts u _ is fit stands has) = two_le cs u r has
 
-module _ (cs : List Constant) where
-  -- ---- some expressions
-
-  first_or_later : (u : Tree) (us : List Tree) (r : Reason) → Or (HasReason cs u) (Among cs us) r → Among cs (u ∷ us) r
-  first_or_later u us r (inl has) = (u, Contains-append_left (u ∷ []) us u (Contains-push [] u), has)
-  first_or_later u us r (inr has) = (has.0, Contains-append_right (u ∷ []) us has.0 has.1, has.2)
-
-  which : (u : Tree) (us : List Tree) (r : Reason) → Among cs (u ∷ us) r → Or (HasReason cs u) (Among cs us) r
-  which u us r has = by_place (Contains-append_cases (u ∷ []) us has.0 has.1)
-    where
-      by_place : Contains (u ∷ []) has.0 ⊎ Contains us has.0 → Or (HasReason cs u) (Among cs us) r
-      by_place (inr stands) = inr (has.0, stands, has.2)
-      by_place (inl stands) = by_only (Contains-push_cases [] u has.0 stands)
-        where
-          by_only : Contains [] has.0 ⊎ (u ≡ has.0) → Or (HasReason cs u) (Among cs us) r
-          by_only (inl here) = absurd (none_in has.0 here)
-          by_only (inr same) = inl (subst (λ (x : Tree). HasReason cs x r) (sym same) has.2)
-
-  pub each_smallest : (us : List Tree) → AllByRecursion (Judged cs) us → IsSmallest (Among cs us) (each (map (meaning_of cs) us))
-  each_smallest [] all = λ r has. none_in has.0 has.1
-  each_smallest (u ∷ us) all =
-      change (Or (HasReason cs u) (Among cs us)) (Among cs (u ∷ us)) (each (map (meaning_of cs) (u ∷ us))) (first_or_later u us) (which u us)
-      (with (HasReason cs u) (Among cs us) in_front (pattern_of cs u) (each (map (meaning_of cs) us)) all.0.pattern (each_smallest us all.1))
+pub each_smallest : (cs : List Constant) (us : List Tree) → AllByRecursion (Judged cs) us → IsSmallest (Among (HasReason cs) us) (each (map (meaning_of cs) us))
+each_smallest cs [] all = λ r has. none_in has.0 has.1
+each_smallest cs (u ∷ us) all = one_more (HasReason cs) u us in_front (pattern_of cs u) (each (map (meaning_of cs) us)) all.0.pattern (each_smallest cs us all.1)
 
 -- ---- what stands behind a code
 
@@ -93,7 +68,7 @@ module _ (cs : List Constant) (p : Parts) (ts : List Tree) where
   misfit_or M later e = (inr (Behind.wrong e), λ r has. ⊎_elim (later r) (behind_two r) has)
 
   -- a kind of words has no expressions
-  pub nothing_inside : (r : Reason) → ArePlain (kinds_of p) → Among cs (expressions_among (kinds_of p) ts) r → ⊥
+  pub nothing_inside : (r : Reason) → ArePlain (kinds_of p) → Among (HasReason cs) (expressions_among (kinds_of p) ts) r → ⊥
   nothing_inside r plain has = none_in has.0 (subst (λ (us : List Tree). Contains us has.0) (nothing_among (kinds_of p) ts plain) has.1)
 
   module _ (other : p ≡ parts.Register → ⊥) where
@@ -108,13 +83,13 @@ module _ (cs : List Constant) (p : Parts) (ts : List Tree) where
         none_there r (Behind.inside _ f has) = nothing_inside r plain has
 
     -- expressions, and no more
-    pub kids : (us : List Tree) (ps : Result Patterns Reason) → are_kinds cs (kinds_of p) ts ≡ true → expressions_among (kinds_of p) ts ≡ us → IsSmallest (Among cs us) ps → IsSmallest (Behind cs p ts) ps
-    kids us ps fit are least = change (Among cs us) (Behind cs p ts) ps to from least
+    pub kids : (us : List Tree) (ps : Result Patterns Reason) → are_kinds cs (kinds_of p) ts ≡ true → expressions_among (kinds_of p) ts ≡ us → IsSmallest (Among (HasReason cs) us) ps → IsSmallest (Behind cs p ts) ps
+    kids us ps fit are least = change (Among (HasReason cs) us) (Behind cs p ts) ps to from least
       where
-        to : (r : Reason) → Among cs us r → Behind cs p ts r
+        to : (r : Reason) → Among (HasReason cs) us r → Behind cs p ts r
         to r has = Behind.inside r fit (has.0, subst (λ (vs : List Tree). Contains vs has.0) (sym are) has.1, has.2)
 
-        from : (r : Reason) → Behind cs p ts r → Among cs us r
+        from : (r : Reason) → Behind cs p ts r → Among (HasReason cs) us r
         from _ (Behind.wrong e) = absurd (true≢false (sym fit ∙ e))
         from _ (Behind.register text is w none) = absurd (other is)
         from r (Behind.inside _ f has) = (has.0, subst (λ (vs : List Tree). Contains vs has.0) are has.1, has.2)

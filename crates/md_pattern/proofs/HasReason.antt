@@ -17,8 +17,8 @@ use Rattle.md_pattern.specs.Reason.{number_of, IsSmallest}
 use Rattle.md_pattern.specs.Pattern.{each, of_head, list_by, meaning_of, pattern_of, patterns_of}
 use Rattle.md_pattern.specs.HasReason.{IsList, HasReason, VectorHasReason}
 use Rattle.md_pattern.proofs.Meanings.{pattern_out, vector_out}
-use Rattle.md_pattern.proofs.Smallest.{change}
-use Rattle.md_pattern.proofs.Behind.{Judged, Among, two_le, each_smallest}
+use Rattle.md_pattern.proofs.Smallest.{Among, change}
+use Rattle.md_pattern.proofs.Behind.{Judged, two_le, each_smallest}
 use Rattle.md_pattern.proofs.OneList.{some_none, by_code}
 
 -- ---- a tree
@@ -59,12 +59,12 @@ module _ (cs : List Constant) where
     where
       by_test : (b : Bool) → is_vector t ≡ b → IsSmallest (VectorHasReason cs t) (if b then each (map (meaning_of cs) ts) else Err reason.Parts)
       by_test false is = (VectorHasReason.no_vector is, vector_two t)
-      by_test true is = change (Among cs ts) (VectorHasReason cs t) (each (map (meaning_of cs) ts)) element back (each_smallest cs ts all)
+      by_test true is = change (Among (HasReason cs) ts) (VectorHasReason cs t) (each (map (meaning_of cs) ts)) element back (each_smallest cs ts all)
         where
-          element : (r : Reason) → Among cs ts r → VectorHasReason cs t r
+          element : (r : Reason) → Among (HasReason cs) ts r → VectorHasReason cs t r
           element r has = VectorHasReason.element has.0 r (subst (λ (us : List Tree). Contains us has.0) (sym are) has.1) has.2
 
-          back : (r : Reason) → VectorHasReason cs t r → Among cs ts r
+          back : (r : Reason) → VectorHasReason cs t r → Among (HasReason cs) ts r
           back _ (VectorHasReason.no_vector e) = absurd (true≢false (sym is ∙ e))
           back r (VectorHasReason.element u _ stands has) = (u, subst (λ (us : List Tree). Contains us u) are stands, has)
 

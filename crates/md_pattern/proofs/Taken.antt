@@ -1,6 +1,6 @@
 -- The trees behind a code, by what is read of them: they are those that the code takes exactly where something is read.
 use Rattle.std.proofs.Common.{◌≡◌, ℕ, zero, suc, ◌==◌, Bool, true, false, ◌&&◌, true≢false, List, [], ◌∷◌, replicate, Option, Some, None, option_map, option_and_then, length, refl, sym, ap, ◌∙◌, arith}
-use Rattle.std.specs.Prelude.{is_some, Contains}
+use Rattle.std.specs.Prelude.{is_some}
 use Rattle.std.proofs.Math.Bool.{and-true, and-false}
 use Rattle.std.proofs.lemmas.Bool.Decides.{nat_tests}
 use Rattle.rtx_tree.specs.declared.constants.Constant.{Constant}
@@ -14,9 +14,6 @@ use Rattle.md_pattern.specs.HasReason.{Kind, is_kind, kinds_of, are_kinds, expre
 
 -- ---- expressions
 
-pub none_in : {A : Type 0} (x : A) → Contains [] x → ⊥
-none_in x has = omega arith
-
 abbrev pub is_plain : Kind → Bool
 is_plain Kind.Expression = false
 is_plain Kind.Vector = false
@@ -28,7 +25,7 @@ nothing_at Kind.Number t e = refl
 nothing_at Kind.Symbol t e = refl
 nothing_at Kind.Zero t e = refl
 nothing_at Kind.Operand t e = refl
-nothing_at Kind.Predicate t e = refl
+nothing_at Kind.Text t e = refl
 nothing_at Kind.Constraint t e = refl
 nothing_at Kind.Expression t e = absurd (true≢false (sym e))
 nothing_at Kind.Vector t e = absurd (true≢false (sym e))

@@ -19,15 +19,15 @@ use Rattle.md_pattern.specs.Operand.{number_in}
 -- ---- what stands behind a code
 
 -- What a tree at a place behind a code has to be: an atom; a number, or the name of a constant; a
--- symbol between quotes, in a list of its own; the offset 0; the number of an operand; the name of
--- a predicate; a constraint, which may lack; an expression; a vector of expressions.
+-- symbol between quotes, in a list of its own; the offset 0; the number of an operand; a string, as
+-- the name of a predicate; a constraint, which may lack; an expression; a vector of expressions.
 pub data Kind : Type 0 where
   Word : Kind
   Number : Kind
   Symbol : Kind
   Zero : Kind
   Operand : Kind
-  Predicate : Kind
+  Text : Kind
   Constraint : Kind
   Expression : Kind
   Vector : Kind
@@ -40,10 +40,10 @@ kinds_of parts.Symbol = Kind.Symbol ∷ []
 kinds_of parts.Lowpart = Kind.Expression ∷ Kind.Zero ∷ []
 kinds_of (parts.Expressions n) = replicate n Kind.Expression
 kinds_of parts.Vector = Kind.Vector ∷ []
-kinds_of parts.Operand = Kind.Operand ∷ Kind.Predicate ∷ Kind.Constraint ∷ []
+kinds_of parts.Operand = Kind.Operand ∷ Kind.Text ∷ Kind.Constraint ∷ []
 kinds_of parts.Scratch = Kind.Operand ∷ Kind.Constraint ∷ []
 kinds_of parts.Dup = Kind.Operand ∷ []
-kinds_of parts.Operator = Kind.Operand ∷ Kind.Predicate ∷ Kind.Vector ∷ []
+kinds_of parts.Operator = Kind.Operand ∷ Kind.Text ∷ Kind.Vector ∷ []
 kinds_of parts.OperatorDup = Kind.Operand ∷ Kind.Vector ∷ []
 
 -- a tree is of a kind; a tree that is no expression has its own reason for that
@@ -53,7 +53,7 @@ is_kind constants Kind.Number t = is_some (option_and_then (number_of constants)
 is_kind constants Kind.Symbol t = is_some (quoted_name (items_of t))
 is_kind constants Kind.Zero t = is_word (codes "0") t
 is_kind constants Kind.Operand t = is_some (number_in t)
-is_kind constants Kind.Predicate t = is_some (string_of t)
+is_kind constants Kind.Text t = is_some (string_of t)
 is_kind constants Kind.Constraint t = is_some (string_of t)
 is_kind constants Kind.Expression t = true
 is_kind constants Kind.Vector t = is_vector t

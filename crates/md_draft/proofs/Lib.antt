@@ -1,2 +1,1 @@
-pub mod Smallest
 pub mod Reasons

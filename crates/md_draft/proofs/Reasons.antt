@@ -1,19 +1,19 @@
 -- A form's draft is set aside with the smallest of its reasons.
-use Rattle.std.proofs.Common.{◌≡◌, ◌≤◌, ℕ, Bool, true, false, true≢false, List, option_and_then, Option, Some, None, Ok, Err, refl, sym, ap, subst, ◌∙◌, inl, inr, ⊎_elim, arith}
+use Rattle.std.proofs.Common.{◌≡◌, ◌≤◌, ℕ, Bool, true, false, true≢false, List, option_and_then, Option, Some, None, Err, refl, sym, ap, subst, ◌∙◌, inl, inr, arith}
 use Rattle.rtx_tree.specs.declared.constants.Constant.{Constant}
 use Rattle.lisp_read.specs.declared.tree.Tree.{Tree}
 use Rattle.lisp_read.specs.Shape.{items_of}
 use Rattle.md_pattern.specs.declared.reason.Reason.{Reason}
 use Rattle.md_pattern.specs.declared.reason.Reason.TheVariants as reason
-use Rattle.md_pattern.specs.Reason.{number_of, both}
+use Rattle.md_pattern.specs.Reason.{number_of, both, IsSmallest}
 use Rattle.md_draft.specs.declared.head.FormHead.{FormHead}
 use Rattle.md_draft.specs.declared.draft.Draft.{Draft}
 use Rattle.md_draft.specs.Head.{head_named}
 use Rattle.md_draft.specs.Layout.{layout_of, is_whole}
 use Rattle.md_draft.specs.Draft as draft
 use Rattle.md_draft.specs.Draft.{draft_in, draft_by, whole_draft, matched_in, made_in, printed_in, defined_in, matched_with, made_with, printed_with, defined_with, draft_with, head_in, headed, entry_by, entry_of}
-use Rattle.md_draft.specs.Reasons.{HasReason, Applies, IsSmallest, head_of}
-use Rattle.md_draft.proofs.Smallest.{Of, Or, alone, change, pair, with}
+use Rattle.md_draft.specs.Reasons.{HasReason, Applies, head_of}
+use Rattle.md_pattern.proofs.Smallest.{Of, Or, alone, change, pair, with}
 
 module _ (constants : List Constant) (values : List (List ℕ)) (h : FormHead) (ts : List Tree) where
   abbrev OfMatched : Reason → Type 0

@@ -1,12 +1,11 @@
 -- Why the own text of a form sets it aside. Each part of a form gives a reason where it is not what
 -- its place takes; a form has the reasons of its parts, and is set aside with the smallest.
-use Rattle.std.specs.Prelude.{◌≡◌, ◌≤◌, ℕ, false, true, List, Option, Some, None, Result, Ok, Err, option_and_then}
+use Rattle.std.specs.Prelude.{◌≡◌, ℕ, false, true, List, Option, Some, None, Err, option_and_then}
 use Rattle.rtx_tree.specs.declared.constants.Constant.{Constant}
 use Rattle.lisp_read.specs.declared.tree.Tree.{Tree}
 use Rattle.lisp_read.specs.Shape.{items_of}
 use Rattle.md_pattern.specs.declared.reason.Reason.{Reason}
 use Rattle.md_pattern.specs.declared.reason.Reason.TheVariants as reason
-use Rattle.md_pattern.specs.Reason.{number_of}
 use Rattle.md_draft.specs.declared.head.FormHead.{FormHead}
 use Rattle.md_draft.specs.Head.{head_named}
 use Rattle.md_draft.specs.Layout.{layout_of, is_whole}
@@ -49,8 +48,3 @@ pub data Applies (constants : List Constant) (values : List (List ℕ)) (t : Tre
   headless : head_of t ≡ None → Applies constants values t reason.Head
   of_head : (h : FormHead) (r : Reason) → head_of t ≡ Some h →
       HasReason constants values h (items_of t) r → Applies constants values t r
-
--- what has no reason was made, and what was not has the smallest of its reasons
-abbrev pub IsSmallest : {A : Type 0} → (Reason → Type 0) → Result A Reason → Type 0
-IsSmallest Has (Ok x) = (r : Reason) → Has r → ⊥
-IsSmallest Has (Err r) = Has r × ((s : Reason) → Has s → number_of r ≤ number_of s)

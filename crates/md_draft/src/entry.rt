@@ -1,10 +1,10 @@
 //! Reads a form from its tree, as far as its own text tells.
 ghost use Rattle.std.specs.Prelude.{◌≡◌, IfOk};
 ghost use Rattle.std.specs.Option.{option_copied};
-ghost use Rattle.md_pattern.specs.Reason.{both, judged_with};
+ghost use Rattle.md_pattern.specs.Reason.{both, judged_with, IsSmallest};
 ghost use Rattle.md_draft.specs.Draft as spec;
 ghost use Rattle.md_draft.specs.Head.{head_named};
-ghost use Rattle.md_draft.specs.Reasons.{Applies, IsSmallest};
+ghost use Rattle.md_draft.specs.Reasons.{Applies};
 
 use crate::condition::{condition_in, split_condition_in, statements_in};
 use crate::draft::{Defined, Draft, DraftEntry, Made, Matched, Printed};

@@ -1,7 +1,7 @@
 //! The forms of a description.
 ghost use Rattle.std.specs.Prelude.{◌≡◌, IfOk, map};
 ghost use Rattle.md_iter.specs.declared.substitution.Instance.{Instance};
-ghost use Rattle.md_draft.specs.Reasons.{IsSmallest};
+ghost use Rattle.md_pattern.specs.Reason.{IsSmallest};
 ghost use Rattle.md_forms.specs.Reasons as reasons;
 ghost use Rattle.md_forms.specs.Forms as spec;
 

@@ -1,3 +1,9 @@
 pub mod Each
 pub mod Meanings
+pub mod Smallest
+pub mod Taken
+pub mod Behind
+pub mod OneCode
+pub mod OneList
+pub mod HasReason
 pub use Rattle.lisp_read.proofs as lisp_read

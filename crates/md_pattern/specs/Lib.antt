@@ -2,4 +2,5 @@ pub mod Reason
 pub mod Word
 pub mod Operand
 pub mod Pattern
+pub mod HasReason
 pub use Rattle.lisp_read.specs as lisp_read

@@ -191,10 +191,10 @@ meaning_step constants x t = meaning_by constants t (each_read (inside_at x) (in
 unfoldable pub meaning_of : List Constant → Tree → Meaning
 meaning_of constants t = fold-Tree (Tree → Meaning) (meaning_step constants) t t
 
--- the pattern that a tree writes, or the smallest reason that applies anywhere in it
+-- the pattern that a tree writes, or the smallest of the reasons that it has (HasReason)
 abbrev pub pattern_of : List Constant → Tree → Result Pattern Reason
 pattern_of constants t = (meaning_of constants t).pattern
 
--- the patterns in a vector
+-- the patterns in a vector, or the smallest of the reasons that it has (VectorHasReason)
 abbrev pub patterns_of : List Constant → Tree → Result Patterns Reason
 patterns_of constants t = (meaning_of constants t).vector

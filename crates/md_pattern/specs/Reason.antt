@@ -1,6 +1,6 @@
 -- Why a form of a description is set aside: the profile of this project for what of GCC's machine
 -- descriptions it takes.
-use Rattle.std.specs.Prelude.{ℕ, nat_le, Result, Ok, Err, if◌then◌else◌}
+use Rattle.std.specs.Prelude.{◌≤◌, ℕ, nat_le, Result, Ok, Err, if◌then◌else◌}
 use Rattle.md_pattern.specs.declared.reason.Reason.{Reason}
 use Rattle.md_pattern.specs.declared.reason.Reason.TheVariants.{Head, Parts, Code, Mode, CCode, Condition, Statements, Predicate, Constraint, Attribute, Operands, Template}
 
@@ -39,3 +39,8 @@ judged_map f (Err r) = Err r
 abbrev pub judged_with : {A B C : Type 0} → (A → B → C) → Result A Reason → Result B Reason →
     Result C Reason
 judged_with f a b = judged_map (λ pair. f pair.0 pair.1) (both a b)
+
+-- what has no reason was made, and what was not has the smallest of its reasons
+abbrev pub IsSmallest : {A : Type 0} → (Reason → Type 0) → Result A Reason → Type 0
+IsSmallest Has (Ok x) = (r : Reason) → Has r → ⊥
+IsSmallest Has (Err r) = Has r × ((s : Reason) → Has s → number_of r ≤ number_of s)

@@ -5,7 +5,8 @@ ghost use Rattle.rtx_tree.specs.Code.{class_of_code, parts_of};
 ghost use Rattle.lisp_read.specs.Head.{code_of_head, mode_of_head};
 ghost use Rattle.md_pattern.specs.declared.reason.Reason.TheVariants as reason;
 ghost use Rattle.md_pattern.specs.Pattern as spec;
-ghost use Rattle.md_pattern.specs.Reason.{judged_with};
+ghost use Rattle.md_pattern.specs.HasReason.{HasReason, VectorHasReason};
+ghost use Rattle.md_pattern.specs.Reason.{judged_with, IsSmallest};
 ghost use Rattle.md_pattern.specs.Word as word;
 
 use crate::operand::{Operand, OperandTexts, dup_in, numbered, operand_in, predicated, scratch_in};
@@ -494,24 +495,35 @@ fn expression(alloc: Global, constants: &[Constant], tree: &Tree) -> Result<Judg
 /// The judgement is `Parts` where a known code has wrong parts, the number of an operand has more
 /// than 32 bits, or a `const_int` is no number; `Code` where a code is unknown, or a register is
 /// none; `Mode` where a mode is none of the four. `Memory` where memory ran out.
+#[tactic(auto, using(crate::proofs::HasReason::of_tree))]
 pub fn pattern_of(
     alloc: Global,
     tree: &Tree,
     constants: &Constants,
 ) -> Result<Judged<Pattern>, Memory>
-    ensures { IfOk result (λ pattern. pattern ≡ spec.pattern_of constants.now tree.now) }
+    ensures pattern { IfOk result (λ pattern. pattern ≡ spec.pattern_of constants.now tree.now) }
+
+    // A tree that is a pattern has no reason, and any other has the smallest of its reasons.
+    ensures reasons { IsSmallest (HasReason constants.now tree.now)
+        (spec.pattern_of constants.now tree.now) }
 {
     expression(alloc, constants.as_slice(), tree)
 }
 
 /// The patterns that a vector of a description writes, or the smallest reason that applies anywhere
 /// in them. `Parts` where the tree is no vector.
+#[tactic(auto, using(crate::proofs::HasReason::of_trees))]
 pub fn patterns_of(
     alloc: Global,
     tree: &Tree,
     constants: &Constants,
 ) -> Result<Judged<Patterns>, Memory>
-    ensures { IfOk result (λ patterns. patterns ≡ spec.patterns_of constants.now tree.now) }
+    ensures patterns { IfOk result (λ patterns.
+        patterns ≡ spec.patterns_of constants.now tree.now) }
+
+    // A vector of patterns has no reason, and any other tree has the smallest of its reasons.
+    ensures reasons { IsSmallest (VectorHasReason constants.now tree.now)
+        (spec.patterns_of constants.now tree.now) }
 {
     elements(alloc, constants.as_slice(), tree)
 }

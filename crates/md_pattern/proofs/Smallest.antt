@@ -1,9 +1,10 @@
--- The smallest of some reasons, of two things and of what is made of both.
-use Rattle.std.proofs.Common.{◌≡◌, ◌≤◌, ◌⊎◌, ℕ, Bool, true, false, Result, Ok, Err, refl, sym, ap, ◌∙◌, inl, inr, ⊎_elim, arith, nat_le, if◌then◌else◌}
+-- The smallest of some reasons: of two things and of what is made of both, and of several.
+use Rattle.std.proofs.Common.{◌≡◌, ◌≤◌, ◌⊎◌, Bool, true, false, List, [], ◌∷◌, Result, Ok, Err, refl, sym, ap, subst, inl, inr, ⊎_elim, arith, nat_le, if◌then◌else◌}
+use Rattle.std.specs.Prelude.{Contains}
 use Rattle.std.proofs.lemmas.Bool.{leb-true, leb-false}
+use Rattle.std.proofs.lemmas.List.Elements.{Contains-push, Contains-push_cases, Contains-append_left, Contains-append_right, Contains-append_cases}
 use Rattle.md_pattern.specs.declared.reason.Reason.{Reason}
-use Rattle.md_pattern.specs.Reason.{number_of, smaller, both, judged_map, judged_with}
-use Rattle.md_draft.specs.Reasons.{IsSmallest}
+use Rattle.md_pattern.specs.Reason.{number_of, smaller, both, judged_map, judged_with, IsSmallest}
 
 -- the reason that something gives
 abbrev pub Of : {A : Type 0} → Result A Reason → Reason → Type 0
@@ -49,3 +50,32 @@ pair P Q (Err r) (Err s) one other = of_two P Q r s one.0 other.0 one.1 other.1
 
 pub with : {A B C : Type 0} (P Q : Reason → Type 0) (f : A → B → C) (a : Result A Reason) (b : Result B Reason) → IsSmallest P a → IsSmallest Q b → IsSmallest (Or P Q) (judged_with f a b)
 with P Q f a b one other = made (Or P Q) (λ x. f x.0 x.1) (both a b) (pair P Q a b one other)
+
+-- ---- some things
+
+-- one of these has the reason
+abbrev pub Among : {X : Type 0} → (X → Reason → Type 0) → List X → Reason → Type 0
+Among {X} Q xs r = (x : X) × Contains xs x × Q x r
+
+pub none_in : {X : Type 0} (x : X) → Contains [] x → ⊥
+none_in x has = omega arith
+
+module _ {X : Type 0} (Q : X → Reason → Type 0) (x : X) (xs : List X) where
+  stands : (r : Reason) → Or (Q x) (Among Q xs) r → Among Q (x ∷ xs) r
+  stands r (inl has) = (x, Contains-append_left (x ∷ []) xs x (Contains-push [] x), has)
+  stands r (inr has) = (has.0, Contains-append_right (x ∷ []) xs has.0 has.1, has.2)
+
+  which : (r : Reason) → Among Q (x ∷ xs) r → Or (Q x) (Among Q xs) r
+  which r has = by_place (Contains-append_cases (x ∷ []) xs has.0 has.1)
+    where
+      by_place : Contains (x ∷ []) has.0 ⊎ Contains xs has.0 → Or (Q x) (Among Q xs) r
+      by_place (inr later) = inr (has.0, later, has.2)
+      by_place (inl first) = by_only (Contains-push_cases [] x has.0 first)
+        where
+          by_only : Contains [] has.0 ⊎ (x ≡ has.0) → Or (Q x) (Among Q xs) r
+          by_only (inl here) = absurd (none_in has.0 here)
+          by_only (inr same) = inl (subst (λ (y : X). Q y r) (sym same) has.2)
+
+  -- one thing more, and what is made of it and the others
+  pub one_more : {A B C : Type 0} (f : A → B → C) (a : Result A Reason) (b : Result B Reason) → IsSmallest (Q x) a → IsSmallest (Among Q xs) b → IsSmallest (Among Q (x ∷ xs)) (judged_with f a b)
+  one_more f a b one others = change (Or (Q x) (Among Q xs)) (Among Q (x ∷ xs)) (judged_with f a b) stands which (with (Q x) (Among Q xs) f a b one others)

@@ -30,7 +30,7 @@ mod tree;
 
 pub use expression::rtx_of_tree;
 pub use head::{are_flags, code_in, cut, head_words};
-pub use leaf::{below, quoted_name};
+pub use leaf::{below, quoted_name, uid_in};
 pub use read::{ReadRefusal, read_trees};
 pub use refusal::RtlRefusal;
 pub use shape::{all_nested, atom, is_nested, is_vector, is_word, items, outside, string, vector};

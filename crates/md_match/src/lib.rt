@@ -23,7 +23,7 @@ mod role;
 mod steps;
 
 pub use givers::{giver, giver_among};
-pub use instance::{copy_of, instantiate};
+pub use instance::{copy_of, instances, instantiate};
 pub use matching::{match_shape, match_shapes};
 pub use role::{Role, gives, operand_of, role_of};
 pub use steps::Steps;

@@ -1,7 +1,6 @@
 //! Kinds of instructions.
 ghost use Rattle.std.specs.Prelude.{◌≡◌};
 ghost use Rattle.rtl_func.specs.Kinds as spec;
-ghost use Rattle.rtl_func.specs.Shapes.{class_at};
 
 use crate::shape::{class_at, is_call};
 use rtx_tree::{Class, Rtx};

@@ -1,5 +1,5 @@
 //! Files in memory, and the names that were asked for.
-ghost use Rattle.std.specs.Prelude.{◌≡◌, ◌∷◌, ◌++◌, [], None, IfOk, OnOk, OnErr};
+ghost use Rattle.std.specs.Prelude.{◌≡◌, ◌∷◌, ◌++◌, [], None, OnOk, OnErr};
 ghost use Rattle.std.specs.Option.{option_map};
 ghost use Rattle.byte_edge.specs.Stored.{entry, file_of};
 
@@ -19,13 +19,6 @@ pub struct Stored {
     alloc: Global,
     entries: Items<Entry>,
     asked: Items<Items<u8>>,
-}
-
-/// The list of a slice's bytes.
-fn copied(alloc: Global, bytes: &[u8]) -> Result<Items<u8>, Memory>
-    ensures { IfOk result (λ copy. copy ≡ bytes.now) }
-{
-    Ok(Items::from_vec(Vec::from_slice(alloc, bytes)?))
 }
 
 impl Stored {
@@ -48,8 +41,8 @@ impl Stored {
             record self.old { entries = self.old.entries ++ entry name.now bytes.now ∷ [] }) }
         ensures err { OnErr result (self.new ≡ self.old) }
     {
-        let name = copied(self.alloc, name)?;
-        let bytes = copied(self.alloc, bytes)?;
+        let name = Items::from_slice(self.alloc, name)?;
+        let bytes = Items::from_slice(self.alloc, bytes)?;
         self.entries.push(Entry { name, bytes })
     }
 
@@ -60,7 +53,7 @@ impl Stored {
         }) }
         ensures err { OnErr result (self.new ≡ self.old) }
     {
-        let name = copied(self.alloc, name)?;
+        let name = Items::from_slice(self.alloc, name)?;
         self.asked.push(name)
     }
 

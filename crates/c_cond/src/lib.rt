@@ -18,5 +18,5 @@ mod takes;
 mod tree;
 
 pub use c_words::{Binary, Call, CondHead, Unary};
-pub use parse::{Cond, CondRefusal, Prep, parse_cond, parse_prep, parse_test};
+pub use parse::{Cond, CondRefusal, Prep, heads_copy, parse_cond, parse_prep, parse_test};
 pub use tree::Tree;

@@ -46,7 +46,7 @@ impl Model for Cond {
 }
 
 /// A copy of heads.
-fn heads_copy(alloc: Global, heads: &[CondHead]) -> Result<Items<CondHead>, Memory>
+pub fn heads_copy(alloc: Global, heads: &[CondHead]) -> Result<Items<CondHead>, Memory>
     ensures { IfOk result (λ copy. copy ≡ heads.now) }
 {
     let mut copy = Items::new(alloc);

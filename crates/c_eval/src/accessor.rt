@@ -24,7 +24,7 @@ pub fn same_mode(a: Mode, b: Mode) -> bool
 }
 
 /// Whether a tree has a code.
-fn is_a(code: Code, x: &Rtx) -> bool
+pub fn is_a(code: Code, x: &Rtx) -> bool
     ensures { result ≡ spec.is_a code x.now }
 {
     same_code(x.code, code)
@@ -38,7 +38,7 @@ pub fn number_in(code: Code, x: &Rtx) -> Option<i64>
 }
 
 /// The register that a tree is; any other tree is none.
-fn register_in(x: &Rtx) -> Option<u32>
+pub fn register_in(x: &Rtx) -> Option<u32>
     ensures { result ≡ spec.register_in x.now }
 {
     let number = number_in(Code::Reg, x)?;

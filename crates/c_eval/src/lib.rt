@@ -21,7 +21,7 @@ mod value;
 mod walk;
 mod worth;
 
-pub use accessor::{same_code, same_mode, same_tree};
+pub use accessor::{is_a, register_in, same_code, same_mode, same_tree};
 pub use facts::{DeadTable, Facts};
 pub use preds::Preds;
 pub use reading::Reading;

@@ -2,7 +2,8 @@
 use crate::iterators::constants_in;
 use c_words::{Dialect, Token, atom_of, code_named, known_words, mode_named, tokens_in};
 use case_text::Told;
-use rv_target::{name_of, reg_named, shipped};
+use rtx_tree::{reg_name, reg_number};
+use rv_target::shipped;
 use std::alloc::Global;
 
 fn show_token(token: &Token, told: &mut Told) {
@@ -60,11 +61,11 @@ pub fn tell_known(alloc: Global, given: &[u8], told: &mut Told) {
 
 /// Appends the number of the register with a name, and the name of the register with that number.
 pub fn tell_register(name: &[u8], told: &mut Told) {
-    match reg_named(name) {
+    match reg_number(name) {
         Some(reg) if reg < 32 => {
             told.show(reg);
             told.text(" ");
-            told.text(name_of(reg));
+            told.text(reg_name(reg));
         }
         _ => told.text("none"),
     }

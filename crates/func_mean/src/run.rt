@@ -7,7 +7,7 @@ use crate::outcome::{Kept, Outcome};
 use bits64::Width;
 use plain_data::{Items, Memory};
 use rtl_step::{Known, Regs, State, StepEnd, result_of, step_insn};
-use rtx_tree::{Function, Ranges, Start, World};
+use rtx_tree::{Function, Start, World};
 use run_memory::visible_part;
 use std::alloc::Global;
 
@@ -65,19 +65,13 @@ fn entry_regs(alloc: Global, start: &Start) -> Result<Regs, Memory>
     Ok(regs)
 }
 
-fn ranges_copy(alloc: Global, ranges: &Ranges) -> Result<Ranges, Memory>
-    ensures { IfOk result (λ copy. copy ≡ ranges.now) }
-{
-    Ok(Items::from_vec(Vec::from_slice(alloc, ranges.as_slice())?))
-}
-
 /// The state at entry.
 fn entry_of(alloc: Global, start: &Start) -> Result<State, Memory>
     ensures { IfOk result (λ state. state ≡ spec.entry_of start.now) }
 {
     let regs = entry_regs(alloc, start)?;
     let memory = start.memory.copy(alloc)?;
-    let visible = ranges_copy(alloc, &start.visible)?;
+    let visible = Items::from_slice(alloc, start.visible.as_slice())?;
     Ok(State {
         next: 0,
         regs,

@@ -1,6 +1,5 @@
 //! What a form emits.
-ghost use Rattle.std.specs.Prelude.{◌≡◌, ◌++◌, option_map, IfOk};
-ghost use Rattle.md_match.specs.Pattern.{all_instantiated};
+ghost use Rattle.std.specs.Prelude.{◌≡◌, option_map, IfOk};
 ghost use Rattle.gen_emit.specs.Emission as spec;
 
 use crate::draft::{Draft, Ended};
@@ -8,8 +7,8 @@ use crate::run::run;
 use c_eval::{Facts, Preds};
 use md_draft::FormHead;
 use md_forms::Form;
-use md_match::instantiate;
-use plain_data::{Items, Memory};
+use md_match::instances;
+use plain_data::Memory;
 use rtx_tree::{Kids, Operands, Rtx};
 use std::alloc::Global;
 
@@ -32,28 +31,6 @@ fn patterns_of(form: &Form) -> &[Rtx]
     }
 }
 
-/// The patterns with the operands put in, or `None` where one is missing.
-fn instances(alloc: Global, patterns: &[Rtx], operands: &Operands) -> Result<Option<Kids>, Memory>
-    ensures { IfOk result (λ r. r ≡ all_instantiated patterns.now operands.now) }
-{
-    let mut made = Items::new(alloc);
-    for pattern in patterns {
-        match instantiate(alloc, pattern, operands)? {
-            None => return Ok(None),
-            Some(insn) => made.push(insn)?,
-        }
-    }
-    Ok(Some(made))
-}
-
-fn joined(first: Kids, second: Kids) -> Result<Kids, Memory>
-    ensures { IfOk result (λ all. all ≡ first ++ second) }
-{
-    let mut all = first.into_vec();
-    all.append(&mut second.into_vec())?;
-    Ok(Items::from_vec(all))
-}
-
 /// What is emitted where the last statement is gone through.
 fn through(alloc: Global, patterns: &[Rtx], draft: Draft) -> Result<Option<Emission>, Memory>
     ensures { IfOk result (λ r. r ≡ spec.through patterns.now draft) }
@@ -62,7 +39,7 @@ fn through(alloc: Global, patterns: &[Rtx], draft: Draft) -> Result<Option<Emiss
         return Ok(None);
     };
     Ok(Some(Emission {
-        sequence: joined(draft.moves, insns)?,
+        sequence: draft.moves.append(insns)?,
         next: draft.next,
     }))
 }

@@ -97,7 +97,7 @@ fn constant_in(alloc: Global, text: &[u8]) -> Option<Rtx>
 }
 
 /// A label's uid, which has 32 bits.
-fn uid_in(text: &[u8]) -> Option<u32>
+pub fn uid_in(text: &[u8]) -> Option<u32>
     ensures { result ≡ spec.uid_in text.now }
 {
     let number = number_in(text)?;

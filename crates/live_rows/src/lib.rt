@@ -14,3 +14,4 @@ mod visit;
 
 pub use node::Node;
 pub use solve::live_rows;
+pub use visit::add_place;

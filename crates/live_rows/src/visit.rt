@@ -8,7 +8,7 @@ use crate::node::Node;
 use reg_rows::{RegRow, join_row};
 
 /// Adds the row of a place, if there is one.
-fn add_place(rows: &[RegRow], place: Option<u32>, set: &mut RegRow)
+pub fn add_place(rows: &[RegRow], place: Option<u32>, set: &mut RegRow)
     requires { All (λ row. length row ≡ length set.old) rows.now }
     ensures width { length set.new ≡ length set.old }
     ensures each { (reg : ℕ) → has set.new reg ≡ (has set.old reg || at_place place rows.now reg) }

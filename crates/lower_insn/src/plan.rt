@@ -1,5 +1,5 @@
 //! How an instruction is made by the form of its standard name.
-ghost use Rattle.std.specs.Prelude.{◌≡◌, ◌++◌, option_map, option_and_then, IfOk};
+ghost use Rattle.std.specs.Prelude.{◌≡◌, option_map, option_and_then, IfOk};
 ghost use Rattle.md_pred.specs.Holds.{holds};
 ghost use Rattle.lower_insn.specs.Plan as spec;
 
@@ -9,7 +9,7 @@ use crate::form::{form_for, numbered, patterns_at};
 use crate::part::{Plan, Prepared};
 use md_desc::Description;
 use plain_data::Memory;
-use rtx_tree::{Kids, Name, Rtx};
+use rtx_tree::{Name, Rtx};
 use std::alloc::Global;
 use std_name::{Standard, StandardOperand, standard_of};
 
@@ -19,21 +19,11 @@ fn is_move(name: &Name) -> bool
     name.bytes().starts_with(b"mov")
 }
 
-fn append(first: Kids, more: Kids) -> Result<Kids, Memory>
-    ensures { IfOk result (λ all. all ≡ first ++ more) }
-{
-    let mut all = first;
-    for x in more.into_vec() {
-        all.push(x)?;
-    }
-    Ok(all)
-}
-
 fn behind_addresses(a: Prepared, b: Prepared) -> Result<Prepared, Memory>
     ensures { IfOk result (λ all. all ≡ spec.behind_addresses a b) }
 {
     Ok(Prepared {
-        before: append(a.before, b.before)?,
+        before: a.before.append(b.before)?,
         operands: b.operands,
         after: b.after,
         next: b.next,

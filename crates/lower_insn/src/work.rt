@@ -58,16 +58,6 @@ fn emitted_parts(alloc: Global, sequence: Kids) -> Result<Items<Part>, Memory>
     Ok(parts)
 }
 
-fn append(first: Items<Part>, more: Items<Part>) -> Result<Items<Part>, Memory>
-    ensures { IfOk result (λ all. all ≡ first ++ more) }
-{
-    let mut all = first;
-    for part in more.into_vec() {
-        all.push(part)?;
-    }
-    Ok(all)
-}
-
 /// The parts that stand for a pattern, by its plan.
 fn parts_of(alloc: Global, made: bool, tree: Rtx, plan: Plan) -> Result<Items<Part>, Memory>
     ensures { IfOk result (λ parts. parts ≡ spec.parts_of made tree plan) }
@@ -80,7 +70,7 @@ fn parts_of(alloc: Global, made: bool, tree: Rtx, plan: Plan) -> Result<Items<Pa
         operands: plan.operands,
     })?;
     let after = lower_parts(alloc, plan.after)?;
-    append(parts, after)
+    parts.append(after)
 }
 
 /// Puts parts on a stack, the first of them last.
@@ -89,7 +79,7 @@ fn put_all(stack: Items<Part>, parts: Items<Part>) -> Result<Items<Part>, Memory
 {
     let mut more = parts.into_vec();
     more.reverse();
-    append(stack, Items::from_vec(more))
+    stack.append(Items::from_vec(more))
 }
 
 // ---- uids

@@ -7,11 +7,12 @@ use Rattle.rtx_tree.specs.declared.class.Class.TheVariants as class
 use Rattle.rtx_tree.specs.declared.code.Mode.{Mode}
 use Rattle.rtx_tree.specs.declared.code.Mode.TheVariants.{Void}
 use Rattle.rtx_tree.specs.declared.tree.Rtx.{Rtx}
+use Rattle.rtx_tree.specs.Tree.{kids_of}
 use Rattle.rtx_tree.specs.Patterns.{is_pc}
 use Rattle.rtl_func.specs.Shapes.{class_at, mode_at, has_mode, is_constant, is_called}
 use Rattle.std_name.specs.declared.standard.StandardOperand.{StandardOperand}
 use Rattle.std_name.specs.declared.standard.Standard.{Standard}
-use Rattle.std_name.specs.Names.{letters, row, row_where, call_row, call_value_row, move_row, compared_mode, compared, binary_row, unary_row, conversion_row, compare_row, value_row, label_row, jump_row, kids_of, compared_branch, branch_by, branch_row, go_row, set_row, pattern_row, standard_of, word_of, code_at}
+use Rattle.std_name.specs.Names.{letters, row, row_where, call_row, call_value_row, move_row, compared_mode, compared, binary_row, unary_row, conversion_row, compare_row, value_row, label_row, jump_row, compared_branch, branch_by, branch_row, go_row, set_row, pattern_row, standard_of, word_of, code_at}
 use Rattle.std_name.specs.Operands.{is_vars, fits, target, input, fixed}
 use Rattle.lower_keep.proofs.Keeping.{Keeps, AllKeep, parts_keep}
 

@@ -1,9 +1,9 @@
 //! What letters and classes of registers admit.
 ghost use Rattle.std.specs.Prelude.{◌≡◌};
-ghost use Rattle.c_eval.specs.Value.{register_in};
 ghost use Rattle.rv_regs.specs.Classes.{is_in_class};
 ghost use Rattle.md_constr.specs.Admits as spec;
 
+use c_eval::register_in;
 use md_forms::RegisterClass;
 use md_operand::{is_constant, is_memory, is_register, is_symbol, legitimate_address};
 use md_text::Letter;
@@ -29,16 +29,6 @@ pub fn letter_admits(letter: Letter, x: &Rtx) -> bool
         Letter::General => is_register(x) || is_memory(x) || is_immediate(x),
         Letter::Anything => true,
         Letter::Address => legitimate_address(x),
-    }
-}
-
-/// The number of a register.
-fn register_in(x: &Rtx) -> Option<u32>
-    ensures { result ≡ register_in x.now }
-{
-    match x.code {
-        Code::Reg => u32::try_from(x.number).ok(),
-        _ => None,
     }
 }
 

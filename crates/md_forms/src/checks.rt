@@ -1,5 +1,5 @@
 //! What is asked of a form whose own text is in order.
-ghost use Rattle.std.specs.Prelude.{◌≡◌, ◌==◌, ◌||◌, ◌++◌, nat_le, IfOk, Some};
+ghost use Rattle.std.specs.Prelude.{◌≡◌, ◌==◌, ◌||◌, nat_le, IfOk, Some};
 ghost use Rattle.std.specs.List.{flat_map, list_all};
 ghost use Rattle.md_pattern.specs.Reason.{judged_map};
 ghost use Rattle.md_text.specs.Lists as lists;
@@ -165,17 +165,6 @@ fn constraints_of(
     Ok(Some(constraints))
 }
 
-fn together(
-    constraints: Items<OperandConstraint>,
-    more: Items<OperandConstraint>,
-) -> Result<Items<OperandConstraint>, Memory>
-    ensures { IfOk result (λ all. all ≡ constraints ++ more) }
-{
-    let mut all = constraints.into_vec();
-    all.append(&mut more.into_vec())?;
-    Ok(Items::from_vec(all))
-}
-
 /// The constraints of a form, or none where one of them has something unknown in it.
 #[tactic(auto, unfolding(crate::specs::Checks::constraints_in))]
 fn constraints_in(
@@ -188,7 +177,7 @@ fn constraints_in(
     let constraints = constraints_of(alloc, names, draft.matched.patterns.texts.as_slice())?;
     let more = constraints_of(alloc, names, draft.made.sequence.texts.as_slice())?;
     match (constraints, more) {
-        (Some(constraints), Some(more)) => Ok(Some(together(constraints, more)?)),
+        (Some(constraints), Some(more)) => Ok(Some(constraints.append(more)?)),
         _ => Ok(None),
     }
 }

@@ -46,7 +46,11 @@ fn instance(alloc: Global, pattern: &Rtx, operands: &Operands) -> Result<Option<
 
 // The patterns with the operands put in, or `None` where an operand is missing.
 #[cycle(instantiating)]
-fn instances(alloc: Global, patterns: &[Rtx], operands: &Operands) -> Result<Option<Kids>, Memory>
+pub fn instances(
+    alloc: Global,
+    patterns: &[Rtx],
+    operands: &Operands,
+) -> Result<Option<Kids>, Memory>
     ensures { IfOk result (λ r. r ≡ all_instantiated patterns.now operands.now) }
 {
     let mut kids = Items::new(alloc);

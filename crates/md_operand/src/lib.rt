@@ -17,5 +17,5 @@ mod own;
 pub use addresses::{
     far_address, frame_reference, is_any_constant, is_stack_vars, legitimate_address,
 };
-pub use kinds::{is_constant, is_far, is_memory, is_register, is_symbol};
+pub use kinds::{has_mode, is_constant, is_far, is_memory, is_register, is_symbol};
 pub use own::Own;

@@ -1,5 +1,5 @@
 //! Reads a pattern from its tree.
-ghost use Rattle.std.specs.Prelude.{◌≡◌, ◌==◌, ◌++◌, IfOk, Ok, map, take, length, option_and_then};
+ghost use Rattle.std.specs.Prelude.{◌≡◌, ◌==◌, IfOk, Ok, map, take, length, option_and_then};
 ghost use Rattle.std.specs.Option.{option_copied};
 ghost use Rattle.rtx_tree.specs.Code.{class_of_code, parts_of};
 ghost use Rattle.lisp_read.specs.Head.{code_of_head, mode_of_head};
@@ -46,14 +46,6 @@ pub fn no_patterns(alloc: Global) -> Patterns
     }
 }
 
-fn appended(texts: OperandTexts, more: OperandTexts) -> Result<OperandTexts, Memory>
-    ensures { IfOk result (λ all. all ≡ texts ++ more) }
-{
-    let mut all = texts.into_vec();
-    all.append(&mut more.into_vec())?;
-    Ok(Items::from_vec(all))
-}
-
 /// The expressions with one more behind them.
 fn added(patterns: Patterns, pattern: Pattern) -> Result<Patterns, Memory>
     ensures { IfOk result (λ all. all ≡ spec.added patterns pattern) }
@@ -63,7 +55,7 @@ fn added(patterns: Patterns, pattern: Pattern) -> Result<Patterns, Memory>
     trees.push(tree)?;
     Ok(Patterns {
         trees,
-        texts: appended(texts, more)?,
+        texts: texts.append(more)?,
     })
 }
 
@@ -235,7 +227,7 @@ fn matching_with(
     };
     Ok(Pattern {
         tree,
-        texts: appended(operand.texts, kids.texts)?,
+        texts: operand.texts.append(kids.texts)?,
     })
 }
 

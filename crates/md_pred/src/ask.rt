@@ -4,7 +4,6 @@
 //! Of the parts of a question those with less behind them are answered by calls, and the last is
 //! the question that it comes to.
 ghost use Rattle.std.specs.Prelude.{◌≡◌, ℕ, ◌+◌, ◌*◌, ◌<◌, ◌≤◌, ◌&&◌, ◌||◌, length, slice_get, Some, if◌then◌else◌};
-ghost use Rattle.md_operand.specs.Operand as operands;
 ghost use Rattle.md_pred.specs.Holds as spec;
 ghost use Rattle.md_pred.specs.machine.Steps as steps;
 ghost use Rattle.md_pred.specs.machine.Table as tables;
@@ -14,19 +13,9 @@ use crate::definitions::Definition;
 use crate::step::{At, Step};
 use crate::table::PredTable;
 use md_forms::FormHead;
-use md_operand::{Own, is_constant};
+use md_operand::{Own, has_mode, is_constant};
 use pred_rows::{Node, condition_holds, has_code, mode_or};
 use rtx_tree::{Mode, Name, Rtx};
-
-/// Whether a tree has the mode, where one is wanted.
-fn has_mode(wanted: Mode, x: &Rtx) -> bool
-    ensures { result ≡ operands.has_mode wanted x.now }
-{
-    match wanted {
-        Mode::Void => true,
-        Mode::QI | Mode::HI | Mode::SI | Mode::DI => wanted.name() == x.mode.name(),
-    }
-}
 
 /// Whether a tree has the mode, or is a constant, which has none.
 fn is_of_mode(mode: Mode, x: &Rtx) -> bool

@@ -1,5 +1,5 @@
 //! The trees of a description, with its includes at their places.
-ghost use Rattle.std.specs.Prelude.{◌≡◌, ◌≢◌, ◌≤◌, ◌+◌, ◌++◌, ℕ, List, IfOk, OnOk, ◌↔◌, Result};
+ghost use Rattle.std.specs.Prelude.{◌≡◌, ◌≢◌, ◌≤◌, ◌+◌, ℕ, List, IfOk, OnOk, ◌↔◌, Result};
 ghost use Rattle.byte_edge.specs.Causes.{Rose};
 ghost use Rattle.lisp_read.specs.declared.tree.Tree.{Tree};
 ghost use Rattle.rtx_tree.specs.Limit.{most_bytes};
@@ -13,7 +13,7 @@ use crate::read::read_file;
 use crate::refusal::SourceRefusal;
 use byte_edge::Files;
 use lisp_read::Trees;
-use plain_data::{Items, Memory};
+use plain_data::Items;
 use std::alloc::Global;
 
 /// How many files may stand within each other, the description itself among them.
@@ -24,15 +24,6 @@ pub const MOST_WITHIN: usize = 16;
 pub struct Gathered {
     pub trees: Trees,
     pub used: usize,
-}
-
-/// Puts some trees behind others.
-fn append(trees: Trees, more: Trees) -> Result<Trees, Memory>
-    ensures { IfOk result (λ all. all ≡ trees ++ more) }
-{
-    let mut all = trees.into_vec();
-    all.append(&mut more.into_vec())?;
-    Ok(Items::from_vec(all))
 }
 
 /// The trees of the file of a name, as so many files within each other, after so many bytes were
@@ -70,7 +61,7 @@ fn gather_from<F: Files>(
                     return Err(SourceRefusal::Include);
                 }
                 let file = gather_from(alloc, files, file.bytes(), within + 1, used)?;
-                trees = append(trees, file.trees)?;
+                trees = trees.append(file.trees)?;
                 used = file.used;
             }
         }

@@ -21,22 +21,12 @@ pub fn kind_of(x: &Rtx) -> Kind
     }
 }
 
-fn copy_uses(alloc: Global, uses: &[ArgUse]) -> Result<ArgUses, Memory>
-    ensures { IfOk result (λ copies. copies ≡ uses.now) }
-{
-    let mut copies = Items::new(alloc);
-    for arg in uses {
-        copies.push(*arg)?;
-    }
-    Ok(copies)
-}
-
 /// The uses of a call in the place of a call.
 fn uses_between(alloc: Global, old: Kind, new: Kind, uses: &[ArgUse]) -> Result<ArgUses, Memory>
     ensures { IfOk result (λ copies. copies ≡ spec.uses_between old new uses.now) }
 {
     match (old, new) {
-        (Kind::Call, Kind::Call) => copy_uses(alloc, uses),
+        (Kind::Call, Kind::Call) => Items::from_slice(alloc, uses),
         _ => Ok(Items::new(alloc)),
     }
 }

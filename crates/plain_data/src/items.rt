@@ -1,6 +1,6 @@
 //! A list in the code that is a list in contracts.
 ghost use Rattle.std.specs.Borrow.{sem};
-ghost use Rattle.std.specs.Prelude.{◌≡◌, [], ◌∷◌, ◌++◌, ◌<◌, ◌≤◌, length, slice_get, slice_set, OnOk, OnErr, MatchOption, Some, IsTrue, ◌↔◌};
+ghost use Rattle.std.specs.Prelude.{◌≡◌, [], ◌∷◌, ◌++◌, ◌<◌, ◌≤◌, length, slice_get, slice_set, IfOk, OnOk, OnErr, MatchOption, Some, IsTrue, ◌↔◌};
 ghost use Rattle.std.specs.List.{insert, remove};
 
 use crate::memory::Memory;
@@ -138,5 +138,25 @@ impl<T: Drop> Items<T> {
     {
         self.vec.insert(at, item)?;
         Ok(())
+    }
+
+    /// The elements with those of another list behind them.
+    pub fn append(self, more: Items<T>) -> Result<Items<T>, Memory>
+        ensures { IfOk result (λ all. all ≡ self ++ more) }
+    {
+        let mut vec = self.into_vec();
+        vec.append(&mut more.into_vec())?;
+        Ok(Items { vec })
+    }
+}
+
+impl<T: Copy> Items<T> {
+    /// The list of a slice's elements.
+    pub fn from_slice(alloc: Global, items: &[T]) -> Result<Items<T>, Memory>
+        ensures { IfOk result (λ copy. copy ≡ items.now) }
+    {
+        Ok(Items {
+            vec: Vec::from_slice(alloc, items)?,
+        })
     }
 }

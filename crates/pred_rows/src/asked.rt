@@ -1,22 +1,13 @@
 //! What questions ask.
 ghost use Rattle.std.specs.Prelude.{◌≡◌};
 ghost use Rattle.c_cond.specs.Tree.{tree_of};
-ghost use Rattle.c_eval.specs.Value.{is_a};
 ghost use Rattle.pred_rows.specs.machine.Rows as rows;
 ghost use Rattle.pred_rows.specs.Tests as spec;
 
 use crate::node::Node;
 use c_cond::CondHead;
-use c_eval::{Preds, test_worth};
+use c_eval::{Preds, is_a, test_worth};
 use rtx_tree::{Code, Mode, Rtx};
-
-/// Whether an operand has a code.
-#[tactic(auto, using(c_eval::proofs::Same::code_is))]
-fn is_a(code: Code, x: &Rtx) -> bool
-    ensures { result ≡ is_a code x.now }
-{
-    x.code.same(code)
-}
 
 /// Whether an operand has one of some codes.
 pub fn has_code(codes: &[Code], x: &Rtx) -> bool

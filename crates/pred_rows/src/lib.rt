@@ -7,7 +7,6 @@
 #![tactic(auto)]
 
 mod asked;
-mod copy;
 mod node;
 mod row;
 

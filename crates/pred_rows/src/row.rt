@@ -4,8 +4,8 @@ ghost use Rattle.pred_rows.specs.machine.Rows as spec;
 ghost use Rattle.pred_rows.specs.machine.Steps as steps;
 
 use crate::asked::holds_at;
-use crate::copy::{codes_copy, heads_copy};
 use crate::node::{Node, Nodes};
+use c_cond::heads_copy;
 use c_eval::Preds;
 use plain_data::{Items, Memory};
 use pred_expr::{Question, Test};
@@ -41,7 +41,7 @@ fn alone(alloc: Global, question: &Question) -> Result<Node, Memory>
     ensures { IfOk result (steps.Asks question.now []) }
 {
     match question {
-        Question::Codes(codes) => Ok(Node::Codes(codes_copy(alloc, codes.as_slice())?)),
+        Question::Codes(codes) => Ok(Node::Codes(Items::from_slice(alloc, codes.as_slice())?)),
         Question::Condition(condition) => {
             Ok(Node::Condition(heads_copy(alloc, condition.heads())?))
         }

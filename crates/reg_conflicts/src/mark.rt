@@ -5,23 +5,11 @@ ghost use Rattle.reg_rows.specs.Row.{has};
 ghost use Rattle.reg_rows.specs.Table.{has_at, IsTable};
 ghost use Rattle.live_rows.specs.machine.Rows.{at_place};
 
+use live_rows::add_place;
 use reg_rows::{RegRow, join_row};
 use rtl_func::Successors;
 
 const WORD: usize = u64::BITS as usize;
-
-/// Adds the row of a place, if there is one.
-fn add_place(live: &[RegRow], place: Option<u32>, set: &mut RegRow)
-    requires { IsTable (length set.old) live.now }
-    ensures width { length set.new ≡ length set.old }
-    ensures each { (reg : ℕ) → has set.new reg ≡ (has set.old reg || at_place place live.now reg) }
-{
-    if let Some(place) = place
-        && let Some(row) = live.get(place as usize)
-    {
-        let _ = set.join(row);
-    }
-}
 
 /// Collects the registers that are live before one of the places to which an instruction leads.
 pub fn collect(live: &[RegRow], next: Successors, set: &mut RegRow)

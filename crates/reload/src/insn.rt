@@ -19,18 +19,8 @@ use md_desc::FormMatch;
 use md_forms::names_of;
 use plain_data::{Items, Memory};
 use reload_choice::{Given, Plan, best_plan, insn_between, insns_after, insns_before};
-use rtx_tree::{ArgUse, ArgUses, Insn, Insns, Kind, Name, Rtx};
+use rtx_tree::{Insn, Insns, Kind, Name, Rtx};
 use std::alloc::Global;
-
-fn copy_uses(alloc: Global, uses: &[ArgUse]) -> Result<ArgUses, Memory>
-    ensures { IfOk result (λ copies. copies ≡ uses.now) }
-{
-    let mut copies = Items::new(alloc);
-    for arg in uses {
-        copies.push(*arg)?;
-    }
-    Ok(copies)
-}
 
 /// Adds an instruction with another pattern.
 fn add_with(alloc: Global, insn: &Insn, pattern: Rtx, insns: &mut Insns) -> Result<(), Memory>
@@ -40,7 +30,7 @@ fn add_with(alloc: Global, insn: &Insn, pattern: Rtx, insns: &mut Insns) -> Resu
         uid: insn.uid,
         kind: insn.kind,
         pattern,
-        uses: copy_uses(alloc, insn.uses.as_slice())?,
+        uses: Items::from_slice(alloc, insn.uses.as_slice())?,
     })
 }
 

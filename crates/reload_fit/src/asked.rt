@@ -4,9 +4,9 @@ ghost use Rattle.std.specs.List.{find, list_any};
 ghost use Rattle.std.specs.Option.{option_copied};
 ghost use Rattle.rtx_tree.specs.Tree.{mentions_reg};
 ghost use Rattle.reload_operands.specs.md_constr.Admits.{register_of};
-ghost use Rattle.c_eval.specs.Value.{register_in};
 ghost use Rattle.reload_fit.specs.Fitting as spec;
 
+use c_eval::register_in;
 use md_desc::Description;
 use md_forms::OperandConstraint;
 use md_text::{Alternative, Letter, Member};
@@ -83,16 +83,6 @@ fn is_shared(operands: &[Operand], number: u32, reg: u32) -> bool
     operands
         .iter()
         .any(|y| y.is_input && y.number != number && mentions(y, reg))
-}
-
-/// The number of a register.
-fn register_in(x: &Rtx) -> Option<u32>
-    ensures { result ≡ register_in x.now }
-{
-    match x.code {
-        Code::Reg => u32::try_from(x.number).ok(),
-        _ => None,
-    }
 }
 
 /// The number of the register that an operand is, or is the low part of.

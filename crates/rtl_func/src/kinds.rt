@@ -1,16 +1,9 @@
 //! Kinds of instructions.
 ghost use Rattle.std.specs.Prelude.{◌≡◌};
 ghost use Rattle.rtl_func.specs.Kinds as spec;
-ghost use Rattle.rtl_func.specs.Shapes.{class_at, is_call_class};
 
-use crate::shape::class_at;
+use crate::shape::{class_at, is_call};
 use rtx_tree::{Class, Rtx};
-
-fn is_calling(x: &Rtx) -> bool
-    ensures { result ≡ is_call_class (class_at x.now) }
-{
-    matches!(class_at(x), Class::Call)
-}
 
 /// Whether a tree is a return or a set of the pc.
 pub fn is_jump_tree(x: &Rtx) -> bool
@@ -29,7 +22,7 @@ pub fn is_call_tree(x: &Rtx) -> bool
 {
     match (class_at(x), x.kids.as_slice()) {
         (Class::Call, _) => true,
-        (Class::Setting, [_, source]) => is_calling(source),
+        (Class::Setting, [_, source]) => is_call(source),
         _ => false,
     }
 }
@@ -38,7 +31,7 @@ pub fn is_call_tree(x: &Rtx) -> bool
 pub fn is_plain_tree(x: &Rtx) -> bool
     ensures { result ≡ spec.is_plain_tree x.now }
 {
-    !(is_jump_tree(x) || is_calling(x))
+    !(is_jump_tree(x) || is_call(x))
 }
 
 /// Whether a tree is `(parallel [])`.

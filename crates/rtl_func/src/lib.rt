@@ -39,7 +39,7 @@ pub use flow::Successors;
 pub use labels::{Labels, labels_of};
 pub use names::Names;
 pub use paths::reaches_exit;
-pub use shape::{class_at, is_called, is_constant, is_place};
+pub use shape::{class_at, has_mode, is_called, is_constant, is_place};
 pub use trees::{
     argument_registers, call_modes_agree, kinds_agree, parallels_hold_simple, shapes_agree,
 };

@@ -24,7 +24,8 @@ fn mode_bits(mode: Mode) -> u32
     }
 }
 
-fn has_mode(mode: Mode) -> bool
+/// Whether a mode is one.
+pub fn has_mode(mode: Mode) -> bool
     ensures { result ≡ spec.has_mode mode }
 {
     0 < mode_bits(mode)
@@ -131,7 +132,8 @@ fn is_jump_source(x: &Rtx) -> bool
     matches!(class_at(x), Class::Label | Class::Branch)
 }
 
-fn is_call(x: &Rtx) -> bool
+/// Whether a tree is a call.
+pub fn is_call(x: &Rtx) -> bool
     ensures { result ≡ spec.is_call_class (spec.class_at x.now) }
 {
     matches!(class_at(x), Class::Call)

@@ -1,27 +1,15 @@
 //! The words of RTL's text, and lists by the word that they begin with.
 ghost use Rattle.std.specs.Prelude.{◌≡◌};
-ghost use Rattle.lisp_read.specs.Leaf.{uid_in};
 ghost use Rattle.lisp_read.specs.Shape as shape;
 ghost use Rattle.rtl_read.specs.Word as spec;
 
-use lisp_read::{Tree, atom, is_word, items};
-use text_words::number_in;
-
-/// A number of 32 bits.
-fn number_of_text(text: &[u8]) -> Option<u32>
-    ensures { result ≡ uid_in text.now }
-{
-    match number_in(text) {
-        Some(number) if 0 <= number && number < 4_294_967_296 => Some(number as u32),
-        _ => None,
-    }
-}
+use lisp_read::{Tree, atom, is_word, items, uid_in};
 
 /// The number of 32 bits that an atom writes.
 pub fn number_of(tree: &Tree) -> Option<u32>
     ensures { result ≡ spec.number_of tree.now }
 {
-    number_of_text(atom(tree)?.bytes())
+    uid_in(atom(tree)?.bytes())
 }
 
 /// Whether the tree is a list that begins with this word.

@@ -9,6 +9,7 @@ use Rattle.rtx_tree.specs.declared.code.Code.TheVariants as code
 use Rattle.rtx_tree.specs.declared.code.Mode.{Mode}
 use Rattle.rtx_tree.specs.declared.code.Mode.TheVariants.{Void, QI, HI, SI, DI}
 use Rattle.rtx_tree.specs.declared.tree.Rtx.{Rtx, out-Rtx}
+use Rattle.rtx_tree.specs.Tree.{kids_of}
 use Rattle.rtx_tree.specs.Patterns.{is_pc}
 use Rattle.rtl_func.specs.Shapes.{class_at, mode_at, has_mode, is_constant, is_called}
 use Rattle.std_name.specs.declared.standard.StandardOperand.{StandardOperand}
@@ -126,9 +127,6 @@ label_row uid = row_where (is_constant uid) (row (codes "jump") [] [] (fixed uid
 abbrev pub jump_row : Class → List Rtx → Option Standard
 jump_row class.Label (uid ∷ []) = label_row uid
 jump_row _ parts = None
-
-abbrev pub kids_of : Rtx → List Rtx
-kids_of x = (out-Rtx x).kids
 
 abbrev pub compared_branch : Rtx → Rtx → Rtx → Rtx → Option Standard
 compared_branch test a b uid =

@@ -1,5 +1,6 @@
 //! The table of standard names.
 ghost use Rattle.std.specs.Prelude.{◌≡◌, ◌∷◌, ◌++◌, [], IfOk, OnOk};
+ghost use Rattle.rtx_tree.specs.Tree.{kids_of};
 ghost use Rattle.rtl_func.specs.Shapes.{class_at};
 ghost use Rattle.std_name.specs.Names as spec;
 ghost use Rattle.std_name.specs.Operands as operands;
@@ -158,7 +159,7 @@ fn compare_row(
 /// The row of an instruction that sets a place to a value.
 fn value_row(alloc: Global, x: &Rtx, source: &Rtx) -> Result<Option<Standard>, Memory>
     ensures { IfOk result (λ r. r ≡ spec.value_row (class_at source.now) x.now source.now
-        (spec.kids_of source.now)) }
+        (kids_of source.now)) }
 {
     match (class_at(source), source.kids.as_slice()) {
         (Class::Binary, [a, b]) => binary_row(alloc, x, source, a, source.mode, b),
@@ -183,7 +184,7 @@ fn label_row(alloc: Global, uid: &Rtx) -> Result<Option<Standard>, Memory>
 }
 
 fn jump_row(alloc: Global, target: &Rtx) -> Result<Option<Standard>, Memory>
-    ensures { IfOk result (λ r. r ≡ spec.jump_row (class_at target.now) (spec.kids_of target.now)) }
+    ensures { IfOk result (λ r. r ≡ spec.jump_row (class_at target.now) (kids_of target.now)) }
 {
     match (class_at(target), target.kids.as_slice()) {
         (Class::Label, [uid]) => label_row(alloc, uid),
@@ -212,7 +213,7 @@ fn compared_branch(
 
 fn branch_by(alloc: Global, test: &Rtx, label: &Rtx) -> Result<Option<Standard>, Memory>
     ensures { IfOk result (λ r. r ≡ spec.branch_by (class_at test.now) test.now
-        (spec.kids_of test.now) (class_at label.now) (spec.kids_of label.now)) }
+        (kids_of test.now) (class_at label.now) (kids_of label.now)) }
 {
     match (
         class_at(test),
@@ -244,7 +245,7 @@ fn branch_row(
 
 /// The row of a jump, by what the pc is set to.
 fn go_row(alloc: Global, source: &Rtx) -> Result<Option<Standard>, Memory>
-    ensures { IfOk result (λ r. r ≡ spec.go_row (class_at source.now) (spec.kids_of source.now)) }
+    ensures { IfOk result (λ r. r ≡ spec.go_row (class_at source.now) (kids_of source.now)) }
 {
     match (class_at(source), source.kids.as_slice()) {
         (Class::Branch, [test, label, next]) => branch_row(alloc, test, label, next),

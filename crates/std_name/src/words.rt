@@ -8,6 +8,7 @@ ghost use Rattle.std_name.specs.Operands as operands;
 use crate::operands::fits;
 use crate::standard::{Standard, StandardOperand};
 use plain_data::{Items, Memory};
+use rtl_func::has_mode;
 use rtx_tree::{Code, Mode, Name};
 use std::alloc::Global;
 use text_words::print_text;
@@ -62,12 +63,6 @@ fn name_of(alloc: Global, word: &str, modes: &[Mode], count: &str) -> Result<Nam
     }
     print_text(count.as_bytes(), &mut text)?;
     Ok(Name::from_vec(text))
-}
-
-fn has_mode(mode: Mode) -> bool
-    ensures { result ≡ shapes.has_mode mode }
-{
-    !matches!(mode, Mode::Void)
 }
 
 fn have_modes(modes: &[Mode]) -> bool

@@ -380,8 +380,10 @@ fn operands_stand(
     requires { spec.AreNumbers numbers.now draft.now }
     ensures { IfOk result (λ stand. stand ≡ spec.operands_stand draft.now alternatives) }
 {
-    let dups = dups_stand(alloc, draft, numbers.matched.as_slice())?;
-    Ok(numbers_stand(numbers.all.as_slice(), alternatives) && dups)
+    if !numbers_stand(numbers.all.as_slice(), alternatives) {
+        return Ok(false);
+    }
+    dups_stand(alloc, draft, numbers.matched.as_slice())
 }
 
 /// Whether a template has a text for each alternative.

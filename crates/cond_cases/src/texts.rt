@@ -1,7 +1,7 @@
 //! Lists, constraints and templates as descriptions write them.
 use case_text::Told;
 use md_text::*;
-use plain_data::Memory;
+use plain_data::{Items, Memory};
 use rtx_tree::Name;
 use std::alloc::Global;
 
@@ -60,12 +60,12 @@ fn show_alternative(alternative: &Alternative, told: &mut Told) {
 
 /// The names of the defined constraints: the words of a text, and the empty one behind its last
 /// blank.
-fn names_in(alloc: Global, given: &[u8]) -> Result<Vec<Name>, Memory> {
-    let mut names = Vec::new(alloc);
+fn names_in(alloc: Global, given: &[u8]) -> Result<ConstraintNames, Memory> {
+    let mut names = Items::new(alloc);
     for word in given.split(|byte| byte.is_ascii_whitespace()) {
         names.push(Name::of(alloc, word)?)?;
     }
-    Ok(names)
+    ConstraintNames::of(alloc, names)
 }
 
 /// Appends the alternatives of a constraint, or that a name in it is unknown.
@@ -73,7 +73,7 @@ pub fn tell_constraint(alloc: Global, given: &[u8], text: &[u8], told: &mut Told
     let Ok(names) = names_in(alloc, given) else {
         return told.fail();
     };
-    match constraint_of(alloc, text, names.as_slice()) {
+    match constraint_of(alloc, text, &names) {
         Ok(Some(constraint)) => {
             for alternative in constraint.as_slice() {
                 show_alternative(alternative, told);

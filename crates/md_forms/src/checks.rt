@@ -15,7 +15,7 @@ use crate::tables::{AttributeDraft, ConstraintDraft, Tables, is_among, is_constr
 use c_cond::CondHead;
 use md_draft::{Attribute, Defined, Draft, FormHead, Made, Matched, Output, Printed};
 use md_pattern::{Judged, OperandText, Patterns, Reason};
-use md_text::{Alternative, Member, Template, constraint_of};
+use md_text::{Alternative, ConstraintNames, Member, Template, constraint_of};
 use plain_data::{Items, Memory};
 use rtx_tree::{Kids, Name, Rtx};
 use std::alloc::Global;
@@ -132,7 +132,7 @@ fn dups_stand(alloc: Global, draft: &Draft, matched: &[u64]) -> Result<bool, Mem
 
 fn constraint_in(
     alloc: Global,
-    names: &[Name],
+    names: &ConstraintNames,
     text: &OperandText,
 ) -> Result<Option<OperandConstraint>, Memory>
     ensures { IfOk result (λ constraint. constraint ≡ spec.constraint_in names.now text.now) }
@@ -149,7 +149,7 @@ fn constraint_in(
 #[tactic(auto, using(md_text::proofs::Each::with_nothing, md_text::proofs::Each::each_next, md_text::proofs::Each::each_stops, md_text::proofs::Each::each_ends))]
 fn constraints_of(
     alloc: Global,
-    names: &[Name],
+    names: &ConstraintNames,
     texts: &[OperandText],
 ) -> Result<Option<Items<OperandConstraint>>, Memory>
     ensures { IfOk result (λ constraints.
@@ -169,7 +169,7 @@ fn constraints_of(
 #[tactic(auto, unfolding(crate::specs::Checks::constraints_in))]
 fn constraints_in(
     alloc: Global,
-    names: &[Name],
+    names: &ConstraintNames,
     draft: &Draft,
 ) -> Result<Option<Items<OperandConstraint>>, Memory>
     ensures { IfOk result (λ constraints. constraints ≡ spec.constraints_in names.now draft.now) }
@@ -369,8 +369,10 @@ fn operands_stand(
     requires { spec.AreNumbers numbers.now draft.now }
     ensures { IfOk result (λ stand. stand ≡ spec.operands_stand draft.now alternatives) }
 {
-    let dups = dups_stand(alloc, draft, numbers.matched.as_slice())?;
-    Ok(numbers_stand(numbers.all.as_slice(), alternatives) && dups)
+    if !numbers_stand(numbers.all.as_slice(), alternatives) {
+        return Ok(false);
+    }
+    dups_stand(alloc, draft, numbers.matched.as_slice())
 }
 
 /// Whether a template has a text for each alternative.
@@ -451,7 +453,7 @@ fn checked(
     if !predicates_known(alloc, tables, draft)? {
         return Ok(Err(Reason::Predicate));
     }
-    let Some(constraints) = constraints_in(alloc, tables.constraint_names.as_slice(), draft)? else {
+    let Some(constraints) = constraints_in(alloc, &tables.constraint_names, draft)? else {
         return Ok(Err(Reason::Constraint));
     };
     match reason_behind(alloc, tables, draft, constraints.as_slice())? {

@@ -9,6 +9,7 @@ use crate::names::predicates_named;
 use crate::predicates::{accepted_within, all_known};
 use md_draft::{Draft, DraftEntry, FormHead};
 use md_pattern::Judged;
+use md_text::ConstraintNames;
 use plain_data::{Items, Memory};
 use rtx_tree::Name;
 use std::alloc::Global;
@@ -70,7 +71,7 @@ pub struct Tables {
     /// Which of the predicates are accepted.
     pub accepted: Items<bool>,
     /// The names of the constraints, the accepted and the others.
-    pub constraint_names: Items<Name>,
+    pub constraint_names: ConstraintNames,
     pub constraints: Definitions<ConstraintDraft>,
     pub attributes: Definitions<AttributeDraft>,
 }
@@ -349,14 +350,14 @@ fn constraint_table(
     predicates: &Definitions<PredicateDraft>,
     accepted: &[bool],
     entries: &[DraftEntry],
-) -> Result<(Items<Name>, Definitions<ConstraintDraft>), Memory>
+) -> Result<(ConstraintNames, Definitions<ConstraintDraft>), Memory>
     ensures names { IfOk result (λ table. table.0 ≡ map (λ k. k.name)
         (spec.constraints_of (is_known predicates.now accepted.now) entries.now)) }
     ensures constraints { IfOk result (λ table. table.1 ≡ spec.constraints_of
         (is_known predicates.now accepted.now) entries.now) }
 {
     let constraints = constraints_of(alloc, predicates, accepted, entries)?;
-    let names = names_of(alloc, constraints.as_slice())?;
+    let names = ConstraintNames::of(alloc, names_of(alloc, constraints.as_slice())?)?;
     Ok((names, Definitions::of(alloc, constraints)?))
 }
 
@@ -368,7 +369,7 @@ fn constraints_and_attributes(
     entries: &[DraftEntry],
 ) -> Result<
     (
-        Items<Name>,
+        ConstraintNames,
         Definitions<ConstraintDraft>,
         Definitions<AttributeDraft>,
     ),

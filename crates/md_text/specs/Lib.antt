@@ -2,3 +2,4 @@ pub mod Lists
 pub mod Pieces
 pub mod Constraint
 pub mod Template
+pub mod machine

@@ -5,6 +5,7 @@ ghost use Rattle.md_text.specs.Constraint as spec;
 ghost use Rattle.text_words.specs.Blanks.{is_blank};
 
 use crate::lists::{behind, parts_of};
+use crate::names::ConstraintNames;
 use crate::sign::{sign_at, signed};
 use plain_data::{Items, Memory};
 use rtx_tree::Name;
@@ -75,7 +76,11 @@ pub struct Alternative {
 pub type Constraint = Items<Alternative>;
 
 /// The alternative that a text without commas is.
-fn alternative_of(alloc: Global, names: &[Name], text: &[u8]) -> Result<Option<Alternative>, Memory>
+fn alternative_of(
+    alloc: Global,
+    names: &ConstraintNames,
+    text: &[u8],
+) -> Result<Option<Alternative>, Memory>
     ensures { IfOk result (λ alternative. alternative ≡ spec.alternative_of names.now text.now) }
 {
     let mut alternative = Alternative {
@@ -106,7 +111,7 @@ fn alternative_of(alloc: Global, names: &[Name], text: &[u8]) -> Result<Option<A
 pub fn constraint_of(
     alloc: Global,
     text: &[u8],
-    names: &[Name],
+    names: &ConstraintNames,
 ) -> Result<Option<Constraint>, Memory>
     ensures { IfOk result (λ constraint. constraint ≡ spec.constraint_of names.now text.now) }
 {

@@ -3,6 +3,7 @@ ghost use Rattle.std.specs.Prelude.{◌≡◌, ◌+◌, ◌<◌, ◌≤◌, ◌^
 ghost use Rattle.md_text.specs.Constraint as spec;
 
 use crate::constraint::{Alternative, Direction, Letter, Member};
+use crate::names::ConstraintNames;
 use plain_data::Memory;
 use rtx_tree::Name;
 use std::alloc::Global;
@@ -71,19 +72,6 @@ fn own(byte: u8, follow: usize) -> Option<(Sign, usize)>
     }
 }
 
-/// The longest of some names with which a text begins; the empty one where it begins with none.
-fn longest<'a>(names: &'a [Name], text: &[u8]) -> &'a [u8]
-    ensures { result.now ≡ spec.longest names.entry.now text.now }
-{
-    let mut best: &[u8] = &[];
-    for name in names {
-        if text.starts_with(name.bytes()) && best.len() < name.bytes().len() {
-            best = name.bytes();
-        }
-    }
-    best
-}
-
 fn defined(alloc: Global, name: &[u8]) -> Result<Option<(Sign, usize)>, Memory>
     requires { 0 < length name.now }
     ensures { IfOk result (λ sign. sign ≡ Some (spec.defined name.now)) }
@@ -113,13 +101,17 @@ fn by_name(
 }
 
 /// What stands at the front of an alternative, and how many bytes it has behind its first.
-pub fn sign_at(alloc: Global, names: &[Name], text: &[u8]) -> Result<Option<(Sign, usize)>, Memory>
+pub fn sign_at(
+    alloc: Global,
+    names: &ConstraintNames,
+    text: &[u8],
+) -> Result<Option<(Sign, usize)>, Memory>
     ensures { IfOk result (λ sign. sign ≡ spec.sign_at names.now text.now) }
 {
     match text {
         [] => Ok(None),
         [byte, ..] if is_blank(*byte) => Ok(Some((Sign::Nothing, 0))),
-        [byte, rest @ ..] => by_name(alloc, longest(names, text), *byte, rest.len()),
+        [byte, rest @ ..] => by_name(alloc, names.longest(text), *byte, rest.len()),
     }
 }
 

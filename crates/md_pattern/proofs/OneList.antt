@@ -46,7 +46,7 @@ mode_smallest c (Some m) = by_code (has_mode c)
 -- ---- one list
 
 -- a tree is one list, and has one code
-same_list : (t : Tree) (w v : List ℕ) (ts us : List Tree) → IsList t w ts → IsList t v us → (w ≡ v) × (ts ≡ us)
+pub same_list : (t : Tree) (w v : List ℕ) (ts us : List Tree) → IsList t w ts → IsList t v us → (w ≡ v) × (ts ≡ us)
 same_list t w v ts us a b = (cc_word, rest)
   where
     items : a.head ∷ ts ≡ b.head ∷ us

@@ -17,13 +17,14 @@ use Rattle.md_pattern.specs.declared.reason.Reason.{Reason}
 use Rattle.md_pattern.specs.declared.reason.Reason.TheVariants as reason
 use Rattle.md_pattern.specs.Reason.{judged_with, judged_map}
 use Rattle.md_pattern.specs.Pattern.{or_aside}
+use Rattle.md_pattern.specs.HasReason.{IsList}
 use Rattle.pred_expr.specs.declared.question.Question.{Question}
 use Rattle.pred_expr.specs.declared.question.Question.TheVariants as question
 use Rattle.pred_expr.specs.declared.question.Test.{Test}
 use Rattle.pred_expr.specs.declared.test.TestKind.{TestKind}
 use Rattle.pred_expr.specs.declared.test.TestKind.TheVariants as kind
 use Rattle.pred_expr.specs.Texts.{test_condition_of}
-use Rattle.pred_expr.specs.Test.{test_with, alone, kind_of, text_in, codes_in, codes_by, condition_by, predicate_in, predicate_by, each, joined, behind, of_kind, of_head, test_of, IsList, IsTest}
+use Rattle.pred_expr.specs.Test.{test_with, alone, kind_of, text_in, codes_in, codes_by, condition_by, predicate_in, predicate_by, each, joined, behind, of_kind, of_head, test_of, IsTest}
 use Rattle.pred_expr.proofs.GrammarLaws.{test_condition_says}
 use Rattle.pred_expr.proofs.TestLaws.{test_out}
 

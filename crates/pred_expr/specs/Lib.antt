@@ -1,3 +1,4 @@
 pub mod Texts
 pub mod Test
+pub mod HasReason
 pub mod machine

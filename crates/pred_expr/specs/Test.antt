@@ -22,6 +22,7 @@ use Rattle.md_text.specs.Lists as lists
 use Rattle.md_pattern.specs.declared.reason.Reason.{Reason}
 use Rattle.md_pattern.specs.declared.reason.Reason.TheVariants as reason
 use Rattle.md_pattern.specs.Reason.{judged_with, judged_map}
+use Rattle.md_pattern.specs.HasReason.{IsList}
 use Rattle.md_pattern.specs.Operand.{number_in}
 use Rattle.md_pattern.specs.Pattern.{or_aside}
 use Rattle.pred_expr.specs.declared.question.Question.{Question}
@@ -138,17 +139,11 @@ abbrev pub test_step : List Constant → Tree-F (Tree → Result Test Reason) �
     Result Test Reason
 test_step constants x t = list_by constants (items_of t) (each_read (inside_at x) (inside_of t))
 
--- the test that a tree writes, or the smallest reason that applies anywhere in it
+-- the test that a tree writes, or the smallest of the reasons that it has (HasReason)
 unfoldable pub test_of : List Constant → Tree → Result Test Reason
 test_of constants t = fold-Tree (Tree → Result Test Reason) (test_step constants) t t
 
 -- ---- what a test is
-
--- The tree is a list: a word, and trees behind it.
-pub record IsList (t : Tree) (word : List ℕ) (ts : List Tree) : Type 0 where
-  pub head : Tree
-  pub items : items_of t ≡ head ∷ ts
-  pub word_is : atom_of head ≡ Some word
 
 -- The tree is this test. One case for each word that may stand at its head; what the text of a
 -- match_test is, the grammar of conditions says. That test_of gives this test is a clause.

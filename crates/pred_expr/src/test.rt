@@ -4,12 +4,13 @@ ghost use Rattle.std.specs.Option.{option_copied};
 ghost use Rattle.md_pattern.specs.lisp_read.Head.{code_in, code_named, mode_of_head};
 ghost use Rattle.md_pattern.specs.lisp_read.Shape.{atom_of};
 ghost use Rattle.md_text.specs.Lists as lists;
-ghost use Rattle.md_pattern.specs.Reason.{judged_with};
+ghost use Rattle.md_pattern.specs.Reason.{judged_with, IsSmallest};
 ghost use Rattle.md_pattern.specs.declared.reason.Reason.TheVariants as reason;
 ghost use Rattle.c_cond.specs.c_words.declared.atom.Dialect.TheVariants as Dialect;
 ghost use Rattle.c_cond.specs.Grammar.{IsText, Condition};
 ghost use Rattle.md_pattern.specs.lisp_read.declared.tree.Tree.{Tree};
 ghost use Rattle.pred_expr.specs.declared.question.Test.{Test};
+ghost use Rattle.pred_expr.specs.HasReason.{HasReason};
 ghost use Rattle.pred_expr.specs.Test as spec;
 ghost use Rattle.pred_expr.specs.Texts as texts;
 
@@ -301,6 +302,10 @@ pub fn test_of(alloc: Global, tree: &Tree, constants: &Constants) -> Result<Judg
     ensures grammar { (bytes : List ℕ) →
         texts.Says reason.Condition (IsText Dialect.Test constants.now Condition bytes)
         (texts.test_condition_of constants.now bytes) }
+
+    // A tree that is a test has no reason, and any other has the smallest of its reasons.
+    ensures reasons { IsSmallest (HasReason constants.now tree.now)
+        (spec.test_of constants.now tree.now) }
 {
     test_in(alloc, constants, tree)
 }

@@ -44,7 +44,7 @@ fn instance(alloc: Global, pattern: &Rtx, operands: &Operands) -> Result<Option<
     }
 }
 
-// The patterns with the operands put in, or `None` where an operand is missing.
+/// The patterns with the operands put in, or `None` where an operand is missing.
 #[cycle(instantiating)]
 pub fn instances(
     alloc: Global,

@@ -104,35 +104,47 @@ fn more_choices_than_numbers(rt: HostRuntime) {
     assert!(rt; is_told(rt.alloc(), "expansions", &text, "limit at 70"));
 }
 
-/// How many predicates the chains have.
-const COUNT: u32 = 200;
+/// A definition of a predicate that names the one numbered before.
+fn push_link(place: u32, before: &str, after: &str, text: &mut Told) {
+    text.text("(define_special_predicate \"p");
+    text.show(place);
+    text.text("\" ");
+    text.text(before);
+    text.text("(match_operand 0 \"p");
+    text.show(place.saturating_sub(1));
+    text.text("\")");
+    text.text(after);
+    text.text(")");
+}
 
-/// Predicates that each name the one numbered before. They are defined in that order, or backwards.
-fn chain(alloc: Global, backwards: bool, before: &str, after: &str) -> Told {
+/// So many predicates that each name the one numbered before. They are defined in that order, or
+/// backwards.
+fn chain(alloc: Global, count: u32, backwards: bool, before: &str, after: &str) -> Told {
     let mut text = Told::new(alloc);
     text.text("(define_predicate \"p0\" (match_code \"reg\"))");
-    for at in 1..COUNT {
-        let place = if backwards { COUNT - at } else { at };
-        text.text("(define_special_predicate \"p");
-        text.show(place);
-        text.text("\" ");
-        text.text(before);
-        text.text("(match_operand 0 \"p");
-        text.show(place.saturating_sub(1));
-        text.text("\")");
-        text.text(after);
-        text.text(")");
+    for at in 1..count {
+        push_link(
+            if backwards { count - at } else { at },
+            before,
+            after,
+            &mut text,
+        );
     }
     text
 }
 
-/// Whether the last predicate of a chain accepts this.
-fn accepts(alloc: Global, backwards: bool, before: &str, after: &str, want: &str) -> bool {
-    let text = chain(alloc, backwards, before, after);
-    match told(alloc, "predicates", &text.out, b"p199") {
+/// Whether a predicate of a description accepts this.
+fn is_accepted(alloc: Global, text: &Told, name: &[u8], want: &str) -> bool {
+    match told(alloc, "predicates", &text.out, name) {
         Some(told) => text.is_whole() && told.as_slice() == want.as_bytes(),
         None => false,
     }
+}
+
+/// Whether the last of 200 predicates in a chain accepts this.
+fn accepts(alloc: Global, backwards: bool, before: &str, after: &str, want: &str) -> bool {
+    let text = chain(alloc, 200, backwards, before, after);
+    is_accepted(alloc, &text, b"p199", want)
 }
 
 /// What stands before and behind the name of the next predicate, and what the last predicate
@@ -161,4 +173,101 @@ fn chains_of_predicates(rt: HostRuntime) {
         assert!(rt; accepts(rt.alloc(), false, before, after, want));
         assert!(rt; accepts(rt.alloc(), true, before, after, want));
     }
+}
+
+/// Whether the last of 4,000 predicates in a chain accepts this.
+fn accepts_far(alloc: Global, backwards: bool, before: &str, after: &str, want: &str) -> bool {
+    let text = chain(alloc, 4_000, backwards, before, after);
+    is_accepted(alloc, &text, b"p3999", want)
+}
+
+/// Each predicate is looked at once, and not once for each that leads to it.
+#[test]
+fn long_chains_of_predicates(rt: HostRuntime) {
+    assert!(rt; accepts_far(rt.alloc(), false, "", "", "/rs//s/r"));
+    assert!(rt;
+        accepts_far(
+            rt.alloc(),
+            true,
+            "(not ",
+            ")",
+            "/5hnmy/rs5hnmy/r5hnmy/s5hnmy"
+        )
+    );
+}
+
+/// How many constraints there are.
+const MANY: u32 = 3_000;
+
+/// Constraints whose names are `Q` and a number. Many begin with another.
+fn push_constraints(text: &mut Told) {
+    for at in 0..MANY {
+        text.text("(define_constraint \"Q");
+        text.show(at);
+        text.text("\" \"\" (match_code \"reg\"))");
+    }
+}
+
+/// A form whose operand asks for a constraint, then so often for a register, and then for what
+/// ends the text.
+fn push_form(constraint: u32, registers: u32, end: &str, text: &mut Told) {
+    text.text("(define_insn \"\" [(use (match_operand 0 \"\" \"Q");
+    text.show(constraint);
+    for _ in 0..registers {
+        text.text("r");
+    }
+    text.text(end);
+    text.text("\"))] \"\" \"\")");
+}
+
+fn count_told(told: &[u8], end: &str) -> usize {
+    told.split(|byte| *byte == b',')
+        .filter(|form| form.ends_with(end.as_bytes()))
+        .count()
+}
+
+/// How many forms of a description are accepted, and how many are set aside for a constraint.
+fn forms_told(alloc: Global, text: &Told) -> Option<(usize, usize)> {
+    match told(alloc, "forms", b"", &text.out) {
+        Some(told) if text.is_whole() => {
+            Some((
+                count_told(told.as_slice(), " ok"),
+                count_told(told.as_slice(), " 9"),
+            ))
+        }
+        _ => None,
+    }
+}
+
+/// Constraints, and as many forms that ask for them. Every fifth also asks for one that there is
+/// not.
+fn many_forms(alloc: Global) -> Told {
+    let mut text = Told::new(alloc);
+    push_constraints(&mut text);
+    for at in 0..MANY {
+        push_form(at, 60, if at % 5 == 0 { "Q" } else { "" }, &mut text);
+    }
+    text
+}
+
+#[test]
+fn many_forms_with_many_constraints(rt: HostRuntime) {
+    let text = many_forms(rt.alloc());
+    assert!(rt; matches!(forms_told(rt.alloc(), &text), Some((5_400, 600))));
+}
+
+/// Constraints, and two forms with long texts. The second also asks for a constraint that there is
+/// not.
+fn long_constraints(alloc: Global) -> Told {
+    let mut text = Told::new(alloc);
+    push_constraints(&mut text);
+    push_form(0, 100_000, "", &mut text);
+    push_form(0, 100_000, "Q", &mut text);
+    text
+}
+
+#[test]
+fn long_constraints_with_many_names(rt: HostRuntime) {
+    let text = long_constraints(rt.alloc());
+    assert!(rt; matches!(forms_told(rt.alloc(), &text), Some((3_001, 1))));
 }

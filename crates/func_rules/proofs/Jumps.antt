@@ -11,7 +11,7 @@ use Rattle.rtx_tree.specs.declared.function.Insn.{Insn}
 use Rattle.rtx_tree.specs.declared.tree.Rtx.{Rtx, out-Rtx}
 use Rattle.rtx_tree.specs.Patterns.{is_pc, is_pc_code, label_of, label_uid, place_of}
 use Rattle.rtl_func.specs.Kinds.{is_jump_by, uid_stands, label_stands}
-use Rattle.rtl_func.specs.Shapes.{class_at, mode_at, number_at, has_mode, is_place, is_place, is_bare, is_shaped, fits_row, is_set_to, is_choice, is_counter_class, is_label_class, is_comparison_class, is_jump_source_class}
+use Rattle.rtl_func.specs.Shapes.{class_at, mode_at, number_at, has_mode, is_place, is_bare, is_shaped, fits_row, is_set_to, is_choice, is_counter_class, is_label_class, is_comparison_class, is_jump_source_class}
 use Rattle.rtl_func.specs.Successors.{goes_to, branches_to, source_flow, source_flow_by, jump_flow_by}
 use Rattle.rtl_func.specs.declared.flow.Flow.TheVariants.{Stops}
 use Rattle.rtl_func.proofs.AllPass.{all_pass, itself, within}

@@ -18,4 +18,5 @@ parts_positions c items ps e =
     (q.1 ∙ ap (λ (x : List Position). Some x) says.1, subst (λ (x : List Position). list_all is_nested (take (length x) (drop 1 items)) ≡ true) says.1 says.0)
 
 pub fits : (c : Class) (items : List Tree) (ps : List Position) → positions_of c items ≡ Some ps → length ps < length items
-fits c items ps e = (subst (λ (o : Option (List Position)). IfSome o (Fits (parts_of c) items)) e (row_positions c items)).1
+fits c items ps e =
+    let both : Fits (parts_of c) items ps = subst (λ (o : Option (List Position)). IfSome o (Fits (parts_of c) items)) e (row_positions c items) in both.1

@@ -10,7 +10,8 @@ use Rattle.md_pattern.specs.declared.operand.OperandText.{OperandText}
 use Rattle.md_pattern.specs.declared.pattern.Pattern.{Pattern}
 use Rattle.md_pattern.specs.declared.pattern.Patterns.{Patterns}
 use Rattle.md_pattern.specs.Reason.{number_of, smaller, judged_with}
-use Rattle.md_pattern.specs.Pattern.{no_patterns, in_front, added, each, Meaning, meaning_of, pattern_of}
+use Rattle.md_pattern.specs.Pattern.{no_patterns, in_front, each, Meaning, meaning_of, pattern_of}
+use Rattle.md_pattern.specs.machine.Steps.{added}
 
 smaller_assoc : (r s t : Reason) → smaller r (smaller s t) ≡ smaller (smaller r s) t
 smaller_assoc r s t = grind (arith, nat_tests)

@@ -38,10 +38,6 @@ no_patterns = record { trees = []; texts = [] }
 abbrev pub in_front : Pattern → Patterns → Patterns
 in_front p ps = record { trees = p.tree ∷ ps.trees; texts = p.texts ++ ps.texts }
 
--- one more behind them
-abbrev pub added : Patterns → Pattern → Patterns
-added ps p = record { trees = ps.trees ++ p.tree ∷ []; texts = ps.texts ++ p.texts }
-
 -- what a tree stands for: as an expression, and as a vector of expressions
 pub record Meaning : Type 0 where
   pub pattern : Result Pattern Reason

@@ -5,6 +5,7 @@ ghost use Rattle.rtx_tree.specs.Code.{class_of_code, parts_of};
 ghost use Rattle.lisp_read.specs.Head.{code_of_head, mode_of_head};
 ghost use Rattle.md_pattern.specs.declared.reason.Reason.TheVariants as reason;
 ghost use Rattle.md_pattern.specs.Pattern as spec;
+ghost use Rattle.md_pattern.specs.machine.Steps as steps;
 ghost use Rattle.md_pattern.specs.HasReason.{HasReason, VectorHasReason};
 ghost use Rattle.md_pattern.specs.Reason.{judged_with, IsSmallest};
 ghost use Rattle.md_pattern.specs.Word as word;
@@ -48,7 +49,7 @@ pub fn no_patterns(alloc: Global) -> Patterns
 
 /// The expressions with one more behind them.
 fn added(patterns: Patterns, pattern: Pattern) -> Result<Patterns, Memory>
-    ensures { IfOk result (λ all. all ≡ spec.added patterns pattern) }
+    ensures { IfOk result (λ all. all ≡ steps.added patterns pattern) }
 {
     let Patterns { mut trees, texts } = patterns;
     let Pattern { tree, texts: more } = pattern;
@@ -63,7 +64,7 @@ fn judged_added(
     patterns: Judged<Patterns>,
     pattern: Judged<Pattern>,
 ) -> Result<Judged<Patterns>, Memory>
-    ensures { IfOk result (λ all. all ≡ judged_with spec.added patterns pattern) }
+    ensures { IfOk result (λ all. all ≡ judged_with steps.added patterns pattern) }
 {
     match both(patterns, pattern) {
         Ok((patterns, pattern)) => Ok(Ok(added(patterns, pattern)?)),

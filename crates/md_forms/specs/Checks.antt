@@ -2,7 +2,7 @@
 -- attributes are known, its operands numbered right, and its template inside. GCC Internals, "RTL
 -- Template", "Multiple Alternative Constraints", "Assigning Attribute Values to Insns" and "Output
 -- Templates and Operand Substitution".
-use Rattle.std.specs.Prelude.{◌≡◌, ℕ, ◌==◌, nat_le, Bool, true, false, not, ◌&&◌, ◌||◌, List, [], ◌∷◌, ◌++◌, Option, Some, None, Result, Ok, Err, if◌then◌else◌, length, option_map, option_and_then}
+use Rattle.std.specs.Prelude.{ℕ, ◌==◌, nat_le, Bool, true, false, not, ◌&&◌, ◌||◌, List, [], ◌∷◌, ◌++◌, Option, Some, None, Result, Ok, Err, if◌then◌else◌, length, option_map, option_and_then}
 use Rattle.std.specs.Option.{unwrap_or}
 use Rattle.std.specs.List.{find, flat_map, list_all, list_any}
 use Rattle.rtx_tree.specs.declared.tree.Rtx.{Rtx}
@@ -29,7 +29,6 @@ use Rattle.md_draft.specs.declared.draft.Draft.{Draft}
 use Rattle.md_forms.specs.declared.tables.AttributeDraft.{AttributeDraft}
 use Rattle.md_forms.specs.declared.tables.ConstraintDraft.{ConstraintDraft}
 use Rattle.md_forms.specs.declared.tables.Tables.{Tables}
-use Rattle.md_forms.specs.declared.checks.Numbers.{Numbers}
 use Rattle.md_forms.specs.Names.{predicates_named, operands_in, dups_in, is_assigned}
 use Rattle.md_forms.specs.Predicates.{is_known}
 use Rattle.md_forms.specs.Tables.{is_constraint, is_among, attribute_named}
@@ -49,10 +48,6 @@ matched d = flat_map operands_in d.matched.patterns.trees
 -- the numbers of the operands of the form, with those of its new sequence
 unfoldable pub all_operands : Draft → List ℕ
 all_operands d = matched d ++ flat_map operands_in d.made.sequence.trees
-
--- in the code, which counts them once
-abbrev pub AreNumbers : Numbers → Draft → Type 0
-AreNumbers numbers d = (numbers.matched ≡ matched d) × (numbers.all ≡ all_operands d)
 
 abbrev pub has : List ℕ → ℕ → Bool
 has numbers n = list_any (λ m. m == n) numbers

@@ -67,7 +67,7 @@ fn dups_of(alloc: Global, trees: &[Rtx]) -> Result<Items<u64>, Memory>
 
 #[tactic(auto, unfolding(crate::specs::Checks::matched, crate::specs::Checks::all_operands))]
 fn numbers_of(alloc: Global, draft: &Draft) -> Result<Numbers, Memory>
-    ensures { IfOk result (λ numbers. spec.AreNumbers numbers draft.now) }
+    ensures { IfOk result (λ numbers. steps.AreNumbers numbers draft.now) }
 {
     let matched = operands_of(alloc, draft.matched.patterns.trees.as_slice())?;
     let mut all = operands_of(alloc, draft.matched.patterns.trees.as_slice())?;
@@ -366,7 +366,7 @@ fn operands_stand(
     numbers: &Numbers,
     alternatives: usize,
 ) -> Result<bool, Memory>
-    requires { spec.AreNumbers numbers.now draft.now }
+    requires { steps.AreNumbers numbers.now draft.now }
     ensures { IfOk result (λ stand. stand ≡ spec.operands_stand draft.now alternatives) }
 {
     if !numbers_stand(numbers.all.as_slice(), alternatives) {
@@ -407,7 +407,7 @@ fn reason_with(
 ) -> Result<Option<Reason>, Memory>
     requires constraints { spec.constraints_in tables.now.constraint_names draft.now
         ≡ Some constraints.now }
-    requires numbers { spec.AreNumbers numbers.now draft.now }
+    requires numbers { steps.AreNumbers numbers.now draft.now }
     ensures { IfOk result (λ reason. reason ≡ steps.reason_behind tables.now draft.now) }
 {
     if !constraints_stand(numbers.matched.as_slice(), &tables.constraints, constraints) {

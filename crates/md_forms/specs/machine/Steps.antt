@@ -1,12 +1,17 @@
 -- Steps of the code, for the contracts of private functions alone.
-use Rattle.std.specs.Prelude.{List, [], ◌∷◌, Option, Result}
+use Rattle.std.specs.Prelude.{◌≡◌, List, [], ◌∷◌, Option, Result}
 use Rattle.std.specs.List.{find}
 use Rattle.md_pattern.specs.declared.reason.Reason.{Reason}
 use Rattle.md_pattern.specs.declared.reason.Reason.TheVariants as reason
 use Rattle.md_forms.specs.declared.form.OperandConstraint.{OperandConstraint}
 use Rattle.md_draft.specs.declared.draft.Draft.{Draft}
 use Rattle.md_forms.specs.declared.tables.Tables.{Tables}
-use Rattle.md_forms.specs.Checks.{constraints_of, has_reason, reason_of, unless}
+use Rattle.md_forms.specs.declared.checks.Numbers.{Numbers}
+use Rattle.md_forms.specs.Checks.{matched, all_operands, constraints_of, has_reason, reason_of, unless}
+
+-- in the code, which counts them once
+abbrev pub AreNumbers : Numbers → Draft → Type 0
+AreNumbers numbers d = (numbers.matched ≡ matched d) × (numbers.all ≡ all_operands d)
 
 -- the smallest reason behind those of predicates, where the constraints are known
 abbrev pub reason_behind : Tables → Draft → Option Reason

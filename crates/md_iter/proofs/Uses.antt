@@ -6,8 +6,9 @@ use Rattle.std.proofs.lemmas.List.Sums.{fold-append}
 use Rattle.lisp_read.specs.declared.tree.Tree.{Tree}
 use Rattle.md_iter.specs.declared.definition.FormIterator.{FormIterator}
 use Rattle.md_iter.specs.declared.definition.Definitions.{Definitions}
-use Rattle.md_iter.specs.Choice.{Chosen, added, uses, uses_of}
-use Rattle.md_iter.specs.Substitution.{substituted, substituted_trees}
+use Rattle.md_iter.specs.Choice.{Chosen, added, uses}
+use Rattle.md_iter.specs.Substitution.{substituted}
+use Rattle.md_iter.specs.machine.Steps.{substituted_trees, uses_of}
 
 at : {A : Type 0} (read : List Tree → A) (trees : List Tree) (i : ℕ) (t : Tree) → i < length trees → t ≡ get_or trees i t → read (drop i trees) ≡ read (t ∷ drop (i + 1) trees)
 at read trees i t within is = at_drop_more read trees i t within ∙ ap (λ u. read (u ∷ drop (i + 1) trees)) (sym is)

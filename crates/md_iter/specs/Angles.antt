@@ -1,7 +1,6 @@
 -- A text with its `<..>` replaced: GCC Internals, "Iterators", "Substitutions".
-use Rattle.std.specs.Prelude.{ℕ, ◌==◌, List, [], ◌∷◌, ◌++◌, Option, Some, None, if◌then◌else◌, option_map}
+use Rattle.std.specs.Prelude.{ℕ, ◌==◌, List, [], ◌∷◌, ◌++◌, Option, Some, None, if◌then◌else◌}
 use Rattle.std.specs.Option.{unwrap_or}
-use Rattle.std.specs.Global.{Vec}
 
 -- <name>, replaced where something stands for it
 abbrev pub closed : (List ℕ → Option (List ℕ)) → List ℕ → List ℕ
@@ -27,7 +26,3 @@ filled_from filling name (byte ∷ rest) =
 
 abbrev pub filled : (List ℕ → Option (List ℕ)) → List ℕ → List ℕ
 filled filling text = filled_from filling None text
-
--- the name that the code has begun
-abbrev pub begun : Option (Vec ℕ) → Option (List ℕ)
-begun name = option_map (λ v. v.items) name

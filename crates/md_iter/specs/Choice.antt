@@ -65,11 +65,6 @@ uses_step iterators (Tree-F.Vector place items) is_head =
 abbrev pub uses : List FormIterator → Tree → Bool → List (Option FormIterator)
 uses iterators = fold-Tree (Bool → List (Option FormIterator)) (uses_step iterators)
 
--- what some trees use, the first of which may be the head of a list
-abbrev pub uses_of : List FormIterator → List Tree → Bool → List (Option FormIterator)
-uses_of iterators trees head_first =
-    flat_map (λ uses. uses) (from_head head_first (map (uses iterators) trees))
-
 -- the iterators of a form, each once, in the order in which atoms use them first
 abbrev pub iterators_of : List FormIterator → Tree → List FormIterator
 iterators_of iterators t = fold added [] (uses iterators t false)

@@ -87,11 +87,6 @@ substituted_step definitions choice (Tree-F.Vector place items) is_head =
 abbrev pub substituted : Definitions → List Chosen → Tree → Bool → Tree
 substituted definitions choice = fold-Tree (Bool → Tree) (substituted_step definitions choice)
 
--- some trees, the first of which may be the head of a list
-abbrev pub substituted_trees : Definitions → List Chosen → List Tree → Bool → List Tree
-substituted_trees definitions choice trees head_first =
-    from_head head_first (map (substituted definitions choice) trees)
-
 -- the conditions of the values: GCC Internals, "Mode Iterators", "Defining Mode Iterators"
 abbrev pub conditions_of : List Chosen → List (List ℕ)
 conditions_of choice = map (λ c. c.value.condition) choice

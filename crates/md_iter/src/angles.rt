@@ -3,6 +3,7 @@ ghost use Rattle.std.specs.Prelude.{◌≡◌, ◌++◌, IfOk, OnOk, map};
 ghost use Rattle.md_iter.specs.Angles as spec;
 ghost use Rattle.md_iter.specs.Attribute.{filling};
 ghost use Rattle.md_iter.specs.Choice.{chosen_of};
+ghost use Rattle.md_iter.specs.machine.Steps as steps;
 
 use crate::attribute::filling_of;
 use crate::choice::Choice;
@@ -42,10 +43,10 @@ fn step(
 ) -> Result<Option<Vec<u8>>, Memory>
     ensures written { OnOk result (out.new.items ≡ out.old.items ++
         (spec.next (filling definitions.now (map chosen_of choices.now))
-        (spec.begun name) byte).0) }
+        (steps.begun name) byte).0) }
     ensures begun { IfOk result (λ new.
-        spec.begun new ≡ (spec.next (filling definitions.now (map chosen_of choices.now))
-        (spec.begun name) byte).1) }
+        steps.begun new ≡ (spec.next (filling definitions.now (map chosen_of choices.now))
+        (steps.begun name) byte).1) }
 {
     match (name, byte) {
         (None, b'<') => Ok(Some(Vec::new(alloc))),
@@ -71,7 +72,7 @@ fn step(
 
 /// Appends a name that nothing closed.
 fn push_begun(name: &Option<Vec<u8>>, out: &mut Vec<u8>) -> Result<(), Memory>
-    ensures { OnOk result (out.new.items ≡ out.old.items ++ spec.unclosed (spec.begun name.now)) }
+    ensures { OnOk result (out.new.items ≡ out.old.items ++ spec.unclosed (steps.begun name.now)) }
 {
     if let Some(name) = name {
         out.push(b'<')?;

@@ -4,6 +4,7 @@ ghost use Rattle.std.specs.List.{fold, list_any};
 ghost use Rattle.std.specs.Option.{option_copied};
 ghost use Rattle.md_iter.specs.Choice as spec;
 ghost use Rattle.md_iter.specs.Choice.{chosen_of, lent};
+ghost use Rattle.md_iter.specs.machine.Steps as steps;
 
 use crate::definition::{DefinitionKind, FormIterator, Value};
 use crate::shape::cut;
@@ -100,7 +101,7 @@ fn add_of_trees<'a>(
     used: &mut Vec<&'a FormIterator>,
 ) -> Result<(), Memory>
     ensures { OnOk result (lent used.new.items ≡ fold spec.added (lent used.old.items)
-        (spec.uses_of iterators.entry.now trees.now head_first)) }
+        (steps.uses_of iterators.entry.now trees.now head_first)) }
 {
     let mut is_head = head_first;
     for tree in trees {

@@ -4,6 +4,7 @@ ghost use Rattle.std.specs.Fmt.{signed_decimal};
 ghost use Rattle.std.specs.Option.{option_copied};
 ghost use Rattle.md_iter.specs.Choice.{chosen_of};
 ghost use Rattle.md_iter.specs.Substitution as spec;
+ghost use Rattle.md_iter.specs.machine.Steps as steps;
 
 use crate::angles::filled;
 use crate::choice::Choice;
@@ -184,7 +185,7 @@ fn substituted_trees(
     trees: &[Tree],
     head_first: bool,
 ) -> Result<Trees, Memory>
-    ensures { IfOk result (λ out. out ≡ spec.substituted_trees definitions.now
+    ensures { IfOk result (λ out. out ≡ steps.substituted_trees definitions.now
         (map chosen_of choices.now) trees.now head_first) }
 {
     let mut out = Items::new(alloc);

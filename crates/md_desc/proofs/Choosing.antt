@@ -8,8 +8,8 @@ use Rattle.md_match.specs.Pattern.{Ops}
 use Rattle.md_forms.specs.declared.form.Entry.{Entry}
 use Rattle.md_recog.specs.declared.recog.FormMatch.{FormMatch}
 use Rattle.md_desc.specs.declared.output.Chosen.{Chosen}
-use Rattle.md_desc.specs.Recog.{MatchesAt, IsFirst, NoneBehind, MatchesOut, NoneOutBefore, NoneMatchesOut, IsChosen, IsLowest}
-use Rattle.md_desc.specs.machine.Steps.{Counts}
+use Rattle.md_desc.specs.Recog.{MatchesAt, IsFirst, MatchesOut, NoneOutBefore, NoneMatchesOut, IsChosen, IsLowest}
+use Rattle.md_desc.specs.machine.Steps.{Counts, NoneBehind}
 
 none_is_some : {A : Type 0} (x : A) → None ≡ Some x → ⊥
 none_is_some x e = cc

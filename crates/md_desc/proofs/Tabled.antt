@@ -17,7 +17,8 @@ use Rattle.md_constr.specs.Fits.{fits, number_fits, number_admits}
 use Rattle.md_recog.specs.declared.half.Half.TheVariants as half
 use Rattle.md_recog.specs.Recog as recog
 use Rattle.md_recog.specs.declared.recog.FormMatch.{FormMatch}
-use Rattle.md_desc.specs.Recog.{IsFirst, NoneBehind, NoneMatches}
+use Rattle.md_desc.specs.Recog.{IsFirst, NoneMatches}
+use Rattle.md_desc.specs.machine.Steps.{NoneBehind}
 
 -- what holds by the forms that were looked at holds by those of the description, and what the table of predicates accepts is what they accept
 by_forms : (P : List Entry → (List ℕ → Rtx → Mode → Bool) → Type 0) (es fs : List Entry) (p : PredTable) → fs ≡ es → accepted_by p ≡ holds fs → P fs (accepted_by p) → P es (holds es)

@@ -1,6 +1,6 @@
 -- What a description makes of an instruction: GCC Internals, "Pattern Ordering", "Multiple
 -- Alternative Constraints" and "Disabling insn alternatives using the enabled attribute".
-use Rattle.std.specs.Prelude.{◌≡◌, ℕ, ◌<◌, Bool, true, false, not, ◌&&◌, List, [], ◌∷◌, length, Result, Ok, Err, slice_get}
+use Rattle.std.specs.Prelude.{◌≡◌, ℕ, ◌<◌, Bool, true, false, not, ◌&&◌, List, [], ◌∷◌, Result, Ok, Err, slice_get}
 use Rattle.std.specs.Option.{option_map_or}
 use Rattle.rtx_tree.specs.declared.tree.Rtx.{Rtx}
 use Rattle.c_eval.specs.declared.facts.Facts.{Facts}
@@ -28,11 +28,6 @@ MatchesAt forms facts insn form operands =
 abbrev pub IsFirst : List Entry → Facts → Rtx → ℕ → FormMatch → Type 0
 IsFirst forms facts insn from m =
     recog.IsFirst (holds forms) facts half.Insn (insn ∷ []) forms from m
-
--- no form from an index on matches
-abbrev pub NoneBehind : List Entry → Facts → Rtx → ℕ → Type 0
-NoneBehind forms facts insn from =
-    recog.NoneBetween (holds forms) facts half.Insn (insn ∷ []) forms from (length forms)
 
 -- no form matches
 abbrev pub NoneMatches : List Entry → Facts → Rtx → Type 0

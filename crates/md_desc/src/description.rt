@@ -9,6 +9,7 @@ ghost use Rattle.md_pred.specs.Holds.{holds};
 ghost use Rattle.md_pred.specs.machine.Table.{accepted_by};
 ghost use Rattle.tree_forms.specs.Trees.{most_forms};
 ghost use Rattle.md_desc.specs.Recog as spec;
+ghost use Rattle.md_desc.specs.machine.Steps as steps;
 ghost use Rattle.md_recog.specs.declared.recog.FormMatch.{FormMatch};
 
 use c_eval::Facts;
@@ -186,7 +187,7 @@ impl Description {
         ensures first { IfOk result (λ r. (m : FormMatch) →
             (r ≡ Some m) ↔ spec.IsFirst self.now facts.now insn.now from m) }
         ensures none { IfOk result (λ r. r ≡ None →
-            spec.NoneBehind self.now facts.now insn.now from) }
+            steps.NoneBehind self.now facts.now insn.now from) }
         ensures small { IfOk result (λ r. IfSome r (λ m. m.form < most_forms)) }
     {
         let mut steps = Steps::<L>::new(blank);
@@ -214,7 +215,7 @@ impl Description {
         ensures first { IfOk result (λ r. (m : FormMatch) →
             (r ≡ Some m) ↔ spec.IsFirst self.now facts.now insn.now from m) }
         ensures none { IfOk result (λ r. r ≡ None →
-            spec.NoneBehind self.now facts.now insn.now from) }
+            steps.NoneBehind self.now facts.now insn.now from) }
         ensures small { IfOk result (λ r. IfSome r (λ m. m.form < most_forms)) }
     {
         self.first_counted::<Brand>(alloc, insn, facts, from, Blank::new(1))

@@ -9,9 +9,9 @@ use Rattle.c_cond.specs.declared.goal.Goal.TheVariants as goal
 use Rattle.c_cond.specs.declared.tree.Tree.{Tree}
 use Rattle.c_words.specs.declared.head.CondHead.TheVariants as head
 use Rattle.c_words.specs.declared.head.Binary.TheVariants as binary
-use Rattle.c_cond.specs.Tree.{both, first_or_nothing, grown, heads_of, heads_of_all, tree_of, IsWhole}
+use Rattle.c_cond.specs.Tree.{both, first_or_nothing, grown, heads_of, tree_of, IsWhole}
 use Rattle.c_cond.specs.Grammar.{Sort, Statements, Condition, Is}
-use Rattle.c_cond.proofs.Growth.{all_1, heads_2, Grows, grows_one, good, regrown}
+use Rattle.c_cond.proofs.Growth.{heads_of_all, all_1, heads_2, Grows, grows_one, good, regrown}
 use Rattle.c_cond.proofs.Grown.{flattened, grow}
 use Rattle.c_cond.specs.machine.Steps.{result_of, at}
 use Rattle.c_cond.proofs.Sound.{sound_goal}

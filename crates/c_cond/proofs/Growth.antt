@@ -1,6 +1,7 @@
 -- The grammar of trees and the grammar of their heads are one.
 use Rattle.std.proofs.Common.{◌≡◌, ℕ, ◌+◌, Bool, true, false, List, [], ◌∷◌, ◌++◌, take, drop, Option, Some, None, refl, sym, ap, ◌∙◌, append_assoc, cond}
 use Rattle.std.specs.Prelude.{pos, reverse}
+use Rattle.std.specs.List.{flat_map}
 use Rattle.std.proofs.lemmas.List.{append-nil}
 use Rattle.std.proofs.lemmas.List.Folds.{flat_map-map}
 use Rattle.bits64.specs.Words.{signed}
@@ -23,7 +24,7 @@ use Rattle.c_cond.specs.declared.part.Signature.{Signature}
 use Rattle.c_cond.specs.declared.part.Signature.TheVariants as signature
 use Rattle.c_cond.specs.declared.tree.Tree.{Tree}
 use Rattle.c_cond.specs.declared.tree.Tree.TheFolds.{fold-roll-Tree}
-use Rattle.c_cond.specs.Tree.{node, leaf, heads_step, heads_of, heads_of_all, size_of, grown, first_or_nothing, tree_of}
+use Rattle.c_cond.specs.Tree.{node, leaf, heads_step, heads_of, size_of, grown, first_or_nothing, tree_of}
 use Rattle.rtx_tree.specs.declared.code.Code.{Code}
 use Rattle.std.specs.Prelude.{ℤ, option_map}
 use Rattle.c_words.specs.declared.atom.Atom.{Atom}
@@ -35,6 +36,9 @@ use Rattle.c_cond.specs.Grammar as grammar
 use Rattle.c_cond.specs.Grammar.{Sort, One, Parts, Statement, Statements, Condition, signature_of, predicate_parts, comparison_with}
 
 -- ---- the heads of trees
+
+abbrev pub heads_of_all : List Tree → List CondHead
+heads_of_all trees = flat_map heads_of trees
 
 pub heads_of-node : (h : CondHead) (parts : List Tree) → heads_of (node h parts) ≡ heads_of_all parts ++ h ∷ []
 heads_of-node h parts =

@@ -14,7 +14,7 @@ use Rattle.c_words.specs.declared.lexer.Lexer.{Lexer}
 use Rattle.c_words.specs.declared.lexer.Pending.{Pending}
 use Rattle.c_words.specs.declared.lexer.Pending.TheVariants as pending
 use Rattle.c_cond.specs.declared.tree.Tree.{Tree}
-use Rattle.c_cond.specs.Tree.{heads_of_all, tree_of}
+use Rattle.c_cond.specs.Tree.{tree_of}
 use Rattle.c_words.specs.Tokens.{tokens_in}
 use Rattle.c_cond.specs.Grammar.{Sort, Statements, Condition, Is, IsText}
 use Rattle.c_cond.specs.declared.parse.CondRefusal.{CondRefusal}
@@ -31,6 +31,7 @@ use Rattle.c_words.proofs.Lexes.{lexes}
 use Rattle.c_cond.proofs.Fit.{fit, run_fits}
 use Rattle.c_cond.proofs.Endings.{AreBytes, Ending, ending}
 use Rattle.c_cond.proofs.Pendings.{split_off, Settled, settles, never}
+use Rattle.c_cond.proofs.Growth.{heads_of_all}
 use Rattle.c_cond.proofs.Answered.{is_condition, is_statements, read_condition, read_statements}
 
 none_some : {A : Type 0} {x : A} → None ≡ Some x → ⊥

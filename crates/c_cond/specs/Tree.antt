@@ -25,9 +25,6 @@ heads_step x = flat_map (λ heads. heads) x.parts ++ x.head ∷ []
 abbrev pub heads_of : Tree → List CondHead
 heads_of = fold-Tree (List CondHead) heads_step
 
-abbrev pub heads_of_all : List Tree → List CondHead
-heads_of_all trees = flat_map heads_of trees
-
 -- how many parts a call has
 abbrev call_size : Call → ℕ
 call_size call.CanCreatePseudo = 0

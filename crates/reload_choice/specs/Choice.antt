@@ -116,7 +116,3 @@ NoneReaches forms form given = IsUnreachable (plan_at forms form given) (alterna
 abbrev pub constraints_by : Result Form Reason → List OperandConstraint
 constraints_by (Ok f) = f.constraints
 constraints_by (Err r) = []
-
--- the constraints of a form; one that is set aside has none
-abbrev pub constraints_in : Entry → List OperandConstraint
-constraints_in e = constraints_by e.form

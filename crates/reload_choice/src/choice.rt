@@ -5,6 +5,7 @@ ghost use Rattle.reload_choice.specs.declared.given.Plan.{Plan};
 ghost use Rattle.reload_choice.specs.Choice as spec;
 ghost use Rattle.reload_choice.specs.Sound.{IsSoundPlan};
 ghost use Rattle.reload_fit.specs.Fitting as fit;
+ghost use Rattle.reload_choice.specs.machine.Asked as machine;
 ghost use Rattle.reload_choice.specs.machine.Asked.{plan_in, plan_of, planned_in};
 ghost use Rattle.reload_choice.specs.machine.Least as least;
 
@@ -128,7 +129,7 @@ fn better(best: Option<Plan>, plan: Option<Plan>) -> Option<Plan>
 }
 
 fn constraints_in(entry: &Entry) -> &[OperandConstraint]
-    ensures { result.now ≡ spec.constraints_in entry.now }
+    ensures { result.now ≡ machine.constraints_in entry.now }
 {
     match &entry.form {
         Ok(form) => form.constraints.as_slice(),

@@ -2,7 +2,8 @@
 use Rattle.std.proofs.Common.{◌≡◌, ℕ, zero, suc, List, [], ◌∷◌, ◌++◌, flat_map, length, codes, refl, sym, ap, ◌∙◌, append_assoc}
 use Rattle.std.proofs.lemmas.List.Concat.{flat_map-cons}
 use Rattle.rtx_tree.specs.declared.function.ArgUse.{ArgUse}
-use Rattle.rtl_print.specs.Canonical.{printed_link, printed_uses, closed}
+use Rattle.rtl_print.specs.Canonical.{printed_link, printed_uses}
+use Rattle.rtl_print.specs.machine.Pieces.{closed}
 
 -- three pieces behind a text
 pub three_pieces : (start one two three front text back : List ℕ) → one ≡ start ++ front → two ≡ one ++ text → three ≡ two ++ back → three ≡ start ++ (front ++ (text ++ back))

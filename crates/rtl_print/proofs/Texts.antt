@@ -5,7 +5,8 @@ use Rattle.std.proofs.lemmas.List.Concat.{flat_map-cons}
 use Rattle.rtx_tree.specs.declared.tree.Rtx.{Rtx, out-Rtx}
 use Rattle.rtx_tree.specs.declared.tree.Rtx.TheFolds.{fold_out-Rtx}
 use Rattle.rtx_tree.specs.Code.{class_of_code}
-use Rattle.rtl_print.specs.Print.{head_text, Printed, printed_step, printed_body, text_of, spaced, spaced_text, spaced_number, body_of}
+use Rattle.rtl_print.specs.Print.{head_text, Printed, printed_step, printed_body, text_of, spaced, spaced_text, spaced_number}
+use Rattle.rtl_print.specs.machine.Pieces.{body_of}
 
 bare_of : (x : Rtx) → (text_of x).bare ≡ signed_decimal (out-Rtx x).number
 bare_of x = ap (λ (p : Printed). p.bare) (fold_out-Rtx Printed printed_step x)

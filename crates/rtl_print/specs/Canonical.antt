@@ -1,6 +1,6 @@
 -- The canonical text of a function: GCC Internals, "RTL Function Units" and "Insns", in the compact
 -- form that is read, with one instruction on a line and without blocks and notes.
-use Rattle.std.specs.Prelude.{ℕ, List, [], ◌∷◌, ◌++◌, flat_map, replicate, Option, Some, None, codes}
+use Rattle.std.specs.Prelude.{ℕ, List, [], ◌∷◌, ◌++◌, flat_map, Option, Some, None, codes}
 use Rattle.std.specs.Fmt.{decimal}
 use Rattle.rtx_tree.specs.declared.code.Code.TheVariants.{Reg}
 use Rattle.rtx_tree.specs.declared.code.Mode.{Mode}
@@ -24,10 +24,6 @@ printed_link u = codes "(expr_list (use " ++ (printed_register u.mode u.reg ++ c
 abbrev pub printed_uses : List ArgUse → List ℕ
 printed_uses [] = codes "(nil)"
 printed_uses (u ∷ us) = printed_link u ++ (printed_uses us ++ codes ")")
-
--- a number of closing parentheses
-abbrev pub closed : ℕ → List ℕ
-closed count = replicate count 41
 
 -- a word and the number of an instruction
 abbrev pub numbered : List ℕ → Insn → List ℕ

@@ -1,3 +1,4 @@
 pub mod Print
 pub mod Canonical
 pub mod Back
+pub mod machine

@@ -74,11 +74,3 @@ spaced_text x = spaced (text_of x).whole
 
 abbrev pub spaced_number : Rtx → List ℕ
 spaced_number x = spaced (signed_decimal (out-Rtx x).number)
-
--- expressions with a space between each two
-abbrev pub separated : List Rtx → List ℕ
-separated kids = drop 1 (flat_map spaced_text kids)
-
--- what stands behind the head of an expression
-abbrev pub body_of : Rtx → List ℕ
-body_of x = let o = out-Rtx x in printed_body (class_of_code o.code) o.number o.name (flat_map spaced_text o.kids) (flat_map spaced_number o.kids)

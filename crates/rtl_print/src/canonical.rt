@@ -3,6 +3,7 @@ ghost use Rattle.std.specs.Prelude.{◌≡◌, ◌++◌, List, OnErr, OnOk, flat
 ghost use Rattle.rtx_tree.specs.declared.function.Function.{Function};
 ghost use Rattle.rtl_print.specs.Back.{IsReadable, AreReadable, ReadsBack, AllReadBack};
 ghost use Rattle.rtl_print.specs.Canonical as spec;
+ghost use Rattle.rtl_print.specs.machine.Pieces.{closed};
 
 use crate::print::{print, print_head, print_reg_at};
 use plain_data::Memory;
@@ -53,7 +54,7 @@ fn print_links(uses: &[ArgUse], out: &mut Vec<u8>) -> Result<(), Memory>
 
 /// Prints so many closing parentheses.
 fn print_closed(count: usize, out: &mut Vec<u8>) -> Result<(), Memory>
-    ensures { OnOk result (out.new.items ≡ out.old.items ++ spec.closed count) }
+    ensures { OnOk result (out.new.items ≡ out.old.items ++ closed count) }
 {
     for closing in 0..count {
         out.push(b')')?;

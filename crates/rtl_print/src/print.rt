@@ -5,6 +5,7 @@ ghost use Rattle.lisp_read.specs.declared.position.Position.{Position};
 ghost use Rattle.rtl_print.specs.Print.{head_text, mode_suffix};
 ghost use Rattle.rtl_print.specs.Back.{IsReadableAt, ReadsBackAt};
 ghost use Rattle.rtl_print.specs.Print as spec;
+ghost use Rattle.rtl_print.specs.machine.Pieces.{body_of, separated};
 
 use plain_data::Memory;
 use rtx_tree::{Class, Code, Mode, Rtx, reg_name};
@@ -112,7 +113,7 @@ fn print_kids(kids: &[Rtx], out: &mut Vec<u8>) -> Result<(), Memory>
 /// Prints some expressions, with a space between each two.
 #[cycle(print)]
 fn print_separated(kids: &[Rtx], out: &mut Vec<u8>) -> Result<(), Memory>
-    ensures { OnOk result (out.new.items ≡ out.old.items ++ spec.separated kids.now) }
+    ensures { OnOk result (out.new.items ≡ out.old.items ++ separated kids.now) }
 {
     for i in 0..kids.len() {
         if i > 0 {
@@ -126,7 +127,7 @@ fn print_separated(kids: &[Rtx], out: &mut Vec<u8>) -> Result<(), Memory>
 /// Prints what stands behind the head of an expression.
 #[cycle(print)]
 fn print_body(x: &Rtx, out: &mut Vec<u8>) -> Result<(), Memory>
-    ensures { OnOk result (out.new.items ≡ out.old.items ++ spec.body_of x.now) }
+    ensures { OnOk result (out.new.items ≡ out.old.items ++ body_of x.now) }
 {
     let kids = x.kids.as_slice();
     match x.code.class() {

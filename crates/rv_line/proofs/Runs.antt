@@ -8,7 +8,8 @@ use Rattle.rv_text.specs.declared.line.CodeItem.{CodeItem}
 use Rattle.rv_line.specs.declared.state.RvState.{RvState}
 use Rattle.rv_line.specs.declared.outcome.CodeCall.{CodeCall}
 use Rattle.rv_line.specs.declared.outcome.CodeOutcome.{CodeOutcome}
-use Rattle.rv_line.specs.Run.{Running, Turns, Goes, Ends, turn, go_on, run_from, run, entry}
+use Rattle.rv_line.specs.Run.{Running, Goes, Ends, turn, go_on, run_from, run, entry}
+use Rattle.rv_line.specs.machine.Turns.{Turns}
 
 pub run_starts : (items : List CodeItem) (start : Start) (world : World) (k : ℕ) (machine : RvState) (replies : List Reply) (calls : List CodeCall) → machine ≡ entry start → replies ≡ world.replies → calls ≡ [] →
     run_from world start.visible items (k - 0) (record { rest = items; machine = machine; replies = replies; calls = calls }) ≡ run items start world k

@@ -1,5 +1,5 @@
 -- The run of a list of lines and labels.
-use Rattle.std.specs.Prelude.{◌≡◌, ℕ, zero, suc, ◌+◌, Bool, false, if◌then◌else◌, List, [], ◌∷◌, ◌++◌, Option, Some, None, slice_index, bytes_eq}
+use Rattle.std.specs.Prelude.{ℕ, zero, suc, ◌+◌, Bool, false, if◌then◌else◌, List, [], ◌∷◌, ◌++◌, Option, Some, None, slice_index, bytes_eq}
 use Rattle.rtx_tree.specs.Registers.{is_call_used}
 use Rattle.rtx_tree.specs.declared.machine.Start.{Start}
 use Rattle.rtx_tree.specs.declared.machine.World.{World}
@@ -11,7 +11,6 @@ use Rattle.rv_text.specs.declared.line.Line.{Line}
 use Rattle.rv_text.specs.declared.line.CodeItem.{CodeItem}
 use Rattle.rv_text.specs.declared.line.CodeItem.TheVariants.{Label, Code}
 use Rattle.rv_line.specs.Step.{register, with_register, step}
-use Rattle.rv_line.specs.declared.run.CodeState as code
 use Rattle.rv_line.specs.declared.outcome.CodeCall.{CodeCall}
 use Rattle.rv_line.specs.declared.outcome.CodeOutcome.{CodeOutcome}
 use Rattle.rv_line.specs.declared.outcome.CodeOutcome.TheVariants as outcomes
@@ -94,10 +93,6 @@ pub record Running : Type 0 where
   pub replies : List Reply
   pub calls : List CodeCall
 
--- the code's state
-abbrev pub running_view : code.CodeState → Running
-running_view s = record { rest = s.rest.now; machine = s.machine; replies = s.replies.now; calls = s.calls }
-
 -- one line leads on, or ends the run
 pub data Turn : Type 0 where
   Goes : Running → Turn
@@ -155,8 +150,3 @@ run_from world ranges items (suc k) s =
 -- at most k lines of the items, from the first on
 abbrev pub run : List CodeItem → Start → World → ℕ → CodeOutcome
 run items start world k = run_from world start.visible items k (record { rest = items; machine = entry start; replies = world.replies; calls = [] })
-
--- the answer of the code to a turn, with the state after it
-abbrev pub Turns : Option CodeOutcome → Running → Turn → Type 0
-Turns None s answer = answer ≡ Goes s
-Turns (Some outcome) s answer = answer ≡ Ends outcome

@@ -1,7 +1,7 @@
 //! The run of a list of lines and labels.
 ghost use Rattle.std.specs.Prelude.{◌≡◌, IfOk, option_map};
 ghost use Rattle.rv_line.specs.Run as spec;
-ghost use Rattle.rv_line.specs.Run.{running_view, Turns};
+ghost use Rattle.rv_line.specs.machine.Turns.{running_view, Turns};
 
 use crate::label::{behind_label, next_line};
 use crate::outcome::{CodeCall, CodeCalls, CodeOutcome};

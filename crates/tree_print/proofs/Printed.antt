@@ -11,7 +11,8 @@ use Rattle.lisp_read.specs.declared.tree.Tree.TheVariants as tree
 use Rattle.lisp_read.specs.declared.tree.Tree.TheVariants.{rolls-Atom, rolls-Str, rolls-Block, rolls-List, rolls-Vector}
 use Rattle.lisp_read.specs.Bytes.{quote, open_brace, close_brace}
 use Rattle.lisp_read.specs.Class.{open_byte, close_byte}
-use Rattle.tree_print.specs.Print.{printed_step, printed_tree, spaced, bracketed, bracketed_trees, unplaced_step, unplaced, nowhere, depth_step, depth_of, greatest}
+use Rattle.tree_print.specs.Print.{printed_step, printed_tree, spaced, bracketed, unplaced_step, unplaced, nowhere, depth_step, depth_of, greatest}
+use Rattle.tree_print.specs.machine.Bracketed.{bracketed_trees}
 use Rattle.lisp_read.proofs.Decodes.{nested}
 
 pub printed_atom : (p : Place) (t : List ℕ) → printed_tree (tree.Atom p t) ≡ t

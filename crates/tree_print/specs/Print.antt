@@ -40,9 +40,6 @@ spaced_tree t = spaced (printed_tree t)
 abbrev pub separated : List Tree → List ℕ
 separated ts = drop 1 (flat_map spaced_tree ts)
 
-abbrev pub bracketed_trees : Bracket → List Tree → List ℕ
-bracketed_trees kind ts = open_byte kind ∷ (separated ts ++ close_byte kind ∷ [])
-
 -- ---- what is read back
 
 -- Two trees are the same, places aside, where they are the same without their places.

@@ -9,7 +9,7 @@ use Rattle.reload_fit.specs.Fitting.{Asks, asks_by}
 use Rattle.reload_choice.specs.declared.given.Given.{Given}
 use Rattle.reload_choice.specs.declared.given.Plan.{Plan}
 use Rattle.reload_choice.specs.Movable.{is_suited, stays_formed, is_reachable}
-use Rattle.reload_choice.specs.Choice.{plan_if, plan_by}
+use Rattle.reload_choice.specs.Choice.{plan_if, plan_by, constraints_by}
 
 abbrev pub asks_in : Asked → Asks
 asks_in a = asks_by a.desc.now a.form a.constraints.now a.alternative
@@ -32,3 +32,7 @@ plan_in a given formed =
 abbrev pub plan_of : List Entry → ℕ → List OperandConstraint → Given → List Bool → ℕ → Option Plan
 plan_of forms form constraints given formed alternative =
     plan_by (asks_by forms form constraints alternative) constraints given.operands given formed alternative
+
+-- the constraints of a form; one that is set aside has none
+abbrev pub constraints_in : Entry → List OperandConstraint
+constraints_in e = constraints_by e.form

@@ -1,5 +1,5 @@
 use Rattle.std.proofs.Common.{◌≡◌, ◌++◌}
-use Rattle.rtl_print.specs.Canonical.{closed}
+use Rattle.rtl_print.specs.machine.Pieces.{closed}
 use Rattle.rtl_print.proofs.canonical.print_closed.Given as goal
 
 abbrev pub invariant-loop-closing : goal.invariant-loop-closing

@@ -1,5 +1,6 @@
 use Rattle.std.proofs.Common.{◌≡◌, ◌++◌, take, flat_map}
-use Rattle.rtl_print.specs.Print.{spaced_text, separated}
+use Rattle.rtl_print.specs.Print.{spaced_text}
+use Rattle.rtl_print.specs.machine.Pieces.{separated}
 use Rattle.rtl_print.proofs.print.+print.Given as goal
 
 abbrev pub invariant-print_kids-loop-kid : goal.invariant-print_kids-loop-kid

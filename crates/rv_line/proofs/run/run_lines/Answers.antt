@@ -1,4 +1,5 @@
-use Rattle.rv_line.specs.Run.{running_view, run}
+use Rattle.rv_line.specs.Run.{run}
+use Rattle.rv_line.specs.machine.Turns.{running_view}
 use Rattle.rv_line.proofs.Runs.{run_starts, turn_ends, turn_goes}
 use Rattle.rv_line.proofs.run.run_lines.Goals as goal
 

@@ -1,6 +1,7 @@
 -- The lines that are left come to what all come to.
 use Rattle.std.proofs.Common.{◌≡◌, ◌-◌}
-use Rattle.rv_line.specs.Run.{run, run_from, running_view}
+use Rattle.rv_line.specs.Run.{run, run_from}
+use Rattle.rv_line.specs.machine.Turns.{running_view}
 use Rattle.rv_line.proofs.run.run_lines.Given as goal
 
 abbrev pub invariant-loop : goal.invariant-loop

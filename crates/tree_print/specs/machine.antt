@@ -1,0 +1,2 @@
+-- What proofs alone cite.
+pub mod Bracketed

@@ -5,7 +5,8 @@ use Rattle.std.specs.List.{list_all}
 use Rattle.rtx_tree.specs.declared.function.Function.{Function}
 use Rattle.rv_text.specs.Body.{Spells, label_text}
 use Rattle.rv_text.specs.Table.{table}
-use Rattle.rv_text.specs.Text.{AreBlanks, IsTextOf, is_blank}
+use Rattle.rv_text.specs.text_words.Blanks.{is_space}
+use Rattle.rv_text.specs.Text.{AreBlanks, IsTextOf}
 use Rattle.rv_text.specs.declared.line.Line.{Line}
 use Rattle.rv_text.specs.declared.line.CodeItem.{CodeItem}
 use Rattle.rv_text.proofs.Inner.{line_lacks_newline, blanks_lack_newline}
@@ -21,7 +22,7 @@ use Rattle.asm_text.specs.Same.{AreParts}
 
 abbrev begins_well : List ℕ → Bool
 begins_well [] = false
-begins_well (b ∷ bytes) = not (nat_eq b 46) && not (is_blank b)
+begins_well (b ∷ bytes) = not (nat_eq b 46) && not (is_space b)
 
 all_begin_well : list_all (λ row. begins_well row.name) table ≡ true
 unfolding table
@@ -31,13 +32,13 @@ all_begin_well = refl
 abbrev marked : List ℕ → List ℕ
 marked tail = 9 ∷ 46 ∷ tail
 
-no_name : (name rest x : List ℕ) (b : ℕ) → begins_well name ≡ true → name ++ rest ≡ b ∷ x → (nat_eq b 46 ≡ true → ⊥) × (is_blank b ≡ true → ⊥)
+no_name : (name rest x : List ℕ) (b : ℕ) → begins_well name ≡ true → name ++ rest ≡ b ∷ x → (nat_eq b 46 ≡ true → ⊥) × (is_space b ≡ true → ⊥)
 no_name [] rest x b well is = cc
 no_name (n ∷ name) rest x b well is =
     let same : n ≡ b = cc in
-    let parts = and_true (not (nat_eq n 46)) (not (is_blank n)) well in (
+    let parts = and_true (not (nat_eq n 46)) (not (is_space n)) well in (
       λ dot. let here : nat_eq n 46 ≡ true = subst (λ m. nat_eq m 46 ≡ true) (sym same) dot in let none : ⊥ = cc in none,
-      λ blank. let here : is_blank n ≡ true = subst (λ m. is_blank m ≡ true) (sym same) blank in let none : ⊥ = cc in none,
+      λ blank. let here : is_space n ≡ true = subst (λ m. is_space m ≡ true) (sym same) blank in let none : ⊥ = cc in none,
     )
 
 no_front : (front name rest x : List ℕ) → AreBlanks front → begins_well name ≡ true → marked x ≡ front ++ (name ++ rest) → ⊥
@@ -45,8 +46,8 @@ no_front [] name rest x blank well is = (no_name name rest (46 ∷ x) 9 well (sy
 no_front (a ∷ []) name rest x blank well is = let more : 46 ∷ x ≡ name ++ rest = cc in (no_name name rest x 46 well (sym more)).0 refl
 no_front (a ∷ b ∷ front) name rest x blank well is =
     let same : 46 ≡ b = cc in
-    let here : is_blank b ≡ true = (and_true (is_blank b) (list_all is_blank front) (and_true (is_blank a) (list_all is_blank (b ∷ front)) blank).1).0 in
-    let dot : is_blank 46 ≡ true = subst (λ m. is_blank m ≡ true) (sym same) here in
+    let here : is_space b ≡ true = (and_true (is_space b) (list_all is_space front) (and_true (is_space a) (list_all is_space (b ∷ front)) blank).1).0 in
+    let dot : is_space 46 ≡ true = subst (λ m. is_space m ≡ true) (sym same) here in
     let none : ⊥ = cc in none
 
 line_unmarked : (text : List ℕ) (line : Line) → IsTextOf text line → (x : List ℕ) → text ≡ marked x → ⊥
@@ -57,8 +58,8 @@ blanks_unmarked [] blank x at = cc
 blanks_unmarked (a ∷ []) blank x at = cc
 blanks_unmarked (a ∷ b ∷ blanks) blank x at =
     let same : b ≡ 46 = cc in
-    let here : is_blank b ≡ true = (and_true (is_blank b) (list_all is_blank blanks) (and_true (is_blank a) (list_all is_blank (b ∷ blanks)) blank).1).0 in
-    let dot : is_blank 46 ≡ true = subst (λ m. is_blank m ≡ true) same here in
+    let here : is_space b ≡ true = (and_true (is_space b) (list_all is_space blanks) (and_true (is_space a) (list_all is_space (b ∷ blanks)) blank).1).0 in
+    let dot : is_space 46 ≡ true = subst (λ m. is_space m ≡ true) same here in
     let none : ⊥ = cc in none
 
 -- ---- the first line of what is spelled

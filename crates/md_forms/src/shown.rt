@@ -5,10 +5,10 @@ ghost use Rattle.md_forms.specs.Forms as spec;
 
 use crate::form::Entry;
 use indexmap::IndexMap;
-use itoa::Buffer;
 use plain_data::{Items, Memory};
 use rtx_tree::Name;
 use std::alloc::Global;
+use text_words::print_count;
 
 /// How many forms of each head were met.
 #[derive(Drop)]
@@ -41,10 +41,9 @@ impl HeadCounts {
 fn numbered(alloc: Global, head: &[u8], number: usize) -> Result<Name, Memory>
     ensures { IfOk result (λ name. name ≡ spec.numbered head.now number) }
 {
-    let mut buffer = Buffer::new();
     let mut text = Vec::from_slice(alloc, head)?;
     text.push(b'@')?;
-    text.extend_from_slice(buffer.format(number as u64).as_bytes())?;
+    print_count(number as u64, &mut text)?;
     Ok(Name::from_vec(text))
 }
 

@@ -10,12 +10,11 @@ use crate::angles::filled;
 use crate::choice::Choice;
 use crate::definition::{DefinitionKind, Definitions};
 use crate::shape::cut;
-use itoa::Buffer;
 use lisp_read::{Tree, Trees};
 use plain_data::{Items, Memory};
 use rtx_tree::{Constant, Name};
 use std::alloc::Global;
-use text_words::same;
+use text_words::{print_number, same};
 
 /// A form with values in the places of its iterators.
 #[derive(Drop)]
@@ -137,8 +136,9 @@ fn constant_named(constants: &[Constant], name: &[u8]) -> Option<i64>
 fn printed(alloc: Global, number: i64) -> Result<Name, Memory>
     ensures { IfOk result (λ name. name ≡ signed_decimal number) }
 {
-    let mut buffer = Buffer::new();
-    Name::of(alloc, buffer.format(number).as_bytes())
+    let mut text = Vec::new(alloc);
+    print_number(number, &mut text)?;
+    Ok(Name::from_vec(text))
 }
 
 /// An atom: its iterators, its `<..>`, and where it isn't a head the constant that it then is.

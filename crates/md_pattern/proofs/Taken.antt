@@ -10,45 +10,45 @@ use Rattle.lisp_read.specs.Shape.{atom_of, string_of}
 use Rattle.md_pattern.specs.Word.{number_of}
 use Rattle.md_pattern.specs.Operand.{number_in, operand_with, constrained, numbered, predicated, operand_in, scratch_in, dup_in}
 use Rattle.md_pattern.specs.Pattern.{word_in, symbol_in, is_lowpart}
-use Rattle.md_pattern.specs.HasReason.{Kind, is_kind, kinds_of, are_kinds, expressions_at, expressions_among}
+use Rattle.md_pattern.specs.HasReason.{PartKind, is_kind, kinds_of, are_kinds, expressions_at, expressions_among}
 
 -- ---- expressions
 
-abbrev pub is_plain : Kind → Bool
-is_plain Kind.Expression = false
-is_plain Kind.Vector = false
+abbrev pub is_plain : PartKind → Bool
+is_plain PartKind.Expression = false
+is_plain PartKind.Vector = false
 is_plain _ = true
 
-nothing_at : (k : Kind) (t : Tree) → is_plain k ≡ true → expressions_at k t ≡ []
-nothing_at Kind.Word t e = refl
-nothing_at Kind.Number t e = refl
-nothing_at Kind.Symbol t e = refl
-nothing_at Kind.Zero t e = refl
-nothing_at Kind.Operand t e = refl
-nothing_at Kind.Text t e = refl
-nothing_at Kind.Constraint t e = refl
-nothing_at Kind.Expression t e = absurd (true≢false (sym e))
-nothing_at Kind.Vector t e = absurd (true≢false (sym e))
+nothing_at : (k : PartKind) (t : Tree) → is_plain k ≡ true → expressions_at k t ≡ []
+nothing_at PartKind.Word t e = refl
+nothing_at PartKind.Number t e = refl
+nothing_at PartKind.Symbol t e = refl
+nothing_at PartKind.Zero t e = refl
+nothing_at PartKind.Operand t e = refl
+nothing_at PartKind.Text t e = refl
+nothing_at PartKind.Constraint t e = refl
+nothing_at PartKind.Expression t e = absurd (true≢false (sym e))
+nothing_at PartKind.Vector t e = absurd (true≢false (sym e))
 
 -- the kinds of words have no expressions
-abbrev pub ArePlain : List Kind → Type 0
+abbrev pub ArePlain : List PartKind → Type 0
 ArePlain [] = Unit {0}
 ArePlain (k ∷ ks) = (is_plain k ≡ true) × ArePlain ks
 
-pub nothing_among : (ks : List Kind) (ts : List Tree) → ArePlain ks → expressions_among ks ts ≡ []
+pub nothing_among : (ks : List PartKind) (ts : List Tree) → ArePlain ks → expressions_among ks ts ≡ []
 nothing_among [] [] plain = refl
 nothing_among [] (t ∷ ts) plain = refl
 nothing_among (k ∷ ks) [] plain = refl
 nothing_among (k ∷ ks) (t ∷ ts) plain = rw (nothing_at k t plain.0) (nothing_among ks ts plain.1)
 
 module _ (cs : List Constant) where
-  pub many : (n : ℕ) (ts : List Tree) → are_kinds cs (replicate n Kind.Expression) ts ≡ (length ts == n)
+  pub many : (n : ℕ) (ts : List Tree) → are_kinds cs (replicate n PartKind.Expression) ts ≡ (length ts == n)
   many zero [] = refl
   many zero (t ∷ ts) = grind (arith, nat_tests)
   many (suc n) [] = grind (arith, nat_tests)
   many (suc n) (t ∷ ts) = many n ts ∙ grind (arith, nat_tests)
 
-  pub all_expressions : (n : ℕ) (ts : List Tree) → are_kinds cs (replicate n Kind.Expression) ts ≡ true → expressions_among (replicate n Kind.Expression) ts ≡ ts
+  pub all_expressions : (n : ℕ) (ts : List Tree) → are_kinds cs (replicate n PartKind.Expression) ts ≡ true → expressions_among (replicate n PartKind.Expression) ts ≡ ts
   all_expressions zero [] e = refl
   all_expressions zero (t ∷ ts) e = absurd (true≢false (sym e))
   all_expressions (suc n) [] e = absurd (true≢false (sym e))
@@ -63,19 +63,19 @@ module _ (cs : List Constant) where
 
   pub one_number : (ts : List Tree) → are_kinds cs (kinds_of parts.Number) ts ≡ is_some (option_and_then (number_of cs) (word_in ts))
   one_number [] = refl
-  one_number (w ∷ []) = and-true (is_kind cs Kind.Number w)
-  one_number (w ∷ x ∷ ts) = and-false (is_kind cs Kind.Number w)
+  one_number (w ∷ []) = and-true (is_kind cs PartKind.Number w)
+  one_number (w ∷ x ∷ ts) = and-false (is_kind cs PartKind.Number w)
 
   pub one_symbol : (ts : List Tree) → are_kinds cs (kinds_of parts.Symbol) ts ≡ is_some (symbol_in ts)
   one_symbol [] = refl
-  one_symbol (l ∷ []) = and-true (is_kind cs Kind.Symbol l)
-  one_symbol (l ∷ x ∷ ts) = and-false (is_kind cs Kind.Symbol l)
+  one_symbol (l ∷ []) = and-true (is_kind cs PartKind.Symbol l)
+  one_symbol (l ∷ x ∷ ts) = and-false (is_kind cs PartKind.Symbol l)
 
   pub lowpart : (ts : List Tree) → are_kinds cs (kinds_of parts.Lowpart) ts ≡ is_lowpart ts
   lowpart [] = refl
   lowpart (x ∷ []) = refl
-  lowpart (x ∷ offset ∷ []) = and-true (is_kind cs Kind.Zero offset)
-  lowpart (x ∷ offset ∷ y ∷ ts) = and-false (is_kind cs Kind.Zero offset)
+  lowpart (x ∷ offset ∷ []) = and-true (is_kind cs PartKind.Zero offset)
+  lowpart (x ∷ offset ∷ y ∷ ts) = and-false (is_kind cs PartKind.Zero offset)
 
   -- ---- operands
 

@@ -21,49 +21,49 @@ use Rattle.md_pattern.specs.Operand.{number_in}
 -- What a tree at a place behind a code has to be: an atom; a number, or the name of a constant; a
 -- symbol between quotes, in a list of its own; the offset 0; the number of an operand; a string, as
 -- the name of a predicate; a constraint, which may lack; an expression; a vector of expressions.
-pub data Kind : Type 0 where
-  Word : Kind
-  Number : Kind
-  Symbol : Kind
-  Zero : Kind
-  Operand : Kind
-  Text : Kind
-  Constraint : Kind
-  Expression : Kind
-  Vector : Kind
+pub data PartKind : Type 0 where
+  Word : PartKind
+  Number : PartKind
+  Symbol : PartKind
+  Zero : PartKind
+  Operand : PartKind
+  Text : PartKind
+  Constraint : PartKind
+  Expression : PartKind
+  Vector : PartKind
 
 -- the kinds of the trees behind a code, place by place
-abbrev pub kinds_of : Parts → List Kind
-kinds_of parts.Register = Kind.Word ∷ []
-kinds_of parts.Number = Kind.Number ∷ []
-kinds_of parts.Symbol = Kind.Symbol ∷ []
-kinds_of parts.Lowpart = Kind.Expression ∷ Kind.Zero ∷ []
-kinds_of (parts.Expressions n) = replicate n Kind.Expression
-kinds_of parts.Vector = Kind.Vector ∷ []
-kinds_of parts.Operand = Kind.Operand ∷ Kind.Text ∷ Kind.Constraint ∷ []
-kinds_of parts.Scratch = Kind.Operand ∷ Kind.Constraint ∷ []
-kinds_of parts.Dup = Kind.Operand ∷ []
-kinds_of parts.Operator = Kind.Operand ∷ Kind.Text ∷ Kind.Vector ∷ []
-kinds_of parts.OperatorDup = Kind.Operand ∷ Kind.Vector ∷ []
+abbrev pub kinds_of : Parts → List PartKind
+kinds_of parts.Register = PartKind.Word ∷ []
+kinds_of parts.Number = PartKind.Number ∷ []
+kinds_of parts.Symbol = PartKind.Symbol ∷ []
+kinds_of parts.Lowpart = PartKind.Expression ∷ PartKind.Zero ∷ []
+kinds_of (parts.Expressions n) = replicate n PartKind.Expression
+kinds_of parts.Vector = PartKind.Vector ∷ []
+kinds_of parts.Operand = PartKind.Operand ∷ PartKind.Text ∷ PartKind.Constraint ∷ []
+kinds_of parts.Scratch = PartKind.Operand ∷ PartKind.Constraint ∷ []
+kinds_of parts.Dup = PartKind.Operand ∷ []
+kinds_of parts.Operator = PartKind.Operand ∷ PartKind.Text ∷ PartKind.Vector ∷ []
+kinds_of parts.OperatorDup = PartKind.Operand ∷ PartKind.Vector ∷ []
 
 -- a tree is of a kind; a tree that is no expression has its own reason for that
-abbrev pub is_kind : List Constant → Kind → Tree → Bool
-is_kind constants Kind.Word t = is_some (atom_of t)
-is_kind constants Kind.Number t = is_some (option_and_then (number_of constants) (atom_of t))
-is_kind constants Kind.Symbol t = is_some (quoted_name (items_of t))
-is_kind constants Kind.Zero t = is_word (codes "0") t
-is_kind constants Kind.Operand t = is_some (number_in t)
-is_kind constants Kind.Text t = is_some (string_of t)
-is_kind constants Kind.Constraint t = is_some (string_of t)
-is_kind constants Kind.Expression t = true
-is_kind constants Kind.Vector t = is_vector t
+abbrev pub is_kind : List Constant → PartKind → Tree → Bool
+is_kind constants PartKind.Word t = is_some (atom_of t)
+is_kind constants PartKind.Number t = is_some (option_and_then (number_of constants) (atom_of t))
+is_kind constants PartKind.Symbol t = is_some (quoted_name (items_of t))
+is_kind constants PartKind.Zero t = is_word (codes "0") t
+is_kind constants PartKind.Operand t = is_some (number_in t)
+is_kind constants PartKind.Text t = is_some (string_of t)
+is_kind constants PartKind.Constraint t = is_some (string_of t)
+is_kind constants PartKind.Expression t = true
+is_kind constants PartKind.Vector t = is_vector t
 
-abbrev pub may_lack : Kind → Bool
-may_lack Kind.Constraint = true
+abbrev pub may_lack : PartKind → Bool
+may_lack PartKind.Constraint = true
 may_lack _ = false
 
 -- as many trees as there are kinds, each of its own; at the end those may lack that may
-abbrev pub are_kinds : List Constant → List Kind → List Tree → Bool
+abbrev pub are_kinds : List Constant → List PartKind → List Tree → Bool
 are_kinds constants [] [] = true
 are_kinds constants (k ∷ ks) [] = may_lack k && are_kinds constants ks []
 are_kinds constants (k ∷ ks) (t ∷ ts) = is_kind constants k t && are_kinds constants ks ts
@@ -74,12 +74,12 @@ abbrev pub has_parts : List Constant → Code → List Tree → Bool
 has_parts constants c ts = are_kinds constants (kinds_of (parts_of (class_of_code c))) ts
 
 -- the expressions among trees of these kinds
-abbrev pub expressions_at : Kind → Tree → List Tree
-expressions_at Kind.Expression t = t ∷ []
-expressions_at Kind.Vector t = vector_of t
+abbrev pub expressions_at : PartKind → Tree → List Tree
+expressions_at PartKind.Expression t = t ∷ []
+expressions_at PartKind.Vector t = vector_of t
 expressions_at _ t = []
 
-abbrev pub expressions_among : List Kind → List Tree → List Tree
+abbrev pub expressions_among : List PartKind → List Tree → List Tree
 expressions_among (k ∷ ks) (t ∷ ts) = expressions_at k t ++ expressions_among ks ts
 expressions_among _ _ = []
 

@@ -3,6 +3,7 @@
 use Rattle.std.specs.Prelude.{ℕ, ◌+◌, ◌==◌, nat_lt, ℤ, pos, negsuc, Bool, false, ◌||◌, List, [], ◌∷◌, Option, Some, None, if◌then◌else◌, length, option_map, option_and_then}
 use Rattle.std.specs.List.{find, list_all, list_any}
 use Rattle.text_words.specs.Words.{number_in}
+use Rattle.text_words.specs.Blanks.{is_space, behind_spaces}
 use Rattle.md_text.specs.declared.template.Print.{Print}
 use Rattle.md_text.specs.declared.template.Print.TheVariants as print
 use Rattle.md_text.specs.declared.template.Piece.{Piece}
@@ -74,14 +75,6 @@ abbrev pub line_of : List ℕ → Option (List Piece)
 line_of text = pieces piece_at 0 text
 
 -- ---- the template of a form
-
--- a space or a tab
-abbrev pub is_space : ℕ → Bool
-is_space b = b == 32 || b == 9
-
-abbrev pub behind_spaces : List ℕ → List ℕ
-behind_spaces [] = []
-behind_spaces (b ∷ rest) = if is_space b then behind_spaces rest else b ∷ rest
 
 -- without the line of the @ itself, if nothing more stands there
 abbrev pub behind_at : List (List ℕ) → List (List ℕ)

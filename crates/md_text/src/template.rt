@@ -1,6 +1,7 @@
 //! Output templates.
 ghost use Rattle.std.specs.Prelude.{◌≡◌, IfOk};
 ghost use Rattle.std.specs.List.{list_all, list_any};
+ghost use Rattle.text_words.specs.Blanks.{is_space};
 ghost use Rattle.md_text.specs.Template as spec;
 
 use crate::line::line_of;
@@ -8,6 +9,7 @@ use crate::lists::parts_of;
 use plain_data::{Items, Memory};
 use rtx_tree::Name;
 use std::alloc::Global;
+use text_words::{behind_spaces, is_space};
 
 /// How an operand is printed.
 #[derive(Clone, Copy, Debug)]
@@ -65,25 +67,8 @@ pub enum Reading {
     Outside,
 }
 
-fn is_space(byte: u8) -> bool
-    ensures { result ≡ spec.is_space byte }
-{
-    matches!(byte, b' ' | b'\t')
-}
-
-fn behind_spaces(text: &[u8]) -> &[u8]
-    ensures { result.now ≡ spec.behind_spaces text.entry.now }
-{
-    for (at, byte) in text.iter().enumerate() {
-        if !is_space(*byte) {
-            return &text[at..];
-        }
-    }
-    &[]
-}
-
 fn all_space(text: &[u8]) -> bool
-    ensures { result ≡ list_all spec.is_space text.now }
+    ensures { result ≡ list_all is_space text.now }
 {
     for byte in text {
         if !is_space(*byte) {

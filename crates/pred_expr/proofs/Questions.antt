@@ -18,7 +18,7 @@ use Rattle.md_pattern.specs.declared.reason.Reason.TheVariants as reason
 use Rattle.md_pattern.specs.Reason.{number_of, judged_with, IsSmallest}
 use Rattle.md_pattern.specs.Operand.{number_in}
 use Rattle.md_pattern.specs.Pattern.{or_aside}
-use Rattle.md_pattern.specs.HasReason.{Kind, are_kinds, expressions_among}
+use Rattle.md_pattern.specs.HasReason.{PartKind, are_kinds, expressions_among}
 use Rattle.md_pattern.proofs.Smallest.{Among, none_in, one_more}
 use Rattle.md_pattern.proofs.OneList.{some_none}
 use Rattle.pred_expr.specs.declared.test.TestKind.{TestKind}
@@ -56,7 +56,7 @@ pub data Behind (cs : List Constant) (word : List ℕ) (k : TestKind) (ts : List
 
 -- ---- the parts of a test
 
-pub one_text : (cs : List Constant) (ts : List Tree) → are_kinds cs (Kind.Text ∷ []) ts ≡ is_some (text_in ts)
+pub one_text : (cs : List Constant) (ts : List Tree) → are_kinds cs (PartKind.Text ∷ []) ts ≡ is_some (text_in ts)
 one_text cs [] = refl
 one_text cs (s ∷ []) = and-true (is_some (string_of s))
 one_text cs (s ∷ x ∷ ts) = and-false (is_some (string_of s))

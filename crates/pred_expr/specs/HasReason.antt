@@ -11,21 +11,21 @@ use Rattle.md_pattern.specs.lisp_read.Head.{code_in, mode_of_head}
 use Rattle.md_text.specs.Lists.{members}
 use Rattle.md_pattern.specs.declared.reason.Reason.{Reason}
 use Rattle.md_pattern.specs.declared.reason.Reason.TheVariants as reason
-use Rattle.md_pattern.specs.HasReason.{Kind, are_kinds, expressions_among, IsList}
+use Rattle.md_pattern.specs.HasReason.{PartKind, are_kinds, expressions_among, IsList}
 use Rattle.pred_expr.specs.declared.test.TestKind.{TestKind}
 use Rattle.pred_expr.specs.declared.test.TestKind.TheVariants as kind
 use Rattle.pred_expr.specs.Test.{kind_of, text_in}
 
 -- the kinds of the trees behind the word of a test, place by place: the codes, or the condition;
 -- the operand's number, its predicate, and a constraint, which may lack; other tests
-abbrev pub kinds_of : TestKind → List Kind
-kinds_of kind.Codes = Kind.Text ∷ []
-kinds_of kind.Condition = Kind.Text ∷ []
-kinds_of kind.Predicate = Kind.Operand ∷ Kind.Text ∷ Kind.Constraint ∷ []
-kinds_of kind.And = replicate 2 Kind.Expression
-kinds_of kind.Ior = replicate 2 Kind.Expression
-kinds_of kind.Not = replicate 1 Kind.Expression
-kinds_of kind.IfThenElse = replicate 3 Kind.Expression
+abbrev pub kinds_of : TestKind → List PartKind
+kinds_of kind.Codes = PartKind.Text ∷ []
+kinds_of kind.Condition = PartKind.Text ∷ []
+kinds_of kind.Predicate = PartKind.Operand ∷ PartKind.Text ∷ PartKind.Constraint ∷ []
+kinds_of kind.And = replicate 2 PartKind.Expression
+kinds_of kind.Ior = replicate 2 PartKind.Expression
+kinds_of kind.Not = replicate 1 PartKind.Expression
+kinds_of kind.IfThenElse = replicate 3 PartKind.Expression
 
 -- the trees behind the word are those that it takes
 abbrev pub has_parts : List Constant → TestKind → List Tree → Bool

@@ -6,8 +6,9 @@ use Rattle.std.proofs.lemmas.List.{append-nil}
 use Rattle.text_words.specs.Words.{is_symbol, is_symbol_byte}
 use Rattle.rv_text.specs.Table.{Row, table, row_named}
 use Rattle.rv_text.specs.Lines.{number_text, register_text, operand_text}
-use Rattle.rv_text.specs.Text.{is_blank, AreBlanks, IsListed, IsListedFrom, IsRestOf, IsTextOf}
-use Rattle.rv_text.specs.machine.Cuts.{behind_blanks, word}
+use Rattle.text_words.specs.Blanks.{is_space, behind_spaces}
+use Rattle.rv_text.specs.Text.{AreBlanks, IsListed, IsListedFrom, IsRestOf, IsTextOf}
+use Rattle.rv_text.specs.machine.Cuts.{word}
 use Rattle.rv_text.specs.declared.line.Line.{Line}
 use Rattle.rv_text.specs.declared.operand.Operand.{Operand}
 use Rattle.rv_text.specs.declared.operand.Operand.TheVariants.{Rd, Rs, Rt, Number, Place, Target, Ra}
@@ -30,7 +31,7 @@ both front back one other = all_of_both is_inner front back one other
 
 -- ---- bytes
 
-blank_is_inner : (byte : ℕ) → is_blank byte ≡ true → is_inner byte ≡ true
+blank_is_inner : (byte : ℕ) → is_space byte ≡ true → is_inner byte ≡ true
 blank_is_inner byte blank = grind (arith, nat_tests)
 
 plain_is_inner : (byte : ℕ) → is_plain byte ≡ true → is_inner byte ≡ true
@@ -40,7 +41,7 @@ symbol_is_inner : (byte : ℕ) → is_symbol_byte byte ≡ true → is_inner byt
 symbol_is_inner byte symbol = grind (arith, nat_tests)
 
 blanks_inner : (blanks : List ℕ) → AreBlanks blanks → AreInner blanks
-blanks_inner blanks all = all_of is_blank is_inner blank_is_inner blanks all
+blanks_inner blanks all = all_of is_space is_inner blank_is_inner blanks all
 
 plain_inner : (text : List ℕ) → list_all is_plain text ≡ true → AreInner text
 plain_inner text all = all_of is_plain is_inner plain_is_inner text all
@@ -115,7 +116,7 @@ blanks_lack_colon blanks all = all_of is_inner (is_other 58) inner_lacks_colon b
 -- blanks are no line
 pub blanks_are_no_line : (text : List ℕ) (line : Line) → AreBlanks text → IsTextOf text line → ⊥
 blanks_are_no_line text line all is =
-    let none : behind_blanks text ≡ [] = ap behind_blanks (sym (append-nil text)) ∙ skipped text [] all in
-    let name : line.name ≡ [] = (text_cut text (word (behind_blanks text)) _ refl refl line is).0 ∙ ap word none in
+    let none : behind_spaces text ≡ [] = ap behind_spaces (sym (append-nil text)) ∙ skipped text [] all in
+    let name : line.name ≡ [] = (text_cut text (word (behind_spaces text)) _ refl refl line is).0 ∙ ap word none in
     let yes : is_word [] ≡ true = sym (ap is_word name) ∙ name_is_word line.name is.row is.named in
     cc

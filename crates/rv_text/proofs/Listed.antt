@@ -12,7 +12,8 @@ use Rattle.rtx_tree.specs.Registers.{reg_names}
 use Rattle.text_words.specs.Words.{is_symbol, is_symbol_byte}
 use Rattle.rv_text.specs.Lines.{number_text, register_text, operand_text}
 use Rattle.rv_text.specs.Text.{Finds, Sets, IsListedFrom}
-use Rattle.rv_text.specs.machine.Cuts.{is_word_byte, behind_blanks, word, behind_word, behind_comma}
+use Rattle.text_words.specs.Blanks.{behind_spaces}
+use Rattle.rv_text.specs.machine.Cuts.{is_word_byte, word, behind_word, behind_comma}
 use Rattle.rv_text.specs.declared.line.Line.{Line}
 use Rattle.rv_text.specs.declared.operand.Operand.{Operand}
 use Rattle.rv_text.specs.declared.operand.Operand.TheVariants.{Rd, Rs, Rt, Number, Place, Target, Ra}
@@ -78,14 +79,14 @@ text_is_word Ra line text is = let same : 114 ∷ 97 ∷ [] ≡ text = cc in sym
 -- ---- operands with commas
 
 -- no blank stands before the first operand
-pub listed_stays : (operand : Operand) (others : List Operand) (bytes : List ℕ) (before after : Line) → IsListedFrom operand others bytes before after → behind_blanks bytes ≡ bytes
+pub listed_stays : (operand : Operand) (others : List Operand) (bytes : List ℕ) (before after : Line) → IsListedFrom operand others bytes before after → behind_spaces bytes ≡ bytes
 listed_stays operand [] bytes before after sets =
     let whole = text_is_word operand after bytes sets.text_is in
     let e = stays bytes [] whole in simp append-nil at e
 listed_stays operand (next ∷ others) bytes before after listed =
     let parted = listed.4 in
     let whole = text_is_word operand listed.2 listed.0 listed.3.text_is in
-    ap behind_blanks parted.spelled ∙ (stays listed.0 (parted.left ++ 44 ∷ (parted.right ++ listed.1)) whole ∙ sym parted.spelled)
+    ap behind_spaces parted.spelled ∙ (stays listed.0 (parted.left ++ 44 ∷ (parted.right ++ listed.1)) whole ∙ sym parted.spelled)
 
 module _ (operand next : Operand) (others : List Operand) (bytes : List ℕ) (before : Line) where
   -- the first operand is the first word, and the others stand behind the comma

@@ -6,7 +6,8 @@ use Rattle.text_words.specs.Words.{is_symbol}
 use Rattle.rv_text.specs.Table.{Row, row_named}
 use Rattle.rv_text.specs.Lines.{register_text, number_text, place_text, bare}
 use Rattle.rv_text.specs.Text.{Sets, IsListed, IsListedFrom, IsRestOf, IsTextOf}
-use Rattle.rv_text.specs.machine.Cuts.{behind_blanks, word, behind_word, place_parts}
+use Rattle.text_words.specs.Blanks.{behind_spaces}
+use Rattle.rv_text.specs.machine.Cuts.{word, behind_word, place_parts}
 use Rattle.rv_text.specs.declared.line.Line.{Line}
 use Rattle.rv_text.specs.declared.operand.Operand.{Operand}
 use Rattle.rv_text.specs.declared.operand.Operand.TheVariants.{Rd, Rs, Rt, Number, Place, Target, Ra}
@@ -68,11 +69,11 @@ one_listed (operand ∷ operands) bytes before a b one other = one_from operand 
 -- ---- the line
 
 one_rest : (row : Row) (name bytes : List ℕ) (a b : Line) → IsRestOf row name bytes a → IsRestOf row name bytes b → a ≡ b
-one_rest row name bytes a b one other = one_listed row.operands (behind_blanks bytes) (bare name) a b (rest_only row name bytes a one) (rest_only row name bytes b other)
+one_rest row name bytes a b one other = one_listed row.operands (behind_spaces bytes) (bare name) a b (rest_only row name bytes a one) (rest_only row name bytes b other)
 
 pub one_line : (text : List ℕ) (a b : Line) → IsTextOf text a → IsTextOf text b → a ≡ b
 one_line text a b one other =
-    let name = word (behind_blanks text) in
-    let rest = behind_word (behind_blanks text) in
+    let name = word (behind_spaces text) in
+    let rest = behind_word (behind_spaces text) in
     let named : row_named name ≡ Some one.row = ap row_named (sym (text_cut text name rest refl refl a one).0) ∙ one.named in
     one_rest one.row name rest a b (text_only text name rest refl refl one.row named a one) (text_only text name rest refl refl one.row named b other)

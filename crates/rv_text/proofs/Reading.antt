@@ -6,8 +6,9 @@ use Rattle.std.proofs.lemmas.Slice.Eq.{bytes_eq-Decides}
 use Rattle.std.proofs.lemmas.List.{length-append}
 use Rattle.rv_text.specs.Table.{Row, table, find_row, row_named}
 use Rattle.rv_text.specs.Lines.{put, bare}
-use Rattle.rv_text.specs.Text.{is_blank, AreBlanks, Finds, Sets, IsListed, IsListedFrom, IsRestOf, IsTextOf}
-use Rattle.rv_text.specs.machine.Cuts.{behind_blanks, word, behind_word}
+use Rattle.text_words.specs.Blanks.{is_space, behind_spaces}
+use Rattle.rv_text.specs.Text.{AreBlanks, Finds, Sets, IsListed, IsListedFrom, IsRestOf, IsTextOf}
+use Rattle.rv_text.specs.machine.Cuts.{word, behind_word}
 use Rattle.rv_text.specs.declared.line.Line.{Line}
 use Rattle.rv_text.specs.declared.operand.Operand.{Operand}
 use Rattle.rv_text.specs.declared.operand.Operand.TheVariants.{Rd, Rs, Rt, Number, Place, Target, Ra}
@@ -56,28 +57,28 @@ listed_name (operand ∷ operands) bytes before after listed = from_name operand
 
 -- ---- the rest
 
-all_listed_stays : (operands : List Operand) (bytes : List ℕ) (before after : Line) → IsListed operands bytes before after → behind_blanks bytes ≡ bytes
-all_listed_stays [] bytes before after listed = ap behind_blanks listed.0 ∙ sym listed.0
+all_listed_stays : (operands : List Operand) (bytes : List ℕ) (before after : Line) → IsListed operands bytes before after → behind_spaces bytes ≡ bytes
+all_listed_stays [] bytes before after listed = ap behind_spaces listed.0 ∙ sym listed.0
 all_listed_stays (operand ∷ operands) bytes before after listed = listed_stays operand operands bytes before after listed
 
 gap_ends : (operands : List Operand) (gap bytes : List ℕ) (before after : Line) → AreBlanks gap → (operands ≢ [] → gap ≢ []) → IsListed operands bytes before after → ends_word (gap ++ bytes) ≡ true
 gap_ends [] gap bytes before after blank apart listed = blanks_end gap bytes blank (ap ends_word listed.0)
 gap_ends (operand ∷ operands) [] bytes before after blank apart listed = absurd (apart (λ e. cc) refl)
-gap_ends (operand ∷ operands) (byte ∷ gap) bytes before after blank apart listed = rw (blank_is_no_word byte (and_true (is_blank byte) (list_all is_blank gap) blank).0) refl
+gap_ends (operand ∷ operands) (byte ∷ gap) bytes before after blank apart listed = rw (blank_is_no_word byte (and_true (is_space byte) (list_all is_space gap) blank).0) refl
 
 empty : (xs : List ℕ) → length xs ≡ 0 → xs ≡ []
 empty [] none = refl
 empty (x ∷ xs) none = absurd (omega (arith, none))
 
 module _ (row : Row) (name bytes : List ℕ) where
-  rest_operands : (line : Line) (rest : IsRestOf row name bytes line) → behind_blanks bytes ≡ rest.operands
-  rest_operands line rest = ap behind_blanks rest.spelled ∙ (skipped rest.gap rest.operands rest.gap_blank ∙ all_listed_stays row.operands rest.operands (bare name) line rest.listed)
+  rest_operands : (line : Line) (rest : IsRestOf row name bytes line) → behind_spaces bytes ≡ rest.operands
+  rest_operands line rest = ap behind_spaces rest.spelled ∙ (skipped rest.gap rest.operands rest.gap_blank ∙ all_listed_stays row.operands rest.operands (bare name) line rest.listed)
 
   rest_ends : (line : Line) → IsRestOf row name bytes line → ends_word bytes ≡ true
   rest_ends line rest = ap ends_word rest.spelled ∙ gap_ends row.operands rest.gap rest.operands (bare name) line rest.gap_blank rest.apart rest.listed
 
   -- where no blank follows the mnemonic, there are no operands
-  pub no_gap : length (behind_blanks bytes) ≡ length bytes → row.operands ≢ [] → (line : Line) → IsRestOf row name bytes line → ⊥
+  pub no_gap : length (behind_spaces bytes) ≡ length bytes → row.operands ≢ [] → (line : Line) → IsRestOf row name bytes line → ⊥
   no_gap same some line rest =
       let gap = rest.apart some in
       let behind = rest_operands line rest in
@@ -85,22 +86,22 @@ module _ (row : Row) (name bytes : List ℕ) where
       let none : length rest.gap ≡ 0 = omega (arith, same, ap length behind, lengths) in
       gap (empty rest.gap none)
 
-  rest_one : (row.operands ≢ [] → length (behind_blanks bytes) ≢ length bytes) → (line : Line) → IsListed row.operands (behind_blanks bytes) (bare name) line → IsRestOf row name bytes line
+  rest_one : (row.operands ≢ [] → length (behind_spaces bytes) ≢ length bytes) → (line : Line) → IsListed row.operands (behind_spaces bytes) (bare name) line → IsRestOf row name bytes line
   rest_one apart line listed =
       let s = skips bytes in
       record {
         gap = s.blanks;
         gap_blank = s.blank;
-        apart = λ some none. apart some (let whole : behind_blanks bytes ≡ bytes = ap (λ x. x ++ behind_blanks bytes) (sym none) ∙ sym s.spelled in ap length whole);
-        operands = behind_blanks bytes;
+        apart = λ some none. apart some (let whole : behind_spaces bytes ≡ bytes = ap (λ x. x ++ behind_spaces bytes) (sym none) ∙ sym s.spelled in ap length whole);
+        operands = behind_spaces bytes;
         spelled = s.spelled;
         listed = listed;
       }
 
-  pub rest_only : (line : Line) → IsRestOf row name bytes line → IsListed row.operands (behind_blanks bytes) (bare name) line
+  pub rest_only : (line : Line) → IsRestOf row name bytes line → IsListed row.operands (behind_spaces bytes) (bare name) line
   rest_only line rest = let P : List ℕ → Type 0 = λ b. IsListed row.operands b (bare name) line in subst P (sym (rest_operands line rest)) rest.listed
 
-  pub rest_finds : (row.operands ≢ [] → length (behind_blanks bytes) ≢ length bytes) → (result : Option Line) → Finds (IsListed row.operands (behind_blanks bytes) (bare name)) result → Finds (IsRestOf row name bytes) result
+  pub rest_finds : (row.operands ≢ [] → length (behind_spaces bytes) ≢ length bytes) → (result : Option Line) → Finds (IsListed row.operands (behind_spaces bytes) (bare name)) result → Finds (IsRestOf row name bytes) result
   rest_finds apart None none = λ line rest. none line (rest_only line rest)
   rest_finds apart (Some line) found = (rest_one apart line found.0, λ other rest. found.1 other (rest_only other rest))
 
@@ -114,24 +115,24 @@ some_of operands none is test e = let zero : length operands ≡ 0 = ap length e
 pub no_operands : (operands : List Operand) (none : Bool) {X : Type 0} → none ≡ nat_eq (length operands) 0 → none ≡ true → operands ≢ [] → X
 no_operands operands none is test some = absurd (some (none_of operands none is test))
 
-pub rest_found : (row : Row) (name bytes behind : List ℕ) (before : Line) → behind ≡ behind_blanks bytes → before ≡ bare name → (row.operands ≢ [] → length behind ≢ length bytes) → (result : Option Line) →
+pub rest_found : (row : Row) (name bytes behind : List ℕ) (before : Line) → behind ≡ behind_spaces bytes → before ≡ bare name → (row.operands ≢ [] → length behind ≢ length bytes) → (result : Option Line) →
     Finds (IsListed row.operands behind before) result → Finds (IsRestOf row name bytes) result
 rest_found row name bytes behind before behind_is before_is apart result found =
     let P : List ℕ → Type 0 = λ b. row.operands ≢ [] → length b ≢ length bytes in
     let Q : List ℕ → Type 0 = λ b. Finds (IsListed row.operands b before) result in
-    let R : Line → Type 0 = λ l. Finds (IsListed row.operands (behind_blanks bytes) l) result in
+    let R : Line → Type 0 = λ l. Finds (IsListed row.operands (behind_spaces bytes) l) result in
     rest_finds row name bytes (subst P behind_is apart) result (subst R before_is (subst Q behind_is found))
 
 -- ---- the line
 
-module _ (bytes name rest : List ℕ) (name_is : name ≡ word (behind_blanks bytes)) (rest_is : rest ≡ behind_word (behind_blanks bytes)) where
+module _ (bytes name rest : List ℕ) (name_is : name ≡ word (behind_spaces bytes)) (rest_is : rest ≡ behind_word (behind_spaces bytes)) where
   -- a line of the text has this mnemonic and this rest
   pub text_cut : (line : Line) (text : IsTextOf bytes line) → (line.name ≡ name) × (text.rest ≡ rest)
   text_cut line text =
       let is = name_is_word line.name text.row text.named in
       let ends = rest_ends text.row line.name text.rest line text.rest_is in
-      let behind : behind_blanks bytes ≡ line.name ++ text.rest =
-      ap behind_blanks text.spelled ∙ (skipped text.front (line.name ++ text.rest) text.front_blank ∙ stays line.name text.rest is) in
+      let behind : behind_spaces bytes ≡ line.name ++ text.rest =
+      ap behind_spaces text.spelled ∙ (skipped text.front (line.name ++ text.rest) text.front_blank ∙ stays line.name text.rest is) in
       let parts = cut line.name text.rest is ends in
       (sym (name_is ∙ (ap word behind ∙ parts.0)), sym (rest_is ∙ (ap behind_word behind ∙ parts.1)))
 
@@ -159,7 +160,7 @@ module _ (bytes name rest : List ℕ) (name_is : name ≡ word (behind_blanks by
         front = s.blanks;
         front_blank = s.blank;
         rest = rest;
-        spelled = s.spelled ∙ ap (λ x. s.blanks ++ x) (joined (behind_blanks bytes) ∙ (ap (λ x. x ++ behind_word (behind_blanks bytes)) (sym (named_same ∙ name_is)) ∙ ap (λ x. line.name ++ x) (sym rest_is)));
+        spelled = s.spelled ∙ ap (λ x. s.blanks ++ x) (joined (behind_spaces bytes) ∙ (ap (λ x. x ++ behind_word (behind_spaces bytes)) (sym (named_same ∙ name_is)) ∙ ap (λ x. line.name ++ x) (sym rest_is)));
         rest_is = subst Q (sym named_same) is;
       }
 

@@ -2,6 +2,7 @@
 -- may stand.
 use Rattle.std.specs.Prelude.{◌≡◌, ◌≢◌, ℕ, Bool, true, ◌||◌, nat_eq, List, [], ◌∷◌, ◌++◌, Option, Some, None}
 use Rattle.std.specs.List.{list_all}
+use Rattle.text_words.specs.Blanks.{is_space}
 use Rattle.rv_text.specs.Table.{Row, row_named}
 use Rattle.rv_text.specs.Lines.{operand_text, bare, put}
 use Rattle.rv_text.specs.declared.line.Line.{Line}
@@ -9,12 +10,8 @@ use Rattle.rv_text.specs.declared.operand.Operand.{Operand}
 
 -- ---- the grammar
 
--- a space or a tab
-abbrev pub is_blank : ℕ → Bool
-is_blank byte = nat_eq byte 32 || nat_eq byte 9
-
 abbrev pub AreBlanks : List ℕ → Type 0
-AreBlanks bytes = list_all is_blank bytes ≡ true
+AreBlanks bytes = list_all is_space bytes ≡ true
 
 -- a text of an operand gives the part that the operand names to a line
 pub record Sets (operand : Operand) (text : List ℕ) (before after : Line) : Type 0 where

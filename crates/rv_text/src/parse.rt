@@ -16,30 +16,12 @@ use itoa::Buffer;
 use plain_data::Memory;
 use rtx_tree::reg_number;
 use std::alloc::Global;
-use text_words::is_symbol;
-
-fn is_blank(byte: u8) -> bool
-    ensures { result ≡ spec.is_blank byte }
-{
-    byte == b' ' || byte == b'\t'
-}
+use text_words::{behind_spaces, is_space, is_symbol};
 
 fn is_word_byte(byte: u8) -> bool
     ensures { result ≡ cuts.is_word_byte byte }
 {
-    !is_blank(byte) && byte != b','
-}
-
-/// What stands behind the blanks at the front.
-fn behind_blanks(bytes: &[u8]) -> &[u8]
-    ensures { result.now ≡ cuts.behind_blanks bytes.entry.now }
-{
-    for (at, byte) in bytes.iter().enumerate() {
-        if !is_blank(*byte) {
-            return &bytes[at..];
-        }
-    }
-    &[]
+    !is_space(byte) && byte != b','
 }
 
 /// What stands before the first blank or comma, and the rest.
@@ -59,8 +41,8 @@ fn split_word(bytes: &[u8]) -> (&[u8], &[u8])
 fn behind_comma(bytes: &[u8]) -> Option<&[u8]>
     ensures { option_map (λ rest. rest.now) result ≡ cuts.behind_comma bytes.entry.now }
 {
-    match behind_blanks(bytes) {
-        [b',', rest @ ..] => Some(behind_blanks(rest)),
+    match behind_spaces(bytes) {
+        [b',', rest @ ..] => Some(behind_spaces(rest)),
         _ => None,
     }
 }
@@ -334,7 +316,7 @@ fn read_row<'a>(row: Row, name: &'a [u8], rest: &'a [u8]) -> Option<LineParts<'a
     ensures { Finds (IsRestOf (row_view row) name.entry.now rest.entry.now)
         (option_map parts_view result) }
 {
-    let operands = behind_blanks(rest);
+    let operands = behind_spaces(rest);
     if operands.len() == rest.len() && !row.operands.is_empty() {
         return None;
     }
@@ -345,7 +327,7 @@ fn read_row<'a>(row: Row, name: &'a [u8], rest: &'a [u8]) -> Option<LineParts<'a
 fn read_parts(bytes: &[u8]) -> Option<LineParts<'_>>
     ensures { Finds (IsTextOf bytes.entry.now) (option_map parts_view result) }
 {
-    let (name, rest) = split_word(behind_blanks(bytes));
+    let (name, rest) = split_word(behind_spaces(bytes));
     match row_named(name) {
         None => None,
         Some(row) => read_row(row, name, rest),

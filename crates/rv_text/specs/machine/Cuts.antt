@@ -1,15 +1,10 @@
 -- How the reader cuts bytes. The grammar of `Text.antt` does not rest on this.
 use Rattle.std.specs.Prelude.{ℕ, ℤ, Bool, ◌&&◌, not, nat_eq, if◌then◌else◌, List, [], ◌∷◌, length}
 use Rattle.std.specs.Prelude.{Option, Some, None, option_map, option_and_then}
-use Rattle.rv_text.specs.Text.{is_blank}
+use Rattle.text_words.specs.Blanks.{is_space, behind_spaces}
 
 abbrev pub is_word_byte : ℕ → Bool
-is_word_byte byte = not (is_blank byte) && not (nat_eq byte 44)
-
--- what stands behind the blanks at the front
-abbrev pub behind_blanks : List ℕ → List ℕ
-behind_blanks [] = []
-behind_blanks (byte ∷ bytes) = if is_blank byte then behind_blanks bytes else byte ∷ bytes
+is_word_byte byte = not (is_space byte) && not (nat_eq byte 44)
 
 -- what stands before the first blank or comma, and from there on
 abbrev pub word : List ℕ → List ℕ
@@ -22,11 +17,11 @@ behind_word (byte ∷ bytes) = if is_word_byte byte then behind_word bytes else 
 
 abbrev comma_first : List ℕ → Option (List ℕ)
 comma_first [] = None
-comma_first (byte ∷ bytes) = if nat_eq byte 44 then Some (behind_blanks bytes) else None
+comma_first (byte ∷ bytes) = if nat_eq byte 44 then Some (behind_spaces bytes) else None
 
 -- what stands behind a comma and blanks round it
 abbrev pub behind_comma : List ℕ → Option (List ℕ)
-behind_comma bytes = comma_first (behind_blanks bytes)
+behind_comma bytes = comma_first (behind_spaces bytes)
 
 -- what stands before and behind the first of a byte
 abbrev pub parts_at : ℕ → List ℕ → Option (List ℕ × List ℕ)

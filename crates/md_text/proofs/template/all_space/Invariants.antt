@@ -1,6 +1,6 @@
 use Rattle.std.proofs.Common.{◌≡◌, drop}
 use Rattle.std.specs.List.{list_all}
-use Rattle.md_text.specs.Template.{is_space}
+use Rattle.text_words.specs.Blanks.{is_space}
 use Rattle.md_text.proofs.template.all_space.Given as goal
 
 abbrev pub invariant-loop-byte : goal.invariant-loop-byte

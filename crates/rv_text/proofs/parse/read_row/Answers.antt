@@ -7,12 +7,12 @@ use Rattle.rv_text.proofs.parse.read_row.Goals.{else-operands-rest-via-then-oper
 
 pub returns-then-not-is_empty : goal.returns-then-not-is_empty
 returns-then-not-is_empty c =
-    no_gap (row_view c.args.row) c.args.name.now c.args.rest.now (ap length (sym c.behind_blanks-operands.ensures) ∙ c.if-operands-rest.true)
+    no_gap (row_view c.args.row) c.args.name.now c.args.rest.now (ap length (sym c.behind_spaces-operands.ensures) ∙ c.if-operands-rest.true)
     (some_of c.args.row.operands.now c.is_empty.result c.is_empty.ensures c.if-not-is_empty.true)
 
 pub returns : goal.returns
 returns c =
-    rest_found (row_view c.args.row) c.args.name.now c.args.rest.now c.behind_blanks-operands.result.now (parts_view c.bare.result) c.behind_blanks-operands.ensures c.bare.ensures
+    rest_found (row_view c.args.row) c.args.name.now c.args.rest.now c.behind_spaces-operands.result.now (parts_view c.bare.result) c.behind_spaces-operands.ensures c.bare.ensures
     (elim c.else-operands-rest.branch [
       | else-operands-rest-via-then-operands-rest+else-not-is_empty w ↦ λ some. no_operands c.args.row.operands.now w.is_empty.result w.is_empty.ensures w.if-not-is_empty.false some
       | else-operands-rest-via-else-operands-rest w ↦ λ some. w.if-operands-rest.false

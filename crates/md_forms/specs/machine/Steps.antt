@@ -9,7 +9,7 @@ use Rattle.md_forms.specs.declared.tables.Tables.{Tables}
 use Rattle.md_forms.specs.declared.checks.Numbers.{Numbers}
 use Rattle.md_forms.specs.Checks.{matched, all_operands, constraints_of, has_reason, reason_of, unless}
 
--- in the code, which counts them once
+-- the numbers of a form's operands, which the code counts once
 abbrev pub AreNumbers : Numbers → Draft → Type 0
 AreNumbers numbers d = (numbers.matched ≡ matched d) × (numbers.all ≡ all_operands d)
 

@@ -1,6 +1,9 @@
 //! The program `rtlc`: it makes the real streams and files, hands the words to `run`, and ends with
-//! its answer.
+//! its answer. The tests are runs at the limits, whose input is generated.
 #![tactic(auto)]
+
+#[cfg(test)]
+mod run_tests;
 
 use byte_edge::{DiskFiles, StdSink, StdSource};
 use plain_data::Memory;

@@ -6,15 +6,16 @@
 
 mod edge;
 mod tables;
+mod trial;
 
 use anyhow::{Result, ensure};
 use byte_edge::{DiskFiles, Files, Sink, StdSink, write_all_of};
-use case_runs::judge_runs;
 use case_text::{Report, Told, is_table};
 use edge::try_edge;
 use std::alloc::Global;
 use std::{env, str};
 use tables::judge_tables;
+use trial::judge_runs;
 
 /// How many bytes a file of cases may have.
 const ROOM: usize = 16_777_216;

@@ -1,4 +1,5 @@
-//! The run of a case, and what is told of it.
+//! Whole runs as cases: each runs the program over objects in memory, and compares what it left
+//! with what was wanted. The parts of a case are those of `case_setting`.
 use byte_edge::{ByteFiles, ByteSink, ByteSource};
 use case_setting::{
     Fault, Setting, bytes_of, check_parts, failing, is_command, outcome, shelf_of, status_of,

@@ -8,10 +8,10 @@ use Rattle.md_list.specs.Listing.{ListComes}
 use Rattle.md_list.proofs.Lists.{one_list}
 use Rattle.func_input.specs.Outcome.{Outcome}
 use Rattle.func_input.proofs.Inputs.{input_last}
-use Rattle.recog_text.specs.Recog.{FunctionsCome}
-use Rattle.recog_text.proofs.One.{functions_one}
-use Rattle.dump_text.specs.Dump as dump
-use Rattle.dump_text.proofs.One as dump_one
+use Rattle.func_text.specs.Recog.{FunctionsCome}
+use Rattle.func_text.proofs.One.{functions_one}
+use Rattle.func_text.specs.Dump as dump
+use Rattle.func_text.proofs.DumpOne as dump_one
 use Rattle.pass_name.specs.declared.pass.Pass.{Pass}
 use Rattle.asm_same.specs.asm_text.Assembly.{AssemblyComes}
 use Rattle.asm_same.specs.asm_text.Compile.{TextComes, text_told}

@@ -22,8 +22,8 @@ use Rattle.asm_same.specs.asm_text.Compile.{TextComes}
 use Rattle.asm_same.specs.asm_text.Code.{IsUnnamed, CodeComes}
 use Rattle.asm_same.specs.asm_text.declared.code.Coded.{Coded}
 use Rattle.code_eval.specs.Eval.{eval_text, IsFair}
-use Rattle.recog_text.specs.Recog.{FunctionsCome}
-use Rattle.dump_text.specs.Dump as dump
+use Rattle.func_text.specs.Recog.{FunctionsCome}
+use Rattle.func_text.specs.Dump as dump
 use Rattle.pass_name.specs.declared.pass.Pass.{Pass}
 use Rattle.rtlc_words.specs.declared.command.Command.{Command}
 use Rattle.rtlc_words.specs.declared.command.Command.TheVariants as commands

@@ -7,8 +7,8 @@ use Rattle.md_source.specs.Source.{Source}
 use Rattle.md_forms.specs.declared.form.Entry.{Entry}
 use Rattle.md_list.specs.Listing.{ListComes}
 use Rattle.md_named.specs.Named.{FormsCome}
-use Rattle.recog_text.specs.Recog.{FunctionsCome}
-use Rattle.dump_text.specs.Dump as dump
+use Rattle.func_text.specs.Recog.{FunctionsCome}
+use Rattle.func_text.specs.Dump as dump
 use Rattle.pass_name.specs.declared.pass.Pass.{Pass}
 use Rattle.func_input.specs.Input.{IsInput}
 use Rattle.asm_same.specs.asm_text.declared.assembly.Assembly.{Assembly}

@@ -6,7 +6,7 @@
 //!
 //! The words are read by `rtlc_words`; what the commands come to is `specs/Answer.antt`, over
 //! `md_list` for `list`; for the others over `md_named`, which gives the description, and
-//! `asm_text` for `asm`, `asm_text` and `code_eval` for `eval`, and `recog_text` for `recog`; what
+//! `asm_text` for `asm`, `asm_text` and `code_eval` for `eval`, and `func_text` for `recog`; what
 //! was written then is said in `specs/Written.antt`.
 #![tactic(auto)]
 

@@ -31,14 +31,13 @@ ghost use Rattle.rtlc_run.specs.Answer.{EvalComes, RecogComes, DumpComes, ByForm
 use asm_same::{assembly_of, code_of};
 use byte_edge::{Files, ReadAll, Sink, Source, read_all, write_all_of};
 use code_eval::eval_text;
-use dump_text::dump_of;
+use func_text::{dump_of, recog_of};
 use md_desc::Description;
 use md_iter::MOST_FORMS;
 use md_list::{ListRefusal, list};
 use md_named::{description_of, source_refused};
 use md_source::SHIPPED;
 use pass_name::Pass;
-use recog_text::recog_of;
 use rtlc_words::{Command, command_of};
 use rtx_tree::{Limit, MOST_BYTES, Name};
 use run_refusal::{MEMORY_LINE, Refusal, fixed_line, line, status};

@@ -1,2 +1,0 @@
-pub mod Dump
-pub use Rattle.func_after.specs as func_after

@@ -1,3 +1,0 @@
-pub mod One
-pub mod Told
-pub mod Line

@@ -74,7 +74,7 @@ some_parts text none = let e : prefixed [] [] ≡ [] = subst (λ (ps : List (Lis
 
 -- the lines of an instruction
 insn_spelled : (text rest : List ℕ) (ls : List Line) (items : List CodeItem) → AllZip IsTextOf (lines_of text) ls → Spells rest items → Spells (written text ++ rest) (map item.Code ls ++ items)
-insn_spelled [] rest [] items zipped more = more
+insn_spelled [] rest [] items zipped more = Spells.blank (9 ∷ []) rest items refl more
 insn_spelled [] rest (line ∷ ls) items zipped more = absurd zipped
 insn_spelled (b ∷ text) rest ls items zipped more =
     subst (λ bytes. Spells (9 ∷ bytes) (map item.Code ls ++ items)) (sym (append_assoc (b ∷ text) (10 ∷ []) rest))

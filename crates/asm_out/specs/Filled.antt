@@ -30,10 +30,10 @@ text_by (Some template) number i c = filled template c.alternative number i.uid 
 abbrev pub text_of : List Entry → ℕ → Insn → Chosen → List ℕ
 text_of forms number i c = text_by (template_at forms c.form) number i c
 
--- as it stands in the assembly: behind a tab, and ended; the empty text has no lines
+-- as it stands in the assembly: behind a tab, and ended; the empty text, which has no lines, leaves
+-- a line of blanks
 abbrev pub written : List ℕ → List ℕ
-written [] = []
-written (byte ∷ text) = 9 ∷ (byte ∷ text ++ 10 ∷ [])
+written text = 9 ∷ (text ++ 10 ∷ [])
 
 -- what stands for a text that is no line
 abbrev pub no_line : Line

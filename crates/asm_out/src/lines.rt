@@ -87,11 +87,9 @@ fn written(alloc: Global, text: &[u8]) -> Result<Name, Memory>
     ensures { IfOk result (λ name. name ≡ spec.written text.now) }
 {
     let mut out = Vec::new(alloc);
-    if !text.is_empty() {
-        out.push(b'\t')?;
-        out.extend_from_slice(text)?;
-        out.push(b'\n')?;
-    }
+    out.push(b'\t')?;
+    out.extend_from_slice(text)?;
+    out.push(b'\n')?;
     Ok(Name::from_vec(out))
 }
 

@@ -5,7 +5,7 @@ use Rattle.std.specs.List.{list_any, list_all, All}
 use Rattle.std.proofs.lemmas.Bool.{ltb-true}
 use Rattle.bits64.specs.Words.{signed}
 use Rattle.bits64.specs.declared.Width.TheVariants.{W64}
-use Rattle.c_words.specs.Words.{code_of_name}
+use Rattle.rtx_tree.specs.Code.{code_named}
 use Rattle.c_words.proofs.Lexes.{apart as different}
 use Rattle.std.proofs.lemmas.List.Elements.{All-nil, All-cons, All-append}
 use Rattle.rtx_tree.specs.declared.constants.Constant.{Constant}
@@ -210,7 +210,7 @@ target d cs gs c e =
     (value d cs (goal.Mark 59 ∷ goal.Yield h ∷ gs) refl (mark d cs 59 (goal.Yield h ∷ gs) refl (yield d cs h gs c e)))))
 
 compared : (d : Dialect) (cs : List Constant) (x : Property) (equal : Bool) (gs : List Goal) → calm gs ≡ true → Ending d cs gs → Ending d cs (goal.Compared x equal ∷ gs)
-unfolding code_of_name
+unfolding code_named
 compared d cs property.Code equal gs c e = word_then d cs (goal.Compared property.Code equal) (head.CodeIs code.Reg equal) gs (codes "REG ") (token.Word (codes "REG")) (λ before rest. refl) refl not_calm refl c e
 compared d cs property.Mode equal gs c e = word_then d cs (goal.Compared property.Mode equal) (head.ModeIs mode.DI equal) gs (codes "DImode ") (token.Word (codes "DImode")) (λ before rest. refl) refl not_calm refl c e
 

@@ -12,7 +12,7 @@ use Rattle.rtx_tree.specs.declared.code.Code.{Code}
 use Rattle.rtx_tree.specs.declared.code.Code.TheVariants as code
 use Rattle.rtx_tree.specs.declared.code.Mode.{Mode}
 use Rattle.rtx_tree.specs.declared.constants.Constant.{Constant}
-use Rattle.rtx_tree.specs.Code.{code_name, all_codes}
+use Rattle.rtx_tree.specs.Code.{code_name, all_codes, code_named, code_in}
 use Rattle.c_words.specs.declared.head.CondHead.{CondHead}
 use Rattle.c_words.specs.declared.keyword.Keyword.{Keyword}
 use Rattle.c_words.specs.declared.atom.Atom.TheVariants as atom
@@ -30,7 +30,7 @@ use Rattle.c_words.specs.declared.head.CondHead.TheVariants as head
 use Rattle.c_words.specs.declared.keyword.Keyword.TheVariants as keyword
 use Rattle.c_words.proofs.Codes.{none_that}
 use Rattle.c_words.proofs.Listed.{Known, both, known_code, known_constant, known_keyword, known_mode, known_target, or_first, or_second, same_bytes}
-use Rattle.c_words.specs.Words.{call_name, keyword_name, all_keywords, keyword_named, mode_named, small, is_small, code_of_name, code_with_name, code_named, is_target, constant_named}
+use Rattle.c_words.specs.Words.{call_name, keyword_name, all_keywords, keyword_named, mode_named, small, is_small, code_in_capitals, is_target, constant_named}
 use Rattle.c_words.specs.Atoms.{atom_of, atom_of_name, predicate_or_nothing, target_number}
 use Rattle.c_words.specs.text_words.Numbers.{c_number_in}
 use Rattle.c_words.specs.Tokens.{in_word, is_no_word, operator_with_equals, operator_of_two, token_of_byte, number_or_bad, token_of_run}
@@ -115,7 +115,7 @@ bad_as d cs u goal.Statements e = false_true e
 record Plain (word : List ℕ) : Type 0 where
   no_keyword : keyword_named word ≡ None
   no_mode : mode_named word ≡ None
-  no_code : code_named word ≡ None
+  no_code : code_in_capitals word ≡ None
 
 no_operand : {A : Type 0} (d : Dialect) (gs : List Goal) → is_some (operand_by d None gs) ≡ true → A
 no_operand dialect.Condition gs e = false_true e
@@ -201,17 +201,17 @@ code_end _ = refl
 zero_no_keyword : (run : List ℕ) → keyword_named (run ++ 48 ∷ []) ≡ None
 zero_no_keyword run = none_that (λ k. bytes_eq (keyword_name k) (run ++ 48 ∷ [])) all_keywords (λ k. other_end (keyword_name k) (run ++ 48 ∷ []) (keyword_end k) (last_zero run))
 
-zero_no_code : (run : List ℕ) → code_named (run ++ 48 ∷ []) ≡ None
-unfolding last_of code_of_name
+zero_no_code : (run : List ℕ) → code_in_capitals (run ++ 48 ∷ []) ≡ None
+unfolding last_of code_named
 zero_no_code run = by_test (list_all (λ b. not (is_small b)) (run ++ 48 ∷ []))
   where
     no_return : bytes_eq (map small (run ++ 48 ∷ [])) (codes "simple_return") ≡ false
     no_return = other_end_back (map small (run ++ 48 ∷ [])) (codes "simple_return") (last_small run) refl
 
-    none : code_with_name (map small (run ++ 48 ∷ [])) ≡ None
+    none : code_in (map small (run ++ 48 ∷ [])) ≡ None
     none = rw no_return (none_that (λ c. bytes_eq (code_name c) (map small (run ++ 48 ∷ []))) all_codes (λ c. other_end (code_name c) (map small (run ++ 48 ∷ [])) (code_end c) (last_small run)))
 
-    by_test : (t : Bool) → cond t (code_with_name (map small (run ++ 48 ∷ []))) None ≡ None
+    by_test : (t : Bool) → cond t (code_in (map small (run ++ 48 ∷ []))) None ≡ None
     by_test true = none
     by_test false = refl
 
@@ -355,13 +355,13 @@ word_goes d cs gs run more w n t whole = by_keyword (keyword_named (run ++ more)
     by_target p true f = target_goes d cs gs run more w p f t
     by_target p false f = by_constant p f (constant_named cs (run ++ more)) refl
 
-    by_code : keyword_named (run ++ more) ≡ None → mode_named (run ++ more) ≡ None → (o : Option Code) → code_named (run ++ more) ≡ o → Goes d cs gs run
+    by_code : keyword_named (run ++ more) ≡ None → mode_named (run ++ more) ≡ None → (o : Option Code) → code_in_capitals (run ++ more) ≡ o → Goes d cs gs run
     by_code k m (Some c) e = as_known d cs gs run (known_code cs (word_taken d cs gs run) (run ++ more) c e here)
     by_code k m None e = by_target (record { no_keyword = k; no_mode = m; no_code = e }) (is_target (run ++ more)) refl
 
     by_mode : keyword_named (run ++ more) ≡ None → (o : Option Mode) → mode_named (run ++ more) ≡ o → Goes d cs gs run
     by_mode k (Some m) e = as_known d cs gs run (known_mode cs (word_taken d cs gs run) (run ++ more) m e here)
-    by_mode k None e = by_code k e (code_named (run ++ more)) refl
+    by_mode k None e = by_code k e (code_in_capitals (run ++ more)) refl
 
     by_keyword : (o : Option Keyword) → keyword_named (run ++ more) ≡ o → Goes d cs gs run
     by_keyword (Some k) e = as_known d cs gs run (known_keyword cs (word_taken d cs gs run) (run ++ more) k e here)

@@ -30,7 +30,7 @@ use Rattle.std.specs.Prelude.{ℤ, option_map}
 use Rattle.c_words.specs.declared.atom.Atom.{Atom}
 use Rattle.c_words.specs.declared.atom.Atom.TheVariants as atom
 use Rattle.c_words.specs.declared.atom.Property.TheVariants as property
-use Rattle.c_words.specs.Words.{code_named, constant_named, is_target}
+use Rattle.c_words.specs.Words.{code_in_capitals, constant_named, is_target}
 use Rattle.c_words.specs.Atoms.{is_question, atom_of, atom_by, atom_of_keyword, atom_of_name, predicate_or_nothing, target_number}
 use Rattle.c_cond.specs.Grammar as grammar
 use Rattle.c_cond.specs.Grammar.{Sort, One, Parts, Statement, Statements, Condition, signature_of, predicate_parts, comparison_with}
@@ -135,7 +135,7 @@ compared_size kind equal name h e = ap size_by (sym e) ∙ one_anyway kind
     size_by None = 1
 
     one_anyway : (kind : Property) → size_by (comparison_with kind equal name) ≡ 1
-    one_anyway property.Code = by_code (code_named name)
+    one_anyway property.Code = by_code (code_in_capitals name)
       where
         by_code : (o : Option Code) → size_by (option_map (λ c. head.CodeIs c equal) o) ≡ 1
         by_code None = refl
@@ -163,7 +163,7 @@ keyword_size d _ = refl
 
 name_size : (d : Dialect) (word : List ℕ) (n : Option ℤ) → atom_size (atom_of_name d word n) ≡ 0
 name_size d word (Some n) = refl
-name_size d word None = nothing_size d (code_named word) (mode_named word)
+name_size d word None = nothing_size d (code_in_capitals word) (mode_named word)
   where
     nothing_size : (d : Dialect) (c : Option Code) (m : Option Mode) → atom_size (predicate_or_nothing d c m) ≡ 0
     nothing_size dialect.Condition None None = refl

@@ -32,7 +32,7 @@ use Rattle.c_cond.specs.declared.part.Part.{Part}
 use Rattle.c_cond.specs.declared.part.Part.TheVariants as part
 use Rattle.c_cond.specs.declared.part.Signature.{Signature}
 use Rattle.c_cond.specs.declared.part.Signature.TheVariants as signature
-use Rattle.c_words.specs.Words.{keyword_named, mode_named, code_named}
+use Rattle.c_words.specs.Words.{keyword_named, mode_named, code_in_capitals}
 use Rattle.c_words.specs.Atoms.{atom_of}
 use Rattle.c_words.specs.Tokens.{tokens_in}
 
@@ -163,7 +163,7 @@ comparison_of _ = None
 
 -- the comparison of an operand's code or mode with the one that a word names
 abbrev pub comparison_with : Property → Bool → List ℕ → Option CondHead
-comparison_with property.Code equal word = option_map (λ c. head.CodeIs c equal) (code_named word)
+comparison_with property.Code equal word = option_map (λ c. head.CodeIs c equal) (code_in_capitals word)
 comparison_with property.Mode equal word = option_map (λ m. head.ModeIs m equal) (mode_named word)
 
 abbrev but_none : Mode → Option Mode

@@ -13,7 +13,7 @@ ghost use Rattle.std.specs.Option.{is_some};
 use crate::goal::{Goal, Goals};
 use crate::part::{Part, Signature, is_maker, level, signature_of, unary_of};
 use c_words::{
-    Atom, Binary, Call, CondHead, Dialect, Keyword, Property, Token, Unary, atom_of, code_named,
+    Atom, Binary, Call, CondHead, Dialect, Keyword, Property, Token, Unary, atom_of, code_in_capitals,
     mode_named,
 };
 use plain_data::Memory;
@@ -430,7 +430,7 @@ fn comparison_with(
     ensures { IfOk result (λ head. head ≡ comparison_with property equal word.now) }
 {
     match property {
-        Property::Code => match code_named(alloc, word)? {
+        Property::Code => match code_in_capitals(alloc, word)? {
             Some(code) => Ok(Some(CondHead::CodeIs { code, equal })),
             None => Ok(None),
         },

@@ -13,11 +13,10 @@ use Rattle.rtx_tree.specs.declared.code.Mode.TheVariants as mode
 use Rattle.rtx_tree.specs.declared.tree.Rtx.{Rtx, roll-Rtx}
 use Rattle.rtx_tree.specs.declared.tree.Rtx.TheOpen.{Rtx-F}
 use Rattle.rtx_tree.specs.declared.tree.Rtx.TheFolds.{fold-roll-Rtx, ind-Rtx}
-use Rattle.rtx_tree.specs.Code.{code_name, mode_name}
+use Rattle.rtx_tree.specs.Code.{code_name, code_named, mode_name}
 use Rattle.rtx_tree.specs.Tree.{RtxHead, head_of, kids_of}
 use Rattle.rtx_tree.proofs.Trees.{same_parts, head_of-tree, kids_of-tree}
-use Rattle.c_cond.specs.c_words.Words.{code_of_name}
-use Rattle.c_cond.proofs.c_words.Codes.{named_is}
+use Rattle.rtx_tree.proofs.Codes.{named_again}
 use Rattle.c_eval.specs.Value.{same_code, same_mode, all_same, same_step, same_tree}
 
 -- two tests of one fact have one answer
@@ -30,8 +29,7 @@ one_answer false false is decides = refl
 
 code_apart : (a b : Code) → code_name a ≡ code_name b → a ≡ b
 code_apart a b e =
-    let first : Some a ≡ code_of_name (code_name b) = named_is (Some a) (code_name b) e in
-    let second : Some b ≡ code_of_name (code_name b) = named_is (Some b) (code_name b) refl in
+    let one : Some a ≡ Some b = sym (named_again a) ∙ (ap code_named e ∙ named_again b) in
     cc
 
 code_decides : (a b : Code) → Decides (same_code a b) (a ≡ b)

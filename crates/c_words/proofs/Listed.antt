@@ -1,5 +1,5 @@
 -- A word that is taken as a keyword, a mode, a code or a constant is one of the known words.
-use Rattle.std.proofs.Common.{◌≡◌, ℕ, ℤ, ◌+◌, ◌-◌, ◌≤◌, nat_le, Bool, true, false, cond, List, [], ◌∷◌, ◌++◌, Option, Some, None, refl, sym, ap, ◌∙◌, ◌||◌, ◌&&◌, map, not, arith}
+use Rattle.std.proofs.Common.{◌≡◌, ℕ, ℤ, ◌+◌, ◌-◌, ◌≤◌, nat_le, Bool, true, false, cond, List, [], ◌∷◌, ◌++◌, Option, Some, None, refl, sym, ap, ◌∙◌, ◌||◌, ◌&&◌, map, not, find, arith}
 use Rattle.std.specs.Prelude.{codes}
 use Rattle.std.specs.Str.{bytes_eq}
 use Rattle.std.specs.List.{list_any, list_all}
@@ -11,9 +11,9 @@ use Rattle.rtx_tree.specs.declared.code.Code.TheVariants.{Return}
 use Rattle.rtx_tree.specs.declared.code.Mode.{Mode}
 use Rattle.rtx_tree.specs.declared.code.Mode.TheVariants as mode
 use Rattle.rtx_tree.specs.declared.constants.Constant.{Constant}
-use Rattle.rtx_tree.specs.Code.{code_name, all_codes}
+use Rattle.rtx_tree.specs.Code.{code_name, all_codes, code_named, code_in}
 use Rattle.c_words.specs.declared.keyword.Keyword.{Keyword}
-use Rattle.c_words.specs.Words.{first_that, keyword_name, all_keywords, keyword_named, mode_named, is_capital, is_small, small, code_of_name, code_with_name, code_named, constant_named}
+use Rattle.c_words.specs.Words.{keyword_name, all_keywords, keyword_named, mode_named, is_capital, is_small, small, code_in_capitals, constant_named}
 use Rattle.c_words.specs.machine.Known.{first_words, capital, code_word, known_words}
 
 some_is : {A : Type 0} {x y : A} → Some x ≡ Some y → x ≡ y
@@ -65,11 +65,11 @@ names cs = map (λ c. c.name) cs
 unfoldable pub Known : (List ℕ → Bool) → List Constant → Type 0
 Known q cs = list_any q (known_words cs) ≡ true
 
-first_listed : {A : Type 0} (f : A → List ℕ) (test : A → Bool) (q : List ℕ → Bool) (xs : List A) (x : A) → first_that test xs ≡ Some x → ((y : A) → test y ≡ true → q (f y) ≡ true) → list_any q (map f xs) ≡ true
+first_listed : {A : Type 0} (f : A → List ℕ) (test : A → Bool) (q : List ℕ → Bool) (xs : List A) (x : A) → find test xs ≡ Some x → ((y : A) → test y ≡ true → q (f y) ≡ true) → list_any q (map f xs) ≡ true
 first_listed f test q [] x e h = absurd (none_some e)
 first_listed f test q (y ∷ ys) x e h = by_test (test y) refl e (λ e. first_listed f test q ys x e h)
   where
-    by_test : (t : Bool) → test y ≡ t → cond t (Some y) (first_that test ys) ≡ Some x → (first_that test ys ≡ Some x → list_any q (map f ys) ≡ true) → list_any q (map f (y ∷ ys)) ≡ true
+    by_test : (t : Bool) → test y ≡ t → cond t (Some y) (find test ys) ≡ Some x → (find test ys ≡ Some x → list_any q (map f ys) ≡ true) → list_any q (map f (y ∷ ys)) ≡ true
     by_test true k e ih = or_first (q (f y)) (list_any q (map f ys)) (h y k)
     by_test false k e ih = or_second (q (f y)) (list_any q (map f ys)) (ih e)
 
@@ -108,15 +108,15 @@ letters_back : (word : List ℕ) → list_all (λ b. not (is_small b)) word ≡ 
 letters_back [] e = refl
 letters_back (b ∷ bs) e = let f : (not (is_small b) ≡ true) × (list_all (λ b. not (is_small b)) bs ≡ true) = both e in rw (letter_back b f.0, letters_back bs f.1) refl
 
-pub known_code : (cs : List Constant) (q : List ℕ → Bool) (word : List ℕ) (c : Code) → code_named word ≡ Some c → q word ≡ true → Known q cs
-unfolding Known code_of_name
+pub known_code : (cs : List Constant) (q : List ℕ → Bool) (word : List ℕ) (c : Code) → code_in_capitals word ≡ Some c → q word ≡ true → Known q cs
+unfolding Known code_named
 known_code cs q word c e h = by_test (list_all (λ b. not (is_small b)) word) refl e
   where
-    by_test : (t : Bool) → list_all (λ b. not (is_small b)) word ≡ t → cond t (code_with_name (map small word)) None ≡ Some c → list_any q (known_words cs) ≡ true
+    by_test : (t : Bool) → list_all (λ b. not (is_small b)) word ≡ t → cond t (code_in (map small word)) None ≡ Some c → list_any q (known_words cs) ≡ true
     by_test false k e = absurd (none_some e)
     by_test true k e = by_return (bytes_eq (map small word) (codes "simple_return")) refl e
       where
-        by_return : (t : Bool) → bytes_eq (map small word) (codes "simple_return") ≡ t → cond t (Some Return) (code_of_name (map small word)) ≡ Some c → list_any q (known_words cs) ≡ true
+        by_return : (t : Bool) → bytes_eq (map small word) (codes "simple_return") ≡ t → cond t (Some Return) (code_named (map small word)) ≡ Some c → list_any q (known_words cs) ≡ true
         by_return true f e =
             let is : word ≡ codes "SIMPLE_RETURN" = sym (letters_back word k) ∙ ap (map capital) (same_bytes (map small word) (codes "simple_return") f) in
             in_first q first_words (map keyword_name all_keywords) (map code_word all_codes) (names cs)

@@ -15,7 +15,7 @@ use Rattle.c_words.specs.declared.atom.Atom.TheVariants as atom
 use Rattle.c_words.specs.declared.atom.Dialect.{Dialect}
 use Rattle.c_words.specs.declared.atom.Dialect.TheVariants as dialect
 use Rattle.c_words.specs.declared.atom.Property.TheVariants as property
-use Rattle.c_words.specs.Words.{keyword_named, mode_named, code_named, is_target, target_holds, constant_named}
+use Rattle.c_words.specs.Words.{keyword_named, mode_named, code_in_capitals, is_target, target_holds, constant_named}
 
 -- the calls that have a number as their value; the others make operands or instructions
 abbrev pub is_question : Call → Bool
@@ -50,7 +50,7 @@ predicate_or_nothing _ _ _ = atom.Nothing
 
 abbrev pub atom_of_name : Dialect → List ℕ → Option ℤ → Atom
 atom_of_name d word (Some number) = atom.Leaf (head.Number number)
-atom_of_name d word None = predicate_or_nothing d (code_named word) (mode_named word)
+atom_of_name d word None = predicate_or_nothing d (code_in_capitals word) (mode_named word)
 
 abbrev pub atom_by : Dialect → List Constant → List ℕ → Option Keyword → Atom
 atom_by d constants word (Some k) = atom_of_keyword d k

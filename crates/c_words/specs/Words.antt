@@ -1,15 +1,14 @@
 -- What a word means in a condition or in statements: GCC Internals, "Defining RTL Patterns" (the
 -- condition of define_insn), "Defining Machine-Specific Predicates" and "Defining RTL Sequences".
 -- Which words there are is the profile of this project.
-use Rattle.std.specs.Prelude.{ℕ, ℤ, List, [], ◌∷◌, Bool, Option, Some, None, if◌then◌else◌, codes, take, map, nat_le, ◌+◌, ◌&&◌, ◌||◌, not}
+use Rattle.std.specs.Prelude.{ℕ, ℤ, List, [], ◌∷◌, Bool, Option, Some, None, if◌then◌else◌, codes, take, find, map, nat_le, ◌+◌, ◌&&◌, ◌||◌, not}
 use Rattle.std.specs.Str.{bytes_eq}
 use Rattle.std.specs.List.{list_all}
 use Rattle.rtx_tree.specs.declared.code.Code.{Code}
-use Rattle.rtx_tree.specs.declared.code.Code.TheVariants.{Return}
 use Rattle.rtx_tree.specs.declared.code.Mode.{Mode}
 use Rattle.rtx_tree.specs.declared.code.Mode.TheVariants as mode
 use Rattle.rtx_tree.specs.declared.constants.Constant.{Constant}
-use Rattle.rtx_tree.specs.Code.{code_name, all_codes}
+use Rattle.rtx_tree.specs.Code.{code_in}
 use Rattle.c_words.specs.declared.head.Call.{Call}
 use Rattle.c_words.specs.declared.head.Call.TheVariants as call
 use Rattle.c_words.specs.declared.keyword.Keyword.{Keyword}
@@ -56,14 +55,9 @@ all_keywords =
     keyword.Call call.EmitMove ∷ keyword.GetCode ∷ keyword.GetMode ∷ keyword.ReloadCompleted ∷ keyword.Operands ∷
     keyword.Op ∷ keyword.Ival ∷ keyword.If ∷ keyword.Else ∷ keyword.Done ∷ keyword.Fail ∷ []
 
--- the first of some things that passes a test
-abbrev pub first_that : {A : Type 0} → (A → Bool) → List A → Option A
-first_that test [] = None
-first_that test (x ∷ xs) = if test x then Some x else first_that test xs
-
 -- the keyword that a word is
 abbrev pub keyword_named : List ℕ → Option Keyword
-keyword_named word = first_that (λ k. bytes_eq (keyword_name k) word) all_keywords
+keyword_named word = find (λ k. bytes_eq (keyword_name k) word) all_keywords
 
 -- the mode that a word is in C: QImode for QI, and so on; VOIDmode for none
 abbrev pub mode_named : List ℕ → Option Mode
@@ -84,19 +78,10 @@ is_small b = nat_le 97 b && nat_le b 122
 abbrev pub small : ℕ → ℕ
 small b = if is_capital b then b + 32 else b
 
--- the code of a name
-unfoldable pub code_of_name : List ℕ → Option Code
-code_of_name name = first_that (λ c. bytes_eq (code_name c) name) all_codes
-
--- the code with a name; a `simple_return` is a return
-abbrev pub code_with_name : List ℕ → Option Code
-code_with_name name =
-    if bytes_eq name (codes "simple_return") then Some Return else code_of_name name
-
 -- the code that a word is in C: its name in capitals
-abbrev pub code_named : List ℕ → Option Code
-code_named word =
-    if list_all (λ b. not (is_small b)) word then code_with_name (map small word) else None
+abbrev pub code_in_capitals : List ℕ → Option Code
+code_in_capitals word =
+    if list_all (λ b. not (is_small b)) word then code_in (map small word) else None
 
 -- a name of a fact of the target
 abbrev pub is_target : List ℕ → Bool

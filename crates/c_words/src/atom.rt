@@ -5,7 +5,7 @@ ghost use Rattle.c_words.specs.Atoms as spec;
 
 use crate::head::{Call, CondHead};
 use crate::keyword::Keyword;
-use crate::word::{code_named, constant_named, is_target, mode_named, target_holds};
+use crate::word::{code_in_capitals, constant_named, is_target, mode_named, target_holds};
 use plain_data::Memory;
 use rtx_tree::{Code, Constant, Mode};
 use std::alloc::Global;
@@ -104,7 +104,7 @@ fn atom_of_name(
     match constant_named(constants, word) {
         Some(number) => Ok(Atom::Leaf(CondHead::Number(number))),
         None => {
-            let code = code_named(alloc, word)?;
+            let code = code_in_capitals(alloc, word)?;
             Ok(predicate_or_nothing(dialect, code, mode_named(word)))
         }
     }

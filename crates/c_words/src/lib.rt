@@ -19,4 +19,4 @@ pub use keyword::Keyword;
 pub use known::known_words;
 pub use lexer::{Lexer, Pending, in_word, token_of_run, tokens_in};
 pub use token::{Token, operator_of_two, token_of_byte};
-pub use word::{code_named, mode_named};
+pub use word::{code_in_capitals, mode_named};

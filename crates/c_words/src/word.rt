@@ -92,30 +92,13 @@ fn in_small(alloc: Global, word: &[u8]) -> Result<Vec<u8>, Memory>
     Ok(letters)
 }
 
-fn code_of_name(name: &[u8]) -> Option<Code>
-    ensures { result ≡ spec.code_of_name name.now }
-{
-    Code::named(name)
-}
-
-/// The code with a name, `simple_return` being a return.
-fn code_with_name(name: &[u8]) -> Option<Code>
-    ensures { result ≡ spec.code_with_name name.now }
-{
-    if name == "simple_return".as_bytes() {
-        Some(Code::Return)
-    } else {
-        code_of_name(name)
-    }
-}
-
 /// The code that a word is in C, or `None` where it is none.
-pub fn code_named(alloc: Global, word: &[u8]) -> Result<Option<Code>, Memory>
-    ensures { IfOk result (λ code. code ≡ spec.code_named word.now) }
+pub fn code_in_capitals(alloc: Global, word: &[u8]) -> Result<Option<Code>, Memory>
+    ensures { IfOk result (λ code. code ≡ spec.code_in_capitals word.now) }
 {
     if !has_no_small(word) {
         return Ok(None);
     }
     let name = in_small(alloc, word)?;
-    Ok(code_with_name(name.as_slice()))
+    Ok(Code::written(name.as_slice()))
 }

@@ -13,6 +13,7 @@ use Rattle.rtx_tree.specs.Registers.{pseudo}
 use Rattle.rtx_tree.specs.Tree.{head_of, leaf_of, node_of, reg_of}
 use Rattle.rtx_tree.specs.Operands.{put_at}
 use Rattle.rtx_tree.specs.Patterns.{set_rtx}
+use Rattle.rtx_tree.specs.Code.{mode_bits}
 use Rattle.md_match.specs.Pattern.{Ops}
 use Rattle.gen_emit.specs.declared.draft.Draft.{Draft}
 
@@ -70,14 +71,6 @@ kept x new = made new.value (moved new.value x new.draft)
 abbrev pub forced : Bool → Mode → Made → Option Made
 forced may m x =
     if is_register x.value then Some x else option_map (kept x.value) (fresh may m x.draft)
-
--- the bits of a mode; no mode has none
-abbrev pub mode_bits : Mode → ℕ
-mode_bits Void = 0
-mode_bits QI = 8
-mode_bits HI = 16
-mode_bits SI = 32
-mode_bits DI = 64
 
 -- a pseudo register in a mode: itself in its own, and its low part in a narrower one
 abbrev pub pseudo_part : Mode → Rtx → Option Rtx

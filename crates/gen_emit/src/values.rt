@@ -35,25 +35,12 @@ pub fn is_register(x: &Rtx) -> bool
     matches!(x.code, Code::Reg)
 }
 
-/// The bits of a mode; no mode has none.
-fn mode_bits(mode: Mode) -> u32
-    ensures { result ≡ spec.mode_bits mode }
-{
-    match mode {
-        Mode::Void => 0,
-        Mode::QI => 8,
-        Mode::HI => 16,
-        Mode::SI => 32,
-        Mode::DI => 64,
-    }
-}
-
 /// A pseudo register in a mode that has no more bits than its own.
 fn pseudo_part(alloc: Global, mode: Mode, x: Rtx) -> Result<Option<Rtx>, Memory>
     ensures { IfOk result (λ r. r ≡ spec.pseudo_part mode x) }
 {
-    let bits = mode_bits(mode);
-    let whole = mode_bits(x.mode);
+    let bits = mode.bits();
+    let whole = x.mode.bits();
     if bits == whole {
         Ok(Some(x))
     } else if bits < whole {

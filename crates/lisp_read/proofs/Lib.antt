@@ -22,7 +22,6 @@ pub mod Depths
 pub mod Answered
 pub mod Unique
 pub mod Each
-pub mod Names
 pub mod Meanings
 pub mod Parts
 pub mod Standing

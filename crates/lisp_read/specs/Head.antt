@@ -1,13 +1,12 @@
 -- The atom at the head of an expression, as `mem/c:SI`: its code, its flags and its mode. GCC
 -- Internals, "Reading RTL", "Flags in an RTL Expression" and "Machine Modes".
-use Rattle.std.specs.Prelude.{ℕ, ◌+◌, Bool, true, false, not, ◌==◌, ◌&&◌, ◌||◌, List, [], ◌∷◌, Option, Some, None, if◌then◌else◌, option_map, option_and_then, take, drop, find, codes}
+use Rattle.std.specs.Prelude.{ℕ, ◌+◌, Bool, true, false, not, ◌==◌, ◌&&◌, ◌||◌, List, [], ◌∷◌, Option, Some, None, if◌then◌else◌, option_map, option_and_then, take, drop}
 use Rattle.std.specs.List.{list_any, position_from}
-use Rattle.std.specs.Str.{bytes_eq}
 use Rattle.rtx_tree.specs.declared.code.Code.{Code}
-use Rattle.rtx_tree.specs.declared.code.Code.TheVariants.{Mem, Return}
+use Rattle.rtx_tree.specs.declared.code.Code.TheVariants.{Mem}
 use Rattle.rtx_tree.specs.declared.code.Mode.{Mode}
 use Rattle.rtx_tree.specs.declared.code.Mode.TheVariants.{Void}
-use Rattle.rtx_tree.specs.Code.{code_name, mode_name, all_codes, named_modes}
+use Rattle.rtx_tree.specs.Code.{code_in, mode_named}
 use Rattle.lisp_read.specs.declared.head.Opening.{Opening}
 
 -- where the first byte of a kind stands in a text
@@ -23,17 +22,7 @@ cut_at text (Some k) = (take k text, Some (drop (k + 1) text))
 abbrev pub cut : ℕ → List ℕ → List ℕ × Option (List ℕ)
 cut b text = cut_at text (first_of b text)
 
--- the code with a name; `simple_return` is a return
-unfoldable pub code_named : List ℕ → Option Code
-code_named name = find (λ c. bytes_eq (code_name c) name) all_codes
-
-abbrev pub code_in : List ℕ → Option Code
-code_in name = if bytes_eq name (codes "simple_return") then Some Return else code_named name
-
 -- the mode behind a colon, Void where there is no colon
-unfoldable pub mode_named : List ℕ → Option Mode
-mode_named name = find (λ m. bytes_eq (mode_name m) name) named_modes
-
 abbrev pub mode_in : Option (List ℕ) → Option Mode
 mode_in None = Some Void
 mode_in (Some name) = mode_named name

@@ -39,38 +39,13 @@ pub fn cut(text: &[u8], byte: u8) -> (&[u8], Option<&[u8]>)
     }
 }
 
-/// The code with a name.
-fn code_named(name: &[u8]) -> Option<Code>
-    ensures { result ≡ spec.code_named name.now }
-{
-    Code::named(name)
-}
-
-/// The code with a name, `simple_return` being a return.
-pub fn code_in(name: &[u8]) -> Option<Code>
-    ensures { result ≡ spec.code_in name.now }
-{
-    if name == b"simple_return".as_slice() {
-        Some(Code::Return)
-    } else {
-        code_named(name)
-    }
-}
-
-/// The mode with a name.
-fn mode_named(name: &[u8]) -> Option<Mode>
-    ensures { result ≡ spec.mode_named name.now }
-{
-    Mode::named(name)
-}
-
 /// The mode behind a colon, or `Void` where there is no colon.
 fn mode_in(name: Option<&[u8]>) -> Option<Mode>
     ensures { result ≡ spec.mode_in (option_copied name.entry) }
 {
     match name {
         None => Some(Mode::Void),
-        Some(name) => mode_named(name),
+        Some(name) => Mode::named(name),
     }
 }
 
@@ -123,7 +98,7 @@ fn flagged_code_in(text: &[u8]) -> Option<Code>
     ensures { result ≡ spec.flagged_code_in text.now }
 {
     let (name, flags) = cut(text, b'/');
-    let code = code_in(name)?;
+    let code = Code::written(name)?;
     if flags_pass(code, flags) {
         Some(code)
     } else {

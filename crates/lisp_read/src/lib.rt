@@ -29,7 +29,7 @@ mod stack;
 mod tree;
 
 pub use expression::rtx_of_tree;
-pub use head::{are_flags, code_in, cut, head_words};
+pub use head::{are_flags, cut, head_words};
 pub use leaf::{below, quoted_name, uid_in};
 pub use read::{ReadRefusal, read_trees};
 pub use reader::MOST_OPEN;

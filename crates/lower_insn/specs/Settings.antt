@@ -13,6 +13,7 @@ use Rattle.rtx_tree.specs.declared.tree.Rtx.{Rtx}
 use Rattle.rtx_tree.specs.Registers.{pseudo}
 use Rattle.rtx_tree.specs.Tree.{head_of, kids_of, tree_of, reg_of}
 use Rattle.rtx_tree.specs.Patterns.{set_rtx}
+use Rattle.rtx_tree.specs.Code.{mode_or}
 use Rattle.md_operand.specs.Addresses.{is_legitimate_address}
 use Rattle.md_match.specs.Pattern.{placeholders, gives_number}
 use Rattle.md_recog.specs.Match.{Accepts, names_predicate}
@@ -79,11 +80,6 @@ abbrev pub refuses : Accepts → Rtx → Rtx → Bool
 refuses accepts p x =
     names_predicate (head_of p).code && not (accepts (head_of p).name x (head_of p).mode)
 
--- the mode of a new register for an operand: its own, or the placeholder's where it has none
-abbrev pub mode_or : Mode → Mode → Mode
-mode_or Void mode = mode
-mode_or own mode = own
-
 -- the new register holds the value, which is set before
 abbrev pub input_set : Mode → StandardOperand → ℕ → Prepared
 input_set mode operand next =
@@ -100,7 +96,8 @@ replaced_by Input mode operand next = Some (input_set mode operand next)
 replaced_by Target mode operand next = Some (target_moved mode operand next)
 replaced_by Fixed mode operand next = None
 
--- An operand with its placeholder. An instruction that is held, a move that lowering itself made,
+-- An operand with its placeholder. A new register has the operand's mode, or the placeholder's
+-- where it has none. An instruction that is held, a move that lowering itself made,
 -- gets no more registers.
 abbrev pub fitted_at : Accepts → Bool → StandardOperand → ℕ → Rtx → Option Prepared
 fitted_at accepts held operand next p =

@@ -33,15 +33,6 @@ fn refuses(desc: &Description, placeholder: &Rtx, x: &Rtx) -> bool
     names_predicate(placeholder.code) && !accepts(desc, placeholder, x)
 }
 
-fn mode_or(own: Mode, mode: Mode) -> Mode
-    ensures { result ≡ spec.mode_or own mode }
-{
-    match own {
-        Mode::Void => mode,
-        _ => own,
-    }
-}
-
 /// One operand more: a new register, which is set to it before.
 fn set_input(
     alloc: Global,
@@ -113,7 +104,7 @@ fn fit_at(
     if held {
         return Ok(None);
     }
-    let mode = mode_or(operand.mode, placeholder.mode);
+    let mode = operand.mode.or(placeholder.mode);
     replace(alloc, mode, operand, so_far)
 }
 

@@ -20,11 +20,12 @@ use Rattle.std_name.specs.declared.standard.Standard.{Standard}
 use Rattle.std_name.specs.Names.{standard_of}
 use Rattle.lower_insn.specs.declared.part.Plan.{Plan}
 use Rattle.lower_insn.specs.declared.part.Prepared.{Prepared}
-use Rattle.lower_insn.specs.Settings.{unchanged, joined, address_set, addressed_by, addressed_one, addressed, placeholder_of, refuses, mode_or, input_set, target_moved, replaced_by, fitted_at, fitted_one, fitted}
+use Rattle.lower_insn.specs.Settings.{unchanged, joined, address_set, addressed_by, addressed_one, addressed, placeholder_of, refuses, input_set, target_moved, replaced_by, fitted_at, fitted_one, fitted}
 use Rattle.lower_insn.specs.Plan.{form_for, patterns_at, is_move, behind_addresses, prepared_for, plan, planned_by, planned_as, planned}
 use Rattle.insn_keep.proofs.pass_ready.Places.{all_joined}
 use Rattle.lower_keep.proofs.Keeping.{Keeps, AllKeep, parts_keep, other_parts, set_keeps, pseudo_keeps}
 use Rattle.lower_keep.proofs.Standard.{Good, AllGood, GoodStandard, good_standard}
+use Rattle.rtx_tree.specs.Code.{mode_or}
 
 -- ---- what may be none
 

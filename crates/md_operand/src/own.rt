@@ -1,6 +1,5 @@
 //! The predicates that every description has.
 ghost use Rattle.std.specs.Prelude.{◌≡◌};
-ghost use Rattle.std.specs.Str.{bytes_eq};
 ghost use Rattle.md_operand.specs.declared.own.Own.TheVariants as owns;
 ghost use Rattle.md_operand.specs.Operand as spec;
 
@@ -93,50 +92,34 @@ fn general_operand(mode: Mode, x: &Rtx) -> bool
     register_operand(mode, x) || (immediate_operand(mode, x) || memory_operand(mode, x))
 }
 
-/// Whether a name is a word. Both are short, so that each byte is looked at by itself.
-#[tactic(auto, using(crate::proofs::Bytes::other_length, crate::proofs::Bytes::other_byte, crate::proofs::Bytes::same_to_end))]
-fn is(name: &[u8], word: &[u8]) -> bool
-    ensures { result ≡ bytes_eq name.now word.now }
-{
-    if name.len() != word.len() {
-        return false;
-    }
-    for i in 0..name.len() {
-        if name[i] != word[i] {
-            return false;
-        }
-    }
-    true
-}
-
 impl Own {
     /// The predicate with a name.
     pub fn named(name: &[u8]) -> Option<Own>
         ensures { result ≡ spec.own_named name.now }
     {
-        if is(name, b"") {
+        if name == b"".as_slice() {
             Some(Own::Anything)
-        } else if is(name, b"register_operand") {
+        } else if name == b"register_operand".as_slice() {
             Some(Own::Register)
-        } else if is(name, b"const_int_operand") {
+        } else if name == b"const_int_operand".as_slice() {
             Some(Own::ConstInt)
-        } else if is(name, b"immediate_operand") {
+        } else if name == b"immediate_operand".as_slice() {
             Some(Own::Immediate)
-        } else if is(name, b"memory_operand") {
+        } else if name == b"memory_operand".as_slice() {
             Some(Own::Memory)
-        } else if is(name, b"nonimmediate_operand") {
+        } else if name == b"nonimmediate_operand".as_slice() {
             Some(Own::Nonimmediate)
-        } else if is(name, b"nonmemory_operand") {
+        } else if name == b"nonmemory_operand".as_slice() {
             Some(Own::Nonmemory)
-        } else if is(name, b"general_operand") {
+        } else if name == b"general_operand".as_slice() {
             Some(Own::General)
-        } else if is(name, b"address_operand") {
+        } else if name == b"address_operand".as_slice() {
             Some(Own::Address)
-        } else if is(name, b"comparison_operator") {
+        } else if name == b"comparison_operator".as_slice() {
             Some(Own::Comparison)
-        } else if is(name, b"ordered_comparison_operator") {
+        } else if name == b"ordered_comparison_operator".as_slice() {
             Some(Own::OrderedComparison)
-        } else if is(name, b"frame_operand") {
+        } else if name == b"frame_operand".as_slice() {
             Some(Own::Frame)
         } else {
             None

@@ -11,7 +11,7 @@ use Rattle.rtx_tree.specs.declared.code.Code.TheVariants.{Reg, ConstInt, SymbolR
 use Rattle.rtx_tree.specs.declared.code.Code.TheVariants.{Eq, Ne, Lt, Ge, Gt, Le}
 use Rattle.rtx_tree.specs.declared.code.Code.TheVariants.{Ltu, Geu, Gtu, Leu}
 use Rattle.rtx_tree.specs.declared.tree.Rtx.{Rtx, out-Rtx}
-use Rattle.rtx_tree.specs.Code.{class_of_code, code_name}
+use Rattle.rtx_tree.specs.Code.{class_of_code, code_name, reversed}
 use Rattle.rv_text.specs.Body.{label_text}
 use Rattle.md_text.specs.declared.template.Print.{Print}
 use Rattle.md_text.specs.declared.template.Print.TheVariants as print
@@ -61,20 +61,6 @@ comparison_at _ code = quote
 -- %C0: the code of a comparison
 abbrev pub comparison_text : Rtx → List ℕ
 comparison_text x = comparison_at (class_of_code (out-Rtx x).code) (out-Rtx x).code
-
--- the comparison that holds exactly where another doesn't
-abbrev pub reversed : Code → Option Code
-reversed Eq = Some Ne
-reversed Ne = Some Eq
-reversed Lt = Some Ge
-reversed Ge = Some Lt
-reversed Gt = Some Le
-reversed Le = Some Gt
-reversed Ltu = Some Geu
-reversed Geu = Some Ltu
-reversed Gtu = Some Leu
-reversed Leu = Some Gtu
-reversed _ = None
 
 abbrev pub name_or_quote : Option Code → List ℕ
 name_or_quote None = quote

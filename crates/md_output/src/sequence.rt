@@ -71,30 +71,11 @@ fn print_comparison(x: &Rtx, out: &mut Vec<u8>) -> Result<(), Memory>
     }
 }
 
-/// The comparison that holds exactly where another doesn't.
-fn reversed(code: Code) -> Option<Code>
-    ensures { result ≡ spec.reversed code }
-{
-    match code {
-        Code::Eq => Some(Code::Ne),
-        Code::Ne => Some(Code::Eq),
-        Code::Lt => Some(Code::Ge),
-        Code::Ge => Some(Code::Lt),
-        Code::Gt => Some(Code::Le),
-        Code::Le => Some(Code::Gt),
-        Code::Ltu => Some(Code::Geu),
-        Code::Geu => Some(Code::Ltu),
-        Code::Gtu => Some(Code::Leu),
-        Code::Leu => Some(Code::Gtu),
-        _ => None,
-    }
-}
-
 /// Prints the code of the reverse of a comparison.
 fn print_reversed(x: &Rtx, out: &mut Vec<u8>) -> Result<(), Memory>
     ensures { OnOk result (out.new.items ≡ out.old.items ++ spec.reversed_text x.now) }
 {
-    match reversed(x.code) {
+    match x.code.reversed() {
         Some(code) => print_text(code.name().as_bytes(), out),
         None => print_quote(out),
     }

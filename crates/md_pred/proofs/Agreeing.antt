@@ -11,7 +11,8 @@ use Rattle.pred_expr.specs.declared.question.Test.{Test, roll-Test}
 use Rattle.pred_expr.specs.declared.question.Test.TheOpen.{Test-F}
 use Rattle.pred_expr.specs.declared.question.Test.TheFolds.{fold-roll-Test, ind-Test}
 use Rattle.pred_expr.specs.Test.{predicate_of, predicates_step, predicates_of}
-use Rattle.pred_rows.specs.Tests.{Accepts, answer, mode_or, test_step, test_holds}
+use Rattle.pred_rows.specs.Tests.{Accepts, answer, test_step, test_holds}
+use Rattle.rtx_tree.specs.Code.{mode_or}
 
 -- two answers for each predicate that passes a test are the same
 abbrev pub AgreeOn : (List ℕ → Bool) → Accepts → Accepts → Type 0

@@ -14,7 +14,7 @@ use crate::step::{At, Step};
 use crate::table::PredTable;
 use md_forms::FormHead;
 use md_operand::{Own, has_mode, is_constant};
-use pred_rows::{Node, condition_holds, has_code, mode_or};
+use pred_rows::{Node, condition_holds, has_code};
 use rtx_tree::{Mode, Name, Rtx};
 
 /// Whether a tree has the mode, or is a constant, which has none.
@@ -197,7 +197,7 @@ impl PredTable {
             Node::Codes(codes) => Step::Answer(has_code(codes.as_slice(), x)),
             Node::Condition(heads) => Step::Answer(condition_holds(heads.as_slice(), x)),
             Node::Predicate { name, mode } => {
-                self.asked(name, x, mode_or(*mode, at.mode), at.rounds)
+                self.asked(name, x, mode.or(at.mode), at.rounds)
             }
             Node::And(a, b) => self.lighter_first(at, *a, *b, false, x),
             Node::Ior(a, b) => self.lighter_first(at, *a, *b, true, x),

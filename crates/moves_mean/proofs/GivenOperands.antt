@@ -18,7 +18,7 @@ use Rattle.md_match.specs.Pattern.{Ops}
 use Rattle.md_match.specs.Match.{MatchesOne}
 use Rattle.reload_homes.specs.Homes.{home_of, slot_offset, homed}
 use Rattle.reload_operands.specs.Bases.{base_of}
-use Rattle.reload_operands.specs.Operands.{numbers_of, giver, mode_or, operand_for, at_both, operand_with, operands_of}
+use Rattle.reload_operands.specs.Operands.{numbers_of, giver, operand_for, at_both, operand_with, operands_of}
 use Rattle.reload_operands.specs.declared.operand.Base.{Base}
 use Rattle.reload_operands.specs.declared.operand.Operand.{Operand}
 use Rattle.moves_mean.proofs.FoundParts.{operand_has}
@@ -26,6 +26,7 @@ use Rattle.moves_mean.proofs.GivenBases.{based_there, mode_there}
 use Rattle.moves_mean.proofs.HomedQuiet.{HasQuietHomes, homed_quiet}
 use Rattle.moves_mean.proofs.OnRegister.{IsOperand}
 use Rattle.moves_mean.proofs.SmallTrees.{natural_out, or_second, stands_part}
+use Rattle.rtx_tree.specs.Code.{mode_or}
 
 -- ---- an item of lists that are put together
 

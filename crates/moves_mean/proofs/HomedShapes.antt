@@ -6,7 +6,7 @@ use Rattle.std.specs.List.{AllByRecursion, list_all}
 use Rattle.std.specs.Ordering.{int_eq}
 use Rattle.std.specs.Prelude.{ℤ, pos, nat_le}
 use Rattle.rtx_tree.proofs.Trees.{head_of-tree, kids_of-tree}
-use Rattle.rtx_tree.specs.Code.{class_of_code, is_place_class, is_value_class, is_effect_class}
+use Rattle.rtx_tree.specs.Code.{class_of_code, is_place_class, is_value_class, is_effect_class, mode_bits}
 use Rattle.rtx_tree.specs.Tree.{RtxHead, head_of, kids_of, tree_of, node_of, reg_of, const_of}
 use Rattle.rtx_tree.specs.declared.class.Class.{Class}
 use Rattle.rtx_tree.specs.declared.class.Class.TheVariants as class
@@ -16,7 +16,7 @@ use Rattle.rtx_tree.specs.declared.code.Mode.{Mode}
 use Rattle.rtx_tree.specs.declared.code.Mode.TheVariants.{Void, DI}
 use Rattle.rtx_tree.specs.declared.tree.Rtx.{Rtx, out-Rtx, roll-Rtx, out-roll-Rtx}
 use Rattle.rtx_tree.specs.declared.tree.Rtx.TheOpen.{Rtx-F}
-use Rattle.rtl_func.specs.Shapes.{class_at, mode_at, number_at, mode_bits, has_mode, same_mode, is_narrower, is_constant_class, is_constant, is_place, is_value, is_effect, is_operand, is_some_operand, is_moded, are_compared, is_register_number, is_jump_source_class, is_counter_class, is_comparison_class, is_label_class, is_call_class, is_memory_class, is_scratch_class, is_set_to, fits_none, fits_one, is_called, fits_two, is_choice, fits_three, fits_parts, fits_row, is_bare, is_shaped}
+use Rattle.rtl_func.specs.Shapes.{class_at, mode_at, number_at, has_mode, same_mode, is_narrower, is_constant_class, is_constant, is_place, is_value, is_effect, is_operand, is_some_operand, is_moded, are_compared, is_register_number, is_jump_source_class, is_counter_class, is_comparison_class, is_label_class, is_call_class, is_memory_class, is_scratch_class, is_set_to, fits_none, fits_one, is_called, fits_two, is_choice, fits_three, fits_parts, fits_row, is_bare, is_shaped}
 use Rattle.sym_insns.specs.Shape.{all_natural}
 use Rattle.assign.specs.declared.home.Home.{Home}
 use Rattle.assign.specs.declared.home.Home.TheVariants.{Hard, Slot}

@@ -17,7 +17,7 @@ use Rattle.rtx_tree.specs.declared.machine.SymbolAt.{SymbolAt}
 use Rattle.rtx_tree.specs.declared.memories.MemByte.{MemByte}
 use Rattle.rtx_tree.specs.declared.tree.Rtx.{Rtx, out-Rtx}
 use Rattle.run_memory.specs.RunMemory.{load}
-use Rattle.rtl_func.specs.Shapes.{class_at, mode_at, number_at, has_mode, same_mode, mode_bits, is_constant, is_constant_class, is_value, is_operand, is_some_operand, is_moded, are_compared, is_narrower, is_bare, fits_row, fits_one, fits_two, is_shaped}
+use Rattle.rtl_func.specs.Shapes.{class_at, mode_at, number_at, has_mode, same_mode, is_constant, is_constant_class, is_value, is_operand, is_some_operand, is_moded, are_compared, is_narrower, is_bare, fits_row, fits_one, fits_two, is_shaped}
 use Rattle.rtl_func.proofs.AllPass as nodes
 use Rattle.rtl_func.proofs.AllPass.{all_pass}
 use Rattle.rtl_step.specs.Regs.{Regs}
@@ -27,6 +27,7 @@ use Rattle.moves_mean.specs.Places.{AtOnePlace, first, later, StandsFor, itself,
 use Rattle.moves_mean.proofs.NewTrees.{is_lowpart_class, is_lowpart, is_whole, whole_low}
 use Rattle.moves_mean.proofs.Readings.{IsOwn, same_width, moded, constant_modeless, own_here}
 use Rattle.moves_mean.proofs.ReadTrees.{read_in}
+use Rattle.rtx_tree.specs.Code.{mode_bits}
 
 -- ---- options
 

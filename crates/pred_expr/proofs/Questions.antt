@@ -9,7 +9,7 @@ use Rattle.c_cond.specs.c_words.declared.atom.Dialect.TheVariants as dialect
 use Rattle.c_cond.specs.declared.tree.Tree as c_tree
 use Rattle.c_cond.specs.Grammar.{IsText, Condition}
 use Rattle.md_pattern.specs.lisp_read.declared.tree.Tree.{Tree}
-use Rattle.md_pattern.specs.lisp_read.Head.{code_in, mode_of_head}
+use Rattle.md_pattern.specs.lisp_read.Head.{mode_of_head}
 use Rattle.md_pattern.specs.lisp_read.Shape.{string_of}
 use Rattle.md_text.specs.Lists.{members}
 use Rattle.md_text.specs.Lists as lists
@@ -25,6 +25,7 @@ use Rattle.pred_expr.specs.declared.test.TestKind.{TestKind}
 use Rattle.pred_expr.specs.declared.test.TestKind.TheVariants as kind
 use Rattle.pred_expr.specs.Test.{text_in, predicate_in, each, test_of}
 use Rattle.pred_expr.specs.HasReason.{kinds_of, HasReason}
+use Rattle.rtx_tree.specs.Code.{code_in}
 
 -- a tree gives the smallest of its reasons
 abbrev pub Least : List Constant → Tree → Type 0

@@ -7,7 +7,7 @@ use Rattle.c_cond.specs.c_words.declared.atom.Dialect.TheVariants as dialect
 use Rattle.c_cond.specs.declared.tree.Tree as c_tree
 use Rattle.c_cond.specs.Grammar.{IsText, Condition}
 use Rattle.md_pattern.specs.lisp_read.declared.tree.Tree.{Tree}
-use Rattle.md_pattern.specs.lisp_read.Head.{code_in, mode_of_head}
+use Rattle.md_pattern.specs.lisp_read.Head.{mode_of_head}
 use Rattle.md_text.specs.Lists.{members}
 use Rattle.md_pattern.specs.declared.reason.Reason.{Reason}
 use Rattle.md_pattern.specs.declared.reason.Reason.TheVariants as reason
@@ -15,6 +15,7 @@ use Rattle.md_pattern.specs.HasReason.{PartKind, are_kinds, expressions_among, I
 use Rattle.pred_expr.specs.declared.test.TestKind.{TestKind}
 use Rattle.pred_expr.specs.declared.test.TestKind.TheVariants as kind
 use Rattle.pred_expr.specs.Test.{kind_of, text_in}
+use Rattle.rtx_tree.specs.Code.{code_in}
 
 -- the kinds of the trees behind the word of a test, place by place: the codes, or the condition;
 -- the operand's number, its predicate, and a constraint, which may lack; other tests

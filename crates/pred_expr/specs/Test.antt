@@ -15,7 +15,7 @@ use Rattle.md_pattern.specs.lisp_read.declared.tree.Tree.{Tree}
 use Rattle.md_pattern.specs.lisp_read.declared.tree.Tree.TheOpen.{Tree-F}
 use Rattle.md_pattern.specs.lisp_read.declared.tree.Tree.TheFolds.{fold-Tree}
 use Rattle.md_pattern.specs.lisp_read.Shape.{atom_of, string_of, items_of}
-use Rattle.md_pattern.specs.lisp_read.Head.{code_in, code_of_head, mode_of_head}
+use Rattle.md_pattern.specs.lisp_read.Head.{code_of_head, mode_of_head}
 use Rattle.md_pattern.specs.lisp_read.Expression.{inside_at, inside_of}
 use Rattle.md_text.specs.Lists.{members}
 use Rattle.md_text.specs.Lists as lists
@@ -33,6 +33,7 @@ use Rattle.pred_expr.specs.declared.question.Test.TheFolds.{fold-Test}
 use Rattle.pred_expr.specs.declared.test.TestKind.{TestKind}
 use Rattle.pred_expr.specs.declared.test.TestKind.TheVariants as kind
 use Rattle.pred_expr.specs.Texts.{test_condition_of}
+use Rattle.rtx_tree.specs.Code.{code_in}
 
 abbrev pub test_with : Question → List Test → Test
 test_with q parts = roll-Test (record { question = q; parts = parts })

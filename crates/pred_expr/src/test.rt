@@ -1,7 +1,7 @@
 //! Reads a test from its tree.
 ghost use Rattle.std.specs.Prelude.{◌≡◌, ◌↔◌, ℕ, List, ◌∷◌, [], ◌++◌, IfOk, map};
 ghost use Rattle.std.specs.Option.{option_copied};
-ghost use Rattle.md_pattern.specs.lisp_read.Head.{code_in, mode_of_head};
+ghost use Rattle.md_pattern.specs.lisp_read.Head.{mode_of_head};
 ghost use Rattle.md_pattern.specs.lisp_read.Shape.{atom_of};
 ghost use Rattle.md_text.specs.Lists as lists;
 ghost use Rattle.md_pattern.specs.Reason.{judged_with, IsSmallest};
@@ -13,10 +13,11 @@ ghost use Rattle.pred_expr.specs.declared.question.Test.{Test};
 ghost use Rattle.pred_expr.specs.HasReason.{HasReason};
 ghost use Rattle.pred_expr.specs.Test as spec;
 ghost use Rattle.pred_expr.specs.Texts as texts;
+ghost use Rattle.rtx_tree.specs.Code.{code_in};
 
 use crate::question::{Codes, Question, Test, Tests};
 use crate::texts::test_condition;
-use lisp_read::{Tree, atom, code_in, head_words, items, string};
+use lisp_read::{Tree, atom, head_words, items, string};
 use md_pattern::{Judged, Reason, both, number_in};
 use md_text::members_of;
 use plain_data::{Items, Memory};
@@ -93,7 +94,7 @@ fn codes_named(alloc: Global, names: &[Name]) -> Result<Option<Codes>, Memory>
 {
     let mut codes = Items::new(alloc);
     for name in names {
-        match code_in(name.bytes()) {
+        match Code::written(name.bytes()) {
             Some(code) => codes.push(code)?,
             None => return Ok(None),
         }

@@ -6,6 +6,7 @@ use Rattle.rtx_tree.specs.declared.code.Code.{Code}
 use Rattle.rtx_tree.specs.declared.code.Mode.{Mode}
 use Rattle.rtx_tree.specs.declared.code.Mode.TheVariants.{Void}
 use Rattle.rtx_tree.specs.declared.tree.Rtx.{Rtx}
+use Rattle.rtx_tree.specs.Code.{mode_or}
 use Rattle.c_cond.specs.declared.tree.Tree.{Tree}
 use Rattle.c_eval.specs.Numbers.{is_zero}
 use Rattle.c_eval.specs.Value.{is_a, under_test, worth}
@@ -29,13 +30,9 @@ has_code cs x = list_any (λ c. is_a c x) cs
 abbrev pub condition_holds : Tree → Rtx → Bool
 condition_holds c x = not (is_zero (worth (under_test x) c))
 
--- the mode in which an inner predicate is asked: its own, or that of the call where it has none
-abbrev pub mode_or : Mode → Mode → Mode
-mode_or Void call = call
-mode_or own call = own
-
 -- The answer to a question about an operand in a mode, with the answers to its parts. No question
--- has other parts than these.
+-- has other parts than these. An inner predicate is asked in its own mode, or in that of the call
+-- where it has none.
 abbrev pub answer : Accepts → Rtx → Mode → Question → List Bool → Bool
 answer accepts x m (question.Codes cs) [] = has_code cs x
 answer accepts x m (question.Condition c) [] = condition_holds c x

@@ -23,16 +23,6 @@ pub fn condition_holds(heads: &[CondHead], x: &Rtx) -> bool
     test_worth(heads, x) != 0
 }
 
-/// The mode in which an inner predicate is asked: its own, or that of the call where it has none.
-pub fn mode_or(own: Mode, call: Mode) -> Mode
-    ensures { result ≡ spec.mode_or own call }
-{
-    match own {
-        Mode::Void => call,
-        Mode::QI | Mode::HI | Mode::SI | Mode::DI => own,
-    }
-}
-
 /// Whether the test whose root stands at a place holds.
 #[cycle(asked)]
 pub fn holds_at<P: Preds>(nodes: &[Node], root: usize, preds: &P, x: &Rtx, mode: Mode) -> bool
@@ -53,7 +43,7 @@ fn node_answer<P: Preds>(before: &[Node], node: &Node, preds: &P, x: &Rtx, mode:
     match node {
         Node::Codes(codes) => has_code(codes.as_slice(), x),
         Node::Condition(heads) => condition_holds(heads.as_slice(), x),
-        Node::Predicate { name, mode: own } => preds.holds(name, x, mode_or(*own, mode)),
+        Node::Predicate { name, mode: own } => preds.holds(name, x, own.or(mode)),
         Node::And(a, b) => {
             holds_at(before, *a, preds, x, mode) && holds_at(before, *b, preds, x, mode)
         }

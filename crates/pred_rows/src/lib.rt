@@ -10,6 +10,6 @@ mod asked;
 mod node;
 mod row;
 
-pub use asked::{condition_holds, has_code, mode_or};
+pub use asked::{condition_holds, has_code};
 pub use node::{Heads, Node, Nodes};
 pub use row::TestRows;

@@ -10,8 +10,8 @@ use Rattle.rtx_tree.specs.declared.code.Mode.{Mode}
 use Rattle.rtx_tree.specs.declared.code.Mode.TheVariants.{DI}
 use Rattle.rtx_tree.specs.declared.tree.Rtx.{Rtx}
 use Rattle.rtl_func.specs.Effects.{changed_by, changed_register, is_stack_register}
-use Rattle.rtx_tree.specs.Code.{is_place_class, is_value_class}
-use Rattle.rtl_func.specs.Shapes.{class_at, mode_at, number_at, has_mode, mode_bits, is_value, is_constant, is_constant_class, is_operand, is_some_operand, is_moded, is_true_register, is_call_class, is_counter_class, is_jump_source_class, is_comparison_class, is_label_class, is_memory_class, is_scratch_class, is_called, is_choice, are_compared, is_bare, fits_one, fits_two, fits_three, fits_row, is_shaped}
+use Rattle.rtx_tree.specs.Code.{is_place_class, is_value_class, mode_bits}
+use Rattle.rtl_func.specs.Shapes.{class_at, mode_at, number_at, has_mode, is_value, is_constant, is_constant_class, is_operand, is_some_operand, is_moded, is_true_register, is_call_class, is_counter_class, is_jump_source_class, is_comparison_class, is_label_class, is_memory_class, is_scratch_class, is_called, is_choice, are_compared, is_bare, fits_one, fits_two, fits_three, fits_row, is_shaped}
 use Rattle.rtl_func.proofs.AllPass.{all_pass, pass_out, itself, within}
 use Rattle.homes_mean.proofs.Trees.{tree_induction}
 

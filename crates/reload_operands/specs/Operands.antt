@@ -10,6 +10,7 @@ use Rattle.rtx_tree.specs.declared.code.Mode.TheVariants.{Void}
 use Rattle.rtx_tree.specs.declared.tree.Rtx.{Rtx}
 use Rattle.rtx_tree.specs.Operands.{operand_at}
 use Rattle.rtx_tree.specs.Tree.{head_of}
+use Rattle.rtx_tree.specs.Code.{mode_or}
 use Rattle.md_operand.specs.declared.own.Own.{Own}
 use Rattle.md_operand.specs.declared.own.Own.TheVariants as owns
 use Rattle.md_operand.specs.Operand.{own_named}
@@ -66,11 +67,6 @@ is_operator_code _ = false
 abbrev pub is_address_predicate : Option Own → Bool
 is_address_predicate (Some owns.Address) = true
 is_address_predicate _ = false
-
--- an operand's own mode, or else that of its placeholder; where neither has one, there is none
-abbrev pub mode_or : Mode → Mode → Mode
-mode_or Void other = other
-mode_or own other = own
 
 -- ---- an operand, and all of them
 

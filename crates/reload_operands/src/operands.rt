@@ -20,15 +20,6 @@ use reload_homes::with_homes;
 use rtx_tree::{Code, Mode, Operands, Rtx};
 use std::alloc::Global;
 
-fn mode_or(own: Mode, other: Mode) -> Mode
-    ensures { result ≡ spec.mode_or own other }
-{
-    match own {
-        Mode::Void => other,
-        Mode::QI | Mode::HI | Mode::SI | Mode::DI => own,
-    }
-}
-
 fn is_operator(placeholder: &Rtx) -> bool
     ensures { result ≡ spec.is_operator_code (head_of placeholder.now).code }
 {
@@ -71,7 +62,7 @@ fn operand_for(
     Ok(Operand {
         number,
         tree,
-        mode: mode_or(x.mode, placeholder.mode),
+        mode: x.mode.or(placeholder.mode),
         is_operator: is_operator(placeholder),
         is_scratch: is_scratch(x),
         is_address: is_address(placeholder),

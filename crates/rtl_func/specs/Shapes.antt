@@ -4,7 +4,7 @@
 use Rattle.std.specs.Prelude.{ℕ, ◌||◌, ◌&&◌, ◌==◌, nat_le, nat_lt, not, Bool, true, false, List, [], ◌∷◌}
 use Rattle.std.specs.Int.{cast_unsigned, w64}
 use Rattle.std.specs.List.{list_all}
-use Rattle.rtx_tree.specs.Code.{class_of_code, is_value_class, is_place_class, is_effect_class}
+use Rattle.rtx_tree.specs.Code.{class_of_code, is_value_class, is_place_class, is_effect_class, mode_bits}
 use Rattle.rtx_tree.specs.declared.code.Mode.{Mode}
 use Rattle.rtx_tree.specs.declared.code.Mode.TheVariants.{Void, QI, HI, SI, DI}
 use Rattle.rtx_tree.specs.declared.tree.Rtx.{Rtx, out-Rtx}
@@ -22,14 +22,6 @@ abbrev pub number_at : Rtx → ℕ
 number_at x = cast_unsigned w64 (out-Rtx x).number
 
 -- ---- modes
-
--- the bits of a mode; no mode has none
-abbrev pub mode_bits : Mode → ℕ
-mode_bits Void = 0
-mode_bits QI = 8
-mode_bits HI = 16
-mode_bits SI = 32
-mode_bits DI = 64
 
 abbrev pub has_mode : Mode → Bool
 has_mode mode = nat_lt 0 (mode_bits mode)

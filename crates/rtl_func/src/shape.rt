@@ -12,36 +12,24 @@ pub fn class_at(x: &Rtx) -> Class
     x.code.class()
 }
 
-fn mode_bits(mode: Mode) -> u32
-    ensures { result ≡ spec.mode_bits mode }
-{
-    match mode {
-        Mode::Void => 0,
-        Mode::QI => 8,
-        Mode::HI => 16,
-        Mode::SI => 32,
-        Mode::DI => 64,
-    }
-}
-
 /// Whether a mode is one.
 pub fn has_mode(mode: Mode) -> bool
     ensures { result ≡ spec.has_mode mode }
 {
-    0 < mode_bits(mode)
+    0 < mode.bits()
 }
 
 /// Whether two modes are the same.
 pub fn same_mode(a: Mode, b: Mode) -> bool
     ensures { result ≡ spec.same_mode a b }
 {
-    mode_bits(a) == mode_bits(b)
+    a.bits() == b.bits()
 }
 
 fn is_narrower(a: Mode, b: Mode) -> bool
     ensures { result ≡ spec.is_narrower a b }
 {
-    has_mode(a) && mode_bits(a) < mode_bits(b)
+    has_mode(a) && a.bits() < b.bits()
 }
 
 /// Whether a tree is a constant.
@@ -199,7 +187,7 @@ fn fits_two(row: Class, mode: Mode, a: &Rtx, b: &Rtx) -> bool
     match row {
         Class::Binary => has_mode(mode) && (is_operand(mode, a) && is_operand(mode, b)),
         Class::Shift => has_mode(mode) && (is_operand(mode, a) && is_some_operand(b)),
-        Class::Comparison => (!has_mode(mode) || 32 <= mode_bits(mode)) && are_compared(a, b),
+        Class::Comparison => (!has_mode(mode) || 32 <= mode.bits()) && are_compared(a, b),
         Class::Setting => !has_mode(mode) && is_set_to(a, b),
         Class::Call => !has_mode(mode) && is_called(a, b),
         _ => false,

@@ -23,13 +23,14 @@ use Rattle.lisp_read.proofs.Decodes.{nested}
 use Rattle.lisp_read.proofs.PartLemmas.{parts_of-Atom, parts_of-Str}
 use Rattle.tree_print.specs.Print.{nowhere, AreAdmitted}
 use Rattle.tree_print.proofs.Nested.{parts_of_nested}
-use Rattle.rtl_print.specs.Print.{head_text, printed_reg_at, starred}
+use Rattle.rtl_print.specs.Print.{head_text, starred}
 use Rattle.rtl_print.proofs.Atoms.{word_is_atom, head_is_atom, decimal_is_atom, number_is_atom, register_is_atom, starred_is_quoted}
 use Rattle.rtl_print.proofs.Induction.{Holds, EachAt, Elements, holds_of_each}
 use Rattle.rtl_print.proofs.Positions.{parts_positions}
 use Rattle.rtl_print.proofs.ReadCases.{Leaf}
 use Rattle.rtl_print.proofs.Words.{label_written}
 use Rattle.rtl_print.proofs.Written.{atom, string, list, vector, written, written_of, label_tree, parts_by}
+use Rattle.rtx_tree.specs.Registers.{register_text}
 
 unfoldable pub Admitted : Tree → Type 0
 Admitted t = AreAdmitted (parts_of t)
@@ -76,7 +77,7 @@ leaf : (p : Position) (h : Opening) (t : Tree) (x : Rtx) → Leaf p h t x → Ad
 leaf p h t x (Leaf.register r c is fits same) =
     subst (λ (y : Rtx). Admitted (written y)) (sym same)
     (subst Admitted (sym (written_of (record { code = code.Reg; mode = h.mode; number = pos r; name = [] }) []))
-    (list_admitted _ (atom_admitted (head_text code.Reg h.mode) (head_is_atom code.Reg h.mode), (atom_admitted (printed_reg_at r) (register_is_atom r is), tt))))
+    (list_admitted _ (atom_admitted (head_text code.Reg h.mode) (head_is_atom code.Reg h.mode), (atom_admitted (register_text r) (register_is_atom r is), tt))))
 leaf p h t x (Leaf.number n c fits same) =
     subst (λ (y : Rtx). Admitted (written y)) (sym same)
     (subst Admitted (sym (written_of (record { code = code.ConstInt; mode = mode.Void; number = n; name = [] }) []))

@@ -16,9 +16,10 @@ use Rattle.lisp_read.specs.declared.class.ByteClass.TheVariants as class
 use Rattle.lisp_read.specs.declared.class.Bracket.TheVariants.{Round, Square}
 use Rattle.lisp_read.specs.Class.{class_of, is_atom_class, in_quotes}
 use Rattle.lisp_read.specs.Text.{Each, IsAtom, IsQuoted}
-use Rattle.rtl_print.specs.Print.{head_text, printed_reg_at, starred}
+use Rattle.rtl_print.specs.Print.{head_text, starred}
 use Rattle.rtl_print.proofs.Numbers.{and_true}
 use Rattle.rtl_print.proofs.Registers.{IsRegister, one_below}
+use Rattle.rtx_tree.specs.Registers.{register_text}
 
 -- ---- words
 
@@ -102,18 +103,18 @@ pub number_is_atom : (z : ℤ) → fits_i64 z ≡ true → IsAtom (signed_decima
 number_is_atom (pos n) h = decimal_is_atom n (grind (arith, nat_tests))
 number_is_atom (negsuc n) h = word_is_atom (45 ∷ decimal (suc n)) (word_bytes (decimal (suc n)) (decimal_word (suc n) (grind (arith, nat_tests))))
 
-low_word : (r : ℕ) → r < 33 → is_plain_word (printed_reg_at r) ≡ true
-low_word r less = one_below 33 (λ (k : ℕ). is_plain_word (printed_reg_at k)) r refl less
+low_word : (r : ℕ) → r < 33 → is_plain_word (register_text r) ≡ true
+low_word r less = one_below 33 (λ (k : ℕ). is_plain_word (register_text k)) r refl less
 
-high_word : (r : ℕ) → 64 ≤ r → r < 2147483712 → is_plain_word (printed_reg_at r) ≡ true
+high_word : (r : ℕ) → 64 ≤ r → r < 2147483712 → is_plain_word (register_text r) ≡ true
 high_word r low high =
     let hard : nat_lt r 32 ≡ false = grind (arith, nat_tests) in
     let stack : nat_lt r 64 ≡ false = grind (arith, nat_tests) in
     rw (hard, stack) (all_more (decimal (r - 64)) (62 ∷ []) (word_bytes (decimal (r - 64)) (decimal_word (r - 64) (omega arith))) refl)
 
-pub register_is_atom : (r : ℕ) → IsRegister r → IsAtom (printed_reg_at r)
-register_is_atom r (inl less) = word_is_atom (printed_reg_at r) (low_word r less)
-register_is_atom r (inr within) = word_is_atom (printed_reg_at r) (high_word r within.0 within.1)
+pub register_is_atom : (r : ℕ) → IsRegister r → IsAtom (register_text r)
+register_is_atom r (inl less) = word_is_atom (register_text r) (low_word r less)
+register_is_atom r (inr within) = word_is_atom (register_text r) (high_word r within.0 within.1)
 
 -- ---- names
 

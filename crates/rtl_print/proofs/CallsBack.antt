@@ -11,9 +11,8 @@ use Rattle.rtx_tree.specs.Tree.{node_of}
 use Rattle.lisp_read.specs.declared.head.Opening.{Opening}
 use Rattle.lisp_read.specs.declared.position.Position.TheVariants.{Pattern}
 use Rattle.lisp_read.specs.declared.tree.Tree.{Tree}
-use Rattle.rtx_tree.specs.Code.{class_of_code}
+use Rattle.rtx_tree.specs.Code.{class_of_code, code_named, code_in}
 use Rattle.lisp_read.specs.Expression.{head_is, placed, read_at}
-use Rattle.lisp_read.specs.Head.{code_named, code_in}
 use Rattle.lisp_read.specs.Parsed.{stands, parsed_map, each_parsed}
 use Rattle.lisp_read.specs.Positions.{admits, mode_at}
 use Rattle.lisp_read.specs.Shape.{items_of, vector_at, vector_of, is_vector_at, is_vector}

@@ -5,8 +5,9 @@ use Rattle.rtx_tree.specs.declared.code.Code.TheVariants as code
 use Rattle.rtx_tree.specs.declared.code.Mode.{Mode}
 use Rattle.rtx_tree.specs.declared.code.Mode.TheVariants as mode
 use Rattle.lisp_read.specs.declared.head.Opening.{Opening}
-use Rattle.lisp_read.specs.Head.{code_named, mode_named, head_in}
+use Rattle.lisp_read.specs.Head.{head_in}
 use Rattle.rtl_print.specs.Print.{head_text}
+use Rattle.rtx_tree.specs.Code.{code_named, mode_named}
 
 abbrev pub head_with : Code → Mode → Opening
 head_with c m = record { code = c; mode = m }

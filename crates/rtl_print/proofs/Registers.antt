@@ -5,10 +5,9 @@ use Rattle.std.specs.Prelude.{nat_lt, nat_eq, option_map, option_and_then}
 use Rattle.std.specs.Option.{option_or}
 use Rattle.std.specs.List.{position_or_len}
 use Rattle.std.specs.Fmt.{decimal}
-use Rattle.rtx_tree.specs.Registers.{reg_names, number_of_reg, pseudo}
+use Rattle.rtx_tree.specs.Registers.{reg_names, number_of_reg, pseudo, register_text}
 use Rattle.text_words.specs.Words.{fits_i64, number_in}
 use Rattle.lisp_read.specs.Leaf.{below, angled_in, pseudo_in, stack_vars_in, hard_in, register_in}
-use Rattle.rtl_print.specs.Print.{printed_reg_at}
 use Rattle.rtl_print.proofs.Numbers.{number_again, below_less, if_some, and_true, then_some, map_some}
 
 -- a hard register or virtual-stack-vars, or a pseudo register that has a text
@@ -39,8 +38,8 @@ found : (r : ℕ) (o : Option ℕ) → is_found r o ≡ true → o ≡ Some r
 found r None h = cc
 found r (Some k) h = let same : k ≡ r = grind (arith, nat_tests, h) in ap (λ (j : ℕ). Some j) same
 
-low_again : (r : ℕ) → r < 33 → register_in (printed_reg_at r) ≡ Some r
-low_again r less = found r (register_in (printed_reg_at r)) (one_below 33 (λ (k : ℕ). is_found k (register_in (printed_reg_at k))) r refl less)
+low_again : (r : ℕ) → r < 33 → register_in (register_text r) ≡ Some r
+low_again r less = found r (register_in (register_text r)) (one_below 33 (λ (k : ℕ). is_found k (register_in (register_text k))) r refl less)
 
 -- ---- pseudo registers
 
@@ -70,14 +69,14 @@ pseudo_again k less =
     ap (λ (o : Option (List ℕ)). option_map pseudo (option_and_then (below 2147483648) (option_and_then number_in o))) (angled (decimal k))
     ∙ (ap (λ (o : Option _). option_map pseudo (option_and_then (below 2147483648) o)) (number_again (pos k) fits) ∙ rw small refl)
 
-high_again : (r : ℕ) → 64 ≤ r → r < 2147483712 → register_in (printed_reg_at r) ≡ Some r
+high_again : (r : ℕ) → 64 ≤ r → r < 2147483712 → register_in (register_text r) ≡ Some r
 high_again r low high =
     let hard : nat_lt r 32 ≡ false = grind (arith, nat_tests) in
     let stack : nat_lt r 64 ≡ false = grind (arith, nat_tests) in
     let is : 64 + (r - 64) ≡ r = omega arith in
     rw (hard, stack) (pseudo_again (r - 64) (omega arith) ∙ ap (λ (k : ℕ). Some k) is)
 
-pub register_again : (r : ℕ) → IsRegister r → register_in (printed_reg_at r) ≡ Some r
+pub register_again : (r : ℕ) → IsRegister r → register_in (register_text r) ≡ Some r
 register_again r (inl less) = low_again r less
 register_again r (inr within) = high_again r within.0 within.1
 

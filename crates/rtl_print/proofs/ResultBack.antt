@@ -17,7 +17,7 @@ use Rattle.rtl_read.specs.declared.parts.Returned.{Returned}
 use Rattle.rtl_read.specs.Function.{returned_in, returned_register, returned_of, result_of, sole_part, return_by, return_of, crtl_by, crtl_of}
 use Rattle.rtl_read.specs.Word.{if_stands, expression_of, is_alone}
 use Rattle.tree_print.specs.Print.{depth_of}
-use Rattle.rtl_print.specs.Print.{head_text, printed_reg_at}
+use Rattle.rtl_print.specs.Print.{head_text}
 use Rattle.rtl_print.proofs.Back.{back}
 use Rattle.rtl_print.proofs.FunctionTree.{result_tree}
 use Rattle.rtl_print.proofs.Good.{Fits, fits_more, list_fits, word_fits, rtx_fits, first_deep, rest_deep}
@@ -31,6 +31,7 @@ use Rattle.rtl_print.proofs.Shapes.{code_of, IsReg, shape_of}
 use Rattle.rtl_print.proofs.UsesBack.{if_stood}
 use Rattle.rtl_print.proofs.Words.{Back}
 use Rattle.rtl_print.proofs.Written.{atom, list, written, written_of}
+use Rattle.rtx_tree.specs.Registers.{register_text}
 
 pub record ReturnBack (most : ℕ) (r : Returned) : Type 0 where
   pub back : (t : Tree) → Same t (result_tree r.mode r.reg) → crtl_of t ≡ stands (Some r)
@@ -67,10 +68,10 @@ record RegisterBack (most : ℕ) (r : Returned) : Type 0 where
 not_alone : (t : Tree) (m : Mode) (n : ℕ) → Same t (written (reg_of m n)) → is_alone (codes "nil") (items_of t) ≡ false
 not_alone t m n same = ap (is_alone (codes "nil")) o.items ∙ by_parts o.parts o.same
   where
-    o : Opened t (head_text code.Reg m) (atom (printed_reg_at n) ∷ [])
-    o = opened t (head_text code.Reg m) (atom (printed_reg_at n) ∷ []) (subst (Same t) (written_of (record { code = code.Reg; mode = m; number = pos n; name = [] }) []) same)
+    o : Opened t (head_text code.Reg m) (atom (register_text n) ∷ [])
+    o = opened t (head_text code.Reg m) (atom (register_text n) ∷ []) (subst (Same t) (written_of (record { code = code.Reg; mode = m; number = pos n; name = [] }) []) same)
 
-    by_parts : (ps : List Tree) → AllSame ps (atom (printed_reg_at n) ∷ []) → is_alone (codes "nil") (o.head ∷ ps) ≡ false
+    by_parts : (ps : List Tree) → AllSame ps (atom (register_text n) ∷ []) → is_alone (codes "nil") (o.head ∷ ps) ≡ false
     by_parts [] s = absurd s
     by_parts (p ∷ ps) s = refl
 

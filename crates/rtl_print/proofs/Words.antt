@@ -22,7 +22,7 @@ use Rattle.lisp_read.specs.Shape.{atom_at, items_at, items_of, string_at, is_nes
 use Rattle.lisp_read.specs.Parsed.{stands, or_outside}
 use Rattle.lisp_read.specs.Expression.{Meaning, meaning_of, class_of, placed, read_at, list_by}
 use Rattle.tree_print.specs.Print.{nowhere}
-use Rattle.rtl_print.specs.Print.{head_text, printed_reg_at, starred}
+use Rattle.rtl_print.specs.Print.{head_text, starred}
 use Rattle.rtl_print.proofs.Heads.{head_with}
 use Rattle.rtl_print.proofs.Modes.{Placed, placed_again, placed_bare}
 use Rattle.rtl_print.proofs.Numbers.{number_again, uid_again}
@@ -31,6 +31,7 @@ use Rattle.rtl_print.proofs.ReadCases.{Leaf}
 use Rattle.rtl_print.proofs.Registers.{register_again}
 use Rattle.rtl_print.proofs.Same.{Same, AllSame, IsList, IsStr, as_list, as_atom, as_string}
 use Rattle.rtl_print.proofs.Written.{atom, list, string, written, written_of}
+use Rattle.rtx_tree.specs.Registers.{register_text}
 
 -- the tree that the expression's text writes, at any places, is read as the expression
 unfoldable pub Back : Position → Rtx → Type 0
@@ -130,7 +131,7 @@ label_written uid =
 pub leaf_back : (p : Position) (h : Opening) (t : Tree) (x : Rtx) → Placed p h → Leaf p h t x → Back p x
 leaf_back p h t x s (Leaf.register r c is fits same) =
     subst (Back p) (sym same)
-    (word_back class.Register (λ _ _ _ _. refl) p h code.Reg h.mode (printed_reg_at r) (reg_of h.mode r) s c (register_code h.code c) refl
+    (word_back class.Register (λ _ _ _ _. refl) p h code.Reg h.mode (register_text r) (reg_of h.mode r) s c (register_code h.code c) refl
     (ap (λ (o : Option ℕ). option_map (reg_of h.mode) (option_and_then (allowed p) o)) (register_again r is) ∙ ap (option_map (reg_of h.mode)) fits)
     (written_of (record { code = code.Reg; mode = h.mode; number = pos r; name = [] }) []))
 leaf_back p h t x s (Leaf.number n c fits same) =

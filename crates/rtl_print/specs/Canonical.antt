@@ -9,12 +9,13 @@ use Rattle.rtx_tree.specs.declared.function.Kind.{Kind}
 use Rattle.rtx_tree.specs.declared.function.Kind.TheVariants.{Plain, Jump, Call, Label, Barrier}
 use Rattle.rtx_tree.specs.declared.function.Insn.{Insn}
 use Rattle.rtx_tree.specs.declared.function.Function.{Function}
-use Rattle.rtl_print.specs.Print.{head_text, printed, printed_reg_at, spaced}
+use Rattle.rtl_print.specs.Print.{head_text, printed, spaced}
+use Rattle.rtx_tree.specs.Registers.{register_text}
 
 -- (reg:MODE R)
 unfoldable pub printed_register : Mode → ℕ → List ℕ
 printed_register mode reg =
-    codes "(" ++ (head_text Reg mode ++ (spaced (printed_reg_at reg) ++ codes ")"))
+    codes "(" ++ (head_text Reg mode ++ (spaced (register_text reg) ++ codes ")"))
 
 -- what stands in front of the rest of a chain of uses
 unfoldable pub printed_link : ArgUse → List ℕ

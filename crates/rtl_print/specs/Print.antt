@@ -11,7 +11,7 @@ use Rattle.rtx_tree.specs.declared.tree.Rtx.{Rtx, out-Rtx}
 use Rattle.rtx_tree.specs.declared.tree.Rtx.TheOpen.{Rtx-F}
 use Rattle.rtx_tree.specs.declared.tree.Rtx.TheFolds.{fold-Rtx}
 use Rattle.rtx_tree.specs.Code.{class_of_code, code_name, mode_name}
-use Rattle.rtx_tree.specs.Registers.{reg_text}
+use Rattle.rtx_tree.specs.Registers.{register_text}
 
 -- the atom at the head of an expression: the code's name, and behind a colon that of the mode, if
 -- there is one
@@ -22,12 +22,9 @@ mode_suffix m = 58 ∷ mode_name m
 abbrev pub head_text : Code → Mode → List ℕ
 head_text c m = code_name c ++ mode_suffix m
 
--- a hard register by its name, `virtual-stack-vars`, or pseudo k as <k>
-abbrev pub printed_reg_at : ℕ → List ℕ
-printed_reg_at r = if nat_lt r 32 then reg_text r else (if nat_lt r 64 then codes "virtual-stack-vars" else codes "<" ++ (decimal (r - 64) ++ codes ">"))
-
+-- a register's text; a number below 0 is none's
 abbrev pub printed_reg : ℤ → List ℕ
-printed_reg (pos r) = printed_reg_at r
+printed_reg (pos r) = register_text r
 printed_reg (negsuc r) = []
 
 -- a name that begins with a star has one star more

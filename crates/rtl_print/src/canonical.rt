@@ -5,9 +5,9 @@ ghost use Rattle.rtl_print.specs.Back.{IsReadable, AreReadable, ReadsBack, AllRe
 ghost use Rattle.rtl_print.specs.Canonical as spec;
 ghost use Rattle.rtl_print.specs.machine.Pieces.{closed};
 
-use crate::print::{print, print_head, print_reg_at};
+use crate::print::{print, print_head};
 use plain_data::Memory;
-use rtx_tree::{ArgUse, Code, Function, Insn, Kind, Mode};
+use rtx_tree::{ArgUse, Code, Function, Insn, Kind, Mode, print_register};
 use text_words::print_count;
 
 /// Prints a text between two others.
@@ -22,13 +22,13 @@ fn print_between(front: &[u8], text: &[u8], back: &[u8], out: &mut Vec<u8>) -> R
 
 /// Prints `(reg:MODE R)`.
 #[tactic(auto, unfolding(crate::specs::Canonical::printed_register))]
-fn print_register(mode: Mode, reg: u32, out: &mut Vec<u8>) -> Result<(), Memory>
+fn print_reg_in(mode: Mode, reg: u32, out: &mut Vec<u8>) -> Result<(), Memory>
     ensures { OnOk result (out.new.items ≡ out.old.items ++ spec.printed_register mode reg) }
 {
     out.push(b'(')?;
     print_head(Code::Reg, mode, out)?;
     out.push(b' ')?;
-    print_reg_at(u64::from(reg), out)?;
+    print_register(u64::from(reg), out)?;
     out.push(b')')?;
     Ok(())
 }
@@ -38,7 +38,7 @@ fn print_link(arg: ArgUse, out: &mut Vec<u8>) -> Result<(), Memory>
     ensures { OnOk result (out.new.items ≡ out.old.items ++ spec.printed_link arg) }
 {
     out.extend_from_slice(b"(expr_list (use ")?;
-    print_register(arg.mode, u32::from(arg.reg), out)?;
+    print_reg_in(arg.mode, u32::from(arg.reg), out)?;
     out.extend_from_slice(b") ")?;
     Ok(())
 }
@@ -150,7 +150,7 @@ fn print_result(mode: Option<Mode>, reg: u32, out: &mut Vec<u8>) -> Result<(), M
         return Ok(());
     };
     out.extend_from_slice(b"  (crtl\n    (return_rtx ")?;
-    print_register(mode, reg, out)?;
+    print_reg_in(mode, reg, out)?;
     out.extend_from_slice(b")\n  )\n")?;
     Ok(())
 }

@@ -1,6 +1,5 @@
 //! Prints expressions on one line.
 ghost use Rattle.std.specs.Prelude.{◌≡◌, ◌++◌, ◌∷◌, [], OnErr, OnOk, flat_map, codes};
-ghost use Rattle.std.specs.Fmt.{decimal};
 ghost use Rattle.lisp_read.specs.declared.position.Position.{Position};
 ghost use Rattle.rtl_print.specs.Print.{head_text, mode_suffix};
 ghost use Rattle.rtl_print.specs.Back.{IsReadableAt, ReadsBackAt};
@@ -8,8 +7,8 @@ ghost use Rattle.rtl_print.specs.Print as spec;
 ghost use Rattle.rtl_print.specs.machine.Pieces.{body_of, separated};
 
 use plain_data::Memory;
-use rtx_tree::{Class, Code, Mode, Rtx, reg_name};
-use text_words::{print_count, print_number};
+use rtx_tree::{Class, Code, Mode, Rtx, print_register};
+use text_words::print_number;
 
 fn print_mode(mode: Mode, out: &mut Vec<u8>) -> Result<(), Memory>
     ensures { OnOk result (out.new.items ≡ out.old.items ++ mode_suffix mode) }
@@ -30,31 +29,6 @@ pub(crate) fn print_head(code: Code, mode: Mode, out: &mut Vec<u8>) -> Result<()
     print_mode(mode, out)
 }
 
-/// Prints `<k>` for pseudo register `k`.
-fn print_pseudo(pseudo: u64, out: &mut Vec<u8>) -> Result<(), Memory>
-    ensures { OnOk result (out.new.items ≡ out.old.items ++
-        (codes "<" ++ (decimal pseudo ++ codes ">"))) }
-{
-    out.push(b'<')?;
-    print_count(pseudo, out)?;
-    out.push(b'>')?;
-    Ok(())
-}
-
-pub(crate) fn print_reg_at(reg: u64, out: &mut Vec<u8>) -> Result<(), Memory>
-    ensures { OnOk result (out.new.items ≡ out.old.items ++ spec.printed_reg_at reg) }
-{
-    if reg < 32 {
-        out.extend_from_slice(reg_name(reg as u8).as_bytes())?;
-        Ok(())
-    } else if reg < 64 {
-        out.extend_from_slice(b"virtual-stack-vars")?;
-        Ok(())
-    } else {
-        print_pseudo(reg - 64, out)
-    }
-}
-
 /// Appends a register: a hard one by its name, `virtual-stack-vars`, or pseudo `k` as `<k>`.
 pub fn print_reg(number: i64, out: &mut Vec<u8>) -> Result<(), Memory>
     ensures { OnOk result (out.new.items ≡ out.old.items ++ spec.printed_reg number) }
@@ -62,7 +36,7 @@ pub fn print_reg(number: i64, out: &mut Vec<u8>) -> Result<(), Memory>
     if number < 0 {
         Ok(())
     } else {
-        print_reg_at(number.unsigned_abs(), out)
+        print_register(number.unsigned_abs(), out)
     }
 }
 

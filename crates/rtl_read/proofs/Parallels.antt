@@ -14,6 +14,7 @@ use Rattle.lisp_read.specs.Shape.{atom_of, items_of}
 use Rattle.rtx_tree.specs.Code.{class_of_code}
 use Rattle.lisp_read.specs.Positions.{unwanted, admits, mode_at}
 use Rattle.lisp_read.specs.Head as head
+use Rattle.rtx_tree.specs.Code as code
 use Rattle.lisp_read.specs.Expression.{head_is, placed, head_of_items}
 use Rattle.rtl_read.specs.Word.{head_of_list}
 use Rattle.rtl_read.specs.Call.{is_class_parallel, is_parallel}
@@ -23,8 +24,8 @@ abbrev with_mode : Code → Mode → Opening
 with_mode c m = record { code = c; mode = m }
 
 -- no name is that of no mode
-unwanted_named : (name : List ℕ) → option_and_then unwanted (head.mode_named name) ≡ None
-unfolding head.mode_named
+unwanted_named : (name : List ℕ) → option_and_then unwanted (code.mode_named name) ≡ None
+unfolding code.mode_named
 unwanted_named name = by (bytes_eq (mode_name QI) name) (bytes_eq (mode_name HI) name) (bytes_eq (mode_name SI) name) (bytes_eq (mode_name DI) name)
   where
     by : (a b c d : Bool) → option_and_then unwanted (cond a (Some QI) (cond b (Some HI) (cond c (Some SI) (cond d (Some DI) None)))) ≡ None
@@ -55,7 +56,7 @@ flagged_by : (b : Bool) (mode : Option (List ℕ)) →
 flagged_by false None = refl
 flagged_by false (Some name) = refl
 flagged_by true None = refl
-flagged_by true (Some name) = moded (head.mode_named name) (unwanted_named name)
+flagged_by true (Some name) = moded (code.mode_named name) (unwanted_named name)
 
 flags_same : (flags : Option (List ℕ)) → head.flags_pass Parallel flags ≡ flags_pass flags
 flags_same None = refl
@@ -84,7 +85,7 @@ by_name (Some c) mode flags = by_code (is_class_parallel (class_of_code c)) c mo
 
 by_atom : (a : Option (List ℕ)) → head_is is_class_parallel (option_and_then (placed Pattern) (option_and_then head.head_in a)) ≡ is_parallel_text a
 by_atom None = refl
-by_atom (Some text) = by_name (head.code_in (head.cut 47 (head.cut 58 text).0).0) (head.cut 58 text).1 (head.cut 47 (head.cut 58 text).0).1
+by_atom (Some text) = by_name (code.code_in (head.cut 47 (head.cut 58 text).0).0) (head.cut 58 text).1 (head.cut 47 (head.cut 58 text).0).1
 
 by_items : (items : List Tree) → head_is is_class_parallel (option_and_then (placed Pattern) (head_of_items items)) ≡ is_parallel_text (head_of_list items)
 by_items [] = refl

@@ -10,9 +10,9 @@ use Rattle.rtx_tree.specs.declared.class.Class.{Class}
 use Rattle.rtx_tree.specs.declared.class.Class.TheVariants as class
 use Rattle.lisp_read.specs.declared.position.Position.TheVariants.{Top, Pattern}
 use Rattle.lisp_read.specs.Shape.{atom_of, items_of}
-use Rattle.rtx_tree.specs.Code.{class_of_code, is_effect_class}
+use Rattle.rtx_tree.specs.Code.{class_of_code, is_effect_class, code_in}
 use Rattle.lisp_read.specs.Positions.{admits, mode_of_class}
-use Rattle.lisp_read.specs.Head.{cut, code_in, head_in, head_with, mode_in, flagged, flags_pass}
+use Rattle.lisp_read.specs.Head.{cut, head_in, head_with, mode_in, flagged, flags_pass}
 use Rattle.lisp_read.specs.Parsed.{Parsed, outside}
 use Rattle.lisp_read.specs.Expression.{Meaning, meaning_of, expression_by, list_by, read_at, rtx_in, head_of_items, placed}
 use Rattle.lisp_read.proofs.Meanings.{read_at_out}

@@ -4,11 +4,12 @@ use Rattle.std.specs.Prelude.{ℕ, Bool, false, List, [], ◌∷◌, Option, Som
 use Rattle.rtx_tree.specs.declared.code.Code.{Code}
 use Rattle.rtx_tree.specs.declared.tree.Rtx.{Rtx}
 use Rattle.lisp_read.specs.declared.tree.Tree.{Tree}
-use Rattle.lisp_read.specs.Head.{cut, code_in}
+use Rattle.lisp_read.specs.Head.{cut}
 use Rattle.lisp_read.specs.Leaf.{uid_in}
 use Rattle.lisp_read.specs.Parsed.{Parsed, stands, construct}
 use Rattle.lisp_read.specs.Expression.{rtx_in}
 use Rattle.lisp_read.specs.Shape.{atom_of, items_of, is_word}
+use Rattle.rtx_tree.specs.Code.{code_in}
 
 -- the number of 32 bits that an atom writes
 abbrev pub number_of : Tree → Option ℕ

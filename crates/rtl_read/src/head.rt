@@ -6,7 +6,7 @@ ghost use Rattle.lisp_read.specs.Shape.{items_of};
 ghost use Rattle.rtl_read.specs.Word as spec;
 ghost use Rattle.rtl_read.specs.machine.Head as own;
 
-use lisp_read::{Tree, are_flags, atom, code_in, cut, items};
+use lisp_read::{Tree, are_flags, atom, cut, items};
 use rtx_tree::{Code, Name};
 
 /// The word of a head, without its flags and its mode.
@@ -32,7 +32,7 @@ pub fn head_of_list(tree: &Tree) -> Option<&Name>
 pub fn named_code(tree: &Tree) -> Option<Code>
     ensures { result ≡ spec.named_code tree.now }
 {
-    code_in(head_word(head_of_list(tree)?.bytes()))
+    Code::written(head_word(head_of_list(tree)?.bytes()))
 }
 
 fn flags_pass(flags: Option<&[u8]>) -> bool
@@ -50,5 +50,5 @@ pub fn is_parallel_head(text: &[u8]) -> bool
 {
     let (front, mode) = cut(text, b':');
     let (name, flags) = cut(front, b'/');
-    matches!(code_in(name), Some(Code::Parallel)) && (mode.is_none() && flags_pass(flags))
+    matches!(Code::written(name), Some(Code::Parallel)) && (mode.is_none() && flags_pass(flags))
 }

@@ -133,9 +133,10 @@ IsMisused (Some (commands.Eval name function steps args)) input =
     IfSome input (λ bytes. IsUnnamed bytes function)
 IsMisused (Some _) input = ⊥
 
--- what is known of the description before the input is read: it has come to its forms
+-- what is known of the description before the input is read: it has come to its forms. Where the
+-- words are no command the input is not read
 abbrev pub HasForms : Source → Option Command → Type 0
-HasForms files None = Unit {0}
+HasForms files None = ⊥
 HasForms files (Some (commands.List name)) = Unit {0}
 HasForms files (Some c) = (forms : List Entry) × FormsCome files (description_of c) (Ok forms)
 

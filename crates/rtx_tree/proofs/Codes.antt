@@ -1,12 +1,9 @@
--- A name that no entry of the list has is the name of none.
-use Rattle.std.proofs.Common.{◌≡◌, ◌≢◌, ◌<◌, ◌≤◌, ℕ, List, Some, length, get_or, refl, ◌∙◌, ap, arith}
+-- Each code stands in the list of all, and is found by its name.
+use Rattle.std.proofs.Common.{◌≡◌, ℕ, Some, refl}
 use Rattle.std.specs.Prelude.{slice_get}
-use Rattle.std.proofs.lemmas.Option.{slice_get_within, get_or_from_slice_get}
-use Rattle.rtx_tree.specs.Code.{code_name, all_codes, HasEvery, mode_name, named_modes}
+use Rattle.rtx_tree.specs.Code.{code_name, code_named, all_codes, HasEvery}
 use Rattle.rtx_tree.specs.declared.code.Code.{Code}
 use Rattle.rtx_tree.specs.declared.code.Code.TheVariants as code
-use Rattle.rtx_tree.specs.declared.code.Mode.{Mode}
-use Rattle.rtx_tree.specs.declared.code.Mode.TheVariants.{Void, QI, HI, SI, DI}
 
 abbrev place_of : Code → ℕ
 place_of code.Reg = 0
@@ -112,23 +109,7 @@ stands code.MatchOpDup = refl
 pub has_every : HasEvery
 has_every c = (place_of c, stands c)
 
-pub code_none : (codes : List Code) (name : List ℕ) (i : ℕ) → codes ≡ all_codes → length codes ≤ i →
-    ((k : ℕ) → k < i → code_name (get_or codes k code.Reg) ≢ name) → (c : Code) → code_name c ≢ name
-code_none codes name i all past others c same =
-    let within = slice_get_within all_codes (place_of c) c (stands c) in
-    let here = get_or_from_slice_get all_codes (place_of c) c code.Reg (stands c) in
-    let less : place_of c < i = omega (arith, ap length all) in
-    others (place_of c) less (ap (λ cs. code_name (get_or cs (place_of c) code.Reg)) all ∙ (ap code_name here ∙ same))
-
--- a mode that stands at a place of the list
-at : (modes : List Mode) (name : List ℕ) (k i : ℕ) → modes ≡ named_modes → length modes ≤ i → k < 4 → ((k : ℕ) → k < i → mode_name (get_or modes k Void) ≢ name) → mode_name (get_or named_modes k Void) ≢ name
-at modes name k i all past less others same =
-    let within : k < i = omega (arith, ap length all) in
-    others k within (ap (λ ms. mode_name (get_or ms k Void)) all ∙ same)
-
-pub mode_none : (modes : List Mode) (name : List ℕ) (i : ℕ) → modes ≡ named_modes → length modes ≤ i → ((k : ℕ) → k < i → mode_name (get_or modes k Void) ≢ name) → (mode : Mode) → mode ≢ Void → mode_name mode ≢ name
-mode_none modes name i all past others Void named = absurd (named refl)
-mode_none modes name i all past others QI named = at modes name 0 i all past (omega arith) others
-mode_none modes name i all past others HI named = at modes name 1 i all past (omega arith) others
-mode_none modes name i all past others SI named = at modes name 2 i all past (omega arith) others
-mode_none modes name i all past others DI named = at modes name 3 i all past (omega arith) others
+pub named_again : (c : Code) → code_named (code_name c) ≡ Some c
+unfolding code_named
+named_again code.Reg = refl
+named_again _ = refl

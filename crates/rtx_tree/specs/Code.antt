@@ -2,7 +2,8 @@
 -- and "Machine Modes". Each code has its name and its class; a class says what stands behind the
 -- code in its list, how many kids its tree has, whether a mode is written there, whether it is a
 -- value, a place or an effect, and, by its name, what an expression of the code is.
-use Rattle.std.specs.Prelude.{◌≡◌, ℕ, Bool, true, false, List, [], ◌∷◌, Some, slice_get, codes}
+use Rattle.std.specs.Prelude.{◌≡◌, ℕ, Bool, true, false, List, [], ◌∷◌, Option, Some, None, if◌then◌else◌, slice_get, find, codes}
+use Rattle.std.specs.Str.{bytes_eq}
 use Rattle.rtx_tree.specs.declared.code.Code.{Code}
 use Rattle.rtx_tree.specs.declared.code.Code.TheVariants as code
 use Rattle.rtx_tree.specs.declared.code.Mode.{Mode}
@@ -106,6 +107,29 @@ HasEvery = (c : Code) → (place : ℕ) × (slice_get all_codes place ≡ Some c
 -- no code stands at two places of the list
 abbrev pub HasOnce : Type 0
 HasOnce = (c : Code) (a b : ℕ) → slice_get all_codes a ≡ Some c → slice_get all_codes b ≡ Some c → a ≡ b
+
+-- the code with a name
+unfoldable pub code_named : List ℕ → Option Code
+code_named name = find (λ c. bytes_eq (code_name c) name) all_codes
+
+-- the code that a word of a text stands for: a `simple_return` is a return ("Side Effect
+-- Expressions")
+abbrev pub code_in : List ℕ → Option Code
+code_in word = if bytes_eq word (codes "simple_return") then Some code.Return else code_named word
+
+-- the comparison that holds exactly where another doesn't
+abbrev pub reversed : Code → Option Code
+reversed code.Eq = Some code.Ne
+reversed code.Ne = Some code.Eq
+reversed code.Lt = Some code.Ge
+reversed code.Ge = Some code.Lt
+reversed code.Gt = Some code.Le
+reversed code.Le = Some code.Gt
+reversed code.Ltu = Some code.Geu
+reversed code.Geu = Some code.Ltu
+reversed code.Gtu = Some code.Leu
+reversed code.Leu = Some code.Gtu
+reversed _ = None
 
 -- ---- the classes
 
@@ -212,3 +236,20 @@ mode_name DI = codes "DI"
 -- the modes that have a name
 abbrev pub named_modes : List Mode
 named_modes = QI ∷ HI ∷ SI ∷ DI ∷ []
+
+-- the mode with a name
+unfoldable pub mode_named : List ℕ → Option Mode
+mode_named name = find (λ m. bytes_eq (mode_name m) name) named_modes
+
+-- the bits of a mode; no mode has none
+abbrev pub mode_bits : Mode → ℕ
+mode_bits Void = 0
+mode_bits QI = 8
+mode_bits HI = 16
+mode_bits SI = 32
+mode_bits DI = 64
+
+-- a mode, or another where it is none
+abbrev pub mode_or : Mode → Mode → Mode
+mode_or Void other = other
+mode_or own other = own

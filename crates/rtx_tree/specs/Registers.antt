@@ -1,6 +1,7 @@
 -- Registers: RISC-V ELF psABI, "Integer Register Convention"; GCC Internals, "Registers and
 -- Memory".
-use Rattle.std.specs.Prelude.{ℕ, Bool, ◌||◌, ◌&&◌, nat_le, nat_eq, ◌+◌, List, [], ◌∷◌, codes, slice_index_or, Option, position}
+use Rattle.std.specs.Prelude.{ℕ, Bool, ◌||◌, ◌&&◌, nat_le, nat_lt, nat_eq, ◌+◌, ◌-◌, List, [], ◌∷◌, ◌++◌, codes, slice_index_or, if◌then◌else◌, Option, position}
+use Rattle.std.specs.Fmt.{decimal}
 use Rattle.std.specs.Str.{bytes_eq}
 
 -- the registers' names, in the order of their numbers
@@ -38,3 +39,9 @@ virtual_stack_vars = 32
 -- the number of pseudo register k
 abbrev pub pseudo : ℕ → ℕ
 pseudo k = 64 + k
+
+-- the text of a register: a hard one by its name, `virtual-stack-vars`, or pseudo k as <k>
+abbrev pub register_text : ℕ → List ℕ
+register_text reg =
+    if nat_lt reg 32 then reg_text reg
+    else (if nat_lt reg 64 then codes "virtual-stack-vars" else codes "<" ++ (decimal (reg - 64) ++ codes ">"))

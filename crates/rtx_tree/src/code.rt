@@ -1,5 +1,6 @@
 //! The codes and machine modes of RTL, with their names.
-ghost use Rattle.std.specs.Prelude.{◌≡◌, ◌≢◌, ◌↔◌, IsTrue, MatchOption};
+ghost use Rattle.std.specs.Prelude.{◌≡◌, ◌↔◌, IsTrue};
+ghost use Rattle.std.specs.Str.{bytes_eq};
 ghost use Rattle.rtx_tree.specs.Code as spec;
 ghost use Rattle.rtx_tree.specs.Code.{HasEvery, HasOnce, class_of_code, code_name, mode_name};
 ghost use Rattle.rtx_tree.specs.machine.Row.{row_view};
@@ -287,15 +288,15 @@ impl Code {
     }
 
     fn is_named(self, name: &[u8]) -> bool
-        ensures { IsTrue result ↔ (code_name self ≡ name.now) }
+        ensures { result ≡ bytes_eq (code_name self) name.now }
     {
         self.name().as_bytes() == name
     }
 
     /// The code with this name, or `None` where no code has it.
+    #[tactic(auto, unfolding(crate::specs::Code::code_named))]
     pub fn named(name: &[u8]) -> Option<Code>
-        ensures { MatchOption result ((code : Code) → code_name code ≢ name.now) (λ code.
-            code_name code ≡ name.now) }
+        ensures { result ≡ spec.code_named name.now }
     {
         for code in Code::all() {
             if code.is_named(name) {
@@ -303,6 +304,36 @@ impl Code {
             }
         }
         None
+    }
+
+    /// The code that a word of a text stands for, `simple_return` being a return.
+    pub fn written(word: &[u8]) -> Option<Code>
+        ensures { result ≡ spec.code_in word.now }
+    {
+        if word == b"simple_return".as_slice() {
+            Some(Code::Return)
+        } else {
+            Code::named(word)
+        }
+    }
+
+    /// The comparison that holds exactly where this one doesn't, or `None` where it is none.
+    pub fn reversed(self) -> Option<Code>
+        ensures { result ≡ spec.reversed self }
+    {
+        match self {
+            Code::Eq => Some(Code::Ne),
+            Code::Ne => Some(Code::Eq),
+            Code::Lt => Some(Code::Ge),
+            Code::Ge => Some(Code::Lt),
+            Code::Gt => Some(Code::Le),
+            Code::Le => Some(Code::Gt),
+            Code::Ltu => Some(Code::Geu),
+            Code::Geu => Some(Code::Ltu),
+            Code::Gtu => Some(Code::Leu),
+            Code::Leu => Some(Code::Gtu),
+            _ => None,
+        }
     }
 
     /// Whether two codes are the same.
@@ -332,15 +363,15 @@ impl Mode {
     }
 
     fn is_named(self, name: &[u8]) -> bool
-        ensures { IsTrue result ↔ (mode_name self ≡ name.now) }
+        ensures { result ≡ bytes_eq (mode_name self) name.now }
     {
         self.name().as_bytes() == name
     }
 
     /// The mode other than `Void` with this name, or `None` where none has it.
+    #[tactic(auto, unfolding(crate::specs::Code::mode_named))]
     pub fn named(name: &[u8]) -> Option<Mode>
-        ensures { MatchOption result ((mode : Mode) → mode ≢ Mode.Void →
-            mode_name mode ≢ name.now) (λ mode. (mode ≢ Mode.Void) × (mode_name mode ≡ name.now)) }
+        ensures { result ≡ spec.mode_named name.now }
     {
         for mode in named_modes() {
             if mode.is_named(name) {
@@ -348,6 +379,29 @@ impl Mode {
             }
         }
         None
+    }
+
+    /// The mode's bits; `Void` has none.
+    pub fn bits(self) -> u32
+        ensures { result ≡ spec.mode_bits self }
+    {
+        match self {
+            Mode::Void => 0,
+            Mode::QI => 8,
+            Mode::HI => 16,
+            Mode::SI => 32,
+            Mode::DI => 64,
+        }
+    }
+
+    /// The mode, or another where it is `Void`.
+    pub fn or(self, other: Mode) -> Mode
+        ensures { result ≡ spec.mode_or self other }
+    {
+        match self {
+            Mode::Void => other,
+            Mode::QI | Mode::HI | Mode::SI | Mode::DI => self,
+        }
     }
 
     /// Whether two modes are the same.

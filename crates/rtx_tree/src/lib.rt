@@ -39,7 +39,8 @@ pub use operands::Operands;
 pub use place::Place;
 pub use reg_set::RegSet;
 pub use registers::{
-    FIRST_PSEUDO, HARD_REGS, VIRTUAL_STACK_VARS, pseudo, reg_call_used, reg_name, reg_number,
+    FIRST_PSEUDO, HARD_REGS, VIRTUAL_STACK_VARS, print_register, pseudo, reg_call_used, reg_name,
+    reg_number,
 };
 pub use stage::Stage;
 pub use tree::{Kids, Path, Rtx, same, same_head};

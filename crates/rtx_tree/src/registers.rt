@@ -1,8 +1,12 @@
 //! Registers: how RTL numbers them, the names of the hard ones, and which of these a call may
 //! change.
-ghost use Rattle.std.specs.Prelude.{◌≡◌, ◌<◌, ◌^◌};
+ghost use Rattle.std.specs.Prelude.{◌≡◌, ◌<◌, ◌^◌, ◌++◌, OnOk, codes};
+ghost use Rattle.std.specs.Fmt.{decimal};
 ghost use Rattle.rtx_tree.specs.Registers as spec;
 ghost use Rattle.rtx_tree.specs.Registers.{reg_text, number_of_reg, is_call_used};
+
+use plain_data::Memory;
+use text_words::print_count;
 
 /// How many hard registers there are. Their numbers are those below this.
 pub const HARD_REGS: u8 = 32;
@@ -109,4 +113,35 @@ pub fn reg_call_used(reg: u8) -> bool
     ensures { result ≡ is_call_used reg }
 {
     matches!(reg, 1 | 5..=7 | 10..=17 | 28..=31)
+}
+
+/// Prints `<k>` for pseudo register `k`.
+fn print_pseudo(pseudo: u64, out: &mut Vec<u8>) -> Result<(), Memory>
+    ensures { OnOk result (out.new.items ≡ out.old.items ++
+        (codes "<" ++ (decimal pseudo ++ codes ">"))) }
+{
+    out.push(b'<')?;
+    print_count(pseudo, out)?;
+    out.push(b'>')?;
+    Ok(())
+}
+
+/// Appends the text of a register: a hard one by its name, `virtual-stack-vars`, or pseudo `k` as
+/// `<k>`.
+///
+/// # Errors
+///
+/// `Memory` where memory ran out.
+pub fn print_register(reg: u64, out: &mut Vec<u8>) -> Result<(), Memory>
+    ensures { OnOk result (out.new.items ≡ out.old.items ++ spec.register_text reg) }
+{
+    if reg < 32 {
+        out.extend_from_slice(reg_name(reg as u8).as_bytes())?;
+        Ok(())
+    } else if reg < 64 {
+        out.extend_from_slice(b"virtual-stack-vars")?;
+        Ok(())
+    } else {
+        print_pseudo(reg - 64, out)
+    }
 }

@@ -6,6 +6,7 @@ use Rattle.bits64.specs.declared.Width.TheVariants.{W64}
 use Rattle.bits64.specs.Words.{bits_of}
 use Rattle.rtx_tree.specs.declared.code.Mode.{Mode}
 use Rattle.rtx_tree.specs.declared.code.Mode.TheVariants.{Void, QI, HI, SI, DI}
+use Rattle.rtx_tree.specs.Code.{mode_bits}
 use Rattle.term_tree.specs.Tree.{Tree}
 use Rattle.term_mean.specs.Stores.{Store}
 use Rattle.term_mean.specs.Sums.{constant}
@@ -78,14 +79,6 @@ abbrev pub compared_args : Bool → List Arg → List Arg → List ℕ → Optio
 compared_args of_lines a b [] = None
 compared_args of_lines a b (reg ∷ regs) =
     or_else (compared_arg of_lines (arg_at a reg) (arg_at b reg)) (compared_args of_lines a b regs)
-
--- GCC Internals, "Machine Modes"
-abbrev pub mode_bits : Mode → ℕ
-mode_bits Void = 0
-mode_bits QI = 8
-mode_bits HI = 16
-mode_bits SI = 32
-mode_bits DI = 64
 
 -- the width in which a result is taken, 0 for none
 abbrev pub result_bits : Option Mode → ℕ

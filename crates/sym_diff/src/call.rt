@@ -154,25 +154,13 @@ fn compared_args(
     Ok(None)
 }
 
-fn mode_bits(mode: Mode) -> u64
-    ensures { result ≡ spec.mode_bits mode }
-{
-    match mode {
-        Mode::Void => 0,
-        Mode::QI => 8,
-        Mode::HI => 16,
-        Mode::SI => 32,
-        Mode::DI => 64,
-    }
-}
-
 /// The width in which a result is taken as it is shown, 0 for none.
 fn result_term(alloc: Global, mode: Option<Mode>) -> Term
     ensures { tree_of result ≡ constant W64 (spec.result_bits mode) }
 {
     match mode {
         None => constant_term(alloc, Width::W64, 0),
-        Some(mode) => constant_term(alloc, Width::W64, mode_bits(mode)),
+        Some(mode) => constant_term(alloc, Width::W64, u64::from(mode.bits())),
     }
 }
 

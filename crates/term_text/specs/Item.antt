@@ -1,7 +1,7 @@
 -- The text of an item in which two sides of a comparison differ.
 use Rattle.std.specs.Prelude.{ℕ, List, ◌++◌, codes}
 use Rattle.std.specs.Fmt.{decimal}
-use Rattle.term_text.specs.Text.{register_text}
+use Rattle.rtx_tree.specs.Registers.{register_text}
 use Rattle.term_text.specs.declared.item.Item.{Item}
 use Rattle.term_text.specs.declared.item.Item.TheVariants.{Register, Store, Jump, Call, Need, Shape}
 

@@ -1,7 +1,7 @@
 -- The text of a term on one line.
 use Rattle.std.specs.Prelude.{ℕ, ◌-◌, ◌==◌, nat_lt, Bool, true, false, ◌&&◌, if◌then◌else◌, List, [], ◌∷◌, ◌++◌, codes}
 use Rattle.std.specs.Fmt.{decimal, signed_decimal}
-use Rattle.rtx_tree.specs.Registers.{reg_text}
+use Rattle.rtx_tree.specs.Registers.{register_text}
 use Rattle.bits64.specs.declared.Width.{Width}
 use Rattle.bits64.specs.Words.{bits_of, signed}
 use Rattle.term_tree.specs.declared.head.Head.{Head}
@@ -34,11 +34,6 @@ head_name Lt = codes "lt"
 head_name Ltu = codes "ltu"
 head_name Eq = codes "eq"
 head_name Load = codes "load"
-
--- a hard register by its name, `virtual-stack-vars`, or pseudo register k as <k>
-abbrev pub register_text : ℕ → List ℕ
-register_text r =
-    if nat_lt r 32 then reg_text r else (if nat_lt r 64 then codes "virtual-stack-vars" else codes "<" ++ (decimal (r - 64) ++ codes ">"))
 
 -- a number of a width is shown signed
 abbrev pub number_text : Width → ℕ → List ℕ

@@ -1,11 +1,11 @@
 //! The items in which two sides of a comparison can differ.
 ghost use Rattle.std.specs.Prelude.{◌≡◌, ◌++◌, codes, OnOk};
 ghost use Rattle.std.specs.Fmt.{decimal};
+ghost use Rattle.rtx_tree.specs.Registers.{register_text};
 ghost use Rattle.term_text.specs.Item as spec;
-ghost use Rattle.term_text.specs.Text.{register_text};
 
-use crate::print::print_register;
 use plain_data::Memory;
+use rtx_tree::print_register;
 use text_words::print_count;
 
 /// An item in which two sides of a comparison can differ.

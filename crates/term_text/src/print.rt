@@ -9,7 +9,7 @@ ghost use Rattle.term_text.specs.Text as spec;
 
 use bits64::{Width, sext};
 use plain_data::Memory;
-use rtx_tree::{Name, reg_name};
+use rtx_tree::{Name, print_register};
 use std::alloc::Global;
 use term_tree::{Atom, Head, Term};
 use text_words::{print_count, print_number};
@@ -42,30 +42,6 @@ fn head_name(head: Head) -> &'static str
         Head::Ltu => "ltu",
         Head::Eq => "eq",
         Head::Load => "load",
-    }
-}
-
-fn print_pseudo(pseudo: u64, out: &mut Vec<u8>) -> Result<(), Memory>
-    ensures { OnOk result (out.new.items ≡ out.old.items ++
-        (codes "<" ++ (decimal pseudo ++ codes ">"))) }
-{
-    out.push(b'<')?;
-    print_count(pseudo, out)?;
-    out.push(b'>')?;
-    Ok(())
-}
-
-pub(crate) fn print_register(reg: u64, out: &mut Vec<u8>) -> Result<(), Memory>
-    ensures { OnOk result (out.new.items ≡ out.old.items ++ spec.register_text reg) }
-{
-    if reg < 32 {
-        out.extend_from_slice(reg_name(reg as u8).as_bytes())?;
-        Ok(())
-    } else if reg < 64 {
-        out.extend_from_slice(b"virtual-stack-vars")?;
-        Ok(())
-    } else {
-        print_pseudo(reg - 64, out)
     }
 }
 

@@ -6,7 +6,8 @@ use Rattle.c_cond.specs.Tree.{tree_of}
 use Rattle.pred_expr.specs.declared.question.Test.{Test}
 use Rattle.pred_rows.specs.declared.node.Node.{Node}
 use Rattle.pred_rows.specs.declared.node.Node.TheVariants as node
-use Rattle.pred_rows.specs.Tests.{Accepts, has_code, condition_holds, mode_or, test_holds}
+use Rattle.pred_rows.specs.Tests.{Accepts, has_code, condition_holds, test_holds}
+use Rattle.rtx_tree.specs.Code.{mode_or}
 
 -- the answer at a place; where there is no node nothing holds
 abbrev pub answer_at : List Bool → ℕ → Bool

@@ -2,8 +2,8 @@
 use Rattle.std.specs.Prelude.{ℕ, Bool, true, false, ◌&&◌, is_none, List, Option, Some, None}
 use Rattle.rtx_tree.specs.declared.code.Code.{Code}
 use Rattle.lisp_read.specs.declared.tree.Tree.{Tree}
-use Rattle.rtx_tree.specs.Code.{class_of_code, is_effect_class}
-use Rattle.lisp_read.specs.Head.{cut, code_in, are_flags}
+use Rattle.rtx_tree.specs.Code.{class_of_code, is_effect_class, code_in}
+use Rattle.lisp_read.specs.Head.{cut, are_flags}
 use Rattle.rtl_read.specs.Word.{named_code}
 use Rattle.rtl_read.specs.Call.{is_class_parallel}
 

@@ -1,5 +1,5 @@
 use Rattle.std.proofs.Common.{◌≡◌, drop}
-use Rattle.md_pattern.specs.lisp_read.Head.{code_in}
+use Rattle.rtx_tree.specs.Code.{code_in}
 use Rattle.md_text.specs.Lists.{each}
 use Rattle.md_text.proofs.Each.{with_front}
 use Rattle.pred_expr.proofs.test.codes_named.Given as goal

@@ -1,5 +1,0 @@
-use Rattle.lisp_read.proofs.Names.{code_found}
-use Rattle.lisp_read.proofs.head.code_named.Goals as goal
-
-pub returns : goal.returns
-returns c = code_found c.args.name.now c.named.result c.named.ensures

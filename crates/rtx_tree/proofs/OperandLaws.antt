@@ -1,10 +1,9 @@
 -- Laws of operand lists.
-use Rattle.std.proofs.Common.{◌≡◌, ◌≢◌, ◌<◌, ◌+◌, ℕ, zero, suc, Bool, true, false, List, [], ◌∷◌, ◌++◌, Option, Some, None, length, refl, sym, ap, ◌∙◌, arith}
-use Rattle.std.specs.Prelude.{◌==◌, slice_set, if◌then◌else◌}
-use Rattle.std.specs.Option.{option_map}
-use Rattle.std.specs.List.{find, position_from}
-use Rattle.std.proofs.lemmas.Bool.{eqb-true, eqb-false}
-use Rattle.rtx_tree.specs.declared.operands.Numbered.{Numbered}
+use Rattle.std.proofs.Common.{◌≡◌, ◌≢◌, ◌<◌, ℕ, zero, suc, List, [], ◌∷◌, Option, Some, None, Ordering, Less, Equal, Greater, refl, sym, ap, cond, ◌∙◌, arith}
+use Rattle.std.specs.Ordering.{MatchOrdering, match_ordering, is_eq, nat_cmp}
+use Rattle.std.specs.BTreeMap.{insert_entry, is_at}
+use Rattle.std.specs.Map.{lookup}
+use Rattle.std.proofs.lemmas.Cmp.{ranked}
 use Rattle.rtx_tree.specs.declared.tree.Rtx.{Rtx}
 use Rattle.rtx_tree.specs.Operands.{operand_at, put_at}
 use Rattle.rtx_tree.specs.machine.Placed.{placed}
@@ -47,68 +46,27 @@ swap (o ∷ os) (suc m) zero x y other = refl
 swap (o ∷ os) (suc m) (suc n) x y other = ap (λ (l : List (Option Rtx)). o ∷ l) (swap os m n x y (λ same. other (ap suc same)))
 
 -- what is found by its number is the operand
-pub found : (os : List Numbered) (k : ℕ) → option_map (λ o. o.tree) (find (λ o. o.number == k) os) ≡ operand_at (placed os) k
+pub found : (os : List (ℕ × Rtx)) (k : ℕ) → lookup (is_at (nat_cmp k)) os ≡ operand_at (placed os) k
 found [] k = refl
-found (o ∷ os) k = by_test (found os k) (o.number == k) refl
+found (o ∷ os) k = by_order (found os k) (nat_cmp k o.0) (ranked k o.0 (nat_cmp k o.0) refl)
   where
-    by_test : option_map (λ o. o.tree) (find (λ o. o.number == k) os) ≡ operand_at (placed os) k → (b : Bool) → (o.number == k) ≡ b → option_map (λ o. o.tree) (if b then Some o else find (λ o. o.number == k) os) ≡ operand_at (put_at (placed os) o.number o.tree) k
-    by_test rest true e = sym (ap (operand_at (put_at (placed os) o.number o.tree)) (sym (eqb-true o.number k e)) ∙ read_placed (placed os) o.number o.tree)
-    by_test rest false e = rest ∙ sym (read_other (placed os) o.number o.tree k (λ same. eqb-false o.number k e (sym same)))
+    other : k ≢ o.0 → lookup (is_at (nat_cmp k)) os ≡ operand_at (placed os) k → lookup (is_at (nat_cmp k)) os ≡ operand_at (put_at (placed os) o.0 o.1) k
+    other apart rest = rest ∙ sym (read_other (placed os) o.0 o.1 k apart)
 
--- an operand with a number
-abbrev one : ℕ → Rtx → Numbered
-one n x = record { number = n; tree = x }
+    by_order : lookup (is_at (nat_cmp k)) os ≡ operand_at (placed os) k → (r : Ordering) → MatchOrdering r (k < o.0) (k ≡ o.0) (o.0 < k) → cond (is_eq r) (Some o.1) (lookup (is_at (nat_cmp k)) os) ≡ operand_at (put_at (placed os) o.0 o.1) k
+    by_order rest Less below = other (λ same. omega (arith, same, below)) rest
+    by_order rest Equal same = sym (ap (operand_at (put_at (placed os) o.0 o.1)) same ∙ read_placed (placed os) o.0 o.1)
+    by_order rest Greater above = other (λ same. omega (arith, same, above)) rest
 
--- a number that none has is put behind the last
-none_from : (os : List Numbered) (i n : ℕ) (x : Rtx) → position_from (λ o. o.number == n) i os ≡ None → placed (os ++ one n x ∷ []) ≡ put_at (placed os) n x
-none_from [] i n x e = refl
-none_from (o ∷ os) i n x e = by_test (none_from os (i + 1) n x) (o.number == n) refl e
+-- a tree that is put among those that are kept is put among the operands
+inserted : (os : List (ℕ × Rtx)) (k : ℕ) (x : Rtx) → placed (insert_entry nat_cmp os k x) ≡ put_at (placed os) k x
+inserted [] k x = refl
+inserted (o ∷ os) k x = by_order (inserted os k x) (nat_cmp k o.0) (ranked k o.0 (nat_cmp k o.0) refl)
   where
-    by_test : (position_from (λ o. o.number == n) (i + 1) os ≡ None → placed (os ++ one n x ∷ []) ≡ put_at (placed os) n x) → (b : Bool) → (o.number == n) ≡ b → (if b then Some i else position_from (λ o. o.number == n) (i + 1) os) ≡ None → put_at (placed (os ++ one n x ∷ [])) o.number o.tree ≡ put_at (put_at (placed os) o.number o.tree) n x
-    by_test rest true e none = absurd (let never : ⊥ = cc in never)
-    by_test rest false e none = ap (λ (l : List (Option Rtx)). put_at l o.number o.tree) (rest none) ∙ swap (placed os) n o.number x o.tree (eqb-false o.number n e)
+    by_order : placed (insert_entry nat_cmp os k x) ≡ put_at (placed os) k x → (r : Ordering) → MatchOrdering r (k < o.0) (k ≡ o.0) (o.0 < k) → placed (match_ordering r ((k, x) ∷ o ∷ os) ((o.0, x) ∷ os) (o ∷ insert_entry nat_cmp os k x)) ≡ put_at (put_at (placed os) o.0 o.1) k x
+    by_order rest Less below = refl
+    by_order rest Equal same = sym (ap (λ (m : ℕ). put_at (put_at (placed os) o.0 o.1) m x) same ∙ again (placed os) o.0 x o.1)
+    by_order rest Greater above = ap (λ (l : List (Option Rtx)). put_at l o.0 o.1) rest ∙ swap (placed os) k o.0 x o.1 (λ same. omega (arith, same, above))
 
-pub put_last : (os : List Numbered) (n : ℕ) (x : Rtx) → position_from (λ o. o.number == n) 0 os ≡ None → placed (os ++ one n x ∷ []) ≡ put_at (placed os) n x
-put_last os n x e = none_from os 0 n x e
-
--- where some have a number, the first is replaced
-pub record PutFirst (os : List Numbered) (i n : ℕ) (x : Rtx) (k : ℕ) : Type 0 where
-  pub at : ℕ
-  pub is : k ≡ i + at
-  pub within : at < length os
-  pub put : placed (slice_set os at (one n x)) ≡ put_at (placed os) n x
-
-some_from : (os : List Numbered) (i n : ℕ) (x : Rtx) (k : ℕ) → position_from (λ o. o.number == n) i os ≡ Some k → PutFirst os i n x k
-some_from [] i n x k e = absurd (let never : ⊥ = cc in never)
-some_from (o ∷ os) i n x k e = by_test (some_from os (i + 1) n x k) (o.number == n) refl e
-  where
-    by_test : (position_from (λ o. o.number == n) (i + 1) os ≡ Some k → PutFirst os (i + 1) n x k) → (b : Bool) → (o.number == n) ≡ b → (if b then Some i else position_from (λ o. o.number == n) (i + 1) os) ≡ Some k → PutFirst (o ∷ os) i n x k
-    by_test more true e here = record {
-      at = 0;
-      is = (let same : i ≡ k = cc in omega (arith, same));
-      within = omega arith;
-      put = sym (ap (λ (m : ℕ). put_at (put_at (placed os) m o.tree) n x) (eqb-true o.number n e) ∙ again (placed os) n x o.tree);
-    }
-    by_test more false e there =
-        let rest = more there in
-        record {
-          at = suc rest.at;
-          is = omega (arith, rest.is);
-          within = omega (arith, rest.within);
-          put = ap (λ (l : List (Option Rtx)). put_at l o.number o.tree) rest.put ∙ swap (placed os) n o.number x o.tree (eqb-false o.number n e);
-        }
-
-pub first_within : (os : List Numbered) (n : ℕ) (x : Rtx) (k : ℕ) → position_from (λ o. o.number == n) 0 os ≡ Some k → k < length os
-first_within os n x k e = let first = some_from os 0 n x k e in omega (arith, first.is, first.within)
-
-pub put_first : (os : List Numbered) (n : ℕ) (x : Rtx) (k : ℕ) → position_from (λ o. o.number == n) 0 os ≡ Some k → placed (slice_set os k (one n x)) ≡ put_at (placed os) n x
-put_first os n x k e =
-    let first = some_from os 0 n x k e in
-    let same : k ≡ first.at = omega (arith, first.is) in
-    ap (λ (j : ℕ). placed (slice_set os j (one n x))) same ∙ first.put
-
-pub found_some : (os : List Numbered) (k : ℕ) (o : Numbered) → find (λ o. o.number == k) os ≡ Some o → Some o.tree ≡ operand_at (placed os) k
-found_some os k o e = sym (ap (option_map (λ (o : Numbered). o.tree)) e) ∙ found os k
-
-pub found_none : (os : List Numbered) (k : ℕ) → find (λ o. o.number == k) os ≡ None → None ≡ operand_at (placed os) k
-found_none os k e = sym (ap (option_map (λ (o : Numbered). o.tree)) e) ∙ found os k
+pub is_put : (before after : List (ℕ × Rtx)) (old : List (Option Rtx)) (k : ℕ) (x : Rtx) → after ≡ insert_entry nat_cmp before k x → placed before ≡ old → placed after ≡ put_at old k x
+is_put before after old k x is seen = ap placed is ∙ inserted before k x ∙ ap (λ (l : List (Option Rtx)). put_at l k x) seen

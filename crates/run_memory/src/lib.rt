@@ -6,8 +6,9 @@
 //! away.
 #![tactic(auto)]
 
-ghost use Rattle.std.specs.Prelude.{◌≡◌, ◌+◌, ◌*◌, ◌%◌, ◌^◌, ◌<◌, ◌≤◌, None, Some, IfOk, IfSome, MatchBool};
+ghost use Rattle.std.specs.Prelude.{◌≡◌, ◌+◌, ◌*◌, ◌%◌, ◌^◌, ◌<◌, ◌≤◌, ◌∷◌, ℕ, length, false, None, Some, IfOk, IfSome, MatchBool};
 ghost use Rattle.bits64.specs.Words.{bits_of, bytes_of};
+ghost use Rattle.rtx_tree.specs.Memories.{IsOrdered};
 ghost use Rattle.run_memory.specs.RunMemory as spec;
 
 use bits64::Width;
@@ -100,14 +101,45 @@ fn is_visible(ranges: &Ranges, address: u64) -> bool
     ranges.as_slice().iter().any(|range| is_in(address, *range))
 }
 
-/// The part of memory that lies in one of the ranges.
+/// The nearest beginning of a range above an address, or the greatest address where there is none.
+fn next_start(ranges: &Ranges, address: u64) -> u64
+    ensures { spec.is_visible ranges.now address ≡ false → (between : ℕ) →
+        address ≤ between → between < result → spec.is_visible ranges.now between ≡ false }
+{
+    let mut next = u64::MAX;
+    for range in ranges.as_slice() {
+        if address < range.address && range.address < next {
+            next = range.address;
+        }
+    }
+    next
+}
+
+/// What stands behind a byte that is not visible, from the next range on. It is found by halves.
+fn after_gap<'a>(ranges: &Ranges, hidden: MemByte, behind: &'a [MemByte]) -> &'a [MemByte]
+    requires ordered { IsOrdered (hidden ∷ behind.now) }
+    requires is_hidden { spec.is_visible ranges.now hidden.address ≡ false }
+    ensures visible { spec.visible ranges.now result.now ≡ spec.visible ranges.now behind.now }
+    ensures ordered { IsOrdered result.now }
+    ensures shorter { length result.now ≤ length behind.now }
+{
+    let next = next_start(ranges, hidden.address);
+    let gap = behind.partition_point(|b| b.address < next);
+    &behind[gap..]
+}
+
+/// The part of memory that lies in one of the ranges. Each gap between them is passed over at once.
 pub fn visible_part(alloc: Global, memory: &Memories, ranges: &Ranges) -> Result<Memories, Memory>
     ensures { IfOk result (λ part. part ≡ spec.visible ranges.now memory.now) }
 {
     let mut part = Items::new(alloc);
-    for b in memory.bytes() {
-        if is_visible(ranges, b.address) {
-            part.push(*b)?;
+    let mut rest = memory.bytes();
+    while let Some((byte, behind)) = rest.split_first() {
+        if is_visible(ranges, byte.address) {
+            part.push(*byte)?;
+            rest = behind;
+        } else {
+            rest = after_gap(ranges, *byte, behind);
         }
     }
     Ok(Memories::from_items(part))

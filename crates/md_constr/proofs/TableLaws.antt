@@ -15,8 +15,8 @@ use Rattle.md_constr.specs.declared.forms.FormConstraints.{FormConstraints}
 use Rattle.md_constr.specs.declared.table.Constraints.{Constraints}
 use Rattle.md_constr.specs.Admits.{name_admits}
 use Rattle.md_constr.specs.Inputs.{operands_of, inputs_of, changed_of}
-use Rattle.md_constr.specs.Fits.{Named, each_of, constraint_admits, fit_together, fits_alone, some_of, digit_stands, operand_clashes, fits, number_fits, number_admits, number_admits_apart, number_names, number_clashes}
-use Rattle.md_constr.specs.machine.Tables.{constraints_in, none_asked, constraints_by, constraints_of, found_number_fits, number_fits_in, found_number_admits, number_admits_in, found_number_names, number_names_in, found_number_clashes, number_clashes_in, name_admits_in, found_fits, fits_in, alternatives_in, AreConstraintsOf}
+use Rattle.md_constr.specs.Fits.{Named, each_of, constraint_admits, fit_together, fits_alone, fits, number_fits, number_admits}
+use Rattle.md_constr.specs.machine.Tables.{constraints_in, none_asked, constraints_by, constraints_of, found_number_fits, number_fits_in, found_number_admits, number_admits_in, name_admits_in, found_fits, fits_in, alternatives_in, AreConstraintsOf}
 
 -- ---- operands that fit
 
@@ -78,37 +78,6 @@ pub number_admits_same : (table : Constraints) (forms : List Entry) (accepts : A
     → number_admits_in table accepts form alternative operands number x ≡ number_admits forms accepts form alternative operands number x
 number_admits_same table forms accepts form alternative operands number x are =
     row_same (λ named c. found_number_admits named alternative operands number x c) (λ named f. each_of number (constraint_admits named operands alternative x) f.constraints) (λ named f. refl) (λ named. refl) table forms accepts form are
-
-pub number_admits_apart_same : (table : Constraints) (forms : List Entry) (accepts : Accepts) (form alternative number : ℕ) (x : Rtx) → AreConstraintsOf table forms
-    → number_admits_in table accepts form alternative [] number x ≡ number_admits_apart forms accepts form alternative number x
-number_admits_apart_same table forms accepts form alternative number x are = number_admits_same table forms accepts form alternative [] number x are
-
--- ---- what no predicate is asked for
-
-module _ (test : FormConstraints → Bool) (says : Form → Bool) (of_form : (f : Form) → test (constraints_in f) ≡ says f) (of_none : test none_asked ≡ false) where
-  plain_here : (r : Result Form Reason) → test (constraints_by r) ≡ option_map_or says (accepted_of r) false
-  plain_here (Ok f) = of_form f
-  plain_here (Err r) = of_none
-
-  plain_there : (e : Option Entry) → option_map_or test (option_map constraints_of e) false ≡ option_map_or says (option_and_then accepted e) false
-  plain_there None = refl
-  plain_there (Some e) = plain_here e.form
-
-  plain_same : (table : Constraints) (forms : List Entry) (form : ℕ) → AreConstraintsOf table forms
-      → option_map_or test (slice_get table.forms form) false ≡ option_map_or says (option_and_then accepted (slice_get forms form)) false
-  plain_same table forms form are =
-      ap (λ (t : List FormConstraints). option_map_or test (slice_get t form) false) are.rows
-      ∙ ap (λ (o : Option FormConstraints). option_map_or test o false) (slice_get-map constraints_of forms form) ∙ plain_there (slice_get forms form)
-
-pub number_names_same : (table : Constraints) (forms : List Entry) (form alternative number other : ℕ) → AreConstraintsOf table forms
-    → number_names_in table form alternative number other ≡ number_names forms form alternative number other
-number_names_same table forms form alternative number other are =
-    plain_same (λ c. found_number_names alternative number other c) (λ f. some_of number (digit_stands alternative other) f.constraints) (λ f. refl) refl table forms form are
-
-pub number_clashes_same : (table : Constraints) (forms : List Entry) (form alternative : ℕ) (operands : List (Option Rtx)) (number : ℕ) → AreConstraintsOf table forms
-    → number_clashes_in table form alternative operands number ≡ number_clashes forms form alternative operands number
-number_clashes_same table forms form alternative operands number are =
-    plain_same (λ c. found_number_clashes alternative operands number c) (λ f. some_of number (operand_clashes (inputs_of f) (changed_of f) operands alternative) f.constraints) (λ f. refl) refl table forms form are
 
 -- ---- alternatives
 

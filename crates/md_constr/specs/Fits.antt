@@ -64,12 +64,6 @@ abbrev pub clashes_in : List ℕ → List ℕ → List (Option Rtx) → OperandC
 clashes_in inputs changed operands k x a =
     is_early changed k a && shares_register inputs operands k.operand x
 
-abbrev pub clashes_at : List ℕ → List ℕ → List (Option Rtx) → ℕ → OperandConstraint → Rtx → Bool
-clashes_at inputs changed operands alternative k x = option_map_or (clashes_in inputs changed operands k x) (slice_get k.constraint alternative) false
-
-abbrev pub operand_clashes : List ℕ → List ℕ → List (Option Rtx) → ℕ → OperandConstraint → Bool
-operand_clashes inputs changed operands alternative k = option_map_or (clashes_at inputs changed operands alternative k) (operand_at operands k.operand) false
-
 -- ---- memory at far addresses
 
 -- the operand with a number is memory at a far address, which no load and no store reaches by
@@ -125,23 +119,6 @@ abbrev pub constraint_admits : Named → List (Option Rtx) → ℕ → Rtx → O
 constraint_admits named operands alternative x k =
     admits_among named operands x alternative k.constraint
 
--- what holds of one of the constraints of the operand with a number
-abbrev pub some_of : ℕ → (OperandConstraint → Bool) → List OperandConstraint → Bool
-some_of number p ks = list_any (λ k. k.operand == number && p k) ks
-
--- a member is the digit of an operand
-abbrev pub is_digit : ℕ → Member → Bool
-is_digit other (member.Same n) = n == other
-is_digit other _ = false
-
-abbrev pub has_digit : ℕ → Alternative → Bool
-has_digit other a = list_any (is_digit other) a.members
-
--- a digit of an operand stands among the members of a constraint in an alternative
-abbrev pub digit_stands : ℕ → ℕ → OperandConstraint → Bool
-digit_stands alternative other k =
-    option_map_or (has_digit other) (slice_get k.constraint alternative) false
-
 -- ---- forms
 
 -- all operands with these numbers and constraints fit: none is memory at a far address, and each
@@ -174,20 +151,3 @@ number_fits forms accepts form alternative operands number =
 abbrev pub number_admits : List Entry → Accepts → ℕ → ℕ → List (Option Rtx) → ℕ → Rtx → Bool
 number_admits forms accepts form alternative operands number x =
     option_map_or (λ f. each_of number (constraint_admits (name_admits forms accepts) operands alternative x) f.constraints) (form_at forms form) false
-
--- what a constraint admits where digits don't count: a member other than a digit admits the tree,
--- or the alternative is empty. Where no operands are given, no digit names one
-abbrev pub number_admits_apart : List Entry → Accepts → ℕ → ℕ → ℕ → Rtx → Bool
-number_admits_apart forms accepts form alternative number x =
-    number_admits forms accepts form alternative [] number x
-
--- whether the constraint of the operand with a number has the digit of another in an alternative of
--- the accepted form with an index
-abbrev pub number_names : List Entry → ℕ → ℕ → ℕ → ℕ → Bool
-number_names forms form alternative number other = option_map_or (λ f. some_of number (digit_stands alternative other) f.constraints) (form_at forms form) false
-
--- whether the operand with a number is an earlyclobber output there that shares a register with an
--- input
-abbrev pub number_clashes : List Entry → ℕ → ℕ → List (Option Rtx) → ℕ → Bool
-number_clashes forms form alternative operands number =
-    option_map_or (λ f. some_of number (operand_clashes (inputs_of f) (changed_of f) operands alternative) f.constraints) (form_at forms form) false

@@ -122,7 +122,3 @@ operands_of f = flat_map taken_in f.patterns
 -- the operands that a form's patterns set or clobber
 abbrev pub changed_of : Form → List ℕ
 changed_of f = flat_map changed_in f.patterns
-
--- the outputs of a form: the operands that its patterns set
-abbrev pub outputs_of : Form → List ℕ
-outputs_of f = flat_map outputs_in f.patterns

@@ -63,37 +63,3 @@ pub fn clashes_in(
     is_early(changed, constraint, alternative)
         && shares_register(inputs, operands, u64::from(constraint.operand), x)
 }
-
-fn clashes_at(
-    inputs: &[u64],
-    changed: &[u64],
-    operands: &Operands,
-    alternative: usize,
-    constraint: &OperandConstraint,
-    x: &Rtx,
-) -> bool
-    ensures { result ≡
-        spec.clashes_at inputs.now changed.now operands.now alternative constraint.now x.now }
-{
-    match constraint.constraint.as_slice().get(alternative) {
-        Some(alternative) => clashes_in(inputs, changed, operands, constraint, x, alternative),
-        None => false,
-    }
-}
-
-/// Whether the operand of a constraint, where there is one, is such an output.
-pub fn operand_clashes(
-    inputs: &[u64],
-    changed: &[u64],
-    operands: &Operands,
-    alternative: usize,
-    constraint: &OperandConstraint,
-) -> bool
-    ensures { result ≡
-        spec.operand_clashes inputs.now changed.now operands.now alternative constraint.now }
-{
-    match operands.get(constraint.operand as usize) {
-        Some(x) => clashes_at(inputs, changed, operands, alternative, constraint, x),
-        None => false,
-    }
-}

@@ -3,12 +3,9 @@ ghost use Rattle.std.specs.Prelude.{◌≡◌, IfOk, map};
 ghost use Rattle.md_constr.specs.machine.Tables as tables;
 
 use crate::copies::constraints_copy;
-use crate::digits::digit_stands;
-use crate::early::operand_clashes;
 use crate::inputs::{changed_of, inputs_of, operands_of};
 use md_forms::{Entry, Form, OperandConstraint, alternatives};
 use plain_data::{Items, Memory};
-use rtx_tree::Operands;
 use std::alloc::Global;
 
 /// What a form asks of its operands.
@@ -26,28 +23,6 @@ pub struct FormConstraints {
     pub changed: Items<u64>,
     /// How many alternatives it has.
     pub alternatives: usize,
-}
-
-impl FormConstraints {
-    /// Whether the constraint of the operand with a number has the digit of another in an
-    /// alternative.
-    pub fn names(&self, alternative: usize, number: u32, other: u32) -> bool
-        ensures { result ≡ tables.found_number_names alternative number other self.now }
-    {
-        self.constraints.as_slice().iter().any(|constraint| constraint.operand == number
-            && digit_stands(alternative, other, constraint))
-    }
-
-    /// Whether the operand with a number is an earlyclobber output in an alternative that shares a
-    /// register with an input.
-    pub fn clashes(&self, alternative: usize, operands: &Operands, number: u32) -> bool
-        ensures { result ≡ tables.found_number_clashes alternative operands.now number self.now }
-    {
-        let inputs = self.inputs.as_slice();
-        let changed = self.changed.as_slice();
-        self.constraints.as_slice().iter().any(|constraint| constraint.operand == number
-            && operand_clashes(inputs, changed, operands, alternative, constraint))
-    }
 }
 
 fn constraints_in(alloc: Global, form: &Form) -> Result<FormConstraints, Memory>

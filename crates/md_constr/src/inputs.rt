@@ -118,26 +118,6 @@ fn push_changed_by(x: &Rtx, numbers: &mut Numbers) -> Result<(), Memory>
     }
 }
 
-/// Appends what an effect sets.
-fn push_set_by(x: &Rtx, numbers: &mut Numbers) -> Result<(), Memory>
-    ensures { OnOk result (numbers.new ≡ numbers.old ++ spec.set_by x.now) }
-{
-    match (x.code, x.kids.as_slice()) {
-        (Code::Set, [target, _]) => push_changed_at(target, numbers),
-        _ => Ok(()),
-    }
-}
-
-#[tactic(auto, using(pred_expr::proofs::Each::pushed_next, pred_expr::proofs::Each::pushed_ends))]
-fn push_each_set_by(effects: &[Rtx], numbers: &mut Numbers) -> Result<(), Memory>
-    ensures { OnOk result (numbers.new ≡ numbers.old ++ flat_map spec.set_by effects.now) }
-{
-    for effect in effects {
-        push_set_by(effect, numbers)?;
-    }
-    Ok(())
-}
-
 #[tactic(auto, using(pred_expr::proofs::Each::pushed_next, pred_expr::proofs::Each::pushed_ends))]
 fn push_each_taken_by(effects: &[Rtx], numbers: &mut Numbers) -> Result<(), Memory>
     ensures { OnOk result (numbers.new ≡ numbers.old ++ flat_map spec.taken_by effects.now) }
@@ -212,24 +192,5 @@ pub fn changed_of(alloc: Global, form: &Form) -> Result<Numbers, Memory>
 {
     let mut numbers = Items::new(alloc);
     push_changed(form.patterns.as_slice(), &mut numbers)?;
-    Ok(numbers)
-}
-
-#[tactic(auto, using(pred_expr::proofs::Each::pushed_next, pred_expr::proofs::Each::pushed_ends))]
-fn push_outputs(patterns: &[Rtx], numbers: &mut Numbers) -> Result<(), Memory>
-    ensures { OnOk result (numbers.new ≡ numbers.old ++ flat_map spec.outputs_in patterns.now) }
-{
-    for pattern in patterns {
-        push_each_set_by(effects_of(pattern), numbers)?;
-    }
-    Ok(())
-}
-
-/// The numbers of the operands that a form sets.
-pub fn outputs_of(alloc: Global, form: &Form) -> Result<Numbers, Memory>
-    ensures { IfOk result (λ outputs. outputs ≡ spec.outputs_of form.now) }
-{
-    let mut numbers = Items::new(alloc);
-    push_outputs(form.patterns.as_slice(), &mut numbers)?;
     Ok(numbers)
 }

@@ -155,30 +155,6 @@ impl Constraints {
         }
     }
 
-    fn number_names_in(&self, form: u32, alternative: u32, number: u32, other: u32) -> bool
-        ensures { result ≡ tables.number_names_in self.now form alternative number other }
-    {
-        match self.constraints_of(form) {
-            Some(found) => found.names(alternative as usize, number, other),
-            None => false,
-        }
-    }
-
-    fn number_clashes_in(
-        &self,
-        form: u32,
-        alternative: u32,
-        operands: &Operands,
-        number: u32,
-    ) -> bool
-        ensures { result ≡ tables.number_clashes_in self.now form alternative operands.now number }
-    {
-        match self.constraints_of(form) {
-            Some(found) => found.clashes(alternative as usize, operands, number),
-            None => false,
-        }
-    }
-
     fn alternatives_in(&self, form: u32) -> usize
         ensures { result ≡ tables.alternatives_in self.now form }
     {
@@ -241,57 +217,6 @@ pub fn operand_admits<P: Preds>(
         spec.number_admits forms (P.accepts preds.now) form alternative operands.now number x.now }
 {
     table.number_admits_in(preds, form, alternative, operands, number, x)
-}
-
-/// Whether a member other than a digit of the constraint of the operand with a number admits a tree
-/// in an alternative of an accepted form, or the alternative has no members. It takes no memory.
-#[tactic(auto, using(crate::proofs::TableLaws::number_admits_same, crate::proofs::TableLaws::number_admits_apart_same))]
-pub fn operand_admits_apart<P: Preds>(
-    alloc: Global,
-    table: &Constraints,
-    preds: &P,
-    form: u32,
-    alternative: u32,
-    number: u32,
-    x: &Rtx,
-) -> bool
-    ensures { (forms : List Entry) → tables.AreConstraintsOf table.now forms → result ≡
-        spec.number_admits_apart forms (P.accepts preds.now) form alternative number x.now }
-{
-    let none = Operands::new(alloc);
-    table.number_admits_in(preds, form, alternative, &none, number, x)
-}
-
-/// Whether the constraint of the operand with a number has the digit of another in an alternative
-/// of an accepted form. It takes no memory.
-#[tactic(auto, using(crate::proofs::TableLaws::number_names_same))]
-pub fn operand_names(
-    table: &Constraints,
-    form: u32,
-    alternative: u32,
-    number: u32,
-    other: u32,
-) -> bool
-    ensures { (forms : List Entry) → tables.AreConstraintsOf table.now forms →
-        result ≡ spec.number_names forms form alternative number other }
-{
-    table.number_names_in(form, alternative, number, other)
-}
-
-/// Whether the operand with a number is an earlyclobber output in an alternative of an accepted
-/// form that shares a register with an input. It takes no memory.
-#[tactic(auto, using(crate::proofs::TableLaws::number_clashes_same))]
-pub fn operand_clashes(
-    table: &Constraints,
-    form: u32,
-    alternative: u32,
-    operands: &Operands,
-    number: u32,
-) -> bool
-    ensures { (forms : List Entry) → tables.AreConstraintsOf table.now forms →
-        result ≡ spec.number_clashes forms form alternative operands.now number }
-{
-    table.number_clashes_in(form, alternative, operands, number)
 }
 
 /// How many alternatives an accepted form has, 1 where it has no constraints. The greatest `u32`

@@ -20,7 +20,7 @@ use Rattle.md_constr.specs.declared.forms.FormConstraints.{FormConstraints}
 use Rattle.md_constr.specs.declared.table.Constraints.{Constraints}
 use Rattle.md_constr.specs.Admits.{class_admits, form_admits, name_admits}
 use Rattle.md_constr.specs.Inputs.{operands_of, inputs_of, changed_of}
-use Rattle.md_constr.specs.Fits.{Named, each_of, constraint_admits, fit_together, fits_alone, some_of, digit_stands, operand_clashes}
+use Rattle.md_constr.specs.Fits.{Named, each_of, constraint_admits, fit_together, fits_alone}
 
 -- ---- what a name means in a table
 
@@ -86,21 +86,6 @@ found_number_admits named alternative operands number x c =
 
 abbrev pub number_admits_in : Constraints → Accepts → ℕ → ℕ → List (Option Rtx) → ℕ → Rtx → Bool
 number_admits_in table accepts form alternative operands number x = option_map_or (found_number_admits (name_admits_in table.meanings accepts) alternative operands number x) (slice_get table.forms form) false
-
-abbrev pub found_number_names : ℕ → ℕ → ℕ → FormConstraints → Bool
-found_number_names alternative number other c =
-    some_of number (digit_stands alternative other) c.constraints
-
-abbrev pub number_names_in : Constraints → ℕ → ℕ → ℕ → ℕ → Bool
-number_names_in table form alternative number other =
-    option_map_or (found_number_names alternative number other) (slice_get table.forms form) false
-
-abbrev pub found_number_clashes : ℕ → List (Option Rtx) → ℕ → FormConstraints → Bool
-found_number_clashes alternative operands number c =
-    some_of number (operand_clashes c.inputs c.changed operands alternative) c.constraints
-
-abbrev pub number_clashes_in : Constraints → ℕ → ℕ → List (Option Rtx) → ℕ → Bool
-number_clashes_in table form alternative operands number = option_map_or (found_number_clashes alternative operands number) (slice_get table.forms form) false
 
 abbrev pub alternatives_in : Constraints → ℕ → ℕ
 alternatives_in table form = option_map_or (λ c. c.alternatives) (slice_get table.forms form) 0

@@ -13,8 +13,8 @@ ghost use Rattle.std.specs.Option.{is_some};
 use crate::goal::{Goal, Goals};
 use crate::part::{Part, Signature, is_maker, level, signature_of, unary_of};
 use c_words::{
-    Atom, Binary, Call, CondHead, Dialect, Keyword, Property, Token, Unary, atom_of, code_in_capitals,
-    mode_named,
+    Atom, Binary, Call, CondHead, Dialect, Keyword, Property, Token, Unary, atom_of,
+    code_in_capitals, mode_named,
 };
 use plain_data::Memory;
 use rtx_tree::{Constant, Mode, Name};

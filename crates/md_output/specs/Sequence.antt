@@ -8,8 +8,6 @@ use Rattle.rtx_tree.specs.declared.class.Class.{Class}
 use Rattle.rtx_tree.specs.declared.class.Class.TheVariants.{Comparison}
 use Rattle.rtx_tree.specs.declared.code.Code.{Code}
 use Rattle.rtx_tree.specs.declared.code.Code.TheVariants.{Reg, ConstInt, SymbolRef, LabelRef}
-use Rattle.rtx_tree.specs.declared.code.Code.TheVariants.{Eq, Ne, Lt, Ge, Gt, Le}
-use Rattle.rtx_tree.specs.declared.code.Code.TheVariants.{Ltu, Geu, Gtu, Leu}
 use Rattle.rtx_tree.specs.declared.tree.Rtx.{Rtx, out-Rtx}
 use Rattle.rtx_tree.specs.Code.{class_of_code, code_name, reversed}
 use Rattle.rv_text.specs.Body.{label_text}

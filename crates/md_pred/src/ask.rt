@@ -196,9 +196,7 @@ impl PredTable {
         match node {
             Node::Codes(codes) => Step::Answer(has_code(codes.as_slice(), x)),
             Node::Condition(heads) => Step::Answer(condition_holds(heads.as_slice(), x)),
-            Node::Predicate { name, mode } => {
-                self.asked(name, x, mode.or(at.mode), at.rounds)
-            }
+            Node::Predicate { name, mode } => { self.asked(name, x, mode.or(at.mode), at.rounds) }
             Node::And(a, b) => self.lighter_first(at, *a, *b, false, x),
             Node::Ior(a, b) => self.lighter_first(at, *a, *b, true, x),
             Node::Not(a) => self.part(at, *a).turned(),

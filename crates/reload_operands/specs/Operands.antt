@@ -5,8 +5,6 @@ use Rattle.std.specs.Prelude.{ℕ, ℤ, pos, negsuc, Bool, true, false, ◌==◌
 use Rattle.std.specs.List.{find, flat_map}
 use Rattle.rtx_tree.specs.declared.code.Code.{Code}
 use Rattle.rtx_tree.specs.declared.code.Code.TheVariants.{Scratch, MatchOperator}
-use Rattle.rtx_tree.specs.declared.code.Mode.{Mode}
-use Rattle.rtx_tree.specs.declared.code.Mode.TheVariants.{Void}
 use Rattle.rtx_tree.specs.declared.tree.Rtx.{Rtx}
 use Rattle.rtx_tree.specs.Operands.{operand_at}
 use Rattle.rtx_tree.specs.Tree.{head_of}

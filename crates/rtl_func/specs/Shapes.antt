@@ -6,7 +6,7 @@ use Rattle.std.specs.Int.{cast_unsigned, w64}
 use Rattle.std.specs.List.{list_all}
 use Rattle.rtx_tree.specs.Code.{class_of_code, is_value_class, is_place_class, is_effect_class, mode_bits}
 use Rattle.rtx_tree.specs.declared.code.Mode.{Mode}
-use Rattle.rtx_tree.specs.declared.code.Mode.TheVariants.{Void, QI, HI, SI, DI}
+use Rattle.rtx_tree.specs.declared.code.Mode.TheVariants.{SI, DI}
 use Rattle.rtx_tree.specs.declared.tree.Rtx.{Rtx, out-Rtx}
 use Rattle.rtx_tree.specs.declared.class.Class.{Class}
 use Rattle.rtx_tree.specs.declared.class.Class.TheVariants as class

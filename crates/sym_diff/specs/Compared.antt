@@ -5,7 +5,6 @@ use Rattle.std.specs.Str.{bytes_eq}
 use Rattle.bits64.specs.declared.Width.TheVariants.{W64}
 use Rattle.bits64.specs.Words.{bits_of}
 use Rattle.rtx_tree.specs.declared.code.Mode.{Mode}
-use Rattle.rtx_tree.specs.declared.code.Mode.TheVariants.{Void, QI, HI, SI, DI}
 use Rattle.rtx_tree.specs.Code.{mode_bits}
 use Rattle.term_tree.specs.Tree.{Tree}
 use Rattle.term_mean.specs.Stores.{Store}

@@ -1,7 +1,6 @@
 //! The items in which two sides of a comparison can differ.
 ghost use Rattle.std.specs.Prelude.{◌≡◌, ◌++◌, codes, OnOk};
 ghost use Rattle.std.specs.Fmt.{decimal};
-ghost use Rattle.rtx_tree.specs.Registers.{register_text};
 ghost use Rattle.term_text.specs.Item as spec;
 
 use plain_data::Memory;

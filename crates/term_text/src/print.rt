@@ -1,6 +1,5 @@
 //! Prints terms on one line.
 ghost use Rattle.std.specs.Prelude.{◌≡◌, ◌++◌, ◌∷◌, [], OnOk, IfOk, codes, map};
-ghost use Rattle.std.specs.Fmt.{decimal};
 ghost use Rattle.bits64.specs.Words.{bits_of, signed};
 ghost use Rattle.term_tree.specs.declared.head.Head.TheVariants as heads;
 ghost use Rattle.term_tree.specs.Tree.{trees_of, atoms_of};

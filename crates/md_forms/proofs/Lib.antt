@@ -3,6 +3,7 @@ pub mod NameLaws
 pub mod DepthLaws
 pub mod TextKeys
 pub mod FirstNames
+pub mod NumberLaws
 pub mod CountLaws
 pub mod ShownNames
 pub mod Checked

@@ -9,16 +9,17 @@ ghost use Rattle.md_forms.specs.Names as names;
 
 use crate::definitions::Definitions;
 use crate::form::{Form, OperandConstraint};
-use crate::names::{assigns, predicates_named, push_all_dups, push_all_operands};
+use crate::names::{assigned_by, predicates_named, push_all_dups, push_all_operands};
+use crate::operands::Operands;
 use crate::predicates::all_known;
 use crate::tables::{AttributeDraft, ConstraintDraft, Tables, is_among, is_constraint};
-use c_cond::CondHead;
 use md_draft::{Attribute, Defined, Draft, FormHead, Made, Matched, Output, Printed};
 use md_pattern::{Judged, OperandText, Patterns, Reason};
 use md_text::{Alternative, ConstraintNames, Member, Template, constraint_of};
 use plain_data::{Items, Memory};
 use rtx_tree::{Kids, Name, Rtx};
 use std::alloc::Global;
+use std::collections::BTreeSet;
 use text_words::same;
 
 /// The greatest number of operands, and of alternatives.
@@ -28,7 +29,7 @@ const MOST: usize = 30;
 #[derive(Drop)]
 pub struct Numbers {
     /// The operands of the patterns.
-    pub matched: Items<u64>,
+    pub matched: Operands,
     /// The operands of the patterns and of the new sequence.
     pub all: Items<u64>,
 }
@@ -69,23 +70,20 @@ fn dups_of(alloc: Global, trees: &[Rtx]) -> Result<Items<u64>, Memory>
 fn numbers_of(alloc: Global, draft: &Draft) -> Result<Numbers, Memory>
     ensures { IfOk result (λ numbers. steps.AreNumbers numbers draft.now) }
 {
-    let matched = operands_of(alloc, draft.matched.patterns.trees.as_slice())?;
+    let matched = Operands::of(
+        alloc,
+        operands_of(alloc, draft.matched.patterns.trees.as_slice())?,
+    )?;
     let mut all = operands_of(alloc, draft.matched.patterns.trees.as_slice())?;
     push_all_operands(draft.made.sequence.trees.as_slice(), &mut all)?;
     Ok(Numbers { matched, all })
-}
-
-fn has(numbers: &[u64], number: u64) -> bool
-    ensures { result ≡ spec.has numbers.now number }
-{
-    numbers.iter().any(|other| *other == number)
 }
 
 fn are_distinct(numbers: &[u64]) -> bool
     ensures { result ≡ spec.are_distinct numbers.now }
 {
     for at in 0..numbers.len() {
-        if has(&numbers[at + 1..], numbers[at]) {
+        if numbers[at + 1..].contains(&numbers[at]) {
             return false;
         }
     }
@@ -99,32 +97,34 @@ fn is_expander(head: FormHead) -> bool
 }
 
 /// Whether an operand may stand once more in a pattern.
-fn dup_stands(expander: bool, matched: &[u64], statements: &[CondHead], number: u64) -> bool
-    ensures { result ≡ spec.dup_by expander matched.now statements.now number }
+fn dup_stands(expander: bool, matched: &Operands, assigned: &BTreeSet<u64>, number: u64) -> bool
+    ensures { result ≡ steps.dup_in expander matched.now assigned.now number }
 {
-    has(matched, number) || (expander && assigns(statements, number))
+    matched.has(number) || (expander && assigned.contains(&number))
 }
 
-fn all_dups_stand(expander: bool, matched: &[u64], statements: &[CondHead], dups: &[u64]) -> bool
-    ensures { result ≡ list_all (spec.dup_by expander matched.now statements.now) dups.now }
+fn all_dups_stand(
+    expander: bool,
+    matched: &Operands,
+    assigned: &BTreeSet<u64>,
+    dups: &[u64],
+) -> bool
+    ensures { result ≡ list_all (steps.dup_in expander matched.now assigned.now) dups.now }
 {
-    dups.iter().all(|number| dup_stands(expander, matched, statements, *number))
+    dups.iter()
+        .all(|number| dup_stands(expander, matched, assigned, *number))
 }
 
-#[tactic(auto, unfolding(crate::specs::Checks::dups_by))]
-fn dups_stand(alloc: Global, draft: &Draft, matched: &[u64]) -> Result<bool, Memory>
+#[tactic(auto, using(crate::proofs::NumberLaws::all_dups), unfolding(crate::specs::Checks::dups_by))]
+fn dups_stand(alloc: Global, draft: &Draft, matched: &Operands) -> Result<bool, Memory>
     ensures { IfOk result (λ stand. stand ≡ spec.dups_by matched.now draft.now) }
 {
-    let statements = draft.made.statements.heads();
+    let assigned = assigned_by(alloc, draft.made.statements.heads())?;
     let dups = dups_of(alloc, draft.matched.patterns.trees.as_slice())?;
     let new_dups = dups_of(alloc, draft.made.sequence.trees.as_slice())?;
     Ok(
-        all_dups_stand(
-            is_expander(draft.head),
-            matched,
-            statements,
-            dups.as_slice(),
-        ) && all_dups_stand(true, matched, statements, new_dups.as_slice()),
+        all_dups_stand(is_expander(draft.head), matched, &assigned, dups.as_slice())
+            && all_dups_stand(true, matched, &assigned, new_dups.as_slice()),
     )
 }
 
@@ -182,18 +182,18 @@ fn constraints_in(
     }
 }
 
-fn member_stands(numbers: &[u64], known: &Definitions<ConstraintDraft>, member: &Member) -> bool
+fn member_stands(numbers: &Operands, known: &Definitions<ConstraintDraft>, member: &Member) -> bool
     ensures { result ≡ spec.member_stands numbers.now known.now member.now }
 {
     match member {
         Member::Letter(_) => true,
-        Member::Same(number) => has(numbers, u64::from(*number)),
+        Member::Same(number) => numbers.has(u64::from(*number)),
         Member::Defined(name) => is_constraint(known, name.bytes()),
     }
 }
 
 fn alternative_stands(
-    numbers: &[u64],
+    numbers: &Operands,
     known: &Definitions<ConstraintDraft>,
     alternative: &Alternative,
 ) -> bool
@@ -207,7 +207,7 @@ fn alternative_stands(
 }
 
 fn constraint_stands(
-    numbers: &[u64],
+    numbers: &Operands,
     known: &Definitions<ConstraintDraft>,
     constraint: &OperandConstraint,
 ) -> bool
@@ -247,7 +247,7 @@ fn all_have_length(count: usize, constraints: &[OperandConstraint]) -> bool
 }
 
 fn all_stand(
-    numbers: &[u64],
+    numbers: &Operands,
     known: &Definitions<ConstraintDraft>,
     constraints: &[OperandConstraint],
 ) -> bool
@@ -260,7 +260,7 @@ fn all_stand(
 
 #[tactic(auto, unfolding(crate::specs::Checks::constraints_stand))]
 fn constraints_stand(
-    numbers: &[u64],
+    numbers: &Operands,
     known: &Definitions<ConstraintDraft>,
     constraints: &[OperandConstraint],
 ) -> bool
@@ -272,10 +272,11 @@ fn constraints_stand(
 
 // ---- attributes
 
+#[tactic(auto, using(crate::proofs::FirstNames::found_among))]
 fn is_value(attribute: &AttributeDraft, value: &[u8]) -> bool
     ensures { result ≡ spec.is_value attribute.now value.now }
 {
-    same(b"*", value) || is_among(attribute.values.as_slice(), value)
+    same(b"*", value) || attribute.values.place_of(value).is_some()
 }
 
 fn all_values(attribute: &AttributeDraft, values: &[Name]) -> bool
@@ -372,7 +373,7 @@ fn operands_stand(
     if !numbers_stand(numbers.all.as_slice(), alternatives) {
         return Ok(false);
     }
-    dups_stand(alloc, draft, numbers.matched.as_slice())
+    dups_stand(alloc, draft, &numbers.matched)
 }
 
 /// Whether a template has a text for each alternative.
@@ -410,7 +411,7 @@ fn reason_with(
     requires numbers { steps.AreNumbers numbers.now draft.now }
     ensures { IfOk result (λ reason. reason ≡ steps.reason_behind tables.now draft.now) }
 {
-    if !constraints_stand(numbers.matched.as_slice(), &tables.constraints, constraints) {
+    if !constraints_stand(&numbers.matched, &tables.constraints, constraints) {
         return Ok(Some(Reason::Constraint));
     }
     let count = alternatives(constraints);

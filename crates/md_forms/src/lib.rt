@@ -12,6 +12,7 @@ mod definitions;
 mod form;
 mod forms;
 mod names;
+mod operands;
 mod places;
 mod predicates;
 mod shown;

@@ -1,6 +1,8 @@
 //! What a form names: predicates and operands.
-ghost use Rattle.std.specs.Prelude.{◌≡◌, ◌++◌, IfOk, OnOk};
+ghost use Rattle.std.specs.Prelude.{◌≡◌, ◌++◌, ◌||◌, ℕ, IfOk, OnOk};
+ghost use Rattle.std.specs.BTreeSet as set;
 ghost use Rattle.std.specs.List.{flat_map, list_any};
+ghost use Rattle.std.specs.Ordering.{nat_cmp};
 ghost use Rattle.rtx_tree.specs.Tree.{head_of};
 ghost use Rattle.md_forms.specs.Names as spec;
 
@@ -10,6 +12,7 @@ use plain_data::{Items, Memory};
 use pred_expr::Test;
 use rtx_tree::{Code, Name, Rtx};
 use std::alloc::Global;
+use std::collections::BTreeSet;
 
 // ---- predicates
 
@@ -160,18 +163,25 @@ pub fn push_all_dups(trees: &[Rtx], numbers: &mut Items<u64>) -> Result<(), Memo
     Ok(())
 }
 
-fn is_assigned(number: u64, head: &CondHead) -> bool
-    ensures { result ≡ spec.is_assigned number head.now }
+/// Puts the operand that a statement sets among others.
+fn note_assigned(head: &CondHead, numbers: &mut BTreeSet<u64>) -> Result<(), Memory>
+    ensures { OnOk result ((n : ℕ) → set.contains nat_cmp numbers.new n ≡
+        (spec.is_assigned n head.now || set.contains nat_cmp numbers.old n)) }
 {
-    match head {
-        CondHead::Assign(operand) => u64::from(*operand) == number,
-        _ => false,
+    if let CondHead::Assign(operand) = head {
+        numbers.insert(u64::from(*operand))?;
     }
+    Ok(())
 }
 
-/// Whether one of some statements sets the operand.
-pub fn assigns(heads: &[CondHead], number: u64) -> bool
-    ensures { result ≡ list_any (spec.is_assigned number) heads.now }
+/// The numbers of the operands that statements set.
+pub fn assigned_by(alloc: Global, heads: &[CondHead]) -> Result<BTreeSet<u64>, Memory>
+    ensures { IfOk result (λ numbers. (n : ℕ) →
+        set.contains nat_cmp numbers n ≡ list_any (spec.is_assigned n) heads.now) }
 {
-    heads.iter().any(|head| is_assigned(number, head))
+    let mut numbers = BTreeSet::new(alloc);
+    for at in (0..heads.len()).rev() {
+        note_assigned(&heads[at], &mut numbers)?;
+    }
+    Ok(numbers)
 }

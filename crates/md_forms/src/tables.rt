@@ -48,12 +48,21 @@ impl Named for ConstraintDraft {
     }
 }
 
-/// A definition of an attribute.
+// A value of an attribute is its own name.
+impl Named for Name {
+    ghost name = { λ value. value };
+
+    fn name(&self) -> &[u8] {
+        self.bytes()
+    }
+}
+
+/// A definition of an attribute. One of its values is found at once.
 #[derive(Drop)]
 pub struct AttributeDraft {
     pub name: Name,
     pub accepted: bool,
-    pub values: Items<Name>,
+    pub values: Definitions<Name>,
 }
 
 impl Named for AttributeDraft {
@@ -292,12 +301,12 @@ fn attribute_draft(
                 draft.defined.values.as_slice(),
                 draft.defined.default.bytes(),
             ),
-            values: copied_names(alloc, draft.defined.values.as_slice())?,
+            values: Definitions::of(alloc, copied_names(alloc, draft.defined.values.as_slice())?)?,
         }),
         Err(_) => Ok(AttributeDraft {
             name,
             accepted: false,
-            values: Items::new(alloc),
+            values: Definitions::of(alloc, Items::new(alloc))?,
         }),
     }
 }

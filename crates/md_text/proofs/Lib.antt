@@ -2,5 +2,5 @@ pub mod Parts
 pub mod Blanks
 pub mod Each
 pub mod Cuts
-pub mod TextLaws
 pub mod NameLaws
+pub mod Narrowing

@@ -1,7 +1,7 @@
 -- The members of a text with commas between them, as a define_attr, a set_attr or a match_code has
 -- them: GCC Internals, "Defining Attributes and their Values" and "Defining Machine-Specific
 -- Predicates".
-use Rattle.std.specs.Prelude.{ℕ, ◌==◌, Bool, ◌||◌, List, [], ◌∷◌, ◌++◌, Option, Some, if◌then◌else◌, map, option_map, option_and_then}
+use Rattle.std.specs.Prelude.{ℕ, ◌==◌, List, [], ◌∷◌, ◌++◌, Option, Some, if◌then◌else◌, map, option_map, option_and_then}
 use Rattle.text_words.specs.Blanks.{is_blank, behind_blanks}
 
 -- bytes in front of the first of some parts

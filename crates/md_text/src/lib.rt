@@ -16,7 +16,6 @@ mod lists;
 mod names;
 mod sign;
 mod template;
-mod texts;
 
 pub use constraint::{Alternative, Constraint, Direction, Letter, Member, constraint_of};
 pub use lists::{members_of, parts_of, trimmed};

@@ -10,7 +10,7 @@ ghost use Rattle.md_forms.specs.Names as names;
 use crate::definitions::Definitions;
 use crate::form::{Form, OperandConstraint};
 use crate::names::{assigned_by, predicates_named, push_all_dups, push_all_operands};
-use crate::operands::Operands;
+use crate::operands::OperandNumbers;
 use crate::predicates::all_known;
 use crate::tables::{AttributeDraft, ConstraintDraft, Tables, is_among, is_constraint};
 use md_draft::{Attribute, Defined, Draft, FormHead, Made, Matched, Output, Printed};
@@ -29,7 +29,7 @@ const MOST: usize = 30;
 #[derive(Drop)]
 pub struct Numbers {
     /// The operands of the patterns.
-    pub matched: Operands,
+    pub matched: OperandNumbers,
     /// The operands of the patterns and of the new sequence.
     pub all: Items<u64>,
 }
@@ -70,7 +70,7 @@ fn dups_of(alloc: Global, trees: &[Rtx]) -> Result<Items<u64>, Memory>
 fn numbers_of(alloc: Global, draft: &Draft) -> Result<Numbers, Memory>
     ensures { IfOk result (λ numbers. steps.AreNumbers numbers draft.now) }
 {
-    let matched = Operands::of(
+    let matched = OperandNumbers::of(
         alloc,
         operands_of(alloc, draft.matched.patterns.trees.as_slice())?,
     )?;
@@ -97,7 +97,12 @@ fn is_expander(head: FormHead) -> bool
 }
 
 /// Whether an operand may stand once more in a pattern.
-fn dup_stands(expander: bool, matched: &Operands, assigned: &BTreeSet<u64>, number: u64) -> bool
+fn dup_stands(
+    expander: bool,
+    matched: &OperandNumbers,
+    assigned: &BTreeSet<u64>,
+    number: u64,
+) -> bool
     ensures { result ≡ steps.dup_in expander matched.now assigned.now number }
 {
     matched.has(number) || (expander && assigned.contains(&number))
@@ -105,7 +110,7 @@ fn dup_stands(expander: bool, matched: &Operands, assigned: &BTreeSet<u64>, numb
 
 fn all_dups_stand(
     expander: bool,
-    matched: &Operands,
+    matched: &OperandNumbers,
     assigned: &BTreeSet<u64>,
     dups: &[u64],
 ) -> bool
@@ -116,7 +121,7 @@ fn all_dups_stand(
 }
 
 #[tactic(auto, using(crate::proofs::NumberLaws::all_dups), unfolding(crate::specs::Checks::dups_by))]
-fn dups_stand(alloc: Global, draft: &Draft, matched: &Operands) -> Result<bool, Memory>
+fn dups_stand(alloc: Global, draft: &Draft, matched: &OperandNumbers) -> Result<bool, Memory>
     ensures { IfOk result (λ stand. stand ≡ spec.dups_by matched.now draft.now) }
 {
     let assigned = assigned_by(alloc, draft.made.statements.heads())?;
@@ -182,7 +187,11 @@ fn constraints_in(
     }
 }
 
-fn member_stands(numbers: &Operands, known: &Definitions<ConstraintDraft>, member: &Member) -> bool
+fn member_stands(
+    numbers: &OperandNumbers,
+    known: &Definitions<ConstraintDraft>,
+    member: &Member,
+) -> bool
     ensures { result ≡ spec.member_stands numbers.now known.now member.now }
 {
     match member {
@@ -193,7 +202,7 @@ fn member_stands(numbers: &Operands, known: &Definitions<ConstraintDraft>, membe
 }
 
 fn alternative_stands(
-    numbers: &Operands,
+    numbers: &OperandNumbers,
     known: &Definitions<ConstraintDraft>,
     alternative: &Alternative,
 ) -> bool
@@ -207,7 +216,7 @@ fn alternative_stands(
 }
 
 fn constraint_stands(
-    numbers: &Operands,
+    numbers: &OperandNumbers,
     known: &Definitions<ConstraintDraft>,
     constraint: &OperandConstraint,
 ) -> bool
@@ -247,7 +256,7 @@ fn all_have_length(count: usize, constraints: &[OperandConstraint]) -> bool
 }
 
 fn all_stand(
-    numbers: &Operands,
+    numbers: &OperandNumbers,
     known: &Definitions<ConstraintDraft>,
     constraints: &[OperandConstraint],
 ) -> bool
@@ -260,7 +269,7 @@ fn all_stand(
 
 #[tactic(auto, unfolding(crate::specs::Checks::constraints_stand))]
 fn constraints_stand(
-    numbers: &Operands,
+    numbers: &OperandNumbers,
     known: &Definitions<ConstraintDraft>,
     constraints: &[OperandConstraint],
 ) -> bool

@@ -9,12 +9,12 @@ use std::marker::Model;
 
 /// The numbers of some operands, in the order of the text. One is looked up by halves.
 #[derive(Drop)]
-pub struct Operands {
+pub struct OperandNumbers {
     all: Items<u64>,
     sorted: BTreeSet<u64>,
 }
 
-impl Model for Operands {
+impl Model for OperandNumbers {
     ghost use Rattle.std.specs.Prelude.{◌≡◌, List, ℕ};
     ghost use Rattle.std.specs.Coded.{coded_list, coded_ℕ};
     ghost use Rattle.std.specs.Ordering.{nat_cmp};
@@ -31,16 +31,16 @@ impl Model for Operands {
         set.contains nat_cmp numbers.sorted n ≡ has numbers.all n };
 }
 
-impl Operands {
+impl OperandNumbers {
     /// The numbers of a list.
-    pub fn of(alloc: Global, all: Items<u64>) -> Result<Operands, Memory>
+    pub fn of(alloc: Global, all: Items<u64>) -> Result<OperandNumbers, Memory>
         ensures { IfOk result (λ numbers. numbers ≡ all) }
     {
         let mut sorted = BTreeSet::new(alloc);
         for at in (0..all.len()).rev() {
             sorted.insert(*all.item(at))?;
         }
-        Ok(Operands { all, sorted })
+        Ok(OperandNumbers { all, sorted })
     }
 
     /// Whether a number is one of them.

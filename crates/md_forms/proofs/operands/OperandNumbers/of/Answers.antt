@@ -1,5 +1,5 @@
 use Rattle.md_forms.proofs.NumberLaws.{has_more}
-use Rattle.md_forms.proofs.operands.Operands.of.Goals as goal
+use Rattle.md_forms.proofs.operands.OperandNumbers.of.Goals as goal
 
 pub loop-at-preserved : goal.loop-at-preserved
 loop-at-preserved c =

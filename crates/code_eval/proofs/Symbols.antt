@@ -1,9 +1,14 @@
 -- The symbols of a tree, by those of its kids, and of a chain, by those of its trees.
-use Rattle.std.proofs.Common.{◌≡◌, ◌<◌, ◌+◌, ◌^◌, ℕ, List, [], ◌∷◌, ◌++◌, length, drop, get_or, refl, sym, ap, subst, ◌∙◌}
+use Rattle.std.proofs.Common.{◌≡◌, ◌<◌, ◌+◌, ◌^◌, ◌||◌, ℕ, Bool, true, false, if◌then◌else◌, Some, None, List, [], ◌∷◌, ◌++◌, length, drop, get_or, refl, sym, ap, subst, ◌∙◌}
 use Rattle.std.proofs.lemmas.List.{at_drop_more}
 use Rattle.std.proofs.lemmas.List.Elements.{All-nil, All-cons, All-append}
 use Rattle.std.proofs.lemmas.List.Folds.{flat_map-map}
+use Rattle.std.specs.Prelude.{is_some}
 use Rattle.std.specs.List.{flat_map}
+use Rattle.std.specs.Str.{bytes_eq}
+use Rattle.run_memory.specs.Symbols.{symbol_address}
+use Rattle.rtl_func.specs.Names.{is_among}
+use Rattle.rtl_func.specs.declared.names.Names.{Names}
 use Rattle.rtx_tree.specs.declared.tree.Rtx.{Rtx}
 use Rattle.rtx_tree.specs.declared.tree.Rtx.TheFolds.{fold_out-Rtx}
 use Rattle.rtx_tree.specs.Tree.{head_of, kids_of}
@@ -38,3 +43,25 @@ pub address_pushed : (symbols after : List SymbolAt) (symbol : SymbolAt) → aft
 address_pushed symbols after symbol is fits all =
     let P : SymbolAt → Type 0 = λ s. IsWord s.address in
     subst AreAddresses (sym is) (All-append P symbols (symbol ∷ []) all (All-cons P symbol [] fits (All-nil P)))
+
+-- a symbol has an address where it had one, or is the last
+address_behind : (symbols : List SymbolAt) (last : SymbolAt) (name : List ℕ) → is_some (symbol_address (symbols ++ last ∷ []) name) ≡ (is_some (symbol_address symbols name) || bytes_eq last.name name)
+address_behind [] last name = by (bytes_eq last.name name)
+  where
+    by : (same : Bool) → is_some (if same then Some last.address else None) ≡ (false || same)
+    by true = refl
+    by false = refl
+address_behind (s ∷ symbols) last name = by (address_behind symbols last name) (bytes_eq s.name name)
+  where
+    by : is_some (symbol_address (symbols ++ last ∷ []) name) ≡ (is_some (symbol_address symbols name) || bytes_eq last.name name) → (same : Bool) →
+        is_some (if same then Some s.address else symbol_address (symbols ++ last ∷ []) name) ≡ (is_some (if same then Some s.address else symbol_address symbols name) || bytes_eq last.name name)
+    by rest true = refl
+    by rest false = rest
+
+-- with one more symbol, and its name among the names, the names are still those of the symbols
+pub named_pushed : (symbols after : List SymbolAt) (names more : Names) (symbol : SymbolAt) (text : List ℕ) → symbol.name ≡ text → after ≡ symbols ++ symbol ∷ [] →
+    ((name : List ℕ) → is_among more name ≡ (is_among names name || bytes_eq text name)) → ((name : List ℕ) → is_among names name ≡ is_some (symbol_address symbols name)) →
+    (name : List ℕ) → is_among more name ≡ is_some (symbol_address after name)
+named_pushed symbols after names more symbol text same is put all name =
+    put name ∙ (ap (λ t. is_among names name || bytes_eq t name) (sym same) ∙ (ap (λ b. b || bytes_eq symbol.name name) (all name)
+    ∙ (sym (address_behind symbols symbol name) ∙ ap (λ s. is_some (symbol_address s name)) (sym is))))

@@ -3,10 +3,11 @@ ghost use Rattle.std.specs.Prelude.{◌≡◌, ◌++◌, ◌<◌, ◌^◌, IfOk,
 ghost use Rattle.rtx_tree.specs.Tree.{head_of};
 ghost use Rattle.same_behaviour.specs.Lawful.{AreAddresses};
 ghost use Rattle.code_eval.specs.World as spec;
+ghost use Rattle.code_eval.specs.machine.Used.{AreNamed};
 
 use plain_data::{Items, Memory};
+use rtl_func::Names;
 use rtx_tree::{Code, Function, Insn, Name, Replies, Reply, Rtx, SymbolAt, Symbols, World};
-use run_memory::symbol_address;
 use std::alloc::Global;
 
 /// Where the first symbol of a function stands.
@@ -29,44 +30,62 @@ fn address_at(place: usize) -> Result<u64, Memory>
     }
 }
 
+/// Symbols with their addresses, and their names, among which one is found at once.
+#[derive(Drop)]
+struct UsedSymbols {
+    symbols: Symbols,
+    names: Names,
+}
+
 /// Puts a symbol behind others, unless it is one of them.
 #[tactic(auto, using(crate::proofs::Symbols::address_pushed))]
-fn push_symbol(alloc: Global, name: &Name, symbols: &mut Symbols) -> Result<(), Memory>
-    ensures made { OnOk result (symbols.new ≡ spec.with_symbol symbols.old name.now) }
-    ensures addresses { OnOk result (AreAddresses symbols.old → AreAddresses symbols.new) }
+fn push_symbol(alloc: Global, name: &Name, used: &mut UsedSymbols) -> Result<(), Memory>
+    requires { AreNamed used.old }
+    ensures made { OnOk result (used.new.symbols ≡ spec.with_symbol used.old.symbols name.now) }
+    ensures addresses { OnOk result
+        (AreAddresses used.old.symbols → AreAddresses used.new.symbols) }
+    ensures named { OnOk result (AreNamed used.new) }
 {
-    if symbol_address(symbols, name.bytes()).is_some() {
+    if used.names.has(name) {
         return Ok(());
     }
-    let address = address_at(symbols.len())?;
-    symbols.push(SymbolAt {
+    let address = address_at(used.symbols.len())?;
+    used.symbols.push(SymbolAt {
         name: name.copy(alloc)?,
         address,
-    })
+    })?;
+    used.names.put(alloc, name)?;
+    Ok(())
 }
 
 /// Puts the symbol that a tree is, if it is one, behind others.
-fn push_symbol_here(alloc: Global, x: &Rtx, symbols: &mut Symbols) -> Result<(), Memory>
-    ensures made { OnOk result (symbols.new ≡ spec.with_symbols symbols.old
+fn push_symbol_here(alloc: Global, x: &Rtx, used: &mut UsedSymbols) -> Result<(), Memory>
+    requires { AreNamed used.old }
+    ensures made { OnOk result (used.new.symbols ≡ spec.with_symbols used.old.symbols
         (spec.symbol_here (head_of x.now).code (head_of x.now).name)) }
-    ensures addresses { OnOk result (AreAddresses symbols.old → AreAddresses symbols.new) }
+    ensures addresses { OnOk result
+        (AreAddresses used.old.symbols → AreAddresses used.new.symbols) }
+    ensures named { OnOk result (AreNamed used.new) }
 {
     match x.code {
-        Code::SymbolRef => push_symbol(alloc, &x.name, symbols),
+        Code::SymbolRef => push_symbol(alloc, &x.name, used),
         _ => Ok(()),
     }
 }
 
 /// Puts the symbols of a tree behind others, in the order of its text.
 #[tactic(auto, using(crate::proofs::Symbols::symbols_first))]
-fn push_symbols_in(alloc: Global, x: &Rtx, symbols: &mut Symbols) -> Result<(), Memory>
-    ensures made { OnOk result (symbols.new ≡ spec.with_symbols symbols.old
+fn push_symbols_in(alloc: Global, x: &Rtx, used: &mut UsedSymbols) -> Result<(), Memory>
+    requires { AreNamed used.old }
+    ensures made { OnOk result (used.new.symbols ≡ spec.with_symbols used.old.symbols
         (spec.symbols_in x.now)) }
-    ensures addresses { OnOk result (AreAddresses symbols.old → AreAddresses symbols.new) }
+    ensures addresses { OnOk result
+        (AreAddresses used.old.symbols → AreAddresses used.new.symbols) }
+    ensures named { OnOk result (AreNamed used.new) }
 {
-    push_symbol_here(alloc, x, symbols)?;
+    push_symbol_here(alloc, x, used)?;
     for kid in x.kids.as_slice() {
-        push_symbols_in(alloc, kid, symbols)?;
+        push_symbols_in(alloc, kid, used)?;
     }
     Ok(())
 }
@@ -76,11 +95,14 @@ fn symbols_of(alloc: Global, insns: &[Insn]) -> Result<Symbols, Memory>
     ensures made { IfOk result (λ symbols. symbols ≡ spec.symbols_of insns.now) }
     ensures addresses { IfOk result AreAddresses }
 {
-    let mut symbols = Items::new(alloc);
+    let mut used = UsedSymbols {
+        symbols: Items::new(alloc),
+        names: Names::new(alloc),
+    };
     for insn in insns {
-        push_symbols_in(alloc, &insn.pattern, &mut symbols)?;
+        push_symbols_in(alloc, &insn.pattern, &mut used)?;
     }
-    Ok(symbols)
+    Ok(used.symbols)
 }
 
 /// `count` replies that are zero and write nothing.

@@ -1,28 +1,30 @@
--- Texts by their fronts.
-use Rattle.std.proofs.Common.{◌≡◌, ◌≢◌, ◌↔◌, ℕ, Bool, true, false, IsTrue, List, ◌∷◌, ◌++◌, length, take, bytes_eq, sym, ◌∙◌, ap}
-use Rattle.std.proofs.Math.Seq.{take-append_seam}
+-- What is found under texts, with one more.
+use Rattle.std.proofs.Common.{◌≡◌, ℕ, Bool, true, false, if◌then◌else◌, Option, Some, List, bytes_eq, refl, sym, ap, ◌∙◌}
+use Rattle.std.specs.Prelude.{Vec}
+use Rattle.std.specs.declared.alloc.Global.{Global}
+use Rattle.std.specs.Map.{KeepsOthers, lookup}
+use Rattle.std.proofs.lemmas.Cmp.{nat_list_eq_equiv}
 use Rattle.std.proofs.lemmas.Slice.Eq.{bytes_eq-Decides}
-use Rattle.std.proofs.lemmas.List.{append_cancel_left}
 
-pub not_front : (text front rest first : List ℕ) (result : Bool) → result ≡ bytes_eq first front → first ≡ take (length front) text → result ≡ false → text ≡ front ++ rest → ⊥
-not_front text front rest first result is_result is_first other e =
-    let same : first ≡ front = is_first ∙ (ap (take (length front)) e ∙ take-append_seam front rest) in
-    let holds = (bytes_eq-Decides first front).1 same in
-    let both : true ≡ false = sym holds ∙ (sym is_result ∙ other) in
-    cc
+abbrev Text : Type 0
+Text = Vec ℕ Global
 
--- the second half of a label's text, once its first half is read
-rest_is : (target one two d u : List ℕ) → target ≡ 46 ∷ 76 ∷ one → one ≡ d ++ two → target ≡ 46 ∷ 76 ∷ (d ++ 95 ∷ u) → two ≡ 95 ∷ u
-rest_is target one two d u is_target is_one is =
-    let both : 46 ∷ 76 ∷ one ≡ 46 ∷ 76 ∷ (d ++ 95 ∷ u) = sym is_target ∙ is in
-    let tails : one ≡ d ++ 95 ∷ u = cc in
-    append_cancel_left d two (95 ∷ u) (sym is_one ∙ tails)
+abbrev same : Text → Text → Bool
+same a b = bytes_eq a.items b.items
 
-pub no_label : (target one two d u : List ℕ) → target ≡ 46 ∷ 76 ∷ one → one ≡ d ++ two → ((rest : List ℕ) → two ≢ 95 ∷ rest) → IsTrue false ↔ (target ≡ 46 ∷ 76 ∷ (d ++ 95 ∷ u))
-no_label target one two d u is_target is_one other = ((λ h. let e : false ≡ true = h in cc), λ is. absurd (other u (rest_is target one two d u is_target is_one is)))
+abbrev found : List (Text × ℕ) → List ℕ → Option ℕ
+found places target = lookup (λ (text : Text). bytes_eq target text.items) places
 
-pub label : (target one two three d u : List ℕ) (result : Bool) → target ≡ 46 ∷ 76 ∷ one → one ≡ d ++ two → two ≡ 95 ∷ three → IsTrue result ↔ (three ≡ u) → IsTrue result ↔ (target ≡ 46 ∷ 76 ∷ (d ++ 95 ∷ u))
-label target one two three d u result is_target is_one is_two same = (
-  (λ holds. is_target ∙ ap (λ x. 46 ∷ 76 ∷ x) (is_one ∙ ap (λ x. d ++ x) (is_two ∙ ap (λ x. 95 ∷ x) (same.0 holds)))),
-  λ is. let e : 95 ∷ three ≡ 95 ∷ u = sym is_two ∙ rest_is target one two d u is_target is_one is in let tails : three ≡ u = cc in same.1 tails,
-)
+others : (old new : List (Text × ℕ)) (key : Text) (target : List ℕ) → KeepsOthers same (same key) old new → bytes_eq key.items target ≡ false → found new target ≡ found old target
+unfolding KeepsOthers
+others old new key target keeps differ =
+    keeps (λ text. bytes_eq target text.items) (λ x y. nat_list_eq_equiv.congr target x.items y.items) (λ k is. nat_list_eq_equiv.symm target k.items ∙ (sym (nat_list_eq_equiv.congr key.items k.items target is) ∙ differ))
+
+-- a text has its new place, and the others theirs
+pub text_put : (old new : List (Text × ℕ)) (key : Text) (text target : List ℕ) (place : ℕ) → key.items ≡ text → found new key.items ≡ Some place → KeepsOthers same (same key) old new →
+    found new target ≡ (if bytes_eq text target then Some place else found old target)
+text_put old new key text target place is here keeps = by (bytes_eq text target) refl
+  where
+    by : (b : Bool) → bytes_eq text target ≡ b → found new target ≡ (if b then Some place else found old target)
+    by true e = ap (found new) (sym ((bytes_eq-Decides text target).0 e) ∙ sym is) ∙ here
+    by false e = others old new key target keeps (ap (λ t. bytes_eq t target) is ∙ e)

@@ -4,7 +4,8 @@
 //! A register is unset or holds a number. A line that reads an unset register, makes an access that
 //! has no value, names a symbol that has no address, jumps to a label that isn't there, returns to
 //! another address than that of the caller, or is no line of the table, is stuck. Promised:
-//! [`step_line`] and [`run_lines`] are their definitions, and the first takes no memory.
+//! [`step_line`] and [`run_lines`] are their definitions, and the first takes no memory. A run
+//! gathers the labels once, and finds each at once from then on.
 #![tactic(auto)]
 
 mod label;

@@ -3,7 +3,7 @@ ghost use Rattle.std.specs.Prelude.{◌≡◌, IfOk, option_map};
 ghost use Rattle.rv_line.specs.Run as spec;
 ghost use Rattle.rv_line.specs.machine.Turns.{running_view, Turns};
 
-use crate::label::{behind_label, next_line};
+use crate::label::{LabelledItems, next_line};
 use crate::outcome::{CodeCall, CodeCalls, CodeOutcome};
 use crate::registers::entry_regs;
 use crate::state::{LineEnd, RvState};
@@ -131,13 +131,13 @@ impl<'a> CodeState<'a> {
         alloc: Global,
         end: LineEnd,
         ranges: &Ranges,
-        items: &'a [CodeItem],
+        code: &LabelledItems<'a>,
         line: &Line,
         rest: &'a [CodeItem],
     ) -> Result<Option<CodeOutcome>, Memory>
         ensures { IfOk result (λ ended.
             Turns ended (running_view self.new)
-            (spec.after_line end ranges.now items.entry.now line.now rest.entry.now
+            (spec.after_line end ranges.now code.now line.now rest.entry.now
             (running_view self.old))) }
     {
         match end {
@@ -145,7 +145,7 @@ impl<'a> CodeState<'a> {
                 self.rest = rest;
                 Ok(None)
             }
-            LineEnd::Jumped => Ok(self.jump(behind_label(items, line.target.bytes()))),
+            LineEnd::Jumped => Ok(self.jump(code.behind_label(line.target.bytes()))),
             LineEnd::Called { target } => self.call(alloc, ranges, target, rest),
             LineEnd::Returned => Ok(Some(self.returned(alloc, ranges)?)),
             LineEnd::Stuck => Ok(Some(CodeOutcome::Stuck)),
@@ -158,17 +158,17 @@ impl<'a> CodeState<'a> {
         alloc: Global,
         world: &World,
         ranges: &Ranges,
-        items: &'a [CodeItem],
+        code: &LabelledItems<'a>,
     ) -> Result<Option<CodeOutcome>, Memory>
         ensures { IfOk result (λ ended.
-            Turns ended (running_view self.new) (spec.turn world.now ranges.now items.entry.now
+            Turns ended (running_view self.new) (spec.turn world.now ranges.now code.now
             (running_view self.old))) }
     {
         let Some((line, rest)) = next_line(self.rest) else {
             return Ok(Some(CodeOutcome::Stuck));
         };
         let end = step_line(line, &mut self.machine, world);
-        self.after_line(alloc, end, ranges, items, line, rest)
+        self.after_line(alloc, end, ranges, code, line, rest)
     }
 }
 
@@ -183,16 +183,17 @@ pub fn run_lines(
 ) -> Result<CodeOutcome, Memory>
     ensures { IfOk result (λ outcome. outcome ≡ spec.run lines.now start.now world.now k) }
 {
-    let mut code = CodeState {
+    let code = LabelledItems::of(alloc, lines)?;
+    let mut state = CodeState {
         rest: lines,
         machine: entry(alloc, start)?,
         replies: world.replies.as_slice(),
         calls: Items::new(alloc),
     };
     for _ in 0..k {
-        if let Some(outcome) = code.turn(alloc, world, &start.visible, lines)? {
+        if let Some(outcome) = state.turn(alloc, world, &start.visible, &code)? {
             return Ok(outcome);
         }
     }
-    Ok(CodeOutcome::Running { calls: code.calls })
+    Ok(CodeOutcome::Running { calls: state.calls })
 }

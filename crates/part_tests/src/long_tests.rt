@@ -271,3 +271,57 @@ fn long_constraints_with_many_names(rt: HostRuntime) {
     let text = long_constraints(rt.alloc());
     assert!(rt; matches!(forms_told(rt.alloc(), &text), Some((3_001, 1))));
 }
+
+/// Appends the text so often.
+fn push_often(count: u32, part: &str, text: &mut Told) {
+    for _ in 0..count {
+        text.text(part);
+    }
+}
+
+/// Appends 50,000 values.
+fn push_values(text: &mut Told) {
+    text.text("v0");
+    for at in 1..50_000 {
+        text.text(",v");
+        text.show(at);
+    }
+}
+
+/// An attribute of many values, and a form that gives it one for each of as many alternatives.
+fn many_values(alloc: Global) -> Told {
+    let mut text = Told::new(alloc);
+    text.text("(define_attr \"t\" \"");
+    push_values(&mut text);
+    text.text("\" (const_string \"v0\"))(define_insn \"\" [(use (match_operand 0 \"\" \"r");
+    push_often(49_999, ",r", &mut text);
+    text.text("\"))] \"\" \"\" [(set_attr \"t\" \"");
+    push_values(&mut text);
+    text.text("\")])");
+    text
+}
+
+/// Each value is the attribute's, and only the alternatives are too many.
+#[test]
+fn many_values_of_an_attribute(rt: HostRuntime) {
+    let text = many_values(rt.alloc());
+    assert!(rt; is_told(rt.alloc(), "forms", &text, "t ok, define_insn@0 11"));
+}
+
+/// An expander in which an operand stands often once more, behind as many statements the last of
+/// which sets it.
+fn many_dups(alloc: Global) -> Told {
+    let mut text = Told::new(alloc);
+    text.text("(define_expand \"e\" [(use (match_operand 0 \"\" \"\"))");
+    push_often(10_000, "(use (match_dup 1))", &mut text);
+    text.text("] \"\" \"");
+    push_often(10_000, "operands[2] = operands[0];", &mut text);
+    text.text("operands[1] = operands[0];\")");
+    text
+}
+
+#[test]
+fn many_dups_of_what_statements_set(rt: HostRuntime) {
+    let text = many_dups(rt.alloc());
+    assert!(rt; is_told(rt.alloc(), "forms", &text, "e ok"));
+}

@@ -6,5 +6,5 @@ use Rattle.rtl_print.proofs.canonical.print_link.Goals as goal
 pub returns : goal.returns
 unfolding printed_link
 returns c =
-    rw (sym c.from.ensures) (three_pieces c.args.out.now.items c.extend_from_slice.new.self.items c.print_register.new.out.items c.extend_from_slice-2.new.self.items _ _ _
-    c.in_ok-extend_from_slice.ensures.items c.in_ok-print_register.ensures c.in_ok-extend_from_slice-2.ensures.items)
+    rw (sym c.from.ensures) (three_pieces c.args.out.now.items c.extend_from_slice.new.self.items c.print_reg_in.new.out.items c.extend_from_slice-2.new.self.items _ _ _
+    c.in_ok-extend_from_slice.ensures.items c.in_ok-print_reg_in.ensures c.in_ok-extend_from_slice-2.ensures.items)

@@ -1,6 +1,6 @@
 //! Tokens, words and names of registers.
 use crate::iterators::constants_in;
-use c_words::{Dialect, Token, atom_of, code_named, known_words, mode_named, tokens_in};
+use c_words::{Dialect, Token, atom_of, code_in_capitals, known_words, mode_named, tokens_in};
 use case_text::Told;
 use rtx_tree::{reg_name, reg_number};
 use rv_target::shipped;
@@ -36,7 +36,7 @@ pub fn tell_tokens(alloc: Global, text: &[u8], told: &mut Told) {
 pub fn tell_word(alloc: Global, given: &[u8], word: &[u8], told: &mut Told) {
     if let Some(list) = constants_in(alloc, given)
         && let Ok(atom) = atom_of(alloc, Dialect::Condition, list.as_slice(), word)
-        && let Ok(code) = code_named(alloc, word)
+        && let Ok(code) = code_in_capitals(alloc, word)
     {
         told.debug(&atom);
         told.text(" ");

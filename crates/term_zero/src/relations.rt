@@ -70,13 +70,8 @@ fn not_equal(alloc: Global, w: Width, a: Term, b: Term) -> Result<Term, Memory>
     opposite_of(alloc, equal)
 }
 
-/// A comparison of two terms of `w` bits: 1 where the relation holds, and else 0.
-#[tactic(auto, using(crate::proofs::Means::related_means))]
-pub fn relate(alloc: Global, relation: Relation, w: Width, a: Term, b: Term) -> Result<Term, Memory>
-    ensures term { IfOk result (λ r. tree_of r ≡ spec.related relation w (tree_of a) (tree_of b)) }
-    ensures meaning { (v : Valuation) →
-        IfOk result (λ r. mean v (tree_of r) ≡ truth (spec.holds relation w (mean v (tree_of a))
-        (mean v (tree_of b)))) }
+fn related(alloc: Global, relation: Relation, w: Width, a: Term, b: Term) -> Result<Term, Memory>
+    ensures { IfOk result (λ r. tree_of r ≡ spec.related relation w (tree_of a) (tree_of b)) }
 {
     match relation {
         Relation::Eq => equal(alloc, w, a, b),
@@ -90,4 +85,15 @@ pub fn relate(alloc: Global, relation: Relation, w: Width, a: Term, b: Term) -> 
         Relation::Leu => opposite_less(alloc, Head::Ltu, w, b, a),
         Relation::Geu => opposite_less(alloc, Head::Ltu, w, a, b),
     }
+}
+
+/// A comparison of two terms of `w` bits: 1 where the relation holds, and else 0.
+#[tactic(auto, using(crate::proofs::Means::related_means))]
+pub fn relate(alloc: Global, relation: Relation, w: Width, a: Term, b: Term) -> Result<Term, Memory>
+    ensures term { IfOk result (λ r. tree_of r ≡ spec.related relation w (tree_of a) (tree_of b)) }
+    ensures meaning { (v : Valuation) →
+        IfOk result (λ r. mean v (tree_of r) ≡ truth (spec.holds relation w (mean v (tree_of a))
+        (mean v (tree_of b)))) }
+{
+    related(alloc, relation, w, a, b)
 }

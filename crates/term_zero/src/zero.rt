@@ -1,11 +1,13 @@
 //! Whether a term is 0.
-ghost use Rattle.std.specs.Prelude.{ℕ, ◌≡◌, ◌≤◌, [], ◌∷◌, map, if◌then◌else◌, IfOk};
+ghost use Rattle.std.specs.Prelude.{ℕ, ◌≡◌, ◌≤◌, ◌==◌, ◌&&◌, ◌-◌, ◌^◌, [], ◌∷◌, map, if◌then◌else◌, IfOk};
 ghost use Rattle.bits64.specs.declared.Width.{Width};
+ghost use Rattle.bits64.specs.Words.{bits_of, difference_of};
 ghost use Rattle.term_tree.specs.declared.head.Head.TheVariants as heads;
 ghost use Rattle.term_tree.specs.Tree.{Tree, trees_of, atoms_of, tree_size};
+ghost use Rattle.term_tree.specs.Form.{same_width};
 ghost use Rattle.term_tree.specs.Order.{numbers_cmp};
 ghost use Rattle.term_tree.specs.View.{tree_of, atom_of};
-ghost use Rattle.term_cuts.specs.term_mean.Sums.{minus as minus_spec};
+ghost use Rattle.term_cuts.specs.term_mean.Sums.{minus as minus_spec, constant as constant_spec};
 ghost use Rattle.term_cuts.specs.term_mean.Cuts.{one_part as one_part_spec};
 ghost use Rattle.term_cuts.specs.term_mean.Zero as spec;
 ghost use Rattle.term_zero.specs.machine.Rounds.{round_tree, zero_parted, xor_parts as xor_parts_spec};
@@ -126,6 +128,55 @@ fn from_zero(alloc: Global, w: Width, t: &Term) -> Result<Difference, Memory>
     })
 }
 
+/// What an atom with a constant is the difference of, where its coefficient is 1.
+fn from_constant(
+    alloc: Global,
+    w: Width,
+    v: Width,
+    constant: u64,
+    x: &Atom,
+    t: &Term,
+) -> Result<Difference, Memory>
+    ensures { IfOk result (λ r. difference_found r ≡
+        (if same_width v w && x.now.coefficient == 1 then
+        (tree_of x.now.term, constant_spec w (difference_of w 0 constant)) else
+        spec.from_zero w (tree_of t.now))) }
+{
+    if !(is_same_width(v, w) && x.coefficient == 1) {
+        return from_zero(alloc, w, t);
+    }
+    let left = x.term.copy(alloc)?;
+    Ok(Difference {
+        left,
+        right: constant_term(alloc, w, sub(0, constant, w)),
+    })
+}
+
+/// What two atoms are the difference of, where the second is taken away.
+fn from_atom(
+    alloc: Global,
+    w: Width,
+    v: Width,
+    constant: u64,
+    x: &Atom,
+    y: &Atom,
+    t: &Term,
+) -> Result<Difference, Memory>
+    ensures { IfOk result (λ r. difference_found r ≡
+        (if same_width v w && (constant == 0 && (x.now.coefficient == 1 &&
+        y.now.coefficient == 2 ^ bits_of w - 1)) then
+        (tree_of x.now.term, tree_of y.now.term) else spec.from_zero w (tree_of t.now))) }
+{
+    if !(is_same_width(v, w)
+        && (constant == 0 && (x.coefficient == 1 && y.coefficient == minus_one(w))))
+    {
+        return from_zero(alloc, w, t);
+    }
+    let left = x.term.copy(alloc)?;
+    let right = y.term.copy(alloc)?;
+    Ok(Difference { left, right })
+}
+
 /// The term as a difference.
 #[tactic(auto, using(term_tree::proofs::ViewLaws::view_laws))]
 fn as_difference(alloc: Global, w: Width, t: &Term) -> Result<Difference, Memory>
@@ -139,28 +190,8 @@ fn as_difference(alloc: Global, w: Width, t: &Term) -> Result<Difference, Memory
             atoms,
         } => match atoms.as_slice() {
             [] => from_zero(alloc, w, t),
-            [x] => {
-                if is_same_width(*width, w) && x.coefficient == 1 {
-                    let left = x.term.copy(alloc)?;
-                    Ok(Difference {
-                        left,
-                        right: constant_term(alloc, w, sub(0, *constant, w)),
-                    })
-                } else {
-                    from_zero(alloc, w, t)
-                }
-            }
-            [x, y] => {
-                if is_same_width(*width, w)
-                    && (*constant == 0 && (x.coefficient == 1 && y.coefficient == minus_one(w)))
-                {
-                    let left = x.term.copy(alloc)?;
-                    let right = y.term.copy(alloc)?;
-                    Ok(Difference { left, right })
-                } else {
-                    from_zero(alloc, w, t)
-                }
-            }
+            [x] => from_constant(alloc, w, *width, *constant, x, t),
+            [x, y] => from_atom(alloc, w, *width, *constant, x, y, t),
             [_x, _y, _z, ..] => from_zero(alloc, w, t),
         },
     }

@@ -5,6 +5,7 @@ ghost use Rattle.term_tree.specs.Tree.{Tree, trees_of, atoms_of};
 ghost use Rattle.term_tree.specs.View.{tree_of, atom_of};
 ghost use Rattle.term_mean.specs.Sums.{summed as summed_spec};
 ghost use Rattle.term_mean.specs.Cuts as spec;
+ghost use Rattle.term_cuts.specs.machine.Parts.{joint_in, part_cut};
 
 use bits64::{Width, trunc};
 use plain_data::{Items, Memory};
@@ -44,6 +45,19 @@ pub fn one_copy(alloc: Global, head: Head, w: Width, part: &Term) -> Result<Term
     one_part(alloc, head, w, copy)
 }
 
+/// The operator whose parts are cut, of a head that is one.
+fn joint_of(head: Head) -> Option<Joint>
+    ensures { result ≡ joint_in head }
+{
+    match head {
+        Head::Mul => Some(Joint::Mul),
+        Head::And => Some(Joint::And),
+        Head::Ior => Some(Joint::Ior),
+        Head::Xor => Some(Joint::Xor),
+        _ => None,
+    }
+}
+
 /// A wider term, cut to `m` bits.
 #[cycle(cut)]
 pub fn cut<M: Makes>(alloc: Global, makes: &M, m: Width, t: &Term) -> Result<Term, Memory>
@@ -64,44 +78,34 @@ pub fn cut<M: Makes>(alloc: Global, makes: &M, m: Width, t: &Term) -> Result<Ter
             number: _,
             name: _,
             parts,
-        } => match head {
-            Head::Mul => makes.make(
-                alloc,
-                Joint::Mul,
-                cut_all(alloc, makes, m, parts.as_slice())?,
-            ),
-            Head::And => makes.make(
-                alloc,
-                Joint::And,
-                cut_all(alloc, makes, m, parts.as_slice())?,
-            ),
-            Head::Ior => makes.make(
-                alloc,
-                Joint::Ior,
-                cut_all(alloc, makes, m, parts.as_slice())?,
-            ),
-            Head::Xor => makes.make(
-                alloc,
-                Joint::Xor,
-                cut_all(alloc, makes, m, parts.as_slice())?,
-            ),
-            Head::Trunc => match parts.as_slice() {
-                [p] => cut(alloc, makes, m, p),
+        } => match joint_of(*head) {
+            Some(joint) => makes.make(alloc, joint, cut_all(alloc, makes, m, parts.as_slice())?),
+            None => match parts.as_slice() {
+                [p] => cut_part(alloc, makes, *head, m, p, t),
                 [] => one_copy(alloc, Head::Trunc, m, t),
                 [_p, _q, ..] => one_copy(alloc, Head::Trunc, m, t),
             },
-            Head::Zext => match parts.as_slice() {
-                [p] => cut_extension(alloc, makes, Head::Zext, m, p),
-                [] => one_copy(alloc, Head::Trunc, m, t),
-                [_p, _q, ..] => one_copy(alloc, Head::Trunc, m, t),
-            },
-            Head::Sext => match parts.as_slice() {
-                [p] => cut_extension(alloc, makes, Head::Sext, m, p),
-                [] => one_copy(alloc, Head::Trunc, m, t),
-                [_p, _q, ..] => one_copy(alloc, Head::Trunc, m, t),
-            },
-            _ => one_copy(alloc, Head::Trunc, m, t),
         },
+    }
+}
+
+/// What `t`, an operator over one part `p`, is cut to.
+#[cycle(cut)]
+fn cut_part<M: Makes>(
+    alloc: Global,
+    makes: &M,
+    head: Head,
+    m: Width,
+    p: &Term,
+    t: &Term,
+) -> Result<Term, Memory>
+    ensures { IfOk result (λ r. tree_of r ≡ part_cut head m (tree_of t.now) (tree_of p.now)
+        (spec.cut (M.made makes.now) m (tree_of p.now))) }
+{
+    match head {
+        Head::Trunc => cut(alloc, makes, m, p),
+        Head::Zext | Head::Sext => cut_extension(alloc, makes, head, m, p),
+        _ => one_copy(alloc, Head::Trunc, m, t),
     }
 }
 

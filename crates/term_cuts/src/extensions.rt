@@ -7,6 +7,7 @@ ghost use Rattle.term_tree.specs.Tree.{Tree, trees_of, atoms_of};
 ghost use Rattle.term_tree.specs.Form.{all_of_width};
 ghost use Rattle.term_tree.specs.View.{tree_of, atom_of};
 ghost use Rattle.term_mean.specs.Extensions as spec;
+ghost use Rattle.term_cuts.specs.machine.Parts.{bits_joint_in, part_extended};
 
 use crate::cuts::{Makes, one_copy};
 use bits64::{Width, sext, zext};
@@ -83,6 +84,38 @@ fn of_zeros(
     }
 }
 
+/// The operator on bits that a head is.
+fn bits_joint_of(head: Head) -> Option<Joint>
+    ensures { result ≡ bits_joint_in head }
+{
+    match head {
+        Head::And => Some(Joint::And),
+        Head::Ior => Some(Joint::Ior),
+        Head::Xor => Some(Joint::Xor),
+        _ => None,
+    }
+}
+
+/// An extension of `t`, which is another operator over one part `p`.
+fn extended_part(
+    alloc: Global,
+    e: Extension,
+    head: Head,
+    m: Width,
+    v: Width,
+    t: &Term,
+    p: &Term,
+) -> Result<Term, Memory>
+    ensures { IfOk result (λ r. tree_of r ≡ part_extended e head m v (tree_of t.now)
+        (tree_of p.now)) }
+{
+    match head {
+        Head::Zext => of_zeros(alloc, e, m, v, t, p),
+        Head::Sext => of_sign(alloc, e, m, v, t, p),
+        _ => extension(alloc, e, m, t),
+    }
+}
+
 /// A narrower term, extended to `m` bits.
 #[cycle(extended)]
 pub fn extended<M: Makes>(
@@ -109,33 +142,17 @@ pub fn extended<M: Makes>(
             number: _,
             name: _,
             parts,
-        } => match head {
-            Head::And => {
+        } => match bits_joint_of(*head) {
+            Some(joint) => {
                 let parts = parts.as_slice();
                 let extensions = extended_all(alloc, makes, e, m, parts)?;
-                extended_joint(alloc, makes, e, m, Joint::And, *width, t, parts, extensions)
+                extended_joint(alloc, makes, e, m, joint, *width, t, parts, extensions)
             }
-            Head::Ior => {
-                let parts = parts.as_slice();
-                let extensions = extended_all(alloc, makes, e, m, parts)?;
-                extended_joint(alloc, makes, e, m, Joint::Ior, *width, t, parts, extensions)
-            }
-            Head::Xor => {
-                let parts = parts.as_slice();
-                let extensions = extended_all(alloc, makes, e, m, parts)?;
-                extended_joint(alloc, makes, e, m, Joint::Xor, *width, t, parts, extensions)
-            }
-            Head::Zext => match parts.as_slice() {
-                [p] => of_zeros(alloc, e, m, *width, t, p),
+            None => match parts.as_slice() {
+                [p] => extended_part(alloc, e, *head, m, *width, t, p),
                 [] => extension(alloc, e, m, t),
                 [_p, _q, ..] => extension(alloc, e, m, t),
             },
-            Head::Sext => match parts.as_slice() {
-                [p] => of_sign(alloc, e, m, *width, t, p),
-                [] => extension(alloc, e, m, t),
-                [_p, _q, ..] => extension(alloc, e, m, t),
-            },
-            _ => extension(alloc, e, m, t),
         },
     }
 }

@@ -83,6 +83,42 @@ fn print_own(head: Head, number: u64, name: &[u8], out: &mut Vec<u8>) -> Result<
     }
 }
 
+/// What stands before the atoms of a sum.
+fn print_sum_head(w: Width, constant: u64, out: &mut Vec<u8>) -> Result<(), Memory>
+    ensures { OnOk result (out.new.items ≡ out.old.items ++
+        (spec.opened heads.Sum w ++ (codes " " ++ spec.number_text w constant))) }
+{
+    print_opened(Head::Sum, w, out)?;
+    out.push(b' ')?;
+    print_signed(w, constant, out)
+}
+
+/// What stands before the parts of another term.
+fn print_node_head(
+    head: Head,
+    w: Width,
+    number: u64,
+    name: &[u8],
+    out: &mut Vec<u8>,
+) -> Result<(), Memory>
+    ensures { OnOk result (out.new.items ≡ out.old.items ++
+        (spec.opened head w ++ spec.own_text head number name.now)) }
+{
+    print_opened(head, w, out)?;
+    print_own(head, number, name, out)
+}
+
+/// What stands before the term of an atom.
+fn print_atom_head(w: Width, coefficient: u64, out: &mut Vec<u8>) -> Result<(), Memory>
+    ensures { OnOk result (out.new.items ≡ out.old.items ++
+        (codes " (" ++ (spec.number_text w coefficient ++ codes " "))) }
+{
+    out.extend_from_slice(b" (")?;
+    print_signed(w, coefficient, out)?;
+    out.push(b' ')?;
+    Ok(())
+}
+
 #[tactic(auto, using(term_tree::proofs::ViewLaws::view_laws))]
 fn is_alone(constant: u64, atoms: &[Atom]) -> bool
     ensures { result ≡ spec.is_alone constant (atoms_of (map atom_of atoms.now)) }
@@ -142,9 +178,7 @@ fn print_sum(w: Width, constant: u64, atoms: &[Atom], out: &mut Vec<u8>) -> Resu
         (spec.number_text w constant ++
         (spec.atoms_text w (atoms_of (map atom_of atoms.now)) ++ codes ")"))))) }
 {
-    print_opened(Head::Sum, w, out)?;
-    out.push(b' ')?;
-    print_signed(w, constant, out)?;
+    print_sum_head(w, constant, out)?;
     print_atoms(w, atoms, out)?;
     out.push(b')')?;
     Ok(())
@@ -163,8 +197,7 @@ fn print_node(
         (spec.opened head w ++ (spec.own_text head number name.now ++
         (spec.parts_text (trees_of (map tree_of parts.now)) ++ codes ")")))) }
 {
-    print_opened(head, w, out)?;
-    print_own(head, number, name, out)?;
+    print_node_head(head, w, number, name, out)?;
     print_parts(parts, out)?;
     out.push(b')')?;
     Ok(())
@@ -177,9 +210,7 @@ fn print_atom(w: Width, x: &Atom, out: &mut Vec<u8>) -> Result<(), Memory>
         (codes " (" ++ (spec.number_text w (atom_of x.now).0 ++
         (codes " " ++ (spec.text_of (atom_of x.now).1 ++ codes ")"))))) }
 {
-    out.extend_from_slice(b" (")?;
-    print_signed(w, x.coefficient, out)?;
-    out.push(b' ')?;
+    print_atom_head(w, x.coefficient, out)?;
     print(&x.term, out)?;
     out.push(b')')?;
     Ok(())

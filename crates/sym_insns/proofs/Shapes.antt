@@ -1,5 +1,5 @@
 -- The end of a list of instructions, and the numbers of a tree's registers.
-use Rattle.std.proofs.Common.{◌≡◌, ◌+◌, ◌^◌, ◌<◌, ◌&&◌, ℕ, zero, suc, eqb, Bool, List, [], ◌∷◌, map, length, drop, refl, ◌∙◌, ap, add-one, arith}
+use Rattle.std.proofs.Common.{◌≡◌, ◌+◌, ◌<◌, ◌&&◌, ℕ, zero, suc, eqb, Bool, List, [], ◌∷◌, map, length, drop, refl, ◌∙◌, ap, add-one, arith}
 use Rattle.std.specs.List.{list_all}
 use Rattle.rtx_tree.specs.declared.tree.Rtx.{Rtx}
 use Rattle.rtx_tree.specs.declared.tree.Rtx.TheFolds.{fold_out-Rtx}

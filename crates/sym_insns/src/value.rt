@@ -10,6 +10,7 @@ ghost use Rattle.sym_state.specs.State.{Access};
 ghost use Rattle.sym_state.specs.Views.{changed_of, need_of};
 ghost use Rattle.sym_state.specs.machine.Places.{listed};
 ghost use Rattle.sym_insns.specs.Value as spec;
+ghost use Rattle.sym_insns.specs.Value.{made_of};
 ghost use Rattle.sym_insns.specs.machine.Making.{IsMade, reading_by_mode};
 
 use crate::operation::{Needs, binary, compared, converted, need_divisor, unary};
@@ -221,6 +222,73 @@ fn of_operands(
     binary(maker, alloc, stores, code, w, a, b)
 }
 
+/// An operation, of which the first operand is made.
+#[cycle(make)]
+fn binary_with(
+    maker: &mut TermMaker,
+    alloc: Global,
+    regs: &SymRegs,
+    stores: &SymStores,
+    code: Code,
+    b: &Rtx,
+    first: Term,
+    w: Width,
+    needs: &mut Needs,
+) -> Result<Term, Memory>
+    ensures { IfOk result (λ r. IsMade needs.old needs.new (tree_of r)
+        (spec.of_operands (map store_of stores.now) code w
+        (record { term = tree_of first; needs = [] })
+        (made_of (map changed_of regs.now) (map store_of stores.now) b.now w))) }
+{
+    let second = make(maker, alloc, regs, stores, b, w, needs)?;
+    of_operands(maker, alloc, stores, code, w, first, second, needs)
+}
+
+/// A shift, of which the first operand is made.
+#[cycle(make)]
+fn shift_with(
+    maker: &mut TermMaker,
+    alloc: Global,
+    regs: &SymRegs,
+    stores: &SymStores,
+    code: Code,
+    b: &Rtx,
+    first: Term,
+    w: Width,
+    needs: &mut Needs,
+) -> Result<Term, Memory>
+    ensures { IfOk result (λ r. IsMade needs.old needs.new (tree_of r)
+        (spec.of_one (spec.binary (map store_of stores.now) code w (tree_of first))
+        (made_of (map changed_of regs.now) (map store_of stores.now) b.now
+        (count_width (step.width_of (out-Rtx b.now).mode))))) }
+{
+    let count = make(maker, alloc, regs, stores, b, count_width_of(b), needs)?;
+    binary(maker, alloc, stores, code, w, first, count)
+}
+
+/// A comparison of operands of so many bits, of which the first is made.
+#[cycle(make)]
+fn compared_with(
+    maker: &mut TermMaker,
+    alloc: Global,
+    regs: &SymRegs,
+    stores: &SymStores,
+    code: Code,
+    own: Width,
+    b: &Rtx,
+    first: Term,
+    w: Width,
+    needs: &mut Needs,
+) -> Result<Term, Memory>
+    ensures { IfOk result (λ r. IsMade needs.old needs.new (tree_of r)
+        (spec.of_one (spec.related (map store_of stores.now) (spec.relation_of code) own w
+        (tree_of first))
+        (made_of (map changed_of regs.now) (map store_of stores.now) b.now own))) }
+{
+    let second = make(maker, alloc, regs, stores, b, own, needs)?;
+    compared(maker, alloc, stores, code, own, w, first, second)
+}
+
 /// An expression of two parts; one of more has no value.
 #[cycle(make)]
 fn made_of_parts(
@@ -241,22 +309,19 @@ fn made_of_parts(
         [a, b] => match code.class() {
             Class::Binary => {
                 let first = make(maker, alloc, regs, stores, a, w, needs)?;
-                let second = make(maker, alloc, regs, stores, b, w, needs)?;
-                of_operands(maker, alloc, stores, code, w, first, second, needs)
+                binary_with(maker, alloc, regs, stores, code, b, first, w, needs)
             }
             Class::Shift => {
                 let first = make(maker, alloc, regs, stores, a, w, needs)?;
-                let count = make(maker, alloc, regs, stores, b, count_width_of(b), needs)?;
-                binary(maker, alloc, stores, code, w, first, count)
+                shift_with(maker, alloc, regs, stores, code, b, first, w, needs)
             }
-            Class::Comparison => {
-                let Some(own) = own_width(a, b) else {
-                    return no_value(alloc, w, needs);
-                };
-                let first = make(maker, alloc, regs, stores, a, own, needs)?;
-                let second = make(maker, alloc, regs, stores, b, own, needs)?;
-                compared(maker, alloc, stores, code, own, w, first, second)
-            }
+            Class::Comparison => match own_width(a, b) {
+                None => no_value(alloc, w, needs),
+                Some(own) => {
+                    let first = make(maker, alloc, regs, stores, a, own, needs)?;
+                    compared_with(maker, alloc, regs, stores, code, own, b, first, w, needs)
+                }
+            },
             _ => no_value(alloc, w, needs),
         },
         [] => no_value(alloc, w, needs),

@@ -7,8 +7,7 @@ use Rattle.rtl_step.specs.declared.step.State.{State}
 use Rattle.rtl_step.specs.declared.step.StepEnd.{StepEnd}
 use Rattle.rtl_step.specs.declared.step.StepEnd.TheVariants.{Next, Jumped, Called, Returned, Asked, Undefined}
 use Rattle.rtl_step.specs.Step.{Stepped, step}
-use Rattle.func_mean.specs.declared.outcome.Outcome.{Outcome}
-use Rattle.func_mean.specs.Run.{goes_on, go_on, run, taken_on, taken_from, state_after, run_on, taken_more, IsCut, AreCut}
+use Rattle.func_mean.specs.Run.{goes_on, go_on, run, taken_on, taken_from, state_after, run_on, taken_more, AreCut}
 
 module _ (world : World) (f : Function) (n m : ℕ) where
   -- the state after a step that ends in some way and n more

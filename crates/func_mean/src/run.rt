@@ -1,5 +1,7 @@
 //! The run of a function.
 ghost use Rattle.std.specs.Prelude.{◌≡◌, ◌<◌, ◌^◌, IfOk, OnOk, length};
+ghost use Rattle.run_memory.specs.RunMemory.{visible};
+ghost use Rattle.rtl_step.specs.Step.{result_of as result_spec};
 ghost use Rattle.func_mean.specs.Run as spec;
 ghost use Rattle.func_mean.specs.Run.{AreCut, TakesEnough};
 
@@ -7,7 +9,7 @@ use crate::outcome::{Kept, Outcome};
 use bits64::Width;
 use plain_data::{Items, Memory};
 use rtl_step::{Known, Regs, State, StepEnd, result_of, step_insn};
-use rtx_tree::{Function, Start, World};
+use rtx_tree::{Function, Memories, Start, World};
 use run_memory::visible_part;
 use std::alloc::Global;
 
@@ -98,17 +100,40 @@ fn kept_of(alloc: Global, regs: &Regs) -> Result<Kept, Memory>
     values_of(alloc, regs, numbers.as_slice())
 }
 
-fn returned(alloc: Global, f: &Function, state: State) -> Result<Outcome, Memory>
-    ensures { IfOk result (λ outcome. outcome ≡ spec.returned f.now state) }
+/// What a function that returns leaves, but for its calls.
+#[derive(Drop)]
+struct Left {
+    value: Option<u64>,
+    memory: Memories,
+    kept: Kept,
+}
+
+fn left_of(alloc: Global, f: &Function, state: &State) -> Result<Left, Memory>
+    ensures value { IfOk result (λ left. left.value ≡
+        result_spec f.now.result state.now.regs) }
+    ensures memory { IfOk result (λ left. left.memory ≡
+        visible state.now.visible state.now.memory) }
+    ensures kept { IfOk result (λ left. left.kept ≡ spec.kept_of state.now.regs) }
 {
     let memory = visible_part(alloc, &state.memory, &state.visible)?;
     let kept = kept_of(alloc, &state.regs)?;
     let value = result_of(f.result, &state.regs);
-    Ok(Outcome::Returned {
+    Ok(Left {
         value,
         memory,
-        calls: state.calls,
         kept,
+    })
+}
+
+fn returned(alloc: Global, f: &Function, state: State) -> Result<Outcome, Memory>
+    ensures { IfOk result (λ outcome. outcome ≡ spec.returned f.now state) }
+{
+    let left = left_of(alloc, f, &state)?;
+    Ok(Outcome::Returned {
+        value: left.value,
+        memory: left.memory,
+        calls: state.calls,
+        kept: left.kept,
     })
 }
 

@@ -11,6 +11,7 @@ ghost use Rattle.tree_forms.specs.Trees.{most_forms};
 ghost use Rattle.md_desc.specs.Recog as spec;
 ghost use Rattle.md_desc.specs.machine.Steps as steps;
 ghost use Rattle.md_recog.specs.declared.recog.FormMatch.{FormMatch};
+ghost use Rattle.recog_tree.specs.machine.Tables as by_key;
 
 use c_eval::Facts;
 use md_attr::{Attributes, enabled, has_alternative};
@@ -53,22 +54,56 @@ impl Model for Description {
         description.attributes description.tables };
 }
 
+/// The tables that are asked of operands.
+#[derive(Drop)]
+struct OperandTables {
+    preds: PredTable,
+    constraints: Constraints,
+}
+
+impl OperandTables {
+    fn of(alloc: Global, forms: &Forms) -> Result<OperandTables, Memory>
+        ensures accepts { IfOk result (λ r. accepted_by r.preds ≡ holds forms.now) }
+        ensures asks { IfOk result (λ r. AreConstraintsOf r.constraints forms.now) }
+    {
+        let preds = PredTable::of(alloc, forms)?;
+        let constraints = Constraints::of(alloc, forms)?;
+        Ok(OperandTables { preds, constraints })
+    }
+}
+
+/// The tables that are asked of forms.
+#[derive(Drop)]
+struct FormTables {
+    attributes: Attributes,
+    tables: Tables,
+}
+
+impl FormTables {
+    fn of(alloc: Global, forms: &Forms) -> Result<FormTables, Memory>
+        ensures gives { IfOk result (λ r. AreAttributesOf r.attributes forms.now) }
+        ensures keyed { IfOk result (λ r. by_key.AreTablesOf r.tables forms.now) }
+    {
+        let attributes = Attributes::of(alloc, forms)?;
+        let tables = Tables::of(alloc, forms)?;
+        Ok(FormTables { attributes, tables })
+    }
+}
+
 impl Description {
     /// The description of some forms.
     pub(crate) fn of(alloc: Global, forms: Forms) -> Result<Description, Memory>
         requires { length forms ≤ most_forms }
         ensures { IfOk result (λ description. description ≡ forms) }
     {
-        let preds = PredTable::of(alloc, &forms)?;
-        let constraints = Constraints::of(alloc, &forms)?;
-        let attributes = Attributes::of(alloc, &forms)?;
-        let tables = Tables::of(alloc, &forms)?;
+        let of_operands = OperandTables::of(alloc, &forms)?;
+        let of_forms = FormTables::of(alloc, &forms)?;
         Ok(Description {
             forms,
-            preds,
-            constraints,
-            attributes,
-            tables,
+            preds: of_operands.preds,
+            constraints: of_operands.constraints,
+            attributes: of_forms.attributes,
+            tables: of_forms.tables,
         })
     }
 

@@ -4,8 +4,7 @@ use Rattle.term_cuts.proofs.term_mean.NormalWidths.{width-built}
 use Rattle.term_cuts.proofs.term_mean.SumLaws.{mean-summed}
 use Rattle.term_cuts.proofs.term_mean.Widths.{width-summed}
 use Rattle.term_cuts.proofs.term_mean.ComparedLaws.{mean-compared, mean-low_bits, width-low_bits}
-use Rattle.sym_term.proofs.Steps.{source-step, same-is}
-use Rattle.std.proofs.lemmas.Option.{slice_get-map}
+use Rattle.sym_term.proofs.Steps.{same-is}
 
 pub ruleset normal_means = (mean-normal)
 
@@ -17,11 +16,6 @@ pub ruleset summed_means = (mean-summed, width-summed)
 pub ruleset compared_means = (mean-compared)
 
 pub ruleset cut_means = (mean-low_bits, width-low_bits)
-
--- one store
-pub ruleset stores_seen = (slice_get-map)
-
-pub ruleset load_moves = (source-step)
 
 -- terms that are the same
 pub ruleset same_means = (same-is)

@@ -49,7 +49,6 @@ fn store_at(stores: &[SymStore], index: u64) -> Option<&SymStore>
 }
 
 /// Whether a load lies apart from the store with an index.
-#[tactic(auto, using(crate::proofs::Means::stores_seen))]
 fn may_move(
     alloc: Global,
     stores: &[SymStore],
@@ -67,7 +66,6 @@ fn may_move(
 }
 
 /// The memory from which `w` bits at an address may be taken in place of memory `n`.
-#[tactic(auto, using(crate::proofs::Means::load_moves))]
 fn source(alloc: Global, stores: &[SymStore], w: Width, a: &Term, n: u64) -> Result<u64, Memory>
     ensures { IfOk result (λ r. r ≡ spec.source (map store_of stores.now) w (tree_of a.now) n) }
 {

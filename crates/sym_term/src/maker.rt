@@ -11,10 +11,9 @@ ghost use Rattle.term_cuts.specs.term_mean.Sums.{summed as summed_spec};
 ghost use Rattle.term_cuts.specs.term_mean.Relations.{holds};
 ghost use Rattle.term_cuts.specs.term_mean.Compared.{same_in as same_in_spec, compared as compared_spec, low_bits as low_bits_spec};
 ghost use Rattle.term_cuts.specs.term_mean.Normal.{built as built_spec};
-ghost use Rattle.term_cuts.specs.term_mean.Truths.{opposite as opposite_spec};
-ghost use Rattle.term_cuts.specs.term_mean.Less.{less_than as less_than_spec};
 ghost use Rattle.term_mean.proofs.SumLaws.{weight};
 ghost use Rattle.sym_term.specs.Views.{store_of};
+ghost use Rattle.sym_term.specs.machine.Kinds.{test_in, opposes, tested as tested_spec};
 
 use crate::normal::build;
 use crate::stores::SymStores;
@@ -45,36 +44,54 @@ fn same_in(alloc: Global, w: Width, a: Term, b: Term) -> Result<Term, Memory>
     equals_zero(alloc, w, &difference)
 }
 
-fn not_same(alloc: Global, w: Width, a: Term, b: Term) -> Result<Term, Memory>
-    ensures { IfOk result (λ r. tree_of r ≡ opposite_spec
-        (same_in_spec w (tree_of a) (tree_of b))) }
-{
-    let same = same_in(alloc, w, a, b)?;
-    opposite(alloc, same)
+/// What a relation or its opposite tests: that two terms are the same, or that one is less.
+#[derive(Clone, Copy)]
+enum Test {
+    Same,
+    Less(Extension),
+    Greater(Extension),
 }
 
-fn not_less(alloc: Global, e: Extension, w: Width, a: &Term, b: &Term) -> Result<Term, Memory>
-    ensures { IfOk result (λ r. tree_of r ≡ opposite_spec
-        (less_than_spec e w (tree_of a.now) (tree_of b.now))) }
+fn test_of(relation: Relation) -> Test
+    ensures { result ≡ test_in relation }
 {
-    let less = less_than(alloc, e, w, a, b)?;
-    opposite(alloc, less)
+    match relation {
+        Relation::Eq | Relation::Ne => Test::Same,
+        Relation::Lt | Relation::Ge => Test::Less(Extension::Sign),
+        Relation::Gt | Relation::Le => Test::Greater(Extension::Sign),
+        Relation::Ltu | Relation::Geu => Test::Less(Extension::Zero),
+        Relation::Gtu | Relation::Leu => Test::Greater(Extension::Zero),
+    }
+}
+
+/// Whether a relation is the opposite of its test.
+fn is_opposite(relation: Relation) -> bool
+    ensures { result ≡ opposes relation }
+{
+    match relation {
+        Relation::Ne | Relation::Le | Relation::Ge | Relation::Leu | Relation::Geu => true,
+        _ => false,
+    }
+}
+
+fn tested(alloc: Global, test: Test, w: Width, a: Term, b: Term) -> Result<Term, Memory>
+    ensures { IfOk result (λ r. tree_of r ≡ tested_spec test w (tree_of a) (tree_of b)) }
+{
+    match test {
+        Test::Same => same_in(alloc, w, a, b),
+        Test::Less(e) => less_than(alloc, e, w, &a, &b),
+        Test::Greater(e) => less_than(alloc, e, w, &b, &a),
+    }
 }
 
 fn compared(alloc: Global, relation: Relation, w: Width, a: Term, b: Term) -> Result<Term, Memory>
     ensures { IfOk result (λ r. tree_of r ≡ compared_spec relation w (tree_of a) (tree_of b)) }
 {
-    match relation {
-        Relation::Eq => same_in(alloc, w, a, b),
-        Relation::Ne => not_same(alloc, w, a, b),
-        Relation::Lt => less_than(alloc, Extension::Sign, w, &a, &b),
-        Relation::Gt => less_than(alloc, Extension::Sign, w, &b, &a),
-        Relation::Le => not_less(alloc, Extension::Sign, w, &b, &a),
-        Relation::Ge => not_less(alloc, Extension::Sign, w, &a, &b),
-        Relation::Ltu => less_than(alloc, Extension::Zero, w, &a, &b),
-        Relation::Gtu => less_than(alloc, Extension::Zero, w, &b, &a),
-        Relation::Leu => not_less(alloc, Extension::Zero, w, &b, &a),
-        Relation::Geu => not_less(alloc, Extension::Zero, w, &a, &b),
+    let test = tested(alloc, test_of(relation), w, a, b)?;
+    if is_opposite(relation) {
+        opposite(alloc, test)
+    } else {
+        Ok(test)
     }
 }
 

@@ -8,6 +8,7 @@ ghost use Rattle.term_cuts.specs.term_mean.Sums.{summed as summed_spec};
 ghost use Rattle.term_cuts.specs.term_mean.Shifts.{plain_two as plain_two_spec};
 ghost use Rattle.term_cuts.specs.term_mean.Normal as spec;
 ghost use Rattle.sym_term.specs.Views.{store_of};
+ghost use Rattle.sym_term.specs.machine.Kinds.{one_kind, one_ruled, two_kind};
 
 use crate::loads::loaded;
 use crate::shifts::shifted;
@@ -92,6 +93,51 @@ fn two_node(
     Ok(node(head, w, number, name, parts))
 }
 
+/// What is made of one part that stays as it is.
+#[derive(Clone, Copy)]
+enum OneRule {
+    /// Its low bits.
+    Low,
+    /// Its extension.
+    Wide(Extension),
+    /// A test for 0.
+    Zero,
+}
+
+/// What is made of one part.
+#[derive(Clone, Copy)]
+enum OneKind {
+    /// What a rule makes of it.
+    Ruled(OneRule),
+    /// What a memory holds there.
+    Load,
+    /// A node as it stands.
+    Other,
+}
+
+fn kind_of_one(head: Head) -> OneKind
+    ensures { result ≡ one_kind head }
+{
+    match head {
+        Head::Trunc => OneKind::Ruled(OneRule::Low),
+        Head::Zext => OneKind::Ruled(OneRule::Wide(Extension::Zero)),
+        Head::Sext => OneKind::Ruled(OneRule::Wide(Extension::Sign)),
+        Head::Eq => OneKind::Ruled(OneRule::Zero),
+        Head::Load => OneKind::Load,
+        _ => OneKind::Other,
+    }
+}
+
+fn ruled(alloc: Global, rule: OneRule, w: Width, a: &Term) -> Result<Term, Memory>
+    ensures { IfOk result (λ r. tree_of r ≡ one_ruled rule w (tree_of a.now)) }
+{
+    match rule {
+        OneRule::Low => cut_to(alloc, w, a),
+        OneRule::Wide(e) => extended(alloc, &AtWidth { width: w }, e, w, a),
+        OneRule::Zero => equals_zero(alloc, w, a),
+    }
+}
+
 /// What the rules of a head make of one part.
 fn build_one(
     alloc: Global,
@@ -105,13 +151,10 @@ fn build_one(
     ensures { IfOk result (λ r. tree_of r ≡ spec.built_one
         (map store_of stores.now) head w number name (tree_of a)) }
 {
-    match head {
-        Head::Trunc => cut_to(alloc, w, &a),
-        Head::Zext => extended(alloc, &AtWidth { width: w }, Extension::Zero, w, &a),
-        Head::Sext => extended(alloc, &AtWidth { width: w }, Extension::Sign, w, &a),
-        Head::Eq => equals_zero(alloc, w, &a),
-        Head::Load => loaded(alloc, stores, w, number, a),
-        _ => one_node(alloc, head, w, number, name, a),
+    match kind_of_one(head) {
+        OneKind::Ruled(rule) => ruled(alloc, rule, w, &a),
+        OneKind::Load => loaded(alloc, stores, w, number, a),
+        OneKind::Other => one_node(alloc, head, w, number, name, a),
     }
 }
 
@@ -123,6 +166,32 @@ fn plain_two(alloc: Global, head: Head, w: Width, a: Term, b: Term) -> Result<Te
     let right = constant_of(&b);
     let other = two_parts(alloc, head, w, a, b)?;
     Ok(on_constants(alloc, left, right, head, w, other))
+}
+
+/// What is made of two parts.
+#[derive(Clone, Copy)]
+enum TwoKind {
+    /// An operation of which nothing else is known than that of constants.
+    Plain,
+    /// A shift.
+    Shift,
+    /// A comparison by less.
+    Less(Extension),
+    /// A node as it stands.
+    Other,
+}
+
+fn kind_of_two(head: Head) -> TwoKind
+    ensures { result ≡ two_kind head }
+{
+    match head {
+        Head::Mulh | Head::Mulhu | Head::Mulhsu | Head::Div | Head::Udiv | Head::Rem | Head::Urem =>
+            TwoKind::Plain,
+        Head::Shl | Head::Shr | Head::Sar => TwoKind::Shift,
+        Head::Lt => TwoKind::Less(Extension::Sign),
+        Head::Ltu => TwoKind::Less(Extension::Zero),
+        _ => TwoKind::Other,
+    }
 }
 
 /// What the rules of a head make of two parts.
@@ -138,20 +207,11 @@ fn build_two(
     ensures { IfOk result (λ r. tree_of r ≡ spec.built_two head w number name (tree_of a)
         (tree_of b)) }
 {
-    match head {
-        Head::Mulh => plain_two(alloc, head, w, a, b),
-        Head::Mulhu => plain_two(alloc, head, w, a, b),
-        Head::Mulhsu => plain_two(alloc, head, w, a, b),
-        Head::Div => plain_two(alloc, head, w, a, b),
-        Head::Udiv => plain_two(alloc, head, w, a, b),
-        Head::Rem => plain_two(alloc, head, w, a, b),
-        Head::Urem => plain_two(alloc, head, w, a, b),
-        Head::Shl => shifted(alloc, head, w, a, &b),
-        Head::Shr => shifted(alloc, head, w, a, &b),
-        Head::Sar => shifted(alloc, head, w, a, &b),
-        Head::Lt => less_than(alloc, Extension::Sign, w, &a, &b),
-        Head::Ltu => less_than(alloc, Extension::Zero, w, &a, &b),
-        _ => two_node(alloc, head, w, number, name, a, b),
+    match kind_of_two(head) {
+        TwoKind::Plain => plain_two(alloc, head, w, a, b),
+        TwoKind::Shift => shifted(alloc, head, w, a, &b),
+        TwoKind::Less(e) => less_than(alloc, e, w, &a, &b),
+        TwoKind::Other => two_node(alloc, head, w, number, name, a, b),
     }
 }
 

@@ -5,7 +5,6 @@
 use Rattle.std.specs.Prelude.{ℕ, ◌==◌, nat_le, Bool, true, false, not, ◌&&◌, ◌||◌, List, [], ◌∷◌, ◌++◌, Option, Some, None, Result, Ok, Err, if◌then◌else◌, length, option_map, option_and_then}
 use Rattle.std.specs.Option.{unwrap_or}
 use Rattle.std.specs.List.{find, flat_map, list_all, list_any}
-use Rattle.rtx_tree.specs.declared.tree.Rtx.{Rtx}
 use Rattle.c_cond.specs.c_words.declared.head.CondHead as c
 use Rattle.c_cond.specs.Tree.{heads_of}
 use Rattle.md_text.specs.declared.constraint.Member.{Member}

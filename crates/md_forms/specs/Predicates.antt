@@ -1,7 +1,7 @@
 -- Which predicates of a description hold: GCC Internals, "Machine-Independent Predicates" and
 -- "Defining Machine-Specific Predicates". A predicate that reaches itself is accepted within no
 -- number of rounds.
-use Rattle.std.specs.Prelude.{ℕ, zero, suc, Bool, true, false, ◌&&◌, ◌||◌, List, [], ◌∷◌, map, option_and_then, position, slice_get, unwrap_or}
+use Rattle.std.specs.Prelude.{ℕ, zero, suc, Bool, false, ◌&&◌, ◌||◌, List, map, option_and_then, position, slice_get, unwrap_or}
 use Rattle.std.specs.List.{list_all}
 use Rattle.std.specs.Option.{is_some}
 use Rattle.std.specs.Str.{bytes_eq}

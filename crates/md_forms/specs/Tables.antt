@@ -1,8 +1,7 @@
 -- What the forms of a description define for one another. Of a name that is defined twice the first
 -- definition counts, also where it is set aside.
-use Rattle.std.specs.Prelude.{ℕ, Bool, true, false, ◌&&◌, List, [], ◌∷◌, Option, Some, None, Result, Ok, Err, map, length, option_and_then, if◌then◌else◌}
+use Rattle.std.specs.Prelude.{ℕ, Bool, true, false, List, [], ◌∷◌, Option, Some, None, Result, Ok, Err, map, length, option_and_then, if◌then◌else◌}
 use Rattle.std.specs.List.{filter_map, find, list_all, list_any}
-use Rattle.std.specs.Option.{unwrap_or}
 use Rattle.std.specs.Str.{bytes_eq}
 use Rattle.md_pattern.specs.declared.reason.Reason.{Reason}
 use Rattle.md_draft.specs.declared.head.FormHead.{FormHead}

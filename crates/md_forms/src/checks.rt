@@ -542,7 +542,10 @@ fn judged_form(
 {
     match constraints {
         Ok(constraints) => Ok(form_with(alloc, draft, constraints)),
-        Err(reason) => Err(reason),
+        Err(reason) => {
+            drop(draft);
+            Err(reason)
+        }
     }
 }
 
@@ -551,6 +554,11 @@ fn judged_form(
 pub fn form_of(alloc: Global, tables: &Tables, draft: Draft) -> Result<Judged<Form>, Memory>
     ensures { IfOk result (λ form. form ≡ spec.form_of tables.now draft) }
 {
-    let constraints = checked(alloc, tables, &draft)?;
-    Ok(judged_form(alloc, draft, constraints))
+    match checked(alloc, tables, &draft) {
+        Ok(constraints) => Ok(judged_form(alloc, draft, constraints)),
+        Err(memory) => {
+            drop(draft);
+            Err(memory)
+        }
+    }
 }

@@ -73,6 +73,15 @@ pub fn forms_of(alloc: Global, forms: &[Instance], constants: &Constants) -> Res
         (reasons.judged_in constants.now forms.now form) }
 {
     let entries = entries_of(alloc, constants, forms)?;
-    let tables = tables_of(alloc, entries.as_slice())?;
-    all_finished(alloc, &tables, entries)
+    match tables_of(alloc, entries.as_slice()) {
+        Ok(tables) => {
+            let all = all_finished(alloc, &tables, entries);
+            drop(tables);
+            all
+        }
+        Err(memory) => {
+            drop(entries);
+            Err(memory)
+        }
+    }
 }

@@ -1,5 +1,5 @@
 //! What a form names: predicates and operands.
-ghost use Rattle.std.specs.Prelude.{◌≡◌, ◌++◌, ◌||◌, ℕ, IfOk, OnOk};
+ghost use Rattle.std.specs.Prelude.{◌≡◌, [], ◌++◌, ◌||◌, ℕ, IfOk, OnOk};
 ghost use Rattle.std.specs.BTreeSet as set;
 ghost use Rattle.std.specs.List.{flat_map, list_any};
 ghost use Rattle.std.specs.Ordering.{nat_cmp};
@@ -78,18 +78,26 @@ fn push_tested(alloc: Global, test: &Option<Test>, names: &mut Items<Name>) -> R
     }
 }
 
-/// All predicates that a form names.
+/// Puts all predicates that a form names into an empty list.
 #[tactic(auto, using(crate::proofs::NameLaws::six), unfolding(crate::specs::Names::predicates_named))]
+fn push_named(alloc: Global, draft: &Draft, names: &mut Items<Name>) -> Result<(), Memory>
+    requires { names.old ≡ [] }
+    ensures { OnOk result (names.new ≡ spec.predicates_named draft.now) }
+{
+    push_all_predicates(alloc, draft.matched.patterns.trees.as_slice(), names)?;
+    push_all_predicates(alloc, draft.made.sequence.trees.as_slice(), names)?;
+    push_called(alloc, draft.matched.condition.heads(), names)?;
+    push_called(alloc, draft.made.split_condition.heads(), names)?;
+    push_called(alloc, draft.made.statements.heads(), names)?;
+    push_tested(alloc, &draft.defined.test, names)
+}
+
+/// All predicates that a form names.
 pub fn predicates_named(alloc: Global, draft: &Draft) -> Result<Items<Name>, Memory>
     ensures { IfOk result (λ names. names ≡ spec.predicates_named draft.now) }
 {
     let mut names = Items::new(alloc);
-    push_all_predicates(alloc, draft.matched.patterns.trees.as_slice(), &mut names)?;
-    push_all_predicates(alloc, draft.made.sequence.trees.as_slice(), &mut names)?;
-    push_called(alloc, draft.matched.condition.heads(), &mut names)?;
-    push_called(alloc, draft.made.split_condition.heads(), &mut names)?;
-    push_called(alloc, draft.made.statements.heads(), &mut names)?;
-    push_tested(alloc, &draft.defined.test, &mut names)?;
+    push_named(alloc, draft, &mut names)?;
     Ok(names)
 }
 

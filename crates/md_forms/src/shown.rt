@@ -1,5 +1,5 @@
 //! The names under which the forms of a description are shown.
-ghost use Rattle.std.specs.Prelude.{◌≡◌, ◌<◌, List, ℕ, IfOk, OnOk, length};
+ghost use Rattle.std.specs.Prelude.{◌≡◌, ◌<◌, ◌++◌, ◌∷◌, [], List, ℕ, IfOk, OnOk, length};
 ghost use Rattle.md_forms.specs.machine.Counts.{count_in, CountsOneMore};
 ghost use Rattle.md_forms.specs.Forms as spec;
 
@@ -57,6 +57,22 @@ fn shown(alloc: Global, form: &Entry, number: usize) -> Result<Name, Memory>
     }
 }
 
+/// Appends the name of a form behind those that were counted, which is then counted too.
+fn push_next(
+    alloc: Global,
+    counts: &mut HeadCounts,
+    names: &mut Items<Name>,
+    form: &Entry,
+) -> Result<(), Memory>
+    requires { count_in counts.old form.now.head < 18446744073709551615 }
+    ensures names { OnOk result (names.new ≡ names.old ++ spec.shown form.now.name form.now.head
+        (count_in counts.old form.now.head) ∷ []) }
+    ensures more { OnOk result (CountsOneMore counts.old counts.new form.now.head) }
+{
+    let number = counts.count(alloc, form.head.bytes())?;
+    names.push(shown(alloc, form, number)?)
+}
+
 /// The names under which the forms of a description are shown, in order: each its own, or else its
 /// head, `@`, and its number among the forms of that head.
 #[tactic(auto, using(crate::proofs::ShownNames::named_ends, crate::proofs::CountLaws::few))]
@@ -67,8 +83,8 @@ pub fn names_of(alloc: Global, forms: &[Entry]) -> Result<Items<Name>, Memory>
     let mut counts = HeadCounts::new(alloc);
     let mut names = Items::new(alloc);
     for form in forms {
-        let number = counts.count(alloc, form.head.bytes())?;
-        names.push(shown(alloc, form, number)?)?;
+        push_next(alloc, &mut counts, &mut names, form)?;
     }
+    drop(counts);
     Ok(names)
 }

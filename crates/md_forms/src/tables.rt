@@ -405,19 +405,20 @@ fn tables_with(
     ensures { IfOk result (λ tables. tables ≡ spec.tables_with entries.now predicates accepted
         (spec.constraints_of (is_known predicates accepted) entries.now)) }
 {
-    let (constraint_names, constraints, attributes) = constraints_and_attributes(
-        alloc,
-        &predicates,
-        accepted.as_slice(),
-        entries,
-    )?;
-    Ok(Tables {
-        predicates,
-        accepted,
-        constraint_names,
-        constraints,
-        attributes,
-    })
+    match constraints_and_attributes(alloc, &predicates, accepted.as_slice(), entries) {
+        Ok((constraint_names, constraints, attributes)) => Ok(Tables {
+            predicates,
+            accepted,
+            constraint_names,
+            constraints,
+            attributes,
+        }),
+        Err(memory) => {
+            drop(predicates);
+            drop(accepted);
+            Err(memory)
+        }
+    }
 }
 
 /// What the forms of a description define for one another.
@@ -426,6 +427,11 @@ pub fn tables_of(alloc: Global, entries: &[DraftEntry]) -> Result<Tables, Memory
     ensures { IfOk result (λ tables. tables ≡ spec.tables_of entries.now) }
 {
     let predicates = predicate_table(alloc, entries)?;
-    let accepted = accepted_within(alloc, &predicates, entries.len())?;
-    tables_with(alloc, entries, predicates, accepted)
+    match accepted_within(alloc, &predicates, entries.len()) {
+        Ok(accepted) => tables_with(alloc, entries, predicates, accepted),
+        Err(memory) => {
+            drop(predicates);
+            Err(memory)
+        }
+    }
 }

@@ -1,4 +1,4 @@
-use Rattle.std.proofs.Common.{◌≡◌, ◌≤◌, ◌<◌, ap, ◌∙◌, rules, length}
+use Rattle.std.proofs.Common.{◌≤◌, ◌<◌, ap, ◌∙◌, rules, length}
 use Rattle.std.specs.Str.{bytes_eq}
 use Rattle.md_forms.proofs.FirstNames.{position_next, position_all}
 use Rattle.md_forms.proofs.definitions.places_of.Goals as goal

@@ -1,4 +1,4 @@
-use Rattle.std.proofs.Common.{◌≡◌, sym, ap, ◌∙◌, Some, None}
+use Rattle.std.proofs.Common.{sym, ap, ◌∙◌, Some, None}
 use Rattle.std.specs.Option.{option_copied}
 use Rattle.md_forms.proofs.FirstNames.{first_accepted}
 use Rattle.md_forms.proofs.tables.is_constraint.Goals as goal

@@ -1,15 +1,13 @@
 -- What a tree stands for, by what the trees in it stand for.
-use Rattle.std.proofs.Common.{◌≡◌, ℕ, ◌≤◌, List, [], ◌∷◌, Some, Err, map, take, drop, length, length-drop, ◌-◌, get_or, refl, sym, ap, ◌∙◌, if◌then◌else◌, arith}
-use Rattle.std.proofs.lemmas.List.{take_all}
+use Rattle.std.proofs.Common.{◌≡◌, List, [], ◌∷◌, Err, map, refl, ap, ◌∙◌, if◌then◌else◌}
 use Rattle.rtx_tree.specs.declared.constants.Constant.{Constant}
 use Rattle.lisp_read.specs.declared.tree.Tree.{Tree, out-Tree}
 use Rattle.lisp_read.specs.declared.tree.Tree.TheOpen.{Tree-F}
 use Rattle.lisp_read.specs.declared.tree.Tree.TheFolds.{fold-Tree, fold_out-Tree, map-Tree}
-use Rattle.lisp_read.specs.Head.{code_of_head, mode_of_head}
-use Rattle.lisp_read.specs.Shape.{atom_of, items_at, items_of, vector_at, vector_of, is_vector_at, is_vector}
+use Rattle.lisp_read.specs.Shape.{items_at, items_of, vector_at, vector_of, is_vector_at, is_vector}
 use Rattle.lisp_read.specs.Expression.{inside_at, inside_of}
 use Rattle.md_pattern.specs.declared.reason.Reason.TheVariants as reason
-use Rattle.md_pattern.specs.Pattern.{Meaning, meaning_of, meaning_by, meaning_step, each_read, each, list_by, of_code, pattern_of, patterns_of}
+use Rattle.md_pattern.specs.Pattern.{Meaning, meaning_of, meaning_by, meaning_step, each_read, each, list_by, pattern_of, patterns_of}
 
 reading : List Constant → Tree → Tree → Meaning
 reading constants = fold-Tree (Tree → Meaning) (meaning_step constants)

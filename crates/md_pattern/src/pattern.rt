@@ -304,21 +304,93 @@ fn lowpart_in(parts: &[Tree]) -> Option<&[Tree]>
     }
 }
 
+/// So many expressions, and no more.
+fn counted_in(count: usize, parts: &[Tree]) -> Option<&[Tree]>
+    ensures { option_copied result ≡ steps.counted_in count parts.now }
+{
+    if parts.len() == count {
+        Some(parts)
+    } else {
+        None
+    }
+}
+
+/// The trees of a vector alone.
+fn first_vector(parts: &[Tree]) -> Option<&[Tree]>
+    ensures { option_copied result ≡ steps.first_vector parts.now }
+{
+    match parts {
+        [vector] => elements_in(vector),
+        _ => None,
+    }
+}
+
+/// The trees of a vector behind one word.
+fn second_vector(parts: &[Tree]) -> Option<&[Tree]>
+    ensures { option_copied result ≡ steps.second_vector parts.now }
+{
+    match parts {
+        [_, vector] => elements_in(vector),
+        _ => None,
+    }
+}
+
+/// The trees of a vector behind two words.
+fn third_vector(parts: &[Tree]) -> Option<&[Tree]>
+    ensures { option_copied result ≡ steps.third_vector parts.now }
+{
+    match parts {
+        [_, _, vector] => elements_in(vector),
+        _ => None,
+    }
+}
+
 /// The trees behind a code that are expressions themselves, where there are as many as there should
 /// be.
 fn inner(code: Code, parts: &[Tree]) -> Option<&[Tree]>
     ensures { option_copied result ≡ steps.inner (parts_of (class_of_code code)) parts.now }
 {
-    match (code.class().parts(), parts) {
-        (Parts::Lowpart, _) => lowpart_in(parts),
-        (Parts::Expressions { count }, _) if parts.len() == count => Some(parts),
-        (Parts::Expressions { .. }, _) => None,
-        (Parts::Vector, [vector]) => elements_in(vector),
-        (Parts::Operator, [_, _, vector]) => elements_in(vector),
-        (Parts::OperatorDup, [_, vector]) => elements_in(vector),
-        (Parts::Vector | Parts::Operator | Parts::OperatorDup, _) => None,
+    match code.class().parts() {
+        Parts::Lowpart => lowpart_in(parts),
+        Parts::Expressions { count } => counted_in(count, parts),
+        Parts::Vector => first_vector(parts),
+        Parts::Operator => third_vector(parts),
+        Parts::OperatorDup => second_vector(parts),
         _ => Some(&[]),
     }
+}
+
+/// A register, a number or a symbol.
+fn leaf(
+    alloc: Global,
+    constants: &[Constant],
+    kind: Parts,
+    mode: Judged<Mode>,
+    parts: &[Tree],
+) -> Result<Judged<Pattern>, Memory>
+    ensures { IfOk result (λ pattern. pattern ≡ steps.leaf constants.now mode kind parts.now) }
+{
+    match kind {
+        Parts::Register => Ok(register(alloc, constants, mode, parts)),
+        Parts::Number => Ok(number(alloc, constants, mode, parts)),
+        _ => symbol(alloc, mode, parts),
+    }
+}
+
+/// What stands behind a `match` code, with the expressions in it.
+fn matched(
+    alloc: Global,
+    code: Code,
+    mode: Judged<Mode>,
+    kind: Parts,
+    parts: &[Tree],
+    kids: Judged<Patterns>,
+) -> Result<Judged<Pattern>, Memory>
+    ensures { IfOk result (λ pattern.
+        pattern ≡ spec.operand_by code mode (steps.operand_behind kind parts.now) kids) }
+{
+    let operand = operand_behind(alloc, kind, parts)?;
+    matching(code, mode, operand, kids)
 }
 
 /// What stands behind a code, with the expressions in it.
@@ -335,13 +407,13 @@ fn made(
     let Head { code, mode } = head;
     let mode = mode_for(code, mode);
     match code.class().parts() {
-        Parts::Register => Ok(register(alloc, constants, mode, parts)),
-        Parts::Number => Ok(number(alloc, constants, mode, parts)),
-        Parts::Symbol => symbol(alloc, mode, parts),
         Parts::Lowpart | Parts::Expressions { .. } | Parts::Vector => {
             Ok(node_of(alloc, code, mode, kids))
         }
-        kind => matching(code, mode, operand_behind(alloc, kind, parts)?, kids),
+        kind @ (Parts::Register | Parts::Number | Parts::Symbol) => {
+            leaf(alloc, constants, kind, mode, parts)
+        }
+        kind => matched(alloc, code, mode, kind, parts, kids),
     }
 }
 

@@ -51,15 +51,28 @@ elements_in t = if is_vector t then Some (vector_of t) else None
 abbrev pub lowpart_in : List Tree → Option (List Tree)
 lowpart_in ts = if is_lowpart ts then Some (take 1 ts) else None
 
+abbrev pub counted_in : ℕ → List Tree → Option (List Tree)
+counted_in n ts = if length ts == n then Some ts else None
+
+-- a vector, and nothing behind it
+abbrev pub first_vector : List Tree → Option (List Tree)
+first_vector (v ∷ []) = elements_in v
+first_vector _ = None
+
+abbrev pub second_vector : List Tree → Option (List Tree)
+second_vector (n ∷ v ∷ []) = elements_in v
+second_vector _ = None
+
+abbrev pub third_vector : List Tree → Option (List Tree)
+third_vector (n ∷ p ∷ v ∷ []) = elements_in v
+third_vector _ = None
+
 abbrev pub inner : Parts → List Tree → Option (List Tree)
 inner parts.Lowpart ts = lowpart_in ts
-inner (parts.Expressions n) ts = if length ts == n then Some ts else None
-inner parts.Vector (v ∷ []) = elements_in v
-inner parts.Vector _ = None
-inner parts.Operator (n ∷ p ∷ v ∷ []) = elements_in v
-inner parts.Operator _ = None
-inner parts.OperatorDup (n ∷ v ∷ []) = elements_in v
-inner parts.OperatorDup _ = None
+inner (parts.Expressions n) ts = counted_in n ts
+inner parts.Vector ts = first_vector ts
+inner parts.Operator ts = third_vector ts
+inner parts.OperatorDup ts = second_vector ts
 inner _ ts = Some []
 
 -- ---- what is made
@@ -81,12 +94,18 @@ operand_behind parts.Operator ts = operator_in ts
 operand_behind parts.OperatorDup ts = operator_dup_in ts
 operand_behind _ ts = None
 
+-- a register, a number or a symbol
+abbrev pub leaf : List Constant → Result Mode Reason → Parts → List Tree → Result Pattern Reason
+leaf constants m parts.Register ts = register_by constants m (word_in ts)
+leaf constants m parts.Number ts = number_by m constants ts
+leaf constants m _ ts = symbol_by m ts
+
 -- what stands behind a code, by the expressions in it
 abbrev pub made : List Constant → Code → Result Mode Reason → Parts → List Tree →
     Result Patterns Reason → Result Pattern Reason
-made constants c m parts.Register ts kids = register_by constants m (word_in ts)
-made constants c m parts.Number ts kids = number_by m constants ts
-made constants c m parts.Symbol ts kids = symbol_by m ts
+made constants c m parts.Register ts kids = leaf constants m parts.Register ts
+made constants c m parts.Number ts kids = leaf constants m parts.Number ts
+made constants c m parts.Symbol ts kids = leaf constants m parts.Symbol ts
 made constants c m parts.Lowpart ts kids = judged_with (node_with c) m kids
 made constants c m (parts.Expressions n) ts kids = judged_with (node_with c) m kids
 made constants c m parts.Vector ts kids = judged_with (node_with c) m kids

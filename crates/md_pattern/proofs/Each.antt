@@ -1,16 +1,14 @@
 -- Reading some patterns one after the other: what is read so far, and what the rest gives.
-use Rattle.std.proofs.Common.{◌≡◌, ℕ, ◌+◌, ◌<◌, List, [], ◌∷◌, ◌++◌, Result, Ok, Err, map, length, drop, get_or, refl, sym, ap, ◌∙◌, append_assoc, arith, nat_le, true, false, if◌then◌else◌, Bool}
+use Rattle.std.proofs.Common.{◌≡◌, ℕ, ◌+◌, ◌<◌, List, [], ◌∷◌, ◌++◌, Result, Ok, Err, map, length, drop, get_or, refl, sym, ap, ◌∙◌, append_assoc, arith}
 use Rattle.std.proofs.lemmas.Bool.Decides.{nat_tests}
 use Rattle.std.proofs.lemmas.List.{append-nil, at_drop_more}
 use Rattle.rtx_tree.specs.declared.constants.Constant.{Constant}
-use Rattle.rtx_tree.specs.declared.tree.Rtx.{Rtx}
 use Rattle.lisp_read.specs.declared.tree.Tree.{Tree}
 use Rattle.md_pattern.specs.declared.reason.Reason.{Reason}
-use Rattle.md_pattern.specs.declared.operand.OperandText.{OperandText}
 use Rattle.md_pattern.specs.declared.pattern.Pattern.{Pattern}
 use Rattle.md_pattern.specs.declared.pattern.Patterns.{Patterns}
-use Rattle.md_pattern.specs.Reason.{number_of, smaller, judged_with}
-use Rattle.md_pattern.specs.Pattern.{no_patterns, in_front, each, Meaning, meaning_of, pattern_of}
+use Rattle.md_pattern.specs.Reason.{smaller, judged_with}
+use Rattle.md_pattern.specs.Pattern.{no_patterns, in_front, each, meaning_of, pattern_of}
 use Rattle.md_pattern.specs.machine.Steps.{added}
 
 smaller_assoc : (r s t : Reason) → smaller r (smaller s t) ≡ smaller (smaller r s) t
@@ -66,7 +64,3 @@ each_next constants trees i t front p all whole within is read made h =
 -- all were read
 pub each_ends : (front whole : Result Patterns Reason) → joined front (each []) ≡ whole → front ≡ whole
 each_ends front whole h = sym (joined_last front) ∙ h
-
--- one pattern alone
-pub each_alone : (p : Pattern) → in_front p no_patterns ≡ record { trees = p.tree ∷ []; texts = p.texts }
-each_alone p = rw (append-nil p.texts) refl

@@ -1,4 +1,5 @@
 pub mod Each
+pub mod Inner
 pub mod Meanings
 pub mod Smallest
 pub mod Taken

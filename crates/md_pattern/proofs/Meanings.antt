@@ -1,15 +1,13 @@
 -- What a tree stands for, by what the trees in it stand for.
-use Rattle.std.proofs.Common.{◌≡◌, ℕ, ◌≤◌, List, [], ◌∷◌, Some, Result, Err, map, take, drop, length, length-drop, ◌-◌, get_or, refl, sym, ap, ◌∙◌, if◌then◌else◌, arith}
-use Rattle.std.proofs.lemmas.List.{take_all}
+use Rattle.std.proofs.Common.{◌≡◌, List, [], ◌∷◌, Err, map, refl, ap, ◌∙◌, if◌then◌else◌}
 use Rattle.rtx_tree.specs.declared.constants.Constant.{Constant}
 use Rattle.lisp_read.specs.declared.tree.Tree.{Tree, out-Tree}
 use Rattle.lisp_read.specs.declared.tree.Tree.TheOpen.{Tree-F}
 use Rattle.lisp_read.specs.declared.tree.Tree.TheFolds.{fold-Tree, fold_out-Tree, map-Tree}
-use Rattle.lisp_read.specs.Head.{code_of_head, mode_of_head}
-use Rattle.lisp_read.specs.Shape.{atom_of, items_at, items_of, vector_at, vector_of, is_vector_at, is_vector}
+use Rattle.lisp_read.specs.Shape.{items_at, items_of, vector_at, vector_of, is_vector_at, is_vector}
 use Rattle.lisp_read.specs.Expression.{inside_at, inside_of}
 use Rattle.md_pattern.specs.declared.reason.Reason.TheVariants as reason
-use Rattle.md_pattern.specs.Pattern.{Meaning, meaning_of, meaning_by, meaning_step, each_read, each, list_by, of_code, pattern_of, patterns_of}
+use Rattle.md_pattern.specs.Pattern.{Meaning, meaning_of, meaning_by, meaning_step, each_read, each, list_by, pattern_of, patterns_of}
 
 reading : List Constant → Tree → Tree → Meaning
 reading constants = fold-Tree (Tree → Meaning) (meaning_step constants)
@@ -59,20 +57,3 @@ vector_inside constants (Tree-F.Vector place items) = refl
 -- a vector, by its trees
 pub vector_out : (constants : List Constant) (t : Tree) → patterns_of constants t ≡ (if is_vector t then each (map (meaning_of constants) (vector_of t)) else Err reason.Parts)
 vector_out constants t = ap (λ (m : Meaning). m.vector) (meaning_out constants t) ∙ vector_inside constants (out-Tree t)
-
--- what stands behind the first of some trees, as the code cuts it
-pub behind : (items : List Tree) → take (length items - 1) (drop 1 items) ≡ drop 1 items
-behind items = take_all (length items - 1) (drop 1 items) (rw (length-drop 1 items) (omega arith))
-
-at_head : (constants : List Constant) (items : List Tree) (h : Tree) (text : List ℕ) → 1 ≤ length items → h ≡ get_or items 0 h → Some text ≡ atom_of h →
-    list_by constants items (map (meaning_of constants) items) ≡ of_code constants (code_of_head text) (mode_of_head text) (drop 1 items) (map (meaning_of constants) (drop 1 items))
-at_head constants [] h text within is a = absurd (grind (arith, within))
-at_head constants (x ∷ xs) h text within is a =
-    let atom : atom_of x ≡ Some text = ap atom_of (sym is) ∙ sym a in
-    rw atom refl
-
--- a list with an atom at its head
-pub pattern_at : (constants : List Constant) (t : Tree) (items : List Tree) (h : Tree) (text name : List ℕ) → items ≡ items_of t → 1 ≤ length items → h ≡ get_or items 0 h → Some name ≡ atom_of h → text ≡ name →
-    pattern_of constants t ≡ of_code constants (code_of_head text) (mode_of_head text) (take (length items - 1) (drop 1 items)) (map (meaning_of constants) (take (length items - 1) (drop 1 items)))
-pattern_at constants t items h text name e within is a same =
-    pattern_out constants t ∙ rw (behind items) (rw (sym e) (at_head constants items h text within is (rw same a)))

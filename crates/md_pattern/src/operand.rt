@@ -1,6 +1,7 @@
 //! The operands of a pattern.
 ghost use Rattle.std.specs.Prelude.{◌≡◌, IfOk};
 ghost use Rattle.md_pattern.specs.Operand as spec;
+ghost use Rattle.md_pattern.specs.machine.Steps as steps;
 
 use crate::word::operand_number;
 use lisp_read::{Tree, atom, string};
@@ -135,6 +136,26 @@ pub fn dup_in(alloc: Global, parts: &[Tree]) -> Option<Operand>
 {
     match parts {
         [number] => numbered(alloc, number),
+        _ => None,
+    }
+}
+
+/// `NUMBER "PREDICATE"`, before a vector of expressions.
+pub fn operator_in(alloc: Global, parts: &[Tree]) -> Result<Option<Operand>, Memory>
+    ensures { IfOk result (λ operand. operand ≡ steps.operator_in parts.now) }
+{
+    match parts {
+        [number, predicate, _] => predicated(alloc, number, predicate),
+        _ => Ok(None),
+    }
+}
+
+/// `NUMBER`, before a vector of expressions.
+pub fn operator_dup_in(alloc: Global, parts: &[Tree]) -> Option<Operand>
+    ensures { result ≡ steps.operator_dup_in parts.now }
+{
+    match parts {
+        [number, _] => numbered(alloc, number),
         _ => None,
     }
 }

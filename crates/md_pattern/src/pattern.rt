@@ -10,7 +10,9 @@ ghost use Rattle.md_pattern.specs.HasReason.{HasReason, VectorHasReason};
 ghost use Rattle.md_pattern.specs.Reason.{judged_with, IsSmallest};
 ghost use Rattle.md_pattern.specs.Word as word;
 
-use crate::operand::{Operand, OperandTexts, dup_in, numbered, operand_in, predicated, scratch_in};
+use crate::operand::{
+    Operand, OperandTexts, dup_in, operand_in, operator_dup_in, operator_in, scratch_in,
+};
 use crate::reason::{Judged, Reason, both};
 use crate::word::{number_of, register_of};
 use lisp_read::{Tree, atom, head_words, is_vector, is_word, items, quoted_name, vector};
@@ -68,22 +70,6 @@ fn judged_added(
 {
     match both(patterns, pattern) {
         Ok((patterns, pattern)) => Ok(Ok(added(patterns, pattern)?)),
-        Err(reason) => Ok(Err(reason)),
-    }
-}
-
-/// One expression alone.
-#[tactic(auto, using(crate::proofs::Each::each_alone))]
-fn only(alloc: Global, pattern: Judged<Pattern>) -> Result<Judged<Patterns>, Memory>
-    ensures { IfOk result (λ patterns.
-        patterns ≡ judged_with spec.in_front pattern (Ok spec.no_patterns)) }
-{
-    match pattern {
-        Ok(Pattern { tree, texts }) => {
-            let mut trees = Items::new(alloc);
-            trees.push(tree)?;
-            Ok(Ok(Patterns { trees, texts }))
-        }
         Err(reason) => Ok(Err(reason)),
     }
 }
@@ -250,17 +236,185 @@ fn matching(
     }
 }
 
-/// An operand with no expressions in it.
-fn plain_operand(
+/// The operand of a `match` code.
+fn operand_behind(alloc: Global, kind: Parts, parts: &[Tree]) -> Result<Option<Operand>, Memory>
+    ensures { IfOk result (λ operand. operand ≡ steps.operand_behind kind parts.now) }
+{
+    match kind {
+        Parts::Operand => operand_in(alloc, parts),
+        Parts::Scratch => scratch_in(alloc, parts),
+        Parts::Dup => Ok(dup_in(alloc, parts)),
+        Parts::Operator => operator_in(alloc, parts),
+        Parts::OperatorDup => Ok(operator_dup_in(alloc, parts)),
+        _ => Ok(None),
+    }
+}
+
+/// What a list begins with.
+#[derive(Clone, Copy)]
+struct Head {
+    code: Code,
+    mode: Option<Mode>,
+}
+
+/// The head of a list whose code is known.
+fn head_of(tree: &Tree) -> Judged<Head>
+    ensures { result ≡ steps.head_of tree.now }
+{
+    let [word, ..] = items(tree) else {
+        return Err(Reason::Parts);
+    };
+    let Some(word) = atom(word) else {
+        return Err(Reason::Parts);
+    };
+    match head_words(word.bytes()) {
+        (Some(code), mode) => Ok(Head { code, mode }),
+        (None, _) => Err(Reason::Code),
+    }
+}
+
+/// The trees behind the head of a list.
+fn behind_head(tree: &Tree) -> &[Tree]
+    ensures { result.now ≡ steps.behind_head tree.now }
+{
+    match items(tree) {
+        [_, parts @ ..] => parts,
+        [] => &[],
+    }
+}
+
+/// The trees of a vector.
+fn elements_in(tree: &Tree) -> Option<&[Tree]>
+    ensures { option_copied result ≡ steps.elements_in tree.now }
+{
+    if is_vector(tree) {
+        Some(vector(tree))
+    } else {
+        None
+    }
+}
+
+/// The expression before the offset 0.
+fn lowpart_in(parts: &[Tree]) -> Option<&[Tree]>
+    ensures { option_copied result ≡ steps.lowpart_in parts.now }
+{
+    match parts {
+        [_, offset] if is_word(offset, b"0") => Some(&parts[..1]),
+        _ => None,
+    }
+}
+
+/// So many expressions, and no more.
+fn counted_in(count: usize, parts: &[Tree]) -> Option<&[Tree]>
+    ensures { option_copied result ≡ steps.counted_in count parts.now }
+{
+    if parts.len() == count {
+        Some(parts)
+    } else {
+        None
+    }
+}
+
+/// The trees of a vector alone.
+fn first_vector(parts: &[Tree]) -> Option<&[Tree]>
+    ensures { option_copied result ≡ steps.first_vector parts.now }
+{
+    match parts {
+        [vector] => elements_in(vector),
+        _ => None,
+    }
+}
+
+/// The trees of a vector behind one word.
+fn second_vector(parts: &[Tree]) -> Option<&[Tree]>
+    ensures { option_copied result ≡ steps.second_vector parts.now }
+{
+    match parts {
+        [_, vector] => elements_in(vector),
+        _ => None,
+    }
+}
+
+/// The trees of a vector behind two words.
+fn third_vector(parts: &[Tree]) -> Option<&[Tree]>
+    ensures { option_copied result ≡ steps.third_vector parts.now }
+{
+    match parts {
+        [_, _, vector] => elements_in(vector),
+        _ => None,
+    }
+}
+
+/// The trees behind a code that are expressions themselves, where there are as many as there should
+/// be.
+fn inner(code: Code, parts: &[Tree]) -> Option<&[Tree]>
+    ensures { option_copied result ≡ steps.inner (parts_of (class_of_code code)) parts.now }
+{
+    match code.class().parts() {
+        Parts::Lowpart => lowpart_in(parts),
+        Parts::Expressions { count } => counted_in(count, parts),
+        Parts::Vector => first_vector(parts),
+        Parts::Operator => third_vector(parts),
+        Parts::OperatorDup => second_vector(parts),
+        _ => Some(&[]),
+    }
+}
+
+/// A register, a number or a symbol.
+fn leaf(
+    alloc: Global,
+    constants: &[Constant],
+    kind: Parts,
+    mode: Judged<Mode>,
+    parts: &[Tree],
+) -> Result<Judged<Pattern>, Memory>
+    ensures { IfOk result (λ pattern. pattern ≡ steps.leaf constants.now mode kind parts.now) }
+{
+    match kind {
+        Parts::Register => Ok(register(alloc, constants, mode, parts)),
+        Parts::Number => Ok(number(alloc, constants, mode, parts)),
+        _ => symbol(alloc, mode, parts),
+    }
+}
+
+/// What stands behind a `match` code, with the expressions in it.
+fn matched(
     alloc: Global,
     code: Code,
     mode: Judged<Mode>,
-    operand: Option<Operand>,
+    kind: Parts,
+    parts: &[Tree],
+    kids: Judged<Patterns>,
 ) -> Result<Judged<Pattern>, Memory>
     ensures { IfOk result (λ pattern.
-        pattern ≡ spec.operand_by code mode operand (Ok spec.no_patterns)) }
+        pattern ≡ spec.operand_by code mode (steps.operand_behind kind parts.now) kids) }
 {
-    matching(code, mode, operand, Ok(no_patterns(alloc)))
+    let operand = operand_behind(alloc, kind, parts)?;
+    matching(code, mode, operand, kids)
+}
+
+/// What stands behind a code, with the expressions in it.
+fn made(
+    alloc: Global,
+    constants: &[Constant],
+    head: Head,
+    parts: &[Tree],
+    kids: Judged<Patterns>,
+) -> Result<Judged<Pattern>, Memory>
+    ensures { IfOk result (λ pattern. pattern ≡ steps.made constants.now head.code
+        (spec.mode_for head.code head.mode) (parts_of (class_of_code head.code)) parts.now kids) }
+{
+    let Head { code, mode } = head;
+    let mode = mode_for(code, mode);
+    match code.class().parts() {
+        Parts::Lowpart | Parts::Expressions { .. } | Parts::Vector => {
+            Ok(node_of(alloc, code, mode, kids))
+        }
+        kind @ (Parts::Register | Parts::Number | Parts::Symbol) => {
+            leaf(alloc, constants, kind, mode, parts)
+        }
+        kind => matched(alloc, code, mode, kind, parts, kids),
+    }
 }
 
 /// Each of some trees as an expression.
@@ -278,8 +432,25 @@ fn each(alloc: Global, constants: &[Constant], trees: &[Tree]) -> Result<Judged<
     Ok(patterns)
 }
 
-/// A vector of expressions.
 #[cycle(read)]
+fn expression(alloc: Global, constants: &[Constant], tree: &Tree) -> Result<Judged<Pattern>, Memory>
+    ensures { IfOk result (λ pattern. pattern ≡ spec.pattern_of constants.now tree.now) }
+{
+    let head = match head_of(tree) {
+        Ok(head) => head,
+        Err(reason) => return Ok(Err(reason)),
+    };
+    let parts = behind_head(tree);
+    match inner(head.code, parts) {
+        Some(trees) => {
+            let kids = each(alloc, constants, trees)?;
+            made(alloc, constants, head, parts, kids)
+        }
+        None => Ok(Err(Reason::Parts)),
+    }
+}
+
+/// A vector of expressions.
 #[tactic(auto, using(crate::proofs::Meanings::vector_out))]
 fn elements(alloc: Global, constants: &[Constant], tree: &Tree) -> Result<Judged<Patterns>, Memory>
     ensures { IfOk result (λ patterns. patterns ≡ spec.patterns_of constants.now tree.now) }
@@ -288,189 +459,6 @@ fn elements(alloc: Global, constants: &[Constant], tree: &Tree) -> Result<Judged
         each(alloc, constants, vector(tree))
     } else {
         Ok(Err(Reason::Parts))
-    }
-}
-
-#[cycle(read)]
-fn node(
-    alloc: Global,
-    constants: &[Constant],
-    code: Code,
-    mode: Judged<Mode>,
-    parts: &[Tree],
-) -> Result<Judged<Pattern>, Memory>
-    ensures { IfOk result (λ pattern.
-        pattern ≡ judged_with (spec.node_with code) mode
-        (spec.each (map (spec.meaning_of constants.now) parts.now))) }
-{
-    let kids = each(alloc, constants, parts)?;
-    Ok(node_of(alloc, code, mode, kids))
-}
-
-#[cycle(read)]
-fn parallel(
-    alloc: Global,
-    constants: &[Constant],
-    code: Code,
-    mode: Judged<Mode>,
-    parts: &[Tree],
-) -> Result<Judged<Pattern>, Memory>
-    ensures { IfOk result (λ pattern.
-        pattern ≡ spec.parallel_by code mode (map (spec.meaning_of constants.now) parts.now)) }
-{
-    match parts {
-        [vector] => {
-            let kids = elements(alloc, constants, vector)?;
-            Ok(node_of(alloc, code, mode, kids))
-        }
-        _ => Ok(Err(Reason::Parts)),
-    }
-}
-
-#[cycle(read)]
-fn operator(
-    alloc: Global,
-    constants: &[Constant],
-    code: Code,
-    mode: Judged<Mode>,
-    parts: &[Tree],
-) -> Result<Judged<Pattern>, Memory>
-    ensures { IfOk result (λ pattern.
-        pattern ≡ spec.operator_by code mode parts.now
-        (map (spec.meaning_of constants.now) parts.now)) }
-{
-    match parts {
-        [number, predicate, vector] => {
-            let operand = predicated(alloc, number, predicate)?;
-            let kids = elements(alloc, constants, vector)?;
-            matching(code, mode, operand, kids)
-        }
-        _ => Ok(Err(Reason::Parts)),
-    }
-}
-
-#[cycle(read)]
-fn operator_dup(
-    alloc: Global,
-    constants: &[Constant],
-    code: Code,
-    mode: Judged<Mode>,
-    parts: &[Tree],
-) -> Result<Judged<Pattern>, Memory>
-    ensures { IfOk result (λ pattern.
-        pattern ≡ spec.operator_dup_by code mode parts.now
-        (map (spec.meaning_of constants.now) parts.now)) }
-{
-    match parts {
-        [number, vector] => {
-            let operand = numbered(alloc, number);
-            let kids = elements(alloc, constants, vector)?;
-            matching(code, mode, operand, kids)
-        }
-        _ => Ok(Err(Reason::Parts)),
-    }
-}
-
-/// One expression and the offset 0.
-#[cycle(read)]
-fn lowpart(
-    alloc: Global,
-    constants: &[Constant],
-    code: Code,
-    mode: Judged<Mode>,
-    parts: &[Tree],
-) -> Result<Judged<Pattern>, Memory>
-    ensures { IfOk result (λ pattern.
-        pattern ≡ spec.node_by (spec.is_lowpart parts.now) code mode
-        (take 1 (map (spec.meaning_of constants.now) parts.now))) }
-{
-    match parts {
-        [inner, offset] if is_word(offset, b"0") => {
-            let kids = only(alloc, expression(alloc, constants, inner)?)?;
-            Ok(node_of(alloc, code, mode, kids))
-        }
-        _ => Ok(Err(Reason::Parts)),
-    }
-}
-
-#[cycle(read)]
-fn expressions(
-    alloc: Global,
-    constants: &[Constant],
-    code: Code,
-    mode: Judged<Mode>,
-    count: usize,
-    parts: &[Tree],
-) -> Result<Judged<Pattern>, Memory>
-    ensures { IfOk result (λ pattern.
-        pattern ≡ spec.node_by (length parts.now == count) code mode
-        (map (spec.meaning_of constants.now) parts.now)) }
-{
-    if parts.len() == count {
-        node(alloc, constants, code, mode, parts)
-    } else {
-        Ok(Err(Reason::Parts))
-    }
-}
-
-/// What stands behind a code.
-#[cycle(read)]
-fn behind(
-    alloc: Global,
-    constants: &[Constant],
-    code: Code,
-    mode: Judged<Mode>,
-    parts: &[Tree],
-) -> Result<Judged<Pattern>, Memory>
-    ensures { IfOk result (λ pattern.
-        pattern ≡ spec.behind constants.now code mode (parts_of (class_of_code code)) parts.now
-        (map (spec.meaning_of constants.now) parts.now)) }
-{
-    match code.class().parts() {
-        Parts::Register => Ok(register(alloc, constants, mode, parts)),
-        Parts::Number => Ok(number(alloc, constants, mode, parts)),
-        Parts::Symbol => symbol(alloc, mode, parts),
-        Parts::Lowpart => lowpart(alloc, constants, code, mode, parts),
-        Parts::Expressions { count } => expressions(alloc, constants, code, mode, count, parts),
-        Parts::Vector => parallel(alloc, constants, code, mode, parts),
-        Parts::Operand => plain_operand(alloc, code, mode, operand_in(alloc, parts)?),
-        Parts::Scratch => plain_operand(alloc, code, mode, scratch_in(alloc, parts)?),
-        Parts::Dup => plain_operand(alloc, code, mode, dup_in(alloc, parts)),
-        Parts::Operator => operator(alloc, constants, code, mode, parts),
-        Parts::OperatorDup => operator_dup(alloc, constants, code, mode, parts),
-    }
-}
-
-/// A list with this atom at its head.
-#[cycle(read)]
-fn list(
-    alloc: Global,
-    constants: &[Constant],
-    head: &[u8],
-    parts: &[Tree],
-) -> Result<Judged<Pattern>, Memory>
-    ensures { IfOk result (λ pattern.
-        pattern ≡ spec.of_code constants.now (code_of_head head.now)
-        (mode_of_head head.now) parts.now (map (spec.meaning_of constants.now) parts.now)) }
-{
-    let (code, mode) = head_words(head);
-    match code {
-        None => Ok(Err(Reason::Code)),
-        Some(code) => behind(alloc, constants, code, mode_for(code, mode), parts),
-    }
-}
-
-#[cycle(read)]
-#[tactic(auto, using(crate::proofs::Meanings::pattern_out))]
-fn expression(alloc: Global, constants: &[Constant], tree: &Tree) -> Result<Judged<Pattern>, Memory>
-    ensures { IfOk result (λ pattern. pattern ≡ spec.pattern_of constants.now tree.now) }
-{
-    match items(tree) {
-        [head, parts @ ..] => match atom(head) {
-            Some(head) => list(alloc, constants, head.bytes(), parts),
-            None => Ok(Err(Reason::Parts)),
-        },
-        [] => Ok(Err(Reason::Parts)),
     }
 }
 

@@ -1,7 +1,8 @@
 //! The value of an expression.
-ghost use Rattle.std.specs.Prelude.{◌≡◌, map, ◌↔◌, IsTrue, IfSome, ◌<◌, ◌^◌};
+ghost use Rattle.std.specs.Prelude.{◌≡◌, map, option_map, ◌↔◌, IsTrue, IfSome, ◌<◌, ◌^◌};
 ghost use Rattle.rtx_tree.specs.Code.{class_of_code};
 ghost use Rattle.rtl_step.specs.Value as spec;
+ghost use Rattle.rtl_step.specs.machine.Parts as steps;
 
 use crate::regs::Regs;
 use bits64::{
@@ -143,22 +144,62 @@ fn value_of_none(
     }
 }
 
-/// The value of an extension or a truncation, whose operand is read in its own mode.
-#[cycle(value)]
-#[tactic(auto, using(crate::proofs::Values::width_in))]
-fn of_converted(
-    symbols: &Symbols,
-    regs: &Regs,
-    memory: &Memories,
-    code: Code,
-    a: &Rtx,
-    w: Width,
-) -> Option<u64>
-    ensures { result ≡
-        spec.of_converted code (spec.reading_of symbols.now regs.now memory.now a.now) w }
+/// The width in which the one part of an expression is read.
+fn part_width(code: Code, a: Mode, w: Width) -> Option<Width>
+    ensures { result ≡ steps.part_width (class_of_code code) (spec.width_of a) w }
 {
-    let own = width_of(a.mode)?;
-    converted(code, own, w, value(symbols, regs, memory, a, own)?)
+    match code.class() {
+        Class::Memory => Some(Width::W64),
+        Class::Lowpart | Class::Unary => Some(w),
+        Class::Extension | Class::Truncation => width_of(a),
+        _ => None,
+    }
+}
+
+/// The value of an expression by that of its one part.
+fn with_part(memory: &Memories, code: Code, own: Width, w: Width, value: u64) -> Option<u64>
+    ensures { result ≡ steps.with_part memory.now (class_of_code code) code own w value }
+{
+    match code.class() {
+        Class::Memory => load(memory, w, value),
+        Class::Lowpart => Some(value),
+        Class::Unary => unary(code, w, value),
+        Class::Extension | Class::Truncation => converted(code, own, w, value),
+        _ => None,
+    }
+}
+
+/// The width in which both sides of a comparison are read.
+fn compared_widths(a: Option<Width>, b: Option<Width>) -> Option<(Width, Width)>
+    ensures { result ≡ option_map steps.alike (spec.first_width a b) }
+{
+    let own = first_width(a, b)?;
+    Some((own, own))
+}
+
+/// The widths in which the two parts of an expression are read.
+fn part_widths(code: Code, a: Mode, b: Mode, w: Width) -> Option<(Width, Width)>
+    ensures { result ≡
+        steps.part_widths (class_of_code code) (spec.width_of a) (spec.width_of b) w }
+{
+    match code.class() {
+        Class::Binary => Some((w, w)),
+        Class::Shift => Some((w, count_width(b))),
+        Class::Comparison => compared_widths(width_of(a), width_of(b)),
+        _ => None,
+    }
+}
+
+/// The value of an expression by those of its two parts, the first of which was read in a width.
+fn with_parts(code: Code, w: Width, a: u64, b: u64) -> Option<u64>
+    ensures { result ≡ steps.with_parts (class_of_code code) code w a b }
+{
+    match code.class() {
+        Class::Binary => binary(code, w, a, b),
+        Class::Shift => shifted(code, w, a, b),
+        Class::Comparison => compared(code, w, a, b),
+        _ => None,
+    }
 }
 
 /// The value of an expression of one part.
@@ -174,18 +215,13 @@ fn value_of_one(
     ensures { result ≡ spec.value_of_one memory.now (class_of_code code) code
         (spec.reading_of symbols.now regs.now memory.now a.now) w }
 {
-    match code.class() {
-        Class::Memory => load(memory, w, value(symbols, regs, memory, a, Width::W64)?),
-        Class::Lowpart => value(symbols, regs, memory, a, w),
-        Class::Unary => unary(code, w, value(symbols, regs, memory, a, w)?),
-        Class::Extension | Class::Truncation => of_converted(symbols, regs, memory, code, a, w),
-        _ => None,
-    }
+    let own = part_width(code, a.mode, w)?;
+    let part = value(symbols, regs, memory, a, own)?;
+    with_part(memory, code, own, w, part)
 }
 
 /// The value of an expression of two parts; one of more has none.
 #[cycle(value)]
-#[tactic(auto, using(crate::proofs::Values::width_in))]
 fn value_of_parts(
     symbols: &Symbols,
     regs: &Regs,
@@ -200,25 +236,10 @@ fn value_of_parts(
     let [a, b] = parts else {
         return None;
     };
-    match code.class() {
-        Class::Binary => {
-            let first = value(symbols, regs, memory, a, w)?;
-            let second = value(symbols, regs, memory, b, w)?;
-            binary(code, w, first, second)
-        }
-        Class::Shift => {
-            let first = value(symbols, regs, memory, a, w)?;
-            let count = value(symbols, regs, memory, b, count_width(b.mode))?;
-            shifted(code, w, first, count)
-        }
-        Class::Comparison => {
-            let own = first_width(width_of(a.mode), width_of(b.mode))?;
-            let first = value(symbols, regs, memory, a, own)?;
-            let second = value(symbols, regs, memory, b, own)?;
-            compared(code, own, first, second)
-        }
-        _ => None,
-    }
+    let (own, other) = part_widths(code, a.mode, b.mode, w)?;
+    let first = value(symbols, regs, memory, a, own)?;
+    let second = value(symbols, regs, memory, b, other)?;
+    with_parts(code, own, first, second)
 }
 
 /// The value of an expression in a width, or `None` where it has none.

@@ -151,6 +151,26 @@ fn reply(
     Ok(StepEnd::Called)
 }
 
+/// The step of a call whose event is known.
+fn answer(
+    state: &mut State,
+    place: u32,
+    w: Width,
+    event: CallEvent,
+    world: &World,
+) -> Result<StepEnd, Memory>
+    requires { place + 1 < 2 ^ 32 }
+    ensures step { IfOk result (λ e.
+        (e, state.new) ≡ spec.after_reply state.old place w event
+        (spec.next_reply world.now state.old)) }
+    ensures err { OnErr result (state.new ≡ state.old) }
+{
+    match world.replies.as_slice().get(state.calls.len()) {
+        None => ask(state, event),
+        Some(found) => reply(state, place, w, event, found),
+    }
+}
+
 fn call_step(
     alloc: Global,
     insn: &Insn,
@@ -176,12 +196,9 @@ fn call_step(
         &insn.pattern,
         insn.uses.as_slice(),
     )?;
-    let Some(event) = event else {
-        return Ok(StepEnd::Undefined);
-    };
-    match world.replies.as_slice().get(state.calls.len()) {
-        None => ask(state, event),
-        Some(found) => reply(state, place, w, event, found),
+    match event {
+        None => Ok(StepEnd::Undefined),
+        Some(event) => answer(state, place, w, event, world),
     }
 }
 
@@ -205,6 +222,29 @@ fn place_from(insns: &[Insn], next: usize) -> usize
     place
 }
 
+/// The step of an instruction at a place of the chain.
+fn act(
+    alloc: Global,
+    f: &Function,
+    insn: &Insn,
+    place: u32,
+    state: &mut State,
+    world: &World,
+) -> Result<StepEnd, Memory>
+    requires place { place + 1 < 2 ^ 32 }
+    requires places { length f.now.insns < 2 ^ 32 }
+    ensures step { IfOk result (λ e.
+        (e, state.new) ≡ spec.act insn.now.kind world.now f.now insn.now place state.old) }
+    ensures err { OnErr result (state.new ≡ state.old) }
+{
+    match insn.kind {
+        Kind::Plain => plain_step(alloc, insn, place, state, world),
+        Kind::Jump => Ok(jump_step(f, insn, place, state, world)),
+        Kind::Call => call_step(alloc, insn, place, state, world),
+        Kind::Label | Kind::Barrier => Ok(StepEnd::Undefined),
+    }
+}
+
 /// One step of a function. After `Memory` the state is as before, as it is after a step that
 /// returns or is undefined.
 pub fn step_insn(
@@ -222,11 +262,5 @@ pub fn step_insn(
     let Some(insn) = insns.get(place) else {
         return Ok(return_step(f.result, state));
     };
-    let place = place as u32;
-    match insn.kind {
-        Kind::Plain => plain_step(alloc, insn, place, state, world),
-        Kind::Jump => Ok(jump_step(f, insn, place, state, world)),
-        Kind::Call => call_step(alloc, insn, place, state, world),
-        Kind::Label | Kind::Barrier => Ok(StepEnd::Undefined),
-    }
+    act(alloc, f, insn, place as u32, state, world)
 }

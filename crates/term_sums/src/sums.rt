@@ -137,7 +137,6 @@ fn constants(w: Width, constant: u64, terms: &[Atom]) -> u64
 }
 
 /// The atoms of all terms, as they come.
-#[tactic(auto, using(term_tree::proofs::ViewLaws::view_laws))]
 fn all_atoms(alloc: Global, w: Width, terms: &[Atom]) -> Result<Vec<Atom>, Memory>
     ensures { IfOk result (λ r. map atom_of r.items ≡ spec.all_atoms w (map atom_of terms.now)) }
 {

@@ -1,5 +1,6 @@
 -- What a tree stands for as a test, by what the trees in it stand for; and the predicates that a test names.
-use Rattle.std.proofs.Common.{◌≡◌, ℕ, ◌≤◌, ◌-◌, List, [], ◌∷◌, ◌++◌, Some, Result, map, take, drop, length, get_or, refl, sym, ap, ◌∙◌, append_assoc, arith}
+use Rattle.std.proofs.Common.{◌≡◌, ℕ, ◌≤◌, ◌-◌, List, [], ◌∷◌, ◌++◌, Some, Result, map, take, drop, length, length-drop, get_or, refl, sym, ap, ◌∙◌, append_assoc, arith}
+use Rattle.std.proofs.lemmas.List.{take_all}
 use Rattle.std.proofs.lemmas.List.Folds.{flat_map-map}
 use Rattle.std.specs.List.{flat_map}
 use Rattle.rtx_tree.specs.declared.constants.Constant.{Constant}
@@ -8,7 +9,7 @@ use Rattle.md_pattern.specs.lisp_read.declared.tree.Tree.TheFolds.{fold-Tree, fo
 use Rattle.md_pattern.specs.lisp_read.Head.{mode_of_head}
 use Rattle.md_pattern.specs.lisp_read.Shape.{atom_of, items_of}
 use Rattle.md_pattern.specs.declared.reason.Reason.{Reason}
-use Rattle.md_pattern.proofs.Meanings.{inside_map, list_inside, behind}
+use Rattle.md_pattern.proofs.Meanings.{inside_map, list_inside}
 use Rattle.pred_expr.specs.declared.question.Test.{Test, out-Test}
 use Rattle.pred_expr.specs.declared.question.Test.TheFolds.{fold_out-Test}
 use Rattle.pred_expr.specs.Test.{predicate_of, predicates_step, predicates_of, kind_of, list_by, of_kind, each_read, test_step, test_of}
@@ -31,6 +32,10 @@ test_out constants t =
     ap (λ (read : Tree → Judgement). read t) (fold_out-Tree (Tree → Judgement) (test_step constants) t)
     ∙ ap (list_by constants (items_of t)) (inside_map each_read (reading constants) (test_of constants) (each_read_map constants) (out-Tree t))
     ∙ list_inside (list_by constants) (λ xs ys. refl) (test_of constants) (out-Tree t)
+
+-- what stands behind the first of some trees, as the code cuts it
+behind : (items : List Tree) → take (length items - 1) (drop 1 items) ≡ drop 1 items
+behind items = take_all (length items - 1) (drop 1 items) (rw (length-drop 1 items) (omega arith))
 
 at_head : (constants : List Constant) (items : List Tree) (h : Tree) (text : List ℕ) → 1 ≤ length items → h ≡ get_or items 0 h → Some text ≡ atom_of h →
     list_by constants items (map (test_of constants) items) ≡ of_kind constants (kind_of text) (mode_of_head text) (drop 1 items) (map (test_of constants) (drop 1 items))

@@ -6,6 +6,7 @@ ghost use Rattle.byte_edge.specs.ByteFiles.{entries_of};
 use crate::fault::Fault;
 use crate::setting::{Setting, failing, part_bytes};
 use byte_edge::ByteFiles;
+use case_text::Part;
 use plain_data::Items;
 use std::alloc::Global;
 
@@ -35,20 +36,30 @@ impl Shelf {
         }
         Ok(())
     }
+
+    /// Puts the file that a part is, if it is one.
+    fn put_part(&mut self, alloc: Global, part: &Part) -> Result<(), Fault> {
+        match part.head.strip_prefix("-- file ") {
+            Some(name) => self.put(alloc, name.as_bytes(), &part_bytes(alloc, part)?),
+            None => Ok(()),
+        }
+    }
+}
+
+/// No file yet. The calls that a setting says are to fail.
+fn empty_shelf(alloc: Global, setting: Setting) -> Result<Shelf, Fault> {
+    let fetches = failing(alloc, setting, "-- fails fetch ")?;
+    Ok(Shelf {
+        files: ByteFiles::new(alloc, &fetches)?,
+        names: Items::new(alloc),
+    })
 }
 
 /// The files of a case, its own before the shared ones, of which the first of a name counts.
 pub fn shelf_of(alloc: Global, setting: Setting) -> Result<ByteFiles, Fault> {
-    let fetches = failing(alloc, setting, "-- fails fetch ")?;
-    let mut shelf = Shelf {
-        files: ByteFiles::new(alloc, &fetches)?,
-        names: Items::new(alloc),
-    };
+    let mut shelf = empty_shelf(alloc, setting)?;
     for part in setting.own.iter().chain(setting.shared) {
-        if let Some(name) = part.head.strip_prefix("-- file ") {
-            let bytes = part_bytes(alloc, part)?;
-            shelf.put(alloc, name.as_bytes(), &bytes)?;
-        }
+        shelf.put_part(alloc, part)?;
     }
     Ok(shelf.files)
 }

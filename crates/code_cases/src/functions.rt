@@ -40,7 +40,7 @@ fn show_successors(f: &Function, told: &mut Told)
 }
 
 /// Appends whether the exit is reached, the blocks, and where each place and the exit lead.
-pub fn tell_graph(alloc: Global, input: &[u8], told: &mut Told) {
+fn tell_graph(alloc: Global, input: &[u8], told: &mut Told) {
     if let Some(f) = function_in(alloc, input)
         && let Ok(is_reached) = reaches_exit(alloc, &f)
         && let Ok(blocks) = blocks(alloc, &f)
@@ -66,7 +66,7 @@ fn are_short(functions: &[Function]) -> bool
 }
 
 /// Appends the uid and the rule that are told of the last of one function or two, or `-`.
-pub fn tell_rule(alloc: Global, input: &[u8], told: &mut Told) {
+fn tell_rule(alloc: Global, input: &[u8], told: &mut Told) {
     let Some(functions) = functions_in(alloc, input) else {
         return told.fail();
     };
@@ -87,7 +87,7 @@ pub fn tell_rule(alloc: Global, input: &[u8], told: &mut Told) {
 }
 
 /// Appends how many instructions a chain has, its greatest uid and the next pseudo register.
-pub fn tell_counts(alloc: Global, input: &[u8], told: &mut Told) {
+fn tell_counts(alloc: Global, input: &[u8], told: &mut Told) {
     let Some(f) = function_in(alloc, input) else {
         return told.fail();
     };
@@ -97,4 +97,15 @@ pub fn tell_counts(alloc: Global, input: &[u8], told: &mut Told) {
     told.show(greatest_uid(insns));
     told.text(" ");
     told.show(next_pseudo(insns));
+}
+
+/// Tells what comes of an input. Whether it is a table of functions.
+pub fn answer(alloc: Global, table: &str, input: &[u8], told: &mut Told) -> bool {
+    match table {
+        "graphs" => tell_graph(alloc, input, told),
+        "rules" => tell_rule(alloc, input, told),
+        "counts" => tell_counts(alloc, input, told),
+        _ => return false,
+    }
+    true
 }

@@ -52,7 +52,7 @@ fn show_line(alloc: Global, line: &Line, told: &mut Told) {
 
 /// Appends a line as it is printed, with `\t` for each tab, and where that isn't read as the line
 /// again; or that the text is no line.
-pub fn tell_line(alloc: Global, text: &[u8], told: &mut Told) {
+fn tell_line(alloc: Global, text: &[u8], told: &mut Told) {
     match parse_line(alloc, text) {
         Ok(Some(line)) => show_line(alloc, &line, told),
         Ok(None) => told.text("no line"),
@@ -61,7 +61,7 @@ pub fn tell_line(alloc: Global, text: &[u8], told: &mut Told) {
 }
 
 /// Appends the parts of a line and what it does.
-pub fn tell_parts(alloc: Global, text: &[u8], told: &mut Told) {
+fn tell_parts(alloc: Global, text: &[u8], told: &mut Told) {
     let Some(line) = line_in(alloc, text) else {
         return told.fail();
     };
@@ -123,7 +123,7 @@ fn show_step(end: LineEnd, a0: Option<u64>, told: &mut Told) {
 }
 
 /// Appends how a line ends, and what `a0` holds then, as a signed number.
-pub fn tell_step(alloc: Global, input: &[u8], told: &mut Told) {
+fn tell_step(alloc: Global, input: &[u8], told: &mut Told) {
     if let Some((text, values)) = halves(input)
         && let Some(values) = numbers(alloc, values)
         && let Some(line) = line_in(alloc, text.as_bytes())
@@ -135,4 +135,15 @@ pub fn tell_step(alloc: Global, input: &[u8], told: &mut Told) {
     } else {
         told.fail();
     }
+}
+
+/// Tells what comes of an input. Whether it is a table of lines.
+pub fn answer(alloc: Global, table: &str, input: &[u8], told: &mut Told) -> bool {
+    match table {
+        "lines" => tell_line(alloc, input, told),
+        "parts of lines" => tell_parts(alloc, input, told),
+        "steps of lines" => tell_step(alloc, input, told),
+        _ => return false,
+    }
+    true
 }

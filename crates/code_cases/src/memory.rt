@@ -46,7 +46,7 @@ pub fn show_memory(memory: &Memories, told: &mut Told) {
 }
 
 /// Appends what is loaded from the memory that is given.
-pub fn tell_load(alloc: Global, given: &[u8], input: &[u8], told: &mut Told) {
+fn tell_load(alloc: Global, given: &[u8], input: &[u8], told: &mut Told) {
     if let Some(memory) = memory_in(alloc, given)
         && let Some(words) = numbers_in(alloc, input)
         && let [bits, address] = words.as_slice()
@@ -58,7 +58,7 @@ pub fn tell_load(alloc: Global, given: &[u8], input: &[u8], told: &mut Told) {
 }
 
 /// Appends whether a store is done, and what the memory that is given holds then.
-pub fn tell_store(alloc: Global, given: &[u8], input: &[u8], told: &mut Told) {
+fn tell_store(alloc: Global, given: &[u8], input: &[u8], told: &mut Told) {
     if let Some(mut memory) = memory_in(alloc, given)
         && let Some(words) = numbers_in(alloc, input)
         && let [bits, address, value] = words.as_slice()
@@ -86,7 +86,7 @@ fn writes_of(alloc: Global, pairs: &[u64]) -> Result<Items<MemByte>, Memory> {
 }
 
 /// Appends what the memory that is given holds after writes.
-pub fn tell_writes(alloc: Global, given: &[u8], input: &[u8], told: &mut Told) {
+fn tell_writes(alloc: Global, given: &[u8], input: &[u8], told: &mut Told) {
     if let Some(mut memory) = memory_in(alloc, given)
         && let Some(words) = numbers_in(alloc, input)
         && let Ok(writes) = writes_of(alloc, words.as_slice())
@@ -113,7 +113,7 @@ fn ranges_of(alloc: Global, pairs: &[u64]) -> Result<Items<RangeAt>, Memory> {
 }
 
 /// Appends the visible part of the memory that is given.
-pub fn tell_visible(alloc: Global, given: &[u8], input: &[u8], told: &mut Told) {
+fn tell_visible(alloc: Global, given: &[u8], input: &[u8], told: &mut Told) {
     if let Some(memory) = memory_in(alloc, given)
         && let Some(words) = numbers_in(alloc, input)
         && let Ok(ranges) = ranges_of(alloc, words.as_slice())
@@ -123,4 +123,16 @@ pub fn tell_visible(alloc: Global, given: &[u8], input: &[u8], told: &mut Told) 
     } else {
         told.fail();
     }
+}
+
+/// Tells what comes of an input. Whether it is a table of memory.
+pub fn answer(alloc: Global, table: &str, given: &[u8], input: &[u8], told: &mut Told) -> bool {
+    match table {
+        "loads" => tell_load(alloc, given, input, told),
+        "stores" => tell_store(alloc, given, input, told),
+        "writes" => tell_writes(alloc, given, input, told),
+        "visible" => tell_visible(alloc, given, input, told),
+        _ => return false,
+    }
+    true
 }

@@ -39,7 +39,7 @@ fn show_insn(alloc: Global, insn: &Insn, told: &mut Told) {
 }
 
 /// Appends the registers that each instruction of a chain uses and defines, and what a return uses.
-pub fn tell_uses(alloc: Global, input: &[u8], told: &mut Told) {
+fn tell_uses(alloc: Global, input: &[u8], told: &mut Told) {
     let Some(f) = function_in(alloc, input) else {
         return told.fail();
     };
@@ -61,7 +61,7 @@ fn show_asked(insn: &Insn, reg: u32, told: &mut Told) {
 }
 
 /// Appends what each instruction of a chain does with some registers, each asked by itself.
-pub fn tell_asked(alloc: Global, input: &[u8], told: &mut Told) {
+fn tell_asked(alloc: Global, input: &[u8], told: &mut Told) {
     if let Some((chain, regs)) = halves(input)
         && let Some(regs) = numbers(alloc, regs)
         && let Some(f) = function_in(alloc, chain.as_bytes())
@@ -81,7 +81,7 @@ pub fn tell_asked(alloc: Global, input: &[u8], told: &mut Told) {
 }
 
 /// Appends the registers below 96 that are live before each place of a function.
-pub fn tell_live(alloc: Global, input: &[u8], told: &mut Told) {
+fn tell_live(alloc: Global, input: &[u8], told: &mut Told) {
     if let Some(f) = function_in(alloc, input)
         && let Ok(live) = live_rows_of(alloc, &f)
     {
@@ -151,7 +151,7 @@ fn nodes_of(alloc: Global, trees: &[Tree]) -> Option<Items<Node>> {
 }
 
 /// Appends the registers below 96 that are live before each node of a graph.
-pub fn tell_rows(alloc: Global, input: &[u8], told: &mut Told) {
+fn tell_rows(alloc: Global, input: &[u8], told: &mut Told) {
     if let Some(trees) = trees_in(alloc, input)
         && let Some(nodes) = nodes_of(alloc, trees.as_slice())
         && let Ok(rows) = live_rows(alloc, nodes.as_slice())
@@ -175,7 +175,7 @@ fn show_row(rows: &[RegRow], at: usize, told: &mut Told) {
 }
 
 /// Appends whether the registers of each pair conflict in a function.
-pub fn tell_conflicts(alloc: Global, input: &[u8], told: &mut Told) {
+fn tell_conflicts(alloc: Global, input: &[u8], told: &mut Told) {
     if let Some((chain, pairs)) = halves(input)
         && let Some(pairs) = numbers(alloc, pairs)
         && let Some(f) = function_in(alloc, chain.as_bytes())
@@ -204,7 +204,7 @@ fn show_pairs(rows: &[RegRow], pairs: &[u64], told: &mut Told) {
 
 /// Appends the homes of pseudo registers 0, 1 and so on, and the layout of the frame: its size, the
 /// saved registers and the slots, each with its offset.
-pub fn tell_homes(alloc: Global, input: &[u8], told: &mut Told) {
+fn tell_homes(alloc: Global, input: &[u8], told: &mut Told) {
     if let Some(f) = function_in(alloc, input)
         && let Ok(live) = live_rows_of(alloc, &f)
         && let Ok(homes) = assign(alloc, &f, live.as_slice())
@@ -255,8 +255,23 @@ fn show_bytes(regs: &[u8], told: &mut Told) {
 }
 
 /// Appends the order of allocation, the saved registers and those that a caller finds as they were.
-pub fn tell_tables(told: &mut Told) {
+fn tell_tables(told: &mut Told) {
     show_bytes(allocation_order().as_slice(), told);
     show_bytes(saved_registers().as_slice(), told);
     show_bytes(kept_registers().as_slice(), told);
+}
+
+/// Tells what comes of an input. Whether it is a table of registers.
+pub fn answer(alloc: Global, table: &str, input: &[u8], told: &mut Told) -> bool {
+    match table {
+        "uses" => tell_uses(alloc, input, told),
+        "one register" => tell_asked(alloc, input, told),
+        "live registers" => tell_live(alloc, input, told),
+        "live rows" => tell_rows(alloc, input, told),
+        "conflicts" => tell_conflicts(alloc, input, told),
+        "homes" => tell_homes(alloc, input, told),
+        "tables of registers" => tell_tables(told),
+        _ => return false,
+    }
+    true
 }

@@ -108,7 +108,7 @@ fn show_outcome(outcome: &CodeOutcome, told: &mut Told) {
 
 /// Appends what a run of so many lines comes to: what it returned, what it kept and the memory
 /// then, and each call with its first argument and the memory then.
-pub fn tell_run(alloc: Global, input: &[u8], told: &mut Told) {
+fn tell_run(alloc: Global, input: &[u8], told: &mut Told) {
     if let Some((steps, text)) = halves(input)
         && let Some(steps) = number(steps)
         && let Ok(items) = items(alloc, text)
@@ -122,4 +122,13 @@ pub fn tell_run(alloc: Global, input: &[u8], told: &mut Told) {
     } else {
         told.fail();
     }
+}
+
+/// Tells what comes of an input. Whether it is a table of runs of lines.
+pub fn answer(alloc: Global, table: &str, input: &[u8], told: &mut Told) -> bool {
+    let is_mine = table == "runs of lines";
+    if is_mine {
+        tell_run(alloc, input, told);
+    }
+    is_mine
 }

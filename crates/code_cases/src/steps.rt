@@ -53,7 +53,7 @@ fn show_value(alloc: Global, regs: &Regs, x: &Rtx, width: Width, told: &mut Told
 }
 
 /// Appends what is read of an expression in the width of a mode, with the values of a1 and a2.
-pub fn tell_value(alloc: Global, input: &[u8], told: &mut Told) {
+fn tell_value(alloc: Global, input: &[u8], told: &mut Told) {
     if let Some((mode, rest)) = halves(input)
         && let Some((text, values)) = halves(rest.as_bytes())
         && let Some(tree) = tree_in(alloc, text.as_bytes())
@@ -143,7 +143,7 @@ fn show_step(alloc: Global, f: &Function, told: &mut Told)
 
 /// Appends how one step of an instruction behind a label and a barrier ends, what is next, and what
 /// a0, a1 and a2 are then.
-pub fn tell_step(alloc: Global, input: &[u8], told: &mut Told) {
+fn tell_step(alloc: Global, input: &[u8], told: &mut Told) {
     if let Some(text) = text_of(alloc, input)
         && let Some(f) = function_in(alloc, text.as_slice())
     {
@@ -186,7 +186,7 @@ fn show_outcome(outcome: &Outcome, told: &mut Told) {
 
 /// Appends how so many steps of a function with the argument 5 stand, its value and its calls. The
 /// replies stand behind the number of steps.
-pub fn tell_run(alloc: Global, given: &[u8], input: &[u8], told: &mut Told) {
+fn tell_run(alloc: Global, given: &[u8], input: &[u8], told: &mut Told) {
     if let Some(words) = numbers_in(alloc, input)
         && let [steps, replies @ ..] = words.as_slice()
         && let Ok(world) = world(alloc, replies)
@@ -197,4 +197,15 @@ pub fn tell_run(alloc: Global, given: &[u8], input: &[u8], told: &mut Told) {
     } else {
         told.fail();
     }
+}
+
+/// Tells what comes of an input. Whether it is a table of steps.
+pub fn answer(alloc: Global, table: &str, given: &[u8], input: &[u8], told: &mut Told) -> bool {
+    match table {
+        "values" => tell_value(alloc, input, told),
+        "steps" => tell_step(alloc, input, told),
+        "runs" => tell_run(alloc, given, input, told),
+        _ => return false,
+    }
+    true
 }

@@ -11,7 +11,7 @@ use text_cases::trees_in;
 
 /// Appends the name of each form of a description, and `ok` or the number of the reason for which
 /// it is set aside.
-pub fn tell_forms(alloc: Global, given: &[u8], input: &[u8], told: &mut Told) {
+fn tell_forms(alloc: Global, given: &[u8], input: &[u8], told: &mut Told) {
     if let Some(forms) = joined_forms(alloc, given, input)
         && let Ok(names) = names_of(alloc, forms.as_slice())
     {
@@ -54,7 +54,7 @@ fn show_values(attrs: &Attributes, name: &Name, form: u32, told: &mut Told) {
 }
 
 /// Appends the values of the attribute `t` in all forms of a description.
-pub fn tell_values(alloc: Global, input: &[u8], told: &mut Told) {
+fn tell_values(alloc: Global, input: &[u8], told: &mut Told) {
     if let Some(forms) = forms_in(alloc, input)
         && let Ok(attrs) = Attributes::of(alloc, &forms)
         && let Ok(name) = Name::of(alloc, b"t")
@@ -71,7 +71,7 @@ pub fn tell_values(alloc: Global, input: &[u8], told: &mut Told) {
 
 /// Appends for each alternative of a form whether operands fit it: 1 where they do. The form and
 /// the operands are the input.
-pub fn tell_fitting(alloc: Global, given: &[u8], input: &[u8], told: &mut Told) {
+fn tell_fitting(alloc: Global, given: &[u8], input: &[u8], told: &mut Told) {
     if let Some((form, operands)) = halves(input)
         && let Some(trees) = trees_in(alloc, operands)
         && let Some(operands) = operands_of(alloc, trees.as_slice())
@@ -106,4 +106,15 @@ fn show_fitting(alloc: Global, forms: &Forms, operands: &Operands, told: &mut To
     } else {
         told.fail();
     }
+}
+
+/// Tells what comes of an input. Whether it is a table of forms.
+pub fn answer(alloc: Global, table: &str, given: &[u8], input: &[u8], told: &mut Told) -> bool {
+    match table {
+        "forms" => tell_forms(alloc, given, input, told),
+        "attributes" => tell_values(alloc, input, told),
+        "alternatives" => tell_fitting(alloc, given, input, told),
+        _ => return false,
+    }
+    true
 }

@@ -78,7 +78,7 @@ fn show_matched(alloc: Global, tree: &Rtx, insn: &Rtx, operands: &Operands, told
 
 /// Appends the operands with which a pattern matches an instruction, or that it doesn't; and where
 /// the pattern doesn't give it back.
-pub fn tell_matched(alloc: Global, input: &[u8], told: &mut Told) {
+fn tell_matched(alloc: Global, input: &[u8], told: &mut Told) {
     if let Some((first, second)) = halves(input)
         && let Some(tree) = pattern_in(alloc, first)
         && let Some(insn) = pattern_in(alloc, second)
@@ -121,7 +121,7 @@ fn operands_in(alloc: Global, text: &[u8]) -> Option<Operands> {
 }
 
 /// Appends what a pattern makes of operands, or that it makes nothing.
-pub fn tell_made(alloc: Global, input: &[u8], told: &mut Told) {
+fn tell_made(alloc: Global, input: &[u8], told: &mut Told) {
     if let Some((first, second)) = halves(input)
         && let Some(tree) = pattern_in(alloc, first)
         && let Some(operands) = operands_in(alloc, second)
@@ -134,4 +134,14 @@ pub fn tell_made(alloc: Global, input: &[u8], told: &mut Told) {
     } else {
         told.fail();
     }
+}
+
+/// Tells what comes of an input. Whether it is a table of matches.
+pub fn answer(alloc: Global, table: &str, input: &[u8], told: &mut Told) -> bool {
+    match table {
+        "matches" => tell_matched(alloc, input, told),
+        "makes" => tell_made(alloc, input, told),
+        _ => return false,
+    }
+    true
 }

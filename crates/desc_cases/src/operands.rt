@@ -35,7 +35,7 @@ fn show_own(alloc: Global, name: &[u8], mode: &[u8], operands: &[Tree], told: &m
 }
 
 /// Appends whether a predicate accepts each of some trees in a mode; the mode `-` is none.
-pub fn tell_own(alloc: Global, input: &[u8], told: &mut Told) {
+fn tell_own(alloc: Global, input: &[u8], told: &mut Told) {
     let Some(trees) = trees_in(alloc, input) else {
         return told.fail();
     };
@@ -57,7 +57,7 @@ fn show_kind(is: bool, kind: &str, told: &mut Told) {
 }
 
 /// Appends what a tree is to constraints.
-pub fn tell_kind(alloc: Global, input: &[u8], told: &mut Told) {
+fn tell_kind(alloc: Global, input: &[u8], told: &mut Told) {
     let Some(x) = expression_in(alloc, input) else {
         return told.fail();
     };
@@ -68,7 +68,7 @@ pub fn tell_kind(alloc: Global, input: &[u8], told: &mut Told) {
 }
 
 /// Appends whether a tree is a legitimate address, and whether it refers to the frame.
-pub fn tell_address(alloc: Global, input: &[u8], told: &mut Told) {
+fn tell_address(alloc: Global, input: &[u8], told: &mut Told) {
     let Some(x) = expression_in(alloc, input) else {
         return told.fail();
     };
@@ -77,7 +77,7 @@ pub fn tell_address(alloc: Global, input: &[u8], told: &mut Told) {
 }
 
 /// Appends the registers of a class.
-pub fn tell_class(input: &[u8], told: &mut Told) {
+fn tell_class(input: &[u8], told: &mut Told) {
     let class = match input {
         b"general" => Class::General,
         b"args" => Class::Args,
@@ -90,4 +90,16 @@ pub fn tell_class(input: &[u8], told: &mut Told) {
             told.show(reg);
         }
     }
+}
+
+/// Tells what comes of an input. Whether it is a table of operands.
+pub fn answer(alloc: Global, table: &str, input: &[u8], told: &mut Told) -> bool {
+    match table {
+        "predicates of the manual" => tell_own(alloc, input, told),
+        "kinds of operands" => tell_kind(alloc, input, told),
+        "addresses" => tell_address(alloc, input, told),
+        "classes" => tell_class(input, told),
+        _ => return false,
+    }
+    true
 }

@@ -43,7 +43,7 @@ fn show_filled(alloc: Global, template: &Template, trees: &[Tree], told: &mut To
 
 /// Tells the text that a template gives, in angle brackets. The input is the alternative, the
 /// function's number, the uid and the operands, and behind a bar the template.
-pub fn tell_filled(alloc: Global, input: &[u8], told: &mut Told) {
+fn tell_filled(alloc: Global, input: &[u8], told: &mut Told) {
     if let Some((first, second)) = halves(input)
         && let Ok(Reading::Template(template)) = template_of(alloc, second)
         && let Some(trees) = trees_in(alloc, first)
@@ -57,7 +57,7 @@ pub fn tell_filled(alloc: Global, input: &[u8], told: &mut Told) {
 }
 
 /// Tells the lines of a text, each in angle brackets.
-pub fn tell_lines(alloc: Global, input: &[u8], told: &mut Told) {
+fn tell_lines(alloc: Global, input: &[u8], told: &mut Told) {
     match lines_of(alloc, input) {
         Ok(lines) => {
             for line in lines.as_slice() {
@@ -68,4 +68,14 @@ pub fn tell_lines(alloc: Global, input: &[u8], told: &mut Told) {
         }
         Err(_) => told.fail(),
     }
+}
+
+/// Tells what comes of an input. Whether it is a table of templates.
+pub fn answer(alloc: Global, table: &str, input: &[u8], told: &mut Told) -> bool {
+    match table {
+        "filled templates" => tell_filled(alloc, input, told),
+        "lines of texts" => tell_lines(alloc, input, told),
+        _ => return false,
+    }
+    true
 }

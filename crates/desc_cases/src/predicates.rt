@@ -25,7 +25,7 @@ fn show_pattern(pattern: &Pattern, told: &mut Told) {
 
 /// Appends the nodes of a pattern and how many constraints stand in it, or the reason for which its
 /// tree is set aside.
-pub fn tell_pattern(alloc: Global, given: &[u8], input: &[u8], told: &mut Told) {
+fn tell_pattern(alloc: Global, given: &[u8], input: &[u8], told: &mut Told) {
     if let Some(tree) = tree_in(alloc, input)
         && let Some(constants) = constants_in(alloc, given)
     {
@@ -47,7 +47,7 @@ fn show_predicates(alloc: Global, test: &Test, told: &mut Told) {
 }
 
 /// Appends how many predicates a test names, or the reason for which its tree is set aside.
-pub fn tell_test(alloc: Global, input: &[u8], told: &mut Told) {
+fn tell_test(alloc: Global, input: &[u8], told: &mut Told) {
     let Some(tree) = tree_in(alloc, input) else {
         return told.fail();
     };
@@ -80,7 +80,7 @@ const LETTERS: &[u8] = b"rs5hnmy";
 const MODES: [Mode; 4] = [Mode::Void, Mode::QI, Mode::SI, Mode::DI];
 
 /// Appends what a test accepts, in a row behind itself, with the predicates of a description.
-pub fn tell_held(alloc: Global, given: &[u8], input: &[u8], told: &mut Told) {
+fn tell_held(alloc: Global, given: &[u8], input: &[u8], told: &mut Told) {
     let Some(tree) = tree_in(alloc, input) else {
         return told.fail();
     };
@@ -119,7 +119,7 @@ pub fn preds_in(alloc: Global, text: &[u8]) -> Option<PredTable> {
 }
 
 /// Appends what the predicate of a name accepts, with the predicates of a description.
-pub fn tell_accepted(alloc: Global, given: &[u8], input: &[u8], told: &mut Told) {
+fn tell_accepted(alloc: Global, given: &[u8], input: &[u8], told: &mut Told) {
     if let Ok(name) = Name::of(alloc, input)
         && let Some(preds) = preds_in(alloc, given)
         && let Ok(operands) = operands(alloc)
@@ -135,4 +135,16 @@ pub fn tell_accepted(alloc: Global, given: &[u8], input: &[u8], told: &mut Told)
     } else {
         told.fail();
     }
+}
+
+/// Tells what comes of an input. Whether it is a table of predicates.
+pub fn answer(alloc: Global, table: &str, given: &[u8], input: &[u8], told: &mut Told) -> bool {
+    match table {
+        "patterns" => tell_pattern(alloc, given, input, told),
+        "tests of predicates" => tell_test(alloc, input, told),
+        "held tests" => tell_held(alloc, given, input, told),
+        "predicates" => tell_accepted(alloc, given, input, told),
+        _ => return false,
+    }
+    true
 }

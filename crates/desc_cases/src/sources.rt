@@ -36,7 +36,7 @@ fn show_refusal(refusal: SourceRefusal, told: &mut Told) {
 
 /// Appends the names that are asked for, how many bytes were read before the last of them, and what
 /// the description of a name comes to.
-pub fn tell_source(alloc: Global, given: &[u8], name: &[u8], told: &mut Told) {
+fn tell_source(alloc: Global, given: &[u8], name: &[u8], told: &mut Told) {
     let Ok(files) = str::from_utf8(given) else {
         return told.fail();
     };
@@ -63,7 +63,7 @@ fn files_of(alloc: Global, input: &[u8]) -> Option<ByteFiles> {
 }
 
 /// Appends the list of the description that a text is, or the refusal.
-pub fn tell_list(alloc: Global, input: &[u8], told: &mut Told) {
+fn tell_list(alloc: Global, input: &[u8], told: &mut Told) {
     let Some(mut files) = files_of(alloc, input) else {
         return told.fail();
     };
@@ -73,4 +73,14 @@ pub fn tell_list(alloc: Global, input: &[u8], told: &mut Told) {
         Err(ListRefusal::Forms) => told.text("forms"),
         Err(ListRefusal::Memory) => told.fail(),
     }
+}
+
+/// Tells what comes of an input. Whether it is a table of sources.
+pub fn answer(alloc: Global, table: &str, given: &[u8], input: &[u8], told: &mut Told) -> bool {
+    match table {
+        "sources" => tell_source(alloc, given, input, told),
+        "lists" => tell_list(alloc, input, told),
+        _ => return false,
+    }
+    true
 }

@@ -65,7 +65,7 @@ fn show_worth(alloc: Global, trees: &[Tree], preds: &PredTable, cond: &Cond, tol
 
 /// Appends what a condition is worth, with the constants, the predicates, the operands and the dead
 /// registers that are given.
-pub fn tell_worth(alloc: Global, given: &[u8], input: &[u8], told: &mut Told) {
+fn tell_worth(alloc: Global, given: &[u8], input: &[u8], told: &mut Told) {
     if let Some(constants) = constants_in(alloc, given)
         && let Ok(cond) = parse_cond(alloc, input, &constants)
         && let Some(preds) = preds_in(alloc, given)
@@ -78,7 +78,7 @@ pub fn tell_worth(alloc: Global, given: &[u8], input: &[u8], told: &mut Told) {
 }
 
 /// Appends what the test of a predicate is worth for an operand.
-pub fn tell_test(alloc: Global, given: &[u8], input: &[u8], told: &mut Told) {
+fn tell_test(alloc: Global, given: &[u8], input: &[u8], told: &mut Told) {
     if let Some((text, operand)) = halves(input)
         && let Some(operand) = expression_in(alloc, operand)
         && let Some(constants) = constants_in(alloc, given)
@@ -88,4 +88,14 @@ pub fn tell_test(alloc: Global, given: &[u8], input: &[u8], told: &mut Told) {
     } else {
         told.fail();
     }
+}
+
+/// Tells what comes of an input. Whether it is a table of what conditions are worth.
+pub fn answer(alloc: Global, table: &str, given: &[u8], input: &[u8], told: &mut Told) -> bool {
+    match table {
+        "worth" => tell_worth(alloc, given, input, told),
+        "worth of tests" => tell_test(alloc, given, input, told),
+        _ => return false,
+    }
+    true
 }

@@ -1,2 +1,2 @@
 pub mod Same
-pub use Rattle.asm_text.proofs as asm_text
+pub use Rattle.func_text.proofs as func_text

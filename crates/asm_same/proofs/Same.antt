@@ -8,20 +8,20 @@ use Rattle.func_input.specs.Input.{IsInput}
 use Rattle.read_natural.proofs.func_rules.Kept.{each_admitted}
 use Rattle.read_natural.proofs.func_rules.Ready.{input_well_formed}
 use Rattle.read_natural.proofs.func_rules.Uids.{uids_distinct}
-use Rattle.asm_text.proofs.insn_keep.Inputs.{input_sound}
-use Rattle.asm_text.specs.func_after.declared.made.Made.{Made}
-use Rattle.asm_text.specs.func_after.After.{AfterComes}
-use Rattle.asm_text.specs.func_after.Leads.{IsDescribed}
-use Rattle.asm_text.proofs.func_after.Keeping.{after_leads}
+use Rattle.func_text.proofs.insn_keep.Inputs.{input_sound}
+use Rattle.func_text.specs.func_after.declared.made.Made.{Made}
+use Rattle.func_text.specs.func_after.After.{AfterComes}
+use Rattle.func_text.specs.func_after.Leads.{IsDescribed}
+use Rattle.func_text.proofs.func_after.Keeping.{after_leads}
 use Rattle.read_natural.proofs.Natural.{input_natural}
 use Rattle.same_behaviour.specs.Same.{Same}
-use Rattle.asm_text.specs.declared.assembly.Assembly.{Assembly}
-use Rattle.asm_text.specs.declared.code.Coded.{Coded}
-use Rattle.asm_text.specs.Lines.{IsAssembly}
-use Rattle.asm_text.specs.Same.{AreSound, AreSame, DoesSame}
-use Rattle.asm_text.specs.Code.{IsCoded}
-use Rattle.asm_text.proofs.Behaviour.{are_same}
-use Rattle.asm_text.proofs.Laws.{are_parts}
+use Rattle.func_text.specs.declared.assembly.Assembly.{Assembly}
+use Rattle.func_text.specs.declared.code.Coded.{Coded}
+use Rattle.func_text.specs.Lines.{IsAssembly}
+use Rattle.func_text.specs.Same.{AreSound, AreSame, DoesSame}
+use Rattle.func_text.specs.Code.{IsCoded}
+use Rattle.func_text.proofs.Behaviour.{are_same}
+use Rattle.func_text.proofs.Laws.{are_parts}
 
 -- ---- all
 

@@ -1,1 +1,1 @@
-pub use Rattle.asm_text.specs as asm_text
+pub use Rattle.func_text.specs as func_text

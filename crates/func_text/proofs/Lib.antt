@@ -1,5 +1,15 @@
+pub mod Wholes
+pub mod Pieces
+pub mod OneAssembly
+pub mod Laws
+pub mod Behaviour
+pub mod Parts
+pub mod Comes
+pub mod CodeLaws
 pub mod One
 pub mod Told
 pub mod Line
 pub mod DumpOne
 pub mod DumpTold
+pub use Rattle.func_after.proofs as func_after
+pub use Rattle.func_after.proofs.insn_keep as insn_keep

@@ -8,15 +8,15 @@ use Rattle.md_list.specs.Listing.{ListComes}
 use Rattle.md_list.proofs.Lists.{one_list}
 use Rattle.func_input.specs.Outcome.{Outcome}
 use Rattle.func_input.proofs.Inputs.{input_last}
-use Rattle.func_text.specs.Recog.{FunctionsCome}
-use Rattle.func_text.proofs.One.{functions_one}
-use Rattle.func_text.specs.Dump as dump
-use Rattle.func_text.proofs.DumpOne as dump_one
+use Rattle.asm_same.specs.func_text.Recog.{FunctionsCome}
+use Rattle.asm_same.proofs.func_text.One.{functions_one}
+use Rattle.asm_same.specs.func_text.Dump as dump
+use Rattle.asm_same.proofs.func_text.DumpOne as dump_one
 use Rattle.pass_name.specs.declared.pass.Pass.{Pass}
-use Rattle.asm_same.specs.asm_text.Assembly.{AssemblyComes}
-use Rattle.asm_same.specs.asm_text.Compile.{TextComes, text_told}
-use Rattle.asm_same.proofs.asm_text.OneAssembly.{one_assembly}
-use Rattle.asm_same.proofs.asm_text.CodeLaws.{code_has}
+use Rattle.asm_same.specs.func_text.Assembly.{AssemblyComes}
+use Rattle.asm_same.specs.func_text.Compile.{TextComes, text_told}
+use Rattle.asm_same.proofs.func_text.OneAssembly.{one_assembly}
+use Rattle.asm_same.proofs.func_text.CodeLaws.{code_has}
 use Rattle.rtlc_words.specs.declared.command.Command.{Command}
 use Rattle.rtlc_words.specs.declared.command.Command.TheVariants as commands
 use Rattle.rtlc_words.specs.Words.{command_of}

@@ -18,12 +18,12 @@ use Rattle.tree_forms.specs.Trees.{most_forms}
 use Rattle.md_named.specs.Named.{source_refused, FormsCome}
 use Rattle.func_input.specs.Input.{InputComesTo}
 use Rattle.func_input.specs.Outcome.{Outcome}
-use Rattle.asm_same.specs.asm_text.Compile.{TextComes}
-use Rattle.asm_same.specs.asm_text.Code.{IsUnnamed, CodeComes}
-use Rattle.asm_same.specs.asm_text.declared.code.Coded.{Coded}
+use Rattle.asm_same.specs.func_text.Compile.{TextComes}
+use Rattle.asm_same.specs.func_text.Code.{IsUnnamed, CodeComes}
+use Rattle.asm_same.specs.func_text.declared.code.Coded.{Coded}
 use Rattle.code_eval.specs.Eval.{eval_text, IsFair}
-use Rattle.func_text.specs.Recog.{FunctionsCome}
-use Rattle.func_text.specs.Dump as dump
+use Rattle.asm_same.specs.func_text.Recog.{FunctionsCome}
+use Rattle.asm_same.specs.func_text.Dump as dump
 use Rattle.pass_name.specs.declared.pass.Pass.{Pass}
 use Rattle.rtlc_words.specs.declared.command.Command.{Command}
 use Rattle.rtlc_words.specs.declared.command.Command.TheVariants as commands

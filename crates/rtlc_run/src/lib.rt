@@ -6,8 +6,8 @@
 //!
 //! The words are read by `rtlc_words`; what the commands come to is `specs/Answer.antt`, over
 //! `md_list` for `list`; for the others over `md_named`, which gives the description, and
-//! `asm_text` for `asm`, `asm_text` and `code_eval` for `eval`, and `func_text` for `recog`; what
-//! was written then is said in `specs/Written.antt`.
+//! `func_text`, and for `eval` over `code_eval`; what was written then is said in
+//! `specs/Written.antt`.
 #![tactic(auto)]
 
 mod program;

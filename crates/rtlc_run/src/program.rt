@@ -10,9 +10,9 @@ ghost use Rattle.run_refusal.specs.Refusals.{has_values, line_of};
 ghost use Rattle.run_refusal.specs.declared.refusal.Refusal.TheVariants as refusal;
 ghost use Rattle.rtx_tree.specs.Limit.{most_bytes};
 ghost use Rattle.func_input.specs.Outcome.{Outcome};
-ghost use Rattle.asm_same.specs.asm_text.Same.{AreParts};
-ghost use Rattle.asm_same.specs.asm_text.Compile.{TextComes};
-ghost use Rattle.asm_same.specs.asm_text.Code.{IsUnnamed};
+ghost use Rattle.asm_same.specs.func_text.Same.{AreParts};
+ghost use Rattle.asm_same.specs.func_text.Compile.{TextComes};
+ghost use Rattle.asm_same.specs.func_text.Code.{IsUnnamed};
 ghost use Rattle.md_source.specs.Source.{Source as Known};
 ghost use Rattle.md_source.specs.Asked.{AreNamed, GrewBy, IsKnown};
 ghost use Rattle.md_source.specs.Answers.{Agrees};
@@ -28,10 +28,9 @@ ghost use Rattle.rtlc_run.specs.Written.{WritesLines, WritesSame, WritesList, Wr
 ghost use Rattle.rtlc_run.specs.machine.Steps.{Gives, IsOwn, InputRefused, TaskComes, Misuses, MisusesInput};
 ghost use Rattle.rtlc_run.specs.Answer.{EvalComes, RecogComes, DumpComes, ByForms, CommandComes, Answers, HasForms, IsMisused, reads_input, reads_files, IsKnownFor, MayBeAsked, Writes, WritesFront, IsRefused, Reports, HasCause, TellsCause, IsAnswered};
 
-use asm_same::{assembly_of, code_of};
+use asm_same::{assembly_of, code_of, dump_of, recog_of};
 use byte_edge::{Files, ReadAll, Sink, Source, read_all, write_all_of};
 use code_eval::eval_text;
-use func_text::{dump_of, recog_of};
 use md_desc::Description;
 use md_iter::MOST_FORMS;
 use md_list::{ListRefusal, list};

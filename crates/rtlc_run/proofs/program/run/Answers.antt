@@ -3,7 +3,7 @@ use Rattle.run_refusal.specs.declared.refusal.Refusal.{Refusal}
 use Rattle.run_refusal.specs.declared.refusal.Refusal.TheVariants as refusal
 use Rattle.func_mean.proofs.Law.{takes_enough}
 use Rattle.rv_text.proofs.SpelledOnce.{spells_one}
-use Rattle.asm_same.proofs.asm_text.Parts.{one_cut}
+use Rattle.asm_same.proofs.func_text.Parts.{one_cut}
 use Rattle.rtlc_words.specs.Words.{words_of}
 use Rattle.rtlc_run.proofs.Answered.{answered_err, err_of, told_cause, read_status, read_told}
 use Rattle.rtlc_run.proofs.Runs.{one_answer, writes_lines, writes_same, writes_outcomes, writes_list, writes_forms_of, writes_dump_of, completes, tried, listed, recognised, dumped}

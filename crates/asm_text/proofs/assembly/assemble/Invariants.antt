@@ -1,6 +1,0 @@
-use Rattle.std.proofs.Common.{drop}
-use Rattle.asm_text.proofs.Wholes.{Makes}
-use Rattle.asm_text.proofs.assembly.assemble.Given as goal
-
-abbrev pub invariant-loop-f : goal.invariant-loop-f
-invariant-loop-f l = Makes l.description l.functions l.number l.text.items l.parts l.summary (drop l.f-index l.functions)

@@ -1,0 +1,38 @@
+-- The lines of sound functions have the behaviour of the functions.
+use Rattle.std.proofs.Common.{ℕ, ◌+◌, suc, List, Ok, refl}
+use Rattle.rtx_tree.specs.declared.function.Function.{Function}
+use Rattle.md_forms.specs.declared.form.Entry.{Entry}
+use Rattle.same_behaviour.specs.Same.{Same}
+use Rattle.func_after.specs.insn_keep.Sound.{IsSound}
+use Rattle.func_after.specs.declared.made.Made.{Made}
+use Rattle.func_after.specs.After.{AfterComes}
+use Rattle.func_after.specs.Leads.{IsDescribed}
+use Rattle.func_after.proofs.Keeping.{after_leads}
+use Rattle.asm_out.specs.declared.piece.Piece.{Piece}
+use Rattle.asm_out.specs.Written.{IsWritten}
+use Rattle.func_after.proofs.out_same.Written.{written_is_same}
+use Rattle.func_text.specs.declared.assembly.Assembly.{Assembly}
+use Rattle.func_text.specs.Assembly.{AssemblyComes}
+use Rattle.func_text.specs.Lines.{IsAssembly}
+use Rattle.func_text.specs.Same.{AreSound, AreSame}
+use Rattle.func_text.proofs.Laws.{is_assembly}
+
+-- what is written of what the passes make of a function has the function's behaviour
+written_same : (forms : List Entry) (number : ℕ) (f : Function) (m : Made) (piece : Piece) → IsDescribed forms → IsSound f →
+    AfterComes forms f (Ok m) → IsWritten forms number m.function piece → Same m.layout.size f piece.items
+written_same forms number f m piece described sound comes written =
+    let leads = after_leads forms f m described sound comes in
+    leads.same piece.items (written_is_same forms number m.function piece leads.writable written)
+
+pub are_same : (forms : List Entry) (number : ℕ) (functions : List Function) (a : Assembly) → IsDescribed forms → AreSound functions →
+    IsAssembly forms number functions a → AreSame forms functions a.parts
+are_same forms number _ _ described sound (IsAssembly.none _) = AreSame.none
+are_same forms number _ _ described sound (IsAssembly.function _ f m functions piece rest small after written others) =
+    AreSame.function f m functions piece.items rest.parts after
+    (written_same forms number f m piece described (sound 0 f refl) after written)
+    (are_same forms (number + 1) functions rest described (λ index h at. sound (suc index) h at) others)
+
+-- and so of all that were compiled
+pub compiled_same : (forms : List Entry) (functions : List Function) (a : Assembly) → IsDescribed forms → AreSound functions →
+    AssemblyComes forms functions (Ok a) → AreSame forms functions a.parts
+compiled_same forms functions a described sound comes = are_same forms 0 functions a described sound (is_assembly forms functions a comes)

@@ -122,16 +122,25 @@ fn show_step(end: LineEnd, a0: Option<u64>, told: &mut Told) {
     }
 }
 
+/// Appends how a line ends where registers have these values, and what `a0` holds then.
+fn show_line_step(alloc: Global, line: &Line, values: &[u64], told: &mut Told) {
+    if let Ok(world) = world(alloc)
+        && let Ok(mut state) = machine(alloc, values)
+    {
+        let end = step_line(line, &mut state, &world);
+        show_step(end, state.register(10), told);
+    } else {
+        told.fail();
+    }
+}
+
 /// Appends how a line ends, and what `a0` holds then, as a signed number.
 fn tell_step(alloc: Global, input: &[u8], told: &mut Told) {
     if let Some((text, values)) = halves(input)
         && let Some(values) = numbers(alloc, values)
         && let Some(line) = line_in(alloc, text.as_bytes())
-        && let Ok(world) = world(alloc)
-        && let Ok(mut state) = machine(alloc, values.as_slice())
     {
-        let end = step_line(&line, &mut state, &world);
-        show_step(end, state.register(10), told);
+        show_line_step(alloc, &line, values.as_slice(), told);
     } else {
         told.fail();
     }

@@ -45,15 +45,35 @@ pub fn show_memory(memory: &Memories, told: &mut Told) {
     }
 }
 
+/// Appends what is loaded from memory, by the width and the address.
+fn show_load(memory: &Memories, words: &[u64], told: &mut Told) {
+    match words {
+        [bits, address] => told.debug(&load(memory, width(*bits), *address)),
+        _ => told.fail(),
+    }
+}
+
 /// Appends what is loaded from the memory that is given.
 fn tell_load(alloc: Global, given: &[u8], input: &[u8], told: &mut Told) {
     if let Some(memory) = memory_in(alloc, given)
         && let Some(words) = numbers_in(alloc, input)
-        && let [bits, address] = words.as_slice()
     {
-        told.debug(&load(&memory, width(*bits), *address));
+        show_load(&memory, words.as_slice(), told);
     } else {
         told.fail();
+    }
+}
+
+/// Appends whether a store is done, by the width, the address and the value, and what memory holds
+/// then.
+fn show_store(memory: &mut Memories, words: &[u64], told: &mut Told) {
+    match words {
+        [bits, address, value] => {
+            let is_done = store(memory, width(*bits), *address, *value);
+            told.text(if is_done { "done:" } else { "undone:" });
+            show_memory(memory, told);
+        }
+        _ => told.fail(),
     }
 }
 
@@ -61,11 +81,8 @@ fn tell_load(alloc: Global, given: &[u8], input: &[u8], told: &mut Told) {
 fn tell_store(alloc: Global, given: &[u8], input: &[u8], told: &mut Told) {
     if let Some(mut memory) = memory_in(alloc, given)
         && let Some(words) = numbers_in(alloc, input)
-        && let [bits, address, value] = words.as_slice()
     {
-        let is_done = store(&mut memory, width(*bits), *address, *value);
-        told.text(if is_done { "done:" } else { "undone:" });
-        show_memory(&memory, told);
+        show_store(&mut memory, words.as_slice(), told);
     } else {
         told.fail();
     }

@@ -13,17 +13,29 @@ use std::alloc::Global;
 fn items(alloc: Global, text: &str) -> Result<Items<CodeItem>, Memory> {
     let mut items = Items::new(alloc);
     for part in text.split(" / ") {
-        if let Some(line) = parse_line(alloc, part.as_bytes())? {
-            items.push(CodeItem::Code { line })?;
-        }
-        if items.len() == 1 {
-            items.push(CodeItem::Label {
-                function: 0,
-                uid: 3,
-            })?;
-        }
+        push_line(alloc, part, &mut items)?;
+        push_label(&mut items)?;
     }
     Ok(items)
+}
+
+/// Appends the line that a text is, if it is one.
+fn push_line(alloc: Global, text: &str, items: &mut Items<CodeItem>) -> Result<(), Memory> {
+    match parse_line(alloc, text.as_bytes())? {
+        Some(line) => items.push(CodeItem::Code { line }),
+        None => Ok(()),
+    }
+}
+
+/// Appends the label behind the first line.
+fn push_label(items: &mut Items<CodeItem>) -> Result<(), Memory> {
+    if items.len() != 1 {
+        return Ok(());
+    }
+    items.push(CodeItem::Label {
+        function: 0,
+        uid: 3,
+    })
 }
 
 /// 16 bytes of 0 from 4096 on: each address is followed by its byte.
@@ -106,19 +118,22 @@ fn show_outcome(outcome: &CodeOutcome, told: &mut Told) {
     }
 }
 
+/// What a run of so many lines comes to.
+fn outcome_of(alloc: Global, items: &[CodeItem], steps: u64) -> Result<CodeOutcome, Memory> {
+    let start = start(alloc)?;
+    let world = answering_world(alloc)?;
+    run_lines(alloc, items, &start, &world, steps)
+}
+
 /// Appends what a run of so many lines comes to: what it returned, what it kept and the memory
 /// then, and each call with its first argument and the memory then.
 fn tell_run(alloc: Global, input: &[u8], told: &mut Told) {
     if let Some((steps, text)) = halves(input)
         && let Some(steps) = number(steps)
         && let Ok(items) = items(alloc, text)
-        && let Ok(start) = start(alloc)
-        && let Ok(world) = answering_world(alloc)
+        && let Ok(outcome) = outcome_of(alloc, items.as_slice(), steps)
     {
-        match run_lines(alloc, items.as_slice(), &start, &world, steps) {
-            Ok(outcome) => show_outcome(&outcome, told),
-            Err(_) => told.fail(),
-        }
+        show_outcome(&outcome, told);
     } else {
         told.fail();
     }

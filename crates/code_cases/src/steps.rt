@@ -8,7 +8,7 @@ use case_text::Told;
 use func_mean::{Outcome, run_function};
 use lisp_read::rtx_of_tree;
 use plain_data::{Items, Memory};
-use rtl_step::{Known, Regs, State, step_insn, value, width_of};
+use rtl_step::{Known, Regs, State, StepEnd, step_insn, value, width_of};
 use rtx_tree::{Function, Memories, Mode, Name, Reply, Rtx, Start, SymbolAt, World};
 use std::alloc::Global;
 use text_cases::tree_in;
@@ -47,6 +47,14 @@ fn registers(alloc: Global, values: &str) -> Option<Regs> {
     Some(regs)
 }
 
+/// The expression that a text writes.
+fn expression_in(alloc: Global, text: &str) -> Option<Rtx> {
+    match tree_in(alloc, text.as_bytes()) {
+        Some(tree) => rtx_of_tree(alloc, &tree).ok(),
+        None => None,
+    }
+}
+
 fn show_value(alloc: Global, regs: &Regs, x: &Rtx, width: Width, told: &mut Told) {
     let memory = Memories::new(alloc);
     told.debug(&value(&Items::new(alloc), regs, &memory, x, width));
@@ -56,8 +64,7 @@ fn show_value(alloc: Global, regs: &Regs, x: &Rtx, width: Width, told: &mut Told
 fn tell_value(alloc: Global, input: &[u8], told: &mut Told) {
     if let Some((mode, rest)) = halves(input)
         && let Some((text, values)) = halves(rest.as_bytes())
-        && let Some(tree) = tree_in(alloc, text.as_bytes())
-        && let Ok(x) = rtx_of_tree(alloc, &tree)
+        && let Some(x) = expression_in(alloc, text)
         && let Some(regs) = registers(alloc, values)
     {
         show_value(alloc, &regs, &x, width(mode), told);
@@ -116,11 +123,23 @@ fn fresh_state(alloc: Global) -> Option<State> {
     }
 }
 
-fn show_registers(regs: &Regs, told: &mut Told) {
+/// Appends how a step ends, what is next, and what a0, a1 and a2 are then.
+fn show_state(end: &StepEnd, state: &State, told: &mut Told) {
+    told.debug(end);
+    told.text(" ");
+    told.show(state.next);
     for reg in 10..13 {
         told.text(" ");
-        told.debug(&regs.value(reg, Width::W64));
+        told.debug(&state.regs.value(reg, Width::W64));
     }
+}
+
+/// The end of a step of a function where a call is answered by 7.
+fn step_end(alloc: Global, f: &Function, state: &mut State) -> Result<StepEnd, Memory>
+    requires { length f.now.insns < 2 ^ 32 }
+{
+    let world = world(alloc, &[7])?;
+    step_insn(alloc, f, state, &world)
 }
 
 /// Appends how a step of a function ends where a call is answered by 7, what is next, and what a0,
@@ -129,13 +148,9 @@ fn show_step(alloc: Global, f: &Function, told: &mut Told)
     requires { length f.now.insns < 2 ^ 32 }
 {
     if let Some(mut state) = fresh_state(alloc)
-        && let Ok(world) = world(alloc, &[7])
-        && let Ok(end) = step_insn(alloc, f, &mut state, &world)
+        && let Ok(end) = step_end(alloc, f, &mut state)
     {
-        told.debug(&end);
-        told.text(" ");
-        told.show(state.next);
-        show_registers(&state.regs, told);
+        show_state(&end, &state, told);
     } else {
         told.fail();
     }
@@ -184,14 +199,21 @@ fn show_outcome(outcome: &Outcome, told: &mut Told) {
     }
 }
 
+/// How so many steps of a function with the argument 5 stand, with these replies.
+fn outcome_of(alloc: Global, f: &Function, steps: u64, replies: &[u64]) -> Result<Outcome, Memory>
+    requires { length f.now.insns < 2 ^ 32 }
+{
+    let world = world(alloc, replies)?;
+    run_function(alloc, f, &start(alloc), &world, steps)
+}
+
 /// Appends how so many steps of a function with the argument 5 stand, its value and its calls. The
 /// replies stand behind the number of steps.
 fn tell_run(alloc: Global, given: &[u8], input: &[u8], told: &mut Told) {
     if let Some(words) = numbers_in(alloc, input)
         && let [steps, replies @ ..] = words.as_slice()
-        && let Ok(world) = world(alloc, replies)
         && let Some(f) = function_in(alloc, given)
-        && let Ok(outcome) = run_function(alloc, &f, &start(alloc), &world, *steps)
+        && let Ok(outcome) = outcome_of(alloc, &f, *steps, replies)
     {
         show_outcome(&outcome, told);
     } else {

@@ -15,14 +15,18 @@ fn tell_forms(alloc: Global, given: &[u8], input: &[u8], told: &mut Told) {
     if let Some(forms) = joined_forms(alloc, given, input)
         && let Ok(names) = names_of(alloc, forms.as_slice())
     {
-        let mut gap = b"".as_slice();
-        for (form, name) in forms.as_slice().iter().zip(names.as_slice()) {
-            told.push(gap);
-            show_form(form, name, told);
-            gap = b", ";
-        }
+        show_forms(forms.as_slice(), names.as_slice(), told);
     } else {
         told.fail();
+    }
+}
+
+fn show_forms(forms: &[Entry], names: &[Name], told: &mut Told) {
+    let mut gap = b"".as_slice();
+    for (form, name) in forms.iter().zip(names) {
+        told.push(gap);
+        show_form(form, name, told);
+        gap = b", ";
     }
 }
 
@@ -53,17 +57,20 @@ fn show_values(attrs: &Attributes, name: &Name, form: u32, told: &mut Told) {
     told.text(";");
 }
 
+/// Appends the values of an attribute in so many forms.
+fn show_all_values(attrs: &Attributes, name: &Name, count: u32, told: &mut Told) {
+    for form in 0..count {
+        show_values(attrs, name, form, told);
+    }
+}
+
 /// Appends the values of the attribute `t` in all forms of a description.
 fn tell_values(alloc: Global, input: &[u8], told: &mut Told) {
     if let Some(forms) = forms_in(alloc, input)
         && let Ok(attrs) = Attributes::of(alloc, &forms)
         && let Ok(name) = Name::of(alloc, b"t")
     {
-        let mut form: u32 = 0;
-        for _ in forms.as_slice() {
-            show_values(&attrs, &name, form, told);
-            form = form.saturating_add(1);
-        }
+        show_all_values(&attrs, &name, count_of(&forms), told);
     } else {
         told.fail();
     }
@@ -94,17 +101,32 @@ fn joined_forms(alloc: Global, given: &[u8], input: &[u8]) -> Option<Forms> {
     forms_in(alloc, whole.as_slice())
 }
 
+fn count_of(forms: &Forms) -> u32 {
+    u32::try_from(forms.len()).unwrap_or(0)
+}
+
 fn show_fitting(alloc: Global, forms: &Forms, operands: &Operands, told: &mut Told) {
     if let Ok(table) = Constraints::of(alloc, forms)
         && let Ok(preds) = PredTable::of(alloc, forms)
     {
-        let last = u32::try_from(forms.len()).unwrap_or(0).saturating_sub(1);
-        for alternative in 0..alternatives_of(&table, last) {
-            let is_fit = fits(&table, &preds, last, alternative, operands);
-            told.text(if is_fit { "1" } else { "0" });
-        }
+        let last = count_of(forms).saturating_sub(1);
+        show_fits(&table, &preds, last, operands, told);
     } else {
         told.fail();
+    }
+}
+
+/// Appends for each alternative of a form whether operands fit it.
+fn show_fits(
+    table: &Constraints,
+    preds: &PredTable,
+    form: u32,
+    operands: &Operands,
+    told: &mut Told,
+) {
+    for alternative in 0..alternatives_of(table, form) {
+        let is_fit = fits(table, preds, form, alternative, operands);
+        told.text(if is_fit { "1" } else { "0" });
     }
 }
 

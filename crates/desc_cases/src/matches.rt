@@ -83,13 +83,17 @@ fn tell_matched(alloc: Global, input: &[u8], told: &mut Told) {
         && let Some(tree) = pattern_in(alloc, first)
         && let Some(insn) = pattern_in(alloc, second)
     {
-        match matched::<Brand>(alloc, &tree, &insn, Blank::new(1)) {
-            Ok(Some(operands)) => show_matched(alloc, &tree, &insn, &operands, told),
-            Ok(None) => told.text("none"),
-            Err(_) => told.fail(),
-        }
+        show_match(alloc, &tree, &insn, told);
     } else {
         told.fail();
+    }
+}
+
+fn show_match(alloc: Global, tree: &Rtx, insn: &Rtx, told: &mut Told) {
+    match matched::<Brand>(alloc, tree, insn, Blank::new(1)) {
+        Ok(Some(operands)) => show_matched(alloc, tree, insn, &operands, told),
+        Ok(None) => told.text("none"),
+        Err(_) => told.fail(),
     }
 }
 
@@ -126,13 +130,17 @@ fn tell_made(alloc: Global, input: &[u8], told: &mut Told) {
         && let Some(tree) = pattern_in(alloc, first)
         && let Some(operands) = operands_in(alloc, second)
     {
-        match instantiate(alloc, &tree, &operands) {
-            Ok(Some(made)) => show(&made, told),
-            Ok(None) => told.text("none"),
-            Err(_) => told.fail(),
-        }
+        show_made(alloc, &tree, &operands, told);
     } else {
         told.fail();
+    }
+}
+
+fn show_made(alloc: Global, tree: &Rtx, operands: &Operands, told: &mut Told) {
+    match instantiate(alloc, tree, operands) {
+        Ok(Some(made)) => show(&made, told),
+        Ok(None) => told.text("none"),
+        Err(_) => told.fail(),
     }
 }
 

@@ -23,19 +23,24 @@ fn show_pattern(pattern: &Pattern, told: &mut Told) {
     told.show(pattern.texts.len());
 }
 
-/// Appends the nodes of a pattern and how many constraints stand in it, or the reason for which its
-/// tree is set aside.
-fn tell_pattern(alloc: Global, given: &[u8], input: &[u8], told: &mut Told) {
+/// The pattern of a text with the constants that are given.
+fn pattern_in(alloc: Global, given: &[u8], input: &[u8]) -> Option<Result<Pattern, Reason>> {
     if let Some(tree) = tree_in(alloc, input)
         && let Some(constants) = constants_in(alloc, given)
     {
-        match pattern_of(alloc, &tree, &constants) {
-            Ok(Ok(pattern)) => show_pattern(&pattern, told),
-            Ok(Err(reason)) => show_reason(reason, told),
-            Err(_) => told.fail(),
-        }
+        pattern_of(alloc, &tree, &constants).ok()
     } else {
-        told.fail();
+        None
+    }
+}
+
+/// Appends the nodes of a pattern and how many constraints stand in it, or the reason for which its
+/// tree is set aside.
+fn tell_pattern(alloc: Global, given: &[u8], input: &[u8], told: &mut Told) {
+    match pattern_in(alloc, given, input) {
+        Some(Ok(pattern)) => show_pattern(&pattern, told),
+        Some(Err(reason)) => show_reason(reason, told),
+        None => told.fail(),
     }
 }
 
@@ -46,15 +51,20 @@ fn show_predicates(alloc: Global, test: &Test, told: &mut Told) {
     told.show(names.len());
 }
 
+/// The test of a text.
+fn test_in(alloc: Global, input: &[u8]) -> Option<Result<Test, Reason>> {
+    match tree_in(alloc, input) {
+        Some(tree) => test_of(alloc, &tree, &Items::new(alloc)).ok(),
+        None => None,
+    }
+}
+
 /// Appends how many predicates a test names, or the reason for which its tree is set aside.
 fn tell_test(alloc: Global, input: &[u8], told: &mut Told) {
-    let Some(tree) = tree_in(alloc, input) else {
-        return told.fail();
-    };
-    match test_of(alloc, &tree, &Items::new(alloc)) {
-        Ok(Ok(test)) => show_predicates(alloc, &test, told),
-        Ok(Err(reason)) => show_reason(reason, told),
-        Err(_) => told.fail(),
+    match test_in(alloc, input) {
+        Some(Ok(test)) => show_predicates(alloc, &test, told),
+        Some(Err(reason)) => show_reason(reason, told),
+        None => told.fail(),
     }
 }
 
@@ -81,32 +91,41 @@ const MODES: [Mode; 4] = [Mode::Void, Mode::QI, Mode::SI, Mode::DI];
 
 /// Appends what a test accepts, in a row behind itself, with the predicates of a description.
 fn tell_held(alloc: Global, given: &[u8], input: &[u8], told: &mut Told) {
-    let Some(tree) = tree_in(alloc, input) else {
-        return told.fail();
-    };
-    match test_of(alloc, &tree, &Items::new(alloc)) {
-        Ok(Ok(test)) => show_test(alloc, given, &test, told),
+    match test_in(alloc, input) {
+        Some(Ok(test)) => show_test(alloc, given, &test, told),
         _ => told.fail(),
     }
 }
 
+/// Puts a test behind itself, and gives its place.
+fn pushed_twice(alloc: Global, test: &Test, rows: &mut TestRows) -> Result<usize, Memory> {
+    rows.push(alloc, test)?;
+    rows.push(alloc, test)
+}
+
 fn show_test(alloc: Global, given: &[u8], test: &Test, told: &mut Told) {
     let mut rows = TestRows::new(alloc);
-    if let Ok(_) = rows.push(alloc, test)
-        && let Ok(root) = rows.push(alloc, test)
+    if let Ok(root) = pushed_twice(alloc, test, &mut rows)
         && let Some(preds) = preds_in(alloc, given)
-        && let Ok(operands) = operands(alloc)
     {
-        for mode in MODES {
-            told.text("/");
-            for (letter, operand) in LETTERS.iter().zip(&operands) {
-                if rows.holds(root, &preds, operand, mode) {
-                    told.push(&[*letter]);
-                }
-            }
-        }
+        show_held(alloc, &rows, root, &preds, told);
     } else {
         told.fail();
+    }
+}
+
+/// Appends which operands the test at a place accepts, in each mode.
+fn show_held(alloc: Global, rows: &TestRows, root: usize, preds: &PredTable, told: &mut Told) {
+    let Ok(operands) = operands(alloc) else {
+        return told.fail();
+    };
+    for mode in MODES {
+        told.text("/");
+        for (letter, operand) in LETTERS.iter().zip(&operands) {
+            if rows.holds(root, preds, operand, mode) {
+                told.push(&[*letter]);
+            }
+        }
     }
 }
 
@@ -122,18 +141,25 @@ pub fn preds_in(alloc: Global, text: &[u8]) -> Option<PredTable> {
 fn tell_accepted(alloc: Global, given: &[u8], input: &[u8], told: &mut Told) {
     if let Ok(name) = Name::of(alloc, input)
         && let Some(preds) = preds_in(alloc, given)
-        && let Ok(operands) = operands(alloc)
     {
-        for mode in MODES {
-            told.text("/");
-            for (letter, operand) in LETTERS.iter().zip(&operands) {
-                if preds.holds(&name, operand, mode) {
-                    told.push(&[*letter]);
-                }
-            }
-        }
+        show_accepted(alloc, &preds, &name, told);
     } else {
         told.fail();
+    }
+}
+
+/// Appends which operands the predicate of a name accepts, in each mode.
+fn show_accepted(alloc: Global, preds: &PredTable, name: &Name, told: &mut Told) {
+    let Ok(operands) = operands(alloc) else {
+        return told.fail();
+    };
+    for mode in MODES {
+        told.text("/");
+        for (letter, operand) in LETTERS.iter().zip(&operands) {
+            if preds.holds(name, operand, mode) {
+                told.push(&[*letter]);
+            }
+        }
     }
 }
 

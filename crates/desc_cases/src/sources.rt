@@ -67,7 +67,11 @@ fn tell_list(alloc: Global, input: &[u8], told: &mut Told) {
     let Some(mut files) = files_of(alloc, input) else {
         return told.fail();
     };
-    match list(alloc, &mut files, b"d") {
+    show_list(list(alloc, &mut files, b"d"), told);
+}
+
+fn show_list(listed: Result<Vec<u8>, ListRefusal>, told: &mut Told) {
+    match listed {
         Ok(text) => told.push(text.as_slice()),
         Err(ListRefusal::Source(refusal)) => show_refusal(refusal, told),
         Err(ListRefusal::Forms) => told.text("forms"),

@@ -63,11 +63,18 @@ fn show_worth(alloc: Global, trees: &[Tree], preds: &PredTable, cond: &Cond, tol
     }
 }
 
+/// The condition of a text with the constants that are given.
+fn cond_in(alloc: Global, given: &[u8], input: &[u8]) -> Option<Cond> {
+    match constants_in(alloc, given) {
+        Some(constants) => parse_cond(alloc, input, &constants).ok(),
+        None => None,
+    }
+}
+
 /// Appends what a condition is worth, with the constants, the predicates, the operands and the dead
 /// registers that are given.
 fn tell_worth(alloc: Global, given: &[u8], input: &[u8], told: &mut Told) {
-    if let Some(constants) = constants_in(alloc, given)
-        && let Ok(cond) = parse_cond(alloc, input, &constants)
+    if let Some(cond) = cond_in(alloc, given, input)
         && let Some(preds) = preds_in(alloc, given)
         && let Some(trees) = trees_in(alloc, given)
     {

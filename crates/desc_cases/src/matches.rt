@@ -83,17 +83,13 @@ fn tell_matched(alloc: Global, input: &[u8], told: &mut Told) {
         && let Some(tree) = pattern_in(alloc, first)
         && let Some(insn) = pattern_in(alloc, second)
     {
-        show_match(alloc, &tree, &insn, told);
+        match matched::<Brand>(alloc, &tree, &insn, Blank::new(1)) {
+            Ok(Some(operands)) => show_matched(alloc, &tree, &insn, &operands, told),
+            Ok(None) => told.text("none"),
+            Err(_) => told.fail(),
+        }
     } else {
         told.fail();
-    }
-}
-
-fn show_match(alloc: Global, tree: &Rtx, insn: &Rtx, told: &mut Told) {
-    match matched::<Brand>(alloc, tree, insn, Blank::new(1)) {
-        Ok(Some(operands)) => show_matched(alloc, tree, insn, &operands, told),
-        Ok(None) => told.text("none"),
-        Err(_) => told.fail(),
     }
 }
 

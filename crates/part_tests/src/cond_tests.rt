@@ -1,5 +1,5 @@
 //! Rows of heads that no text is parsed to.
-use c_cond::{CondHead, Unary, parse_cond};
+use c_cond::{Cond, CondHead, Unary, parse_cond};
 use c_eval::{Facts, Reading, eval, read};
 use md_pred::PredTable;
 use plain_data::{Items, Memory};
@@ -14,9 +14,14 @@ fn facts(alloc: Global) -> Facts {
     }
 }
 
+/// The predicates of a description without forms.
+fn no_preds(alloc: Global) -> Result<PredTable, Memory> {
+    PredTable::of(alloc, &Items::new(alloc))
+}
+
 /// What is read of a row of heads, where no operand and no predicate is known.
 fn reading(alloc: Global, heads: &[CondHead]) -> Result<Reading, Memory> {
-    let preds = PredTable::of(alloc, &Items::new(alloc))?;
+    let preds = no_preds(alloc)?;
     Ok(read(heads, &facts(alloc), &Operands::new(alloc), &preds))
 }
 
@@ -44,6 +49,12 @@ fn the_last_tree_of_heads(rt: HostRuntime) {
         )
     );
     assert!(rt; matches!(last(alloc, CondHead::Window(2)), Ok(Reading::Window(2))));
+}
+
+/// A head that lacks its parts is read as nothing.
+#[test]
+fn heads_that_lack_their_parts(rt: HostRuntime) {
+    let alloc = rt.alloc();
     assert!(rt; matches!(last(alloc, CondHead::Done), Ok(Reading::Nothing)));
     assert!(rt; matches!(last(alloc, CondHead::Choose), Ok(Reading::Nothing)));
 }
@@ -62,15 +73,25 @@ fn window(alloc: Global) -> Result<Facts, Memory> {
     Ok(facts)
 }
 
+/// That the first operand is not dead.
+fn not_dead(alloc: Global) -> Option<Cond> {
+    let text = b"!peep2_reg_dead_p (0, operands[0])";
+    parse_cond(alloc, text, &Items::new(alloc)).ok()
+}
+
+/// What a condition is worth where the first operand is a register without a number of one.
+fn worth_of(alloc: Global, cond: &Cond, facts: &Facts) -> Result<i64, Memory> {
+    let preds = no_preds(alloc)?;
+    let operands = no_register(alloc)?;
+    Ok(eval(cond, facts, &operands, &preds))
+}
+
 /// What it is worth that an operand that is a register without a number of one is not dead.
 fn worth(alloc: Global) -> Option<i64> {
-    let constants = Items::new(alloc);
-    if let Ok(cond) = parse_cond(alloc, b"!peep2_reg_dead_p (0, operands[0])", &constants)
-        && let Ok(preds) = PredTable::of(alloc, &Items::new(alloc))
-        && let Ok(operands) = no_register(alloc)
+    if let Some(cond) = not_dead(alloc)
         && let Ok(facts) = window(alloc)
     {
-        Some(eval(&cond, &facts, &operands, &preds))
+        worth_of(alloc, &cond, &facts).ok()
     } else {
         None
     }

@@ -7,11 +7,20 @@ use pred_rows::TestRows;
 use rtx_tree::{Code, Mode, Operands, Rtx};
 use std::alloc::Global;
 
+/// The predicates of a description without forms.
+fn no_preds(alloc: Global) -> Result<PredTable, Memory> {
+    PredTable::of(alloc, &Items::new(alloc))
+}
+
+/// The constraints of a description without forms.
+fn no_constraints(alloc: Global) -> Result<Constraints, Memory> {
+    Constraints::of(alloc, &Items::new(alloc))
+}
+
 /// Whether there is no form of a number where a description has none.
 fn is_no_form(alloc: Global, form: u32) -> Result<bool, Memory> {
-    let forms = Items::new(alloc);
-    let table = Constraints::of(alloc, &forms)?;
-    let preds = PredTable::of(alloc, &forms)?;
+    let table = no_constraints(alloc)?;
+    let preds = no_preds(alloc)?;
     let none = Operands::new(alloc);
     Ok(alternatives_of(&table, form) == 0 && !fits(&table, &preds, form, 0, &none))
 }
@@ -44,22 +53,34 @@ fn never_holds(rows: &TestRows, root: usize, preds: &PredTable, operands: &[Rtx]
     !is_held
 }
 
-/// Whether a question without its parts never holds, and none holds behind it, where no test
-/// stands.
-fn is_without_parts(alloc: Global, question: Question) -> Result<bool, Memory> {
-    let mut rows = TestRows::new(alloc);
+/// Whether the test at a place never holds, and none holds behind all, where no test stands.
+fn never_hold(
+    alloc: Global,
+    rows: &TestRows,
+    root: usize,
+    preds: &PredTable,
+) -> Result<bool, Memory> {
+    let operands = operands(alloc)?;
+    let nowhere = rows.nodes().len();
+    Ok(never_holds(rows, root, preds, &operands) && never_holds(rows, nowhere, preds, &operands))
+}
+
+/// Puts a question without its parts, and gives its place.
+fn put_alone(alloc: Global, question: Question, rows: &mut TestRows) -> Result<usize, Memory> {
     let test = Test {
         question,
         parts: Items::new(alloc),
     };
-    let root = rows.push(alloc, &test)?;
-    let preds = PredTable::of(alloc, &Items::new(alloc))?;
-    let operands = operands(alloc)?;
-    let nowhere = rows.nodes().len();
-    Ok(
-        never_holds(&rows, root, &preds, &operands)
-            && never_holds(&rows, nowhere, &preds, &operands),
-    )
+    rows.push(alloc, &test)
+}
+
+/// Whether a question without its parts never holds, and none holds behind it, where no test
+/// stands.
+fn is_without_parts(alloc: Global, question: Question) -> Result<bool, Memory> {
+    let mut rows = TestRows::new(alloc);
+    let root = put_alone(alloc, question, &mut rows)?;
+    let preds = no_preds(alloc)?;
+    never_hold(alloc, &rows, root, &preds)
 }
 
 /// A question without its parts never holds, and none holds where no test stands.

@@ -20,8 +20,15 @@ fn items_stand_in_order(rt: HostRuntime) {
     assert!(rt; list.replace(1, 13) == 5);
     *list.item_mut(0) = 21;
     assert!(rt; list.as_slice() == [21, 13, 8].as_slice());
+}
+
+#[test]
+fn items_are_taken_back(rt: HostRuntime) {
+    let Ok(mut list) = three(rt.alloc()) else {
+        panic!(rt; "out of memory");
+    };
     assert!(rt; list.pop() == Some(8));
     let vec = list.into_vec();
-    assert!(rt; vec.as_slice() == [21, 13].as_slice());
+    assert!(rt; vec.as_slice() == [3, 5].as_slice());
     assert!(rt; Items::from_vec(vec).len() == 2);
 }

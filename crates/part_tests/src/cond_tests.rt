@@ -51,9 +51,9 @@ fn the_last_tree_of_heads(rt: HostRuntime) {
     assert!(rt; matches!(last(alloc, CondHead::Window(2)), Ok(Reading::Window(2))));
 }
 
-/// A head that lacks its parts is read as nothing.
+/// A head that is no value, or that lacks its parts, is read as nothing.
 #[test]
-fn heads_that_lack_their_parts(rt: HostRuntime) {
+fn heads_that_are_read_as_nothing(rt: HostRuntime) {
     let alloc = rt.alloc();
     assert!(rt; matches!(last(alloc, CondHead::Done), Ok(Reading::Nothing)));
     assert!(rt; matches!(last(alloc, CondHead::Choose), Ok(Reading::Nothing)));

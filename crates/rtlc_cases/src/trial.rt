@@ -40,13 +40,27 @@ fn sink_of(alloc: Global, setting: Setting, room: usize, head: &str) -> Result<B
     Ok(ByteSink::new(alloc, room, takes, &writes)?)
 }
 
-fn objects_of(alloc: Global, setting: Setting) -> Result<Objects, Fault> {
+/// These files and this input with the sinks of a case.
+fn with_sinks(
+    alloc: Global,
+    setting: Setting,
+    files: ByteFiles,
+    input: ByteSource,
+) -> Result<Objects, Fault> {
+    let output = sink_of(alloc, setting, ROOM, "-- fails write ")?;
+    let errors = sink_of(alloc, setting, LINE_ROOM, "-- fails tell ")?;
     Ok(Objects {
-        files: shelf_of(alloc, setting)?,
-        input: source_of(alloc, setting)?,
-        output: sink_of(alloc, setting, ROOM, "-- fails write ")?,
-        errors: sink_of(alloc, setting, LINE_ROOM, "-- fails tell ")?,
+        files,
+        input,
+        output,
+        errors,
     })
+}
+
+fn objects_of(alloc: Global, setting: Setting) -> Result<Objects, Fault> {
+    let files = shelf_of(alloc, setting)?;
+    let input = source_of(alloc, setting)?;
+    with_sinks(alloc, setting, files, input)
 }
 
 /// The words as texts.
@@ -62,13 +76,11 @@ fn texts<'a>(alloc: Global, words: &'a [Vec<u8>]) -> Result<Vec<&'a str>, Fault>
 }
 
 /// What a run with these words leaves.
-fn came(alloc: Global, setting: Setting, command: &str) -> Result<Vec<u8>, Fault> {
-    let words = words_of(alloc, command)?;
-    let texts = texts(alloc, &words)?;
+fn left_by(alloc: Global, setting: Setting, words: &[&str]) -> Result<Vec<u8>, Fault> {
     let mut objects = objects_of(alloc, setting)?;
     let status = run(
         alloc,
-        &texts,
+        words,
         &mut objects.files,
         &mut objects.input,
         &mut objects.output,
@@ -80,6 +92,13 @@ fn came(alloc: Global, setting: Setting, command: &str) -> Result<Vec<u8>, Fault
         objects.output.taken(),
         objects.errors.taken(),
     )
+}
+
+/// What a run with the words behind `$` leaves.
+fn came(alloc: Global, setting: Setting, command: &str) -> Result<Vec<u8>, Fault> {
+    let words = words_of(alloc, command)?;
+    let texts = texts(alloc, &words)?;
+    left_by(alloc, setting, &texts)
 }
 
 /// What a case wants.

@@ -5,7 +5,7 @@ use Rattle.std.specs.Option.{option_map_or}
 use Rattle.std.specs.Str.{bytes_eq}
 use Rattle.md_forms.specs.md_draft.declared.draft.Attribute.{Attribute}
 use Rattle.md_forms.specs.declared.form.Entry.{Entry}
-use Rattle.md_forms.specs.Tables.{defines_attribute}
+use Rattle.md_forms.specs.md_tables.Tables.{defines_attribute}
 use Rattle.md_attr.specs.Alternatives.{accepted, definition_of, form_at}
 
 -- ---- definitions

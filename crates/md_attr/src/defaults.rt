@@ -2,7 +2,7 @@
 ghost use Rattle.std.specs.Prelude.{◌≡◌, List, ℕ, None, Some, OnOk, IfOk, if◌then◌else◌};
 ghost use Rattle.std.specs.Option.{option_copied, option_or};
 ghost use Rattle.std.specs.Str.{bytes_eq};
-ghost use Rattle.md_forms.specs.Tables.{defines_attribute};
+ghost use Rattle.md_forms.specs.md_tables.Tables.{defines_attribute};
 ghost use Rattle.md_attr.specs.Alternatives.{defined, defines};
 ghost use Rattle.md_attr.specs.machine.Tables.{definition_in, default_in};
 ghost use Rattle.md_attr.specs.Values as spec;

@@ -20,7 +20,7 @@ use Rattle.md_forms.specs.md_draft.declared.head.RegisterClass.{RegisterClass}
 use Rattle.md_forms.specs.md_draft.declared.head.RegisterClass.TheVariants as named
 use Rattle.md_forms.specs.declared.form.Form.{Form}
 use Rattle.md_forms.specs.declared.form.Entry.{Entry}
-use Rattle.md_forms.specs.Tables.{defines_constraint}
+use Rattle.md_forms.specs.md_tables.Tables.{defines_constraint}
 use Rattle.md_attr.specs.Alternatives.{accepted, definition_of}
 
 -- ---- letters

@@ -4,7 +4,7 @@ ghost use Rattle.std.specs.Option.{option_copied, option_map, option_or};
 ghost use Rattle.std.specs.Str.{bytes_eq};
 ghost use Rattle.rtx_tree.specs.declared.tree.Rtx.{Rtx};
 ghost use Rattle.pred_rows.specs.Tests.{Accepts};
-ghost use Rattle.md_forms.specs.Tables.{defines_constraint};
+ghost use Rattle.md_forms.specs.md_tables.Tables.{defines_constraint};
 ghost use Rattle.md_attr.specs.Alternatives.{defined, defines};
 ghost use Rattle.md_constr.specs.Admits as spec;
 ghost use Rattle.md_constr.specs.machine.Tables as tables;

@@ -10,7 +10,7 @@ use Rattle.md_draft.specs.declared.draft.Draft.{Draft}
 use Rattle.md_draft.specs.Reasons as draft
 use Rattle.md_pattern.proofs.Smallest.{change}
 use Rattle.md_draft.proofs.Reasons.{of_entry}
-use Rattle.md_forms.specs.declared.tables.Tables.{Tables}
+use Rattle.md_tables.specs.declared.tables.Tables.{Tables}
 use Rattle.md_forms.specs.Checks.{constraints_of, has_reason, later_reasons, reason_of, form_with, unless, form_of}
 use Rattle.md_forms.specs.machine.Steps.{checked}
 use Rattle.md_forms.specs.Forms.{draft_entry, judged_form}

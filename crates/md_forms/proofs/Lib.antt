@@ -1,9 +1,6 @@
-pub mod Lists
 pub mod NameLaws
-pub mod DepthLaws
-pub mod TextKeys
-pub mod FirstNames
 pub mod NumberLaws
 pub mod CountLaws
 pub mod ShownNames
 pub mod Checked
+pub use Rattle.md_tables.proofs as md_tables

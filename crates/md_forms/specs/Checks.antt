@@ -25,12 +25,13 @@ use Rattle.md_draft.specs.declared.draft.Output.TheVariants as output
 use Rattle.md_forms.specs.declared.form.Form.{Form}
 use Rattle.md_forms.specs.declared.form.OperandConstraint.{OperandConstraint}
 use Rattle.md_draft.specs.declared.draft.Draft.{Draft}
-use Rattle.md_forms.specs.declared.tables.AttributeDraft.{AttributeDraft}
-use Rattle.md_forms.specs.declared.tables.ConstraintDraft.{ConstraintDraft}
-use Rattle.md_forms.specs.declared.tables.Tables.{Tables}
-use Rattle.md_forms.specs.Names.{predicates_named, operands_in, dups_in, is_assigned}
-use Rattle.md_forms.specs.Predicates.{is_known}
-use Rattle.md_forms.specs.Tables.{is_constraint, is_among, attribute_named}
+use Rattle.md_tables.specs.declared.tables.AttributeDraft.{AttributeDraft}
+use Rattle.md_tables.specs.declared.tables.ConstraintDraft.{ConstraintDraft}
+use Rattle.md_tables.specs.declared.tables.Tables.{Tables}
+use Rattle.md_tables.specs.Names.{predicates_named}
+use Rattle.md_forms.specs.Names.{operands_in, dups_in, is_assigned}
+use Rattle.md_tables.specs.Predicates.{is_known}
+use Rattle.md_tables.specs.Tables.{is_constraint, is_among, attribute_named}
 
 -- ---- predicates
 

@@ -9,10 +9,10 @@ use Rattle.md_forms.specs.declared.form.Form.{Form}
 use Rattle.md_forms.specs.declared.form.Entry.{Entry}
 use Rattle.md_draft.specs.declared.draft.Draft.{Draft}
 use Rattle.md_draft.specs.declared.draft.DraftEntry.{DraftEntry}
-use Rattle.md_forms.specs.declared.tables.Tables.{Tables}
+use Rattle.md_tables.specs.declared.tables.Tables.{Tables}
 use Rattle.md_iter.specs.declared.substitution.Instance.{Instance}
 use Rattle.md_draft.specs.Draft.{entry_of}
-use Rattle.md_forms.specs.Tables.{tables_of}
+use Rattle.md_tables.specs.Tables.{tables_of}
 use Rattle.md_forms.specs.Checks.{form_of}
 
 abbrev pub judged_form : Tables → Result Draft Reason → Result Form Reason

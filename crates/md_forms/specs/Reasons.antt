@@ -7,8 +7,8 @@ use Rattle.md_pattern.specs.declared.reason.Reason.{Reason}
 use Rattle.md_draft.specs.declared.draft.Draft.{Draft}
 use Rattle.md_draft.specs.Reasons as draft
 use Rattle.md_forms.specs.declared.form.Form.{Form}
-use Rattle.md_forms.specs.declared.tables.Tables.{Tables}
-use Rattle.md_forms.specs.Tables.{tables_of}
+use Rattle.md_tables.specs.declared.tables.Tables.{Tables}
+use Rattle.md_tables.specs.Tables.{tables_of}
 use Rattle.md_forms.specs.Checks.{has_reason}
 use Rattle.md_forms.specs.Forms.{draft_entry, judged_form}
 

@@ -1,4 +1,2 @@
-pub mod Depths
-pub mod Places
 pub mod Counts
 pub mod Steps

@@ -7,14 +7,15 @@ ghost use Rattle.md_forms.specs.Checks as spec;
 ghost use Rattle.md_forms.specs.machine.Steps as steps;
 ghost use Rattle.md_forms.specs.Names as names;
 
-use crate::definitions::Definitions;
 use crate::form::{Form, OperandConstraint};
-use crate::names::{assigned_by, predicates_named, push_all_dups, push_all_operands};
+use crate::names::{assigned_by, push_all_dups, push_all_operands};
 use crate::operands::OperandNumbers;
-use crate::predicates::all_known;
-use crate::tables::{AttributeDraft, ConstraintDraft, Tables, is_among, is_constraint};
 use md_draft::{Attribute, Defined, Draft, FormHead, Made, Matched, Output, Printed};
 use md_pattern::{Judged, OperandText, Patterns, Reason};
+use md_tables::{
+    AttributeDraft, ConstraintDraft, Definitions, Tables, all_known, is_among, is_constraint,
+    predicates_named,
+};
 use md_text::{Alternative, ConstraintNames, Member, Template, constraint_of};
 use plain_data::{Items, Memory};
 use rtx_tree::{Kids, Name, Rtx};
@@ -281,7 +282,7 @@ fn constraints_stand(
 
 // ---- attributes
 
-#[tactic(auto, using(crate::proofs::FirstNames::found_among))]
+#[tactic(auto, using(md_tables::proofs::FirstNames::found_among))]
 fn is_value(attribute: &AttributeDraft, value: &[u8]) -> bool
     ensures { result ≡ spec.is_value attribute.now value.now }
 {

@@ -7,9 +7,9 @@ ghost use Rattle.md_forms.specs.Forms as spec;
 
 use crate::checks::form_of;
 use crate::form::{Entry, Forms};
-use crate::tables::{Tables, tables_of};
 use md_draft::{DraftEntry, entry_of};
 use md_iter::Instance;
+use md_tables::{Tables, tables_of};
 use plain_data::{Items, Memory};
 use rtx_tree::Constants;
 use std::alloc::Global;

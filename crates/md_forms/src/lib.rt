@@ -2,27 +2,22 @@
 //!
 //! [`forms_of`] gives each expanded form in order with its head, its name, and either its parsed
 //! parts, a [`Form`], or the smallest [`Reason`] that applies to it. What a form's own text says is
-//! read by `md_draft`; which predicates, constraints and attributes hold is said in
-//! `specs/Predicates.antt` and `specs/Tables.antt`, what else is asked of a form in
-//! `specs/Checks.antt`. [`names_of`] gives the names under which they are shown.
+//! read by `md_draft`; which predicates, constraints and attributes hold is said in `md_tables`,
+//! what else is asked of a form in `specs/Checks.antt`. [`names_of`] gives the names under which
+//! they are shown.
 #![tactic(auto)]
 
 mod checks;
-mod definitions;
 mod form;
 mod forms;
 mod names;
 mod operands;
-mod places;
-mod predicates;
 mod shown;
-mod tables;
-mod walk;
 
 pub use checks::alternatives;
 pub use form::{Entry, Form, Forms, OperandConstraint};
 pub use forms::forms_of;
 pub use md_draft::{Attribute, FormHead, RegisterClass};
 pub use md_pattern::{Judged, Reason};
+pub use md_tables::{copied_names, defines_attribute, defines_constraint, defines_predicate};
 pub use shown::names_of;
-pub use tables::{copied_names, defines_attribute, defines_constraint, defines_predicate};

@@ -6,9 +6,9 @@ use Rattle.md_forms.specs.md_pattern.declared.reason.Reason.{Reason}
 use Rattle.md_forms.specs.md_pattern.declared.reason.Reason.TheVariants as reason
 use Rattle.md_forms.specs.md_draft.declared.draft.Draft.{Draft}
 use Rattle.md_forms.specs.declared.form.Form.{Form}
-use Rattle.md_forms.specs.declared.tables.Tables.{Tables}
-use Rattle.md_forms.specs.Names.{predicates_in, predicates_called, predicates_tested, predicates_named}
-use Rattle.md_forms.specs.Predicates.{is_own}
+use Rattle.md_forms.specs.md_tables.declared.tables.Tables.{Tables}
+use Rattle.md_forms.specs.md_tables.Names.{predicates_in, predicates_called, predicates_tested, predicates_named}
+use Rattle.md_forms.specs.md_tables.Predicates.{is_own}
 use Rattle.md_forms.specs.Checks.{predicates_known, reason_of, constraints_of, form_with, unless, form_of}
 use Rattle.md_operand.specs.Operand.{own_named}
 use Rattle.md_pred.proofs.Agreeing.{both_parts}

@@ -5,7 +5,7 @@ use Rattle.std.specs.Option.{option_or}
 use Rattle.std.proofs.lemmas.List.Folds.{find-append}
 use Rattle.md_forms.specs.md_draft.Head.{head_named}
 use Rattle.md_forms.specs.declared.form.Entry.{Entry}
-use Rattle.md_forms.specs.Tables.{defines_predicate}
+use Rattle.md_forms.specs.md_tables.Tables.{defines_predicate}
 use Rattle.md_pred.specs.Holds.{is_named, defines}
 use Rattle.md_pred.specs.machine.Steps.{predicate_name}
 

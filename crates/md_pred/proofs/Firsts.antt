@@ -8,13 +8,13 @@ use Rattle.md_forms.specs.md_draft.declared.draft.Draft.{Draft}
 use Rattle.md_forms.specs.md_draft.declared.draft.DraftEntry.{DraftEntry}
 use Rattle.md_forms.specs.md_draft.Head.{head_named}
 use Rattle.md_forms.specs.declared.form.Entry.{Entry}
-use Rattle.md_forms.specs.declared.tables.PredicateDraft.{PredicateDraft}
-use Rattle.md_forms.specs.declared.tables.Tables.{Tables}
-use Rattle.md_forms.specs.Tables.{defines_predicate, predicate_draft, predicate_of}
-use Rattle.md_forms.specs.Predicates.{is_accepted}
+use Rattle.md_forms.specs.md_tables.declared.tables.PredicateDraft.{PredicateDraft}
+use Rattle.md_forms.specs.md_tables.declared.tables.Tables.{Tables}
+use Rattle.md_forms.specs.md_tables.Tables.{defines_predicate, predicate_draft, predicate_of}
+use Rattle.md_forms.specs.md_tables.Predicates.{is_accepted}
 use Rattle.md_forms.specs.Checks.{form_of}
 use Rattle.md_forms.specs.Forms.{judged_form, finished}
-use Rattle.md_forms.proofs.FirstNames.{find_at_place}
+use Rattle.md_forms.proofs.md_tables.FirstNames.{find_at_place}
 use Rattle.md_pred.specs.Holds.{defines}
 
 abbrev pub named : List ℕ → PredicateDraft → Bool

@@ -11,10 +11,10 @@ use Rattle.md_forms.specs.md_draft.declared.draft.Draft.{Draft}
 use Rattle.md_forms.specs.md_draft.declared.draft.DraftEntry.{DraftEntry}
 use Rattle.md_forms.specs.declared.form.Form.{Form}
 use Rattle.md_forms.specs.declared.form.Entry.{Entry}
-use Rattle.md_forms.specs.declared.tables.PredicateDraft.{PredicateDraft}
-use Rattle.md_forms.specs.Names.{predicates_named, predicates_tested}
-use Rattle.md_forms.specs.Predicates.{is_own, is_accepted, is_known, is_sound, accepted_within}
-use Rattle.md_forms.specs.Tables.{predicates_of, predicate_draft, tables_of}
+use Rattle.md_forms.specs.md_tables.declared.tables.PredicateDraft.{PredicateDraft}
+use Rattle.md_forms.specs.md_tables.Names.{predicates_named, predicates_tested}
+use Rattle.md_forms.specs.md_tables.Predicates.{is_own, is_accepted, is_known, is_sound, accepted_within}
+use Rattle.md_forms.specs.md_tables.Tables.{predicates_of, predicate_draft, tables_of}
 use Rattle.md_forms.specs.Checks.{form_of, predicates_known}
 use Rattle.md_forms.specs.Forms.{judged_form, finished, forms_in}
 use Rattle.md_operand.specs.declared.own.Own.{Own}

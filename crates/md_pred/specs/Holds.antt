@@ -12,7 +12,7 @@ use Rattle.md_forms.specs.md_draft.declared.head.FormHead.TheVariants as head
 use Rattle.md_forms.specs.md_draft.Head.{head_named}
 use Rattle.md_forms.specs.declared.form.Form.{Form}
 use Rattle.md_forms.specs.declared.form.Entry.{Entry}
-use Rattle.md_forms.specs.Tables.{defines_predicate}
+use Rattle.md_forms.specs.md_tables.Tables.{defines_predicate}
 use Rattle.md_operand.specs.declared.own.Own.{Own}
 use Rattle.md_operand.specs.Operand.{accepts, has_mode, is_constant, own_named}
 use Rattle.pred_rows.specs.Tests.{Accepts, test_holds}

@@ -20,7 +20,7 @@ use Rattle.md_draft.specs.Head.{head_named}
 use Rattle.md_draft.specs.Layout.{predicate, layout_of, is_whole}
 use Rattle.md_draft.specs.Draft.{draft_in, draft_by, headed, entry_by, head_in, name_in}
 use Rattle.md_draft.specs.Reasons.{head_of}
-use Rattle.md_forms.specs.Tables.{defines_predicate}
+use Rattle.md_forms.specs.md_tables.Tables.{defines_predicate}
 use Rattle.md_forms.specs.Forms.{draft_entry}
 use Rattle.pred_mean.specs.Accepted.{IsDefinition}
 use Rattle.pred_mean.proofs.Drafts.{draft_with, no_some, aside, same_draft, by_head, at_parts}

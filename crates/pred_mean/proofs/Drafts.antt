@@ -21,7 +21,7 @@ use Rattle.md_draft.specs.Conditions as conditions
 use Rattle.md_draft.specs.Outputs as outputs
 use Rattle.md_draft.specs.Parts as parts
 use Rattle.md_draft.specs.Draft.{matched_in, made_in, printed_in, defined_in, whole_draft, draft_in}
-use Rattle.md_forms.specs.Tables.{defines_predicate}
+use Rattle.md_forms.specs.md_tables.Tables.{defines_predicate}
 
 -- ---- the parts
 

@@ -12,11 +12,11 @@ use Rattle.md_draft.specs.declared.draft.DraftEntry.{DraftEntry}
 use Rattle.md_draft.specs.Draft.{name_in}
 use Rattle.md_draft.specs.Reasons.{head_of}
 use Rattle.md_forms.specs.declared.form.Entry.{Entry}
-use Rattle.md_forms.specs.declared.tables.PredicateDraft.{PredicateDraft}
-use Rattle.md_forms.specs.declared.tables.Tables.{Tables}
-use Rattle.md_forms.specs.Tables.{defines_predicate, predicate_draft, predicate_of}
+use Rattle.md_forms.specs.md_tables.declared.tables.PredicateDraft.{PredicateDraft}
+use Rattle.md_forms.specs.md_tables.declared.tables.Tables.{Tables}
+use Rattle.md_forms.specs.md_tables.Tables.{defines_predicate, predicate_draft, predicate_of}
 use Rattle.md_forms.specs.Forms.{draft_entry, finished}
-use Rattle.md_forms.proofs.TextKeys.{same_text}
+use Rattle.md_forms.proofs.md_tables.TextKeys.{same_text}
 use Rattle.md_pred.specs.Holds as holds
 use Rattle.md_pred.proofs.Firsts.{named}
 use Rattle.pred_mean.specs.Accepted.{defines}

@@ -16,10 +16,10 @@ use Rattle.md_draft.specs.declared.head.FormHead.TheVariants as head
 use Rattle.md_draft.specs.declared.draft.Draft.{Draft}
 use Rattle.md_draft.specs.Reasons.{head_of}
 use Rattle.md_forms.specs.declared.form.Form.{Form}
-use Rattle.md_forms.specs.declared.tables.Tables.{Tables}
-use Rattle.md_forms.specs.Names.{predicates_named}
-use Rattle.md_forms.specs.Predicates.{is_known}
-use Rattle.md_forms.specs.Tables.{defines_predicate}
+use Rattle.md_forms.specs.md_tables.declared.tables.Tables.{Tables}
+use Rattle.md_forms.specs.md_tables.Names.{predicates_named}
+use Rattle.md_forms.specs.md_tables.Predicates.{is_known}
+use Rattle.md_forms.specs.md_tables.Tables.{defines_predicate}
 use Rattle.md_forms.specs.Checks.{predicates_known, matched, all_operands, dups_by, constraints_in}
 use Rattle.md_forms.specs.Checks.{constraints_stand, attributes_stand, operands_stand, has_reason}
 use Rattle.md_forms.specs.Checks.{form_with, form_of}

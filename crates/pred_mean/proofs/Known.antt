@@ -13,11 +13,11 @@ use Rattle.pred_expr.specs.Test.{predicates_of}
 use Rattle.md_draft.specs.declared.head.FormHead.{FormHead}
 use Rattle.md_draft.specs.declared.draft.Draft.{Draft}
 use Rattle.md_draft.specs.declared.draft.DraftEntry.{DraftEntry}
-use Rattle.md_forms.specs.declared.tables.PredicateDraft.{PredicateDraft}
-use Rattle.md_forms.specs.Names.{predicates_named}
-use Rattle.md_forms.specs.Predicates.{is_own, is_known, is_sound, accepted_within}
-use Rattle.md_forms.specs.Tables as tables
-use Rattle.md_forms.specs.Tables.{predicate_draft, tables_of}
+use Rattle.md_forms.specs.md_tables.declared.tables.PredicateDraft.{PredicateDraft}
+use Rattle.md_forms.specs.md_tables.Names.{predicates_named}
+use Rattle.md_forms.specs.md_tables.Predicates.{is_own, is_known, is_sound, accepted_within}
+use Rattle.md_forms.specs.md_tables.Tables as tables
+use Rattle.md_forms.specs.md_tables.Tables.{predicate_draft, tables_of}
 use Rattle.md_forms.specs.Forms.{draft_entry}
 use Rattle.md_forms.specs.Reasons.{tables_in}
 use Rattle.md_operand.specs.declared.own.Own.{Own}

@@ -12,8 +12,8 @@ use Rattle.pred_expr.specs.Test.{predicates_of}
 use Rattle.pred_expr.specs.Texts.{always, nothing}
 use Rattle.md_draft.specs.declared.head.FormHead.{FormHead}
 use Rattle.md_draft.specs.Reasons.{head_of}
-use Rattle.md_forms.specs.Names.{predicate_of_head, predicates_called, predicates_named}
-use Rattle.md_forms.specs.Tables.{defines_predicate}
+use Rattle.md_forms.specs.md_tables.Names.{predicate_of_head, predicates_called, predicates_named}
+use Rattle.md_forms.specs.md_tables.Tables.{defines_predicate}
 use Rattle.pred_mean.specs.Accepted.{defines}
 use Rattle.pred_mean.proofs.Drafts.{draft_with}
 

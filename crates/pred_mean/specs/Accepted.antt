@@ -12,7 +12,7 @@ use Rattle.pred_expr.specs.Test.{IsTest, predicates_of}
 use Rattle.md_draft.specs.declared.head.FormHead.{FormHead}
 use Rattle.md_draft.specs.Draft.{name_in}
 use Rattle.md_draft.specs.Reasons.{head_of}
-use Rattle.md_forms.specs.Tables.{defines_predicate}
+use Rattle.md_forms.specs.md_tables.Tables.{defines_predicate}
 use Rattle.md_operand.specs.declared.own.Own.{Own}
 use Rattle.md_operand.specs.Operand.{own_named}
 use Rattle.md_pred.specs.Holds.{is_named}

@@ -17,8 +17,8 @@ use Rattle.md_draft.specs.declared.draft.Draft.{Draft}
 use Rattle.md_draft.specs.declared.head.FormHead.{FormHead}
 use Rattle.md_draft.specs.Reasons.{head_of}
 use Rattle.md_forms.specs.declared.form.Form.{Form}
-use Rattle.md_forms.specs.Names.{predicates_named}
-use Rattle.md_forms.specs.Tables.{defines_predicate}
+use Rattle.md_forms.specs.md_tables.Names.{predicates_named}
+use Rattle.md_forms.specs.md_tables.Tables.{defines_predicate}
 use Rattle.md_forms.specs.Checks.{has_reason}
 use Rattle.md_forms.specs.Forms.{forms_of}
 use Rattle.md_forms.specs.Reasons.{tables_in, judged_in}

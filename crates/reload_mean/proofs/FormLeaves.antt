@@ -31,10 +31,10 @@ use Rattle.md_draft.specs.Patterns as patterns
 use Rattle.md_draft.specs.Draft.{matched_with, matched_in, made_in, printed_in, defined_in, draft_with, together, whole_draft, draft_in, draft_by, headed, head_in, entry_by, entry_of, condition_in}
 use Rattle.md_forms.specs.declared.form.Entry.{Entry}
 use Rattle.md_forms.specs.declared.form.Form.{Form}
-use Rattle.md_forms.specs.declared.tables.Tables.{Tables}
+use Rattle.md_forms.specs.md_tables.declared.tables.Tables.{Tables}
 use Rattle.md_forms.specs.Checks.{unless, form_with, constraints_of, reason_of, form_of}
 use Rattle.md_forms.specs.Forms.{judged_form, finished, forms_in, draft_entry, forms_of}
-use Rattle.md_forms.specs.Tables.{tables_of}
+use Rattle.md_forms.specs.md_tables.Tables.{tables_of}
 use Rattle.moves_mean.specs.Places.{is_leaf}
 use Rattle.reload.specs.Reload.{patterns_by, patterns_in, patterns_at}
 use Rattle.reload_mean.proofs.PatternLeaves.{OnOk, on_map, on_both, Any, any_read, HasLeaves, HaveLeaves, tree_leaf, PatternsLeaves, patterns_leaves}

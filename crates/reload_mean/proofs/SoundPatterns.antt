@@ -14,11 +14,11 @@ use Rattle.md_draft.specs.declared.draft.Draft.{Draft}
 use Rattle.md_draft.specs.declared.draft.DraftEntry.{DraftEntry}
 use Rattle.md_forms.specs.declared.form.Entry.{Entry}
 use Rattle.md_forms.specs.declared.form.Form.{Form}
-use Rattle.md_forms.specs.declared.tables.Tables.{Tables}
+use Rattle.md_forms.specs.md_tables.declared.tables.Tables.{Tables}
 use Rattle.md_forms.specs.Checks.{are_distinct, numbers_stand, matched, all_operands, operands_stand, alternatives_of, has_reason, later_reasons, reason_of, constraints_of, form_with, unless, form_of}
 use Rattle.md_forms.specs.Forms.{judged_form, finished, forms_in, draft_entry, forms_of}
 use Rattle.md_forms.specs.Names.{operands_in}
-use Rattle.md_forms.specs.Tables.{tables_of}
+use Rattle.md_forms.specs.md_tables.Tables.{tables_of}
 use Rattle.moves_mean.specs.reload_operands.Operands.{is_operator_code}
 use Rattle.moves_mean.specs.reload_operands.declared.operand.Operand.{Operand}
 use Rattle.moves_mean.proofs.NewsLaws.{operand_of_match}

@@ -2,7 +2,7 @@ use Rattle.std.proofs.Common.{ap, ◌∙◌}
 use Rattle.std.specs.List.{find}
 use Rattle.std.specs.Option.{option_map}
 use Rattle.std.proofs.lemmas.List.{take_all}
-use Rattle.md_forms.specs.Tables.{defines_constraint}
+use Rattle.md_forms.specs.md_tables.Tables.{defines_constraint}
 use Rattle.md_attr.specs.Alternatives.{defines}
 use Rattle.md_attr.proofs.FirstLaws.{given_next}
 use Rattle.md_constr.specs.machine.Tables.{meaning_in, entry_admits}

@@ -1,7 +1,7 @@
 use Rattle.std.proofs.Common.{◌≡◌, ℕ, List, take}
 use Rattle.std.specs.List.{find}
 use Rattle.std.specs.Option.{option_map}
-use Rattle.md_forms.specs.Tables.{defines_constraint}
+use Rattle.md_forms.specs.md_tables.Tables.{defines_constraint}
 use Rattle.md_attr.specs.Alternatives.{defines}
 use Rattle.md_constr.specs.machine.Tables.{meaning_in, definition_admits, entry_admits}
 use Rattle.md_constr.proofs.meanings.meanings_of.Given as goal

@@ -1,7 +1,0 @@
-use Rattle.std.proofs.Common.{◌≡◌, ◌++◌, drop}
-use Rattle.std.specs.List.{flat_map}
-use Rattle.md_forms.specs.Names as spec
-use Rattle.md_forms.proofs.names.push_all_predicates.Given as goal
-
-abbrev pub invariant-loop-tree : goal.invariant-loop-tree
-invariant-loop-tree l = l.names ++ flat_map spec.predicates_in (drop l.tree-index l.trees) ≡ l.fn.names ++ flat_map spec.predicates_in l.trees

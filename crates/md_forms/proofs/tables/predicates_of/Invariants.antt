@@ -1,7 +1,0 @@
-use Rattle.std.proofs.Common.{◌≡◌, take}
-use Rattle.std.specs.List.{filter_map}
-use Rattle.md_forms.specs.Tables as spec
-use Rattle.md_forms.proofs.tables.predicates_of.Given as goal
-
-abbrev pub invariant-loop-entry : goal.invariant-loop-entry
-invariant-loop-entry l = l.found ≡ filter_map spec.predicate_of (take l.entry-index l.entries)

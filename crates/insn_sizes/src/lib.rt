@@ -1,6 +1,6 @@
 //! The numbers in the instructions of a function have their sizes.
 //!
-//! There is one function, [`walk_numbers`], which walks each tree and changes nothing. Promised:
+//! There is one public call, [`walk_numbers`], which walks each tree and changes nothing. Promised:
 //! where no register has a number below 0, each number has its size, since that of a constant
 //! always has 64 signed bits.
 #![tactic(auto)]

@@ -1,11 +1,11 @@
 //! What the forms of a description define for one another: predicates, constraints and attributes.
 //!
 //! [`tables_of`] gives, of forms that are read by their own text (`md_draft`), which predicates,
-//! constraints and attributes they define, and which of these are accepted (`specs/Tables.antt`). Of
-//! a name that is defined twice the first definition counts. A predicate is accepted where it names
-//! accepted ones alone, within as many rounds as there are forms (`specs/Predicates.antt`), so none
-//! that reaches itself is; the rounds are found by one walk. What is defined is found by its name at
-//! once ([`Definitions`]).
+//! constraints and attributes they define, and which of these are accepted (`specs/Tables.antt`).
+//! Of a name that is defined twice the first definition counts. A predicate is accepted where it
+//! names accepted ones alone, within as many rounds as there are forms (`specs/Predicates.antt`),
+//! so none that reaches itself is; the rounds are found by one walk. What is defined is found by
+//! its name at once ([`Definitions`]).
 #![tactic(auto)]
 
 mod definitions;

@@ -5,9 +5,9 @@
 //! the form that matches, the one that costs least says which operands are moved into t3 to t6 and
 //! back, and so what stands before the instruction and behind it (`specs/Reload.antt`). Some form
 //! of the description has to match each move. Promised: it gives exactly what is defined, or the
-//! refusal that is defined, unless memory runs out. Each instruction stands between the moves of a
-//! sound plan (`specs/Windows.antt`), which is all that meaning asks of a reloaded function; labels
-//! and barriers stay, and uids that differ still do.
+//! refusal that is defined, unless memory runs out. Each instruction that needs a form stands
+//! between the moves of a sound plan (`specs/Windows.antt`), which is all that meaning asks of a
+//! reloaded function; labels and barriers stay, and uids that differ still do.
 #![tactic(auto)]
 
 mod insn;

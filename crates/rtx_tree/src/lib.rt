@@ -5,9 +5,10 @@
 //!
 //! All of it is plain data in contracts: two trees are equal there exactly where they have the same
 //! parts all the way down. So `same` is equality, `copy` gives an equal tree, and `size` counts the
-//! nodes. Each name is that of its table, of a code, a mode, a register, a stage or a limit, and is
-//! read back: `named` and `reg_number` find exactly what has a name. A [`RegSet`] is the increasing
-//! list of its registers, and [`Memories`] has each address once, in increasing order.
+//! nodes. Each name is that of its table, of a code, a mode, a register, a stage or a limit. Those
+//! of codes, modes and registers are read back: `named` and `reg_number` find exactly what has a
+//! name. A [`RegSet`] is the increasing list of its registers, and [`Memories`] has each address
+//! once, in increasing order.
 #![tactic(auto)]
 
 mod class;

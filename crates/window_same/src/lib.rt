@@ -5,5 +5,5 @@
 //! registers that are live behind it. The law, `items_are_same_where_left` in `proofs/Left.antt`,
 //! is that such items have the same behaviour as their function, as `specs/Left.antt` says it: from
 //! every lawful start and in every lawful world, in each run that has a value, leaves what the
-//! caller had in its registers as it found it, and returns before the end of the chain.
+//! caller had in its registers as it found it, and never returns at the end of the chain.
 #![tactic(auto)]

@@ -10,13 +10,23 @@ use std::{fs, io};
 
 const TEXT: &[u8] = b"(set (reg:DI a0) (const_int 0))";
 
+/// A source of the text of which a call is to fail.
+fn source_of(alloc: Global, failing: u64) -> Result<ByteSource, Memory> {
+    ByteSource::new(alloc, TEXT, &[failing])
+}
+
+/// Whether a source gives the text with so much room, and without a fault.
+fn gives_the_text<S: Source>(alloc: Global, source: &mut S, limit: usize) -> bool {
+    match read_all(alloc, source, limit) {
+        Ok(bytes) => bytes.as_slice() == TEXT && source.faults() == 0,
+        Err(_) => false,
+    }
+}
+
 /// Whether all is read with so much room where a call is to fail, and without a fault.
 fn is_read(alloc: Global, limit: usize, failing: u64) -> bool {
-    let Ok(mut source) = ByteSource::new(alloc, TEXT, &[failing]) else {
-        return false;
-    };
-    match read_all(alloc, &mut source, limit) {
-        Ok(bytes) => bytes.as_slice() == TEXT && source.faults() == 0,
+    match source_of(alloc, failing) {
+        Ok(mut source) => gives_the_text(alloc, &mut source, limit),
         Err(_) => false,
     }
 }
@@ -30,25 +40,43 @@ fn number_of(refusal: ReadAll) -> u32 {
     }
 }
 
-/// Whether a text is refused so with so much room where a call is to fail, and with so many faults.
-fn is_refused(alloc: Global, limit: usize, failing: u64, want: ReadAll, faults: u64) -> bool {
-    let Ok(mut source) = ByteSource::new(alloc, TEXT, &[failing]) else {
-        return false;
-    };
-    match read_all(alloc, &mut source, limit) {
-        Ok(_) => false,
-        Err(refusal) => number_of(refusal) == number_of(want) && source.faults() == faults,
+/// The number of the refusal of what a source gives with so much room, if it is refused.
+fn refusal_of<S: Source>(alloc: Global, source: &mut S, limit: usize) -> Option<u32> {
+    match read_all(alloc, source, limit) {
+        Ok(_) => None,
+        Err(refusal) => Some(number_of(refusal)),
     }
+}
+
+/// Whether the refusal of this number comes with so much room where a call is to fail, and with so
+/// many faults.
+fn is_refused(alloc: Global, limit: usize, failing: u64, want: u32, faults: u64) -> bool {
+    match source_of(alloc, failing) {
+        Ok(mut source) => {
+            refusal_of(alloc, &mut source, limit) == Some(want) && source.faults() == faults
+        }
+        Err(_) => false,
+    }
+}
+
+/// Whether the text is too long for 30 bytes where a call is to fail, and without a fault.
+fn is_too_long(alloc: Global, failing: u64) -> bool {
+    is_refused(alloc, 30, failing, number_of(ReadAll::TooLong), 0)
+}
+
+/// Whether the fault of a call is told, and counted once.
+fn is_fault(alloc: Global, failing: u64) -> bool {
+    is_refused(alloc, 31, failing, number_of(ReadAll::Fault), 1)
 }
 
 /// 31 bytes come in the first read, and the second one finds the end.
 #[test]
 fn reads_to_the_end(rt: HostRuntime) {
     assert!(rt; is_read(rt.alloc(), 31, 3));
-    assert!(rt; is_refused(rt.alloc(), 30, 3, ReadAll::TooLong, 0));
-    assert!(rt; is_refused(rt.alloc(), 31, 1, ReadAll::Fault, 1));
-    assert!(rt; is_refused(rt.alloc(), 31, 2, ReadAll::Fault, 1));
-    assert!(rt; is_refused(rt.alloc(), 30, 2, ReadAll::TooLong, 0));
+    assert!(rt; is_too_long(rt.alloc(), 3));
+    assert!(rt; is_fault(rt.alloc(), 1));
+    assert!(rt; is_fault(rt.alloc(), 2));
+    assert!(rt; is_too_long(rt.alloc(), 2));
 }
 
 /// Whether so many of 100 bytes are taken by a sink with so much room and so many bytes at a time,
@@ -96,6 +124,12 @@ fn fetched<F: Files>(alloc: Global, files: &mut F, asked: &[(&[u8], usize)]) -> 
     told
 }
 
+/// Whether this is got when files are asked for, with so much room each.
+fn is_got<F: Files>(alloc: Global, files: &mut F, asked: &[(&[u8], usize)], want: &[u8]) -> bool {
+    let told = fetched(alloc, files, asked);
+    told.out.as_slice() == want
+}
+
 /// A file of ten bytes and an empty one. Of the calls two are to fail.
 fn ten_and_nothing(alloc: Global) -> Result<ByteFiles, Memory> {
     let mut files = ByteFiles::new(alloc, &[2, 3])?;
@@ -104,11 +138,8 @@ fn ten_and_nothing(alloc: Global) -> Result<ByteFiles, Memory> {
     Ok(files)
 }
 
-#[test]
-fn gives_the_files_asked_for(rt: HostRuntime) {
-    let Ok(mut files) = ten_and_nothing(rt.alloc()) else {
-        panic!(rt; "out of memory");
-    };
+/// Whether files of ten bytes and of nothing are got, but where a call is to fail.
+fn are_ten_and_nothing_got(alloc: Global, files: &mut ByteFiles) -> bool {
     // Of these the second call is one that is to fail, and its file is too long.
     let asked: [(&[u8], usize); 6] = [
         (b"a", 10),
@@ -118,25 +149,44 @@ fn gives_the_files_asked_for(rt: HostRuntime) {
         (b"a", 11),
         (b"b", 0),
     ];
-    let told = fetched(rt.alloc(), &mut files, &asked);
-    assert!(rt; told.out.as_slice() == b"+0123456789>!!+0123456789+".as_slice());
+    is_got(alloc, files, &asked, b"+0123456789>!!+0123456789+")
+}
+
+#[test]
+fn gives_the_files_asked_for(rt: HostRuntime) {
+    let Ok(mut files) = ten_and_nothing(rt.alloc()) else {
+        panic!(rt; "out of memory");
+    };
+    assert!(rt; are_ten_and_nothing_got(rt.alloc(), &mut files));
     assert!(rt; files.faults() == 2);
+}
+
+/// Whether a file of ten bytes is got, and nothing where there is no file.
+fn is_nothing_got(alloc: Global, files: &mut QuietFiles) -> bool {
+    let asked: [(&[u8], usize); 4] = [(b"a", 10), (b"c", 10), (b"a", 9), (b"c", 0)];
+    is_got(alloc, files, &asked, b"+0123456789+>+")
 }
 
 #[test]
 fn finds_nothing_quietly(rt: HostRuntime) {
     let mut files = QuietFiles::new(rt.alloc());
     assert!(rt; files.put_file(b"a", b"0123456789").is_ok());
-    let asked: [(&[u8], usize); 4] = [(b"a", 10), (b"c", 10), (b"a", 9), (b"c", 0)];
-    let told = fetched(rt.alloc(), &mut files, &asked);
-    assert!(rt; told.out.as_slice() == b"+0123456789+>+".as_slice());
+    assert!(rt; is_nothing_got(rt.alloc(), &mut files));
     assert!(rt; files.faults() == 0);
 }
 
-#[test]
-fn reads_files_of_the_disk(rt: HostRuntime) {
-    assert!(rt; fs::write(&rt, "byte_edge_ten", b"(symbol a)".as_slice()).is_ok());
-    let mut files = DiskFiles::new(&rt);
+/// Whether a file of ten bytes is written.
+fn is_file_written(rt: &HostRuntime) -> bool {
+    fs::write(rt, "byte_edge_ten", b"(symbol a)".as_slice()).is_ok()
+}
+
+/// Whether the file of ten bytes is removed.
+fn is_file_removed(rt: &HostRuntime) -> bool {
+    fs::remove_file(rt, "byte_edge_ten").is_ok()
+}
+
+/// Whether the file of ten bytes is got, but where it is too long, and no other.
+fn is_file_got<F: Files>(alloc: Global, files: &mut F) -> bool {
     let asked: [(&[u8], usize); 5] = [
         (b"byte_edge_ten", 10),
         (b"byte_edge_ten", 9),
@@ -144,19 +194,22 @@ fn reads_files_of_the_disk(rt: HostRuntime) {
         (b"byte_edge_\xff", 10),
         (b"byte_edge_ten", 11),
     ];
-    let told = fetched(rt.alloc(), &mut files, &asked);
-    assert!(rt; told.out.as_slice() == b"+(symbol a)>!!+(symbol a)".as_slice());
+    is_got(alloc, files, &asked, b"+(symbol a)>!!+(symbol a)")
+}
+
+#[test]
+fn reads_files_of_the_disk(rt: HostRuntime) {
+    assert!(rt; is_file_written(&rt));
+    let mut files = DiskFiles::new(&rt);
+    assert!(rt; is_file_got(rt.alloc(), &mut files));
     assert!(rt; files.faults() == 2);
-    assert!(rt; fs::remove_file(&rt, "byte_edge_ten").is_ok());
+    assert!(rt; is_file_removed(&rt));
 }
 
 /// Whether a source gives the text quietly.
 fn gives_quietly(alloc: Global) -> bool {
-    let Ok(mut source) = QuietSource::new(alloc, TEXT) else {
-        return false;
-    };
-    match read_all(alloc, &mut source, 31) {
-        Ok(bytes) => bytes.as_slice() == TEXT && source.faults() == 0,
+    match QuietSource::new(alloc, TEXT) {
+        Ok(mut source) => gives_the_text(alloc, &mut source, 31),
         Err(_) => false,
     }
 }
@@ -208,32 +261,51 @@ impl Write for Broken {
 /// Whether a slice is read whole, without a fault.
 fn is_slice_read(alloc: Global) -> bool {
     let mut source = StdSource::new(TEXT);
-    match read_all(alloc, &mut source, 31) {
-        Ok(bytes) => bytes.as_slice() == TEXT && source.faults() == 0,
-        Err(_) => false,
-    }
+    gives_the_text(alloc, &mut source, 31)
+}
+
+/// Whether one byte is read.
+fn is_byte_read<S: Source>(source: &mut S) -> bool {
+    let mut into = [0; 8];
+    matches!(source.read(&mut into), Ok(1))
+}
+
+/// Whether a read fails.
+fn fails_to_read<S: Source>(source: &mut S) -> bool {
+    let mut into = [0; 8];
+    matches!(source.read(&mut into), Err(Failed))
 }
 
 #[test]
 fn counts_the_faults_of_sources(rt: HostRuntime) {
     assert!(rt; is_slice_read(rt.alloc()));
     let mut source = StdSource::new(Broken { turn: 0 });
-    let mut into = [0; 8];
-    assert!(rt; matches!(source.read(&mut into), Ok(1)));
-    assert!(rt; matches!(source.read(&mut into), Err(Failed)));
+    assert!(rt; is_byte_read(&mut source));
+    assert!(rt; fails_to_read(&mut source));
     assert!(rt; source.faults() == 1);
+}
+
+/// Whether a sink takes so many bytes of the text.
+fn takes<S: Sink>(sink: &mut S, want: usize) -> bool {
+    matches!(sink.write(TEXT), Ok(count) if count == want)
+}
+
+/// Whether a write fails.
+fn fails_to_write<S: Sink>(sink: &mut S) -> bool {
+    matches!(sink.write(TEXT), Err(Failed))
+}
+
+/// Whether a sink takes so many bytes of the text, and then fails once.
+fn fails_behind<S: Sink>(sink: &mut S, count: usize) -> bool {
+    takes(sink, count) && fails_to_write(sink) && sink.faults() == 1
 }
 
 #[test]
 fn counts_the_faults_of_sinks(rt: HostRuntime) {
     let mut sink = StdSink::new(Broken { turn: 0 });
-    assert!(rt; matches!(sink.write(TEXT), Ok(1)));
-    assert!(rt; matches!(sink.write(TEXT), Err(Failed)));
-    assert!(rt; sink.faults() == 1);
+    assert!(rt; fails_behind(&mut sink, 1));
     // A slice takes no more than it has room for.
     let mut room = [0; 4];
     let mut sink = StdSink::new(room.as_mut_slice());
-    assert!(rt; matches!(sink.write(TEXT), Ok(4)));
-    assert!(rt; matches!(sink.write(TEXT), Err(Failed)));
-    assert!(rt; sink.faults() == 1);
+    assert!(rt; fails_behind(&mut sink, 4));
 }

@@ -16,12 +16,10 @@ fn insn(alloc: Global, uid: u32, kind: Kind, pattern: Rtx) -> Insn {
     }
 }
 
-/// A function with one instruction.
-fn function(alloc: Global, kind: Kind, pattern: Rtx) -> Result<Function, Memory>
-    ensures { IfOk result (λ f. length f.insns ≡ 1) }
+/// A function with these instructions.
+fn function_of(alloc: Global, insns: Items<Insn>) -> Result<Function, Memory>
+    ensures { IfOk result (λ f. length f.insns ≡ length insns) }
 {
-    let mut insns = Items::new(alloc);
-    insns.push(insn(alloc, 7, kind, pattern))?;
     Ok(Function {
         name: Name::of(alloc, b"f")?,
         insns,
@@ -29,6 +27,15 @@ fn function(alloc: Global, kind: Kind, pattern: Rtx) -> Result<Function, Memory>
         result: None,
         result_reg: 10,
     })
+}
+
+/// A function with one instruction.
+fn function(alloc: Global, kind: Kind, pattern: Rtx) -> Result<Function, Memory>
+    ensures { IfOk result (λ f. length f.insns ≡ 1) }
+{
+    let mut insns = Items::new(alloc);
+    insns.push(insn(alloc, 7, kind, pattern))?;
+    function_of(alloc, insns)
 }
 
 fn are_short(functions: &[Function]) -> bool
@@ -116,6 +123,12 @@ fn operators_that_no_text_writes(rt: HostRuntime) {
     assert!(rt; matches!(rule_of_two(alloc, Code::Plus, x, nothing(alloc)), Ok(4)));
     let x = one(alloc);
     assert!(rt; matches!(rule_of_two(alloc, Code::Lt, x, one(alloc)), Ok(4)));
+}
+
+/// Sources of a set that no text writes: two parts below a code that is no operator over two.
+#[test]
+fn codes_that_are_no_operators_over_two(rt: HostRuntime) {
+    let alloc = rt.alloc();
     let x = reg(alloc, 65);
     assert!(rt; matches!(rule_of_two(alloc, Code::Neg, x, one(alloc)), Ok(4)));
     let x = reg(alloc, 65);
@@ -178,16 +191,20 @@ fn branch(alloc: Global) -> Result<Rtx, Memory> {
     jump(alloc, test, to, pc(alloc))
 }
 
+/// Appends a label, and the branch to the last one with its number.
+fn push_link(alloc: Global, label: u32, jump: u32, insns: &mut Items<Insn>) -> Result<(), Memory> {
+    insns.push(insn(alloc, label, Kind::Label, nothing(alloc)))?;
+    let pattern = branch(alloc)?;
+    insns.push(insn(alloc, jump, Kind::Jump, pattern))
+}
+
 /// 5,000 labels, each with a branch to the last.
 fn long_chain(alloc: Global) -> Result<Function, Memory> {
-    let mut f = function(alloc, Kind::Jump, leave(alloc))?;
-    f.insns = Items::new(alloc);
+    let mut insns = Items::new(alloc);
     for uid in 1..5_001 {
-        f.insns.push(insn(alloc, uid, Kind::Label, nothing(alloc)))?;
-        f.insns
-            .push(insn(alloc, uid + 20_000, Kind::Jump, branch(alloc)?))?;
+        push_link(alloc, uid, uid + 20_000, &mut insns)?;
     }
-    Ok(f)
+    function_of(alloc, insns)
 }
 
 /// Whether the exit of a long function is reached.
@@ -213,13 +230,22 @@ fn spoilt_line(alloc: Global) -> Option<Line> {
     }
 }
 
+/// Whether a line does nothing.
+fn does_nothing(line: &Line) -> bool {
+    line.action().is_none()
+}
+
+/// Whether nothing is printed of a line.
+fn is_not_printed(alloc: Global, line: &Line) -> bool {
+    let mut out = Vec::new(alloc);
+    print_line(alloc, line, &mut out).is_ok() && out.is_empty()
+}
+
 #[test]
 fn spoilt_lines(rt: HostRuntime) {
     let Some(spoilt) = spoilt_line(rt.alloc()) else {
         panic!(rt; "no line");
     };
-    assert!(rt; spoilt.action().is_none());
-    let mut out = Vec::new(rt.alloc());
-    assert!(rt; print_line(rt.alloc(), &spoilt, &mut out).is_ok());
-    assert!(rt; out.is_empty());
+    assert!(rt; does_nothing(&spoilt));
+    assert!(rt; is_not_printed(rt.alloc(), &spoilt));
 }

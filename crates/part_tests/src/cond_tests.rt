@@ -19,10 +19,17 @@ fn no_preds(alloc: Global) -> Result<PredTable, Memory> {
     PredTable::of(alloc, &Items::new(alloc))
 }
 
+/// What is read of a row of heads by these predicates, where no operand is known.
+fn reading_by(alloc: Global, heads: &[CondHead], preds: &PredTable) -> Reading {
+    read(heads, &facts(alloc), &Operands::new(alloc), preds)
+}
+
 /// What is read of a row of heads, where no operand and no predicate is known.
 fn reading(alloc: Global, heads: &[CondHead]) -> Result<Reading, Memory> {
     let preds = no_preds(alloc)?;
-    Ok(read(heads, &facts(alloc), &Operands::new(alloc), &preds))
+    let reading = reading_by(alloc, heads, &preds);
+    drop(preds);
+    Ok(reading)
 }
 
 /// What is read of a row of two numbers and a head.
@@ -41,6 +48,12 @@ fn the_last_tree_of_heads(rt: HostRuntime) {
             Ok(Reading::Number(1))
         )
     );
+}
+
+/// The last head of a row is read where it has no parts.
+#[test]
+fn the_last_of_heads(rt: HostRuntime) {
+    let alloc = rt.alloc();
     assert!(rt; matches!(last(alloc, CondHead::Operand(3)), Ok(Reading::Operand(3))));
     assert!(rt;
         matches!(
@@ -79,11 +92,19 @@ fn not_dead(alloc: Global) -> Option<Cond> {
     parse_cond(alloc, text, &Items::new(alloc)).ok()
 }
 
+/// What a condition is worth by these predicates where the first operand is a register without a
+/// number of one.
+fn worth_by(alloc: Global, cond: &Cond, facts: &Facts, preds: &PredTable) -> Result<i64, Memory> {
+    let operands = no_register(alloc)?;
+    Ok(eval(cond, facts, &operands, preds))
+}
+
 /// What a condition is worth where the first operand is a register without a number of one.
 fn worth_of(alloc: Global, cond: &Cond, facts: &Facts) -> Result<i64, Memory> {
     let preds = no_preds(alloc)?;
-    let operands = no_register(alloc)?;
-    Ok(eval(cond, facts, &operands, &preds))
+    let worth = worth_by(alloc, cond, facts, &preds);
+    drop(preds);
+    worth
 }
 
 /// What it is worth that an operand that is a register without a number of one is not dead.

@@ -17,12 +17,25 @@ fn no_constraints(alloc: Global) -> Result<Constraints, Memory> {
     Constraints::of(alloc, &Items::new(alloc))
 }
 
+/// Whether a form has no alternatives, and no operands fit it.
+fn fits_nothing(alloc: Global, table: &Constraints, preds: &PredTable, form: u32) -> bool {
+    alternatives_of(table, form) == 0 && !fits(table, preds, form, 0, &Operands::new(alloc))
+}
+
+/// Whether there is no form of a number, where no predicate is known.
+fn lacks_form(alloc: Global, table: &Constraints, form: u32) -> Result<bool, Memory> {
+    let preds = no_preds(alloc)?;
+    let is_none = fits_nothing(alloc, table, &preds, form);
+    drop(preds);
+    Ok(is_none)
+}
+
 /// Whether there is no form of a number where a description has none.
 fn is_no_form(alloc: Global, form: u32) -> Result<bool, Memory> {
     let table = no_constraints(alloc)?;
-    let preds = no_preds(alloc)?;
-    let none = Operands::new(alloc);
-    Ok(alternatives_of(&table, form) == 0 && !fits(&table, &preds, form, 0, &none))
+    let is_none = lacks_form(alloc, &table, form);
+    drop(table);
+    is_none
 }
 
 #[test]
@@ -74,13 +87,20 @@ fn put_alone(alloc: Global, question: Question, rows: &mut TestRows) -> Result<u
     rows.push(alloc, &test)
 }
 
+/// Whether the test at a place never holds, and none holds behind all, where no predicate is known.
+fn never_hold_alone(alloc: Global, rows: &TestRows, root: usize) -> Result<bool, Memory> {
+    let preds = no_preds(alloc)?;
+    let is_never = never_hold(alloc, rows, root, &preds);
+    drop(preds);
+    is_never
+}
+
 /// Whether a question without its parts never holds, and none holds behind it, where no test
 /// stands.
 fn is_without_parts(alloc: Global, question: Question) -> Result<bool, Memory> {
     let mut rows = TestRows::new(alloc);
     let root = put_alone(alloc, question, &mut rows)?;
-    let preds = no_preds(alloc)?;
-    never_hold(alloc, &rows, root, &preds)
+    never_hold_alone(alloc, &rows, root)
 }
 
 /// A question without its parts never holds, and none holds where no test stands.

@@ -11,6 +11,15 @@ fn told(alloc: Global, table: &str, given: &[u8], input: &[u8]) -> Option<Vec<u8
     if is_there { told.whole() } else { None }
 }
 
+/// What a table tells of a text that is whole, if it is told whole.
+fn told_of(alloc: Global, table: &str, text: &Told) -> Option<Vec<u8>> {
+    if text.is_whole() {
+        told(alloc, table, b"", &text.out)
+    } else {
+        None
+    }
+}
+
 /// A text that begins so many times, and ends as often.
 fn nested(alloc: Global, count: u32, open: &str, middle: &str, close: &str) -> Told {
     let mut text = Told::new(alloc);
@@ -26,8 +35,8 @@ fn nested(alloc: Global, count: u32, open: &str, middle: &str, close: &str) -> T
 
 /// Whether a table tells this of a text.
 fn is_told(alloc: Global, table: &str, text: &Told, want: &str) -> bool {
-    match told(alloc, table, b"", &text.out) {
-        Some(told) => text.is_whole() && told.as_slice() == want.as_bytes(),
+    match told_of(alloc, table, text) {
+        Some(told) => told.as_slice() == want.as_bytes(),
         None => false,
     }
 }
@@ -46,24 +55,38 @@ fn trees_are_200_deep(rt: HostRuntime) {
     assert!(rt; is_told_200_deep(rt.alloc(), "", "1"));
 }
 
+fn blanks_in(text: &[u8]) -> usize {
+    text.iter().filter(|byte| **byte == b' ').count()
+}
+
 /// How many blanks a table tells of a text.
 fn blanks_told(alloc: Global, table: &str, text: &Told) -> Option<usize> {
-    match told(alloc, table, b"", &text.out) {
-        Some(told) if text.is_whole() => {
-            Some(told.as_slice().iter().filter(|byte| **byte == b' ').count())
-        }
-        _ => None,
+    match told_of(alloc, table, text) {
+        Some(told) => Some(blanks_in(told.as_slice())),
+        None => None,
     }
+}
+
+/// How many blanks a table tells of a text that is 100,000 deep.
+fn blanks_told_deep(
+    alloc: Global,
+    table: &str,
+    open: &str,
+    middle: &str,
+    close: &str,
+) -> Option<usize> {
+    let text = nested(alloc, 100_000, open, middle, close);
+    blanks_told(alloc, table, &text)
 }
 
 /// How many heads conditions and statements have that are 100,000 deep.
 #[test]
 fn conditions_are_as_deep_as_they_like(rt: HostRuntime) {
     let alloc = rt.alloc();
-    let text = nested(alloc, 100_000, "!(-", "1", ")");
-    assert!(rt; matches!(blanks_told(alloc, "conditions", &text), Some(200_000)));
-    let text = nested(alloc, 100_000, "{", "", "}");
-    assert!(rt; matches!(blanks_told(alloc, "preparations", &text), Some(200_000)));
+    let told = blanks_told_deep(alloc, "conditions", "!(-", "1", ")");
+    assert!(rt; matches!(told, Some(200_000)));
+    let told = blanks_told_deep(alloc, "preparations", "{", "", "}");
+    assert!(rt; matches!(told, Some(200_000)));
 }
 
 /// Whether a condition that is 50,000 deep is worth this.
@@ -147,6 +170,11 @@ fn accepts(alloc: Global, backwards: bool, before: &str, after: &str, want: &str
     is_accepted(alloc, &text, b"p199", want)
 }
 
+/// Whether it does in the order of the chain, and backwards.
+fn accepts_both_ways(alloc: Global, before: &str, after: &str, want: &str) -> bool {
+    accepts(alloc, false, before, after, want) && accepts(alloc, true, before, after, want)
+}
+
 /// What stands before and behind the name of the next predicate, and what the last predicate
 /// accepts then: p0 accepts registers of the mode, and each of the others what comes of the one
 /// before it.
@@ -170,8 +198,7 @@ const CHAINS: [(&str, &str, &str); 6] = [
 #[test]
 fn chains_of_predicates(rt: HostRuntime) {
     for (before, after, want) in CHAINS {
-        assert!(rt; accepts(rt.alloc(), false, before, after, want));
-        assert!(rt; accepts(rt.alloc(), true, before, after, want));
+        assert!(rt; accepts_both_ways(rt.alloc(), before, after, want));
     }
 }
 
@@ -228,14 +255,12 @@ fn count_told(told: &[u8], end: &str) -> usize {
 
 /// How many forms of a description are accepted, and how many are set aside for a constraint.
 fn forms_told(alloc: Global, text: &Told) -> Option<(usize, usize)> {
-    match told(alloc, "forms", b"", &text.out) {
-        Some(told) if text.is_whole() => {
-            Some((
-                count_told(told.as_slice(), " ok"),
-                count_told(told.as_slice(), " 9"),
-            ))
-        }
-        _ => None,
+    match told_of(alloc, "forms", text) {
+        Some(told) => Some((
+            count_told(told.as_slice(), " ok"),
+            count_told(told.as_slice(), " 9"),
+        )),
+        None => None,
     }
 }
 

@@ -15,14 +15,23 @@ pub struct Setting<'s, 't> {
     pub shared: &'s [Part<'t>],
 }
 
+/// What stands behind the head of the first of some parts with this head.
+fn value_among<'a>(parts: &[Part<'a>], head: &str) -> Option<&'a str> {
+    for part in parts {
+        if let Some(text) = part.head.strip_prefix(head) {
+            return Some(text);
+        }
+    }
+    None
+}
+
 /// What stands behind the head of the first part with this head, a case's own parts before the
 /// shared ones.
 fn value_of<'a>(setting: Setting<'_, 'a>, head: &str) -> Option<&'a str> {
-    setting
-        .own
-        .iter()
-        .chain(setting.shared)
-        .find_map(|part| part.head.strip_prefix(head))
+    match value_among(setting.own, head) {
+        Some(text) => Some(text),
+        None => value_among(setting.shared, head),
+    }
 }
 
 /// The bytes of a text, of which this tells whether each backquote begins an escape.

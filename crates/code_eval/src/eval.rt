@@ -86,6 +86,23 @@ fn lines_of(alloc: Global, rtl: Ending, code: Ending) -> Result<Vec<u8>, Memory>
     Ok(text)
 }
 
+/// The two outcomes, a line for each.
+fn told_in(
+    alloc: Global,
+    f: &Function,
+    items: &[CodeItem],
+    world: &World,
+    steps: u16,
+    args: [u64; 8],
+) -> Result<Vec<u8>, Memory>
+    requires { world.now ≡ worlds.world_of f.now (spec.lines_for steps) }
+    ensures { IfOk result (λ text. text.items ≡ spec.eval_text f.now items.now steps args) }
+{
+    let rtl = rtl_run(alloc, f, world, steps, args)?;
+    let code = code_run(alloc, f, items, world, steps, args)?;
+    lines_of(alloc, rtl, code)
+}
+
 /// Runs a function for so many steps, and its lines and labels for 64 times as many lines and 1,000
 /// more, with these values of `a0` to `a7`, and gives the two outcomes, a line for each.
 pub fn eval_text(
@@ -103,7 +120,5 @@ pub fn eval_text(
     // Each of these has 64 bits.
     let [_a0, _a1, _a2, _a3, _a4, _a5, _a6, _a7] = args;
     let world = world_of(alloc, f, lines_for(steps))?;
-    let rtl = rtl_run(alloc, f, &world, steps, args)?;
-    let code = code_run(alloc, f, items, &world, steps, args)?;
-    lines_of(alloc, rtl, code)
+    told_in(alloc, f, items, &world, steps, args)
 }

@@ -1,5 +1,6 @@
 //! What `clap` is told of the words, and what it makes of them.
 ghost use Rattle.std.specs.Prelude.{◌≡◌, ◌≢◌, IfOk, OnOk, false, option_and_then};
+ghost use Rattle.clap.specs.Walk.{rule_of};
 ghost use Rattle.clap.specs.Words.{app_of, kind_of, subcommand_rows_of};
 ghost use Rattle.clap.specs.declared.builder.command.Command.TheViews.{out-Command};
 ghost use Rattle.rtlc_words.specs.machine.Grammar as spec;
@@ -10,16 +11,31 @@ use clap::{Arg, ArgAction, ArgMatches, Command, Error};
 use plain_data::Memory;
 use std::alloc::{AllocError, Global};
 
+/// The option `--md NAME`.
+fn description<'a>(alloc: Global) -> Arg<'a>
+    ensures rule { rule_of result ≡ spec.md_rule }
+    ensures local { result.global ≡ false }
+{
+    Arg::new(alloc, "md").long("md").action(ArgAction::Set)
+}
+
+/// Any number of positional words.
+fn positional<'a>(alloc: Global) -> Arg<'a>
+    ensures rule { rule_of result ≡ spec.words_rule }
+    ensures local { result.global ≡ false }
+{
+    Arg::new(alloc, "words")
+        .action(ArgAction::Append)
+        .num_args(0..)
+}
+
 /// A command of the program. Each has the option `--md NAME`, and any number of positional words.
 fn subcommand<'a>(alloc: Global, name: &'a str) -> Result<Command<'a>, AllocError>
     ensures app { IfOk result (λ command. app_of command ≡ spec.leaf name.entry.now) }
     ensures local { IfOk result (λ command. (out-Command command).has_globals ≡ false) }
 {
-    let description = Arg::new(alloc, "md").long("md").action(ArgAction::Set);
-    let words = Arg::new(alloc, "words")
-        .action(ArgAction::Append)
-        .num_args(0..);
-    Command::new(alloc, name).arg(description)?.arg(words)
+    let described = Command::new(alloc, name).arg(description(alloc))?;
+    described.arg(positional(alloc))
 }
 
 /// The program with no command. It has no help, and its words do not begin with its name.
@@ -42,18 +58,34 @@ fn with_command<'a>(
     ensures { IfOk result (λ command.
         app_of command ≡ spec.with_leaf (app_of program.entry) name.entry.now) }
 {
-    program.subcommand(subcommand(alloc, name)?)
+    match subcommand(alloc, name) {
+        Ok(command) => program.subcommand(command),
+        Err(error) => {
+            drop(program);
+            Err(error)
+        }
+    }
+}
+
+/// The program with two more commands.
+fn with_two<'a>(
+    program: Command<'a>,
+    alloc: Global,
+    first: &'a str,
+    second: &'a str,
+) -> Result<Command<'a>, AllocError>
+    ensures { IfOk result (λ command. app_of command ≡ spec.with_leaf
+        (spec.with_leaf (app_of program.entry) first.entry.now) second.entry.now) }
+{
+    with_command(with_command(program, alloc, first)?, alloc, second)
 }
 
 /// The program with its commands.
 fn program<'a>(alloc: Global) -> Result<Command<'a>, AllocError>
     ensures { IfOk result (λ command. app_of command ≡ spec.program) }
 {
-    let program = bare(alloc);
-    let program = with_command(program, alloc, "asm")?;
-    let program = with_command(program, alloc, "list")?;
-    let program = with_command(program, alloc, "recog")?;
-    let program = with_command(program, alloc, "dump")?;
+    let program = with_two(bare(alloc), alloc, "asm", "list")?;
+    let program = with_two(program, alloc, "recog", "dump")?;
     with_command(program, alloc, "eval")
 }
 

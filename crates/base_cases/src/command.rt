@@ -44,41 +44,26 @@ fn show(command: &Command, told: &mut Told) {
     }
 }
 
-/// A word, of which `""` is the empty one.
-fn word_of<'a>(text: &'a str) -> &'a str {
-    if text == "\"\"" { "" } else { text }
-}
-
-/// Puts the words of a text with a blank between two behind others.
-fn push_words<'a>(text: &'a str, words: &mut Vec<&'a str>) -> Result<(), AllocError> {
-    for word in text.split(' ') {
-        words.push(word_of(word))?;
-    }
-    Ok(())
-}
-
-/// Appends what words are.
-fn tell_words(alloc: Global, words: &[&str], told: &mut Told) {
-    match command_of(alloc, words) {
-        Ok(Some(command)) => show(&command, told),
-        Ok(None) => told.text("no command"),
-        Err(_) => told.fail(),
-    }
-}
-
-/// Appends what the words of a text are.
-fn tell_text(alloc: Global, text: &str, told: &mut Told) {
+/// The words of a text with a blank between two, of which `""` is the empty one.
+fn words_of<'a>(alloc: Global, text: &'a str) -> Result<Vec<&'a str>, AllocError> {
     let mut words = Vec::new(alloc);
-    match push_words(text, &mut words) {
-        Ok(()) => tell_words(alloc, &words, told),
-        Err(_) => told.fail(),
+    for word in text.split(' ') {
+        words.push(if word == "\"\"" { "" } else { word })?;
     }
+    Ok(words)
 }
 
 /// Appends what words with a blank between two are, of which `""` is the empty one.
 pub fn tell(alloc: Global, input: &[u8], told: &mut Told) {
-    match str::from_utf8(input) {
-        Ok(text) => tell_text(alloc, text, told),
-        Err(_) => told.fail(),
+    if let Ok(text) = str::from_utf8(input)
+        && let Ok(words) = words_of(alloc, text)
+    {
+        match command_of(alloc, &words) {
+            Ok(Some(command)) => show(&command, told),
+            Ok(None) => told.text("no command"),
+            Err(_) => told.fail(),
+        }
+    } else {
+        told.fail();
     }
 }

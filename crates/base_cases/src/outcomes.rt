@@ -32,32 +32,18 @@ fn functions_in(alloc: Global, parts: &str) -> Option<Functions> {
     }
 }
 
-/// Puts the line of a text behind others. Whether there is a line, and memory for it.
-fn push_line(alloc: Global, text: &str, items: &mut Items<CodeItem>) -> bool {
-    match parse_line(alloc, text.as_bytes()) {
-        Ok(Some(line)) => items.push(CodeItem::Code { line }).is_ok(),
-        _ => false,
-    }
-}
-
-/// Puts the lines of a text behind others. Whether all of them are lines, and there is memory.
-fn push_lines(alloc: Global, lines: &str, items: &mut Items<CodeItem>) -> bool {
-    for text in lines.split(" ; ") {
-        if !push_line(alloc, text, items) {
-            return false;
-        }
-    }
-    true
-}
-
 /// The lines of a text, as items.
 fn items_of(alloc: Global, lines: &str) -> Option<Items<CodeItem>> {
     let mut items = Items::new(alloc);
-    if push_lines(alloc, lines, &mut items) {
-        Some(items)
-    } else {
-        None
+    for text in lines.split(" ; ") {
+        let Ok(Some(line)) = parse_line(alloc, text.as_bytes()) else {
+            return None;
+        };
+        if items.push(CodeItem::Code { line }).is_err() {
+            return None;
+        }
     }
+    Some(items)
 }
 
 /// The steps and the first two arguments.

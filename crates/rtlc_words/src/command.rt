@@ -61,53 +61,19 @@ fn name_of(alloc: Global, text: Option<&str>) -> Result<Option<Name>, Memory>
     }
 }
 
-fn asm_of(
+/// The description of a command that takes no positional word, or `None` where there is such a
+/// word.
+fn described(
     alloc: Global,
     description: Option<&str>,
     words: &[&str],
-) -> Result<Option<Command>, Memory>
-    ensures { IfOk result (λ command.
-        command ≡ spec.with_description (λ d. Command.Asm d) (option_map (λ s.
+) -> Result<Option<Option<Name>>, Memory>
+    ensures { IfOk result (λ found.
+        found ≡ spec.only_description (option_map (λ s.
         s.now) description.entry) (words_of words.now)) }
 {
     match words {
-        [] => Ok(Some(Command::Asm {
-            description: name_of(alloc, description)?,
-        })),
-        _ => Ok(None),
-    }
-}
-
-fn list_of(
-    alloc: Global,
-    description: Option<&str>,
-    words: &[&str],
-) -> Result<Option<Command>, Memory>
-    ensures { IfOk result (λ command.
-        command ≡ spec.with_description (λ d. Command.List d) (option_map (λ s.
-        s.now) description.entry) (words_of words.now)) }
-{
-    match words {
-        [] => Ok(Some(Command::List {
-            description: name_of(alloc, description)?,
-        })),
-        _ => Ok(None),
-    }
-}
-
-fn recog_of(
-    alloc: Global,
-    description: Option<&str>,
-    words: &[&str],
-) -> Result<Option<Command>, Memory>
-    ensures { IfOk result (λ command.
-        command ≡ spec.with_description (λ d. Command.Recog d) (option_map (λ s.
-        s.now) description.entry) (words_of words.now)) }
-{
-    match words {
-        [] => Ok(Some(Command::Recog {
-            description: name_of(alloc, description)?,
-        })),
+        [] => Ok(Some(name_of(alloc, description)?)),
         _ => Ok(None),
     }
 }
@@ -192,9 +158,15 @@ fn command_by(
         s.now) description.entry) (words_of words.now)) }
 {
     match name {
-        "asm" => asm_of(alloc, description, words),
-        "list" => list_of(alloc, description, words),
-        "recog" => recog_of(alloc, description, words),
+        "asm" => Ok(described(alloc, description, words)?.map(|description| Command::Asm {
+            description,
+        })),
+        "list" => Ok(described(alloc, description, words)?.map(|description| Command::List {
+            description,
+        })),
+        "recog" => Ok(described(alloc, description, words)?.map(|description| Command::Recog {
+            description,
+        })),
         "dump" => dump_of(alloc, description, words),
         "eval" => eval_of(alloc, description, words),
         _ => Ok(None),

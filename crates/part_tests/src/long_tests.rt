@@ -170,7 +170,7 @@ fn accepts(alloc: Global, backwards: bool, before: &str, after: &str, want: &str
     is_accepted(alloc, &text, b"p199", want)
 }
 
-/// Whether it does in the order of the chain, and backwards.
+/// Whether the last of 200 accepts this, in a chain in its order and in one backwards.
 fn accepts_both_ways(alloc: Global, before: &str, after: &str, want: &str) -> bool {
     accepts(alloc, false, before, after, want) && accepts(alloc, true, before, after, want)
 }

@@ -3,13 +3,13 @@ use Rattle.std.proofs.Common.{◌≡◌, ◌≤◌, ◌⊎◌, inl, inr, ⊎_eli
 use Rattle.std.specs.List.{find}
 use Rattle.rtx_tree.specs.declared.constants.Constant.{Constant}
 use Rattle.md_iter.specs.declared.substitution.Instance.{Instance}
-use Rattle.md_pattern.specs.declared.reason.Reason.{Reason}
-use Rattle.md_pattern.specs.declared.reason.Reason.TheVariants as reason
-use Rattle.md_pattern.specs.Reason.{number_of, judged_map, IsSmallest}
-use Rattle.md_draft.specs.declared.draft.Draft.{Draft}
-use Rattle.md_draft.specs.Reasons as draft
-use Rattle.md_pattern.proofs.Smallest.{change}
-use Rattle.md_draft.proofs.Reasons.{of_entry}
+use Rattle.md_tables.specs.md_pattern.declared.reason.Reason.{Reason}
+use Rattle.md_tables.specs.md_pattern.declared.reason.Reason.TheVariants as reason
+use Rattle.md_tables.specs.md_pattern.Reason.{number_of, judged_map, IsSmallest}
+use Rattle.md_tables.specs.md_draft.declared.draft.Draft.{Draft}
+use Rattle.md_tables.specs.md_draft.Reasons as draft
+use Rattle.md_tables.proofs.md_pattern.Smallest.{change}
+use Rattle.md_tables.proofs.md_draft.Reasons.{of_entry}
 use Rattle.md_tables.specs.declared.tables.Tables.{Tables}
 use Rattle.md_forms.specs.Checks.{constraints_of, has_reason, later_reasons, reason_of, form_with, unless, form_of}
 use Rattle.md_forms.specs.machine.Steps.{checked}

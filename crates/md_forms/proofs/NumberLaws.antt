@@ -8,7 +8,7 @@ use Rattle.std.specs.List.{list_all, list_any}
 use Rattle.std.specs.Ordering.{nat_cmp}
 use Rattle.std.proofs.lemmas.List.{drop_more}
 use Rattle.std.proofs.lemmas.Option.{slice_get_within, get_or_from_slice_get}
-use Rattle.c_cond.specs.c_words.declared.head.CondHead.{CondHead}
+use Rattle.md_tables.specs.c_words.declared.head.CondHead.{CondHead}
 use Rattle.md_forms.specs.Checks.{has, dup_by}
 use Rattle.md_forms.specs.Names.{is_assigned}
 use Rattle.md_forms.specs.machine.Steps.{dup_in}

@@ -5,26 +5,26 @@
 use Rattle.std.specs.Prelude.{ℕ, ◌==◌, nat_le, Bool, true, false, not, ◌&&◌, ◌||◌, List, [], ◌∷◌, ◌++◌, Option, Some, None, Result, Ok, Err, if◌then◌else◌, length, option_map, option_and_then}
 use Rattle.std.specs.Option.{unwrap_or}
 use Rattle.std.specs.List.{find, flat_map, list_all, list_any}
-use Rattle.c_cond.specs.c_words.declared.head.CondHead as c
-use Rattle.c_cond.specs.Tree.{heads_of}
-use Rattle.md_text.specs.declared.constraint.Member.{Member}
-use Rattle.md_text.specs.declared.constraint.Member.TheVariants as member
-use Rattle.md_text.specs.declared.constraint.Alternative.{Alternative}
-use Rattle.md_text.specs.declared.template.Template.{Template}
-use Rattle.md_text.specs.declared.template.Template.TheVariants as template
-use Rattle.md_text.specs.Lists as lists
-use Rattle.md_text.specs.Constraint as text
-use Rattle.md_pattern.specs.declared.reason.Reason.{Reason}
-use Rattle.md_pattern.specs.declared.reason.Reason.TheVariants as reason
-use Rattle.md_pattern.specs.declared.operand.OperandText.{OperandText}
-use Rattle.md_draft.specs.declared.head.FormHead.{FormHead}
-use Rattle.md_draft.specs.declared.head.FormHead.TheVariants as head
-use Rattle.md_draft.specs.declared.draft.Attribute.{Attribute}
-use Rattle.md_draft.specs.declared.draft.Output.{Output}
-use Rattle.md_draft.specs.declared.draft.Output.TheVariants as output
+use Rattle.md_tables.specs.c_words.declared.head.CondHead as c
+use Rattle.md_tables.specs.c_cond.Tree.{heads_of}
+use Rattle.md_tables.specs.md_text.declared.constraint.Member.{Member}
+use Rattle.md_tables.specs.md_text.declared.constraint.Member.TheVariants as member
+use Rattle.md_tables.specs.md_text.declared.constraint.Alternative.{Alternative}
+use Rattle.md_tables.specs.md_text.declared.template.Template.{Template}
+use Rattle.md_tables.specs.md_text.declared.template.Template.TheVariants as template
+use Rattle.md_tables.specs.md_text.Lists as lists
+use Rattle.md_tables.specs.md_text.Constraint as text
+use Rattle.md_tables.specs.md_pattern.declared.reason.Reason.{Reason}
+use Rattle.md_tables.specs.md_pattern.declared.reason.Reason.TheVariants as reason
+use Rattle.md_tables.specs.md_pattern.declared.operand.OperandText.{OperandText}
+use Rattle.md_tables.specs.md_draft.declared.head.FormHead.{FormHead}
+use Rattle.md_tables.specs.md_draft.declared.head.FormHead.TheVariants as head
+use Rattle.md_tables.specs.md_draft.declared.draft.Attribute.{Attribute}
+use Rattle.md_tables.specs.md_draft.declared.draft.Output.{Output}
+use Rattle.md_tables.specs.md_draft.declared.draft.Output.TheVariants as output
 use Rattle.md_forms.specs.declared.form.Form.{Form}
 use Rattle.md_forms.specs.declared.form.OperandConstraint.{OperandConstraint}
-use Rattle.md_draft.specs.declared.draft.Draft.{Draft}
+use Rattle.md_tables.specs.md_draft.declared.draft.Draft.{Draft}
 use Rattle.md_tables.specs.declared.tables.AttributeDraft.{AttributeDraft}
 use Rattle.md_tables.specs.declared.tables.ConstraintDraft.{ConstraintDraft}
 use Rattle.md_tables.specs.declared.tables.Tables.{Tables}

@@ -4,14 +4,14 @@ use Rattle.std.specs.List.{count_by}
 use Rattle.std.specs.Str.{bytes_eq}
 use Rattle.std.specs.Fmt.{decimal}
 use Rattle.rtx_tree.specs.declared.constants.Constant.{Constant}
-use Rattle.md_pattern.specs.declared.reason.Reason.{Reason}
+use Rattle.md_tables.specs.md_pattern.declared.reason.Reason.{Reason}
 use Rattle.md_forms.specs.declared.form.Form.{Form}
 use Rattle.md_forms.specs.declared.form.Entry.{Entry}
-use Rattle.md_draft.specs.declared.draft.Draft.{Draft}
-use Rattle.md_draft.specs.declared.draft.DraftEntry.{DraftEntry}
+use Rattle.md_tables.specs.md_draft.declared.draft.Draft.{Draft}
+use Rattle.md_tables.specs.md_draft.declared.draft.DraftEntry.{DraftEntry}
 use Rattle.md_tables.specs.declared.tables.Tables.{Tables}
 use Rattle.md_iter.specs.declared.substitution.Instance.{Instance}
-use Rattle.md_draft.specs.Draft.{entry_of}
+use Rattle.md_tables.specs.md_draft.Draft.{entry_of}
 use Rattle.md_tables.specs.Tables.{tables_of}
 use Rattle.md_forms.specs.Checks.{form_of}
 

@@ -7,8 +7,8 @@ use Rattle.rtx_tree.specs.declared.code.Code.TheVariants.{MatchOperand, MatchDup
 use Rattle.rtx_tree.specs.declared.tree.Rtx.{Rtx}
 use Rattle.rtx_tree.specs.declared.tree.Rtx.TheOpen.{Rtx-F}
 use Rattle.rtx_tree.specs.declared.tree.Rtx.TheFolds.{fold-Rtx}
-use Rattle.c_cond.specs.c_words.declared.head.CondHead.{CondHead}
-use Rattle.c_cond.specs.c_words.declared.head.CondHead.TheVariants.{Assign}
+use Rattle.md_tables.specs.c_words.declared.head.CondHead.{CondHead}
+use Rattle.md_tables.specs.c_words.declared.head.CondHead.TheVariants.{Assign}
 
 abbrev pub operand_here : Code → ℤ → List ℕ
 operand_here MatchOperand number = cast_unsigned w64 number ∷ []

@@ -3,9 +3,9 @@
 use Rattle.std.specs.Prelude.{◌≡◌, true, List, Result, Ok, map}
 use Rattle.rtx_tree.specs.declared.constants.Constant.{Constant}
 use Rattle.md_iter.specs.declared.substitution.Instance.{Instance}
-use Rattle.md_pattern.specs.declared.reason.Reason.{Reason}
-use Rattle.md_draft.specs.declared.draft.Draft.{Draft}
-use Rattle.md_draft.specs.Reasons as draft
+use Rattle.md_tables.specs.md_pattern.declared.reason.Reason.{Reason}
+use Rattle.md_tables.specs.md_draft.declared.draft.Draft.{Draft}
+use Rattle.md_tables.specs.md_draft.Reasons as draft
 use Rattle.md_forms.specs.declared.form.Form.{Form}
 use Rattle.md_tables.specs.declared.tables.Tables.{Tables}
 use Rattle.md_tables.specs.Tables.{tables_of}

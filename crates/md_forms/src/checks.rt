@@ -1,8 +1,8 @@
 //! What is asked of a form whose own text is in order.
 ghost use Rattle.std.specs.Prelude.{◌≡◌, ◌==◌, ◌||◌, nat_le, IfOk, Some};
 ghost use Rattle.std.specs.List.{flat_map, list_all};
-ghost use Rattle.md_pattern.specs.Reason.{judged_map};
-ghost use Rattle.md_text.specs.Lists as lists;
+ghost use Rattle.md_tables.specs.md_pattern.Reason.{judged_map};
+ghost use Rattle.md_tables.specs.md_text.Lists as lists;
 ghost use Rattle.md_forms.specs.Checks as spec;
 ghost use Rattle.md_forms.specs.machine.Steps as steps;
 ghost use Rattle.md_forms.specs.Names as names;
@@ -10,13 +10,11 @@ ghost use Rattle.md_forms.specs.Names as names;
 use crate::form::{Form, OperandConstraint};
 use crate::names::{assigned_by, push_all_dups, push_all_operands};
 use crate::operands::OperandNumbers;
-use md_draft::{Attribute, Defined, Draft, FormHead, Made, Matched, Output, Printed};
-use md_pattern::{Judged, OperandText, Patterns, Reason};
 use md_tables::{
-    AttributeDraft, ConstraintDraft, Definitions, Tables, all_known, is_among, is_constraint,
-    predicates_named,
+    Alternative, Attribute, AttributeDraft, ConstraintDraft, ConstraintNames, Defined, Definitions,
+    Draft, FormHead, Judged, Made, Matched, Member, OperandText, Output, Patterns, Printed, Reason,
+    Tables, Template, all_known, constraint_of, is_among, is_constraint, predicates_named,
 };
-use md_text::{Alternative, ConstraintNames, Member, Template, constraint_of};
 use plain_data::{Items, Memory};
 use rtx_tree::{Kids, Name, Rtx};
 use std::alloc::Global;

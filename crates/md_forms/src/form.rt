@@ -1,10 +1,8 @@
 //! Forms as what they say.
-use c_cond::{Cond, Prep};
-use md_draft::{Attribute, FormHead, RegisterClass};
-use md_pattern::Judged;
-use md_text::{Constraint, Template};
+use md_tables::{
+    Attribute, Cond, Constraint, FormHead, Judged, Prep, RegisterClass, Template, Test,
+};
 use plain_data::Items;
-use pred_expr::Test;
 use rtx_tree::{Kids, Name};
 
 /// The constraint of an operand.

@@ -1,15 +1,14 @@
 //! The forms of a description.
 ghost use Rattle.std.specs.Prelude.{◌≡◌, IfOk, map};
 ghost use Rattle.md_iter.specs.declared.substitution.Instance.{Instance};
-ghost use Rattle.md_pattern.specs.Reason.{IsSmallest};
+ghost use Rattle.md_tables.specs.md_pattern.Reason.{IsSmallest};
 ghost use Rattle.md_forms.specs.Reasons as reasons;
 ghost use Rattle.md_forms.specs.Forms as spec;
 
 use crate::checks::form_of;
 use crate::form::{Entry, Forms};
-use md_draft::{DraftEntry, entry_of};
 use md_iter::Instance;
-use md_tables::{Tables, tables_of};
+use md_tables::{DraftEntry, Tables, entry_of, tables_of};
 use plain_data::{Items, Memory};
 use rtx_tree::Constants;
 use std::alloc::Global;

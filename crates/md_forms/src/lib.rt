@@ -17,7 +17,8 @@ mod shown;
 pub use checks::alternatives;
 pub use form::{Entry, Form, Forms, OperandConstraint};
 pub use forms::forms_of;
-pub use md_draft::{Attribute, FormHead, RegisterClass};
-pub use md_pattern::{Judged, Reason};
-pub use md_tables::{copied_names, defines_attribute, defines_constraint, defines_predicate};
+pub use md_tables::{
+    Attribute, FormHead, Judged, Reason, RegisterClass, copied_names, defines_attribute,
+    defines_constraint, defines_predicate,
+};
 pub use shown::names_of;

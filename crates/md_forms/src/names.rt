@@ -6,7 +6,7 @@ ghost use Rattle.std.specs.Ordering.{nat_cmp};
 ghost use Rattle.rtx_tree.specs.Tree.{head_of};
 ghost use Rattle.md_forms.specs.Names as spec;
 
-use c_cond::CondHead;
+use md_tables::CondHead;
 use plain_data::{Items, Memory};
 use rtx_tree::{Code, Rtx};
 use std::alloc::Global;

@@ -3,3 +3,5 @@ pub mod NameLaws
 pub mod DepthLaws
 pub mod TextKeys
 pub mod FirstNames
+pub use Rattle.md_draft.proofs as md_draft
+pub use Rattle.md_pattern.proofs as md_pattern

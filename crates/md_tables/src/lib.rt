@@ -15,8 +15,16 @@ mod predicates;
 mod tables;
 mod walk;
 
+pub use c_cond::{Cond, CondHead, Prep};
 pub use definitions::{Definitions, Named};
+pub use md_draft::{
+    Attribute, Defined, Draft, DraftEntry, FormHead, Made, Matched, Output, Printed, RegisterClass,
+    entry_of,
+};
+pub use md_pattern::{Judged, OperandText, Patterns, Reason};
+pub use md_text::{Alternative, Constraint, ConstraintNames, Member, Template, constraint_of};
 pub use names::predicates_named;
+pub use pred_expr::Test;
 pub use predicates::all_known;
 pub use tables::{
     AttributeDraft, ConstraintDraft, PredicateDraft, Tables, copied_names, defines_attribute,

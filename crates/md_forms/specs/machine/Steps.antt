@@ -4,10 +4,10 @@ use Rattle.std.specs.BTreeSet as set
 use Rattle.std.specs.BTreeSet.{BTreeSet}
 use Rattle.std.specs.List.{find}
 use Rattle.std.specs.Ordering.{nat_cmp}
-use Rattle.md_pattern.specs.declared.reason.Reason.{Reason}
-use Rattle.md_pattern.specs.declared.reason.Reason.TheVariants as reason
+use Rattle.md_tables.specs.md_pattern.declared.reason.Reason.{Reason}
+use Rattle.md_tables.specs.md_pattern.declared.reason.Reason.TheVariants as reason
 use Rattle.md_forms.specs.declared.form.OperandConstraint.{OperandConstraint}
-use Rattle.md_draft.specs.declared.draft.Draft.{Draft}
+use Rattle.md_tables.specs.md_draft.declared.draft.Draft.{Draft}
 use Rattle.md_tables.specs.declared.tables.Tables.{Tables}
 use Rattle.md_forms.specs.declared.checks.Numbers.{Numbers}
 use Rattle.md_forms.specs.Checks.{has, matched, all_operands, constraints_of, has_reason, reason_of, unless}

@@ -1,5 +1,5 @@
 use Rattle.std.proofs.Common.{◌≡◌, drop}
-use Rattle.md_text.specs.Lists.{each}
+use Rattle.md_tables.specs.md_text.Lists.{each}
 use Rattle.md_text.proofs.Each.{with_front}
 use Rattle.md_forms.specs.Checks as spec
 use Rattle.md_forms.proofs.checks.constraints_of.Given as goal

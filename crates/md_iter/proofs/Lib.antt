@@ -4,3 +4,7 @@ pub mod Counts
 pub mod Places
 pub mod Uses
 pub mod Making
+pub mod TextKeys
+pub mod FirstNames
+pub mod KindLaws
+pub mod Refused

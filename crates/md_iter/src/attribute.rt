@@ -7,6 +7,8 @@ ghost use Rattle.md_iter.specs.Choice.{chosen_of};
 
 use crate::choice::Choice;
 use crate::definition::{DefinitionKind, Definitions, Entry, IteratorAttribute};
+use crate::kinded::KindedItems;
+use crate::named::NamedItems;
 use crate::shape::cut;
 use plain_data::Memory;
 use rtx_tree::Name;
@@ -81,32 +83,25 @@ fn built_in<'a>(kind: DefinitionKind, name: &[u8], value: &'a [u8]) -> Option<Fi
     }
 }
 
-/// The first entry for a value.
-fn entry_for<'a>(entries: &'a [Entry], value: &[u8]) -> Option<&'a Name>
+/// The text of the first entry for a value.
+fn entry_for<'a>(entries: &'a NamedItems<Entry>, value: &[u8]) -> Option<&'a Name>
     ensures { option_copied result ≡ spec.entry_for value.now entries.entry.now }
 {
-    for entry in entries {
-        if same(entry.value.bytes(), value) {
-            return Some(&entry.text);
-        }
+    match entries.first(value) {
+        Some(entry) => Some(&entry.text),
+        None => None,
     }
-    None
 }
 
 /// The first attribute of a kind and a name.
 fn attribute_named<'a>(
-    attributes: &'a [IteratorAttribute],
+    attributes: &'a KindedItems<IteratorAttribute>,
     kind: DefinitionKind,
     name: &[u8],
 ) -> Option<&'a IteratorAttribute>
     ensures { option_copied result ≡ spec.attribute_named kind name.now attributes.entry.now }
 {
-    for attribute in attributes {
-        if attribute.kind.same(kind) && same(attribute.name.bytes(), name) {
-            return Some(attribute);
-        }
-    }
-    None
+    attributes.first(kind, name)
 }
 
 fn defined<'a>(
@@ -118,8 +113,8 @@ fn defined<'a>(
     ensures { option_map spec.filled_with result ≡
         spec.defined definitions.entry.now kind name.now value.now }
 {
-    let attribute = attribute_named(definitions.attributes.as_slice(), kind, name)?;
-    let text = entry_for(attribute.entries.as_slice(), value)?;
+    let attribute = attribute_named(&definitions.attributes, kind, name)?;
+    let text = entry_for(&attribute.entries, value)?;
     Some(Filling::Written(text.bytes()))
 }
 

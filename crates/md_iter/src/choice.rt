@@ -7,6 +7,7 @@ ghost use Rattle.md_iter.specs.Choice.{chosen_of, lent};
 ghost use Rattle.md_iter.specs.machine.Steps as steps;
 
 use crate::definition::{DefinitionKind, FormIterator, Value};
+use crate::kinded::KindedItems;
 use crate::shape::cut;
 use lisp_read::Tree;
 use plain_data::Memory;
@@ -28,18 +29,13 @@ fn is_iterator(iterator: &FormIterator, kind: DefinitionKind, name: &[u8]) -> bo
 
 /// The first iterator of a kind and a name.
 fn iterator_named<'a>(
-    iterators: &'a [FormIterator],
+    iterators: &'a KindedItems<FormIterator>,
     kind: DefinitionKind,
     name: &[u8],
 ) -> Option<&'a FormIterator>
     ensures { option_copied result ≡ spec.iterator_named kind name.now iterators.entry.now }
 {
-    for iterator in iterators {
-        if is_iterator(iterator, kind, name) {
-            return Some(iterator);
-        }
-    }
-    None
+    iterators.first(kind, name)
 }
 
 fn has(used: &[&FormIterator], kind: DefinitionKind, name: &[u8]) -> bool
@@ -71,7 +67,7 @@ fn add<'a>(
 
 /// Adds the iterators that an atom uses.
 fn add_of_atom<'a>(
-    iterators: &'a [FormIterator],
+    iterators: &'a KindedItems<FormIterator>,
     is_head: bool,
     text: &[u8],
     used: &mut Vec<&'a FormIterator>,
@@ -95,7 +91,7 @@ fn add_of_atom<'a>(
 #[tactic(auto, using(crate::proofs::Uses::uses_next))]
 #[cycle(uses)]
 fn add_of_trees<'a>(
-    iterators: &'a [FormIterator],
+    iterators: &'a KindedItems<FormIterator>,
     trees: &[Tree],
     head_first: bool,
     used: &mut Vec<&'a FormIterator>,
@@ -113,7 +109,7 @@ fn add_of_trees<'a>(
 
 #[cycle(uses)]
 fn add_of_tree<'a>(
-    iterators: &'a [FormIterator],
+    iterators: &'a KindedItems<FormIterator>,
     tree: &Tree,
     is_head: bool,
     used: &mut Vec<&'a FormIterator>,
@@ -132,7 +128,7 @@ fn add_of_tree<'a>(
 /// The iterators that a form uses, each once, in the order of their first uses.
 pub fn iterators_of<'a>(
     alloc: Global,
-    iterators: &'a [FormIterator],
+    iterators: &'a KindedItems<FormIterator>,
     form: &Tree,
 ) -> Result<Vec<&'a FormIterator>, Memory>
     ensures { IfOk result (λ used.

@@ -2,6 +2,8 @@
 ghost use Rattle.std.specs.Prelude.{◌≡◌, IfOk, option_map};
 ghost use Rattle.md_iter.specs.Definition as spec;
 
+use crate::kinded::{Kinded, KindedItems};
+use crate::named::{Named, NamedItems};
 use crate::number::number_in;
 use crate::shape::vector;
 use lisp_read::{Tree, atom, items, string};
@@ -50,6 +52,20 @@ pub struct FormIterator {
     pub values: Items<Value>,
 }
 
+impl Kinded for FormIterator {
+    ghost kind = { λ i. i.kind };
+
+    ghost name = { λ i. i.name };
+
+    fn kind(&self) -> DefinitionKind {
+        self.kind
+    }
+
+    fn name(&self) -> &[u8] {
+        self.name.bytes()
+    }
+}
+
 /// What an attribute is at one value.
 #[derive(Drop)]
 pub struct Entry {
@@ -57,20 +73,51 @@ pub struct Entry {
     pub text: Name,
 }
 
+// An entry is found by its value.
+impl Named for Entry {
+    ghost name = { λ e. e.value };
+
+    fn name(&self) -> &[u8] {
+        self.value.bytes()
+    }
+}
+
 /// An attribute of the iterators of a kind: a text for some of their values.
 #[derive(Drop)]
 pub struct IteratorAttribute {
     pub kind: DefinitionKind,
     pub name: Name,
-    pub entries: Items<Entry>,
+    pub entries: NamedItems<Entry>,
+}
+
+impl Kinded for IteratorAttribute {
+    ghost kind = { λ a. a.kind };
+
+    ghost name = { λ a. a.name };
+
+    fn kind(&self) -> DefinitionKind {
+        self.kind
+    }
+
+    fn name(&self) -> &[u8] {
+        self.name.bytes()
+    }
+}
+
+impl Named for Constant {
+    ghost name = { λ c. c.name };
+
+    fn name(&self) -> &[u8] {
+        self.name.bytes()
+    }
 }
 
 /// What a description defines for its forms, each list in the order of the text.
 #[derive(Drop)]
 pub struct Definitions {
-    pub iterators: Items<FormIterator>,
-    pub attributes: Items<IteratorAttribute>,
-    pub constants: Constants,
+    pub iterators: KindedItems<FormIterator>,
+    pub attributes: KindedItems<IteratorAttribute>,
+    pub constants: NamedItems<Constant>,
 }
 
 /// An atom and a string behind it.
@@ -256,7 +303,7 @@ pub fn attribute(alloc: Global, tree: &Tree) -> Result<Option<IteratorAttribute>
         Some(entries) => Ok(Some(IteratorAttribute {
             kind,
             name: name.copy(alloc)?,
-            entries,
+            entries: NamedItems::of(alloc, entries)?,
         })),
         None => Ok(None),
     }
@@ -292,7 +339,7 @@ pub fn is_form(alloc: Global, tree: &Tree) -> Result<bool, Memory>
 }
 
 #[tactic(auto, using(crate::proofs::Lists::filter_map_found, crate::proofs::Lists::filter_map_passed))]
-fn iterators_in(alloc: Global, trees: &[Tree]) -> Result<Items<FormIterator>, Memory>
+fn iterators_in(alloc: Global, trees: &[Tree]) -> Result<KindedItems<FormIterator>, Memory>
     ensures { IfOk result (λ iterators. iterators ≡ spec.iterators_in trees.now) }
 {
     let mut iterators = Items::new(alloc);
@@ -301,11 +348,11 @@ fn iterators_in(alloc: Global, trees: &[Tree]) -> Result<Items<FormIterator>, Me
             iterators.push(iterator)?;
         }
     }
-    Ok(iterators)
+    KindedItems::of(alloc, iterators)
 }
 
 #[tactic(auto, using(crate::proofs::Lists::filter_map_found, crate::proofs::Lists::filter_map_passed))]
-fn attributes_in(alloc: Global, trees: &[Tree]) -> Result<Items<IteratorAttribute>, Memory>
+fn attributes_in(alloc: Global, trees: &[Tree]) -> Result<KindedItems<IteratorAttribute>, Memory>
     ensures { IfOk result (λ attributes. attributes ≡ spec.attributes_in trees.now) }
 {
     let mut attributes = Items::new(alloc);
@@ -314,10 +361,10 @@ fn attributes_in(alloc: Global, trees: &[Tree]) -> Result<Items<IteratorAttribut
             attributes.push(attribute)?;
         }
     }
-    Ok(attributes)
+    KindedItems::of(alloc, attributes)
 }
 
-fn all_constants_in(alloc: Global, trees: &[Tree]) -> Result<Constants, Memory>
+fn all_constants_in(alloc: Global, trees: &[Tree]) -> Result<NamedItems<Constant>, Memory>
     ensures { IfOk result (λ constants. constants ≡ spec.all_constants_in trees.now) }
 {
     let mut all = Vec::new(alloc);
@@ -326,7 +373,7 @@ fn all_constants_in(alloc: Global, trees: &[Tree]) -> Result<Constants, Memory>
             all.append(&mut constants.into_vec())?;
         }
     }
-    Ok(Items::from_vec(all))
+    NamedItems::of(alloc, Items::from_vec(all))
 }
 
 /// What the trees of a description define.

@@ -57,7 +57,7 @@ fn expand_form(
     ensures limit { IfErr result (λ e.
         steps.IsTooMany e forms.old (spec.forms_of_form definitions.now form.now)) }
 {
-    let used = iterators_of(alloc, definitions.iterators.as_slice(), form)?;
+    let used = iterators_of(alloc, &definitions.iterators, form)?;
     let count = choice_count(used.as_slice());
     if count > MOST_FORMS - forms.len() {
         return Err(TreeRefusal::Limit);
@@ -133,5 +133,8 @@ pub fn expand_forms(alloc: Global, trees: &[Tree]) -> Result<Expanded, IterRefus
     let definitions = definitions_in(alloc, trees)?;
     let forms = expand_trees(alloc, &definitions, trees)?;
     let Definitions { constants, .. } = definitions;
-    Ok(Expanded { forms, constants })
+    Ok(Expanded {
+        forms,
+        constants: constants.into_items(),
+    })
 }

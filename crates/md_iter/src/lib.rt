@@ -6,6 +6,7 @@
 //! that it uses, the first of them varying slowest, with the conditions of these values
 //! (`specs/Expansion.antt`). It answers [`IterRefusal::Limit`] exactly where that makes more than
 //! 20,000 forms, with the tree that passes this number, and before it makes the forms of that tree.
+//! What is defined is found by its name at once, whatever the number of definitions.
 #![tactic(auto)]
 
 mod angles;
@@ -13,6 +14,9 @@ mod attribute;
 mod choice;
 mod definition;
 mod expand;
+mod firsts;
+mod kinded;
+mod named;
 mod number;
 mod refusal;
 mod shape;

@@ -9,6 +9,7 @@ ghost use Rattle.md_iter.specs.machine.Steps as steps;
 use crate::angles::filled;
 use crate::choice::Choice;
 use crate::definition::{DefinitionKind, Definitions};
+use crate::named::NamedItems;
 use crate::shape::cut;
 use lisp_read::{Tree, Trees};
 use plain_data::{Items, Memory};
@@ -121,16 +122,14 @@ fn with_values(
     Ok(out)
 }
 
-/// The first constant of a name.
-fn constant_named(constants: &[Constant], name: &[u8]) -> Option<i64>
+/// The number of the first constant of a name.
+fn constant_named(constants: &NamedItems<Constant>, name: &[u8]) -> Option<i64>
     ensures { result ≡ spec.constant_named name.now constants.now }
 {
-    for constant in constants {
-        if same(constant.name.bytes(), name) {
-            return Some(constant.number);
-        }
+    match constants.first(name) {
+        Some(constant) => Some(constant.number),
+        None => None,
     }
-    None
 }
 
 fn printed(alloc: Global, number: i64) -> Result<Name, Memory>
@@ -157,7 +156,7 @@ fn atom_text(
     if is_head {
         return Ok(Name::from_vec(text));
     }
-    match constant_named(definitions.constants.as_slice(), text.as_slice()) {
+    match constant_named(&definitions.constants, text.as_slice()) {
         Some(number) => printed(alloc, number),
         None => Ok(Name::from_vec(text)),
     }

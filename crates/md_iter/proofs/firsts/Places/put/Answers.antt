@@ -1,0 +1,12 @@
+use Rattle.std.proofs.Common.{◌≡◌, ap, ◌∙◌, rules, None}
+use Rattle.std.specs.Map.{lookup}
+use Rattle.std.specs.Str.{bytes_eq}
+use Rattle.md_iter.specs.machine.Firsts.{place_in}
+use Rattle.md_iter.proofs.TextKeys.{found_last}
+use Rattle.md_iter.proofs.firsts.Places.put.Goals as goal
+
+pub returns-in_ok-insert : goal.returns-in_ok-insert
+returns-in_ok-insert c = λ other.
+    let none : place_in c.args.self.now c.args.name.now ≡ None = search rules in
+    ap (λ es. lookup (λ text. bytes_eq other text.items) es) c.in_ok-insert.ensures.entries
+    ∙ found_last (λ text. text.items) c.in_ok-from_slice.field-0 c.args.place c.args.name.now other c.args.self.now.by_name.entries c.in_ok-from_slice.ensures.items none

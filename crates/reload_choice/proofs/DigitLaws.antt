@@ -14,7 +14,7 @@ use Rattle.rtx_tree.specs.declared.tree.Rtx.{Rtx}
 use Rattle.reload_operands.specs.declared.operand.Operand.{Operand}
 use Rattle.reload_moves.specs.declared.fitting.Digit.{Digit}
 use Rattle.reload_moves.specs.declared.fitting.Fitting.{Fitting}
-use Rattle.reload_fit.specs.Fitting.{Asks, number_in, place_of, is_same_at, digit_at, digit_of, digit_in, digits_among, digits_of, fitting_at, fittings_from, fittings_of}
+use Rattle.reload_fit.specs.Fitting.{Asks, number_in, place_of, is_lone, is_same_at, digit_at, digit_of, digit_in, digits_among, digits_by, digits_of, fitting_at, fittings_from, fittings_of}
 use Rattle.reload_moves.proofs.Bounds.{position_within}
 use Rattle.reload_choice.proofs.RoundLaws.{InOrder}
 use Rattle.reload_choice.proofs.HolderLaws.{EachDigit, IsWithin, AreWithin}
@@ -51,49 +51,59 @@ each_with P None ds first rest = rest
 each_with P (Some d) ds first rest = (first d refl, rest)
 
 module _ (operands : List Operand) where
-  -- a digit names an operand, and says truly whether it is the same
-  pub record IsTrueOf (x : Operand) (d : Digit) : Type 0 where
+  -- a digit names an operand, and says truly whether it is the same, by whether its own is the same
+  -- as none
+  pub record IsTrueOf (lone : Bool) (x : Operand) (d : Digit) : Type 0 where
     pub within : d.place < length operands
-    pub same : d.same ≡ is_same_at operands d.place x
+    pub same : d.same ≡ is_same_at lone operands d.place x
 
-  true_at : (x : Operand) (number k : ℕ) → place_of operands number ≡ Some k →
-      IsTrueOf x (digit_at operands x k)
-  true_at x number k at = record {
+  true_at : (lone : Bool) (x : Operand) (number k : ℕ) → place_of operands number ≡ Some k →
+      IsTrueOf lone x (digit_at lone operands x k)
+  true_at lone x number k at = record {
     within = omega (arith, position_within (λ y. y.number == number) operands 0 k at);
     same = refl;
   }
 
-  true_of : (x : Operand) (number : ℕ) (d : Digit) → digit_of operands x number ≡ Some d →
-      IsTrueOf x d
-  true_of x number d is = split (place_of operands number) refl is
+  true_of : (lone : Bool) (x : Operand) (number : ℕ) (d : Digit) →
+      digit_of lone operands x number ≡ Some d → IsTrueOf lone x d
+  true_of lone x number d is = split (place_of operands number) refl is
     where
       split : (o : Option ℕ) → place_of operands number ≡ o →
-          option_map (digit_at operands x) o ≡ Some d → IsTrueOf x d
+          option_map (digit_at lone operands x) o ≡ Some d → IsTrueOf lone x d
       split None none is = absurd (let never : ⊥ = cc in never)
-      split (Some k) at is = let same : digit_at operands x k ≡ d = cc in
-          subst (IsTrueOf x) same (true_at x number k at)
+      split (Some k) at is = let same : digit_at lone operands x k ≡ d = cc in
+          subst (IsTrueOf lone x) same (true_at lone x number k at)
 
-  true_in : (x : Operand) (m : Member) (d : Digit) → digit_in operands x m ≡ Some d → IsTrueOf x d
-  true_in x m d is = split (number_in m) is
+  true_in : (lone : Bool) (x : Operand) (m : Member) (d : Digit) →
+      digit_in lone operands x m ≡ Some d → IsTrueOf lone x d
+  true_in lone x m d is = split (number_in m) is
     where
-      split : (o : Option ℕ) → option_and_then (digit_of operands x) o ≡ Some d → IsTrueOf x d
+      split : (o : Option ℕ) → option_and_then (digit_of lone operands x) o ≡ Some d →
+          IsTrueOf lone x d
       split None is = absurd (let never : ⊥ = cc in never)
-      split (Some n) is = true_of x n d is
+      split (Some n) is = true_of lone x n d is
 
-  true_among : (x : Operand) (members : List Member) →
-      EachDigit (IsTrueOf x) (digits_among operands x members)
-  true_among x [] = tt
-  true_among x (m ∷ ms) = each_with (IsTrueOf x) (digit_in operands x m)
-      (digits_among operands x ms) (true_in x m) (true_among x ms)
+  true_among : (lone : Bool) (x : Operand) (members : List Member) →
+      EachDigit (IsTrueOf lone x) (digits_among lone operands x members)
+  true_among lone x [] = tt
+  true_among lone x (m ∷ ms) = each_with (IsTrueOf lone x) (digit_in lone operands x m)
+      (digits_among lone operands x ms) (true_in lone x m) (true_among lone x ms)
+
+  true_by : (asked : Option Alternative) (lone : Bool) (x : Operand) →
+      EachDigit (IsTrueOf lone x) (digits_by asked lone operands x)
+  true_by None lone x = tt
+  true_by (Some a) lone x = true_among lone x a.members
 
   digits_true : (asked : Option Alternative) (x : Operand) →
-      EachDigit (IsTrueOf x) (digits_of asked operands x)
-  digits_true None x = tt
-  digits_true (Some a) x = true_among x a.members
+      EachDigit (IsTrueOf (is_lone asked x) x) (digits_of asked operands x)
+  digits_true asked x = true_by asked (is_lone asked x) x
 
 -- ---- fittings
 
 module _ (asks : Asks) (operands : List Operand) where
+  abbrev lone_in : Operand → Bool
+  lone_in x = is_lone (asks.asked x.number) x
+
   fitting_of : (xs : List Operand) (k i : ℕ) (f : Fitting) →
       slice_get (fittings_from asks operands k xs) i ≡ Some f →
       (x : Operand) × (slice_get xs i ≡ Some x) × (f ≡ fitting_at asks operands (k + i) x)
@@ -128,18 +138,20 @@ module _ (asks : Asks) (operands : List Operand) where
 
   -- what the digits of a fitting say of its operand
   each_true : (i : ℕ) (f : Fitting) → slice_get (fittings_of asks operands) i ≡ Some f →
-      (x : Operand) → slice_get operands i ≡ Some x → EachDigit (IsTrueOf operands x) f.digits
+      (x : Operand) → slice_get operands i ≡ Some x →
+      EachDigit (IsTrueOf operands (lone_in x) x) f.digits
   each_true i f at x of =
       let found = fitting_here i f at in
       let same : found.0 ≡ x = let both : Some found.0 ≡ Some x = sym found.1 ∙ of in cc in
-      subst (λ (g : Fitting). EachDigit (IsTrueOf operands x) g.digits)
+      subst (λ (g : Fitting). EachDigit (IsTrueOf operands (lone_in x) x) g.digits)
       (sym (found.2 ∙ ap (fitting_at asks operands i) same))
       (digits_true operands (asks.asked x.number) x)
 
   pub are_within : AreWithin (fittings_of asks operands)
   are_within i f at =
       let found = fitting_here i f at in
-      each_weaker (IsTrueOf operands found.0) (IsWithin (length (fittings_of asks operands)))
+      each_weaker (IsTrueOf operands (lone_in found.0) found.0)
+      (IsWithin (length (fittings_of asks operands)))
       (λ d is. omega (arith, is.within, as_many)) f.digits (each_true i f at found.0 found.1)
 
   -- whether the operand at a place is the same as a tree
@@ -153,9 +165,10 @@ module _ (asks : Asks) (operands : List Operand) where
   alike_at tree x (Some y) same = same_alike x.tree y.tree tree same
 
   alike_by : (tree : Rtx) (i : ℕ) (x : Operand) → slice_get operands i ≡ Some x → (d : Digit) →
-      IsTrueOf operands x d → d.same ≡ true → is_alike tree d.place ≡ is_alike tree i
+      IsTrueOf operands (lone_in x) x d → d.same ≡ true →
+      is_alike tree d.place ≡ is_alike tree i
   alike_by tree i x of d is same =
-      let tests = and_parts (not x.is_scratch) (option_map_or (λ y. same_tree x.tree y.tree)
+      let tests = and_parts (not (lone_in x)) (option_map_or (λ y. same_tree x.tree y.tree)
       (slice_get operands d.place) false) (sym is.same ∙ same) in
       alike_at tree x (slice_get operands d.place) tests.1 ∙
       sym (ap (λ (o : Option Operand). option_map_or (λ y. same_tree y.tree tree) o false) of)
@@ -166,6 +179,6 @@ module _ (asks : Asks) (operands : List Operand) where
       EachDigit (λ d. d.same ≡ true → is_alike tree d.place ≡ is_alike tree i) f.digits
   are_alike tree i f at =
       let found = fitting_here i f at in
-      each_weaker (IsTrueOf operands found.0)
+      each_weaker (IsTrueOf operands (lone_in found.0) found.0)
       (λ d. d.same ≡ true → is_alike tree d.place ≡ is_alike tree i)
       (alike_by tree i found.0 found.1) f.digits (each_true i f at found.0 found.1)

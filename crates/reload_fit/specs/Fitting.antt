@@ -4,7 +4,9 @@ use Rattle.std.specs.Prelude.{ℕ, ℤ, ◌+◌, ◌==◌, Bool, true, false, no
 use Rattle.std.specs.List.{list_any, find, filter_map, position_from}
 use Rattle.std.specs.Option.{option_map, option_map_or}
 use Rattle.rtx_tree.specs.declared.code.Code.{Code}
-use Rattle.rtx_tree.specs.declared.code.Code.TheVariants.{Mem}
+use Rattle.rtx_tree.specs.declared.code.Code.TheVariants.{Mem, Plus}
+use Rattle.rtx_tree.specs.declared.code.Mode.{Mode}
+use Rattle.rtx_tree.specs.declared.code.Mode.TheVariants.{DI}
 use Rattle.rtx_tree.specs.declared.tree.Rtx.{Rtx, out-Rtx}
 use Rattle.rtx_tree.specs.Tree.{mentions_reg}
 use Rattle.c_eval.specs.Value.{same_tree}
@@ -99,10 +101,16 @@ abbrev pub is_memory_code : Code → Bool
 is_memory_code Mem = true
 is_memory_code _ = false
 
--- a memory, or an address operand: one with the predicate `address_operand`, or with the letter `p`
+abbrev pub is_memory : Rtx → Bool
+is_memory x = is_memory_code (out-Rtx x).code
+
+-- an address operand: one with the predicate `address_operand`, or with the letter `p`
+abbrev pub is_address_operand : Option Alternative → Operand → Bool
+is_address_operand asked x = x.is_address || has_address_letter asked
+
+-- a memory, or an address operand
 abbrev pub has_address : Option Alternative → Operand → Bool
-has_address asked x =
-    is_memory_code (out-Rtx x.tree).code || (x.is_address || has_address_letter asked)
+has_address asked x = is_memory x.tree || is_address_operand asked x
 
 -- a slot holds the base of its address, and it can be rewritten
 abbrev pub is_based : Option Alternative → Operand → Bool
@@ -112,6 +120,24 @@ is_based asked x = is_some x.base && (not x.is_operator && has_address asked x)
 -- constraint is asked
 abbrev pub shown : Option Alternative → Operand → Rtx
 shown asked x = if is_based asked x || is_far x.tree then on_register 28 x else x.tree
+
+abbrev pub is_address_mode : Mode → Bool
+is_address_mode DI = true
+is_address_mode _ = false
+
+abbrev pub adds_memory : Code → List Rtx → Bool
+adds_memory Plus parts = list_any is_memory parts
+adds_memory _ parts = false
+
+-- a sum with memory in it, in a mode narrower than that of addresses
+abbrev pub is_narrow_sum : Rtx → Bool
+is_narrow_sum x = not (is_address_mode (out-Rtx x).mode) && adds_memory (out-Rtx x).code (out-Rtx x).kids
+
+-- An address operand in which a slot stands that is no base of it: it lives in a slot itself, or it
+-- is a sum in another mode than DI. (What `address_operand` or `p` accepts has no memory in it
+-- before homes are put in.)
+abbrev pub is_baseless : Option Alternative → Operand → Bool
+is_baseless asked x = is_address_operand asked x && (x.in_slot || is_narrow_sum x.tree)
 
 abbrev pub is_admitted : Asks → Operand → Bool
 is_admitted asks x = asks.admits x.number (shown (asks.asked x.number) x)
@@ -126,28 +152,36 @@ number_in _ = None
 abbrev pub place_of : List Operand → ℕ → Option ℕ
 place_of operands number = position_from (λ y. y.number == number) 0 operands
 
--- the operand at a place is the same as another; a scratch is the same as none
-abbrev pub is_same_at : List Operand → ℕ → Operand → Bool
-is_same_at operands place x =
-    not (x.is_scratch) &&
-    option_map_or (λ y. same_tree x.tree y.tree) (slice_get operands place) false
+-- a scratch is the same as none, and so is an address operand with a slot that is no base of it
+abbrev pub is_lone : Option Alternative → Operand → Bool
+is_lone asked x = x.is_scratch || is_baseless asked x
 
-abbrev pub digit_at : List Operand → Operand → ℕ → Digit
-digit_at operands x place = record { place = place; same = is_same_at operands place x }
+-- the operand at a place is the same as another, by whether this is the same as none
+abbrev pub is_same_at : Bool → List Operand → ℕ → Operand → Bool
+is_same_at lone operands place x =
+    not lone && option_map_or (λ y. same_tree x.tree y.tree) (slice_get operands place) false
 
-abbrev pub digit_of : List Operand → Operand → ℕ → Option Digit
-digit_of operands x number = option_map (digit_at operands x) (place_of operands number)
+abbrev pub digit_at : Bool → List Operand → Operand → ℕ → Digit
+digit_at lone operands x place =
+    record { place = place; same = is_same_at lone operands place x }
 
-abbrev pub digit_in : List Operand → Operand → Member → Option Digit
-digit_in operands x m = option_and_then (digit_of operands x) (number_in m)
+abbrev pub digit_of : Bool → List Operand → Operand → ℕ → Option Digit
+digit_of lone operands x number =
+    option_map (digit_at lone operands x) (place_of operands number)
 
-abbrev pub digits_among : List Operand → Operand → List Member → List Digit
-digits_among operands x members = filter_map (digit_in operands x) members
+abbrev pub digit_in : Bool → List Operand → Operand → Member → Option Digit
+digit_in lone operands x m = option_and_then (digit_of lone operands x) (number_in m)
+
+abbrev pub digits_among : Bool → List Operand → Operand → List Member → List Digit
+digits_among lone operands x members = filter_map (digit_in lone operands x) members
+
+abbrev pub digits_by : Option Alternative → Bool → List Operand → Operand → List Digit
+digits_by None lone operands x = []
+digits_by (Some a) lone operands x = digits_among lone operands x a.members
 
 -- the operands that the digits of its constraint name, in their order
 abbrev pub digits_of : Option Alternative → List Operand → Operand → List Digit
-digits_of None operands x = []
-digits_of (Some a) operands x = digits_among operands x a.members
+digits_of asked operands x = digits_by asked (is_lone asked x) operands x
 
 -- ---- standings
 
@@ -171,14 +205,18 @@ admitted_as x = if is_far x then Far else Stays
 abbrev pub refused_as : Option Alternative → Standing
 refused_as asked = if has_digit asked then Tied else Moves
 
+-- An address operand in which a slot stands that is no base of it stays under no constraint.
+abbrev pub may_stay : Option Alternative → Operand → Bool → Bool
+may_stay asked x admitted = admitted && not (is_baseless asked x)
+
 -- An operator stays. An operand stays where its constraint admits it with a register in its
--- address, digits apart; a far memory is so admitted at a far base alone. One that nothing else
--- admits is tied where its constraint has a digit, and else it is moved.
+-- address, digits apart; a far memory is so admitted at a far base alone. One that can't stay so is
+-- tied where its constraint has a digit, and else it is moved.
 abbrev pub standing_by : Option Alternative → List Operand → Operand → Bool → Standing
 standing_by asked operands x admitted =
     if moves_at_once asked operands x admitted then Moves
     else if x.is_operator then Stays
-    else if admitted then admitted_as x.tree
+    else if may_stay asked x admitted then admitted_as x.tree
     else refused_as asked
 
 abbrev pub standing_of : Asks → List Operand → Operand → Standing

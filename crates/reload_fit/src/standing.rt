@@ -1,8 +1,8 @@
 //! How operands stand.
 ghost use Rattle.std.specs.Prelude.{◌≡◌, ◌==◌, ◌++◌, [], IfOk, OnOk};
-ghost use Rattle.std.specs.List.{position_from, cons_option};
+ghost use Rattle.std.specs.List.{list_any, position_from, cons_option};
 ghost use Rattle.std.specs.Option.{option_copied};
-ghost use Rattle.rtx_tree.specs.Tree.{head_of};
+ghost use Rattle.rtx_tree.specs.Tree.{head_of, kids_of};
 ghost use Rattle.reload_fit.specs.Addressed as addressed;
 ghost use Rattle.reload_fit.specs.Fitting as spec;
 
@@ -14,7 +14,7 @@ use md_text::{Alternative, Member};
 use plain_data::{Items, Memory};
 use reload_moves::{Digit, Fitting, Needs, Standing};
 use reload_operands::{Base, Operand};
-use rtx_tree::{Code, Rtx};
+use rtx_tree::{Code, Mode, Rtx};
 use std::alloc::Global;
 
 /// Whether a tree is memory, at any address.
@@ -24,10 +24,17 @@ pub fn is_memory(x: &Rtx) -> bool
     matches!(x.code, Code::Mem)
 }
 
+/// Whether an operand is an address, by its predicate or its constraint.
+fn is_address_operand(asked: Option<&Alternative>, x: &Operand) -> bool
+    ensures { result ≡ spec.is_address_operand (option_copied asked.entry) x.now }
+{
+    x.is_address || has_address_letter(asked)
+}
+
 fn has_address(asked: Option<&Alternative>, x: &Operand) -> bool
     ensures { result ≡ spec.has_address (option_copied asked.entry) x.now }
 {
-    is_memory(&x.tree) || x.is_address || has_address_letter(asked)
+    is_memory(&x.tree) || is_address_operand(asked, x)
 }
 
 /// Whether a slot holds the base of an operand's address.
@@ -48,6 +55,38 @@ fn shown(alloc: Global, asked: Option<&Alternative>, x: &Operand) -> Result<Rtx,
     }
 }
 
+fn one_is_memory(parts: &[Rtx]) -> bool
+    ensures { result ≡ list_any spec.is_memory parts.now }
+{
+    parts.iter().any(|part| is_memory(part))
+}
+
+fn adds_memory(x: &Rtx) -> bool
+    ensures { result ≡ spec.adds_memory (head_of x.now).code (kids_of x.now) }
+{
+    match x.code {
+        Code::Plus => one_is_memory(x.kids.as_slice()),
+        _ => false,
+    }
+}
+
+/// Whether a tree is a sum with memory in it, in a mode narrower than that of addresses.
+fn is_narrow_sum(x: &Rtx) -> bool
+    ensures { result ≡ spec.is_narrow_sum x.now }
+{
+    match x.mode {
+        Mode::DI => false,
+        Mode::Void | Mode::QI | Mode::HI | Mode::SI => adds_memory(x),
+    }
+}
+
+/// Whether a slot stands in an address operand that is no base of it.
+fn is_baseless(asked: Option<&Alternative>, x: &Operand) -> bool
+    ensures { result ≡ spec.is_baseless (option_copied asked.entry) x.now }
+{
+    is_address_operand(asked, x) && (x.in_slot || is_narrow_sum(&x.tree))
+}
+
 fn clashes(asked: Option<&Alternative>, operands: &[Operand], x: &Operand) -> bool
     ensures { result ≡ spec.clashes (option_copied asked.entry) operands.now x.now }
 {
@@ -64,6 +103,14 @@ fn is_lost(x: &Operand) -> bool
     ensures { result ≡ spec.is_lost x.now }
 {
     x.is_operator && (x.is_scratch || is_far(&x.tree))
+}
+
+/// Whether an operand that is moved for no other cause can stay, by whether its constraint admits
+/// it.
+fn may_stay(asked: Option<&Alternative>, x: &Operand, is_admitted: bool) -> bool
+    ensures { result ≡ spec.may_stay (option_copied asked.entry) x.now is_admitted }
+{
+    is_admitted && !is_baseless(asked, x)
 }
 
 /// How an operand stands, by whether its constraint admits it.
@@ -85,7 +132,7 @@ fn standing_by(
     if x.is_operator {
         return Standing::Stays;
     }
-    if is_admitted {
+    if may_stay(asked, x, is_admitted) {
         return if is_far(&x.tree) {
             Standing::Far
         } else {
@@ -127,68 +174,77 @@ fn place_of(operands: &[Operand], number: u32) -> Option<usize>
     operands.iter().position(|y| y.number == number)
 }
 
-fn is_same_at(operands: &[Operand], place: usize, x: &Operand) -> bool
-    ensures { result ≡ spec.is_same_at operands.now place x.now }
+/// Whether an operand is the same as no other.
+fn is_lone(asked: Option<&Alternative>, x: &Operand) -> bool
+    ensures { result ≡ spec.is_lone (option_copied asked.entry) x.now }
+{
+    x.is_scratch || is_baseless(asked, x)
+}
+
+fn is_same_at(is_lone: bool, operands: &[Operand], place: usize, x: &Operand) -> bool
+    ensures { result ≡ spec.is_same_at is_lone operands.now place x.now }
 {
     match operands.get(place) {
-        Some(y) => !x.is_scratch && same_tree(&x.tree, &y.tree),
+        Some(y) => !is_lone && same_tree(&x.tree, &y.tree),
         None => false,
     }
 }
 
-fn digit_at(operands: &[Operand], x: &Operand, place: usize) -> Digit
-    ensures { result ≡ spec.digit_at operands.now x.now place }
+fn digit_at(is_lone: bool, operands: &[Operand], x: &Operand, place: usize) -> Digit
+    ensures { result ≡ spec.digit_at is_lone operands.now x.now place }
 {
     Digit {
         place,
-        same: is_same_at(operands, place, x),
+        same: is_same_at(is_lone, operands, place, x),
     }
 }
 
-fn digit_of(operands: &[Operand], x: &Operand, number: u32) -> Option<Digit>
-    ensures { result ≡ spec.digit_of operands.now x.now number }
+fn digit_of(is_lone: bool, operands: &[Operand], x: &Operand, number: u32) -> Option<Digit>
+    ensures { result ≡ spec.digit_of is_lone operands.now x.now number }
 {
     match place_of(operands, number) {
-        Some(place) => Some(digit_at(operands, x, place)),
+        Some(place) => Some(digit_at(is_lone, operands, x, place)),
         None => None,
     }
 }
 
-fn digit_in(operands: &[Operand], x: &Operand, member: &Member) -> Option<Digit>
-    ensures { result ≡ spec.digit_in operands.now x.now member.now }
+fn digit_in(is_lone: bool, operands: &[Operand], x: &Operand, member: &Member) -> Option<Digit>
+    ensures { result ≡ spec.digit_in is_lone operands.now x.now member.now }
 {
     match number_in(member) {
-        Some(number) => digit_of(operands, x, u32::from(number)),
+        Some(number) => digit_of(is_lone, operands, x, u32::from(number)),
         None => None,
     }
 }
 
 fn push_digit(
+    is_lone: bool,
     operands: &[Operand],
     x: &Operand,
     member: &Member,
     digits: &mut Items<Digit>,
 ) -> Result<(), Memory>
     ensures { OnOk result (digits.new ≡ digits.old ++ cons_option
-        (spec.digit_in operands.now x.now member.now) []) }
+        (spec.digit_in is_lone operands.now x.now member.now) []) }
 {
-    match digit_in(operands, x, member) {
+    match digit_in(is_lone, operands, x, member) {
         Some(digit) => digits.push(digit),
         None => Ok(()),
     }
 }
 
 fn push_digits(
+    is_lone: bool,
     operands: &[Operand],
     x: &Operand,
     members: &[Member],
     digits: &mut Items<Digit>,
 ) -> Result<(), Memory>
-    ensures { OnOk result (digits.new ≡ digits.old ++ spec.digits_among operands.now x.now
+    ensures { OnOk result (digits.new ≡ digits.old ++ spec.digits_among is_lone operands.now x.now
         members.now) }
 {
     for member in members {
-        push_digit(operands, x, member, digits)?;
+        push_digit(is_lone, operands, x, member, digits)?;
     }
     Ok(())
 }
@@ -203,9 +259,10 @@ fn digits_of(
     ensures { IfOk result (λ digits.
         digits ≡ spec.digits_of (option_copied asked.entry) operands.now x.now) }
 {
+    let is_lone = is_lone(asked, x);
     let mut digits = Items::new(alloc);
     match asked {
-        Some(a) => push_digits(operands, x, a.members.as_slice(), &mut digits)?,
+        Some(a) => push_digits(is_lone, operands, x, a.members.as_slice(), &mut digits)?,
         None => (),
     }
     Ok(digits)

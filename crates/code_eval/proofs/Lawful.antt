@@ -13,9 +13,9 @@ use Rattle.func_mean.specs.Run as rtl
 use Rattle.func_mean.specs.declared.outcome.Outcome.TheVariants as outcomes
 use Rattle.rv_text.specs.declared.line.CodeItem.{CodeItem}
 use Rattle.rv_line.specs.Run as code
-use Rattle.same_behaviour.specs.Lawful.{IsWord, IsByte, IsMemory, IsRange, locals_range, IsLawful, AreAddresses, IsLawfulReply, IsLawfulWorld, seen_by_rtl}
+use Rattle.same_behaviour.specs.Lawful.{IsWord, IsByte, IsMemory, locals_range, IsLawful, AreAddresses, IsLawfulReply, IsLawfulWorld, seen_by_rtl}
 use Rattle.same_behaviour.specs.Same.{SameOutcome, SameFrom}
-use Rattle.code_eval.specs.Start.{stack_room, stack_top, caller_range, zeros, memory_with, locals_below, start_with, code_start, rtl_start}
+use Rattle.code_eval.specs.Start.{stack_room, caller_range, zeros, memory_with, start_with, code_start, rtl_start}
 use Rattle.code_eval.specs.World.{zero_reply, symbols_of, world_of}
 use Rattle.code_eval.specs.Eval.{lines_for, IsFair, AgreeAsSame}
 use Rattle.code_eval.proofs.Zeros.{memory_ordered}
@@ -61,16 +61,10 @@ ranges_are : (args : List ℕ) (locals room : ℕ) → (start_with args locals r
 ranges_are args zero room = refl
 ranges_are args (suc n) room = refl
 
-locals_within : (locals : ℕ) → locals ≤ stack_room → All IsRange (locals_below locals)
-locals_within zero holds = All-nil IsRange
-locals_within (suc n) holds =
-    All-cons IsRange (record { address = stack_top - suc n; length = suc n }) [] (omega (arith, holds)) (All-nil IsRange)
-
 lawful : (f : Function) (args : List ℕ) → ((i : ℕ) → i < 8 → IsWord (slice_index args i)) → f.locals ≤ stack_room → IsLawful stack_room f.locals (code_start f args)
 lawful f args words holds = record {
   words = record { args = words; saved = λ i less. no_word i; sp = omega arith; ra = omega arith };
   memory = memory_is;
-  within = All-cons IsRange caller_range (locals_below f.locals) (omega arith) (locals_within f.locals holds);
   aligned = refl;
   holds = holds;
   above_zero = omega arith;

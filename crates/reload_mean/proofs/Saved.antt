@@ -124,7 +124,6 @@ module _ (start : Start) (locals : ℕ) (layout : Layout) (lawful : IsLawful lay
       ra = lawful.words.ra;
     };
     memory = stored_all.is_memory;
-    within = lawful.within;
     aligned = lawful.aligned;
     holds = lawful.holds;
     above_zero = lawful.above_zero;

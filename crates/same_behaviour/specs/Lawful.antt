@@ -29,10 +29,6 @@ pub record IsMemory (memory : List MemByte) : Type 0 where
   pub ordered : IsOrdered memory
   pub bytes : All IsByte memory
 
--- a range does not pass the last address
-abbrev pub IsRange : RangeAt → Type 0
-IsRange range = range.address + range.length ≤ 2 ^ 64
-
 -- the registers of a start hold 64 bits
 pub record AreWords (start : Start) : Type 0 where
   pub args : (i : ℕ) → i < 8 → IsWord (slice_index start.args i)
@@ -57,7 +53,6 @@ locals_range start (suc n) = record { address = start.sp - suc n; length = suc n
 pub record IsLawful (frame locals : ℕ) (start : Start) : Type 0 where
   pub words : AreWords start
   pub memory : IsMemory start.memory
-  pub within : All IsRange start.visible
   pub aligned : start.sp % 16 ≡ 0
   pub holds : locals ≤ frame
   pub above_zero : frame ≤ start.sp

@@ -77,7 +77,6 @@ module _ (frame size locals : ℕ) (start : Start) (holds : locals ≤ size) (en
         ra = lawful.words.ra;
       };
       memory = memory_kept is_near start.memory lawful.memory;
-      within = lawful.within;
       aligned = lawful.aligned;
       holds = holds;
       above_zero = let above = lawful.above_zero in omega (arith, above, enough);

@@ -1,10 +1,10 @@
 -- What a call that compares instructions with what stands in their place gives.
 use Rattle.std.specs.Prelude.{◌≡◌, ◌+◌, Result, Ok, Err}
+use Rattle.term_tree.specs.Tree.{most_nodes}
 use Rattle.term_tree.specs.View.{tree_of}
 use Rattle.term_text.specs.declared.item.Item.TheVariants.{Need}
 use Rattle.sym_term.specs.declared.normal.TermRefusal.{TermRefusal}
 use Rattle.sym_term.specs.declared.normal.TermRefusal.TheVariants as refusal
-use Rattle.sym_state.specs.State.{most_nodes}
 use Rattle.sym_diff.specs.Difference.{Differ, Lacks}
 use Rattle.equate.specs.Verdict.{Same, Different, BadShape, TooLarge}
 use Rattle.equate.specs.Verdict as spec

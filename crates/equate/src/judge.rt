@@ -1,5 +1,6 @@
 //! The verdict on instructions and what stands in their place.
 ghost use Rattle.std.specs.Prelude.{◌≡◌, ◌+◌, ◌^◌, ◌<◌, length, Ok, option_map};
+ghost use Rattle.term_tree.specs.Tree.{most_nodes};
 ghost use Rattle.sym_state.specs.Answers.{Gives as GivesState};
 ghost use Rattle.sym_state.specs.State as states;
 ghost use Rattle.sym_state.specs.Views.{state_of};
@@ -73,7 +74,7 @@ fn after_large(
     size: u64,
 ) -> Result<Verdict, TermRefusal>
     requires short { sides.side_length (side_of after.now) < 2 ^ 32 }
-    requires size { size ≡ states.most_nodes + 1 }
+    requires size { size ≡ most_nodes + 1 }
     ensures { Gives result (spec.judged (sides.is_lines (side_of after.now)) live.now
         states.TooLarge (sides.run_side (side_of after.now))) }
 {

@@ -2,9 +2,9 @@
 use Rattle.std.specs.Prelude.{ℕ, ◌+◌, List, codes, Option, Some, None}
 use Rattle.rtx_tree.specs.declared.function.Insn.{Insn}
 use Rattle.rtx_tree.specs.declared.limit.Limit.TheVariants.{TermSize}
+use Rattle.term_tree.specs.Tree.{most_nodes}
 use Rattle.term_text.specs.Text.{text_of}
 use Rattle.term_text.specs.declared.item.Item.TheVariants.{Need, Shape}
-use Rattle.equate.specs.sym_state.State.{most_nodes}
 use Rattle.equate.specs.sym_diff.Difference.{Difference, Differ, Lacks}
 use Rattle.equate.specs.Verdict.{Verdict, Same, Different, BadShape, TooLarge}
 use Rattle.pass_refusal.specs.declared.refusal.PassRefusal.{PassRefusal}

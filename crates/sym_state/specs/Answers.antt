@@ -1,9 +1,10 @@
 -- What a call that runs a side of a comparison gives.
 use Rattle.std.specs.Prelude.{◌≡◌, ◌+◌, Result, Ok, Err}
+use Rattle.term_tree.specs.Tree.{most_nodes}
 use Rattle.sym_state.specs.declared.state.SymState.{SymState}
 use Rattle.sym_state.specs.declared.refusal.SymRefusal.{SymRefusal}
 use Rattle.sym_state.specs.declared.refusal.SymRefusal.TheVariants as refusal
-use Rattle.sym_state.specs.State.{Ran, Runs, BadShape, TooLarge, most_nodes}
+use Rattle.sym_state.specs.State.{Ran, Runs, BadShape, TooLarge}
 use Rattle.sym_state.specs.Views.{state_of}
 
 -- what is told is given; a refusal is the one that is told; want of memory is free

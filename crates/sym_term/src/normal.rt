@@ -1,6 +1,6 @@
 //! The normal form.
 ghost use Rattle.std.specs.Prelude.{ℕ, ◌≡◌, ◌+◌, ◌≤◌, ◌<◌, [], ◌∷◌, map, vec_len, IfOk};
-ghost use Rattle.term_tree.specs.Tree.{tree_size, trees_of, atoms_of, Node, tree, no_trees};
+ghost use Rattle.term_tree.specs.Tree.{tree_size, trees_of, atoms_of, Node, tree, no_trees, most_nodes};
 ghost use Rattle.term_tree.specs.View.{tree_of, atom_of};
 ghost use Rattle.term_cuts.specs.term_mean.Meaning.{Valuation, mean};
 ghost use Rattle.term_cuts.specs.term_mean.Stores.{Stored};
@@ -353,9 +353,9 @@ pub fn norm(alloc: Global, t: &Term, stores: &SymStores) -> Result<Term, TermRef
     ensures meaning { (v : Valuation) → Stored v (map store_of stores.now) →
         IfOk result (λ r. mean v (tree_of r) ≡ mean v (tree_of t.now)) }
     ensures fits { IfOk result (λ r.
-        tree_size (spec.normal (map store_of stores.now) (tree_of t.now)) ≤ LIMIT) }
-    ensures size { (n : ℕ) → result ≡ Err (TermRefusal.Size n) → (n ≡ LIMIT + 1) ×
-        (LIMIT < tree_size (spec.normal (map store_of stores.now) (tree_of t.now))) }
+        tree_size (spec.normal (map store_of stores.now) (tree_of t.now)) ≤ most_nodes) }
+    ensures size { (n : ℕ) → result ≡ Err (TermRefusal.Size n) → (n ≡ most_nodes + 1) ×
+        (most_nodes < tree_size (spec.normal (map store_of stores.now) (tree_of t.now))) }
 {
     let normal = normal(alloc, t, stores)?;
     let nodes = size(&normal);

@@ -68,3 +68,7 @@ abbrev mutual
   pub trees_size : Trees → ℕ
   trees_size no_trees = 0
   trees_size (tree t ts) = tree_size t + trees_size ts
+
+-- the most nodes that a term of a comparison may have
+abbrev pub most_nodes : ℕ
+most_nodes = 1048576

@@ -14,3 +14,7 @@ asked_again ds zero name x m d none some is = absurd (some refl)
 asked_again ds (suc rounds) name x m d none some is =
     let same : suc rounds - 1 ≡ rounds = omega arith in
     rw none (rw is (rw same refl))
+
+pub asked_once_more : (ds : Definitions) (rounds : ℕ) (name : List ℕ) (x : Rtx) (m : Mode) (d : Option Definition) → own_named name ≡ None → d ≡ definition_in ds name
+    → within (kept ds) (suc rounds) name x m ≡ kept_holds (within (kept ds) rounds) x m ds.rows d
+asked_once_more ds rounds name x m d none is = rw none (rw is refl)

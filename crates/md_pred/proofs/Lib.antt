@@ -7,3 +7,4 @@ pub mod Agreeing
 pub mod Firsts
 pub mod Asked
 pub mod Told
+pub mod Knowing

@@ -1,3 +1,4 @@
 -- What the contracts of private functions cite, and those of tables that a room hands to the next.
 pub mod Table
 pub mod Steps
+pub mod Known

@@ -25,7 +25,7 @@ fn is_of_mode(mode: Mode, x: &Rtx) -> bool
 }
 
 /// Whether a definition's head lets a tree through in a mode.
-fn mode_fits(head: FormHead, mode: Mode, x: &Rtx) -> bool
+pub fn mode_fits(head: FormHead, mode: Mode, x: &Rtx) -> bool
     ensures { result ≡ spec.mode_fits head mode x.now }
 {
     match head {
@@ -89,9 +89,15 @@ impl PredTable {
         }
     }
 
-    /// How deep calls are nested where a question is answered.
+    /// How many questions are asked at most where the one at a place is answered by itself.
     fn weight(&self, place: usize) -> u32 {
         self.weights.as_slice().get(place).copied().unwrap_or(0)
+    }
+
+    /// Whether more questions than there are may be asked for the one at a place, some of them
+    /// again and again.
+    pub(crate) fn is_dear(&self, place: usize) -> bool {
+        self.weight(place) as usize > self.order.len()
     }
 
     /// Whether the first of three parts has most behind it.

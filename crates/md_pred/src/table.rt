@@ -1,13 +1,15 @@
 //! The table of the predicates of a description.
 ghost use Rattle.std.specs.Prelude.{◌≡◌, IfOk};
 
+use crate::answers::Answers;
 use crate::definitions::Definitions;
-use crate::weight::weights_of;
+use crate::weight::{Weighed, weigh_all};
 use c_eval::Preds;
 use md_forms::Forms;
 use plain_data::{Items, Memory};
 use rtx_tree::{Mode, Name, Rtx};
 use std::alloc::Global;
+use std::cell::RefCell;
 
 /// The predicates of a description: those that its forms define, and those that every description
 /// has.
@@ -15,10 +17,21 @@ use std::alloc::Global;
 pub struct PredTable {
     /// The definitions.
     pub(crate) definitions: Definitions,
-    /// How deep calls are nested where the question at a place is answered.
+    /// How many questions are asked at most where the one at a place is answered by itself.
     pub(crate) weights: Items<u32>,
+    /// The places of all questions, each behind those that its question is made of.
+    pub(crate) order: Items<usize>,
+    /// Room for what is known of each place while a question is answered.
+    pub(crate) known: RefCell<Vec<Option<Answers>>>,
     /// How often definitions may ask for one another, one behind the other.
     pub(crate) rounds: usize,
+}
+
+/// Room for what is known of each place.
+fn room_for(alloc: Global, places: &[u32]) -> Result<Vec<Option<Answers>>, Memory> {
+    let mut room = Vec::new(alloc);
+    room.resize(places.len(), None)?;
+    Ok(room)
 }
 
 impl PredTable {
@@ -37,11 +50,15 @@ impl PredTable {
             IsTold forms.now (holds forms.now) }
     {
         let definitions = Definitions::of(alloc, forms.as_slice())?;
-        let weights = weights_of(alloc, &definitions)?;
+        let rounds = forms.len() + 1;
+        let Weighed { weights, order } = weigh_all(alloc, &definitions)?;
+        let known = room_for(alloc, weights.as_slice())?;
         Ok(PredTable {
             definitions,
             weights,
-            rounds: forms.len() + 1,
+            order,
+            known: RefCell::new(known),
+            rounds,
         })
     }
 }
@@ -52,6 +69,10 @@ impl Preds for PredTable {
     ghost accepts = { λ table. accepted_by table };
 
     fn holds(&self, name: &Name, x: &Rtx, mode: Mode) -> bool {
-        self.answer(self.asked(name, x, mode, self.rounds), x)
+        let step = self.asked(name, x, mode, self.rounds);
+        match self.in_order(step, x) {
+            Some(answer) => answer,
+            None => self.answer(step, x),
+        }
     }
 }

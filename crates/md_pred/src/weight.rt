@@ -1,4 +1,5 @@
-//! How deep calls are nested where questions are answered.
+//! How many questions are asked for each, and an order in which each stands behind those that it is
+//! made of.
 
 use crate::definitions::Definitions;
 use plain_data::{Items, Memory};
@@ -10,36 +11,24 @@ fn at(weights: &[u32], place: usize) -> u32 {
     weights.get(place).copied().unwrap_or(0)
 }
 
-/// Of a question whose part with most behind it has this weight, and of whose other parts the one
-/// with most has that weight.
-fn joined(most: u32, second: u32) -> u32 {
-    most.max(second.saturating_add(1))
-}
-
-/// The weight of a question of two parts.
-fn of_two(a: u32, b: u32) -> u32 {
-    joined(a.max(b), a.min(b))
-}
-
-/// The weight of a question of three parts.
-fn of_three(a: u32, b: u32, c: u32) -> u32 {
-    let most = a.max(b);
-    joined(most.max(c), a.min(b).max(most.min(c)))
-}
-
-/// The weight of a node, by those of the nodes that it asks and of the root of the predicate that
-/// it names.
+/// How many questions are asked at most for a node: itself, those for the nodes that it asks, and
+/// those for the root of the predicate that it names; or the greatest number where there are more.
 fn weight_of(node: &Node, target: Option<usize>, weights: &[u32]) -> u32 {
-    match node {
+    let behind = match node {
         Node::Codes(_) | Node::Condition(_) => 0,
         Node::Predicate { .. } => match target {
             Some(root) => at(weights, root),
             None => 0,
         },
         Node::Not(a) => at(weights, *a),
-        Node::And(a, b) | Node::Ior(a, b) => of_two(at(weights, *a), at(weights, *b)),
-        Node::IfThenElse(a, b, c) => { of_three(at(weights, *a), at(weights, *b), at(weights, *c)) }
-    }
+        Node::And(a, b) | Node::Ior(a, b) => at(weights, *a).saturating_add(at(weights, *b)),
+        Node::IfThenElse(a, b, c) => {
+            at(weights, *a)
+                .saturating_add(at(weights, *b))
+                .saturating_add(at(weights, *c))
+        }
+    };
+    behind.saturating_add(1)
 }
 
 /// The root of the predicate that a node names.
@@ -74,6 +63,8 @@ enum Stage {
 #[derive(Drop)]
 struct Weighing {
     weights: Vec<u32>,
+    /// The places whose weights are known, in the order in which they came to be.
+    order: Vec<usize>,
     stages: Vec<Stage>,
     stack: Vec<usize>,
 }
@@ -113,6 +104,7 @@ impl Weighing {
         let stack = places_below(alloc, count)?;
         Ok(Weighing {
             weights,
+            order: Vec::new(alloc),
             stages,
             stack,
         })
@@ -161,6 +153,7 @@ impl Weighing {
                 let weight = weight_of(node, target, self.weights.as_slice());
                 put_weight(self.weights.as_mut_slice(), place, weight);
                 put_stage(self.stages.as_mut_slice(), place, Stage::Done);
+                self.order.push(place)?;
                 Ok(())
             }
             Stage::Done => Ok(()),
@@ -179,10 +172,19 @@ impl Weighing {
     }
 }
 
-/// The weights of all nodes. Each node stands on the stack once from the beginning, once behind
-/// those that it is made of, and once for each question that asks for it, of which a node has three
-/// at most.
-pub fn weights_of(alloc: Global, definitions: &Definitions) -> Result<Items<u32>, Memory> {
+/// What is known of the nodes of definitions by the others that they ask.
+#[derive(Drop)]
+pub struct Weighed {
+    /// How many questions are asked at most for the node at a place.
+    pub weights: Items<u32>,
+    /// The places of all nodes, each behind those that its node asks.
+    pub order: Items<usize>,
+}
+
+/// The weights of all nodes, and their order. Each node stands on the stack once from the
+/// beginning, once behind those that it is made of, and once for each question that asks for it, of
+/// which a node has three at most.
+pub fn weigh_all(alloc: Global, definitions: &Definitions) -> Result<Weighed, Memory> {
     let nodes = definitions.rows.nodes();
     let targets = targets_of(alloc, definitions)?;
     let mut weighing = Weighing::new(alloc, nodes.len())?;
@@ -191,5 +193,8 @@ pub fn weights_of(alloc: Global, definitions: &Definitions) -> Result<Items<u32>
             break;
         }
     }
-    Ok(Items::from_vec(weighing.weights))
+    Ok(Weighed {
+        weights: Items::from_vec(weighing.weights),
+        order: Items::from_vec(weighing.order),
+    })
 }

@@ -127,31 +127,34 @@ fn more_choices_than_numbers(rt: HostRuntime) {
     assert!(rt; is_told(rt.alloc(), "expansions", &text, "limit at 70"));
 }
 
+/// A text with a number in each place of a `#`.
+fn push_numbered(link: &str, number: u32, text: &mut Told) {
+    let mut is_first = true;
+    for piece in link.split('#') {
+        if !is_first {
+            text.show(number);
+        }
+        text.text(piece);
+        is_first = false;
+    }
+}
+
 /// A definition of a predicate that names the one numbered before.
-fn push_link(place: u32, before: &str, after: &str, text: &mut Told) {
+fn push_link(place: u32, link: &str, text: &mut Told) {
     text.text("(define_special_predicate \"p");
     text.show(place);
     text.text("\" ");
-    text.text(before);
-    text.text("(match_operand 0 \"p");
-    text.show(place.saturating_sub(1));
-    text.text("\")");
-    text.text(after);
+    push_numbered(link, place.saturating_sub(1), text);
     text.text(")");
 }
 
-/// So many predicates that each name the one numbered before. They are defined in that order, or
-/// backwards.
-fn chain(alloc: Global, count: u32, backwards: bool, before: &str, after: &str) -> Told {
+/// So many predicates that each name the one numbered before, `p#`. They are defined in that order,
+/// or backwards.
+fn chain(alloc: Global, count: u32, backwards: bool, link: &str) -> Told {
     let mut text = Told::new(alloc);
     text.text("(define_predicate \"p0\" (match_code \"reg\"))");
     for at in 1..count {
-        push_link(
-            if backwards { count - at } else { at },
-            before,
-            after,
-            &mut text,
-        );
+        push_link(if backwards { count - at } else { at }, link, &mut text);
     }
     text
 }
@@ -165,62 +168,83 @@ fn is_accepted(alloc: Global, text: &Told, name: &[u8], want: &str) -> bool {
 }
 
 /// Whether the last of 200 predicates in a chain accepts this.
-fn accepts(alloc: Global, backwards: bool, before: &str, after: &str, want: &str) -> bool {
-    let text = chain(alloc, 200, backwards, before, after);
+fn accepts(alloc: Global, backwards: bool, link: &str, want: &str) -> bool {
+    let text = chain(alloc, 200, backwards, link);
     is_accepted(alloc, &text, b"p199", want)
 }
 
 /// Whether the last of 200 accepts this, in a chain in its order and in one backwards.
-fn accepts_both_ways(alloc: Global, before: &str, after: &str, want: &str) -> bool {
-    accepts(alloc, false, before, after, want) && accepts(alloc, true, before, after, want)
+fn accepts_both_ways(alloc: Global, link: &str, want: &str) -> bool {
+    accepts(alloc, false, link, want) && accepts(alloc, true, link, want)
 }
 
-/// What stands before and behind the name of the next predicate, and what the last predicate
-/// accepts then: p0 accepts registers of the mode, and each of the others what comes of the one
-/// before it.
-const CHAINS: [(&str, &str, &str); 6] = [
-    ("", "", "/rs//s/r"),
-    ("(not ", ")", "/5hnmy/rs5hnmy/r5hnmy/s5hnmy"),
-    ("(and ", " (match_code \"reg\"))", "/rs//s/r"),
-    ("(ior (match_code \"mem\") ", ")", "/rsm/m/sm/rm"),
+/// What asks the predicate before, and what the last predicate accepts then: p0 accepts registers
+/// of the mode, and each of the others what comes of the one before it.
+const CHAINS: [(&str, &str); 8] = [
+    ("(match_operand 0 \"p#\")", "/rs//s/r"),
     (
-        "(if_then_else ",
-        " (match_code \"reg\") (match_code \"mem\"))",
+        "(not (match_operand 0 \"p#\"))",
+        "/5hnmy/rs5hnmy/r5hnmy/s5hnmy",
+    ),
+    (
+        "(and (match_operand 0 \"p#\") (match_code \"reg\"))",
+        "/rs//s/r",
+    ),
+    (
+        "(ior (match_code \"mem\") (match_operand 0 \"p#\"))",
         "/rsm/m/sm/rm",
     ),
     (
-        "(if_then_else (match_code \"mem\") (match_test \"0\") ",
-        ")",
+        "(if_then_else (match_operand 0 \"p#\") (match_code \"reg\") (match_code \"mem\"))",
+        "/rsm/m/sm/rm",
+    ),
+    (
+        "(if_then_else (match_code \"mem\") (match_test \"0\") (match_operand 0 \"p#\"))",
         "/rs//s/r",
+    ),
+    (
+        "(and (match_operand 0 \"p#\") (match_operand 0 \"p#\"))",
+        "/rs//s/r",
+    ),
+    (
+        "(ior (match_operand 0 \"p#\") (match_operand:SI 0 \"p#\"))",
+        "/rs/s/s/rs",
     ),
 ];
 
 #[test]
 fn chains_of_predicates(rt: HostRuntime) {
-    for (before, after, want) in CHAINS {
-        assert!(rt; accepts_both_ways(rt.alloc(), before, after, want));
+    for (link, want) in CHAINS {
+        assert!(rt; accepts_both_ways(rt.alloc(), link, want));
     }
 }
 
 /// Whether the last of 4,000 predicates in a chain accepts this.
-fn accepts_far(alloc: Global, backwards: bool, before: &str, after: &str, want: &str) -> bool {
-    let text = chain(alloc, 4_000, backwards, before, after);
+fn accepts_far(alloc: Global, backwards: bool, link: &str, want: &str) -> bool {
+    let text = chain(alloc, 4_000, backwards, link);
     is_accepted(alloc, &text, b"p3999", want)
 }
 
 /// Each predicate is looked at once, and not once for each that leads to it.
 #[test]
 fn long_chains_of_predicates(rt: HostRuntime) {
-    assert!(rt; accepts_far(rt.alloc(), false, "", "", "/rs//s/r"));
+    assert!(rt; accepts_far(rt.alloc(), false, "(match_operand 0 \"p#\")", "/rs//s/r"));
     assert!(rt;
         accepts_far(
             rt.alloc(),
             true,
-            "(not ",
-            ")",
+            "(not (match_operand 0 \"p#\"))",
             "/5hnmy/rs5hnmy/r5hnmy/s5hnmy"
         )
     );
+}
+
+/// Nor is it asked once for each that leads to it.
+#[test]
+fn predicates_that_are_asked_twice(rt: HostRuntime) {
+    let link = "(and (match_operand 0 \"p#\") (match_operand 0 \"p#\"))";
+    assert!(rt; accepts_far(rt.alloc(), false, link, "/rs//s/r"));
+    assert!(rt; accepts_far(rt.alloc(), true, link, "/rs//s/r"));
 }
 
 /// How many constraints there are.

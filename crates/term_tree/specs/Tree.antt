@@ -69,6 +69,6 @@ abbrev mutual
   trees_size no_trees = 0
   trees_size (tree t ts) = tree_size t + trees_size ts
 
--- the most nodes that a term of a comparison may have
+-- the most nodes that a term of a comparison may have, each counted as often as it stands there
 abbrev pub most_nodes : ℕ
 most_nodes = 1048576

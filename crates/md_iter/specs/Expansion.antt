@@ -5,8 +5,6 @@ use Rattle.lisp_read.specs.declared.tree.Tree.{Tree}
 use Rattle.md_iter.specs.declared.definition.Definitions.{Definitions}
 use Rattle.md_iter.specs.declared.substitution.Instance.{Instance}
 use Rattle.md_iter.specs.declared.expand.Expanded.{Expanded}
-use Rattle.md_iter.specs.declared.expand.TreeRefusal.{TreeRefusal}
-use Rattle.md_iter.specs.declared.expand.TreeRefusal.TheVariants as tree_refusal
 use Rattle.md_iter.specs.declared.refusal.IterRefusal.{IterRefusal}
 use Rattle.md_iter.specs.declared.refusal.IterRefusal.TheVariants as refusal
 use Rattle.md_iter.specs.Definition.{is_form, definitions_in, all_constants_in}

@@ -14,7 +14,6 @@ use Rattle.rv_text.specs.declared.action.Comparison.TheVariants.{Equal, NotEqual
 use Rattle.rv_text.specs.declared.action.Extension.TheVariants.{Sign, Zero}
 use Rattle.rv_text.specs.declared.mnemonic.Mnemonic.{Mnemonic}
 use Rattle.rv_text.specs.declared.mnemonic.Mnemonic.TheVariants as mnemonic
-use Rattle.rv_text.specs.declared.mnemonic.TheConstants.{MNEMONICS}
 use Rattle.rv_text.specs.declared.operand.Operand.{Operand}
 use Rattle.rv_text.specs.declared.operand.Operand.TheVariants.{Rd, Rs, Rt, Number, Place, Target, Ra}
 
@@ -191,9 +190,28 @@ row_of mnemonic.Ret = row (codes "ret") [] (Return ReturnAddress)
 -- RV32I "NOP Instruction": a sum into register zero
 row_of mnemonic.Nop = row (codes "nop") [] (Compute Add W64 (Constant (pos 0)) (Constant (pos 0)))
 
+-- every mnemonic, once
+abbrev pub all_mnemonics : List Mnemonic
+all_mnemonics =
+    mnemonic.Add ∷ mnemonic.Sub ∷ mnemonic.And ∷ mnemonic.Or ∷ mnemonic.Xor ∷ mnemonic.Sll ∷
+    mnemonic.Srl ∷ mnemonic.Sra ∷ mnemonic.Slt ∷ mnemonic.Sltu ∷ mnemonic.Addw ∷ mnemonic.Subw ∷
+    mnemonic.Sllw ∷ mnemonic.Srlw ∷ mnemonic.Sraw ∷ mnemonic.Mul ∷ mnemonic.Mulh ∷ mnemonic.Mulhsu ∷
+    mnemonic.Mulhu ∷ mnemonic.Div ∷ mnemonic.Divu ∷ mnemonic.Rem ∷ mnemonic.Remu ∷ mnemonic.Mulw ∷
+    mnemonic.Divw ∷ mnemonic.Divuw ∷ mnemonic.Remw ∷ mnemonic.Remuw ∷ mnemonic.Addi ∷
+    mnemonic.Andi ∷ mnemonic.Ori ∷ mnemonic.Xori ∷ mnemonic.Slti ∷ mnemonic.Sltiu ∷ mnemonic.Addiw ∷
+    mnemonic.Slli ∷ mnemonic.Srli ∷ mnemonic.Srai ∷ mnemonic.Slliw ∷ mnemonic.Srliw ∷
+    mnemonic.Sraiw ∷ mnemonic.Lui ∷ mnemonic.Lb ∷ mnemonic.Lbu ∷ mnemonic.Lh ∷ mnemonic.Lhu ∷
+    mnemonic.Lw ∷ mnemonic.Lwu ∷ mnemonic.Ld ∷ mnemonic.Sb ∷ mnemonic.Sh ∷ mnemonic.Sw ∷
+    mnemonic.Sd ∷ mnemonic.Beq ∷ mnemonic.Bne ∷ mnemonic.Blt ∷ mnemonic.Bge ∷ mnemonic.Bltu ∷
+    mnemonic.Bgeu ∷ mnemonic.Bgt ∷ mnemonic.Ble ∷ mnemonic.Bgtu ∷ mnemonic.Bleu ∷ mnemonic.Beqz ∷
+    mnemonic.Bnez ∷ mnemonic.Blez ∷ mnemonic.Bgez ∷ mnemonic.Bltz ∷ mnemonic.Bgtz ∷ mnemonic.Li ∷
+    mnemonic.La ∷ mnemonic.Mv ∷ mnemonic.Not ∷ mnemonic.Neg ∷ mnemonic.Negw ∷ mnemonic.SextW ∷
+    mnemonic.Seqz ∷ mnemonic.Snez ∷ mnemonic.Sltz ∷ mnemonic.Sgtz ∷ mnemonic.J ∷ mnemonic.Call ∷
+    mnemonic.Jalr ∷ mnemonic.Jr ∷ mnemonic.Ret ∷ mnemonic.Nop ∷ []
+
 -- all rows
 unfoldable pub table : List Row
-table = map row_of MNEMONICS
+table = map row_of all_mnemonics
 
 -- the first of some rows that has a name
 abbrev pub find_row : List ℕ → List Row → Option Row

@@ -1,6 +1,6 @@
 -- Which texts are lines: blanks, a mnemonic, blanks, and operands with commas, round which blanks
 -- may stand.
-use Rattle.std.specs.Prelude.{◌≡◌, ◌≢◌, ℕ, Bool, true, ◌||◌, nat_eq, List, [], ◌∷◌, ◌++◌, Option, Some, None}
+use Rattle.std.specs.Prelude.{◌≡◌, ◌≢◌, ℕ, true, List, [], ◌∷◌, ◌++◌, Option, Some, None}
 use Rattle.std.specs.List.{list_all}
 use Rattle.text_words.specs.Blanks.{is_space}
 use Rattle.rv_text.specs.Table.{Row, row_named}

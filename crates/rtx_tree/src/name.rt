@@ -67,10 +67,14 @@ impl Name {
         self.bytes() == other.bytes()
     }
 
-    /// A copy of the name.
+    /// A copy of the name. Nearly all names of trees are empty: such a copy makes no call.
     pub fn copy(&self, alloc: Global) -> Result<Name, Memory>
         ensures { IfOk result (λ name. name ≡ self.now) }
     {
-        Name::of(alloc, self.bytes())
+        if self.text.is_empty() {
+            Ok(Name::empty(alloc))
+        } else {
+            Name::of(alloc, self.bytes())
+        }
     }
 }

@@ -1,6 +1,7 @@
 -- What a function comes to with a frame is one answer.
 use Rattle.std.proofs.Common.{◌≡◌, ℕ, ◌<◌, ◌≤◌, true, List, [], ◌∷◌, ◌++◌, Ok, Err, refl, sym, ap, subst, ◌∙◌, arith}
 use Rattle.std.proofs.lemmas.List.Elements.{All-head, All-tail}
+use Rattle.rtx_tree.specs.Limit.{most_frame}
 use Rattle.rtx_tree.specs.declared.function.Function.{Function}
 use Rattle.rtx_tree.specs.declared.function.Insn.{Insn}
 use Rattle.rtl_chain.proofs.Ends.{finish_one}
@@ -10,7 +11,7 @@ use Rattle.form_needs.specs.Needs.{output_facts}
 use Rattle.assign.specs.declared.places.Layout.{Layout}
 use Rattle.frame_mean.specs.Frame.{framed_insns, with_insns, next_uid, IsFramed}
 use Rattle.pass_refusal.specs.Refused.{unmatched_insn}
-use Rattle.frame.specs.Framed.{Answer, most_frame, is_new, IsMatchedIfNew, AreMatched, IsFirstUnmatched, FrameComes}
+use Rattle.frame.specs.Framed.{Answer, is_new, IsMatchedIfNew, AreMatched, IsFirstUnmatched, FrameComes}
 
 framed_one : (layout : Layout) (f g h : Function) → IsFramed layout f g → IsFramed layout f h → g ≡ h
 framed_one layout f g h a b =

@@ -5,6 +5,7 @@ use Rattle.std.proofs.lemmas.Bool.Decides.{nat_tests}
 use Rattle.std.proofs.lemmas.List.{take-append-drop, take_more, take_all}
 use Rattle.std.proofs.lemmas.List.Elements.{All-nil, All-cons, All-append}
 use Rattle.std.proofs.Math.Seq.{drop-cons}
+use Rattle.rtx_tree.specs.Limit.{most_frame}
 use Rattle.rtx_tree.specs.declared.function.Function.{Function}
 use Rattle.rtx_tree.specs.declared.function.Insn.{Insn}
 use Rattle.md_forms.specs.declared.form.Entry.{Entry}
@@ -13,7 +14,7 @@ use Rattle.frame_mean.specs.Frame.{framed_insns, with_insns, next_uid, IsFramed}
 use Rattle.pass_refusal.specs.Outcome.{RefusesWith}
 use Rattle.pass_refusal.specs.declared.refusal.PassRefusal.{PassRefusal}
 use Rattle.pass_refusal.proofs.Refusing.{refuses_map}
-use Rattle.frame.specs.Framed.{is_new, most_frame, IsMatchedIfNew, AreMatched, FrameComes}
+use Rattle.frame.specs.Framed.{is_new, IsMatchedIfNew, AreMatched, FrameComes}
 use Rattle.frame.specs.Framed.{too_large}
 use Rattle.frame.specs.machine.Steps.{Finishes, Tried, RefusesInsn, RefusesFirst}
 use Rattle.frame.specs.machine.Steps.{TriesAll}

@@ -5,6 +5,7 @@ use Rattle.std.specs.Prelude.{◌≡◌, ℕ, ◌<◌, ◌≤◌, nat_le, Bool, 
 use Rattle.std.specs.List.{All}
 use Rattle.rtx_tree.specs.declared.function.Function.{Function}
 use Rattle.rtx_tree.specs.declared.function.Insn.{Insn}
+use Rattle.rtx_tree.specs.Limit.{most_frame}
 use Rattle.rtx_tree.specs.declared.limit.Limit.TheVariants.{Frame}
 use Rattle.md_match.specs.Pattern.{Ops}
 use Rattle.md_forms.specs.declared.form.Entry.{Entry}
@@ -21,10 +22,6 @@ abbrev pub Answer : Type 0
 Answer = Result Function PassRefusal
 
 -- ---- the size
-
--- the greatest multiple of 16 below 2 ^ 20
-abbrev pub most_frame : ℕ
-most_frame = 1048560
 
 -- the refusal of a frame that is larger
 abbrev pub too_large : Layout → PassRefusal

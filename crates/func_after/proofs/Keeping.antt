@@ -3,6 +3,7 @@ use Rattle.std.proofs.Common.{◌≡◌, ℕ, zero, suc, ◌≤◌, true, List, 
 use Rattle.std.specs.Prelude.{slice_get}
 use Rattle.std.specs.List.{AllByRecursion, list_all}
 use Rattle.std.proofs.lemmas.Bool.{and_from, and_parts}
+use Rattle.rtx_tree.specs.Limit.{most_frame}
 use Rattle.rtx_tree.specs.declared.function.Function.{Function}
 use Rattle.rtx_tree.specs.declared.function.Insn.{Insn}
 use Rattle.rv_text.specs.declared.line.CodeItem.{CodeItem}
@@ -25,7 +26,7 @@ use Rattle.split.specs.declared.stage.SplitStage.TheVariants.{AfterReload}
 use Rattle.split.proofs.Sound.{split_kept, split_does}
 use Rattle.reload.specs.frame_mean.Keeps.{IsLaidOut, KeepsInFrame}
 use Rattle.reload.proofs.frame_mean.Laid.{laid_out}
-use Rattle.frame.specs.Framed.{most_frame, FrameComes}
+use Rattle.frame.specs.Framed.{FrameComes}
 use Rattle.frame.proofs.Kept.{is_framed, frame_keeps}
 use Rattle.reload.proofs.WindowLaws.{reload_windows}
 use Rattle.reload.specs.Windows.{HasWindows}

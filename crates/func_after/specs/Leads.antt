@@ -1,6 +1,7 @@
 -- What the passes make of a function leads to lines with its behaviour: GCC Internals, "Passes
 -- and Files of the Compiler".
 use Rattle.std.specs.Prelude.{◌≡◌, ◌≤◌, List}
+use Rattle.rtx_tree.specs.Limit.{most_frame}
 use Rattle.rtx_tree.specs.declared.constants.Constant.{Constant}
 use Rattle.rtx_tree.specs.declared.function.Function.{Function}
 use Rattle.rv_text.specs.declared.line.CodeItem.{CodeItem}
@@ -10,7 +11,6 @@ use Rattle.md_forms.specs.Forms.{forms_of}
 use Rattle.same_behaviour.specs.Same.{Same}
 use Rattle.window_same.specs.Left.{SameWhereLeft}
 use Rattle.lines_ready.specs.out_same.Ready.{AreWritable}
-use Rattle.frame.specs.Framed.{most_frame}
 use Rattle.func_after.specs.declared.made.Made.{Made}
 
 -- the forms are those of a description

@@ -1,4 +1,4 @@
--- The limits: their names, as messages write them, and how many bytes a text may have.
+-- The limits: their names, as messages write them, and how many bytes a text and a frame may have.
 use Rattle.std.specs.Prelude.{ℕ, List, codes}
 use Rattle.rtx_tree.specs.declared.limit.Limit.{Limit}
 use Rattle.rtx_tree.specs.declared.limit.Limit.TheVariants.{Text, Depth, Include, Forms, Instructions, Pseudos, SplitDepth, TermSize, Frame, Output}
@@ -19,3 +19,7 @@ limit_name Output = codes "Output"
 -- how many bytes an input may have, and the texts of a description together: 16 MiB
 abbrev pub most_bytes : ℕ
 most_bytes = 16777216
+
+-- how many bytes a frame may have: the greatest multiple of 16 below 2 ^ 20
+abbrev pub most_frame : ℕ
+most_frame = 1048560

@@ -34,13 +34,10 @@ use Rattle.asm_same.proofs.func_text.CodeLaws.{one_code, code_coded}
 use Rattle.code_eval.specs.Start.{stack_room}
 use Rattle.code_eval.specs.Eval.{eval_text, IsFair, ComesToSame}
 use Rattle.code_eval.proofs.Lawful.{agree}
-use Rattle.rtlc_run.specs.Answer.{evaluated, EvalComes, RecogComes, DumpComes, ByForms}
+use Rattle.rtlc_run.specs.Answer.{Given, evaluated, EvalComes, RecogComes, DumpComes, ByForms}
 use Rattle.rtlc_run.specs.Written.{WritesLines, WritesSame, WritesSameFramed, WritesOutcomes, WritesForms, WritesDump}
 
 -- ---- one answer
-
-abbrev Given : Type 0
-Given = Result (List Entry) Refusal
 
 same_ok : (a b : List Entry) → ◌≡◌ {A = Given} (Ok a) (Ok b) → a ≡ b
 same_ok a b e = cc

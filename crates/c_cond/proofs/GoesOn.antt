@@ -31,7 +31,7 @@ use Rattle.c_words.specs.declared.keyword.Keyword.TheVariants as keyword
 use Rattle.c_words.proofs.Codes.{none_that}
 use Rattle.c_words.proofs.Listed.{Known, both, known_code, known_constant, known_keyword, known_mode, known_target, or_first, or_second, same_bytes}
 use Rattle.c_words.specs.Words.{call_name, keyword_name, all_keywords, keyword_named, mode_named, small, is_small, code_in_capitals, is_target, constant_named}
-use Rattle.c_words.specs.Atoms.{atom_of, atom_of_name, predicate_or_nothing, target_number}
+use Rattle.c_words.specs.Atoms.{atom_of, atom_of_name, is_own_predicate, predicate_or_nothing, target_number}
 use Rattle.c_words.specs.text_words.Numbers.{c_number_in}
 use Rattle.c_words.specs.Tokens.{in_word, is_no_word, operator_with_equals, operator_of_two, token_of_byte, number_or_bad, token_of_run}
 use Rattle.c_cond.specs.machine.Steps.{by_atom, operand_by, takes_expression, takes, passed}
@@ -241,7 +241,11 @@ plain_taken : (cs : List Constant) (p : ℕ) (word : List ℕ) → Plain word �
 plain_taken cs p word w = by_target (is_target word) refl
   where
     by_constant : (o : Option ℤ) → constant_named cs word ≡ o → is_target word ≡ false → is_some (takes_expression dialect.Condition cs p (token.Word word) []) ≡ true
-    by_constant (Some n) e f = leaf_taken dialect.Condition cs p word (head.Number n) (plain_atom dialect.Condition cs word w ∙ rw (f, e) refl)
+    by_constant (Some n) e f = by_own (is_own_predicate dialect.Condition word) refl
+      where
+        by_own : (own : Bool) → is_own_predicate dialect.Condition word ≡ own → is_some (takes_expression dialect.Condition cs p (token.Word word) []) ≡ true
+        by_own true o = predicate_taken dialect.Condition cs p word (plain_atom dialect.Condition cs word w ∙ rw (f, e, o) refl)
+        by_own false o = leaf_taken dialect.Condition cs p word (head.Number n) (plain_atom dialect.Condition cs word w ∙ rw (f, e, o) refl)
     by_constant None e f =
         let is : atom_of_name dialect.Condition word (constant_named cs word) ≡ atom.Predicate = rw e (plain_name dialect.Condition word w) in
         predicate_taken dialect.Condition cs p word (plain_atom dialect.Condition cs word w ∙ rw f is)

@@ -31,7 +31,7 @@ use Rattle.c_words.specs.declared.atom.Atom.{Atom}
 use Rattle.c_words.specs.declared.atom.Atom.TheVariants as atom
 use Rattle.c_words.specs.declared.atom.Property.TheVariants as property
 use Rattle.c_words.specs.Words.{code_in_capitals, constant_named, is_target}
-use Rattle.c_words.specs.Atoms.{is_question, atom_of, atom_by, atom_of_keyword, atom_of_name, predicate_or_nothing, target_number}
+use Rattle.c_words.specs.Atoms.{is_question, atom_of, atom_by, atom_of_keyword, atom_of_name, or_constant, is_own_predicate, predicate_or_nothing, target_number}
 use Rattle.c_cond.specs.Grammar as grammar
 use Rattle.c_cond.specs.Grammar.{Sort, One, Parts, Statement, Statements, Condition, signature_of, predicate_parts, comparison_with}
 
@@ -162,7 +162,11 @@ keyword_size dialect.Test keyword.Ival = refl
 keyword_size d _ = refl
 
 name_size : (d : Dialect) (word : List ℕ) (n : Option ℤ) → atom_size (atom_of_name d word n) ≡ 0
-name_size d word (Some n) = refl
+name_size d word (Some n) = own_size (is_own_predicate d word)
+  where
+    own_size : (own : Bool) → atom_size (cond own atom.Predicate (atom.Leaf (head.Number n))) ≡ 0
+    own_size true = refl
+    own_size false = refl
 name_size d word None = nothing_size d (code_in_capitals word) (mode_named word)
   where
     nothing_size : (d : Dialect) (c : Option Code) (m : Option Mode) → atom_size (predicate_or_nothing d c m) ≡ 0
@@ -170,7 +174,15 @@ name_size d word None = nothing_size d (code_in_capitals word) (mode_named word)
     nothing_size _ _ _ = refl
 
 any_size : (d : Dialect) (cs : List Constant) (word : List ℕ) (k : Option Keyword) → atom_size (atom_by d cs word k) ≡ 0
-any_size d cs word (Some k) = keyword_size d k
+any_size d cs word (Some k) = by_meaning (constant_named cs word) (atom_of_keyword d k) (keyword_size d k)
+  where
+    by_meaning : (n : Option ℤ) (a : Atom) → atom_size a ≡ 0 → atom_size (or_constant n a) ≡ 0
+    by_meaning None a e = e
+    by_meaning (Some n) atom.Nothing e = refl
+    by_meaning (Some n) (atom.Leaf h) e = e
+    by_meaning (Some n) (atom.Call c) e = e
+    by_meaning (Some n) (atom.Compare property) e = e
+    by_meaning (Some n) atom.Predicate e = e
 any_size d cs word None = by_test (is_target word)
   where
     by_test : (t : Bool) → atom_size (cond t (atom.Leaf (head.Number (target_number word))) (atom_of_name d word (constant_named cs word))) ≡ 0

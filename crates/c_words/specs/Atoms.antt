@@ -1,10 +1,11 @@
 -- What a word means where an expression of C may begin: a fact, a number, a call, or the name of a
 -- predicate (GCC Internals, "Machine-Independent Predicates" and "Defining Machine-Specific
 -- Predicates").
-use Rattle.std.specs.Prelude.{ℕ, ℤ, pos, List, Bool, true, false, Option, Some, None, if◌then◌else◌}
+use Rattle.std.specs.Prelude.{ℕ, ℤ, pos, List, Bool, true, false, Option, Some, None, is_some, if◌then◌else◌}
 use Rattle.rtx_tree.specs.declared.code.Code.{Code}
 use Rattle.rtx_tree.specs.declared.code.Mode.{Mode}
 use Rattle.rtx_tree.specs.declared.constants.Constant.{Constant}
+use Rattle.md_operand.specs.Operand.{own_named}
 use Rattle.c_words.specs.declared.head.Call.{Call}
 use Rattle.c_words.specs.declared.head.Call.TheVariants as call
 use Rattle.c_words.specs.declared.head.CondHead.TheVariants as head
@@ -48,16 +49,29 @@ abbrev pub predicate_or_nothing : Dialect → Option Code → Option Mode → At
 predicate_or_nothing dialect.Condition None None = atom.Predicate
 predicate_or_nothing _ _ _ = atom.Nothing
 
+-- a predicate that is there without a definition, where predicates may be called
+abbrev pub is_own_predicate : Dialect → List ℕ → Bool
+is_own_predicate dialect.Condition word = is_some (own_named word)
+is_own_predicate dialect.Test word = false
+
 abbrev pub atom_of_name : Dialect → List ℕ → Option ℤ → Atom
-atom_of_name d word (Some number) = atom.Leaf (head.Number number)
+atom_of_name d word (Some number) =
+    if is_own_predicate d word then atom.Predicate else atom.Leaf (head.Number number)
 atom_of_name d word None = predicate_or_nothing d (code_in_capitals word) (mode_named word)
 
+-- a word that means nothing else is the name of a constant, where there is one
+abbrev pub or_constant : Option ℤ → Atom → Atom
+or_constant (Some number) atom.Nothing = atom.Leaf (head.Number number)
+or_constant _ meaning = meaning
+
 abbrev pub atom_by : Dialect → List Constant → List ℕ → Option Keyword → Atom
-atom_by d constants word (Some k) = atom_of_keyword d k
+atom_by d constants word (Some k) =
+    or_constant (constant_named constants word) (atom_of_keyword d k)
 atom_by d constants word None =
     if is_target word then atom.Leaf (head.Number (target_number word)) else atom_of_name d word (constant_named constants word)
 
--- A word that has a meaning of its own has no other; then come facts of the target, constants, and
+-- A word that has a meaning of its own where an expression may begin has no other; then come facts
+-- of the target, the predicates that are there without a definition, constants, and other
 -- predicates.
 abbrev pub atom_of : Dialect → List Constant → List ℕ → Atom
 atom_of d constants word = atom_by d constants word (keyword_named word)

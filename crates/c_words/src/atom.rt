@@ -6,6 +6,7 @@ ghost use Rattle.c_words.specs.Atoms as spec;
 use crate::head::{Call, CondHead};
 use crate::keyword::Keyword;
 use crate::word::{code_in_capitals, constant_named, is_target, mode_named, target_holds};
+use md_operand::Own;
 use plain_data::Memory;
 use rtx_tree::{Code, Constant, Mode};
 use std::alloc::Global;
@@ -92,6 +93,16 @@ fn predicate_or_nothing(dialect: Dialect, code: Option<Code>, mode: Option<Mode>
     }
 }
 
+/// Whether a word is a predicate that is there without a definition, where predicates may be called.
+fn is_own_predicate(dialect: Dialect, word: &[u8]) -> bool
+    ensures { result ≡ spec.is_own_predicate dialect word.now }
+{
+    match dialect {
+        Dialect::Condition => Own::named(word).is_some(),
+        Dialect::Test => false,
+    }
+}
+
 fn atom_of_name(
     alloc: Global,
     dialect: Dialect,
@@ -102,11 +113,23 @@ fn atom_of_name(
         atom ≡ spec.atom_of_name dialect word.now (words.constant_named constants.now word.now)) }
 {
     match constant_named(constants, word) {
+        Some(_) if is_own_predicate(dialect, word) => Ok(Atom::Predicate),
         Some(number) => Ok(Atom::Leaf(CondHead::Number(number))),
         None => {
             let code = code_in_capitals(alloc, word)?;
             Ok(predicate_or_nothing(dialect, code, mode_named(word)))
         }
+    }
+}
+
+/// What a word with a meaning of its own means: where that is nothing, the word is the name of a
+/// constant, where there is one.
+fn or_constant(number: Option<i64>, meaning: Atom) -> Atom
+    ensures { result ≡ spec.or_constant number meaning }
+{
+    match (number, meaning) {
+        (Some(number), Atom::Nothing) => Atom::Leaf(CondHead::Number(number)),
+        (_, meaning) => meaning,
     }
 }
 
@@ -120,7 +143,10 @@ pub fn atom_of(
     ensures { IfOk result (λ atom. atom ≡ spec.atom_of dialect constants.now word.now) }
 {
     match Keyword::named(word) {
-        Some(keyword) => Ok(atom_of_keyword(dialect, keyword)),
+        Some(keyword) => Ok(or_constant(
+            constant_named(constants, word),
+            atom_of_keyword(dialect, keyword),
+        )),
         None if is_target(word) => Ok(Atom::Leaf(CondHead::Number(target_number(word)))),
         None => atom_of_name(alloc, dialect, constants, word),
     }

@@ -57,9 +57,9 @@ abbrev pub flagged_code_in : List ℕ → Option Code
 flagged_code_in text =
     let parts = cut 47 text in option_and_then (flagged parts.1) (code_in parts.0)
 
--- the code, and the mode, that the text of a head writes
+-- the code, and the mode, that the text of a head writes in a description, which has no flags
 abbrev pub code_of_head : List ℕ → Option Code
-code_of_head text = flagged_code_in (cut 58 text).0
+code_of_head text = code_in (cut 58 text).0
 
 abbrev pub mode_of_head : List ℕ → Option Mode
 mode_of_head text = mode_in (cut 58 text).1
@@ -67,6 +67,6 @@ mode_of_head text = mode_in (cut 58 text).1
 abbrev pub head_with : Option Mode → Code → Option Opening
 head_with m c = option_map (λ mode. record { code = c; mode = mode }) m
 
--- a code, its flags and its mode
+-- a code, its flags and its mode, as functions have them
 abbrev pub head_in : List ℕ → Option Opening
 head_in text = let parts = cut 58 text in option_and_then (head_with (mode_in parts.1)) (flagged_code_in parts.0)

@@ -106,17 +106,17 @@ fn flagged_code_in(text: &[u8]) -> Option<Code>
     }
 }
 
-/// The code and the mode that the atom at the head of an expression writes, each where there is
-/// such a one. Without a colon the mode is `Void`.
+/// The code and the mode that the atom at the head of an expression of a description writes, each
+/// where there is such a one. Without a colon the mode is `Void`; a head with flags has no code.
 pub fn head_words(text: &[u8]) -> (Option<Code>, Option<Mode>)
     ensures code { result.0 ≡ spec.code_of_head text.now }
     ensures mode { result.1 ≡ spec.mode_of_head text.now }
 {
     let (front, name) = cut(text, b':');
-    (flagged_code_in(front), mode_in(name))
+    (Code::written(front), mode_in(name))
 }
 
-/// The head that an atom writes.
+/// The head that an atom of a function writes, with flags or without.
 pub fn head_in(text: &[u8]) -> Option<Opening>
     ensures { result ≡ spec.head_in text.now }
 {

@@ -19,13 +19,18 @@ use Rattle.lisp_read.specs.Shape.{atom_of, string_of, items_of}
 use Rattle.md_iter.specs.Shape.{vector_of}
 use Rattle.text_words.specs.Numbers.{c_number_in}
 
+-- the number behind a minus; `-0` is none
+abbrev pub negated_in : List ℕ → Option ℤ
+negated_in text =
+    if bytes_eq text (codes "0") then None
+    else option_map (λ n. int_wrapping_neg w64 (cast_signed w64 n)) (c_number_in text)
+
 -- the number that a constant is defined as: one of C, with a minus in front or none, in 64 bits
 -- that are read as signed
 abbrev pub number_in : List ℕ → Option ℤ
 number_in [] = None
 number_in (b ∷ bs) =
-    if b == 45 then option_map (λ n. int_wrapping_neg w64 (cast_signed w64 n)) (c_number_in bs)
-    else option_map (cast_signed w64) (c_number_in (b ∷ bs))
+    if b == 45 then negated_in bs else option_map (cast_signed w64) (c_number_in (b ∷ bs))
 
 abbrev pub same_kind : DefinitionKind → DefinitionKind → Bool
 same_kind Mode Mode = true

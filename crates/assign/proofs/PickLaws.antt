@@ -139,3 +139,9 @@ first_unblocked rows order held blocked p small are =
 -- a list that is written back whole
 pub whole : {X : Type 0} (n : ℕ) (xs ys : List X) → n ≡ length xs → take n (xs ++ ys) ≡ xs
 whole n xs ys e = take-append-le n xs ys (omega arith) ∙ take_all n xs (omega arith)
+
+-- a row without words blocks nothing
+pub none_blocked : (o a r : Bool) → r ≡ false → o ≡ (o || (a && r))
+none_blocked true a r e = refl
+none_blocked false true r e = sym e
+none_blocked false false r e = refl

@@ -3,8 +3,8 @@ ghost use Rattle.std.specs.Prelude.{◌≡◌, ℕ, ◌*◌, ◌<◌, ◌≤◌,
 ghost use Rattle.rtx_tree.specs.Registers as registers;
 ghost use Rattle.rv_regs.specs.Registers as tables;
 ghost use Rattle.reg_rows.specs.Row.{has};
-ghost use Rattle.reg_rows.specs.Table.{IsTable};
 ghost use Rattle.reg_conflicts.specs.live.Live.{AreLiveRows, HaveRoom};
+ghost use Rattle.reg_conflicts.specs.machine.Sparse.{AreSparse};
 ghost use Rattle.assign.specs.declared.home.HomeOf.{HomeOf};
 ghost use Rattle.assign.specs.Homes.{AreHomes};
 ghost use Rattle.assign.specs.machine.Named.{stands_in};
@@ -45,7 +45,7 @@ fn pick_in_order(
     width: usize,
     pseudos: &[u32],
 ) -> Result<Homes, Memory>
-    requires table { IsTable width rows.now }
+    requires sparse { AreSparse width rows.now }
     requires pseudos { All (λ k. registers.pseudo k < 2 ^ 32) pseudos.now }
     ensures pseudos { IfOk result (λ homes. map (λ x. x.pseudo) homes ≡ pseudos.now) }
     ensures picked { IfOk result (λ homes.

@@ -2,7 +2,8 @@
 ghost use Rattle.std.specs.Prelude.{◌≡◌, ℕ, ◌<◌, ◌^◌, ◌==◌, ◌||◌, ◌&&◌, not, nat_lt, length, vec_len, map, [], All, IfOk};
 ghost use Rattle.std.specs.List.{find};
 ghost use Rattle.rtx_tree.specs.Registers as registers;
-ghost use Rattle.reg_rows.specs.Table.{has_at, IsTable};
+ghost use Rattle.reg_rows.specs.Table.{has_at};
+ghost use Rattle.reg_conflicts.specs.machine.Sparse.{AreSparse};
 ghost use Rattle.assign.specs.machine.Picked.{beside, is_hard, home_from, AreAlike, AreBlocked, IsPicked};
 
 use crate::home::{Home, HomeOf, Homes};
@@ -19,17 +20,21 @@ fn block(rows: &[RegRow], reg: u32, hard: usize, blocked: &mut [RegRow])
         (has_at blocked.old x y || ((nat_lt x (length blocked.old) && hard == x) && has_at rows.now
         reg y)) }
 {
-    if let Some(row) = rows.get(reg as usize)
-        && hard < blocked.len()
-    {
+    let Some(row) = rows.get(reg as usize) else {
+        return;
+    };
+    if row.width() == 0 {
+        return;
+    }
+    if hard < blocked.len() {
         let _ = join_row(blocked, hard, row);
     }
 }
 
 /// For each hard register the registers that can't have it since they conflict with it. The rows
-/// are of so many words.
+/// are of so many words, or of none.
 fn blocked_by_own(alloc: Global, rows: &[RegRow], width: usize) -> Result<Vec<RegRow>, Memory>
-    requires { IsTable width rows.now }
+    requires { AreSparse width rows.now }
     ensures long { IfOk result (λ blocked. vec_len blocked ≡ 64) }
     ensures alike { IfOk result (λ blocked. AreAlike rows.now blocked.items) }
     ensures blocked { IfOk result (λ blocked. AreBlocked rows.now [] blocked.items) }
@@ -70,7 +75,7 @@ fn block_home(rows: &[RegRow], reg: u32, home: Home, blocked: &mut [RegRow])
 
 /// Gives each pseudo, in their order, the first register of the order that is free beside the
 /// earlier ones, else a slot. The rows, each with the registers that its own conflicts with, are of
-/// so many words.
+/// so many words, or of none.
 pub fn pick(
     alloc: Global,
     rows: &[RegRow],
@@ -78,7 +83,7 @@ pub fn pick(
     order: &[u8],
     pseudos: &[u32],
 ) -> Result<Homes, Memory>
-    requires table { IsTable width rows.now }
+    requires sparse { AreSparse width rows.now }
     requires order { All (λ hard. hard < 64) order.now }
     requires pseudos { All (λ k. registers.pseudo k < 2 ^ 32) pseudos.now }
     ensures pseudos { IfOk result (λ homes. map (λ x. x.pseudo) homes ≡ pseudos.now) }

@@ -1,5 +1,6 @@
-pub mod FlagLaws
+pub mod BackLaws
 pub mod PathLaws
 pub mod SetLaws
 pub mod TableLaws
+pub mod WaitLaws
 pub mod WidthLaws

@@ -3,13 +3,16 @@ ghost use Rattle.std.specs.Prelude.{◌≡◌, ℕ, ◌-◌, ◌*◌, ◌^◌, �
 ghost use Rattle.reg_rows.specs.Table.{has_at, IsTable};
 ghost use Rattle.live_rows.specs.Paths.{Fits, HaveRoom, IsLiveRows};
 ghost use Rattle.live_rows.specs.machine.Rows.{uses_at, HasUses, IsSound};
-ghost use Rattle.live_rows.specs.machine.Flags.{flag, IsPending};
+ghost use Rattle.live_rows.specs.machine.Waiting.{IsBack, AreLeft};
 
+use crate::back::leading_to;
 use crate::node::Node;
-use crate::rounds::round;
-use plain_data::Memory;
+use crate::round::round;
+use crate::waiting::all_places;
+use plain_data::{Items, Memory};
 use reg_rows::{RegRow, width_of};
 use std::alloc::Global;
+use std::mem;
 
 /// For each place the registers that it uses.
 fn rows_of_uses(alloc: Global, nodes: &[Node], width: usize) -> Result<Vec<RegRow>, Memory>
@@ -27,39 +30,34 @@ fn rows_of_uses(alloc: Global, nodes: &[Node], width: usize) -> Result<Vec<RegRo
     Ok(rows)
 }
 
-/// Takes each flag down.
-fn lower(flags: &mut [bool])
-    ensures { (place : ℕ) → flag flags.new place ≡ false }
-{
-    for flag in flags.iter_mut() {
-        *flag = false;
-    }
-}
-
 /// Makes rounds until no row grows.
 fn solve(
     nodes: &[Node],
+    back: &[Items<u32>],
     rows: &mut [RegRow],
     set: &mut RegRow,
-    before: &mut [bool],
-    now: &mut [bool],
+    now: &mut RegRow,
+    next: &mut RegRow,
 )
+    requires small { length nodes.now ≤ 2 ^ 32 }
+    requires back { IsBack nodes.now back.now }
+    requires long { length back.now ≡ length nodes.now }
     requires places { length rows.old ≡ length nodes.now }
-    requires before { length before.old ≡ length nodes.now }
-    requires now { length now.old ≡ length nodes.now }
+    requires now { length nodes.now ≤ 64 * length now.old }
+    requires next { length nodes.now ≤ 64 * length next.old }
     requires table { IsTable (length set.old) rows.old }
     requires uses { HasUses nodes.now rows.old }
     requires sound { IsSound nodes.now rows.old }
-    requires pending { IsPending nodes.now rows.old before.old }
+    requires pending { AreLeft nodes.now rows.old now.old }
     ensures live { IsLiveRows nodes.now rows.new }
     ensures table { IsTable (length set.old) rows.new }
 {
     'rounds: loop {
-        lower(now);
-        if !round(nodes, rows, set, before, now) {
+        next.clear();
+        if !round(nodes, back, rows, set, now, next) {
             return;
         }
-        before.copy_from_slice(now);
+        mem::swap(now, next);
     }
 }
 
@@ -86,22 +84,28 @@ fn width_for(nodes: &[Node]) -> usize
 }
 
 /// For each place the registers that a path leads from there to a use of, without a definition
-/// between. The rows are of one width, with room for what the nodes use and define.
+/// between. The rows are of one width, with room for what the nodes use and define. A graph of 2^32
+/// places or more finds no memory.
 pub fn live_rows(alloc: Global, nodes: &[Node]) -> Result<Vec<RegRow>, Memory>
     ensures live { IfOk result (λ rows. IsLiveRows nodes.now rows.items) }
     ensures room { IfOk result (λ rows. HaveRoom nodes.now rows.items) }
 {
+    if nodes.len() > u32::MAX as usize {
+        return Err(Memory);
+    }
     let width = width_for(nodes);
+    let back = leading_to(alloc, nodes)?;
     let mut rows = rows_of_uses(alloc, nodes, width)?;
     let mut set = RegRow::new(alloc, width)?;
-    let mut before = vec![in alloc; true; nodes.len()]?;
-    let mut now = vec![in alloc; false; nodes.len()]?;
+    let mut now = all_places(alloc, nodes.len())?;
+    let mut next = all_places(alloc, nodes.len())?;
     solve(
         nodes,
+        back.as_slice(),
         rows.as_mut_slice(),
         &mut set,
-        before.as_mut_slice(),
-        now.as_mut_slice(),
+        &mut now,
+        &mut next,
     );
     Ok(rows)
 }

@@ -2,6 +2,7 @@
 use Rattle.std.specs.Prelude.{◌≡◌, ℕ, ◌<◌, ◌⊎◌, Bool, true, false, ◌==◌, ◌||◌, ◌&&◌, not, List, Option, Some, None, slice_get, take}
 use Rattle.std.specs.List.{list_any, find}
 use Rattle.reg_rows.specs.Table.{has_at, IsTable}
+use Rattle.reg_conflicts.specs.machine.Sparse.{AreSparse}
 use Rattle.assign.specs.declared.home.Home.{Home}
 use Rattle.assign.specs.declared.home.Home.TheVariants.{Hard, Slot}
 use Rattle.assign.specs.declared.home.HomeOf.{HomeOf}
@@ -32,10 +33,10 @@ IsPicked c order homes =
 abbrev pub beside : List (List ℕ) → ℕ → ℕ → Bool
 beside rows reg other = has_at rows other reg
 
--- rows of one width
+-- rows of one width, of which the first may lack words
 pub record AreAlike (rows others : List (List ℕ)) : Type 0 where
   pub width : ℕ
-  pub one : IsTable width rows
+  pub one : AreSparse width rows
   pub other : IsTable width others
 
 -- each hard register is blocked for the registers of its own row, and for those of its holders'

@@ -5,7 +5,7 @@ use Rattle.rtx_tree.specs.declared.function.Insn.{Insn}
 use Rattle.rtx_tree.specs.RegSet.{has_reg}
 use Rattle.rtx_tree.specs.Registers.{pseudo}
 use Rattle.rv_regs.specs.Registers.{allocation_order}
-use Rattle.reg_rows.specs.Table.{IsTable}
+use Rattle.reg_conflicts.specs.machine.Sparse.{AreSparse}
 use Rattle.assign.specs.Homes.{pseudos}
 use Rattle.assign.specs.machine.Named.{stands_in}
 use Rattle.assign.specs.machine.Picked.{beside, IsPicked}
@@ -14,12 +14,12 @@ use Rattle.assign.proofs.NamedLaws.{stands_in-pseudo}
 use Rattle.assign.proofs.OneLaws.{only}
 use Rattle.assign.proofs.assigned.assign.Goals as goal
 
-pub pick_in_order-requires-clause-table : goal.pick_in_order-requires-clause-table
-pick_in_order-requires-clause-table c =
+pub pick_in_order-requires-clause-sparse : goal.pick_in_order-requires-clause-sparse
+pick_in_order-requires-clause-sparse c =
     let room = c.requires.room in
     let is = c.width_of_rows-width.ensures room.width room.table (omega (arith, c.requires.live.long)) in
-    let table = subst (IsTable room.width) (sym c.as_slice-2.ensures.value) (c.in_ok-rows.ensures.table room.width room.table) in
-    subst (λ (w : ℕ). IsTable w c.as_slice-2.result.now) (sym is) table
+    let sparse = subst (AreSparse room.width) (sym c.as_slice-2.ensures.value) (c.in_ok-rows.ensures.sparse room.width room.table) in
+    subst (λ (w : ℕ). AreSparse w c.as_slice-2.result.now) (sym is) sparse
 
 pub pick_in_order-requires-clause-pseudos : goal.pick_in_order-requires-clause-pseudos
 pick_in_order-requires-clause-pseudos c =

@@ -2,7 +2,7 @@ use Rattle.std.proofs.Common.{◌≡◌, ℕ, ◌*◌, ◌-◌, ◌^◌, ◌<◌
 use Rattle.reg_rows.specs.Table.{total}
 use Rattle.reg_rows.proofs.TableLaws.{total-le}
 use Rattle.live_rows.proofs.PathLaws.{has_from_path}
-use Rattle.live_rows.proofs.FlagLaws.{IsClosed-none}
+use Rattle.live_rows.proofs.WaitLaws.{IsClosed-none}
 use Rattle.live_rows.proofs.solve.solve.Goals as goal
 
 pub rounds-smaller : goal.rounds-smaller
@@ -21,7 +21,7 @@ returns-then-not-round c =
       live = record {
         long = omega arith;
         sound = r.sound;
-        complete = λ p reg path. has_from_path c.args.nodes.now c.round.new.rows r.uses (IsClosed-none c.args.nodes.now c.round.new.rows c.round.new.now (r.none refl) r.pending) reg p path;
+        complete = λ p reg path. has_from_path c.args.nodes.now c.round.new.rows r.uses (IsClosed-none c.args.nodes.now c.round.new.rows c.round.new.next (r.none refl) r.pending) reg p path;
       };
       table = search rules;
     }

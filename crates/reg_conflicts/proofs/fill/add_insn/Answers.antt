@@ -30,6 +30,6 @@ returns-clause-each c x y =
     ap (λ (regs : List ℕ). has_reg regs reg) c.as_slice-2.ensures.value ∙ c.in_ok-defines.ensures reg in
     let beside : (a b : ℕ) → (has set b && has_reg c.as_slice-2.result.now a) ≡ is_beside f live c.args.at c.args.insn.now a b = λ a b.
     ap (λ t. t && has_reg c.as_slice-2.result.now a) (after b) ∙ ap (λ t. after_has f live c.args.at b && t) (defines a) in
-    c.mark.ensures.each x y ∙
+    c.in_ok-mark.ensures.each x y ∙
     (ap (λ t. has_at c.args.rows.now x y || (t || (has set x && has_reg c.as_slice-2.result.now y))) (beside x y) ∙
     ap (λ t. has_at c.args.rows.now x y || (is_beside f live c.args.at c.args.insn.now x y || t)) (beside y x))

@@ -2,7 +2,7 @@ use Rattle.std.proofs.Common.{◌≡◌, ℕ, Some, List, refl, subst, ◌∙◌
 use Rattle.std.specs.Prelude.{slice_get}
 use Rattle.std.proofs.lemmas.Option.{slice_get_read}
 use Rattle.rtx_tree.specs.declared.function.Insn.{Insn}
-use Rattle.reg_rows.specs.Table.{IsTable}
+use Rattle.reg_conflicts.specs.machine.Sparse.{AreSparse}
 use Rattle.reg_conflicts.proofs.FillLaws.{AreFound-insn, AreConflicts-found}
 use Rattle.reg_conflicts.proofs.fill.fill.Goals as goal
 
@@ -16,7 +16,7 @@ loop-at-preserved c =
     let here : slice_get f.insns at ≡ Some insn = subst (λ (insns : List Insn). slice_get insns at ≡ Some insn) c.as_slice-insns.ensures.value read in
     record {
       width = c.in_ok-add_insn.ensures.width ∙ inv.width;
-      table = subst (λ (w : ℕ). IsTable w c.add_insn.new.rows) inv.width c.in_ok-add_insn.ensures.table;
+      sparse = subst (λ (w : ℕ). AreSparse w c.add_insn.new.rows) inv.width c.in_ok-add_insn.ensures.sparse;
       found = AreFound-insn f c.args.live.now at insn c.loop-at.rows c.add_insn.new.rows c.requires.exact here c.in_ok-add_insn.ensures.each inv.found;
     }
 

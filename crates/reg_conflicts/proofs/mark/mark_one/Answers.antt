@@ -8,6 +8,6 @@ pub returns-clause-each : goal.returns-clause-each
 returns-clause-each c x y =
     let set = c.args.set.now in
     let back = has set x && eqb c.args.reg y in
-    c.mark_others.ensures.each x y ∙
-    (ap (λ b. b || back) (c.join_row.ensures.each x y ∙ ap (λ b. has_at c.args.rows.now x y || b) (flipped x c.args.reg (has set y))) ∙
+    c.in_ok-mark_others.ensures.each x y ∙
+    (ap (λ b. b || back) (c.in_ok-mark_own.ensures.each x y ∙ ap (λ b. has_at c.args.rows.now x y || b) (flipped x c.args.reg (has set y))) ∙
     or_assoc (has_at c.args.rows.now x y) (has set y && eqb c.args.reg x) back)

@@ -12,14 +12,14 @@ loop-other-preserved-then-is_passed c =
     let k = c.loop-other.other in
     let both = and_parts (eqb (k % 64) 0) (eqb (get_or set (k / 64) 0) 0) (sym c.if-is_passed.ensures) in
     record {
-      table = c.loop-other.invariant.table;
+      sparse = c.loop-other.invariant.sparse;
       each = λ x y. c.loop-other.invariant.each x y ∙ ap (λ b. has_at c.args.rows.now x y || (b && eqb c.args.reg y)) (word_passed set k x (eqb-true (k % 64) 0 both.0) (eqb-true (get_or set (k / 64) 0) 0 both.1));
     }
 
 pub loop-other-preserved : goal.loop-other-preserved
 loop-other-preserved c = record {
-  table = search rules;
-  each = λ x y. other_joined x c.loop-other.other _ (has c.args.set.now x) (eqb c.args.reg y) _ _ (c.loop-other.invariant.each x y) (c.mark_other.ensures.each x y);
+  sparse = search rules;
+  each = λ x y. other_joined x c.loop-other.other _ (has c.args.set.now x) (eqb c.args.reg y) _ _ (c.loop-other.invariant.each x y) (c.in_ok-mark_other.ensures.each x y);
 }
 
 pub returns-clause-each : goal.returns-clause-each

@@ -1,11 +1,12 @@
 use Rattle.std.proofs.Common.{◌≡◌, ℕ, ◌-◌, ◌*◌, ◌||◌, ◌&&◌, eqb, ltb, length}
 use Rattle.reg_rows.specs.Row.{has}
-use Rattle.reg_rows.specs.Table.{has_at, IsTable}
+use Rattle.reg_rows.specs.Table.{has_at}
+use Rattle.reg_conflicts.specs.machine.Sparse.{AreSparse}
 use Rattle.reg_conflicts.proofs.mark.mark_others.Given as goal
 
 abbrev pub invariant-loop-other : goal.invariant-loop-other
 invariant-loop-other l = record {
-  table : IsTable (length l.set) l.rows;
+  sparse : AreSparse (length l.set) l.rows;
   each : (x y : ℕ) → has_at l.rows x y ≡ (has_at l.fn.rows x y || ((ltb x l.other && has l.set x) && eqb l.reg y));
 }
 

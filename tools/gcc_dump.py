@@ -115,7 +115,7 @@ def stack_usage(text):
     usage = {}
     for line in text.splitlines():
         place, size, kind = line.split("\t")
-        name = place.split(":", 3)[-1]
+        name = place.rpartition(":")[2]
         known = kind == "static" and usage.get(name, 0) is not None
         usage[name] = max(int(size), usage.get(name, 0)) if known else None
     return usage
@@ -137,8 +137,8 @@ def is_pseudo(tree):
 
 
 def lowpart(mode, tree):
-    """The low part of a register."""
-    return Tree("subreg", mode, (tree, "0"))
+    """The low part of a register, or of a low part of one."""
+    return Tree("subreg", mode, (tree.parts[0] if tree.code == "subreg" else tree, "0"))
 
 
 def settings_of(pattern):

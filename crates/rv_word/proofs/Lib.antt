@@ -1,0 +1,6 @@
+pub mod Fields
+pub mod Looked
+pub mod Back
+pub mod Forth
+pub mod Inverse
+pub mod OneWord

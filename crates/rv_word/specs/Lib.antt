@@ -1,0 +1,4 @@
+pub mod Table
+pub mod Word
+pub mod Spelling
+pub mod Step

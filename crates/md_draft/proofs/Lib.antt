@@ -1,1 +1,4 @@
 pub mod Reasons
+mod OperandLaws
+mod EachFrom
+mod Knowing

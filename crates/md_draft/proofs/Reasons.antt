@@ -11,9 +11,9 @@ use Rattle.md_draft.specs.declared.draft.Draft.{Draft}
 use Rattle.md_draft.specs.Head.{head_named}
 use Rattle.md_draft.specs.Layout.{layout_of, is_whole}
 use Rattle.md_draft.specs.Draft as draft
-use Rattle.md_draft.specs.Draft.{draft_in, draft_by, whole_draft, matched_in, made_in, printed_in, defined_in, matched_with, made_with, printed_with, defined_with, draft_with, head_in, headed, entry_by, entry_of}
+use Rattle.md_draft.specs.Draft.{block_in, draft_in, draft_by, parts_draft, without, whole_draft, matched_in, made_in, printed_in, defined_in, matched_with, made_with, printed_with, defined_with, draft_with, head_in, headed, entry_by, entry_of}
 use Rattle.md_draft.specs.Reasons.{HasReason, Applies, head_of}
-use Rattle.md_pattern.proofs.Smallest.{Of, Or, alone, change, pair, with}
+use Rattle.md_pattern.proofs.Smallest.{Of, Or, alone, change, made as made_of, pair, with}
 
 module _ (constants : List Constant) (values : List (List ℕ)) (h : FormHead) (ts : List Tree) where
   abbrev OfMatched : Reason → Type 0
@@ -34,7 +34,7 @@ module _ (constants : List Constant) (values : List (List ℕ)) (h : FormHead) (
   abbrev OfPrinted : Reason → Type 0
   OfPrinted = Or (Of (draft.output_in h ts)) (Of (draft.attributes_in h ts))
 
-  printed : IsSmallest OfPrinted (printed_in h ts)
+  printed : IsSmallest OfPrinted (printed_in (block_in h ts) h ts)
   unfolding printed_in
   printed = with (Of (draft.output_in h ts)) (Of (draft.attributes_in h ts)) printed_with (draft.output_in h ts) (draft.attributes_in h ts) (alone _) (alone _)
 
@@ -49,10 +49,15 @@ module _ (constants : List Constant) (values : List (List ℕ)) (h : FormHead) (
   abbrev OfAll : Reason → Type 0
   OfAll = Or (Or OfMatched OfMade) (Or OfPrinted OfDefined)
 
+  of_parts : IsSmallest OfAll (parts_draft (block_in h ts) constants values h ts)
+  unfolding parts_draft
+  of_parts = with (Or OfMatched OfMade) (Or OfPrinted OfDefined) (draft_with h) (both (matched_in constants values h ts) (made_in constants values h ts)) (both (printed_in (block_in h ts) h ts) (defined_in constants h ts))
+      (pair OfMatched OfMade (matched_in constants values h ts) (made_in constants values h ts) matched made) (pair OfPrinted OfDefined (printed_in (block_in h ts) h ts) (defined_in constants h ts) printed defined)
+
+  -- that a form is said without its block changes no reason
   whole : IsSmallest OfAll (whole_draft constants values h ts)
   unfolding whole_draft
-  whole = with (Or OfMatched OfMade) (Or OfPrinted OfDefined) (draft_with h) (both (matched_in constants values h ts) (made_in constants values h ts)) (both (printed_in h ts) (defined_in constants h ts))
-      (pair OfMatched OfMade (matched_in constants values h ts) (made_in constants values h ts) matched made) (pair OfPrinted OfDefined (printed_in h ts) (defined_in constants h ts) printed defined)
+  whole = made_of OfAll (without (block_in h ts)) (parts_draft (block_in h ts) constants values h ts) of_parts
 
   module _ (is : is_whole (layout_of h) ts ≡ true) where
     to : (r : Reason) → OfAll r → HasReason constants values h ts r

@@ -1,14 +1,15 @@
 -- What a form says by its own text: each of its parts, or the smallest reason that one of them
 -- gives. A draft is what a form's own text tells; its reasons are those up to preparation
 -- statements outside.
-use Rattle.std.specs.Prelude.{ℕ, List, [], ◌∷◌, Option, Some, None, Result, Ok, Err, if◌then◌else◌, codes}
+use Rattle.std.specs.Prelude.{ℕ, List, [], ◌∷◌, Option, Some, None, Err, if◌then◌else◌, codes}
 use Rattle.rtx_tree.specs.declared.constants.Constant.{Constant}
 use Rattle.lisp_read.specs.declared.tree.Tree.{Tree}
 use Rattle.lisp_read.specs.Shape.{atom_of, string_of, items_of}
 use Rattle.c_cond.specs.declared.tree.Tree as cond
 use Rattle.md_pattern.specs.declared.reason.Reason.TheVariants as reason
 use Rattle.md_pattern.specs.declared.pattern.Patterns.{Patterns}
-use Rattle.md_pattern.specs.Reason.{both, judged_with}
+use Rattle.md_pattern.specs.Reason.{both, judged_map, judged_with}
+use Rattle.md_compact.specs.declared.block.Block.{Block}
 use Rattle.pred_expr.specs.declared.question.Test as test
 use Rattle.md_draft.specs.declared.head.FormHead.{FormHead}
 use Rattle.md_draft.specs.declared.head.RegisterClass.{RegisterClass}
@@ -27,6 +28,7 @@ use Rattle.md_draft.specs.Patterns.{Judged}
 use Rattle.md_draft.specs.Conditions as conditions
 use Rattle.md_draft.specs.Outputs as outputs
 use Rattle.md_draft.specs.Parts as parts
+use Rattle.md_draft.specs.Compact.{old_draft}
 
 -- ---- each part of a form, by its head and its trees
 
@@ -49,8 +51,15 @@ abbrev pub statements_in : List Constant → FormHead → List Tree → Judged c
 statements_in constants h ts =
     conditions.statements_in constants (part_at ts (layout_of h).statements)
 
+-- the block in the compact syntax that stands in the place of an output, if one does
+abbrev pub block_in : FormHead → List Tree → Option Block
+block_in h ts = outputs.block_in (part_at ts (layout_of h).output)
+
+abbrev pub output_with : Option Block → FormHead → List Tree → Judged Output
+output_with block h ts = outputs.output_with block (part_at ts (layout_of h).output)
+
 abbrev pub output_in : FormHead → List Tree → Judged Output
-output_in h ts = outputs.output_in (part_at ts (layout_of h).output)
+output_in h ts = output_with (block_in h ts) h ts
 
 abbrev pub attributes_in : FormHead → List Tree → Judged (List Attribute)
 attributes_in h ts = parts.attributes_in (part_at ts (layout_of h).attributes)
@@ -89,8 +98,8 @@ made_in constants values h ts =
 abbrev pub printed_with : Output → List Attribute → Printed
 printed_with o given = record { output = o; attributes = given }
 
-unfoldable pub printed_in : FormHead → List Tree → Judged Printed
-printed_in h ts = judged_with printed_with (output_in h ts) (attributes_in h ts)
+unfoldable pub printed_in : Option Block → FormHead → List Tree → Judged Printed
+printed_in block h ts = judged_with printed_with (output_with block h ts) (attributes_in h ts)
 
 abbrev pub defined_with : Option test.Test × Option RegisterClass → List (List ℕ) × List ℕ → Defined
 defined_with x y = record { test = x.0; class = x.1; values = y.0; default = y.1 }
@@ -106,9 +115,20 @@ abbrev pub together : FormHead → Judged Matched → Judged Made → Judged Pri
     Judged Draft
 together h m k p d = judged_with (draft_with h) (both m k) (both p d)
 
+-- what each part of the form tells
+unfoldable pub parts_draft : Option Block → List Constant → List (List ℕ) → FormHead → List Tree →
+    Judged Draft
+parts_draft block constants values h ts =
+    together h (matched_in constants values h ts) (made_in constants values h ts) (printed_in block h ts) (defined_in constants h ts)
+
+-- a form with a block says what the form without it says
+abbrev pub without : Option Block → Draft → Draft
+without None d = d
+without (Some block) d = old_draft block d
+
 unfoldable pub whole_draft : List Constant → List (List ℕ) → FormHead → List Tree → Judged Draft
 whole_draft constants values h ts =
-    together h (matched_in constants values h ts) (made_in constants values h ts) (printed_in h ts) (defined_in constants h ts)
+    judged_map (without (block_in h ts)) (parts_draft (block_in h ts) constants values h ts)
 
 -- the draft of a form with a head
 unfoldable pub draft_in : List Constant → List (List ℕ) → FormHead → List Tree → Judged Draft

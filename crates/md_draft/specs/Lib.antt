@@ -4,5 +4,7 @@ pub mod Patterns
 pub mod Conditions
 pub mod Outputs
 pub mod Parts
+pub mod Compact
 pub mod Draft
 pub mod Reasons
+pub mod machine

@@ -1,7 +1,7 @@
 -- The outputs of forms: GCC Internals, "Output Templates and Operand Substitution", "C Statements
 -- for Assembler Output" and, for a block of rows, "Compact Syntax". An output is text, a line for
--- each alternative, or such a block.
-use Rattle.std.specs.Prelude.{ℕ, nat_le, ◌==◌, Bool, false, List, [], ◌∷◌, Option, Result, Ok, Err, if◌then◌else◌, length}
+-- each alternative, or such a block, which has the template of the form without it.
+use Rattle.std.specs.Prelude.{ℕ, nat_le, ◌==◌, Bool, false, List, [], ◌∷◌, Option, Some, None, Ok, Err, if◌then◌else◌, length, option_and_then}
 use Rattle.lisp_read.specs.declared.tree.Tree.{Tree, out-Tree}
 use Rattle.lisp_read.specs.declared.tree.Tree.TheOpen.{Tree-F}
 use Rattle.md_text.specs.declared.template.Template.TheVariants as template
@@ -9,6 +9,9 @@ use Rattle.md_text.specs.declared.template.Reading.{Reading}
 use Rattle.md_text.specs.declared.template.Reading.TheVariants as reading
 use Rattle.text_words.specs.Blanks.{behind_blanks}
 use Rattle.md_text.specs.Template.{template_of}
+use Rattle.md_compact.specs.declared.block.Block.{Block}
+use Rattle.md_compact.specs.Block.{block_of}
+use Rattle.md_compact.specs.Old.{old_template, has_expression}
 use Rattle.md_pattern.specs.declared.reason.Reason.TheVariants as reason
 use Rattle.md_draft.specs.declared.draft.Output.{Output}
 use Rattle.md_draft.specs.declared.draft.Output.TheVariants as output
@@ -27,25 +30,49 @@ abbrev pub begins_with_at : List ℕ → Bool
 begins_with_at [] = false
 begins_with_at (b ∷ rest) = b == 64
 
--- a block with one row for each alternative
+-- what stands behind @ is in the compact syntax
 abbrev pub is_compact : List ℕ → Bool
 is_compact text = begins_with_at (behind_blanks text)
-
--- between braces stands C code, or such a block
-abbrev pub block : List ℕ → Judged Output
-block text = if is_compact text then Ok (output.Compact text) else if fits text then Err reason.CCode else Err reason.Parts
 
 -- between quotes stands a template
 abbrev pub quoted : List ℕ → Judged Output
 quoted text = if fits text then output_by (template_of text) else Err reason.Parts
 
-abbrev pub output_at : Tree-F Tree → Judged Output
-output_at (Tree-F.Str place text) = quoted text
-output_at (Tree-F.Block place text) = block text
-output_at _ = Err reason.Parts
+-- C code stands for any output of a block that is C code
+abbrev pub unless_code : Bool → Judged Output → Judged Output
+unless_code code o = if code then Err reason.CCode else o
 
-abbrev pub output_of_tree : Tree → Judged Output
-output_of_tree t = output_at (out-Tree t)
+-- a block has the template of the form without it
+abbrev pub rows_output : Block → Judged Output
+rows_output b = if fits (old_template b) then unless_code (has_expression b) (output_by (template_of (old_template b))) else Err reason.Parts
 
-unfoldable pub output_in : Option Tree → Judged Output
-output_in t = if_there (output.Template (template.One [])) output_of_tree t
+-- between braces stands C code; what stands behind @ there and is no block is outside
+abbrev pub braced : List ℕ → Option Block → Judged Output
+braced text (Some b) = rows_output b
+braced text None =
+    if is_compact text then Ok output.Outside
+    else if fits text then Err reason.CCode
+    else Err reason.Parts
+
+-- the block that stands in the place of an output, if one does
+abbrev pub block_at : Tree-F Tree → Option Block
+block_at (Tree-F.Block place text) = block_of text
+block_at _ = None
+
+abbrev pub block_of_tree : Tree → Option Block
+block_of_tree t = block_at (out-Tree t)
+
+unfoldable pub block_in : Option Tree → Option Block
+block_in t = option_and_then block_of_tree t
+
+abbrev pub output_at : Option Block → Tree-F Tree → Judged Output
+output_at b (Tree-F.Str place text) = quoted text
+output_at b (Tree-F.Block place text) = braced text b
+output_at b _ = Err reason.Parts
+
+abbrev pub output_of_tree : Option Block → Tree → Judged Output
+output_of_tree b t = output_at b (out-Tree t)
+
+-- the output, by the block that stands there
+unfoldable pub output_with : Option Block → Option Tree → Judged Output
+output_with b t = if_there (output.Template (template.One [])) (output_of_tree b) t

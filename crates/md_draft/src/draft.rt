@@ -21,9 +21,8 @@ pub struct Attribute {
 pub enum Output {
     /// Text for all alternatives, or a line for each.
     Template(Template),
-    /// A block of rows, one for each alternative, in the compact syntax.
-    Compact(Name),
-    /// Text with a sequence that none of the output's is.
+    /// Text with a sequence that none of the output's is, or a block in the compact syntax that is
+    /// none or doesn't fit its form.
     Outside,
 }
 

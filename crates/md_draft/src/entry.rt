@@ -1,20 +1,22 @@
 //! Reads a form from its tree, as far as its own text tells.
 ghost use Rattle.std.specs.Prelude.{◌≡◌, IfOk};
 ghost use Rattle.std.specs.Option.{option_copied};
-ghost use Rattle.md_pattern.specs.Reason.{both, judged_with, IsSmallest};
+ghost use Rattle.md_pattern.specs.Reason.{both, judged_map, judged_with, IsSmallest};
 ghost use Rattle.md_draft.specs.Draft as spec;
 ghost use Rattle.md_draft.specs.Head.{head_named};
 ghost use Rattle.md_draft.specs.Reasons.{Applies};
 
+use crate::compact::old_draft;
 use crate::condition::{condition_in, split_condition_in, statements_in};
 use crate::draft::{Defined, Draft, DraftEntry, Made, Matched, Printed};
 use crate::head::{FormHead, RegisterClass};
 use crate::layout::{is_whole, layout_of, part_at};
-use crate::output::output_in;
+use crate::output::{block_in, output_in};
 use crate::pattern::{patterns_in, sequence_in};
 use crate::text::{attributes_in, class_in, default_in, test_in, values_in};
 use c_cond::{Cond, Prep};
 use lisp_read::{Tree, atom, items, string};
+use md_compact::Block;
 use md_pattern::{Judged, Patterns, Reason, both};
 use plain_data::{Items, Memory};
 use pred_expr::Test;
@@ -83,11 +85,17 @@ fn made_in(
 }
 
 #[tactic(auto, unfolding(crate::specs::Draft::printed_in))]
-fn printed_in(alloc: Global, head: FormHead, items: &[Tree]) -> Result<Judged<Printed>, Memory>
-    ensures { IfOk result (λ printed. printed ≡ spec.printed_in head items.now) }
+fn printed_in(
+    alloc: Global,
+    block: Option<&Block>,
+    head: FormHead,
+    items: &[Tree],
+) -> Result<Judged<Printed>, Memory>
+    ensures { IfOk result (λ printed.
+        printed ≡ spec.printed_in (option_copied block.entry) head items.now) }
 {
     let places = layout_of(head);
-    let output = output_in(alloc, part_at(items, places.output))?;
+    let output = output_in(alloc, part_at(items, places.output), block)?;
     let attributes = attributes_in(alloc, part_at(items, places.attributes))?;
     match both(output, attributes) {
         Ok((output, attributes)) => Ok(Ok(Printed { output, attributes })),
@@ -171,14 +179,16 @@ fn matched_and_made(
 
 fn printed_and_defined(
     alloc: Global,
+    block: Option<&Block>,
     constants: &Constants,
     head: FormHead,
     items: &[Tree],
 ) -> Result<Judged<(Printed, Defined)>, Memory>
-    ensures { IfOk result (λ parts. parts ≡ both (spec.printed_in head items.now)
+    ensures { IfOk result (λ parts.
+        parts ≡ both (spec.printed_in (option_copied block.entry) head items.now)
         (spec.defined_in constants.now head items.now)) }
 {
-    let printed = printed_in(alloc, head, items)?;
+    let printed = printed_in(alloc, block, head, items)?;
     let defined = defined_in(alloc, constants, head, items)?;
     Ok(both(printed, defined))
 }
@@ -202,6 +212,39 @@ fn together(
     }
 }
 
+/// What the parts of a form tell, with the block that stands in the place of its output.
+#[tactic(auto, unfolding(crate::specs::Draft::parts_draft))]
+fn parts_draft(
+    alloc: Global,
+    block: Option<&Block>,
+    constants: &Constants,
+    values: &[Name],
+    head: FormHead,
+    items: &[Tree],
+) -> Result<Judged<Draft>, Memory>
+    ensures { IfOk result (λ draft. draft ≡
+        spec.parts_draft (option_copied block.entry) constants.now values.now head items.now) }
+{
+    let matched_and_made = matched_and_made(alloc, constants, values, head, items)?;
+    let printed_and_defined = printed_and_defined(alloc, block, constants, head, items)?;
+    Ok(together(head, matched_and_made, printed_and_defined))
+}
+
+/// A draft without the block of its form.
+fn without(
+    alloc: Global,
+    block: Option<&Block>,
+    draft: Judged<Draft>,
+) -> Result<Judged<Draft>, Memory>
+    ensures { IfOk result (λ whole.
+        whole ≡ judged_map (spec.without (option_copied block.entry)) draft) }
+{
+    match (block, draft) {
+        (Some(block), Ok(draft)) => Ok(Ok(old_draft(alloc, block, draft)?)),
+        (_, draft) => Ok(draft),
+    }
+}
+
 /// The draft of a form with a head and as many trees as the head takes.
 #[tactic(auto, unfolding(crate::specs::Draft::whole_draft))]
 fn whole_draft(
@@ -214,9 +257,9 @@ fn whole_draft(
     ensures { IfOk result (λ draft.
         draft ≡ spec.whole_draft constants.now values.now head items.now) }
 {
-    let matched_and_made = matched_and_made(alloc, constants, values, head, items)?;
-    let printed_and_defined = printed_and_defined(alloc, constants, head, items)?;
-    Ok(together(head, matched_and_made, printed_and_defined))
+    let block = block_in(alloc, part_at(items, layout_of(head).output))?;
+    let draft = parts_draft(alloc, block.as_ref(), constants, values, head, items)?;
+    without(alloc, block.as_ref(), draft)
 }
 
 /// The draft of a form with a head.

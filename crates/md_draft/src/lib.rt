@@ -3,10 +3,12 @@
 //! [`entry_of`] gives a form's head, its name, and its [`Draft`]: its parts by what its head has,
 //! or the smallest [`Reason`] that its text alone gives, which is one of those up to preparation
 //! statements outside. `specs/Layout.antt` says where the parts of a form stand, `specs/Draft.antt`
-//! what each of them is, and `specs/Reasons.antt` which reasons apply. What the other forms of the
-//! description define is not looked at here.
+//! what each of them is, and `specs/Reasons.antt` which reasons apply. A form whose output is a block
+//! in the compact syntax has the draft of the form without it (`specs/Compact.antt`). What the other
+//! forms of the description define is not looked at here.
 #![tactic(auto)]
 
+mod compact;
 mod condition;
 mod draft;
 mod entry;

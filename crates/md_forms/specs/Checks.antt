@@ -152,10 +152,8 @@ template_stands n template.Split = true
 template_stands n (template.One line) = true
 template_stands n (template.Each lines) = length lines == n
 
--- a block in the compact syntax isn't taken
 abbrev pub output_stands : ℕ → Output → Bool
 output_stands n (output.Template t) = template_stands n t
-output_stands n (output.Compact rows) = false
 output_stands n output.Outside = false
 
 abbrev pub template_of : Output → Template

@@ -400,7 +400,7 @@ fn output_stands(alternatives: usize, output: &Output) -> bool
 {
     match output {
         Output::Template(template) => template_stands(alternatives, template),
-        Output::Compact(_) | Output::Outside => false,
+        Output::Outside => false,
     }
 }
 

@@ -3,9 +3,9 @@ ghost use Rattle.std.specs.Prelude.{◌≡◌, Bool, List, ℕ, IfOk, position};
 ghost use Rattle.std.specs.List.{find};
 ghost use Rattle.std.specs.Option.{option_copied};
 ghost use Rattle.std.specs.Str.{bytes_eq};
-ghost use Rattle.md_tables.specs.machine.Places.{place_in};
+ghost use Rattle.name_places.specs.Places.{place_in};
 
-use crate::places::Places;
+use name_places::Places;
 use plain_data::{Items, Memory};
 use std::alloc::Global;
 use std::marker::Model;
@@ -30,7 +30,7 @@ impl<D: Named> Model for Definitions<D> {
     ghost use Rattle.std.specs.Prelude.{◌≡◌, List, ℕ, position};
     ghost use Rattle.std.specs.Coded.{coded_list};
     ghost use Rattle.std.specs.Str.{bytes_eq};
-    ghost use Rattle.md_tables.specs.machine.Places.{place_in};
+    ghost use Rattle.name_places.specs.Places.{place_in};
 
     ghost Value = { List D };
 

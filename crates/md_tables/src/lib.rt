@@ -10,7 +10,6 @@
 
 mod definitions;
 mod names;
-mod places;
 mod predicates;
 mod tables;
 mod walk;

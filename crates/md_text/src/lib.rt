@@ -18,6 +18,7 @@ mod sign;
 mod template;
 
 pub use constraint::{Alternative, Constraint, Direction, Letter, Member, constraint_of};
+pub use line::operand_number;
 pub use lists::{members_of, parts_of, trimmed};
 pub use names::ConstraintNames;
 pub use template::{Line, Piece, Print, Reading, Template, template_of};

@@ -27,8 +27,8 @@ fn digits(text: &[u8]) -> &[u8]
     text
 }
 
-/// The number that some digits write, without a needless zero.
-fn operand_number(text: &[u8]) -> Option<u32>
+/// The number of an operand that a text writes: of 32 bits, in decimal and without a needless zero.
+pub fn operand_number(text: &[u8]) -> Option<u32>
     ensures { result ≡ spec.operand_number text.now }
 {
     u32::try_from(number_in(text)?).ok()

@@ -28,7 +28,7 @@ pub const RV64IM: &str = r##";; RV64IM: the description that is used where no ot
 
 (define_mode_attr left [(QI "56") (HI "48")])
 
-(define_mode_attr cnt [(SI "Ws") (DI "Wd")])
+(define_mode_attr cnt [(SI "K") (DI "L")])
 
 ;; Codes, likewise.
 
@@ -59,36 +59,36 @@ pub const RV64IM: &str = r##";; RV64IM: the description that is used where no ot
 (define_code_attr u [(lt "") (ltu "u") (gt "") (gtu "u")
                      (ge "") (geu "u") (le "") (leu "u")])
 
-;; Constraints. The names of these and of the predicates are such that no port has them.
+;; Constraints.
 
-(define_constraint "Wi" ""
+(define_constraint "I" ""
   (and (match_code "const_int")
        (match_test "IN_RANGE (ival, -2048, 2047)")))
 
-(define_constraint "Wz" ""
+(define_constraint "J" ""
   (and (match_code "const_int")
        (match_test "ival == 0")))
 
-(define_constraint "Ws" ""
+(define_constraint "K" ""
   (and (match_code "const_int")
        (match_test "IN_RANGE (ival, 0, 31)")))
 
-(define_constraint "Wd" ""
+(define_constraint "L" ""
   (and (match_code "const_int")
        (match_test "IN_RANGE (ival, 0, 63)")))
 
 ;; Predicates.
 
-(define_predicate "rv_reg_or_0_operand"
+(define_predicate "reg_or_0_operand"
   (ior (match_operand 0 "register_operand")
        (and (match_code "const_int")
             (match_test "INTVAL (op) == 0"))))
 
-(define_predicate "rv_reg_or_int_operand"
+(define_predicate "reg_or_int_operand"
   (ior (match_operand 0 "register_operand")
        (match_operand 0 "const_int_operand")))
 
-(define_predicate "rv_call_operand"
+(define_predicate "call_operand"
   (ior (match_operand 0 "register_operand")
        (match_code "symbol_ref")))
 
@@ -100,7 +100,7 @@ pub const RV64IM: &str = r##";; RV64IM: the description that is used where no ot
   ""
 {
   if (!register_operand (operands[0], <MODE>mode)
-      && !rv_reg_or_0_operand (operands[1], <MODE>mode))
+      && !reg_or_0_operand (operands[1], <MODE>mode))
     operands[1] = force_reg (<MODE>mode, operands[1]);
 })
 
@@ -112,9 +112,9 @@ pub const RV64IM: &str = r##";; RV64IM: the description that is used where no ot
 
 (define_insn "*movdi"
   [(set (match_operand:DI 0 "nonimmediate_operand" "=r,r,r,r,m")
-        (match_operand:DI 1 "general_operand" "r,n,s,m,rWz"))]
+        (match_operand:DI 1 "general_operand" "r,n,s,m,rJ"))]
   "register_operand (operands[0], DImode)
-   || rv_reg_or_0_operand (operands[1], DImode)"
+   || reg_or_0_operand (operands[1], DImode)"
   "@
    mv\t%0,%1
    li\t%0,%1
@@ -124,9 +124,9 @@ pub const RV64IM: &str = r##";; RV64IM: the description that is used where no ot
 
 (define_insn "*mov<mode>"
   [(set (match_operand:SUB 0 "nonimmediate_operand" "=r,r,r,m")
-        (match_operand:SUB 1 "general_operand" "r,n,m,rWz"))]
+        (match_operand:SUB 1 "general_operand" "r,n,m,rJ"))]
   "register_operand (operands[0], <MODE>mode)
-   || rv_reg_or_0_operand (operands[1], <MODE>mode)"
+   || reg_or_0_operand (operands[1], <MODE>mode)"
   "@
    mv\t%0,%1
    li\t%0,%1
@@ -138,7 +138,7 @@ pub const RV64IM: &str = r##";; RV64IM: the description that is used where no ot
 (define_insn "add<mode>3"
   [(set (match_operand:GPR 0 "register_operand" "=r,r")
         (plus:GPR (match_operand:GPR 1 "register_operand" "r,r")
-                  (match_operand:GPR 2 "rv_reg_or_int_operand" "r,Wi")))]
+                  (match_operand:GPR 2 "reg_or_int_operand" "r,I")))]
   ""
   "add%i2<w>\t%0,%1,%2")
 
@@ -146,13 +146,13 @@ pub const RV64IM: &str = r##";; RV64IM: the description that is used where no ot
   [(set (match_operand:DI 0 "register_operand" "=r,r")
         (sign_extend:DI
           (plus:SI (match_operand:SI 1 "register_operand" "r,r")
-                   (match_operand:SI 2 "rv_reg_or_int_operand" "r,Wi"))))]
+                   (match_operand:SI 2 "reg_or_int_operand" "r,I"))))]
   ""
   "add%i2w\t%0,%1,%2")
 
 (define_insn "sub<mode>3"
   [(set (match_operand:GPR 0 "register_operand" "=r")
-        (minus:GPR (match_operand:GPR 1 "rv_reg_or_0_operand" "rWz")
+        (minus:GPR (match_operand:GPR 1 "reg_or_0_operand" "rJ")
                    (match_operand:GPR 2 "register_operand" "r")))]
   ""
   "sub<w>\t%0,%z1,%2")
@@ -160,7 +160,7 @@ pub const RV64IM: &str = r##";; RV64IM: the description that is used where no ot
 (define_insn "*subsi3_x"
   [(set (match_operand:DI 0 "register_operand" "=r")
         (sign_extend:DI
-          (minus:SI (match_operand:SI 1 "rv_reg_or_0_operand" "rWz")
+          (minus:SI (match_operand:SI 1 "reg_or_0_operand" "rJ")
                     (match_operand:SI 2 "register_operand" "r"))))]
   ""
   "subw\t%0,%z1,%2")
@@ -209,14 +209,14 @@ pub const RV64IM: &str = r##";; RV64IM: the description that is used where no ot
 (define_insn "<std><mode>3"
   [(set (match_operand:GPR 0 "register_operand" "=r,r")
         (LOG:GPR (match_operand:GPR 1 "register_operand" "r,r")
-                 (match_operand:GPR 2 "rv_reg_or_int_operand" "r,Wi")))]
+                 (match_operand:GPR 2 "reg_or_int_operand" "r,I")))]
   ""
   "<ins>%i2\t%0,%1,%2")
 
 (define_insn "<std><mode>3"
   [(set (match_operand:GPR 0 "register_operand" "=r,r")
         (SH:GPR (match_operand:GPR 1 "register_operand" "r,r")
-                (match_operand:QI 2 "rv_reg_or_int_operand" "r,<cnt>")))]
+                (match_operand:QI 2 "reg_or_int_operand" "r,<cnt>")))]
   ""
   "<ins>%i2<w>\t%0,%1,%2")
 
@@ -224,7 +224,7 @@ pub const RV64IM: &str = r##";; RV64IM: the description that is used where no ot
   [(set (match_operand:DI 0 "register_operand" "=r,r")
         (sign_extend:DI
           (SH:SI (match_operand:SI 1 "register_operand" "r,r")
-                 (match_operand:QI 2 "rv_reg_or_int_operand" "r,Ws"))))]
+                 (match_operand:QI 2 "reg_or_int_operand" "r,K"))))]
   ""
   "<ins>%i2w\t%0,%1,%2")
 
@@ -288,28 +288,28 @@ pub const RV64IM: &str = r##";; RV64IM: the description that is used where no ot
 (define_insn "*less"
   [(set (match_operand:GPR 0 "register_operand" "=r,r")
         (LESS:GPR (match_operand:DI 1 "register_operand" "r,r")
-                  (match_operand:DI 2 "rv_reg_or_int_operand" "r,Wi")))]
+                  (match_operand:DI 2 "reg_or_int_operand" "r,I")))]
   ""
   "slt%i2<u>\t%0,%1,%2")
 
 (define_insn "*more"
   [(set (match_operand:GPR 0 "register_operand" "=r")
         (MORE:GPR (match_operand:DI 1 "register_operand" "r")
-                  (match_operand:DI 2 "rv_reg_or_int_operand" "rWz")))]
+                  (match_operand:DI 2 "reg_or_int_operand" "rJ")))]
   ""
   "slt<u>\t%0,%z2,%1")
 
 (define_insn "*atleast"
   [(set (match_operand:GPR 0 "register_operand" "=r,r")
         (ATLEAST:GPR (match_operand:DI 1 "register_operand" "r,r")
-                     (match_operand:DI 2 "rv_reg_or_int_operand" "r,Wi")))]
+                     (match_operand:DI 2 "reg_or_int_operand" "r,I")))]
   ""
   "slt%i2<u>\t%0,%1,%2\n\txori\t%0,%0,1")
 
 (define_insn "*atmost"
   [(set (match_operand:GPR 0 "register_operand" "=r")
         (ATMOST:GPR (match_operand:DI 1 "register_operand" "r")
-                    (match_operand:DI 2 "rv_reg_or_int_operand" "rWz")))]
+                    (match_operand:DI 2 "reg_or_int_operand" "rJ")))]
   ""
   "slt<u>\t%0,%z2,%1\n\txori\t%0,%0,1")
 
@@ -323,7 +323,7 @@ pub const RV64IM: &str = r##";; RV64IM: the description that is used where no ot
 (define_insn "*eqs"
   [(set (match_operand:GPR 0 "register_operand" "=r")
         (EQS:GPR (match_operand:DI 1 "register_operand" "r")
-                 (match_operand:DI 2 "rv_reg_or_int_operand" "r")))]
+                 (match_operand:DI 2 "reg_or_int_operand" "r")))]
   ""
   "sub\t%0,%1,%2\n\t<ins>\t%0,%0")
 
@@ -331,7 +331,7 @@ pub const RV64IM: &str = r##";; RV64IM: the description that is used where no ot
   [(set (match_operand 0 "register_operand")
         (match_operator 1 "ordered_comparison_operator"
           [(match_operand:DI 2 "register_operand")
-           (match_operand:DI 3 "rv_reg_or_int_operand")]))]
+           (match_operand:DI 3 "reg_or_int_operand")]))]
   ""
   "")
 
@@ -356,7 +356,7 @@ pub const RV64IM: &str = r##";; RV64IM: the description that is used where no ot
         (if_then_else
           (match_operator 0 "ordered_comparison_operator"
             [(match_operand:DI 1 "register_operand" "r")
-             (match_operand:DI 2 "rv_reg_or_0_operand" "rWz")])
+             (match_operand:DI 2 "reg_or_0_operand" "rJ")])
           (label_ref (match_operand 3 "" ""))
           (pc)))]
   ""
@@ -385,7 +385,7 @@ pub const RV64IM: &str = r##";; RV64IM: the description that is used where no ot
   "j\t%l0")
 
 (define_insn "call"
-  [(call (mem:SI (match_operand:DI 0 "rv_call_operand" "s,r"))
+  [(call (mem:SI (match_operand:DI 0 "call_operand" "s,r"))
          (match_operand 1 "" ""))]
   ""
   "@
@@ -394,7 +394,7 @@ pub const RV64IM: &str = r##";; RV64IM: the description that is used where no ot
 
 (define_insn "call_value"
   [(set (match_operand 0 "register_operand" "=r,r")
-        (call (mem:SI (match_operand:DI 1 "rv_call_operand" "s,r"))
+        (call (mem:SI (match_operand:DI 1 "call_operand" "s,r"))
               (match_operand 2 "" "")))]
   ""
   "@

@@ -1,6 +1,6 @@
 use Rattle.std.proofs.Common.{◌≡◌, List, ℕ, position, take}
 use Rattle.std.specs.Str.{bytes_eq}
-use Rattle.md_tables.specs.machine.Places.{place_in}
+use Rattle.name_places.specs.Places.{place_in}
 use Rattle.md_tables.proofs.definitions.places_of.Given as goal
 
 abbrev pub invariant-loop-at : goal.invariant-loop-at

@@ -2,7 +2,7 @@
 use Rattle.std.specs.Prelude.{ℕ, List, Option}
 use Rattle.std.specs.Str.{bytes_eq}
 use Rattle.std.specs.HashMap.{get_by}
-use Rattle.md_tables.specs.declared.places.Places.{Places}
+use Rattle.name_places.specs.declared.places.Places.{Places}
 
 -- the place of a name
 abbrev pub place_in : Places → List ℕ → Option ℕ

@@ -2,7 +2,7 @@
 ghost use Rattle.std.specs.Prelude.{◌≡◌, Bool, List, ℕ, None, Some, OnOk, if◌then◌else◌};
 ghost use Rattle.std.specs.Option.{option_or};
 ghost use Rattle.std.specs.Str.{bytes_eq};
-ghost use Rattle.md_tables.specs.machine.Places.{place_in};
+ghost use Rattle.name_places.specs.Places.{place_in};
 
 use indexmap::IndexMap;
 use plain_data::Memory;

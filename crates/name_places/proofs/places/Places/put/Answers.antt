@@ -1,9 +1,9 @@
 use Rattle.std.proofs.Common.{◌≡◌, ap, ◌∙◌, rules, None}
 use Rattle.std.specs.Map.{lookup}
 use Rattle.std.specs.Str.{bytes_eq}
-use Rattle.md_tables.specs.machine.Places.{place_in}
-use Rattle.md_tables.proofs.TextKeys.{found_last}
-use Rattle.md_tables.proofs.places.Places.put.Goals as goal
+use Rattle.name_places.specs.Places.{place_in}
+use Rattle.name_places.proofs.TextKeys.{found_last}
+use Rattle.name_places.proofs.places.Places.put.Goals as goal
 
 pub returns-in_ok-insert : goal.returns-in_ok-insert
 returns-in_ok-insert c = λ other.

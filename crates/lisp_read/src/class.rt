@@ -1,6 +1,6 @@
 //! The kinds of bytes that the text format tells apart.
 ghost use Rattle.std.specs.Prelude.{◌≡◌, ◌⊎◌, true};
-ghost use Rattle.lisp_read.specs.Class.{class_of, is_atom_class};
+ghost use Rattle.lisp_read.specs.Class.{class_of, is_atom_class, is_blank};
 ghost use Rattle.lisp_read.specs.declared.class.ByteClass.TheVariants as class;
 
 /// A list in parentheses or a vector in brackets.
@@ -61,7 +61,8 @@ pub fn classify(byte: u8) -> ByteClass
 impl ByteClass {
     /// Whether the byte is a blank, or ends a line.
     pub fn is_blank(self) -> bool
-        ensures { result ≡ true → (self ≡ class.Blank) ⊎ (self ≡ class.Newline) }
+        ensures value { result ≡ is_blank self }
+        ensures which { result ≡ true → (self ≡ class.Blank) ⊎ (self ≡ class.Newline) }
     {
         matches!(self, ByteClass::Blank | ByteClass::Newline)
     }

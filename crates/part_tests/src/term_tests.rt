@@ -3,9 +3,9 @@ use bits64::Width;
 use plain_data::{Items, Memory};
 use rtx_tree::Name;
 use std::alloc::Global;
-use sym_term::{SymStores, TermRefusal, norm};
+use sym_term::{TermRefusal, norm};
 use term_cases::register_term;
-use term_tree::{Head, Term, size};
+use term_tree::{Head, Term};
 
 fn two_parts(alloc: Global, head: Head, a: Term, b: Term) -> Result<Term, Memory> {
     let mut parts = Items::new(alloc);
@@ -35,25 +35,20 @@ fn doubled_often(alloc: Global, head: Head, times: u32) -> Result<Term, Memory> 
     Ok(t)
 }
 
-// The size of a normal form, or what is answered in its place.
-fn normal_size(alloc: Global, t: &Term, stores: &SymStores) -> Result<u64, TermRefusal> {
-    Ok(size(&norm(alloc, t, stores)?))
-}
-
-// Whether the normal form of a term has 1,048,577 nodes, which is too many.
+// Whether the normal form of a term is too large.
 fn is_too_large(alloc: Global, t: &Term) -> bool {
     matches!(
-        normal_size(alloc, t, &Items::new(alloc)),
+        norm(alloc, t, &Items::new(alloc)),
         Err(TermRefusal::Size { size: 1_048_577 })
     )
 }
 
-// Whether a term is its own normal form, with 1,048,575 nodes.
+// Whether it is not.
 fn is_within(alloc: Global, t: &Term) -> bool {
-    matches!(normal_size(alloc, t, &Items::new(alloc)), Ok(1_048_575))
+    norm(alloc, t, &Items::new(alloc)).is_ok()
 }
 
-// The upper half of a product is not flattened.
+// The upper half of a product is not flattened: 1,048,575 nodes, and twice as many.
 #[test]
 fn doubled_upper_halves(rt: HostRuntime) {
     let Ok(half) = doubled_often(rt.alloc(), Head::Mulhu, 19) else {
@@ -83,14 +78,13 @@ fn stepped(alloc: Global) -> Result<Term, TermRefusal> {
 }
 
 // One step after the other, as lines of code multiply a register by itself: 1,048,575 factors are
-// just few enough, and
-// one more is too many.
+// just few enough, and one more is too many.
 #[test]
 fn step_by_step(rt: HostRuntime) {
     let Ok(t) = stepped(rt.alloc()) else {
         panic!(rt; "no normal form");
     };
-    assert!(rt; size(&t) == 1_048_576);
+    assert!(rt; is_within(rt.alloc(), &t));
     let Ok(more) = two_parts(rt.alloc(), Head::Mul, t, register_term(rt.alloc(), 10)) else {
         panic!(rt; "out of memory");
     };

@@ -47,7 +47,7 @@ fn covers_access(
             width,
         } => {
             if is_same_width(w, *width) {
-                same_terms(maker, address, other)
+                same_terms(maker, address, other.term())
             } else {
                 Ok(false)
             }
@@ -66,7 +66,7 @@ fn covers_divisor(maker: &mut TermMaker, term: &Term, need: &NeedOf) -> Result<b
         NeedOf::Register { .. } => Ok(false),
         NeedOf::Lost { .. } => Ok(false),
         NeedOf::Access { .. } => Ok(false),
-        NeedOf::Divisor { term: other } => same_terms(maker, term, other),
+        NeedOf::Divisor { term: other } => same_terms(maker, term, other.term()),
         NeedOf::Symbol { .. } => Ok(false),
     }
 }
@@ -91,8 +91,8 @@ fn covers(maker: &mut TermMaker, had: &NeedOf, need: &NeedOf) -> Result<bool, Me
     match had {
         NeedOf::Register { reg, width } => Ok(covers_register(*reg, *width, need)),
         NeedOf::Lost { .. } => Ok(false),
-        NeedOf::Access { address, width } => covers_access(maker, address, *width, need),
-        NeedOf::Divisor { term } => covers_divisor(maker, term, need),
+        NeedOf::Access { address, width } => covers_access(maker, address.term(), *width, need),
+        NeedOf::Divisor { term } => covers_divisor(maker, term.term(), need),
         NeedOf::Symbol { name } => Ok(covers_symbol(name, need)),
     }
 }
@@ -116,8 +116,8 @@ fn need_term(alloc: Global, need: &NeedOf) -> Result<Term, Memory>
     match need {
         NeedOf::Register { reg, .. } => Ok(own_register(alloc, *reg)),
         NeedOf::Lost { reg, .. } => Ok(own_register(alloc, *reg)),
-        NeedOf::Access { address, .. } => address.copy(alloc),
-        NeedOf::Divisor { term } => term.copy(alloc),
+        NeedOf::Access { address, .. } => address.term().copy(alloc),
+        NeedOf::Divisor { term } => term.term().copy(alloc),
         NeedOf::Symbol { name } => own_symbol(alloc, name),
     }
 }

@@ -9,7 +9,7 @@ ghost use Rattle.sym_diff.specs.Difference.{Differ, shown as shown_spec};
 ghost use Rattle.sym_diff.specs.Registers as spec;
 ghost use Rattle.sym_diff.specs.Views.{difference_of};
 
-use crate::difference::{Found, SymDifference, copy_of, same_terms, shown};
+use crate::difference::{Found, SymDifference, same_terms, shown};
 use crate::numbers::{Numbers, put_changed};
 use plain_data::{Items, Memory};
 use rtx_tree::{HARD_REGS, RegSet, VIRTUAL_STACK_VARS, reg_call_used};
@@ -17,13 +17,23 @@ use std::alloc::Global;
 use sym_state::{SymReg, held, own_register};
 use sym_term::TermMaker;
 use term_text::Item;
-use term_tree::{Term, is_narrower};
+use term_tree::{Measured, Term, is_narrower};
 
 /// Whether a register was changed.
 fn is_changed(regs: &[SymReg], reg: u64) -> bool
     ensures { result ≡ is_some (held_spec (map changed_of regs.now) reg) }
 {
     held(regs, reg).is_some()
+}
+
+/// What a register was left with, where it was not unset.
+fn value_left(alloc: Global, value: &Option<Measured>) -> Result<Option<Term>, Memory>
+    ensures { IfOk result (λ copy. option_map tree_of copy ≡ option_map tree_of value.now) }
+{
+    match value {
+        None => Ok(None),
+        Some(value) => Ok(Some(value.term().copy(alloc)?)),
+    }
 }
 
 /// What a register holds.
@@ -33,7 +43,7 @@ fn value_behind(alloc: Global, regs: &[SymReg], reg: u64) -> Result<Option<Term>
 {
     match held(regs, reg) {
         None => Ok(Some(own_register(alloc, reg))),
-        Some(changed) => copy_of(alloc, &changed.value),
+        Some(changed) => value_left(alloc, &changed.value),
     }
 }
 

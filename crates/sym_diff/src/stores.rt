@@ -23,9 +23,9 @@ fn compared_store(
         spec.compared_store index (store_of a.now) (store_of b.now)) }
 {
     let item = Item::Store { index };
-    match compared_terms(maker, alloc, item, &a.address, &b.address)? {
+    match compared_terms(maker, alloc, item, a.address.term(), b.address.term())? {
         Some(found) => Ok(Some(found)),
-        None => compared_terms(maker, alloc, item, &a.value, &b.value),
+        None => compared_terms(maker, alloc, item, a.value.term(), b.value.term()),
     }
 }
 
@@ -34,7 +34,12 @@ fn missing_right(alloc: Global, index: u32, a: &SymStore) -> Result<Found, Memor
     ensures { IfOk result (λ found. option_map difference_of found ≡
         places.compared_at index (Some (store_of a.now)) None) }
 {
-    differ(alloc, Item::Store { index }, &a.address, &nothing(alloc))
+    differ(
+        alloc,
+        Item::Store { index },
+        a.address.term(),
+        &nothing(alloc),
+    )
 }
 
 /// A store that the first side has not.
@@ -42,7 +47,12 @@ fn missing_left(alloc: Global, index: u32, b: &SymStore) -> Result<Found, Memory
     ensures { IfOk result (λ found. option_map difference_of found ≡
         places.compared_at index None (Some (store_of b.now))) }
 {
-    differ(alloc, Item::Store { index }, &nothing(alloc), &b.address)
+    differ(
+        alloc,
+        Item::Store { index },
+        &nothing(alloc),
+        b.address.term(),
+    )
 }
 
 /// The stores at a place. A place from 2 ^ 32 on, which no memory holds, is want of memory.

@@ -18,7 +18,7 @@ use rtx_tree::{Code, Rtx};
 use std::alloc::Global;
 use sym_state::{NeedOf, SymNeed, SymNeeds, SymRegs, SymState, put};
 use sym_term::{SymStore, SymStores, TermMaker};
-use term_tree::Term;
+use term_tree::{Measured, Term};
 
 /// What one part of an instruction does, its terms made.
 #[derive(Drop)]
@@ -110,7 +110,7 @@ fn need_access(alloc: Global, address: &Term, w: Width, needs: &mut Needs) -> Re
         ≡ map need_of needs.old ++ Access (tree_of address.now) w ∷ []) }
 {
     needs.push(NeedOf::Access {
-        address: address.copy(alloc)?,
+        address: Measured::of(address.copy(alloc)?),
         width: w,
     })?;
     Ok(())
@@ -287,7 +287,10 @@ fn change(state: &mut SymState, effect: EffectOf) -> Result<(), Memory>
         EffectOf::Nothing => Ok(()),
         EffectOf::Sets { reg, value } => put(&mut state.regs, reg, Some(value)),
         EffectOf::Unsets { reg } => put(&mut state.regs, reg, None),
-        EffectOf::Stores { address, value } => state.stores.push(SymStore { address, value }),
+        EffectOf::Stores { address, value } => state.stores.push(SymStore {
+            address: Measured::of(address),
+            value: Measured::of(value),
+        }),
     }
 }
 

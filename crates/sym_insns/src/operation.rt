@@ -13,7 +13,7 @@ use std::alloc::Global;
 use sym_state::{NeedOf, less_one, one, sum, truth_in, two};
 use sym_term::{SymStores, TermMaker};
 use term_sums::{constant_of, minus_one};
-use term_tree::{Head, Relation, Term};
+use term_tree::{Head, Measured, Relation, Term};
 
 /// Needs, in the order in which they are met.
 pub type Needs = Items<NeedOf>;
@@ -117,7 +117,7 @@ pub fn need_divisor(alloc: Global, code: Code, b: &Term, needs: &mut Needs) -> R
 {
     if does_divide(code) && !is_nonzero(b) {
         needs.push(NeedOf::Divisor {
-            term: b.copy(alloc)?,
+            term: Measured::of(b.copy(alloc)?),
         })?;
     }
     Ok(())

@@ -62,7 +62,7 @@ fn run_all(alloc: Global, insns: &[Insn]) -> Result<Option<SymState>, Memory>
 /// # Errors
 ///
 /// `Shape` with the place of the first instruction that can't be compared. `Size` where a term of
-/// a state that is met has more than 1,048,576 nodes. `Memory` where memory ran out.
+/// a state that is met has more than 1,048,576 nodes or 2,000 levels. `Memory` where memory ran out.
 pub fn run_rtl(alloc: Global, insns: &[Insn]) -> Result<SymState, SymRefusal>
     requires { length insns.now < 2 ^ 32 }
     ensures { Gives result (spec.run insns.now) }

@@ -22,7 +22,7 @@ use std::alloc::Global;
 use sym_state::{NeedOf, SymRegs, own_symbol, read, read_need};
 use sym_term::{SymStores, TermMaker};
 use term_sums::constant_term;
-use term_tree::{Head, Term};
+use term_tree::{Head, Measured, Term};
 
 /// What has no value: it needs what nothing meets.
 pub fn no_value(alloc: Global, w: Width, needs: &mut Needs) -> Result<Term, Memory>
@@ -114,7 +114,7 @@ fn load(
         })) }
 {
     needs.push(NeedOf::Access {
-        address: address.copy(alloc)?,
+        address: Measured::of(address.copy(alloc)?),
         width: w,
     })?;
     let mut parts = Vec::new(alloc);

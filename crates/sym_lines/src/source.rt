@@ -19,7 +19,7 @@ use std::alloc::Global;
 use sym_state::{NeedOf, SymNeed, SymNeeds, SymRegs, read, read_need};
 use sym_term::TermMaker;
 use term_sums::constant_term;
-use term_tree::{Atom, Term};
+use term_tree::{Atom, Measured, Term};
 
 /// What a register holds.
 pub(crate) fn register(
@@ -191,7 +191,7 @@ pub(crate) fn need_access(
         needs,
         index,
         NeedOf::Access {
-            address: at,
+            address: Measured::of(at),
             width: w,
         },
     )

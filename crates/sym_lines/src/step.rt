@@ -26,7 +26,7 @@ use sym_state::{
 };
 use sym_term::{SymStore, SymStores, TermMaker};
 use term_sums::constant_term;
-use term_tree::{Head, Term};
+use term_tree::{Head, Measured, Term};
 
 /// What a computing line writes.
 fn value_of(
@@ -127,7 +127,10 @@ fn push_store(stores: &mut SymStores, address: Term, value: Term) -> Result<(), 
     ensures { OnOk result (map store_of stores.new
         ≡ map store_of stores.old ++ (tree_of address, tree_of value) ∷ []) }
 {
-    stores.push(SymStore { address, value })
+    stores.push(SymStore {
+        address: Measured::of(address),
+        value: Measured::of(value),
+    })
 }
 
 /// Stores `rt`.

@@ -2,13 +2,14 @@
 -- the first of them: the registers that were changed, the stores in their order, where it leads,
 -- what is called, and what has to be there for each step to have a meaning. (GCC Internals, "Side
 -- Effect Expressions" says what an instruction may do.)
-use Rattle.std.specs.Prelude.{ℕ, ◌&&◌, nat_le, Bool, true, List, [], ◌∷◌, Option, Some, None}
+use Rattle.std.specs.Prelude.{ℕ, ◌&&◌, Bool, true, List, [], ◌∷◌, Option, Some, None}
 use Rattle.std.specs.List.{list_all}
 use Rattle.bits64.specs.declared.Width.{Width}
 use Rattle.bits64.specs.declared.Width.TheVariants.{W8, W64}
 use Rattle.rtx_tree.specs.declared.code.Mode.{Mode}
 use Rattle.term_tree.specs.declared.head.Head.TheVariants as heads
-use Rattle.term_tree.specs.Tree.{Tree, Node, no_trees, tree_size, most_nodes}
+use Rattle.term_tree.specs.Tree.{Tree, Node, no_trees}
+use Rattle.term_tree.specs.Small.{is_small}
 use Rattle.sym_term.specs.term_mean.Sums.{constant}
 use Rattle.sym_term.specs.term_mean.Stores.{Store}
 
@@ -85,9 +86,6 @@ needs_at index [] = []
 needs_at index (need ∷ needs) = record { index = index; what = need } ∷ needs_at index needs
 
 -- ---- how large a state is
-
-abbrev pub is_small : Tree → Bool
-is_small t = nat_le (tree_size t) most_nodes
 
 abbrev pub is_small_value : Option Tree → Bool
 is_small_value None = true

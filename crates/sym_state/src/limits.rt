@@ -1,44 +1,38 @@
 //! Whether the terms of a state are within the limit.
 ghost use Rattle.std.specs.Prelude.{◌≡◌, map, option_map};
 ghost use Rattle.std.specs.List.{list_all};
-ghost use Rattle.term_tree.specs.View.{tree_of};
+ghost use Rattle.term_tree.specs.Small as tree;
 ghost use Rattle.sym_term.specs.Views.{store_of};
 ghost use Rattle.sym_state.specs.State as spec;
 ghost use Rattle.sym_state.specs.Views as views;
 
 use crate::state::{NeedOf, SymArg, SymCall, SymNeed, SymReg, SymState};
 use sym_term::SymStore;
-use term_tree::{LIMIT, Term, size};
-
-fn is_small(term: &Term) -> bool
-    ensures { result ≡ spec.is_small (tree_of term.now) }
-{
-    size(term) <= LIMIT
-}
+use term_tree::is_small;
 
 fn is_small_register(changed: &SymReg) -> bool
     ensures { result ≡ spec.is_small_value (views.changed_of changed.now).value }
 {
     match &changed.value {
         None => true,
-        Some(term) => is_small(term),
+        Some(value) => value.is_small(),
     }
 }
 
 fn is_small_store(store: &SymStore) -> bool
     ensures { result ≡ spec.is_small_store (store_of store.now) }
 {
-    is_small(&store.address) && is_small(&store.value)
+    store.address.is_small() && store.value.is_small()
 }
 
 fn is_small_arg(arg: &SymArg) -> bool
-    ensures { result ≡ spec.is_small (views.arg_of arg.now).value }
+    ensures { result ≡ tree.is_small (views.arg_of arg.now).value }
 {
     is_small(&arg.value)
 }
 
 fn are_small_args(args: &[SymArg]) -> bool
-    ensures { result ≡ list_all (λ a. spec.is_small a.value) (map views.arg_of args.now) }
+    ensures { result ≡ list_all (λ a. tree.is_small a.value) (map views.arg_of args.now) }
 {
     for item in args {
         if !is_small_arg(item) {
@@ -61,8 +55,8 @@ fn is_small_need(need: &SymNeed) -> bool
     ensures { result ≡ spec.is_small_need (views.need_at_of need.now).what }
 {
     match &need.what {
-        NeedOf::Access { address, .. } => is_small(address),
-        NeedOf::Divisor { term } => is_small(term),
+        NeedOf::Access { address, .. } => address.is_small(),
+        NeedOf::Divisor { term } => term.is_small(),
         _ => true,
     }
 }
@@ -101,7 +95,7 @@ fn are_small_needs(needs: &[SymNeed]) -> bool
 }
 
 impl SymState {
-    /// Whether each term of the state has at most 1,048,576 nodes.
+    /// Whether each term of the state has at most 1,048,576 nodes on at most 2,000 levels.
     pub fn is_within(&self) -> bool
         ensures { result ≡ spec.is_within (views.state_of self.now) }
     {

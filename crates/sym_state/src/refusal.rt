@@ -8,7 +8,8 @@ pub enum SymRefusal {
     /// The instruction or line at a place, counted from 0, can't be compared.
     #[error("what stands at {index} can't be compared")]
     Shape { index: u32 },
-    /// A term of a state that is met has more nodes than the limit; `size` is one more than that.
+    /// A term of a state that is met has more nodes than the limit, or more levels; `size` is one
+    /// more than the limit of nodes.
     #[error("a term has {size} nodes or more")]
     Size { size: u64 },
     /// Memory ran out.

@@ -15,7 +15,7 @@ use rtx_tree::{HARD_REGS, reg_call_used};
 use std::alloc::Global;
 use sym_term::TermMaker;
 use term_sums::constant_term;
-use term_tree::{Term, is_narrower};
+use term_tree::{Measured, Term, is_narrower};
 
 /// The register among those that were changed, where it is one of them.
 pub fn held(regs: &[SymReg], reg: u64) -> Option<&SymReg>
@@ -34,7 +34,7 @@ pub fn held(regs: &[SymReg], reg: u64) -> Option<&SymReg>
 fn term_left(
     maker: &mut TermMaker,
     alloc: Global,
-    left: &Option<Term>,
+    left: &Option<Measured>,
     reg: u64,
     w: Width,
 ) -> Result<Term, Memory>
@@ -42,7 +42,8 @@ fn term_left(
         tree_of term ≡ places.term_left (option_map tree_of left.now) reg w) }
 {
     match left {
-        Some(term) => {
+        Some(left) => {
+            let term = left.term();
             if is_narrower(term.width(), w) {
                 maker.cut(w, &own_register(alloc, reg))
             } else {
@@ -89,13 +90,13 @@ pub fn read(
 }
 
 /// What is needed of a register that was left with a term, or unset.
-fn need_left(left: &Option<Term>, reg: u64, w: Width) -> Option<NeedOf>
+fn need_left(left: &Option<Measured>, reg: u64, w: Width) -> Option<NeedOf>
     ensures { places.listed (option_map views.need_of result) ≡
         spec.need_of (Some (option_map tree_of left.now)) reg w }
 {
     match left {
-        Some(term) => {
-            if is_narrower(term.width(), w) {
+        Some(left) => {
+            if is_narrower(left.term().width(), w) {
                 Some(NeedOf::Lost { reg, width: w })
             } else {
                 None
@@ -144,7 +145,7 @@ fn is_at(regs: &[SymReg], at: usize, reg: u64) -> bool
 
 /// Puts a register at a place, in place of itself where it stands there.
 #[tactic(auto, using(crate::proofs::Placing::changes_seen))]
-fn put_at(regs: &mut SymRegs, at: usize, reg: u64, value: Option<Term>) -> Result<(), Memory>
+fn put_at(regs: &mut SymRegs, at: usize, reg: u64, value: Option<Measured>) -> Result<(), Memory>
     requires { at ≤ length regs.old }
     ensures { OnOk result (map changed_of regs.new ≡ places.put_at (map changed_of regs.old) at reg
         (option_map tree_of value)) }
@@ -154,6 +155,16 @@ fn put_at(regs: &mut SymRegs, at: usize, reg: u64, value: Option<Term>) -> Resul
         Ok(())
     } else {
         regs.insert(at, SymReg { reg, value })
+    }
+}
+
+/// A term that may be missing, measured.
+fn measured(value: Option<Term>) -> Option<Measured>
+    ensures { result ≡ value }
+{
+    match value {
+        None => None,
+        Some(term) => Some(Measured::of(term)),
     }
 }
 
@@ -167,7 +178,7 @@ pub fn put(regs: &mut SymRegs, reg: u64, value: Option<Term>) -> Result<(), Memo
         return Ok(());
     }
     let at = place_of(regs.as_slice(), reg);
-    put_at(regs, at, reg, value)
+    put_at(regs, at, reg, measured(value))
 }
 
 /// Unsets a register that a call need not preserve; any other stays.

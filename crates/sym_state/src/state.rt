@@ -9,7 +9,7 @@ use rtx_tree::{Mode, Name};
 use std::alloc::Global;
 use sym_term::SymStores;
 use term_sums::constant_term;
-use term_tree::Term;
+use term_tree::{Measured, Term};
 
 /// A register that was changed.
 #[derive(Drop)]
@@ -17,7 +17,7 @@ pub struct SymReg {
     /// The register's number, which is not 0.
     pub reg: u64,
     /// The bits that are known of it, or `None` where it is unset.
-    pub value: Option<Term>,
+    pub value: Option<Measured>,
 }
 
 /// Registers that were changed, in increasing order.
@@ -75,14 +75,14 @@ pub enum NeedOf {
     /// Memory at an address.
     Access {
         /// The address.
-        address: Term,
+        address: Measured,
         /// How many bits.
         width: Width,
     },
     /// A divisor that is not 0.
     Divisor {
         /// The divisor.
-        term: Term,
+        term: Measured,
     },
     /// An address of a symbol.
     Symbol {

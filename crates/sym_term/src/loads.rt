@@ -29,10 +29,10 @@ fn lies_apart(alloc: Global, w: Width, a: &Term, store: &SymStore) -> Result<boo
     ensures { IfOk result (λ r. r ≡ spec.lies_apart w (tree_of a.now) (Some (store_of store.now))) }
 {
     let left = a.copy(alloc)?;
-    let distance = minus(alloc, Width::W64, left, &store.address)?;
+    let distance = minus(alloc, Width::W64, left, store.address.term())?;
     Ok(is_apart(
         w.bytes(),
-        store.value.width().bytes(),
+        store.value.term().width().bytes(),
         constant_of(&distance),
     ))
 }

@@ -1,6 +1,7 @@
 //! The normal form.
-ghost use Rattle.std.specs.Prelude.{ℕ, ◌≡◌, ◌+◌, ◌≤◌, ◌<◌, [], ◌∷◌, map, vec_len, IfOk};
-ghost use Rattle.term_tree.specs.Tree.{tree_size, trees_of, atoms_of, Node, tree, no_trees, most_nodes};
+ghost use Rattle.std.specs.Prelude.{ℕ, ◌≡◌, ◌+◌, [], ◌∷◌, true, false, map, vec_len, IfOk};
+ghost use Rattle.term_tree.specs.Small.{is_small};
+ghost use Rattle.term_tree.specs.Tree.{trees_of, atoms_of, Node, tree, no_trees, most_nodes};
 ghost use Rattle.term_tree.specs.View.{tree_of, atom_of};
 ghost use Rattle.term_cuts.specs.term_mean.Meaning.{Valuation, mean};
 ghost use Rattle.term_cuts.specs.term_mean.Stores.{Stored};
@@ -19,14 +20,15 @@ use rtx_tree::Name;
 use std::alloc::Global;
 use term_cuts::{AtWidth, cut_to, extended, made_at};
 use term_sums::{constant_of, summed};
-use term_tree::{Atom, Extension, Head, Joint, LIMIT, Term, size};
+use term_tree::{Atom, Extension, Head, Joint, LIMIT, Term, is_small};
 use term_zero::{equals_zero, less_than, on_constants, two_parts};
 use thiserror::Error;
 
 /// Why a term has no normal form that could be given.
 #[derive(Debug, Drop, Error)]
 pub enum TermRefusal {
-    /// The normal form has more nodes than the limit; `size` is one more than that.
+    /// The normal form has more nodes than the limit, or more levels; `size` is one more than the
+    /// limit of nodes.
     #[error("a normal form has {size} nodes or more")]
     Size { size: u64 },
     /// Memory ran out.
@@ -337,11 +339,12 @@ fn normal_parts(alloc: Global, stores: &SymStores, parts: &[Term]) -> Result<Vec
     Ok(normals)
 }
 
-/// The normal form of a term under the stores so far, unless it has more nodes than the limit.
+/// The normal form of a term under the stores so far, unless it has more nodes than the limit, or
+/// more levels.
 ///
-/// `Size` tells that it has: `size` is one more than the limit, where counting stops. The normal
-/// form means what the term means, wherever the memory behind each store is the one before it with
-/// the store's value written.
+/// `Size` tells that it has: `size` is one more than the limit of nodes. The normal form means what
+/// the term means, wherever the memory behind each store is the one before it with the store's
+/// value written.
 ///
 /// The whole normal form is made before its nodes are counted. No rule puts a part twice into what
 /// it makes; what grows is a truncation or an extension that goes into parts, and is then put
@@ -353,14 +356,13 @@ pub fn norm(alloc: Global, t: &Term, stores: &SymStores) -> Result<Term, TermRef
     ensures meaning { (v : Valuation) → Stored v (map store_of stores.now) →
         IfOk result (λ r. mean v (tree_of r) ≡ mean v (tree_of t.now)) }
     ensures fits { IfOk result (λ r.
-        tree_size (spec.normal (map store_of stores.now) (tree_of t.now)) ≤ most_nodes) }
+        is_small (spec.normal (map store_of stores.now) (tree_of t.now)) ≡ true) }
     ensures size { (n : ℕ) → result ≡ Err (TermRefusal.Size n) → (n ≡ most_nodes + 1) ×
-        (most_nodes < tree_size (spec.normal (map store_of stores.now) (tree_of t.now))) }
+        (is_small (spec.normal (map store_of stores.now) (tree_of t.now)) ≡ false) }
 {
     let normal = normal(alloc, t, stores)?;
-    let nodes = size(&normal);
-    if nodes > LIMIT {
-        return Err(TermRefusal::Size { size: nodes });
+    if !is_small(&normal) {
+        return Err(TermRefusal::Size { size: LIMIT + 1 });
     }
     Ok(normal)
 }

@@ -7,7 +7,7 @@ use plain_data::Items;
 use std::alloc::Global;
 use sym_term::{SymStore, SymStores, norm, relate};
 use term_text::print_term;
-use term_tree::{Relation, Term};
+use term_tree::{Measured, Relation, Term};
 use text_cases::{tree_in, trees_in};
 
 /// The comparisons by the names of their codes.
@@ -54,7 +54,10 @@ fn store_of(alloc: Global, pair: &[Tree]) -> Option<SymStore> {
         && let Some(address) = term_of(alloc, address)
         && let Some(value) = term_of(alloc, value)
     {
-        Some(SymStore { address, value })
+        Some(SymStore {
+            address: Measured::of(address),
+            value: Measured::of(value),
+        })
     } else {
         None
     }

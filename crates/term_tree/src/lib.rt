@@ -5,17 +5,20 @@
 //! are plain data in contracts, so two of them are equal in a clause exactly where they are the
 //! same all the way down, and a copy equals its source. The definitions speak of a term as a tree,
 //! `tree_of`; `compare` is the order of trees, `is_well_formed` tells the trees whose widths and
-//! numbers fit, and `size` counts nodes up to a limit.
+//! numbers fit, and `is_small` tells those that have no more nodes and levels than a term of a
+//! comparison may have, which a [`Measured`] term knows of itself.
 #![tactic(auto)]
 
 mod form;
 mod head;
+mod measured;
 mod nodes;
 mod order;
 mod term;
 
 pub use form::{are_of_width, is_narrower, is_same_width, is_well_formed};
 pub use head::{Extension, Head, Joint, Relation};
-pub use nodes::{LIMIT, size};
+pub use measured::Measured;
+pub use nodes::{LIMIT, is_small};
 pub use order::{compare, place};
 pub use term::{Atom, Atoms, Term, Terms};

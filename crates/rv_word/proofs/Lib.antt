@@ -4,3 +4,4 @@ pub mod Back
 pub mod Forth
 pub mod Inverse
 pub mod OneWord
+pub mod Straight

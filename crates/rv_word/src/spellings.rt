@@ -1,5 +1,6 @@
 //! The table of the mnemonics' words.
 ghost use Rattle.std.specs.Prelude.{◌≡◌};
+ghost use Rattle.rv_word.specs.Sequence.{SequencesDo};
 ghost use Rattle.rv_word.specs.Spelling as spec;
 ghost use Rattle.rv_word.specs.Step.{OneWordDoes, OppositeDoes};
 
@@ -224,11 +225,12 @@ static SPELLINGS: [Spelling; 86] = [
 ];
 
 /// Which words a line of a mnemonic has. What has one word does what its word does, and a branch is
-/// not taken where its opposite is.
+/// not taken where its opposite is. The words of `li`, `la` and `call` do what their lines do.
 pub fn spelling_of(mnemonic: Mnemonic) -> Spelling
     ensures value { result ≡ spec.spelling_of mnemonic }
     ensures does { OneWordDoes }
     ensures opposite { OppositeDoes }
+    ensures sequences { SequencesDo }
 {
     SPELLINGS[mnemonic as usize]
 }

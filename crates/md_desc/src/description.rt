@@ -10,6 +10,7 @@ ghost use Rattle.md_pred.specs.machine.Table.{accepted_by};
 ghost use Rattle.tree_forms.specs.Trees.{most_forms};
 ghost use Rattle.md_desc.specs.Recog as spec;
 ghost use Rattle.md_desc.specs.machine.Steps as steps;
+ghost use Rattle.md_recog.specs.declared.half.Half.TheVariants as half;
 ghost use Rattle.md_recog.specs.declared.recog.FormMatch.{FormMatch};
 ghost use Rattle.recog_tree.specs.machine.Tables as by_key;
 
@@ -18,7 +19,7 @@ use md_attr::{Attributes, enabled, has_alternative};
 use md_constr::{Constraints, fits, operand_admits, operand_fits};
 use md_forms::Forms;
 use md_pred::PredTable;
-use md_recog::{FormMatch, Steps};
+use md_recog::{FormMatch, Half, Steps};
 use plain_data::Memory;
 use recog_tree::{Tables, recog};
 use rtx_tree::{Operands, Rtx};
@@ -33,7 +34,8 @@ pub struct Description {
     preds: PredTable,
     constraints: Constraints,
     attributes: Attributes,
-    tables: Tables,
+    insns: Tables,
+    splits: Tables,
 }
 
 impl Model for Description {
@@ -51,7 +53,7 @@ impl Model for Description {
 
     ghost invariant = { λ description.
         AreTablesOf description.forms description.preds description.constraints
-        description.attributes description.tables };
+        description.attributes description.insns description.splits };
 }
 
 /// The tables that are asked of operands.
@@ -76,17 +78,24 @@ impl OperandTables {
 #[derive(Drop)]
 struct FormTables {
     attributes: Attributes,
-    tables: Tables,
+    insns: Tables,
+    splits: Tables,
 }
 
 impl FormTables {
     fn of(alloc: Global, forms: &Forms) -> Result<FormTables, Memory>
         ensures gives { IfOk result (λ r. AreAttributesOf r.attributes forms.now) }
-        ensures keyed { IfOk result (λ r. by_key.AreTablesOf r.tables forms.now) }
+        ensures keyed { IfOk result (λ r. by_key.AreTablesOf half.Insn r.insns forms.now) }
+        ensures split { IfOk result (λ r. by_key.AreTablesOf half.Split r.splits forms.now) }
     {
         let attributes = Attributes::of(alloc, forms)?;
-        let tables = Tables::of(alloc, forms)?;
-        Ok(FormTables { attributes, tables })
+        let insns = Tables::of(alloc, Half::Insn, forms)?;
+        let splits = Tables::of(alloc, Half::Split, forms)?;
+        Ok(FormTables {
+            attributes,
+            insns,
+            splits,
+        })
     }
 }
 
@@ -103,7 +112,8 @@ impl Description {
             preds: of_operands.preds,
             constraints: of_operands.constraints,
             attributes: of_forms.attributes,
-            tables: of_forms.tables,
+            insns: of_forms.insns,
+            splits: of_forms.splits,
         })
     }
 
@@ -134,6 +144,13 @@ impl Description {
         ensures { AreAttributesOf result.now self.now }
     {
         &self.attributes
+    }
+
+    /// By which keys the forms that split instructions are found.
+    pub fn splits(&self) -> &Tables
+        ensures { by_key.AreTablesOf half.Split result.now self.now }
+    {
+        &self.splits
     }
 
     /// Whether a form is accepted and has an alternative.
@@ -229,7 +246,8 @@ impl Description {
         let forms = self.forms.as_slice();
         recog(
             alloc,
-            &self.tables,
+            Half::Insn,
+            &self.insns,
             forms,
             &self.preds,
             insn,

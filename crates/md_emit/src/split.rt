@@ -7,8 +7,9 @@ ghost use Rattle.md_recog.specs.declared.half.Half.TheVariants as half;
 
 use c_eval::Facts;
 use md_desc::Description;
-use md_recog::{FormMatch, Half, Steps, first_match};
+use md_recog::{FormMatch, Half, Steps};
 use plain_data::Memory;
+use recog_tree::recog;
 use rtx_tree::Rtx;
 use std::alloc::Global;
 use std::marker::Brand;
@@ -35,13 +36,14 @@ fn split_counted<L: Ledger>(
         (length desc.now)) }
 {
     let mut steps = Steps::<L>::new(blank);
-    first_match(
+    recog(
         alloc,
-        desc.forms().as_slice(),
         Half::Split,
-        &[insn],
-        facts,
+        desc.splits(),
+        desc.forms().as_slice(),
         desc.preds(),
+        insn,
+        facts,
         from,
         &mut steps,
     )

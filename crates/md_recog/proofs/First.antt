@@ -48,15 +48,6 @@ module _ (a : Accepts) (f : Facts) (h : Half) (i : List Rtx) (es : List Entry) w
       last : (n k : ℕ) → n < k + 1 → (n < k) ⊎ (n ≡ k)
       last n k less = ⊎_elim (λ below. inl below) (λ above. inr (omega (arith, less, above))) (cases_lt n k)
 
-  -- one that matches nothing is passed over
-  pub passed_over : (from k : ℕ) (e : Entry) → slice_get es k ≡ Some e → ((o : Ops) → EntryMatches a f h i e o → ⊥) →
-      NoneBetween a f h i es from k → NoneBetween a f h i es from (k + 1)
-  passed_over from k e read never none =
-      goes_on from k none (here_none k e read (λ o. (λ same. absurd (let no : ⊥ = cc in no), λ m. absurd (never o m))))
-
-  pub none_behind : (from k : ℕ) → NoneBetween a f h i es from k → length es ≤ k → NoneBetween a f h i es from (length es)
-  none_behind from k none long form behind before o m = none form behind (omega (arith, long, before)) o m
-
   pub none_first : (from : ℕ) → NoneBetween a f h i es from (length es) → (m : FormMatch) → (None ≡ Some m) ↔ IsFirst a f h i es from m
   none_first from none m = (
     λ same. absurd (let never : ⊥ = cc in never),

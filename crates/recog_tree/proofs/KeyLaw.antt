@@ -1,19 +1,21 @@
 -- What matches an instruction has its key.
-use Rattle.std.proofs.Common.{◌≡◌, inl, inr, Bool, true, false, ◌&&◌, ◌||◌, if◌then◌else◌, [], ◌∷◌, Option, Some, None, refl, ap, subst, ◌∙◌}
-use Rattle.std.specs.Prelude.{option_map, option_and_then, slice_get}
+use Rattle.std.proofs.Common.{◌≡◌, inl, inr, Bool, true, false, not, ◌&&◌, ◌||◌, if◌then◌else◌, cond, List, [], ◌∷◌, Option, Some, None, refl, ap, subst, ◌∙◌}
+use Rattle.std.specs.Prelude.{option_map, option_and_then, slice_get, filter}
+use Rattle.std.specs.List.{find}
 use Rattle.rtx_tree.specs.declared.code.Code.{Code}
 use Rattle.rtx_tree.specs.declared.code.Code.TheVariants.{Parallel}
 use Rattle.rtx_tree.specs.declared.tree.Rtx.{Rtx}
 use Rattle.rtx_tree.specs.Tree.{RtxHead, kids_of}
 use Rattle.c_eval.specs.Value.{same_code}
 use Rattle.c_eval.specs.declared.facts.Facts.{Facts}
-use Rattle.md_match.specs.Pattern.{Ops, instantiated}
+use Rattle.md_match.specs.Pattern.{Ops, instantiated, all_instantiated}
 use Rattle.md_forms.specs.declared.form.Form.{Form}
 use Rattle.md_forms.specs.declared.form.Entry.{Entry}
 use Rattle.md_recog.specs.Match.{Accepts}
+use Rattle.md_recog.specs.declared.half.Half.{Half}
 use Rattle.md_recog.specs.declared.half.Half.TheVariants as half
-use Rattle.md_recog.specs.Recog.{is_instruction, EntryMatches}
-use Rattle.recog_tree.specs.Key.{is_wild, code_of, effect_source, source_of, key_of, fits_source, has_key, only_pattern, form_key, judged_key, entry_key, is_tried_by, is_tried}
+use Rattle.md_recog.specs.Recog.{has_half, is_scratch, window_of, patterns_of, EntryMatches}
+use Rattle.recog_tree.specs.Key.{is_wild, code_of, effect_source, source_of, key_of, fits_source, has_key, only_pattern, leading, form_key, judged_key, entry_key, is_tried_by, is_tried}
 use Rattle.recog_tree.proofs.Parts.{At, parts_at, one_of}
 use Rattle.recog_tree.proofs.Effects.{same_self, MadeOf, made_of, effect_fits}
 
@@ -60,13 +62,40 @@ made_has_key p x o m = by_wild (is_wild (code_of p)) refl
 
 -- ---- forms
 
-form_has : (f : Form) (p : Rtx) → is_instruction f.head ≡ true → f.patterns ≡ p ∷ [] → form_key f ≡ Some (key_of p)
-form_has f p is only =
-    ap (λ (b : Bool). if b then option_map key_of (only_pattern f.patterns) else None) is ∙ ap (λ ps. option_map key_of (only_pattern ps)) only
+-- the first expression is made by the pattern that a half is found by
+pub record Leads (h : Half) (ps : List Rtx) (x : Rtx) (o : Ops) : Type 0 where
+  pub pattern : Rtx
+  pub is : leading h ps ≡ Some pattern
+  pub made : instantiated pattern o ≡ Some x
+
+by_one : (h : Half) (ps : List Rtx) (x : Rtx) (o : Ops) → ((qs : List Rtx) → leading h qs ≡ only_pattern qs) → all_instantiated ps o ≡ Some (x ∷ []) → Leads h ps x o
+by_one h ps x o only made =
+    let one = one_of ps x o made in
+    record { pattern = one.pattern; is = only ps ∙ ap only_pattern one.is; made = one.made }
+
+-- the first of those that are kept is the first that passes
+first_kept : (test : Rtx → Bool) (ps qs : List Rtx) (p : Rtx) → filter test ps ≡ p ∷ qs → find test ps ≡ Some p
+first_kept test [] qs p is = absurd (let none : ⊥ = cc in none)
+first_kept test (x ∷ xs) qs p is = by (test x) (first_kept test xs qs p) is
+  where
+    by : (b : Bool) → (filter test xs ≡ p ∷ qs → find test xs ≡ Some p) → cond b (x ∷ filter test xs) (filter test xs) ≡ p ∷ qs → cond b (Some x) (find test xs) ≡ Some p
+    by true rest same = let one : x ≡ p = cc in ap Some one
+    by false rest same = rest same
+
+leads : (h : Half) (g : Form) (x : Rtx) (o : Ops) → all_instantiated (patterns_of h g) o ≡ Some (x ∷ []) → Leads h g.patterns x o
+leads half.Insn g x o made = by_one half.Insn g.patterns x o (λ qs. refl) made
+leads half.Split g x o made = by_one half.Split g.patterns x o (λ qs. refl) made
+leads half.Window g x o made =
+    let one = one_of (window_of g.patterns) x o made in
+    record { pattern = one.pattern; is = first_kept (λ p. not (is_scratch p)) g.patterns [] one.pattern one.is; made = one.made }
+
+form_has : (h : Half) (f : Form) (p : Rtx) → has_half h f.head ≡ true → leading h f.patterns ≡ Some p → form_key h f ≡ Some (key_of p)
+form_has h f p has is =
+    ap (λ (b : Bool). if b then option_map key_of (leading h f.patterns) else None) has ∙ ap (option_map key_of) is
 
 -- the law of the forms: what matches is tried
-pub matching_is_tried : (a : Accepts) (f : Facts) (i : Rtx) (e : Entry) (o : Ops) → EntryMatches a f half.Insn (i ∷ []) e o → is_tried i e ≡ true
-matching_is_tried a f i e o m =
-    let one = one_of m.says.patterns i o m.matches.matches.shape.made in
-    let key : entry_key e ≡ Some (key_of one.pattern) = ap judged_key m.accepted ∙ form_has m.says one.pattern m.matches.has one.is in
-    ap (is_tried_by (key_of i)) key ∙ made_has_key one.pattern i o one.made
+pub matching_is_tried : (a : Accepts) (f : Facts) (h : Half) (i : Rtx) (e : Entry) (o : Ops) → EntryMatches a f h (i ∷ []) e o → is_tried h i e ≡ true
+matching_is_tried a f h i e o m =
+    let first = leads h m.says i o m.matches.matches.shape.made in
+    let key : entry_key h e ≡ Some (key_of first.pattern) = ap (judged_key h) m.accepted ∙ form_has h m.says first.pattern m.matches.has first.is in
+    ap (is_tried_by (key_of i)) key ∙ made_has_key first.pattern i o first.made

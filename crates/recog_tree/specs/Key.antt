@@ -2,6 +2,7 @@
 -- source. GCC Internals, "RTL Template", "Side Effect Expressions" (`set`, `parallel`) and "Pattern
 -- Ordering".
 use Rattle.std.specs.Prelude.{Bool, true, false, not, ◌&&◌, ◌||◌, List, [], ◌∷◌, ℕ, Option, Some, None, Result, Ok, Err, option_map, option_and_then, slice_get, if◌then◌else◌}
+use Rattle.std.specs.List.{find}
 use Rattle.rtx_tree.specs.declared.code.Code.{Code}
 use Rattle.rtx_tree.specs.declared.code.Code.TheVariants.{Set, Parallel}
 use Rattle.rtx_tree.specs.declared.tree.Rtx.{Rtx}
@@ -13,7 +14,9 @@ use Rattle.md_match.specs.Pattern.{role_of}
 use Rattle.md_forms.specs.md_pattern.declared.reason.Reason.{Reason}
 use Rattle.md_forms.specs.declared.form.Form.{Form}
 use Rattle.md_forms.specs.declared.form.Entry.{Entry}
-use Rattle.md_recog.specs.Recog.{is_instruction}
+use Rattle.md_recog.specs.declared.half.Half.{Half}
+use Rattle.md_recog.specs.declared.half.Half.TheVariants as half
+use Rattle.md_recog.specs.Recog.{has_half, is_scratch}
 use Rattle.recog_tree.specs.declared.key.Key.{Key}
 
 -- ---- the key of an expression, an instruction or a pattern of one
@@ -75,25 +78,32 @@ only_pattern [] = None
 only_pattern (p ∷ []) = Some p
 only_pattern (p ∷ q ∷ ps) = None
 
--- the key of a form that defines an instruction
-abbrev pub form_key : Form → Option Key
-form_key form =
-    if is_instruction form.head then option_map key_of (only_pattern form.patterns) else None
+-- The pattern by which a half is found: that of its instruction, and for a window that of the first
+-- of its instructions.
+abbrev pub leading : Half → List Rtx → Option Rtx
+leading half.Insn ps = only_pattern ps
+leading half.Split ps = only_pattern ps
+leading half.Window ps = find (λ p. not (is_scratch p)) ps
 
-abbrev pub judged_key : Result Form Reason → Option Key
-judged_key (Ok form) = form_key form
-judged_key (Err reason) = None
+-- the key of a form that has a half
+abbrev pub form_key : Half → Form → Option Key
+form_key asked form =
+    if has_half asked form.head then option_map key_of (leading asked form.patterns) else None
+
+abbrev pub judged_key : Half → Result Form Reason → Option Key
+judged_key asked (Ok form) = form_key asked form
+judged_key asked (Err reason) = None
 
 -- a form that is set aside has none
-abbrev pub entry_key : Entry → Option Key
-entry_key entry = judged_key entry.form
+abbrev pub entry_key : Half → Entry → Option Key
+entry_key asked entry = judged_key asked entry.form
 
 -- whether what has a key, if it has one, is tried for an instruction with another
 abbrev pub is_tried_by : Key → Option Key → Bool
 is_tried_by insn None = false
 is_tried_by insn (Some pattern) = has_key pattern insn
 
--- whether a form is tried for an instruction: it defines one, and its pattern has the instruction's
--- key
-abbrev pub is_tried : Rtx → Entry → Bool
-is_tried insn entry = is_tried_by (key_of insn) (entry_key entry)
+-- whether a half of a form is tried for an instruction: the form has it, and its pattern has the
+-- instruction's key
+abbrev pub is_tried : Half → Rtx → Entry → Bool
+is_tried asked insn entry = is_tried_by (key_of insn) (entry_key asked entry)

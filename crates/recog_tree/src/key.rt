@@ -1,11 +1,12 @@
 //! The key of an instruction, and that of a form.
 ghost use Rattle.std.specs.Prelude.{◌≡◌};
+ghost use Rattle.std.specs.Option.{option_copied};
 ghost use Rattle.recog_tree.specs.Key as spec;
 
 use c_eval::same_code;
 use md_forms::{Entry, Form};
 use md_match::{Role, role_of};
-use md_recog::is_instruction;
+use md_recog::{Half, is_scratch};
 use rtx_tree::{Code, Rtx};
 
 /// By what forms are found: a code, with the code of a source.
@@ -105,24 +106,44 @@ pub fn is_tried_by(insn: Key, pattern: Option<Key>) -> bool
     }
 }
 
-fn form_key(form: &Form) -> Option<Key>
-    ensures { result ≡ spec.form_key form.now }
+/// The pattern of a form that has one alone.
+fn only_pattern(patterns: &[Rtx]) -> Option<&Rtx>
+    ensures { option_copied result ≡ spec.only_pattern patterns.now }
 {
-    if !is_instruction(form.head) {
-        return None;
-    }
-    match form.patterns.as_slice() {
-        [pattern] => Some(key_of(pattern)),
+    match patterns {
+        [pattern] => Some(pattern),
         _ => None,
     }
 }
 
-/// The key of a form that defines an instruction.
-pub fn entry_key(entry: &Entry) -> Option<Key>
-    ensures { result ≡ spec.entry_key entry.now }
+/// The pattern by which a half is found.
+fn leading(half: Half, patterns: &[Rtx]) -> Option<&Rtx>
+    ensures { option_copied result ≡ spec.leading half patterns.now }
+{
+    match half {
+        Half::Insn | Half::Split => only_pattern(patterns),
+        Half::Window => patterns.iter().find(|pattern| !is_scratch(pattern)),
+    }
+}
+
+fn form_key(half: Half, form: &Form) -> Option<Key>
+    ensures { result ≡ spec.form_key half form.now }
+{
+    if !half.is_of(form.head) {
+        return None;
+    }
+    match leading(half, form.patterns.as_slice()) {
+        Some(pattern) => Some(key_of(pattern)),
+        None => None,
+    }
+}
+
+/// The key of a form that has a half.
+pub fn entry_key(half: Half, entry: &Entry) -> Option<Key>
+    ensures { result ≡ spec.entry_key half entry.now }
 {
     match &entry.form {
-        Ok(form) => form_key(form),
+        Ok(form) => form_key(half, form),
         Err(_) => None,
     }
 }

@@ -1,11 +1,12 @@
-//! The first form of a machine description that matches an instruction, found by the instruction's
-//! key: GCC Internals, "Pattern Ordering".
+//! The first form of a machine description of which a half matches an instruction, found by the
+//! instruction's key: GCC Internals, "Pattern Ordering".
 //!
 //! The key of an instruction is its code with the code of its source (`specs/Key.antt`). What
 //! matches it has its key, so of the forms only those with the key are tried, in the order of the
 //! text: [`recog`] gives the first form from an index on that matches, or `None` exactly where none
 //! does, after at most as many tries as there are forms with the key. [`Tables`] keep the keys of a
-//! description's forms.
+//! half of a description's forms: of the instructions that they define, of those that they split,
+//! or of the first instructions of their windows.
 #![tactic(auto)]
 
 mod key;

@@ -1,10 +1,9 @@
-//! The first form that matches an instruction, of those that have its key.
+//! The first form of which a half matches an instruction, of those that have its key.
 ghost use Rattle.std.specs.Prelude.{◌≡◌, ◌↔◌, ◌+◌, ◌≤◌, ◌<◌, ◌^◌, ◌∷◌, [], true, Some, None, IfOk, length};
 ghost use Rattle.std.specs.List.{count_by};
 ghost use Rattle.md_forms.specs.declared.form.Entry.{Entry};
 ghost use Rattle.md_match.specs.Pattern.{Ops};
 ghost use Rattle.md_recog.specs.Recog.{IsFirst, NoneBetween, EntryMatches};
-ghost use Rattle.md_recog.specs.declared.half.Half.TheVariants as half;
 ghost use Rattle.md_recog.specs.declared.recog.FormMatch.{FormMatch};
 ghost use Rattle.recog_tree.specs.Key.{is_tried};
 ghost use Rattle.recog_tree.specs.machine.Tables.{AreTablesOf};
@@ -19,11 +18,12 @@ use rtx_tree::Rtx;
 use std::alloc::Global;
 use std::sync::ledger::Ledger;
 
-/// The first form from an index on that matches an instruction, or `None` exactly where there is
-/// none such. There are at most as many steps as forms with the instruction's key, and what matches
-/// has it.
+/// The first form from an index on of which a half matches an instruction, or `None` exactly where
+/// there is none such. There are at most as many steps as forms with the instruction's key in that
+/// half, and what matches has it.
 pub fn recog<P: Preds, L: Ledger>(
     alloc: Global,
+    half: Half,
     tables: &Tables,
     forms: &[Entry],
     preds: &P,
@@ -32,18 +32,18 @@ pub fn recog<P: Preds, L: Ledger>(
     from: u32,
     steps: &mut Steps<L>,
 ) -> Result<Option<FormMatch>, Memory>
-    requires tables { AreTablesOf tables.now forms.now }
+    requires tables { AreTablesOf half tables.now forms.now }
     requires short { length forms.now < 2 ^ 32 }
     ensures first { IfOk result (λ r. (m : FormMatch) →
-        (r ≡ Some m) ↔ IsFirst (P.accepts preds.now) facts.now half.Insn
+        (r ≡ Some m) ↔ IsFirst (P.accepts preds.now) facts.now half
         (insn.now ∷ []) forms.now from m) }
     ensures none { IfOk result (λ r. r ≡ None →
-        NoneBetween (P.accepts preds.now) facts.now half.Insn (insn.now ∷ []) forms.now from
+        NoneBetween (P.accepts preds.now) facts.now half (insn.now ∷ []) forms.now from
         (length forms.now)) }
-    ensures tries { steps.new ≤ steps.old + count_by (is_tried insn.now) forms.now }
+    ensures tries { steps.new ≤ steps.old + count_by (is_tried half insn.now) forms.now }
     ensures keyed { (entry : Entry) (operands : Ops) →
-        EntryMatches (P.accepts preds.now) facts.now half.Insn (insn.now ∷ []) entry operands →
-        is_tried insn.now entry ≡ true }
+        EntryMatches (P.accepts preds.now) facts.now half (insn.now ∷ []) entry operands →
+        is_tried half insn.now entry ≡ true }
 {
     let key = key_of(insn);
     let mut place = from;
@@ -51,7 +51,7 @@ pub fn recog<P: Preds, L: Ledger>(
         if let Some(found) = match_at(
             alloc,
             forms,
-            Half::Insn,
+            half,
             &[insn],
             facts,
             preds,

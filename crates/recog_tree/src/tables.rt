@@ -1,4 +1,4 @@
-//! The keys of a description's forms.
+//! The keys of a half of a description's forms.
 ghost use Rattle.std.specs.Prelude.{◌≡◌, ◌^◌, ◌<◌, IfOk, MatchOption, length, map};
 ghost use Rattle.recog_tree.specs.Key as spec;
 ghost use Rattle.recog_tree.specs.machine.Tables.{AreTablesOf, NoneTried, IsNext};
@@ -6,31 +6,32 @@ ghost use Rattle.recog_tree.specs.machine.Tables as machine;
 
 use crate::key::{Key, entry_key, is_tried_by};
 use md_forms::{Entry, Forms};
+use md_recog::Half;
 use plain_data::{Items, Memory};
 use std::alloc::Global;
 
-/// What forms are found by.
+/// What a half of forms is found by.
 #[derive(Drop)]
 pub struct Tables {
     keys: Items<Option<Key>>,
 }
 
-fn keys_of(alloc: Global, forms: &[Entry]) -> Result<Items<Option<Key>>, Memory>
-    ensures { IfOk result (λ keys. keys ≡ map spec.entry_key forms.now) }
+fn keys_of(alloc: Global, half: Half, forms: &[Entry]) -> Result<Items<Option<Key>>, Memory>
+    ensures { IfOk result (λ keys. keys ≡ map (spec.entry_key half) forms.now) }
 {
     let mut keys = Items::new(alloc);
     for entry in forms {
-        keys.push(entry_key(entry))?;
+        keys.push(entry_key(half, entry))?;
     }
     Ok(keys)
 }
 
 impl Tables {
-    /// The tables of a description's forms.
-    pub fn of(alloc: Global, forms: &Forms) -> Result<Tables, Memory>
-        ensures { IfOk result (λ tables. AreTablesOf tables forms.now) }
+    /// The tables of a half of a description's forms.
+    pub fn of(alloc: Global, half: Half, forms: &Forms) -> Result<Tables, Memory>
+        ensures { IfOk result (λ tables. AreTablesOf half tables forms.now) }
     {
-        let keys = keys_of(alloc, forms.as_slice())?;
+        let keys = keys_of(alloc, half, forms.as_slice())?;
         Ok(Tables { keys })
     }
 }

@@ -2,13 +2,14 @@
 use Rattle.std.specs.Prelude.{◌≡◌, ℕ, ◌<◌, ◌≤◌, Bool, true, false, List, map, length, Option, slice_get}
 use Rattle.std.specs.Option.{option_map_or}
 use Rattle.md_forms.specs.declared.form.Entry.{Entry}
+use Rattle.md_recog.specs.declared.half.Half.{Half}
 use Rattle.recog_tree.specs.declared.key.Key.{Key}
 use Rattle.recog_tree.specs.declared.tables.Tables.{Tables}
 use Rattle.recog_tree.specs.Key.{entry_key, is_tried_by}
 
--- the tables have the key of each form, in order
-pub record AreTablesOf (tables : Tables) (forms : List Entry) : Type 0 where
-  pub keys_are : tables.keys ≡ map entry_key forms
+-- the tables of a half have the key of each form in it, in order
+pub record AreTablesOf (asked : Half) (tables : Tables) (forms : List Entry) : Type 0 where
+  pub keys_are : tables.keys ≡ map (entry_key asked) forms
 
 -- whether what stands at a place is tried for an instruction with a key
 abbrev pub is_tried_at : List (Option Key) → Key → ℕ → Bool

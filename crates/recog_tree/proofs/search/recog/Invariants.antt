@@ -1,14 +1,13 @@
 use Rattle.std.proofs.Common.{◌≤◌, ◌+◌, ◌-◌, [], ◌∷◌, length, take}
 use Rattle.md_recog.specs.Recog.{NoneBetween}
-use Rattle.md_recog.specs.declared.half.Half.TheVariants as half
 use Rattle.recog_tree.proofs.Found.{count}
 use Rattle.recog_tree.proofs.search.recog.Given as goal
 
 abbrev pub invariant-loop-form : goal.invariant-loop-form
 invariant-loop-form g l = record {
-  none : NoneBetween (g.P.Preds.accepts l.preds) l.facts half.Insn (l.insn ∷ []) l.forms l.from l.place;
+  none : NoneBetween (g.P.Preds.accepts l.preds) l.facts l.half (l.insn ∷ []) l.forms l.from l.place;
   behind : l.from ≤ l.place;
-  tries : l.steps ≤ l.fn.steps + count l.insn (take l.place l.forms);
+  tries : l.steps ≤ l.fn.steps + count l.half l.insn (take l.place l.forms);
 }
 
 abbrev pub decreases-loop-form : goal.decreases-loop-form

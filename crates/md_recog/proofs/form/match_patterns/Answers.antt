@@ -1,0 +1,8 @@
+use Rattle.md_match.proofs.Seen.{seen}
+use Rattle.md_recog.proofs.Forms.{form_found}
+use Rattle.md_recog.proofs.form.match_patterns.Goals as goal
+
+pub returns-clause-operands : goal.returns-clause-operands
+returns-clause-operands g c =
+    form_found (g.P.Preds.accepts c.args.preds.now) c.args.facts.now c.args.half (seen c.args.insns.now) c.args.form.now c.args.patterns.now c.condition_of-condition.result.now c.match_insns.result c.requires.has
+    c.requires.patterns c.condition_of-condition.ensures c.match_insns.ensures.operands

@@ -48,16 +48,7 @@ pub fn recog<P: Preds, L: Ledger>(
     let key = key_of(insn);
     let mut place = from;
     while let Some(form) = next_tried(tables, key, place) {
-        if let Some(found) = match_at(
-            alloc,
-            forms,
-            half,
-            &[insn],
-            facts,
-            preds,
-            form,
-            steps,
-        )? {
+        if let Some(found) = match_at(alloc, forms, half, &[insn], facts, preds, form, steps)? {
             return Ok(Some(found));
         }
         place = form + 1;

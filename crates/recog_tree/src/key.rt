@@ -1,6 +1,8 @@
 //! The key of an instruction, and that of a form.
-ghost use Rattle.std.specs.Prelude.{◌≡◌};
+ghost use Rattle.std.specs.Prelude.{◌≡◌, not};
+ghost use Rattle.std.specs.List.{find};
 ghost use Rattle.std.specs.Option.{option_copied};
+ghost use Rattle.md_recog.specs.Recog.{is_scratch};
 ghost use Rattle.recog_tree.specs.Key as spec;
 
 use c_eval::same_code;
@@ -116,13 +118,27 @@ fn only_pattern(patterns: &[Rtx]) -> Option<&Rtx>
     }
 }
 
+/// Whether an element of a window is an instruction of it.
+fn is_insn(pattern: &Rtx) -> bool
+    ensures { result ≡ not (is_scratch pattern.now) }
+{
+    !is_scratch(pattern)
+}
+
+/// The first instruction of a window, of its elements.
+fn first_insn(patterns: &[Rtx]) -> Option<&Rtx>
+    ensures { option_copied result ≡ find (λ p. not (is_scratch p)) patterns.now }
+{
+    patterns.iter().find(|pattern| is_insn(pattern))
+}
+
 /// The pattern by which a half is found.
 fn leading(half: Half, patterns: &[Rtx]) -> Option<&Rtx>
     ensures { option_copied result ≡ spec.leading half patterns.now }
 {
     match half {
         Half::Insn | Half::Split => only_pattern(patterns),
-        Half::Window => patterns.iter().find(|pattern| !is_scratch(pattern)),
+        Half::Window => first_insn(patterns),
     }
 }
 

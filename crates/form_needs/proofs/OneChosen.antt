@@ -8,7 +8,7 @@ use Rattle.md_match.proofs.OneList.{one_list}
 use Rattle.md_desc.specs.md_recog.declared.half.Half.{Half}
 use Rattle.md_desc.specs.md_recog.declared.half.Half.TheVariants as half
 use Rattle.md_desc.specs.md_recog.Match.{Accepts}
-use Rattle.md_desc.specs.md_recog.Recog.{FormMatches, EntryMatches, MatchesAt}
+use Rattle.md_desc.specs.md_recog.Recog.{patterns_of, FormMatches, EntryMatches, MatchesAt}
 use Rattle.md_desc.specs.md_forms.declared.form.Form.{Form}
 use Rattle.md_desc.specs.md_forms.declared.form.Entry.{Entry}
 use Rattle.md_desc.specs.md_pred.Holds.{holds}
@@ -22,7 +22,7 @@ both b t f = let none : true ≡ false = sym t ∙ f in let never : ⊥ = cc in 
 
 module _ (a : Accepts) (f : Facts) (h : Half) (i : List Rtx) where
   form_one : (g : Form) (o p : Ops) → FormMatches a f h i g o → FormMatches a f h i g p → o ≡ p
-  form_one g o p m n = one_list g.patterns i o p m.matches.shape n.matches.shape
+  form_one g o p m n = one_list (patterns_of h g) i o p m.matches.shape n.matches.shape
 
   entry_one : (e : Entry) (o p : Ops) → EntryMatches a f h i e o → EntryMatches a f h i e p → o ≡ p
   entry_one e o p m n =

@@ -1,10 +1,10 @@
 -- What is kept of so many plans is the best of them.
-use Rattle.std.proofs.Common.{◌≡◌, ◌↔◌, ◌⊎◌, ⊎_elim, inl, inr, ℕ, zero, suc, ◌+◌, ◌-◌, ◌<◌, ◌≤◌, Bool, true, false, nat_lt, Option, Some, None, refl, sym, ap, subst, ◌∙◌, arith}
+use Rattle.std.proofs.Common.{◌≡◌, ◌↔◌, ◌⊎◌, ⊎_elim, inl, inr, ℕ, zero, suc, ◌+◌, ◌<◌, ◌≤◌, Bool, true, false, nat_lt, Option, Some, None, refl, sym, ap, subst, ◌∙◌, arith}
 use Rattle.std.specs.Prelude.{if◌then◌else◌}
-use Rattle.std.proofs.lemmas.Bool.{cases_lt, eqb-true, ltb-true, ltb-false}
+use Rattle.std.proofs.lemmas.Bool.{cases_lt, ltb-true, ltb-false}
 use Rattle.reload_choice.specs.declared.given.Plan.{Plan}
 use Rattle.reload_choice.specs.Choice.{IsBest, IsUnreachable}
-use Rattle.reload_choice.specs.machine.Least.{better, best_upto, is_free}
+use Rattle.reload_choice.specs.machine.Least.{better, best_upto}
 
 none_some : (p : Plan) (o : Option Plan) → o ≡ None → o ≡ Some p → ⊥
 none_some p o none some = let never : None ≡ Some p = sym none ∙ some in let e : ⊥ = cc in e
@@ -121,33 +121,6 @@ module _ (plans : ℕ → Option Plan) where
         kept = one ∙ (ap (λ (o : Option Plan). better o p) keeps.kept ∙ (ap (better (best_upto plans n)) here ∙ ap (best_upto plans) (sym e)));
         within = omega (arith, is, below);
       }
-
-  -- nothing costs less than what is free, and the lowest number wins
-  free_wins : (best : Option Plan) (p : Option Plan) → is_free best ≡ true → better best p ≡ best
-  free_wins None p free = absurd (let never : ⊥ = cc in never)
-  free_wins (Some best) None free = refl
-  free_wins (Some best) (Some p) free =
-      let none : best.cost ≡ 0 = eqb-true best.cost 0 free in
-      ap (λ (b : Bool). if b then Some p else Some best) (not_below p.cost best.cost none)
-    where
-      not_below : (a b : ℕ) → b ≡ 0 → nat_lt a b ≡ false
-      not_below a b none = subst (λ (n : ℕ). nat_lt a n ≡ false) (sym none) (none_below a)
-
-      none_below : (a : ℕ) → nat_lt a 0 ≡ false
-      none_below zero = refl
-      none_below (suc a) = refl
-
-  free_stays : (n k : ℕ) → is_free (best_upto plans n) ≡ true → best_upto plans n ≡ best_upto plans (k + n)
-  free_stays n zero free = refl
-  free_stays n (suc k) free =
-      let same = free_stays n k free in
-      same ∙ sym (free_wins (best_upto plans (k + n)) (plans (k + n)) (ap is_free (sym same) ∙ free))
-
-  pub keeps_free : (count n : ℕ) (best p new : Option Plan) → Keeps count n best → n < count → p ≡ plans n → new ≡ better best p → is_free new ≡ true → new ≡ best_upto plans count
-  keeps_free count n best p new keeps below here one free =
-      let next = keeps_next count n (suc n) best p new keeps below (omega arith) here one in
-      let rest : (count - suc n) + suc n ≡ count = omega (arith, below) in
-      next.kept ∙ (free_stays (suc n) (count - suc n) (ap is_free (sym next.kept) ∙ free) ∙ ap (best_upto plans) rest)
 
   pub keeps_first : (count : ℕ) → Keeps count 0 None
   keeps_first count = record { kept = refl; within = omega arith }

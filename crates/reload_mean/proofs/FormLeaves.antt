@@ -13,6 +13,7 @@ use Rattle.rtl_func.proofs.AllPass.{all_pass}
 use Rattle.lisp_read.specs.Shape.{vector_of, items_of}
 use Rattle.lisp_read.specs.declared.tree.Tree.{Tree}
 use Rattle.md_iter.specs.declared.substitution.Instance.{Instance}
+use Rattle.md_compact.specs.declared.block.Block.{Block}
 use Rattle.md_pattern.specs.declared.pattern.Patterns.{Patterns}
 use Rattle.md_pattern.specs.declared.reason.Reason.{Reason}
 use Rattle.md_pattern.specs.declared.reason.Reason.TheVariants as reason
@@ -24,11 +25,12 @@ use Rattle.md_draft.specs.declared.draft.Matched.{Matched}
 use Rattle.md_draft.specs.declared.draft.Made.{Made}
 use Rattle.md_draft.specs.declared.draft.Draft.{Draft}
 use Rattle.md_draft.specs.declared.draft.DraftEntry.{DraftEntry}
+use Rattle.md_draft.specs.Compact.{old_draft}
 use Rattle.md_draft.specs.Head.{head_named}
 use Rattle.md_draft.specs.Layout.{layout_of, part_at, is_whole}
 use Rattle.md_draft.specs.Patterns.{Judged, one_instruction, as_one, insn_patterns, window_patterns, is_window, if_there}
 use Rattle.md_draft.specs.Patterns as patterns
-use Rattle.md_draft.specs.Draft.{matched_with, matched_in, made_in, printed_in, defined_in, draft_with, together, whole_draft, draft_in, draft_by, headed, head_in, entry_by, entry_of, condition_in}
+use Rattle.md_draft.specs.Draft.{matched_with, matched_in, made_in, printed_in, defined_in, draft_with, together, block_in, without, parts_draft, whole_draft, draft_in, draft_by, headed, head_in, entry_by, entry_of, condition_in}
 use Rattle.md_forms.specs.declared.form.Entry.{Entry}
 use Rattle.md_forms.specs.declared.form.Form.{Form}
 use Rattle.md_forms.specs.md_tables.declared.tables.Tables.{Tables}
@@ -53,6 +55,12 @@ MatchedLeaves m = HaveLeaves m.patterns.trees
 
 abbrev DraftLeaves : Draft → Type 0
 DraftLeaves d = MatchedLeaves d.matched
+
+-- a block leaves the patterns as they are
+without_leaves : (block : Option Block) (d : Draft) → DraftLeaves d → DraftLeaves (without block d)
+unfolding old_draft
+without_leaves None d is = is
+without_leaves (Some block) d is = is
 
 module _ (constants : List Constant) where
   -- ---- the patterns of a form
@@ -103,18 +111,26 @@ module _ (constants : List Constant) where
         (both ps c) (on_both PatternsLeaves Any ps c (there h (part_at ts (layout_of h).patterns))
         (any_read c))
 
-    whole_leaves : (h : FormHead) (ts : List Tree) → OnOk DraftLeaves
-        (whole_draft constants values h ts)
-    unfolding whole_draft
-    whole_leaves h ts =
+    parts_leaves : (block : Option Block) (h : FormHead) (ts : List Tree) → OnOk DraftLeaves
+        (parts_draft block constants values h ts)
+    unfolding parts_draft
+    parts_leaves block h ts =
         let m = matched_in constants values h ts in
         let k = made_in constants values h ts in
-        let rest = both (printed_in h ts) (defined_in constants h ts) in
+        let rest = both (printed_in block h ts) (defined_in constants h ts) in
         on_map (λ x. (MatchedLeaves x.0.0 × Any x.0.1) × Any x.1) DraftLeaves
         (λ pair. draft_with h pair.0 pair.1)
         (λ pair is. is.0.0) (both (both m k) rest)
         (on_both (λ (x : Matched × Made). MatchedLeaves x.0 × Any x.1) Any (both m k) rest
         (on_both MatchedLeaves Any m k (matched_leaves h ts) (any_read k)) (any_read rest))
+
+    whole_leaves : (h : FormHead) (ts : List Tree) → OnOk DraftLeaves
+        (whole_draft constants values h ts)
+    unfolding whole_draft
+    whole_leaves h ts =
+        let block = block_in h ts in
+        on_map DraftLeaves DraftLeaves (without block) (λ d is. without_leaves block d is)
+        (parts_draft block constants values h ts) (parts_leaves block h ts)
 
     draft_if : (b : Bool) (h : FormHead) (ts : List Tree) →
         OnOk DraftLeaves (if b then whole_draft constants values h ts else Err reason.Parts)

@@ -1,6 +1,7 @@
 -- What the written text does: for each function of the input, in order, the lines and labels that
 -- its part of the text spells have the same behaviour as the function.
-use Rattle.std.specs.Prelude.{◌≡◌, ℕ, List, [], ◌∷◌, ◌++◌, Some, slice_get, Ok}
+use Rattle.std.specs.Prelude.{◌≡◌, ℕ, ◌≤◌, List, [], ◌∷◌, ◌++◌, Some, slice_get, Ok}
+use Rattle.rtx_tree.specs.Limit.{most_frame}
 use Rattle.rtx_tree.specs.declared.function.Function.{Function}
 use Rattle.rv_text.specs.Body.{Spells}
 use Rattle.rv_text.specs.declared.line.CodeItem.{CodeItem}
@@ -18,20 +19,43 @@ pub data AreParts : List Function → List ℕ → List (List CodeItem) → Type
   part : (f : Function) (functions : List Function) (body rest : List ℕ) (items : List CodeItem) (others : List (List CodeItem)) → Spells body items → AreParts functions rest others →
       AreParts (f ∷ functions) (framed f.name body ++ rest) (items ∷ others)
 
+-- ---- their behaviour
+
+-- the items of a function have its behaviour: for some size that a frame may have, so it is from
+-- every lawful start whose frame has that size at least, in every lawful world
+pub record HasBehaviour (f : Function) (items : List CodeItem) : Type 0 where
+  pub size : ℕ
+  pub small : size ≤ most_frame
+  pub same : Same size f items
+
+-- so do the items of each of some functions
+pub data AreSame : List Function → List (List CodeItem) → Type 0 where
+  none : AreSame [] []
+  function : (f : Function) (functions : List Function) (items : List CodeItem) (others : List (List CodeItem)) → HasBehaviour f items → AreSame functions others →
+      AreSame (f ∷ functions) (items ∷ others)
+
+-- a text that was written has the behaviour of the input's functions
+pub record DoesSame (functions : List Function) (text : List ℕ) : Type 0 where
+  pub items : List (List CodeItem)
+  pub parts : AreParts functions text items
+  pub same : AreSame functions items
+
+-- ---- their behaviour in the frames that the passes lay out
+
 -- each of some functions is sound
 abbrev pub AreSound : List Function → Type 0
 AreSound functions = (index : ℕ) (f : Function) → slice_get functions index ≡ Some f → IsSound f
 
 -- the items of each function have its behaviour, in each frame that has the room at least of which
 -- the passes laid out its frame
-pub data AreSame (forms : List Entry) : List Function → List (List CodeItem) → Type 0 where
-  none : AreSame forms [] []
+pub data AreSameFramed (forms : List Entry) : List Function → List (List CodeItem) → Type 0 where
+  none : AreSameFramed forms [] []
   function : (f : Function) (m : Made) (functions : List Function) (items : List CodeItem) (others : List (List CodeItem)) →
-      AfterComes forms f (Ok m) → Same m.layout.size f items → AreSame forms functions others →
-      AreSame forms (f ∷ functions) (items ∷ others)
+      AfterComes forms f (Ok m) → Same m.layout.size f items → AreSameFramed forms functions others →
+      AreSameFramed forms (f ∷ functions) (items ∷ others)
 
--- the text that was written by some forms has the behaviour of the input's functions
-pub record DoesSame (forms : List Entry) (functions : List Function) (text : List ℕ) : Type 0 where
+-- so does the text that was written by some forms
+pub record DoesSameFramed (forms : List Entry) (functions : List Function) (text : List ℕ) : Type 0 where
   pub items : List (List CodeItem)
   pub parts : AreParts functions text items
-  pub same : AreSame forms functions items
+  pub same : AreSameFramed forms functions items

@@ -7,7 +7,7 @@ ghost use Rattle.asm_out.specs.Refused.{most_output};
 ghost use Rattle.func_text.specs.Assembly.{Outcome, AssemblyComes};
 ghost use Rattle.func_text.specs.Compile.{FunctionsCome, InputComes, Gives};
 ghost use Rattle.func_text.specs.Lines.{IsAssembly};
-ghost use Rattle.func_text.specs.Same.{AreParts, AreSound, AreSame};
+ghost use Rattle.func_text.specs.Same.{AreParts, AreSound, AreSame, AreSameFramed};
 ghost use Rattle.func_after.specs.Leads.{IsDescribed};
 
 use crate::assembly::{Assembly, assemble};
@@ -25,7 +25,7 @@ use std::alloc::Global;
 ///
 /// `IllFormed`, `Limit`, `Unmatched`, `Unsatisfied`, `NotEquated`, or `Memory` where memory ran
 /// out, or a sum of the summary is 2^64 or more.
-#[tactic(auto, using(crate::proofs::Behaviour::compiled_same))]
+#[tactic(auto, using(crate::proofs::Behaviour::compiled_same, crate::proofs::Behaviour::compiled_framed))]
 pub fn compile(
     alloc: Global,
     description: &Description,
@@ -43,11 +43,14 @@ pub fn compile(
         AssemblyComes forms functions (Ok a) → length a.text ≤ most_output }
 
     // By the forms of a description, the lines and labels of each sound function have its
-    // behaviour, in each frame that has the room at
-    // least of which the passes laid out its frame.
+    // behaviour; and they have it in each frame that has the room at least of which the passes laid
+    // out its frame.
     ensures behaves { (forms : List Entry) (functions : List Function) (a : Assembly) →
         IsDescribed forms → AreSound functions →
-        AssemblyComes forms functions (Ok a) → AreSame forms functions a.parts }
+        AssemblyComes forms functions (Ok a) → AreSame functions a.parts }
+    ensures framed { (forms : List Entry) (functions : List Function) (a : Assembly) →
+        IsDescribed forms → AreSound functions →
+        AssemblyComes forms functions (Ok a) → AreSameFramed forms functions a.parts }
 {
     check_functions(alloc, functions)?;
     assemble(alloc, description, functions)

@@ -29,18 +29,15 @@ use Rattle.asm_same.specs.func_text.Code.{CodeComes, IsCoded}
 use Rattle.asm_same.proofs.func_text.OneAssembly.{one_coming_of}
 use Rattle.asm_same.proofs.func_text.Laws.{is_assembly}
 use Rattle.asm_same.specs.func_text.func_after.Leads.{IsDescribed}
-use Rattle.asm_same.proofs.Same.{input_does_same, coded_is_same}
+use Rattle.asm_same.proofs.Same.{input_does_same, input_does_framed, coded_is_same}
 use Rattle.asm_same.proofs.func_text.CodeLaws.{one_code, code_coded}
 use Rattle.code_eval.specs.Start.{stack_room}
 use Rattle.code_eval.specs.Eval.{eval_text, IsFair, ComesToSame}
 use Rattle.code_eval.proofs.Lawful.{agree}
-use Rattle.rtlc_run.specs.Answer.{evaluated, EvalComes, RecogComes, DumpComes, ByForms}
-use Rattle.rtlc_run.specs.Written.{WritesLines, WritesSame, WritesOutcomes, WritesForms, WritesDump}
+use Rattle.rtlc_run.specs.Answer.{Given, evaluated, EvalComes, RecogComes, DumpComes, ByForms}
+use Rattle.rtlc_run.specs.Written.{WritesLines, WritesSame, WritesSameFramed, WritesOutcomes, WritesForms, WritesDump}
 
 -- ---- one answer
-
-abbrev Given : Type 0
-Given = Result (List Entry) Refusal
 
 same_ok : (a b : List Entry) → ◌≡◌ {A = Given} (Ok a) (Ok b) → a ≡ b
 same_ok a b e = cc
@@ -136,10 +133,16 @@ is_described : (known : Source) (name : List ℕ) (forms : List Entry) → Forms
 is_described known name forms come = described_is known name (Ok forms) forms refl come
 
 pub writes_same : (known : Source) (left old new : Option (List ℕ)) (name : List ℕ) → WritesLines known name left old new →
-    WritesSame known name left old new
+    WritesSame left old new
 writes_same known None old new name h = tt
 writes_same known (Some bytes) old new name h =
-    (h.0, h.1, h.2, h.3, h.4.text, input_does_same h.0 bytes h.2 h.4 (is_described known name h.0 h.1) h.3 h.5, h.6)
+    (h.2, h.3, h.4.text, input_does_same h.0 bytes h.2 h.4 (is_described known name h.0 h.1) h.3 h.5, h.6)
+
+pub writes_framed : (known : Source) (left old new : Option (List ℕ)) (name : List ℕ) → WritesLines known name left old new →
+    WritesSameFramed known name left old new
+writes_framed known None old new name h = tt
+writes_framed known (Some bytes) old new name h =
+    (h.0, h.1, h.2, h.3, h.4.text, input_does_framed h.0 bytes h.2 h.4 (is_described known name h.0 h.1) h.3 h.5, h.6)
 
 -- the code of a function, tried fairly, comes to the same: its frame fits in the stack, and so do its locals
 comes_to_same : (forms : List Entry) (bytes name : List ℕ) (c : Coded) (steps : ℕ) (args : List ℕ) → IsDescribed forms →

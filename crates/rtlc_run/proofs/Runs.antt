@@ -1,13 +1,16 @@
 -- There is one answer, and what it says of a text that was written.
 use Rattle.std.proofs.Common.{◌≡◌, ℕ, List, arith, eqb, Bool, true, false, Result, Ok, Err, Option, Some, None, refl, sym, ap, subst, ◌∙◌, inl, inr}
 use Rattle.std.proofs.lemmas.Bool.{eqb-true}
+use Rattle.rtx_tree.specs.declared.function.Function.{Function}
 use Rattle.md_source.specs.Source.{Source}
 use Rattle.md_source.specs.Asked.{IsKnown}
 use Rattle.md_list.specs.declared.refusal.ListRefusal.{ListRefusal}
 use Rattle.md_list.specs.Listing.{ListComes}
 use Rattle.md_list.proofs.Lists.{one_list}
+use Rattle.func_input.specs.Input.{IsRead, IsInput}
 use Rattle.func_input.specs.Outcome.{Outcome}
 use Rattle.func_input.proofs.Inputs.{input_last}
+use Rattle.func_input.proofs.One.{one_read}
 use Rattle.asm_same.specs.func_text.Recog.{FunctionsCome}
 use Rattle.asm_same.proofs.func_text.One.{functions_one}
 use Rattle.asm_same.specs.func_text.Dump as dump
@@ -21,9 +24,17 @@ use Rattle.rtlc_words.specs.declared.command.Command.{Command}
 use Rattle.rtlc_words.specs.declared.command.Command.TheVariants as commands
 use Rattle.rtlc_words.specs.Words.{command_of}
 use Rattle.rtlc_run.specs.Answer.{described, list_told, evaluated, EvalComes, RecogComes, DumpComes, ByForms, CommandComes, Answers, IsKnownFor, Writes, IsAnswered, status_of_answer}
-use Rattle.rtlc_run.specs.Written.{WritesLines, WritesSame, WritesOutcomes, WritesList, WritesForms, WritesDump, IsDone, Completes, CompletesFor, CompletesBy, CompletesDump}
+use Rattle.rtlc_run.specs.Written.{WritesLines, WritesSame, WritesSameFramed, WritesOutcomes, WritesList, WritesForms, WritesDump, IsDone, Completes, CompletesFor, CompletesBy, CompletesDump}
 use Rattle.rtlc_run.proofs.Described as described_by
 use Rattle.rtlc_run.proofs.Described.{one_text, one_recog, one_dump, one_trial, by_known}
+
+-- ---- one reading
+
+is_read : (bytes : List ℕ) (functions : List Function) → IsInput bytes functions → IsRead bytes functions
+is_read bytes functions input = record { within = input.within; trees = input.trees; reads = input.reads; stand = input.stand }
+
+pub one_input : (bytes : List ℕ) (a b : List Function) → IsInput bytes a → IsInput bytes b → a ≡ b
+one_input bytes a b p q = one_read bytes a b (is_read bytes a p) (is_read bytes b q)
 
 -- ---- the commands
 
@@ -133,9 +144,15 @@ writes_lines words known input old new name is h = described_by.writes_lines kno
 
 pub writes_same : (words : List (List ℕ)) (known : Source) (input old new : Option (List ℕ)) (name : Option (List ℕ)) →
     command_of words ≡ Some (commands.Asm name) →
-    Writes words known input old new → WritesSame known (described name) input old new
+    Writes words known input old new → WritesSame input old new
 writes_same words known input old new name is h =
     described_by.writes_same known input old new (described name) (writes_lines words known input old new name is h)
+
+pub writes_framed : (words : List (List ℕ)) (known : Source) (input old new : Option (List ℕ)) (name : Option (List ℕ)) →
+    command_of words ≡ Some (commands.Asm name) →
+    Writes words known input old new → WritesSameFramed known (described name) input old new
+writes_framed words known input old new name is h =
+    described_by.writes_framed known input old new (described name) (writes_lines words known input old new name is h)
 
 pub writes_outcomes : (words : List (List ℕ)) (known : Source) (input old new : Option (List ℕ)) (name : Option (List ℕ)) (function : List ℕ) (steps : ℕ) (args : List ℕ) → command_of words ≡ Some (commands.Eval name function steps args) →
     Writes words known input old new → WritesOutcomes known (described name) input function steps args old new

@@ -44,6 +44,10 @@ abbrev pub list_told : Result (List ℕ) ListRefusal → Outcome
 list_told (Ok text) = Ok text
 list_told (Err e) = Err (list_refused e)
 
+-- the forms of a description, or what refuses it
+abbrev pub Given : Type 0
+Given = Result (List Entry) Refusal
+
 -- ---- what a command comes to
 
 abbrev pub evaluated : ℕ → List ℕ → Result Coded Refusal → Outcome

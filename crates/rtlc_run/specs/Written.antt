@@ -14,7 +14,7 @@ use Rattle.func_input.specs.Input.{IsInput}
 use Rattle.asm_same.specs.func_text.declared.assembly.Assembly.{Assembly}
 use Rattle.asm_same.specs.func_text.Assembly.{AssemblyComes}
 use Rattle.asm_same.specs.func_text.Lines.{IsAssembly}
-use Rattle.asm_same.specs.func_text.Same.{DoesSame}
+use Rattle.asm_same.specs.func_text.Same.{DoesSame, DoesSameFramed}
 use Rattle.asm_same.specs.func_text.Code.{IsCoded, has_named}
 use Rattle.asm_same.specs.func_text.declared.code.Coded.{Coded}
 use Rattle.code_eval.specs.Eval.{eval_text, IsFair, ComesToSame}
@@ -27,14 +27,20 @@ WritesLines files name input old new =
     (functions : List Function) × IsInput bytes functions × (a : Assembly) ×
     IsAssembly forms 0 functions a × Appends old new a.text)
 
--- the text does what the functions of the input do, each in the frame that it has by the
+-- a text that does what the functions of the input do was written, and nothing else
+abbrev pub WritesSame : Option (List ℕ) → Option (List ℕ) → Option (List ℕ) → Type 0
+WritesSame input old new =
+    IfSome input (λ bytes. (functions : List Function) × IsInput bytes functions ×
+    (text : List ℕ) × DoesSame functions text × Appends old new text)
+
+-- it does so in each frame that has the room at least of the one that a function has by the
 -- description
-abbrev pub WritesSame : Source → List ℕ → Option (List ℕ) → Option (List ℕ) → Option (List ℕ) →
-    Type 0
-WritesSame files name input old new =
+abbrev pub WritesSameFramed : Source → List ℕ → Option (List ℕ) → Option (List ℕ) →
+    Option (List ℕ) → Type 0
+WritesSameFramed files name input old new =
     IfSome input (λ bytes. (forms : List Entry) × FormsCome files name (Ok forms) ×
     (functions : List Function) × IsInput bytes functions ×
-    (text : List ℕ) × DoesSame forms functions text × Appends old new text)
+    (text : List ℕ) × DoesSameFramed forms functions text × Appends old new text)
 
 -- The trial of a function and its code is fair, and where the function's outcome has a value, its
 -- lines and labels come to the same one.

@@ -9,6 +9,7 @@ ghost use Rattle.rv_text.specs.declared.line.CodeItem.{CodeItem};
 ghost use Rattle.run_refusal.specs.Refusals.{has_values, line_of};
 ghost use Rattle.run_refusal.specs.declared.refusal.Refusal.TheVariants as refusal;
 ghost use Rattle.rtx_tree.specs.Limit.{most_bytes};
+ghost use Rattle.func_input.specs.Input.{IsInput};
 ghost use Rattle.func_input.specs.Outcome.{Outcome};
 ghost use Rattle.asm_same.specs.func_text.Same.{AreParts};
 ghost use Rattle.asm_same.specs.func_text.Compile.{TextComes};
@@ -24,7 +25,7 @@ ghost use Rattle.rtlc_words.specs.declared.command.Command.TheVariants as comman
 ghost use Rattle.rtlc_words.specs.Words as spoken;
 ghost use Rattle.rtlc_words.specs.Words.{words_of};
 ghost use Rattle.rtlc_run.specs.Answer as spec;
-ghost use Rattle.rtlc_run.specs.Written.{WritesLines, WritesSame, WritesList, WritesForms, WritesDump, WritesOutcomes, Completes, CompletesFor, CompletesBy, CompletesDump, IsDone};
+ghost use Rattle.rtlc_run.specs.Written.{WritesLines, WritesSame, WritesSameFramed, WritesList, WritesForms, WritesDump, WritesOutcomes, Completes, CompletesFor, CompletesBy, CompletesDump, IsDone};
 ghost use Rattle.rtlc_run.specs.machine.Steps.{Gives, IsOwn, InputRefused, TaskComes, Misuses, MisusesInput};
 ghost use Rattle.rtlc_run.specs.Answer.{EvalComes, RecogComes, DumpComes, ByForms, CommandComes, Answers, HasForms, IsMisused, reads_input, reads_files, IsKnownFor, MayBeAsked, Writes, WritesFront, IsRefused, Reports, HasCause, TellsCause, IsAnswered};
 
@@ -496,13 +497,24 @@ pub fn run<F: Files, S: Source, K: Sink, E: Sink>(
         Completes known (spec.described name) (S.left input.old) result }
 
     // What the text of status 0 does: the lines that it spells for each function do what the
-    // function does, whatever the description,
-    // where there is room for the frame that the function has by it.
-    ensures behaves { (known : Known) → Agrees known (F.holds files.old) →
+    // function does, whatever the description, where there is room for a frame of some size, which
+    // is at most 1,048,560; so they do where there is room for the frame that the function has by
+    // the description.
+    ensures behaves { (name : Option (List ℕ)) →
+        spoken.command_of (words_of words.now) ≡ Some (commands.Asm name) → result ≡ 0 →
+        WritesSame (S.left input.old) (K.taken output.old) (K.taken output.new) }
+    ensures framed { (known : Known) → Agrees known (F.holds files.old) →
         (name : Option (List ℕ)) →
         spoken.command_of (words_of words.now) ≡ Some (commands.Asm name) → result ≡ 0 →
-        WritesSame known (spec.described name) (S.left input.old) (K.taken output.old)
+        WritesSameFramed known (spec.described name) (S.left input.old) (K.taken output.old)
         (K.taken output.new) }
+
+    // The functions of an input are one list, and the forms of a description of which all is known
+    // are one list or one refusal.
+    ensures one_input { (bytes : List ℕ) (a b : List Function) → IsInput bytes a →
+        IsInput bytes b → a ≡ b }
+    ensures one_description { (known : Known) (name : List ℕ) (a b : spec.Given) →
+        IsKnown known name → FormsCome known name a → FormsCome known name b → a ≡ b }
 
     // The lines and labels of a text are the only ones: each text spells one list of them, and the
     // text of some functions is cut into their parts in one way.

@@ -4,9 +4,11 @@ use Rattle.run_refusal.specs.declared.refusal.Refusal.TheVariants as refusal
 use Rattle.func_mean.proofs.Law.{takes_enough}
 use Rattle.rv_text.proofs.SpelledOnce.{spells_one}
 use Rattle.asm_same.proofs.func_text.Parts.{one_cut}
+use Rattle.md_named.proofs.Forms.{one_answer as one_description}
 use Rattle.rtlc_words.specs.Words.{words_of}
+use Rattle.rtlc_run.proofs.Commands.{nothing_known, nothing_agrees}
 use Rattle.rtlc_run.proofs.Answered.{answered_err, err_of, told_cause, read_status, read_told}
-use Rattle.rtlc_run.proofs.Runs.{one_answer, writes_lines, writes_same, writes_outcomes, writes_list, writes_forms_of, writes_dump_of, completes, tried, listed, recognised, dumped}
+use Rattle.rtlc_run.proofs.Runs.{one_answer, one_input, writes_lines, writes_same, writes_framed, writes_outcomes, writes_list, writes_forms_of, writes_dump_of, completes, tried, listed, recognised, dumped}
 use Rattle.rtlc_run.proofs.Statuses.{status_is}
 use Rattle.rtlc_run.proofs.program.run.Goals as goal
 
@@ -41,10 +43,28 @@ pub returns-in-Ok-clause-lines : goal.returns-in-Ok-clause-lines
 returns-in-Ok-clause-lines g c = λ known agrees name is zero.
     writes_lines (words_of c.args.words.now) known (g.S.Source.left c.args.input.now) (g.K.Sink.taken c.args.output.now) (g.K.Sink.taken c.attempt.new.output) name is (c.in-Ok.ensures.done known agrees)
 
+-- what is known of the files does not matter: nothing is
 pub returns-in-Ok-clause-behaves : goal.returns-in-Ok-clause-behaves
-returns-in-Ok-clause-behaves g c = λ known agrees name is zero.
-    writes_same (words_of c.args.words.now) known (g.S.Source.left c.args.input.now) (g.K.Sink.taken c.args.output.now)
+returns-in-Ok-clause-behaves g c = λ name is zero.
+    writes_same (words_of c.args.words.now) nothing_known (g.S.Source.left c.args.input.now) (g.K.Sink.taken c.args.output.now)
+    (g.K.Sink.taken c.attempt.new.output) name is (c.in-Ok.ensures.done nothing_known (nothing_agrees (g.F.Files.holds c.args.files.now)))
+
+pub returns-in-Ok-clause-framed : goal.returns-in-Ok-clause-framed
+returns-in-Ok-clause-framed g c = λ known agrees name is zero.
+    writes_framed (words_of c.args.words.now) known (g.S.Source.left c.args.input.now) (g.K.Sink.taken c.args.output.now)
     (g.K.Sink.taken c.attempt.new.output) name is (c.in-Ok.ensures.done known agrees)
+
+pub returns-in-Ok-clause-one_input : goal.returns-in-Ok-clause-one_input
+returns-in-Ok-clause-one_input g c = λ bytes a b p q. one_input bytes a b p q
+
+pub returns-in-Err-clause-one_input : goal.returns-in-Err-clause-one_input
+returns-in-Err-clause-one_input g c = λ bytes a b p q. one_input bytes a b p q
+
+pub returns-in-Ok-clause-one_description : goal.returns-in-Ok-clause-one_description
+returns-in-Ok-clause-one_description g c = λ known name a b enough p q. one_description known name a b enough p q
+
+pub returns-in-Err-clause-one_description : goal.returns-in-Err-clause-one_description
+returns-in-Err-clause-one_description g c = λ known name a b enough p q. one_description known name a b enough p q
 
 pub returns-in-Ok-clause-evaluates : goal.returns-in-Ok-clause-evaluates
 returns-in-Ok-clause-evaluates g c = λ known agrees name function steps args is zero.

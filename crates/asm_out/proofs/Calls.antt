@@ -17,7 +17,8 @@ use Rattle.pass_refusal.specs.declared.refusal.PassRefusal.{PassRefusal}
 use Rattle.asm_out.specs.Filled.{text_of, written}
 use Rattle.pass_refusal.specs.Refused.{unmatched_insn}
 use Rattle.pass_refusal.specs.Outcome.{RefusesWith}
-use Rattle.asm_out.specs.Refused.{most_output, too_long}
+use Rattle.asm_out.specs.Refused.{too_long}
+use Rattle.rtx_tree.specs.Limit.{most_output}
 use Rattle.asm_out.specs.Outcome.{Outcome, Appends}
 use Rattle.asm_out.specs.Comes.{IsTried, PlaceComes, code_piece, limited}
 use Rattle.pass_refusal.specs.machine.Steps.{IsRefusal}

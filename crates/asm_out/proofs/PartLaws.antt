@@ -6,7 +6,8 @@ use Rattle.std.proofs.lemmas.Bool.{leb-true}
 use Rattle.rv_text.specs.declared.line.CodeItem.{CodeItem}
 use Rattle.asm_out.specs.declared.piece.Piece.{Piece}
 use Rattle.pass_refusal.specs.declared.refusal.PassRefusal.{PassRefusal}
-use Rattle.asm_out.specs.Refused.{most_output, too_long}
+use Rattle.asm_out.specs.Refused.{too_long}
+use Rattle.rtx_tree.specs.Limit.{most_output}
 use Rattle.pass_refusal.specs.Outcome.{RefusesWith}
 use Rattle.asm_out.specs.Outcome.{Outcome, nothing, joined, outcome_behind, Appends}
 use Rattle.asm_out.specs.Comes.{Part, PartsCome, limited}

@@ -9,7 +9,7 @@ use Rattle.md_output.specs.Filled.{lines_of}
 use Rattle.asm_out.specs.declared.piece.Piece.{Piece}
 use Rattle.asm_out.specs.Frame.{opening_lines, closing_line}
 use Rattle.asm_out.specs.Filled.{text_of}
-use Rattle.asm_out.specs.Refused.{most_output}
+use Rattle.rtx_tree.specs.Limit.{most_output}
 use Rattle.asm_out.specs.Outcome.{Outcome, nothing, only_text, joined}
 use Rattle.asm_out.specs.Comes.{PlaceComes, label_piece, code_piece, Part, Opening, Place, Closing, PartComes, PartsCome, places_from, FunctionComes}
 use Rattle.asm_out.specs.Written.{AreWritten, IsWritten}

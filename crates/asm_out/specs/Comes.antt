@@ -19,7 +19,8 @@ use Rattle.pass_refusal.specs.declared.refusal.PassRefusal.{PassRefusal}
 use Rattle.pass_refusal.specs.Refused.{unmatched_insn, refused_by}
 use Rattle.asm_out.specs.Frame.{opening_lines, closing_line, label_line}
 use Rattle.asm_out.specs.Filled.{text_of, written, AreLinesOf}
-use Rattle.asm_out.specs.Refused.{too_long, most_output}
+use Rattle.asm_out.specs.Refused.{too_long}
+use Rattle.rtx_tree.specs.Limit.{most_output}
 use Rattle.asm_out.specs.Outcome.{Outcome, only_text, nothing, outcome_behind}
 
 -- ---- instructions

@@ -8,7 +8,7 @@ ghost use Rattle.md_forms.specs.declared.form.Entry.{Entry};
 ghost use Rattle.asm_out.specs.declared.piece.Piece.{Piece};
 ghost use Rattle.asm_out.specs.Comes.{Opening, Closing, PartComes, PartsCome, FunctionComes, places_from};
 ghost use Rattle.asm_out.specs.Outcome.{Outcome, Appends};
-ghost use Rattle.asm_out.specs.Refused.{most_output};
+ghost use Rattle.rtx_tree.specs.Limit.{most_output};
 ghost use Rattle.asm_out.specs.Written.{AreWritten, IsWritten};
 
 use crate::frame::{closing, opening};

@@ -18,4 +18,3 @@ mod refusal;
 
 pub use function::write_function;
 pub use piece::Piece;
-pub use refusal::MOST_OUTPUT;

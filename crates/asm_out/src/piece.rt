@@ -2,12 +2,12 @@
 ghost use Rattle.std.specs.Prelude.{◌≡◌, ◌++◌, ◌+◌, OnOk, Ok, length, nat_le};
 ghost use Rattle.asm_out.specs.Comes.{limited};
 ghost use Rattle.asm_out.specs.Outcome.{Appends};
-ghost use Rattle.asm_out.specs.Refused.{most_output};
+ghost use Rattle.rtx_tree.specs.Limit.{most_output};
 
-use crate::refusal::{MOST_OUTPUT, too_long};
+use crate::refusal::too_long;
 use pass_refusal::PassRefusal;
 use plain_data::{Items, Memory};
-use rtx_tree::Name;
+use rtx_tree::{MOST_OUTPUT, Name};
 use rv_text::CodeItem;
 use text_words::print_text;
 

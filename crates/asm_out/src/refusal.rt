@@ -3,10 +3,7 @@ ghost use Rattle.std.specs.Prelude.{◌≡◌};
 ghost use Rattle.asm_out.specs.Refused as spec;
 
 use pass_refusal::PassRefusal;
-use rtx_tree::Limit;
-
-/// How many bytes an assembly may have: 256 MiB.
-pub const MOST_OUTPUT: usize = 268_435_456;
+use rtx_tree::{Limit, MOST_OUTPUT};
 
 /// The refusal of a text that is longer than an assembly may be.
 pub(crate) fn too_long() -> PassRefusal

@@ -5,7 +5,7 @@ use crate::memory::memory_of;
 use crate::parts::{function_in, halves, number, numbers_in};
 use bits64::Width;
 use case_text::Told;
-use func_mean::{Outcome, run_function};
+use func_run::{Outcome, run_function};
 use lisp_read::rtx_of_tree;
 use plain_data::{Items, Memory};
 use rtl_step::{Known, Regs, State, StepEnd, step_insn, value, width_of};

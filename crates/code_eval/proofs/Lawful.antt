@@ -9,8 +9,8 @@ use Rattle.rtx_tree.specs.declared.memories.MemByte.{MemByte}
 use Rattle.rtx_tree.specs.declared.machine.Start.{Start}
 use Rattle.rtx_tree.specs.declared.function.Function.{Function}
 use Rattle.run_memory.specs.RunMemory.{is_visible}
-use Rattle.func_mean.specs.Run as rtl
-use Rattle.func_mean.specs.declared.outcome.Outcome.TheVariants as outcomes
+use Rattle.func_run.specs.Run as rtl
+use Rattle.func_run.specs.declared.outcome.Outcome.TheVariants as outcomes
 use Rattle.rv_text.specs.declared.line.CodeItem.{CodeItem}
 use Rattle.rv_line.specs.Run as code
 use Rattle.same_behaviour.specs.Lawful.{IsWord, IsByte, IsMemory, locals_range, IsLawful, AreAddresses, IsLawfulReply, IsLawfulWorld, seen_by_rtl}

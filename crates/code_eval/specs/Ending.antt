@@ -6,8 +6,8 @@ use Rattle.bits64.specs.Words.{low}
 use Rattle.rtx_tree.specs.declared.code.Mode.{Mode}
 use Rattle.rtx_tree.specs.declared.memories.MemByte.{MemByte}
 use Rattle.rtl_step.specs.Value.{width_of}
-use Rattle.func_mean.specs.declared.outcome.Outcome.{Outcome}
-use Rattle.func_mean.specs.declared.outcome.Outcome.TheVariants as rtl
+use Rattle.func_run.specs.declared.outcome.Outcome.{Outcome}
+use Rattle.func_run.specs.declared.outcome.Outcome.TheVariants as rtl
 use Rattle.rv_line.specs.declared.outcome.CodeOutcome.{CodeOutcome}
 use Rattle.rv_line.specs.declared.outcome.CodeOutcome.TheVariants as code
 use Rattle.code_eval.specs.declared.ending.Ending.{Ending}

@@ -2,9 +2,9 @@
 use Rattle.std.specs.Prelude.{◌≡◌, ◌≢◌, ◌≤◌, ℕ, ◌+◌, ◌*◌, List, ◌++◌, codes}
 use Rattle.rtx_tree.specs.declared.function.Function.{Function}
 use Rattle.rv_text.specs.declared.line.CodeItem.{CodeItem}
-use Rattle.func_mean.specs.Run as rtl
-use Rattle.func_mean.specs.declared.outcome.Outcome.{Outcome}
-use Rattle.func_mean.specs.declared.outcome.Outcome.TheVariants as outcomes
+use Rattle.func_run.specs.Run as rtl
+use Rattle.func_run.specs.declared.outcome.Outcome.{Outcome}
+use Rattle.func_run.specs.declared.outcome.Outcome.TheVariants as outcomes
 use Rattle.rv_line.specs.Run as code
 use Rattle.rv_line.specs.declared.outcome.CodeOutcome.{CodeOutcome}
 use Rattle.same_behaviour.specs.Lawful.{IsLawful, IsLawfulWorld, seen_by_rtl}

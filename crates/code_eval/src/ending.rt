@@ -3,7 +3,7 @@ ghost use Rattle.std.specs.Prelude.{◌≡◌, ◌++◌, OnOk};
 ghost use Rattle.code_eval.specs.Ending as spec;
 
 use bits64::trunc;
-use func_mean::Outcome;
+use func_run::Outcome;
 use plain_data::Memory;
 use rtl_step::width_of;
 use rtx_tree::{MemByte, Mode};

@@ -1,6 +1,6 @@
 //! A function and its code, tried from one start in one world.
 ghost use Rattle.std.specs.Prelude.{◌≡◌, ◌++◌, IfOk, codes};
-ghost use Rattle.func_mean.specs.Run as rtl;
+ghost use Rattle.func_run.specs.Run as rtl;
 ghost use Rattle.code_eval.specs.Eval as spec;
 ghost use Rattle.code_eval.specs.Eval.{AgreeAsSame, IsFair};
 ghost use Rattle.code_eval.specs.World as worlds;
@@ -9,7 +9,7 @@ ghost use Rattle.code_eval.specs.Ending as endings;
 use crate::ending::{Ending, code_ending, print_line, rtl_ending};
 use crate::start::{code_start, rtl_start};
 use crate::world::world_of;
-use func_mean::{Outcome, run_function};
+use func_run::{Outcome, run_function};
 use plain_data::Memory;
 use rtx_tree::{Function, Start, World};
 use rv_line::run_lines;

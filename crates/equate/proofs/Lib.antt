@@ -1,4 +1,4 @@
 pub mod VerdictLaws
 pub mod Soundness
-pub use Rattle.agree_keep.proofs as agree_keep
-pub use Rattle.agree_keep.proofs.sym_mean as sym_mean
+pub use Rattle.law_insns_agree.proofs as law_insns_agree
+pub use Rattle.law_insns_agree.proofs.law_insn_terms as law_insn_terms

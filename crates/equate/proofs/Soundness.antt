@@ -3,10 +3,10 @@ use Rattle.std.proofs.Common.{◌≡◌, ℕ, ◌&&◌, Bool, true, false, List,
 use Rattle.rtx_tree.specs.declared.function.Insn.{Insn}
 use Rattle.rv_text.specs.declared.line.Line.{Line}
 use Rattle.sym_diff.specs.Registers.{is_live}
-use Rattle.agree_keep.specs.window_mean.Same.{DoSame}
-use Rattle.agree_keep.specs.window_keep.Same.{CanReplace}
-use Rattle.agree_keep.proofs.agree_mean.Agreeing.{agreeing_does}
-use Rattle.agree_keep.proofs.Keeping.{agreeing_keeps}
+use Rattle.law_insns_agree.specs.law_window_runs.Same.{DoSame}
+use Rattle.law_insns_agree.specs.law_window_kept.Same.{CanReplace}
+use Rattle.law_insns_agree.proofs.law_states_agree.Agreeing.{agreeing_does}
+use Rattle.law_insns_agree.proofs.Keeping.{agreeing_keeps}
 use Rattle.equate.specs.Side.{Insns, Lines, is_one_return, both_return}
 use Rattle.equate.specs.Equated.{Equated}
 use Rattle.equate.specs.Sound.{EquatedDoesSame, EquatedKeeps}

@@ -1,6 +1,6 @@
 -- What a call that compares instructions with what stands in their place gives.
 use Rattle.std.specs.Prelude.{◌≡◌, ◌+◌, Result, Ok, Err}
-use Rattle.term_tree.specs.Tree.{most_nodes}
+use Rattle.rtx_tree.specs.Limit.{most_nodes}
 use Rattle.term_tree.specs.View.{tree_of}
 use Rattle.term_text.specs.declared.item.Item.TheVariants.{Need}
 use Rattle.sym_term.specs.declared.normal.TermRefusal.{TermRefusal}

@@ -5,8 +5,8 @@ use Rattle.std.specs.Prelude.{◌≡◌, ℕ, true, false, List}
 use Rattle.rtx_tree.specs.declared.function.Insn.{Insn}
 use Rattle.rv_text.specs.declared.line.Line.{Line}
 use Rattle.sym_diff.specs.Registers.{is_live}
-use Rattle.agree_keep.specs.window_mean.Same.{DoSame}
-use Rattle.agree_keep.specs.window_keep.Same.{CanReplace}
+use Rattle.law_insns_agree.specs.law_window_runs.Same.{DoSame}
+use Rattle.law_insns_agree.specs.law_window_kept.Same.{CanReplace}
 use Rattle.equate.specs.Side.{Insns, Lines, both_return}
 use Rattle.equate.specs.Equated.{Equated}
 

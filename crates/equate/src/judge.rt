@@ -1,6 +1,6 @@
 //! The verdict on instructions and what stands in their place.
 ghost use Rattle.std.specs.Prelude.{◌≡◌, ◌+◌, ◌^◌, ◌<◌, length, Ok, option_map};
-ghost use Rattle.term_tree.specs.Tree.{most_nodes};
+ghost use Rattle.rtx_tree.specs.Limit.{most_nodes};
 ghost use Rattle.sym_state.specs.Answers.{Gives as GivesState};
 ghost use Rattle.sym_state.specs.State as states;
 ghost use Rattle.sym_state.specs.Views.{state_of};

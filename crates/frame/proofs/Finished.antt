@@ -3,7 +3,7 @@ use Rattle.std.proofs.Common.{◌≡◌, [], ◌∷◌, ◌++◌, Some, None, re
 use Rattle.rtx_tree.specs.declared.function.Insn.{Insn}
 use Rattle.rtx_tree.specs.declared.function.Function.{Function}
 use Rattle.rtl_chain.specs.End.{return_insn, IsEnd, IsFinished}
-use Rattle.frame_mean.specs.Frame.{with_insns}
+use Rattle.law_frame.specs.Frame.{with_insns}
 use Rattle.frame.specs.machine.Steps.{Finishes}
 
 pub with_end : (f g : Function) (end : Insn) → IsEnd f.insns (Some end) → g ≡ with_insns f (f.insns ++ end ∷ []) → Finishes f g

@@ -3,13 +3,13 @@
 use Rattle.std.proofs.Common.{◌≡◌, List, Ok, refl, subst}
 use Rattle.rtx_tree.specs.declared.function.Function.{Function}
 use Rattle.md_forms.specs.declared.form.Entry.{Entry}
-use Rattle.pass_ready.specs.Left.{SameMarks}
-use Rattle.pass_ready.specs.Reloadable.{UidsDiffer}
+use Rattle.law_pass_needs.specs.Left.{SameMarks}
+use Rattle.law_pass_needs.specs.Reloadable.{UidsDiffer}
 use Rattle.assign.specs.declared.places.Layout.{Layout}
-use Rattle.frame_mean.specs.window_replace.Natural.{RegistersAreNatural}
-use Rattle.frame_mean.specs.Frame.{IsFramed}
-use Rattle.frame_mean.specs.Keeps.{IsLaidOut, KeepsInFrame}
-use Rattle.frame_mean.proofs.Framed.{keeps_in_frame}
+use Rattle.law_frame.specs.law_window_replaced.Natural.{RegistersAreNatural}
+use Rattle.law_frame.specs.Frame.{IsFramed}
+use Rattle.law_frame.specs.Keeps.{IsLaidOut, KeepsInFrame}
+use Rattle.law_frame.proofs.Framed.{keeps_in_frame}
 use Rattle.frame.specs.Framed.{Answer, FrameComes}
 use Rattle.frame.proofs.Marks.{framed_marks}
 use Rattle.frame.proofs.Uids.{framed_uids}

@@ -11,10 +11,10 @@ use Rattle.rtx_tree.specs.declared.function.Kind.TheVariants.{Jump}
 use Rattle.rtx_tree.specs.declared.function.Function.{Function}
 use Rattle.rtl_step.specs.Step as step
 use Rattle.rtl_chain.specs.End.{return_insn, IsFinished}
-use Rattle.pass_ready.specs.Left.{is_mark, marks, SameMarks}
+use Rattle.law_pass_needs.specs.Left.{is_mark, marks, SameMarks}
 use Rattle.assign.specs.declared.places.Layout.{Layout}
-use Rattle.frame_mean.specs.Frame.{prologue, epilogue, plain_insns, return_with, leaving, left_uid}
-use Rattle.frame_mean.specs.Frame.{returns_by, returns, left_at_returns, next_uid, IsFramed}
+use Rattle.law_frame.specs.Frame.{prologue, epilogue, plain_insns, return_with, leaving, left_uid}
+use Rattle.law_frame.specs.Frame.{returns_by, returns, left_at_returns, next_uid, IsFramed}
 
 pub both_marks : (xs ys : List Insn) → marks (xs ++ ys) ≡ marks xs ++ marks ys
 both_marks xs ys = filter-append is_mark xs ys

@@ -9,7 +9,7 @@ use Rattle.md_forms.specs.declared.form.Entry.{Entry}
 use Rattle.md_desc.specs.Recog.{NoneMatches}
 use Rattle.form_needs.specs.Needs.{output_facts}
 use Rattle.assign.specs.declared.places.Layout.{Layout}
-use Rattle.frame_mean.specs.Frame.{framed_insns, with_insns, next_uid, IsFramed}
+use Rattle.law_frame.specs.Frame.{framed_insns, with_insns, next_uid, IsFramed}
 use Rattle.pass_refusal.specs.Refused.{unmatched_insn}
 use Rattle.frame.specs.Framed.{Answer, is_new, IsMatchedIfNew, AreMatched, IsFirstUnmatched, FrameComes}
 

@@ -5,7 +5,7 @@ use Rattle.std.proofs.lemmas.List.{append-nil, take_more, length-take-le}
 use Rattle.rtx_tree.specs.declared.function.Insn.{Insn}
 use Rattle.rtx_tree.specs.declared.tree.Rtx.{Rtx}
 use Rattle.assign.specs.declared.places.Layout.{Layout}
-use Rattle.frame_mean.specs.Frame.{epilogue, plain_with, plain_insns, returns, leaving, left_uid, left_at_returns}
+use Rattle.law_frame.specs.Frame.{epilogue, plain_with, plain_insns, returns, leaving, left_uid, left_at_returns}
 use Rattle.frame.specs.machine.Items.{item_by, uid_by, uids_by}
 
 pub plain_push : (uid : ℕ) (xs : List Rtx) (x : Rtx) (next : ℕ) → next ≡ uid + length xs →

@@ -10,7 +10,7 @@ use Rattle.rtx_tree.specs.declared.function.Function.{Function}
 use Rattle.rtx_tree.specs.declared.function.Insn.{Insn}
 use Rattle.md_forms.specs.declared.form.Entry.{Entry}
 use Rattle.assign.specs.declared.places.Layout.{Layout}
-use Rattle.frame_mean.specs.Frame.{framed_insns, with_insns, next_uid, IsFramed}
+use Rattle.law_frame.specs.Frame.{framed_insns, with_insns, next_uid, IsFramed}
 use Rattle.pass_refusal.specs.Outcome.{RefusesWith}
 use Rattle.pass_refusal.specs.declared.refusal.PassRefusal.{PassRefusal}
 use Rattle.pass_refusal.proofs.Refusing.{refuses_map}

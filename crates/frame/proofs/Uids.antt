@@ -10,15 +10,15 @@ use Rattle.rtx_tree.specs.declared.function.Insn.{Insn}
 use Rattle.rtx_tree.specs.declared.function.Function.{Function}
 use Rattle.rtl_func.specs.Uids.{is_ruled_kind, uids_of}
 use Rattle.rtl_chain.specs.End.{return_insn, IsFinished}
-use Rattle.pass_ready.specs.Reloadable.{UidsDiffer}
-use Rattle.pass_ready.proofs.Places.{all_joined}
+use Rattle.law_pass_needs.specs.Reloadable.{UidsDiffer}
+use Rattle.law_pass_needs.proofs.Places.{all_joined}
 use Rattle.assign.specs.declared.places.Layout.{Layout}
-use Rattle.frame_mean.specs.Frame.{prologue, epilogue, plain_insns, return_with, leaving, left_uid}
-use Rattle.frame_mean.specs.Frame.{returns, left_at_returns, next_uid, IsFramed}
-use Rattle.frame_mean.proofs.Chain.{return_is}
-use Rattle.frame_mean.proofs.PlainUids.{Apart, Below, all_both, all_split}
-use Rattle.frame_mean.proofs.PlainUids.{distinct_back, uids_both, own_of, own_differs, own_apart}
-use Rattle.frame_mean.proofs.PlainUids.{own_below, low_uids, plain_uids, plain_apart, plain_differ}
+use Rattle.law_frame.specs.Frame.{prologue, epilogue, plain_insns, return_with, leaving, left_uid}
+use Rattle.law_frame.specs.Frame.{returns, left_at_returns, next_uid, IsFramed}
+use Rattle.law_frame.proofs.Chain.{return_is}
+use Rattle.law_frame.proofs.PlainUids.{Apart, Below, all_both, all_split}
+use Rattle.law_frame.proofs.PlainUids.{distinct_back, uids_both, own_of, own_differs, own_apart}
+use Rattle.law_frame.proofs.PlainUids.{own_below, low_uids, plain_uids, plain_apart, plain_differ}
 
 -- ---- the uids of a chain whose returns are made anew
 

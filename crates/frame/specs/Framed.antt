@@ -12,7 +12,7 @@ use Rattle.md_forms.specs.declared.form.Entry.{Entry}
 use Rattle.md_desc.specs.Recog.{MatchesAt, NoneMatches}
 use Rattle.form_needs.specs.Needs.{output_facts}
 use Rattle.assign.specs.declared.places.Layout.{Layout}
-use Rattle.frame_mean.specs.Frame.{next_uid, IsFramed}
+use Rattle.law_frame.specs.Frame.{next_uid, IsFramed}
 use Rattle.pass_refusal.specs.Refused.{unmatched_insn}
 use Rattle.pass_refusal.specs.declared.refusal.PassRefusal.{PassRefusal}
 use Rattle.pass_refusal.specs.declared.refusal.PassRefusal.TheVariants as refusal

@@ -1,3 +1,3 @@
 pub mod Framed
 pub mod machine
-pub use Rattle.frame_mean.specs as frame_mean
+pub use Rattle.law_frame.specs as law_frame

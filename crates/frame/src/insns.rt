@@ -1,6 +1,6 @@
 //! The instructions of a function with its frame.
 ghost use Rattle.std.specs.Prelude.{◌≡◌, ◌+◌, ◌++◌, length, IfOk, OnOk};
-ghost use Rattle.frame_mean.specs.Frame as spec;
+ghost use Rattle.law_frame.specs.Frame as spec;
 ghost use Rattle.frame.specs.machine.Items as steps;
 
 use crate::patterns::{epilogue, prologue};

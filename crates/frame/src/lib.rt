@@ -6,7 +6,7 @@
 //! description has to match each new instruction. In a layout that gives each a place of its own,
 //! and with registers of natural numbers, the function then does in a frame of its own what it did
 //! in one that others make and leave, and its caller finds sp, ra and s0 to s11 as they were
-//! (`frame_mean`); labels and barriers stay, and uids that differ still do.
+//! (`law_frame`); labels and barriers stay, and uids that differ still do.
 #![tactic(auto)]
 
 mod insns;

@@ -6,11 +6,11 @@ ghost use Rattle.md_desc.specs.Recog.{NoneMatches};
 ghost use Rattle.md_forms.specs.declared.form.Entry.{Entry};
 ghost use Rattle.form_needs.specs.Needs as needs;
 ghost use Rattle.assign.specs.declared.places.Layout.{Layout};
-ghost use Rattle.frame_mean.specs.window_replace.Natural.{RegistersAreNatural};
-ghost use Rattle.frame_mean.specs.Frame as spec;
-ghost use Rattle.frame_mean.specs.Keeps.{IsLaidOut, KeepsInFrame};
-ghost use Rattle.pass_ready.specs.Left.{SameMarks};
-ghost use Rattle.pass_ready.specs.Reloadable.{UidsDiffer};
+ghost use Rattle.law_frame.specs.law_window_replaced.Natural.{RegistersAreNatural};
+ghost use Rattle.law_frame.specs.Frame as spec;
+ghost use Rattle.law_frame.specs.Keeps.{IsLaidOut, KeepsInFrame};
+ghost use Rattle.law_pass_needs.specs.Left.{SameMarks};
+ghost use Rattle.law_pass_needs.specs.Reloadable.{UidsDiffer};
 ghost use Rattle.pass_refusal.specs.Outcome.{Gives};
 ghost use Rattle.frame.specs.Framed as framed;
 ghost use Rattle.frame.specs.Framed.{Answer, FrameComes};
@@ -23,11 +23,8 @@ use md_desc::Description;
 use pass_refusal::{PassRefusal, unmatched};
 use plain_data::Memory;
 use rtl_chain::{end_of, greatest_uid};
-use rtx_tree::{Function, Insn, Limit};
+use rtx_tree::{Function, Insn, Limit, MOST_FRAME};
 use std::alloc::Global;
-
-/// The size of the largest frame.
-const MOST_FRAME: u64 = 1_048_560;
 
 fn too_large(layout: &Layout) -> PassRefusal
     ensures { result ≡ framed.too_large layout.now }

@@ -2,7 +2,7 @@
 ghost use Rattle.std.specs.Prelude.{◌≡◌, ◌++◌, pos, neg_ℤ, IfOk, OnOk};
 ghost use Rattle.std.specs.List.{flat_map};
 ghost use Rattle.rtx_tree.specs.Patterns as trees;
-ghost use Rattle.frame_mean.specs.Frame as spec;
+ghost use Rattle.law_frame.specs.Frame as spec;
 
 use assign::{Layout, SavedAt};
 use plain_data::{Items, Memory};

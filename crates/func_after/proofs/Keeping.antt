@@ -10,34 +10,34 @@ use Rattle.rv_text.specs.declared.line.CodeItem.{CodeItem}
 use Rattle.md_forms.specs.declared.form.Entry.{Entry}
 use Rattle.md_forms.specs.Forms.{forms_of}
 use Rattle.same_behaviour.specs.Same.{Same}
-use Rattle.window_same.specs.Left.{SameWhereLeft}
-use Rattle.lines_ready.specs.sym_insns.Shape.{all_natural}
-use Rattle.insn_sizes.specs.homes_mean.Placed.{all_sized}
+use Rattle.law_window_lines.specs.Left.{SameWhereLeft}
+use Rattle.law_lines_ready.specs.sym_insns.Shape.{all_natural}
+use Rattle.insn_sizes.specs.law_homes.Placed.{all_sized}
 use Rattle.insn_sizes.specs.Sizes.{insn_natural, insn_sized, EachSized}
 use Rattle.assign.specs.Frame.{layout_of, IsFrame}
 use Rattle.assign.specs.declared.places.Layout.{Layout}
 use Rattle.assign.proofs.PlaceLaws.{IsFrame-layout_of}
 use Rattle.pass_refusal.specs.declared.refusal.PassRefusal.{PassRefusal}
-use Rattle.reload.specs.pass_ready.Reloadable.{IsInsnReloadable}
-use Rattle.whole_mean.specs.insn_keep.Sound.{IsSound, PassKeeps}
-use Rattle.whole_mean.proofs.insn_keep.Keeping.{kept_trans}
+use Rattle.reload.specs.law_pass_needs.Reloadable.{IsInsnReloadable}
+use Rattle.law_passes.specs.law_insn_replaced.Sound.{IsSound, PassKeeps}
+use Rattle.law_passes.proofs.law_insn_replaced.Keeping.{kept_trans}
 use Rattle.lower.proofs.Kept.{lower_kept}
 use Rattle.split.specs.declared.stage.SplitStage.TheVariants.{AfterReload}
 use Rattle.split.proofs.Sound.{split_kept, split_does}
-use Rattle.reload.specs.frame_mean.Keeps.{IsLaidOut, KeepsInFrame}
-use Rattle.reload.proofs.frame_mean.Laid.{laid_out}
+use Rattle.reload.specs.law_frame.Keeps.{IsLaidOut, KeepsInFrame}
+use Rattle.reload.proofs.law_frame.Laid.{laid_out}
 use Rattle.frame.specs.Framed.{FrameComes}
 use Rattle.frame.proofs.Kept.{is_framed, frame_keeps}
 use Rattle.reload.proofs.WindowLaws.{reload_windows}
 use Rattle.reload.specs.Windows.{HasWindows}
-use Rattle.lines_ready.specs.reload_mean.Homes.{NumbersAreSized}
-use Rattle.lines_ready.specs.Placed.{ArePlaced}
-use Rattle.lines_ready.proofs.Reloaded.{reload_placed}
-use Rattle.lines_ready.proofs.Framed.{frame_placed}
-use Rattle.lines_ready.proofs.Split.{split_placed}
-use Rattle.lines_ready.proofs.Written.{placed_writable}
-use Rattle.lines_ready.proofs.Given.{placed_natural, placed_marks, placed_registers}
-use Rattle.whole_mean.proofs.Made.{size_holds, made_same}
+use Rattle.law_lines_ready.specs.law_reload.Homes.{NumbersAreSized}
+use Rattle.law_lines_ready.specs.Placed.{ArePlaced}
+use Rattle.law_lines_ready.proofs.Reloaded.{reload_placed}
+use Rattle.law_lines_ready.proofs.Framed.{frame_placed}
+use Rattle.law_lines_ready.proofs.Split.{split_placed}
+use Rattle.law_lines_ready.proofs.Written.{placed_writable}
+use Rattle.law_lines_ready.proofs.Given.{placed_natural, placed_marks, placed_registers}
+use Rattle.law_passes.proofs.Made.{size_holds, made_same}
 use Rattle.func_after.specs.declared.made.Made.{Made}
 use Rattle.func_after.specs.After.{AfterComes}
 use Rattle.func_after.specs.Leads.{IsDescribed, LeadsToLines}

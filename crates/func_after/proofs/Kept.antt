@@ -3,14 +3,13 @@ use Rattle.std.proofs.Common.{◌≡◌, ℕ, ◌+◌, List, ◌++◌, length, R
 use Rattle.std.specs.Prelude.{replicate}
 use Rattle.rtx_tree.specs.declared.function.Function.{Function}
 use Rattle.rtx_tree.specs.declared.function.Insn.{Insn}
-use Rattle.rtx_tree.specs.declared.stage.Stage.{Stage}
-use Rattle.rtx_tree.specs.declared.stage.Stage.TheVariants as stage
+use Rattle.pass_name.specs.declared.pass.Pass.{Pass}
+use Rattle.pass_name.specs.declared.pass.Pass.TheVariants as stage
 use Rattle.rtx_tree.specs.declared.tree.Rtx.{Rtx}
 use Rattle.run_refusal.specs.declared.refusal.Refusal.{Refusal}
 use Rattle.md_forms.specs.declared.form.Entry.{Entry}
 use Rattle.md_forms.specs.Forms.{names_of}
 use Rattle.pass_refusal.specs.declared.refusal.PassRefusal.{PassRefusal}
-use Rattle.pass_name.specs.declared.pass.Pass.{Pass}
 use Rattle.pass_name.specs.declared.pass.Pass.TheVariants.{Split2}
 use Rattle.reload.specs.form_needs.Needs.{name_at}
 use Rattle.lower.specs.Lower.{rule_of, LowerFrom}
@@ -73,7 +72,7 @@ record Gave (m next : Made) (r : PassAnswer) : Type 0 where
   pub gave : r ≡ Ok function
   pub next_is : next ≡ record m { function = function }
 
-gave_of : (m next : Made) (at : Stage) (r : PassAnswer) → ◌≡◌ {A = Answer} (Ok next) (told_for m at r) → Gave m next r
+gave_of : (m next : Made) (at : Pass) (r : PassAnswer) → ◌≡◌ {A = Answer} (Ok next) (told_for m at r) → Gave m next r
 gave_of m next at (Ok g) is = record { function = g; gave = refl; next_is = ok_is next (record m { function = g }) is }
 gave_of m next at (Err e) is = absurd (let none : ⊥ = cc in none)
 

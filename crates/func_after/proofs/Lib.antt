@@ -6,5 +6,5 @@ pub mod OneAfter
 pub mod Kept
 pub mod Stages
 pub mod Keeping
-pub use Rattle.whole_mean.proofs.insn_keep as insn_keep
-pub use Rattle.lines_ready.proofs.out_same as out_same
+pub use Rattle.law_passes.proofs.law_insn_replaced as law_insn_replaced
+pub use Rattle.law_lines_ready.proofs.law_output as law_output

@@ -1,7 +1,7 @@
 -- What passes make of a function is one answer.
 use Rattle.std.proofs.Common.{◌≡◌, List, Ok, Err, refl, sym, ap, subst, ◌∙◌}
 use Rattle.rtx_tree.specs.declared.function.Function.{Function}
-use Rattle.rtx_tree.specs.declared.stage.Stage.TheVariants as stage
+use Rattle.pass_name.specs.declared.pass.Pass.TheVariants as stage
 use Rattle.run_refusal.specs.declared.refusal.Refusal.{Refusal}
 use Rattle.md_forms.specs.declared.form.Entry.{Entry}
 use Rattle.pass_name.specs.declared.pass.Pass.{Pass}

@@ -1,13 +1,12 @@
 -- What a pass makes of what was made, from what its call gave.
 use Rattle.std.proofs.Common.{◌≡◌, ℕ, List, Result, Ok, Err, refl, sym, ap, subst}
 use Rattle.rtx_tree.specs.declared.function.Function.{Function}
-use Rattle.rtx_tree.specs.declared.stage.Stage.{Stage}
-use Rattle.rtx_tree.specs.declared.stage.Stage.TheVariants as stage
+use Rattle.pass_name.specs.declared.pass.Pass.{Pass}
+use Rattle.pass_name.specs.declared.pass.Pass.TheVariants as stage
 use Rattle.md_forms.specs.declared.form.Entry.{Entry}
 use Rattle.pass_refusal.specs.declared.refusal.PassRefusal.{PassRefusal}
 use Rattle.pass_refusal.specs.declared.refusal.PassRefusal.TheVariants as passes
 use Rattle.pass_refusal.specs.Outcome as pass
-use Rattle.pass_name.specs.declared.pass.Pass.{Pass}
 use Rattle.pass_name.specs.declared.pass.Pass.TheVariants.{Read, Lower, Split1, Reload, Frame, Split2}
 use Rattle.lower.specs.Lower.{LowerComes}
 use Rattle.split.specs.declared.stage.SplitStage.TheVariants.{BeforeReload, AfterReload}
@@ -28,7 +27,7 @@ use Rattle.run_refusal.specs.declared.refusal.Refusal.{Refusal}
 use Rattle.func_after.specs.After.{Answer, refused_for, unreloaded_for, PassComes}
 
 -- a refusal of a pass that is told, where what follows from it is known
-pub told_for : {A B : Type 0} (name : List ℕ) (at : Stage) (e : PassRefusal) (P : Result A PassRefusal → Type 0) (Q : Result B Refusal → Type 0) →
+pub told_for : {A B : Type 0} (name : List ℕ) (at : Pass) (e : PassRefusal) (P : Result A PassRefusal → Type 0) (Q : Result B Refusal → Type 0) →
     ((e : PassRefusal) → P (Err e) → Q (Err (refused_for name at e))) → pass.RefusesWith e P → RefusesWith (refused_for name at e) Q
 told_for name at passes.Memory P Q follows r = tt
 told_for name at (passes.Unmatched uid insn) P Q follows r = follows (passes.Unmatched uid insn) r

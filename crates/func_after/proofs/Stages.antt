@@ -1,11 +1,10 @@
 -- The functions between the passes, from what comes of all of them.
 use Rattle.std.proofs.Common.{◌≡◌, ℕ, List, [], ◌∷◌, Result, Ok, Err, refl, sym, ap, subst, ◌∙◌}
 use Rattle.rtx_tree.specs.declared.function.Function.{Function}
-use Rattle.rtx_tree.specs.declared.stage.Stage.{Stage}
-use Rattle.rtx_tree.specs.declared.stage.Stage.TheVariants as stage
+use Rattle.pass_name.specs.declared.pass.Pass.{Pass}
+use Rattle.pass_name.specs.declared.pass.Pass.TheVariants as stage
 use Rattle.md_forms.specs.declared.form.Entry.{Entry}
 use Rattle.pass_refusal.specs.declared.refusal.PassRefusal.{PassRefusal}
-use Rattle.pass_name.specs.declared.pass.Pass.{Pass}
 use Rattle.pass_name.specs.declared.pass.Pass.TheVariants.{Lower, Split1, Reload, Frame, Split2}
 use Rattle.lower.specs.Lower.{LowerComes}
 use Rattle.split.specs.declared.stage.SplitStage.TheVariants.{BeforeReload, AfterReload}
@@ -63,7 +62,7 @@ record Gave (m next : Made) (r : PassAnswer) : Type 0 where
   pub gave : r ≡ Ok next.function
   pub layout_is : next.layout ≡ m.layout
 
-gave_of : (m next : Made) (at : Stage) (r : PassAnswer) → ◌≡◌ {A = Answer} (Ok next) (told_for m at r) → Gave m next r
+gave_of : (m next : Made) (at : Pass) (r : PassAnswer) → ◌≡◌ {A = Answer} (Ok next) (told_for m at r) → Gave m next r
 gave_of m next at (Ok g) is = let same = ok_is next (record m { function = g }) is in record {
   gave = ap (λ (n : Made). Ok n.function) (sym same);
   layout_is = ap (λ (n : Made). n.layout) same;
@@ -75,7 +74,7 @@ record MadeBy (comes : PassAnswer → Type 0) (m next : Made) : Type 0 where
   pub comes_to : comes (Ok next.function)
   pub layout_is : next.layout ≡ m.layout
 
-made_by : (comes : PassAnswer → Type 0) (m next : Made) (at : Stage) (r : PassAnswer) → comes r → ◌≡◌ {A = Answer} (Ok next) (told_for m at r) →
+made_by : (comes : PassAnswer → Type 0) (m next : Made) (at : Pass) (r : PassAnswer) → comes r → ◌≡◌ {A = Answer} (Ok next) (told_for m at r) →
     MadeBy comes m next
 made_by comes m next at r is told = let g = gave_of m next at r told in record { comes_to = subst comes g.gave is; layout_is = g.layout_is }
 

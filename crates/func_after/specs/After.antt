@@ -4,14 +4,13 @@
 use Rattle.std.specs.Prelude.{◌≡◌, ℕ, List, [], ◌∷◌, Result, Ok, Err}
 use Rattle.rtx_tree.specs.declared.function.Insn.{Insn}
 use Rattle.rtx_tree.specs.declared.function.Function.{Function}
-use Rattle.rtx_tree.specs.declared.stage.Stage.{Stage}
-use Rattle.rtx_tree.specs.declared.stage.Stage.TheVariants as stage
+use Rattle.pass_name.specs.declared.pass.Pass.{Pass}
+use Rattle.pass_name.specs.declared.pass.Pass.TheVariants as stage
 use Rattle.run_refusal.specs.declared.refusal.Refusal.{Refusal}
 use Rattle.run_refusal.specs.declared.refusal.Refusal.TheVariants as refusal
 use Rattle.md_forms.specs.declared.form.Entry.{Entry}
 use Rattle.pass_refusal.specs.declared.refusal.PassRefusal.{PassRefusal}
 use Rattle.pass_refusal.specs.declared.refusal.PassRefusal.TheVariants as passes
-use Rattle.pass_name.specs.declared.pass.Pass.{Pass}
 use Rattle.pass_name.specs.declared.pass.Pass.TheVariants.{Read, Lower, Split1, Reload, Frame, Split2}
 use Rattle.lower.specs.Lower.{LowerComes}
 use Rattle.split.specs.declared.stage.SplitStage.TheVariants.{BeforeReload, AfterReload}
@@ -44,11 +43,11 @@ Answer = Result Made Refusal
 -- ---- refusals
 
 -- the refusal of an instruction of a function at a stage
-abbrev pub unmatched_at : Stage → List ℕ → Insn → Refusal
+abbrev pub unmatched_at : Pass → List ℕ → Insn → Refusal
 unmatched_at at function i = refusal.Unmatched function i.uid at i.pattern
 
 -- the refusal of a run for that of a pass over a function
-abbrev pub refused_for : List ℕ → Stage → PassRefusal → Refusal
+abbrev pub refused_for : List ℕ → Pass → PassRefusal → Refusal
 refused_for function at (passes.Unmatched uid insn) = refusal.Unmatched function uid at insn
 refused_for function at (passes.NotEquated uid rule item left right) =
     refusal.NotEquated function uid rule item left right
@@ -66,7 +65,7 @@ unreloaded_for function reloading.Memory = refusal.Memory
 -- ---- one pass
 
 -- what was made, with another function
-abbrev pub told_for : Made → Stage → Result Function PassRefusal → Answer
+abbrev pub told_for : Made → Pass → Result Function PassRefusal → Answer
 told_for m at (Ok g) = Ok (with_function m g)
 told_for m at (Err e) = Err (refused_for m.function.name at e)
 

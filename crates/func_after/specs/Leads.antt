@@ -9,8 +9,8 @@ use Rattle.md_iter.specs.declared.substitution.Instance.{Instance}
 use Rattle.md_forms.specs.declared.form.Entry.{Entry}
 use Rattle.md_forms.specs.Forms.{forms_of}
 use Rattle.same_behaviour.specs.Same.{Same}
-use Rattle.window_same.specs.Left.{SameWhereLeft}
-use Rattle.lines_ready.specs.out_same.Ready.{AreWritable}
+use Rattle.law_window_lines.specs.Left.{SameWhereLeft}
+use Rattle.law_lines_ready.specs.law_output.Ready.{AreWritable}
 use Rattle.func_after.specs.declared.made.Made.{Made}
 
 -- the forms are those of a description

@@ -1,4 +1,4 @@
 pub mod Each
 pub mod After
 pub mod Leads
-pub use Rattle.whole_mean.specs.insn_keep as insn_keep
+pub use Rattle.law_passes.specs.law_insn_replaced as law_insn_replaced

@@ -12,7 +12,6 @@ use lower::lower;
 use md_desc::Description;
 use pass_name::Pass;
 use reload::reload;
-use rtx_tree::Stage;
 use run_refusal::Refusal;
 use split::{SplitStage, split};
 use std::alloc::Global;
@@ -25,7 +24,7 @@ fn lowered(alloc: Global, desc: &Description, m: Made) -> Result<Made, Refusal>
     let name = function.name.copy(alloc)?;
     match lower(alloc, desc, function) {
         Ok(function) => Ok(Made { function, layout }),
-        Err(e) => Err(refused_for(name, Stage::Lower, e)),
+        Err(e) => Err(refused_for(name, Pass::Lower, e)),
     }
 }
 
@@ -37,7 +36,7 @@ fn split_first(alloc: Global, desc: &Description, m: Made) -> Result<Made, Refus
     let name = function.name.copy(alloc)?;
     match split(alloc, desc, function, SplitStage::BeforeReload) {
         Ok(function) => Ok(Made { function, layout }),
-        Err(e) => Err(refused_for(name, Stage::Split1, e)),
+        Err(e) => Err(refused_for(name, Pass::Split1, e)),
     }
 }
 
@@ -65,7 +64,7 @@ fn framed(alloc: Global, desc: &Description, m: Made) -> Result<Made, Refusal>
     let name = function.name.copy(alloc)?;
     match frame(alloc, desc, function, &layout) {
         Ok(function) => Ok(Made { function, layout }),
-        Err(e) => Err(refused_for(name, Stage::Frame, e)),
+        Err(e) => Err(refused_for(name, Pass::Frame, e)),
     }
 }
 
@@ -77,7 +76,7 @@ fn split_again(alloc: Global, desc: &Description, m: Made) -> Result<Made, Refus
     let name = function.name.copy(alloc)?;
     match split(alloc, desc, function, SplitStage::AfterReload) {
         Ok(function) => Ok(Made { function, layout }),
-        Err(e) => Err(refused_for(name, Stage::Split2, e)),
+        Err(e) => Err(refused_for(name, Pass::Split2, e)),
     }
 }
 

@@ -3,7 +3,7 @@ ghost use Rattle.std.specs.Prelude.{◌≡◌, List, Ok};
 ghost use Rattle.rtx_tree.specs.declared.function.Function.{Function};
 ghost use Rattle.md_forms.specs.declared.form.Entry.{Entry};
 ghost use Rattle.func_after.specs.After as spec;
-ghost use Rattle.whole_mean.specs.insn_keep.Sound.{IsSound};
+ghost use Rattle.law_passes.specs.law_insn_replaced.Sound.{IsSound};
 ghost use Rattle.func_after.specs.After.{IsBehind, AfterComes, Gives};
 ghost use Rattle.func_after.specs.Leads.{IsDescribed, LeadsToLines};
 ghost use Rattle.func_after.specs.declared.made.Made.{Made};

@@ -3,39 +3,35 @@ ghost use Rattle.std.specs.Prelude.{◌≡◌, IfOk};
 ghost use Rattle.func_input.specs.machine.Steps.{IsOrMemory};
 ghost use Rattle.func_after.specs.After as spec;
 
+use pass_name::Pass;
 use pass_refusal::PassRefusal;
 use plain_data::Memory;
 use reload::ReloadRefusal;
-use rtx_tree::{Insn, Name, Stage};
+use rtx_tree::{Insn, Name};
 use run_refusal::Refusal;
 use std::alloc::Global;
 
-/// The refusal of an instruction of a function at a stage.
-pub fn unmatched(
-    alloc: Global,
-    stage: Stage,
-    function: &Name,
-    insn: &Insn,
-) -> Result<Refusal, Memory>
-    ensures { IfOk result (λ e. e ≡ spec.unmatched_at stage function.now insn.now) }
+/// The refusal of an instruction of a function at a pass.
+pub fn unmatched(alloc: Global, pass: Pass, function: &Name, insn: &Insn) -> Result<Refusal, Memory>
+    ensures { IfOk result (λ e. e ≡ spec.unmatched_at pass function.now insn.now) }
 {
     Ok(Refusal::Unmatched {
         function: function.copy(alloc)?,
         uid: insn.uid,
-        stage,
+        pass,
         insn: insn.pattern.copy(alloc)?,
     })
 }
 
 /// The refusal of the run for that of a pass over a function.
-pub(crate) fn refused_for(function: Name, stage: Stage, refusal: PassRefusal) -> Refusal
-    ensures { result ≡ spec.refused_for function stage refusal }
+pub(crate) fn refused_for(function: Name, pass: Pass, refusal: PassRefusal) -> Refusal
+    ensures { result ≡ spec.refused_for function pass refusal }
 {
     match refusal {
         PassRefusal::Unmatched { uid, insn } => Refusal::Unmatched {
             function,
             uid,
-            stage,
+            pass,
             insn,
         },
         PassRefusal::NotEquated {
@@ -57,12 +53,12 @@ pub(crate) fn refused_for(function: Name, stage: Stage, refusal: PassRefusal) ->
     }
 }
 
-/// The refusal of the run for that of a function at a stage, or want of memory.
-pub fn refused_at(alloc: Global, function: &Name, stage: Stage, refusal: PassRefusal) -> Refusal
-    ensures { IsOrMemory result (spec.refused_for function.now stage refusal) }
+/// The refusal of the run for that of a function at a pass, or want of memory.
+pub fn refused_at(alloc: Global, function: &Name, pass: Pass, refusal: PassRefusal) -> Refusal
+    ensures { IsOrMemory result (spec.refused_for function.now pass refusal) }
 {
     match function.copy(alloc) {
-        Ok(function) => refused_for(function, stage, refusal),
+        Ok(function) => refused_for(function, pass, refusal),
         Err(_) => Refusal::Memory,
     }
 }
@@ -75,7 +71,7 @@ pub(crate) fn unreloaded_for(function: Name, refusal: ReloadRefusal) -> Refusal
         ReloadRefusal::Unmatched { uid, insn } => Refusal::Unmatched {
             function,
             uid,
-            stage: Stage::Reload,
+            pass: Pass::Reload,
             insn,
         },
         ReloadRefusal::Unsatisfied { uid, form, insn } => Refusal::Unsatisfied {

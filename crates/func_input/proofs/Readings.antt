@@ -5,12 +5,12 @@ use Rattle.rtx_tree.specs.declared.place.Place.{Place}
 use Rattle.rtx_tree.specs.declared.function.Function.{Function}
 use Rattle.rtx_tree.specs.declared.limit.Limit.TheVariants as limit
 use Rattle.lisp_read.specs.declared.tree.Tree.{Tree}
-use Rattle.lisp_read.specs.Reading.{ReadsAs, Trees, Syntax, Depth, most_open}
+use Rattle.lisp_read.specs.Reading.{ReadsAs, Trees, Syntax, Depth}
+use Rattle.rtx_tree.specs.Limit.{most_open, most_bytes}
 use Rattle.lisp_read.specs.Parsed.{stands}
 use Rattle.rtl_read.specs.Syntax.{functions_in}
 use Rattle.run_refusal.specs.declared.refusal.Refusal.{Refusal}
 use Rattle.run_refusal.specs.declared.refusal.Refusal.TheVariants as refusal
-use Rattle.rtx_tree.specs.Limit.{most_bytes}
 use Rattle.func_input.specs.Input.{IsRead, ReadingComesTo, InputComesTo, AreThemselves, InputGives, RefusesWith, Reads}
 use Rattle.func_input.specs.machine.Steps.{IsOrMemory, Parses}
 use Rattle.func_input.proofs.Refusing.{refuses_map, made_refuses}

@@ -1,11 +1,11 @@
 -- The functions of an input, and what its bytes come to by a last step over its functions.
 use Rattle.std.specs.Prelude.{◌≡◌, ◌+◌, ◌<◌, ◌≤◌, ℕ, List, length, codes, Some, None, Result, Ok, Err}
-use Rattle.rtx_tree.specs.Limit.{most_bytes}
+use Rattle.rtx_tree.specs.Limit.{most_bytes, most_open}
 use Rattle.rtx_tree.specs.declared.place.Place.{Place}
 use Rattle.rtx_tree.specs.declared.function.Function.{Function}
 use Rattle.rtx_tree.specs.declared.limit.Limit.TheVariants as limit
 use Rattle.lisp_read.specs.declared.tree.Tree.{Tree}
-use Rattle.lisp_read.specs.Reading.{Reading, ReadsAs, Trees, Syntax, Depth, most_open}
+use Rattle.lisp_read.specs.Reading.{Reading, ReadsAs, Trees, Syntax, Depth}
 use Rattle.lisp_read.specs.Parsed.{stands, construct}
 use Rattle.rtl_read.specs.Syntax.{functions_in}
 use Rattle.run_refusal.specs.declared.refusal.Refusal.{Refusal}

@@ -2,6 +2,7 @@
 use Rattle.std.specs.Prelude.{ℕ, ◌+◌, List, [], ◌∷◌, nat_le, if◌then◌else◌, Some, None}
 use Rattle.std.specs.declared.option.Option.{Option}
 use Rattle.rtx_tree.specs.declared.function.Function.{Function}
+use Rattle.rtx_tree.specs.Limit.{most_instructions, most_pseudos}
 use Rattle.rtx_tree.specs.declared.limit.Limit.{Limit}
 use Rattle.rtx_tree.specs.declared.limit.Limit.TheVariants as limit
 use Rattle.rtl_func.specs.declared.fault.Fault.{Fault}
@@ -19,9 +20,9 @@ or_later None later = later
 abbrev pub over : Limit → ℕ → ℕ → Option Refusal
 over which most count = if nat_le count most then None else Some (refusal.Limit which count)
 
--- 10,000 instructions, and pseudo registers numbered below 10,000
+-- it has more instructions than a function may, or pseudo registers with greater numbers
 abbrev pub limit_passed : Function → Option Refusal
-limit_passed f = or_later (over limit.Instructions 10000 (instruction_count f.insns)) (over limit.Pseudos 10000 (next_pseudo f.insns))
+limit_passed f = or_later (over limit.Instructions most_instructions (instruction_count f.insns)) (over limit.Pseudos most_pseudos (next_pseudo f.insns))
 
 abbrev pub rule_broken : Function → Option Fault → Option Refusal
 rule_broken f None = None

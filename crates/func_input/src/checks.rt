@@ -12,7 +12,7 @@ ghost use Rattle.run_refusal.specs.declared.refusal.Refusal.TheVariants as refus
 use plain_data::Memory;
 use rtl_chain::{instruction_count, next_pseudo};
 use rtl_func::{CheckRefusal, Names, check_behind};
-use rtx_tree::{Function, Limit, Name};
+use rtx_tree::{Function, Limit, MOST_INSTRUCTIONS, MOST_PSEUDOS, Name};
 use run_refusal::Refusal;
 use std::alloc::Global;
 
@@ -59,10 +59,14 @@ fn check_limits(f: &Function) -> Result<(), Refusal>
 {
     within(
         Limit::Instructions,
-        10_000,
+        MOST_INSTRUCTIONS,
         instruction_count(f.insns.as_slice()) as u64,
     )?;
-    within(Limit::Pseudos, 10_000, next_pseudo(f.insns.as_slice()))
+    within(
+        Limit::Pseudos,
+        MOST_PSEUDOS,
+        next_pseudo(f.insns.as_slice()),
+    )
 }
 
 /// Checks a function behind those with these names: the rules, and then the limits.

@@ -10,9 +10,9 @@ ghost use Rattle.func_input.specs.Input.{IsRead, IsInput, Given, InputGives, Ref
 ghost use Rattle.func_input.specs.machine.Steps.{IsOrMemory, Parses};
 ghost use Rattle.run_refusal.specs.declared.refusal.Refusal.TheVariants as refused;
 
-use lisp_read::{MOST_OPEN, ReadRefusal, Trees, read_trees};
+use lisp_read::{ReadRefusal, Trees, read_trees};
 use rtl_read::{RtlRefusal, functions_of};
-use rtx_tree::{Functions, Limit, Name, Place};
+use rtx_tree::{Functions, Limit, MOST_OPEN, Name, Place};
 use run_refusal::Refusal;
 use std::alloc::Global;
 

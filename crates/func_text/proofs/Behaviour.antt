@@ -3,14 +3,14 @@ use Rattle.std.proofs.Common.{ℕ, ◌+◌, suc, List, Ok, refl}
 use Rattle.rtx_tree.specs.declared.function.Function.{Function}
 use Rattle.md_forms.specs.declared.form.Entry.{Entry}
 use Rattle.same_behaviour.specs.Same.{Same}
-use Rattle.func_after.specs.insn_keep.Sound.{IsSound}
+use Rattle.func_after.specs.law_insn_replaced.Sound.{IsSound}
 use Rattle.func_after.specs.declared.made.Made.{Made}
 use Rattle.func_after.specs.After.{AfterComes}
 use Rattle.func_after.specs.Leads.{IsDescribed}
 use Rattle.func_after.proofs.Keeping.{after_leads}
 use Rattle.asm_out.specs.declared.piece.Piece.{Piece}
 use Rattle.asm_out.specs.Written.{IsWritten}
-use Rattle.func_after.proofs.out_same.Written.{written_is_same}
+use Rattle.func_after.proofs.law_output.Written.{written_is_same}
 use Rattle.func_text.specs.declared.assembly.Assembly.{Assembly}
 use Rattle.func_text.specs.Assembly.{AssemblyComes}
 use Rattle.func_text.specs.Lines.{IsAssembly}

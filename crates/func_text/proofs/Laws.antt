@@ -9,7 +9,7 @@ use Rattle.asm_out.specs.declared.piece.Piece.{Piece}
 use Rattle.asm_out.specs.Comes as out
 use Rattle.asm_out.specs.Outcome as out_of
 use Rattle.asm_out.specs.Frame.{framed}
-use Rattle.asm_out.specs.Refused.{most_output}
+use Rattle.rtx_tree.specs.Limit.{most_output}
 use Rattle.asm_out.proofs.WrittenLaws.{function_written, function_within}
 use Rattle.asm_out.proofs.SpelledLaws.{chain_spelled}
 use Rattle.func_text.specs.declared.assembly.Assembly.{Assembly}

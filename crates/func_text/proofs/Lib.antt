@@ -12,4 +12,4 @@ pub mod Line
 pub mod DumpOne
 pub mod DumpTold
 pub use Rattle.func_after.proofs as func_after
-pub use Rattle.func_after.proofs.insn_keep as insn_keep
+pub use Rattle.func_after.proofs.law_insn_replaced as law_insn_replaced

@@ -9,7 +9,7 @@ use Rattle.func_input.specs.machine.Steps.{IsOrMemory}
 use Rattle.func_input.proofs.Refusing.{refuses_map, made_refuses}
 use Rattle.func_after.specs.After.{AfterComes, refused_for}
 use Rattle.func_after.proofs.PassLaws.{told_for}
-use Rattle.rtx_tree.specs.declared.stage.Stage.TheVariants.{Output}
+use Rattle.pass_name.specs.declared.pass.Pass.TheVariants.{Output}
 use Rattle.func_after.specs.declared.made.Made.{Made}
 use Rattle.asm_out.specs.pass_refusal.declared.refusal.PassRefusal.{PassRefusal}
 use Rattle.asm_out.specs.pass_refusal.Outcome as pass

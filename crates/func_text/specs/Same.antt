@@ -7,7 +7,7 @@ use Rattle.rv_text.specs.Body.{Spells}
 use Rattle.rv_text.specs.declared.line.CodeItem.{CodeItem}
 use Rattle.same_behaviour.specs.Same.{Same}
 use Rattle.md_forms.specs.declared.form.Entry.{Entry}
-use Rattle.func_after.specs.insn_keep.Sound.{IsSound}
+use Rattle.func_after.specs.law_insn_replaced.Sound.{IsSound}
 use Rattle.func_after.specs.After.{AfterComes}
 use Rattle.func_after.specs.declared.made.Made.{Made}
 use Rattle.asm_out.specs.Frame.{framed}

@@ -9,8 +9,9 @@ use asm_out::write_function;
 use func_after::{Made, after, refused_at};
 use func_input::next_number;
 use md_desc::Description;
+use pass_name::Pass;
 use plain_data::Items;
-use rtx_tree::{Function, Name, Stage};
+use rtx_tree::{Function, Name};
 use run_refusal::Refusal;
 use rv_text::CodeItem;
 use std::alloc::Global;
@@ -53,7 +54,7 @@ fn write_after(
             parts.push(Items::from_vec(items))?;
             Ok(summary)
         }
-        Err(e) => Err(refused_at(alloc, &f.name, Stage::Output, e)),
+        Err(e) => Err(refused_at(alloc, &f.name, Pass::Output, e)),
     }
 }
 

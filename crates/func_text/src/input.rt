@@ -1,9 +1,8 @@
 //! What the bytes of an input come to: the assembly of its functions, or the first refusal.
 ghost use Rattle.std.specs.Prelude.{◌≡◌, ℕ, List, Ok, ◌≤◌, length};
-ghost use Rattle.rtx_tree.specs.Limit.{most_bytes};
+ghost use Rattle.rtx_tree.specs.Limit.{most_bytes, most_output};
 ghost use Rattle.rtx_tree.specs.declared.function.Function.{Function};
 ghost use Rattle.md_forms.specs.declared.form.Entry.{Entry};
-ghost use Rattle.asm_out.specs.Refused.{most_output};
 ghost use Rattle.func_text.specs.Assembly.{Outcome, AssemblyComes};
 ghost use Rattle.func_text.specs.Compile.{FunctionsCome, InputComes, Gives};
 ghost use Rattle.func_text.specs.Lines.{IsAssembly};

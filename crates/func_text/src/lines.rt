@@ -10,8 +10,9 @@ ghost use Rattle.func_text.specs.Recog.{OutputComes};
 use form_needs::{is_held, name_at, needs_form, output_facts};
 use func_after::unmatched;
 use md_desc::{Chosen, Description};
+use pass_name::Pass;
 use plain_data::Memory;
-use rtx_tree::{Insn, Name, Stage};
+use rtx_tree::{Insn, Name};
 use run_refusal::Refusal;
 use std::alloc::Global;
 use text_words::{print_count, print_text};
@@ -69,11 +70,11 @@ fn print_insn(
         return Ok(());
     }
     if is_held(insn) {
-        return Err(unmatched(alloc, Stage::Output, function, insn)?);
+        return Err(unmatched(alloc, Pass::Output, function, insn)?);
     }
     match desc.recog_out(alloc, &insn.pattern, &output_facts(alloc))? {
         Some(chosen) => Ok(print_chosen(names, function, insn.uid, &chosen, out)?),
-        None => Err(unmatched(alloc, Stage::Output, function, insn)?),
+        None => Err(unmatched(alloc, Pass::Output, function, insn)?),
     }
 }
 

@@ -9,10 +9,10 @@ use Rattle.rtx_tree.specs.declared.tree.Rtx.{Rtx}
 use Rattle.rtx_tree.specs.declared.tree.Rtx.TheFolds.{fold_out-Rtx}
 use Rattle.rtx_tree.specs.Tree.{head_of, kids_of}
 use Rattle.sym_insns.specs.Shape.{is_natural, all_natural}
-use Rattle.reload_mean.specs.pass_ready.Reloadable.{IsInsnReloadable, IsReloadable}
-use Rattle.reload_mean.proofs.window_replace.Trees.{natural_here, natural_kids}
-use Rattle.reload_mean.specs.homes_mean.Placed.{is_sized, sized_step, all_sized}
-use Rattle.reload_mean.specs.Homes.{NumbersAreSized}
+use Rattle.law_reload.specs.law_pass_needs.Reloadable.{IsInsnReloadable, IsReloadable}
+use Rattle.law_reload.proofs.law_window_replaced.Trees.{natural_here, natural_kids}
+use Rattle.law_reload.specs.law_homes.Placed.{is_sized, sized_step, all_sized}
+use Rattle.law_reload.specs.Homes.{NumbersAreSized}
 use Rattle.insn_sizes.specs.Sizes.{insn_natural, insn_sized, EachSized}
 
 -- ---- by what holds of each

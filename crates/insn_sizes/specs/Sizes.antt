@@ -4,7 +4,7 @@ use Rattle.std.specs.Prelude.{◌≡◌, true, Bool, List}
 use Rattle.std.specs.List.{list_all}
 use Rattle.rtx_tree.specs.declared.function.Insn.{Insn}
 use Rattle.sym_insns.specs.Shape.{all_natural}
-use Rattle.reload_mean.specs.homes_mean.Placed.{all_sized}
+use Rattle.law_reload.specs.law_homes.Placed.{all_sized}
 
 abbrev pub insn_natural : Insn → Bool
 insn_natural i = all_natural i.pattern

@@ -9,7 +9,7 @@ ghost use Rattle.std.specs.Prelude.{◌≡◌, true};
 ghost use Rattle.text_words.specs.Words.{fits_i64};
 ghost use Rattle.rtx_tree.specs.Tree.{head_of};
 ghost use Rattle.sym_insns.specs.Shape.{is_natural, all_natural};
-ghost use Rattle.reload_mean.specs.homes_mean.Placed.{is_sized, all_sized};
+ghost use Rattle.law_reload.specs.law_homes.Placed.{is_sized, all_sized};
 ghost use Rattle.insn_sizes.specs.Sizes.{EachSized};
 
 use rtx_tree::{Code, Insn, Rtx};

@@ -8,7 +8,8 @@ use Rattle.lisp_read.specs.Places.{start, place_after}
 use Rattle.lisp_read.specs.Part.{Part, Open}
 use Rattle.lisp_read.specs.Nesting.{still_open}
 use Rattle.lisp_read.specs.Text.{Spells}
-use Rattle.lisp_read.specs.Reading.{most_open, IsTooDeepAt, NeverTooDeep, IsDepthPlace}
+use Rattle.lisp_read.specs.Reading.{IsTooDeepAt, NeverTooDeep, IsDepthPlace}
+use Rattle.rtx_tree.specs.Limit.{most_open}
 use Rattle.lisp_read.specs.machine.Steps.{State}
 use Rattle.lisp_read.specs.machine.Runs.{empty, run, ◌>>=◌, Reaches, IsShallow, StopsAt, StopsDeep}
 use Rattle.lisp_read.proofs.Settles.{st, fr, settled, settled_within, run_settled}

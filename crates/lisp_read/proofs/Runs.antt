@@ -5,7 +5,7 @@ use Rattle.std.proofs.lemmas.Bool.{cases_lt}
 use Rattle.rtx_tree.specs.declared.place.Place.{Place}
 use Rattle.lisp_read.specs.Places.{start, advance, place_after}
 use Rattle.lisp_read.specs.machine.Steps.{State, next}
-use Rattle.lisp_read.specs.Reading.{most_open}
+use Rattle.rtx_tree.specs.Limit.{most_open}
 use Rattle.lisp_read.specs.machine.Runs.{empty, run, ◌>>=◌, Reaches, IsShallow, StopsDeep}
 
 some_is : {A : Type 0} (x y : A) → Some x ≡ Some y → x ≡ y

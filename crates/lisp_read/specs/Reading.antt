@@ -7,10 +7,7 @@ use Rattle.lisp_read.specs.Places.{start, place_after}
 use Rattle.lisp_read.specs.Part.{Part, Open}
 use Rattle.lisp_read.specs.Nesting.{still_open}
 use Rattle.lisp_read.specs.Text.{Spells, IsText}
-
--- the most lists and vectors that may stand within each other
-abbrev pub most_open : ℕ
-most_open = 200
+use Rattle.rtx_tree.specs.Limit.{most_open}
 
 -- some text begins with these bytes
 pub record Begins (bytes : List ℕ) : Type 0 where

@@ -32,7 +32,6 @@ pub use expression::rtx_of_tree;
 pub use head::{are_flags, cut, head_words};
 pub use leaf::{below, quoted_name, uid_in};
 pub use read::{ReadRefusal, read_trees};
-pub use reader::MOST_OPEN;
 pub use refusal::RtlRefusal;
 pub use shape::{all_nested, atom, is_nested, is_vector, is_word, items, outside, string, vector};
 pub use tree::{Tree, Trees};

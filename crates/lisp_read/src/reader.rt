@@ -1,6 +1,6 @@
 //! Reads a text, one byte after the other.
 ghost use Rattle.std.specs.Prelude.{◌≡◌, ◌+◌, ◌<◌, ◌≤◌, ◌^◌, length, OnOk, if◌then◌else◌};
-ghost use Rattle.lisp_read.specs.Reading.{most_open};
+ghost use Rattle.rtx_tree.specs.Limit.{most_open};
 ghost use Rattle.lisp_read.specs.machine.Runs.{empty};
 ghost use Rattle.lisp_read.specs.machine.Steps.{at, opened, closed, begin, next, in_atom, in_line, in_slash, in_string, in_block, in_comment, in_comment_star, in_string_escape, in_block_escape};
 ghost use Rattle.lisp_read.specs.machine.Reader.{front_of, state_of, Gives, block_depth};
@@ -10,12 +10,9 @@ use crate::mode::Mode;
 use crate::stack::{Frame, Stack};
 use crate::tree::{Tree, Trees};
 use plain_data::{Items, Memory};
-use rtx_tree::{Name, Place};
+use rtx_tree::{MOST_OPEN, Name, Place};
 use std::alloc::Global;
 use std::mem;
-
-/// How many lists and vectors may be open within each other.
-pub const MOST_OPEN: usize = 200;
 
 /// Why a byte was not read.
 #[derive(Clone, Copy)]

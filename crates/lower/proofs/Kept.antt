@@ -12,18 +12,18 @@ use Rattle.std.specs.List.{list_all}
 use Rattle.md_forms.specs.declared.form.Entry.{Entry}
 use Rattle.lower_insn.specs.md_emit.Emitted.{keeps_to_arguments}
 use Rattle.lower_insn.specs.form_needs.Needs.{is_kind, is_note, needs_form}
-use Rattle.lower_keep.specs.pass_ready.Left.{SameMarks}
-use Rattle.lower_keep.specs.pass_ready.Reloadable.{IsInsnReloadable}
-use Rattle.lower_keep.proofs.pass_ready.Places.{at_place}
+use Rattle.law_lowering.specs.law_pass_needs.Left.{SameMarks}
+use Rattle.law_lowering.specs.law_pass_needs.Reloadable.{IsInsnReloadable}
+use Rattle.law_lowering.proofs.law_pass_needs.Places.{at_place}
 use Rattle.pass_refusal.specs.declared.refusal.PassRefusal.{PassRefusal}
-use Rattle.lower_keep.specs.insn_keep.Sound.{IsSound, PassKeeps}
-use Rattle.lower_keep.proofs.insn_keep.Keeping.{insn_kept, insn_same, each_keeps, pattern_keeps, kept_refl, kept_trans}
-use Rattle.lower_keep.proofs.insn_keep.Marks.{same_refl, same_trans}
+use Rattle.law_lowering.specs.law_insn_replaced.Sound.{IsSound, PassKeeps}
+use Rattle.law_lowering.proofs.law_insn_replaced.Keeping.{insn_kept, insn_same, each_keeps, pattern_keeps, kept_refl, kept_trans}
+use Rattle.law_lowering.proofs.law_insn_replaced.Marks.{same_refl, same_trans}
 use Rattle.lower_insn.specs.declared.part.Lowered.{Lowered}
 use Rattle.lower_insn.specs.Lowered as insn
 use Rattle.lower_insn.specs.Lowered.{InsnAnswer, by_form, InsnLowers}
-use Rattle.lower_keep.proofs.Arguments.{lowers_to_arguments}
-use Rattle.lower_keep.proofs.Made.{replaced_natural}
+use Rattle.law_lowering.proofs.Arguments.{lowers_to_arguments}
+use Rattle.law_lowering.proofs.Made.{replaced_natural}
 use Rattle.lower.specs.Lower.{Answer, LowersIn, rule_of, LowerFrom, LowerComes}
 
 -- ---- an instruction that is lowered needs a form, and so is no label and no barrier

@@ -5,8 +5,8 @@ ghost use Rattle.rtx_tree.specs.declared.function.Insn.{Insn};
 ghost use Rattle.rtl_chain.specs.Counts as counts;
 ghost use Rattle.md_forms.specs.declared.form.Entry.{Entry};
 ghost use Rattle.pass_refusal.specs.Outcome.{Gives};
-ghost use Rattle.lower_keep.specs.insn_keep.Sound.{IsSound, PassKeeps};
-ghost use Rattle.lower_keep.specs.pass_ready.Left.{SameMarks};
+ghost use Rattle.law_lowering.specs.law_insn_replaced.Sound.{IsSound, PassKeeps};
+ghost use Rattle.law_lowering.specs.law_pass_needs.Left.{SameMarks};
 ghost use Rattle.lower.specs.Lower.{Answer, AreMatched, LowerComes, LowersIn};
 ghost use Rattle.lower.specs.machine.Steps.{PlaceLowers};
 

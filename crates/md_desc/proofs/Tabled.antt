@@ -6,7 +6,7 @@ use Rattle.rtx_tree.specs.declared.code.Mode.{Mode}
 use Rattle.rtx_tree.specs.declared.tree.Rtx.{Rtx}
 use Rattle.c_eval.specs.declared.facts.Facts.{Facts}
 use Rattle.md_match.specs.Pattern.{Ops}
-use Rattle.tree_forms.specs.Trees.{most_forms}
+use Rattle.rtx_tree.specs.Limit.{most_forms}
 use Rattle.md_forms.specs.declared.form.Entry.{Entry}
 use Rattle.md_pred.specs.declared.table.PredTable.{PredTable}
 use Rattle.md_pred.specs.Holds.{holds}

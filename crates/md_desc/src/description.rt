@@ -7,7 +7,7 @@ ghost use Rattle.md_constr.specs.machine.Tables.{AreConstraintsOf};
 ghost use Rattle.md_constr.specs.Fits as constraints;
 ghost use Rattle.md_pred.specs.Holds.{holds};
 ghost use Rattle.md_pred.specs.machine.Table.{accepted_by};
-ghost use Rattle.tree_forms.specs.Trees.{most_forms};
+ghost use Rattle.rtx_tree.specs.Limit.{most_forms};
 ghost use Rattle.md_desc.specs.Recog as spec;
 ghost use Rattle.md_desc.specs.machine.Steps as steps;
 ghost use Rattle.md_recog.specs.declared.half.Half.TheVariants as half;

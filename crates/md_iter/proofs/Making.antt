@@ -10,7 +10,8 @@ use Rattle.md_iter.specs.declared.choice.Choice.{Choice}
 use Rattle.md_iter.specs.Choice.{Chosen, chosen_of, choices, choice_count, iterators_of, lent}
 use Rattle.md_iter.specs.declared.substitution.Instance.{Instance}
 use Rattle.md_iter.specs.Substitution.{form_under}
-use Rattle.md_iter.specs.Expansion.{forms_of_form, most_forms}
+use Rattle.md_iter.specs.Expansion.{forms_of_form}
+use Rattle.rtx_tree.specs.Limit.{most_forms}
 use Rattle.md_iter.proofs.Counts.{length_choices, length_map}
 
 module _ (definitions : Definitions) (form : Tree) (used lent_used : List (Bor FormIterator)) (count : ℕ) (lists : lent used ≡ iterators_of definitions.iterators form) (same : lent_used ≡ used) (counts : count ≡ min (choice_count (lent lent_used)) (2 ^ 64 - 1)) where

@@ -10,10 +10,7 @@ use Rattle.md_iter.specs.declared.refusal.IterRefusal.TheVariants as refusal
 use Rattle.md_iter.specs.Definition.{is_form, definitions_in, all_constants_in}
 use Rattle.md_iter.specs.Choice.{iterators_of, choices}
 use Rattle.md_iter.specs.Substitution.{form_under}
-
--- the most forms of a description
-abbrev pub most_forms : ℕ
-most_forms = 20000
+use Rattle.rtx_tree.specs.Limit.{most_forms}
 
 -- a form once for each choice of values of the iterators that it uses
 abbrev pub forms_of_form : Definitions → Tree → List Instance

@@ -2,6 +2,7 @@
 ghost use Rattle.std.specs.Prelude.{◌≡◌, ◌++◌, ◌≤◌, OnOk, IfErr, length};
 ghost use Rattle.md_iter.specs.Expansion as spec;
 ghost use Rattle.md_iter.specs.machine.Steps as steps;
+ghost use Rattle.rtx_tree.specs.Limit.{most_forms};
 
 use crate::choice::{choice_at, choice_count, iterators_of};
 use crate::definition::{Definitions, definitions_in, is_form};
@@ -9,11 +10,8 @@ use crate::refusal::IterRefusal;
 use crate::substitution::{Instance, form_under};
 use lisp_read::Tree;
 use plain_data::{Items, Memory};
-use rtx_tree::Constants;
+use rtx_tree::{Constants, MOST_FORMS};
 use std::alloc::Global;
-
-/// The greatest number of forms.
-pub const MOST_FORMS: usize = 20_000;
 
 /// A description without its iterators.
 #[derive(Drop)]
@@ -50,10 +48,10 @@ fn expand_form(
     form: &Tree,
     forms: &mut Items<Instance>,
 ) -> Result<(), TreeRefusal>
-    requires { length forms.old ≤ spec.most_forms }
+    requires { length forms.old ≤ most_forms }
     ensures ok { OnOk result (forms.new ≡ forms.old ++ spec.forms_of_form definitions.now
         form.now) }
-    ensures bound { OnOk result (length forms.new ≤ spec.most_forms) }
+    ensures bound { OnOk result (length forms.new ≤ most_forms) }
     ensures limit { IfErr result (λ e.
         steps.IsTooMany e forms.old (spec.forms_of_form definitions.now form.now)) }
 {
@@ -76,10 +74,10 @@ fn expand_tree(
     tree: &Tree,
     forms: &mut Items<Instance>,
 ) -> Result<(), TreeRefusal>
-    requires { length forms.old ≤ spec.most_forms }
+    requires { length forms.old ≤ most_forms }
     ensures ok { OnOk result (forms.new ≡ forms.old ++ spec.forms_of_tree definitions.now
         tree.now) }
-    ensures bound { OnOk result (length forms.new ≤ spec.most_forms) }
+    ensures bound { OnOk result (length forms.new ≤ most_forms) }
     ensures limit { IfErr result (λ e.
         steps.IsTooMany e forms.old (spec.forms_of_tree definitions.now tree.now)) }
 {

@@ -22,6 +22,6 @@ mod refusal;
 mod shape;
 mod substitution;
 
-pub use expand::{Expanded, MOST_FORMS, expand_forms};
+pub use expand::{Expanded, expand_forms};
 pub use refusal::IterRefusal;
 pub use substitution::Instance;

@@ -6,7 +6,8 @@ use Rattle.std.specs.Fmt.{decimal}
 use Rattle.lisp_read.specs.declared.tree.Tree.{Tree}
 use Rattle.md_source.specs.declared.refusal.SourceRefusal.{SourceRefusal}
 use Rattle.md_source.specs.Source.{Source, DescriptionComes}
-use Rattle.tree_forms.specs.Trees.{expanded, forms_of, most_forms}
+use Rattle.tree_forms.specs.Trees.{expanded, forms_of}
+use Rattle.rtx_tree.specs.Limit.{most_forms}
 use Rattle.md_pattern.specs.declared.reason.Reason.{Reason}
 use Rattle.md_pattern.specs.Reason.{number_of}
 use Rattle.md_forms.specs.declared.form.Form.{Form}

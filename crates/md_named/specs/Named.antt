@@ -1,15 +1,14 @@
 -- What the description of a name comes to: its forms, or the first refusal. Its files are read
 -- first, and then its forms are counted.
 use Rattle.std.specs.Prelude.{◌+◌, ◌≤◌, ◌<◌, List, ℕ, length, Result, Ok, Err}
-use Rattle.rtx_tree.specs.Limit.{most_bytes}
+use Rattle.rtx_tree.specs.Limit.{most_bytes, most_open, most_within, most_forms}
 use Rattle.rtx_tree.specs.declared.limit.Limit.TheVariants as limit
 use Rattle.lisp_read.specs.declared.tree.Tree.{Tree}
-use Rattle.lisp_read.specs.Reading.{most_open}
 use Rattle.md_source.specs.declared.refusal.SourceRefusal.{SourceRefusal}
 use Rattle.md_source.specs.declared.refusal.SourceRefusal.TheVariants as source_refusal
-use Rattle.md_source.specs.Source.{Source, DescriptionComes, most_within}
+use Rattle.md_source.specs.Source.{Source, DescriptionComes}
 use Rattle.md_forms.specs.declared.form.Entry.{Entry}
-use Rattle.tree_forms.specs.Trees.{expanded, forms_of, most_forms}
+use Rattle.tree_forms.specs.Trees.{expanded, forms_of}
 use Rattle.run_refusal.specs.declared.refusal.Refusal.{Refusal}
 use Rattle.run_refusal.specs.declared.refusal.Refusal.TheVariants as refusal
 

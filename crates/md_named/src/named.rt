@@ -8,17 +8,17 @@ ghost use Rattle.md_source.specs.Asked.{AreNamed, GrewBy, IsKnown};
 ghost use Rattle.md_source.specs.Answers.{Agrees};
 ghost use Rattle.md_forms.specs.declared.form.Entry.{Entry};
 ghost use Rattle.run_refusal.specs.declared.refusal.Refusal.{Refusal};
-ghost use Rattle.pred_mean.specs.Meaning.{PredicatesAre};
-ghost use Rattle.pred_mean.specs.Texts.{TextsAreRead};
+ghost use Rattle.law_predicates.specs.Meaning.{PredicatesAre};
+ghost use Rattle.law_predicates.specs.Texts.{TextsAreRead};
 ghost use Rattle.md_named.specs.Named as spec;
 ghost use Rattle.md_named.specs.Answers.{Gives};
 ghost use Rattle.md_named.specs.machine.Steps.{DescribesRun};
 
 use byte_edge::Files;
-use lisp_read::{MOST_OPEN, Tree};
+use lisp_read::Tree;
 use md_desc::{DescRefusal, Description, describe};
-use md_source::{MOST_WITHIN, SourceRefusal, gather};
-use rtx_tree::{Limit, MOST_BYTES};
+use md_source::{SourceRefusal, gather};
+use rtx_tree::{Limit, MOST_BYTES, MOST_OPEN, MOST_WITHIN};
 use run_refusal::Refusal;
 use std::alloc::Global;
 

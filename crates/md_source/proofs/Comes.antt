@@ -5,7 +5,8 @@ use Rattle.md_source.specs.declared.trees.Gathered.{Gathered}
 use Rattle.md_source.specs.declared.refusal.SourceRefusal.{SourceRefusal}
 use Rattle.md_source.specs.declared.refusal.SourceRefusal.TheVariants as refusal
 use Rattle.md_source.specs.Include.{included_name}
-use Rattle.md_source.specs.Source.{Source, Outcome, FileComes, TreesCome, DescriptionComes, in_front, text_of, most_within}
+use Rattle.md_source.specs.Source.{Source, Outcome, FileComes, TreesCome, DescriptionComes, in_front, text_of}
+use Rattle.rtx_tree.specs.Limit.{most_within}
 use Rattle.md_source.specs.Answers.{Refuses}
 use Rattle.md_source.specs.machine.Steps.{FileReads}
 

@@ -3,7 +3,7 @@
 -- other, is the profile of this project.
 use Rattle.std.specs.Prelude.{◌≡◌, ℕ, ◌+◌, ◌<◌, ◌≤◌, List, [], ◌∷◌, ◌++◌, length, Option, Some, None, Result, Ok, Err, codes, if◌then◌else◌}
 use Rattle.std.specs.Str.{bytes_eq}
-use Rattle.rtx_tree.specs.Limit.{most_bytes}
+use Rattle.rtx_tree.specs.Limit.{most_bytes, most_within}
 use Rattle.rtx_tree.specs.declared.place.Place.{Place}
 use Rattle.lisp_read.specs.declared.tree.Tree.{Tree}
 use Rattle.lisp_read.specs.Reading.{ReadsAs, Trees, Syntax, Depth}
@@ -12,10 +12,6 @@ use Rattle.md_source.specs.declared.trees.Gathered.{Gathered}
 use Rattle.md_source.specs.declared.refusal.SourceRefusal.{SourceRefusal}
 use Rattle.md_source.specs.declared.refusal.SourceRefusal.TheVariants as refusal
 use Rattle.md_source.specs.Include.{included_name}
-
--- the most files within each other, the description itself among them
-abbrev pub most_within : ℕ
-most_within = 16
 
 -- what is known of the bytes of files, by their names
 abbrev pub Source : Type 0

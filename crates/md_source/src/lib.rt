@@ -18,4 +18,4 @@ mod trees;
 
 pub use read::SHIPPED;
 pub use refusal::SourceRefusal;
-pub use trees::{MOST_WITHIN, gather};
+pub use trees::gather;

@@ -2,8 +2,8 @@
 ghost use Rattle.std.specs.Prelude.{◌≡◌, ◌≢◌, ◌≤◌, ◌+◌, ℕ, List, IfOk, OnOk, ◌↔◌, Result};
 ghost use Rattle.byte_edge.specs.Causes.{Rose};
 ghost use Rattle.lisp_read.specs.declared.tree.Tree.{Tree};
-ghost use Rattle.rtx_tree.specs.Limit.{most_bytes};
-ghost use Rattle.md_source.specs.Source.{Source, FileComes, DescriptionComes, most_within};
+ghost use Rattle.rtx_tree.specs.Limit.{most_bytes, most_within};
+ghost use Rattle.md_source.specs.Source.{Source, FileComes, DescriptionComes};
 ghost use Rattle.md_source.specs.Asked.{AreNamed, GrewBy, IsKnown};
 ghost use Rattle.md_source.specs.Answers.{Agrees, Gives};
 ghost use Rattle.md_source.specs.declared.refusal.SourceRefusal.{SourceRefusal};
@@ -14,10 +14,8 @@ use crate::refusal::SourceRefusal;
 use byte_edge::Files;
 use lisp_read::Trees;
 use plain_data::Items;
+use rtx_tree::MOST_WITHIN;
 use std::alloc::Global;
-
-/// How many files may stand within each other, the description itself among them.
-pub const MOST_WITHIN: usize = 16;
 
 /// Trees, and how many bytes were read by then.
 #[derive(Drop)]

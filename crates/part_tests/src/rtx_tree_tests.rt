@@ -121,9 +121,7 @@ fn operands(rt: HostRuntime) {
 
 #[test]
 fn messages(rt: HostRuntime) {
-    assert!(rt; Stage::Peephole2.name() == "peephole2");
     assert!(rt; Limit::SplitDepth.name() == "SplitDepth");
-    assert!(rt; Stage::Frame.same(Stage::Frame) && !Stage::Split1.same(Stage::Split2));
     assert!(rt; Limit::Frame.same(Limit::Frame) && !Limit::Text.same(Limit::Forms));
 }
 

@@ -1,9 +1,9 @@
--- The passes behind which a function can be shown, by their names: GCC Internals, "Passes and Files
--- of the Compiler" ("RTL passes"). The names are this project's own.
+-- The passes over a function, by their names: GCC Internals, "Passes and Files of the Compiler" ("RTL
+-- passes"). The names are this project's own.
 use Rattle.std.specs.Prelude.{ℕ, List, codes, Option, Some, None, if◌then◌else◌}
 use Rattle.std.specs.Str.{bytes_eq}
 use Rattle.pass_name.specs.declared.pass.Pass.{Pass}
-use Rattle.pass_name.specs.declared.pass.Pass.TheVariants.{Read, Lower, Split1, Reload, Frame, Split2}
+use Rattle.pass_name.specs.declared.pass.Pass.TheVariants.{Read, Lower, Split1, Reload, Frame, Split2, Output}
 
 abbrev pub pass_name : Pass → List ℕ
 pass_name Read = codes "read"
@@ -12,8 +12,9 @@ pass_name Split1 = codes "split1"
 pass_name Reload = codes "reload"
 pass_name Frame = codes "frame"
 pass_name Split2 = codes "split2"
+pass_name Output = codes "output"
 
--- the pass with a name
+-- the pass with a name behind which a function can be shown
 abbrev pub pass_named : List ℕ → Option Pass
 pass_named name =
     if bytes_eq name (pass_name Read) then Some Read else (

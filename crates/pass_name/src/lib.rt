@@ -1,7 +1,8 @@
-//! The passes behind which a function can be shown.
+//! The passes over a function.
 //!
 //! A [`Pass`] has a name (`specs/Pass.antt`). A function is read, lowered, split a first time,
-//! reloaded, given its frame, and split a second time.
+//! reloaded, given its frame, split a second time, and written. Behind each of these but the last
+//! it can be shown.
 #![tactic(auto)]
 
 mod pass;

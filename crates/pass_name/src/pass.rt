@@ -2,7 +2,7 @@
 ghost use Rattle.std.specs.Prelude.{◌≡◌};
 ghost use Rattle.pass_name.specs.Pass as spec;
 
-/// A pass behind which a function can be shown, in the order in which they run.
+/// A pass over a function, in the order in which they run. A refusal names the pass that refuses.
 #[derive(Clone, Copy)]
 pub enum Pass {
     /// None yet: the function as it was read.
@@ -17,6 +17,8 @@ pub enum Pass {
     Frame,
     /// Splits once registers have homes.
     Split2,
+    /// The assembly text.
+    Output,
 }
 
 impl Pass {
@@ -31,10 +33,11 @@ impl Pass {
             Pass::Reload => "reload",
             Pass::Frame => "frame",
             Pass::Split2 => "split2",
+            Pass::Output => "output",
         }
     }
 
-    /// The pass with a name, or `None` where there is none.
+    /// The pass with a name behind which a function can be shown, or `None` where there is none.
     pub fn named(name: &str) -> Option<Pass>
         ensures { result ≡ spec.pass_named name.now }
     {

@@ -2,7 +2,7 @@
 use Rattle.std.specs.Prelude.{ℕ, ◌+◌, List, codes, Option, Some, None}
 use Rattle.rtx_tree.specs.declared.function.Insn.{Insn}
 use Rattle.rtx_tree.specs.declared.limit.Limit.TheVariants.{TermSize}
-use Rattle.term_tree.specs.Tree.{most_nodes}
+use Rattle.rtx_tree.specs.Limit.{most_nodes}
 use Rattle.term_text.specs.Text.{text_of}
 use Rattle.term_text.specs.declared.item.Item.TheVariants.{Need, Shape}
 use Rattle.equate.specs.sym_diff.Difference.{Difference, Differ, Lacks}

@@ -6,6 +6,6 @@ pub mod Adding
 pub mod WindowLaws
 pub mod Marks
 pub mod Uids
-pub use Rattle.frame_mean.proofs as frame_mean
-pub use Rattle.pass_ready.proofs.func_rules as func_rules
-pub use Rattle.pass_ready.proofs as pass_ready
+pub use Rattle.law_frame.proofs as law_frame
+pub use Rattle.law_pass_needs.proofs.law_rules as law_rules
+pub use Rattle.law_pass_needs.proofs as law_pass_needs

@@ -9,10 +9,10 @@ use Rattle.rtx_tree.specs.declared.function.Function.{Function}
 use Rattle.rtx_tree.specs.Patterns.{with_pattern}
 use Rattle.rtl_step.specs.Step as step
 use Rattle.md_forms.specs.declared.form.Entry.{Entry}
-use Rattle.pass_ready.specs.Left.{is_mark, marks, SameMarks}
+use Rattle.law_pass_needs.specs.Left.{is_mark, marks, SameMarks}
 use Rattle.assign.specs.declared.home.HomeOf.{HomeOf}
 use Rattle.assign.specs.declared.places.Layout.{Layout}
-use Rattle.frame_mean.specs.Frame.{plain_insns, next_uid}
+use Rattle.law_frame.specs.Frame.{plain_insns, next_uid}
 use Rattle.reload.specs.Reload.{window_by, FunctionReloads}
 use Rattle.reload.specs.Windows.{AreWindows, HasWindows}
 use Rattle.reload.proofs.WindowLaws.{reload_windows, IsAmong, among}

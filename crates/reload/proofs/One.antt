@@ -11,7 +11,7 @@ use Rattle.md_desc.specs.Recog.{NoneMatches}
 use Rattle.form_needs.specs.Needs.{needs_form, lower_facts}
 use Rattle.assign.specs.declared.home.HomeOf.{HomeOf}
 use Rattle.assign.specs.declared.places.Layout.{Layout}
-use Rattle.frame_mean.specs.Frame.{next_uid}
+use Rattle.law_frame.specs.Frame.{next_uid}
 use Rattle.reload_choice.specs.declared.given.Given.{Given}
 use Rattle.reload_choice.specs.declared.given.Plan.{Plan}
 use Rattle.reload.specs.declared.refusal.ReloadRefusal.{ReloadRefusal}

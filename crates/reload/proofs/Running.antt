@@ -10,7 +10,7 @@ use Rattle.rtx_tree.specs.Patterns.{with_pattern}
 use Rattle.md_forms.specs.declared.form.Entry.{Entry}
 use Rattle.assign.specs.declared.home.HomeOf.{HomeOf}
 use Rattle.assign.specs.declared.places.Layout.{Layout}
-use Rattle.frame_mean.specs.Frame.{plain_with, plain_insns}
+use Rattle.law_frame.specs.Frame.{plain_with, plain_insns}
 use Rattle.reload_choice.specs.declared.given.Given.{Given}
 use Rattle.reload_choice.specs.declared.given.Plan.{Plan}
 use Rattle.reload_choice.specs.Insns.{between, insns_before, insns_after}

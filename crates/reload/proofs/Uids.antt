@@ -10,13 +10,13 @@ use Rattle.rtx_tree.specs.declared.function.Function.{Function}
 use Rattle.rtx_tree.specs.Patterns.{with_pattern}
 use Rattle.rtl_func.specs.Uids.{is_ruled_kind, uids_of}
 use Rattle.md_forms.specs.declared.form.Entry.{Entry}
-use Rattle.pass_ready.specs.Reloadable.{UidsDiffer}
+use Rattle.law_pass_needs.specs.Reloadable.{UidsDiffer}
 use Rattle.assign.specs.declared.home.HomeOf.{HomeOf}
 use Rattle.assign.specs.declared.places.Layout.{Layout}
-use Rattle.frame_mean.specs.Frame.{plain_insns, next_uid}
-use Rattle.frame_mean.proofs.PlainUids.{Apart, Below, all_both, all_split, below_apart, below_more}
-use Rattle.frame_mean.proofs.PlainUids.{distinct_back, uids_both, own_of, own_differs, own_apart}
-use Rattle.frame_mean.proofs.PlainUids.{own_below, low_uids, plain_uids, plain_apart, plain_differ}
+use Rattle.law_frame.specs.Frame.{plain_insns, next_uid}
+use Rattle.law_frame.proofs.PlainUids.{Apart, Below, all_both, all_split, below_apart, below_more}
+use Rattle.law_frame.proofs.PlainUids.{distinct_back, uids_both, own_of, own_differs, own_apart}
+use Rattle.law_frame.proofs.PlainUids.{own_below, low_uids, plain_uids, plain_apart, plain_differ}
 use Rattle.reload.specs.Reload.{window_by, FunctionReloads}
 use Rattle.reload.specs.Windows.{AreWindows}
 use Rattle.reload.proofs.Running.{window_long}

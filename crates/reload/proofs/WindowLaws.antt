@@ -14,7 +14,7 @@ use Rattle.md_forms.specs.declared.form.Entry.{Entry}
 use Rattle.form_needs.specs.Needs.{is_kind, is_note, needs_form}
 use Rattle.assign.specs.declared.home.HomeOf.{HomeOf}
 use Rattle.assign.specs.declared.places.Layout.{Layout}
-use Rattle.frame_mean.specs.Frame.{next_uid}
+use Rattle.law_frame.specs.Frame.{next_uid}
 use Rattle.reload_choice.specs.declared.given.Given.{Given}
 use Rattle.reload_choice.specs.declared.given.Plan.{Plan}
 use Rattle.reload_choice.specs.Choice.{IsChosen}

@@ -3,6 +3,6 @@ pub mod Outcome
 pub mod Windows
 pub mod machine
 pub use Rattle.form_needs.specs as form_needs
-pub use Rattle.frame_mean.specs as frame_mean
-pub use Rattle.pass_ready.specs.func_rules as func_rules
-pub use Rattle.pass_ready.specs as pass_ready
+pub use Rattle.law_frame.specs as law_frame
+pub use Rattle.law_pass_needs.specs.law_rules as law_rules
+pub use Rattle.law_pass_needs.specs as law_pass_needs

@@ -20,7 +20,7 @@ use Rattle.md_desc.specs.Recog.{IsFirst, MatchesAt, NoneMatches}
 use Rattle.form_needs.specs.Needs.{name_at, needs_form, lower_facts}
 use Rattle.assign.specs.declared.home.HomeOf.{HomeOf}
 use Rattle.assign.specs.declared.places.Layout.{Layout}
-use Rattle.frame_mean.specs.Frame.{plain_insns, with_insns, next_uid}
+use Rattle.law_frame.specs.Frame.{plain_insns, with_insns, next_uid}
 use Rattle.reload_homes.specs.FrameRefs.{framed}
 use Rattle.reload_homes.specs.Homes.{homed}
 use Rattle.reload_operands.specs.Operands.{operands_of}

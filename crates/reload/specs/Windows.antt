@@ -11,7 +11,7 @@ use Rattle.md_forms.specs.declared.form.Entry.{Entry}
 use Rattle.form_needs.specs.Needs.{needs_form}
 use Rattle.assign.specs.declared.home.HomeOf.{HomeOf}
 use Rattle.assign.specs.declared.places.Layout.{Layout}
-use Rattle.frame_mean.specs.Frame.{next_uid, with_insns}
+use Rattle.law_frame.specs.Frame.{next_uid, with_insns}
 use Rattle.reload_choice.specs.declared.given.Plan.{Plan}
 use Rattle.reload_choice.specs.Sound.{IsSoundPlan}
 use Rattle.reload.specs.Reload.{alone, given_by, moves_of, window_of, IsMatch, IsMatched}

@@ -1,6 +1,6 @@
 //! Moves.
 ghost use Rattle.std.specs.Prelude.{◌≡◌, ◌+◌, IfOk};
-ghost use Rattle.frame_mean.specs.Frame as frames;
+ghost use Rattle.law_frame.specs.Frame as frames;
 ghost use Rattle.reload.specs.machine.Added.{AddsMove, AddsMoves};
 
 use crate::refusal::ReloadRefusal;

@@ -7,7 +7,8 @@ use Rattle.rtx_tree.specs.declared.function.Function.{Function}
 use Rattle.lisp_read.specs.declared.tree.Tree.{Tree}
 use Rattle.lisp_read.specs.Parsed.{stands}
 use Rattle.lisp_read.specs.Part.{parts_of_all}
-use Rattle.lisp_read.specs.Reading.{ReadsAs, Trees, most_open}
+use Rattle.lisp_read.specs.Reading.{ReadsAs, Trees}
+use Rattle.rtx_tree.specs.Limit.{most_open}
 use Rattle.rtl_read.specs.Syntax.{functions_in}
 use Rattle.tree_print.specs.Print.{depth_of}
 use Rattle.rtl_print.specs.Back.{IsReadable, AreReadable, ReadsBack, AllReadBack}

@@ -7,7 +7,8 @@ use Rattle.lisp_read.specs.Part.{Part, parts_of_all}
 use Rattle.lisp_read.specs.Nesting.{still_open}
 use Rattle.lisp_read.specs.Text as text
 use Rattle.lisp_read.specs.Text.{Spells, IsText}
-use Rattle.lisp_read.specs.Reading.{most_open, ReadsAs, Trees}
+use Rattle.lisp_read.specs.Reading.{ReadsAs, Trees}
+use Rattle.rtx_tree.specs.Limit.{most_open}
 use Rattle.lisp_read.proofs.Accepts.{accepts_text}
 use Rattle.lisp_read.proofs.Builds.{trees_of}
 use Rattle.lisp_read.proofs.Depths.{never_where_read}

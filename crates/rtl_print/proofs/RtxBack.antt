@@ -6,7 +6,8 @@ use Rattle.rtx_tree.specs.declared.tree.Rtx.{Rtx}
 use Rattle.lisp_read.specs.declared.position.Position.{Position}
 use Rattle.lisp_read.specs.declared.tree.Tree.{Tree}
 use Rattle.lisp_read.specs.Part.{Part, parts_of, parts_of_all}
-use Rattle.lisp_read.specs.Reading.{ReadsAs, Trees, most_open}
+use Rattle.lisp_read.specs.Reading.{ReadsAs, Trees}
+use Rattle.rtx_tree.specs.Limit.{most_open}
 use Rattle.tree_print.specs.Print.{depth_of}
 use Rattle.tree_print.proofs.SpellsPrinted.{SpellsAs, spells_printed}
 use Rattle.rtl_print.specs.Back.{IsReadableAt, ReadsBackAt}

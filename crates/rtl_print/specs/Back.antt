@@ -12,7 +12,8 @@ use Rattle.lisp_read.specs.declared.position.Position.{Position}
 use Rattle.lisp_read.specs.declared.tree.Tree.{Tree}
 use Rattle.lisp_read.specs.Expression.{read_at}
 use Rattle.lisp_read.specs.Parsed.{stands}
-use Rattle.lisp_read.specs.Reading.{ReadsAs, Trees, most_open}
+use Rattle.lisp_read.specs.Reading.{ReadsAs, Trees}
+use Rattle.rtx_tree.specs.Limit.{most_open}
 use Rattle.tree_print.specs.Print.{depth_of}
 use Rattle.rtl_read.specs.Call.{is_dropped_code}
 use Rattle.rtl_read.specs.Function.{function_of}

@@ -2,7 +2,7 @@
 use byte_edge::{ByteFiles, ByteSink, ByteSource, Files, QuietFiles};
 use case_text::Told;
 use code_eval::{code_ending, print_line, rtl_ending};
-use func_mean::Outcome;
+use func_run::Outcome;
 use plain_data::{Items, Memory};
 use rtlc_run::run;
 use rv_line::CodeOutcome;

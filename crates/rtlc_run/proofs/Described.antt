@@ -9,28 +9,29 @@ use Rattle.md_source.specs.Source.{Source}
 use Rattle.md_source.specs.Asked.{IsKnown}
 use Rattle.md_forms.specs.declared.form.Entry.{Entry}
 use Rattle.md_iter.specs.Definition.{all_constants_in}
-use Rattle.tree_forms.specs.Trees.{expanded, forms_of, most_forms}
+use Rattle.tree_forms.specs.Trees.{expanded, forms_of}
+use Rattle.rtx_tree.specs.Limit.{most_forms}
 use Rattle.md_named.specs.Named.{source_refused, FormsCome}
 use Rattle.md_named.proofs.Forms.{one_answer as one_forms}
 use Rattle.func_input.specs.Outcome.{Outcome}
 use Rattle.func_input.proofs.Inputs.{input_reached}
 use Rattle.func_input.proofs.One.{one_coming_to}
-use Rattle.asm_same.specs.func_text.Recog.{FunctionsCome}
-use Rattle.asm_same.proofs.func_text.One.{functions_one}
-use Rattle.asm_same.specs.func_text.Dump as dump
-use Rattle.asm_same.proofs.func_text.DumpOne as dump_one
+use Rattle.law_assembly.specs.func_text.Recog.{FunctionsCome}
+use Rattle.law_assembly.proofs.func_text.One.{functions_one}
+use Rattle.law_assembly.specs.func_text.Dump as dump
+use Rattle.law_assembly.proofs.func_text.DumpOne as dump_one
 use Rattle.pass_name.specs.declared.pass.Pass.{Pass}
-use Rattle.asm_same.specs.func_text.declared.assembly.Assembly.{Assembly}
-use Rattle.asm_same.specs.func_text.declared.code.Coded.{Coded}
-use Rattle.asm_same.specs.func_text.Assembly as assembly
-use Rattle.asm_same.specs.func_text.Assembly.{AssemblyComes}
-use Rattle.asm_same.specs.func_text.Compile.{TextComes, text_told}
-use Rattle.asm_same.specs.func_text.Code.{CodeComes, IsCoded}
-use Rattle.asm_same.proofs.func_text.OneAssembly.{one_coming_of}
-use Rattle.asm_same.proofs.func_text.Laws.{is_assembly}
-use Rattle.asm_same.specs.func_text.func_after.Leads.{IsDescribed}
-use Rattle.asm_same.proofs.Same.{input_does_same, input_does_framed, coded_is_same}
-use Rattle.asm_same.proofs.func_text.CodeLaws.{one_code, code_coded}
+use Rattle.law_assembly.specs.func_text.declared.assembly.Assembly.{Assembly}
+use Rattle.law_assembly.specs.func_text.declared.code.Coded.{Coded}
+use Rattle.law_assembly.specs.func_text.Assembly as assembly
+use Rattle.law_assembly.specs.func_text.Assembly.{AssemblyComes}
+use Rattle.law_assembly.specs.func_text.Compile.{TextComes, text_told}
+use Rattle.law_assembly.specs.func_text.Code.{CodeComes, IsCoded}
+use Rattle.law_assembly.proofs.func_text.OneAssembly.{one_coming_of}
+use Rattle.law_assembly.proofs.func_text.Laws.{is_assembly}
+use Rattle.law_assembly.specs.func_text.func_after.Leads.{IsDescribed}
+use Rattle.law_assembly.proofs.Same.{input_does_same, input_does_framed, coded_is_same}
+use Rattle.law_assembly.proofs.func_text.CodeLaws.{one_code, code_coded}
 use Rattle.code_eval.specs.Start.{stack_room}
 use Rattle.code_eval.specs.Eval.{eval_text, IsFair, ComesToSame}
 use Rattle.code_eval.proofs.Lawful.{agree}

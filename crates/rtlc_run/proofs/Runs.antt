@@ -11,15 +11,15 @@ use Rattle.func_input.specs.Input.{IsRead, IsInput}
 use Rattle.func_input.specs.Outcome.{Outcome}
 use Rattle.func_input.proofs.Inputs.{input_last}
 use Rattle.func_input.proofs.One.{one_read}
-use Rattle.asm_same.specs.func_text.Recog.{FunctionsCome}
-use Rattle.asm_same.proofs.func_text.One.{functions_one}
-use Rattle.asm_same.specs.func_text.Dump as dump
-use Rattle.asm_same.proofs.func_text.DumpOne as dump_one
+use Rattle.law_assembly.specs.func_text.Recog.{FunctionsCome}
+use Rattle.law_assembly.proofs.func_text.One.{functions_one}
+use Rattle.law_assembly.specs.func_text.Dump as dump
+use Rattle.law_assembly.proofs.func_text.DumpOne as dump_one
 use Rattle.pass_name.specs.declared.pass.Pass.{Pass}
-use Rattle.asm_same.specs.func_text.Assembly.{AssemblyComes}
-use Rattle.asm_same.specs.func_text.Compile.{TextComes, text_told}
-use Rattle.asm_same.proofs.func_text.OneAssembly.{one_assembly}
-use Rattle.asm_same.proofs.func_text.CodeLaws.{code_has}
+use Rattle.law_assembly.specs.func_text.Assembly.{AssemblyComes}
+use Rattle.law_assembly.specs.func_text.Compile.{TextComes, text_told}
+use Rattle.law_assembly.proofs.func_text.OneAssembly.{one_assembly}
+use Rattle.law_assembly.proofs.func_text.CodeLaws.{code_has}
 use Rattle.rtlc_words.specs.declared.command.Command.{Command}
 use Rattle.rtlc_words.specs.declared.command.Command.TheVariants as commands
 use Rattle.rtlc_words.specs.Words.{command_of}

@@ -14,9 +14,9 @@ use Rattle.md_named.specs.Named.{FormsCome}
 use Rattle.md_named.specs.Answers.{RefusesForms}
 use Rattle.func_input.specs.Input.{InputComesTo, RefusesWith}
 use Rattle.func_input.specs.Outcome.{Outcome}
-use Rattle.asm_same.specs.func_text.Assembly as assembly
-use Rattle.asm_same.specs.func_text.Compile.{InputComes, TextComes}
-use Rattle.asm_same.specs.func_text.Code.{IsUnnamed, CodeComes, Gives as GivesCode}
+use Rattle.law_assembly.specs.func_text.Assembly as assembly
+use Rattle.law_assembly.specs.func_text.Compile.{InputComes, TextComes}
+use Rattle.law_assembly.specs.func_text.Code.{IsUnnamed, CodeComes, Gives as GivesCode}
 use Rattle.rtlc_run.specs.declared.program.Task.{Task}
 use Rattle.rtlc_run.specs.declared.program.Task.TheVariants as task
 use Rattle.rtlc_run.specs.Answer.{EvalComes, ByForms}

@@ -14,16 +14,16 @@ use Rattle.md_list.specs.declared.refusal.ListRefusal.{ListRefusal}
 use Rattle.md_list.specs.declared.refusal.ListRefusal.TheVariants as listing
 use Rattle.md_list.specs.Listing.{ListComes}
 use Rattle.md_forms.specs.declared.form.Entry.{Entry}
-use Rattle.tree_forms.specs.Trees.{most_forms}
+use Rattle.rtx_tree.specs.Limit.{most_forms}
 use Rattle.md_named.specs.Named.{source_refused, FormsCome}
 use Rattle.func_input.specs.Input.{InputComesTo}
 use Rattle.func_input.specs.Outcome.{Outcome}
-use Rattle.asm_same.specs.func_text.Compile.{TextComes}
-use Rattle.asm_same.specs.func_text.Code.{IsUnnamed, CodeComes}
-use Rattle.asm_same.specs.func_text.declared.code.Coded.{Coded}
+use Rattle.law_assembly.specs.func_text.Compile.{TextComes}
+use Rattle.law_assembly.specs.func_text.Code.{IsUnnamed, CodeComes}
+use Rattle.law_assembly.specs.func_text.declared.code.Coded.{Coded}
 use Rattle.code_eval.specs.Eval.{eval_text, IsFair}
-use Rattle.asm_same.specs.func_text.Recog.{FunctionsCome}
-use Rattle.asm_same.specs.func_text.Dump as dump
+use Rattle.law_assembly.specs.func_text.Recog.{FunctionsCome}
+use Rattle.law_assembly.specs.func_text.Dump as dump
 use Rattle.pass_name.specs.declared.pass.Pass.{Pass}
 use Rattle.rtlc_words.specs.declared.command.Command.{Command}
 use Rattle.rtlc_words.specs.declared.command.Command.TheVariants as commands

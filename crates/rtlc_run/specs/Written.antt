@@ -7,16 +7,16 @@ use Rattle.md_source.specs.Source.{Source}
 use Rattle.md_forms.specs.declared.form.Entry.{Entry}
 use Rattle.md_list.specs.Listing.{ListComes}
 use Rattle.md_named.specs.Named.{FormsCome}
-use Rattle.asm_same.specs.func_text.Recog.{FunctionsCome}
-use Rattle.asm_same.specs.func_text.Dump as dump
+use Rattle.law_assembly.specs.func_text.Recog.{FunctionsCome}
+use Rattle.law_assembly.specs.func_text.Dump as dump
 use Rattle.pass_name.specs.declared.pass.Pass.{Pass}
 use Rattle.func_input.specs.Input.{IsInput}
-use Rattle.asm_same.specs.func_text.declared.assembly.Assembly.{Assembly}
-use Rattle.asm_same.specs.func_text.Assembly.{AssemblyComes}
-use Rattle.asm_same.specs.func_text.Lines.{IsAssembly}
-use Rattle.asm_same.specs.func_text.Same.{DoesSame, DoesSameFramed}
-use Rattle.asm_same.specs.func_text.Code.{IsCoded, has_named}
-use Rattle.asm_same.specs.func_text.declared.code.Coded.{Coded}
+use Rattle.law_assembly.specs.func_text.declared.assembly.Assembly.{Assembly}
+use Rattle.law_assembly.specs.func_text.Assembly.{AssemblyComes}
+use Rattle.law_assembly.specs.func_text.Lines.{IsAssembly}
+use Rattle.law_assembly.specs.func_text.Same.{DoesSame, DoesSameFramed}
+use Rattle.law_assembly.specs.func_text.Code.{IsCoded, has_named}
+use Rattle.law_assembly.specs.func_text.declared.code.Coded.{Coded}
 use Rattle.code_eval.specs.Eval.{eval_text, IsFair, ComesToSame}
 
 -- the assembly of the input by a description was written, and nothing else

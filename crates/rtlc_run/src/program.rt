@@ -3,7 +3,7 @@ ghost use Rattle.std.specs.Prelude.{◌≡◌, ◌≢◌, ◌⊎◌, ℕ, Ok, Li
 ghost use Rattle.std.specs.Io.KnownBytes.{Appends, Consumes, IsAtEnd};
 ghost use Rattle.byte_edge.specs.Causes.{Rose};
 ghost use Rattle.rtx_tree.specs.declared.function.Function.{Function};
-ghost use Rattle.func_mean.specs.Run.{TakesEnough};
+ghost use Rattle.func_run.specs.Run.{TakesEnough};
 ghost use Rattle.rv_text.specs.Body.{Spells};
 ghost use Rattle.rv_text.specs.declared.line.CodeItem.{CodeItem};
 ghost use Rattle.run_refusal.specs.Refusals.{has_values, line_of};
@@ -11,9 +11,9 @@ ghost use Rattle.run_refusal.specs.declared.refusal.Refusal.TheVariants as refus
 ghost use Rattle.rtx_tree.specs.Limit.{most_bytes};
 ghost use Rattle.func_input.specs.Input.{IsInput};
 ghost use Rattle.func_input.specs.Outcome.{Outcome};
-ghost use Rattle.asm_same.specs.func_text.Same.{AreParts};
-ghost use Rattle.asm_same.specs.func_text.Compile.{TextComes};
-ghost use Rattle.asm_same.specs.func_text.Code.{IsUnnamed};
+ghost use Rattle.law_assembly.specs.func_text.Same.{AreParts};
+ghost use Rattle.law_assembly.specs.func_text.Compile.{TextComes};
+ghost use Rattle.law_assembly.specs.func_text.Code.{IsUnnamed};
 ghost use Rattle.md_source.specs.Source.{Source as Known};
 ghost use Rattle.md_source.specs.Asked.{AreNamed, GrewBy, IsKnown};
 ghost use Rattle.md_source.specs.Answers.{Agrees};
@@ -29,17 +29,16 @@ ghost use Rattle.rtlc_run.specs.Written.{WritesLines, WritesSame, WritesSameFram
 ghost use Rattle.rtlc_run.specs.machine.Steps.{Gives, IsOwn, InputRefused, TaskComes, Misuses, MisusesInput};
 ghost use Rattle.rtlc_run.specs.Answer.{EvalComes, RecogComes, DumpComes, ByForms, CommandComes, Answers, HasForms, IsMisused, reads_input, reads_files, IsKnownFor, MayBeAsked, Writes, WritesFront, IsRefused, Reports, HasCause, TellsCause, IsAnswered};
 
-use asm_same::{assembly_of, code_of, dump_of, recog_of};
 use byte_edge::{Files, ReadAll, Sink, Source, read_all, write_all_of};
 use code_eval::eval_text;
+use law_assembly::{assembly_of, code_of, dump_of, recog_of};
 use md_desc::Description;
-use md_iter::MOST_FORMS;
 use md_list::{ListRefusal, list};
 use md_named::{description_of, source_refused};
 use md_source::SHIPPED;
 use pass_name::Pass;
 use rtlc_words::{Command, command_of};
-use rtx_tree::{Limit, MOST_BYTES, Name};
+use rtx_tree::{Limit, MOST_BYTES, MOST_FORMS, Name};
 use run_refusal::{MEMORY_LINE, Refusal, fixed_line, line, status};
 use std::alloc::Global;
 

@@ -5,6 +5,5 @@ pub mod Operands
 pub mod Patterns
 pub mod RegSet
 pub mod Registers
-pub mod Stage
 pub mod Tree
 pub mod machine

@@ -1,4 +1,4 @@
--- The limits: their names, as messages write them, and how many bytes a text and a frame may have.
+-- The limits: their names, as messages write them, and their numbers.
 use Rattle.std.specs.Prelude.{ℕ, List, codes}
 use Rattle.rtx_tree.specs.declared.limit.Limit.{Limit}
 use Rattle.rtx_tree.specs.declared.limit.Limit.TheVariants.{Text, Depth, Include, Forms, Instructions, Pseudos, SplitDepth, TermSize, Frame, Output}
@@ -16,10 +16,56 @@ limit_name TermSize = codes "TermSize"
 limit_name Frame = codes "Frame"
 limit_name Output = codes "Output"
 
--- how many bytes an input may have, and the texts of a description together: 16 MiB
+-- ---- what is read
+
+-- Text: the bytes of an input, and of the texts of a description together; 16 MiB
 abbrev pub most_bytes : ℕ
 most_bytes = 16777216
 
--- how many bytes a frame may have: the greatest multiple of 16 below 2 ^ 20
+-- Depth: lists and vectors within each other
+abbrev pub most_open : ℕ
+most_open = 200
+
+-- Include: files within each other, the description itself among them
+abbrev pub most_within : ℕ
+most_within = 16
+
+-- Forms: the forms of a description, once its iterators are expanded
+abbrev pub most_forms : ℕ
+most_forms = 20000
+
+-- Instructions: those of a function that is read
+abbrev pub most_instructions : ℕ
+most_instructions = 10000
+
+-- Pseudos: the pseudo registers of a function that is read, with those below the greatest
+abbrev pub most_pseudos : ℕ
+most_pseudos = 10000
+
+-- ---- what passes make
+
+-- Instructions: those of a function that a pass makes
+abbrev pub most_made : ℕ
+most_made = 1000000
+
+-- SplitDepth: splits that follow from one another
+abbrev pub most_splits : ℕ
+most_splits = 8
+
+-- TermSize: the nodes of a term of a comparison, each counted as often as it stands there
+abbrev pub most_nodes : ℕ
+most_nodes = 1048576
+
+-- TermSize: the levels of such a term; one with more counts as one with too many nodes
+abbrev pub most_levels : ℕ
+most_levels = 2000
+
+-- Frame: the bytes of a frame; the greatest multiple of 16 below 2 ^ 20
 abbrev pub most_frame : ℕ
 most_frame = 1048560
+
+-- ---- what is written
+
+-- Output: the bytes of an assembly; 256 MiB
+abbrev pub most_output : ℕ
+most_output = 268435456

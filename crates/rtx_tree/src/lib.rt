@@ -1,11 +1,11 @@
 //! What RTL is made of: trees of codes, modes, numbers, names and kids ([`Rtx`]), the instructions
 //! and functions that hold them, the operands of a pattern ([`Operands`]), sets of registers
 //! ([`RegSet`]), what a run begins with and meets outside ([`Start`], [`World`]), and what every
-//! stage names in its answers ([`Name`], [`Place`], [`Stage`], [`Limit`]).
+//! pass names in its answers ([`Name`], [`Place`], [`Limit`]).
 //!
 //! All of it is plain data in contracts: two trees are equal there exactly where they have the same
 //! parts all the way down. So `same` is equality, `copy` gives an equal tree, and `size` counts the
-//! nodes. Each name is that of its table, of a code, a mode, a register, a stage or a limit. Those
+//! nodes. Each name is that of its table, of a code, a mode, a register or a limit. Those
 //! of codes, modes and registers are read back: `named` and `reg_number` find exactly what has a
 //! name. A [`RegSet`] is the increasing list of its registers, and [`Memories`] has each address
 //! once, in increasing order.
@@ -23,7 +23,6 @@ mod operands;
 mod place;
 mod reg_set;
 mod registers;
-mod stage;
 mod tree;
 
 pub use class::{Class, HeadMode, Parts};
@@ -32,7 +31,10 @@ pub use constants::{Constant, Constants};
 pub use function::{
     ArgUse, ArgUses, Function, Functions, Insn, Insns, Kind, is_label, label_place,
 };
-pub use limit::{Limit, MOST_BYTES};
+pub use limit::{
+    Limit, MOST_BYTES, MOST_FORMS, MOST_FRAME, MOST_INSTRUCTIONS, MOST_LEVELS, MOST_MADE,
+    MOST_NODES, MOST_OPEN, MOST_OUTPUT, MOST_PSEUDOS, MOST_SPLITS, MOST_WITHIN,
+};
 pub use machine::{ByteWrites, RangeAt, Ranges, Replies, Reply, Start, SymbolAt, Symbols, World};
 pub use memories::{MemByte, Memories};
 pub use name::Name;
@@ -43,5 +45,4 @@ pub use registers::{
     FIRST_PSEUDO, HARD_REGS, VIRTUAL_STACK_VARS, print_register, pseudo, reg_call_used, reg_name,
     reg_number,
 };
-pub use stage::Stage;
 pub use tree::{Kids, Path, Rtx, same, same_head};

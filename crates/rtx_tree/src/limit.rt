@@ -2,8 +2,41 @@
 ghost use Rattle.std.specs.Prelude.{◌≡◌, ◌↔◌, IsTrue};
 ghost use Rattle.rtx_tree.specs.Limit.{limit_name};
 
-/// How many bytes an input may have, and the texts of a description together: 16 MiB.
+/// `Text`: the bytes of an input, and of the texts of a description together; 16 MiB.
 pub const MOST_BYTES: usize = 16_777_216;
+
+/// `Depth`: lists and vectors within each other.
+pub const MOST_OPEN: usize = 200;
+
+/// `Include`: files within each other, the description itself among them.
+pub const MOST_WITHIN: usize = 16;
+
+/// `Forms`: the forms of a description, once its iterators are expanded.
+pub const MOST_FORMS: usize = 20_000;
+
+/// `Instructions`: those of a function that is read.
+pub const MOST_INSTRUCTIONS: u64 = 10_000;
+
+/// `Pseudos`: the pseudo registers of a function that is read, with those below the greatest.
+pub const MOST_PSEUDOS: u64 = 10_000;
+
+/// `Instructions`: those of a function that a pass makes.
+pub const MOST_MADE: usize = 1_000_000;
+
+/// `SplitDepth`: splits that follow from one another.
+pub const MOST_SPLITS: u32 = 8;
+
+/// `TermSize`: the nodes of a term of a comparison, each counted as often as it stands there.
+pub const MOST_NODES: u64 = 1_048_576;
+
+/// `TermSize`: the levels of such a term; one with more counts as one with too many nodes.
+pub const MOST_LEVELS: u64 = 2_000;
+
+/// `Frame`: the bytes of a frame; the greatest multiple of 16 below 2^20.
+pub const MOST_FRAME: u64 = 1_048_560;
+
+/// `Output`: the bytes of an assembly; 256 MiB.
+pub const MOST_OUTPUT: usize = 268_435_456;
 
 /// A quantity that has a limit.
 #[derive(Clone, Copy, Debug)]

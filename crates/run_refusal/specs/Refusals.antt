@@ -3,10 +3,10 @@ use Rattle.std.specs.Prelude.{ℕ, Bool, true, false, List, ◌++◌, codes}
 use Rattle.std.specs.Fmt.{decimal}
 use Rattle.rtx_tree.specs.declared.place.Place.{Place}
 use Rattle.rtx_tree.specs.declared.limit.Limit.{Limit}
-use Rattle.rtx_tree.specs.declared.stage.Stage.{Stage}
 use Rattle.rtx_tree.specs.declared.tree.Rtx.{Rtx}
 use Rattle.rtx_tree.specs.Limit.{limit_name}
-use Rattle.rtx_tree.specs.Stage.{stage_name}
+use Rattle.pass_name.specs.Pass.{pass_name}
+use Rattle.pass_name.specs.declared.pass.Pass.{Pass}
 use Rattle.rtl_print.specs.Print.{printed}
 use Rattle.term_text.specs.declared.item.Item.{Item}
 use Rattle.term_text.specs.Item.{item_text}
@@ -19,7 +19,7 @@ status_of (refusal.Syntax file place) = 2
 status_of (refusal.Construct place name) = 2
 status_of (refusal.IllFormed function uid rule) = 2
 status_of (refusal.Limit which count) = 2
-status_of (refusal.Unmatched function uid stage insn) = 3
+status_of (refusal.Unmatched function uid pass insn) = 3
 status_of (refusal.Unsatisfied function uid form insn) = 4
 status_of (refusal.NotEquated function uid rule item left right) = 5
 status_of refusal.ReadFault = 6
@@ -32,7 +32,7 @@ has_values (refusal.Syntax file place) = true
 has_values (refusal.Construct place name) = true
 has_values (refusal.IllFormed function uid rule) = true
 has_values (refusal.Limit which count) = true
-has_values (refusal.Unmatched function uid stage insn) = true
+has_values (refusal.Unmatched function uid pass insn) = true
 has_values (refusal.Unsatisfied function uid form insn) = true
 has_values (refusal.NotEquated function uid rule item left right) = true
 has_values _ = false
@@ -61,12 +61,12 @@ abbrev pub rule_line : List ℕ → ℕ → ℕ → List ℕ
 rule_line function uid rule =
     at_text function uid ++ (codes "rule " ++ (decimal rule ++ codes "\n"))
 
-abbrev pub stage_text : Stage → List ℕ
-stage_text stage = codes "unmatched at " ++ (stage_name stage ++ codes ": ")
+abbrev pub pass_text : Pass → List ℕ
+pass_text pass = codes "unmatched at " ++ (pass_name pass ++ codes ": ")
 
-abbrev pub unmatched_line : List ℕ → ℕ → Stage → Rtx → List ℕ
-unmatched_line function uid stage insn =
-    at_text function uid ++ (stage_text stage ++ (printed insn ++ codes "\n"))
+abbrev pub unmatched_line : List ℕ → ℕ → Pass → Rtx → List ℕ
+unmatched_line function uid pass insn =
+    at_text function uid ++ (pass_text pass ++ (printed insn ++ codes "\n"))
 
 -- unsatisfied FORM:, and a space
 abbrev pub unsatisfied_text : List ℕ → List ℕ
@@ -98,7 +98,7 @@ line_of (refusal.Syntax file place) = syntax_line file place
 line_of (refusal.Construct place name) = construct_line place name
 line_of (refusal.IllFormed function uid rule) = rule_line function uid rule
 line_of (refusal.Limit which count) = limit_line which count
-line_of (refusal.Unmatched function uid stage insn) = unmatched_line function uid stage insn
+line_of (refusal.Unmatched function uid pass insn) = unmatched_line function uid pass insn
 line_of (refusal.Unsatisfied function uid form insn) = unsatisfied_line function uid form insn
 line_of (refusal.NotEquated function uid rule item left right) =
     not_equated_line function uid rule item left right

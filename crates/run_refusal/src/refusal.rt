@@ -2,13 +2,13 @@
 ghost use Rattle.std.specs.Prelude.{◌≡◌, ◌++◌, OnOk, IfOk, codes, MatchOption, true, false};
 ghost use Rattle.std.specs.Fmt.{decimal};
 ghost use Rattle.rtx_tree.specs.Limit.{limit_name};
-ghost use Rattle.rtx_tree.specs.Stage.{stage_name};
 ghost use Rattle.rtl_print.specs.Print.{printed};
 ghost use Rattle.run_refusal.specs.Refusals as spec;
 
+use pass_name::Pass;
 use plain_data::Memory;
 use rtl_print::print_rtx;
-use rtx_tree::{Limit, Name, Place, Rtx, Stage};
+use rtx_tree::{Limit, Name, Place, Rtx};
 use std::alloc::Global;
 use term_text::{Item, print_item};
 use text_words::{print_count, print_text};
@@ -49,7 +49,7 @@ pub enum Refusal {
     Unmatched {
         function: Name,
         uid: u32,
-        stage: Stage,
+        pass: Pass,
         insn: Rtx,
     },
     /// Status 4: no enabled alternative of the form that matches this instruction of the function
@@ -180,11 +180,11 @@ fn rule_line(function: &Name, uid: u32, rule: u8, out: &mut Vec<u8>) -> Result<(
     print_rule(rule, out)
 }
 
-fn print_stage(stage: Stage, out: &mut Vec<u8>) -> Result<(), Memory>
-    ensures { OnOk result (out.new.items ≡ out.old.items ++ spec.stage_text stage) }
+fn print_pass(pass: Pass, out: &mut Vec<u8>) -> Result<(), Memory>
+    ensures { OnOk result (out.new.items ≡ out.old.items ++ spec.pass_text pass) }
 {
     print_text(b"unmatched at ", out)?;
-    print_text(stage.name().as_bytes(), out)?;
+    print_text(pass.name().as_bytes(), out)?;
     print_text(b": ", out)
 }
 
@@ -198,15 +198,15 @@ fn print_insn(insn: &Rtx, out: &mut Vec<u8>) -> Result<(), Memory>
 fn unmatched_line(
     function: &Name,
     uid: u32,
-    stage: Stage,
+    pass: Pass,
     insn: &Rtx,
     out: &mut Vec<u8>,
 ) -> Result<(), Memory>
     ensures { OnOk result (out.new.items ≡ out.old.items ++ spec.unmatched_line function.now uid
-        stage insn.now) }
+        pass insn.now) }
 {
     print_at(function, uid, out)?;
-    print_stage(stage, out)?;
+    print_pass(pass, out)?;
     print_insn(insn, out)
 }
 
@@ -296,9 +296,9 @@ fn print_line(refusal: &Refusal, out: &mut Vec<u8>) -> Result<(), Memory>
         Refusal::Unmatched {
             function,
             uid,
-            stage,
+            pass,
             insn,
-        } => unmatched_line(function, *uid, *stage, insn, out),
+        } => unmatched_line(function, *uid, *pass, insn, out),
         Refusal::Unsatisfied {
             function,
             uid,

@@ -7,12 +7,12 @@ use Rattle.rv_line.specs.rtx_tree.declared.code.Mode.{Mode}
 use Rattle.rv_line.specs.rtx_tree.declared.machine.Start.{Start}
 use Rattle.rv_line.specs.rtx_tree.declared.machine.World.{World}
 use Rattle.rv_line.specs.rtx_tree.declared.function.Function.{Function}
-use Rattle.func_mean.specs.rtl_step.Value.{width_of}
-use Rattle.func_mean.specs.rtl_step.declared.call.ArgValue.{ArgValue}
-use Rattle.func_mean.specs.rtl_step.declared.call.CallEvent.{CallEvent}
-use Rattle.func_mean.specs.Run.{run_of, taken}
-use Rattle.func_mean.specs.declared.outcome.Outcome.{Outcome}
-use Rattle.func_mean.specs.declared.outcome.Outcome.TheVariants as rtl
+use Rattle.func_run.specs.rtl_step.Value.{width_of}
+use Rattle.func_run.specs.rtl_step.declared.call.ArgValue.{ArgValue}
+use Rattle.func_run.specs.rtl_step.declared.call.CallEvent.{CallEvent}
+use Rattle.func_run.specs.Run.{run_of, taken}
+use Rattle.func_run.specs.declared.outcome.Outcome.{Outcome}
+use Rattle.func_run.specs.declared.outcome.Outcome.TheVariants as rtl
 use Rattle.rv_line.specs.rv_text.declared.line.CodeItem.{CodeItem}
 use Rattle.rv_line.specs.Run as lines
 use Rattle.rv_line.specs.declared.outcome.CodeCall.{CodeCall}

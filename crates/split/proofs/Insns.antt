@@ -10,14 +10,14 @@ use Rattle.rtx_tree.specs.declared.function.Kind.TheVariants.{Plain, Jump, Call,
 use Rattle.rtl_func.specs.Kinds.{is_jump_tree, is_call_tree}
 use Rattle.form_needs.specs.Needs.{is_kind}
 use Rattle.new_insns.specs.Made.{kind_of, insn_for, insns_for}
-use Rattle.insn_keep.specs.sym_state.State.{State, Runs, ran}
-use Rattle.insn_keep.specs.sym_insns.Run.{run_from}
-use Rattle.insn_keep.specs.sym_insns.Shape.{is_shaped, is_end, fits_kind, bad_from, bad_insn}
-use Rattle.insn_keep.specs.pass_refusal.equate.Side.{Insns}
-use Rattle.insn_keep.specs.pass_refusal.equate.Equated.{Equated}
-use Rattle.insn_keep.proofs.pass_refusal.equate.VerdictLaws.{verdict_same}
-use Rattle.insn_keep.proofs.pass_refusal.equate.Soundness.{no_return}
-use Rattle.insn_keep.specs.insn_replace.Replace.{made, ReplacedComes}
+use Rattle.law_insn_replaced.specs.sym_state.State.{State, Runs, ran}
+use Rattle.law_insn_replaced.specs.sym_insns.Run.{run_from}
+use Rattle.law_insn_replaced.specs.sym_insns.Shape.{is_shaped, is_end, fits_kind, bad_from, bad_insn}
+use Rattle.law_insn_replaced.specs.pass_refusal.equate.Side.{Insns}
+use Rattle.law_insn_replaced.specs.pass_refusal.equate.Equated.{Equated}
+use Rattle.law_insn_replaced.proofs.pass_refusal.equate.VerdictLaws.{verdict_same}
+use Rattle.law_insn_replaced.proofs.pass_refusal.equate.Soundness.{no_return}
+use Rattle.law_insn_replaced.specs.insn_replace.Replace.{made, ReplacedComes}
 
 -- ---- what stands in lists
 

@@ -10,13 +10,13 @@ use Rattle.md_forms.specs.Forms.{names_of}
 use Rattle.form_needs.specs.Needs.{is_kind, name_at}
 use Rattle.rtl_func.specs.Kinds.{kinds_agree}
 use Rattle.rtl_func.specs.Modes.{shapes_agree}
-use Rattle.insn_keep.specs.sym_insns.Shape.{is_shaped, all_natural}
+use Rattle.law_insn_replaced.specs.sym_insns.Shape.{is_shaped, all_natural}
 use Rattle.gen_emit.specs.declared.emission.Emission.{Emission}
 use Rattle.md_emit.specs.Emitted.{emitted_by}
 use Rattle.new_insns.specs.Replaced.{replaced}
-use Rattle.insn_keep.specs.insn_replace.Replace.{made, ReplacedComes}
-use Rattle.insn_keep.specs.pass_ready.Left.{SameMarks}
-use Rattle.insn_keep.proofs.Marks.{replaced_same, same_refl, same_trans}
+use Rattle.law_insn_replaced.specs.insn_replace.Replace.{made, ReplacedComes}
+use Rattle.law_insn_replaced.specs.law_pass_needs.Left.{SameMarks}
+use Rattle.law_insn_replaced.proofs.Marks.{replaced_same, same_refl, same_trans}
 use Rattle.split.specs.declared.stage.SplitStage.{SplitStage}
 use Rattle.split.specs.declared.stage.SplitStage.TheVariants.{BeforeReload, AfterReload}
 use Rattle.split.specs.Split.{facts_of, is_admitted, admitted, IsSplit, SplitComes}

@@ -12,12 +12,12 @@ use Rattle.md_forms.specs.declared.form.Entry.{Entry}
 use Rattle.md_forms.specs.Forms.{names_of}
 use Rattle.form_needs.specs.Needs.{name_at}
 use Rattle.new_insns.specs.Replaced.{replaced}
-use Rattle.insn_keep.specs.insn_replace.Replace.{made, ReplacedComes}
+use Rattle.law_insn_replaced.specs.insn_replace.Replace.{made, ReplacedComes}
 use Rattle.split.specs.declared.stage.SplitStage.{SplitStage}
 use Rattle.split.specs.Split.{Answer, IsSplit, SplitFrom, SplitComes}
 use Rattle.split.specs.Left.{IsLeft, AreLeft}
 use Rattle.split.proofs.Made.{comes_to, replaced_behind}
-use Rattle.insn_keep.proofs.Lists.{before_it}
+use Rattle.law_insn_replaced.proofs.Lists.{before_it}
 use Rattle.split.proofs.One.{same_at}
 
 module _ (forms : List Entry) (stage : SplitStage) where

@@ -7,4 +7,4 @@ pub mod Left
 pub mod Kept
 pub mod Uids
 pub mod Sound
-pub use Rattle.insn_keep.proofs as insn_keep
+pub use Rattle.law_insn_replaced.proofs as law_insn_replaced

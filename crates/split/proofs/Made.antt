@@ -6,7 +6,7 @@ use Rattle.rtx_tree.specs.declared.function.Insn.{Insn}
 use Rattle.rtx_tree.specs.declared.function.Function.{Function}
 use Rattle.new_insns.specs.Made.{insns_for}
 use Rattle.new_insns.specs.Replaced.{replaced}
-use Rattle.insn_keep.specs.insn_replace.Replace.{made, ReplacedComes}
+use Rattle.law_insn_replaced.specs.insn_replace.Replace.{made, ReplacedComes}
 
 -- as many instructions as patterns
 pub insns_long : (old : Insn) (uid : ℕ) (sequence : List Rtx) → length (insns_for old uid sequence) ≡ length sequence

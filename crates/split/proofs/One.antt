@@ -8,11 +8,12 @@ use Rattle.rtl_chain.specs.Counts.{next_pseudo}
 use Rattle.md_forms.specs.declared.form.Entry.{Entry}
 use Rattle.md_forms.specs.Forms.{names_of}
 use Rattle.form_needs.specs.Needs.{name_at}
-use Rattle.insn_keep.specs.insn_replace.Replace.{ReplacedComes}
-use Rattle.insn_keep.proofs.insn_replace.OneReplaced.{one_replaced}
-use Rattle.insn_keep.specs.pass_refusal.declared.refusal.PassRefusal.{PassRefusal}
+use Rattle.law_insn_replaced.specs.insn_replace.Replace.{ReplacedComes}
+use Rattle.law_insn_replaced.proofs.insn_replace.OneReplaced.{one_replaced}
+use Rattle.law_insn_replaced.specs.pass_refusal.declared.refusal.PassRefusal.{PassRefusal}
 use Rattle.split.specs.declared.stage.SplitStage.{SplitStage}
-use Rattle.split.specs.Split.{Answer, IsSplit, IsUnsplit, SplitFrom, SplitComes, most_splits}
+use Rattle.split.specs.Split.{Answer, IsSplit, IsUnsplit, SplitFrom, SplitComes}
+use Rattle.rtx_tree.specs.Limit.{most_splits}
 use Rattle.split.proofs.Forms.{split_one, split_not}
 
 pub same_at : (insns : List Insn) (place : ℕ) (i j : Insn) → slice_get insns place ≡ Some i → slice_get insns place ≡ Some j → i ≡ j

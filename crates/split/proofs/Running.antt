@@ -9,13 +9,14 @@ use Rattle.rtl_chain.specs.Counts.{next_pseudo}
 use Rattle.md_forms.specs.declared.form.Entry.{Entry}
 use Rattle.md_forms.specs.Forms.{names_of}
 use Rattle.form_needs.specs.Needs.{name_at}
-use Rattle.insn_keep.specs.insn_replace.Replace.{ReplacedComes}
-use Rattle.insn_keep.specs.insn_replace.Done.{Replaces}
-use Rattle.insn_keep.specs.pass_refusal.Outcome.{RefusesWith}
-use Rattle.insn_keep.specs.pass_refusal.declared.refusal.PassRefusal.{PassRefusal}
-use Rattle.insn_keep.specs.pass_refusal.declared.refusal.PassRefusal.TheVariants as refusal
+use Rattle.law_insn_replaced.specs.insn_replace.Replace.{ReplacedComes}
+use Rattle.law_insn_replaced.specs.insn_replace.Done.{Replaces}
+use Rattle.law_insn_replaced.specs.pass_refusal.Outcome.{RefusesWith}
+use Rattle.law_insn_replaced.specs.pass_refusal.declared.refusal.PassRefusal.{PassRefusal}
+use Rattle.law_insn_replaced.specs.pass_refusal.declared.refusal.PassRefusal.TheVariants as refusal
 use Rattle.split.specs.declared.stage.SplitStage.{SplitStage}
-use Rattle.split.specs.Split.{Answer, IsSplit, IsUnsplit, SplitFrom, SplitComes, most_splits, too_deep}
+use Rattle.split.specs.Split.{Answer, IsSplit, IsUnsplit, SplitFrom, SplitComes, too_deep}
+use Rattle.rtx_tree.specs.Limit.{most_splits}
 use Rattle.split.specs.machine.Runs.{Stops, SameBehind, PlaceReaches, PlaceStays, PlaceSplits, FoundSplits, RunReaches}
 use Rattle.split.proofs.Made.{replaced_behind}
 use Rattle.split.proofs.One.{same_at}

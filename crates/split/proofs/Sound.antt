@@ -12,13 +12,13 @@ use Rattle.md_forms.specs.Forms.{names_of}
 use Rattle.md_emit.specs.Emitted.{emitted_by, keeps_to_arguments}
 use Rattle.gen_emit.specs.declared.emission.Emission.{Emission}
 use Rattle.form_needs.specs.Needs.{lower_facts, name_at}
-use Rattle.func_keep.specs.Keeps.{Keeps}
-use Rattle.keep_compose.proofs.Keeping.{keeps_refl, keeps_trans}
-use Rattle.insn_keep.specs.window_same.ForLines.{MarksAreEmpty}
-use Rattle.insn_keep.specs.insn_replace.Replace.{made, ReplacedComes}
-use Rattle.insn_keep.specs.Sound.{IsSound, PassKeeps}
-use Rattle.insn_keep.proofs.Keeping.{Keep, each_keeps, insn_kept, replaced_does, kept_refl, kept_trans}
-use Rattle.insn_keep.proofs.Marks.{no_mark}
+use Rattle.law_function_kept.specs.Keeps.{Keeps}
+use Rattle.law_kept_composed.proofs.Keeping.{keeps_refl, keeps_trans}
+use Rattle.law_insn_replaced.specs.law_window_lines.ForLines.{MarksAreEmpty}
+use Rattle.law_insn_replaced.specs.insn_replace.Replace.{made, ReplacedComes}
+use Rattle.law_insn_replaced.specs.Sound.{IsSound, PassKeeps}
+use Rattle.law_insn_replaced.proofs.Keeping.{Keep, each_keeps, insn_kept, replaced_does, kept_refl, kept_trans}
+use Rattle.law_insn_replaced.proofs.Marks.{no_mark}
 use Rattle.split.specs.declared.stage.SplitStage.{SplitStage}
 use Rattle.split.specs.declared.stage.SplitStage.TheVariants.{BeforeReload}
 use Rattle.split.specs.Left.{StandsIn, AreNatural}

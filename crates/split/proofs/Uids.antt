@@ -4,8 +4,8 @@ use Rattle.rtx_tree.specs.declared.function.Function.{Function}
 use Rattle.md_forms.specs.declared.form.Entry.{Entry}
 use Rattle.md_forms.specs.Forms.{names_of}
 use Rattle.form_needs.specs.Needs.{name_at}
-use Rattle.insn_keep.specs.pass_ready.Reloadable.{UidsDiffer}
-use Rattle.insn_keep.proofs.Uids.{replaced_differ}
+use Rattle.law_insn_replaced.specs.law_pass_needs.Reloadable.{UidsDiffer}
+use Rattle.law_insn_replaced.proofs.Uids.{replaced_differ}
 use Rattle.split.specs.declared.stage.SplitStage.{SplitStage}
 use Rattle.split.specs.Split.{SplitComes}
 use Rattle.split.proofs.Made.{comes_to}

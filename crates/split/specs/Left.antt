@@ -5,7 +5,7 @@ use Rattle.rtx_tree.specs.declared.function.Insn.{Insn}
 use Rattle.rtx_tree.specs.declared.function.Function.{Function}
 use Rattle.md_forms.specs.declared.form.Entry.{Entry}
 use Rattle.form_needs.specs.Needs.{is_kind}
-use Rattle.insn_keep.specs.sym_insns.Shape.{is_shaped, all_natural}
+use Rattle.law_insn_replaced.specs.sym_insns.Shape.{is_shaped, all_natural}
 use Rattle.split.specs.declared.stage.SplitStage.{SplitStage}
 use Rattle.split.specs.Split.{IsUnsplit, is_admitted}
 

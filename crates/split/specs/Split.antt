@@ -17,11 +17,12 @@ use Rattle.md_recog.specs.Recog.{MatchesAt}
 use Rattle.form_needs.specs.Needs.{is_kind, lower_facts, output_facts, name_at}
 use Rattle.gen_emit.specs.declared.emission.Emission.{Emission}
 use Rattle.md_emit.specs.Emitted.{emitted_by, keeps_to_arguments}
-use Rattle.insn_keep.specs.insn_replace.Replace.{ReplacedComes}
-use Rattle.insn_keep.specs.pass_refusal.declared.refusal.PassRefusal.{PassRefusal}
-use Rattle.insn_keep.specs.pass_refusal.declared.refusal.PassRefusal.TheVariants as refusal
+use Rattle.law_insn_replaced.specs.insn_replace.Replace.{ReplacedComes}
+use Rattle.law_insn_replaced.specs.pass_refusal.declared.refusal.PassRefusal.{PassRefusal}
+use Rattle.law_insn_replaced.specs.pass_refusal.declared.refusal.PassRefusal.TheVariants as refusal
 use Rattle.split.specs.declared.stage.SplitStage.{SplitStage}
 use Rattle.split.specs.declared.stage.SplitStage.TheVariants.{BeforeReload, AfterReload}
+use Rattle.rtx_tree.specs.Limit.{most_splits}
 
 -- ---- what forms make of an instruction
 
@@ -66,10 +67,6 @@ IsUnsplit forms stage next i =
     (form : ℕ) (sequence : List Rtx) → ¬ Splits forms stage next i form sequence
 
 -- ---- functions
-
--- how many splits may follow from one another
-abbrev pub most_splits : ℕ
-most_splits = 8
 
 abbrev pub too_deep : PassRefusal
 too_deep = refusal.Limit SplitDepth (most_splits + 1)

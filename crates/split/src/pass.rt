@@ -4,14 +4,15 @@ ghost use Rattle.rtx_tree.specs.declared.function.Function.{Function};
 ghost use Rattle.rtx_tree.specs.declared.function.Insn.{Insn};
 ghost use Rattle.rtl_chain.specs.Counts.{next_pseudo};
 ghost use Rattle.md_forms.specs.declared.form.Entry.{Entry};
-ghost use Rattle.insn_keep.specs.pass_ready.Left.{SameMarks};
-ghost use Rattle.insn_keep.specs.pass_ready.Reloadable.{UidsDiffer};
-ghost use Rattle.insn_keep.specs.pass_refusal.Outcome.{Gives};
-ghost use Rattle.func_keep.specs.Keeps.{Keeps};
-ghost use Rattle.insn_keep.specs.window_same.ForLines.{MarksAreEmpty};
-ghost use Rattle.insn_keep.specs.Sound.{IsSound, PassKeeps};
+ghost use Rattle.law_insn_replaced.specs.law_pass_needs.Left.{SameMarks};
+ghost use Rattle.law_insn_replaced.specs.law_pass_needs.Reloadable.{UidsDiffer};
+ghost use Rattle.law_insn_replaced.specs.pass_refusal.Outcome.{Gives};
+ghost use Rattle.law_function_kept.specs.Keeps.{Keeps};
+ghost use Rattle.law_insn_replaced.specs.law_window_lines.ForLines.{MarksAreEmpty};
+ghost use Rattle.law_insn_replaced.specs.Sound.{IsSound, PassKeeps};
 ghost use Rattle.split.specs.Split as spec;
-ghost use Rattle.split.specs.Split.{Answer, IsSplit, SplitComes, most_splits};
+ghost use Rattle.split.specs.Split.{Answer, IsSplit, SplitComes};
+ghost use Rattle.rtx_tree.specs.Limit.{most_splits};
 ghost use Rattle.split.specs.Left.{AreLeft, AreOldOrNew, AreNatural};
 ghost use Rattle.split.specs.declared.stage.SplitStage.{SplitStage};
 ghost use Rattle.split.specs.declared.stage.SplitStage.TheVariants.{BeforeReload};
@@ -24,11 +25,8 @@ use live_chain::LiveChain;
 use md_desc::Description;
 use pass_refusal::PassRefusal;
 use plain_data::Memory;
-use rtx_tree::{Function, Limit};
+use rtx_tree::{Function, Limit, MOST_SPLITS};
 use std::alloc::Global;
-
-/// How many splits may follow from one another.
-const MOST_SPLITS: u32 = 8;
 
 /// The refusal of more splits that follow from one another.
 fn too_deep() -> PassRefusal

@@ -10,11 +10,10 @@ use crate::effect::run_plain;
 use crate::jump::run_jump;
 use crate::shape::bad_insn;
 use plain_data::Memory;
-use rtx_tree::{Insn, Kind};
+use rtx_tree::{Insn, Kind, MOST_NODES};
 use std::alloc::Global;
 use sym_state::{SymRefusal, SymState};
 use sym_term::TermMaker;
-use term_tree::LIMIT;
 
 /// Runs an instruction at a place. After `Memory` the state may be anything.
 pub fn run_on(
@@ -72,6 +71,8 @@ pub fn run_rtl(alloc: Global, insns: &[Insn]) -> Result<SymState, SymRefusal>
     }
     match run_all(alloc, insns)? {
         Some(state) => Ok(state),
-        None => Err(SymRefusal::Size { size: LIMIT + 1 }),
+        None => Err(SymRefusal::Size {
+            size: MOST_NODES + 1,
+        }),
     }
 }

@@ -9,11 +9,11 @@ ghost use Rattle.sym_lines.specs.Run as spec;
 use crate::label::label_uid;
 use crate::step::act;
 use plain_data::Memory;
+use rtx_tree::MOST_NODES;
 use rv_text::{Action, Line};
 use std::alloc::Global;
 use sym_state::{SymRefusal, SymState};
 use sym_term::TermMaker;
-use term_tree::LIMIT;
 
 fn is_end(lines: &[Line]) -> bool
     ensures { result ≡ spec.is_end lines.now }
@@ -111,7 +111,9 @@ fn run_all(alloc: Global, function: u32, lines: &[Line]) -> Result<SymState, Sym
     if run_on(&mut maker, alloc, &mut state, function, lines)? {
         Ok(state)
     } else {
-        Err(SymRefusal::Size { size: LIMIT + 1 })
+        Err(SymRefusal::Size {
+            size: MOST_NODES + 1,
+        })
     }
 }
 

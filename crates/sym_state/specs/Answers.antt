@@ -1,6 +1,6 @@
 -- What a call that runs a side of a comparison gives.
 use Rattle.std.specs.Prelude.{◌≡◌, ◌+◌, Result, Ok, Err}
-use Rattle.term_tree.specs.Tree.{most_nodes}
+use Rattle.rtx_tree.specs.Limit.{most_nodes}
 use Rattle.sym_state.specs.declared.state.SymState.{SymState}
 use Rattle.sym_state.specs.declared.refusal.SymRefusal.{SymRefusal}
 use Rattle.sym_state.specs.declared.refusal.SymRefusal.TheVariants as refusal

@@ -1,7 +1,8 @@
 //! The normal form.
 ghost use Rattle.std.specs.Prelude.{ℕ, ◌≡◌, ◌+◌, [], ◌∷◌, true, false, map, vec_len, IfOk};
 ghost use Rattle.term_tree.specs.Small.{is_small};
-ghost use Rattle.term_tree.specs.Tree.{trees_of, atoms_of, Node, tree, no_trees, most_nodes};
+ghost use Rattle.term_tree.specs.Tree.{trees_of, atoms_of, Node, tree, no_trees};
+ghost use Rattle.rtx_tree.specs.Limit.{most_nodes};
 ghost use Rattle.term_tree.specs.View.{tree_of, atom_of};
 ghost use Rattle.term_cuts.specs.term_mean.Meaning.{Valuation, mean};
 ghost use Rattle.term_cuts.specs.term_mean.Stores.{Stored};
@@ -16,11 +17,11 @@ use crate::shifts::shifted;
 use crate::stores::SymStores;
 use bits64::Width;
 use plain_data::{Items, Memory};
-use rtx_tree::Name;
+use rtx_tree::{MOST_NODES, Name};
 use std::alloc::Global;
 use term_cuts::{AtWidth, cut_to, extended, made_at};
 use term_sums::{constant_of, summed};
-use term_tree::{Atom, Extension, Head, Joint, LIMIT, Term, is_small};
+use term_tree::{Atom, Extension, Head, Joint, Term, is_small};
 use term_zero::{equals_zero, less_than, on_constants, two_parts};
 use thiserror::Error;
 
@@ -362,7 +363,9 @@ pub fn norm(alloc: Global, t: &Term, stores: &SymStores) -> Result<Term, TermRef
 {
     let normal = normal(alloc, t, stores)?;
     if !is_small(&normal) {
-        return Err(TermRefusal::Size { size: LIMIT + 1 });
+        return Err(TermRefusal::Size {
+            size: MOST_NODES + 1,
+        });
     }
     Ok(normal)
 }

@@ -1,6 +1,6 @@
 -- Nodes and levels counted one term after the other.
 use Rattle.std.proofs.Common.{◌≡◌, ℕ, ◌+◌, ◌≤◌, max, arith, tests}
-use Rattle.term_tree.specs.Tree.{most_nodes}
+use Rattle.rtx_tree.specs.Limit.{most_nodes}
 use Rattle.term_tree.specs.machine.Counted.{counted}
 
 pub counted-more : (before size deep more deeper levels : ℕ) → before ≤ most_nodes + 1 →

@@ -1,6 +1,7 @@
 -- Which terms are small enough for a comparison.
 use Rattle.std.specs.Prelude.{ℕ, ◌+◌, max, nat_le, Bool, ◌&&◌}
-use Rattle.term_tree.specs.Tree.{Tree, Atoms, Trees, Sum, Node, no_atoms, atom, no_trees, tree, tree_size, most_nodes}
+use Rattle.term_tree.specs.Tree.{Tree, Atoms, Trees, Sum, Node, no_atoms, atom, no_trees, tree, tree_size}
+use Rattle.rtx_tree.specs.Limit.{most_nodes, most_levels}
 
 -- how many levels a term has: one more than the deepest of its parts
 abbrev mutual
@@ -15,10 +16,6 @@ abbrev mutual
   pub trees_levels : Trees → ℕ
   trees_levels no_trees = 0
   trees_levels (tree t ts) = max (tree_levels t) (trees_levels ts)
-
--- the most levels that a term of a comparison may have; one with more counts as too large
-abbrev pub most_levels : ℕ
-most_levels = 2000
 
 -- a term has no more nodes and levels than it may
 abbrev pub is_small : Tree → Bool

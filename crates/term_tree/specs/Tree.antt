@@ -68,7 +68,3 @@ abbrev mutual
   pub trees_size : Trees → ℕ
   trees_size no_trees = 0
   trees_size (tree t ts) = tree_size t + trees_size ts
-
--- the most nodes that a term of a comparison may have, each counted as often as it stands there
-abbrev pub most_nodes : ℕ
-most_nodes = 1048576

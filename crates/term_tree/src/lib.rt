@@ -19,6 +19,6 @@ mod term;
 pub use form::{are_of_width, is_narrower, is_same_width, is_well_formed};
 pub use head::{Extension, Head, Joint, Relation};
 pub use measured::Measured;
-pub use nodes::{LIMIT, is_small};
+pub use nodes::is_small;
 pub use order::{compare, place};
 pub use term::{Atom, Atoms, Term, Terms};

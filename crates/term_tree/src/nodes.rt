@@ -1,17 +1,13 @@
 //! Whether a term has no more nodes and levels than it may.
 ghost use Rattle.std.specs.Prelude.{◌≡◌, ◌+◌, ◌≤◌, map};
-ghost use Rattle.term_tree.specs.Tree.{trees_of, atoms_of, trees_size, atoms_size, tree_size, most_nodes};
+ghost use Rattle.term_tree.specs.Tree.{trees_of, atoms_of, trees_size, atoms_size, tree_size};
+ghost use Rattle.rtx_tree.specs.Limit.{most_nodes};
 ghost use Rattle.term_tree.specs.Small as spec;
 ghost use Rattle.term_tree.specs.View.{tree_of, atom_of};
 ghost use Rattle.term_tree.specs.machine.Counted.{counted};
 
 use crate::term::{Atom, Term};
-
-/// The most nodes that a term of a comparison may have.
-pub const LIMIT: u64 = 1_048_576;
-
-/// The most levels that it may have.
-const LEVELS: u64 = 2_000;
+use rtx_tree::{MOST_LEVELS, MOST_NODES};
 
 /// Whether a term has at most 1,048,576 nodes on at most 2,000 levels. The walk stops where it
 /// meets more.
@@ -19,7 +15,7 @@ const LEVELS: u64 = 2_000;
 pub fn is_small(term: &Term) -> bool
     ensures { result ≡ spec.is_small (tree_of term.now) }
 {
-    count(term, 0, LEVELS) <= LIMIT
+    count(term, 0, MOST_LEVELS) <= MOST_NODES
 }
 
 /// The number of nodes after so many others, or one more than the limit where there are more of
@@ -30,8 +26,8 @@ fn count(term: &Term, before: u64, levels: u64) -> u64
     ensures { result ≡ counted before (tree_size (tree_of term.now))
         (spec.tree_levels (tree_of term.now)) levels }
 {
-    if before > LIMIT || levels == 0 {
-        return LIMIT + 1;
+    if before > MOST_NODES || levels == 0 {
+        return MOST_NODES + 1;
     }
     match term {
         Term::Sum { atoms, .. } => count_atoms(atoms.as_slice(), before + 1, levels - 1),
@@ -48,7 +44,7 @@ fn count_atoms(atoms: &[Atom], before: u64, levels: u64) -> u64
     let mut so_far = before;
     for atom in atoms {
         so_far = count(&atom.term, so_far, levels);
-        if so_far > LIMIT {
+        if so_far > MOST_NODES {
             return so_far;
         }
     }
@@ -64,7 +60,7 @@ fn count_parts(parts: &[Term], before: u64, levels: u64) -> u64
     let mut so_far = before;
     for part in parts {
         so_far = count(part, so_far, levels);
-        if so_far > LIMIT {
+        if so_far > MOST_NODES {
             return so_far;
         }
     }

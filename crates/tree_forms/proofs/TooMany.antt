@@ -6,7 +6,8 @@ use Rattle.lisp_read.specs.declared.tree.Tree.{Tree}
 use Rattle.md_iter.specs.declared.substitution.Instance.{Instance}
 use Rattle.md_iter.specs.declared.definition.Definitions.{Definitions}
 use Rattle.md_iter.specs.Definition.{definitions_in}
-use Rattle.md_iter.specs.Expansion.{forms_of, forms_of_tree, forms_with, most_forms, PassesAt}
+use Rattle.md_iter.specs.Expansion.{forms_of, forms_of_tree, forms_with, PassesAt}
+use Rattle.rtx_tree.specs.Limit.{most_forms}
 use Rattle.tree_forms.specs.Trees.{expanded}
 
 front_has_fewer : (d : Definitions) (front back : List Tree) → length (forms_with d front) ≤ length (forms_with d (front ++ back))

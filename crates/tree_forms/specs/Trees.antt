@@ -10,10 +10,7 @@ use Rattle.md_forms.specs.declared.form.Entry.{Entry}
 use Rattle.md_forms.specs.Forms as forms
 use Rattle.tree_forms.specs.declared.refusal.DescRefusal.{DescRefusal}
 use Rattle.tree_forms.specs.declared.refusal.DescRefusal.TheVariants as refusal
-
--- the most forms of a description
-abbrev pub most_forms : ℕ
-most_forms = expansion.most_forms
+use Rattle.rtx_tree.specs.Limit.{most_forms}
 
 -- the forms after expansion
 abbrev pub expanded : List Tree → List Instance

@@ -5,8 +5,8 @@ ghost use Rattle.tree_forms.specs.machine.Steps.{Expands};
 use crate::refusal::DescRefusal;
 use lisp_read::Tree;
 use md_forms::{Forms, forms_of};
-use md_iter::{Expanded, IterRefusal, MOST_FORMS, expand_forms};
-use rtx_tree::Limit;
+use md_iter::{Expanded, IterRefusal, expand_forms};
+use rtx_tree::{Limit, MOST_FORMS};
 use std::alloc::Global;
 
 /// The trees without their iterators.

@@ -9,7 +9,8 @@ use Rattle.lisp_read.specs.Part.{Part, Atom, Str, Block, Open, Close, parts_of, 
 use Rattle.lisp_read.specs.Nesting.{still_open, IsNested}
 use Rattle.lisp_read.specs.Text as text
 use Rattle.lisp_read.specs.Text.{Spells, IsText}
-use Rattle.lisp_read.specs.Reading.{most_open, NeverTooDeep}
+use Rattle.lisp_read.specs.Reading.{NeverTooDeep}
+use Rattle.rtx_tree.specs.Limit.{most_open}
 use Rattle.tree_print.specs.Print.{printed_tree, unplaced, IsPrintable, ReadsBack}
 use Rattle.lisp_read.specs.machine.Steps.{State}
 use Rattle.lisp_read.specs.machine.Runs.{empty, run, finish, parts_in, ◌>>=◌, IsShallow, Reaches}

@@ -11,7 +11,8 @@ use Rattle.lisp_read.specs.Bytes.{quote, open_brace, close_brace}
 use Rattle.lisp_read.specs.Class.{open_byte, close_byte}
 use Rattle.lisp_read.specs.Part.{Part, Atom, Str, Block, parts_of}
 use Rattle.lisp_read.specs.Text.{IsAtom, IsQuoted, IsBraced}
-use Rattle.lisp_read.specs.Reading.{ReadsAs, Trees, most_open}
+use Rattle.lisp_read.specs.Reading.{ReadsAs, Trees}
+use Rattle.rtx_tree.specs.Limit.{most_open}
 
 -- ---- the text
 

@@ -2,7 +2,7 @@
 use Rattle.std.specs.Prelude.{ℕ, ◌+◌, if◌then◌else◌, List, [], ◌∷◌, ◌++◌, length}
 use Rattle.rtx_tree.specs.declared.function.Insn.{Insn}
 use Rattle.rtx_tree.specs.declared.tree.Rtx.{Rtx}
-use Rattle.frame_mean.specs.Frame.{plain_insns, return_with, returns}
+use Rattle.law_frame.specs.Frame.{plain_insns, return_with, returns}
 
 abbrev pub leaving_by : List Rtx → ℕ → List Insn
 leaving_by left uid = plain_insns uid left ++ return_with (uid + length left) ∷ []

@@ -6,7 +6,7 @@ use Rattle.rtl_chain.specs.End.{IsFinished}
 use Rattle.md_forms.specs.declared.form.Entry.{Entry}
 use Rattle.md_desc.specs.Recog.{NoneMatches}
 use Rattle.form_needs.specs.Needs.{output_facts}
-use Rattle.frame_mean.specs.Frame.{with_insns}
+use Rattle.law_frame.specs.Frame.{with_insns}
 use Rattle.pass_refusal.specs.Outcome.{RefusesWith}
 use Rattle.pass_refusal.specs.Refused.{unmatched_insn}
 use Rattle.pass_refusal.specs.declared.refusal.PassRefusal.{PassRefusal}

@@ -1,6 +1,6 @@
 use Rattle.std.proofs.Common.{drop}
 use Rattle.sym_insns.specs.Shape.{all_natural}
-use Rattle.reload_mean.specs.homes_mean.Placed.{all_sized}
+use Rattle.law_reload.specs.law_homes.Placed.{all_sized}
 use Rattle.insn_sizes.proofs.Sizes.{Goes}
 use Rattle.insn_sizes.proofs.+walk.Given as goal
 

@@ -8,7 +8,7 @@ use Rattle.lisp_read.specs.declared.reader.Reader.{Reader}
 use Rattle.lisp_read.specs.declared.reader.StepError.{StepError}
 use Rattle.lisp_read.specs.declared.reader.StepError.TheVariants as error
 use Rattle.lisp_read.specs.Part.{Part, Open, parts_of_all}
-use Rattle.lisp_read.specs.Reading.{most_open}
+use Rattle.rtx_tree.specs.Limit.{most_open}
 use Rattle.lisp_read.specs.machine.Steps.{Front, State}
 
 -- the parts before the innermost open list or vector, its opening byte included

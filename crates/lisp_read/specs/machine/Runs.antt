@@ -10,7 +10,7 @@ use Rattle.lisp_read.specs.declared.read.ReadRefusal.TheVariants as refusal
 use Rattle.lisp_read.specs.Bytes.{slash}
 use Rattle.lisp_read.specs.Places.{start, advance, place_after}
 use Rattle.lisp_read.specs.Part.{Part, Atom, parts_of_all}
-use Rattle.lisp_read.specs.Reading.{most_open}
+use Rattle.rtx_tree.specs.Limit.{most_open}
 use Rattle.lisp_read.specs.machine.Steps.{State, next}
 
 infixl 10 ◌>>=◌

@@ -1,6 +1,6 @@
 -- When tables are those of a description's forms.
 use Rattle.std.specs.Prelude.{◌≡◌, ◌≤◌, List, length}
-use Rattle.tree_forms.specs.Trees.{most_forms}
+use Rattle.rtx_tree.specs.Limit.{most_forms}
 use Rattle.md_forms.specs.declared.form.Entry.{Entry}
 use Rattle.md_constr.specs.md_attr.declared.attributes.Attributes.{Attributes}
 use Rattle.md_constr.specs.md_attr.machine.Tables.{AreAttributesOf}

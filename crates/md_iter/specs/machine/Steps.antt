@@ -12,7 +12,8 @@ use Rattle.md_iter.specs.declared.refusal.IterRefusal.{IterRefusal}
 use Rattle.md_iter.specs.declared.refusal.IterRefusal.TheVariants as refusal
 use Rattle.md_iter.specs.Choice.{Chosen, from_head, uses}
 use Rattle.md_iter.specs.Substitution.{substituted}
-use Rattle.md_iter.specs.Expansion.{most_forms, forms_with, PassesAt}
+use Rattle.md_iter.specs.Expansion.{forms_with, PassesAt}
+use Rattle.rtx_tree.specs.Limit.{most_forms}
 
 -- the name that the code has begun
 abbrev pub begun : Option (Vec ℕ) → Option (List ℕ)

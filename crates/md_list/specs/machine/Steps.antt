@@ -2,7 +2,8 @@
 use Rattle.std.specs.Prelude.{◌≡◌, ◌≤◌, ◌<◌, ℕ, List, length, Result, Ok, Err, Vec}
 use Rattle.std.specs.declared.alloc.Global.{Global}
 use Rattle.lisp_read.specs.declared.tree.Tree.{Tree}
-use Rattle.tree_forms.specs.Trees.{expanded, most_forms}
+use Rattle.tree_forms.specs.Trees.{expanded}
+use Rattle.rtx_tree.specs.Limit.{most_forms}
 use Rattle.md_list.specs.Listing.{list_of_trees}
 use Rattle.md_list.specs.declared.refusal.ListRefusal.{ListRefusal}
 use Rattle.md_list.specs.declared.refusal.ListRefusal.TheVariants as refusal

@@ -3,7 +3,8 @@ use Rattle.std.specs.Prelude.{◌≡◌, ◌+◌, ◌≤◌, ◌<◌, List, leng
 use Rattle.rtx_tree.specs.declared.limit.Limit.TheVariants as limit
 use Rattle.lisp_read.specs.declared.tree.Tree.{Tree}
 use Rattle.md_forms.specs.declared.form.Entry.{Entry}
-use Rattle.tree_forms.specs.Trees.{expanded, forms_of, most_forms}
+use Rattle.tree_forms.specs.Trees.{expanded, forms_of}
+use Rattle.rtx_tree.specs.Limit.{most_forms}
 use Rattle.run_refusal.specs.declared.refusal.Refusal.{Refusal}
 use Rattle.run_refusal.specs.declared.refusal.Refusal.TheVariants as refusal
 

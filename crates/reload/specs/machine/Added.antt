@@ -6,7 +6,7 @@ use Rattle.rtx_tree.specs.declared.tree.Rtx.{Rtx}
 use Rattle.md_forms.specs.declared.form.Entry.{Entry}
 use Rattle.md_desc.specs.Recog.{NoneMatches}
 use Rattle.form_needs.specs.Needs.{lower_facts}
-use Rattle.frame_mean.specs.Frame.{plain_with, plain_insns}
+use Rattle.law_frame.specs.Frame.{plain_with, plain_insns}
 use Rattle.reload.specs.declared.refusal.ReloadRefusal.{ReloadRefusal}
 use Rattle.reload.specs.declared.refusal.ReloadRefusal.TheVariants as refusal
 use Rattle.reload.specs.Outcome.{RefusesAs}

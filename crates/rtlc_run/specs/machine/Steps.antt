@@ -8,8 +8,8 @@ use Rattle.run_refusal.specs.declared.refusal.Refusal.{Refusal}
 use Rattle.run_refusal.specs.declared.refusal.Refusal.TheVariants as refusal
 use Rattle.md_forms.specs.declared.form.Entry.{Entry}
 use Rattle.func_input.specs.Outcome.{Outcome}
-use Rattle.asm_same.specs.func_text.Compile.{TextComes}
-use Rattle.asm_same.specs.func_text.Code.{IsUnnamed}
+use Rattle.law_assembly.specs.func_text.Compile.{TextComes}
+use Rattle.law_assembly.specs.func_text.Code.{IsUnnamed}
 use Rattle.rtlc_run.specs.Answer.{EvalComes, RecogComes, DumpComes}
 use Rattle.rtlc_run.specs.declared.program.Task.{Task}
 use Rattle.rtlc_run.specs.declared.program.Task.TheVariants as task

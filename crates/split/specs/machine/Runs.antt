@@ -2,10 +2,11 @@
 use Rattle.std.specs.Prelude.{◌≡◌, ℕ, ◌+◌, ◌<◌, List, [], ◌∷◌, ◌++◌, length, replicate, Option, Some, None, Result, Ok, Err}
 use Rattle.rtx_tree.specs.declared.function.Function.{Function}
 use Rattle.md_forms.specs.declared.form.Entry.{Entry}
-use Rattle.insn_keep.specs.pass_refusal.Outcome.{RefusesWith}
-use Rattle.insn_keep.specs.pass_refusal.declared.refusal.PassRefusal.{PassRefusal}
+use Rattle.law_insn_replaced.specs.pass_refusal.Outcome.{RefusesWith}
+use Rattle.law_insn_replaced.specs.pass_refusal.declared.refusal.PassRefusal.{PassRefusal}
 use Rattle.split.specs.declared.stage.SplitStage.{SplitStage}
-use Rattle.split.specs.Split.{Answer, SplitFrom, most_splits}
+use Rattle.split.specs.Split.{Answer, SplitFrom}
+use Rattle.rtx_tree.specs.Limit.{most_splits}
 
 -- Of what instructions come to with some depths from a place on, behind them others: where others
 -- come to an answer from the end on, all do.

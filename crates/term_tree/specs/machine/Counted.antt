@@ -1,6 +1,6 @@
 -- Nodes and levels, counted up to their limits.
 use Rattle.std.specs.Prelude.{ℕ, ◌+◌, min, nat_le, if◌then◌else◌}
-use Rattle.term_tree.specs.Tree.{most_nodes}
+use Rattle.rtx_tree.specs.Limit.{most_nodes}
 
 -- so many nodes after so many others, or one more than there may be, where there are more of them
 -- or too many levels

@@ -4,7 +4,8 @@ use Rattle.lisp_read.specs.declared.tree.Tree.{Tree}
 use Rattle.md_iter.specs.declared.expand.Expanded.{Expanded}
 use Rattle.md_iter.specs.Definition.{all_constants_in}
 use Rattle.tree_forms.specs.declared.refusal.DescRefusal.{DescRefusal}
-use Rattle.tree_forms.specs.Trees.{most_forms, expanded, IsTooMany}
+use Rattle.tree_forms.specs.Trees.{expanded, IsTooMany}
+use Rattle.rtx_tree.specs.Limit.{most_forms}
 
 -- the trees were expanded
 abbrev pub Expands : List Tree → Result Expanded DescRefusal → Type 0

@@ -1,5 +1,5 @@
 use Rattle.std.proofs.Common.{◌≡◌, ◌∙◌, ap, ◌++◌}
-use Rattle.frame_mean.specs.Frame.{epilogue}
+use Rattle.law_frame.specs.Frame.{epilogue}
 use Rattle.frame.specs.machine.Items.{item_by, uid_by}
 use Rattle.frame.proofs.Pushes.{left_more, uid_more}
 use Rattle.frame.proofs.insns.add_items.Goals as goal

@@ -1,5 +1,5 @@
 use Rattle.std.proofs.Common.{◌≡◌, ◌++◌}
-use Rattle.frame_mean.specs.Frame.{epilogue, left_at_returns}
+use Rattle.law_frame.specs.Frame.{epilogue, left_at_returns}
 use Rattle.frame.specs.machine.Items.{uids_by}
 use Rattle.frame.proofs.insns.add_items.Given as goal
 

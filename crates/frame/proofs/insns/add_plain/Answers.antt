@@ -1,6 +1,6 @@
 use Rattle.std.proofs.Common.{◌∙◌, ap, ◌++◌, [], ◌∷◌, arith}
 use Rattle.rtx_tree.specs.declared.tree.Rtx.{Rtx}
-use Rattle.frame_mean.specs.Frame.{plain_with}
+use Rattle.law_frame.specs.Frame.{plain_with}
 use Rattle.frame.proofs.Pushes.{put_more}
 use Rattle.frame.proofs.insns.add_plain.Goals as goal
 

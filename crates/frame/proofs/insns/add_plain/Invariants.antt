@@ -1,5 +1,5 @@
 use Rattle.std.proofs.Common.{◌≡◌, ◌+◌, ◌++◌, take}
-use Rattle.frame_mean.specs.Frame.{plain_insns}
+use Rattle.law_frame.specs.Frame.{plain_insns}
 use Rattle.frame.proofs.insns.add_plain.Given as goal
 
 abbrev pub invariant-loop-pattern : goal.invariant-loop-pattern

@@ -1,6 +1,6 @@
 use Rattle.std.proofs.Common.{◌≡◌, ◌++◌, take}
 use Rattle.std.specs.List.{flat_map}
-use Rattle.frame_mean.specs.Frame.{loaded}
+use Rattle.law_frame.specs.Frame.{loaded}
 use Rattle.frame.proofs.patterns.add_all_loaded.Given as goal
 
 abbrev pub invariant-loop-s : goal.invariant-loop-s

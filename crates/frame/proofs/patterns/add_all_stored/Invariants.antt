@@ -1,6 +1,6 @@
 use Rattle.std.proofs.Common.{◌≡◌, ◌++◌, take}
 use Rattle.std.specs.List.{flat_map}
-use Rattle.frame_mean.specs.Frame.{stored}
+use Rattle.law_frame.specs.Frame.{stored}
 use Rattle.frame.proofs.patterns.add_all_stored.Given as goal
 
 abbrev pub invariant-loop-s : goal.invariant-loop-s

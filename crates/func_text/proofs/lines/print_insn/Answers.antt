@@ -1,6 +1,6 @@
 use Rattle.std.proofs.Common.{◌≡◌, true, false, [], sym, rules, subst}
 use Rattle.std.proofs.lemmas.List.{append-nil}
-use Rattle.rtx_tree.specs.declared.stage.Stage.TheVariants.{Output}
+use Rattle.pass_name.specs.declared.pass.Pass.TheVariants.{Output}
 use Rattle.md_desc.specs.Recog.{IsChosen, NoneMatchesOut}
 use Rattle.form_needs.specs.Needs.{needs_form, is_held}
 use Rattle.func_text.specs.Recog.{line_of, OutputComes}

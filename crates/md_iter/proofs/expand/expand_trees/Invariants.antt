@@ -1,5 +1,6 @@
 use Rattle.std.proofs.Common.{◌≡◌, ◌≤◌, length, take}
-use Rattle.md_iter.specs.Expansion.{forms_with, most_forms}
+use Rattle.md_iter.specs.Expansion.{forms_with}
+use Rattle.rtx_tree.specs.Limit.{most_forms}
 use Rattle.md_iter.proofs.expand.expand_trees.Given as goal
 
 abbrev pub invariant-loop-at : goal.invariant-loop-at

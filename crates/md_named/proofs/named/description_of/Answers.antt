@@ -1,6 +1,6 @@
 use Rattle.std.proofs.Common.{subst}
-use Rattle.pred_mean.proofs.Predicates.{predicates_are}
-use Rattle.pred_mean.proofs.Texts.{texts_are_read}
+use Rattle.law_predicates.proofs.Predicates.{predicates_are}
+use Rattle.law_predicates.proofs.Texts.{texts_are_read}
 use Rattle.md_named.specs.machine.Steps.{DescribesRun}
 use Rattle.md_named.proofs.Forms.{of_trees, of_refusal, one_answer}
 use Rattle.md_named.proofs.named.description_of.Goals as goal

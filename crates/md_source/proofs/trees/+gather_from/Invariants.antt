@@ -1,7 +1,7 @@
 use Rattle.std.proofs.Common.{length, ◌≡◌, ◌≤◌, ℕ, List, ◌↔◌, ◌-◌}
 use Rattle.std.specs.Vec.Iter.{into_iter_items, into_iter_len}
-use Rattle.rtx_tree.specs.Limit.{most_bytes}
-use Rattle.md_source.specs.Source.{Source, most_within}
+use Rattle.rtx_tree.specs.Limit.{most_bytes, most_within}
+use Rattle.md_source.specs.Source.{Source}
 use Rattle.md_source.specs.Asked.{GrewBy}
 use Rattle.md_source.specs.Answers.{Agrees}
 use Rattle.md_source.proofs.Comes.{ComesOn}

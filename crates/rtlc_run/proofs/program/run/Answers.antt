@@ -1,9 +1,9 @@
 use Rattle.std.proofs.Common.{◌≡◌, ⊎_elim, sym, ap, Err}
 use Rattle.run_refusal.specs.declared.refusal.Refusal.{Refusal}
 use Rattle.run_refusal.specs.declared.refusal.Refusal.TheVariants as refusal
-use Rattle.func_mean.proofs.Law.{takes_enough}
+use Rattle.func_run.proofs.Law.{takes_enough}
 use Rattle.rv_text.proofs.SpelledOnce.{spells_one}
-use Rattle.asm_same.proofs.func_text.Parts.{one_cut}
+use Rattle.law_assembly.proofs.func_text.Parts.{one_cut}
 use Rattle.md_named.proofs.Forms.{one_answer as one_description}
 use Rattle.rtlc_words.specs.Words.{words_of}
 use Rattle.rtlc_run.proofs.Commands.{nothing_known, nothing_agrees}

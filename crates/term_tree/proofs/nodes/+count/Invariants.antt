@@ -1,5 +1,6 @@
 use Rattle.std.proofs.Common.{◌≡◌, ◌+◌, ◌≤◌, map, drop}
-use Rattle.term_tree.specs.Tree.{atoms_size, trees_size, trees_of, atoms_of, most_nodes}
+use Rattle.term_tree.specs.Tree.{atoms_size, trees_size, trees_of, atoms_of}
+use Rattle.rtx_tree.specs.Limit.{most_nodes}
 use Rattle.term_tree.specs.Small.{atoms_levels, trees_levels}
 use Rattle.term_tree.specs.View.{tree_of, atom_of}
 use Rattle.term_tree.specs.machine.Counted.{counted}

@@ -1,6 +1,6 @@
 use Rattle.std.proofs.Common.{◌≡◌, ◌<◌, Option, None, rules, subst, arith}
 use Rattle.std.specs.Prelude.{IfSome}
-use Rattle.tree_forms.specs.Trees.{most_forms}
+use Rattle.rtx_tree.specs.Limit.{most_forms}
 use Rattle.md_recog.specs.declared.recog.FormMatch.{FormMatch}
 use Rattle.md_desc.proofs.Choosing.{First, Counted, falls, passes, chosen, ends, nowhere}
 use Rattle.md_desc.proofs.description.Description.recog_out.Goals as goal

@@ -1,5 +1,0 @@
-pub mod Admitted
-pub mod Sorts
-pub mod ForLines
-pub use Rattle.form_needs.specs as form_needs
-pub use Rattle.window_same.specs.same_behaviour as same_behaviour

@@ -1,0 +1,22 @@
+pub mod Insns
+pub mod Straight
+pub mod Registers
+pub mod Entry
+pub mod Numbers
+pub mod Instructions
+pub mod Behind
+pub mod Changes
+pub mod Words
+pub mod Stores
+pub mod Loads
+pub mod Layouts
+pub mod Held
+pub mod Chain
+pub mod Lockstep
+pub mod Prologue
+pub mod Epilogue
+pub mod Keeping
+pub mod Framed
+pub mod Laid
+pub mod PlainUids
+pub use Rattle.law_window_replaced.proofs as law_window_replaced

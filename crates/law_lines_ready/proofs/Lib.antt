@@ -1,0 +1,8 @@
+pub mod Notes
+pub mod Sound
+pub mod Reloaded
+pub mod Framed
+pub mod Split
+pub mod Written
+pub mod Given
+pub use Rattle.law_output.proofs as law_output

@@ -1,0 +1,2 @@
+pub mod Ready
+pub use Rattle.law_pass_needs.specs as law_pass_needs

@@ -1,0 +1,5 @@
+pub mod Places
+pub mod Made
+pub mod Ready
+pub use Rattle.law_rules.proofs as law_rules
+pub use Rattle.sym_insns.proofs as sym_insns

@@ -1,0 +1,12 @@
+-- What the texts of conditions and statements are.
+use Rattle.std.proofs.Common.{List}
+use Rattle.rtx_tree.specs.declared.constants.Constant.{Constant}
+use Rattle.pred_expr.proofs.GrammarLaws.{condition_says, test_condition_says, statements_says}
+use Rattle.law_predicates.specs.Texts.{TextsAreRead}
+
+pub texts_are_read : (constants : List Constant) → TextsAreRead constants
+texts_are_read constants = record {
+  conditions = condition_says constants;
+  tests = test_condition_says constants;
+  statements = statements_says constants;
+}

@@ -1,0 +1,99 @@
+-- A result that an instruction alone moves behind: its register into the operand itself, or with a register in its address.
+use Rattle.std.proofs.Common.{◌≡◌, ◌≢◌, ◌⊎◌, inl, inr, ℕ, zero, suc, if◌then◌else◌, Bool, true, false, List, [], ◌∷◌, ◌++◌, Option, Some, None, refl, sym, ap, subst, ◌∙◌}
+use Rattle.std.specs.FinMap.{get}
+use Rattle.std.specs.Option.{option_map_or}
+use Rattle.std.specs.Prelude.{ℤ, is_some, slice_get}
+use Rattle.bits64.specs.Words.{low}
+use Rattle.bits64.specs.declared.Width.{Width}
+use Rattle.bits64.specs.declared.Width.TheVariants.{W64}
+use Rattle.rtx_tree.specs.Tree.{reg_of, mentions_reg}
+use Rattle.rtx_tree.specs.declared.machine.SymbolAt.{SymbolAt}
+use Rattle.rtx_tree.specs.declared.memories.MemByte.{MemByte}
+use Rattle.rtx_tree.specs.declared.tree.Rtx.{Rtx}
+use Rattle.run_memory.specs.RunMemory.{load}
+use Rattle.rtl_func.specs.Shapes.{mode_at}
+use Rattle.rtl_step.specs.Effect.{effects_of, address_of, register_of, reg_after, regs_after, bytes_after, memory_after}
+use Rattle.rtl_step.specs.Regs.{Regs, known_of, reg_value}
+use Rattle.rtl_step.specs.Value.{width_of, value_of}
+use Rattle.rtl_step.specs.declared.effect.Effect.{Effect}
+use Rattle.rtl_step.specs.declared.effect.Effect.TheVariants.{Nothing, Sets, Unsets, Stores}
+use Rattle.sym_insns.specs.Shape.{all_natural}
+use Rattle.law_window_kept.specs.Same.{KnownToo}
+use Rattle.reload_operands.specs.declared.operand.Operand.{Operand}
+use Rattle.reload_moves.specs.Moves.{own_of, out_base, out_store, far_to, end_far_of}
+use Rattle.reload_moves.specs.declared.ask.Ask.{Ask}
+use Rattle.reload_moves.specs.declared.moves.Move.TheVariants.{Out}
+use Rattle.reload_moves.specs.declared.part.Part.{Part}
+use Rattle.reload_choice.specs.Insns.{reached, out_insn, insns_at, all_insns}
+use Rattle.law_reload_moves.specs.Held.{Held, Holds}
+use Rattle.law_reload_moves.specs.Spare.{is_spare, KnowsRest, KeepsRest, NamesNoSpare}
+use Rattle.law_reload_moves.proofs.Cells.{IsThere, AreThere}
+use Rattle.law_reload_moves.proofs.Ends.{Stays}
+use Rattle.law_reload_moves.proofs.Endings.{EndedNear}
+use Rattle.law_reload_moves.proofs.Keyed.{Keyed, effects_in}
+use Rattle.law_reload_moves.proofs.OutEffects.{IsPlaceSet, in_register, in_memory, IsOut, StandsOut, set_again, own_value, set_effects, there_after, among_there, all_there, ends_near}
+use Rattle.law_reload_moves.proofs.SteadyAddress.{Leaves, AllLeave, all_leave, AreLeft}
+use Rattle.law_reload_moves.proofs.ResultsEnd.{Among, AllAmong, Reached, ReachedBy, EndsNear, code_of}
+
+-- ---- registers that effects leave
+
+one_left : (q : ℕ) (e : Effect) (es : List Effect) → Among e es → AllLeave q es → Leaves q e
+one_left q e [] among leave = absurd among
+one_left q e (o ∷ es) (inl same) leave = subst (Leaves q) (sym same) leave.0
+one_left q e (o ∷ es) (inr more) leave = one_left q e es more leave.1
+
+some_left : (q : ℕ) (ds es : List Effect) → AllAmong ds es → AllLeave q es → AllLeave q ds
+some_left q [] es among leave = tt
+some_left q (d ∷ ds) es among leave = (one_left q d es among.0 leave, some_left q ds es among.1 leave)
+
+-- a state that is reached has them still
+pub reached_left : (es : List Effect) (regs : Regs) (m : List MemByte) (r0 : Regs) (n : List MemByte) → Reached es regs m r0 n → AreLeft es regs r0
+reached_left es regs m r0 n reached q leave =
+    ap (λ (r : Regs). get r q) reached.regs_are ∙ all_leave q reached.made regs (some_left q reached.made es reached.among leave)
+
+module _ (symbols : List SymbolAt) (regs : Regs) (m : List MemByte) (es : List Effect) (there : AreThere m es) where
+  -- an effect that is among them is there still
+  pub there_still : (r0 : Regs) (n : List MemByte) (o : Effect) → Reached es regs m r0 n → Among o es → IsThere n o
+  there_still r0 n o reached among =
+      subst (λ n. IsThere n o) (sym reached.memory_is)
+      (there_after reached.made o m (all_there m reached.made es reached.among there) (among_there m o es among there))
+
+  -- what stands for the place where its address is the same
+  pub stands_out : (t t' : Rtx) (w : Width) (v : ℕ) (o : Effect) (r : Regs) (n : List MemByte) → IsPlaceSet symbols regs m t w v o → IsThere n o →
+      (address_of t ≡ None → t' ≡ t) →
+      ((a : Rtx) (at : ℕ) → address_of t ≡ Some a → value_of symbols regs m a W64 ≡ Some at → (a' : Rtx) × ((address_of t' ≡ Some a') × (value_of symbols r n a' W64 ≡ Some at))) →
+      StandsOut symbols r n t t' w v o
+  stands_out t t' w v _ r n (in_register reg none is) here same too = (ap address_of (same none) ∙ none, (ap register_of (same none) ∙ is, refl))
+  stands_out t t' w v _ r n (in_memory a at is address has) here same too =
+      let a' = too a at is address in (a'.0, (a'.1.0, (a'.1.1, (here, (refl, refl)))))
+
+-- ---- the instruction
+
+none_more : (xs : List Rtx) → xs ++ [] ≡ xs
+none_more [] = refl
+none_more (x ∷ xs) = ap (λ (xs : List Rtx). x ∷ xs) (none_more xs)
+
+pub near_code : (operands : List Operand) (asks : List Ask) (p : Part) (x : Operand) → slice_get operands p.place ≡ Some x → p.needs.far ≡ None →
+    all_insns operands (out_store asks p) ≡ out_insn (own_of asks p) (out_base asks p) x ∷ []
+near_code operands asks p x of near =
+    ap (λ far. all_insns operands (far_to (end_far_of asks p) far ++ Out (own_of asks p) p.place (out_base asks p) ∷ [])) near ∙
+    ap (λ o. option_map_or (insns_at (Out (own_of asks p) p.place (out_base asks p))) o [] ++ []) of
+
+module _ (symbols : List SymbolAt) (Told : Regs → List MemByte → Type 0)
+    (spared : (r r' : Regs) (m : List MemByte) → KeepsRest r r' → Told r m → Told r' m) (operands : List Operand) (asks : List Ask)
+    (keyed : List Keyed) (regs : Regs) (m : List MemByte) (hs : List Held) where
+  -- where what stands for the operand is its place
+  pub near_end : (p : Part) (x : Operand) (s : Rtx) (o : Effect) → slice_get operands p.place ≡ Some x → p.needs.far ≡ None →
+      (out : IsOut symbols regs m x.tree s o) → own_of asks p ≢ 0 → low out.width out.value ≡ out.value →
+      ((r : Regs) → Holds r hs → get r (own_of asks p) ≡ Some (known_of out.width out.value)) → Stays symbols Told spared o →
+      (width_of (mode_at (reached (out_base asks p) x)) ≡ Some out.width) →
+      ((r0 r : Regs) (n : List MemByte) → ReachedBy symbols Told spared operands asks keyed regs m hs p r0 n → KnowsRest r0 r → Holds r hs →
+      StandsOut symbols r n x.tree (reached (out_base asks p) x) out.width out.value o) →
+      EndsNear symbols Told spared operands asks keyed regs m hs p o
+  near_end p x s o of near out some fits gives stays wide stands = λ r0 r n reach knows told holds.
+      subst (λ code. EndedNear symbols Told spared code r n o) (sym (near_code operands asks p x of near))
+      (ends_near symbols Told spared (out_insn (own_of asks p) (out_base asks p) x) r n o
+      (set_effects symbols r n (reached (out_base asks p) x) (reg_of x.mode (own_of asks p)) o
+      (set_again symbols r n x.tree (reached (out_base asks p) x) (reg_of x.mode (own_of asks p)) out.width out.value o wide
+      (own_value symbols r n x.mode (own_of asks p) out.width out.value some (gives r holds) fits)
+      (stands r0 r n reach knows holds))) stays told)

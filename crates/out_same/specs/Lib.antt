@@ -1,2 +1,0 @@
-pub mod Ready
-pub use Rattle.pass_ready.specs as pass_ready

@@ -1,6 +1,0 @@
-pub mod Meant
-pub mod Means
-pub mod Needs
-pub mod Shows
-pub use Rattle.sym_insns.specs as sym_insns
-pub use Rattle.window_mean.specs as window_mean

@@ -1,1 +1,0 @@
-pub use Rattle.insn_keep.specs as insn_keep

@@ -1,2 +1,0 @@
-pub mod Same
-pub use Rattle.func_keep.specs as func_keep

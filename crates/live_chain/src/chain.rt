@@ -1,5 +1,5 @@
 //! A function with what is known of it.
-ghost use Rattle.std.specs.Prelude.{◌≡◌, ◌≤◌, ◌<◌, ◌^◌, ℕ, true, Some, length, slice_get};
+ghost use Rattle.std.specs.Prelude.{◌≡◌, ◌+◌, ◌≤◌, ◌<◌, ◌^◌, ℕ, true, Some, length, slice_get};
 ghost use Rattle.std.specs.Prelude.{IfOk, OnOk, OnErr};
 ghost use Rattle.rtx_tree.specs.RegSet.{has_reg};
 ghost use Rattle.live.specs.Live.{AreLiveAfter, AreLiveRows};
@@ -9,21 +9,23 @@ ghost use Rattle.live_chain.specs.machine.Whole.{with_chain};
 
 use crate::kept::{rows_inside, rows_joined};
 use crate::narrow::live_behind;
-use crate::numbers::{pseudo_after, pseudo_of, uid_after, uid_of};
+use crate::numbers::{
+    count_after, count_beside, count_of, pseudo_after, pseudo_of, uid_after, uid_of,
+};
 use gap_list::GapList;
 use live::live_rows_of;
 use plain_data::{Items, Memory};
 use reg_rows::RegRow;
-use rtl_chain::{greatest_uid, next_pseudo};
+use rtl_chain::{greatest_uid, instruction_count, next_pseudo};
 use rtx_tree::{Function, Insn, Insns, RegSet};
 use std::alloc::Global;
 use std::marker::Model;
 use std::mem;
 
 /// A function, with what is known of it while windows of its chain are replaced: the registers that
-/// are live at its places, its greatest uid, its next free pseudo register. Contracts see the
-/// function. Its chain and the rows have a gap, which stands behind the window that was replaced
-/// last.
+/// are live at its places, its greatest uid, its next free pseudo register, how many instructions
+/// it has. Contracts see the function. Its chain and the rows have a gap, which stands behind the
+/// window that was replaced last.
 #[derive(Drop)]
 pub struct LiveChain {
     /// The function without its chain.
@@ -33,6 +35,8 @@ pub struct LiveChain {
     rows: Option<GapList<RegRow>>,
     greatest: Option<u32>,
     next: Option<u64>,
+    /// How many instructions the chain has, if known.
+    count: Option<usize>,
 }
 
 impl Model for LiveChain {
@@ -47,7 +51,8 @@ impl Model for LiveChain {
 
     ghost view = { λ c. with_chain c.frame c.insns };
 
-    ghost invariant = { λ c. IsKept (with_chain c.frame c.insns) c.rows c.greatest c.next };
+    ghost invariant = { λ c.
+        IsKept (with_chain c.frame c.insns) c.rows c.greatest c.next c.count };
 }
 
 /// The rows of the function, computed anew.
@@ -78,6 +83,7 @@ impl LiveChain {
             rows: None,
             greatest: None,
             next: None,
+            count: None,
         }
     }
 
@@ -164,6 +170,46 @@ impl LiveChain {
         }
     }
 
+    /// How many instructions the chain has, labels and barriers aside. The call takes no memory;
+    /// more than 64 bits count are answered as want of it.
+    ///
+    /// # Errors
+    ///
+    /// `Memory` where so many have no number.
+    pub fn instruction_count(&mut self) -> Result<usize, Memory>
+        ensures count { IfOk result (λ n. n ≡ counts.instruction_count self.old.insns) }
+        ensures same { self.new ≡ self.old }
+    {
+        match self.count {
+            Some(count) => Ok(count),
+            None => {
+                let Some(count) = count_of(&self.insns) else {
+                    return Err(Memory);
+                };
+                self.count = Some(count);
+                Ok(count)
+            }
+        }
+    }
+
+    /// How many instructions the chain would have with others in the place of the one at a place.
+    ///
+    /// # Errors
+    ///
+    /// `Memory` where so many have no number.
+    pub fn count_with(&mut self, place: u32, new: &[Insn]) -> Result<usize, Memory>
+        requires { place < length self.old.insns }
+        ensures count { IfOk result (λ n. n
+            ≡ counts.instruction_count (replaced self.old place (place + 1) new.now).insns) }
+        ensures same { self.new ≡ self.old }
+    {
+        let all = self.instruction_count()?;
+        match count_beside(all, self.insn(place), new) {
+            Some(count) => Ok(count),
+            None => Err(Memory),
+        }
+    }
+
     /// Puts new instructions in the place of a window, that from place `first` up to place `end`.
     /// After `Memory` the function is as before.
     ///
@@ -187,6 +233,11 @@ impl LiveChain {
             greatest_uid(new.as_slice()),
         );
         let next = pseudo_after(self.next, next_pseudo(old), next_pseudo(new.as_slice()));
+        let count = count_after(
+            self.count,
+            instruction_count(old),
+            instruction_count(new.as_slice()),
+        );
         let inside = rows_inside(
             alloc,
             &self.insns,
@@ -200,6 +251,7 @@ impl LiveChain {
         self.rows = rows_joined(self.rows.take(), first, end, inside);
         self.greatest = greatest;
         self.next = next;
+        self.count = count;
         Ok(())
     }
 }

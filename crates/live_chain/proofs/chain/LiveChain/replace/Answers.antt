@@ -1,8 +1,9 @@
 use Rattle.std.proofs.Common.{◌≡◌, sym, ap, ◌∙◌}
 use Rattle.std.specs.List.{splice}
-use Rattle.rtl_chain.specs.Counts.{next_pseudo_in}
+use Rattle.rtl_chain.specs.Counts.{next_pseudo_in, is_instruction}
 use Rattle.live_chain.specs.machine.Whole.{with_chain}
 use Rattle.live_chain.proofs.NumberLaws.{known_after}
+use Rattle.live_chain.proofs.CountLaws.{count_known}
 use Rattle.live_chain.proofs.KeptLaws.{live_joined}
 use Rattle.live_chain.proofs.chain.LiveChain.replace.Goals as goal
 
@@ -15,8 +16,8 @@ invariant_of-self-2 c =
     let same : all ≡ splice was.insns a.first a.end a.new =
     c.in_ok-splice.ensures.ok ∙ ap (λ l. splice l a.first a.end a.new) c.move_gap.ensures in
     record {
-      live = live_joined f (with_chain was.frame all) a.first a.end c.as_slice-3.result.now a.new was.rows
-          c.take.result c.in_ok-inside.inside c.rows_joined.result c.as_slice-3.ensures.value
+      live = live_joined f (with_chain was.frame all) a.first a.end c.as_slice-4.result.now a.new was.rows
+          c.take.result c.in_ok-inside.inside c.rows_joined.result c.as_slice-4.ensures.value
           c.take.ensures.value (ap (with_chain was.frame) same)
           (c.in_ok-inside.ensures f (sym c.move_gap.ensures) c.self.invariant.live) c.rows_joined.ensures;
       uid = known_after (λ i. i.uid) was.insns c.move_gap.new.self c.in-Some.old.now a.new
@@ -29,4 +30,9 @@ invariant_of-self-2 c =
           c.pseudo_after-next.result c.requires.order c.move_gap.ensures c.in-Some.ensures
           c.as_slice-2.ensures.value same c.next_pseudo.ensures c.next_pseudo-2.ensures c.self.invariant.pseudo
           c.pseudo_after-next.ensures;
+      instructions = count_known is_instruction was.insns c.move_gap.new.self c.in-Some.old.now a.new
+          c.as_slice-3.result.now all a.first a.end c.instruction_count.result c.instruction_count-2.result was.count
+          c.count_after-count.result c.requires.order c.move_gap.ensures c.in-Some.ensures
+          c.as_slice-3.ensures.value same c.instruction_count.ensures c.instruction_count-2.ensures c.self.invariant.instructions
+          c.count_after-count.ensures;
     }

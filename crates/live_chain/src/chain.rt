@@ -1,12 +1,14 @@
 //! A function with what is known of it.
-ghost use Rattle.std.specs.Prelude.{◌≡◌, ◌+◌, ◌≤◌, ◌<◌, ◌^◌, ℕ, true, Some, length, slice_get};
-ghost use Rattle.std.specs.Prelude.{IfOk, OnOk, OnErr};
+ghost use Rattle.std.specs.Prelude.{◌≡◌, ◌↔◌, ◌+◌, ◌≤◌, ◌<◌, ◌^◌, ℕ, true, Some, length, slice_get};
+ghost use Rattle.std.specs.Prelude.{IfOk, IfSome, OnOk, OnErr};
 ghost use Rattle.rtx_tree.specs.RegSet.{has_reg};
-ghost use Rattle.live.specs.Live.{AreLiveAfter, AreLiveRows};
-ghost use Rattle.new_insns.specs.Replaced.{replaced};
+ghost use Rattle.live.specs.Live.{AreLiveAfter, AreLiveRows, IsLiveAfter};
+ghost use Rattle.new_insns.specs.Replaced.{replaced, window};
+ghost use Rattle.live_chain.specs.Stays.{StaysBefore};
 ghost use Rattle.rtl_chain.specs.Counts as counts;
 ghost use Rattle.live_chain.specs.machine.Whole.{with_chain};
 
+use crate::behind::is_after;
 use crate::kept::{rows_inside, rows_joined};
 use crate::narrow::live_behind;
 use crate::numbers::{
@@ -139,6 +141,24 @@ impl LiveChain {
         live
     }
 
+    /// Whether a register is live after a place. A chain of 2^32 places or more finds no memory.
+    ///
+    /// # Errors
+    ///
+    /// `Memory` where memory ran out.
+    pub fn is_live_after(&mut self, alloc: Global, place: u32, reg: u32) -> Result<bool, Memory>
+        ensures live { IfOk result (λ live. (live ≡ true) ↔ IsLiveAfter self.old reg place) }
+        ensures same { self.new ≡ self.old }
+    {
+        let rows = match self.rows.take() {
+            Some(rows) => rows,
+            None => rows_anew(alloc, &mut self.frame, &mut self.insns)?,
+        };
+        let live = is_after(&self.insns, &rows, place, reg);
+        self.rows = Some(rows);
+        live
+    }
+
     /// The greatest uid of the chain, or 0 where there is none. It takes no memory.
     pub fn greatest_uid(&mut self) -> u32
         ensures uid { result ≡ counts.greatest_uid self.old.insns }
@@ -210,16 +230,45 @@ impl LiveChain {
         }
     }
 
-    /// Puts new instructions in the place of a window, that from place `first` up to place `end`.
-    /// After `Memory` the function is as before.
+    /// Moves the gap to a place. The windows that end there stand in one piece then.
     ///
     /// # Errors
     ///
     /// `Memory` where memory ran out.
-    pub fn replace(&mut self, alloc: Global, first: u32, end: u32, new: Insns) -> Result<(), Memory>
+    pub fn move_gap(&mut self, place: u32) -> Result<(), Memory>
+        requires { place ≤ length self.old.insns }
+        ensures { self.new ≡ self.old }
+    {
+        self.insns.move_gap(place as usize)
+    }
+
+    /// The instructions of a window, that from place `first` up to place `end`, or `None` where the
+    /// gap is within it.
+    pub fn window(&self, first: u32, end: u32) -> Option<&[Insn]>
+        requires { first ≤ end }
+        ensures { IfSome result (λ insns. insns.now ≡ window self.now first end) }
+    {
+        self.insns.between(first as usize, end as usize)
+    }
+
+    /// Puts new instructions in the place of a window, that from place `first` up to place `end`.
+    /// Says whether after each place in front of it the same registers are seen to be live as
+    /// before. After `Memory` the function is as before.
+    ///
+    /// # Errors
+    ///
+    /// `Memory` where memory ran out.
+    pub fn replace(
+        &mut self,
+        alloc: Global,
+        first: u32,
+        end: u32,
+        new: Insns,
+    ) -> Result<bool, Memory>
         requires order { first ≤ end }
         requires within { end ≤ length self.old.insns }
         ensures replaced { OnOk result (self.new ≡ replaced self.old first end new) }
+        ensures stays { IfOk result (λ same. same ≡ true → StaysBefore self.old self.new first) }
         ensures kept { OnErr result (self.new ≡ self.old) }
     {
         self.insns.move_gap(end as usize)?;
@@ -247,11 +296,12 @@ impl LiveChain {
             old,
             new.as_slice(),
         )?;
+        let same = inside.is_some();
         self.insns.splice(first as usize, end as usize, new)?;
         self.rows = rows_joined(self.rows.take(), first, end, inside);
         self.greatest = greatest;
         self.next = next;
         self.count = count;
-        Ok(())
+        Ok(same)
     }
 }

@@ -1,0 +1,5 @@
+pub mod Lists
+pub mod Marks
+pub mod Paths
+pub mod Measure
+pub mod WeightLaws

@@ -3,7 +3,8 @@
 //! A question at a place is answered, or comes to another question, whose answer it has or has not.
 //! Of the parts of a question those with less behind them are answered by calls, and the last is
 //! the question that it comes to.
-ghost use Rattle.std.specs.Prelude.{◌≡◌, ℕ, ◌+◌, ◌*◌, ◌<◌, ◌≤◌, ◌&&◌, ◌||◌, length, slice_get, Some, if◌then◌else◌};
+ghost use Rattle.std.specs.Prelude.{◌≡◌, ℕ, ◌+◌, ◌*◌, ◌<◌, ◌≤◌, nat_lt, ◌&&◌, ◌||◌, length, slice_get, Some, if◌then◌else◌};
+ghost use Rattle.ask_order.specs.Order.{weight_at};
 ghost use Rattle.md_pred.specs.Holds as spec;
 ghost use Rattle.md_pred.specs.machine.Steps as steps;
 ghost use Rattle.md_pred.specs.machine.Table as tables;
@@ -90,13 +91,17 @@ impl PredTable {
     }
 
     /// How many questions are asked at most where the one at a place is answered by itself.
-    fn weight(&self, place: usize) -> u32 {
+    fn weight(&self, place: usize) -> u32
+        ensures { result ≡ weight_at self.now.weights place }
+    {
         self.weights.as_slice().get(place).copied().unwrap_or(0)
     }
 
     /// Whether more questions than there are may be asked for the one at a place, some of them
     /// again and again.
-    pub(crate) fn is_dear(&self, place: usize) -> bool {
+    pub(crate) fn is_dear(&self, place: usize) -> bool
+        ensures { result ≡ nat_lt (length self.now.order) (weight_at self.now.weights place) }
+    {
         self.weight(place) as usize > self.order.len()
     }
 

@@ -38,16 +38,22 @@ impl PredTable {
     ghost use Rattle.std.specs.Prelude.{List};
     ghost use Rattle.md_forms.specs.md_draft.declared.draft.DraftEntry.{DraftEntry};
     ghost use Rattle.md_forms.specs.Forms.{forms_in};
+    ghost use Rattle.ask_order.specs.Order.{IsOrder, AreWeights};
     ghost use Rattle.md_pred.specs.Holds.{holds, IsTold};
     ghost use Rattle.md_pred.specs.machine.Table.{accepted_by};
+    ghost use Rattle.md_pred.specs.machine.Weights.{asked_of};
 
     /// The table of the predicates that some forms define. Of a name the first definition counts,
     /// and one that is set aside accepts nothing. For the forms of a description the definitions
-    /// tell what predicates accept.
+    /// tell what predicates accept. Its questions stand behind those that they ask, each with how
+    /// many are asked for it.
     pub fn of(alloc: Global, forms: &Forms) -> Result<PredTable, Memory>
         ensures accepts { IfOk result (λ table. accepted_by table ≡ holds forms.now) }
         ensures told { (drafts : List DraftEntry) → forms.now ≡ forms_in drafts →
             IsTold forms.now (holds forms.now) }
+        ensures ordered { IfOk result (λ table. IsOrder (asked_of table.definitions) table.order) }
+        ensures weighed { IfOk result (λ table.
+            AreWeights (asked_of table.definitions) table.order table.weights) }
     {
         let definitions = Definitions::of(alloc, forms.as_slice())?;
         let rounds = forms.len() + 1;

@@ -1,10 +1,10 @@
 -- What is kept of so many plans is the best of them.
-use Rattle.std.proofs.Common.{◌≡◌, ◌↔◌, ◌⊎◌, ⊎_elim, inl, inr, ℕ, zero, suc, ◌+◌, ◌<◌, ◌≤◌, Bool, true, false, nat_lt, Option, Some, None, refl, sym, ap, subst, ◌∙◌, arith}
+use Rattle.std.proofs.Common.{◌≡◌, ◌↔◌, ◌⊎◌, ⊎_elim, inl, inr, ℕ, zero, suc, ◌+◌, ◌-◌, ◌<◌, ◌≤◌, Bool, true, false, nat_lt, Option, Some, None, refl, sym, ap, subst, ◌∙◌, arith}
 use Rattle.std.specs.Prelude.{if◌then◌else◌}
-use Rattle.std.proofs.lemmas.Bool.{cases_lt, ltb-true, ltb-false}
+use Rattle.std.proofs.lemmas.Bool.{cases_lt, eqb-true, le-ltb, ltb-true, ltb-false}
 use Rattle.reload_choice.specs.declared.given.Plan.{Plan}
 use Rattle.reload_choice.specs.Choice.{IsBest, IsUnreachable}
-use Rattle.reload_choice.specs.machine.Least.{better, best_upto}
+use Rattle.reload_choice.specs.machine.Least.{better, best_upto, is_free}
 
 none_some : (p : Plan) (o : Option Plan) → o ≡ None → o ≡ Some p → ⊥
 none_some p o none some = let never : None ≡ Some p = sym none ∙ some in let e : ⊥ = cc in e
@@ -121,6 +121,27 @@ module _ (plans : ℕ → Option Plan) where
         kept = one ∙ (ap (λ (o : Option Plan). better o p) keeps.kept ∙ (ap (better (best_upto plans n)) here ∙ ap (best_upto plans) (sym e)));
         within = omega (arith, is, below);
       }
+
+  -- Nothing costs less than what is free, and of several such the first is kept.
+  free_wins : (best p : Option Plan) → is_free best ≡ true → better best p ≡ best
+  free_wins None p free = absurd (let never : ⊥ = cc in never)
+  free_wins (Some best) None free = refl
+  free_wins (Some best) (Some p) free =
+      let none : best.cost ≡ 0 = eqb-true best.cost 0 free in
+      ap (λ (b : Bool). if b then Some p else Some best) (le-ltb p.cost best.cost (omega (arith, none)))
+
+  free_stays : (n k count : ℕ) → count ≡ k + n → is_free (best_upto plans n) ≡ true → best_upto plans n ≡ best_upto plans count
+  free_stays n zero count is free = ap (best_upto plans) (let e : n ≡ count = omega (arith, is) in e)
+  free_stays n (suc k) count is free =
+      let same : best_upto plans n ≡ best_upto plans (k + n) = free_stays n k (k + n) refl free in
+      let e : suc (k + n) ≡ count = omega (arith, is) in
+      same ∙ (sym (free_wins (best_upto plans (k + n)) (plans (k + n)) (ap is_free (sym same) ∙ free)) ∙ ap (best_upto plans) e)
+
+  -- what is free is the best of all
+  pub keeps_free : (count n : ℕ) (best p new : Option Plan) → Keeps count n best → n < count → p ≡ plans n → new ≡ better best p → is_free new ≡ true → new ≡ best_upto plans count
+  keeps_free count n best p new keeps below here one free =
+      let next = keeps_next count n (suc n) best p new keeps below (omega arith) here one in
+      next.kept ∙ free_stays (suc n) (count - suc n) count (omega (arith, below)) (ap is_free (sym next.kept) ∙ free)
 
   pub keeps_first : (count : ℕ) → Keeps count 0 None
   keeps_first count = record { kept = refl; within = omega arith }

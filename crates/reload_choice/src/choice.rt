@@ -93,7 +93,8 @@ impl Choice<'_> {
         }
     }
 
-    /// The best plan. More alternatives than have a number are wanted as memory is.
+    /// The best plan. Behind one that costs nothing none is looked for. More alternatives than have
+    /// a number are wanted as memory is.
     #[tactic(auto, using(crate::proofs::LeastLaws::keeps_first, crate::proofs::LeastLaws::keeps_whole))]
     fn best(&self) -> Result<Option<Plan>, Memory>
         ensures { IfOk result (λ plan.
@@ -106,6 +107,9 @@ impl Choice<'_> {
         'alternatives: while self.desc.has_alternative(self.form, alternative) {
             let plan = self.plan_at(alternative)?;
             best = better(best, plan);
+            if is_free(&best) {
+                return Ok(best);
+            }
             let Some(next) = alternative.checked_add(1) else {
                 return Err(Memory);
             };
@@ -125,6 +129,16 @@ fn better(best: Option<Plan>, plan: Option<Plan>) -> Option<Plan>
             None => Some(best),
             Some(plan) => Some(if plan.cost < best.cost { plan } else { best }),
         },
+    }
+}
+
+/// Whether a plan costs nothing, so that no later one is taken in its place.
+fn is_free(best: &Option<Plan>) -> bool
+    ensures { result ≡ least.is_free best.now }
+{
+    match best {
+        Some(plan) => plan.cost == 0,
+        None => false,
     }
 }
 

@@ -30,7 +30,8 @@ use Rattle.c_words.specs.declared.head.CondHead.TheVariants as head
 use Rattle.c_words.specs.declared.keyword.Keyword.TheVariants as keyword
 use Rattle.c_words.proofs.Codes.{none_that}
 use Rattle.c_words.proofs.Listed.{Known, both, known_code, known_constant, known_keyword, known_mode, known_target, or_first, or_second, same_bytes}
-use Rattle.c_words.specs.Words.{call_name, keyword_name, all_keywords, keyword_named, mode_named, small, is_small, code_in_capitals, is_target, constant_named}
+use Rattle.c_words.specs.Words.{call_name, keyword_name, all_keywords, keyword_named, mode_named, small, is_small, code_in_capitals, is_target}
+use Rattle.name_places.specs.Names.{constant_named}
 use Rattle.c_words.specs.Atoms.{atom_of, atom_of_name, is_own_predicate, predicate_or_nothing, target_number}
 use Rattle.c_words.specs.text_words.Numbers.{c_number_in}
 use Rattle.c_words.specs.Tokens.{in_word, is_no_word, operator_with_equals, operator_of_two, token_of_byte, number_or_bad, token_of_run}

@@ -30,7 +30,8 @@ use Rattle.std.specs.Prelude.{ℤ, option_map}
 use Rattle.c_words.specs.declared.atom.Atom.{Atom}
 use Rattle.c_words.specs.declared.atom.Atom.TheVariants as atom
 use Rattle.c_words.specs.declared.atom.Property.TheVariants as property
-use Rattle.c_words.specs.Words.{code_in_capitals, constant_named, is_target}
+use Rattle.name_places.specs.Names.{constant_named}
+use Rattle.c_words.specs.Words.{code_in_capitals, is_target}
 use Rattle.c_words.specs.Atoms.{is_question, atom_of, atom_by, atom_of_keyword, atom_of_name, or_constant, is_own_predicate, predicate_or_nothing, target_number}
 use Rattle.c_cond.specs.Grammar as grammar
 use Rattle.c_cond.specs.Grammar.{Sort, One, Parts, Statement, Statements, Condition, signature_of, predicate_parts, comparison_with}

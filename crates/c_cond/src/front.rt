@@ -15,8 +15,9 @@ use c_words::{
     Dialect, Lexer, Pending, Token, in_word, known_words, operator_of_two, token_of_byte,
     token_of_run,
 };
+use name_places::Constants;
 use plain_data::{Items, Memory};
-use rtx_tree::{Constant, Name};
+use rtx_tree::Name;
 use std::alloc::Global;
 use std::mem;
 
@@ -53,7 +54,7 @@ fn goes_on_as(run: &[u8], word: &[u8]) -> bool
 fn run_taken(
     alloc: Global,
     dialect: Dialect,
-    constants: &[Constant],
+    constants: &Constants,
     goals: &Goals,
     run: &[u8],
 ) -> Result<bool, Memory>
@@ -68,7 +69,7 @@ fn run_taken(
 fn word_taken(
     alloc: Global,
     dialect: Dialect,
-    constants: &[Constant],
+    constants: &Constants,
     words: &[Name],
     goals: &Goals,
     run: &[u8],
@@ -98,7 +99,7 @@ fn with_zero(alloc: Global, run: &[u8]) -> Result<Vec<u8>, Memory>
 fn run_goes_on(
     alloc: Global,
     dialect: Dialect,
-    constants: &[Constant],
+    constants: &Constants,
     words: &[Name],
     goals: &Goals,
     run: &[u8],
@@ -120,7 +121,7 @@ fn run_goes_on(
 fn operator_taken(
     alloc: Global,
     dialect: Dialect,
-    constants: &[Constant],
+    constants: &Constants,
     goals: &Goals,
     first: u8,
 ) -> Result<bool, Memory>
@@ -141,7 +142,7 @@ fn operator_taken(
 fn byte_goes_on(
     alloc: Global,
     dialect: Dialect,
-    constants: &[Constant],
+    constants: &Constants,
     goals: &Goals,
     first: u8,
 ) -> Result<bool, Memory>
@@ -158,7 +159,7 @@ fn byte_goes_on(
 fn goes_on(
     alloc: Global,
     dialect: Dialect,
-    constants: &[Constant],
+    constants: &Constants,
     words: &[Name],
     goals: &Goals,
     pending: &Pending,
@@ -177,7 +178,7 @@ fn goes_on(
 fn take_all(
     alloc: Global,
     dialect: Dialect,
-    constants: &[Constant],
+    constants: &Constants,
     parser: &mut Parser,
     tokens: &[Token],
 ) -> Result<(), StepError>
@@ -193,7 +194,7 @@ fn take_all(
 fn read(
     alloc: Global,
     dialect: Dialect,
-    constants: &[Constant],
+    constants: &Constants,
     words: &[Name],
     parser: &mut Parser,
     lexer: &mut Lexer,
@@ -224,7 +225,7 @@ fn read(
 fn reach_from(
     alloc: Global,
     dialect: Dialect,
-    constants: &[Constant],
+    constants: &Constants,
     words: &[Name],
     mut parser: Parser,
     text: &[u8],
@@ -255,7 +256,7 @@ fn reach_from(
 pub fn reach(
     alloc: Global,
     dialect: Dialect,
-    constants: &[Constant],
+    constants: &Constants,
     goal: Goal,
     text: &[u8],
 ) -> Result<usize, Memory>

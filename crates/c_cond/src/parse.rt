@@ -18,8 +18,8 @@ use crate::front::reach;
 use crate::goal::Goal;
 use crate::parser::{Parser, StepError};
 use c_words::{Binary, CondHead, Dialect, Token, tokens_in};
+use name_places::Constants;
 use plain_data::{Items, Memory};
-use rtx_tree::{Constant, Constants};
 use std::alloc::Global;
 use std::marker::Model;
 use thiserror::Error;
@@ -137,7 +137,7 @@ pub enum CondRefusal {
 fn parse_tokens(
     alloc: Global,
     dialect: Dialect,
-    constants: &[Constant],
+    constants: &Constants,
     goal: Goal,
     tokens: &[Token],
 ) -> Result<Items<CondHead>, StepError>
@@ -163,13 +163,7 @@ fn parse(
         (tokens_in text.now)) }
 {
     let tokens = tokens_in(alloc, text)?;
-    parse_tokens(
-        alloc,
-        dialect,
-        constants.as_slice(),
-        goal,
-        tokens.as_slice(),
-    )
+    parse_tokens(alloc, dialect, constants, goal, tokens.as_slice())
 }
 
 /// Why a text is refused that has no tree.
@@ -183,7 +177,7 @@ fn outside(
     ensures { Refuses result (front.reach dialect constants.now (known_words constants.now)
         (spec.at [] (goal ∷ [])) Pending.Nothing text.now) }
 {
-    match reach(alloc, dialect, constants.as_slice(), goal, text) {
+    match reach(alloc, dialect, constants, goal, text) {
         Ok(count) => CondRefusal::Outside {
             offset: count as u64,
         },

@@ -5,8 +5,8 @@ ghost use Rattle.c_cond.specs.machine.Steps.{Steps, Gives};
 
 use crate::goal::{Goal, Goals};
 use c_words::{CondHead, Dialect, Token};
+use name_places::Constants;
 use plain_data::{Items, Memory};
-use rtx_tree::Constant;
 use std::alloc::Global;
 
 /// Why a token was not read.
@@ -72,7 +72,7 @@ impl Parser {
         &mut self,
         alloc: Global,
         dialect: Dialect,
-        constants: &[Constant],
+        constants: &Constants,
         token: &Token,
     ) -> Result<(), StepError>
         ensures { Steps result self.new

@@ -16,8 +16,9 @@ use c_words::{
     Atom, Binary, Call, CondHead, Dialect, Keyword, Property, Token, Unary, atom_of,
     code_in_capitals, mode_named,
 };
+use name_places::Constants;
 use plain_data::Memory;
-use rtx_tree::{Constant, Mode, Name};
+use rtx_tree::{Mode, Name};
 use std::alloc::Global;
 
 /// The level of unary operators, which bind more tightly than all others.
@@ -116,7 +117,7 @@ impl Goals {
         &mut self,
         alloc: Global,
         dialect: Dialect,
-        constants: &[Constant],
+        constants: &Constants,
         from: u8,
         token: &Token,
     ) -> Result<bool, Memory>
@@ -148,7 +149,7 @@ impl Goals {
         &mut self,
         alloc: Global,
         dialect: Dialect,
-        constants: &[Constant],
+        constants: &Constants,
         from: u8,
         token: &Token,
     ) -> Result<bool, Memory>
@@ -317,7 +318,7 @@ impl Goals {
         &mut self,
         alloc: Global,
         dialect: Dialect,
-        constants: &[Constant],
+        constants: &Constants,
         part: Part,
         token: &Token,
     ) -> Result<bool, Memory>
@@ -540,7 +541,7 @@ impl Goals {
         &mut self,
         alloc: Global,
         dialect: Dialect,
-        constants: &[Constant],
+        constants: &Constants,
         goal: &Goal,
         token: &Token,
     ) -> Result<bool, Memory>
@@ -568,7 +569,7 @@ impl Goals {
 fn takes(
     alloc: Global,
     dialect: Dialect,
-    constants: &[Constant],
+    constants: &Constants,
     goal: &Goal,
     token: &Token,
 ) -> Result<bool, Memory>
@@ -584,7 +585,7 @@ impl Goals {
         &self,
         alloc: Global,
         dialect: Dialect,
-        constants: &[Constant],
+        constants: &Constants,
         token: &Token,
     ) -> Result<bool, Memory>
         ensures { IfOk result (λ taken. taken ≡ is_taken dialect constants.now token.now self.now) }

@@ -1,5 +1,5 @@
 -- A word that is taken as a keyword, a mode, a code or a constant is one of the known words.
-use Rattle.std.proofs.Common.{◌≡◌, ℕ, ℤ, ◌+◌, ◌-◌, ◌≤◌, nat_le, Bool, true, false, cond, List, [], ◌∷◌, ◌++◌, Option, Some, None, refl, sym, ap, ◌∙◌, ◌||◌, ◌&&◌, map, not, find, arith}
+use Rattle.std.proofs.Common.{◌≡◌, ℕ, ℤ, ◌+◌, ◌-◌, ◌≤◌, nat_le, Bool, true, false, cond, List, [], ◌∷◌, ◌++◌, Option, Some, None, refl, sym, ap, ◌∙◌, ◌||◌, ◌&&◌, map, not, find, option_map, arith}
 use Rattle.std.specs.Prelude.{codes}
 use Rattle.std.specs.Str.{bytes_eq}
 use Rattle.std.specs.List.{list_any, list_all}
@@ -13,7 +13,8 @@ use Rattle.rtx_tree.specs.declared.code.Mode.TheVariants as mode
 use Rattle.rtx_tree.specs.declared.constants.Constant.{Constant}
 use Rattle.rtx_tree.specs.Code.{code_name, all_codes, code_named, code_in}
 use Rattle.c_words.specs.declared.keyword.Keyword.{Keyword}
-use Rattle.c_words.specs.Words.{keyword_name, all_keywords, keyword_named, mode_named, is_capital, is_small, small, code_in_capitals, constant_named}
+use Rattle.c_words.specs.Words.{keyword_name, all_keywords, keyword_named, mode_named, is_capital, is_small, small, code_in_capitals}
+use Rattle.name_places.specs.Names.{constant_named}
 use Rattle.c_words.specs.machine.Known.{first_words, capital, code_word, known_words}
 
 some_is : {A : Type 0} {x y : A} → Some x ≡ Some y → x ≡ y
@@ -181,7 +182,7 @@ constant_listed : (cs : List Constant) (q : List ℕ → Bool) (word : List ℕ)
 constant_listed [] q word n e h = absurd (none_some e)
 constant_listed (c ∷ cs) q word n e h = by_test (bytes_eq c.name word) refl e (λ e. constant_listed cs q word n e h)
   where
-    by_test : (t : Bool) → bytes_eq c.name word ≡ t → cond t (Some c.number) (constant_named cs word) ≡ Some n → (constant_named cs word ≡ Some n → list_any q (names cs) ≡ true) → list_any q (names (c ∷ cs)) ≡ true
+    by_test : (t : Bool) → bytes_eq c.name word ≡ t → option_map (λ c. c.number) (cond t (Some c) (find (λ c. bytes_eq c.name word) cs)) ≡ Some n → (constant_named cs word ≡ Some n → list_any q (names cs) ≡ true) → list_any q (names (c ∷ cs)) ≡ true
     by_test true f e ih = or_first (q c.name) (list_any q (names cs)) (ap q (same_bytes c.name word f) ∙ h)
     by_test false f e ih = or_second (q c.name) (list_any q (names cs)) (ih e)
 

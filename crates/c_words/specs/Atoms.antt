@@ -6,6 +6,7 @@ use Rattle.rtx_tree.specs.declared.code.Code.{Code}
 use Rattle.rtx_tree.specs.declared.code.Mode.{Mode}
 use Rattle.rtx_tree.specs.declared.constants.Constant.{Constant}
 use Rattle.md_operand.specs.Operand.{own_named}
+use Rattle.name_places.specs.Names.{constant_named}
 use Rattle.c_words.specs.declared.head.Call.{Call}
 use Rattle.c_words.specs.declared.head.Call.TheVariants as call
 use Rattle.c_words.specs.declared.head.CondHead.TheVariants as head
@@ -16,7 +17,7 @@ use Rattle.c_words.specs.declared.atom.Atom.TheVariants as atom
 use Rattle.c_words.specs.declared.atom.Dialect.{Dialect}
 use Rattle.c_words.specs.declared.atom.Dialect.TheVariants as dialect
 use Rattle.c_words.specs.declared.atom.Property.TheVariants as property
-use Rattle.c_words.specs.Words.{keyword_named, mode_named, code_in_capitals, is_target, target_holds, constant_named}
+use Rattle.c_words.specs.Words.{keyword_named, mode_named, code_in_capitals, is_target, target_holds}
 
 -- the calls that have a number as their value; the others make operands or instructions
 abbrev pub is_question : Call → Bool

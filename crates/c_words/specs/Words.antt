@@ -1,13 +1,12 @@
 -- What a word means in a condition or in statements: GCC Internals, "Defining RTL Patterns" (the
 -- condition of define_insn), "Defining Machine-Specific Predicates" and "Defining RTL Sequences".
 -- Which words there are is the profile of this project.
-use Rattle.std.specs.Prelude.{ℕ, ℤ, List, [], ◌∷◌, Bool, Option, Some, None, if◌then◌else◌, codes, take, find, map, nat_le, ◌+◌, ◌&&◌, ◌||◌, not}
+use Rattle.std.specs.Prelude.{ℕ, List, [], ◌∷◌, Bool, Option, Some, None, if◌then◌else◌, codes, take, find, map, nat_le, ◌+◌, ◌&&◌, ◌||◌, not}
 use Rattle.std.specs.Str.{bytes_eq}
 use Rattle.std.specs.List.{list_all}
 use Rattle.rtx_tree.specs.declared.code.Code.{Code}
 use Rattle.rtx_tree.specs.declared.code.Mode.{Mode}
 use Rattle.rtx_tree.specs.declared.code.Mode.TheVariants as mode
-use Rattle.rtx_tree.specs.declared.constants.Constant.{Constant}
 use Rattle.rtx_tree.specs.Code.{code_in}
 use Rattle.c_words.specs.declared.head.Call.{Call}
 use Rattle.c_words.specs.declared.head.Call.TheVariants as call
@@ -92,9 +91,3 @@ abbrev pub target_holds : List ℕ → Bool
 target_holds word =
     bytes_eq word (codes "TARGET_64BIT") ||
     (bytes_eq word (codes "TARGET_MUL") || bytes_eq word (codes "TARGET_DIV"))
-
--- the number of the first constant with this name
-abbrev pub constant_named : List Constant → List ℕ → Option ℤ
-constant_named [] word = None
-constant_named (c ∷ cs) word =
-    if bytes_eq c.name word then Some c.number else constant_named cs word

@@ -1,14 +1,15 @@
 //! What a word means where an expression may begin.
 ghost use Rattle.std.specs.Prelude.{◌≡◌, IfOk, ℕ, List, OnOk};
-ghost use Rattle.c_words.specs.Words as words;
+ghost use Rattle.name_places.specs.Names.{constant_named};
 ghost use Rattle.c_words.specs.Atoms as spec;
 
 use crate::head::{Call, CondHead};
 use crate::keyword::Keyword;
-use crate::word::{code_in_capitals, constant_named, is_target, mode_named, target_holds};
+use crate::word::{code_in_capitals, is_target, mode_named, target_holds};
 use md_operand::Own;
+use name_places::{Constants, constant_named};
 use plain_data::Memory;
-use rtx_tree::{Code, Constant, Mode};
+use rtx_tree::{Code, Mode};
 use std::alloc::Global;
 
 /// What the text belongs to.
@@ -106,11 +107,11 @@ fn is_own_predicate(dialect: Dialect, word: &[u8]) -> bool
 fn atom_of_name(
     alloc: Global,
     dialect: Dialect,
-    constants: &[Constant],
+    constants: &Constants,
     word: &[u8],
 ) -> Result<Atom, Memory>
     ensures { IfOk result (λ atom.
-        atom ≡ spec.atom_of_name dialect word.now (words.constant_named constants.now word.now)) }
+        atom ≡ spec.atom_of_name dialect word.now (constant_named constants.now word.now)) }
 {
     match constant_named(constants, word) {
         Some(_) if is_own_predicate(dialect, word) => Ok(Atom::Predicate),
@@ -137,7 +138,7 @@ fn or_constant(number: Option<i64>, meaning: Atom) -> Atom
 pub fn atom_of(
     alloc: Global,
     dialect: Dialect,
-    constants: &[Constant],
+    constants: &Constants,
     word: &[u8],
 ) -> Result<Atom, Memory>
     ensures { IfOk result (λ atom. atom ≡ spec.atom_of dialect constants.now word.now) }

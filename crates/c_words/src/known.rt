@@ -6,8 +6,9 @@ ghost use Rattle.c_words.specs.machine.Known as spec;
 
 use crate::keyword::{Keyword, all_keywords};
 use crate::word::is_small;
+use name_places::Constants;
 use plain_data::{Items, Memory};
-use rtx_tree::{Code, Constant, Name};
+use rtx_tree::{Code, Name};
 use std::alloc::Global;
 
 fn capital(byte: u8) -> u8
@@ -61,12 +62,12 @@ fn push_codes(alloc: Global, words: &mut Items<Name>) -> Result<(), Memory>
 
 fn push_constants(
     alloc: Global,
-    constants: &[Constant],
+    constants: &Constants,
     words: &mut Items<Name>,
 ) -> Result<(), Memory>
     ensures { OnOk result (words.new ≡ words.old ++ map (λ c. c.name) constants.now) }
 {
-    for constant in constants {
+    for constant in constants.as_slice() {
         words.push(constant.name.copy(alloc)?)?;
     }
     Ok(())
@@ -74,7 +75,7 @@ fn push_constants(
 
 /// The words that are known before a text is read: what begins the names of facts of the target,
 /// the modes, the keywords, the codes, and the names of constants.
-pub fn known_words(alloc: Global, constants: &[Constant]) -> Result<Items<Name>, Memory>
+pub fn known_words(alloc: Global, constants: &Constants) -> Result<Items<Name>, Memory>
     ensures { IfOk result (λ words. words ≡ spec.known_words constants.now) }
 {
     let mut words = first_words(alloc)?;

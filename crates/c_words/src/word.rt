@@ -4,7 +4,7 @@ ghost use Rattle.std.specs.List.{list_all};
 ghost use Rattle.c_words.specs.Words as spec;
 
 use plain_data::Memory;
-use rtx_tree::{Code, Constant, Mode};
+use rtx_tree::{Code, Mode};
 use std::alloc::Global;
 
 /// The mode that a word is in C, or `None` where it is none.
@@ -40,18 +40,6 @@ pub fn target_holds(word: &[u8]) -> bool
 {
     word == "TARGET_64BIT".as_bytes()
         || (word == "TARGET_MUL".as_bytes() || word == "TARGET_DIV".as_bytes())
-}
-
-/// The number of the first constant with this name.
-pub fn constant_named(constants: &[Constant], word: &[u8]) -> Option<i64>
-    ensures { result ≡ spec.constant_named constants.now word.now }
-{
-    for constant in constants {
-        if constant.name.bytes() == word {
-            return Some(constant.number);
-        }
-    }
-    None
 }
 
 /// Whether a byte is a small letter.

@@ -1,7 +1,8 @@
 //! What descriptions are expanded to.
 use case_text::Told;
 use md_iter::{Expanded, IterRefusal, expand_forms};
-use rtx_tree::{Constants, Name};
+use name_places::Constants;
+use rtx_tree::Name;
 use std::alloc::Global;
 use text_cases::{show_tree, trees_in};
 

@@ -35,7 +35,7 @@ pub fn tell_tokens(alloc: Global, text: &[u8], told: &mut Told) {
 /// names.
 pub fn tell_word(alloc: Global, given: &[u8], word: &[u8], told: &mut Told) {
     if let Some(list) = constants_in(alloc, given)
-        && let Ok(atom) = atom_of(alloc, Dialect::Condition, list.as_slice(), word)
+        && let Ok(atom) = atom_of(alloc, Dialect::Condition, &list, word)
         && let Ok(code) = code_in_capitals(alloc, word)
     {
         told.debug(&atom);
@@ -51,7 +51,7 @@ pub fn tell_word(alloc: Global, given: &[u8], word: &[u8], told: &mut Told) {
 /// Appends how many words are known.
 pub fn tell_known(alloc: Global, given: &[u8], told: &mut Told) {
     if let Some(list) = constants_in(alloc, given)
-        && let Ok(words) = known_words(alloc, list.as_slice())
+        && let Ok(words) = known_words(alloc, &list)
     {
         told.show(words.len());
     } else {

@@ -20,8 +20,8 @@ use Rattle.new_insns.specs.Made.{kind_of, uses_between, insn_for}
 use Rattle.split.specs.insn_replace.Replace.{made, ReplacedComes}
 use Rattle.split.proofs.law_insn_replaced.Marks.{no_mark}
 use Rattle.law_output.proofs.law_pass_needs.Places.{all_at, at_place}
-use Rattle.split.specs.declared.stage.SplitStage.{SplitStage}
-use Rattle.split.specs.declared.stage.SplitStage.TheVariants.{AfterReload}
+use Rattle.pass_name.specs.declared.pass.Pass.{Pass}
+use Rattle.pass_name.specs.declared.pass.Pass.TheVariants.{Split2}
 use Rattle.split.specs.Left.{StandsIn}
 use Rattle.split.specs.Split.{SplitComes}
 use Rattle.split.proofs.Insns.{In, made_for, replaced_shaped}
@@ -60,7 +60,7 @@ new_placed old uid x is none shaped =
 abbrev EachPlaced : Function → Type 0
 EachPlaced f = (i : Insn) → StandsIn f i → IsInsnPlaced i
 
-module _ (forms : List Entry) (stage : SplitStage) where
+module _ (forms : List Entry) (pass : Pass) where
   made_placed : (f g : Function) (place : ℕ) (i : Insn) (rule : List ℕ) (sequence : List Rtx) (j : Insn) → IsInsnPlaced i →
       ReplacedComes f place i rule sequence (Ok g) → In (made f i sequence) j → IsInsnPlaced j
   made_placed f g place i rule sequence j is comes here =
@@ -71,21 +71,21 @@ module _ (forms : List Entry) (stage : SplitStage) where
       subst IsInsnPlaced (sym for.is)
       (new_placed i for.uid for.pattern is (sym (ap (λ (k : Insn). is_mark k.kind) for.is) ∙ none) (sym (ap is_shaped for.is) ∙ shaped))
 
-  placed_step : IsKept forms stage EachPlaced
+  placed_step : IsKept forms pass EachPlaced
   placed_step f g place i form sequence at is comes each j here = ⊎_elim
       (λ (old : StandsIn f j). each j old)
       (λ (new : In (made f i sequence) j).
       made_placed f g place i (name_at (names_of forms) form) sequence j (each i (place, at)) comes new)
-      (parts_of forms stage f g place i (name_at (names_of forms) form) sequence j comes here)
+      (parts_of forms pass f g place i (name_at (names_of forms) form) sequence j comes here)
 
-  each_kept : (f g : Function) → EachPlaced f → SplitComes forms stage f (Ok g) → EachPlaced g
-  each_kept f g each comes = kept forms stage EachPlaced placed_step f g comes each
+  each_kept : (f g : Function) → EachPlaced f → SplitComes forms pass f (Ok g) → EachPlaced g
+  each_kept f g each comes = kept forms pass EachPlaced placed_step f g comes each
 
-  -- at each stage
-  pub stage_placed : (f g : Function) → ArePlaced f → SplitComes forms stage f (Ok g) → ArePlaced g
-  stage_placed f g placed comes =
+  -- at each pass
+  pub pass_placed : (f g : Function) → ArePlaced f → SplitComes forms pass f (Ok g) → ArePlaced g
+  pass_placed f g placed comes =
       let each = each_kept f g (λ i here. at_place IsInsnPlaced f.insns placed here.0 i here.1) comes in
       all_at IsInsnPlaced g.insns (λ place i at. each i (place, at))
 
-pub split_placed : (forms : List Entry) (f g : Function) → ArePlaced f → SplitComes forms AfterReload f (Ok g) → ArePlaced g
-split_placed forms f g placed comes = stage_placed forms AfterReload f g placed comes
+pub split_placed : (forms : List Entry) (f g : Function) → ArePlaced f → SplitComes forms Split2 f (Ok g) → ArePlaced g
+split_placed forms f g placed comes = pass_placed forms Split2 f g placed comes

@@ -16,7 +16,7 @@ use Rattle.md_forms.specs.md_tables.declared.tables.PredicateDraft.{PredicateDra
 use Rattle.md_forms.specs.md_tables.declared.tables.Tables.{Tables}
 use Rattle.md_forms.specs.md_tables.Tables.{defines_predicate, predicate_draft, predicate_of}
 use Rattle.md_forms.specs.Forms.{draft_entry, finished}
-use Rattle.md_forms.proofs.md_tables.TextKeys.{same_text}
+use Rattle.name_places.proofs.TextKeys.{same_text}
 use Rattle.md_pred.specs.Holds as holds
 use Rattle.md_pred.proofs.Firsts.{named}
 use Rattle.law_predicates.specs.Accepted.{defines}

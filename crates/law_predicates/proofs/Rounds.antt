@@ -9,7 +9,7 @@ use Rattle.std.proofs.lemmas.Bool.{and_parts}
 use Rattle.std.proofs.lemmas.Option.{slice_get-map}
 use Rattle.md_forms.specs.md_tables.declared.tables.PredicateDraft.{PredicateDraft}
 use Rattle.md_forms.specs.md_tables.Predicates.{is_own, is_accepted, is_known, is_sound, accepted_within}
-use Rattle.md_forms.proofs.md_tables.FirstNames.{find_at_place, find_nowhere}
+use Rattle.name_places.proofs.FirstNames.{find_at_place, find_nowhere}
 use Rattle.md_pred.proofs.Firsts.{named, Passes, accepted_passes}
 
 not_both : {A : Type 0} (b : Bool) → b ≡ false → b ≡ true → A

@@ -87,6 +87,7 @@ IsPlaceOf k q = ((role_of (head_of q).code ≡ Operand) × ((head_of q).number �
 pub place_of_taken : (c : Code) (k : ℕ) (q : Rtx) → (head_of q).code ≡ c → has_number k (taken_here c (head_of q).number) ≡ true → (head_of q).number ≡ pos k → IsPlaceOf k q
 place_of_taken code.MatchOperand k q is has same = inl (ap role_of is, same)
 place_of_taken code.MatchDup k q is has same = inl (ap role_of is, same)
+place_of_taken code.MatchScratch k q is has same = inl (ap role_of is, same)
 place_of_taken code.MatchOperator k q is has same = inr (ap (λ c. is_operator_as c && int_eq (head_of q).number (pos k)) is ∙ (Decides-int_eq (head_of q).number (pos k)).1 same)
 place_of_taken _ k q is has same = absurd (let no : ⊥ = cc in no)
 
@@ -124,6 +125,8 @@ module _ (homes : List HomeOf) (layout : Layout) (found : Ops) where
   taken_itself code.MatchOperand p w k is made asked has =
       let o = sym (made_operand p found (ap role_of is)) ∙ made in (o, there_number (head_of p).number k w o has)
   taken_itself code.MatchDup p w k is made asked has =
+      let o = sym (made_operand p found (ap role_of is)) ∙ made in (o, there_number (head_of p).number k w o has)
+  taken_itself code.MatchScratch p w k is made asked has =
       let o = sym (made_operand p found (ap role_of is)) ∙ made in (o, there_number (head_of p).number k w o has)
   taken_itself code.MatchOperator p w k is made asked has =
       let list : placeholders p ≡ p ∷ flat_map placeholders (kids_of p) =
@@ -181,6 +184,7 @@ module _ (homes : List HomeOf) (layout : Layout) (found : Ops) where
       itself_none : (c : Code) (n : ℤ) → role_of c ≡ Itself → has_number k (taken_here c n) ≡ true → ⊥
       itself_none code.MatchOperand n is has = let no : ⊥ = cc in no
       itself_none code.MatchDup n is has = let no : ⊥ = cc in no
+      itself_none code.MatchScratch n is has = let no : ⊥ = cc in no
       itself_none code.MatchOperator n is has = let no : ⊥ = cc in no
       itself_none _ n is has = let no : ⊥ = cc in no
 

@@ -62,3 +62,10 @@ after_is f rows place a b one two exact places is_one is_two reg = (there, back)
 
     back : IsLiveAfter f reg place → two reg ≡ true
     back live = both ∙ from_rows a b rows reg live.0 (subst (λ places. has_place places live.0 ≡ true) (sym places) live.1) (exact.complete live.0 reg live.2)
+
+-- the same of one register
+pub after_at : (f : Function) (rows : List (List ℕ)) (place reg : ℕ) (a b : Option ℕ) (held : Bool) → AreLiveRows f rows → option_to_list a ++ option_to_list b ≡ successors_of f.insns place →
+    held ≡ (at_place a rows reg || at_place b rows reg) → (held ≡ true) ↔ IsLiveAfter f reg place
+after_at f rows place reg a b held exact places is_held =
+    let all = after_is f rows place a b (at_place a rows) (λ reg. at_place a rows reg || at_place b rows reg) exact places (λ reg. refl) (λ reg. refl) reg in
+    ((λ told. all.0 (sym is_held ∙ told)), (λ live. is_held ∙ all.1 live))

@@ -1,16 +1,16 @@
 -- Where one window is in the place of another, what is live outside stays live, and what is live inside is asked for there or is live
 -- behind.
-use Rattle.std.proofs.Common.{◌≡◌, ℕ, zero, suc, ◌+◌, true, false, ◌||◌, ◌&&◌, not, List, [], ◌∷◌, ◌++◌, length, drop, Some, inl, inr, ◌⊎◌, refl, sym, ap, subst, ◌∙◌, arith, eqb, length-append}
+use Rattle.std.proofs.Common.{◌≡◌, ℕ, zero, suc, ◌+◌, true, false, ◌||◌, ◌&&◌, not, List, [], ◌∷◌, ◌++◌, length, drop, Option, Some, None, inl, inr, ◌⊎◌, refl, sym, ap, subst, ◌∙◌, arith, eqb, length-append}
 use Rattle.std.specs.Prelude.{slice_get}
 use Rattle.std.proofs.lemmas.Bool.{cases_lt, or_cases, or_left, or_right, false≢true, or_from, and_from, eqb-true}
 use Rattle.std.proofs.lemmas.Option.{same_Some, slice_get_within}
 use Rattle.rtx_tree.specs.declared.function.Insn.{Insn}
 use Rattle.rtx_tree.specs.declared.function.Function.{Function}
 use Rattle.rtl_func.specs.declared.flow.Flow.TheVariants.{Falls}
-use Rattle.rtl_func.specs.Successors.{flow_of}
+use Rattle.rtl_func.specs.Successors.{flow_of, successors_by}
 use Rattle.rtl_func.specs.Paths.{has_place, leads}
 use Rattle.reg_uses.specs.Uses.{insn_uses, insn_defines, is_return, return_uses}
-use Rattle.live.specs.Live.{IsLive, AtEnd, AtUse, Passing, uses_in}
+use Rattle.live.specs.Live.{IsLive, IsLiveAfter, AtEnd, AtUse, Passing, uses_in}
 use Rattle.live_chain.specs.machine.Window.{asks_for, defines_in, flow_behind, leads_last}
 use Rattle.live_chain.proofs.MoveLaws.{IsMoved, ahead, behind, get_moved, get_inside}
 use Rattle.live_chain.proofs.FlowLaws.{flows_to, flows_at, flow_moved, falls_first, leads_rest, inner_first, returns_not, has_first}
@@ -193,6 +193,17 @@ module _ (f g : Function) (front old new back : List Insn) (reg : ℕ)
     leads_of : (p q : ℕ) (i : Insn) → slice_get f.insns p ≡ Some i → leads f.insns p q ≡ true → has_place (flows_to (front ++ (old ++ back)) (p + 1) (flow_of i)) q ≡ true
     leads_of p q i at h = subst (λ l. has_place (flows_to l (p + 1) (flow_of i)) q ≡ true) f_is (subst (λ places. has_place places q ≡ true) (flows_at f.insns p i at) h)
 
+    -- what is live where a place leads is so where it leads from where it moved
+    after : (p r q : ℕ) (i : Insn) → Moved p r → slice_get f.insns p ≡ Some i → leads f.insns p q ≡ true → Carried q → IsLiveAfter g reg r
+    after p r q i moved at h c =
+        elim (flow_moved front old new back old_leads new_leads (flow_of i) (p + 1) (r + 1) q (leads_of p q i at h)) [
+          | inl w ↦ (r + 1, in_g (r + 1) w.1, next p r moved (subst Carried w.0 c))
+          | inr w ↦ (w.0, in_g w.0 w.2, c.out w.0 w.1)
+        ]
+      where
+        in_g : (n : ℕ) → has_place (flows_to (front ++ (new ++ back)) (r + 1) (flow_of i)) n ≡ true → leads g.insns r n ≡ true
+        in_g n has = leads_end g.insns r n i (stays p r i moved at) (subst (λ l. has_place (flows_to l (r + 1) (flow_of i)) n ≡ true) (sym g_is) has)
+
     passing : (p q : ℕ) (i : Insn) → slice_get f.insns p ≡ Some i → insn_defines i reg ≡ false → leads f.insns p q ≡ true → Carried q → Carried p
     passing p q i at free h c = record {
       live = Passing p q i at free h c.live;
@@ -202,15 +213,8 @@ module _ (f g : Function) (front old new back : List Insn) (reg : ℕ)
       where
         out : (r : ℕ) → Moved p r → IsLive g reg r
         out r moved =
-            let there : slice_get g.insns r ≡ Some i = stays p r i moved at in
-            elim (flow_moved front old new back old_leads new_leads (flow_of i) (p + 1) (r + 1) q (leads_of p q i at h)) [
-              | inl w ↦
-                  Passing r (r + 1) i there free (leads_end g.insns r (r + 1) i there (subst (λ l. has_place (flows_to l (r + 1) (flow_of i)) (r + 1) ≡ true) (sym g_is) w.1))
-                  (next p r moved (subst Carried w.0 c))
-              | inr w ↦
-                  Passing r w.0 i there free (leads_end g.insns r w.0 i there (subst (λ l. has_place (flows_to l (r + 1) (flow_of i)) w.0 ≡ true) (sym g_is) w.2))
-                  (c.out w.0 w.1)
-            ]
+            let live = after p r q i moved at h c in
+            Passing r live.0 i (stays p r i moved at) free live.1 live.2
 
         -- the last of the window leads out of it
         last : (k : ℕ) (j : Insn) → p ≡ length front + k → drop k old ≡ j ∷ [] → i ≡ j → ArePassed f g reg here there (j ∷ [])
@@ -261,3 +265,11 @@ module _ (f g : Function) (front old new back : List Insn) (reg : ℕ)
     carried p (AtEnd u) = at_end u
     carried p (AtUse _ i at u) = at_use p i at u
     carried p (Passing _ q i at free h rest) = passing p q i at free h (carried q rest)
+
+    -- what is live after a place is so after where it moved
+    pub after_moved : (p r : ℕ) → Moved p r → IsLiveAfter f reg p → IsLiveAfter g reg r
+    after_moved p r moved live = by (slice_get f.insns p) refl
+      where
+        by : (o : Option Insn) → slice_get f.insns p ≡ o → IsLiveAfter g reg r
+        by (Some i) at = after p r live.0 i moved at live.1 (carried live.0 live.2)
+        by None none = absurd (false≢true (subst (λ o. has_place (successors_by f.insns p o) live.0 ≡ true) none live.1))

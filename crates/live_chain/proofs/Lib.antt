@@ -1,4 +1,5 @@
 pub mod NumberLaws
+pub mod CountLaws
 pub mod MoveLaws
 pub mod FlowLaws
 pub mod PassLaws

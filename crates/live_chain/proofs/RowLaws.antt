@@ -16,12 +16,13 @@ use Rattle.rtl_func.specs.Successors.{flow_of}
 use Rattle.rtl_func.specs.Paths.{has_place, leads}
 use Rattle.live.specs.Live.{IsLive, IsLiveAfter, AreLiveRows}
 use Rattle.new_insns.specs.Replaced.{window, replaced}
+use Rattle.live_chain.specs.Stays.{StaysBefore}
 use Rattle.live_chain.specs.machine.Window.{asks_for, defines_in, sets_in, flow_behind, AreSameOutside, is_live_before, AreRowsOf}
 use Rattle.live_chain.proofs.NumberLaws.{window_parts}
 use Rattle.live_chain.proofs.MoveLaws.{IsMoved, IsMoved-back, ahead, behind, get_moved, get_inside, place_cases}
 use Rattle.live_chain.proofs.FlowLaws.{flows_to, flows_at, flow_moved}
 use Rattle.live_chain.proofs.PassLaws.{IsAt, live_asked, live_passing, not_true}
-use Rattle.live_chain.proofs.CrossLaws.{IsBehind, Carries, IsCarried, carried, places_behind, stands, leads_drop}
+use Rattle.live_chain.proofs.CrossLaws.{IsBehind, Carries, IsCarried, carried, after_moved, places_behind, stands, leads_drop}
 
 -- ---- what a return uses
 
@@ -154,6 +155,13 @@ module _ (f : Function) (first end : ℕ) (new : List Insn) (rows within : List 
 
   back_live : (reg p : ℕ) → IsLive g reg p → IsCarried g f front new old reg p
   back_live reg = carried g f front new old back reg refl f_is alike.ends.new_leads alike.ends.old_leads (sym alike.ends.flow) (sym (returns reg)) (back_again reg)
+
+  -- what is live after the places in front of the window stays
+  pub stays_before : StaysBefore f (replaced f first end new) first
+  stays_before p reg l = (
+    after_moved f g front old new back reg f_is refl alike.ends.old_leads alike.ends.new_leads alike.ends.flow (returns reg) (forth reg) p p (ahead p (omega (arith, l, long_front))),
+    after_moved g f front new old back reg refl f_is alike.ends.new_leads alike.ends.old_leads (sym alike.ends.flow) (sym (returns reg)) (back_again reg) p p (ahead p (omega (arith, l, long_front))),
+  )
 
   -- ---- rows
 

@@ -78,6 +78,41 @@ fn add_at(rows: &GapList<RegRow>, place: Option<u32>, to: &mut RegRow) -> Result
     }
 }
 
+/// Whether the row of a place, if it is one, has a register.
+fn has_at(rows: &GapList<RegRow>, place: Option<u32>, reg: u32) -> bool
+    ensures { result ≡ at_place place rows.now reg }
+{
+    match place {
+        Some(place) if (place as usize) < rows.len() => rows.item(place as usize).contains(reg),
+        _ => false,
+    }
+}
+
+/// Whether the row of one of two places has a register.
+fn either_has(rows: &GapList<RegRow>, first: Option<u32>, second: Option<u32>, reg: u32) -> bool
+    ensures { result ≡ (at_place first rows.now reg || at_place second rows.now reg) }
+{
+    has_at(rows, first, reg) || has_at(rows, second, reg)
+}
+
+/// Whether a register is live after a place, by the rows of what is live before each. A chain of
+/// 2^32 places or more finds no memory.
+pub fn is_after(
+    insns: &GapList<Insn>,
+    rows: &GapList<RegRow>,
+    place: u32,
+    reg: u32,
+) -> Result<bool, Memory>
+    ensures { (f : Function) → f.insns ≡ insns.now → AreLiveRows f rows.now →
+        IfOk result (λ live. (live ≡ true) ↔ IsLiveAfter f reg place) }
+{
+    if insns.len() > u32::MAX as usize {
+        return Err(Memory);
+    }
+    let next = successors(insns, place);
+    Ok(either_has(rows, next.first, next.second, reg))
+}
+
 /// The registers that are live after a place, by the rows of what is live before each.
 pub fn row_after(
     alloc: Global,

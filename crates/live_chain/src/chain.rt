@@ -1,29 +1,33 @@
 //! A function with what is known of it.
-ghost use Rattle.std.specs.Prelude.{◌≡◌, ◌≤◌, ◌<◌, ◌^◌, ℕ, true, Some, length, slice_get};
-ghost use Rattle.std.specs.Prelude.{IfOk, OnOk, OnErr};
+ghost use Rattle.std.specs.Prelude.{◌≡◌, ◌↔◌, ◌+◌, ◌≤◌, ◌<◌, ◌^◌, ℕ, true, Some, length, slice_get};
+ghost use Rattle.std.specs.Prelude.{IfOk, IfSome, OnOk, OnErr};
 ghost use Rattle.rtx_tree.specs.RegSet.{has_reg};
-ghost use Rattle.live.specs.Live.{AreLiveAfter, AreLiveRows};
-ghost use Rattle.new_insns.specs.Replaced.{replaced};
+ghost use Rattle.live.specs.Live.{AreLiveAfter, AreLiveRows, IsLiveAfter};
+ghost use Rattle.new_insns.specs.Replaced.{replaced, window};
+ghost use Rattle.live_chain.specs.Stays.{StaysBefore};
 ghost use Rattle.rtl_chain.specs.Counts as counts;
 ghost use Rattle.live_chain.specs.machine.Whole.{with_chain};
 
+use crate::behind::is_after;
 use crate::kept::{rows_inside, rows_joined};
 use crate::narrow::live_behind;
-use crate::numbers::{pseudo_after, pseudo_of, uid_after, uid_of};
+use crate::numbers::{
+    count_after, count_beside, count_of, pseudo_after, pseudo_of, uid_after, uid_of,
+};
 use gap_list::GapList;
 use live::live_rows_of;
 use plain_data::{Items, Memory};
 use reg_rows::RegRow;
-use rtl_chain::{greatest_uid, next_pseudo};
+use rtl_chain::{greatest_uid, instruction_count, next_pseudo};
 use rtx_tree::{Function, Insn, Insns, RegSet};
 use std::alloc::Global;
 use std::marker::Model;
 use std::mem;
 
 /// A function, with what is known of it while windows of its chain are replaced: the registers that
-/// are live at its places, its greatest uid, its next free pseudo register. Contracts see the
-/// function. Its chain and the rows have a gap, which stands behind the window that was replaced
-/// last.
+/// are live at its places, its greatest uid, its next free pseudo register, how many instructions
+/// it has. Contracts see the function. Its chain and the rows have a gap, which stands behind the
+/// window that was replaced last.
 #[derive(Drop)]
 pub struct LiveChain {
     /// The function without its chain.
@@ -33,6 +37,8 @@ pub struct LiveChain {
     rows: Option<GapList<RegRow>>,
     greatest: Option<u32>,
     next: Option<u64>,
+    /// How many instructions the chain has, if known.
+    count: Option<usize>,
 }
 
 impl Model for LiveChain {
@@ -47,7 +53,8 @@ impl Model for LiveChain {
 
     ghost view = { λ c. with_chain c.frame c.insns };
 
-    ghost invariant = { λ c. IsKept (with_chain c.frame c.insns) c.rows c.greatest c.next };
+    ghost invariant = { λ c.
+        IsKept (with_chain c.frame c.insns) c.rows c.greatest c.next c.count };
 }
 
 /// The rows of the function, computed anew.
@@ -78,6 +85,7 @@ impl LiveChain {
             rows: None,
             greatest: None,
             next: None,
+            count: None,
         }
     }
 
@@ -133,6 +141,24 @@ impl LiveChain {
         live
     }
 
+    /// Whether a register is live after a place. A chain of 2^32 places or more finds no memory.
+    ///
+    /// # Errors
+    ///
+    /// `Memory` where memory ran out.
+    pub fn is_live_after(&mut self, alloc: Global, place: u32, reg: u32) -> Result<bool, Memory>
+        ensures live { IfOk result (λ live. (live ≡ true) ↔ IsLiveAfter self.old reg place) }
+        ensures same { self.new ≡ self.old }
+    {
+        let rows = match self.rows.take() {
+            Some(rows) => rows,
+            None => rows_anew(alloc, &mut self.frame, &mut self.insns)?,
+        };
+        let live = is_after(&self.insns, &rows, place, reg);
+        self.rows = Some(rows);
+        live
+    }
+
     /// The greatest uid of the chain, or 0 where there is none. It takes no memory.
     pub fn greatest_uid(&mut self) -> u32
         ensures uid { result ≡ counts.greatest_uid self.old.insns }
@@ -164,16 +190,85 @@ impl LiveChain {
         }
     }
 
-    /// Puts new instructions in the place of a window, that from place `first` up to place `end`.
-    /// After `Memory` the function is as before.
+    /// How many instructions the chain has, labels and barriers aside. The call takes no memory;
+    /// more than 64 bits count are answered as want of it.
+    ///
+    /// # Errors
+    ///
+    /// `Memory` where so many have no number.
+    pub fn instruction_count(&mut self) -> Result<usize, Memory>
+        ensures count { IfOk result (λ n. n ≡ counts.instruction_count self.old.insns) }
+        ensures same { self.new ≡ self.old }
+    {
+        match self.count {
+            Some(count) => Ok(count),
+            None => {
+                let Some(count) = count_of(&self.insns) else {
+                    return Err(Memory);
+                };
+                self.count = Some(count);
+                Ok(count)
+            }
+        }
+    }
+
+    /// How many instructions the chain would have with others in the place of the one at a place.
+    ///
+    /// # Errors
+    ///
+    /// `Memory` where so many have no number.
+    pub fn count_with(&mut self, place: u32, new: &[Insn]) -> Result<usize, Memory>
+        requires { place < length self.old.insns }
+        ensures count { IfOk result (λ n. n
+            ≡ counts.instruction_count (replaced self.old place (place + 1) new.now).insns) }
+        ensures same { self.new ≡ self.old }
+    {
+        let all = self.instruction_count()?;
+        match count_beside(all, self.insn(place), new) {
+            Some(count) => Ok(count),
+            None => Err(Memory),
+        }
+    }
+
+    /// Moves the gap to a place. The windows that end there stand in one piece then.
     ///
     /// # Errors
     ///
     /// `Memory` where memory ran out.
-    pub fn replace(&mut self, alloc: Global, first: u32, end: u32, new: Insns) -> Result<(), Memory>
+    pub fn move_gap(&mut self, place: u32) -> Result<(), Memory>
+        requires { place ≤ length self.old.insns }
+        ensures { self.new ≡ self.old }
+    {
+        self.insns.move_gap(place as usize)
+    }
+
+    /// The instructions of a window, that from place `first` up to place `end`, or `None` where the
+    /// gap is within it.
+    pub fn window(&self, first: u32, end: u32) -> Option<&[Insn]>
+        requires { first ≤ end }
+        ensures { IfSome result (λ insns. insns.now ≡ window self.now first end) }
+    {
+        self.insns.between(first as usize, end as usize)
+    }
+
+    /// Puts new instructions in the place of a window, that from place `first` up to place `end`.
+    /// Says whether after each place in front of it the same registers are seen to be live as
+    /// before. After `Memory` the function is as before.
+    ///
+    /// # Errors
+    ///
+    /// `Memory` where memory ran out.
+    pub fn replace(
+        &mut self,
+        alloc: Global,
+        first: u32,
+        end: u32,
+        new: Insns,
+    ) -> Result<bool, Memory>
         requires order { first ≤ end }
         requires within { end ≤ length self.old.insns }
         ensures replaced { OnOk result (self.new ≡ replaced self.old first end new) }
+        ensures stays { IfOk result (λ same. same ≡ true → StaysBefore self.old self.new first) }
         ensures kept { OnErr result (self.new ≡ self.old) }
     {
         self.insns.move_gap(end as usize)?;
@@ -187,6 +282,11 @@ impl LiveChain {
             greatest_uid(new.as_slice()),
         );
         let next = pseudo_after(self.next, next_pseudo(old), next_pseudo(new.as_slice()));
+        let count = count_after(
+            self.count,
+            instruction_count(old),
+            instruction_count(new.as_slice()),
+        );
         let inside = rows_inside(
             alloc,
             &self.insns,
@@ -196,10 +296,12 @@ impl LiveChain {
             old,
             new.as_slice(),
         )?;
+        let same = inside.is_some();
         self.insns.splice(first as usize, end as usize, new)?;
         self.rows = rows_joined(self.rows.take(), first, end, inside);
         self.greatest = greatest;
         self.next = next;
-        Ok(())
+        self.count = count;
+        Ok(same)
     }
 }

@@ -5,6 +5,7 @@ ghost use Rattle.rtx_tree.specs.declared.function.Function.{Function};
 ghost use Rattle.reg_rows.specs.Row.{has};
 ghost use Rattle.live.specs.Live.{AreLiveRows};
 ghost use Rattle.new_insns.specs.Replaced.{replaced};
+ghost use Rattle.live_chain.specs.Stays.{StaysBefore};
 ghost use Rattle.live_chain.specs.machine.Window.{AreLikeEnds, AreLikeDemands, AreSameOutside};
 
 use crate::behind::row_after;
@@ -71,9 +72,12 @@ fn rows_for(
     requires order { first ≤ end }
     requires within { end ≤ length insns.now }
     requires old { old.now ≡ slice_range insns.now first end }
-    ensures { (f : Function) → f.insns ≡ insns.now → AreLiveRows f rows.now →
+    ensures rows { (f : Function) → f.insns ≡ insns.now → AreLiveRows f rows.now →
         IfOk result (λ inside. IfSome inside (λ inside.
         AreLiveRows (replaced f first end new.now) (splice rows.now first end inside))) }
+    ensures stays { (f : Function) → f.insns ≡ insns.now → AreLiveRows f rows.now →
+        IfOk result (λ inside. IfSome inside (λ inside.
+        StaysBefore f (replaced f first end new.now) first)) }
 {
     if first == end || insns.len() > u32::MAX as usize {
         return Ok(None);
@@ -99,9 +103,12 @@ pub fn rows_inside(
     requires order { first ≤ end }
     requires within { end ≤ length insns.now }
     requires old { old.now ≡ slice_range insns.now first end }
-    ensures { (f : Function) → f.insns ≡ insns.now → IfSome rows.now (AreLiveRows f) →
+    ensures rows { (f : Function) → f.insns ≡ insns.now → IfSome rows.now (AreLiveRows f) →
         IfOk result (λ inside. IfSome inside (λ inside. IfSome rows.now (λ rows.
         AreLiveRows (replaced f first end new.now) (splice rows first end inside)))) }
+    ensures stays { (f : Function) → f.insns ≡ insns.now → IfSome rows.now (AreLiveRows f) →
+        IfOk result (λ inside. IfSome inside (λ inside.
+        StaysBefore f (replaced f first end new.now) first)) }
 {
     match rows {
         Some(rows) => rows_for(alloc, insns, rows, first, end, old, new),

@@ -1,13 +1,13 @@
 //! A function and what is live in it, kept while windows of its chain are replaced.
 //!
-//! A [`LiveChain`] answers which registers are live after a place of its function, and which
-//! numbers the function's uids and its pseudo registers leave free, and puts new instructions in
-//! the place of a window. Contracts see the function alone. What was computed for an answer is kept
-//! for the next ones. Where a window is replaced, what is live outside it is kept if the old and
-//! the new window are the same from outside (`specs/machine/Window.antt`): they ask for the same
-//! registers, define the same of the others that are live behind, and lead to the same places. Then
-//! what is live within follows from what is live behind. Else it is forgotten, and computed anew at
-//! the next question.
+//! A [`LiveChain`] answers which registers are live after a place of its function, which numbers the
+//! function's uids and its pseudo registers leave free, and how many instructions it has, and puts
+//! new instructions in the place of a window. Contracts see the function alone. What was computed
+//! for an answer is kept for the next ones. Where a window is replaced, what is live outside it is
+//! kept if the old and the new window are the same from outside (`specs/machine/Window.antt`): they
+//! ask for the same registers, define the same of the others that are live behind, and lead to the
+//! same places. Then what is live within follows from what is live behind. Else it is forgotten, and
+//! computed anew at the next question.
 #![tactic(auto)]
 
 mod behind;

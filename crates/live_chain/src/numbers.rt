@@ -1,10 +1,12 @@
 //! The numbers that are kept of a chain.
-ghost use Rattle.std.specs.Prelude.{◌≡◌, ℕ, max, true, IfSome};
+ghost use Rattle.std.specs.Prelude.{◌≡◌, ◌+◌, ◌++◌, ℕ, List, max, true, Some, slice_get, take, drop, IfSome};
+ghost use Rattle.rtx_tree.specs.declared.function.Insn.{Insn};
 ghost use Rattle.rtl_chain.specs.Counts as counts;
 
 use gap_list::GapList;
-use rtl_chain::{greatest_uid, next_pseudo};
+use rtl_chain::{greatest_uid, instruction_count, next_pseudo};
 use rtx_tree::Insn;
+use std::slice;
 
 /// The greatest uid of a chain, or 0 where there is none.
 #[tactic(auto, using(crate::proofs::NumberLaws::greatest_parts))]
@@ -55,4 +57,35 @@ pub fn pseudo_after(next: Option<u64>, old: u64, new: u64) -> Option<u64>
         Some(next) if tells(next, old, new) => Some(next.max(new)),
         _ => None,
     }
+}
+
+/// How many instructions a chain has, where the number has 64 bits.
+pub fn count_of(insns: &GapList<Insn>) -> Option<usize>
+    ensures { IfSome result (λ n. n ≡ counts.instruction_count insns.now) }
+{
+    let (front, back) = insns.parts();
+    instruction_count(front).checked_add(instruction_count(back))
+}
+
+/// How many instructions a chain has with others in the place of one, by how many it has.
+pub fn count_beside(all: usize, old: &Insn, new: &[Insn]) -> Option<usize>
+    ensures { (xs : List Insn) (place : ℕ) → slice_get xs place ≡ Some old.now →
+        all ≡ counts.instruction_count xs →
+        IfSome result (λ n. n
+        ≡ counts.instruction_count (take place xs ++ (new.now ++ drop (place + 1) xs))) }
+{
+    count_after(
+        Some(all),
+        instruction_count(slice::from_ref(old)),
+        instruction_count(new),
+    )
+}
+
+/// How many instructions a chain has where those of a window become others, if it is known.
+pub fn count_after(count: Option<usize>, old: usize, new: usize) -> Option<usize>
+    ensures { (others : ℕ) → IfSome count (λ n. n ≡ others + old) →
+        IfSome result (λ n. n ≡ others + new) }
+{
+    let others = count?.checked_sub(old)?;
+    others.checked_add(new)
 }

@@ -13,10 +13,11 @@ use Rattle.md_forms.specs.declared.form.Form.{Form}
 
 -- ---- what is taken
 
--- An operand, an operator and a dup of an operand take the operand's value.
+-- An operand, an operator, a scratch and a dup of an operand take the operand's value.
 abbrev pub taken_here : Code → ℤ → List ℕ
 taken_here MatchOperand number = cast_unsigned w64 number ∷ []
 taken_here MatchDup number = cast_unsigned w64 number ∷ []
+taken_here MatchScratch number = cast_unsigned w64 number ∷ []
 taken_here MatchOperator number = cast_unsigned w64 number ∷ []
 taken_here _ number = []
 
@@ -115,7 +116,7 @@ outputs_in pattern = flat_map set_by (effects_of pattern)
 abbrev pub inputs_of : Form → List ℕ
 inputs_of f = flat_map inputs_in f.patterns
 
--- the operands that stand in a form's patterns, scratches apart, each as often as it stands there
+-- the operands that stand in a form's patterns, each as often as it stands there
 abbrev pub operands_of : Form → List ℕ
 operands_of f = flat_map taken_in f.patterns
 

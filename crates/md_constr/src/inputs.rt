@@ -18,7 +18,7 @@ fn push_taken_here(x: &Rtx, numbers: &mut Numbers) -> Result<(), Memory>
         (head_of x.now).number) }
 {
     match x.code {
-        Code::MatchOperand | Code::MatchDup | Code::MatchOperator => {
+        Code::MatchOperand | Code::MatchDup | Code::MatchScratch | Code::MatchOperator => {
             numbers.push(x.number.cast_unsigned())
         }
         _ => Ok(()),
@@ -177,7 +177,7 @@ pub fn inputs_of(alloc: Global, form: &Form) -> Result<Numbers, Memory>
     Ok(numbers)
 }
 
-/// The numbers of the operands in a form's patterns, scratches apart.
+/// The numbers of the operands in a form's patterns.
 pub fn operands_of(alloc: Global, form: &Form) -> Result<Numbers, Memory>
     ensures { IfOk result (λ operands. operands ≡ spec.operands_of form.now) }
 {

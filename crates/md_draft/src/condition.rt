@@ -8,9 +8,10 @@ ghost use Rattle.md_draft.specs.Conditions as spec;
 use c_cond::{Cond, Prep};
 use lisp_read::{Tree, string};
 use md_pattern::{Judged, Reason, both};
+use name_places::Constants;
 use plain_data::Memory;
 use pred_expr::{condition, no_condition, no_statements, statements};
-use rtx_tree::{Constants, Name};
+use rtx_tree::Name;
 use std::alloc::Global;
 use text_words::{all_blank, behind_blanks};
 

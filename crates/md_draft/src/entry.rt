@@ -18,9 +18,10 @@ use c_cond::{Cond, Prep};
 use lisp_read::{Tree, atom, items, string};
 use md_compact::Block;
 use md_pattern::{Judged, Patterns, Reason, both};
+use name_places::Constants;
 use plain_data::{Items, Memory};
 use pred_expr::Test;
-use rtx_tree::{Constants, Name};
+use rtx_tree::Name;
 use std::alloc::Global;
 
 // ---- the parts of a form, several at a time

@@ -7,8 +7,9 @@ ghost use Rattle.md_draft.specs.Patterns as spec;
 use crate::head::FormHead;
 use lisp_read::{Tree, atom, head_words, items, vector};
 use md_pattern::{Judged, Patterns, Reason, no_patterns, patterns_of};
+use name_places::Constants;
 use plain_data::{Items, Memory};
-use rtx_tree::{Code, Constants, Kids, Mode, Rtx};
+use rtx_tree::{Code, Kids, Mode, Rtx};
 use std::alloc::Global;
 
 /// The greatest number of instructions of a window.

@@ -11,9 +11,10 @@ use crate::head::RegisterClass;
 use lisp_read::{Tree, is_vector, is_word, items, string, vector};
 use md_pattern::{Judged, Reason};
 use md_text::members_of;
+use name_places::Constants;
 use plain_data::{Items, Memory};
 use pred_expr::{Test, test_of};
-use rtx_tree::{Constants, Name};
+use rtx_tree::Name;
 use std::alloc::Global;
 
 // ---- attributes

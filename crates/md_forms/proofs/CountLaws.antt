@@ -7,7 +7,7 @@ use Rattle.md_forms.specs.declared.form.Entry.{Entry}
 use Rattle.md_forms.specs.declared.shown.HeadCounts.{HeadCounts}
 use Rattle.md_forms.specs.Forms.{has_head, count_of}
 use Rattle.md_forms.specs.machine.Counts.{count_in, Counts, CountsOneMore}
-use Rattle.md_tables.proofs.TextKeys.{same_text}
+use Rattle.name_places.proofs.TextKeys.{same_text}
 
 -- a form more was counted
 pub counts_next : (old new : HeadCounts) (es : List Entry) (i : ℕ) (e : Entry) → i < length es → e ≡ get_or es i e → Counts old (take i es) → CountsOneMore old new e.head → Counts new (take (i + 1) es)

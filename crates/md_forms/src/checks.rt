@@ -11,10 +11,11 @@ use crate::form::{Form, OperandConstraint};
 use crate::names::{assigned_by, push_all_dups, push_all_operands};
 use crate::operands::OperandNumbers;
 use md_tables::{
-    Alternative, Attribute, AttributeDraft, ConstraintDraft, ConstraintNames, Defined, Definitions,
-    Draft, FormHead, Judged, Made, Matched, Member, OperandText, Output, Patterns, Printed, Reason,
+    Alternative, Attribute, AttributeDraft, ConstraintDraft, ConstraintNames, Defined, Draft,
+    FormHead, Judged, Made, Matched, Member, OperandText, Output, Patterns, Printed, Reason,
     Tables, Template, all_known, constraint_of, is_among, is_constraint, predicates_named,
 };
+use name_places::NameTable;
 use plain_data::{Items, Memory};
 use rtx_tree::{Kids, Name, Rtx};
 use std::alloc::Global;
@@ -188,7 +189,7 @@ fn constraints_in(
 
 fn member_stands(
     numbers: &OperandNumbers,
-    known: &Definitions<ConstraintDraft>,
+    known: &NameTable<ConstraintDraft>,
     member: &Member,
 ) -> bool
     ensures { result ≡ spec.member_stands numbers.now known.now member.now }
@@ -202,7 +203,7 @@ fn member_stands(
 
 fn alternative_stands(
     numbers: &OperandNumbers,
-    known: &Definitions<ConstraintDraft>,
+    known: &NameTable<ConstraintDraft>,
     alternative: &Alternative,
 ) -> bool
     ensures { result ≡ spec.alternative_stands numbers.now known.now alternative.now }
@@ -216,7 +217,7 @@ fn alternative_stands(
 
 fn constraint_stands(
     numbers: &OperandNumbers,
-    known: &Definitions<ConstraintDraft>,
+    known: &NameTable<ConstraintDraft>,
     constraint: &OperandConstraint,
 ) -> bool
     ensures { result ≡ spec.constraint_stands numbers.now known.now constraint.now }
@@ -256,7 +257,7 @@ fn all_have_length(count: usize, constraints: &[OperandConstraint]) -> bool
 
 fn all_stand(
     numbers: &OperandNumbers,
-    known: &Definitions<ConstraintDraft>,
+    known: &NameTable<ConstraintDraft>,
     constraints: &[OperandConstraint],
 ) -> bool
     ensures { result ≡ list_all (spec.constraint_stands numbers.now known.now) constraints.now }
@@ -269,7 +270,7 @@ fn all_stand(
 #[tactic(auto, unfolding(crate::specs::Checks::constraints_stand))]
 fn constraints_stand(
     numbers: &OperandNumbers,
-    known: &Definitions<ConstraintDraft>,
+    known: &NameTable<ConstraintDraft>,
     constraints: &[OperandConstraint],
 ) -> bool
     ensures { result ≡ spec.constraints_stand numbers.now known.now constraints.now }
@@ -280,7 +281,7 @@ fn constraints_stand(
 
 // ---- attributes
 
-#[tactic(auto, using(md_tables::proofs::FirstNames::found_among))]
+#[tactic(auto, using(name_places::proofs::FirstNames::found_among))]
 fn is_value(attribute: &AttributeDraft, value: &[u8]) -> bool
     ensures { result ≡ spec.is_value attribute.now value.now }
 {
@@ -302,7 +303,7 @@ fn counts(count: usize, alternatives: usize) -> bool
 }
 
 fn attribute_stands(
-    known: &Definitions<AttributeDraft>,
+    known: &NameTable<AttributeDraft>,
     alternatives: usize,
     given: &Attribute,
 ) -> bool
@@ -319,7 +320,7 @@ fn attribute_stands(
 }
 
 fn all_attributes_stand(
-    known: &Definitions<AttributeDraft>,
+    known: &NameTable<AttributeDraft>,
     alternatives: usize,
     attributes: &[Attribute],
 ) -> bool
@@ -347,7 +348,7 @@ fn default_stands(draft: &Draft) -> bool
 }
 
 #[tactic(auto, unfolding(crate::specs::Checks::attributes_stand))]
-fn attributes_stand(known: &Definitions<AttributeDraft>, draft: &Draft, alternatives: usize) -> bool
+fn attributes_stand(known: &NameTable<AttributeDraft>, draft: &Draft, alternatives: usize) -> bool
     ensures { result ≡ spec.attributes_stand known.now draft.now alternatives }
 {
     default_stands(draft)

@@ -9,8 +9,8 @@ use crate::checks::form_of;
 use crate::form::{Entry, Forms};
 use md_iter::Instance;
 use md_tables::{DraftEntry, Tables, entry_of, tables_of};
+use name_places::Constants;
 use plain_data::{Items, Memory};
-use rtx_tree::Constants;
 use std::alloc::Global;
 
 fn draft_entry(alloc: Global, constants: &Constants, form: &Instance) -> Result<DraftEntry, Memory>

@@ -1,15 +1,15 @@
 -- Where names of kinds stand, with one more.
-use Rattle.std.proofs.Common.{◌≡◌, ℕ, Bool, ◌&&◌, if◌then◌else◌, List, [], ◌∷◌, Some, None, refl, sym, ap, subst, ◌∙◌}
+use Rattle.std.proofs.Common.{◌≡◌, ℕ, Bool, ◌&&◌, if◌then◌else◌, List, [], ◌∷◌, Option, Some, None, refl, sym, ap, subst, ◌∙◌}
 use Rattle.std.specs.List.{find}
 use Rattle.std.specs.Option.{option_or}
 use Rattle.std.specs.Str.{bytes_eq}
 use Rattle.md_iter.specs.declared.definition.DefinitionKind.{DefinitionKind}
 use Rattle.md_iter.specs.declared.definition.DefinitionKind.TheVariants.{Mode, Code, Int}
-use Rattle.md_iter.specs.declared.firsts.Places.{Places}
+use Rattle.name_places.specs.declared.places.Places.{Places}
+use Rattle.name_places.specs.Places.{place_in}
 use Rattle.md_iter.specs.declared.firsts.KindPlaces.{KindPlaces}
 use Rattle.md_iter.specs.Definition.{same_kind}
-use Rattle.md_iter.specs.machine.Firsts.{agree, place_in, place_of_kind}
-use Rattle.md_iter.proofs.TextKeys.{or_none}
+use Rattle.md_iter.specs.machine.Firsts.{agree, place_of_kind}
 
 -- a name stands there now, if it stood nowhere
 abbrev pub Puts : Places → Places → List ℕ → ℕ → Type 0
@@ -20,6 +20,10 @@ abbrev pub PutsKind : KindPlaces → KindPlaces → DefinitionKind → List ℕ 
 PutsKind old new kind name place =
     (other_kind : DefinitionKind) (other : List ℕ) →
     place_of_kind new other_kind other ≡ option_or (place_of_kind old other_kind other) (if agree kind other_kind && bytes_eq name other then Some place else None)
+
+or_none : {V : Type 0} (o : Option V) → option_or o None ≡ o
+or_none None = refl
+or_none (Some v) = refl
 
 kept : (old new : Places) (other : List ℕ) → new ≡ old → place_in new other ≡ option_or (place_in old other) None
 kept old new other same = ap (λ p. place_in p other) same ∙ sym (or_none (place_in old other))

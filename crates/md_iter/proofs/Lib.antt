@@ -4,7 +4,5 @@ pub mod Counts
 pub mod Places
 pub mod Uses
 pub mod Making
-pub mod TextKeys
-pub mod FirstNames
 pub mod KindLaws
 pub mod Refused

@@ -3,12 +3,12 @@
 use Rattle.std.specs.Prelude.{ℕ, ℤ, Bool, true, false, List, ◌∷◌, ◌++◌, Option, Some, None, if◌then◌else◌, map, option_map}
 use Rattle.std.specs.List.{find}
 use Rattle.std.specs.Option.{unwrap_or}
-use Rattle.std.specs.Str.{bytes_eq}
 use Rattle.std.specs.Fmt.{signed_decimal}
 use Rattle.rtx_tree.specs.declared.constants.Constant.{Constant}
 use Rattle.lisp_read.specs.declared.tree.Tree.{Tree, roll-Tree}
 use Rattle.lisp_read.specs.declared.tree.Tree.TheOpen.{Tree-F}
 use Rattle.lisp_read.specs.declared.tree.Tree.TheFolds.{fold-Tree}
+use Rattle.name_places.specs.Names.{constant_named}
 use Rattle.md_iter.specs.declared.definition.DefinitionKind.{DefinitionKind}
 use Rattle.md_iter.specs.declared.definition.DefinitionKind.TheVariants.{Mode, Code, Int}
 use Rattle.md_iter.specs.declared.definition.Definitions.{Definitions}
@@ -54,16 +54,11 @@ with_values choice is_head text = with_parts choice is_head text (cut 58 text)
 abbrev pub filled_text : Definitions → List Chosen → List ℕ → List ℕ
 filled_text definitions choice text = filled (filling definitions choice) text
 
--- the first constant of a name
-abbrev pub constant_named : List ℕ → List Constant → Option ℤ
-constant_named name constants =
-    option_map (λ c. c.number) (find (λ c. bytes_eq c.name name) constants)
-
 -- a constant's name that isn't a head is its number
 abbrev pub with_constant : List Constant → Bool → List ℕ → List ℕ
 with_constant constants true text = text
 with_constant constants false text =
-    unwrap_or (option_map signed_decimal (constant_named text constants)) text
+    unwrap_or (option_map signed_decimal (constant_named constants text)) text
 
 abbrev pub atom_text : Definitions → List Chosen → Bool → List ℕ → List ℕ
 atom_text definitions choice is_head text = with_constant definitions.constants is_head (filled_text definitions choice (with_values choice is_head text))

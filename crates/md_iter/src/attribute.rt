@@ -8,8 +8,8 @@ ghost use Rattle.md_iter.specs.Choice.{chosen_of};
 use crate::choice::Choice;
 use crate::definition::{DefinitionKind, Definitions, Entry, IteratorAttribute};
 use crate::kinded::KindedItems;
-use crate::named::NamedItems;
 use crate::shape::cut;
+use name_places::NameTable;
 use plain_data::Memory;
 use rtx_tree::Name;
 use text_words::same;
@@ -84,7 +84,7 @@ fn built_in<'a>(kind: DefinitionKind, name: &[u8], value: &'a [u8]) -> Option<Fi
 }
 
 /// The text of the first entry for a value.
-fn entry_for<'a>(entries: &'a NamedItems<Entry>, value: &[u8]) -> Option<&'a Name>
+fn entry_for<'a>(entries: &'a NameTable<Entry>, value: &[u8]) -> Option<&'a Name>
     ensures { option_copied result ≡ spec.entry_for value.now entries.entry.now }
 {
     match entries.first(value) {

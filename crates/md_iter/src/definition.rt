@@ -3,12 +3,12 @@ ghost use Rattle.std.specs.Prelude.{◌≡◌, IfOk, option_map};
 ghost use Rattle.md_iter.specs.Definition as spec;
 
 use crate::kinded::{Kinded, KindedItems};
-use crate::named::{Named, NamedItems};
 use crate::number::number_in;
 use crate::shape::vector;
 use lisp_read::{Tree, atom, items, string};
+use name_places::{Constants, NameTable, Named};
 use plain_data::{Items, Memory};
-use rtx_tree::{Constant, Constants, Name};
+use rtx_tree::{Constant, Name};
 use std::alloc::Global;
 use text_words::same;
 
@@ -87,7 +87,7 @@ impl Named for Entry {
 pub struct IteratorAttribute {
     pub kind: DefinitionKind,
     pub name: Name,
-    pub entries: NamedItems<Entry>,
+    pub entries: NameTable<Entry>,
 }
 
 impl Kinded for IteratorAttribute {
@@ -104,20 +104,12 @@ impl Kinded for IteratorAttribute {
     }
 }
 
-impl Named for Constant {
-    ghost name = { λ c. c.name };
-
-    fn name(&self) -> &[u8] {
-        self.name.bytes()
-    }
-}
-
 /// What a description defines for its forms, each list in the order of the text.
 #[derive(Drop)]
 pub struct Definitions {
     pub iterators: KindedItems<FormIterator>,
     pub attributes: KindedItems<IteratorAttribute>,
-    pub constants: NamedItems<Constant>,
+    pub constants: Constants,
 }
 
 /// An atom and a string behind it.
@@ -215,7 +207,7 @@ fn entries(alloc: Global, trees: &[Tree]) -> Result<Option<Items<Entry>>, Memory
 }
 
 #[tactic(auto, using(crate::proofs::Each::with_nothing, crate::proofs::Each::each_next, crate::proofs::Each::each_stops, crate::proofs::Each::each_ends))]
-fn constants(alloc: Global, trees: &[Tree]) -> Result<Option<Constants>, Memory>
+fn constants(alloc: Global, trees: &[Tree]) -> Result<Option<Items<Constant>>, Memory>
     ensures { IfOk result (λ constants. constants ≡ spec.each_of spec.constant_of trees.now) }
 {
     let mut constants = Items::new(alloc);
@@ -303,7 +295,7 @@ pub fn attribute(alloc: Global, tree: &Tree) -> Result<Option<IteratorAttribute>
         Some(entries) => Ok(Some(IteratorAttribute {
             kind,
             name: name.copy(alloc)?,
-            entries: NamedItems::of(alloc, entries)?,
+            entries: NameTable::of(alloc, entries)?,
         })),
         None => Ok(None),
     }
@@ -319,7 +311,7 @@ fn constant_trees(trees: &[Tree]) -> Option<&[Tree]>
 }
 
 /// The constants that a tree defines.
-pub fn constants_of(alloc: Global, tree: &Tree) -> Result<Option<Constants>, Memory>
+pub fn constants_of(alloc: Global, tree: &Tree) -> Result<Option<Items<Constant>>, Memory>
     ensures { IfOk result (λ constants. constants ≡ spec.constants_of tree.now) }
 {
     match constant_trees(items(tree)) {
@@ -364,7 +356,7 @@ fn attributes_in(alloc: Global, trees: &[Tree]) -> Result<KindedItems<IteratorAt
     KindedItems::of(alloc, attributes)
 }
 
-fn all_constants_in(alloc: Global, trees: &[Tree]) -> Result<NamedItems<Constant>, Memory>
+fn all_constants_in(alloc: Global, trees: &[Tree]) -> Result<Constants, Memory>
     ensures { IfOk result (λ constants. constants ≡ spec.all_constants_in trees.now) }
 {
     let mut all = Vec::new(alloc);
@@ -373,7 +365,7 @@ fn all_constants_in(alloc: Global, trees: &[Tree]) -> Result<NamedItems<Constant
             all.append(&mut constants.into_vec())?;
         }
     }
-    NamedItems::of(alloc, Items::from_vec(all))
+    NameTable::of(alloc, Items::from_vec(all))
 }
 
 /// What the trees of a description define.

@@ -9,8 +9,9 @@ use crate::definition::{Definitions, definitions_in, is_form};
 use crate::refusal::IterRefusal;
 use crate::substitution::{Instance, form_under};
 use lisp_read::Tree;
+use name_places::Constants;
 use plain_data::{Items, Memory};
-use rtx_tree::{Constants, MOST_FORMS};
+use rtx_tree::MOST_FORMS;
 use std::alloc::Global;
 
 /// A description without its iterators.
@@ -131,8 +132,5 @@ pub fn expand_forms(alloc: Global, trees: &[Tree]) -> Result<Expanded, IterRefus
     let definitions = definitions_in(alloc, trees)?;
     let forms = expand_trees(alloc, &definitions, trees)?;
     let Definitions { constants, .. } = definitions;
-    Ok(Expanded {
-        forms,
-        constants: constants.into_items(),
-    })
+    Ok(Expanded { forms, constants })
 }

@@ -16,7 +16,6 @@ mod definition;
 mod expand;
 mod firsts;
 mod kinded;
-mod named;
 mod number;
 mod refusal;
 mod shape;

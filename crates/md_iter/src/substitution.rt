@@ -9,11 +9,11 @@ ghost use Rattle.md_iter.specs.machine.Steps as steps;
 use crate::angles::filled;
 use crate::choice::Choice;
 use crate::definition::{DefinitionKind, Definitions};
-use crate::named::NamedItems;
 use crate::shape::cut;
 use lisp_read::{Tree, Trees};
+use name_places::constant_named;
 use plain_data::{Items, Memory};
-use rtx_tree::{Constant, Name};
+use rtx_tree::Name;
 use std::alloc::Global;
 use text_words::{print_number, same};
 
@@ -120,16 +120,6 @@ fn with_values(
         None => push_without_mode(choices, is_head, text, &mut out)?,
     }
     Ok(out)
-}
-
-/// The number of the first constant of a name.
-fn constant_named(constants: &NamedItems<Constant>, name: &[u8]) -> Option<i64>
-    ensures { result ≡ spec.constant_named name.now constants.now }
-{
-    match constants.first(name) {
-        Some(constant) => Some(constant.number),
-        None => None,
-    }
 }
 
 fn printed(alloc: Global, number: i64) -> Result<Name, Memory>

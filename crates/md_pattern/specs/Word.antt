@@ -1,17 +1,11 @@
 -- The words of patterns: numbers, names of constants, and registers. GCC Internals, "Constants" and
 -- "Registers and Memory".
-use Rattle.std.specs.Prelude.{ℕ, ℤ, ◌^◌, List, Option, option_map, option_and_then}
-use Rattle.std.specs.List.{find}
+use Rattle.std.specs.Prelude.{ℕ, ℤ, ◌^◌, List, Option, option_and_then}
 use Rattle.std.specs.Option.{option_or}
-use Rattle.std.specs.Str.{bytes_eq}
 use Rattle.rtx_tree.specs.declared.constants.Constant.{Constant}
+use Rattle.name_places.specs.Names.{constant_named}
 use Rattle.lisp_read.specs.Leaf.{below}
 use Rattle.text_words.specs.Words.{number_in}
-
--- the number of the first constant of a name
-abbrev pub constant_named : List Constant → List ℕ → Option ℤ
-constant_named constants name =
-    option_map (λ c. c.number) (find (λ c. bytes_eq c.name name) constants)
 
 -- a number, or the name of a constant
 abbrev pub number_of : List Constant → List ℕ → Option ℤ

@@ -16,8 +16,9 @@ use crate::operand::{
 use crate::reason::{Judged, Reason, both};
 use crate::word::{number_of, register_of};
 use lisp_read::{Tree, atom, head_words, is_vector, is_word, items, quoted_name, vector};
+use name_places::Constants;
 use plain_data::{Items, Memory};
-use rtx_tree::{Code, Constant, Constants, HeadMode, Kids, Mode, Name, Parts, Rtx};
+use rtx_tree::{Code, HeadMode, Kids, Mode, Name, Parts, Rtx};
 use std::alloc::Global;
 
 /// An expression of a description.
@@ -117,7 +118,7 @@ fn word_in(parts: &[Tree]) -> Option<&Name>
 
 fn register(
     alloc: Global,
-    constants: &[Constant],
+    constants: &Constants,
     mode: Judged<Mode>,
     parts: &[Tree],
 ) -> Judged<Pattern>
@@ -136,7 +137,7 @@ fn register(
     }
 }
 
-fn number_in(constants: &[Constant], parts: &[Tree]) -> Judged<i64>
+fn number_in(constants: &Constants, parts: &[Tree]) -> Judged<i64>
     ensures { result ≡ spec.or_aside reason.Parts (option_and_then (word.number_of constants.now)
         (spec.word_in parts.now)) }
 {
@@ -151,7 +152,7 @@ fn number_in(constants: &[Constant], parts: &[Tree]) -> Judged<i64>
 
 fn number(
     alloc: Global,
-    constants: &[Constant],
+    constants: &Constants,
     mode: Judged<Mode>,
     parts: &[Tree],
 ) -> Judged<Pattern>
@@ -363,7 +364,7 @@ fn inner(code: Code, parts: &[Tree]) -> Option<&[Tree]>
 /// A register, a number or a symbol.
 fn leaf(
     alloc: Global,
-    constants: &[Constant],
+    constants: &Constants,
     kind: Parts,
     mode: Judged<Mode>,
     parts: &[Tree],
@@ -396,7 +397,7 @@ fn matched(
 /// What stands behind a code, with the expressions in it.
 fn made(
     alloc: Global,
-    constants: &[Constant],
+    constants: &Constants,
     head: Head,
     parts: &[Tree],
     kids: Judged<Patterns>,
@@ -420,7 +421,7 @@ fn made(
 /// Each of some trees as an expression.
 #[cycle(read)]
 #[tactic(auto, using(crate::proofs::Each::joined_first, crate::proofs::Each::each_next, crate::proofs::Each::each_ends))]
-fn each(alloc: Global, constants: &[Constant], trees: &[Tree]) -> Result<Judged<Patterns>, Memory>
+fn each(alloc: Global, constants: &Constants, trees: &[Tree]) -> Result<Judged<Patterns>, Memory>
     ensures { IfOk result (λ patterns.
         patterns ≡ spec.each (map (spec.meaning_of constants.now) trees.now)) }
 {
@@ -433,7 +434,7 @@ fn each(alloc: Global, constants: &[Constant], trees: &[Tree]) -> Result<Judged<
 }
 
 #[cycle(read)]
-fn expression(alloc: Global, constants: &[Constant], tree: &Tree) -> Result<Judged<Pattern>, Memory>
+fn expression(alloc: Global, constants: &Constants, tree: &Tree) -> Result<Judged<Pattern>, Memory>
     ensures { IfOk result (λ pattern. pattern ≡ spec.pattern_of constants.now tree.now) }
 {
     let head = match head_of(tree) {
@@ -452,7 +453,7 @@ fn expression(alloc: Global, constants: &[Constant], tree: &Tree) -> Result<Judg
 
 /// A vector of expressions.
 #[tactic(auto, using(crate::proofs::Meanings::vector_out))]
-fn elements(alloc: Global, constants: &[Constant], tree: &Tree) -> Result<Judged<Patterns>, Memory>
+fn elements(alloc: Global, constants: &Constants, tree: &Tree) -> Result<Judged<Patterns>, Memory>
     ensures { IfOk result (λ patterns. patterns ≡ spec.patterns_of constants.now tree.now) }
 {
     if is_vector(tree) {
@@ -488,7 +489,7 @@ pub fn pattern_of(
     ensures reasons { IsSmallest (HasReason constants.now tree.now)
         (spec.pattern_of constants.now tree.now) }
 {
-    expression(alloc, constants.as_slice(), tree)
+    expression(alloc, constants, tree)
 }
 
 /// The patterns that a vector of a description writes, or the smallest reason that applies anywhere
@@ -506,5 +507,5 @@ pub fn patterns_of(
     ensures reasons { IsSmallest (VectorHasReason constants.now tree.now)
         (spec.patterns_of constants.now tree.now) }
 {
-    elements(alloc, constants.as_slice(), tree)
+    elements(alloc, constants, tree)
 }

@@ -13,7 +13,7 @@ use Rattle.md_forms.specs.md_tables.declared.tables.Tables.{Tables}
 use Rattle.md_forms.specs.md_tables.Tables.{defines_predicate, predicate_draft, predicate_of}
 use Rattle.md_forms.specs.md_tables.Predicates.{is_accepted}
 use Rattle.md_forms.specs.Forms.{judged_form, finished}
-use Rattle.md_forms.proofs.md_tables.FirstNames.{find_at_place}
+use Rattle.name_places.proofs.FirstNames.{find_at_place}
 use Rattle.md_pred.specs.Holds.{defines}
 
 abbrev pub named : List ℕ → PredicateDraft → Bool

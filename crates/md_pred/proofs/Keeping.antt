@@ -13,7 +13,7 @@ use Rattle.md_forms.specs.md_pattern.declared.reason.Reason.{Reason}
 use Rattle.md_forms.specs.md_draft.declared.head.FormHead.TheVariants as head
 use Rattle.md_forms.specs.declared.form.Form.{Form}
 use Rattle.md_forms.specs.declared.form.Entry.{Entry}
-use Rattle.md_forms.proofs.md_tables.TextKeys.{same_text}
+use Rattle.name_places.proofs.TextKeys.{same_text}
 use Rattle.pred_rows.specs.declared.node.Node.{Node}
 use Rattle.pred_rows.specs.Tests.{Accepts}
 use Rattle.pred_rows.proofs.Answering.{holds_still}

@@ -1,7 +1,6 @@
 pub mod Lists
 pub mod NameLaws
 pub mod DepthLaws
-pub use Rattle.name_places.proofs.TextKeys as TextKeys
 pub mod FirstNames
 pub use Rattle.md_draft.proofs as md_draft
 pub use Rattle.md_pattern.proofs as md_pattern

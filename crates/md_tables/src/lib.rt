@@ -5,17 +5,15 @@
 //! Of a name that is defined twice the first definition counts. A predicate is accepted where it
 //! names accepted ones alone, within as many rounds as there are forms (`specs/Predicates.antt`),
 //! so none that reaches itself is; the rounds are found by one walk. What is defined is found by
-//! its name at once ([`Definitions`]).
+//! its name at once (`name_places`).
 #![tactic(auto)]
 
-mod definitions;
 mod names;
 mod predicates;
 mod tables;
 mod walk;
 
 pub use c_cond::{Cond, CondHead, Prep};
-pub use definitions::{Definitions, Named};
 pub use md_draft::{
     Attribute, Defined, Draft, DraftEntry, FormHead, Made, Matched, Output, Printed, RegisterClass,
     entry_of,

@@ -4,10 +4,10 @@ ghost use Rattle.std.specs.List.{list_all};
 ghost use Rattle.md_tables.specs.Predicates as spec;
 ghost use Rattle.md_tables.specs.machine.Depths.{is_below, below, IsNext};
 
-use crate::definitions::Definitions;
 use crate::tables::PredicateDraft;
 use crate::walk::first_depths;
 use md_operand::Own;
+use name_places::NameTable;
 use plain_data::{Items, Memory};
 use rtx_tree::Name;
 use std::alloc::Global;
@@ -19,7 +19,7 @@ pub fn is_own(name: &[u8]) -> bool
     Own::named(name).is_some()
 }
 
-fn is_accepted(predicates: &Definitions<PredicateDraft>, accepted: &[bool], name: &[u8]) -> bool
+fn is_accepted(predicates: &NameTable<PredicateDraft>, accepted: &[bool], name: &[u8]) -> bool
     ensures { result ≡ spec.is_accepted predicates.now accepted.now name.now }
 {
     match predicates.place_of(name) {
@@ -32,18 +32,14 @@ fn is_accepted(predicates: &Definitions<PredicateDraft>, accepted: &[bool], name
 }
 
 /// Whether a predicate has no definition, or an accepted one.
-pub fn is_known(predicates: &Definitions<PredicateDraft>, accepted: &[bool], name: &[u8]) -> bool
+pub fn is_known(predicates: &NameTable<PredicateDraft>, accepted: &[bool], name: &[u8]) -> bool
     ensures { result ≡ spec.is_known predicates.now accepted.now name.now }
 {
     is_own(name) || is_accepted(predicates, accepted, name)
 }
 
 /// Whether all of some predicates are known.
-pub fn all_known(
-    predicates: &Definitions<PredicateDraft>,
-    accepted: &[bool],
-    names: &[Name],
-) -> bool
+pub fn all_known(predicates: &NameTable<PredicateDraft>, accepted: &[bool], names: &[Name]) -> bool
     ensures { result ≡ list_all (spec.is_known predicates.now accepted.now) names.now }
 {
     names
@@ -76,7 +72,7 @@ fn one_deeper(depth: Option<usize>, rounds: usize) -> Option<usize>
 
 /// How deep a definition goes that names this predicate alone.
 fn depth_below(
-    predicates: &Definitions<PredicateDraft>,
+    predicates: &NameTable<PredicateDraft>,
     depths: &[Option<usize>],
     rounds: usize,
     name: &[u8],
@@ -93,7 +89,7 @@ fn depth_below(
 
 /// How deep a definition goes that names these predicates.
 fn depth_below_all(
-    predicates: &Definitions<PredicateDraft>,
+    predicates: &NameTable<PredicateDraft>,
     depths: &[Option<usize>],
     rounds: usize,
     names: &[Name],
@@ -113,7 +109,7 @@ fn depth_below_all(
 
 /// How deep a definition goes. One that is not accepted has no depth.
 pub fn depth_of(
-    predicates: &Definitions<PredicateDraft>,
+    predicates: &NameTable<PredicateDraft>,
     depths: &[Option<usize>],
     rounds: usize,
     d: &PredicateDraft,
@@ -131,7 +127,7 @@ pub fn depth_of(
 /// One round: the depths of all definitions, where what they name is as deep as is told.
 fn round(
     alloc: Global,
-    predicates: &Definitions<PredicateDraft>,
+    predicates: &NameTable<PredicateDraft>,
     depths: &[Option<usize>],
     rounds: usize,
 ) -> Result<Items<Option<usize>>, Memory>
@@ -178,7 +174,7 @@ fn all_less(alloc: Global, depths: &[Option<usize>], rounds: usize) -> Result<It
 /// last. Those of the walk are right, so the first round changes nothing.
 pub fn accepted_within(
     alloc: Global,
-    predicates: &Definitions<PredicateDraft>,
+    predicates: &NameTable<PredicateDraft>,
     rounds: usize,
 ) -> Result<Items<bool>, Memory>
     ensures { IfOk result (λ accepted. accepted ≡ spec.accepted_within rounds predicates.now) }

@@ -4,12 +4,12 @@ ghost use Rattle.std.specs.Option.{option_copied};
 ghost use Rattle.md_tables.specs.Predicates.{is_known};
 ghost use Rattle.md_tables.specs.Tables as spec;
 
-use crate::definitions::{Definitions, Named};
 use crate::names::predicates_named;
 use crate::predicates::{accepted_within, all_known};
 use md_draft::{Draft, DraftEntry, FormHead};
 use md_pattern::Judged;
 use md_text::ConstraintNames;
+use name_places::{NameTable, Named};
 use plain_data::{Items, Memory};
 use rtx_tree::Name;
 use std::alloc::Global;
@@ -48,21 +48,12 @@ impl Named for ConstraintDraft {
     }
 }
 
-// A value of an attribute is its own name.
-impl Named for Name {
-    ghost name = { λ value. value };
-
-    fn name(&self) -> &[u8] {
-        self.bytes()
-    }
-}
-
 /// A definition of an attribute. One of its values is found at once.
 #[derive(Drop)]
 pub struct AttributeDraft {
     pub name: Name,
     pub accepted: bool,
-    pub values: Definitions<Name>,
+    pub values: NameTable<Name>,
 }
 
 impl Named for AttributeDraft {
@@ -76,13 +67,13 @@ impl Named for AttributeDraft {
 /// What the forms of a description define for one another.
 #[derive(Drop)]
 pub struct Tables {
-    pub predicates: Definitions<PredicateDraft>,
+    pub predicates: NameTable<PredicateDraft>,
     /// Which of the predicates are accepted.
     pub accepted: Items<bool>,
     /// The names of the constraints, the accepted and the others.
     pub constraint_names: ConstraintNames,
-    pub constraints: Definitions<ConstraintDraft>,
-    pub attributes: Definitions<AttributeDraft>,
+    pub constraints: NameTable<ConstraintDraft>,
+    pub attributes: NameTable<AttributeDraft>,
 }
 
 // ---- what a head defines
@@ -193,7 +184,7 @@ fn predicates_of(alloc: Global, entries: &[DraftEntry]) -> Result<Items<Predicat
 /// Whether a constraint's own parts are in order, and its predicates known.
 fn is_sound(
     alloc: Global,
-    predicates: &Definitions<PredicateDraft>,
+    predicates: &NameTable<PredicateDraft>,
     accepted: &[bool],
     draft: &Judged<Draft>,
 ) -> Result<bool, Memory>
@@ -211,7 +202,7 @@ fn is_sound(
 
 fn constraint_of(
     alloc: Global,
-    predicates: &Definitions<PredicateDraft>,
+    predicates: &NameTable<PredicateDraft>,
     accepted: &[bool],
     entry: &DraftEntry,
 ) -> Result<Option<ConstraintDraft>, Memory>
@@ -230,7 +221,7 @@ fn constraint_of(
 #[tactic(auto, using(crate::proofs::Lists::filter_map_found, crate::proofs::Lists::filter_map_passed), unfolding(crate::specs::Tables::constraints_of))]
 fn constraints_of(
     alloc: Global,
-    predicates: &Definitions<PredicateDraft>,
+    predicates: &NameTable<PredicateDraft>,
     accepted: &[bool],
     entries: &[DraftEntry],
 ) -> Result<Items<ConstraintDraft>, Memory>
@@ -257,7 +248,7 @@ fn names_of(alloc: Global, constraints: &[ConstraintDraft]) -> Result<Items<Name
 }
 
 /// Whether the first constraint of a name is accepted.
-pub fn is_constraint(constraints: &Definitions<ConstraintDraft>, name: &[u8]) -> bool
+pub fn is_constraint(constraints: &NameTable<ConstraintDraft>, name: &[u8]) -> bool
     ensures { result ≡ spec.is_constraint constraints.now name.now }
 {
     match constraints.first(name) {
@@ -301,12 +292,12 @@ fn attribute_draft(
                 draft.defined.values.as_slice(),
                 draft.defined.default.bytes(),
             ),
-            values: Definitions::of(alloc, copied_names(alloc, draft.defined.values.as_slice())?)?,
+            values: NameTable::of(alloc, copied_names(alloc, draft.defined.values.as_slice())?)?,
         }),
         Err(_) => Ok(AttributeDraft {
             name,
             accepted: false,
-            values: Definitions::of(alloc, Items::new(alloc))?,
+            values: NameTable::of(alloc, Items::new(alloc))?,
         }),
     }
 }
@@ -338,28 +329,28 @@ fn attributes_of(alloc: Global, entries: &[DraftEntry]) -> Result<Items<Attribut
 fn predicate_table(
     alloc: Global,
     entries: &[DraftEntry],
-) -> Result<Definitions<PredicateDraft>, Memory>
+) -> Result<NameTable<PredicateDraft>, Memory>
     ensures { IfOk result (λ ds. ds ≡ spec.predicates_of entries.now) }
 {
-    Definitions::of(alloc, predicates_of(alloc, entries)?)
+    NameTable::of(alloc, predicates_of(alloc, entries)?)
 }
 
 fn attribute_table(
     alloc: Global,
     entries: &[DraftEntry],
-) -> Result<Definitions<AttributeDraft>, Memory>
+) -> Result<NameTable<AttributeDraft>, Memory>
     ensures { IfOk result (λ ds. ds ≡ spec.attributes_of entries.now) }
 {
-    Definitions::of(alloc, attributes_of(alloc, entries)?)
+    NameTable::of(alloc, attributes_of(alloc, entries)?)
 }
 
 /// The names of the constraints, and the constraints.
 fn constraint_table(
     alloc: Global,
-    predicates: &Definitions<PredicateDraft>,
+    predicates: &NameTable<PredicateDraft>,
     accepted: &[bool],
     entries: &[DraftEntry],
-) -> Result<(ConstraintNames, Definitions<ConstraintDraft>), Memory>
+) -> Result<(ConstraintNames, NameTable<ConstraintDraft>), Memory>
     ensures names { IfOk result (λ table. table.0 ≡ map (λ k. k.name)
         (spec.constraints_of (is_known predicates.now accepted.now) entries.now)) }
     ensures constraints { IfOk result (λ table. table.1 ≡ spec.constraints_of
@@ -367,20 +358,20 @@ fn constraint_table(
 {
     let constraints = constraints_of(alloc, predicates, accepted, entries)?;
     let names = ConstraintNames::of(alloc, names_of(alloc, constraints.as_slice())?)?;
-    Ok((names, Definitions::of(alloc, constraints)?))
+    Ok((names, NameTable::of(alloc, constraints)?))
 }
 
 /// The constraints as above, and the attributes.
 fn constraints_and_attributes(
     alloc: Global,
-    predicates: &Definitions<PredicateDraft>,
+    predicates: &NameTable<PredicateDraft>,
     accepted: &[bool],
     entries: &[DraftEntry],
 ) -> Result<
     (
         ConstraintNames,
-        Definitions<ConstraintDraft>,
-        Definitions<AttributeDraft>,
+        NameTable<ConstraintDraft>,
+        NameTable<AttributeDraft>,
     ),
     Memory,
 >
@@ -399,7 +390,7 @@ fn constraints_and_attributes(
 fn tables_with(
     alloc: Global,
     entries: &[DraftEntry],
-    predicates: Definitions<PredicateDraft>,
+    predicates: NameTable<PredicateDraft>,
     accepted: Items<bool>,
 ) -> Result<Tables, Memory>
     ensures { IfOk result (λ tables. tables ≡ spec.tables_with entries.now predicates accepted

@@ -1,8 +1,8 @@
 //! A walk through the definitions of predicates, each behind those that it names.
 
-use crate::definitions::Definitions;
 use crate::predicates::{depth_of, is_own};
 use crate::tables::PredicateDraft;
+use name_places::NameTable;
 use plain_data::Memory;
 use std::alloc::Global;
 
@@ -66,7 +66,7 @@ impl Walk {
     }
 
     /// Puts the definition of a name on the stack, where it was not met.
-    fn ask(&mut self, predicates: &Definitions<PredicateDraft>, name: &[u8]) -> Result<(), Memory> {
+    fn ask(&mut self, predicates: &NameTable<PredicateDraft>, name: &[u8]) -> Result<(), Memory> {
         if is_own(name) {
             return Ok(());
         }
@@ -83,7 +83,7 @@ impl Walk {
     /// Puts the definitions on the stack that a definition names.
     fn ask_uses(
         &mut self,
-        predicates: &Definitions<PredicateDraft>,
+        predicates: &NameTable<PredicateDraft>,
         d: &PredicateDraft,
     ) -> Result<(), Memory> {
         for name in d.uses.as_slice() {
@@ -96,7 +96,7 @@ impl Walk {
     /// depth is found.
     fn go_on(
         &mut self,
-        predicates: &Definitions<PredicateDraft>,
+        predicates: &NameTable<PredicateDraft>,
         rounds: usize,
         place: usize,
         d: &PredicateDraft,
@@ -120,7 +120,7 @@ impl Walk {
     /// Goes on with the definition on top of the stack, and says whether there was one.
     fn next(
         &mut self,
-        predicates: &Definitions<PredicateDraft>,
+        predicates: &NameTable<PredicateDraft>,
         rounds: usize,
     ) -> Result<bool, Memory> {
         let Some(place) = self.stack.pop() else {
@@ -149,7 +149,7 @@ fn count_uses(predicates: &[PredicateDraft]) -> usize {
 /// No contract says that they are right: a round follows that looks at each once more.
 pub fn first_depths(
     alloc: Global,
-    predicates: &Definitions<PredicateDraft>,
+    predicates: &NameTable<PredicateDraft>,
     rounds: usize,
 ) -> Result<Vec<Option<usize>>, Memory> {
     let count = predicates.as_slice().len();

@@ -1,1 +1,2 @@
 pub mod TextKeys
+pub mod FirstNames

@@ -20,8 +20,9 @@ use crate::texts::test_condition;
 use lisp_read::{Tree, atom, head_words, items, string};
 use md_pattern::{Judged, Reason, both, number_in};
 use md_text::members_of;
+use name_places::Constants;
 use plain_data::{Items, Memory};
-use rtx_tree::{Code, Constants, Mode, Name};
+use rtx_tree::{Code, Mode, Name};
 use std::alloc::Global;
 
 /// What stands at the head of a test.

@@ -7,8 +7,8 @@ ghost use Rattle.pred_expr.specs.Texts as spec;
 
 use c_cond::{Cond, CondRefusal, Prep, parse_cond, parse_prep, parse_test};
 use md_pattern::{Judged, Reason};
+use name_places::{Constants, NameTable};
 use plain_data::{Items, Memory};
-use rtx_tree::Constants;
 use std::alloc::Global;
 
 /// The condition of a form that a text is, or `Condition` where the text is outside the grammar.
@@ -59,7 +59,8 @@ pub fn statements(alloc: Global, text: &[u8], constants: &Constants) -> Result<J
 pub fn no_condition(alloc: Global) -> Result<Cond, Memory>
     ensures { IfOk result (λ cond. cond ≡ spec.always) }
 {
-    match parse_cond(alloc, b"", &Items::new(alloc)) {
+    let none = NameTable::of(alloc, Items::new(alloc))?;
+    match parse_cond(alloc, b"", &none) {
         Ok(cond) => Ok(cond),
         Err(_) => Err(Memory),
     }
@@ -69,7 +70,8 @@ pub fn no_condition(alloc: Global) -> Result<Cond, Memory>
 pub fn no_statements(alloc: Global) -> Result<Prep, Memory>
     ensures { IfOk result (λ prep. prep ≡ spec.nothing) }
 {
-    match parse_prep(alloc, b"", &Items::new(alloc)) {
+    let none = NameTable::of(alloc, Items::new(alloc))?;
+    match parse_prep(alloc, b"", &none) {
         Ok(prep) => Ok(prep),
         Err(_) => Err(Memory),
     }

@@ -20,7 +20,9 @@ fn takes_here(x: &Rtx, number: u32) -> bool
         spec.has_number number (inputs.taken_here (head_of x.now).code (head_of x.now).number) }
 {
     match x.code {
-        Code::MatchOperand | Code::MatchDup | Code::MatchOperator => is_numbered(x, number),
+        Code::MatchOperand | Code::MatchDup | Code::MatchScratch | Code::MatchOperator => {
+            is_numbered(x, number)
+        }
         _ => false,
     }
 }

@@ -13,22 +13,22 @@ use Rattle.md_forms.specs.Forms.{names_of}
 use Rattle.form_needs.specs.Needs.{name_at}
 use Rattle.new_insns.specs.Replaced.{replaced}
 use Rattle.law_insn_replaced.specs.insn_replace.Replace.{made, ReplacedComes}
-use Rattle.split.specs.declared.stage.SplitStage.{SplitStage}
+use Rattle.pass_name.specs.declared.pass.Pass.{Pass}
 use Rattle.split.specs.Split.{Answer, IsSplit, SplitFrom, SplitComes}
 use Rattle.split.specs.Left.{IsLeft, AreLeft}
 use Rattle.split.proofs.Made.{comes_to, replaced_behind}
 use Rattle.law_insn_replaced.proofs.Lists.{before_it}
 use Rattle.split.proofs.One.{same_at}
 
-module _ (forms : List Entry) (stage : SplitStage) where
+module _ (forms : List Entry) (pass : Pass) where
   -- ---- what holds of a function and of each that an instruction of it is replaced in
 
   -- what is kept where an instruction is split
   abbrev pub IsKept : (Function → Type 0) → Type 0
   IsKept P = (f g : Function) (place : ℕ) (i : Insn) (form : ℕ) (sequence : List Rtx) → slice_get f.insns place ≡ Some i →
-      IsSplit forms stage (next_pseudo f.insns) i form sequence → ReplacedComes f place i (name_at (names_of forms) form) sequence (Ok g) → P f → P g
+      IsSplit forms pass (next_pseudo f.insns) i form sequence → ReplacedComes f place i (name_at (names_of forms) form) sequence (Ok g) → P f → P g
 
-  kept_from : (P : Function → Type 0) → IsKept P → (depths : List ℕ) (f : Function) (place : ℕ) (answer : Answer) (g : Function) → answer ≡ Ok g → SplitFrom forms stage depths f place answer → P f → P g
+  kept_from : (P : Function → Type 0) → IsKept P → (depths : List ℕ) (f : Function) (place : ℕ) (answer : Answer) (g : Function) → answer ≡ Ok g → SplitFrom forms pass depths f place answer → P f → P g
   kept_from P keeps _ _ _ _ g same (SplitFrom.done f place) holds = subst P (let is : f ≡ g = cc in is) holds
   kept_from P keeps _ _ _ _ g same (SplitFrom.stays depth depths f place i answer at none more) holds = kept_from P keeps depths f (place + 1) answer g same more holds
   kept_from P keeps _ _ _ _ g same (SplitFrom.deep depth depths f place i form s at is deep) holds = absurd (let never : ⊥ = cc in never)
@@ -36,20 +36,20 @@ module _ (forms : List Entry) (stage : SplitStage) where
   kept_from P keeps _ _ _ _ g same (SplitFrom.split depth depths f h place i form s answer at is shallow comes more) holds =
       kept_from P keeps (replicate (length s) (depth + 1) ++ depths) h place answer g same more (keeps f h place i form s at is comes holds)
 
-  pub kept : (P : Function → Type 0) → IsKept P → (f g : Function) → SplitComes forms stage f (Ok g) → P f → P g
+  pub kept : (P : Function → Type 0) → IsKept P → (f g : Function) → SplitComes forms pass f (Ok g) → P f → P g
   kept P keeps f g comes holds = kept_from P keeps (replicate (length f.insns) 0) f 0 (Ok g) g refl comes holds
 
   -- ---- each instruction was tried
 
   abbrev AreTried : Function → ℕ → Type 0
-  AreTried f place = (p : ℕ) (i : Insn) → p < place → slice_get f.insns p ≡ Some i → IsLeft forms stage i
+  AreTried f place = (p : ℕ) (i : Insn) → p < place → slice_get f.insns p ≡ Some i → IsLeft forms pass i
 
-  one_more : (f : Function) (place : ℕ) (i : Insn) → slice_get f.insns place ≡ Some i → IsLeft forms stage i → AreTried f place → AreTried f (place + 1)
+  one_more : (f : Function) (place : ℕ) (i : Insn) → slice_get f.insns place ≡ Some i → IsLeft forms pass i → AreTried f place → AreTried f (place + 1)
   one_more f place i at left tried p j below there = ⊎_elim
       (λ (before : p < place). tried p j before there)
       (λ (reached : place ≤ p).
       let here : place ≡ p = omega (arith, below, reached) in
-      subst (IsLeft forms stage) (same_at f.insns place i j at (subst (λ (q : ℕ). slice_get f.insns q ≡ Some j) (sym here) there)) left)
+      subst (IsLeft forms pass) (same_at f.insns place i j at (subst (λ (q : ℕ). slice_get f.insns q ≡ Some j) (sym here) there)) left)
       (cases_lt p place)
 
   still : (f h : Function) (place : ℕ) (i : Insn) (rule : List ℕ) (s : List Rtx) → slice_get f.insns place ≡ Some i → ReplacedComes f place i rule s (Ok h) → AreTried f place → AreTried h place
@@ -58,10 +58,10 @@ module _ (forms : List Entry) (stage : SplitStage) where
       let stands : slice_get (replaced f place (place + 1) (made f i s)).insns p ≡ Some j = subst (λ (k : Function). slice_get k.insns p ≡ Some j) (comes_to f h place i rule s comes) there in
       tried p j below (before_it f.insns (made f i s ++ drop (place + 1) f.insns) p place j below (omega (arith, within)) stands)
 
-  left_from : (depths : List ℕ) (f : Function) (place : ℕ) (answer : Answer) (g : Function) → answer ≡ Ok g → SplitFrom forms stage depths f place answer → length f.insns ≡ place + length depths → AreTried f place → AreLeft forms stage g
+  left_from : (depths : List ℕ) (f : Function) (place : ℕ) (answer : Answer) (g : Function) → answer ≡ Ok g → SplitFrom forms pass depths f place answer → length f.insns ≡ place + length depths → AreTried f place → AreLeft forms pass g
   left_from _ _ _ _ g same (SplitFrom.done f place) long tried =
       let end : length f.insns ≡ place = omega (arith, long) in
-      subst (AreLeft forms stage) (let is : f ≡ g = cc in is) (λ p i at. tried p i (let within : p < length f.insns = slice_get_within f.insns p i at in omega (arith, end, within)) at)
+      subst (AreLeft forms pass) (let is : f ≡ g = cc in is) (λ p i at. tried p i (let within : p < length f.insns = slice_get_within f.insns p i at in omega (arith, end, within)) at)
   left_from _ _ _ _ g same (SplitFrom.stays depth depths f place i answer at none more) long tried =
       left_from depths f (place + 1) answer g same more (omega (arith, long)) (one_more f place i at (next_pseudo f.insns, none) tried)
   left_from _ _ _ _ g same (SplitFrom.deep depth depths f place i form s at is deep) long tried = absurd (let never : ⊥ = cc in never)
@@ -73,7 +73,7 @@ module _ (forms : List Entry) (stage : SplitStage) where
       let all : length (replicate (length s) (depth + 1) ++ depths) ≡ length (replicate (length s) (depth + 1)) + length depths = length-append (replicate (length s) (depth + 1)) depths in
       left_from (replicate (length s) (depth + 1) ++ depths) h place answer g same more (omega (arith, long, behind, deeper, all)) (still f h place i (name_at (names_of forms) form) s at comes tried)
 
-  pub all_left : (f g : Function) → SplitComes forms stage f (Ok g) → AreLeft forms stage g
+  pub all_left : (f g : Function) → SplitComes forms pass f (Ok g) → AreLeft forms pass g
   all_left f g comes =
       let long : length {A = ℕ} (replicate (length f.insns) 0) ≡ length f.insns = length-replicate (length f.insns) 0 in
       left_from (replicate (length f.insns) 0) f 0 (Ok g) g refl comes (omega (arith, long)) (λ p i below at. absurd (let never : ⊥ = omega (arith, below) in never))

@@ -3,12 +3,13 @@
 //! [`split`] replaces each instruction that a split form of a description matches by what the first
 //! such form emits, where that is equated with the instruction over the registers that are live
 //! behind it, and tries the new instructions again (`specs/Split.antt`). At most eight splits
-//! follow from one another. `specs/Left.antt` says what it leaves of a function.
+//! follow from one another. It is told which pass it is: before registers have homes new pseudo
+//! registers may be made, and a sequence that names a hard register other than those of arguments
+//! counts as that of a form that fails. `specs/Left.antt` says what it leaves of a function.
 #![tactic(auto)]
 
 mod form;
+mod homes;
 mod pass;
-mod stage;
 
 pub use pass::split;
-pub use stage::SplitStage;

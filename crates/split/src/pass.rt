@@ -14,15 +14,15 @@ ghost use Rattle.split.specs.Split as spec;
 ghost use Rattle.split.specs.Split.{Answer, IsSplit, SplitComes};
 ghost use Rattle.rtx_tree.specs.Limit.{most_splits};
 ghost use Rattle.split.specs.Left.{AreLeft, AreOldOrNew, AreNatural};
-ghost use Rattle.split.specs.declared.stage.SplitStage.{SplitStage};
-ghost use Rattle.split.specs.declared.stage.SplitStage.TheVariants.{BeforeReload};
+ghost use Rattle.pass_name.specs.declared.pass.Pass.{Pass};
+ghost use Rattle.pass_name.specs.declared.pass.Pass.TheVariants.{Split1};
 ghost use Rattle.split.specs.machine.Runs.{FoundSplits, PlaceSplits, RunSplits};
 
 use crate::form::{FormSplit, first_split};
-use crate::stage::SplitStage;
 use insn_replace::replace_insn;
 use live_chain::LiveChain;
 use md_desc::Description;
+use pass_name::Pass;
 use pass_refusal::PassRefusal;
 use plain_data::Memory;
 use rtx_tree::{Function, Limit, MOST_SPLITS};
@@ -65,7 +65,7 @@ fn place_behind(place: u32) -> Result<u32, Memory>
 fn split_by(
     alloc: Global,
     desc: &Description,
-    stage: SplitStage,
+    pass: Pass,
     chain: &mut LiveChain,
     place: u32,
     depth: u32,
@@ -73,8 +73,8 @@ fn split_by(
 ) -> Result<u32, PassRefusal>
     requires within { place < length chain.old.insns }
     requires found { (i : Insn) → slice_get chain.old.insns place ≡ Some i →
-        IsSplit desc.now stage (next_pseudo chain.old.insns) i found.form found.sequence }
-    ensures { FoundSplits desc.now stage depth chain.old place chain.new result }
+        IsSplit desc.now pass (next_pseudo chain.old.insns) i found.form found.sequence }
+    ensures { FoundSplits desc.now pass depth chain.old place chain.new result }
 {
     if depth >= MOST_SPLITS {
         return Err(too_deep());
@@ -87,19 +87,19 @@ fn split_by(
 fn split_place(
     alloc: Global,
     desc: &Description,
-    stage: SplitStage,
+    pass: Pass,
     chain: &mut LiveChain,
     place: u32,
     depth: u32,
 ) -> Result<Option<u32>, PassRefusal>
     requires { place < length chain.old.insns }
-    ensures { PlaceSplits desc.now stage depth chain.old place chain.new result }
+    ensures { PlaceSplits desc.now pass depth chain.old place chain.new result }
 {
     let next = next_pseudo(chain)?;
     let insn = chain.insn(place);
-    match first_split(alloc, desc, stage, next, insn)? {
+    match first_split(alloc, desc, pass, next, insn)? {
         Some(found) => {
-            let made = split_by(alloc, desc, stage, chain, place, depth, found)?;
+            let made = split_by(alloc, desc, pass, chain, place, depth, found)?;
             Ok(Some(made))
         }
         None => Ok(None),
@@ -111,7 +111,7 @@ fn split_place(
 fn split_run(
     alloc: Global,
     desc: &Description,
-    stage: SplitStage,
+    pass: Pass,
     chain: &mut LiveChain,
     place: u32,
     count: u32,
@@ -119,13 +119,13 @@ fn split_run(
 ) -> Result<u32, PassRefusal>
     requires within { place + count ≤ length chain.old.insns }
     requires depth { depth ≤ most_splits }
-    ensures { RunSplits desc.now stage count depth chain.old place chain.new result }
+    ensures { RunSplits desc.now pass count depth chain.old place chain.new result }
 {
     let mut at = place;
     let mut left = count;
     while left > 0 {
-        match split_place(alloc, desc, stage, chain, at, depth)? {
-            Some(made) => at = split_run(alloc, desc, stage, chain, at, made, depth + 1)?,
+        match split_place(alloc, desc, pass, chain, at, depth)? {
+            Some(made) => at = split_run(alloc, desc, pass, chain, at, made, depth + 1)?,
             None => at = place_behind(at)?,
         }
         left -= 1;
@@ -138,16 +138,16 @@ fn split_all(
     alloc: Global,
     desc: &Description,
     f: Function,
-    stage: SplitStage,
+    pass: Pass,
 ) -> Result<Function, PassRefusal>
-    ensures { Gives result (SplitComes desc.now stage f) }
+    ensures { Gives result (SplitComes desc.now pass f) }
 {
     if f.insns.len() > u32::MAX as usize {
         return Err(PassRefusal::Memory);
     }
     let count = f.insns.len() as u32;
     let mut chain = LiveChain::of(alloc, f);
-    split_run(alloc, desc, stage, &mut chain, 0, count, 0)?;
+    split_run(alloc, desc, pass, &mut chain, 0, count, 0)?;
     Ok(chain.into_function(alloc)?)
 }
 
@@ -164,25 +164,25 @@ pub fn split(
     alloc: Global,
     desc: &Description,
     f: Function,
-    stage: SplitStage,
+    pass: Pass,
 ) -> Result<Function, PassRefusal>
-    ensures gives { Gives result (SplitComes desc.now stage f) }
-    ensures one { (forms : List Entry) (stage : SplitStage) (f : Function) (a b : Answer) →
-        SplitComes forms stage f a → SplitComes forms stage f b → a ≡ b }
-    ensures left { (forms : List Entry) (stage : SplitStage) (f g : Function) →
-        SplitComes forms stage f (Ok g) → AreLeft forms stage g }
-    ensures marks { (forms : List Entry) (stage : SplitStage) (f g : Function) →
-        SplitComes forms stage f (Ok g) → SameMarks f g }
-    ensures new { (forms : List Entry) (stage : SplitStage) (f g : Function) →
-        SplitComes forms stage f (Ok g) → AreOldOrNew stage f g }
-    ensures uids { (forms : List Entry) (stage : SplitStage) (f g : Function) → UidsDiffer f →
-        SplitComes forms stage f (Ok g) → UidsDiffer g }
-    ensures natural { (forms : List Entry) (stage : SplitStage) (f g : Function) → AreNatural f →
-        SplitComes forms stage f (Ok g) → AreNatural g }
-    ensures does { (forms : List Entry) (stage : SplitStage) (f g : Function) → MarksAreEmpty f →
-        AreNatural f → SplitComes forms stage f (Ok g) → Keeps f g }
+    ensures gives { Gives result (SplitComes desc.now pass f) }
+    ensures one { (forms : List Entry) (pass : Pass) (f : Function) (a b : Answer) →
+        SplitComes forms pass f a → SplitComes forms pass f b → a ≡ b }
+    ensures left { (forms : List Entry) (pass : Pass) (f g : Function) →
+        SplitComes forms pass f (Ok g) → AreLeft forms pass g }
+    ensures marks { (forms : List Entry) (pass : Pass) (f g : Function) →
+        SplitComes forms pass f (Ok g) → SameMarks f g }
+    ensures new { (forms : List Entry) (pass : Pass) (f g : Function) →
+        SplitComes forms pass f (Ok g) → AreOldOrNew pass f g }
+    ensures uids { (forms : List Entry) (pass : Pass) (f g : Function) → UidsDiffer f →
+        SplitComes forms pass f (Ok g) → UidsDiffer g }
+    ensures natural { (forms : List Entry) (pass : Pass) (f g : Function) → AreNatural f →
+        SplitComes forms pass f (Ok g) → AreNatural g }
+    ensures does { (forms : List Entry) (pass : Pass) (f g : Function) → MarksAreEmpty f →
+        AreNatural f → SplitComes forms pass f (Ok g) → Keeps f g }
     ensures kept { (forms : List Entry) (f g : Function) → IsSound f →
-        SplitComes forms BeforeReload f (Ok g) → PassKeeps f g }
+        SplitComes forms Split1 f (Ok g) → PassKeeps f g }
 {
-    split_all(alloc, desc, f, stage)
+    split_all(alloc, desc, f, pass)
 }

@@ -1,10 +1,9 @@
 -- Where names stand first in a list.
 use Rattle.std.specs.Prelude.{ℕ, Bool, true, false, List, Option}
-use Rattle.std.specs.Str.{bytes_eq}
-use Rattle.std.specs.HashMap.{get_by}
 use Rattle.md_iter.specs.declared.definition.DefinitionKind.{DefinitionKind}
 use Rattle.md_iter.specs.declared.definition.DefinitionKind.TheVariants.{Mode, Code, Int}
-use Rattle.md_iter.specs.declared.firsts.Places.{Places}
+use Rattle.name_places.specs.declared.places.Places.{Places}
+use Rattle.name_places.specs.Places.{place_in}
 use Rattle.md_iter.specs.declared.firsts.KindPlaces.{KindPlaces}
 
 -- whether two kinds are the same, for lists that the definitions of a text are kept in
@@ -13,10 +12,6 @@ agree Mode Mode = true
 agree Code Code = true
 agree Int Int = true
 agree _ _ = false
-
--- the place of a name
-abbrev pub place_in : Places → List ℕ → Option ℕ
-place_in places name = get_by (λ text. bytes_eq name text.items) places.by_name
 
 -- the places of the names of a kind
 abbrev pub of_kind : KindPlaces → DefinitionKind → Places

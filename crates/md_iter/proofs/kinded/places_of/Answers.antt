@@ -1,7 +1,7 @@
 use Rattle.std.proofs.Common.{◌≤◌, ◌<◌, ◌&&◌, ap, ◌∙◌, rules, length}
 use Rattle.std.specs.Str.{bytes_eq}
 use Rattle.md_iter.specs.machine.Firsts.{agree}
-use Rattle.md_iter.proofs.FirstNames.{position_next, position_all}
+use Rattle.name_places.proofs.FirstNames.{position_next, position_all}
 use Rattle.md_iter.proofs.kinded.places_of.Goals as goal
 
 pub loop-at-preserved : goal.loop-at-preserved

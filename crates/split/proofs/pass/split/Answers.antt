@@ -6,25 +6,25 @@ use Rattle.split.proofs.Sound.{split_does, split_kept}
 use Rattle.split.proofs.pass.split.Goals as goal
 
 pub returns-clause-one : goal.returns-clause-one
-returns-clause-one c = λ forms stage f a b p q. one_split forms stage f a b p q
+returns-clause-one c = λ forms pass f a b p q. one_split forms pass f a b p q
 
 pub returns-clause-left : goal.returns-clause-left
-returns-clause-left c = λ forms stage f g comes. all_left forms stage f g comes
+returns-clause-left c = λ forms pass f g comes. all_left forms pass f g comes
 
 pub returns-clause-marks : goal.returns-clause-marks
-returns-clause-marks c = λ forms stage f g comes. same_marks forms stage f g comes
+returns-clause-marks c = λ forms pass f g comes. same_marks forms pass f g comes
 
 pub returns-clause-new : goal.returns-clause-new
-returns-clause-new c = λ forms stage f g comes. old_or_new forms stage f g comes
+returns-clause-new c = λ forms pass f g comes. old_or_new forms pass f g comes
 
 pub returns-clause-uids : goal.returns-clause-uids
-returns-clause-uids c = λ forms stage f g differ comes. uids_differ forms stage f g differ comes
+returns-clause-uids c = λ forms pass f g differ comes. uids_differ forms pass f g differ comes
 
 pub returns-clause-natural : goal.returns-clause-natural
-returns-clause-natural c = λ forms stage f g natural comes. are_natural forms stage f g natural comes
+returns-clause-natural c = λ forms pass f g natural comes. are_natural forms pass f g natural comes
 
 pub returns-clause-does : goal.returns-clause-does
-returns-clause-does c = λ forms stage f g marks natural comes. split_does forms stage f g marks natural comes
+returns-clause-does c = λ forms pass f g marks natural comes. split_does forms pass f g marks natural comes
 
 pub returns-clause-kept : goal.returns-clause-kept
 returns-clause-kept c = λ forms f g sound comes. split_kept forms f g sound comes

@@ -1,7 +1,7 @@
 use Rattle.std.proofs.Common.{◌≡◌, ap, ◌∙◌, rules, None}
 use Rattle.std.specs.Map.{lookup}
 use Rattle.std.specs.Str.{bytes_eq}
-use Rattle.md_forms.proofs.md_tables.TextKeys.{found_last}
+use Rattle.name_places.proofs.TextKeys.{found_last}
 use Rattle.md_constr.specs.machine.Tables.{meaning_in}
 use Rattle.md_constr.proofs.meanings.Meanings.put.Goals as goal
 

@@ -2,7 +2,7 @@ use Rattle.std.proofs.Common.{◌≡◌, ◌+◌, ap, ◌∙◌, rules, unwrap_o
 use Rattle.std.specs.Map.{lookup}
 use Rattle.std.specs.Str.{bytes_eq}
 use Rattle.md_forms.specs.machine.Counts.{count_in}
-use Rattle.md_tables.proofs.TextKeys.{found_apart, found_itself}
+use Rattle.name_places.proofs.TextKeys.{found_apart, found_itself}
 use Rattle.md_forms.proofs.shown.HeadCounts.count.Goals as goal
 
 pub returns-clause-more : goal.returns-clause-more

@@ -1,7 +1,7 @@
 use Rattle.std.proofs.Common.{sym, ap, ◌∙◌, slice_get}
 use Rattle.std.specs.Str.{bytes_eq}
-use Rattle.md_iter.proofs.FirstNames.{find_at_place, find_nowhere, given}
-use Rattle.md_iter.proofs.named.NamedItems.first.Goals as goal
+use Rattle.name_places.proofs.FirstNames.{find_at_place, find_nowhere, given}
+use Rattle.name_places.proofs.table.NameTable.first.Goals as goal
 
 pub returns-in-Some : goal.returns-in-Some
 returns-in-Some g c =

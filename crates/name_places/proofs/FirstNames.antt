@@ -1,7 +1,7 @@
 -- The first of a list's elements that has a name.
 use Rattle.std.proofs.Common.{◌≡◌, ℕ, ◌+◌, ◌<◌, ◌≤◌, Bool, true, false, cond, List, [], ◌∷◌, ◌++◌, Option, Some, None, length, take, get_or, position, slice_get, refl, sym, ap, ◌∙◌, arith}
-use Rattle.std.specs.List.{find, position_or_len, HoldsAt}
-use Rattle.std.specs.Option.{option_or, option_copied, MatchOption}
+use Rattle.std.specs.List.{find, list_any, position_or_len, HoldsAt}
+use Rattle.std.specs.Option.{is_some, option_or, option_copied, MatchOption}
 use denote.Ref.{Bor}
 use Rattle.std.proofs.lemmas.List.{take_all, take_more, length-append, length-take}
 use Rattle.std.proofs.lemmas.Option.{slice_get_past, slice_get-get_or}
@@ -39,6 +39,15 @@ module _ {X : Type 0} (p : X → Bool) where
 
   pub find_nowhere : (xs : List X) → position p xs ≡ None → find p xs ≡ None
   find_nowhere xs is = grind (arith, find_at p xs, is, slice_get_past xs (position_or_len p xs))
+
+  -- one stands somewhere where one passes
+  pub found_among : (xs : List X) → is_some (position p xs) ≡ list_any p xs
+  found_among [] = refl
+  found_among (x ∷ xs) = by_test (p x) refl (found_among xs)
+    where
+      by_test : (b : Bool) → p x ≡ b → is_some (position p xs) ≡ list_any p xs → is_some (position p (x ∷ xs)) ≡ list_any p (x ∷ xs)
+      by_test true e ih = rw e (grind arith)
+      by_test false e ih = rw e (grind (arith, ih))
 
 -- what a slice's `get` gives
 pub given : {X : Type 0} (o : Option (Bor X)) (xs : List X) (k : ℕ) → MatchOption o (length xs ≤ k) (λ x. (k < length xs) × HoldsAt (λ y. x.now ≡ y) xs k) → option_copied o ≡ slice_get xs k

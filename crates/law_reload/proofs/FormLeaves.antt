@@ -37,7 +37,7 @@ use Rattle.md_forms.specs.md_tables.declared.tables.Tables.{Tables}
 use Rattle.md_forms.specs.Checks.{unless, form_with, constraints_of, reason_of, form_of}
 use Rattle.md_forms.specs.Forms.{judged_form, finished, forms_in, draft_entry, forms_of}
 use Rattle.md_forms.specs.md_tables.Tables.{tables_of}
-use Rattle.law_reload_moves.specs.Places.{is_leaf}
+use Rattle.law_reload_moves.specs.law_operands_replaced.Places.{is_leaf}
 use Rattle.reload.specs.Reload.{patterns_by, patterns_in, patterns_at}
 use Rattle.law_reload.proofs.PatternLeaves.{OnOk, on_map, on_both, Any, any_read, HasLeaves, HaveLeaves, tree_leaf, PatternsLeaves, patterns_leaves}
 

@@ -20,10 +20,10 @@ use Rattle.law_reload_moves.specs.reload_choice.Insns.{between, insns_before, in
 use Rattle.law_reload_moves.specs.reload_choice.declared.given.Plan.{Plan}
 use Rattle.reload.specs.Reload.{placed, given_by, patterns_at}
 use Rattle.reload.specs.Windows.{HasWindows}
-use Rattle.law_reload_moves.specs.Places.{is_leaf}
+use Rattle.law_reload_moves.specs.law_operands_replaced.Places.{is_leaf}
 use Rattle.law_reload_moves.proofs.CallInner.{plan_results}
 use Rattle.law_reload_moves.proofs.InputPlaces.{no_operator_of}
-use Rattle.law_reload_moves.proofs.Keeping.{Stay}
+use Rattle.law_reload_moves.proofs.law_operands_fetched.Keeping.{Stay}
 use Rattle.law_reload_moves.proofs.Leads as leads
 use Rattle.law_reload_moves.proofs.PlainAround.{none_behind}
 use Rattle.law_reload_moves.proofs.PlainLeads.{plain_leads}

@@ -24,8 +24,8 @@ use Rattle.law_reload_moves.specs.law_frame.Frame.{plain_insns}
 use Rattle.law_reload_moves.proofs.law_window_replaced.Stands.{Stands}
 use Rattle.law_homes.proofs.Plain.{plain_keeps}
 use Rattle.law_homes.proofs.Setting.{Setting, StandsIn}
-use Rattle.law_reload_moves.specs.Onwards.{ArePlain}
-use Rattle.law_reload_moves.proofs.PlainWindow.{ComesTo}
+use Rattle.law_reload_moves.specs.law_operands_fetched.Onwards.{ArePlain}
+use Rattle.law_reload_moves.proofs.law_operands_fetched.PlainWindow.{ComesTo}
 use Rattle.reload.specs.Reload.{window_by}
 use Rattle.law_reload.specs.Steps.{Kept}
 use Rattle.law_reload.proofs.Law.{pair_of}

@@ -10,12 +10,12 @@ use Rattle.rtl_step.specs.declared.effect.Effect.{Effect}
 use Rattle.rtl_step.specs.declared.step.State.{State}
 use Rattle.rtl_step.specs.declared.step.StepEnd.TheVariants as ends
 use Rattle.law_reload_moves.specs.law_frame.Frame.{plain_insns}
-use Rattle.law_reload_moves.specs.Onwards.{Onwards, ArePlain}
-use Rattle.law_reload_moves.specs.Onwards as onwards
-use Rattle.law_reload_moves.specs.Spare.{KeepsRest}
-use Rattle.law_reload_moves.proofs.Keeping.{Stay}
-use Rattle.law_reload_moves.proofs.PlainWindow.{ComesTo}
-use Rattle.law_reload_moves.proofs.Registers.{value_alike}
+use Rattle.law_reload_moves.specs.law_operands_fetched.Onwards.{Onwards, ArePlain}
+use Rattle.law_reload_moves.specs.law_operands_fetched.Onwards as onwards
+use Rattle.law_reload_moves.specs.law_operands_replaced.Spare.{KeepsRest}
+use Rattle.law_reload_moves.proofs.law_operands_fetched.Keeping.{Stay}
+use Rattle.law_reload_moves.proofs.law_operands_fetched.PlainWindow.{ComesTo}
+use Rattle.law_reload_moves.proofs.law_operands_replaced.Registers.{value_alike}
 use Rattle.law_reload_moves.proofs.law_window_replaced.Stands.{Stands}
 use Rattle.law_homes.proofs.Setting.{Setting}
 use Rattle.law_reload.specs.Steps.{Kept, Leads}

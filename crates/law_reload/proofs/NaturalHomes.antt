@@ -30,7 +30,7 @@ use Rattle.law_reload_moves.proofs.law_window_replaced.Trees.{natural_kids}
 use Rattle.reload_homes.specs.Homes.{home_of}
 use Rattle.law_reload_moves.specs.reload_operands.declared.operand.Operand.{Operand}
 use Rattle.law_homes.proofs.HomesApart.{hard_home}
-use Rattle.law_reload_moves.proofs.FoundParts.{operand_has}
+use Rattle.law_reload_moves.proofs.law_operands_fetched.FoundParts.{operand_has}
 use Rattle.law_reload_moves.proofs.FramedGood.{framed_natural}
 use Rattle.law_reload_moves.proofs.HomedTrees.{homed_natural}
 use Rattle.law_reload_moves.proofs.NewsLaws.{operand_of_match}

@@ -20,7 +20,7 @@ use Rattle.md_forms.specs.Checks.{has, are_distinct}
 use Rattle.md_forms.specs.Names.{operand_here, operands_step, operands_in}
 use Rattle.law_reload_moves.specs.reload_operands.Operands.{is_operator_code}
 use Rattle.law_reload_moves.proofs.InputPlaces.{is_operator_as, no_operator_of}
-use Rattle.law_reload_moves.proofs.SmallTrees.{tree_induction}
+use Rattle.law_reload_moves.proofs.law_operands_fetched.SmallTrees.{tree_induction}
 
 -- ---- lists
 

@@ -3,33 +3,33 @@ use Rattle.std.proofs.Common.{◌≡◌, ◌≢◌, ◌⊎◌, inl, inr, ℕ, �
 use Rattle.std.proofs.lemmas.Bool.{and_parts}
 use Rattle.std.proofs.lemmas.Bool.Decides.{nat_tests}
 use Rattle.std.specs.List.{cons_option, filter_map}
-use Rattle.bits64.specs.declared.Width.TheVariants.{W64}
-use Rattle.rtx_tree.specs.Tree.{head_of, kids_of}
-use Rattle.rtx_tree.specs.declared.code.Code.{Code}
-use Rattle.rtx_tree.specs.declared.code.Code.TheVariants as code
-use Rattle.rtx_tree.specs.declared.function.Kind.{Kind}
-use Rattle.rtx_tree.specs.declared.machine.SymbolAt.{SymbolAt}
-use Rattle.rtx_tree.specs.declared.memories.MemByte.{MemByte}
-use Rattle.rtx_tree.specs.declared.tree.Rtx.{Rtx}
-use Rattle.run_memory.proofs.Laws.{Apart}
-use Rattle.rtl_func.specs.Calls.{are_distinct}
-use Rattle.rtl_func.specs.Effects.{changed_register, changes_once_by, changes_once, parallels_change_once}
-use Rattle.rtl_func.specs.Paths.{has_place}
-use Rattle.rtl_func.proofs.AllPass.{itself}
-use Rattle.rtl_step.specs.Regs.{Regs}
-use Rattle.rtl_step.specs.Value.{value_of}
-use Rattle.rtl_step.specs.declared.effect.Effect.{Effect}
-use Rattle.rtx_tree.specs.Code.{class_of_code}
-use Rattle.md_match.specs.Pattern.{Ops}
-use Rattle.assign.specs.declared.home.Home.TheVariants.{Slot}
-use Rattle.assign.specs.declared.home.HomeOf.{HomeOf}
-use Rattle.assign.specs.declared.places.Layout.{Layout}
-use Rattle.reload_homes.specs.Homes.{home_of, slot_offset, slot_address, homed}
-use Rattle.reload_choice.specs.Sound.{IsSoundPlan}
-use Rattle.reload_choice.specs.declared.given.Plan.{Plan}
+use Rattle.law_operands_fetched.specs.bits64.declared.Width.TheVariants.{W64}
+use Rattle.law_operands_fetched.specs.rtx_tree.Tree.{head_of, kids_of}
+use Rattle.law_operands_fetched.specs.rtx_tree.declared.code.Code.{Code}
+use Rattle.law_operands_fetched.specs.rtx_tree.declared.code.Code.TheVariants as code
+use Rattle.law_operands_fetched.specs.rtx_tree.declared.function.Kind.{Kind}
+use Rattle.law_operands_fetched.specs.rtx_tree.declared.machine.SymbolAt.{SymbolAt}
+use Rattle.law_operands_fetched.specs.rtx_tree.declared.memories.MemByte.{MemByte}
+use Rattle.law_operands_fetched.specs.rtx_tree.declared.tree.Rtx.{Rtx}
+use Rattle.law_operands_fetched.proofs.run_memory.Laws.{Apart}
+use Rattle.law_operands_fetched.specs.rtl_func.Calls.{are_distinct}
+use Rattle.law_operands_fetched.specs.rtl_func.Effects.{changed_register, changes_once_by, changes_once, parallels_change_once}
+use Rattle.law_operands_fetched.specs.rtl_func.Paths.{has_place}
+use Rattle.law_operands_fetched.proofs.rtl_func.AllPass.{itself}
+use Rattle.law_operands_fetched.specs.rtl_step.Regs.{Regs}
+use Rattle.law_operands_fetched.specs.rtl_step.Value.{value_of}
+use Rattle.law_operands_fetched.specs.rtl_step.declared.effect.Effect.{Effect}
+use Rattle.law_operands_fetched.specs.rtx_tree.Code.{class_of_code}
+use Rattle.law_operands_fetched.specs.md_match.Pattern.{Ops}
+use Rattle.law_operands_fetched.specs.assign.declared.home.Home.TheVariants.{Slot}
+use Rattle.law_operands_fetched.specs.assign.declared.home.HomeOf.{HomeOf}
+use Rattle.law_operands_fetched.specs.assign.declared.places.Layout.{Layout}
+use Rattle.law_operands_fetched.specs.reload_homes.Homes.{home_of, slot_offset, slot_address, homed}
+use Rattle.law_operands_fetched.specs.reload_choice.Sound.{IsSoundPlan}
+use Rattle.law_operands_fetched.specs.reload_choice.declared.given.Plan.{Plan}
 use Rattle.law_reload_moves.proofs.Chosen.{given}
-use Rattle.law_reload_moves.proofs.Keyed.{Keyed, IsIn, MayPass, MayPassBy, AreOrderly}
-use Rattle.law_reload_moves.proofs.Keying.{with_keys}
+use Rattle.law_operands_fetched.proofs.law_operands_replaced.Keyed.{Keyed, IsIn, MayPass, MayPassBy, AreOrderly}
+use Rattle.law_operands_fetched.proofs.law_operands_replaced.Keying.{with_keys}
 use Rattle.law_reload_moves.proofs.Orderly.{SetsMemory, Differ, IsOutside, IsSole, pair_passes}
 use Rattle.law_reload_moves.proofs.ResultRows.{Key, Row, Rows, none, more}
 

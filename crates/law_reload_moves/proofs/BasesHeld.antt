@@ -4,38 +4,38 @@ use Rattle.std.proofs.lemmas.Bool.{and_parts}
 use Rattle.std.specs.FinMap.{get}
 use Rattle.std.specs.Option.{option_map_or}
 use Rattle.std.specs.Prelude.{ℤ, slice_get}
-use Rattle.bits64.specs.declared.Width.TheVariants.{W64}
-use Rattle.rtx_tree.specs.declared.code.Mode.{Mode}
-use Rattle.rtx_tree.specs.declared.function.Kind.{Kind}
-use Rattle.rtx_tree.specs.declared.machine.SymbolAt.{SymbolAt}
-use Rattle.rtx_tree.specs.declared.memories.MemByte.{MemByte}
-use Rattle.rtx_tree.specs.declared.tree.Rtx.{Rtx}
-use Rattle.rtl_step.specs.Effect.{reg_after, regs_after}
-use Rattle.rtl_step.specs.Regs.{Regs, known_of}
-use Rattle.rtl_step.specs.declared.effect.Effect.{Effect}
-use Rattle.md_match.specs.Pattern.{Ops}
-use Rattle.assign.specs.declared.home.HomeOf.{HomeOf}
-use Rattle.assign.specs.declared.places.Layout.{Layout}
-use Rattle.reload_homes.specs.Homes.{homed}
-use Rattle.reload_operands.specs.declared.operand.Base.{Base}
-use Rattle.reload_operands.specs.declared.operand.Operand.{Operand}
-use Rattle.reload_moves.specs.Moves.{own_of, base_of}
-use Rattle.reload_moves.specs.Registers.{is_result, holds_base, base_ask, register_for}
-use Rattle.reload_moves.specs.declared.part.Part.{Part}
-use Rattle.reload_moves.proofs.AskLaws.{base_asked}
-use Rattle.reload_choice.specs.Sound.{IsPart}
-use Rattle.reload_choice.specs.declared.given.Plan.{Plan}
-use Rattle.law_reload_moves.specs.Spare.{is_spare}
+use Rattle.law_operands_fetched.specs.bits64.declared.Width.TheVariants.{W64}
+use Rattle.law_operands_fetched.specs.rtx_tree.declared.code.Mode.{Mode}
+use Rattle.law_operands_fetched.specs.rtx_tree.declared.function.Kind.{Kind}
+use Rattle.law_operands_fetched.specs.rtx_tree.declared.machine.SymbolAt.{SymbolAt}
+use Rattle.law_operands_fetched.specs.rtx_tree.declared.memories.MemByte.{MemByte}
+use Rattle.law_operands_fetched.specs.rtx_tree.declared.tree.Rtx.{Rtx}
+use Rattle.law_operands_fetched.specs.rtl_step.Effect.{reg_after, regs_after}
+use Rattle.law_operands_fetched.specs.rtl_step.Regs.{Regs, known_of}
+use Rattle.law_operands_fetched.specs.rtl_step.declared.effect.Effect.{Effect}
+use Rattle.law_operands_fetched.specs.md_match.Pattern.{Ops}
+use Rattle.law_operands_fetched.specs.assign.declared.home.HomeOf.{HomeOf}
+use Rattle.law_operands_fetched.specs.assign.declared.places.Layout.{Layout}
+use Rattle.law_operands_fetched.specs.reload_homes.Homes.{homed}
+use Rattle.law_operands_fetched.specs.reload_operands.declared.operand.Base.{Base}
+use Rattle.law_operands_fetched.specs.reload_operands.declared.operand.Operand.{Operand}
+use Rattle.law_operands_fetched.specs.reload_moves.Moves.{own_of, base_of}
+use Rattle.law_operands_fetched.specs.reload_moves.Registers.{is_result, holds_base, base_ask, register_for}
+use Rattle.law_operands_fetched.specs.reload_moves.declared.part.Part.{Part}
+use Rattle.law_operands_fetched.proofs.reload_moves.AskLaws.{base_asked}
+use Rattle.law_operands_fetched.specs.reload_choice.Sound.{IsPart}
+use Rattle.law_operands_fetched.specs.reload_choice.declared.given.Plan.{Plan}
+use Rattle.law_operands_fetched.specs.law_operands_replaced.Spare.{is_spare}
 use Rattle.law_reload_moves.proofs.Chosen.{given, asks}
-use Rattle.law_reload_moves.proofs.Contents.{Contents, slot_of}
-use Rattle.law_reload_moves.proofs.Ends.{IsOnRest, rest_alone}
-use Rattle.law_reload_moves.proofs.Fetching.{Fetching, spare_of}
+use Rattle.law_operands_fetched.proofs.Contents.{Contents, slot_of}
+use Rattle.law_operands_fetched.proofs.law_operands_replaced.Ends.{IsOnRest, rest_alone}
+use Rattle.law_operands_fetched.proofs.Fetching.{Fetching, spare_of}
 use Rattle.law_reload_moves.proofs.GivenNews.{own, mode, tree, Free, IsResultAt, no_base, operand_of}
-use Rattle.law_reload_moves.proofs.Keyed.{Keyed}
-use Rattle.law_reload_moves.proofs.Keying.{with_keys, OneKeyed, still, held, lost, AllKeyed, no_more, one_more, AreOnRest, AreResults}
+use Rattle.law_operands_fetched.proofs.law_operands_replaced.Keyed.{Keyed}
+use Rattle.law_operands_fetched.proofs.law_operands_replaced.Keying.{with_keys, OneKeyed, still, held, lost, AllKeyed, no_more, one_more, AreOnRest, AreResults}
 use Rattle.law_reload_moves.proofs.PlainAround.{AreKeys}
 use Rattle.law_reload_moves.proofs.PlainInner.{before, other}
-use Rattle.law_reload_moves.proofs.Registers.{set_other, unset_other}
+use Rattle.law_operands_fetched.proofs.law_operands_replaced.Registers.{set_other, unset_other}
 use Rattle.law_reload_moves.proofs.TakenThere.{IsAt}
 
 module _ (symbols : List SymbolAt) (regs other : Regs) (memory : List MemByte) (own : ℕ → ℕ) (mode : ℕ → Mode) (tree : ℕ → Rtx) (Free : ℕ → Type 0)

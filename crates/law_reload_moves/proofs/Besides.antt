@@ -4,29 +4,29 @@ use Rattle.std.proofs.lemmas.Bool.{and_parts, or_left, or_right}
 use Rattle.std.proofs.lemmas.List.{length-map}
 use Rattle.std.specs.List.{list_all}
 use Rattle.std.specs.Prelude.{ℤ, pos, option_map}
-use Rattle.rtx_tree.proofs.Trees.{kids_of-tree, head_of-tree}
-use Rattle.rtx_tree.specs.Code.{class_of_code, is_effect_class}
-use Rattle.rtx_tree.specs.Tree.{RtxHead, head_of, kids_of, tree_of}
-use Rattle.rtx_tree.specs.declared.code.Code.{Code}
-use Rattle.rtx_tree.specs.declared.code.Code.TheVariants as code
-use Rattle.rtx_tree.specs.declared.code.Mode.{Mode}
-use Rattle.rtx_tree.specs.declared.tree.Rtx.{Rtx, out-roll-Rtx}
-use Rattle.rtx_tree.specs.declared.tree.Rtx.TheOpen.{Rtx-F}
-use Rattle.rtl_func.specs.Shapes.{class_at, mode_at, number_at, is_effect, is_true_register, is_narrower, fits_row, is_bare, is_shaped}
-use Rattle.rtl_func.proofs.AllPass as nodes
-use Rattle.rtl_func.proofs.AllPass.{all_pass}
-use Rattle.md_match.proofs.Instantiated.{each_made, made_itself}
-use Rattle.md_match.specs.Pattern.{Ops, role_of, operand_of, instantiated}
-use Rattle.md_match.specs.declared.role.Role.{Role}
-use Rattle.md_match.specs.declared.role.Role.TheVariants.{Operand, Itself}
-use Rattle.assign.specs.declared.home.Home.{Home}
-use Rattle.assign.specs.declared.home.Home.TheVariants.{Hard, Slot}
-use Rattle.assign.specs.declared.home.HomeOf.{HomeOf}
-use Rattle.assign.specs.declared.places.Layout.{Layout}
-use Rattle.reload_homes.specs.Homes.{home_of, homed, register_at, place_by, place_for}
-use Rattle.reload_homes.proofs.Rewrites.{homed_register, homed_over}
-use Rattle.reload_operands.specs.Put.{is_lowpart_code, is_lowpart, any_inside, inside_low}
-use Rattle.law_reload_moves.specs.Places.{AtOnePlace, StandsFor, itself, part}
+use Rattle.law_operands_fetched.proofs.rtx_tree.Trees.{kids_of-tree, head_of-tree}
+use Rattle.law_operands_fetched.specs.rtx_tree.Code.{class_of_code, is_effect_class}
+use Rattle.law_operands_fetched.specs.rtx_tree.Tree.{RtxHead, head_of, kids_of, tree_of}
+use Rattle.law_operands_fetched.specs.rtx_tree.declared.code.Code.{Code}
+use Rattle.law_operands_fetched.specs.rtx_tree.declared.code.Code.TheVariants as code
+use Rattle.law_operands_fetched.specs.rtx_tree.declared.code.Mode.{Mode}
+use Rattle.law_operands_fetched.specs.rtx_tree.declared.tree.Rtx.{Rtx, out-roll-Rtx}
+use Rattle.law_operands_fetched.specs.rtx_tree.declared.tree.Rtx.TheOpen.{Rtx-F}
+use Rattle.law_operands_fetched.specs.rtl_func.Shapes.{class_at, mode_at, number_at, is_effect, is_true_register, is_narrower, fits_row, is_bare, is_shaped}
+use Rattle.law_operands_fetched.proofs.rtl_func.AllPass as nodes
+use Rattle.law_operands_fetched.proofs.rtl_func.AllPass.{all_pass}
+use Rattle.law_operands_fetched.proofs.md_match.Instantiated.{each_made, made_itself}
+use Rattle.law_operands_fetched.specs.md_match.Pattern.{Ops, role_of, operand_of, instantiated}
+use Rattle.law_operands_fetched.specs.md_match.declared.role.Role.{Role}
+use Rattle.law_operands_fetched.specs.md_match.declared.role.Role.TheVariants.{Operand, Itself}
+use Rattle.law_operands_fetched.specs.assign.declared.home.Home.{Home}
+use Rattle.law_operands_fetched.specs.assign.declared.home.Home.TheVariants.{Hard, Slot}
+use Rattle.law_operands_fetched.specs.assign.declared.home.HomeOf.{HomeOf}
+use Rattle.law_operands_fetched.specs.assign.declared.places.Layout.{Layout}
+use Rattle.law_operands_fetched.specs.reload_homes.Homes.{home_of, homed, register_at, place_by, place_for}
+use Rattle.law_operands_fetched.proofs.reload_homes.Rewrites.{homed_register, homed_over}
+use Rattle.law_operands_fetched.specs.reload_operands.Put.{is_lowpart_code, is_lowpart, any_inside, inside_low}
+use Rattle.law_operands_fetched.specs.law_operands_replaced.Places.{AtOnePlace, StandsFor, itself, part}
 use Rattle.law_reload_moves.proofs.Matched.{IsLow, IsMade, OneBeside, one_beside, made_by, made_length, over_made, alone, one_part, front, register_low, no_kids}
 
 module _ (homes : List HomeOf) (layout : Layout) (found : Ops) where

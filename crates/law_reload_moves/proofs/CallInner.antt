@@ -3,54 +3,54 @@ use Rattle.std.proofs.Common.{◌≡◌, ◌≢◌, ◌⊎◌, inl, inr, ℕ, �
 use Rattle.std.proofs.lemmas.Bool.{and_parts, or_left}
 use Rattle.std.specs.List.{list_all, list_any}
 use Rattle.std.specs.Prelude.{ℤ, pos}
-use Rattle.rtx_tree.proofs.Trees.{head_of-tree, kids_of-tree, same_parts}
-use Rattle.rtx_tree.specs.Code.{class_of_code, is_effect_class}
-use Rattle.rtx_tree.specs.Tree.{RtxHead, head_of, kids_of}
-use Rattle.rtx_tree.specs.declared.class.Class.{Class}
-use Rattle.rtx_tree.specs.declared.class.Class.TheVariants as class
-use Rattle.rtx_tree.specs.declared.code.Code.{Code}
-use Rattle.rtx_tree.specs.declared.code.Code.TheVariants as code
-use Rattle.rtx_tree.specs.declared.function.Kind.{Kind}
-use Rattle.rtx_tree.specs.declared.function.Kind.TheVariants as kinds
-use Rattle.rtx_tree.specs.declared.machine.SymbolAt.{SymbolAt}
-use Rattle.rtx_tree.specs.declared.memories.MemByte.{MemByte}
-use Rattle.rtx_tree.specs.declared.tree.Rtx.{Rtx}
-use Rattle.rtl_func.specs.Shapes.{class_at, is_effect, is_shaped}
-use Rattle.rtl_func.proofs.AllPass as nodes
-use Rattle.rtl_func.proofs.AllPass.{all_pass}
-use Rattle.rtl_step.specs.Call.{is_result, is_result_by, target_value}
-use Rattle.rtl_step.specs.Regs.{Regs}
-use Rattle.md_constr.specs.Inputs as inputs
-use Rattle.md_match.specs.Pattern.{Ops, role_of, operand_numbered}
-use Rattle.md_match.specs.declared.role.Role.{Role}
-use Rattle.md_match.specs.declared.role.Role.TheVariants.{Operand, Operator, Itself}
-use Rattle.assign.specs.declared.home.HomeOf.{HomeOf}
-use Rattle.assign.specs.declared.places.Layout.{Layout}
-use Rattle.reload_homes.specs.Homes.{homed}
-use Rattle.reload_operands.specs.Put.{parts_by, put}
-use Rattle.reload_moves.specs.Registers as moves
-use Rattle.reload_choice.specs.Movable.{is_plain, may_have_results, may_end}
-use Rattle.reload_choice.specs.Sound.{IsPart, IsSoundPlan}
-use Rattle.reload_choice.specs.declared.given.Given.{Given}
-use Rattle.reload_choice.specs.declared.given.Plan.{Plan}
-use Rattle.law_reload_moves.specs.Places.{itself}
-use Rattle.law_reload_moves.specs.Spare.{KnowsRest}
-use Rattle.law_reload_moves.proofs.Addresses.{AddressToo}
+use Rattle.law_operands_fetched.proofs.rtx_tree.Trees.{head_of-tree, kids_of-tree, same_parts}
+use Rattle.law_operands_fetched.specs.rtx_tree.Code.{class_of_code, is_effect_class}
+use Rattle.law_operands_fetched.specs.rtx_tree.Tree.{RtxHead, head_of, kids_of}
+use Rattle.law_operands_fetched.specs.rtx_tree.declared.class.Class.{Class}
+use Rattle.law_operands_fetched.specs.rtx_tree.declared.class.Class.TheVariants as class
+use Rattle.law_operands_fetched.specs.rtx_tree.declared.code.Code.{Code}
+use Rattle.law_operands_fetched.specs.rtx_tree.declared.code.Code.TheVariants as code
+use Rattle.law_operands_fetched.specs.rtx_tree.declared.function.Kind.{Kind}
+use Rattle.law_operands_fetched.specs.rtx_tree.declared.function.Kind.TheVariants as kinds
+use Rattle.law_operands_fetched.specs.rtx_tree.declared.machine.SymbolAt.{SymbolAt}
+use Rattle.law_operands_fetched.specs.rtx_tree.declared.memories.MemByte.{MemByte}
+use Rattle.law_operands_fetched.specs.rtx_tree.declared.tree.Rtx.{Rtx}
+use Rattle.law_operands_fetched.specs.rtl_func.Shapes.{class_at, is_effect, is_shaped}
+use Rattle.law_operands_fetched.proofs.rtl_func.AllPass as nodes
+use Rattle.law_operands_fetched.proofs.rtl_func.AllPass.{all_pass}
+use Rattle.law_operands_fetched.specs.rtl_step.Call.{is_result, is_result_by, target_value}
+use Rattle.law_operands_fetched.specs.rtl_step.Regs.{Regs}
+use Rattle.law_operands_fetched.specs.md_constr.Inputs as inputs
+use Rattle.law_operands_fetched.specs.md_match.Pattern.{Ops, role_of, operand_numbered}
+use Rattle.law_operands_fetched.specs.md_match.declared.role.Role.{Role}
+use Rattle.law_operands_fetched.specs.md_match.declared.role.Role.TheVariants.{Operand, Operator, Itself}
+use Rattle.law_operands_fetched.specs.assign.declared.home.HomeOf.{HomeOf}
+use Rattle.law_operands_fetched.specs.assign.declared.places.Layout.{Layout}
+use Rattle.law_operands_fetched.specs.reload_homes.Homes.{homed}
+use Rattle.law_operands_fetched.specs.reload_operands.Put.{parts_by, put}
+use Rattle.law_operands_fetched.specs.reload_moves.Registers as moves
+use Rattle.law_operands_fetched.specs.reload_choice.Movable.{is_plain, may_have_results, may_end}
+use Rattle.law_operands_fetched.specs.reload_choice.Sound.{IsPart, IsSoundPlan}
+use Rattle.law_operands_fetched.specs.reload_choice.declared.given.Given.{Given}
+use Rattle.law_operands_fetched.specs.reload_choice.declared.given.Plan.{Plan}
+use Rattle.law_operands_fetched.specs.law_operands_replaced.Places.{itself}
+use Rattle.law_operands_fetched.specs.law_operands_replaced.Spare.{KnowsRest}
+use Rattle.law_operands_fetched.proofs.law_operands_replaced.Addresses.{AddressToo}
 use Rattle.law_reload_moves.proofs.CallValues.{IsCall, IsTarget, call_is}
 use Rattle.law_reload_moves.proofs.CallValues as call
-use Rattle.law_reload_moves.proofs.Calling.{SameResult}
+use Rattle.law_operands_fetched.proofs.law_operands_replaced.Calling.{SameResult}
 use Rattle.law_reload_moves.proofs.Chosen.{given}
-use Rattle.law_reload_moves.proofs.ElementTurns.{NewFor, stays_for, moves_for, part_new, key_by, target_key, key_of, memory_code_of}
-use Rattle.law_reload_moves.proofs.Fetching.{Fetching}
+use Rattle.law_operands_fetched.proofs.law_operands_replaced.ElementTurns.{NewFor, stays_for, moves_for, part_new, key_by, target_key, key_of, memory_code_of}
+use Rattle.law_operands_fetched.proofs.Fetching.{Fetching}
 use Rattle.law_reload_moves.proofs.GivenBeside.{first_of}
 use Rattle.law_reload_moves.proofs.GivenNews.{own, mode, tree, result_at, Reads, Lost, Free, IsResultAt, operand_of}
-use Rattle.law_reload_moves.proofs.HiddenTurns.{Read, effect_over}
-use Rattle.law_reload_moves.proofs.InsnTurns.{operator_becomes, operand_stays, two_of}
-use Rattle.law_reload_moves.proofs.JumpTrees.{is_bare_class, bare_kids}
-use Rattle.law_reload_moves.proofs.NewTrees.{Becomes, AllBecome, is_whole}
-use Rattle.law_reload_moves.proofs.NewTrees as trees
+use Rattle.law_operands_fetched.proofs.law_operands_replaced.HiddenTurns.{Read, effect_over}
+use Rattle.law_operands_fetched.proofs.law_operands_replaced.InsnTurns.{operator_becomes, operand_stays, two_of}
+use Rattle.law_operands_fetched.proofs.law_operands_replaced.JumpTrees.{is_bare_class, bare_kids}
+use Rattle.law_operands_fetched.proofs.law_operands_replaced.NewTrees.{Becomes, AllBecome, is_whole}
+use Rattle.law_operands_fetched.proofs.law_operands_replaced.NewTrees as trees
 use Rattle.law_reload_moves.proofs.OtherInner.{TurnsInto, g, x, y, all_news, o, kn, Into, beside, head_is, target_same, set_into, operator_into, operand_into, call_into}
-use Rattle.law_reload_moves.proofs.PutParts.{each_put, over_is}
+use Rattle.law_operands_fetched.proofs.law_operands_replaced.PutParts.{each_put, over_is}
 use Rattle.law_reload_moves.proofs.ResultKeys.{keyed_result}
 use Rattle.law_reload_moves.proofs.TakenPlaces.{IsEffectOf}
 use Rattle.law_reload_moves.proofs.TakenThere.{IsAt}

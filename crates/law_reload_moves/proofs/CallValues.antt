@@ -3,54 +3,54 @@ use Rattle.std.proofs.Common.{◌≡◌, ◌≢◌, ◌⊎◌, inl, inr, ℕ, �
 use Rattle.std.proofs.lemmas.Bool.{and_parts, or_cases}
 use Rattle.std.specs.List.{flat_map, list_all, list_any}
 use Rattle.std.specs.Prelude.{ℤ, pos, option_and_then}
-use Rattle.bits64.specs.declared.Width.TheVariants.{W64}
-use Rattle.rtx_tree.proofs.Trees.{head_of-tree, kids_of-tree}
-use Rattle.rtx_tree.specs.Code.{class_of_code, is_effect_class}
-use Rattle.rtx_tree.specs.Operands.{put_at}
-use Rattle.rtx_tree.specs.Tree.{RtxHead, head_of, kids_of, tree_of, reg_of}
-use Rattle.rtx_tree.specs.declared.class.Class.{Class}
-use Rattle.rtx_tree.specs.declared.class.Class.TheVariants as class
-use Rattle.rtx_tree.specs.declared.code.Code.{Code}
-use Rattle.rtx_tree.specs.declared.code.Code.TheVariants as code
-use Rattle.rtx_tree.specs.declared.code.Mode.{Mode}
-use Rattle.rtx_tree.specs.declared.code.Mode.TheVariants.{DI}
-use Rattle.rtx_tree.specs.declared.machine.SymbolAt.{SymbolAt}
-use Rattle.rtx_tree.specs.declared.memories.MemByte.{MemByte}
-use Rattle.rtx_tree.specs.declared.tree.Rtx.{Rtx, out-roll-Rtx}
-use Rattle.rtx_tree.specs.declared.tree.Rtx.TheOpen.{Rtx-F}
-use Rattle.rtl_func.specs.Kinds.{is_call_by, is_call_tree}
-use Rattle.rtl_func.specs.Shapes.{class_at, mode_at, number_at, has_mode, is_operand, is_constant, is_memory_class, is_call_class, is_called, is_effect, fits_row, is_shaped}
-use Rattle.rtl_func.proofs.AllPass as nodes
-use Rattle.rtl_func.proofs.AllPass.{all_pass}
-use Rattle.rtl_step.specs.Call.{target_by, target_of, is_result, is_result_by, call_by, call_part, aligned_target, target_value}
-use Rattle.rtl_step.specs.Effect.{address_of, address_part}
-use Rattle.rtl_step.specs.Regs.{Regs}
-use Rattle.rtl_step.specs.Value.{value_of}
-use Rattle.md_constr.specs.Inputs.{taken_in, taken_at, taken_by_parts, taken_by}
-use Rattle.md_constr.specs.Inputs as inputs
-use Rattle.md_match.specs.Pattern.{Ops, role_of}
-use Rattle.md_match.specs.declared.role.Role.TheVariants.{Operand, Itself}
-use Rattle.assign.specs.declared.home.HomeOf.{HomeOf}
-use Rattle.assign.specs.declared.places.Layout.{Layout}
-use Rattle.reload_homes.specs.Homes.{homed, register_at}
-use Rattle.reload_operands.specs.Directions.{has_number, is_input}
-use Rattle.reload_operands.specs.Put.{put, parts_by}
-use Rattle.reload_operands.proofs.NumberLaws.{has_in_both, has_in_each}
-use Rattle.law_reload_moves.specs.Places.{AtOnePlace, first, later, At, here, inside}
-use Rattle.law_reload_moves.proofs.Addresses.{memory_kid}
+use Rattle.law_operands_fetched.specs.bits64.declared.Width.TheVariants.{W64}
+use Rattle.law_operands_fetched.proofs.rtx_tree.Trees.{head_of-tree, kids_of-tree}
+use Rattle.law_operands_fetched.specs.rtx_tree.Code.{class_of_code, is_effect_class}
+use Rattle.law_operands_fetched.specs.rtx_tree.Operands.{put_at}
+use Rattle.law_operands_fetched.specs.rtx_tree.Tree.{RtxHead, head_of, kids_of, tree_of, reg_of}
+use Rattle.law_operands_fetched.specs.rtx_tree.declared.class.Class.{Class}
+use Rattle.law_operands_fetched.specs.rtx_tree.declared.class.Class.TheVariants as class
+use Rattle.law_operands_fetched.specs.rtx_tree.declared.code.Code.{Code}
+use Rattle.law_operands_fetched.specs.rtx_tree.declared.code.Code.TheVariants as code
+use Rattle.law_operands_fetched.specs.rtx_tree.declared.code.Mode.{Mode}
+use Rattle.law_operands_fetched.specs.rtx_tree.declared.code.Mode.TheVariants.{DI}
+use Rattle.law_operands_fetched.specs.rtx_tree.declared.machine.SymbolAt.{SymbolAt}
+use Rattle.law_operands_fetched.specs.rtx_tree.declared.memories.MemByte.{MemByte}
+use Rattle.law_operands_fetched.specs.rtx_tree.declared.tree.Rtx.{Rtx, out-roll-Rtx}
+use Rattle.law_operands_fetched.specs.rtx_tree.declared.tree.Rtx.TheOpen.{Rtx-F}
+use Rattle.law_operands_fetched.specs.rtl_func.Kinds.{is_call_by, is_call_tree}
+use Rattle.law_operands_fetched.specs.rtl_func.Shapes.{class_at, mode_at, number_at, has_mode, is_operand, is_constant, is_memory_class, is_call_class, is_called, is_effect, fits_row, is_shaped}
+use Rattle.law_operands_fetched.proofs.rtl_func.AllPass as nodes
+use Rattle.law_operands_fetched.proofs.rtl_func.AllPass.{all_pass}
+use Rattle.law_operands_fetched.specs.rtl_step.Call.{target_by, target_of, is_result, is_result_by, call_by, call_part, aligned_target, target_value}
+use Rattle.law_operands_fetched.specs.rtl_step.Effect.{address_of, address_part}
+use Rattle.law_operands_fetched.specs.rtl_step.Regs.{Regs}
+use Rattle.law_operands_fetched.specs.rtl_step.Value.{value_of}
+use Rattle.law_operands_fetched.specs.md_constr.Inputs.{taken_in, taken_at, taken_by_parts, taken_by}
+use Rattle.law_operands_fetched.specs.md_constr.Inputs as inputs
+use Rattle.law_operands_fetched.specs.md_match.Pattern.{Ops, role_of}
+use Rattle.law_operands_fetched.specs.md_match.declared.role.Role.TheVariants.{Operand, Itself}
+use Rattle.law_operands_fetched.specs.assign.declared.home.HomeOf.{HomeOf}
+use Rattle.law_operands_fetched.specs.assign.declared.places.Layout.{Layout}
+use Rattle.law_operands_fetched.specs.reload_homes.Homes.{homed, register_at}
+use Rattle.law_operands_fetched.specs.reload_operands.Directions.{has_number, is_input}
+use Rattle.law_operands_fetched.specs.reload_operands.Put.{put, parts_by}
+use Rattle.law_operands_fetched.proofs.reload_operands.NumberLaws.{has_in_both, has_in_each}
+use Rattle.law_operands_fetched.specs.law_operands_replaced.Places.{AtOnePlace, first, later, At, here, inside}
+use Rattle.law_operands_fetched.proofs.law_operands_replaced.Addresses.{memory_kid}
 use Rattle.law_reload_moves.proofs.Besides.{no_place, beside_head, part_beside}
 use Rattle.law_reload_moves.proofs.ElementValues.{taken_role, none_at, one_at}
 use Rattle.law_reload_moves.proofs.GivenBeside.{first_of, second_of}
 use Rattle.law_reload_moves.proofs.InputPlaces.{StandsThere, is_operator_of, no_operator_of, at_pass}
 use Rattle.law_reload_moves.proofs.InputValues.{pattern_other}
-use Rattle.law_reload_moves.proofs.JumpTrees.{row_at, is_bare_class, bare_kids}
+use Rattle.law_operands_fetched.proofs.law_operands_replaced.JumpTrees.{row_at, is_bare_class, bare_kids}
 use Rattle.law_reload_moves.proofs.JumpValues.{Valued, alone, IsItself, replaced, in_value, no_parts_there, constant_there, over_head, untrue', Answer, itself_there, in_target, in_source}
 use Rattle.law_reload_moves.proofs.Matched.{IsLow}
-use Rattle.law_reload_moves.proofs.NewTrees.{is_whole}
-use Rattle.law_reload_moves.proofs.PutParts.{each_put, over_is}
+use Rattle.law_operands_fetched.proofs.law_operands_replaced.NewTrees.{is_whole}
+use Rattle.law_operands_fetched.proofs.law_operands_replaced.PutParts.{each_put, over_is}
 use Rattle.law_reload_moves.proofs.TakenThere.{IsAt, part_at, taken_there}
-use Rattle.law_reload_moves.proofs.Valued.{IsThere, HasValue, operand_valued}
-use Rattle.law_reload_moves.proofs.InsnTurns.{two_of}
+use Rattle.law_operands_fetched.proofs.law_operands_replaced.Valued.{IsThere, HasValue, operand_valued}
+use Rattle.law_operands_fetched.proofs.law_operands_replaced.InsnTurns.{two_of}
 
 -- ---- the parts of a call
 

@@ -2,31 +2,31 @@
 use Rattle.std.proofs.Common.{◌≡◌, ◌≢◌, ◌⊎◌, inl, inr, ℕ, ◌&&◌, ◌||◌, not, if◌then◌else◌, Bool, true, false, List, Option, Some, None, refl, sym, ap, subst, ◌∙◌}
 use Rattle.std.proofs.lemmas.Bool.{and_parts}
 use Rattle.std.specs.Prelude.{ℤ, pos, negsuc, is_some, slice_get}
-use Rattle.rtx_tree.specs.Tree.{reg_of}
-use Rattle.rtx_tree.specs.declared.function.Kind.{Kind}
-use Rattle.rtx_tree.specs.declared.tree.Rtx.{Rtx}
-use Rattle.rtl_func.specs.Shapes.{is_shaped}
-use Rattle.rtl_func.proofs.AllPass.{all_pass}
-use Rattle.md_match.specs.Pattern.{Ops, operand_numbered, instantiated}
-use Rattle.assign.specs.declared.home.HomeOf.{HomeOf}
-use Rattle.assign.specs.declared.places.Layout.{Layout}
-use Rattle.reload_homes.specs.Homes.{homed}
-use Rattle.reload_operands.specs.Put.{in_lowpart}
-use Rattle.reload_operands.specs.Directions.{is_input, is_output, is_clobbered, is_hidden}
-use Rattle.reload_operands.specs.Operands.{operand_for}
-use Rattle.reload_operands.specs.declared.operand.Operand.{Operand}
-use Rattle.reload_moves.specs.Moves.{own_of, base_of, far_of}
-use Rattle.reload_moves.specs.Registers.{asks_of}
-use Rattle.reload_moves.specs.declared.ask.Ask.{Ask}
-use Rattle.reload_moves.specs.declared.part.Part.{Part}
-use Rattle.reload_choice.specs.reload_fit.Addressed.{on_register}
-use Rattle.reload_choice.specs.Insns.{new_tree, news_of}
-use Rattle.reload_choice.specs.Movable.{is_clear}
-use Rattle.reload_choice.specs.Sound.{IsPart, IsSoundPlan}
-use Rattle.reload_choice.specs.declared.given.Given.{Given}
-use Rattle.reload_choice.specs.declared.given.Plan.{Plan}
+use Rattle.law_operands_fetched.specs.rtx_tree.Tree.{reg_of}
+use Rattle.law_operands_fetched.specs.rtx_tree.declared.function.Kind.{Kind}
+use Rattle.law_operands_fetched.specs.rtx_tree.declared.tree.Rtx.{Rtx}
+use Rattle.law_operands_fetched.specs.rtl_func.Shapes.{is_shaped}
+use Rattle.law_operands_fetched.proofs.rtl_func.AllPass.{all_pass}
+use Rattle.law_operands_fetched.specs.md_match.Pattern.{Ops, operand_numbered, instantiated}
+use Rattle.law_operands_fetched.specs.assign.declared.home.HomeOf.{HomeOf}
+use Rattle.law_operands_fetched.specs.assign.declared.places.Layout.{Layout}
+use Rattle.law_operands_fetched.specs.reload_homes.Homes.{homed}
+use Rattle.law_operands_fetched.specs.reload_operands.Put.{in_lowpart}
+use Rattle.law_operands_fetched.specs.reload_operands.Directions.{is_input, is_output, is_clobbered, is_hidden}
+use Rattle.law_operands_fetched.specs.reload_operands.Operands.{operand_for}
+use Rattle.law_operands_fetched.specs.reload_operands.declared.operand.Operand.{Operand}
+use Rattle.law_operands_fetched.specs.reload_moves.Moves.{own_of, base_of, far_of}
+use Rattle.law_operands_fetched.specs.reload_moves.Registers.{asks_of}
+use Rattle.law_operands_fetched.specs.reload_moves.declared.ask.Ask.{Ask}
+use Rattle.law_operands_fetched.specs.reload_moves.declared.part.Part.{Part}
+use Rattle.law_operands_fetched.specs.reload_choice.reload_fit.Addressed.{on_register}
+use Rattle.law_operands_fetched.specs.reload_choice.Insns.{new_tree, news_of}
+use Rattle.law_operands_fetched.specs.reload_choice.Movable.{is_clear}
+use Rattle.law_operands_fetched.specs.reload_choice.Sound.{IsPart, IsSoundPlan}
+use Rattle.law_operands_fetched.specs.reload_choice.declared.given.Given.{Given}
+use Rattle.law_operands_fetched.specs.reload_choice.declared.given.Plan.{Plan}
 use Rattle.law_reload_moves.specs.Chosen.{chosen_from}
-use Rattle.law_reload_moves.specs.Places.{StandsFor}
+use Rattle.law_operands_fetched.specs.law_operands_replaced.Places.{StandsFor}
 use Rattle.law_reload_moves.proofs.Matched.{IsFound, IsLow, places}
 use Rattle.law_reload_moves.proofs.NewsLaws.{IsNewFor, new_for, IsOperandOf, operand_of_match, moved_place, result_numbered}
 

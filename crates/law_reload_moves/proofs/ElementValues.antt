@@ -3,44 +3,44 @@ use Rattle.std.proofs.Common.{◌≡◌, ◌≢◌, ◌⊎◌, inl, inr, ℕ, �
 use Rattle.std.proofs.lemmas.Bool.{and_parts, or_cases}
 use Rattle.std.specs.List.{flat_map, list_all, list_any}
 use Rattle.std.specs.Prelude.{ℤ, pos, option_and_then}
-use Rattle.rtx_tree.specs.Code.{class_of_code}
-use Rattle.rtx_tree.specs.Operands.{operand_at}
-use Rattle.rtx_tree.specs.Tree.{RtxHead, head_of, kids_of}
-use Rattle.rtx_tree.specs.declared.code.Code.{Code}
-use Rattle.rtx_tree.specs.declared.code.Code.TheVariants as code
-use Rattle.rtx_tree.specs.declared.machine.SymbolAt.{SymbolAt}
-use Rattle.rtx_tree.specs.declared.memories.MemByte.{MemByte}
-use Rattle.rtx_tree.specs.declared.tree.Rtx.{Rtx}
-use Rattle.rtl_func.specs.Shapes.{mode_at, is_effect, is_shaped}
-use Rattle.rtl_func.proofs.AllPass as nodes
-use Rattle.rtl_func.proofs.AllPass.{all_pass}
-use Rattle.rtl_step.specs.Effect.{effect_of, address_of, address_part, register_of, register_by, set_place}
-use Rattle.rtl_step.specs.Regs.{Regs}
-use Rattle.rtl_step.specs.Value.{width_of}
-use Rattle.rtl_step.specs.declared.effect.Effect.{Effect}
-use Rattle.md_constr.specs.Inputs.{taken_in, taken_inside, taken_at_by, taken_at, taken_by_parts, taken_by}
-use Rattle.md_match.proofs.Instantiated.{each_made}
-use Rattle.md_match.specs.Pattern.{Ops, role_of, operand_of, instantiated}
-use Rattle.md_match.specs.declared.role.Role.TheVariants.{Operand, Itself}
-use Rattle.assign.specs.declared.home.HomeOf.{HomeOf}
-use Rattle.assign.specs.declared.places.Layout.{Layout}
-use Rattle.reload_homes.specs.Homes.{homed, register_numbered, register_by as homes_register, register_at}
-use Rattle.reload_operands.specs.Directions.{has_number}
-use Rattle.reload_operands.proofs.NumberLaws.{has_in_both, has_in_each}
-use Rattle.law_reload_moves.specs.Places.{AtOnePlace, first, later, is_leaf, is_leaf_as}
+use Rattle.law_operands_fetched.specs.rtx_tree.Code.{class_of_code}
+use Rattle.law_operands_fetched.specs.rtx_tree.Operands.{operand_at}
+use Rattle.law_operands_fetched.specs.rtx_tree.Tree.{RtxHead, head_of, kids_of}
+use Rattle.law_operands_fetched.specs.rtx_tree.declared.code.Code.{Code}
+use Rattle.law_operands_fetched.specs.rtx_tree.declared.code.Code.TheVariants as code
+use Rattle.law_operands_fetched.specs.rtx_tree.declared.machine.SymbolAt.{SymbolAt}
+use Rattle.law_operands_fetched.specs.rtx_tree.declared.memories.MemByte.{MemByte}
+use Rattle.law_operands_fetched.specs.rtx_tree.declared.tree.Rtx.{Rtx}
+use Rattle.law_operands_fetched.specs.rtl_func.Shapes.{mode_at, is_effect, is_shaped}
+use Rattle.law_operands_fetched.proofs.rtl_func.AllPass as nodes
+use Rattle.law_operands_fetched.proofs.rtl_func.AllPass.{all_pass}
+use Rattle.law_operands_fetched.specs.rtl_step.Effect.{effect_of, address_of, address_part, register_of, register_by, set_place}
+use Rattle.law_operands_fetched.specs.rtl_step.Regs.{Regs}
+use Rattle.law_operands_fetched.specs.rtl_step.Value.{width_of}
+use Rattle.law_operands_fetched.specs.rtl_step.declared.effect.Effect.{Effect}
+use Rattle.law_operands_fetched.specs.md_constr.Inputs.{taken_in, taken_inside, taken_at_by, taken_at, taken_by_parts, taken_by}
+use Rattle.law_operands_fetched.proofs.md_match.Instantiated.{each_made}
+use Rattle.law_operands_fetched.specs.md_match.Pattern.{Ops, role_of, operand_of, instantiated}
+use Rattle.law_operands_fetched.specs.md_match.declared.role.Role.TheVariants.{Operand, Itself}
+use Rattle.law_operands_fetched.specs.assign.declared.home.HomeOf.{HomeOf}
+use Rattle.law_operands_fetched.specs.assign.declared.places.Layout.{Layout}
+use Rattle.law_operands_fetched.specs.reload_homes.Homes.{homed, register_numbered, register_by as homes_register, register_at}
+use Rattle.law_operands_fetched.specs.reload_operands.Directions.{has_number}
+use Rattle.law_operands_fetched.proofs.reload_operands.NumberLaws.{has_in_both, has_in_each}
+use Rattle.law_operands_fetched.specs.law_operands_replaced.Places.{AtOnePlace, first, later, is_leaf, is_leaf_as}
 use Rattle.law_reload_moves.proofs.Besides.{itself_made, beside_head, part_beside}
-use Rattle.law_reload_moves.proofs.ElementTurns.{effect_code}
+use Rattle.law_operands_fetched.proofs.law_operands_replaced.ElementTurns.{effect_code}
 use Rattle.law_reload_moves.proofs.GivenBeside.{first_of, second_of}
 use Rattle.law_reload_moves.proofs.HomedTrees.{lowpart_row, true_code}
 use Rattle.law_reload_moves.proofs.InputPlaces.{StandsThere, no_parts, empty}
-use Rattle.law_reload_moves.proofs.InsnTurns.{effect_codes, two_of}
+use Rattle.law_operands_fetched.proofs.law_operands_replaced.InsnTurns.{effect_codes, two_of}
 use Rattle.law_reload_moves.proofs.Matched.{IsLow, made_by, made_length, alone, front, no_kids, row_of}
-use Rattle.law_reload_moves.proofs.NewTrees.{is_lowpart, is_lowpart_class, is_whole, whole_low}
-use Rattle.law_reload_moves.proofs.SetValues.{SetReads, set_reads, at_valued}
-use Rattle.law_reload_moves.proofs.SetWidth.{no_register}
+use Rattle.law_operands_fetched.proofs.law_operands_replaced.NewTrees.{is_lowpart, is_lowpart_class, is_whole, whole_low}
+use Rattle.law_operands_fetched.proofs.law_operands_replaced.SetValues.{SetReads, set_reads, at_valued}
+use Rattle.law_operands_fetched.proofs.law_operands_replaced.SetWidth.{no_register}
 use Rattle.law_reload_moves.proofs.TakenThere.{IsAt, part_at, PartThere, taken_there, parts_there}
-use Rattle.law_reload_moves.proofs.Turning.{IsSetting, setting_opened}
-use Rattle.law_reload_moves.proofs.Valued.{HasValue}
+use Rattle.law_operands_fetched.proofs.law_operands_replaced.Turning.{IsSetting, setting_opened}
+use Rattle.law_operands_fetched.proofs.law_operands_replaced.Valued.{HasValue}
 
 -- an effect that takes something stands for itself
 pub taken_role : (k : ℕ) (c : Code) (q : Rtx) (kids : List Rtx) → has_number k (taken_by_parts c q kids) ≡ true → role_of c ≡ Itself

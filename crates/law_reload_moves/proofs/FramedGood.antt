@@ -6,24 +6,24 @@ use Rattle.std.specs.Int.{cast_unsigned, int_wrap, w64}
 use Rattle.std.specs.List.{AllByRecursion, list_all, list_any}
 use Rattle.std.specs.Ordering.{int_eq}
 use Rattle.std.specs.Prelude.{ℤ, pos, ◌+ℤ◌}
-use Rattle.rtx_tree.specs.Code.{class_of_code}
-use Rattle.rtx_tree.specs.Tree.{RtxHead, head_of, kids_of, tree_of, is_reg_numbered, mentions_reg}
-use Rattle.rtx_tree.specs.declared.class.Class.{Class}
-use Rattle.rtx_tree.specs.declared.class.Class.TheVariants as class
-use Rattle.rtx_tree.specs.declared.code.Code.{Code}
-use Rattle.rtx_tree.specs.declared.code.Code.TheVariants as code
-use Rattle.rtx_tree.specs.declared.code.Mode.{Mode}
-use Rattle.rtx_tree.specs.declared.tree.Rtx.{Rtx, out-roll-Rtx}
-use Rattle.rtx_tree.specs.declared.tree.Rtx.TheOpen.{Rtx-F}
-use Rattle.rtx_tree.proofs.Trees.{head_of-tree, kids_of-tree, mentions_out}
-use Rattle.rtl_func.specs.Shapes.{class_at, mode_at, number_at, is_narrower, is_true_register, is_bare, fits_row, is_shaped}
-use Rattle.rtl_func.proofs.AllPass.{all_pass, itself, within}
-use Rattle.sym_insns.specs.Shape.{is_natural, all_natural}
-use Rattle.reload_homes.specs.FrameRefs.{frame_offset, framed}
-use Rattle.reload_homes.proofs.Rewrites.{framed_reference, framed_over}
+use Rattle.law_operands_fetched.specs.rtx_tree.Code.{class_of_code}
+use Rattle.law_operands_fetched.specs.rtx_tree.Tree.{RtxHead, head_of, kids_of, tree_of, is_reg_numbered, mentions_reg}
+use Rattle.law_operands_fetched.specs.rtx_tree.declared.class.Class.{Class}
+use Rattle.law_operands_fetched.specs.rtx_tree.declared.class.Class.TheVariants as class
+use Rattle.law_operands_fetched.specs.rtx_tree.declared.code.Code.{Code}
+use Rattle.law_operands_fetched.specs.rtx_tree.declared.code.Code.TheVariants as code
+use Rattle.law_operands_fetched.specs.rtx_tree.declared.code.Mode.{Mode}
+use Rattle.law_operands_fetched.specs.rtx_tree.declared.tree.Rtx.{Rtx, out-roll-Rtx}
+use Rattle.law_operands_fetched.specs.rtx_tree.declared.tree.Rtx.TheOpen.{Rtx-F}
+use Rattle.law_operands_fetched.proofs.rtx_tree.Trees.{head_of-tree, kids_of-tree, mentions_out}
+use Rattle.law_operands_fetched.specs.rtl_func.Shapes.{class_at, mode_at, number_at, is_narrower, is_true_register, is_bare, fits_row, is_shaped}
+use Rattle.law_operands_fetched.proofs.rtl_func.AllPass.{all_pass, itself, within}
+use Rattle.law_operands_fetched.specs.sym_insns.Shape.{is_natural, all_natural}
+use Rattle.law_operands_fetched.specs.reload_homes.FrameRefs.{frame_offset, framed}
+use Rattle.law_operands_fetched.proofs.reload_homes.Rewrites.{framed_reference, framed_over}
 use Rattle.law_reload_moves.proofs.FramedTrees.{FrameCase, alone, sum, frame_case, row_of, case_mode, keeps_vars, all_alike, first_by}
 use Rattle.law_reload_moves.proofs.Shaping.{row_too, is_low}
-use Rattle.law_reload_moves.proofs.SmallTrees.{tree_induction, tree_shaped, sp_shaped, natural_out, sp_natural, one_or_other, or_second, stands_part, in_sp}
+use Rattle.law_operands_fetched.proofs.SmallTrees.{tree_induction, tree_shaped, sp_shaped, natural_out, sp_natural, one_or_other, or_second, stands_part, in_sp}
 
 -- ---- a low part is one of a register other than virtual-stack-vars
 

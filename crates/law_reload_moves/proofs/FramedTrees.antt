@@ -5,24 +5,24 @@ use Rattle.std.proofs.lemmas.Bool.{and_parts}
 use Rattle.std.specs.Int.{cast_unsigned, int_wrap, w64}
 use Rattle.std.specs.Ordering.{int_eq}
 use Rattle.std.specs.Prelude.{ℤ, pos, ◌+ℤ◌}
-use Rattle.rtx_tree.specs.Code.{class_of_code, is_value_class, is_place_class}
-use Rattle.rtx_tree.specs.Tree.{RtxHead, head_of, kids_of, node_of, reg_of, const_of}
-use Rattle.rtx_tree.specs.declared.class.Class.{Class}
-use Rattle.rtx_tree.specs.declared.class.Class.TheVariants as class
-use Rattle.rtx_tree.specs.declared.code.Code.{Code}
-use Rattle.rtx_tree.specs.declared.code.Code.TheVariants as code
-use Rattle.rtx_tree.specs.declared.code.Mode.{Mode}
-use Rattle.rtx_tree.specs.declared.tree.Rtx.{Rtx}
-use Rattle.rtx_tree.proofs.Trees.{head_of-tree}
-use Rattle.rtl_func.specs.Modes.{register_by}
-use Rattle.rtl_func.specs.Effects.{place_register_by, place_register, changed_by, changed_register, is_stack_register}
-use Rattle.rtl_func.specs.Shapes.{class_at, mode_at, number_at, has_mode, is_constant_class, is_place, is_bare, fits_row, is_shaped}
-use Rattle.md_operand.specs.Addresses.{is_stack_vars}
-use Rattle.reload_homes.specs.FrameRefs.{from_sp, offset_by, frame_offset, framed}
-use Rattle.reload_homes.proofs.Rewrites.{framed_reference, framed_over}
-use Rattle.law_reload_moves.proofs.Based.{leaf_alone}
+use Rattle.law_operands_fetched.specs.rtx_tree.Code.{class_of_code, is_value_class, is_place_class}
+use Rattle.law_operands_fetched.specs.rtx_tree.Tree.{RtxHead, head_of, kids_of, node_of, reg_of, const_of}
+use Rattle.law_operands_fetched.specs.rtx_tree.declared.class.Class.{Class}
+use Rattle.law_operands_fetched.specs.rtx_tree.declared.class.Class.TheVariants as class
+use Rattle.law_operands_fetched.specs.rtx_tree.declared.code.Code.{Code}
+use Rattle.law_operands_fetched.specs.rtx_tree.declared.code.Code.TheVariants as code
+use Rattle.law_operands_fetched.specs.rtx_tree.declared.code.Mode.{Mode}
+use Rattle.law_operands_fetched.specs.rtx_tree.declared.tree.Rtx.{Rtx}
+use Rattle.law_operands_fetched.proofs.rtx_tree.Trees.{head_of-tree}
+use Rattle.law_operands_fetched.specs.rtl_func.Modes.{register_by}
+use Rattle.law_operands_fetched.specs.rtl_func.Effects.{place_register_by, place_register, changed_by, changed_register, is_stack_register}
+use Rattle.law_operands_fetched.specs.rtl_func.Shapes.{class_at, mode_at, number_at, has_mode, is_constant_class, is_place, is_bare, fits_row, is_shaped}
+use Rattle.law_operands_fetched.specs.md_operand.Addresses.{is_stack_vars}
+use Rattle.law_operands_fetched.specs.reload_homes.FrameRefs.{from_sp, offset_by, frame_offset, framed}
+use Rattle.law_operands_fetched.proofs.reload_homes.Rewrites.{framed_reference, framed_over}
+use Rattle.law_operands_fetched.proofs.Based.{leaf_alone}
 use Rattle.law_reload_moves.proofs.Shaping.{Alike, PlaceToo, AllAlike, FirstPlace, IsOfOthers, is_changing}
-use Rattle.law_reload_moves.proofs.SmallTrees.{no_number}
+use Rattle.law_operands_fetched.proofs.SmallTrees.{no_number}
 
 -- ---- references
 

@@ -3,36 +3,36 @@ use Rattle.std.proofs.Common.{◌≡◌, ◌≢◌, ◌⊎◌, inl, inr, ℕ, �
 use Rattle.std.proofs.lemmas.Bool.{or_left, or_right}
 use Rattle.std.specs.List.{list_any}
 use Rattle.std.specs.Prelude.{ℤ, pos, slice_get, if◌then◌else◌}
-use Rattle.rtx_tree.specs.Tree.{RtxHead, head_of, kids_of}
-use Rattle.rtx_tree.specs.declared.code.Code.{Code}
-use Rattle.rtx_tree.specs.declared.code.Code.TheVariants as code
-use Rattle.rtx_tree.specs.declared.function.Kind.{Kind}
-use Rattle.rtx_tree.specs.declared.machine.SymbolAt.{SymbolAt}
-use Rattle.rtx_tree.specs.declared.memories.MemByte.{MemByte}
-use Rattle.rtx_tree.specs.declared.tree.Rtx.{Rtx}
-use Rattle.rtl_func.specs.Shapes.{is_effect, is_shaped}
-use Rattle.rtl_func.proofs.AllPass.{all_pass}
-use Rattle.rtl_step.specs.Regs.{Regs}
-use Rattle.md_constr.specs.Inputs.{effects_by, effects_of, changed_here, changed_whole, changed_at_by, changed_at}
-use Rattle.md_match.specs.Pattern.{Ops, role_of, operand_numbered, instantiated}
-use Rattle.md_match.specs.declared.role.Role.TheVariants.{Operand, Operator, Itself}
-use Rattle.assign.specs.declared.home.HomeOf.{HomeOf}
-use Rattle.assign.specs.declared.places.Layout.{Layout}
-use Rattle.reload_homes.specs.Homes.{homed, register_numbered, register_by, register_at}
-use Rattle.reload_operands.proofs.NumberLaws.{has_in_each}
-use Rattle.reload_operands.specs.Directions.{has_number, is_operator_code, clobbered_by_parts, clobbered_by, is_clobbered, is_hidden}
-use Rattle.reload_choice.specs.Sound.{IsSoundPlan}
-use Rattle.reload_choice.specs.declared.given.Plan.{Plan}
-use Rattle.law_reload_moves.specs.Places.{AtOnePlace, first, later, StandsFor, itself, part}
-use Rattle.law_reload_moves.specs.Spare.{KnowsRest}
+use Rattle.law_operands_fetched.specs.rtx_tree.Tree.{RtxHead, head_of, kids_of}
+use Rattle.law_operands_fetched.specs.rtx_tree.declared.code.Code.{Code}
+use Rattle.law_operands_fetched.specs.rtx_tree.declared.code.Code.TheVariants as code
+use Rattle.law_operands_fetched.specs.rtx_tree.declared.function.Kind.{Kind}
+use Rattle.law_operands_fetched.specs.rtx_tree.declared.machine.SymbolAt.{SymbolAt}
+use Rattle.law_operands_fetched.specs.rtx_tree.declared.memories.MemByte.{MemByte}
+use Rattle.law_operands_fetched.specs.rtx_tree.declared.tree.Rtx.{Rtx}
+use Rattle.law_operands_fetched.specs.rtl_func.Shapes.{is_effect, is_shaped}
+use Rattle.law_operands_fetched.proofs.rtl_func.AllPass.{all_pass}
+use Rattle.law_operands_fetched.specs.rtl_step.Regs.{Regs}
+use Rattle.law_operands_fetched.specs.md_constr.Inputs.{effects_by, effects_of, changed_here, changed_whole, changed_at_by, changed_at}
+use Rattle.law_operands_fetched.specs.md_match.Pattern.{Ops, role_of, operand_numbered, instantiated}
+use Rattle.law_operands_fetched.specs.md_match.declared.role.Role.TheVariants.{Operand, Operator, Itself}
+use Rattle.law_operands_fetched.specs.assign.declared.home.HomeOf.{HomeOf}
+use Rattle.law_operands_fetched.specs.assign.declared.places.Layout.{Layout}
+use Rattle.law_operands_fetched.specs.reload_homes.Homes.{homed, register_numbered, register_by, register_at}
+use Rattle.law_operands_fetched.proofs.reload_operands.NumberLaws.{has_in_each}
+use Rattle.law_operands_fetched.specs.reload_operands.Directions.{has_number, is_operator_code, clobbered_by_parts, clobbered_by, is_clobbered, is_hidden}
+use Rattle.law_operands_fetched.specs.reload_choice.Sound.{IsSoundPlan}
+use Rattle.law_operands_fetched.specs.reload_choice.declared.given.Plan.{Plan}
+use Rattle.law_operands_fetched.specs.law_operands_replaced.Places.{AtOnePlace, first, later, StandsFor, itself, part}
+use Rattle.law_operands_fetched.specs.law_operands_replaced.Spare.{KnowsRest}
 use Rattle.law_reload_moves.proofs.Besides.{itself_made, no_place, beside_head, IsPartBeside, part_beside, low_inside}
 use Rattle.law_reload_moves.proofs.Chosen.{given, asks, news, known_of, IsNewAt, new_at}
 use Rattle.law_reload_moves.proofs.GivenNews.{own, mode, tree, result_at, Reads, Lost, Free, AreFetched, new_is}
-use Rattle.law_reload_moves.proofs.InsnTurns.{IsBeside}
+use Rattle.law_operands_fetched.proofs.law_operands_replaced.InsnTurns.{IsBeside}
 use Rattle.law_reload_moves.proofs.Matched.{IsLow}
 use Rattle.law_reload_moves.proofs.NewsLaws.{moved_place, none_moved}
 use Rattle.law_reload_moves.proofs.TakenPlaces.{any_place, itself_number, IsEffectOf, IsRead, source_read, target_read, operator_hidden}
-use Rattle.law_reload_moves.proofs.WholeTurns.{IsWholeBeside}
+use Rattle.law_operands_fetched.proofs.law_operands_replaced.WholeTurns.{IsWholeBeside}
 
 operand_changed : (c : Code) (k : ℕ) → role_of c ≡ Operand → has_number k (changed_here c (pos k)) ≡ true
 operand_changed code.MatchOperand k is = itself_number k

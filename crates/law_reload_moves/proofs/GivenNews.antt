@@ -4,45 +4,45 @@ use Rattle.std.proofs.lemmas.Bool.{and_parts}
 use Rattle.std.proofs.lemmas.Bool.Decides.{nat_tests}
 use Rattle.std.specs.Option.{option_map_or}
 use Rattle.std.specs.Prelude.{ℤ, pos, slice_get, nat_le, ◌==◌}
-use Rattle.bits64.specs.declared.Width.{Width}
-use Rattle.rtx_tree.specs.Tree.{reg_of}
-use Rattle.rtx_tree.specs.declared.class.Class.TheVariants as class
-use Rattle.rtx_tree.specs.declared.code.Mode.{Mode}
-use Rattle.rtx_tree.specs.declared.code.Mode.TheVariants.{Void}
-use Rattle.rtx_tree.specs.declared.function.Kind.{Kind}
-use Rattle.rtx_tree.specs.declared.machine.SymbolAt.{SymbolAt}
-use Rattle.rtx_tree.specs.declared.memories.MemByte.{MemByte}
-use Rattle.rtx_tree.specs.declared.tree.Rtx.{Rtx}
-use Rattle.rtl_func.specs.Shapes.{class_at, mode_at, is_shaped}
-use Rattle.rtl_func.proofs.AllPass.{all_pass}
-use Rattle.rtl_step.specs.Regs.{Regs}
-use Rattle.rtl_step.specs.Value.{width_of}
-use Rattle.md_match.specs.Pattern.{Ops, operand_numbered, instantiated}
-use Rattle.assign.specs.declared.home.HomeOf.{HomeOf}
-use Rattle.assign.specs.declared.places.Layout.{Layout}
-use Rattle.reload_homes.specs.Homes.{homed}
-use Rattle.reload_operands.specs.Directions.{is_clobbered}
-use Rattle.reload_operands.specs.declared.operand.Operand.{Operand}
-use Rattle.reload_moves.proofs.AskLaws.{own_asked, base_asked}
-use Rattle.reload_moves.specs.Moves.{own_of, comes_in}
-use Rattle.reload_moves.specs.Registers.{asks_of, ask, is_asked, base_ask, holds_base, register_for, is_result}
-use Rattle.reload_moves.specs.declared.ask.Ask.{Ask}
-use Rattle.reload_moves.specs.declared.ask.What.TheVariants.{Own, StayingBase, ResultBase}
-use Rattle.reload_moves.specs.declared.part.Part.{Part}
-use Rattle.reload_choice.specs.Insns.{new_tree, news_of}
-use Rattle.reload_choice.specs.Movable.{are_same_inputs, are_same_outputs, is_alone, may_share, share}
-use Rattle.reload_choice.specs.Sound.{IsPart, IsSoundPlan}
-use Rattle.reload_choice.specs.declared.given.Given.{Given}
-use Rattle.reload_choice.specs.declared.given.Plan.{Plan}
+use Rattle.law_operands_fetched.specs.bits64.declared.Width.{Width}
+use Rattle.law_operands_fetched.specs.rtx_tree.Tree.{reg_of}
+use Rattle.law_operands_fetched.specs.rtx_tree.declared.class.Class.TheVariants as class
+use Rattle.law_operands_fetched.specs.rtx_tree.declared.code.Mode.{Mode}
+use Rattle.law_operands_fetched.specs.rtx_tree.declared.code.Mode.TheVariants.{Void}
+use Rattle.law_operands_fetched.specs.rtx_tree.declared.function.Kind.{Kind}
+use Rattle.law_operands_fetched.specs.rtx_tree.declared.machine.SymbolAt.{SymbolAt}
+use Rattle.law_operands_fetched.specs.rtx_tree.declared.memories.MemByte.{MemByte}
+use Rattle.law_operands_fetched.specs.rtx_tree.declared.tree.Rtx.{Rtx}
+use Rattle.law_operands_fetched.specs.rtl_func.Shapes.{class_at, mode_at, is_shaped}
+use Rattle.law_operands_fetched.proofs.rtl_func.AllPass.{all_pass}
+use Rattle.law_operands_fetched.specs.rtl_step.Regs.{Regs}
+use Rattle.law_operands_fetched.specs.rtl_step.Value.{width_of}
+use Rattle.law_operands_fetched.specs.md_match.Pattern.{Ops, operand_numbered, instantiated}
+use Rattle.law_operands_fetched.specs.assign.declared.home.HomeOf.{HomeOf}
+use Rattle.law_operands_fetched.specs.assign.declared.places.Layout.{Layout}
+use Rattle.law_operands_fetched.specs.reload_homes.Homes.{homed}
+use Rattle.law_operands_fetched.specs.reload_operands.Directions.{is_clobbered}
+use Rattle.law_operands_fetched.specs.reload_operands.declared.operand.Operand.{Operand}
+use Rattle.law_operands_fetched.proofs.reload_moves.AskLaws.{own_asked, base_asked}
+use Rattle.law_operands_fetched.specs.reload_moves.Moves.{own_of, comes_in}
+use Rattle.law_operands_fetched.specs.reload_moves.Registers.{asks_of, ask, is_asked, base_ask, holds_base, register_for, is_result}
+use Rattle.law_operands_fetched.specs.reload_moves.declared.ask.Ask.{Ask}
+use Rattle.law_operands_fetched.specs.reload_moves.declared.ask.What.TheVariants.{Own, StayingBase, ResultBase}
+use Rattle.law_operands_fetched.specs.reload_moves.declared.part.Part.{Part}
+use Rattle.law_operands_fetched.specs.reload_choice.Insns.{new_tree, news_of}
+use Rattle.law_operands_fetched.specs.reload_choice.Movable.{are_same_inputs, are_same_outputs, is_alone, may_share, share}
+use Rattle.law_operands_fetched.specs.reload_choice.Sound.{IsPart, IsSoundPlan}
+use Rattle.law_operands_fetched.specs.reload_choice.declared.given.Given.{Given}
+use Rattle.law_operands_fetched.specs.reload_choice.declared.given.Plan.{Plan}
 use Rattle.law_reload_moves.specs.Chosen.{chosen_from}
-use Rattle.law_reload_moves.specs.Places.{StandsFor}
-use Rattle.law_reload_moves.specs.Spare.{is_spare, KnowsRest}
-use Rattle.law_reload_moves.proofs.Addresses.{IsNewTree}
+use Rattle.law_operands_fetched.specs.law_operands_replaced.Places.{StandsFor}
+use Rattle.law_operands_fetched.specs.law_operands_replaced.Spare.{is_spare, KnowsRest}
+use Rattle.law_operands_fetched.proofs.law_operands_replaced.Addresses.{IsNewTree}
 use Rattle.law_reload_moves.proofs.Chosen.{given, asks, news, moved_tree, known_of, IsNewAt, new_at}
-use Rattle.law_reload_moves.proofs.ElementTurns.{NewFor, stays_for, moves_for}
+use Rattle.law_operands_fetched.proofs.law_operands_replaced.ElementTurns.{NewFor, stays_for, moves_for}
 use Rattle.law_reload_moves.proofs.NewsLaws.{moved_place, result_numbered}
 use Rattle.law_reload_moves.proofs.TakenPlaces.{IsRead}
-use Rattle.law_reload_moves.proofs.Valued.{HasValue}
+use Rattle.law_operands_fetched.proofs.law_operands_replaced.Valued.{HasValue}
 
 -- a part that is a result, at a place
 pub record IsResultAt (plan : Plan) (k : ℕ) : Type 0 where

@@ -8,58 +8,58 @@ use Rattle.std.specs.List.{filter_map, list_all, list_any}
 use Rattle.std.specs.Option.{option_map_or}
 use Rattle.std.specs.Ordering.{int_eq}
 use Rattle.std.specs.Prelude.{ℤ, pos, is_some, option_map, option_and_then}
-use Rattle.bits64.specs.declared.Width.TheVariants.{W64}
-use Rattle.rtx_tree.specs.Code.{class_of_code}
-use Rattle.rtx_tree.specs.Operands.{operand_at}
-use Rattle.rtx_tree.specs.Tree.{head_of, kids_of, mentions_reg, node_of, reg_of, const_of}
-use Rattle.rtx_tree.specs.declared.code.Code.{Code}
-use Rattle.rtx_tree.specs.declared.code.Code.TheVariants as code
-use Rattle.rtx_tree.specs.declared.code.Mode.TheVariants.{DI}
-use Rattle.rtx_tree.specs.declared.function.Kind.{Kind}
-use Rattle.rtx_tree.specs.declared.machine.SymbolAt.{SymbolAt}
-use Rattle.rtx_tree.specs.declared.memories.MemByte.{MemByte}
-use Rattle.rtx_tree.specs.declared.tree.Rtx.{Rtx, out-roll-Rtx}
-use Rattle.rtx_tree.specs.declared.tree.Rtx.TheOpen.{Rtx-F}
-use Rattle.rtl_func.proofs.AllPass.{all_pass, pass_out}
-use Rattle.rtl_step.specs.Effect.{address_part, address_of, effect_of, effects_by, effects_of, one_effect}
-use Rattle.rtl_step.specs.Regs.{Regs}
-use Rattle.rtl_step.specs.Value.{value_of}
-use Rattle.rtl_step.specs.declared.effect.Effect.{Effect}
-use Rattle.sym_insns.specs.Shape.{all_natural}
-use Rattle.law_frame.proofs.law_window_replaced.Trees.{mentions_kid, natural_kids}
-use Rattle.md_constr.specs.Inputs as inputs
-use Rattle.md_match.specs.Pattern.{Ops}
-use Rattle.assign.specs.declared.home.Home.{Home}
-use Rattle.assign.specs.declared.home.Home.TheVariants.{Hard, Slot}
-use Rattle.assign.specs.declared.home.HomeOf.{HomeOf}
-use Rattle.assign.specs.declared.places.Layout.{Layout}
-use Rattle.reload_homes.specs.Homes.{home_of, homed, place_by, register_at, slot_address, slot_offset}
-use Rattle.reload_homes.proofs.Rewrites.{homed_register, homed_over}
-use Rattle.reload_operands.specs.Bases.{is_slot, in_slot, lives_in_slot}
-use Rattle.reload_operands.specs.Changes as changes
-use Rattle.reload_operands.specs.Changes.{changed_register, changes_in, is_hard, is_memory_code, other_memory}
-use Rattle.reload_operands.specs.declared.operand.Operand.{Operand}
-use Rattle.reload_moves.specs.Registers.{is_result}
-use Rattle.reload_moves.specs.declared.part.Part.{Part}
-use Rattle.reload_choice.specs.reload_fit.Fitting as fits
-use Rattle.reload_choice.specs.Movable.{may_land, is_plain}
-use Rattle.reload_choice.specs.Sound.{IsPart, IsSoundPlan}
-use Rattle.reload_choice.specs.declared.given.Plan.{Plan}
-use Rattle.law_homes.proofs.Becoming.{place_code}
-use Rattle.law_reload_moves.specs.Spare.{NamesNoSpare, KnowsRest}
+use Rattle.law_operands_fetched.specs.bits64.declared.Width.TheVariants.{W64}
+use Rattle.law_operands_fetched.specs.rtx_tree.Code.{class_of_code}
+use Rattle.law_operands_fetched.specs.rtx_tree.Operands.{operand_at}
+use Rattle.law_operands_fetched.specs.rtx_tree.Tree.{head_of, kids_of, mentions_reg, node_of, reg_of, const_of}
+use Rattle.law_operands_fetched.specs.rtx_tree.declared.code.Code.{Code}
+use Rattle.law_operands_fetched.specs.rtx_tree.declared.code.Code.TheVariants as code
+use Rattle.law_operands_fetched.specs.rtx_tree.declared.code.Mode.TheVariants.{DI}
+use Rattle.law_operands_fetched.specs.rtx_tree.declared.function.Kind.{Kind}
+use Rattle.law_operands_fetched.specs.rtx_tree.declared.machine.SymbolAt.{SymbolAt}
+use Rattle.law_operands_fetched.specs.rtx_tree.declared.memories.MemByte.{MemByte}
+use Rattle.law_operands_fetched.specs.rtx_tree.declared.tree.Rtx.{Rtx, out-roll-Rtx}
+use Rattle.law_operands_fetched.specs.rtx_tree.declared.tree.Rtx.TheOpen.{Rtx-F}
+use Rattle.law_operands_fetched.proofs.rtl_func.AllPass.{all_pass, pass_out}
+use Rattle.law_operands_fetched.specs.rtl_step.Effect.{address_part, address_of, effect_of, effects_by, effects_of, one_effect}
+use Rattle.law_operands_fetched.specs.rtl_step.Regs.{Regs}
+use Rattle.law_operands_fetched.specs.rtl_step.Value.{value_of}
+use Rattle.law_operands_fetched.specs.rtl_step.declared.effect.Effect.{Effect}
+use Rattle.law_operands_fetched.specs.sym_insns.Shape.{all_natural}
+use Rattle.law_operands_fetched.proofs.law_frame.law_window_replaced.Trees.{mentions_kid, natural_kids}
+use Rattle.law_operands_fetched.specs.md_constr.Inputs as inputs
+use Rattle.law_operands_fetched.specs.md_match.Pattern.{Ops}
+use Rattle.law_operands_fetched.specs.assign.declared.home.Home.{Home}
+use Rattle.law_operands_fetched.specs.assign.declared.home.Home.TheVariants.{Hard, Slot}
+use Rattle.law_operands_fetched.specs.assign.declared.home.HomeOf.{HomeOf}
+use Rattle.law_operands_fetched.specs.assign.declared.places.Layout.{Layout}
+use Rattle.law_operands_fetched.specs.reload_homes.Homes.{home_of, homed, place_by, register_at, slot_address, slot_offset}
+use Rattle.law_operands_fetched.proofs.reload_homes.Rewrites.{homed_register, homed_over}
+use Rattle.law_operands_fetched.specs.reload_operands.Bases.{is_slot, in_slot, lives_in_slot}
+use Rattle.law_operands_fetched.specs.reload_operands.Changes as changes
+use Rattle.law_operands_fetched.specs.reload_operands.Changes.{changed_register, changes_in, is_hard, is_memory_code, other_memory}
+use Rattle.law_operands_fetched.specs.reload_operands.declared.operand.Operand.{Operand}
+use Rattle.law_operands_fetched.specs.reload_moves.Registers.{is_result}
+use Rattle.law_operands_fetched.specs.reload_moves.declared.part.Part.{Part}
+use Rattle.law_operands_fetched.specs.reload_choice.reload_fit.Fitting as fits
+use Rattle.law_operands_fetched.specs.reload_choice.Movable.{may_land, is_plain}
+use Rattle.law_operands_fetched.specs.reload_choice.Sound.{IsPart, IsSoundPlan}
+use Rattle.law_operands_fetched.specs.reload_choice.declared.given.Plan.{Plan}
+use Rattle.law_operands_fetched.proofs.law_homes.Becoming.{place_code}
+use Rattle.law_operands_fetched.specs.law_operands_replaced.Spare.{NamesNoSpare, KnowsRest}
 use Rattle.law_reload_moves.proofs.AllSoles.{landed, end_parts}
 use Rattle.law_reload_moves.proofs.Chosen.{given}
-use Rattle.law_reload_moves.proofs.ElementTurns.{memory_code_of}
+use Rattle.law_operands_fetched.proofs.law_operands_replaced.ElementTurns.{memory_code_of}
 use Rattle.law_reload_moves.proofs.LeftRegisters.{AreOnHard, lists_leave}
 use Rattle.law_reload_moves.proofs.NewsLaws.{operand_of_match}
-use Rattle.law_reload_moves.proofs.OnRegister.{IsOperand}
+use Rattle.law_operands_fetched.proofs.OnRegister.{IsOperand}
 use Rattle.law_reload_moves.proofs.ResultsEnd.{Among, AllAmong, Reached}
 use Rattle.law_reload_moves.proofs.RowsThere.{alone_front}
-use Rattle.law_reload_moves.proofs.SmallTrees.{in_sp}
+use Rattle.law_operands_fetched.proofs.SmallTrees.{in_sp}
 use Rattle.law_reload_moves.proofs.SoleRows.{none_other}
 use Rattle.law_reload_moves.proofs.SteadyAddress.{Leaves, AllLeave, all_leave, IsSteady, no_memory_class, is_no_memory, steady}
 use Rattle.law_reload_moves.proofs.Touches.{one_kid}
-use Rattle.law_reload_moves.proofs.WholeTurns.{is_parallel}
+use Rattle.law_operands_fetched.proofs.law_operands_replaced.WholeTurns.{is_parallel}
 
 -- ---- the elements of an instruction
 

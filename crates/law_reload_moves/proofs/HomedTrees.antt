@@ -3,34 +3,34 @@ use Rattle.std.proofs.Common.{◌≡◌, ℕ, ◌&&◌, if◌then◌else◌, Boo
 use Rattle.std.proofs.lemmas.Bool.{and_parts}
 use Rattle.std.specs.List.{AllByRecursion, list_all}
 use Rattle.std.specs.Prelude.{ℤ, pos, negsuc}
-use Rattle.rtx_tree.proofs.Trees.{head_of-tree, kids_of-tree}
-use Rattle.rtx_tree.specs.Code.{class_of_code}
-use Rattle.rtx_tree.specs.Tree.{RtxHead, head_of, kids_of, tree_of, node_of, reg_of, const_of}
-use Rattle.rtx_tree.specs.declared.class.Class.{Class}
-use Rattle.rtx_tree.specs.declared.class.Class.TheVariants as class
-use Rattle.rtx_tree.specs.declared.code.Code.{Code}
-use Rattle.rtx_tree.specs.declared.code.Code.TheVariants as code
-use Rattle.rtx_tree.specs.declared.code.Mode.{Mode}
-use Rattle.rtx_tree.specs.declared.code.Mode.TheVariants.{Void, DI}
-use Rattle.rtx_tree.specs.declared.tree.Rtx.{Rtx, out-Rtx, roll-Rtx, out-roll-Rtx}
-use Rattle.rtx_tree.specs.declared.tree.Rtx.TheFolds.{fold_out-Rtx, ind-Rtx}
-use Rattle.rtx_tree.specs.declared.tree.Rtx.TheOpen.{Rtx-F}
+use Rattle.law_operands_fetched.proofs.rtx_tree.Trees.{head_of-tree, kids_of-tree}
+use Rattle.law_operands_fetched.specs.rtx_tree.Code.{class_of_code}
+use Rattle.law_operands_fetched.specs.rtx_tree.Tree.{RtxHead, head_of, kids_of, tree_of, node_of, reg_of, const_of}
+use Rattle.law_operands_fetched.specs.rtx_tree.declared.class.Class.{Class}
+use Rattle.law_operands_fetched.specs.rtx_tree.declared.class.Class.TheVariants as class
+use Rattle.law_operands_fetched.specs.rtx_tree.declared.code.Code.{Code}
+use Rattle.law_operands_fetched.specs.rtx_tree.declared.code.Code.TheVariants as code
+use Rattle.law_operands_fetched.specs.rtx_tree.declared.code.Mode.{Mode}
+use Rattle.law_operands_fetched.specs.rtx_tree.declared.code.Mode.TheVariants.{Void, DI}
+use Rattle.law_operands_fetched.specs.rtx_tree.declared.tree.Rtx.{Rtx, out-Rtx, roll-Rtx, out-roll-Rtx}
+use Rattle.law_operands_fetched.specs.rtx_tree.declared.tree.Rtx.TheFolds.{fold_out-Rtx, ind-Rtx}
+use Rattle.law_operands_fetched.specs.rtx_tree.declared.tree.Rtx.TheOpen.{Rtx-F}
 use Rattle.std.specs.Int.{int_wrap, w64}
 use Rattle.std.specs.Ordering.{int_eq}
-use Rattle.rtl_func.specs.Shapes.{class_at, mode_at, number_at, is_true_register, is_narrower, is_bare, fits_row, is_shaped}
-use Rattle.rtl_func.proofs.AllPass as nodes
-use Rattle.rtl_func.proofs.AllPass.{all_pass, pass_out}
-use Rattle.sym_insns.specs.Shape.{is_natural, natural_step, all_natural}
-use Rattle.assign.specs.declared.home.Home.{Home}
-use Rattle.assign.specs.declared.home.Home.TheVariants.{Hard, Slot}
-use Rattle.assign.specs.declared.home.HomeOf.{HomeOf}
-use Rattle.assign.specs.declared.places.Layout.{Layout}
-use Rattle.reload_homes.specs.FrameRefs.{sp_plus, from_sp}
-use Rattle.reload_homes.specs.Homes.{home_of, homed, register_numbered, register_in, register_by, register_at, place_by, place_for, slot_address, slot_offset}
-use Rattle.reload_homes.proofs.Rewrites.{homed_register, homed_over}
-use Rattle.rv_regs.specs.Registers.{stack_pointer}
-use Rattle.law_frame.proofs.law_window_replaced.Trees.{natural_kids, natural_here}
-use Rattle.law_reload_moves.proofs.NewTrees.{is_lowpart_class, is_lowpart, is_whole}
+use Rattle.law_operands_fetched.specs.rtl_func.Shapes.{class_at, mode_at, number_at, is_true_register, is_narrower, is_bare, fits_row, is_shaped}
+use Rattle.law_operands_fetched.proofs.rtl_func.AllPass as nodes
+use Rattle.law_operands_fetched.proofs.rtl_func.AllPass.{all_pass, pass_out}
+use Rattle.law_operands_fetched.specs.sym_insns.Shape.{is_natural, natural_step, all_natural}
+use Rattle.law_operands_fetched.specs.assign.declared.home.Home.{Home}
+use Rattle.law_operands_fetched.specs.assign.declared.home.Home.TheVariants.{Hard, Slot}
+use Rattle.law_operands_fetched.specs.assign.declared.home.HomeOf.{HomeOf}
+use Rattle.law_operands_fetched.specs.assign.declared.places.Layout.{Layout}
+use Rattle.law_operands_fetched.specs.reload_homes.FrameRefs.{sp_plus, from_sp}
+use Rattle.law_operands_fetched.specs.reload_homes.Homes.{home_of, homed, register_numbered, register_in, register_by, register_at, place_by, place_for, slot_address, slot_offset}
+use Rattle.law_operands_fetched.proofs.reload_homes.Rewrites.{homed_register, homed_over}
+use Rattle.law_operands_fetched.specs.rv_regs.Registers.{stack_pointer}
+use Rattle.law_operands_fetched.proofs.law_frame.law_window_replaced.Trees.{natural_kids, natural_here}
+use Rattle.law_operands_fetched.proofs.law_operands_replaced.NewTrees.{is_lowpart_class, is_lowpart, is_whole}
 
 all_of : (P : Rtx → Type 0) (kids : List ((x : Rtx) × P x)) → AllByRecursion P (map (λ (k : (x : Rtx) × P x). k.0) kids)
 all_of P [] = tt

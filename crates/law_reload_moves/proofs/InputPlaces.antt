@@ -6,29 +6,29 @@ use Rattle.std.specs.Int.{cast_unsigned, w64}
 use Rattle.std.specs.List.{AllByRecursion, flat_map, list_all, list_any}
 use Rattle.std.specs.Ordering.{int_eq}
 use Rattle.std.specs.Prelude.{ℤ, pos, negsuc}
-use Rattle.rtx_tree.specs.Operands.{operand_at}
-use Rattle.rtx_tree.specs.Tree.{head_of, kids_of}
-use Rattle.rtx_tree.specs.declared.code.Code.{Code}
-use Rattle.rtx_tree.specs.declared.code.Code.TheVariants as code
-use Rattle.rtx_tree.specs.declared.tree.Rtx.{Rtx}
-use Rattle.rtl_func.specs.Shapes.{is_shaped}
-use Rattle.rtl_func.proofs.AllPass as nodes
-use Rattle.rtl_func.proofs.AllPass.{all_pass}
-use Rattle.md_constr.specs.Inputs.{taken_here, taken_in}
-use Rattle.md_match.proofs.Instantiated.{each_made, made_operand}
-use Rattle.md_match.proofs.Placeholders.{placeholders_out}
-use Rattle.md_match.specs.Match.{IsAsked, IsAskedAs}
-use Rattle.md_match.specs.Pattern.{Ops, role_of, placeholders, placeholders_as, operand_of, operand_numbered, instantiated}
-use Rattle.md_match.specs.declared.role.Role.{Role}
-use Rattle.md_match.specs.declared.role.Role.TheVariants.{Operand, Operator, Itself}
-use Rattle.assign.specs.declared.home.HomeOf.{HomeOf}
-use Rattle.assign.specs.declared.places.Layout.{Layout}
-use Rattle.reload_homes.specs.Homes.{homed, register_at}
-use Rattle.reload_operands.specs.Directions.{has_number}
-use Rattle.reload_operands.specs.Put.{is_lowpart_code, is_lowpart, any_inside, is_inside, inside_low}
-use Rattle.reload_operands.proofs.InsideLaws.{inside_operand, inside_operator}
-use Rattle.reload_operands.proofs.NumberLaws.{takes_out}
-use Rattle.law_reload_moves.specs.Places.{AtOnePlace, first, later, At, here, inside, is_leaf, is_leaf_as, is_empty}
+use Rattle.law_operands_fetched.specs.rtx_tree.Operands.{operand_at}
+use Rattle.law_operands_fetched.specs.rtx_tree.Tree.{head_of, kids_of}
+use Rattle.law_operands_fetched.specs.rtx_tree.declared.code.Code.{Code}
+use Rattle.law_operands_fetched.specs.rtx_tree.declared.code.Code.TheVariants as code
+use Rattle.law_operands_fetched.specs.rtx_tree.declared.tree.Rtx.{Rtx}
+use Rattle.law_operands_fetched.specs.rtl_func.Shapes.{is_shaped}
+use Rattle.law_operands_fetched.proofs.rtl_func.AllPass as nodes
+use Rattle.law_operands_fetched.proofs.rtl_func.AllPass.{all_pass}
+use Rattle.law_operands_fetched.specs.md_constr.Inputs.{taken_here, taken_in}
+use Rattle.law_operands_fetched.proofs.md_match.Instantiated.{each_made, made_operand}
+use Rattle.law_operands_fetched.proofs.md_match.Placeholders.{placeholders_out}
+use Rattle.law_operands_fetched.specs.md_match.Match.{IsAsked, IsAskedAs}
+use Rattle.law_operands_fetched.specs.md_match.Pattern.{Ops, role_of, placeholders, placeholders_as, operand_of, operand_numbered, instantiated}
+use Rattle.law_operands_fetched.specs.md_match.declared.role.Role.{Role}
+use Rattle.law_operands_fetched.specs.md_match.declared.role.Role.TheVariants.{Operand, Operator, Itself}
+use Rattle.law_operands_fetched.specs.assign.declared.home.HomeOf.{HomeOf}
+use Rattle.law_operands_fetched.specs.assign.declared.places.Layout.{Layout}
+use Rattle.law_operands_fetched.specs.reload_homes.Homes.{homed, register_at}
+use Rattle.law_operands_fetched.specs.reload_operands.Directions.{has_number}
+use Rattle.law_operands_fetched.specs.reload_operands.Put.{is_lowpart_code, is_lowpart, any_inside, is_inside, inside_low}
+use Rattle.law_operands_fetched.proofs.reload_operands.InsideLaws.{inside_operand, inside_operator}
+use Rattle.law_operands_fetched.proofs.reload_operands.NumberLaws.{takes_out}
+use Rattle.law_operands_fetched.specs.law_operands_replaced.Places.{AtOnePlace, first, later, At, here, inside, is_leaf, is_leaf_as, is_empty}
 use Rattle.law_reload_moves.proofs.Besides.{IsPartBeside, part_beside}
 use Rattle.law_reload_moves.proofs.HomedTrees.{induction}
 use Rattle.law_reload_moves.proofs.Matched.{IsLow, IsMade, IsPlace, whole, lowpart, is_place, made_by, made_length, alone, front, no_kids}

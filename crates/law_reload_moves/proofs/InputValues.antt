@@ -3,35 +3,35 @@ use Rattle.std.proofs.Common.{◌≡◌, ◌≢◌, ◌⊎◌, inl, inr, ℕ, �
 use Rattle.std.proofs.lemmas.Bool.{and_parts, or_cases}
 use Rattle.std.specs.List.{list_all, list_any}
 use Rattle.std.specs.Prelude.{ℤ, pos, option_map, option_and_then}
-use Rattle.rtx_tree.specs.Tree.{RtxHead, head_of, kids_of}
-use Rattle.rtx_tree.specs.declared.code.Code.{Code}
-use Rattle.rtx_tree.specs.declared.code.Code.TheVariants as code
-use Rattle.rtx_tree.specs.declared.machine.SymbolAt.{SymbolAt}
-use Rattle.rtx_tree.specs.declared.memories.MemByte.{MemByte}
-use Rattle.rtx_tree.specs.declared.tree.Rtx.{Rtx}
-use Rattle.rtl_func.specs.Shapes.{is_effect, is_shaped}
-use Rattle.rtl_func.proofs.AllPass as nodes
-use Rattle.rtl_func.proofs.AllPass.{all_pass}
-use Rattle.rtl_step.specs.Effect.{effect_of, all_effects, one_effect, effects_of, effects_by}
-use Rattle.rtl_step.specs.Regs.{Regs}
-use Rattle.rtl_step.specs.declared.effect.Effect.{Effect}
-use Rattle.md_constr.specs.Inputs.{taken_by_parts, taken_by, inputs_in}
-use Rattle.md_constr.specs.Inputs as inputs
-use Rattle.md_match.specs.Pattern.{Ops, role_of, operand_of}
-use Rattle.md_match.specs.declared.role.Role.TheVariants.{Operand, Itself}
-use Rattle.assign.specs.declared.home.HomeOf.{HomeOf}
-use Rattle.assign.specs.declared.places.Layout.{Layout}
-use Rattle.reload_homes.specs.Homes.{homed, register_at}
-use Rattle.reload_operands.specs.Directions.{has_number, is_input}
-use Rattle.reload_operands.proofs.NumberLaws.{has_in_each}
-use Rattle.law_reload_moves.specs.Places.{AtOnePlace, first, later}
+use Rattle.law_operands_fetched.specs.rtx_tree.Tree.{RtxHead, head_of, kids_of}
+use Rattle.law_operands_fetched.specs.rtx_tree.declared.code.Code.{Code}
+use Rattle.law_operands_fetched.specs.rtx_tree.declared.code.Code.TheVariants as code
+use Rattle.law_operands_fetched.specs.rtx_tree.declared.machine.SymbolAt.{SymbolAt}
+use Rattle.law_operands_fetched.specs.rtx_tree.declared.memories.MemByte.{MemByte}
+use Rattle.law_operands_fetched.specs.rtx_tree.declared.tree.Rtx.{Rtx}
+use Rattle.law_operands_fetched.specs.rtl_func.Shapes.{is_effect, is_shaped}
+use Rattle.law_operands_fetched.proofs.rtl_func.AllPass as nodes
+use Rattle.law_operands_fetched.proofs.rtl_func.AllPass.{all_pass}
+use Rattle.law_operands_fetched.specs.rtl_step.Effect.{effect_of, all_effects, one_effect, effects_of, effects_by}
+use Rattle.law_operands_fetched.specs.rtl_step.Regs.{Regs}
+use Rattle.law_operands_fetched.specs.rtl_step.declared.effect.Effect.{Effect}
+use Rattle.law_operands_fetched.specs.md_constr.Inputs.{taken_by_parts, taken_by, inputs_in}
+use Rattle.law_operands_fetched.specs.md_constr.Inputs as inputs
+use Rattle.law_operands_fetched.specs.md_match.Pattern.{Ops, role_of, operand_of}
+use Rattle.law_operands_fetched.specs.md_match.declared.role.Role.TheVariants.{Operand, Itself}
+use Rattle.law_operands_fetched.specs.assign.declared.home.HomeOf.{HomeOf}
+use Rattle.law_operands_fetched.specs.assign.declared.places.Layout.{Layout}
+use Rattle.law_operands_fetched.specs.reload_homes.Homes.{homed, register_at}
+use Rattle.law_operands_fetched.specs.reload_operands.Directions.{has_number, is_input}
+use Rattle.law_operands_fetched.proofs.reload_operands.NumberLaws.{has_in_each}
+use Rattle.law_operands_fetched.specs.law_operands_replaced.Places.{AtOnePlace, first, later}
 use Rattle.law_reload_moves.proofs.Besides.{no_place, beside_head, part_beside}
 use Rattle.law_reload_moves.proofs.ElementValues.{IsValued, taken_role, element_valued}
 use Rattle.law_reload_moves.proofs.InputPlaces.{found_at}
 use Rattle.law_reload_moves.proofs.Matched.{IsLow}
-use Rattle.law_reload_moves.proofs.NewTrees.{is_whole}
+use Rattle.law_operands_fetched.proofs.law_operands_replaced.NewTrees.{is_whole}
 use Rattle.law_reload_moves.proofs.TakenThere.{IsAt, part_at}
-use Rattle.law_reload_moves.proofs.WholeTurns.{is_parallel, front_is, alone_is, effects_exist}
+use Rattle.law_operands_fetched.proofs.law_operands_replaced.WholeTurns.{is_parallel, front_is, alone_is, effects_exist}
 
 -- the effect of one of some elements
 pub effect_there : (symbols : List SymbolAt) (regs : Regs) (m : List MemByte) (ps xs : List Rtx) (q x : Rtx) (es : List Effect) → AtOnePlace ps xs q x →

@@ -3,52 +3,52 @@ use Rattle.std.proofs.Common.{◌≡◌, ◌≢◌, ◌⊎◌, inl, inr, ℕ, Bo
 use Rattle.std.proofs.lemmas.Bool.{and_parts}
 use Rattle.std.specs.List.{list_all}
 use Rattle.std.specs.Prelude.{pos, slice_get}
-use Rattle.bits64.specs.declared.Width.{Width}
-use Rattle.bits64.specs.declared.Width.TheVariants.{W64}
-use Rattle.rtx_tree.specs.Operands.{operand_at}
-use Rattle.rtx_tree.specs.Tree.{head_of, kids_of, mentions_reg}
-use Rattle.rtx_tree.specs.declared.code.Code.TheVariants as code
-use Rattle.rtx_tree.specs.declared.function.Insn.{Insn}
-use Rattle.rtx_tree.specs.declared.function.Kind.TheVariants as kind
-use Rattle.rtx_tree.specs.declared.memories.MemByte.{MemByte}
-use Rattle.rtx_tree.specs.declared.tree.Rtx.{Rtx}
-use Rattle.rtl_func.specs.Shapes.{is_shaped}
-use Rattle.rtl_func.proofs.AllPass.{all_pass, within}
-use Rattle.rtl_step.specs.Effect.{effects_of, address_of, regs_after, memory_after}
-use Rattle.rtl_step.specs.Regs.{Regs}
-use Rattle.rtl_step.specs.Value.{value_of}
-use Rattle.rtl_step.specs.declared.effect.Effect.{Effect}
-use Rattle.rtl_step.specs.declared.step.State.{State}
-use Rattle.md_constr.specs.Inputs as inputs
-use Rattle.md_match.specs.Pattern.{Ops, role_of}
-use Rattle.md_match.specs.declared.role.Role.{Role}
-use Rattle.md_match.specs.declared.role.Role.TheVariants.{Operand as Placed, Operator, Itself}
-use Rattle.assign.specs.declared.home.Home.{Home}
-use Rattle.assign.specs.declared.home.Home.TheVariants.{Hard, Slot}
-use Rattle.reload_homes.specs.Homes.{home_of, homed}
-use Rattle.reload_operands.specs.declared.operand.Operand.{Operand}
-use Rattle.reload_moves.specs.Registers.{is_result}
-use Rattle.reload_moves.specs.declared.part.Part.{Part}
-use Rattle.reload_choice.specs.Sound.{IsPart}
-use Rattle.reload_choice.specs.declared.given.Plan.{Plan}
-use Rattle.law_homes.specs.Stands.{content_in, has_home}
-use Rattle.law_homes.proofs.HomesApart.{below_itself, slot_within}
-use Rattle.law_homes.proofs.Placing.{Machines, AreHomed, placed_stays}
-use Rattle.law_homes.proofs.Plain.{PlainDoes}
-use Rattle.law_homes.proofs.Setting.{Setting, IsNamed, IsCounted, base, StandsIn, machines, are_homed, frame_is, home_least}
-use Rattle.law_homes.proofs.Tamed.{plain_tame}
-use Rattle.law_reload_moves.specs.Spare.{KnowsRest, NamesNoSpare}
+use Rattle.law_operands_fetched.specs.bits64.declared.Width.{Width}
+use Rattle.law_operands_fetched.specs.bits64.declared.Width.TheVariants.{W64}
+use Rattle.law_operands_fetched.specs.rtx_tree.Operands.{operand_at}
+use Rattle.law_operands_fetched.specs.rtx_tree.Tree.{head_of, kids_of, mentions_reg}
+use Rattle.law_operands_fetched.specs.rtx_tree.declared.code.Code.TheVariants as code
+use Rattle.law_operands_fetched.specs.rtx_tree.declared.function.Insn.{Insn}
+use Rattle.law_operands_fetched.specs.rtx_tree.declared.function.Kind.TheVariants as kind
+use Rattle.law_operands_fetched.specs.rtx_tree.declared.memories.MemByte.{MemByte}
+use Rattle.law_operands_fetched.specs.rtx_tree.declared.tree.Rtx.{Rtx}
+use Rattle.law_operands_fetched.specs.rtl_func.Shapes.{is_shaped}
+use Rattle.law_operands_fetched.proofs.rtl_func.AllPass.{all_pass, within}
+use Rattle.law_operands_fetched.specs.rtl_step.Effect.{effects_of, address_of, regs_after, memory_after}
+use Rattle.law_operands_fetched.specs.rtl_step.Regs.{Regs}
+use Rattle.law_operands_fetched.specs.rtl_step.Value.{value_of}
+use Rattle.law_operands_fetched.specs.rtl_step.declared.effect.Effect.{Effect}
+use Rattle.law_operands_fetched.specs.rtl_step.declared.step.State.{State}
+use Rattle.law_operands_fetched.specs.md_constr.Inputs as inputs
+use Rattle.law_operands_fetched.specs.md_match.Pattern.{Ops, role_of}
+use Rattle.law_operands_fetched.specs.md_match.declared.role.Role.{Role}
+use Rattle.law_operands_fetched.specs.md_match.declared.role.Role.TheVariants.{Operand as Placed, Operator, Itself}
+use Rattle.law_operands_fetched.specs.assign.declared.home.Home.{Home}
+use Rattle.law_operands_fetched.specs.assign.declared.home.Home.TheVariants.{Hard, Slot}
+use Rattle.law_operands_fetched.specs.reload_homes.Homes.{home_of, homed}
+use Rattle.law_operands_fetched.specs.reload_operands.declared.operand.Operand.{Operand}
+use Rattle.law_operands_fetched.specs.reload_moves.Registers.{is_result}
+use Rattle.law_operands_fetched.specs.reload_moves.declared.part.Part.{Part}
+use Rattle.law_operands_fetched.specs.reload_choice.Sound.{IsPart}
+use Rattle.law_operands_fetched.specs.reload_choice.declared.given.Plan.{Plan}
+use Rattle.law_operands_fetched.specs.law_homes.Stands.{content_in, has_home}
+use Rattle.law_operands_fetched.proofs.law_homes.HomesApart.{below_itself, slot_within}
+use Rattle.law_operands_fetched.proofs.law_homes.Placing.{Machines, AreHomed, placed_stays}
+use Rattle.law_operands_fetched.proofs.law_homes.Plain.{PlainDoes}
+use Rattle.law_operands_fetched.proofs.law_homes.Setting.{Setting, IsNamed, IsCounted, base, StandsIn, machines, are_homed, frame_is, home_least}
+use Rattle.law_operands_fetched.proofs.law_homes.Tamed.{plain_tame}
+use Rattle.law_operands_fetched.specs.law_operands_replaced.Spare.{KnowsRest, NamesNoSpare}
 use Rattle.law_reload_moves.proofs.Chosen.{given}
 use Rattle.law_reload_moves.proofs.GivenNews.{result_at}
 use Rattle.law_reload_moves.proofs.GivenSteady.{IsElsewhere, elsewhere, slot_there, address_quiet, some_leave}
-use Rattle.law_reload_moves.proofs.Keyed.{effects_in, last_of}
-use Rattle.law_reload_moves.proofs.Keying.{with_keys}
+use Rattle.law_operands_fetched.proofs.law_operands_replaced.Keyed.{effects_in, last_of}
+use Rattle.law_operands_fetched.proofs.law_operands_replaced.Keying.{with_keys}
 use Rattle.law_reload_moves.proofs.LeftRegisters.{AreOnHard}
 use Rattle.law_reload_moves.proofs.OldAddresses.{HasOld, IsBack, AllBack, insn_back}
-use Rattle.law_reload_moves.proofs.OnRegister.{IsOperand}
+use Rattle.law_operands_fetched.proofs.OnRegister.{IsOperand}
 use Rattle.law_reload_moves.proofs.OwnHeld.{none_last}
 use Rattle.law_reload_moves.proofs.PlainGiven.{all_hard, effect, slots_are_apart, slot_value, w_effect}
-use Rattle.law_reload_moves.proofs.Registers.{value_alike}
+use Rattle.law_operands_fetched.proofs.law_operands_replaced.Registers.{value_alike}
 use Rattle.law_reload_moves.proofs.Reloaded.{IsReloaded, w, x, w_natural, x_natural, shaped_nodes, stands_at}
 use Rattle.law_reload_moves.proofs.ResultRows.{Key, Row, Rows, none, more, IsKeyedRow, keyed_row}
 use Rattle.law_reload_moves.proofs.ResultsEnd.{Among, AllAmong, besides, besides_among, all_through, Reached, reached_all}
@@ -61,7 +61,7 @@ use Rattle.law_reload_moves.proofs.StandingRegisters.{framed_stands, homed_stand
 use Rattle.law_reload_moves.proofs.SteadyAddress.{AllLeave, all_leave}
 use Rattle.law_reload_moves.proofs.StillSlots.{Spares, AllSpare, IsStill, still}
 use Rattle.law_reload_moves.proofs.TakenThere.{IsAt}
-use Rattle.law_reload_moves.proofs.WholeTurns.{AllNone}
+use Rattle.law_operands_fetched.proofs.law_operands_replaced.WholeTurns.{AllNone}
 
 module _ (c : Setting) (place : ℕ) (i : Insn) (at : slice_get c.f.insns place ≡ Some i) (pattern : Rtx) (found : Ops) (plan : Plan)
     (is : IsReloaded c i pattern found plan) (s u : State) (stands : StandsIn c place s u) where

@@ -5,81 +5,81 @@ use Rattle.std.proofs.lemmas.Bool.{and_parts, eq-eqb, leb-true, or_left, or_righ
 use Rattle.std.proofs.lemmas.Bool.Decides.{nat_tests}
 use Rattle.std.specs.List.{list_all, list_any}
 use Rattle.std.specs.Prelude.{ℤ, pos, nat_le, slice_get, option_and_then}
-use Rattle.rtx_tree.specs.Operands.{operand_at, put_at}
-use Rattle.rtx_tree.specs.Tree.{reg_of}
-use Rattle.rtx_tree.specs.declared.function.ArgUse.{ArgUse}
-use Rattle.rtx_tree.specs.declared.function.Function.{Function}
-use Rattle.rtx_tree.specs.declared.function.Insn.{Insn}
-use Rattle.rtx_tree.specs.declared.function.Kind.TheVariants as kind
-use Rattle.rtx_tree.specs.declared.memories.MemByte.{MemByte}
-use Rattle.rtx_tree.specs.declared.tree.Rtx.{Rtx}
-use Rattle.rtl_func.specs.Calls.{is_argument}
-use Rattle.rtl_func.specs.Kinds.{kinds_agree, is_jump_tree, is_call_tree}
-use Rattle.rtl_func.proofs.AllPass.{all_pass}
-use Rattle.rtl_step.specs.Call.{call_part, event_of, args_of, result_width, target_of, target_value}
-use Rattle.rtl_step.specs.Effect.{effects_of}
-use Rattle.rtl_step.specs.Jump.{jump_of}
-use Rattle.rtl_step.specs.Regs.{Regs}
-use Rattle.rtl_step.specs.Value.{of_two}
-use Rattle.rtl_step.specs.declared.call.ArgValue.{ArgValue}
-use Rattle.rtl_step.specs.declared.call.CallEvent.{CallEvent}
-use Rattle.rtl_step.specs.declared.effect.Effect.{Effect}
-use Rattle.rtl_step.specs.declared.jump.Way.{Way}
-use Rattle.rtl_step.specs.declared.step.State.{State}
+use Rattle.law_operands_fetched.specs.rtx_tree.Operands.{operand_at, put_at}
+use Rattle.law_operands_fetched.specs.rtx_tree.Tree.{reg_of}
+use Rattle.law_operands_fetched.specs.rtx_tree.declared.function.ArgUse.{ArgUse}
+use Rattle.law_operands_fetched.specs.rtx_tree.declared.function.Function.{Function}
+use Rattle.law_operands_fetched.specs.rtx_tree.declared.function.Insn.{Insn}
+use Rattle.law_operands_fetched.specs.rtx_tree.declared.function.Kind.TheVariants as kind
+use Rattle.law_operands_fetched.specs.rtx_tree.declared.memories.MemByte.{MemByte}
+use Rattle.law_operands_fetched.specs.rtx_tree.declared.tree.Rtx.{Rtx}
+use Rattle.law_operands_fetched.specs.rtl_func.Calls.{is_argument}
+use Rattle.law_operands_fetched.specs.rtl_func.Kinds.{kinds_agree, is_jump_tree, is_call_tree}
+use Rattle.law_operands_fetched.proofs.rtl_func.AllPass.{all_pass}
+use Rattle.law_operands_fetched.specs.rtl_step.Call.{call_part, event_of, args_of, result_width, target_of, target_value}
+use Rattle.law_operands_fetched.specs.rtl_step.Effect.{effects_of}
+use Rattle.law_operands_fetched.specs.rtl_step.Jump.{jump_of}
+use Rattle.law_operands_fetched.specs.rtl_step.Regs.{Regs}
+use Rattle.law_operands_fetched.specs.rtl_step.Value.{of_two}
+use Rattle.law_operands_fetched.specs.rtl_step.declared.call.ArgValue.{ArgValue}
+use Rattle.law_operands_fetched.specs.rtl_step.declared.call.CallEvent.{CallEvent}
+use Rattle.law_operands_fetched.specs.rtl_step.declared.effect.Effect.{Effect}
+use Rattle.law_operands_fetched.specs.rtl_step.declared.jump.Way.{Way}
+use Rattle.law_operands_fetched.specs.rtl_step.declared.step.State.{State}
 use Rattle.reg_uses.specs.Uses.{has_argument}
-use Rattle.same_behaviour.specs.Lawful.{IsMemory}
-use Rattle.law_frame.proofs.law_window_replaced.Stands.{Stands}
-use Rattle.md_match.specs.Pattern.{Ops, operand_numbered}
-use Rattle.reload_homes.specs.Homes.{homed}
-use Rattle.reload_operands.specs.Directions.{is_input}
-use Rattle.reload_operands.specs.Put.{put}
-use Rattle.reload_operands.specs.declared.operand.Operand.{Operand}
-use Rattle.reload_moves.specs.Moves.{comes_in}
-use Rattle.reload_moves.specs.declared.part.Part.{Part}
-use Rattle.reload_choice.specs.Insns.{between, insns_before, insns_after}
-use Rattle.reload_choice.specs.Sound.{IsPart}
-use Rattle.reload_choice.specs.declared.given.Given.{Given}
-use Rattle.reload_choice.specs.declared.given.Plan.{Plan}
-use Rattle.law_homes.proofs.Calls.{event_keeps}
-use Rattle.law_homes.proofs.CallTrees.{call_tree, width_put}
-use Rattle.law_homes.proofs.HomesApart.{below_itself}
-use Rattle.law_homes.proofs.Onward.{jump_keeps}
-use Rattle.law_homes.proofs.Plain.{PlainDoes, plain_keeps}
-use Rattle.law_homes.proofs.Setting.{Setting, base, StandsIn, machines, are_homed}
-use Rattle.law_homes.proofs.Tamed.{plain_tame}
-use Rattle.law_reload_moves.specs.Onwards.{Onwards, ArePlain}
-use Rattle.law_reload_moves.specs.Spare.{is_spare, KeepsRest}
-use Rattle.law_reload_moves.specs.Straight.{Straight}
-use Rattle.law_reload_moves.specs.Tame.{AreTame}
-use Rattle.law_reload_moves.proofs.AroundWindow.{window_comes_from}
+use Rattle.law_operands_fetched.specs.same_behaviour.Lawful.{IsMemory}
+use Rattle.law_operands_fetched.proofs.law_frame.law_window_replaced.Stands.{Stands}
+use Rattle.law_operands_fetched.specs.md_match.Pattern.{Ops, operand_numbered}
+use Rattle.law_operands_fetched.specs.reload_homes.Homes.{homed}
+use Rattle.law_operands_fetched.specs.reload_operands.Directions.{is_input}
+use Rattle.law_operands_fetched.specs.reload_operands.Put.{put}
+use Rattle.law_operands_fetched.specs.reload_operands.declared.operand.Operand.{Operand}
+use Rattle.law_operands_fetched.specs.reload_moves.Moves.{comes_in}
+use Rattle.law_operands_fetched.specs.reload_moves.declared.part.Part.{Part}
+use Rattle.law_operands_fetched.specs.reload_choice.Insns.{between, insns_before, insns_after}
+use Rattle.law_operands_fetched.specs.reload_choice.Sound.{IsPart}
+use Rattle.law_operands_fetched.specs.reload_choice.declared.given.Given.{Given}
+use Rattle.law_operands_fetched.specs.reload_choice.declared.given.Plan.{Plan}
+use Rattle.law_operands_fetched.proofs.law_homes.Calls.{event_keeps}
+use Rattle.law_operands_fetched.proofs.law_homes.CallTrees.{call_tree, width_put}
+use Rattle.law_operands_fetched.proofs.law_homes.HomesApart.{below_itself}
+use Rattle.law_operands_fetched.proofs.law_homes.Onward.{jump_keeps}
+use Rattle.law_operands_fetched.proofs.law_homes.Plain.{PlainDoes, plain_keeps}
+use Rattle.law_operands_fetched.proofs.law_homes.Setting.{Setting, base, StandsIn, machines, are_homed}
+use Rattle.law_operands_fetched.proofs.law_homes.Tamed.{plain_tame}
+use Rattle.law_operands_fetched.specs.Onwards.{Onwards, ArePlain}
+use Rattle.law_operands_fetched.specs.law_operands_replaced.Spare.{is_spare, KeepsRest}
+use Rattle.law_operands_fetched.specs.law_operands_replaced.Straight.{Straight}
+use Rattle.law_operands_fetched.specs.Tame.{AreTame}
+use Rattle.law_operands_fetched.proofs.AroundWindow.{window_comes_from}
 use Rattle.law_reload_moves.proofs.CallInner.{call_turns, plan_results}
 use Rattle.law_reload_moves.proofs.CallValues.{call_valued}
-use Rattle.law_reload_moves.proofs.Calling.{is_passed, event_becomes, width_becomes}
+use Rattle.law_operands_fetched.proofs.law_operands_replaced.Calling.{is_passed, event_becomes, width_becomes}
 use Rattle.law_reload_moves.proofs.Chosen.{IsKnown, known_of}
 use Rattle.law_reload_moves.proofs.ElementValues.{IsValued}
-use Rattle.law_reload_moves.proofs.Fetches.{Rest}
-use Rattle.law_reload_moves.proofs.Fetching.{Fetching}
-use Rattle.law_reload_moves.proofs.GivenFetching.{fetching}
+use Rattle.law_operands_fetched.proofs.law_operands_replaced.Fetches.{Rest}
+use Rattle.law_operands_fetched.proofs.Fetching.{Fetching}
+use Rattle.law_operands_fetched.proofs.GivenFetching.{fetching}
 use Rattle.law_reload_moves.proofs.GivenNews.{IsResultAt}
 use Rattle.law_reload_moves.proofs.InputPlaces.{no_operator_of}
 use Rattle.law_reload_moves.proofs.InputValues.{plain_valued}
-use Rattle.law_reload_moves.proofs.Jumping.{jump_becomes}
+use Rattle.law_operands_fetched.proofs.law_operands_replaced.Jumping.{jump_becomes}
 use Rattle.law_reload_moves.proofs.JumpValues.{jump_valued}
-use Rattle.law_reload_moves.proofs.Keeping.{Stay, stay_rest}
-use Rattle.law_reload_moves.proofs.Keyed.{Keyed, effects_in, with_kept, kept_of}
+use Rattle.law_operands_fetched.proofs.Keeping.{Stay, stay_rest}
+use Rattle.law_operands_fetched.proofs.law_operands_replaced.Keyed.{Keyed, effects_in, with_kept, kept_of}
 use Rattle.law_reload_moves.proofs.Matched.{IsLow}
 use Rattle.law_reload_moves.proofs.OtherInner.{jump_into}
 use Rattle.law_reload_moves.proofs.PlainAround as around
 use Rattle.law_reload_moves.proofs.PlainInner.{before, other, known, formed, IsFormed, formed_parts}
-use Rattle.law_reload_moves.proofs.PlainWindow.{ComesTo, tame_stay}
+use Rattle.law_operands_fetched.proofs.PlainWindow.{ComesTo, tame_stay}
 use Rattle.law_reload_moves.proofs.Reloaded.{IsReloaded, w, x, g, x_shaped, x_natural, x_quiet, x_whole, stands_at, matched, has_frame}
 use Rattle.law_reload_moves.proofs.ResultKeys.{result_places, none_places}
-use Rattle.law_reload_moves.proofs.Stepping.{passes}
-use Rattle.law_reload_moves.proofs.StraightLaws.{straight_told}
+use Rattle.law_operands_fetched.proofs.Stepping.{passes}
+use Rattle.law_operands_fetched.proofs.law_operands_replaced.StraightLaws.{straight_told}
 use Rattle.law_reload_moves.proofs.TakenThere.{IsAt}
 use Rattle.law_reload_moves.proofs.Taming.{are_tame}
-use Rattle.law_reload_moves.proofs.Window.{AllStay}
-use Rattle.law_reload_moves.proofs.Valued.{HasValue}
+use Rattle.law_operands_fetched.proofs.Window.{AllStay}
+use Rattle.law_operands_fetched.proofs.law_operands_replaced.Valued.{HasValue}
 
 -- those that are kept of tame effects are tame
 kept_tame : (c : Setting) (xs : List Keyed) → AreTame c.f.locals c.layout c.start (effects_in xs) → AreTame c.f.locals c.layout c.start (kept_of xs)

@@ -6,28 +6,28 @@ use Rattle.std.proofs.lemmas.Bool.Decides.{nat_tests}
 use Rattle.std.specs.Int.{cast_unsigned, w64}
 use Rattle.std.specs.List.{cons_option, filter_map, list_all, list_any}
 use Rattle.std.specs.Prelude.{ℤ, pos, negsuc, nat_lt, option_and_then}
-use Rattle.bits64.specs.declared.Width.{Width}
-use Rattle.rtx_tree.specs.Tree.{RtxHead, head_of, kids_of, mentions_reg}
-use Rattle.rtx_tree.specs.declared.code.Code.{Code}
-use Rattle.rtx_tree.specs.declared.code.Code.TheVariants as code
-use Rattle.rtx_tree.specs.declared.machine.SymbolAt.{SymbolAt}
-use Rattle.rtx_tree.specs.declared.memories.MemByte.{MemByte}
-use Rattle.rtx_tree.specs.declared.tree.Rtx.{Rtx}
-use Rattle.rtl_func.specs.Shapes.{mode_at}
-use Rattle.rtl_step.specs.Effect as effects
-use Rattle.rtl_step.specs.Effect.{address_of, register_of, set_place, set_effect, clobber_by, clobber_effect, effect_by, effect_of, all_effects}
-use Rattle.rtl_step.specs.Regs.{Regs, known_of}
-use Rattle.rtl_step.specs.Value.{width_of, value_of, of_two}
-use Rattle.rtl_step.specs.declared.effect.Effect.{Effect}
-use Rattle.rtl_step.specs.declared.effect.Effect.TheVariants.{Nothing, Sets, Unsets, Stores}
-use Rattle.sym_insns.specs.Shape.{is_natural, all_natural}
-use Rattle.law_frame.proofs.law_window_replaced.Trees.{natural_here, natural_kids}
-use Rattle.reload_homes.specs.Homes as places
-use Rattle.reload_homes.specs.Homes.{register_at}
-use Rattle.reload_operands.specs.Changes.{target_by, changed_register, is_hard}
-use Rattle.law_reload_moves.proofs.ElementTurns.{effect_code}
+use Rattle.law_operands_fetched.specs.bits64.declared.Width.{Width}
+use Rattle.law_operands_fetched.specs.rtx_tree.Tree.{RtxHead, head_of, kids_of, mentions_reg}
+use Rattle.law_operands_fetched.specs.rtx_tree.declared.code.Code.{Code}
+use Rattle.law_operands_fetched.specs.rtx_tree.declared.code.Code.TheVariants as code
+use Rattle.law_operands_fetched.specs.rtx_tree.declared.machine.SymbolAt.{SymbolAt}
+use Rattle.law_operands_fetched.specs.rtx_tree.declared.memories.MemByte.{MemByte}
+use Rattle.law_operands_fetched.specs.rtx_tree.declared.tree.Rtx.{Rtx}
+use Rattle.law_operands_fetched.specs.rtl_func.Shapes.{mode_at}
+use Rattle.law_operands_fetched.specs.rtl_step.Effect as effects
+use Rattle.law_operands_fetched.specs.rtl_step.Effect.{address_of, register_of, set_place, set_effect, clobber_by, clobber_effect, effect_by, effect_of, all_effects}
+use Rattle.law_operands_fetched.specs.rtl_step.Regs.{Regs, known_of}
+use Rattle.law_operands_fetched.specs.rtl_step.Value.{width_of, value_of, of_two}
+use Rattle.law_operands_fetched.specs.rtl_step.declared.effect.Effect.{Effect}
+use Rattle.law_operands_fetched.specs.rtl_step.declared.effect.Effect.TheVariants.{Nothing, Sets, Unsets, Stores}
+use Rattle.law_operands_fetched.specs.sym_insns.Shape.{is_natural, all_natural}
+use Rattle.law_operands_fetched.proofs.law_frame.law_window_replaced.Trees.{natural_here, natural_kids}
+use Rattle.law_operands_fetched.specs.reload_homes.Homes as places
+use Rattle.law_operands_fetched.specs.reload_homes.Homes.{register_at}
+use Rattle.law_operands_fetched.specs.reload_operands.Changes.{target_by, changed_register, is_hard}
+use Rattle.law_operands_fetched.proofs.law_operands_replaced.ElementTurns.{effect_code}
 use Rattle.law_reload_moves.proofs.RowsThere.{effects_front}
-use Rattle.law_reload_moves.proofs.SetWidth.{set_width}
+use Rattle.law_operands_fetched.proofs.law_operands_replaced.SetWidth.{set_width}
 use Rattle.law_reload_moves.proofs.SteadyAddress.{Leaves, AllLeave}
 use Rattle.law_reload_moves.proofs.Touches.{store_inverse}
 

@@ -1,62 +1,8 @@
-pub mod NewTrees
-pub mod Readings
-pub mod ReadTrees
-pub mod Putting
-pub mod StraightLaws
-pub mod Registers
-pub mod Settings
-pub mod Fetches
-pub mod Cells
-pub mod Delays
-pub mod Instead
-pub mod NewOnes
-pub mod Elements
-pub mod Ends
-pub mod Window
-pub mod Valued
-pub mod Stepping
-pub mod Addresses
-pub mod Jumping
-pub mod Calling
-pub mod Turning
-pub mod Keyed
-pub mod Loads
-pub mod Keeping
-pub mod PlainWindow
-pub mod PutValues
-pub mod AsksBefore
-pub mod Bounded
-pub mod Based
-pub mod OnRegister
-pub mod Fetching
-pub mod FetchOne
-pub mod TurnParts
-pub mod Turns
-pub mod Firsts
-pub mod Contents
-pub mod BeforeFetched
-pub mod NewReads
-pub mod NewPlaces
 pub mod Shaping
-pub mod SmallTrees
-pub mod HomedQuiet
 pub mod FramedTrees
 pub mod FramedGood
-pub mod FoundParts
-pub mod GivenBases
-pub mod GivenOperands
-pub mod GivenFetching
 pub mod Matched
 pub mod NewsLaws
-pub mod PutParts
-pub mod SetTurns
-pub mod SetWidth
-pub mod Keying
-pub mod ElementTurns
-pub mod EffectTurns
-pub mod HiddenTurns
-pub mod InsnTurns
-pub mod WholeTurns
 pub mod Besides
 pub mod TakenPlaces
 pub mod Chosen
@@ -67,25 +13,20 @@ pub mod HomedShapes
 pub mod HomedShaped
 pub mod InputPlaces
 pub mod TakenThere
-pub mod SetValues
 pub mod ElementValues
 pub mod InputValues
-pub mod Endings
 pub mod PlainInner
 pub mod ResultKeys
-pub mod EffectsThere
 pub mod PlainAround
 pub mod ResultRows
 pub mod Touches
 pub mod Orderly
 pub mod AllOrderly
-pub mod JumpTrees
 pub mod JumpValues
 pub mod CallValues
 pub mod OtherInner
 pub mod CallInner
 pub mod Reloaded
-pub mod AroundWindow
 pub mod Taming
 pub mod Leads
 pub mod RowsThere
@@ -104,7 +45,6 @@ pub mod LeftRegisters
 pub mod GivenSteady
 pub mod OutEffects
 pub mod NearEnds
-pub mod Through
 pub mod OwnHeld
 pub mod ResultNumbers
 pub mod ResultsLast
@@ -117,6 +57,8 @@ pub mod NewEnds
 pub mod ResultBases
 pub mod ResultEnds
 pub mod PlainLeads
-pub use Rattle.law_frame.proofs as law_frame
-pub use Rattle.reload_operands.proofs as reload_operands
-pub use Rattle.law_frame.proofs.law_window_replaced as law_window_replaced
+pub use Rattle.law_operands_fetched.proofs as law_operands_fetched
+pub use Rattle.law_operands_fetched.proofs.law_operands_replaced as law_operands_replaced
+pub use Rattle.law_operands_fetched.proofs.law_frame as law_frame
+pub use Rattle.law_operands_fetched.proofs.reload_operands as reload_operands
+pub use Rattle.law_operands_fetched.proofs.law_frame.law_window_replaced as law_window_replaced

@@ -3,34 +3,34 @@ use Rattle.std.proofs.Common.{◌≡◌, ◌≢◌, ◌⊎◌, inl, inr, ℕ, ze
 use Rattle.std.specs.FinMap.{get}
 use Rattle.std.specs.Option.{option_map_or}
 use Rattle.std.specs.Prelude.{ℤ, is_some, slice_get}
-use Rattle.bits64.specs.Words.{low}
-use Rattle.bits64.specs.declared.Width.{Width}
-use Rattle.bits64.specs.declared.Width.TheVariants.{W64}
-use Rattle.rtx_tree.specs.Tree.{reg_of, mentions_reg}
-use Rattle.rtx_tree.specs.declared.machine.SymbolAt.{SymbolAt}
-use Rattle.rtx_tree.specs.declared.memories.MemByte.{MemByte}
-use Rattle.rtx_tree.specs.declared.tree.Rtx.{Rtx}
-use Rattle.run_memory.specs.RunMemory.{load}
-use Rattle.rtl_func.specs.Shapes.{mode_at}
-use Rattle.rtl_step.specs.Effect.{effects_of, address_of, register_of, reg_after, regs_after, bytes_after, memory_after}
-use Rattle.rtl_step.specs.Regs.{Regs, known_of, reg_value}
-use Rattle.rtl_step.specs.Value.{width_of, value_of}
-use Rattle.rtl_step.specs.declared.effect.Effect.{Effect}
-use Rattle.rtl_step.specs.declared.effect.Effect.TheVariants.{Nothing, Sets, Unsets, Stores}
-use Rattle.sym_insns.specs.Shape.{all_natural}
-use Rattle.law_window_kept.specs.Same.{KnownToo}
-use Rattle.reload_operands.specs.declared.operand.Operand.{Operand}
-use Rattle.reload_moves.specs.Moves.{own_of, out_base, out_store, far_to, end_far_of}
-use Rattle.reload_moves.specs.declared.ask.Ask.{Ask}
-use Rattle.reload_moves.specs.declared.moves.Move.TheVariants.{Out}
-use Rattle.reload_moves.specs.declared.part.Part.{Part}
-use Rattle.reload_choice.specs.Insns.{reached, out_insn, insns_at, all_insns}
-use Rattle.law_reload_moves.specs.Held.{Held, Holds}
-use Rattle.law_reload_moves.specs.Spare.{is_spare, KnowsRest, KeepsRest, NamesNoSpare}
-use Rattle.law_reload_moves.proofs.Cells.{IsThere, AreThere}
-use Rattle.law_reload_moves.proofs.Ends.{Stays}
-use Rattle.law_reload_moves.proofs.Endings.{EndedNear}
-use Rattle.law_reload_moves.proofs.Keyed.{Keyed, effects_in}
+use Rattle.law_operands_fetched.specs.bits64.Words.{low}
+use Rattle.law_operands_fetched.specs.bits64.declared.Width.{Width}
+use Rattle.law_operands_fetched.specs.bits64.declared.Width.TheVariants.{W64}
+use Rattle.law_operands_fetched.specs.rtx_tree.Tree.{reg_of, mentions_reg}
+use Rattle.law_operands_fetched.specs.rtx_tree.declared.machine.SymbolAt.{SymbolAt}
+use Rattle.law_operands_fetched.specs.rtx_tree.declared.memories.MemByte.{MemByte}
+use Rattle.law_operands_fetched.specs.rtx_tree.declared.tree.Rtx.{Rtx}
+use Rattle.law_operands_fetched.specs.run_memory.RunMemory.{load}
+use Rattle.law_operands_fetched.specs.rtl_func.Shapes.{mode_at}
+use Rattle.law_operands_fetched.specs.rtl_step.Effect.{effects_of, address_of, register_of, reg_after, regs_after, bytes_after, memory_after}
+use Rattle.law_operands_fetched.specs.rtl_step.Regs.{Regs, known_of, reg_value}
+use Rattle.law_operands_fetched.specs.rtl_step.Value.{width_of, value_of}
+use Rattle.law_operands_fetched.specs.rtl_step.declared.effect.Effect.{Effect}
+use Rattle.law_operands_fetched.specs.rtl_step.declared.effect.Effect.TheVariants.{Nothing, Sets, Unsets, Stores}
+use Rattle.law_operands_fetched.specs.sym_insns.Shape.{all_natural}
+use Rattle.law_operands_fetched.specs.law_window_kept.Same.{KnownToo}
+use Rattle.law_operands_fetched.specs.reload_operands.declared.operand.Operand.{Operand}
+use Rattle.law_operands_fetched.specs.reload_moves.Moves.{own_of, out_base, out_store, far_to, end_far_of}
+use Rattle.law_operands_fetched.specs.reload_moves.declared.ask.Ask.{Ask}
+use Rattle.law_operands_fetched.specs.reload_moves.declared.moves.Move.TheVariants.{Out}
+use Rattle.law_operands_fetched.specs.reload_moves.declared.part.Part.{Part}
+use Rattle.law_operands_fetched.specs.reload_choice.Insns.{reached, out_insn, insns_at, all_insns}
+use Rattle.law_operands_fetched.specs.law_operands_replaced.Held.{Held, Holds}
+use Rattle.law_operands_fetched.specs.law_operands_replaced.Spare.{is_spare, KnowsRest, KeepsRest, NamesNoSpare}
+use Rattle.law_operands_fetched.proofs.law_operands_replaced.Cells.{IsThere, AreThere}
+use Rattle.law_operands_fetched.proofs.law_operands_replaced.Ends.{Stays}
+use Rattle.law_operands_fetched.proofs.Endings.{EndedNear}
+use Rattle.law_operands_fetched.proofs.law_operands_replaced.Keyed.{Keyed, effects_in}
 use Rattle.law_reload_moves.proofs.OutEffects.{IsPlaceSet, in_register, in_memory, IsOut, StandsOut, set_again, own_value, set_effects, there_after, among_there, all_there, ends_near}
 use Rattle.law_reload_moves.proofs.SteadyAddress.{Leaves, AllLeave, all_leave, AreLeft}
 use Rattle.law_reload_moves.proofs.ResultsEnd.{Among, AllAmong, Reached, ReachedBy, EndsNear, code_of}

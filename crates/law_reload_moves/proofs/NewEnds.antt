@@ -5,51 +5,51 @@ use Rattle.std.specs.List.{list_all}
 use Rattle.std.specs.Option.{option_map_or}
 use Rattle.std.specs.Ordering.{int_eq}
 use Rattle.std.specs.Prelude.{ℤ, pos, is_some, slice_get}
-use Rattle.bits64.specs.Words.{low}
-use Rattle.bits64.specs.declared.Width.{Width}
-use Rattle.bits64.specs.declared.Width.TheVariants.{W64}
-use Rattle.rtx_tree.specs.Code.{class_of_code}
-use Rattle.rtx_tree.specs.Tree.{head_of, kids_of, tree_of, node_of, reg_of, const_of}
-use Rattle.rtx_tree.specs.declared.class.Class.TheVariants as class
-use Rattle.rtx_tree.specs.declared.code.Code.TheVariants as code
-use Rattle.rtx_tree.specs.declared.code.Mode.TheVariants.{DI}
-use Rattle.rtx_tree.specs.declared.machine.SymbolAt.{SymbolAt}
-use Rattle.rtx_tree.specs.declared.memories.MemByte.{MemByte}
-use Rattle.rtx_tree.specs.declared.tree.Rtx.{Rtx, out-roll-Rtx}
-use Rattle.rtx_tree.specs.declared.tree.Rtx.TheOpen.{Rtx-F}
-use Rattle.rtx_tree.proofs.Trees.{head_of-tree, kids_of-tree}
-use Rattle.rtl_func.specs.Shapes.{class_at, mode_at}
-use Rattle.rtl_func.proofs.AllPass.{all_pass, pass_out}
-use Rattle.rtl_step.specs.Effect.{address_of, register_of}
-use Rattle.rtl_step.specs.Regs.{Regs, known_of, reg_value}
-use Rattle.rtl_step.specs.Value.{width_of, value_of}
-use Rattle.rtl_step.specs.declared.effect.Effect.{Effect}
-use Rattle.same_behaviour.specs.Lawful.{IsMemory}
-use Rattle.reload_operands.specs.declared.operand.Base.{Base}
-use Rattle.reload_operands.specs.declared.operand.Operand.{Operand}
-use Rattle.reload_moves.specs.Moves.{far_to, own_of, base_of, end_far_of, out_base, out_store}
-use Rattle.reload_moves.specs.declared.ask.Ask.{Ask}
-use Rattle.reload_moves.specs.declared.moves.Move.TheVariants.{Out}
-use Rattle.reload_moves.specs.declared.part.Part.{Part}
-use Rattle.reload_choice.specs.reload_fit.Addressed.{address_on, addressed, addressed_by, address_in, on_register, far_offset}
-use Rattle.reload_choice.specs.Insns.{far_insns, out_insn, insns_at, all_insns}
-use Rattle.law_reload_moves.specs.Held.{Held, Holds}
-use Rattle.law_reload_moves.specs.Spare.{is_spare, KnowsRest, KeepsRest}
-use Rattle.law_reload_moves.proofs.Addresses.{IsNewTree, address_is}
-use Rattle.law_reload_moves.proofs.Based.{far_is, based_near, in_slot}
-use Rattle.law_reload_moves.proofs.Cells.{IsThere, AreThere}
-use Rattle.law_reload_moves.proofs.ElementTurns.{memory_code_of}
-use Rattle.law_reload_moves.proofs.Ends.{Stays, Ended, far_end}
-use Rattle.law_reload_moves.proofs.Fetches.{IsFresh, offset_by}
-use Rattle.law_reload_moves.proofs.Fetching.{spare_some, spare_no_pointer}
+use Rattle.law_operands_fetched.specs.bits64.Words.{low}
+use Rattle.law_operands_fetched.specs.bits64.declared.Width.{Width}
+use Rattle.law_operands_fetched.specs.bits64.declared.Width.TheVariants.{W64}
+use Rattle.law_operands_fetched.specs.rtx_tree.Code.{class_of_code}
+use Rattle.law_operands_fetched.specs.rtx_tree.Tree.{head_of, kids_of, tree_of, node_of, reg_of, const_of}
+use Rattle.law_operands_fetched.specs.rtx_tree.declared.class.Class.TheVariants as class
+use Rattle.law_operands_fetched.specs.rtx_tree.declared.code.Code.TheVariants as code
+use Rattle.law_operands_fetched.specs.rtx_tree.declared.code.Mode.TheVariants.{DI}
+use Rattle.law_operands_fetched.specs.rtx_tree.declared.machine.SymbolAt.{SymbolAt}
+use Rattle.law_operands_fetched.specs.rtx_tree.declared.memories.MemByte.{MemByte}
+use Rattle.law_operands_fetched.specs.rtx_tree.declared.tree.Rtx.{Rtx, out-roll-Rtx}
+use Rattle.law_operands_fetched.specs.rtx_tree.declared.tree.Rtx.TheOpen.{Rtx-F}
+use Rattle.law_operands_fetched.proofs.rtx_tree.Trees.{head_of-tree, kids_of-tree}
+use Rattle.law_operands_fetched.specs.rtl_func.Shapes.{class_at, mode_at}
+use Rattle.law_operands_fetched.proofs.rtl_func.AllPass.{all_pass, pass_out}
+use Rattle.law_operands_fetched.specs.rtl_step.Effect.{address_of, register_of}
+use Rattle.law_operands_fetched.specs.rtl_step.Regs.{Regs, known_of, reg_value}
+use Rattle.law_operands_fetched.specs.rtl_step.Value.{width_of, value_of}
+use Rattle.law_operands_fetched.specs.rtl_step.declared.effect.Effect.{Effect}
+use Rattle.law_operands_fetched.specs.same_behaviour.Lawful.{IsMemory}
+use Rattle.law_operands_fetched.specs.reload_operands.declared.operand.Base.{Base}
+use Rattle.law_operands_fetched.specs.reload_operands.declared.operand.Operand.{Operand}
+use Rattle.law_operands_fetched.specs.reload_moves.Moves.{far_to, own_of, base_of, end_far_of, out_base, out_store}
+use Rattle.law_operands_fetched.specs.reload_moves.declared.ask.Ask.{Ask}
+use Rattle.law_operands_fetched.specs.reload_moves.declared.moves.Move.TheVariants.{Out}
+use Rattle.law_operands_fetched.specs.reload_moves.declared.part.Part.{Part}
+use Rattle.law_operands_fetched.specs.reload_choice.reload_fit.Addressed.{address_on, addressed, addressed_by, address_in, on_register, far_offset}
+use Rattle.law_operands_fetched.specs.reload_choice.Insns.{far_insns, out_insn, insns_at, all_insns}
+use Rattle.law_operands_fetched.specs.law_operands_replaced.Held.{Held, Holds}
+use Rattle.law_operands_fetched.specs.law_operands_replaced.Spare.{is_spare, KnowsRest, KeepsRest}
+use Rattle.law_operands_fetched.proofs.law_operands_replaced.Addresses.{IsNewTree, address_is}
+use Rattle.law_operands_fetched.proofs.Based.{far_is, based_near, in_slot}
+use Rattle.law_operands_fetched.proofs.law_operands_replaced.Cells.{IsThere, AreThere}
+use Rattle.law_operands_fetched.proofs.law_operands_replaced.ElementTurns.{memory_code_of}
+use Rattle.law_operands_fetched.proofs.law_operands_replaced.Ends.{Stays, Ended, far_end}
+use Rattle.law_operands_fetched.proofs.law_operands_replaced.Fetches.{IsFresh, offset_by}
+use Rattle.law_operands_fetched.proofs.Fetching.{spare_some, spare_no_pointer}
 use Rattle.law_reload_moves.proofs.GivenSteady.{leaf_free}
-use Rattle.law_reload_moves.proofs.Keyed.{Keyed, effects_in}
+use Rattle.law_operands_fetched.proofs.law_operands_replaced.Keyed.{Keyed, effects_in}
 use Rattle.law_reload_moves.proofs.NearEnds.{there_still, reached_left}
-use Rattle.law_reload_moves.proofs.OnRegister.{IsOperand, based_mode, based_class, based_new, far_mode, far_class, far_new}
+use Rattle.law_operands_fetched.proofs.OnRegister.{IsOperand, based_mode, based_class, based_new, far_mode, far_class, far_new}
 use Rattle.law_reload_moves.proofs.OutEffects.{IsPlaceSet, in_register, in_memory, IsOut, StandsOut, set_again, own_value, set_effects}
-use Rattle.law_reload_moves.proofs.Registers.{value_alike}
+use Rattle.law_operands_fetched.proofs.law_operands_replaced.Registers.{value_alike}
 use Rattle.law_reload_moves.proofs.ResultsEnd.{Among, reached_all, EndsFar}
-use Rattle.law_reload_moves.proofs.SetWidth.{binary_none}
+use Rattle.law_operands_fetched.proofs.law_operands_replaced.SetWidth.{binary_none}
 use Rattle.law_reload_moves.proofs.SteadyAddress.{AllLeave, no_memory_class, is_no_memory, memory_free}
 
 -- ---- addresses on a register

@@ -4,16 +4,16 @@ use Rattle.std.proofs.lemmas.Bool.Decides.{nat_tests}
 use Rattle.std.specs.List.{flat_map}
 use Rattle.std.specs.Option.{option_map_or}
 use Rattle.std.specs.Prelude.{ℤ, pos, negsuc, slice_get}
-use Rattle.rtx_tree.specs.Operands.{operand_at, put_at}
-use Rattle.rtx_tree.specs.declared.tree.Rtx.{Rtx}
-use Rattle.md_match.specs.Pattern.{Ops, operand_numbered}
-use Rattle.assign.specs.declared.home.HomeOf.{HomeOf}
-use Rattle.assign.specs.declared.places.Layout.{Layout}
-use Rattle.reload_operands.specs.Operands.{giver, at_both, operand_for, operand_with, numbers_of, operands_of}
-use Rattle.reload_operands.specs.declared.operand.Operand.{Operand}
-use Rattle.reload_moves.specs.declared.ask.Ask.{Ask}
-use Rattle.reload_moves.specs.declared.part.Part.{Part}
-use Rattle.reload_choice.specs.Insns.{new_tree, with_new, with_part, with_parts, news_of}
+use Rattle.law_operands_fetched.specs.rtx_tree.Operands.{operand_at, put_at}
+use Rattle.law_operands_fetched.specs.rtx_tree.declared.tree.Rtx.{Rtx}
+use Rattle.law_operands_fetched.specs.md_match.Pattern.{Ops, operand_numbered}
+use Rattle.law_operands_fetched.specs.assign.declared.home.HomeOf.{HomeOf}
+use Rattle.law_operands_fetched.specs.assign.declared.places.Layout.{Layout}
+use Rattle.law_operands_fetched.specs.reload_operands.Operands.{giver, at_both, operand_for, operand_with, numbers_of, operands_of}
+use Rattle.law_operands_fetched.specs.reload_operands.declared.operand.Operand.{Operand}
+use Rattle.law_operands_fetched.specs.reload_moves.declared.ask.Ask.{Ask}
+use Rattle.law_operands_fetched.specs.reload_moves.declared.part.Part.{Part}
+use Rattle.law_operands_fetched.specs.reload_choice.Insns.{new_tree, with_new, with_part, with_parts, news_of}
 
 -- ---- what is put in among operands
 

@@ -5,38 +5,38 @@ use Rattle.std.specs.Int.{int_wrap, w64}
 use Rattle.std.specs.List.{AllByRecursion, list_all, list_any}
 use Rattle.std.specs.Ordering.{int_eq}
 use Rattle.std.specs.Prelude.{ℤ, pos, ◌+ℤ◌, slice_get}
-use Rattle.bits64.specs.declared.Width.{Width}
-use Rattle.bits64.specs.declared.Width.TheVariants.{W64}
-use Rattle.rtx_tree.specs.Tree.{RtxHead, head_of, kids_of, node_of, reg_of, const_of, mentions_reg}
-use Rattle.rtx_tree.specs.declared.code.Code.{Code}
-use Rattle.rtx_tree.specs.declared.code.Code.TheVariants as code
-use Rattle.rtx_tree.specs.declared.code.Mode.{Mode}
-use Rattle.rtx_tree.specs.declared.function.Insn.{Insn}
-use Rattle.rtx_tree.specs.declared.tree.Rtx.{Rtx}
-use Rattle.rtx_tree.proofs.Trees.{head_of-tree, kids_of-tree}
-use Rattle.rtl_func.specs.Shapes.{is_effect, is_shaped}
-use Rattle.rtl_func.proofs.AllPass.{all_pass, within}
-use Rattle.rtl_step.specs.Effect.{effect_by, effect_of, effects_by, effects_of, all_effects, address_part, address_of, set_effect}
-use Rattle.rtl_step.specs.Value.{value_of}
-use Rattle.rtl_step.specs.declared.effect.Effect.{Effect}
-use Rattle.rtl_step.specs.declared.step.State.{State}
+use Rattle.law_operands_fetched.specs.bits64.declared.Width.{Width}
+use Rattle.law_operands_fetched.specs.bits64.declared.Width.TheVariants.{W64}
+use Rattle.law_operands_fetched.specs.rtx_tree.Tree.{RtxHead, head_of, kids_of, node_of, reg_of, const_of, mentions_reg}
+use Rattle.law_operands_fetched.specs.rtx_tree.declared.code.Code.{Code}
+use Rattle.law_operands_fetched.specs.rtx_tree.declared.code.Code.TheVariants as code
+use Rattle.law_operands_fetched.specs.rtx_tree.declared.code.Mode.{Mode}
+use Rattle.law_operands_fetched.specs.rtx_tree.declared.function.Insn.{Insn}
+use Rattle.law_operands_fetched.specs.rtx_tree.declared.tree.Rtx.{Rtx}
+use Rattle.law_operands_fetched.proofs.rtx_tree.Trees.{head_of-tree, kids_of-tree}
+use Rattle.law_operands_fetched.specs.rtl_func.Shapes.{is_effect, is_shaped}
+use Rattle.law_operands_fetched.proofs.rtl_func.AllPass.{all_pass, within}
+use Rattle.law_operands_fetched.specs.rtl_step.Effect.{effect_by, effect_of, effects_by, effects_of, all_effects, address_part, address_of, set_effect}
+use Rattle.law_operands_fetched.specs.rtl_step.Value.{value_of}
+use Rattle.law_operands_fetched.specs.rtl_step.declared.effect.Effect.{Effect}
+use Rattle.law_operands_fetched.specs.rtl_step.declared.step.State.{State}
 use Rattle.reg_uses.specs.Effects as uses
 use Rattle.reg_uses.specs.Effects.{reads, place_reads, place_reads_by, effect_uses, effect_uses_by, pattern_uses}
 use Rattle.reg_uses.specs.Uses.{insn_uses}
 use Rattle.live.specs.Live.{AtUse}
-use Rattle.md_constr.specs.Inputs as inputs
-use Rattle.reload_homes.specs.FrameRefs.{sp_plus, frame_offset, framed}
-use Rattle.reload_homes.proofs.Rewrites.{framed_reference, framed_over}
-use Rattle.law_homes.specs.Placed.{all_sized}
-use Rattle.law_homes.proofs.Becoming.{positive_test}
-use Rattle.law_homes.proofs.Setting.{Setting, named_of, IsCounted, home_least}
-use Rattle.law_homes.proofs.Trees.{sized_kids, mentions_kid}
+use Rattle.law_operands_fetched.specs.md_constr.Inputs as inputs
+use Rattle.law_operands_fetched.specs.reload_homes.FrameRefs.{sp_plus, frame_offset, framed}
+use Rattle.law_operands_fetched.proofs.reload_homes.Rewrites.{framed_reference, framed_over}
+use Rattle.law_operands_fetched.specs.law_homes.Placed.{all_sized}
+use Rattle.law_operands_fetched.proofs.law_homes.Becoming.{positive_test}
+use Rattle.law_operands_fetched.proofs.law_homes.Setting.{Setting, named_of, IsCounted, home_least}
+use Rattle.law_operands_fetched.proofs.law_homes.Trees.{sized_kids, mentions_kid}
 use Rattle.law_reload_moves.proofs.GivenSteady.{other_list, other_effects}
 use Rattle.law_reload_moves.proofs.OutEffects.{IsPlaceSet, in_register, in_memory, set_out}
 use Rattle.law_reload_moves.proofs.OutsideSlots.{effect_framed, has_effect, two_kids}
 use Rattle.law_reload_moves.proofs.RowsThere.{effects_front, alone_front}
 use Rattle.law_reload_moves.proofs.Touches.{one_kid}
-use Rattle.law_reload_moves.proofs.WholeTurns.{is_parallel}
+use Rattle.law_operands_fetched.proofs.law_operands_replaced.WholeTurns.{is_parallel}
 
 -- ---- memory with references to the frame put in was memory
 

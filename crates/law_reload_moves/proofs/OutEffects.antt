@@ -2,33 +2,33 @@
 use Rattle.std.proofs.Common.{◌≡◌, ◌≢◌, ◌⊎◌, inl, inr, ℕ, if◌then◌else◌, Bool, true, false, List, [], ◌∷◌, ◌++◌, Option, Some, None, refl, sym, ap, subst, ◌∙◌}
 use Rattle.std.specs.FinMap.{get}
 use Rattle.std.specs.Prelude.{is_some, option_map, option_and_then}
-use Rattle.bits64.specs.Words.{low}
-use Rattle.bits64.specs.declared.Width.{Width}
-use Rattle.bits64.specs.declared.Width.TheVariants.{W64}
-use Rattle.rtx_tree.specs.Tree.{RtxHead, head_of, kids_of, reg_of}
-use Rattle.rtx_tree.specs.declared.code.Code.TheVariants as code
-use Rattle.rtx_tree.specs.declared.code.Mode.{Mode}
-use Rattle.rtx_tree.specs.declared.machine.SymbolAt.{SymbolAt}
-use Rattle.rtx_tree.specs.declared.memories.MemByte.{MemByte}
-use Rattle.rtx_tree.specs.declared.tree.Rtx.{Rtx}
-use Rattle.rtx_tree.proofs.Trees.{head_of-tree, kids_of-tree}
-use Rattle.run_memory.specs.RunMemory.{load}
-use Rattle.rtl_func.specs.Shapes.{mode_at}
-use Rattle.rtl_step.specs.Effect.{effect_of, effect_by, one_effect, effects_of, effects_by, address_of, register_of, set_place, set_effect, reg_after, bytes_after, memory_after}
-use Rattle.rtl_step.specs.Regs.{Regs, known_of, reg_value}
-use Rattle.rtl_step.specs.Value.{width_of, value_of, of_two}
-use Rattle.rtl_step.specs.declared.effect.Effect.{Effect}
-use Rattle.rtl_step.specs.declared.effect.Effect.TheVariants.{Nothing, Sets, Unsets, Stores}
-use Rattle.reload_choice.specs.Insns.{set_of}
-use Rattle.law_reload_moves.specs.Spare.{KeepsRest}
-use Rattle.law_reload_moves.specs.Straight.{Straight, done, next}
-use Rattle.law_reload_moves.proofs.Cells.{IsThere, AreThere, still_there}
-use Rattle.law_reload_moves.proofs.Endings.{EndedNear}
-use Rattle.law_reload_moves.proofs.Ends.{Stays}
-use Rattle.law_reload_moves.proofs.Registers.{holds_low}
+use Rattle.law_operands_fetched.specs.bits64.Words.{low}
+use Rattle.law_operands_fetched.specs.bits64.declared.Width.{Width}
+use Rattle.law_operands_fetched.specs.bits64.declared.Width.TheVariants.{W64}
+use Rattle.law_operands_fetched.specs.rtx_tree.Tree.{RtxHead, head_of, kids_of, reg_of}
+use Rattle.law_operands_fetched.specs.rtx_tree.declared.code.Code.TheVariants as code
+use Rattle.law_operands_fetched.specs.rtx_tree.declared.code.Mode.{Mode}
+use Rattle.law_operands_fetched.specs.rtx_tree.declared.machine.SymbolAt.{SymbolAt}
+use Rattle.law_operands_fetched.specs.rtx_tree.declared.memories.MemByte.{MemByte}
+use Rattle.law_operands_fetched.specs.rtx_tree.declared.tree.Rtx.{Rtx}
+use Rattle.law_operands_fetched.proofs.rtx_tree.Trees.{head_of-tree, kids_of-tree}
+use Rattle.law_operands_fetched.specs.run_memory.RunMemory.{load}
+use Rattle.law_operands_fetched.specs.rtl_func.Shapes.{mode_at}
+use Rattle.law_operands_fetched.specs.rtl_step.Effect.{effect_of, effect_by, one_effect, effects_of, effects_by, address_of, register_of, set_place, set_effect, reg_after, bytes_after, memory_after}
+use Rattle.law_operands_fetched.specs.rtl_step.Regs.{Regs, known_of, reg_value}
+use Rattle.law_operands_fetched.specs.rtl_step.Value.{width_of, value_of, of_two}
+use Rattle.law_operands_fetched.specs.rtl_step.declared.effect.Effect.{Effect}
+use Rattle.law_operands_fetched.specs.rtl_step.declared.effect.Effect.TheVariants.{Nothing, Sets, Unsets, Stores}
+use Rattle.law_operands_fetched.specs.reload_choice.Insns.{set_of}
+use Rattle.law_operands_fetched.specs.law_operands_replaced.Spare.{KeepsRest}
+use Rattle.law_operands_fetched.specs.law_operands_replaced.Straight.{Straight, done, next}
+use Rattle.law_operands_fetched.proofs.law_operands_replaced.Cells.{IsThere, AreThere, still_there}
+use Rattle.law_operands_fetched.proofs.Endings.{EndedNear}
+use Rattle.law_operands_fetched.proofs.law_operands_replaced.Ends.{Stays}
+use Rattle.law_operands_fetched.proofs.law_operands_replaced.Registers.{holds_low}
 use Rattle.law_reload_moves.proofs.ResultsEnd.{Among, AllAmong}
-use Rattle.law_reload_moves.proofs.SetWidth.{set_width}
-use Rattle.law_reload_moves.proofs.Settings.{value_reg}
+use Rattle.law_operands_fetched.proofs.law_operands_replaced.SetWidth.{set_width}
+use Rattle.law_operands_fetched.proofs.law_operands_replaced.Settings.{value_reg}
 
 -- what a set has set: a register, or memory at an address
 pub data IsPlaceSet (symbols : List SymbolAt) (regs : Regs) (m : List MemByte) (t : Rtx) (w : Width) (v : ℕ) : Effect → Type 0 where

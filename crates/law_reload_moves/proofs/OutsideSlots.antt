@@ -4,42 +4,42 @@ use Rattle.std.proofs.lemmas.Bool.{false≢true}
 use Rattle.std.specs.Int.{int_wrap, w64}
 use Rattle.std.specs.Ordering.{int_eq}
 use Rattle.std.specs.Prelude.{ℤ, ◌+ℤ◌, pos, is_some, slice_get, option_map, option_and_then}
-use Rattle.bits64.specs.Words.{bytes_of}
-use Rattle.bits64.specs.declared.Width.{Width}
-use Rattle.rtx_tree.specs.Code.{class_of_code, is_effect_class}
-use Rattle.rtx_tree.specs.Tree.{RtxHead, head_of, kids_of, node_of, reg_of, const_of}
-use Rattle.rtx_tree.specs.declared.code.Code.{Code}
-use Rattle.rtx_tree.specs.declared.code.Code.TheVariants as code
-use Rattle.rtx_tree.specs.declared.code.Mode.{Mode}
-use Rattle.rtx_tree.specs.declared.function.Insn.{Insn}
-use Rattle.rtx_tree.specs.declared.machine.SymbolAt.{SymbolAt}
-use Rattle.rtx_tree.specs.declared.memories.MemByte.{MemByte}
-use Rattle.rtx_tree.specs.declared.tree.Rtx.{Rtx}
-use Rattle.rtx_tree.proofs.Trees.{head_of-tree, kids_of-tree}
-use Rattle.run_memory.specs.RunMemory.{load}
-use Rattle.run_memory.proofs.Laws.{Apart}
-use Rattle.rtl_func.specs.Shapes.{is_effect}
-use Rattle.rtl_step.specs.Effect.{effect_by, effect_of, effects_by, effects_of, one_effect, all_effects, register_by, set_effect}
-use Rattle.rtl_step.specs.Regs.{Regs, known_of}
-use Rattle.rtl_step.specs.declared.effect.Effect.{Effect}
-use Rattle.rtl_step.specs.declared.effect.Effect.TheVariants.{Nothing, Sets, Unsets, Stores}
-use Rattle.rtl_step.specs.declared.step.State.{State}
-use Rattle.md_constr.specs.Inputs as inputs
-use Rattle.assign.specs.declared.home.Home.TheVariants.{Slot}
-use Rattle.reload_homes.specs.FrameRefs.{sp_plus, frame_offset, framed}
-use Rattle.reload_homes.specs.Homes.{home_of, slot_offset}
-use Rattle.reload_homes.proofs.Rewrites.{framed_reference, framed_over}
-use Rattle.law_homes.specs.Placed as effects
-use Rattle.law_homes.specs.Placed.{BecomesInHomes}
-use Rattle.law_homes.proofs.After.{from_ends, some_bytes}
-use Rattle.law_homes.proofs.Plain.{Made, AllMade, made_none, made_more}
-use Rattle.law_homes.proofs.Setting.{Setting, base, StandsIn, slot_below, slot_no_local}
-use Rattle.law_homes.proofs.Stores.{load_each}
-use Rattle.law_reload_moves.proofs.ElementTurns.{effect_code}
+use Rattle.law_operands_fetched.specs.bits64.Words.{bytes_of}
+use Rattle.law_operands_fetched.specs.bits64.declared.Width.{Width}
+use Rattle.law_operands_fetched.specs.rtx_tree.Code.{class_of_code, is_effect_class}
+use Rattle.law_operands_fetched.specs.rtx_tree.Tree.{RtxHead, head_of, kids_of, node_of, reg_of, const_of}
+use Rattle.law_operands_fetched.specs.rtx_tree.declared.code.Code.{Code}
+use Rattle.law_operands_fetched.specs.rtx_tree.declared.code.Code.TheVariants as code
+use Rattle.law_operands_fetched.specs.rtx_tree.declared.code.Mode.{Mode}
+use Rattle.law_operands_fetched.specs.rtx_tree.declared.function.Insn.{Insn}
+use Rattle.law_operands_fetched.specs.rtx_tree.declared.machine.SymbolAt.{SymbolAt}
+use Rattle.law_operands_fetched.specs.rtx_tree.declared.memories.MemByte.{MemByte}
+use Rattle.law_operands_fetched.specs.rtx_tree.declared.tree.Rtx.{Rtx}
+use Rattle.law_operands_fetched.proofs.rtx_tree.Trees.{head_of-tree, kids_of-tree}
+use Rattle.law_operands_fetched.specs.run_memory.RunMemory.{load}
+use Rattle.law_operands_fetched.proofs.run_memory.Laws.{Apart}
+use Rattle.law_operands_fetched.specs.rtl_func.Shapes.{is_effect}
+use Rattle.law_operands_fetched.specs.rtl_step.Effect.{effect_by, effect_of, effects_by, effects_of, one_effect, all_effects, register_by, set_effect}
+use Rattle.law_operands_fetched.specs.rtl_step.Regs.{Regs, known_of}
+use Rattle.law_operands_fetched.specs.rtl_step.declared.effect.Effect.{Effect}
+use Rattle.law_operands_fetched.specs.rtl_step.declared.effect.Effect.TheVariants.{Nothing, Sets, Unsets, Stores}
+use Rattle.law_operands_fetched.specs.rtl_step.declared.step.State.{State}
+use Rattle.law_operands_fetched.specs.md_constr.Inputs as inputs
+use Rattle.law_operands_fetched.specs.assign.declared.home.Home.TheVariants.{Slot}
+use Rattle.law_operands_fetched.specs.reload_homes.FrameRefs.{sp_plus, frame_offset, framed}
+use Rattle.law_operands_fetched.specs.reload_homes.Homes.{home_of, slot_offset}
+use Rattle.law_operands_fetched.proofs.reload_homes.Rewrites.{framed_reference, framed_over}
+use Rattle.law_operands_fetched.specs.law_homes.Placed as effects
+use Rattle.law_operands_fetched.specs.law_homes.Placed.{BecomesInHomes}
+use Rattle.law_operands_fetched.proofs.law_homes.After.{from_ends, some_bytes}
+use Rattle.law_operands_fetched.proofs.law_homes.Plain.{Made, AllMade, made_none, made_more}
+use Rattle.law_operands_fetched.proofs.law_homes.Setting.{Setting, base, StandsIn, slot_below, slot_no_local}
+use Rattle.law_operands_fetched.proofs.law_homes.Stores.{load_each}
+use Rattle.law_operands_fetched.proofs.law_operands_replaced.ElementTurns.{effect_code}
 use Rattle.law_reload_moves.proofs.FramedTrees.{FrameCase, alone, sum, frame_case}
 use Rattle.law_reload_moves.proofs.LeftRegisters.{Changes, set_there}
 use Rattle.law_reload_moves.proofs.RowsThere.{effects_front, alone_front}
-use Rattle.law_reload_moves.proofs.WholeTurns.{is_parallel}
+use Rattle.law_operands_fetched.proofs.law_operands_replaced.WholeTurns.{is_parallel}
 
 -- ---- trees with references to the frame put in
 

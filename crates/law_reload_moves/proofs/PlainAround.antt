@@ -3,48 +3,48 @@ use Rattle.std.proofs.Common.{◌≡◌, ◌≢◌, ◌⊎◌, inl, inr, ℕ, �
 use Rattle.std.proofs.lemmas.Bool.{or_left, or_right}
 use Rattle.std.specs.List.{flat_map, list_any}
 use Rattle.std.specs.Prelude.{ℤ, slice_get}
-use Rattle.rtx_tree.specs.Tree.{head_of, kids_of}
-use Rattle.rtx_tree.specs.declared.function.Kind.{Kind}
-use Rattle.rtx_tree.specs.declared.function.Kind.TheVariants as kinds
-use Rattle.rtx_tree.specs.declared.machine.SymbolAt.{SymbolAt}
-use Rattle.rtx_tree.specs.declared.memories.MemByte.{MemByte}
-use Rattle.rtx_tree.specs.declared.tree.Rtx.{Rtx}
-use Rattle.rtl_func.proofs.AllPass.{all_pass}
-use Rattle.rtl_step.specs.Effect.{effects_of, regs_after, memory_after}
-use Rattle.rtl_step.specs.Regs.{Regs}
-use Rattle.rtl_step.specs.declared.effect.Effect.{Effect}
-use Rattle.sym_insns.specs.Shape.{all_natural}
-use Rattle.md_constr.specs.Inputs as inputs
-use Rattle.md_match.specs.Pattern.{Ops}
-use Rattle.assign.specs.declared.home.HomeOf.{HomeOf}
-use Rattle.assign.specs.declared.places.Layout.{Layout}
-use Rattle.reload_homes.specs.Homes.{homed}
-use Rattle.reload_operands.specs.declared.operand.Operand.{Operand}
-use Rattle.reload_moves.specs.Moves.{out_store, out_moves, moves_after}
-use Rattle.reload_moves.specs.Registers.{asks_of, is_result}
-use Rattle.reload_moves.specs.declared.ask.Ask.{Ask}
-use Rattle.reload_moves.specs.declared.moves.Move.{Move}
-use Rattle.reload_moves.specs.declared.part.Part.{Part}
-use Rattle.reload_choice.specs.Insns.{insns_of, all_insns, insns_before, insns_after}
-use Rattle.reload_choice.specs.declared.given.Plan.{Plan}
-use Rattle.law_reload_moves.specs.Held.{Held, Holds}
-use Rattle.law_reload_moves.specs.Spare.{NamesNoSpare, KeepsRest}
+use Rattle.law_operands_fetched.specs.rtx_tree.Tree.{head_of, kids_of}
+use Rattle.law_operands_fetched.specs.rtx_tree.declared.function.Kind.{Kind}
+use Rattle.law_operands_fetched.specs.rtx_tree.declared.function.Kind.TheVariants as kinds
+use Rattle.law_operands_fetched.specs.rtx_tree.declared.machine.SymbolAt.{SymbolAt}
+use Rattle.law_operands_fetched.specs.rtx_tree.declared.memories.MemByte.{MemByte}
+use Rattle.law_operands_fetched.specs.rtx_tree.declared.tree.Rtx.{Rtx}
+use Rattle.law_operands_fetched.proofs.rtl_func.AllPass.{all_pass}
+use Rattle.law_operands_fetched.specs.rtl_step.Effect.{effects_of, regs_after, memory_after}
+use Rattle.law_operands_fetched.specs.rtl_step.Regs.{Regs}
+use Rattle.law_operands_fetched.specs.rtl_step.declared.effect.Effect.{Effect}
+use Rattle.law_operands_fetched.specs.sym_insns.Shape.{all_natural}
+use Rattle.law_operands_fetched.specs.md_constr.Inputs as inputs
+use Rattle.law_operands_fetched.specs.md_match.Pattern.{Ops}
+use Rattle.law_operands_fetched.specs.assign.declared.home.HomeOf.{HomeOf}
+use Rattle.law_operands_fetched.specs.assign.declared.places.Layout.{Layout}
+use Rattle.law_operands_fetched.specs.reload_homes.Homes.{homed}
+use Rattle.law_operands_fetched.specs.reload_operands.declared.operand.Operand.{Operand}
+use Rattle.law_operands_fetched.specs.reload_moves.Moves.{out_store, out_moves, moves_after}
+use Rattle.law_operands_fetched.specs.reload_moves.Registers.{asks_of, is_result}
+use Rattle.law_operands_fetched.specs.reload_moves.declared.ask.Ask.{Ask}
+use Rattle.law_operands_fetched.specs.reload_moves.declared.moves.Move.{Move}
+use Rattle.law_operands_fetched.specs.reload_moves.declared.part.Part.{Part}
+use Rattle.law_operands_fetched.specs.reload_choice.Insns.{insns_of, all_insns, insns_before, insns_after}
+use Rattle.law_operands_fetched.specs.reload_choice.declared.given.Plan.{Plan}
+use Rattle.law_operands_fetched.specs.law_operands_replaced.Held.{Held, Holds}
+use Rattle.law_operands_fetched.specs.law_operands_replaced.Spare.{NamesNoSpare, KeepsRest}
 use Rattle.law_reload_moves.proofs.Chosen.{given}
-use Rattle.law_reload_moves.proofs.EffectsThere.{effects_there}
-use Rattle.law_reload_moves.proofs.ElementTurns.{key_of}
-use Rattle.law_reload_moves.proofs.Endings.{EndsFrom, IsAroundFrom, nothing}
-use Rattle.law_reload_moves.proofs.Ends.{AreSpare}
-use Rattle.law_reload_moves.proofs.Delays.{Delays}
-use Rattle.law_reload_moves.proofs.Fetching.{Fetching}
+use Rattle.law_operands_fetched.proofs.law_operands_replaced.EffectsThere.{effects_there}
+use Rattle.law_operands_fetched.proofs.law_operands_replaced.ElementTurns.{key_of}
+use Rattle.law_operands_fetched.proofs.Endings.{EndsFrom, IsAroundFrom, nothing}
+use Rattle.law_operands_fetched.proofs.law_operands_replaced.Ends.{AreSpare}
+use Rattle.law_operands_fetched.proofs.law_operands_replaced.Delays.{Delays}
+use Rattle.law_operands_fetched.proofs.Fetching.{Fetching}
 use Rattle.law_reload_moves.proofs.GivenNews.{IsResultAt, result_at}
-use Rattle.law_reload_moves.proofs.Keyed.{Keyed, effects_in, kept_of, out_of, IsIn, MayPassBy, AreOrderly, keyed_delays}
-use Rattle.law_reload_moves.proofs.Keying.{with_keys, keyed_instead}
-use Rattle.law_reload_moves.proofs.NewTrees.{is_whole}
+use Rattle.law_operands_fetched.proofs.law_operands_replaced.Keyed.{Keyed, effects_in, kept_of, out_of, IsIn, MayPassBy, AreOrderly, keyed_delays}
+use Rattle.law_operands_fetched.proofs.law_operands_replaced.Keying.{with_keys, keyed_instead}
+use Rattle.law_operands_fetched.proofs.law_operands_replaced.NewTrees.{is_whole}
 use Rattle.law_reload_moves.proofs.PlainInner.{g, x, y, before, other, Effects, plain_keyed}
 use Rattle.law_reload_moves.proofs.ResultKeys.{result_places, results_distinct, result_in, keyed_result}
 use Rattle.law_reload_moves.proofs.TakenThere.{IsAt}
-use Rattle.law_reload_moves.proofs.Window.{AllStay}
-use Rattle.law_reload_moves.proofs.WholeTurns.{AllNone}
+use Rattle.law_operands_fetched.proofs.Window.{AllStay}
+use Rattle.law_operands_fetched.proofs.law_operands_replaced.WholeTurns.{AllNone}
 
 -- ---- where nothing is moved behind
 

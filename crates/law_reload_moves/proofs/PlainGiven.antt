@@ -4,43 +4,43 @@ use Rattle.std.proofs.lemmas.Bool.{and_parts, leb-true}
 use Rattle.std.proofs.lemmas.Bool.Decides.{nat_tests}
 use Rattle.std.specs.List.{list_all}
 use Rattle.std.specs.Prelude.{nat_le, slice_get}
-use Rattle.bits64.specs.declared.Width.TheVariants.{W64}
-use Rattle.rtx_tree.specs.Code.{class_of_code, is_effect_class}
-use Rattle.rtx_tree.specs.Tree.{RtxHead}
-use Rattle.rtx_tree.specs.declared.function.Insn.{Insn}
-use Rattle.rtx_tree.specs.declared.function.Kind.TheVariants as kind
-use Rattle.rtx_tree.specs.declared.tree.Rtx.{Rtx}
-use Rattle.run_memory.proofs.Laws.{Apart}
-use Rattle.rtl_func.specs.Nodes.{nodes_of}
-use Rattle.rtl_func.specs.Shapes.{is_effect, is_shaped}
-use Rattle.rtl_step.specs.Effect.{effects_of}
-use Rattle.rtl_step.specs.Value.{value_of}
-use Rattle.rtl_step.specs.declared.effect.Effect.{Effect}
-use Rattle.rtl_step.specs.declared.effect.Effect.TheVariants.{Nothing, Sets, Unsets, Stores}
-use Rattle.rtl_step.specs.declared.step.State.{State}
-use Rattle.md_constr.specs.Inputs as inputs
-use Rattle.md_match.specs.Pattern.{Ops}
-use Rattle.assign.specs.declared.home.Home.TheVariants.{Slot}
-use Rattle.reload_homes.specs.FrameRefs.{framed}
-use Rattle.reload_homes.specs.Homes.{home_of, slot_address, slot_offset}
-use Rattle.reload_operands.specs.Changes.{is_hard}
-use Rattle.reload_choice.specs.declared.given.Plan.{Plan}
-use Rattle.law_homes.specs.Tame.{IsFree}
-use Rattle.law_homes.specs.Tame as homes
-use Rattle.law_homes.proofs.HomesApart as apart
-use Rattle.law_homes.proofs.HomesApart.{slot_within}
-use Rattle.law_homes.proofs.Placing.{slot_at}
-use Rattle.law_homes.proofs.Plain.{PlainDoes}
-use Rattle.law_homes.proofs.Setting.{Setting, base, StandsIn, machines, are_homed}
-use Rattle.law_homes.proofs.Tamed.{AllTame, tame_none, tame_more}
-use Rattle.law_reload_moves.proofs.Ends.{IsOnRest}
+use Rattle.law_operands_fetched.specs.bits64.declared.Width.TheVariants.{W64}
+use Rattle.law_operands_fetched.specs.rtx_tree.Code.{class_of_code, is_effect_class}
+use Rattle.law_operands_fetched.specs.rtx_tree.Tree.{RtxHead}
+use Rattle.law_operands_fetched.specs.rtx_tree.declared.function.Insn.{Insn}
+use Rattle.law_operands_fetched.specs.rtx_tree.declared.function.Kind.TheVariants as kind
+use Rattle.law_operands_fetched.specs.rtx_tree.declared.tree.Rtx.{Rtx}
+use Rattle.law_operands_fetched.proofs.run_memory.Laws.{Apart}
+use Rattle.law_operands_fetched.specs.rtl_func.Nodes.{nodes_of}
+use Rattle.law_operands_fetched.specs.rtl_func.Shapes.{is_effect, is_shaped}
+use Rattle.law_operands_fetched.specs.rtl_step.Effect.{effects_of}
+use Rattle.law_operands_fetched.specs.rtl_step.Value.{value_of}
+use Rattle.law_operands_fetched.specs.rtl_step.declared.effect.Effect.{Effect}
+use Rattle.law_operands_fetched.specs.rtl_step.declared.effect.Effect.TheVariants.{Nothing, Sets, Unsets, Stores}
+use Rattle.law_operands_fetched.specs.rtl_step.declared.step.State.{State}
+use Rattle.law_operands_fetched.specs.md_constr.Inputs as inputs
+use Rattle.law_operands_fetched.specs.md_match.Pattern.{Ops}
+use Rattle.law_operands_fetched.specs.assign.declared.home.Home.TheVariants.{Slot}
+use Rattle.law_operands_fetched.specs.reload_homes.FrameRefs.{framed}
+use Rattle.law_operands_fetched.specs.reload_homes.Homes.{home_of, slot_address, slot_offset}
+use Rattle.law_operands_fetched.specs.reload_operands.Changes.{is_hard}
+use Rattle.law_operands_fetched.specs.reload_choice.declared.given.Plan.{Plan}
+use Rattle.law_operands_fetched.specs.law_homes.Tame.{IsFree}
+use Rattle.law_operands_fetched.specs.law_homes.Tame as homes
+use Rattle.law_operands_fetched.proofs.law_homes.HomesApart as apart
+use Rattle.law_operands_fetched.proofs.law_homes.HomesApart.{slot_within}
+use Rattle.law_operands_fetched.proofs.law_homes.Placing.{slot_at}
+use Rattle.law_operands_fetched.proofs.law_homes.Plain.{PlainDoes}
+use Rattle.law_operands_fetched.proofs.law_homes.Setting.{Setting, base, StandsIn, machines, are_homed}
+use Rattle.law_operands_fetched.proofs.law_homes.Tamed.{AllTame, tame_none, tame_more}
+use Rattle.law_operands_fetched.proofs.law_operands_replaced.Ends.{IsOnRest}
 use Rattle.law_reload_moves.proofs.LeftRegisters.{IsOnHard, AreOnHard}
 use Rattle.law_reload_moves.proofs.OutsideSlots.{IsAway, AllAway, effect_framed, insn_away}
 use Rattle.law_reload_moves.proofs.ResultsEnd.{Among}
 use Rattle.law_reload_moves.proofs.SteadyAddress.{Leaves, AllLeave}
 use Rattle.law_reload_moves.proofs.Reloaded.{IsReloaded, w}
-use Rattle.law_reload_moves.specs.Spare.{is_spare}
-use Rattle.law_reload_moves.specs.Tame.{IsTame, AreTame}
+use Rattle.law_operands_fetched.specs.law_operands_replaced.Spare.{is_spare}
+use Rattle.law_operands_fetched.specs.Tame.{IsTame, AreTame}
 
 module _ (c : Setting) where
   -- what may be a home is a hard register other than sp

@@ -4,46 +4,46 @@ use Rattle.std.proofs.Common.{◌≡◌, ◌≢◌, ◌⊎◌, inl, inr, ℕ, �
 use Rattle.std.proofs.lemmas.Bool.{and_parts}
 use Rattle.std.specs.List.{list_all}
 use Rattle.std.specs.Prelude.{ℤ, pos, slice_get}
-use Rattle.rtx_tree.specs.Tree.{head_of, kids_of}
-use Rattle.rtx_tree.specs.declared.function.Kind.{Kind}
-use Rattle.rtx_tree.specs.declared.function.Kind.TheVariants as kinds
-use Rattle.rtx_tree.specs.declared.machine.SymbolAt.{SymbolAt}
-use Rattle.rtx_tree.specs.declared.memories.MemByte.{MemByte}
-use Rattle.rtx_tree.specs.declared.tree.Rtx.{Rtx}
-use Rattle.rtl_func.specs.Kinds.{is_plain_tree, kinds_agree}
-use Rattle.rtl_func.specs.Modes.{shapes_agree, call_modes_agree, modes_agree}
-use Rattle.rtl_func.specs.Nodes.{nodes_of}
-use Rattle.rtl_func.specs.Shapes.{is_effect, is_shaped}
-use Rattle.rtl_func.proofs.AllPass.{all_pass}
-use Rattle.rtl_step.specs.Effect.{effects_of}
-use Rattle.rtl_step.specs.Regs.{Regs}
-use Rattle.rtl_step.specs.declared.effect.Effect.{Effect}
-use Rattle.sym_insns.specs.Shape.{all_natural}
-use Rattle.md_match.specs.Pattern.{Ops}
-use Rattle.assign.specs.declared.home.HomeOf.{HomeOf}
-use Rattle.assign.specs.declared.places.Layout.{Layout}
-use Rattle.reload_homes.specs.Homes.{homed}
-use Rattle.reload_operands.specs.Put.{put}
-use Rattle.reload_operands.specs.declared.operand.Operand.{Operand}
-use Rattle.reload_moves.specs.declared.part.Part.{Part}
-use Rattle.reload_choice.specs.Insns.{between}
-use Rattle.reload_choice.specs.Movable.{is_formed_as}
-use Rattle.reload_choice.specs.Sound.{IsPart, IsSoundPlan}
-use Rattle.reload_choice.specs.declared.given.Given.{Given}
-use Rattle.reload_choice.specs.declared.given.Plan.{Plan}
-use Rattle.law_reload_moves.specs.Spare.{KnowsRest, NamesNoSpare}
-use Rattle.law_reload_moves.proofs.BeforeFetched.{BeforeFetched, before_fetched}
+use Rattle.law_operands_fetched.specs.rtx_tree.Tree.{head_of, kids_of}
+use Rattle.law_operands_fetched.specs.rtx_tree.declared.function.Kind.{Kind}
+use Rattle.law_operands_fetched.specs.rtx_tree.declared.function.Kind.TheVariants as kinds
+use Rattle.law_operands_fetched.specs.rtx_tree.declared.machine.SymbolAt.{SymbolAt}
+use Rattle.law_operands_fetched.specs.rtx_tree.declared.memories.MemByte.{MemByte}
+use Rattle.law_operands_fetched.specs.rtx_tree.declared.tree.Rtx.{Rtx}
+use Rattle.law_operands_fetched.specs.rtl_func.Kinds.{is_plain_tree, kinds_agree}
+use Rattle.law_operands_fetched.specs.rtl_func.Modes.{shapes_agree, call_modes_agree, modes_agree}
+use Rattle.law_operands_fetched.specs.rtl_func.Nodes.{nodes_of}
+use Rattle.law_operands_fetched.specs.rtl_func.Shapes.{is_effect, is_shaped}
+use Rattle.law_operands_fetched.proofs.rtl_func.AllPass.{all_pass}
+use Rattle.law_operands_fetched.specs.rtl_step.Effect.{effects_of}
+use Rattle.law_operands_fetched.specs.rtl_step.Regs.{Regs}
+use Rattle.law_operands_fetched.specs.rtl_step.declared.effect.Effect.{Effect}
+use Rattle.law_operands_fetched.specs.sym_insns.Shape.{all_natural}
+use Rattle.law_operands_fetched.specs.md_match.Pattern.{Ops}
+use Rattle.law_operands_fetched.specs.assign.declared.home.HomeOf.{HomeOf}
+use Rattle.law_operands_fetched.specs.assign.declared.places.Layout.{Layout}
+use Rattle.law_operands_fetched.specs.reload_homes.Homes.{homed}
+use Rattle.law_operands_fetched.specs.reload_operands.Put.{put}
+use Rattle.law_operands_fetched.specs.reload_operands.declared.operand.Operand.{Operand}
+use Rattle.law_operands_fetched.specs.reload_moves.declared.part.Part.{Part}
+use Rattle.law_operands_fetched.specs.reload_choice.Insns.{between}
+use Rattle.law_operands_fetched.specs.reload_choice.Movable.{is_formed_as}
+use Rattle.law_operands_fetched.specs.reload_choice.Sound.{IsPart, IsSoundPlan}
+use Rattle.law_operands_fetched.specs.reload_choice.declared.given.Given.{Given}
+use Rattle.law_operands_fetched.specs.reload_choice.declared.given.Plan.{Plan}
+use Rattle.law_operands_fetched.specs.law_operands_replaced.Spare.{KnowsRest, NamesNoSpare}
+use Rattle.law_operands_fetched.proofs.BeforeFetched.{BeforeFetched, before_fetched}
 use Rattle.law_reload_moves.proofs.Chosen.{given, asks, news}
-use Rattle.law_reload_moves.proofs.Fetches.{keeps_knows}
-use Rattle.law_reload_moves.proofs.Fetching.{Fetching}
+use Rattle.law_operands_fetched.proofs.law_operands_replaced.Fetches.{keeps_knows}
+use Rattle.law_operands_fetched.proofs.Fetching.{Fetching}
 use Rattle.law_reload_moves.proofs.GivenBeside.{none_new, whole_beside}
 use Rattle.law_reload_moves.proofs.GivenNews.{own, mode, tree, result_at, Reads, Lost, Free, AreFetched}
-use Rattle.law_reload_moves.proofs.NewPlaces.{new_place}
-use Rattle.law_reload_moves.proofs.NewReads.{new_tree_is}
-use Rattle.law_reload_moves.proofs.NewTrees.{is_whole}
-use Rattle.law_reload_moves.proofs.SetTurns.{Fit}
+use Rattle.law_operands_fetched.proofs.NewPlaces.{new_place}
+use Rattle.law_operands_fetched.proofs.NewReads.{new_tree_is}
+use Rattle.law_operands_fetched.proofs.law_operands_replaced.NewTrees.{is_whole}
+use Rattle.law_operands_fetched.proofs.law_operands_replaced.SetTurns.{Fit}
 use Rattle.law_reload_moves.proofs.TakenThere.{IsAt}
-use Rattle.law_reload_moves.proofs.WholeTurns.{InsnKeyed, insn_keyed, effects_exist}
+use Rattle.law_operands_fetched.proofs.law_operands_replaced.WholeTurns.{InsnKeyed, insn_keyed, effects_exist}
 
 -- ---- what is formed
 

@@ -1,40 +1,40 @@
 -- A plain instruction of a function for which a plan is chosen, with its moves in another function: they lead to what its effects leave.
 use Rattle.std.proofs.Common.{◌≡◌, ◌≢◌, ◌⊎◌, ℕ, Bool, true, false, List, [], ◌∷◌, ◌++◌, Some, refl, sym, ap, subst, ◌∙◌}
 use Rattle.std.specs.Prelude.{slice_get}
-use Rattle.rtx_tree.specs.declared.function.Function.{Function}
-use Rattle.rtx_tree.specs.declared.function.Insn.{Insn}
-use Rattle.rtx_tree.specs.declared.function.Kind.TheVariants as kind
-use Rattle.rtx_tree.specs.declared.memories.MemByte.{MemByte}
-use Rattle.rtx_tree.specs.declared.tree.Rtx.{Rtx}
-use Rattle.rtl_step.specs.Effect.{effects_of}
-use Rattle.rtl_step.specs.Regs.{Regs}
-use Rattle.rtl_step.specs.declared.effect.Effect.{Effect}
-use Rattle.rtl_step.specs.declared.step.State.{State}
-use Rattle.same_behaviour.specs.Lawful.{IsMemory}
-use Rattle.law_frame.proofs.law_window_replaced.Stands.{Stands}
-use Rattle.md_constr.specs.Inputs as inputs
-use Rattle.md_match.specs.Pattern.{Ops}
-use Rattle.reload_choice.specs.Insns.{between, insns_before, insns_after}
-use Rattle.reload_choice.specs.declared.given.Plan.{Plan}
-use Rattle.law_homes.proofs.Plain.{PlainDoes}
-use Rattle.law_homes.proofs.Setting.{Setting, base, StandsIn}
-use Rattle.law_homes.proofs.Tamed.{AllTame, plain_tame}
-use Rattle.law_reload_moves.specs.Onwards.{ArePlain}
-use Rattle.law_reload_moves.specs.Spare.{KeepsRest}
-use Rattle.law_reload_moves.specs.Tame.{AreTame}
+use Rattle.law_operands_fetched.specs.rtx_tree.declared.function.Function.{Function}
+use Rattle.law_operands_fetched.specs.rtx_tree.declared.function.Insn.{Insn}
+use Rattle.law_operands_fetched.specs.rtx_tree.declared.function.Kind.TheVariants as kind
+use Rattle.law_operands_fetched.specs.rtx_tree.declared.memories.MemByte.{MemByte}
+use Rattle.law_operands_fetched.specs.rtx_tree.declared.tree.Rtx.{Rtx}
+use Rattle.law_operands_fetched.specs.rtl_step.Effect.{effects_of}
+use Rattle.law_operands_fetched.specs.rtl_step.Regs.{Regs}
+use Rattle.law_operands_fetched.specs.rtl_step.declared.effect.Effect.{Effect}
+use Rattle.law_operands_fetched.specs.rtl_step.declared.step.State.{State}
+use Rattle.law_operands_fetched.specs.same_behaviour.Lawful.{IsMemory}
+use Rattle.law_operands_fetched.proofs.law_frame.law_window_replaced.Stands.{Stands}
+use Rattle.law_operands_fetched.specs.md_constr.Inputs as inputs
+use Rattle.law_operands_fetched.specs.md_match.Pattern.{Ops}
+use Rattle.law_operands_fetched.specs.reload_choice.Insns.{between, insns_before, insns_after}
+use Rattle.law_operands_fetched.specs.reload_choice.declared.given.Plan.{Plan}
+use Rattle.law_operands_fetched.proofs.law_homes.Plain.{PlainDoes}
+use Rattle.law_operands_fetched.proofs.law_homes.Setting.{Setting, base, StandsIn}
+use Rattle.law_operands_fetched.proofs.law_homes.Tamed.{AllTame, plain_tame}
+use Rattle.law_operands_fetched.specs.Onwards.{ArePlain}
+use Rattle.law_operands_fetched.specs.law_operands_replaced.Spare.{KeepsRest}
+use Rattle.law_operands_fetched.specs.Tame.{AreTame}
 use Rattle.law_reload_moves.proofs.AllOrderly.{EachOutside}
 use Rattle.law_reload_moves.proofs.Chosen.{given}
-use Rattle.law_reload_moves.proofs.Fetching.{Fetching}
+use Rattle.law_operands_fetched.proofs.Fetching.{Fetching}
 use Rattle.law_reload_moves.proofs.GivenNews.{own, mode, tree, Free}
-use Rattle.law_reload_moves.proofs.Keeping.{Stay}
-use Rattle.law_reload_moves.proofs.Keyed.{Keyed}
-use Rattle.law_reload_moves.proofs.Keying.{with_keys, AreOnRest}
+use Rattle.law_operands_fetched.proofs.Keeping.{Stay}
+use Rattle.law_operands_fetched.proofs.law_operands_replaced.Keyed.{Keyed}
+use Rattle.law_operands_fetched.proofs.law_operands_replaced.Keying.{with_keys, AreOnRest}
 use Rattle.law_reload_moves.proofs.LateAddress.{address_late}
 use Rattle.law_reload_moves.proofs.Leads.{G, Here, Told, spared, d, plain_fetch, ResultsMayEnd, plain_leads_over}
 use Rattle.law_reload_moves.proofs.OutsideSlots.{AllAway}
 use Rattle.law_reload_moves.proofs.PlainGiven.{all_hard, each_rest, slots_are_apart, slot_value, w_effect, plain_away}
 use Rattle.law_reload_moves.proofs.PlainInner.{other, Effects, plain_keyed}
-use Rattle.law_reload_moves.proofs.PlainWindow.{ComesTo, tame_stay}
+use Rattle.law_operands_fetched.proofs.PlainWindow.{ComesTo, tame_stay}
 use Rattle.law_reload_moves.proofs.Reloaded.{IsReloaded, w, x, w_natural, x_natural, x_quiet, x_whole}
 use Rattle.law_reload_moves.proofs.ResultBases.{bases, bases_spare, bases_hold, based, far_end_here}
 use Rattle.law_reload_moves.proofs.ResultEnds.{each_ends}
@@ -42,7 +42,7 @@ use Rattle.law_reload_moves.proofs.ResultsEnd.{Among}
 use Rattle.law_reload_moves.proofs.ResultsMayEnd.{all_rest, results_may_end}
 use Rattle.law_reload_moves.proofs.TakenThere.{IsAt}
 use Rattle.law_reload_moves.proofs.Taming.{are_tame}
-use Rattle.law_reload_moves.proofs.Window.{AllStay}
+use Rattle.law_operands_fetched.proofs.Window.{AllStay}
 
 module _ (c : Setting) (place : ℕ) (i : Insn) (at : slice_get c.f.insns place ≡ Some i) (pattern : Rtx) (found : Ops) (plan : Plan)
     (is : IsReloaded c i pattern found plan) (s u : State) (stands : StandsIn c place s u) (memory : IsMemory u.memory)

@@ -4,47 +4,47 @@ use Rattle.std.proofs.lemmas.Bool.{and_parts, or_cases, leb-true}
 use Rattle.std.proofs.lemmas.Bool.Decides.{nat_tests}
 use Rattle.std.specs.List.{AllByRecursion, flat_map, list_all}
 use Rattle.std.specs.Prelude.{ℤ, pos, nat_le, option_map, option_and_then, slice_get}
-use Rattle.bits64.specs.declared.Width.TheVariants.{W64}
-use Rattle.rtx_tree.specs.Registers.{pseudo}
-use Rattle.rtx_tree.specs.Tree.{mentions_reg}
-use Rattle.rtx_tree.specs.declared.code.Code.TheVariants as code
-use Rattle.rtx_tree.specs.declared.function.Insn.{Insn}
-use Rattle.rtx_tree.specs.declared.tree.Rtx.{Rtx}
-use Rattle.rtl_func.specs.Calls.{is_argument}
-use Rattle.rtl_func.specs.Kinds.{kinds_agree}
-use Rattle.rtl_func.specs.Modes.{shapes_agree}
-use Rattle.rtl_func.specs.Nodes.{nodes_of}
-use Rattle.rtl_func.specs.Shapes.{is_effect, is_register_number, is_shaped}
-use Rattle.rtl_func.proofs.AllPass.{all_pass}
-use Rattle.rtl_step.specs.Effect.{address_of}
-use Rattle.rtl_step.specs.declared.step.State.{State}
-use Rattle.same_behaviour.specs.Lawful.{IsMemory}
-use Rattle.sym_insns.specs.Shape.{is_natural, all_natural}
-use Rattle.md_match.specs.Match.{IsAsked, MatchesOne}
-use Rattle.md_match.specs.Pattern.{Ops, placeholders, instantiated, all_some}
-use Rattle.assign.specs.declared.home.Home.TheVariants.{Hard, Slot}
-use Rattle.reload_homes.specs.FrameRefs.{framed}
-use Rattle.reload_homes.specs.Homes.{home_of, homed, slot_offset}
-use Rattle.reload_operands.specs.declared.operand.Operand.{Operand}
-use Rattle.reload_moves.specs.Registers.{is_result}
-use Rattle.reload_moves.specs.declared.part.Part.{Part}
-use Rattle.reload_choice.specs.Sound.{IsPart, IsSoundPlan}
-use Rattle.reload_choice.specs.declared.given.Given.{Given}
-use Rattle.reload_choice.specs.declared.given.Plan.{Plan}
-use Rattle.law_homes.specs.Stands.{has_home}
-use Rattle.law_homes.proofs.HomesApart.{hard_home, slot_within}
-use Rattle.law_homes.proofs.Setting.{Setting, IsNamed, named_of, base, StandsIn, frame_is, home_least, slot_room}
+use Rattle.law_operands_fetched.specs.bits64.declared.Width.TheVariants.{W64}
+use Rattle.law_operands_fetched.specs.rtx_tree.Registers.{pseudo}
+use Rattle.law_operands_fetched.specs.rtx_tree.Tree.{mentions_reg}
+use Rattle.law_operands_fetched.specs.rtx_tree.declared.code.Code.TheVariants as code
+use Rattle.law_operands_fetched.specs.rtx_tree.declared.function.Insn.{Insn}
+use Rattle.law_operands_fetched.specs.rtx_tree.declared.tree.Rtx.{Rtx}
+use Rattle.law_operands_fetched.specs.rtl_func.Calls.{is_argument}
+use Rattle.law_operands_fetched.specs.rtl_func.Kinds.{kinds_agree}
+use Rattle.law_operands_fetched.specs.rtl_func.Modes.{shapes_agree}
+use Rattle.law_operands_fetched.specs.rtl_func.Nodes.{nodes_of}
+use Rattle.law_operands_fetched.specs.rtl_func.Shapes.{is_effect, is_register_number, is_shaped}
+use Rattle.law_operands_fetched.proofs.rtl_func.AllPass.{all_pass}
+use Rattle.law_operands_fetched.specs.rtl_step.Effect.{address_of}
+use Rattle.law_operands_fetched.specs.rtl_step.declared.step.State.{State}
+use Rattle.law_operands_fetched.specs.same_behaviour.Lawful.{IsMemory}
+use Rattle.law_operands_fetched.specs.sym_insns.Shape.{is_natural, all_natural}
+use Rattle.law_operands_fetched.specs.md_match.Match.{IsAsked, MatchesOne}
+use Rattle.law_operands_fetched.specs.md_match.Pattern.{Ops, placeholders, instantiated, all_some}
+use Rattle.law_operands_fetched.specs.assign.declared.home.Home.TheVariants.{Hard, Slot}
+use Rattle.law_operands_fetched.specs.reload_homes.FrameRefs.{framed}
+use Rattle.law_operands_fetched.specs.reload_homes.Homes.{home_of, homed, slot_offset}
+use Rattle.law_operands_fetched.specs.reload_operands.declared.operand.Operand.{Operand}
+use Rattle.law_operands_fetched.specs.reload_moves.Registers.{is_result}
+use Rattle.law_operands_fetched.specs.reload_moves.declared.part.Part.{Part}
+use Rattle.law_operands_fetched.specs.reload_choice.Sound.{IsPart, IsSoundPlan}
+use Rattle.law_operands_fetched.specs.reload_choice.declared.given.Given.{Given}
+use Rattle.law_operands_fetched.specs.reload_choice.declared.given.Plan.{Plan}
+use Rattle.law_operands_fetched.specs.law_homes.Stands.{has_home}
+use Rattle.law_operands_fetched.proofs.law_homes.HomesApart.{hard_home, slot_within}
+use Rattle.law_operands_fetched.proofs.law_homes.Setting.{Setting, IsNamed, named_of, base, StandsIn, frame_is, home_least, slot_room}
 use Rattle.law_reload_moves.specs.Chosen.{chosen_from}
-use Rattle.law_reload_moves.specs.Places.{is_leaf}
-use Rattle.law_reload_moves.specs.Spare.{is_spare, NamesNoSpare}
+use Rattle.law_operands_fetched.specs.law_operands_replaced.Places.{is_leaf}
+use Rattle.law_operands_fetched.specs.law_operands_replaced.Spare.{is_spare, NamesNoSpare}
 use Rattle.law_reload_moves.proofs.FramedGood.{framed_shaped, framed_natural, framed_register}
 use Rattle.law_reload_moves.proofs.FramedTrees.{keeps_vars}
-use Rattle.law_reload_moves.proofs.GivenFetching.{HasFrame, IsMatched}
-use Rattle.law_reload_moves.proofs.HomedQuiet.{HasQuietHomes, homed_quiet}
+use Rattle.law_operands_fetched.proofs.GivenFetching.{HasFrame, IsMatched}
+use Rattle.law_operands_fetched.proofs.HomedQuiet.{HasQuietHomes, homed_quiet}
 use Rattle.law_reload_moves.proofs.HomedShaped.{homed_shaped}
 use Rattle.law_reload_moves.proofs.HomedTrees.{homed_natural, homed_whole}
 use Rattle.law_reload_moves.proofs.InputPlaces.{no_operator_of}
-use Rattle.law_reload_moves.proofs.NewTrees.{is_whole}
+use Rattle.law_operands_fetched.proofs.law_operands_replaced.NewTrees.{is_whole}
 use Rattle.law_reload_moves.proofs.TakenThere.{IsAt}
 
 -- what is known of an instruction: it is within the table of codes, a pattern matches it where references to the frame are put in, and a plan

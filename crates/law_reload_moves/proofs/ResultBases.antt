@@ -3,49 +3,49 @@ use Rattle.std.proofs.Common.{◌≡◌, ◌≢◌, ◌⊎◌, inl, inr, ℕ, �
 use Rattle.std.proofs.lemmas.Bool.{and_parts}
 use Rattle.std.specs.FinMap.{get}
 use Rattle.std.specs.Prelude.{ℤ, is_some, slice_get}
-use Rattle.bits64.specs.Words.{low}
-use Rattle.bits64.specs.declared.Width.TheVariants.{W64}
-use Rattle.rtx_tree.specs.declared.function.Kind.{Kind}
-use Rattle.rtx_tree.specs.declared.function.Kind.TheVariants as kinds
-use Rattle.rtx_tree.specs.declared.machine.SymbolAt.{SymbolAt}
-use Rattle.rtx_tree.specs.declared.memories.MemByte.{MemByte}
-use Rattle.rtx_tree.specs.declared.tree.Rtx.{Rtx}
-use Rattle.rtl_func.proofs.AllPass.{all_pass}
-use Rattle.rtl_step.specs.Effect.{effects_of, regs_after}
-use Rattle.rtl_step.specs.Regs.{Regs, known_of}
-use Rattle.rtl_step.specs.declared.effect.Effect.{Effect}
-use Rattle.sym_insns.specs.Shape.{all_natural}
-use Rattle.md_match.specs.Pattern.{Ops}
-use Rattle.assign.specs.declared.home.HomeOf.{HomeOf}
-use Rattle.assign.specs.declared.places.Layout.{Layout}
-use Rattle.reload_homes.specs.Homes.{homed}
-use Rattle.reload_operands.specs.declared.operand.Base.{Base}
-use Rattle.reload_operands.specs.declared.operand.Operand.{Operand}
-use Rattle.reload_moves.specs.Moves.{own_of, base_of, end_far_of}
-use Rattle.reload_moves.specs.Registers.{asks_of, ask, is_result, ends_far, holds_base, base_ask, register_for}
-use Rattle.reload_moves.specs.declared.ask.Ask.{Ask}
-use Rattle.reload_moves.specs.declared.ask.What.TheVariants.{Own, ResultBase, ResultFar, StayingBase}
-use Rattle.reload_moves.specs.declared.part.Part.{Part}
-use Rattle.reload_moves.proofs.AskLaws.{own_asked, base_asked, end_far_asked}
-use Rattle.reload_choice.specs.reload_fit.Addressed.{on_register, far_offset}
-use Rattle.reload_choice.specs.Sound.{IsPart}
-use Rattle.reload_choice.specs.declared.given.Plan.{Plan}
-use Rattle.law_reload_moves.specs.Held.{Held, Holds}
-use Rattle.law_reload_moves.specs.Spare.{is_spare, KeepsRest, NamesNoSpare}
+use Rattle.law_operands_fetched.specs.bits64.Words.{low}
+use Rattle.law_operands_fetched.specs.bits64.declared.Width.TheVariants.{W64}
+use Rattle.law_operands_fetched.specs.rtx_tree.declared.function.Kind.{Kind}
+use Rattle.law_operands_fetched.specs.rtx_tree.declared.function.Kind.TheVariants as kinds
+use Rattle.law_operands_fetched.specs.rtx_tree.declared.machine.SymbolAt.{SymbolAt}
+use Rattle.law_operands_fetched.specs.rtx_tree.declared.memories.MemByte.{MemByte}
+use Rattle.law_operands_fetched.specs.rtx_tree.declared.tree.Rtx.{Rtx}
+use Rattle.law_operands_fetched.proofs.rtl_func.AllPass.{all_pass}
+use Rattle.law_operands_fetched.specs.rtl_step.Effect.{effects_of, regs_after}
+use Rattle.law_operands_fetched.specs.rtl_step.Regs.{Regs, known_of}
+use Rattle.law_operands_fetched.specs.rtl_step.declared.effect.Effect.{Effect}
+use Rattle.law_operands_fetched.specs.sym_insns.Shape.{all_natural}
+use Rattle.law_operands_fetched.specs.md_match.Pattern.{Ops}
+use Rattle.law_operands_fetched.specs.assign.declared.home.HomeOf.{HomeOf}
+use Rattle.law_operands_fetched.specs.assign.declared.places.Layout.{Layout}
+use Rattle.law_operands_fetched.specs.reload_homes.Homes.{homed}
+use Rattle.law_operands_fetched.specs.reload_operands.declared.operand.Base.{Base}
+use Rattle.law_operands_fetched.specs.reload_operands.declared.operand.Operand.{Operand}
+use Rattle.law_operands_fetched.specs.reload_moves.Moves.{own_of, base_of, end_far_of}
+use Rattle.law_operands_fetched.specs.reload_moves.Registers.{asks_of, ask, is_result, ends_far, holds_base, base_ask, register_for}
+use Rattle.law_operands_fetched.specs.reload_moves.declared.ask.Ask.{Ask}
+use Rattle.law_operands_fetched.specs.reload_moves.declared.ask.What.TheVariants.{Own, ResultBase, ResultFar, StayingBase}
+use Rattle.law_operands_fetched.specs.reload_moves.declared.part.Part.{Part}
+use Rattle.law_operands_fetched.proofs.reload_moves.AskLaws.{own_asked, base_asked, end_far_asked}
+use Rattle.law_operands_fetched.specs.reload_choice.reload_fit.Addressed.{on_register, far_offset}
+use Rattle.law_operands_fetched.specs.reload_choice.Sound.{IsPart}
+use Rattle.law_operands_fetched.specs.reload_choice.declared.given.Plan.{Plan}
+use Rattle.law_operands_fetched.specs.law_operands_replaced.Held.{Held, Holds}
+use Rattle.law_operands_fetched.specs.law_operands_replaced.Spare.{is_spare, KeepsRest, NamesNoSpare}
 use Rattle.law_reload_moves.proofs.BasesHeld.{base_held, base_spare, has_register}
-use Rattle.law_reload_moves.proofs.Bounded.{value_low}
-use Rattle.law_reload_moves.proofs.Cells.{IsThere, AreThere}
+use Rattle.law_operands_fetched.proofs.Bounded.{value_low}
+use Rattle.law_operands_fetched.proofs.law_operands_replaced.Cells.{IsThere, AreThere}
 use Rattle.law_reload_moves.proofs.Chosen.{given}
-use Rattle.law_reload_moves.proofs.Contents.{slot_of}
-use Rattle.law_reload_moves.proofs.EffectsThere.{effects_there}
-use Rattle.law_reload_moves.proofs.Ends.{IsOnRest, AreSpare}
-use Rattle.law_reload_moves.proofs.Fetches.{IsFresh}
-use Rattle.law_reload_moves.proofs.Fetching.{Fetching, spare_of, spare_some}
+use Rattle.law_operands_fetched.proofs.Contents.{slot_of}
+use Rattle.law_operands_fetched.proofs.law_operands_replaced.EffectsThere.{effects_there}
+use Rattle.law_operands_fetched.proofs.law_operands_replaced.Ends.{IsOnRest, AreSpare}
+use Rattle.law_operands_fetched.proofs.law_operands_replaced.Fetches.{IsFresh}
+use Rattle.law_operands_fetched.proofs.Fetching.{Fetching, spare_of, spare_some}
 use Rattle.law_reload_moves.proofs.GivenNews.{own, mode, tree, Free, own_spare, operand_of}
-use Rattle.law_reload_moves.proofs.Keyed.{Keyed, effects_in, last_of}
-use Rattle.law_reload_moves.proofs.Keying.{with_keys, AreOnRest}
+use Rattle.law_operands_fetched.proofs.law_operands_replaced.Keyed.{Keyed, effects_in, last_of}
+use Rattle.law_operands_fetched.proofs.law_operands_replaced.Keying.{with_keys, AreOnRest}
 use Rattle.law_reload_moves.proofs.NewEnds.{based_stands, far_ends}
-use Rattle.law_reload_moves.proofs.NewTrees.{is_whole}
+use Rattle.law_operands_fetched.proofs.law_operands_replaced.NewTrees.{is_whole}
 use Rattle.law_reload_moves.proofs.OutEffects.{IsOut, StandsOut}
 use Rattle.law_reload_moves.proofs.OwnHeld.{one_stays, own_held, own_fresh, own_gives}
 use Rattle.law_reload_moves.proofs.PlainAround.{are_keys}
@@ -56,8 +56,8 @@ use Rattle.law_reload_moves.proofs.ResultsHeld.{IsLast}
 use Rattle.law_reload_moves.proofs.ResultsMayEnd.{list, hs}
 use Rattle.law_reload_moves.proofs.SteadyAddress.{AllLeave}
 use Rattle.law_reload_moves.proofs.TakenThere.{IsAt}
-use Rattle.law_reload_moves.proofs.Through.{holds_first, through_gives, through_fresh, fresh_both}
-use Rattle.law_reload_moves.proofs.Window.{AllStay}
+use Rattle.law_operands_fetched.proofs.Through.{holds_first, through_gives, through_fresh, fresh_both}
+use Rattle.law_operands_fetched.proofs.Window.{AllStay}
 
 -- what a slot has, in a register
 abbrev pub of_value : ℕ → Option ℕ → List Held

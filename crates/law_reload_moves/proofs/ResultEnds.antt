@@ -3,51 +3,51 @@ use Rattle.std.proofs.Common.{◌≡◌, ◌≢◌, ◌⊎◌, inl, inr, ℕ, if
 use Rattle.std.proofs.lemmas.Bool.{and_parts}
 use Rattle.std.specs.FinMap.{get}
 use Rattle.std.specs.Prelude.{ℤ, is_some, slice_get}
-use Rattle.bits64.specs.Words.{low}
-use Rattle.bits64.specs.declared.Width.TheVariants.{W64}
-use Rattle.rtx_tree.specs.Tree.{head_of}
-use Rattle.rtx_tree.specs.declared.function.Kind.{Kind}
-use Rattle.rtx_tree.specs.declared.function.Kind.TheVariants as kinds
-use Rattle.rtx_tree.specs.declared.machine.SymbolAt.{SymbolAt}
-use Rattle.rtx_tree.specs.declared.memories.MemByte.{MemByte}
-use Rattle.rtx_tree.specs.declared.tree.Rtx.{Rtx}
-use Rattle.rtl_func.specs.Shapes.{is_effect, mode_at}
-use Rattle.rtl_func.proofs.AllPass.{all_pass}
-use Rattle.rtl_step.specs.Effect.{effects_of, address_of}
-use Rattle.rtl_step.specs.Regs.{Regs, known_of}
-use Rattle.rtl_step.specs.Value.{width_of, value_of}
-use Rattle.rtl_step.specs.declared.effect.Effect.{Effect}
-use Rattle.sym_insns.specs.Shape.{all_natural}
-use Rattle.md_constr.specs.Inputs as inputs
-use Rattle.md_match.specs.Pattern.{Ops, role_of}
-use Rattle.md_match.specs.declared.role.Role.{Role}
-use Rattle.md_match.specs.declared.role.Role.TheVariants.{Operand, Operator, Itself}
-use Rattle.assign.specs.declared.home.HomeOf.{HomeOf}
-use Rattle.assign.specs.declared.places.Layout.{Layout}
-use Rattle.reload_homes.specs.Homes.{homed}
-use Rattle.reload_operands.specs.declared.operand.Base.{Base}
-use Rattle.reload_operands.specs.declared.operand.Operand.{Operand as OperandOf}
-use Rattle.reload_moves.specs.Moves.{own_of, base_of, end_far_of, out_base}
-use Rattle.reload_moves.specs.Registers.{asks_of, is_result}
-use Rattle.reload_moves.specs.declared.ask.Ask.{Ask}
-use Rattle.reload_moves.specs.declared.part.Part.{Part}
-use Rattle.reload_choice.specs.reload_fit.Addressed.{on_register}
-use Rattle.reload_choice.specs.Insns.{reached}
-use Rattle.reload_choice.specs.Sound.{IsPart}
-use Rattle.reload_choice.specs.declared.given.Plan.{Plan}
-use Rattle.law_reload_moves.specs.Held.{Held, Holds}
-use Rattle.law_reload_moves.specs.Spare.{is_spare, KnowsRest, KeepsRest, NamesNoSpare}
-use Rattle.law_reload_moves.proofs.Bounded.{value_low}
-use Rattle.law_reload_moves.proofs.Cells.{IsThere, AreThere}
+use Rattle.law_operands_fetched.specs.bits64.Words.{low}
+use Rattle.law_operands_fetched.specs.bits64.declared.Width.TheVariants.{W64}
+use Rattle.law_operands_fetched.specs.rtx_tree.Tree.{head_of}
+use Rattle.law_operands_fetched.specs.rtx_tree.declared.function.Kind.{Kind}
+use Rattle.law_operands_fetched.specs.rtx_tree.declared.function.Kind.TheVariants as kinds
+use Rattle.law_operands_fetched.specs.rtx_tree.declared.machine.SymbolAt.{SymbolAt}
+use Rattle.law_operands_fetched.specs.rtx_tree.declared.memories.MemByte.{MemByte}
+use Rattle.law_operands_fetched.specs.rtx_tree.declared.tree.Rtx.{Rtx}
+use Rattle.law_operands_fetched.specs.rtl_func.Shapes.{is_effect, mode_at}
+use Rattle.law_operands_fetched.proofs.rtl_func.AllPass.{all_pass}
+use Rattle.law_operands_fetched.specs.rtl_step.Effect.{effects_of, address_of}
+use Rattle.law_operands_fetched.specs.rtl_step.Regs.{Regs, known_of}
+use Rattle.law_operands_fetched.specs.rtl_step.Value.{width_of, value_of}
+use Rattle.law_operands_fetched.specs.rtl_step.declared.effect.Effect.{Effect}
+use Rattle.law_operands_fetched.specs.sym_insns.Shape.{all_natural}
+use Rattle.law_operands_fetched.specs.md_constr.Inputs as inputs
+use Rattle.law_operands_fetched.specs.md_match.Pattern.{Ops, role_of}
+use Rattle.law_operands_fetched.specs.md_match.declared.role.Role.{Role}
+use Rattle.law_operands_fetched.specs.md_match.declared.role.Role.TheVariants.{Operand, Operator, Itself}
+use Rattle.law_operands_fetched.specs.assign.declared.home.HomeOf.{HomeOf}
+use Rattle.law_operands_fetched.specs.assign.declared.places.Layout.{Layout}
+use Rattle.law_operands_fetched.specs.reload_homes.Homes.{homed}
+use Rattle.law_operands_fetched.specs.reload_operands.declared.operand.Base.{Base}
+use Rattle.law_operands_fetched.specs.reload_operands.declared.operand.Operand.{Operand as OperandOf}
+use Rattle.law_operands_fetched.specs.reload_moves.Moves.{own_of, base_of, end_far_of, out_base}
+use Rattle.law_operands_fetched.specs.reload_moves.Registers.{asks_of, is_result}
+use Rattle.law_operands_fetched.specs.reload_moves.declared.ask.Ask.{Ask}
+use Rattle.law_operands_fetched.specs.reload_moves.declared.part.Part.{Part}
+use Rattle.law_operands_fetched.specs.reload_choice.reload_fit.Addressed.{on_register}
+use Rattle.law_operands_fetched.specs.reload_choice.Insns.{reached}
+use Rattle.law_operands_fetched.specs.reload_choice.Sound.{IsPart}
+use Rattle.law_operands_fetched.specs.reload_choice.declared.given.Plan.{Plan}
+use Rattle.law_operands_fetched.specs.law_operands_replaced.Held.{Held, Holds}
+use Rattle.law_operands_fetched.specs.law_operands_replaced.Spare.{is_spare, KnowsRest, KeepsRest, NamesNoSpare}
+use Rattle.law_operands_fetched.proofs.Bounded.{value_low}
+use Rattle.law_operands_fetched.proofs.law_operands_replaced.Cells.{IsThere, AreThere}
 use Rattle.law_reload_moves.proofs.Chosen.{given}
-use Rattle.law_reload_moves.proofs.EffectsThere.{effects_there}
-use Rattle.law_reload_moves.proofs.Fetching.{Fetching}
+use Rattle.law_operands_fetched.proofs.law_operands_replaced.EffectsThere.{effects_there}
+use Rattle.law_operands_fetched.proofs.Fetching.{Fetching}
 use Rattle.law_reload_moves.proofs.GivenNews.{own_spare, operand_of, result_at}
-use Rattle.law_reload_moves.proofs.Keyed.{Keyed, effects_in, last_of}
-use Rattle.law_reload_moves.proofs.Keying.{with_keys}
+use Rattle.law_operands_fetched.proofs.law_operands_replaced.Keyed.{Keyed, effects_in, last_of}
+use Rattle.law_operands_fetched.proofs.law_operands_replaced.Keying.{with_keys}
 use Rattle.law_reload_moves.proofs.NearEnds.{there_still, stands_out, near_end}
-use Rattle.law_reload_moves.proofs.NewTrees.{is_whole}
-use Rattle.law_reload_moves.proofs.OnRegister.{based_mode}
+use Rattle.law_operands_fetched.proofs.law_operands_replaced.NewTrees.{is_whole}
+use Rattle.law_operands_fetched.proofs.OnRegister.{based_mode}
 use Rattle.law_reload_moves.proofs.OutEffects.{IsOut, set_out, StandsOut}
 use Rattle.law_reload_moves.proofs.OwnHeld.{none_last, one_stays, own_held, own_gives}
 use Rattle.law_reload_moves.proofs.PlainInner.{g, Effects, plain_keyed}
@@ -58,9 +58,9 @@ use Rattle.law_reload_moves.proofs.ResultsMayEnd.{list, hs}
 use Rattle.law_reload_moves.proofs.ResultsOrderly.{placed_keys}
 use Rattle.law_reload_moves.proofs.RowsThere.{AllRows, all_rows}
 use Rattle.law_reload_moves.proofs.TakenThere.{IsAt}
-use Rattle.law_reload_moves.proofs.Through.{holds_first, through_gives}
-use Rattle.law_reload_moves.proofs.Window.{AllStay}
-use Rattle.law_reload_moves.proofs.WholeTurns.{AllNone}
+use Rattle.law_operands_fetched.proofs.Through.{holds_first, through_gives}
+use Rattle.law_operands_fetched.proofs.Window.{AllStay}
+use Rattle.law_operands_fetched.proofs.law_operands_replaced.WholeTurns.{AllNone}
 
 some_base : (o : Option Base) → is_some o ≡ true → (b : Base) × (o ≡ Some b)
 some_base None is = absurd (let no : ⊥ = cc in no)

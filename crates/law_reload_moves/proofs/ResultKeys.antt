@@ -3,28 +3,28 @@ use Rattle.std.proofs.Common.{◌≡◌, ◌≢◌, ◌⊎◌, inl, inr, ℕ, ze
 use Rattle.std.proofs.lemmas.Bool.{and_parts, or_left}
 use Rattle.std.specs.List.{list_any, flat_map}
 use Rattle.std.specs.Prelude.{ℤ, pos, negsuc, slice_get}
-use Rattle.rtx_tree.specs.Tree.{head_of, kids_of}
-use Rattle.rtx_tree.specs.declared.code.Code.{Code}
-use Rattle.rtx_tree.specs.declared.code.Code.TheVariants as code
-use Rattle.rtx_tree.specs.declared.function.Kind.{Kind}
-use Rattle.rtx_tree.specs.declared.tree.Rtx.{Rtx}
-use Rattle.md_constr.specs.Inputs.{changed_at, set_by_parts, set_by, effects_of, outputs_in}
-use Rattle.md_match.specs.Pattern.{Ops, role_of}
-use Rattle.md_match.specs.declared.role.Role.{Role}
-use Rattle.md_match.specs.declared.role.Role.TheVariants.{Operand}
-use Rattle.assign.specs.declared.home.HomeOf.{HomeOf}
-use Rattle.assign.specs.declared.places.Layout.{Layout}
-use Rattle.reload_operands.proofs.NumberLaws.{has_in_each}
-use Rattle.reload_operands.specs.Directions.{has_number, is_output}
-use Rattle.reload_moves.specs.Registers.{is_result}
-use Rattle.reload_moves.specs.declared.part.Part.{Part}
-use Rattle.reload_choice.specs.Sound.{IsPart, IsSoundPlan}
-use Rattle.reload_choice.specs.declared.given.Plan.{Plan}
+use Rattle.law_operands_fetched.specs.rtx_tree.Tree.{head_of, kids_of}
+use Rattle.law_operands_fetched.specs.rtx_tree.declared.code.Code.{Code}
+use Rattle.law_operands_fetched.specs.rtx_tree.declared.code.Code.TheVariants as code
+use Rattle.law_operands_fetched.specs.rtx_tree.declared.function.Kind.{Kind}
+use Rattle.law_operands_fetched.specs.rtx_tree.declared.tree.Rtx.{Rtx}
+use Rattle.law_operands_fetched.specs.md_constr.Inputs.{changed_at, set_by_parts, set_by, effects_of, outputs_in}
+use Rattle.law_operands_fetched.specs.md_match.Pattern.{Ops, role_of}
+use Rattle.law_operands_fetched.specs.md_match.declared.role.Role.{Role}
+use Rattle.law_operands_fetched.specs.md_match.declared.role.Role.TheVariants.{Operand}
+use Rattle.law_operands_fetched.specs.assign.declared.home.HomeOf.{HomeOf}
+use Rattle.law_operands_fetched.specs.assign.declared.places.Layout.{Layout}
+use Rattle.law_operands_fetched.proofs.reload_operands.NumberLaws.{has_in_each}
+use Rattle.law_operands_fetched.specs.reload_operands.Directions.{has_number, is_output}
+use Rattle.law_operands_fetched.specs.reload_moves.Registers.{is_result}
+use Rattle.law_operands_fetched.specs.reload_moves.declared.part.Part.{Part}
+use Rattle.law_operands_fetched.specs.reload_choice.Sound.{IsPart, IsSoundPlan}
+use Rattle.law_operands_fetched.specs.reload_choice.declared.given.Plan.{Plan}
 use Rattle.law_reload_moves.proofs.Chosen.{given, asks, known_of}
-use Rattle.law_reload_moves.proofs.ElementTurns.{target_key, key_by, key_of}
+use Rattle.law_operands_fetched.proofs.law_operands_replaced.ElementTurns.{target_key, key_by, key_of}
 use Rattle.law_reload_moves.proofs.GivenBeside.{changed_has}
 use Rattle.law_reload_moves.proofs.GivenNews.{IsResultAt, result_at}
-use Rattle.law_reload_moves.proofs.Keyed.{IsIn, AreDistinct}
+use Rattle.law_operands_fetched.proofs.law_operands_replaced.Keyed.{IsIn, AreDistinct}
 use Rattle.law_reload_moves.proofs.NewsLaws.{IsMovedAt, moved_for}
 use Rattle.law_reload_moves.proofs.TakenPlaces.{IsEffectOf}
 

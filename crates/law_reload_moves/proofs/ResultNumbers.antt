@@ -4,19 +4,19 @@ use Rattle.std.proofs.lemmas.Bool.Decides.{nat_tests}
 use Rattle.std.specs.List.Sorted.{IsStrictlyIncreasing}
 use Rattle.std.specs.Option.{option_map_or}
 use Rattle.std.specs.Prelude.{slice_get}
-use Rattle.rtx_tree.specs.Tree.{reg_of}
-use Rattle.rtx_tree.specs.declared.tree.Rtx.{Rtx}
-use Rattle.md_match.specs.Pattern.{Ops}
-use Rattle.assign.specs.declared.home.HomeOf.{HomeOf}
-use Rattle.assign.specs.declared.places.Layout.{Layout}
-use Rattle.reload_operands.proofs.RisingLaws.{operands_increase}
-use Rattle.reload_operands.specs.Operands.{operands_of}
-use Rattle.reload_operands.specs.declared.operand.Operand.{Operand}
-use Rattle.reload_moves.specs.Moves.{own_of, base_of, far_of}
-use Rattle.reload_moves.specs.declared.ask.Ask.{Ask}
-use Rattle.reload_moves.specs.declared.part.Part.{Part}
-use Rattle.reload_choice.specs.Insns.{new_tree}
-use Rattle.reload_choice.specs.reload_fit.Addressed.{on_register}
+use Rattle.law_operands_fetched.specs.rtx_tree.Tree.{reg_of}
+use Rattle.law_operands_fetched.specs.rtx_tree.declared.tree.Rtx.{Rtx}
+use Rattle.law_operands_fetched.specs.md_match.Pattern.{Ops}
+use Rattle.law_operands_fetched.specs.assign.declared.home.HomeOf.{HomeOf}
+use Rattle.law_operands_fetched.specs.assign.declared.places.Layout.{Layout}
+use Rattle.law_operands_fetched.proofs.reload_operands.RisingLaws.{operands_increase}
+use Rattle.law_operands_fetched.specs.reload_operands.Operands.{operands_of}
+use Rattle.law_operands_fetched.specs.reload_operands.declared.operand.Operand.{Operand}
+use Rattle.law_operands_fetched.specs.reload_moves.Moves.{own_of, base_of, far_of}
+use Rattle.law_operands_fetched.specs.reload_moves.declared.ask.Ask.{Ask}
+use Rattle.law_operands_fetched.specs.reload_moves.declared.part.Part.{Part}
+use Rattle.law_operands_fetched.specs.reload_choice.Insns.{new_tree}
+use Rattle.law_operands_fetched.specs.reload_choice.reload_fit.Addressed.{on_register}
 use Rattle.std.specs.Prelude.{is_some}
 use Rattle.law_reload_moves.proofs.NewsLaws.{moved_place, new_result, result_of, result_with, result_in}
 

@@ -4,28 +4,28 @@ use Rattle.std.proofs.lemmas.Bool.Decides.{nat_tests}
 use Rattle.std.proofs.lemmas.List.Concat.{flat_map-append}
 use Rattle.std.specs.List.{flat_map}
 use Rattle.std.specs.Prelude.{slice_get}
-use Rattle.rtx_tree.specs.declared.machine.SymbolAt.{SymbolAt}
-use Rattle.rtx_tree.specs.declared.memories.MemByte.{MemByte}
-use Rattle.rtx_tree.specs.declared.tree.Rtx.{Rtx}
-use Rattle.rtl_step.specs.Effect.{reg_after, regs_after, bytes_after, memory_after}
-use Rattle.rtl_step.specs.Regs.{Regs}
-use Rattle.rtl_step.specs.declared.effect.Effect.{Effect}
-use Rattle.reload_operands.specs.declared.operand.Operand.{Operand}
-use Rattle.reload_moves.specs.Moves.{out_store, out_moves}
-use Rattle.reload_moves.specs.Registers.{is_result}
-use Rattle.reload_moves.specs.declared.ask.Ask.{Ask}
-use Rattle.reload_moves.specs.declared.moves.Move.{Move}
-use Rattle.reload_moves.specs.declared.part.Part.{Part}
-use Rattle.reload_choice.specs.Insns.{insns_of, all_insns}
-use Rattle.law_reload_moves.specs.Held.{Held, Holds}
-use Rattle.law_reload_moves.specs.Spare.{is_spare, KnowsRest, KeepsRest}
-use Rattle.law_reload_moves.proofs.Endings.{EndsFrom, EndedNear, nothing, ends, near}
-use Rattle.law_reload_moves.proofs.Ends.{IsOnRest, Ended}
-use Rattle.law_reload_moves.proofs.Fetches.{IsFresh}
-use Rattle.law_reload_moves.proofs.Keyed.{Keyed, effects_in, with_kept, kept_of, last_by, last_of, with_last, out_of, IsIn, AreDistinct}
+use Rattle.law_operands_fetched.specs.rtx_tree.declared.machine.SymbolAt.{SymbolAt}
+use Rattle.law_operands_fetched.specs.rtx_tree.declared.memories.MemByte.{MemByte}
+use Rattle.law_operands_fetched.specs.rtx_tree.declared.tree.Rtx.{Rtx}
+use Rattle.law_operands_fetched.specs.rtl_step.Effect.{reg_after, regs_after, bytes_after, memory_after}
+use Rattle.law_operands_fetched.specs.rtl_step.Regs.{Regs}
+use Rattle.law_operands_fetched.specs.rtl_step.declared.effect.Effect.{Effect}
+use Rattle.law_operands_fetched.specs.reload_operands.declared.operand.Operand.{Operand}
+use Rattle.law_operands_fetched.specs.reload_moves.Moves.{out_store, out_moves}
+use Rattle.law_operands_fetched.specs.reload_moves.Registers.{is_result}
+use Rattle.law_operands_fetched.specs.reload_moves.declared.ask.Ask.{Ask}
+use Rattle.law_operands_fetched.specs.reload_moves.declared.moves.Move.{Move}
+use Rattle.law_operands_fetched.specs.reload_moves.declared.part.Part.{Part}
+use Rattle.law_operands_fetched.specs.reload_choice.Insns.{insns_of, all_insns}
+use Rattle.law_operands_fetched.specs.law_operands_replaced.Held.{Held, Holds}
+use Rattle.law_operands_fetched.specs.law_operands_replaced.Spare.{is_spare, KnowsRest, KeepsRest}
+use Rattle.law_operands_fetched.proofs.Endings.{EndsFrom, EndedNear, nothing, ends, near}
+use Rattle.law_operands_fetched.proofs.law_operands_replaced.Ends.{IsOnRest, Ended}
+use Rattle.law_operands_fetched.proofs.law_operands_replaced.Fetches.{IsFresh}
+use Rattle.law_operands_fetched.proofs.law_operands_replaced.Keyed.{Keyed, effects_in, with_kept, kept_of, last_by, last_of, with_last, out_of, IsIn, AreDistinct}
 use Rattle.law_reload_moves.proofs.ResultKeys.{result_places}
 use Rattle.law_reload_moves.proofs.ResultsHeld.{last_cases}
-use Rattle.law_reload_moves.proofs.Window.{memory_both, regs_both}
+use Rattle.law_operands_fetched.proofs.Window.{memory_both, regs_both}
 
 -- ---- effects that are all some of others
 

@@ -4,38 +4,38 @@ use Rattle.std.proofs.lemmas.Bool.{and_parts}
 use Rattle.std.proofs.lemmas.Bool.Decides.{nat_tests}
 use Rattle.std.specs.FinMap.{get}
 use Rattle.std.specs.Prelude.{slice_get}
-use Rattle.bits64.specs.Words.{bytes_of}
-use Rattle.bits64.specs.declared.Width.{Width}
-use Rattle.bits64.specs.declared.Width.TheVariants.{W8, W16, W32, W64}
-use Rattle.rtx_tree.specs.declared.function.Kind.{Kind}
-use Rattle.rtx_tree.specs.declared.machine.SymbolAt.{SymbolAt}
-use Rattle.rtx_tree.specs.declared.memories.MemByte.{MemByte}
-use Rattle.rtx_tree.specs.declared.tree.Rtx.{Rtx}
-use Rattle.run_memory.proofs.Laws.{Apart}
-use Rattle.rtl_step.specs.Effect.{set_effect, regs_after}
-use Rattle.rtl_step.specs.Regs.{Regs, known_of}
-use Rattle.rtl_step.specs.declared.effect.Effect.{Effect}
-use Rattle.rtl_step.specs.declared.effect.Effect.TheVariants.{Nothing, Sets, Unsets, Stores}
-use Rattle.c_eval.specs.Value.{same_tree}
-use Rattle.c_eval.proofs.Same.{same_trees}
-use Rattle.md_match.specs.Pattern.{Ops}
-use Rattle.assign.specs.declared.home.HomeOf.{HomeOf}
-use Rattle.assign.specs.declared.places.Layout.{Layout}
-use Rattle.reload_homes.specs.Homes.{homed}
-use Rattle.reload_operands.specs.declared.operand.Operand.{Operand}
-use Rattle.reload_moves.specs.Moves.{own_of}
-use Rattle.reload_moves.specs.declared.part.Part.{Part}
-use Rattle.reload_choice.specs.Movable.{are_same_inputs, are_same_outputs, is_alone}
-use Rattle.reload_choice.specs.Sound.{IsSoundPlan}
-use Rattle.reload_choice.specs.declared.given.Plan.{Plan}
-use Rattle.law_reload_moves.specs.Spare.{is_spare}
+use Rattle.law_operands_fetched.specs.bits64.Words.{bytes_of}
+use Rattle.law_operands_fetched.specs.bits64.declared.Width.{Width}
+use Rattle.law_operands_fetched.specs.bits64.declared.Width.TheVariants.{W8, W16, W32, W64}
+use Rattle.law_operands_fetched.specs.rtx_tree.declared.function.Kind.{Kind}
+use Rattle.law_operands_fetched.specs.rtx_tree.declared.machine.SymbolAt.{SymbolAt}
+use Rattle.law_operands_fetched.specs.rtx_tree.declared.memories.MemByte.{MemByte}
+use Rattle.law_operands_fetched.specs.rtx_tree.declared.tree.Rtx.{Rtx}
+use Rattle.law_operands_fetched.proofs.run_memory.Laws.{Apart}
+use Rattle.law_operands_fetched.specs.rtl_step.Effect.{set_effect, regs_after}
+use Rattle.law_operands_fetched.specs.rtl_step.Regs.{Regs, known_of}
+use Rattle.law_operands_fetched.specs.rtl_step.declared.effect.Effect.{Effect}
+use Rattle.law_operands_fetched.specs.rtl_step.declared.effect.Effect.TheVariants.{Nothing, Sets, Unsets, Stores}
+use Rattle.law_operands_fetched.specs.c_eval.Value.{same_tree}
+use Rattle.law_operands_fetched.proofs.c_eval.Same.{same_trees}
+use Rattle.law_operands_fetched.specs.md_match.Pattern.{Ops}
+use Rattle.law_operands_fetched.specs.assign.declared.home.HomeOf.{HomeOf}
+use Rattle.law_operands_fetched.specs.assign.declared.places.Layout.{Layout}
+use Rattle.law_operands_fetched.specs.reload_homes.Homes.{homed}
+use Rattle.law_operands_fetched.specs.reload_operands.declared.operand.Operand.{Operand}
+use Rattle.law_operands_fetched.specs.reload_moves.Moves.{own_of}
+use Rattle.law_operands_fetched.specs.reload_moves.declared.part.Part.{Part}
+use Rattle.law_operands_fetched.specs.reload_choice.Movable.{are_same_inputs, are_same_outputs, is_alone}
+use Rattle.law_operands_fetched.specs.reload_choice.Sound.{IsSoundPlan}
+use Rattle.law_operands_fetched.specs.reload_choice.declared.given.Plan.{Plan}
+use Rattle.law_operands_fetched.specs.law_operands_replaced.Spare.{is_spare}
 use Rattle.law_reload_moves.proofs.Chosen.{given, asks}
-use Rattle.rtl_step.specs.Value.{width_of}
-use Rattle.law_reload_moves.proofs.Elements.{IsSet}
-use Rattle.law_reload_moves.proofs.Delays.{AreApart, Overrides}
+use Rattle.law_operands_fetched.specs.rtl_step.Value.{width_of}
+use Rattle.law_operands_fetched.proofs.law_operands_replaced.Elements.{IsSet}
+use Rattle.law_operands_fetched.proofs.law_operands_replaced.Delays.{AreApart, Overrides}
 use Rattle.law_reload_moves.proofs.GivenNews.{IsResultAt, own, mode, tree, Free, own_is, own_spare, one_holder, shares}
-use Rattle.law_reload_moves.proofs.Keyed.{Keyed, last_by, last_of, IsIn, MayPass, MayPassBy, AreOrderly, last_apart}
-use Rattle.law_reload_moves.proofs.Keying.{with_keys, AllKeyed, AreOnRest, AreResults, IsHeld, all_held}
+use Rattle.law_operands_fetched.proofs.law_operands_replaced.Keyed.{Keyed, last_by, last_of, IsIn, MayPass, MayPassBy, AreOrderly, last_apart}
+use Rattle.law_operands_fetched.proofs.law_operands_replaced.Keying.{with_keys, AllKeyed, AreOnRest, AreResults, IsHeld, all_held}
 use Rattle.law_reload_moves.proofs.Orderly.{overrides}
 use Rattle.law_reload_moves.proofs.ResultKeys.{keyed_result}
 use Rattle.law_reload_moves.proofs.ResultRows.{Key, Row, Rows, none, more, IsKeyedRow, keyed_row}

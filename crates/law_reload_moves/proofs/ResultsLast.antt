@@ -6,37 +6,37 @@ use Rattle.std.specs.Int.{cast_unsigned, w64}
 use Rattle.std.specs.List.{flat_map, list_all, list_any}
 use Rattle.std.specs.Ordering.{int_eq}
 use Rattle.std.specs.Prelude.{ℤ, pos, slice_get}
-use Rattle.rtx_tree.specs.Tree.{RtxHead, head_of, kids_of}
-use Rattle.rtx_tree.specs.declared.code.Code.{Code}
-use Rattle.rtx_tree.specs.declared.code.Code.TheVariants as code
-use Rattle.rtx_tree.specs.declared.function.Kind.{Kind}
-use Rattle.rtx_tree.specs.declared.machine.SymbolAt.{SymbolAt}
-use Rattle.rtx_tree.specs.declared.memories.MemByte.{MemByte}
-use Rattle.rtx_tree.specs.declared.tree.Rtx.{Rtx}
-use Rattle.rtl_func.proofs.AllPass as nodes
-use Rattle.rtl_func.proofs.AllPass.{all_pass}
-use Rattle.rtl_step.specs.Regs.{Regs}
-use Rattle.rtl_step.specs.declared.effect.Effect.{Effect}
-use Rattle.md_constr.specs.Inputs as inputs
-use Rattle.md_constr.specs.Inputs.{changed_here, changed_whole, changed_at_by, changed_at, set_by_parts, set_by, outputs_in}
-use Rattle.md_match.specs.Pattern.{Ops, role_of, instantiated}
-use Rattle.md_match.specs.declared.role.Role.{Role}
-use Rattle.md_match.specs.declared.role.Role.TheVariants.{Operand, Operator, Itself}
-use Rattle.md_match.proofs.Instantiated.{each_made, made_operand}
-use Rattle.assign.specs.declared.home.HomeOf.{HomeOf}
-use Rattle.assign.specs.declared.places.Layout.{Layout}
-use Rattle.reload_operands.proofs.InsideLaws.{inside_operand, inside_operator, inside_itself}
-use Rattle.reload_operands.proofs.NumberLaws.{has_in_each}
-use Rattle.reload_operands.specs.Directions.{has_number}
-use Rattle.reload_operands.specs.Put.{is_lowpart_code, is_lowpart, any_inside, is_inside, inside_low, in_lowpart}
-use Rattle.reload_operands.specs.declared.operand.Operand.{Operand as OperandOf}
-use Rattle.reload_choice.specs.Sound.{IsSoundPlan}
-use Rattle.reload_choice.specs.declared.given.Plan.{Plan}
+use Rattle.law_operands_fetched.specs.rtx_tree.Tree.{RtxHead, head_of, kids_of}
+use Rattle.law_operands_fetched.specs.rtx_tree.declared.code.Code.{Code}
+use Rattle.law_operands_fetched.specs.rtx_tree.declared.code.Code.TheVariants as code
+use Rattle.law_operands_fetched.specs.rtx_tree.declared.function.Kind.{Kind}
+use Rattle.law_operands_fetched.specs.rtx_tree.declared.machine.SymbolAt.{SymbolAt}
+use Rattle.law_operands_fetched.specs.rtx_tree.declared.memories.MemByte.{MemByte}
+use Rattle.law_operands_fetched.specs.rtx_tree.declared.tree.Rtx.{Rtx}
+use Rattle.law_operands_fetched.proofs.rtl_func.AllPass as nodes
+use Rattle.law_operands_fetched.proofs.rtl_func.AllPass.{all_pass}
+use Rattle.law_operands_fetched.specs.rtl_step.Regs.{Regs}
+use Rattle.law_operands_fetched.specs.rtl_step.declared.effect.Effect.{Effect}
+use Rattle.law_operands_fetched.specs.md_constr.Inputs as inputs
+use Rattle.law_operands_fetched.specs.md_constr.Inputs.{changed_here, changed_whole, changed_at_by, changed_at, set_by_parts, set_by, outputs_in}
+use Rattle.law_operands_fetched.specs.md_match.Pattern.{Ops, role_of, instantiated}
+use Rattle.law_operands_fetched.specs.md_match.declared.role.Role.{Role}
+use Rattle.law_operands_fetched.specs.md_match.declared.role.Role.TheVariants.{Operand, Operator, Itself}
+use Rattle.law_operands_fetched.proofs.md_match.Instantiated.{each_made, made_operand}
+use Rattle.law_operands_fetched.specs.assign.declared.home.HomeOf.{HomeOf}
+use Rattle.law_operands_fetched.specs.assign.declared.places.Layout.{Layout}
+use Rattle.law_operands_fetched.proofs.reload_operands.InsideLaws.{inside_operand, inside_operator, inside_itself}
+use Rattle.law_operands_fetched.proofs.reload_operands.NumberLaws.{has_in_each}
+use Rattle.law_operands_fetched.specs.reload_operands.Directions.{has_number}
+use Rattle.law_operands_fetched.specs.reload_operands.Put.{is_lowpart_code, is_lowpart, any_inside, is_inside, inside_low, in_lowpart}
+use Rattle.law_operands_fetched.specs.reload_operands.declared.operand.Operand.{Operand as OperandOf}
+use Rattle.law_operands_fetched.specs.reload_choice.Sound.{IsSoundPlan}
+use Rattle.law_operands_fetched.specs.reload_choice.declared.given.Plan.{Plan}
 use Rattle.law_reload_moves.proofs.Chosen.{given}
-use Rattle.law_reload_moves.proofs.ElementTurns.{key_of}
+use Rattle.law_operands_fetched.proofs.law_operands_replaced.ElementTurns.{key_of}
 use Rattle.law_reload_moves.proofs.GivenNews.{result_at}
 use Rattle.law_reload_moves.proofs.InputPlaces.{is_operator_as, is_operator_of, no_operator_of}
-use Rattle.law_reload_moves.proofs.Keying.{with_keys}
+use Rattle.law_operands_fetched.proofs.law_operands_replaced.Keying.{with_keys}
 use Rattle.law_reload_moves.proofs.ResultRows.{Key, Row, Rows, none, more, two_made}
 use Rattle.law_reload_moves.proofs.ResultsHeld.{IsLast, last_later, last_here}
 use Rattle.law_reload_moves.proofs.RowsThere.{made_over, made_front}

@@ -3,48 +3,48 @@ use Rattle.std.proofs.Common.{◌≡◌, ◌≢◌, ◌⊎◌, inl, inr, ℕ, �
 use Rattle.std.proofs.lemmas.Bool.{and_parts}
 use Rattle.std.specs.FinMap.{get}
 use Rattle.std.specs.Prelude.{ℤ, slice_get}
-use Rattle.bits64.specs.declared.Width.TheVariants.{W64}
-use Rattle.rtx_tree.specs.Tree.{head_of}
-use Rattle.rtx_tree.specs.declared.function.Kind.{Kind}
-use Rattle.rtx_tree.specs.declared.function.Kind.TheVariants as kinds
-use Rattle.rtx_tree.specs.declared.machine.SymbolAt.{SymbolAt}
-use Rattle.rtx_tree.specs.declared.memories.MemByte.{MemByte}
-use Rattle.rtx_tree.specs.declared.tree.Rtx.{Rtx}
-use Rattle.run_memory.proofs.Laws.{Apart}
-use Rattle.rtl_func.specs.Shapes.{is_effect}
-use Rattle.rtl_func.proofs.AllPass.{all_pass}
-use Rattle.rtl_step.specs.Effect.{effects_of, regs_after, memory_after}
-use Rattle.rtl_step.specs.Regs.{Regs, known_of}
-use Rattle.rtl_step.specs.Value.{value_of}
-use Rattle.rtl_step.specs.declared.effect.Effect.{Effect}
-use Rattle.sym_insns.specs.Shape.{all_natural}
-use Rattle.md_constr.specs.Inputs as inputs
-use Rattle.md_match.specs.Pattern.{Ops, role_of}
-use Rattle.md_match.specs.declared.role.Role.{Role}
-use Rattle.md_match.specs.declared.role.Role.TheVariants.{Operand, Operator, Itself}
-use Rattle.assign.specs.declared.home.Home.TheVariants.{Slot}
-use Rattle.assign.specs.declared.home.HomeOf.{HomeOf}
-use Rattle.assign.specs.declared.places.Layout.{Layout}
-use Rattle.reload_homes.specs.Homes.{home_of, slot_offset, slot_address, homed}
-use Rattle.reload_operands.specs.declared.operand.Operand.{Operand as OperandOf}
-use Rattle.reload_moves.specs.Moves.{own_of}
-use Rattle.reload_moves.specs.Registers.{asks_of, is_result}
-use Rattle.reload_moves.specs.declared.ask.Ask.{Ask}
-use Rattle.reload_moves.specs.declared.part.Part.{Part}
-use Rattle.reload_choice.specs.Sound.{IsPart}
-use Rattle.reload_choice.specs.declared.given.Plan.{Plan}
-use Rattle.law_reload_moves.specs.Held.{Held, Holds}
-use Rattle.law_reload_moves.specs.Spare.{is_spare, KeepsRest, NamesNoSpare}
+use Rattle.law_operands_fetched.specs.bits64.declared.Width.TheVariants.{W64}
+use Rattle.law_operands_fetched.specs.rtx_tree.Tree.{head_of}
+use Rattle.law_operands_fetched.specs.rtx_tree.declared.function.Kind.{Kind}
+use Rattle.law_operands_fetched.specs.rtx_tree.declared.function.Kind.TheVariants as kinds
+use Rattle.law_operands_fetched.specs.rtx_tree.declared.machine.SymbolAt.{SymbolAt}
+use Rattle.law_operands_fetched.specs.rtx_tree.declared.memories.MemByte.{MemByte}
+use Rattle.law_operands_fetched.specs.rtx_tree.declared.tree.Rtx.{Rtx}
+use Rattle.law_operands_fetched.proofs.run_memory.Laws.{Apart}
+use Rattle.law_operands_fetched.specs.rtl_func.Shapes.{is_effect}
+use Rattle.law_operands_fetched.proofs.rtl_func.AllPass.{all_pass}
+use Rattle.law_operands_fetched.specs.rtl_step.Effect.{effects_of, regs_after, memory_after}
+use Rattle.law_operands_fetched.specs.rtl_step.Regs.{Regs, known_of}
+use Rattle.law_operands_fetched.specs.rtl_step.Value.{value_of}
+use Rattle.law_operands_fetched.specs.rtl_step.declared.effect.Effect.{Effect}
+use Rattle.law_operands_fetched.specs.sym_insns.Shape.{all_natural}
+use Rattle.law_operands_fetched.specs.md_constr.Inputs as inputs
+use Rattle.law_operands_fetched.specs.md_match.Pattern.{Ops, role_of}
+use Rattle.law_operands_fetched.specs.md_match.declared.role.Role.{Role}
+use Rattle.law_operands_fetched.specs.md_match.declared.role.Role.TheVariants.{Operand, Operator, Itself}
+use Rattle.law_operands_fetched.specs.assign.declared.home.Home.TheVariants.{Slot}
+use Rattle.law_operands_fetched.specs.assign.declared.home.HomeOf.{HomeOf}
+use Rattle.law_operands_fetched.specs.assign.declared.places.Layout.{Layout}
+use Rattle.law_operands_fetched.specs.reload_homes.Homes.{home_of, slot_offset, slot_address, homed}
+use Rattle.law_operands_fetched.specs.reload_operands.declared.operand.Operand.{Operand as OperandOf}
+use Rattle.law_operands_fetched.specs.reload_moves.Moves.{own_of}
+use Rattle.law_operands_fetched.specs.reload_moves.Registers.{asks_of, is_result}
+use Rattle.law_operands_fetched.specs.reload_moves.declared.ask.Ask.{Ask}
+use Rattle.law_operands_fetched.specs.reload_moves.declared.part.Part.{Part}
+use Rattle.law_operands_fetched.specs.reload_choice.Sound.{IsPart}
+use Rattle.law_operands_fetched.specs.reload_choice.declared.given.Plan.{Plan}
+use Rattle.law_operands_fetched.specs.law_operands_replaced.Held.{Held, Holds}
+use Rattle.law_operands_fetched.specs.law_operands_replaced.Spare.{is_spare, KeepsRest, NamesNoSpare}
 use Rattle.law_reload_moves.proofs.AllOrderly.{EachOutside}
 use Rattle.law_reload_moves.proofs.Chosen.{given}
 use Rattle.law_reload_moves.proofs.EachLast.{each_last}
-use Rattle.law_reload_moves.proofs.Ends.{IsOnRest, AreSpare}
-use Rattle.law_reload_moves.proofs.Fetching.{Fetching}
+use Rattle.law_operands_fetched.proofs.law_operands_replaced.Ends.{IsOnRest, AreSpare}
+use Rattle.law_operands_fetched.proofs.Fetching.{Fetching}
 use Rattle.law_reload_moves.proofs.GivenNews.{own, mode, tree, Free, result_at, own_is, own_spare, operand_of}
 use Rattle.law_reload_moves.proofs.InputPlaces.{no_operator_of}
-use Rattle.law_reload_moves.proofs.Keyed.{Keyed, effects_in, kept_of, last_of, out_of, AreOrderly}
-use Rattle.law_reload_moves.proofs.Keying.{with_keys, AllKeyed, AreOnRest}
-use Rattle.law_reload_moves.proofs.NewTrees.{is_whole}
+use Rattle.law_operands_fetched.proofs.law_operands_replaced.Keyed.{Keyed, effects_in, kept_of, last_of, out_of, AreOrderly}
+use Rattle.law_operands_fetched.proofs.law_operands_replaced.Keying.{with_keys, AllKeyed, AreOnRest}
+use Rattle.law_operands_fetched.proofs.law_operands_replaced.NewTrees.{is_whole}
 use Rattle.law_reload_moves.proofs.OwnHeld as held
 use Rattle.law_reload_moves.proofs.OwnHeld.{no_places, none_last, some_stay, own_held, own_holds}
 use Rattle.law_reload_moves.proofs.PlainAround.{keyed, MayEnd, none_end}
@@ -56,9 +56,9 @@ use Rattle.law_reload_moves.proofs.ResultsHeld.{IsLast, IsHeldBy, results_held}
 use Rattle.law_reload_moves.proofs.ResultsOrderly.{placed_keys, results_orderly}
 use Rattle.law_reload_moves.proofs.RowsThere.{AllRows, all_rows}
 use Rattle.law_reload_moves.proofs.TakenThere.{IsAt}
-use Rattle.law_reload_moves.proofs.Through.{spare_both, holds_both, through, through_spare, through_holds}
-use Rattle.law_reload_moves.proofs.Window.{AllStay}
-use Rattle.law_reload_moves.proofs.WholeTurns.{AllNone}
+use Rattle.law_operands_fetched.proofs.Through.{spare_both, holds_both, through, through_spare, through_holds}
+use Rattle.law_operands_fetched.proofs.Window.{AllStay}
+use Rattle.law_operands_fetched.proofs.law_operands_replaced.WholeTurns.{AllNone}
 
 module _ (homes : List HomeOf) (layout : Layout) (kind : Kind) (w pattern : Rtx) (found : Ops) (plan : Plan)
     (symbols : List SymbolAt) (regs : Regs) (m : List MemByte) (sp : ℕ)

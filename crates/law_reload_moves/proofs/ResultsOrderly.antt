@@ -1,47 +1,47 @@
 -- The effects of a plain instruction for which a plan is chosen: results that are moved may be delayed behind the others.
 use Rattle.std.proofs.Common.{◌≡◌, ◌≢◌, ◌⊎◌, inl, inr, ℕ, ◌+◌, not, Bool, true, false, List, [], ◌∷◌, map, Option, Some, None, refl, sym, ap, subst, ◌∙◌}
 use Rattle.std.specs.Prelude.{ℤ, slice_get}
-use Rattle.bits64.specs.declared.Width.TheVariants.{W64}
-use Rattle.rtx_tree.specs.Tree.{head_of, kids_of}
-use Rattle.rtx_tree.specs.declared.code.Code.{Code}
-use Rattle.rtx_tree.specs.declared.code.Code.TheVariants as code
-use Rattle.rtx_tree.specs.declared.function.Kind.{Kind}
-use Rattle.rtx_tree.specs.declared.machine.SymbolAt.{SymbolAt}
-use Rattle.rtx_tree.specs.declared.memories.MemByte.{MemByte}
-use Rattle.rtx_tree.specs.declared.tree.Rtx.{Rtx}
-use Rattle.run_memory.proofs.Laws.{Apart}
-use Rattle.rtl_func.specs.Effects.{changed_register, parallels_change_once}
-use Rattle.rtl_func.specs.Shapes.{is_effect, is_shaped}
-use Rattle.rtl_func.proofs.AllPass.{all_pass}
-use Rattle.rtl_step.specs.Effect.{effects_of}
-use Rattle.rtl_step.specs.Regs.{Regs}
-use Rattle.rtl_step.specs.Value.{value_of}
-use Rattle.rtl_step.specs.declared.effect.Effect.{Effect}
-use Rattle.sym_insns.specs.Shape.{all_natural}
-use Rattle.md_constr.specs.Inputs as inputs
-use Rattle.md_match.specs.Pattern.{Ops, role_of, instantiated}
-use Rattle.md_match.specs.declared.role.Role.{Role}
-use Rattle.md_match.specs.declared.role.Role.TheVariants.{Operand, Operator, Itself}
-use Rattle.assign.specs.declared.home.Home.TheVariants.{Slot}
-use Rattle.assign.specs.declared.home.HomeOf.{HomeOf}
-use Rattle.assign.specs.declared.places.Layout.{Layout}
-use Rattle.reload_homes.specs.Homes.{home_of, slot_offset, slot_address, homed}
-use Rattle.reload_operands.specs.Changes.{changes_twice}
-use Rattle.reload_operands.specs.declared.operand.Operand.{Operand as OperandOf}
-use Rattle.reload_choice.specs.Sound.{IsSoundPlan}
-use Rattle.reload_choice.specs.declared.given.Plan.{Plan}
+use Rattle.law_operands_fetched.specs.bits64.declared.Width.TheVariants.{W64}
+use Rattle.law_operands_fetched.specs.rtx_tree.Tree.{head_of, kids_of}
+use Rattle.law_operands_fetched.specs.rtx_tree.declared.code.Code.{Code}
+use Rattle.law_operands_fetched.specs.rtx_tree.declared.code.Code.TheVariants as code
+use Rattle.law_operands_fetched.specs.rtx_tree.declared.function.Kind.{Kind}
+use Rattle.law_operands_fetched.specs.rtx_tree.declared.machine.SymbolAt.{SymbolAt}
+use Rattle.law_operands_fetched.specs.rtx_tree.declared.memories.MemByte.{MemByte}
+use Rattle.law_operands_fetched.specs.rtx_tree.declared.tree.Rtx.{Rtx}
+use Rattle.law_operands_fetched.proofs.run_memory.Laws.{Apart}
+use Rattle.law_operands_fetched.specs.rtl_func.Effects.{changed_register, parallels_change_once}
+use Rattle.law_operands_fetched.specs.rtl_func.Shapes.{is_effect, is_shaped}
+use Rattle.law_operands_fetched.proofs.rtl_func.AllPass.{all_pass}
+use Rattle.law_operands_fetched.specs.rtl_step.Effect.{effects_of}
+use Rattle.law_operands_fetched.specs.rtl_step.Regs.{Regs}
+use Rattle.law_operands_fetched.specs.rtl_step.Value.{value_of}
+use Rattle.law_operands_fetched.specs.rtl_step.declared.effect.Effect.{Effect}
+use Rattle.law_operands_fetched.specs.sym_insns.Shape.{all_natural}
+use Rattle.law_operands_fetched.specs.md_constr.Inputs as inputs
+use Rattle.law_operands_fetched.specs.md_match.Pattern.{Ops, role_of, instantiated}
+use Rattle.law_operands_fetched.specs.md_match.declared.role.Role.{Role}
+use Rattle.law_operands_fetched.specs.md_match.declared.role.Role.TheVariants.{Operand, Operator, Itself}
+use Rattle.law_operands_fetched.specs.assign.declared.home.Home.TheVariants.{Slot}
+use Rattle.law_operands_fetched.specs.assign.declared.home.HomeOf.{HomeOf}
+use Rattle.law_operands_fetched.specs.assign.declared.places.Layout.{Layout}
+use Rattle.law_operands_fetched.specs.reload_homes.Homes.{home_of, slot_offset, slot_address, homed}
+use Rattle.law_operands_fetched.specs.reload_operands.Changes.{changes_twice}
+use Rattle.law_operands_fetched.specs.reload_operands.declared.operand.Operand.{Operand as OperandOf}
+use Rattle.law_operands_fetched.specs.reload_choice.Sound.{IsSoundPlan}
+use Rattle.law_operands_fetched.specs.reload_choice.declared.given.Plan.{Plan}
 use Rattle.law_reload_moves.proofs.AllOrderly.{EachOutside, AllDiffer, orderly}
 use Rattle.law_reload_moves.proofs.AllSoles.{ends_there, all_soles}
 use Rattle.law_reload_moves.proofs.Chosen.{given}
-use Rattle.law_reload_moves.proofs.ElementTurns.{key_by, key_of}
+use Rattle.law_operands_fetched.proofs.law_operands_replaced.ElementTurns.{key_by, key_of}
 use Rattle.law_reload_moves.proofs.GivenNews.{result_at}
 use Rattle.law_reload_moves.proofs.InputPlaces.{no_operator_of}
-use Rattle.law_reload_moves.proofs.Keyed.{IsIn, MayPassBy, AreOrderly}
-use Rattle.law_reload_moves.proofs.Keying.{with_keys}
+use Rattle.law_operands_fetched.proofs.law_operands_replaced.Keyed.{IsIn, MayPassBy, AreOrderly}
+use Rattle.law_operands_fetched.proofs.law_operands_replaced.Keying.{with_keys}
 use Rattle.law_reload_moves.proofs.ResultKeys.{result_places, result_in, keyed_result}
 use Rattle.law_reload_moves.proofs.ResultRows.{Key, Row, Rows, none, more}
 use Rattle.law_reload_moves.proofs.RowsThere.{AllRows, all_rows}
-use Rattle.law_reload_moves.proofs.WholeTurns.{AllNone}
+use Rattle.law_operands_fetched.proofs.law_operands_replaced.WholeTurns.{AllNone}
 
 -- ---- where none has a key
 

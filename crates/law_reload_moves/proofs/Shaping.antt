@@ -3,13 +3,13 @@ use Rattle.std.proofs.Common.{◌≡◌, ℕ, ◌&&◌, ◌||◌, not, Bool, tru
 use Rattle.std.proofs.lemmas.Bool.{and_parts, and_from}
 use Rattle.std.specs.List.{list_all}
 use Rattle.std.specs.Prelude.{nat_le}
-use Rattle.rtx_tree.specs.declared.class.Class.{Class}
-use Rattle.rtx_tree.specs.declared.class.Class.TheVariants as class
-use Rattle.rtx_tree.specs.declared.code.Mode.{Mode}
-use Rattle.rtx_tree.specs.declared.code.Mode.TheVariants.{DI}
-use Rattle.rtx_tree.specs.declared.tree.Rtx.{Rtx}
-use Rattle.rtx_tree.specs.Code.{is_effect_class, mode_bits}
-use Rattle.rtl_func.specs.Shapes.{class_at, mode_at, has_mode, same_mode, is_narrower, is_constant, is_place, is_value, is_effect, is_operand, is_some_operand, is_moded, are_compared, is_jump_source_class, is_counter_class, is_comparison_class, is_label_class, is_call_class, is_memory_class, is_scratch_class, is_set_to, fits_one, fits_two, fits_three, fits_parts, fits_row, is_called, is_choice}
+use Rattle.law_operands_fetched.specs.rtx_tree.declared.class.Class.{Class}
+use Rattle.law_operands_fetched.specs.rtx_tree.declared.class.Class.TheVariants as class
+use Rattle.law_operands_fetched.specs.rtx_tree.declared.code.Mode.{Mode}
+use Rattle.law_operands_fetched.specs.rtx_tree.declared.code.Mode.TheVariants.{DI}
+use Rattle.law_operands_fetched.specs.rtx_tree.declared.tree.Rtx.{Rtx}
+use Rattle.law_operands_fetched.specs.rtx_tree.Code.{is_effect_class, mode_bits}
+use Rattle.law_operands_fetched.specs.rtl_func.Shapes.{class_at, mode_at, has_mode, same_mode, is_narrower, is_constant, is_place, is_value, is_effect, is_operand, is_some_operand, is_moded, are_compared, is_jump_source_class, is_counter_class, is_comparison_class, is_label_class, is_call_class, is_memory_class, is_scratch_class, is_set_to, fits_one, fits_two, fits_three, fits_parts, fits_row, is_called, is_choice}
 
 -- a test that neither a register passes, nor its low part, nor a sum
 abbrev pub IsOfOthers : (Class → Bool) → Type 0

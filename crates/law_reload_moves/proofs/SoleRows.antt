@@ -8,42 +8,42 @@ use Rattle.std.specs.Ordering.{int_eq}
 use Rattle.std.proofs.lemmas.Bool.Decides.{Decides-int_eq, nat_tests}
 use Rattle.std.specs.Prelude.{ℤ, pos, negsuc, slice_get, drop}
 use Rattle.std.specs.Option.{option_map_or}
-use Rattle.rtx_tree.specs.Tree.{RtxHead, head_of, kids_of}
-use Rattle.rtx_tree.specs.declared.code.Code.{Code}
-use Rattle.rtx_tree.specs.declared.code.Code.TheVariants as code
-use Rattle.rtx_tree.specs.declared.function.Kind.{Kind}
-use Rattle.rtx_tree.specs.declared.machine.SymbolAt.{SymbolAt}
-use Rattle.rtx_tree.specs.declared.memories.MemByte.{MemByte}
-use Rattle.rtx_tree.specs.declared.tree.Rtx.{Rtx}
-use Rattle.run_memory.proofs.Laws.{Apart}
-use Rattle.rtl_step.specs.Regs.{Regs}
-use Rattle.rtl_step.specs.Value.{value_of}
-use Rattle.rtl_step.specs.declared.effect.Effect.{Effect}
-use Rattle.bits64.specs.declared.Width.TheVariants.{W64}
-use Rattle.md_constr.specs.Inputs as inputs
-use Rattle.md_constr.specs.Inputs.{changed_here, changed_at_by, changed_at, changed_by_parts, changed_by}
-use Rattle.md_match.specs.Pattern.{Ops, role_of, operand_numbered, operand_of, instantiated}
-use Rattle.md_match.specs.declared.role.Role.TheVariants.{Operand, Operator, Itself}
-use Rattle.md_match.proofs.Instantiated.{made_operand, made_no_operator}
-use Rattle.assign.specs.declared.home.Home.TheVariants.{Slot}
-use Rattle.assign.specs.declared.home.HomeOf.{HomeOf}
-use Rattle.assign.specs.declared.places.Layout.{Layout}
-use Rattle.reload_homes.specs.Homes.{home_of, slot_offset, slot_address, register_numbered, register_by, register_at, homed}
-use Rattle.reload_homes.proofs.Rewrites.{homed_over}
-use Rattle.reload_operands.specs.Bases.{lives_in_slot}
-use Rattle.rtx_tree.proofs.Trees.{head_of-tree}
-use Rattle.rtx_tree.specs.Tree.{tree_of}
-use Rattle.rtl_func.proofs.AllPass as nodes
-use Rattle.rtl_func.proofs.AllPass.{all_pass}
-use Rattle.reload_operands.specs.Changes.{target_by, target_of, is_memory_code, changes_memory, is_place_of, is_other_memory, any_other_memory}
-use Rattle.reload_operands.specs.Directions.{has_number}
-use Rattle.reload_choice.specs.Movable.{may_have_results, may_land}
-use Rattle.reload_operands.specs.declared.operand.Operand.{Operand as OperandOf}
-use Rattle.reload_choice.specs.Sound.{IsPart, IsSoundPlan}
-use Rattle.reload_choice.specs.declared.given.Plan.{Plan}
+use Rattle.law_operands_fetched.specs.rtx_tree.Tree.{RtxHead, head_of, kids_of}
+use Rattle.law_operands_fetched.specs.rtx_tree.declared.code.Code.{Code}
+use Rattle.law_operands_fetched.specs.rtx_tree.declared.code.Code.TheVariants as code
+use Rattle.law_operands_fetched.specs.rtx_tree.declared.function.Kind.{Kind}
+use Rattle.law_operands_fetched.specs.rtx_tree.declared.machine.SymbolAt.{SymbolAt}
+use Rattle.law_operands_fetched.specs.rtx_tree.declared.memories.MemByte.{MemByte}
+use Rattle.law_operands_fetched.specs.rtx_tree.declared.tree.Rtx.{Rtx}
+use Rattle.law_operands_fetched.proofs.run_memory.Laws.{Apart}
+use Rattle.law_operands_fetched.specs.rtl_step.Regs.{Regs}
+use Rattle.law_operands_fetched.specs.rtl_step.Value.{value_of}
+use Rattle.law_operands_fetched.specs.rtl_step.declared.effect.Effect.{Effect}
+use Rattle.law_operands_fetched.specs.bits64.declared.Width.TheVariants.{W64}
+use Rattle.law_operands_fetched.specs.md_constr.Inputs as inputs
+use Rattle.law_operands_fetched.specs.md_constr.Inputs.{changed_here, changed_at_by, changed_at, changed_by_parts, changed_by}
+use Rattle.law_operands_fetched.specs.md_match.Pattern.{Ops, role_of, operand_numbered, operand_of, instantiated}
+use Rattle.law_operands_fetched.specs.md_match.declared.role.Role.TheVariants.{Operand, Operator, Itself}
+use Rattle.law_operands_fetched.proofs.md_match.Instantiated.{made_operand, made_no_operator}
+use Rattle.law_operands_fetched.specs.assign.declared.home.Home.TheVariants.{Slot}
+use Rattle.law_operands_fetched.specs.assign.declared.home.HomeOf.{HomeOf}
+use Rattle.law_operands_fetched.specs.assign.declared.places.Layout.{Layout}
+use Rattle.law_operands_fetched.specs.reload_homes.Homes.{home_of, slot_offset, slot_address, register_numbered, register_by, register_at, homed}
+use Rattle.law_operands_fetched.proofs.reload_homes.Rewrites.{homed_over}
+use Rattle.law_operands_fetched.specs.reload_operands.Bases.{lives_in_slot}
+use Rattle.law_operands_fetched.proofs.rtx_tree.Trees.{head_of-tree}
+use Rattle.law_operands_fetched.specs.rtx_tree.Tree.{tree_of}
+use Rattle.law_operands_fetched.proofs.rtl_func.AllPass as nodes
+use Rattle.law_operands_fetched.proofs.rtl_func.AllPass.{all_pass}
+use Rattle.law_operands_fetched.specs.reload_operands.Changes.{target_by, target_of, is_memory_code, changes_memory, is_place_of, is_other_memory, any_other_memory}
+use Rattle.law_operands_fetched.specs.reload_operands.Directions.{has_number}
+use Rattle.law_operands_fetched.specs.reload_choice.Movable.{may_have_results, may_land}
+use Rattle.law_operands_fetched.specs.reload_operands.declared.operand.Operand.{Operand as OperandOf}
+use Rattle.law_operands_fetched.specs.reload_choice.Sound.{IsPart, IsSoundPlan}
+use Rattle.law_operands_fetched.specs.reload_choice.declared.given.Plan.{Plan}
 use Rattle.law_reload_moves.proofs.AllOrderly.{EachSole, AllSole}
 use Rattle.law_reload_moves.proofs.Chosen.{given}
-use Rattle.law_reload_moves.proofs.ElementTurns.{target_key, key_by, key_of}
+use Rattle.law_operands_fetched.proofs.law_operands_replaced.ElementTurns.{target_key, key_by, key_of}
 use Rattle.law_reload_moves.proofs.GivenNews.{result_at}
 use Rattle.law_reload_moves.proofs.NewsLaws.{operand_of_match}
 use Rattle.law_reload_moves.proofs.RowsThere.{made_over}

@@ -3,28 +3,28 @@
 use Rattle.std.proofs.Common.{◌≡◌, ◌≢◌, ℕ, ◌+◌, eqb, ◌&&◌, if◌then◌else◌, Bool, true, false, List, ◌∷◌, map, Option, Some, None, refl, sym, ap, ◌∙◌, arith}
 use Rattle.std.proofs.lemmas.Bool.Decides.{nat_tests}
 use Rattle.std.specs.List.{cons_option, filter_map, list_any}
-use Rattle.bits64.specs.declared.Width.TheVariants.{W64}
-use Rattle.rtx_tree.specs.Tree.{mentions_reg}
-use Rattle.rtx_tree.specs.declared.function.Kind.{Kind}
-use Rattle.rtx_tree.specs.declared.machine.SymbolAt.{SymbolAt}
-use Rattle.rtx_tree.specs.declared.memories.MemByte.{MemByte}
-use Rattle.rtx_tree.specs.declared.tree.Rtx.{Rtx}
-use Rattle.run_memory.proofs.Laws.{Apart}
-use Rattle.rtl_step.specs.Regs.{Regs}
-use Rattle.rtl_step.specs.Value.{value_of}
-use Rattle.rtl_step.specs.declared.effect.Effect.{Effect}
-use Rattle.md_match.specs.Pattern.{Ops}
-use Rattle.assign.specs.declared.home.Home.TheVariants.{Slot}
-use Rattle.assign.specs.declared.home.HomeOf.{HomeOf}
-use Rattle.assign.specs.declared.places.Layout.{Layout}
-use Rattle.reload_homes.specs.Homes.{home_of, slot_offset, slot_address}
-use Rattle.reload_operands.specs.Bases.{is_slot, lives_in_slot}
-use Rattle.reload_operands.specs.Changes.{changed_register}
-use Rattle.reload_choice.specs.Sound.{IsSoundPlan}
-use Rattle.reload_choice.specs.declared.given.Plan.{Plan}
+use Rattle.law_operands_fetched.specs.bits64.declared.Width.TheVariants.{W64}
+use Rattle.law_operands_fetched.specs.rtx_tree.Tree.{mentions_reg}
+use Rattle.law_operands_fetched.specs.rtx_tree.declared.function.Kind.{Kind}
+use Rattle.law_operands_fetched.specs.rtx_tree.declared.machine.SymbolAt.{SymbolAt}
+use Rattle.law_operands_fetched.specs.rtx_tree.declared.memories.MemByte.{MemByte}
+use Rattle.law_operands_fetched.specs.rtx_tree.declared.tree.Rtx.{Rtx}
+use Rattle.law_operands_fetched.proofs.run_memory.Laws.{Apart}
+use Rattle.law_operands_fetched.specs.rtl_step.Regs.{Regs}
+use Rattle.law_operands_fetched.specs.rtl_step.Value.{value_of}
+use Rattle.law_operands_fetched.specs.rtl_step.declared.effect.Effect.{Effect}
+use Rattle.law_operands_fetched.specs.md_match.Pattern.{Ops}
+use Rattle.law_operands_fetched.specs.assign.declared.home.Home.TheVariants.{Slot}
+use Rattle.law_operands_fetched.specs.assign.declared.home.HomeOf.{HomeOf}
+use Rattle.law_operands_fetched.specs.assign.declared.places.Layout.{Layout}
+use Rattle.law_operands_fetched.specs.reload_homes.Homes.{home_of, slot_offset, slot_address}
+use Rattle.law_operands_fetched.specs.reload_operands.Bases.{is_slot, lives_in_slot}
+use Rattle.law_operands_fetched.specs.reload_operands.Changes.{changed_register}
+use Rattle.law_operands_fetched.specs.reload_choice.Sound.{IsSoundPlan}
+use Rattle.law_operands_fetched.specs.reload_choice.declared.given.Plan.{Plan}
 use Rattle.law_reload_moves.proofs.AllOrderly.{EachSole}
 use Rattle.law_reload_moves.proofs.Chosen.{given}
-use Rattle.law_reload_moves.proofs.Keying.{with_keys}
+use Rattle.law_operands_fetched.proofs.law_operands_replaced.Keying.{with_keys}
 use Rattle.law_reload_moves.proofs.Orderly.{SetsMemory}
 use Rattle.law_reload_moves.proofs.ResultRows.{Key, Row, Rows, none, more}
 use Rattle.law_reload_moves.proofs.ResultsEnd.{is_key, besides}

@@ -3,29 +3,29 @@ use Rattle.std.proofs.Common.{◌≡◌, ◌≢◌, ◌⊎◌, inl, inr, ℕ, �
 use Rattle.std.proofs.lemmas.Bool.{and_parts, or_left}
 use Rattle.std.specs.List.{AllByRecursion, list_all, list_any}
 use Rattle.std.specs.Prelude.{ℤ, pos}
-use Rattle.rtx_tree.specs.Code.{class_of_code}
-use Rattle.rtx_tree.specs.Tree.{RtxHead, head_of, kids_of, tree_of, reg_of, is_reg_numbered, mentions_reg}
-use Rattle.rtx_tree.specs.declared.code.Code.{Code}
-use Rattle.rtx_tree.specs.declared.code.Code.TheVariants as code
-use Rattle.rtx_tree.specs.declared.code.Mode.{Mode}
-use Rattle.rtx_tree.specs.declared.code.Mode.TheVariants.{DI}
-use Rattle.rtx_tree.specs.declared.tree.Rtx.{Rtx, out-roll-Rtx}
-use Rattle.rtx_tree.specs.declared.tree.Rtx.TheOpen.{Rtx-F}
-use Rattle.rtx_tree.proofs.Trees.{head_of-tree, mentions_out}
-use Rattle.rtl_func.specs.Shapes.{is_shaped}
-use Rattle.rtl_func.proofs.AllPass.{all_pass, itself, within}
-use Rattle.md_operand.specs.Addresses.{is_stack_vars, is_constant, is_any}
-use Rattle.assign.specs.declared.home.Home.{Home}
-use Rattle.assign.specs.declared.home.Home.TheVariants.{Hard}
-use Rattle.assign.specs.declared.home.HomeOf.{HomeOf}
-use Rattle.assign.specs.declared.places.Layout.{Layout}
-use Rattle.reload_homes.specs.FrameRefs.{offset_by, frame_offset, framed}
-use Rattle.reload_homes.specs.Homes.{home_of, place_by, register_numbered, register_by, register_at, homed}
-use Rattle.reload_homes.proofs.Rewrites.{framed_over, homed_register, homed_over}
-use Rattle.law_homes.proofs.Trees.{constant_code}
-use Rattle.law_reload_moves.proofs.Based.{leaf_alone}
-use Rattle.law_reload_moves.proofs.HomedQuiet.{RegisterCase, whole, low, case_of}
-use Rattle.law_reload_moves.proofs.SmallTrees.{tree_induction, one_or_other, or_second, no_number, stands_there, in_register}
+use Rattle.law_operands_fetched.specs.rtx_tree.Code.{class_of_code}
+use Rattle.law_operands_fetched.specs.rtx_tree.Tree.{RtxHead, head_of, kids_of, tree_of, reg_of, is_reg_numbered, mentions_reg}
+use Rattle.law_operands_fetched.specs.rtx_tree.declared.code.Code.{Code}
+use Rattle.law_operands_fetched.specs.rtx_tree.declared.code.Code.TheVariants as code
+use Rattle.law_operands_fetched.specs.rtx_tree.declared.code.Mode.{Mode}
+use Rattle.law_operands_fetched.specs.rtx_tree.declared.code.Mode.TheVariants.{DI}
+use Rattle.law_operands_fetched.specs.rtx_tree.declared.tree.Rtx.{Rtx, out-roll-Rtx}
+use Rattle.law_operands_fetched.specs.rtx_tree.declared.tree.Rtx.TheOpen.{Rtx-F}
+use Rattle.law_operands_fetched.proofs.rtx_tree.Trees.{head_of-tree, mentions_out}
+use Rattle.law_operands_fetched.specs.rtl_func.Shapes.{is_shaped}
+use Rattle.law_operands_fetched.proofs.rtl_func.AllPass.{all_pass, itself, within}
+use Rattle.law_operands_fetched.specs.md_operand.Addresses.{is_stack_vars, is_constant, is_any}
+use Rattle.law_operands_fetched.specs.assign.declared.home.Home.{Home}
+use Rattle.law_operands_fetched.specs.assign.declared.home.Home.TheVariants.{Hard}
+use Rattle.law_operands_fetched.specs.assign.declared.home.HomeOf.{HomeOf}
+use Rattle.law_operands_fetched.specs.assign.declared.places.Layout.{Layout}
+use Rattle.law_operands_fetched.specs.reload_homes.FrameRefs.{offset_by, frame_offset, framed}
+use Rattle.law_operands_fetched.specs.reload_homes.Homes.{home_of, place_by, register_numbered, register_by, register_at, homed}
+use Rattle.law_operands_fetched.proofs.reload_homes.Rewrites.{framed_over, homed_register, homed_over}
+use Rattle.law_operands_fetched.proofs.law_homes.Trees.{constant_code}
+use Rattle.law_operands_fetched.proofs.Based.{leaf_alone}
+use Rattle.law_operands_fetched.proofs.HomedQuiet.{RegisterCase, whole, low, case_of}
+use Rattle.law_operands_fetched.proofs.SmallTrees.{tree_induction, one_or_other, or_second, no_number, stands_there, in_register}
 
 -- ---- small trees
 

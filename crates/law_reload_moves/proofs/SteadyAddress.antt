@@ -4,31 +4,31 @@ use Rattle.std.proofs.lemmas.Bool.{and_parts}
 use Rattle.std.specs.FinMap.{get}
 use Rattle.std.specs.List.{AllByRecursion, list_all}
 use Rattle.std.specs.Prelude.{ℤ}
-use Rattle.bits64.specs.declared.Width.{Width}
-use Rattle.rtx_tree.specs.Code.{class_of_code}
-use Rattle.rtx_tree.specs.Tree.{head_of, kids_of, mentions_reg}
-use Rattle.rtx_tree.specs.declared.class.Class.{Class}
-use Rattle.rtx_tree.specs.declared.class.Class.TheVariants as class
-use Rattle.rtx_tree.specs.declared.code.Code.{Code}
-use Rattle.rtx_tree.specs.declared.machine.SymbolAt.{SymbolAt}
-use Rattle.rtx_tree.specs.declared.memories.MemByte.{MemByte}
-use Rattle.rtx_tree.specs.declared.tree.Rtx.{Rtx}
-use Rattle.rtl_func.specs.Shapes.{class_at, mode_at}
-use Rattle.rtl_func.proofs.AllPass as nodes
-use Rattle.rtl_func.proofs.AllPass.{all_pass}
-use Rattle.rtl_step.specs.Effect.{reg_after, regs_after}
-use Rattle.rtl_step.specs.Regs.{Regs, reg_value}
-use Rattle.rtl_step.specs.Value.{Reading, width_of, value_of, value_of_one, value_by}
-use Rattle.rtl_step.specs.declared.effect.Effect.{Effect}
-use Rattle.rtl_step.specs.declared.effect.Effect.TheVariants.{Nothing, Sets, Unsets, Stores}
-use Rattle.rtl_step.proofs.Values.{value_read}
-use Rattle.sym_insns.specs.Shape.{all_natural}
-use Rattle.law_window_kept.specs.Same.{KnownToo}
-use Rattle.law_frame.proofs.law_window_replaced.Known.{values_too}
-use Rattle.law_reload_moves.specs.Spare.{is_spare, NamesNoSpare, KnowsRest}
+use Rattle.law_operands_fetched.specs.bits64.declared.Width.{Width}
+use Rattle.law_operands_fetched.specs.rtx_tree.Code.{class_of_code}
+use Rattle.law_operands_fetched.specs.rtx_tree.Tree.{head_of, kids_of, mentions_reg}
+use Rattle.law_operands_fetched.specs.rtx_tree.declared.class.Class.{Class}
+use Rattle.law_operands_fetched.specs.rtx_tree.declared.class.Class.TheVariants as class
+use Rattle.law_operands_fetched.specs.rtx_tree.declared.code.Code.{Code}
+use Rattle.law_operands_fetched.specs.rtx_tree.declared.machine.SymbolAt.{SymbolAt}
+use Rattle.law_operands_fetched.specs.rtx_tree.declared.memories.MemByte.{MemByte}
+use Rattle.law_operands_fetched.specs.rtx_tree.declared.tree.Rtx.{Rtx}
+use Rattle.law_operands_fetched.specs.rtl_func.Shapes.{class_at, mode_at}
+use Rattle.law_operands_fetched.proofs.rtl_func.AllPass as nodes
+use Rattle.law_operands_fetched.proofs.rtl_func.AllPass.{all_pass}
+use Rattle.law_operands_fetched.specs.rtl_step.Effect.{reg_after, regs_after}
+use Rattle.law_operands_fetched.specs.rtl_step.Regs.{Regs, reg_value}
+use Rattle.law_operands_fetched.specs.rtl_step.Value.{Reading, width_of, value_of, value_of_one, value_by}
+use Rattle.law_operands_fetched.specs.rtl_step.declared.effect.Effect.{Effect}
+use Rattle.law_operands_fetched.specs.rtl_step.declared.effect.Effect.TheVariants.{Nothing, Sets, Unsets, Stores}
+use Rattle.law_operands_fetched.proofs.rtl_step.Values.{value_read}
+use Rattle.law_operands_fetched.specs.sym_insns.Shape.{all_natural}
+use Rattle.law_operands_fetched.specs.law_window_kept.Same.{KnownToo}
+use Rattle.law_operands_fetched.proofs.law_frame.law_window_replaced.Known.{values_too}
+use Rattle.law_operands_fetched.specs.law_operands_replaced.Spare.{is_spare, NamesNoSpare, KnowsRest}
 use Rattle.law_reload_moves.proofs.HomedTrees.{induction}
-use Rattle.law_reload_moves.proofs.ReadTrees.{read_in}
-use Rattle.law_reload_moves.proofs.Registers.{set_other, unset_other, value_alike}
+use Rattle.law_operands_fetched.proofs.law_operands_replaced.ReadTrees.{read_in}
+use Rattle.law_operands_fetched.proofs.law_operands_replaced.Registers.{set_other, unset_other, value_alike}
 
 -- ---- registers that are left
 

@@ -2,26 +2,26 @@
 use Rattle.std.proofs.Common.{◌≡◌, ◌≢◌, ◌⊎◌, ⊎_elim, inl, inr, ℕ, ◌+◌, ◌<◌, ◌≤◌, true, false, List, [], ◌∷◌, refl, sym, ap, subst, ◌∙◌, arith}
 use Rattle.std.proofs.lemmas.Bool.{false≢true}
 use Rattle.std.specs.Prelude.{is_some}
-use Rattle.bits64.specs.Words.{bytes_of}
-use Rattle.bits64.specs.declared.Width.{Width}
-use Rattle.rtx_tree.specs.Memories.{byte_at}
-use Rattle.rtx_tree.specs.Tree.{mentions_reg}
-use Rattle.rtx_tree.specs.declared.memories.MemByte.{MemByte}
-use Rattle.rtx_tree.specs.declared.tree.Rtx.{Rtx}
-use Rattle.run_memory.specs.RunMemory.{load}
-use Rattle.run_memory.proofs.Laws.{Apart, byte_at-with_number_other, load-stored_other, has-load_stored}
-use Rattle.rtl_step.specs.Effect.{bytes_after, memory_after}
-use Rattle.rtl_step.specs.declared.effect.Effect.{Effect}
-use Rattle.rtl_step.specs.declared.effect.Effect.TheVariants.{Nothing, Sets, Unsets, Stores}
-use Rattle.rtl_step.specs.declared.step.State.{State}
+use Rattle.law_operands_fetched.specs.bits64.Words.{bytes_of}
+use Rattle.law_operands_fetched.specs.bits64.declared.Width.{Width}
+use Rattle.law_operands_fetched.specs.rtx_tree.Memories.{byte_at}
+use Rattle.law_operands_fetched.specs.rtx_tree.Tree.{mentions_reg}
+use Rattle.law_operands_fetched.specs.rtx_tree.declared.memories.MemByte.{MemByte}
+use Rattle.law_operands_fetched.specs.rtx_tree.declared.tree.Rtx.{Rtx}
+use Rattle.law_operands_fetched.specs.run_memory.RunMemory.{load}
+use Rattle.law_operands_fetched.proofs.run_memory.Laws.{Apart, byte_at-with_number_other, load-stored_other, has-load_stored}
+use Rattle.law_operands_fetched.specs.rtl_step.Effect.{bytes_after, memory_after}
+use Rattle.law_operands_fetched.specs.rtl_step.declared.effect.Effect.{Effect}
+use Rattle.law_operands_fetched.specs.rtl_step.declared.effect.Effect.TheVariants.{Nothing, Sets, Unsets, Stores}
+use Rattle.law_operands_fetched.specs.rtl_step.declared.step.State.{State}
 use Rattle.law_window_runs.specs.Beside.{Within}
-use Rattle.assign.specs.declared.home.Home.TheVariants.{Slot}
-use Rattle.assign.specs.declared.home.HomeOf.{HomeOf}
-use Rattle.assign.specs.declared.places.Layout.{Layout}
-use Rattle.reload_homes.specs.Homes.{home_of, slot_offset}
-use Rattle.law_homes.proofs.After.{from_ends, some_bytes, eight_bytes}
-use Rattle.law_homes.proofs.Setting.{Setting, base, StandsIn, slot_below, slot_no_local, slot_room}
-use Rattle.law_reload_moves.proofs.Cells.{stored}
+use Rattle.law_operands_fetched.specs.assign.declared.home.Home.TheVariants.{Slot}
+use Rattle.law_operands_fetched.specs.assign.declared.home.HomeOf.{HomeOf}
+use Rattle.law_operands_fetched.specs.assign.declared.places.Layout.{Layout}
+use Rattle.law_operands_fetched.specs.reload_homes.Homes.{home_of, slot_offset}
+use Rattle.law_operands_fetched.proofs.law_homes.After.{from_ends, some_bytes, eight_bytes}
+use Rattle.law_operands_fetched.proofs.law_homes.Setting.{Setting, base, StandsIn, slot_below, slot_no_local, slot_room}
+use Rattle.law_operands_fetched.proofs.law_operands_replaced.Cells.{stored}
 use Rattle.law_reload_moves.proofs.PlainGiven.{slots_are_apart}
 
 -- what an effect stores stands in the slot of a register that does not stand in a tree, where the frame has this lowest address

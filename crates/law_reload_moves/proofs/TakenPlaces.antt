@@ -6,17 +6,17 @@ use Rattle.std.proofs.lemmas.List.Folds.{flat_map-map}
 use Rattle.std.specs.Int.{cast_unsigned, w64}
 use Rattle.std.specs.List.{flat_map, list_any}
 use Rattle.std.specs.Prelude.{ℤ, pos}
-use Rattle.rtx_tree.specs.Tree.{head_of, kids_of}
-use Rattle.rtx_tree.specs.declared.code.Code.{Code}
-use Rattle.rtx_tree.specs.declared.code.Code.TheVariants as code
-use Rattle.rtx_tree.specs.declared.tree.Rtx.{Rtx}
-use Rattle.rtx_tree.specs.declared.tree.Rtx.TheFolds.{fold_out-Rtx}
-use Rattle.md_constr.specs.Inputs.{taken_here, taken_in, taken_inside, taken_at_by, taken_at, taken_by_parts, taken_by, effects_of, inputs_in}
-use Rattle.md_match.specs.Pattern.{role_of}
-use Rattle.md_match.specs.declared.role.Role.TheVariants.{Operand}
-use Rattle.reload_operands.specs.Directions.{has_number, is_input, is_hidden, is_operator_code, scratch_here, scratch_step, scratches_in, reads_scratch, hides}
-use Rattle.reload_operands.proofs.NumberLaws.{has_in_both, has_in_each, takes_out}
-use Rattle.law_reload_moves.specs.Places.{AtOnePlace, first, later, StandsFor, itself, part}
+use Rattle.law_operands_fetched.specs.rtx_tree.Tree.{head_of, kids_of}
+use Rattle.law_operands_fetched.specs.rtx_tree.declared.code.Code.{Code}
+use Rattle.law_operands_fetched.specs.rtx_tree.declared.code.Code.TheVariants as code
+use Rattle.law_operands_fetched.specs.rtx_tree.declared.tree.Rtx.{Rtx}
+use Rattle.law_operands_fetched.specs.rtx_tree.declared.tree.Rtx.TheFolds.{fold_out-Rtx}
+use Rattle.law_operands_fetched.specs.md_constr.Inputs.{taken_here, taken_in, taken_inside, taken_at_by, taken_at, taken_by_parts, taken_by, effects_of, inputs_in}
+use Rattle.law_operands_fetched.specs.md_match.Pattern.{role_of}
+use Rattle.law_operands_fetched.specs.md_match.declared.role.Role.TheVariants.{Operand}
+use Rattle.law_operands_fetched.specs.reload_operands.Directions.{has_number, is_input, is_hidden, is_operator_code, scratch_here, scratch_step, scratches_in, reads_scratch, hides}
+use Rattle.law_operands_fetched.proofs.reload_operands.NumberLaws.{has_in_both, has_in_each, takes_out}
+use Rattle.law_operands_fetched.specs.law_operands_replaced.Places.{AtOnePlace, first, later, StandsFor, itself, part}
 
 scratches_out : (x : Rtx) → scratches_in x ≡ scratch_here (head_of x).code (head_of x).number ++ flat_map scratches_in (kids_of x)
 scratches_out x = fold_out-Rtx (List ℕ) scratch_step x ∙

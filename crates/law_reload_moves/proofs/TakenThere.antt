@@ -4,26 +4,26 @@ use Rattle.std.proofs.lemmas.Bool.{and_parts, or_cases, or_left, or_right}
 use Rattle.std.proofs.lemmas.List.{length-map}
 use Rattle.std.specs.List.{AllByRecursion, flat_map, list_all, list_any}
 use Rattle.std.specs.Prelude.{ℤ, pos}
-use Rattle.rtx_tree.proofs.Trees.{kids_of-tree}
-use Rattle.rtx_tree.specs.Tree.{head_of, kids_of}
-use Rattle.rtx_tree.specs.declared.tree.Rtx.{Rtx}
-use Rattle.rtl_func.specs.Shapes.{is_shaped}
-use Rattle.rtl_func.proofs.AllPass as nodes
-use Rattle.rtl_func.proofs.AllPass.{all_pass}
-use Rattle.md_constr.specs.Inputs.{taken_here, taken_in}
-use Rattle.md_match.proofs.Instantiated.{each_made}
-use Rattle.md_match.specs.Match.{IsAsked}
-use Rattle.md_match.specs.Pattern.{Ops, role_of, placeholders, operand_of, operand_numbered, instantiated}
-use Rattle.md_match.specs.declared.role.Role.{Role}
-use Rattle.md_match.specs.declared.role.Role.TheVariants.{Operand, Operator, Itself}
-use Rattle.assign.specs.declared.home.HomeOf.{HomeOf}
-use Rattle.assign.specs.declared.places.Layout.{Layout}
-use Rattle.reload_homes.specs.Homes.{homed, register_at}
-use Rattle.reload_homes.proofs.Rewrites.{homed_over}
-use Rattle.reload_operands.specs.Directions.{has_number}
-use Rattle.reload_operands.specs.Put.{is_lowpart_code, is_lowpart, any_inside, inside_low}
-use Rattle.reload_operands.proofs.NumberLaws.{takes_out}
-use Rattle.law_reload_moves.specs.Places.{AtOnePlace, first, later, At, here, inside, is_leaf, is_leaf_as, is_empty}
+use Rattle.law_operands_fetched.proofs.rtx_tree.Trees.{kids_of-tree}
+use Rattle.law_operands_fetched.specs.rtx_tree.Tree.{head_of, kids_of}
+use Rattle.law_operands_fetched.specs.rtx_tree.declared.tree.Rtx.{Rtx}
+use Rattle.law_operands_fetched.specs.rtl_func.Shapes.{is_shaped}
+use Rattle.law_operands_fetched.proofs.rtl_func.AllPass as nodes
+use Rattle.law_operands_fetched.proofs.rtl_func.AllPass.{all_pass}
+use Rattle.law_operands_fetched.specs.md_constr.Inputs.{taken_here, taken_in}
+use Rattle.law_operands_fetched.proofs.md_match.Instantiated.{each_made}
+use Rattle.law_operands_fetched.specs.md_match.Match.{IsAsked}
+use Rattle.law_operands_fetched.specs.md_match.Pattern.{Ops, role_of, placeholders, operand_of, operand_numbered, instantiated}
+use Rattle.law_operands_fetched.specs.md_match.declared.role.Role.{Role}
+use Rattle.law_operands_fetched.specs.md_match.declared.role.Role.TheVariants.{Operand, Operator, Itself}
+use Rattle.law_operands_fetched.specs.assign.declared.home.HomeOf.{HomeOf}
+use Rattle.law_operands_fetched.specs.assign.declared.places.Layout.{Layout}
+use Rattle.law_operands_fetched.specs.reload_homes.Homes.{homed, register_at}
+use Rattle.law_operands_fetched.proofs.reload_homes.Rewrites.{homed_over}
+use Rattle.law_operands_fetched.specs.reload_operands.Directions.{has_number}
+use Rattle.law_operands_fetched.specs.reload_operands.Put.{is_lowpart_code, is_lowpart, any_inside, inside_low}
+use Rattle.law_operands_fetched.proofs.reload_operands.NumberLaws.{takes_out}
+use Rattle.law_operands_fetched.specs.law_operands_replaced.Places.{AtOnePlace, first, later, At, here, inside, is_leaf, is_leaf_as, is_empty}
 use Rattle.law_reload_moves.proofs.Besides.{IsPartBeside, part_beside}
 use Rattle.law_reload_moves.proofs.HomedTrees.{induction}
 use Rattle.law_reload_moves.proofs.InputPlaces.{found_at, each_asked, each_leaf, StandsThere, place_of_taken, taken_itself, asked_kids, low_taken}

@@ -5,47 +5,47 @@ use Rattle.std.specs.Int.{cast_unsigned, int_wrap, w64}
 use Rattle.std.specs.List.{list_all}
 use Rattle.std.specs.Ordering.{int_eq}
 use Rattle.std.specs.Prelude.{ℤ, pos, negsuc, is_some, option_map, option_and_then}
-use Rattle.bits64.specs.declared.Width.{Width}
-use Rattle.bits64.specs.declared.Width.TheVariants.{W64}
-use Rattle.rtx_tree.specs.Code.{class_of_code}
-use Rattle.rtx_tree.specs.Tree.{RtxHead, head_of, kids_of, tree_of, node_of, reg_of}
-use Rattle.rtx_tree.specs.declared.code.Code.{Code}
-use Rattle.rtx_tree.specs.declared.code.Code.TheVariants as code
-use Rattle.rtx_tree.specs.declared.code.Mode.{Mode}
-use Rattle.rtx_tree.specs.declared.machine.SymbolAt.{SymbolAt}
-use Rattle.rtx_tree.specs.declared.memories.MemByte.{MemByte}
-use Rattle.rtx_tree.specs.declared.tree.Rtx.{Rtx, out-roll-Rtx}
-use Rattle.rtx_tree.specs.declared.tree.Rtx.TheOpen.{Rtx-F}
-use Rattle.rtx_tree.proofs.Trees.{head_of-tree, kids_of-tree}
-use Rattle.run_memory.specs.RunMemory.{load}
-use Rattle.rtl_func.specs.Effects.{place_register_by, place_register, changed_by, changed_register}
-use Rattle.rtl_func.specs.Modes as modes
-use Rattle.rtl_func.specs.Shapes.{class_at, mode_at, number_at, is_shaped}
-use Rattle.rtl_func.proofs.AllPass as nodes
-use Rattle.rtl_func.proofs.AllPass.{all_pass}
-use Rattle.rtl_step.specs.Effect.{effect_of, effect_by, register_of, address_part, address_of, set_place, set_effect, clobber_by, clobber_effect}
-use Rattle.rtl_step.specs.Effect as effects
-use Rattle.rtl_step.specs.Regs.{Regs, known_of, reg_value}
-use Rattle.rtl_step.specs.Value.{width_of, value_of, of_two}
-use Rattle.rtl_step.specs.declared.effect.Effect.{Effect}
-use Rattle.rtl_step.specs.declared.effect.Effect.TheVariants.{Nothing, Sets, Unsets, Stores}
-use Rattle.rtl_step.specs.declared.regs.Known.{Known}
-use Rattle.rv_regs.specs.Registers.{stack_pointer}
-use Rattle.sym_insns.specs.Shape.{is_natural, all_natural}
-use Rattle.assign.specs.declared.home.Home.{Home}
-use Rattle.assign.specs.declared.home.Home.TheVariants.{Hard, Slot}
-use Rattle.assign.specs.declared.home.HomeOf.{HomeOf}
-use Rattle.assign.specs.declared.places.Layout.{Layout}
-use Rattle.reload_homes.specs.Homes.{home_of, slot_offset, slot_address, place_by, register_at, homed}
-use Rattle.reload_homes.specs.Homes as places
-use Rattle.reload_homes.proofs.Rewrites.{homed_register, homed_over}
-use Rattle.reload_operands.specs.Changes as changes
-use Rattle.reload_operands.specs.Changes.{target_by}
-use Rattle.law_reload_moves.proofs.ElementTurns.{effect_code}
-use Rattle.law_reload_moves.proofs.HomedQuiet.{RegisterCase, whole, low, case_of}
+use Rattle.law_operands_fetched.specs.bits64.declared.Width.{Width}
+use Rattle.law_operands_fetched.specs.bits64.declared.Width.TheVariants.{W64}
+use Rattle.law_operands_fetched.specs.rtx_tree.Code.{class_of_code}
+use Rattle.law_operands_fetched.specs.rtx_tree.Tree.{RtxHead, head_of, kids_of, tree_of, node_of, reg_of}
+use Rattle.law_operands_fetched.specs.rtx_tree.declared.code.Code.{Code}
+use Rattle.law_operands_fetched.specs.rtx_tree.declared.code.Code.TheVariants as code
+use Rattle.law_operands_fetched.specs.rtx_tree.declared.code.Mode.{Mode}
+use Rattle.law_operands_fetched.specs.rtx_tree.declared.machine.SymbolAt.{SymbolAt}
+use Rattle.law_operands_fetched.specs.rtx_tree.declared.memories.MemByte.{MemByte}
+use Rattle.law_operands_fetched.specs.rtx_tree.declared.tree.Rtx.{Rtx, out-roll-Rtx}
+use Rattle.law_operands_fetched.specs.rtx_tree.declared.tree.Rtx.TheOpen.{Rtx-F}
+use Rattle.law_operands_fetched.proofs.rtx_tree.Trees.{head_of-tree, kids_of-tree}
+use Rattle.law_operands_fetched.specs.run_memory.RunMemory.{load}
+use Rattle.law_operands_fetched.specs.rtl_func.Effects.{place_register_by, place_register, changed_by, changed_register}
+use Rattle.law_operands_fetched.specs.rtl_func.Modes as modes
+use Rattle.law_operands_fetched.specs.rtl_func.Shapes.{class_at, mode_at, number_at, is_shaped}
+use Rattle.law_operands_fetched.proofs.rtl_func.AllPass as nodes
+use Rattle.law_operands_fetched.proofs.rtl_func.AllPass.{all_pass}
+use Rattle.law_operands_fetched.specs.rtl_step.Effect.{effect_of, effect_by, register_of, address_part, address_of, set_place, set_effect, clobber_by, clobber_effect}
+use Rattle.law_operands_fetched.specs.rtl_step.Effect as effects
+use Rattle.law_operands_fetched.specs.rtl_step.Regs.{Regs, known_of, reg_value}
+use Rattle.law_operands_fetched.specs.rtl_step.Value.{width_of, value_of, of_two}
+use Rattle.law_operands_fetched.specs.rtl_step.declared.effect.Effect.{Effect}
+use Rattle.law_operands_fetched.specs.rtl_step.declared.effect.Effect.TheVariants.{Nothing, Sets, Unsets, Stores}
+use Rattle.law_operands_fetched.specs.rtl_step.declared.regs.Known.{Known}
+use Rattle.law_operands_fetched.specs.rv_regs.Registers.{stack_pointer}
+use Rattle.law_operands_fetched.specs.sym_insns.Shape.{is_natural, all_natural}
+use Rattle.law_operands_fetched.specs.assign.declared.home.Home.{Home}
+use Rattle.law_operands_fetched.specs.assign.declared.home.Home.TheVariants.{Hard, Slot}
+use Rattle.law_operands_fetched.specs.assign.declared.home.HomeOf.{HomeOf}
+use Rattle.law_operands_fetched.specs.assign.declared.places.Layout.{Layout}
+use Rattle.law_operands_fetched.specs.reload_homes.Homes.{home_of, slot_offset, slot_address, place_by, register_at, homed}
+use Rattle.law_operands_fetched.specs.reload_homes.Homes as places
+use Rattle.law_operands_fetched.proofs.reload_homes.Rewrites.{homed_register, homed_over}
+use Rattle.law_operands_fetched.specs.reload_operands.Changes as changes
+use Rattle.law_operands_fetched.specs.reload_operands.Changes.{target_by}
+use Rattle.law_operands_fetched.proofs.law_operands_replaced.ElementTurns.{effect_code}
+use Rattle.law_operands_fetched.proofs.HomedQuiet.{RegisterCase, whole, low, case_of}
 use Rattle.law_reload_moves.proofs.HomedTrees.{low_placed}
-use Rattle.law_reload_moves.proofs.SetWidth.{set_width}
-use Rattle.law_reload_moves.proofs.SmallTrees.{natural_out}
+use Rattle.law_operands_fetched.proofs.law_operands_replaced.SetWidth.{set_width}
+use Rattle.law_operands_fetched.proofs.SmallTrees.{natural_out}
 
 -- what one tree comes of
 pub one_kid : (f : Rtx → Rtx) (xs : List Rtx) (x : Rtx) → map f xs ≡ x ∷ [] → (t : Rtx) × ((xs ≡ t ∷ []) × (f t ≡ x))

@@ -23,9 +23,12 @@ fn root_in(alloc: Global, definition: Option<Definition>) -> Result<Places, Memo
     ensures { IfOk result (λ places. places ≡ spec.root_in definition) }
 {
     match definition {
-        Some(Definition {
-            root: Some(root), ..
-        }) => Items::from_slice(alloc, &[root]),
+        Some(
+            Definition {
+                root: Some(root),
+                ..
+            },
+        ) => Items::from_slice(alloc, &[root]),
         _ => Ok(Items::new(alloc)),
     }
 }

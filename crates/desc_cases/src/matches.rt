@@ -3,6 +3,7 @@ ghost use Rattle.std.specs.Prelude.{◌≡◌, ◌<◌};
 
 use crate::parts::halves;
 use case_text::Told;
+use cond_cases::constants_in;
 use lisp_read::{Tree, is_word};
 use md_match::{Steps, instantiate, match_shape};
 use md_pattern::pattern_of;
@@ -13,8 +14,10 @@ use std::marker::Brand;
 use std::sync::ledger::{Blank, Ledger};
 use text_cases::{show, tree_in, trees_in};
 
+/// The pattern of a tree where no constants are defined.
 fn pattern(alloc: Global, tree: &Tree) -> Option<Rtx> {
-    match pattern_of(alloc, tree, &Items::new(alloc)) {
+    let constants = constants_in(alloc, b"")?;
+    match pattern_of(alloc, tree, &constants) {
         Ok(Ok(pattern)) => Some(pattern.tree),
         _ => None,
     }

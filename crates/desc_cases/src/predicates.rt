@@ -51,12 +51,11 @@ fn show_predicates(alloc: Global, test: &Test, told: &mut Told) {
     told.show(names.len());
 }
 
-/// The test of a text.
+/// The test of a text where no constants are defined.
 fn test_in(alloc: Global, input: &[u8]) -> Option<Result<Test, Reason>> {
-    match tree_in(alloc, input) {
-        Some(tree) => test_of(alloc, &tree, &Items::new(alloc)).ok(),
-        None => None,
-    }
+    let tree = tree_in(alloc, input)?;
+    let constants = constants_in(alloc, b"")?;
+    test_of(alloc, &tree, &constants).ok()
 }
 
 /// Appends how many predicates a test names, or the reason for which its tree is set aside.

@@ -1,6 +1,7 @@
 //! Rows of heads that no text is parsed to.
 use c_cond::{Cond, CondHead, Unary, parse_cond};
 use c_eval::{Facts, Reading, eval, read};
+use cond_cases::constants_in;
 use md_pred::PredTable;
 use plain_data::{Items, Memory};
 use rtx_tree::{Code, Mode, Operands, RegSet, Rtx};
@@ -89,7 +90,7 @@ fn window(alloc: Global) -> Result<Facts, Memory> {
 /// That the first operand is not dead.
 fn not_dead(alloc: Global) -> Option<Cond> {
     let text = b"!peep2_reg_dead_p (0, operands[0])";
-    parse_cond(alloc, text, &Items::new(alloc)).ok()
+    parse_cond(alloc, text, &constants_in(alloc, b"")?).ok()
 }
 
 /// What a condition is worth by these predicates where the first operand is a register without a

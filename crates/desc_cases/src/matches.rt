@@ -7,7 +7,7 @@ use cond_cases::constants_in;
 use lisp_read::{Tree, is_word};
 use md_match::{Steps, instantiate, match_shape};
 use md_pattern::pattern_of;
-use plain_data::{Items, Memory};
+use plain_data::Memory;
 use rtx_tree::{Operands, Rtx, same};
 use std::alloc::Global;
 use std::marker::Brand;

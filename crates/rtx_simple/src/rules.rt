@@ -129,8 +129,20 @@ fn put_constant(alloc: Global, x: &mut Rtx, number: i64)
     x.kids.replace(1, Rtx::const_int(alloc, number));
 }
 
+/// A sum in which another stands first, with the constant of both.
+#[tactic(auto, using(crate::proofs::Applied::joins))]
+fn join(alloc: Global, x: &mut Rtx, sum: i64)
+    requires { tests.joined x.old ≡ Some sum }
+    ensures { spec.joined_constants x.old ≡ Some x.new }
+{
+    let mode = x.mode;
+    hoist(x);
+    put_constant(alloc, x, sum);
+    remake(alloc, x, Code::Plus, mode);
+}
+
 /// The constants of two sums, of which one stands first in the other, become one.
-#[tactic(auto, using(crate::proofs::Applied::joins), unfolding(crate::specs::Simple::joined_constants))]
+#[tactic(auto, using(crate::proofs::Applied::joins_not))]
 pub fn joined_constants(alloc: Global, x: &mut Rtx) -> bool
     ensures done { result ≡ is_some (spec.joined_constants x.old) }
     ensures tree { x.new ≡ unwrap_or (spec.joined_constants x.old) x.old }
@@ -138,10 +150,7 @@ pub fn joined_constants(alloc: Global, x: &mut Rtx) -> bool
     let Some(sum) = joined(x) else {
         return false;
     };
-    let mode = x.mode;
-    hoist(x);
-    put_constant(alloc, x, sum);
-    remake(alloc, x, Code::Plus, mode);
+    join(alloc, x, sum);
     true
 }
 

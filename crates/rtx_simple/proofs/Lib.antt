@@ -1,0 +1,11 @@
+pub mod Applied
+pub mod Comparisons
+pub mod Front
+pub mod Hoisted
+pub mod Kids
+pub mod Options
+pub mod Parts
+pub mod Settled
+pub mod Tested
+pub mod Turns
+pub mod Whole

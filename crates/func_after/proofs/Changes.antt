@@ -12,7 +12,6 @@ use Rattle.assign.specs.Frame.{layout_of}
 use Rattle.assign.specs.Homes.{AreHomes}
 use Rattle.assign.specs.declared.home.HomeOf.{HomeOf}
 use Rattle.assign.specs.declared.places.Layout.{Layout}
-use Rattle.insn_sizes.specs.Sizes.{EachSized}
 use Rattle.reload.specs.Reload.{FunctionReloads}
 use Rattle.reload.specs.declared.refusal.ReloadRefusal.{ReloadRefusal}
 use Rattle.frame.specs.Framed.{FrameComes}
@@ -77,7 +76,7 @@ module _ (forms : List Entry) (m next : Made) where
   -- whichever is neither reload nor the frame did
   pub changes_of : (pass : Pass) (a : Answer) → a ≡ Ok next → (pass ≡ Reload → ⊥) → (pass ≡ Frame → ⊥) → PassComes forms m pass a → Changes pass
   changes_of _ a is other else (PassComes.changes pass c _ comes told) = changed_by pass c (sym is ∙ told) comes
-  changes_of _ a is other else (PassComes.reloads homes r _ are sized does told) = absurd (other refl)
+  changes_of _ a is other else (PassComes.reloads homes r _ are does told) = absurd (other refl)
   changes_of _ a is other else (PassComes.frames r _ comes told) = absurd (else refl)
 
   -- ---- homes
@@ -85,7 +84,6 @@ module _ (forms : List Entry) (m next : Made) where
   pub record Reloaded : Type 0 where
     pub homes : List HomeOf
     pub are : AreHomes m.function homes
-    pub sized : EachSized m.function.insns
     pub comes : FunctionReloads forms homes (layout_of m.function homes) m.function (Ok next.function)
     pub layout_is : next.layout ≡ layout_of m.function homes
 
@@ -97,11 +95,10 @@ module _ (forms : List Entry) (m next : Made) where
 
   pub reloaded_of : (a : Answer) → a ≡ Ok next → PassComes forms m Reload a → Reloaded
   reloaded_of a is (PassComes.changes _ c _ comes told) = no_reload forms m.function c comes
-  reloaded_of a is (PassComes.reloads homes r _ are sized does told) =
+  reloaded_of a is (PassComes.reloads homes r _ are does told) =
       let gave = reload_told m.function.name (layout_of m.function homes) r (sym is ∙ told) in record {
         homes = homes;
         are = are;
-        sized = sized;
         comes = subst (FunctionReloads forms homes (layout_of m.function homes) m.function) gave.0 does;
         layout_is = gave.1;
       }

@@ -1,11 +1,8 @@
 -- What the passes make of a sound function leads to lines with its behaviour.
-use Rattle.std.proofs.Common.{◌≡◌, ℕ, zero, suc, ◌≤◌, true, List, [], ◌∷◌, Result, Ok, Some, refl, sym, ap, subst, ◌∙◌}
-use Rattle.std.specs.Prelude.{slice_get}
-use Rattle.std.specs.List.{AllByRecursion, list_all}
-use Rattle.std.proofs.lemmas.Bool.{and_from, and_parts}
+use Rattle.std.proofs.Common.{◌≡◌, ℕ, ◌≤◌, List, Result, Ok, refl, sym, ap, subst, ◌∙◌}
+use Rattle.std.specs.List.{AllByRecursion}
 use Rattle.rtx_tree.specs.Limit.{most_frame}
 use Rattle.rtx_tree.specs.declared.function.Function.{Function}
-use Rattle.rtx_tree.specs.declared.function.Insn.{Insn}
 use Rattle.pass_name.specs.declared.pass.Pass.{Pass}
 use Rattle.pass_name.specs.declared.pass.Pass.TheVariants.{Read, Lower, Split1, Reload, Frame, Split2}
 use Rattle.rv_text.specs.declared.line.CodeItem.{CodeItem}
@@ -13,14 +10,10 @@ use Rattle.md_forms.specs.declared.form.Entry.{Entry}
 use Rattle.md_forms.specs.Forms.{forms_of}
 use Rattle.same_behaviour.specs.Same.{Same}
 use Rattle.law_window_lines.specs.Left.{SameWhereLeft}
-use Rattle.law_lines_ready.specs.sym_insns.Shape.{all_natural}
-use Rattle.insn_sizes.specs.law_homes.Placed.{all_sized}
-use Rattle.insn_sizes.specs.Sizes.{insn_natural, insn_sized, EachSized}
 use Rattle.assign.specs.Frame.{layout_of, IsFrame}
 use Rattle.assign.specs.declared.places.Layout.{Layout}
 use Rattle.assign.proofs.PlaceLaws.{IsFrame-layout_of}
 use Rattle.pass_refusal.specs.declared.refusal.PassRefusal.{PassRefusal}
-use Rattle.reload.specs.law_pass_needs.Reloadable.{IsInsnReloadable}
 use Rattle.law_passes.specs.law_insn_replaced.Sound.{IsSound, PassKeeps}
 use Rattle.law_passes.proofs.law_insn_replaced.Keeping.{kept_refl, kept_trans}
 use Rattle.lower.proofs.Kept.{lower_kept}
@@ -34,7 +27,6 @@ use Rattle.frame.specs.Framed.{FrameComes}
 use Rattle.frame.proofs.Kept.{is_framed, frame_keeps}
 use Rattle.reload.proofs.WindowLaws.{reload_windows}
 use Rattle.reload.specs.Windows.{HasWindows}
-use Rattle.law_lines_ready.specs.law_reload.Homes.{NumbersAreSized}
 use Rattle.law_lines_ready.specs.Placed.{ArePlaced}
 use Rattle.law_lines_ready.proofs.Reloaded.{reload_placed}
 use Rattle.law_lines_ready.proofs.Framed.{frame_placed}
@@ -49,24 +41,6 @@ use Rattle.func_after.specs.Leads.{IsDescribed, LeadsToLines}
 use Rattle.func_after.proofs.Changes.{read_by, lower_by, split_by, again_by, changes_of}
 use Rattle.func_after.proofs.Passing.{PassHolds, all_hold}
 use Rattle.func_after.proofs.Stages.{Stages, stages_of}
-
--- ---- sizes
-
-all_of : (insns : List Insn) → AllByRecursion IsInsnReloadable insns → list_all insn_natural insns ≡ true
-all_of [] all = refl
-all_of (i ∷ insns) all = and_from (all_natural i.pattern) (list_all insn_natural insns) all.0.natural (all_of insns all.1)
-
-sized_at : (insns : List Insn) (place : ℕ) (i : Insn) → list_all insn_sized insns ≡ true → slice_get insns place ≡ Some i →
-    all_sized i.pattern ≡ true
-sized_at [] place i all at = absurd (let none : ⊥ = cc in none)
-sized_at (j ∷ insns) zero i all at =
-    let same : j ≡ i = cc in
-    subst (λ (k : Insn). all_sized k.pattern ≡ true) same (and_parts (all_sized j.pattern) (list_all insn_sized insns) all).0
-sized_at (j ∷ insns) (suc place) i all at = sized_at insns place i (and_parts (all_sized j.pattern) (list_all insn_sized insns) all).1 at
-
--- the numbers of a sound function have their sizes, where each constant has 64 signed bits
-numbers_sized : (f : Function) → IsSound f → EachSized f.insns → NumbersAreSized f
-numbers_sized f sound each place i at = sized_at f.insns place i (each (all_of f.insns sound.reloadable.each)) at
 
 -- ---- the frame
 
@@ -196,7 +170,7 @@ module _ (forms : List Entry) (f : Function) (m : Made) (sound : IsSound f) (s :
       let frames_of : FrameComes (forms_of described.0 described.1) s.moved layout (Ok s.framed) =
       subst (λ (es : List Entry). FrameComes es s.moved layout (Ok s.framed)) described.2 s.frames in
       made_same described.0 described.1 f plain s.moved s.framed m.function s.homes layout items passes s.are refl
-      (numbers_sized plain passes.sound s.sized) windows_of frames_of keeps last.keeps lines_do
+      windows_of frames_of keeps last.keeps lines_do
 
   holds : f.locals ≤ layout.size
   holds = subst (λ (locals : ℕ). locals ≤ layout.size) passes.same.locals_are (size_holds plain.locals _ _)

@@ -34,7 +34,7 @@ module _ (forms : List Entry) where
   pass_name m n _ a is (PassComes.changes pass c _ comes told) =
       change_name m.function pass (record { function = n.function }) (Ok (record { function = n.function })) refl
       (changed_by forms m n pass c (sym is ∙ told) comes).comes
-  pass_name m n _ a is (PassComes.reloads homes r _ are sized does told) =
+  pass_name m n _ a is (PassComes.reloads homes r _ are does told) =
       let gave = reload_told forms m n m.function.name (layout_of m.function homes) r (sym is ∙ told) in
       (reload_marks forms homes (layout_of m.function homes) m.function n.function
       (subst (FunctionReloads forms homes (layout_of m.function homes) m.function) gave.0 does)).name_is

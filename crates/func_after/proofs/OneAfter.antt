@@ -28,10 +28,10 @@ module _ (forms : List Entry) where
   pass_one : (m : Made) (pass : Pass) (a b : Answer) → PassComes forms m pass a → PassComes forms m pass b → a ≡ b
   pass_one m _ _ _ (PassComes.changes pass c a comes is) (PassComes.changes _ d b comes' is') =
       is ∙ ap (told_for m.function.name m.layout pass) (change_one m.function pass c d comes comes') ∙ sym is'
-  pass_one m _ _ _ (PassComes.changes _ c a comes is) (PassComes.reloads homes s b are sized does is') = no_reload forms m.function c comes
+  pass_one m _ _ _ (PassComes.changes _ c a comes is) (PassComes.reloads homes s b are does is') = no_reload forms m.function c comes
   pass_one m _ _ _ (PassComes.changes _ c a comes is) (PassComes.frames s b does is') = no_frame forms m.function c comes
-  pass_one m _ _ _ (PassComes.reloads homes r a are sized does is) (PassComes.changes _ d b comes is') = no_reload forms m.function d comes
-  pass_one m _ _ _ (PassComes.reloads homes r a are sized does is) (PassComes.reloads homes' s b are' sized' does' is') =
+  pass_one m _ _ _ (PassComes.reloads homes r a are does is) (PassComes.changes _ d b comes is') = no_reload forms m.function d comes
+  pass_one m _ _ _ (PassComes.reloads homes r a are does is) (PassComes.reloads homes' s b are' does' is') =
       let same : homes ≡ homes' = only m.function homes homes' are are' in
       is
       ∙ ap (told_reloaded m.function.name (layout_of m.function homes))

@@ -11,7 +11,6 @@ use Rattle.assign.specs.Frame.{layout_of}
 use Rattle.assign.specs.Homes.{AreHomes}
 use Rattle.assign.specs.declared.home.HomeOf.{HomeOf}
 use Rattle.assign.specs.declared.places.Layout.{Layout}
-use Rattle.insn_sizes.specs.Sizes.{EachSized}
 use Rattle.reload.specs.Outcome as reloads
 use Rattle.reload.specs.Reload.{FunctionReloads}
 use Rattle.reload.specs.declared.refusal.ReloadRefusal.{ReloadRefusal}
@@ -80,16 +79,15 @@ module _ (forms : List Entry) (m : Made) where
 
   -- ---- homes
 
-  module _ (homes : List HomeOf) (layout : Layout) (layout_is : layout ≡ layout_of m.function homes) (are : AreHomes m.function homes)
-      (sized : EachSized m.function.insns) where
+  module _ (homes : List HomeOf) (layout : Layout) (layout_is : layout ≡ layout_of m.function homes) (are : AreHomes m.function homes) where
     pub reload_gave : (g : Function) → FunctionReloads forms homes layout m.function (Ok g) →
         PassComes forms m Reload (Ok (record { function = g; layout = layout }))
-    reload_gave g gave = PassComes.reloads homes (Ok g) (Ok (record { function = g; layout = layout })) are sized
+    reload_gave g gave = PassComes.reloads homes (Ok g) (Ok (record { function = g; layout = layout })) are
         (subst (λ (l : Layout). FunctionReloads forms homes l m.function (Ok g)) layout_is gave)
         (ap (λ (l : Layout). Ok (record { function = g; layout = l })) layout_is)
 
     pub reload_refused : (e : ReloadRefusal) → reloads.RefusesAs e (λ e. FunctionReloads forms homes layout m.function (Err e)) →
         RefusesWith (unreloaded_for m.function.name e) (PassComes forms m Reload)
     reload_refused e r = told_reloaded m.function.name e (λ e. FunctionReloads forms homes layout m.function (Err e)) (PassComes forms m Reload)
-        (λ e refuses. PassComes.reloads homes (Err e) (Err (unreloaded_for m.function.name e)) are sized
+        (λ e refuses. PassComes.reloads homes (Err e) (Err (unreloaded_for m.function.name e)) are
         (subst (λ (l : Layout). FunctionReloads forms homes l m.function (Err e)) layout_is refuses) refl) r

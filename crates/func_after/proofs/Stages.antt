@@ -7,7 +7,6 @@ use Rattle.assign.specs.Frame.{layout_of}
 use Rattle.assign.specs.Homes.{AreHomes}
 use Rattle.assign.specs.declared.home.HomeOf.{HomeOf}
 use Rattle.assign.specs.declared.places.Layout.{Layout}
-use Rattle.insn_sizes.specs.Sizes.{EachSized}
 use Rattle.reload.specs.Reload.{FunctionReloads}
 use Rattle.frame.specs.Framed.{FrameComes}
 use Rattle.func_after.specs.declared.made.Made.{Made}
@@ -23,7 +22,6 @@ pub record Stages (forms : List Entry) (f : Function) (last : Made) : Type 0 whe
   pub framed : Function
   pub before : PassesCome forms before_homes (as_read f) (Ok plain)
   pub are : AreHomes plain.function homes
-  pub sized : EachSized plain.function.insns
   pub reloads : FunctionReloads forms homes (layout_of plain.function homes) plain.function (Ok moved)
   pub frames : FrameComes forms moved (layout_of plain.function homes) (Ok framed)
   pub behind : PassesCome forms behind_frame (record { function = framed; layout = layout_of plain.function homes }) (Ok last)
@@ -41,7 +39,6 @@ stages_of forms f last comes =
       framed = framed.next.function;
       before = front.first;
       are = reload.are;
-      sized = reload.sized;
       reloads = reload.comes;
       frames = subst (λ (l : Layout). FrameComes forms homed.next.function l (Ok framed.next.function)) reload.layout_is frame.comes;
       behind = subst (λ (l : Layout). PassesCome forms behind_frame (record { function = framed.next.function; layout = l }) (Ok last))

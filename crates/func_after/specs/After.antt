@@ -19,7 +19,6 @@ use Rattle.assign.specs.Frame.{layout_of}
 use Rattle.assign.specs.Homes.{AreHomes}
 use Rattle.assign.specs.declared.home.HomeOf.{HomeOf}
 use Rattle.assign.specs.declared.places.Layout.{Layout}
-use Rattle.insn_sizes.specs.Sizes.{EachSized}
 use Rattle.reload.specs.Reload.{FunctionReloads}
 use Rattle.reload.specs.declared.refusal.ReloadRefusal.{ReloadRefusal}
 use Rattle.reload.specs.declared.refusal.ReloadRefusal.TheVariants as reloading
@@ -97,13 +96,12 @@ told_reloaded name layout (Ok g) = Ok (record { function = g; layout = layout })
 told_reloaded name layout (Err e) = Err (unreloaded_for name e)
 
 -- What a pass makes of what was made, by the forms of a description, or what it refuses. Registers
--- have the homes that are defined for the function as it comes to reload; of its constants each has
--- 64 signed bits.
+-- have the homes that are defined for the function as it comes to reload.
 pub data PassComes (forms : List Entry) (m : Made) : Pass → Answer → Type 0 where
   changes : (pass : Pass) (c : Changed) (answer : Answer) → ChangeComes forms m.function pass c →
       answer ≡ told_for m.function.name m.layout pass c → PassComes forms m pass answer
   reloads : (homes : List HomeOf) (r : Result Function ReloadRefusal) (answer : Answer) →
-      AreHomes m.function homes → EachSized m.function.insns →
+      AreHomes m.function homes →
       FunctionReloads forms homes (layout_of m.function homes) m.function r →
       answer ≡ told_reloaded m.function.name (layout_of m.function homes) r → PassComes forms m Reload answer
   frames : (r : Result Function PassRefusal) (answer : Answer) →

@@ -9,7 +9,6 @@ use crate::made::Made;
 use crate::refusal::{refused_for, unreloaded_for};
 use assign::{Layout, assign, layout};
 use frame::frame;
-use insn_sizes::walk_numbers;
 use live::live_rows_of;
 use md_desc::Description;
 use pass_name::Pass;
@@ -45,7 +44,6 @@ fn reloaded(alloc: Global, desc: &Description, name: Name, m: Made) -> Result<Ma
     ensures { Gives result (PassComes desc.now m passes.Reload) }
 {
     let function = m.function;
-    walk_numbers(function.insns.as_slice());
     let live = live_rows_of(alloc, &function)?;
     let homes = assign(alloc, &function, live.as_slice())?;
     let layout = layout(alloc, &function, &homes)?;

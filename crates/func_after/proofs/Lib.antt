@@ -1,8 +1,11 @@
 pub mod Each
 pub mod Told
+pub mod ChangeLaws
 pub mod PassLaws
 pub mod PassesLaws
 pub mod OneAfter
+pub mod Changes
+pub mod Passing
 pub mod Kept
 pub mod Stages
 pub mod Keeping

@@ -1,21 +1,16 @@
 -- What a pass makes of what was made, from what its call gave.
-use Rattle.std.proofs.Common.{◌≡◌, ℕ, List, Result, Ok, Err, refl, sym, ap, subst}
+use Rattle.std.proofs.Common.{◌≡◌, ◌⊎◌, inl, inr, ℕ, List, Result, Ok, Err, refl, sym, ap, subst, ◌∙◌}
 use Rattle.rtx_tree.specs.declared.function.Function.{Function}
 use Rattle.pass_name.specs.declared.pass.Pass.{Pass}
-use Rattle.pass_name.specs.declared.pass.Pass.TheVariants as stage
+use Rattle.pass_name.specs.declared.pass.Pass.TheVariants.{Read, Reload, Frame, Output}
 use Rattle.md_forms.specs.declared.form.Entry.{Entry}
 use Rattle.pass_refusal.specs.declared.refusal.PassRefusal.{PassRefusal}
 use Rattle.pass_refusal.specs.declared.refusal.PassRefusal.TheVariants as passes
-use Rattle.pass_refusal.specs.Outcome as pass
-use Rattle.pass_name.specs.declared.pass.Pass.TheVariants.{Read, Lower, Split1, Reload, Frame, Split2}
-use Rattle.lower.specs.Lower.{LowerComes}
-use Rattle.split.specs.declared.stage.SplitStage.TheVariants.{BeforeReload, AfterReload}
-use Rattle.split.specs.Split.{SplitComes}
+use Rattle.pass_refusal.specs.Outcome as outcome
 use Rattle.assign.specs.Frame.{layout_of}
 use Rattle.assign.specs.Homes.{AreHomes}
 use Rattle.assign.specs.declared.home.HomeOf.{HomeOf}
 use Rattle.assign.specs.declared.places.Layout.{Layout}
-use Rattle.insn_sizes.specs.Sizes.{EachSized}
 use Rattle.reload.specs.Outcome as reloads
 use Rattle.reload.specs.Reload.{FunctionReloads}
 use Rattle.reload.specs.declared.refusal.ReloadRefusal.{ReloadRefusal}
@@ -24,11 +19,12 @@ use Rattle.frame.specs.Framed.{FrameComes}
 use Rattle.func_input.specs.Input.{RefusesWith}
 use Rattle.func_after.specs.declared.made.Made.{Made}
 use Rattle.run_refusal.specs.declared.refusal.Refusal.{Refusal}
-use Rattle.func_after.specs.After.{Answer, refused_for, unreloaded_for, PassComes}
+use Rattle.func_after.specs.After as spec
+use Rattle.func_after.specs.After.{Answer, Changed, Gives, plainly, refused_for, unreloaded_for, ChangeComes, PassComes}
 
 -- a refusal of a pass that is told, where what follows from it is known
 pub told_for : {A B : Type 0} (name : List ℕ) (at : Pass) (e : PassRefusal) (P : Result A PassRefusal → Type 0) (Q : Result B Refusal → Type 0) →
-    ((e : PassRefusal) → P (Err e) → Q (Err (refused_for name at e))) → pass.RefusesWith e P → RefusesWith (refused_for name at e) Q
+    ((e : PassRefusal) → P (Err e) → Q (Err (refused_for name at e))) → outcome.RefusesWith e P → RefusesWith (refused_for name at e) Q
 told_for name at passes.Memory P Q follows r = tt
 told_for name at (passes.Unmatched uid insn) P Q follows r = follows (passes.Unmatched uid insn) r
 told_for name at (passes.NotEquated uid rule item left right) P Q follows r = follows (passes.NotEquated uid rule item left right) r
@@ -41,54 +37,57 @@ told_reloaded name (reloading.Unmatched uid insn) P Q follows r = follows (reloa
 told_reloaded name (reloading.Unsatisfied uid form insn) P Q follows r = follows (reloading.Unsatisfied uid form insn) r
 
 module _ (forms : List Entry) (m : Made) where
-  pub read_gave : (pass : Pass) → pass ≡ Read → PassComes forms m pass (Ok m)
-  read_gave pass is = subst (λ p. PassComes forms m p (Ok m)) (sym is) PassComes.reads
+  abbrev told : Pass → Changed → Answer
+  told pass c = spec.told_for m.function.name m.layout pass c
 
-  pub lower_gave : (g : Function) → LowerComes forms m.function (Ok g) → PassComes forms m Lower (Ok (record { function = g; layout = m.layout }))
-  lower_gave g comes = PassComes.lowers (Ok g) (Ok (record { function = g; layout = m.layout })) comes refl
+  -- ---- passes that change the function alone
 
-  pub lower_refused : (e : PassRefusal) → pass.RefusesWith e (LowerComes forms m.function) →
-      RefusesWith (refused_for m.function.name stage.Lower e) (PassComes forms m Lower)
-  lower_refused e r = told_for m.function.name stage.Lower e (LowerComes forms m.function) (PassComes forms m Lower)
-      (λ e comes. PassComes.lowers (Err e) (Err (refused_for m.function.name stage.Lower e)) comes refl) r
+  change_gives : (pass : Pass) (c : Changed) → outcome.Gives c (ChangeComes forms m.function pass) → Gives (told pass c) (PassComes forms m pass)
+  change_gives pass (Ok c) comes = PassComes.changes pass (Ok c) (told pass (Ok c)) comes refl
+  change_gives pass (Err e) comes = told_for m.function.name pass e (ChangeComes forms m.function pass) (PassComes forms m pass)
+      (λ e comes. PassComes.changes pass (Err e) (told pass (Err e)) comes refl) comes
 
-  pub split_first_gave : (g : Function) → SplitComes forms BeforeReload m.function (Ok g) →
-      PassComes forms m Split1 (Ok (record { function = g; layout = m.layout }))
-  split_first_gave g comes = PassComes.splits_first (Ok g) (Ok (record { function = g; layout = m.layout })) comes refl
+  -- by the name that was kept
+  pub change_told : (pass at : Pass) (name : List ℕ) (c : Changed) (answer : Answer) → at ≡ pass → name ≡ m.function.name →
+      answer ≡ spec.told_for name m.layout at c → outcome.Gives c (ChangeComes forms m.function pass) → Gives answer (PassComes forms m at)
+  change_told pass at name c answer here named is gives =
+      subst (λ (a : Answer). Gives a (PassComes forms m at))
+      (sym (is ∙ ap (λ (n : List ℕ). spec.told_for n m.layout at c) named))
+      (subst (λ (p : Pass). Gives (told p c) (PassComes forms m p)) (sym here) (change_gives pass c gives))
 
-  pub split_first_refused : (e : PassRefusal) → pass.RefusesWith e (SplitComes forms BeforeReload m.function) →
-      RefusesWith (refused_for m.function.name stage.Split1 e) (PassComes forms m Split1)
-  split_first_refused e r = told_for m.function.name stage.Split1 e (SplitComes forms BeforeReload m.function) (PassComes forms m Split1)
-      (λ e comes. PassComes.splits_first (Err e) (Err (refused_for m.function.name stage.Split1 e)) comes refl) r
+  -- reading and writing leave what was made
+  pub rest_gave : (pass : Pass) → (pass ≡ Read) ⊎ (pass ≡ Output) → PassComes forms m pass (Ok m)
+  rest_gave pass (inl is) = subst (λ p. PassComes forms m p (Ok m)) (sym is)
+      (PassComes.changes Read (Ok (record { function = m.function })) (Ok m) ChangeComes.reads refl)
+  rest_gave pass (inr is) = subst (λ p. PassComes forms m p (Ok m)) (sym is)
+      (PassComes.changes Output (Ok (record { function = m.function })) (Ok m) ChangeComes.writes refl)
 
-  pub frame_gave : (g : Function) → FrameComes forms m.function m.layout (Ok g) →
-      PassComes forms m Frame (Ok (record { function = g; layout = m.layout }))
-  frame_gave g comes = PassComes.frames (Ok g) (Ok (record { function = g; layout = m.layout })) comes refl
+  -- ---- the frame
 
-  pub frame_refused : (e : PassRefusal) → pass.RefusesWith e (FrameComes forms m.function m.layout) →
-      RefusesWith (refused_for m.function.name stage.Frame e) (PassComes forms m Frame)
-  frame_refused e r = told_for m.function.name stage.Frame e (FrameComes forms m.function m.layout) (PassComes forms m Frame)
-      (λ e comes. PassComes.frames (Err e) (Err (refused_for m.function.name stage.Frame e)) comes refl) r
+  frame_gives : (r : Result Function PassRefusal) → outcome.Gives r (FrameComes forms m.function m.layout) →
+      Gives (told Frame (plainly r)) (PassComes forms m Frame)
+  frame_gives (Ok g) comes = PassComes.frames (Ok g) (told Frame (plainly (Ok g))) comes refl
+  frame_gives (Err e) comes = told_for m.function.name Frame e (FrameComes forms m.function m.layout) (PassComes forms m Frame)
+      (λ e comes. PassComes.frames (Err e) (told Frame (plainly (Err e))) comes refl) comes
 
-  pub split_again_gave : (g : Function) → SplitComes forms AfterReload m.function (Ok g) →
-      PassComes forms m Split2 (Ok (record { function = g; layout = m.layout }))
-  split_again_gave g comes = PassComes.splits_again (Ok g) (Ok (record { function = g; layout = m.layout })) comes refl
+  pub frame_told : (name : List ℕ) (r : Result Function PassRefusal) (c : Changed) (answer : Answer) → name ≡ m.function.name → c ≡ plainly r →
+      answer ≡ spec.told_for name m.layout Frame c → outcome.Gives r (FrameComes forms m.function m.layout) → Gives answer (PassComes forms m Frame)
+  frame_told name r c answer named made is gives =
+      subst (λ (a : Answer). Gives a (PassComes forms m Frame))
+      (sym (is ∙ ap (λ (c : Changed). spec.told_for name m.layout Frame c) made ∙ ap (λ (n : List ℕ). spec.told_for n m.layout Frame (plainly r)) named))
+      (frame_gives r gives)
 
-  pub split_again_refused : (e : PassRefusal) → pass.RefusesWith e (SplitComes forms AfterReload m.function) →
-      RefusesWith (refused_for m.function.name stage.Split2 e) (PassComes forms m Split2)
-  split_again_refused e r = told_for m.function.name stage.Split2 e (SplitComes forms AfterReload m.function) (PassComes forms m Split2)
-      (λ e comes. PassComes.splits_again (Err e) (Err (refused_for m.function.name stage.Split2 e)) comes refl) r
+  -- ---- homes
 
-  module _ (homes : List HomeOf) (layout : Layout) (layout_is : layout ≡ layout_of m.function homes) (are : AreHomes m.function homes)
-      (sized : EachSized m.function.insns) where
+  module _ (homes : List HomeOf) (layout : Layout) (layout_is : layout ≡ layout_of m.function homes) (are : AreHomes m.function homes) where
     pub reload_gave : (g : Function) → FunctionReloads forms homes layout m.function (Ok g) →
         PassComes forms m Reload (Ok (record { function = g; layout = layout }))
-    reload_gave g gave = PassComes.reloads homes (Ok g) (Ok (record { function = g; layout = layout })) are sized
+    reload_gave g gave = PassComes.reloads homes (Ok g) (Ok (record { function = g; layout = layout })) are
         (subst (λ (l : Layout). FunctionReloads forms homes l m.function (Ok g)) layout_is gave)
         (ap (λ (l : Layout). Ok (record { function = g; layout = l })) layout_is)
 
     pub reload_refused : (e : ReloadRefusal) → reloads.RefusesAs e (λ e. FunctionReloads forms homes layout m.function (Err e)) →
         RefusesWith (unreloaded_for m.function.name e) (PassComes forms m Reload)
     reload_refused e r = told_reloaded m.function.name e (λ e. FunctionReloads forms homes layout m.function (Err e)) (PassComes forms m Reload)
-        (λ e refuses. PassComes.reloads homes (Err e) (Err (unreloaded_for m.function.name e)) are sized
+        (λ e refuses. PassComes.reloads homes (Err e) (Err (unreloaded_for m.function.name e)) are
         (subst (λ (l : Layout). FunctionReloads forms homes l m.function (Err e)) layout_is refuses) refl) r

@@ -8,5 +8,5 @@ use Rattle.func_input.specs.Outcome.{Outcome}
 use Rattle.func_after.specs.After.{unmatched_at}
 
 -- an instruction without a match was told
-pub told_unmatched : (stage : Pass) (function : List ℕ) (i : Insn) (e : Refusal) (P : Outcome → Type 0) → e ≡ unmatched_at stage function i → P (Err (unmatched_at stage function i)) → RefusesWith e P
-told_unmatched stage function i e P is holds = subst (λ e. RefusesWith e P) (sym is) holds
+pub told_unmatched : (pass : Pass) (function : List ℕ) (i : Insn) (e : Refusal) (P : Outcome → Type 0) → e ≡ unmatched_at pass function i → P (Err (unmatched_at pass function i)) → RefusesWith e P
+told_unmatched pass function i e P is holds = subst (λ e. RefusesWith e P) (sym is) holds

@@ -1,30 +1,30 @@
 -- What the passes make of a function, one behind the other: GCC Internals, "Passes and Files of the
 -- Compiler" ("RTL passes"). A pass goes on with what the one before it leaves, and what one refuses
 -- is told by the function's name and the pass.
-use Rattle.std.specs.Prelude.{◌≡◌, ℕ, List, [], ◌∷◌, Result, Ok, Err}
+use Rattle.std.specs.Prelude.{◌≡◌, ℕ, Bool, if◌then◌else◌, List, [], ◌∷◌, ◌++◌, Result, Ok, Err}
+use Rattle.std.specs.Str.{bytes_eq}
 use Rattle.rtx_tree.specs.declared.function.Insn.{Insn}
 use Rattle.rtx_tree.specs.declared.function.Function.{Function}
+use Rattle.pass_name.specs.Pass.{pass_name}
 use Rattle.pass_name.specs.declared.pass.Pass.{Pass}
-use Rattle.pass_name.specs.declared.pass.Pass.TheVariants as stage
+use Rattle.pass_name.specs.declared.pass.Pass.TheVariants.{Read, Lower, Split1, Reload, Frame, Split2, Output}
 use Rattle.run_refusal.specs.declared.refusal.Refusal.{Refusal}
 use Rattle.run_refusal.specs.declared.refusal.Refusal.TheVariants as refusal
 use Rattle.md_forms.specs.declared.form.Entry.{Entry}
 use Rattle.pass_refusal.specs.declared.refusal.PassRefusal.{PassRefusal}
 use Rattle.pass_refusal.specs.declared.refusal.PassRefusal.TheVariants as passes
-use Rattle.pass_name.specs.declared.pass.Pass.TheVariants.{Read, Lower, Split1, Reload, Frame, Split2}
 use Rattle.lower.specs.Lower.{LowerComes}
-use Rattle.split.specs.declared.stage.SplitStage.TheVariants.{BeforeReload, AfterReload}
 use Rattle.split.specs.Split.{SplitComes}
 use Rattle.assign.specs.Frame.{layout_of}
 use Rattle.assign.specs.Homes.{AreHomes}
 use Rattle.assign.specs.declared.home.HomeOf.{HomeOf}
 use Rattle.assign.specs.declared.places.Layout.{Layout}
-use Rattle.insn_sizes.specs.Sizes.{EachSized}
 use Rattle.reload.specs.Reload.{FunctionReloads}
 use Rattle.reload.specs.declared.refusal.ReloadRefusal.{ReloadRefusal}
 use Rattle.reload.specs.declared.refusal.ReloadRefusal.TheVariants as reloading
 use Rattle.frame.specs.Framed.{FrameComes}
 use Rattle.func_input.specs.Input.{RefusesWith}
+use Rattle.func_after.specs.declared.change.Change.{Change}
 use Rattle.func_after.specs.declared.made.Made.{Made}
 
 -- ---- what was made so far
@@ -33,16 +33,13 @@ use Rattle.func_after.specs.declared.made.Made.{Made}
 abbrev pub as_read : Function → Made
 as_read f = record { function = f; layout = record { size = 0; slots = []; saved = [] } }
 
-abbrev pub with_function : Made → Function → Made
-with_function m g = record m { function = g }
-
 -- what was made, or a refusal
 abbrev pub Answer : Type 0
 Answer = Result Made Refusal
 
 -- ---- refusals
 
--- the refusal of an instruction of a function at a stage
+-- the refusal of an instruction of a function at a pass
 abbrev pub unmatched_at : Pass → List ℕ → Insn → Refusal
 unmatched_at at function i = refusal.Unmatched function i.uid at i.pattern
 
@@ -57,17 +54,41 @@ refused_for function at passes.Memory = refusal.Memory
 -- the refusal for a function whose registers get no homes
 abbrev pub unreloaded_for : List ℕ → ReloadRefusal → Refusal
 unreloaded_for function (reloading.Unmatched uid insn) =
-    refusal.Unmatched function uid stage.Reload insn
+    refusal.Unmatched function uid Reload insn
 unreloaded_for function (reloading.Unsatisfied uid form insn) =
     refusal.Unsatisfied function uid form insn
 unreloaded_for function reloading.Memory = refusal.Memory
 
+-- ---- passes that change the function alone
+
+-- what such a pass makes of a function, or a refusal
+abbrev pub Changed : Type 0
+Changed = Result Change PassRefusal
+
+-- what a pass makes that gives a function and nothing beside it
+abbrev pub plainly : Result Function PassRefusal → Changed
+plainly (Ok g) = Ok (record { function = g })
+plainly (Err e) = Err e
+
+-- What a pass that changes the function alone makes of it, by the forms of a description. Reading
+-- and writing leave it as it is.
+pub data ChangeComes (forms : List Entry) (f : Function) : Pass → Changed → Type 0 where
+  reads : ChangeComes forms f Read (plainly (Ok f))
+  lowers : (r : Result Function PassRefusal) → LowerComes forms f r →
+      ChangeComes forms f Lower (plainly r)
+  splits_first : (r : Result Function PassRefusal) → SplitComes forms Split1 f r →
+      ChangeComes forms f Split1 (plainly r)
+  splits_again : (r : Result Function PassRefusal) → SplitComes forms Split2 f r →
+      ChangeComes forms f Split2 (plainly r)
+  writes : ChangeComes forms f Output (plainly (Ok f))
+
 -- ---- one pass
 
--- what was made, with another function
-abbrev pub told_for : Made → Pass → Result Function PassRefusal → Answer
-told_for m at (Ok g) = Ok (with_function m g)
-told_for m at (Err e) = Err (refused_for m.function.name at e)
+-- what was made, by a name and the layout of the frame, where a pass changed the function, or what
+-- the pass refuses
+abbrev pub told_for : List ℕ → Layout → Pass → Changed → Answer
+told_for name layout at (Ok c) = Ok (record { function = c.function; layout = layout })
+told_for name layout at (Err e) = Err (refused_for name at e)
 
 -- the function that reload gives, with the layout of its frame, or the refusal
 abbrev pub told_reloaded : List ℕ → Layout → Result Function ReloadRefusal → Answer
@@ -75,26 +96,17 @@ told_reloaded name layout (Ok g) = Ok (record { function = g; layout = layout })
 told_reloaded name layout (Err e) = Err (unreloaded_for name e)
 
 -- What a pass makes of what was made, by the forms of a description, or what it refuses. Registers
--- have the homes that are defined for the function as it comes to reload; of its constants each has
--- 64 signed bits.
+-- have the homes that are defined for the function as it comes to reload.
 pub data PassComes (forms : List Entry) (m : Made) : Pass → Answer → Type 0 where
-  reads : PassComes forms m Read (Ok m)
-  lowers : (r : Result Function PassRefusal) (answer : Answer) → LowerComes forms m.function r →
-      answer ≡ told_for m stage.Lower r →
-      PassComes forms m Lower answer
-  splits_first : (r : Result Function PassRefusal) (answer : Answer) →
-      SplitComes forms BeforeReload m.function r →
-      answer ≡ told_for m stage.Split1 r → PassComes forms m Split1 answer
+  changes : (pass : Pass) (c : Changed) (answer : Answer) → ChangeComes forms m.function pass c →
+      answer ≡ told_for m.function.name m.layout pass c → PassComes forms m pass answer
   reloads : (homes : List HomeOf) (r : Result Function ReloadRefusal) (answer : Answer) →
       AreHomes m.function homes →
-      EachSized m.function.insns → FunctionReloads forms homes (layout_of m.function homes) m.function r →
+      FunctionReloads forms homes (layout_of m.function homes) m.function r →
       answer ≡ told_reloaded m.function.name (layout_of m.function homes) r → PassComes forms m Reload answer
   frames : (r : Result Function PassRefusal) (answer : Answer) →
       FrameComes forms m.function m.layout r →
-      answer ≡ told_for m stage.Frame r → PassComes forms m Frame answer
-  splits_again : (r : Result Function PassRefusal) (answer : Answer) →
-      SplitComes forms AfterReload m.function r →
-      answer ≡ told_for m stage.Split2 r → PassComes forms m Split2 answer
+      answer ≡ told_for m.function.name m.layout Frame (plainly r) → PassComes forms m Frame answer
 
 -- ---- one behind the other
 
@@ -108,22 +120,34 @@ pub data PassesCome (forms : List Entry) : List Pass → Made → Answer → Typ
       PassComes forms m pass (Ok next) →
       PassesCome forms others next answer → PassesCome forms (pass ∷ others) m answer
 
--- the passes up to one
-abbrev pub passes_up_to : Pass → List Pass
-passes_up_to Read = []
-passes_up_to Lower = Lower ∷ []
-passes_up_to Split1 = Lower ∷ Split1 ∷ []
-passes_up_to Reload = Lower ∷ Split1 ∷ Reload ∷ []
-passes_up_to Frame = Lower ∷ Split1 ∷ Reload ∷ Frame ∷ []
-passes_up_to Split2 = Lower ∷ Split1 ∷ Reload ∷ Frame ∷ Split2 ∷ []
+-- the passes before registers have homes
+abbrev pub before_homes : List Pass
+before_homes = Read ∷ Lower ∷ Split1 ∷ []
+
+-- those behind the frame
+abbrev pub behind_frame : List Pass
+behind_frame = Split2 ∷ []
+
+-- all before the text is written
+abbrev pub all_passes : List Pass
+all_passes = before_homes ++ (Reload ∷ Frame ∷ behind_frame)
+
+-- two passes are one if they have one name
+abbrev pub is_pass : Pass → Pass → Bool
+is_pass a b = bytes_eq (pass_name a) (pass_name b)
+
+-- those of some passes up to one, or all where it is none of them
+unfoldable pub up_to : Pass → List Pass → List Pass
+up_to last [] = []
+up_to last (pass ∷ passes) = pass ∷ (if is_pass pass last then [] else up_to last passes)
 
 -- what a function is behind a pass, or what a pass on the way there refuses
 abbrev pub IsBehind : List Entry → Function → Pass → Answer → Type 0
-IsBehind forms f pass = PassesCome forms (passes_up_to pass) (as_read f)
+IsBehind forms f pass = PassesCome forms (up_to pass all_passes) (as_read f)
 
--- what comes to output: the function behind the last pass
+-- what comes to output: the function behind all passes
 abbrev pub AfterComes : List Entry → Function → Answer → Type 0
-AfterComes forms f = IsBehind forms f Split2
+AfterComes forms f = PassesCome forms all_passes (as_read f)
 
 -- ---- what a call has done
 

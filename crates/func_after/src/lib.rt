@@ -6,11 +6,13 @@
 //! `specs/Each.antt` says what some things come to, one behind the other.
 #![tactic(auto)]
 
+mod change;
 mod made;
 mod pass;
 mod passes;
 mod refusal;
 
+pub use change::Change;
 pub use made::Made;
 pub use passes::{after, behind};
 pub use refusal::{refused_at, unmatched};

@@ -1,52 +1,49 @@
 //! One pass over what was made of a function.
+ghost use Rattle.std.specs.Prelude.{◌≡◌};
 ghost use Rattle.pass_name.specs.declared.pass.Pass.TheVariants as passes;
-ghost use Rattle.func_after.specs.After.{PassComes, Gives};
+ghost use Rattle.func_after.specs.After as spec;
+ghost use Rattle.func_after.specs.After.{Gives, PassComes};
 
+use crate::change::{Change, lowered, plainly, split_again, split_first};
 use crate::made::Made;
 use crate::refusal::{refused_for, unreloaded_for};
-use assign::{assign, layout};
+use assign::{Layout, assign, layout};
 use frame::frame;
-use insn_sizes::walk_numbers;
 use live::live_rows_of;
-use lower::lower;
 use md_desc::Description;
 use pass_name::Pass;
+use pass_refusal::PassRefusal;
 use reload::reload;
+use rtx_tree::Name;
 use run_refusal::Refusal;
-use split::{SplitStage, split};
 use std::alloc::Global;
 
-#[tactic(auto, using(crate::proofs::PassLaws::lower_gave, crate::proofs::PassLaws::lower_refused))]
-fn lowered(alloc: Global, desc: &Description, m: Made) -> Result<Made, Refusal>
-    ensures { Gives result (PassComes desc.now m passes.Lower) }
+/// What was made, by a name and the layout of the frame, where a pass changed the function, or what
+/// the pass refuses.
+fn told(
+    name: Name,
+    layout: Layout,
+    pass: Pass,
+    change: Result<Change, PassRefusal>,
+) -> Result<Made, Refusal>
+    ensures { result ≡ spec.told_for name layout pass change }
 {
-    let Made { function, layout } = m;
-    let name = function.name.copy(alloc)?;
-    match lower(alloc, desc, function) {
-        Ok(function) => Ok(Made { function, layout }),
-        Err(e) => Err(refused_for(name, Pass::Lower, e)),
+    match change {
+        Ok(change) => Ok(Made {
+            function: change.function,
+            layout,
+        }),
+        Err(e) => Err(refused_for(name, pass, e)),
     }
 }
 
-#[tactic(auto, using(crate::proofs::PassLaws::split_first_gave, crate::proofs::PassLaws::split_first_refused))]
-fn split_first(alloc: Global, desc: &Description, m: Made) -> Result<Made, Refusal>
-    ensures { Gives result (PassComes desc.now m passes.Split1) }
-{
-    let Made { function, layout } = m;
-    let name = function.name.copy(alloc)?;
-    match split(alloc, desc, function, SplitStage::BeforeReload) {
-        Ok(function) => Ok(Made { function, layout }),
-        Err(e) => Err(refused_for(name, Pass::Split1, e)),
-    }
-}
-
+/// The function with homes, by its name, and the layout of its frame.
 #[tactic(auto, using(crate::proofs::PassLaws::reload_gave, crate::proofs::PassLaws::reload_refused, reload_homes::proofs::OrderedLaws::ordered))]
-fn reloaded(alloc: Global, desc: &Description, m: Made) -> Result<Made, Refusal>
+fn reloaded(alloc: Global, desc: &Description, name: Name, m: Made) -> Result<Made, Refusal>
+    requires { name ≡ m.function.name }
     ensures { Gives result (PassComes desc.now m passes.Reload) }
 {
     let function = m.function;
-    let name = function.name.copy(alloc)?;
-    walk_numbers(function.insns.as_slice());
     let live = live_rows_of(alloc, &function)?;
     let homes = assign(alloc, &function, live.as_slice())?;
     let layout = layout(alloc, &function, &homes)?;
@@ -56,31 +53,19 @@ fn reloaded(alloc: Global, desc: &Description, m: Made) -> Result<Made, Refusal>
     }
 }
 
-#[tactic(auto, using(crate::proofs::PassLaws::frame_gave, crate::proofs::PassLaws::frame_refused))]
-fn framed(alloc: Global, desc: &Description, m: Made) -> Result<Made, Refusal>
+/// The function with its frame, by its name.
+#[tactic(auto, using(crate::proofs::PassLaws::frame_told))]
+fn framed(alloc: Global, desc: &Description, name: Name, m: Made) -> Result<Made, Refusal>
+    requires { name ≡ m.function.name }
     ensures { Gives result (PassComes desc.now m passes.Frame) }
 {
     let Made { function, layout } = m;
-    let name = function.name.copy(alloc)?;
-    match frame(alloc, desc, function, &layout) {
-        Ok(function) => Ok(Made { function, layout }),
-        Err(e) => Err(refused_for(name, Pass::Frame, e)),
-    }
-}
-
-#[tactic(auto, using(crate::proofs::PassLaws::split_again_gave, crate::proofs::PassLaws::split_again_refused))]
-fn split_again(alloc: Global, desc: &Description, m: Made) -> Result<Made, Refusal>
-    ensures { Gives result (PassComes desc.now m passes.Split2) }
-{
-    let Made { function, layout } = m;
-    let name = function.name.copy(alloc)?;
-    match split(alloc, desc, function, SplitStage::AfterReload) {
-        Ok(function) => Ok(Made { function, layout }),
-        Err(e) => Err(refused_for(name, Pass::Split2, e)),
-    }
+    let change = plainly(frame(alloc, desc, function, &layout));
+    told(name, layout, Pass::Frame, change)
 }
 
 /// What a pass makes of what was made.
+#[tactic(auto, using(crate::proofs::PassLaws::change_told))]
 pub(crate) fn passed(
     alloc: Global,
     desc: &Description,
@@ -89,12 +74,13 @@ pub(crate) fn passed(
 ) -> Result<Made, Refusal>
     ensures { Gives result (PassComes desc.now m pass) }
 {
+    let name = m.function.name.copy(alloc)?;
     match pass {
-        Pass::Read => Ok(m),
-        Pass::Lower => lowered(alloc, desc, m),
-        Pass::Split1 => split_first(alloc, desc, m),
-        Pass::Reload => reloaded(alloc, desc, m),
-        Pass::Frame => framed(alloc, desc, m),
-        Pass::Split2 => split_again(alloc, desc, m),
+        Pass::Read | Pass::Output => Ok(m),
+        Pass::Lower => told(name, m.layout, pass, lowered(alloc, desc, m.function)),
+        Pass::Split1 => told(name, m.layout, pass, split_first(alloc, desc, m.function)),
+        Pass::Reload => reloaded(alloc, desc, name, m),
+        Pass::Frame => framed(alloc, desc, name, m),
+        Pass::Split2 => told(name, m.layout, pass, split_again(alloc, desc, m.function)),
     }
 }

@@ -16,8 +16,9 @@ use rtx_tree::Function;
 use run_refusal::Refusal;
 use std::alloc::Global;
 
-/// All passes, in their order.
-static PASSES: [Pass; 5] = [
+/// All passes before the text is written, in their order.
+static PASSES: [Pass; 6] = [
+    Pass::Read,
     Pass::Lower,
     Pass::Split1,
     Pass::Reload,
@@ -25,33 +26,36 @@ static PASSES: [Pass; 5] = [
     Pass::Split2,
 ];
 
-/// The passes up to one.
-fn passes_up_to(pass: Pass) -> &'static [Pass]
-    ensures { result.now ≡ spec.passes_up_to pass }
+/// All passes before the text is written.
+fn all_passes() -> &'static [Pass]
+    ensures { result.now ≡ spec.all_passes }
 {
-    match pass {
-        Pass::Read => &[],
-        Pass::Lower => &PASSES[..1],
-        Pass::Split1 => &PASSES[..2],
-        Pass::Reload => &PASSES[..3],
-        Pass::Frame => &PASSES[..4],
-        Pass::Split2 => &PASSES,
-    }
+    &PASSES
 }
 
-/// What the passes up to one make of a function.
+/// Whether two passes are one.
+fn is_pass(a: Pass, b: Pass) -> bool
+    ensures { result ≡ spec.is_pass a b }
+{
+    a.name() == b.name()
+}
+
+/// What the passes up to one make of a function; `Pass::Output` comes behind all.
 ///
 /// # Errors
 ///
 /// As the passes tell them: `Unmatched`, `Unsatisfied`, `NotEquated`, and `Limit` of `TermSize`,
-/// `SplitDepth` or `Frame`; `Memory` where memory ran out.
+/// `Instructions`, `SplitDepth` or `Frame`; `Memory` where memory ran out.
 #[tactic(auto, using(crate::proofs::PassesLaws::makes_start, crate::proofs::PassesLaws::makes_on, crate::proofs::PassesLaws::makes_wrong, crate::proofs::PassesLaws::makes_all))]
 pub fn behind(alloc: Global, desc: &Description, f: &Function, pass: Pass) -> Result<Made, Refusal>
     ensures { Gives result (IsBehind desc.now f.now pass) }
 {
     let mut made = as_read(alloc, f)?;
-    for next in passes_up_to(pass) {
+    for next in all_passes() {
         made = passed(alloc, desc, made, *next)?;
+        if is_pass(*next, pass) {
+            return Ok(made);
+        }
     }
     Ok(made)
 }
@@ -61,7 +65,7 @@ pub fn behind(alloc: Global, desc: &Description, f: &Function, pass: Pass) -> Re
 /// # Errors
 ///
 /// As [`behind`] says for the last pass.
-#[tactic(auto, using(crate::proofs::OneAfter::one_after, crate::proofs::Keeping::after_leads))]
+#[tactic(auto, using(crate::proofs::PassesLaws::behind_all, crate::proofs::OneAfter::one_after, crate::proofs::Keeping::after_leads))]
 pub fn after(alloc: Global, desc: &Description, f: &Function) -> Result<Made, Refusal>
     // What is told is given; a refusal is the one that is told.
     ensures gives { Gives result (AfterComes desc.now f.now) }
@@ -75,5 +79,5 @@ pub fn after(alloc: Global, desc: &Description, f: &Function) -> Result<Made, Re
     ensures leads { (forms : List Entry) (f : Function) (m : Made) → IsDescribed forms → IsSound f →
         AfterComes forms f (Ok m) → LeadsToLines f m }
 {
-    behind(alloc, desc, f, Pass::Split2)
+    behind(alloc, desc, f, Pass::Output)
 }

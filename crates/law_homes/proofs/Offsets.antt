@@ -1,13 +1,12 @@
 -- Sums with sp, in each width.
-use Rattle.std.proofs.Common.{◌≡◌, ℕ, zero, suc, ◌+◌, ◌-◌, ◌*◌, ◌%◌, ◌^◌, Bool, true, false, List, [], ◌∷◌, Option, Some, None, refl, sym, ap, ◌∙◌, arith}
+use Rattle.std.proofs.Common.{◌≡◌, ℕ, zero, suc, ◌+◌, ◌*◌, ◌%◌, ◌^◌, Bool, true, false, List, [], ◌∷◌, Option, Some, None, refl, sym, ap, ◌∙◌, arith}
 use Rattle.std.proofs.lemmas.Bool.Decides.{Decides-int_eq}
-use Rattle.std.proofs.lemmas.Bool.{ltb-true}
-use Rattle.std.proofs.lemmas.Int.{ints, of_z-to_z, int_rem_euclid_is}
+use Rattle.std.proofs.lemmas.Int.{ints, of_z-to_z, int_rem_euclid_is, int_wrap-add_right}
 use Rattle.std.specs.FinMap.{get}
 use Rattle.std.specs.Int.{cast_signed, cast_unsigned, int_wrap, w64}
 use Rattle.std.specs.Int.RustNames.{unsigned_abs}
 use Rattle.std.specs.Ordering.{int_eq}
-use Rattle.std.specs.Prelude.{ℤ, pos, negsuc, ◌+ℤ◌, option_and_then, nat_le, if◌then◌else◌}
+use Rattle.std.specs.Prelude.{ℤ, pos, ◌+ℤ◌, option_and_then, nat_le, if◌then◌else◌}
 use Rattle.bits64.specs.Words.{bits_of, low, sum_of}
 use Rattle.bits64.specs.declared.Width.{Width}
 use Rattle.bits64.specs.declared.Width.TheVariants.{W8, W16, W32, W64}
@@ -19,7 +18,6 @@ use Rattle.rtx_tree.specs.declared.memories.MemByte.{MemByte}
 use Rattle.rtl_step.specs.Regs.{Regs, known_in, reg_value}
 use Rattle.rtl_step.specs.Value.{value_of, of_two}
 use Rattle.rtl_step.specs.declared.regs.Known.{Known}
-use Rattle.text_words.specs.Words.{fits_i64}
 use Rattle.reload_homes.specs.FrameRefs.{from_sp}
 use Rattle.law_homes.proofs.Trees.{reg_is, const_is, sum_is}
 
@@ -35,12 +33,13 @@ wrap_of n times m is =
 pub wrap_natural : (a : ℕ) → cast_unsigned w64 (int_wrap w64 (pos a)) ≡ a % 2 ^ 64
 wrap_natural a = wrap_of (pos a) 0 a (omega (arith, ints))
 
--- a sum with a number of 64 signed bits
-pub wrap_sum : (a : ℕ) (n : ℤ) → fits_i64 n ≡ true → cast_unsigned w64 (int_wrap w64 (pos a +ℤ n)) ≡ (a + cast_unsigned w64 n) % 2 ^ 64
-wrap_sum a (pos k) fits = wrap_of (pos a +ℤ pos k) 0 (a + k) (omega (arith, ints))
-wrap_sum a (negsuc k) fits =
-    let less = ltb-true k 9223372036854775808 fits in
-    wrap_of (pos a +ℤ negsuc k) 1 (a + (2 ^ 64 - suc k)) (omega (arith, ints, less))
+-- a sum with a number that has wrapped
+pub wrap_sum : (a b : ℕ) → cast_unsigned w64 (int_wrap w64 (pos a +ℤ int_wrap w64 (pos b))) ≡ (a + cast_unsigned w64 (int_wrap w64 (pos b))) % 2 ^ 64
+wrap_sum a b =
+    ap (cast_unsigned w64) (int_wrap-add_right w64 (pos a) (pos b))
+    ∙ wrap_of (pos a +ℤ pos b) 0 (a + b) (omega (arith, ints))
+    ∙ (let cut : (a + b) % 2 ^ 64 ≡ (a + b % 2 ^ 64) % 2 ^ 64 = omega arith in cut)
+    ∙ ap (λ n. (a + n) % 2 ^ 64) (sym (wrap_natural b))
 
 -- the low bits of a sum with one that is cut to 64 bits
 pub low_cut : (w : Width) (below a : ℕ) → low w (below + a % 2 ^ 64) ≡ low w (below + a)
@@ -48,6 +47,13 @@ low_cut W8 below a = omega arith
 low_cut W16 below a = omega arith
 low_cut W32 below a = omega arith
 low_cut W64 below a = omega arith
+
+-- those of one that is cut
+pub low_all : (w : Width) (a : ℕ) → low w (a % 2 ^ 64) ≡ low w a
+low_all W8 a = omega arith
+low_all W16 a = omega arith
+low_all W32 a = omega arith
+low_all W64 a = omega arith
 
 pub sum_low : (w : Width) (a b : ℕ) → sum_of w (low w a) (low w b) ≡ low w (a + b)
 sum_low W8 a b = omega arith

@@ -1,5 +1,5 @@
 -- Where what is known of registers stands in their homes, a tree with homes put in has the value of the tree.
-use Rattle.std.proofs.Common.{◌≡◌, ◌≢◌, ℕ, ◌+◌, ◌<◌, ◌≤◌, ◌^◌, ◌&&◌, ◌⊎◌, inl, inr, Bool, true, false, List, [], ◌∷◌, map, Option, Some, None, refl, sym, ap, subst, ◌∙◌, arith}
+use Rattle.std.proofs.Common.{◌≡◌, ℕ, ◌+◌, ◌<◌, ◌≤◌, ◌^◌, ◌&&◌, ◌⊎◌, inl, inr, Bool, true, false, List, [], ◌∷◌, map, Option, Some, None, refl, sym, ap, subst, ◌∙◌, arith, ◌%◌}
 use Rattle.std.proofs.lemmas.Bool.{false≢true, and_parts, or_left, or_right}
 use Rattle.std.proofs.lemmas.Bool.Decides.{Decides-int_eq}
 use Rattle.std.specs.Int.{cast_unsigned, int_wrap, w64}
@@ -26,19 +26,18 @@ use Rattle.rtl_step.specs.Value.{Reading, width_of, value_of, of_one}
 use Rattle.rtl_step.proofs.Too.{Too, too_two}
 use Rattle.rtl_step.proofs.Readings.{AllRead}
 use Rattle.md_operand.specs.Addresses.{is_stack_vars, is_constant, is_any}
-use Rattle.text_words.specs.Words.{fits_i64}
 use Rattle.law_window_runs.specs.Beside.{Within}
 use Rattle.assign.specs.declared.home.Home.{Home}
 use Rattle.assign.specs.declared.home.Home.TheVariants.{Hard, Slot}
 use Rattle.assign.specs.declared.home.HomeOf.{HomeOf}
 use Rattle.assign.specs.declared.places.Layout.{Layout}
-use Rattle.reload_homes.specs.FrameRefs.{from_sp, offset_by, frame_offset, framed}
+use Rattle.reload_homes.specs.FrameRefs.{in_bits, from_sp, offset_by, frame_offset, framed}
 use Rattle.reload_homes.specs.Homes.{home_of, slot_offset, slot_address, place_by, place_for, register_numbered, register_in, register_by, register_at, homed}
 use Rattle.reload_homes.proofs.Rewrites.{framed_reference, framed_over, homed_register, homed_over}
 use Rattle.law_homes.specs.Stands.{content_in}
 use Rattle.law_homes.specs.Placed.{is_sized, all_sized, placed}
 use Rattle.law_homes.proofs.Grows.{leaf_too, value_grows}
-use Rattle.law_homes.proofs.Offsets.{wrap_natural, wrap_sum, low_cut, from_sp_is, known_each, sum_low}
+use Rattle.law_homes.proofs.Offsets.{wrap_natural, wrap_sum, low_all, low_cut, from_sp_is, known_each, sum_low}
 use Rattle.law_homes.proofs.Trees.{constant_code, tree_induction, sized_here, sized_kids, register_code, numbered, as_read, value_at, reg_is, mem_is, reg_alone, const_alone, lowpart_is, plus_is, mentions_kid}
 
 -- ---- two machines of which the second has the registers of the first in their homes
@@ -214,38 +213,50 @@ module _ (homes : List HomeOf) (layout : Layout) (m : Machines) (are : AreHomed 
   plus_nothing : (w : Width) → Some (low w m.top) ≡ Some (low w (m.top + cast_unsigned w64 (pos 0)))
   plus_nothing w = let same : m.top ≡ m.top + cast_unsigned w64 (pos 0) = omega arith in ap (λ a. Some (low w a)) same
 
+  -- the low bits of a constant, as it wraps
+  low_bits : (w : Width) (n c : ℤ) → in_bits n ≡ c → low w (cast_unsigned w64 n) ≡ low w (cast_unsigned w64 c)
+  low_bits w n c is =
+      sym (low_all w (cast_unsigned w64 n)) ∙ ap (low w) (sym (wrap_natural (cast_unsigned w64 n)) ∙ ap (cast_unsigned w64) is)
+
   -- what a reference to the frame is worth
   reference_by : (code : Code) (x : Rtx) (kids : List Rtx) (c : ℤ) (w : Width) → (out-Rtx x).code ≡ code → (out-Rtx x).kids ≡ kids →
       offset_by code x kids ≡ Some c → Too (value x w) (Some (low w (m.top + cast_unsigned w64 c)))
   reference_by Plus x (a ∷ b ∷ []) c w is are_kids off =
-      let both = added (is_stack_vars a && is_constant is_any b) (head_of b).number c off in
+      let both = added (is_stack_vars a && is_constant is_any b) (in_bits (head_of b).number) c off in
       let tests = and_parts (is_stack_vars a) (is_constant is_any b) both.0 in
       let sums = too_two (λ m n. Some (sum_of w m n)) (value a w) (Some (low w m.top)) (value b w) (Some (low w (cast_unsigned w64 c)))
       (vars_alone a w tests.0)
-      (const_alone m.symbols m.regs m.memory b c w (constant_code (out-Rtx b).code (out-Rtx b).number tests.1) both.1) in
+      (subst (λ bits. Too (value b w) (Some bits)) (low_bits w (head_of b).number c both.1)
+      (const_alone m.symbols m.regs m.memory b (head_of b).number w (constant_code (out-Rtx b).code (out-Rtx b).number tests.1) refl)) in
       λ v has. ap Some (sym (sum_low w m.top (cast_unsigned w64 c))) ∙ sums v (sym (plus_is m.symbols m.regs m.memory x a b w is are_kids) ∙ has)
   reference_by _ x kids c w is are_kids off =
       let both = added (is_stack_vars x) (pos 0) c off in
       λ v has. ap (λ (z : ℤ). Some (low w (m.top + cast_unsigned w64 z))) (sym both.1) ∙ sym (plus_nothing w) ∙ vars_alone x w both.0 v has
 
-  -- its constant has 64 bits
-  constant_fits : (code : Code) (x : Rtx) (kids : List Rtx) (c : ℤ) → (out-Rtx x).kids ≡ kids → all_sized x ≡ true → offset_by code x kids ≡ Some c → fits_i64 c ≡ true
-  constant_fits Plus x (a ∷ b ∷ []) c are_kids sized off =
-      let both = added (is_stack_vars a && is_constant is_any b) (head_of b).number c off in
-      let tests = and_parts (is_stack_vars a) (is_constant is_any b) both.0 in
-      let code = constant_code (out-Rtx b).code (out-Rtx b).number tests.1 in
-      let kids : list_all all_sized (a ∷ b ∷ []) ≡ true = sym (ap (list_all all_sized) are_kids) ∙ sized_kids x sized in
-      let here = sized_here b (and_parts (all_sized b) true (and_parts (all_sized a) (all_sized b && true) kids).1).0 in
-      ap fits_i64 (sym both.1) ∙ sym (ap (λ c. is_sized c (out-Rtx b).number) code) ∙ here
-  constant_fits _ x kids c are_kids sized off = ap fits_i64 (sym (added (is_stack_vars x) (pos 0) c off).1)
+  wrap_nothing : int_wrap w64 (pos 0) ≡ pos 0
+  unfolding int_wrap
+  wrap_nothing = refl
 
-  reference_stays : (x : Rtx) (c : ℤ) → all_sized x ≡ true → frame_offset x ≡ Some c → Stays x
-  reference_stays x c sized is = record {
+  -- what it adds has wrapped
+  offset_wraps : (code : Code) (x : Rtx) (kids : List Rtx) (c : ℤ) → offset_by code x kids ≡ Some c → (bits : ℕ) × (c ≡ int_wrap w64 (pos bits))
+  offset_wraps Plus x (a ∷ b ∷ []) c off =
+      (cast_unsigned w64 (head_of b).number, sym (added (is_stack_vars a && is_constant is_any b) (in_bits (head_of b).number) c off).1)
+  offset_wraps _ x kids c off = (0, sym (added (is_stack_vars x) (pos 0) c off).1 ∙ sym wrap_nothing)
+
+  offset_sum : (x : Rtx) (c : ℤ) → frame_offset x ≡ Some c →
+      cast_unsigned w64 (int_wrap w64 (pos layout.size +ℤ c)) ≡ (layout.size + cast_unsigned w64 c) % 2 ^ 64
+  offset_sum x c is =
+      let wraps = offset_wraps (out-Rtx x).code x (out-Rtx x).kids c is in
+      subst (λ (z : ℤ). cast_unsigned w64 (int_wrap w64 (pos layout.size +ℤ z)) ≡ (layout.size + cast_unsigned w64 z) % 2 ^ 64) (sym wraps.1)
+      (wrap_sum layout.size wraps.0)
+
+  reference_stays : (x : Rtx) (c : ℤ) → frame_offset x ≡ Some c → Stays x
+  reference_stays x c is = record {
     mode_is = ap (λ y. (head_of y).mode) (placed_reference x c is) ∙ mode_by (head_of x).mode (int_wrap w64 (pos layout.size +ℤ c)) (int_eq (int_wrap w64 (pos layout.size +ℤ c)) (pos 0));
     values = λ w v has.
         ap (λ y. value_too y w) (placed_reference x c is)
         ∙ from_sp_is m.symbols m.others m.other m.base are.pointer (head_of x).mode (pos layout.size +ℤ c) w
-        ∙ ap (λ a. Some (low w (m.base + a))) (wrap_sum layout.size c (constant_fits (out-Rtx x).code x (out-Rtx x).kids c refl sized is))
+        ∙ ap (λ a. Some (low w (m.base + a))) (offset_sum x c is)
         ∙ ap Some (low_cut w m.base (layout.size + cast_unsigned w64 c))
         ∙ ap (λ a. Some (low w a)) (let frame = are.frame in omega (arith, frame))
         ∙ reference_by (out-Rtx x).code x (out-Rtx x).kids c w refl refl is v has;
@@ -384,7 +395,7 @@ module _ (homes : List HomeOf) (layout : Layout) (m : Machines) (are : AreHomed 
 
       by : (offset : Option ℤ) (register : Option ℕ) → frame_offset x ≡ offset →
           parts_register (head_of x).code (head_of x).number (framed_kids x) ≡ register → Stays x
-      by (Some c) register is reg = reference_stays x c sized is
+      by (Some c) register is reg = reference_stays x c is
       by None (Some reg) none is = found_stays x reg none known kids is
       by None None none is = over_stays x (no_register (head_of x).code (head_of x).number (framed_kids x) is (sized_here x sized)) (placed_over x none is) kids
 

@@ -1,6 +1,6 @@
 -- The values of small trees: a register, a constant, a sum, and memory at an address.
 use Rattle.std.proofs.Common.{◌≡◌, ℕ, ◌&&◌, Bool, true, List, [], ◌∷◌, map, Option, Some, refl, sym, ap, subst, ◌∙◌}
-use Rattle.std.proofs.lemmas.Bool.{false≢true, and_parts, or_right}
+use Rattle.std.proofs.lemmas.Bool.{false≢true, and_from, and_parts, or_right}
 use Rattle.std.proofs.lemmas.Bool.Decides.{Decides-int_eq}
 use Rattle.std.specs.Int.{cast_unsigned, w64}
 use Rattle.std.specs.List.{AllByRecursion, list_all, list_any}
@@ -53,6 +53,9 @@ sized_here x sized = (and_parts (is_sized (out-Rtx x).code (out-Rtx x).number) (
 
 pub sized_kids : (x : Rtx) → all_sized x ≡ true → list_all all_sized (out-Rtx x).kids ≡ true
 sized_kids x sized = (and_parts (is_sized (out-Rtx x).code (out-Rtx x).number) (list_all all_sized (out-Rtx x).kids) (sym (sized_out x) ∙ sized)).1
+
+pub sized_whole : (x : Rtx) → is_sized (out-Rtx x).code (out-Rtx x).number ≡ true → list_all all_sized (out-Rtx x).kids ≡ true → all_sized x ≡ true
+sized_whole x here kids = sized_out x ∙ and_from (is_sized (out-Rtx x).code (out-Rtx x).number) (list_all all_sized (out-Rtx x).kids) here kids
 
 -- ---- registers
 

@@ -6,7 +6,7 @@ use Rattle.bits64.specs.declared.Width.{Width}
 use Rattle.rtx_tree.specs.Registers.{virtual_stack_vars}
 use Rattle.rtx_tree.specs.Tree.{head_of, kids_of, mentions_reg}
 use Rattle.rtx_tree.specs.declared.code.Code.{Code}
-use Rattle.rtx_tree.specs.declared.code.Code.TheVariants.{Reg, ConstInt, IfThenElse, Set}
+use Rattle.rtx_tree.specs.declared.code.Code.TheVariants.{Reg, IfThenElse, Set}
 use Rattle.rtx_tree.specs.declared.function.Function.{Function}
 use Rattle.rtx_tree.specs.declared.function.Insn.{Insn}
 use Rattle.rtx_tree.specs.declared.function.Kind.TheVariants.{Jump, Call}
@@ -20,7 +20,6 @@ use Rattle.rtl_step.specs.declared.regs.Known.{Known}
 use Rattle.reg_uses.specs.Uses.{insn_defines, has_argument}
 use Rattle.rtl_func.specs.Calls.{is_argument}
 use Rattle.md_operand.specs.Addresses.{is_constant, is_any}
-use Rattle.text_words.specs.Words.{fits_i64}
 use Rattle.law_window_lines.specs.ForLines.{MarksAreEmpty}
 use Rattle.assign.specs.declared.home.Home.TheVariants.{Hard, Slot}
 use Rattle.assign.specs.declared.home.HomeOf.{HomeOf}
@@ -35,11 +34,10 @@ use Rattle.law_homes.specs.Stands.{has_home}
 abbrev pub placed : List HomeOf → Layout → Rtx → Rtx
 placed homes layout x = homed homes layout (framed layout.size x)
 
--- the number of a register is a natural one, and that of a constant has 64 signed bits
+-- the number of a register is a natural one
 abbrev pub is_sized : Code → ℤ → Bool
 is_sized Reg (pos number) = true
 is_sized Reg (negsuc number) = false
-is_sized ConstInt number = fits_i64 number
 is_sized _ number = true
 
 abbrev pub sized_step : Rtx-F Bool → Bool

@@ -19,7 +19,6 @@ use Rattle.frame.specs.law_frame.Keeps.{KeepsInFrame}
 use Rattle.frame.specs.Framed.{FrameComes}
 use Rattle.frame.proofs.Kept.{is_framed}
 use Rattle.law_reload.specs.reload.Windows.{HasWindows}
-use Rattle.law_reload.specs.Homes.{NumbersAreSized}
 use Rattle.law_reload.proofs.WithFrame.{described_with_frame}
 use Rattle.law_window_lines.specs.Left.{SameWhereLeft}
 use Rattle.law_passes.proofs.Whole.{whole_same}
@@ -33,16 +32,16 @@ size_holds locals saved slots = omega arith
 pub made_same : (constants : List Constant) (instances : List Instance) (f0 f3 f4 f5 f6 : Function) (homes : List HomeOf) (layout : Layout)
     (items : List CodeItem) →
     let forms = forms_of constants instances in
-    PassKeeps f0 f3 → AreHomes f3 homes → layout ≡ layout_of f3 homes → NumbersAreSized f3 →
+    PassKeeps f0 f3 → AreHomes f3 homes → layout ≡ layout_of f3 homes →
     HasWindows forms homes layout f3 f4 → FrameComes forms f4 layout (Ok f5) → KeepsInFrame f4 layout f5 → Keeps f5 f6 →
     SameWhereLeft f6 items → Same layout.size f0 items
-made_same constants instances f0 f3 f4 f5 f6 homes layout items passes are layout_is sized windows comes keeps splits lines_do =
+made_same constants instances f0 f3 f4 f5 f6 homes layout items passes are layout_is windows comes keeps splits lines_do =
     let frame : IsFrame f3 homes layout = subst (IsFrame f3 homes) (sym layout_is) (IsFrame-layout_of f3 homes) in
     let framed : IsFramed layout f4 f5 = is_framed (forms_of constants instances) f4 f5 layout comes in
     let fits : f3.locals ≤ layout.size =
     subst (λ (l : Layout). f3.locals ≤ l.size) (sym layout_is) (size_holds f3.locals (saved_of f3 homes) (slots_of homes)) in
     whole_same f0 f3 f5 f6 layout items passes.keeps fits
-    (described_with_frame constants instances f3 f4 homes layout are frame passes.sound.reloadable sized windows f5 keeps)
+    (described_with_frame constants instances f3 f4 homes layout are frame passes.sound.reloadable windows f5 keeps)
     (ap (λ (f : Function). f.locals) framed.framed_is ∙ ap (λ (f : Function). f.locals) windows.function_is)
     (ap (λ (f : Function). f.result) framed.framed_is ∙ ap (λ (f : Function). f.result) windows.function_is)
     splits lines_do

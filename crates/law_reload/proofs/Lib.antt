@@ -16,6 +16,7 @@ pub mod Moved
 pub mod Chain
 pub mod Registers
 pub mod JumpLabels
+pub mod Natural
 pub mod Placeable
 pub mod Reloading
 pub mod KeepsVars

@@ -29,7 +29,7 @@ use Rattle.law_reload_moves.proofs.PlainAround.{none_behind}
 use Rattle.law_reload_moves.proofs.PlainLeads.{plain_leads}
 use Rattle.law_reload_moves.proofs.Reloaded.{IsReloaded}
 use Rattle.law_reload_moves.proofs.ResultKeys.{none_places}
-use Rattle.law_reload.specs.Homes.{HasHomes, NumbersAreSized}
+use Rattle.law_reload.specs.Homes.{HasHomes}
 use Rattle.law_reload.specs.Keeps.{KeepsUnderHomes}
 use Rattle.law_reload.proofs.Chain.{windows_keep}
 use Rattle.law_reload.proofs.Kept.{kept_too}
@@ -117,13 +117,13 @@ module _ (forms : List Entry) (patterns : PatternsAreSound forms) where
   -- A function that can be reloaded keeps its runs under the homes of its registers, where its
   -- instructions stand between the moves of sound plans.
   pub reloaded_keeps : (f g : Function) (homes : List HomeOf) (layout : Layout) → AreHomes f homes →
-      IsFrame f homes layout → IsReloadable f → NumbersAreSized f →
+      IsFrame f homes layout → IsReloadable f →
       HasWindows forms homes layout f g → KeepsUnderHomes f layout g
-  reloaded_keeps f g homes layout are frame is sized windows =
+  reloaded_keeps f g homes layout are frame is windows =
       let has : HasHomes f homes layout = record {
         are_homes = are;
         frame = frame;
-        can = can_be_placed f is sized;
+        can = can_be_placed f is;
       } in
       windows_keep forms f g homes layout has windows
       (λ start world lawful lawful_world place i at form pattern found plan needs match sound.

@@ -1,4 +1,4 @@
--- A function that can be reloaded, and whose constants have 64 signed bits, can have homes put in.
+-- A function that can be reloaded can have homes put in.
 use Rattle.std.proofs.Common.{◌≡◌, ℕ, ◌==◌, ◌&&◌, ◌||◌, ◌⊎◌, inl, inr, Bool, true, false, List, [], ◌∷◌, refl, sym, ap, subst, ◌∙◌}
 use Rattle.std.specs.List.{list_all, list_any}
 use Rattle.std.proofs.lemmas.Bool.{false≢true, and_parts, or_cases, eqb-true}
@@ -28,7 +28,7 @@ use Rattle.law_window_lines.proofs.Small.{and_none}
 use Rattle.law_reload_moves.specs.law_window_replaced.Natural.{RegistersAreNatural}
 use Rattle.law_homes.specs.Stands.{has_home}
 use Rattle.law_homes.specs.Placed.{label_by, names_constant, CanBePlaced}
-use Rattle.law_reload.specs.Homes.{NumbersAreSized}
+use Rattle.law_reload.proofs.Natural.{natural_sized}
 use Rattle.law_reload.proofs.Registers.{named, nothing_named}
 use Rattle.law_reload.proofs.JumpLabels.{labels_constant}
 
@@ -88,9 +88,9 @@ module _ (i : Insn) (is : IsInsnReloadable i) where
 
 -- ---- the function
 
-pub can_be_placed : (f : Function) → IsReloadable f → NumbersAreSized f → CanBePlaced f
-can_be_placed f is sized = record {
-  sized = sized;
+pub can_be_placed : (f : Function) → IsReloadable f → CanBePlaced f
+can_be_placed f is = record {
+  sized = λ place i at. natural_sized i.pattern (at_place IsInsnReloadable f.insns is.each place i at).natural;
   named = λ place reg i at has. let one = at_place IsInsnReloadable f.insns is.each place i at in
       named_by i one (is_mark i.kind) reg refl has;
   passed = λ place reg i at call has. handed_by i (at_place IsInsnReloadable f.insns is.each place i

@@ -29,7 +29,7 @@ use Rattle.law_reload_moves.specs.reload_choice.Sound.{IsSoundPlan}
 use Rattle.law_reload_moves.specs.reload_choice.declared.given.Plan.{Plan}
 use Rattle.reload.specs.Reload.{placed, given_by, patterns_in, patterns_by, patterns_at, IsMatch}
 use Rattle.reload.specs.Windows.{HasWindows}
-use Rattle.law_reload.specs.Homes.{HasHomes, NumbersAreSized}
+use Rattle.law_reload.specs.Homes.{HasHomes}
 use Rattle.law_reload.specs.Keeps.{KeepsUnderHomes}
 use Rattle.law_reload.proofs.Law.{setting_of}
 use Rattle.law_reload.proofs.Moved.{MovesLead}
@@ -116,13 +116,13 @@ module _ (forms : List Entry) (moves : MovesLeadOn forms) where
   -- instructions stand between the moves of sound plans.
   pub reload_keeps : (f g : Function) (homes : List HomeOf) (layout : Layout) → AreHomes f homes →
       IsFrame f homes layout → IsReloadable f →
-      NumbersAreSized f → HasWindows forms homes layout f g → KeepsUnderHomes f layout g
-  reload_keeps f g homes layout are frame is sized windows =
+      HasWindows forms homes layout f g → KeepsUnderHomes f layout g
+  reload_keeps f g homes layout are frame is windows =
       let has : HasHomes f homes layout = record {
         are_homes = are;
         frame = frame;
         can =
-            can_be_placed f is sized;
+            can_be_placed f is;
       } in
       windows_keep forms f g homes layout has windows
       (λ start world lawful lawful_world. moves_do (setting_of f homes layout has start world

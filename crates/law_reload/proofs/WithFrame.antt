@@ -12,7 +12,6 @@ use Rattle.reload.specs.law_pass_needs.Reloadable.{IsReloadable}
 use Rattle.law_reload_moves.specs.law_frame.Keeps.{KeepsInFrame}
 use Rattle.law_reload_moves.proofs.law_frame.Laid.{laid_out}
 use Rattle.reload.specs.Windows.{HasWindows}
-use Rattle.law_reload.specs.Homes.{NumbersAreSized}
 use Rattle.law_reload.specs.Keeps.{KeepsUnderHomes, KeepsWithFrame}
 use Rattle.law_reload.proofs.Composing.{keeps_with_frame}
 use Rattle.law_reload.proofs.Linked.{reloaded_keeps}
@@ -21,13 +20,12 @@ use Rattle.law_reload.proofs.SoundPatterns.{patterns_are_sound}
 module _ (constants : List Constant) (forms : List Instance) (f g : Function) (homes : List HomeOf)
     (layout : Layout) (are : AreHomes f homes) (frame : IsFrame f homes layout)
     (is : IsReloadable f)
-    (sized : NumbersAreSized f)
     (windows : HasWindows (forms_of constants forms) homes layout f g) where
   -- in a frame that others make
   pub described_keeps : KeepsUnderHomes f layout g
   described_keeps = reloaded_keeps (forms_of constants forms) (patterns_are_sound constants forms) f
       g homes
-      layout are frame is sized windows
+      layout are frame is windows
 
   -- in its own frame
   pub described_with_frame : (h : Function) → KeepsInFrame g layout h → KeepsWithFrame f layout h

@@ -19,7 +19,7 @@ use Rattle.law_operands_fetched.specs.assign.declared.home.Home.{Home}
 use Rattle.law_operands_fetched.specs.assign.declared.home.Home.TheVariants.{Hard}
 use Rattle.law_operands_fetched.specs.assign.declared.home.HomeOf.{HomeOf}
 use Rattle.law_operands_fetched.specs.assign.declared.places.Layout.{Layout}
-use Rattle.law_operands_fetched.specs.reload_homes.FrameRefs.{offset_by, frame_offset, framed}
+use Rattle.law_operands_fetched.specs.reload_homes.FrameRefs.{in_bits, offset_by, frame_offset, framed}
 use Rattle.law_operands_fetched.specs.reload_homes.Homes.{home_of, place_by, register_numbered, register_by, register_at, homed}
 use Rattle.law_operands_fetched.proofs.reload_homes.Rewrites.{framed_over, homed_register, homed_over}
 use Rattle.law_operands_fetched.proofs.law_homes.Trees.{constant_code}
@@ -62,7 +62,7 @@ vars_only x n r true is at shaped has =
     let v = no_number (head_of x).code (head_of x).number 32 is in leaf_register x 32 r v.0 v.1 shaped has
 vars_only x n r false is at shaped has = absurd (let no : ⊥ = cc in no)
 
-sum_only : (x a b : Rtx) (n : ℤ) (r : ℕ) (both : Bool) → (is_stack_vars a && is_constant is_any b) ≡ both → (if both then Some (head_of b).number else None) ≡ Some n →
+sum_only : (x a b : Rtx) (n : ℤ) (r : ℕ) (both : Bool) → (is_stack_vars a && is_constant is_any b) ≡ both → (if both then Some (in_bits (head_of b).number) else None) ≡ Some n →
     (head_of x).code ≡ code.Plus → kids_of x ≡ a ∷ b ∷ [] → is_shaped a ≡ true → is_shaped b ≡ true → mentions_reg r x ≡ true → 32 ≡ r
 sum_only x a b n r false is at plus are shaped shaped' has = absurd (let no : ⊥ = cc in no)
 sum_only x a b n r true is at plus are shaped shaped' has =

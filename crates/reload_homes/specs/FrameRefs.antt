@@ -2,7 +2,7 @@
 -- (`virtual-stack-vars`) and "Eliminating Frame Pointer and Arg Pointer". virtual-stack-vars stands
 -- for the address just past the locals, which is the frame's size above sp.
 use Rattle.std.specs.Prelude.{ℕ, ℤ, pos, ◌+ℤ◌, ◌&&◌, List, [], ◌∷◌, Option, Some, None, if◌then◌else◌}
-use Rattle.std.specs.Int.{int_wrap, w64}
+use Rattle.std.specs.Int.{cast_unsigned, int_wrap, w64}
 use Rattle.std.specs.Option.{option_map_or}
 use Rattle.std.specs.Ordering.{int_eq}
 use Rattle.rtx_tree.specs.declared.code.Code.{Code}
@@ -26,10 +26,14 @@ from_sp mode c = sp_plus mode (int_wrap w64 c)
 
 -- ---- references
 
+-- the number of a constant, as it stands in 64 signed bits
+abbrev pub in_bits : ℤ → ℤ
+in_bits number = int_wrap w64 (pos (cast_unsigned w64 number))
+
 abbrev pub number_added : Rtx → Rtx → Option ℤ
 number_added base constant =
     if is_stack_vars base &&
-    is_constant is_any constant then Some (head_of constant).number else None
+    is_constant is_any constant then Some (in_bits (head_of constant).number) else None
 
 abbrev pub offset_by : Code → Rtx → List Rtx → Option ℤ
 offset_by Plus x (base ∷ constant ∷ []) = number_added base constant

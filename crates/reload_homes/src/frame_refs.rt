@@ -44,11 +44,19 @@ fn sum_of(size: u64, number: i64) -> i64
     size.cast_signed().wrapping_add(number)
 }
 
+/// The number of a constant has 64 signed bits.
+#[tactic(auto, using(crate::proofs::Wrapping::bits_stay))]
+fn in_bits(number: i64) -> i64
+    ensures { result ≡ spec.in_bits number }
+{
+    number
+}
+
 fn number_added(base: &Rtx, constant: &Rtx) -> Option<i64>
     ensures { result ≡ spec.number_added base.now constant.now }
 {
     if is_stack_vars(base) && is_any_constant(constant) {
-        Some(constant.number)
+        Some(in_bits(constant.number))
     } else {
         None
     }

@@ -8,11 +8,11 @@ use Rattle.func_after.proofs.pass.reloaded.Goals as goal
 pub returns-in-Ok : goal.returns-in-Ok
 returns-in-Ok c =
     reload_gave c.args.desc.now c.args.m c.in_ok-homes.homes c.in_ok-layout.layout c.in_ok-layout.ensures.value c.in_ok-homes.ensures.homes
-    (rw c.as_slice.ensures.value at c.walk_numbers.ensures) c.in-Ok.function c.in-Ok.ensures.gives
+    c.in-Ok.function c.in-Ok.ensures.gives
 
-pub returns : goal.returns
-returns c =
+pub returns-in-Err : goal.returns-in-Err
+returns-in-Err c =
     subst (λ e. RefusesWith e (PassComes c.args.desc.now c.args.m Reload))
-    (sym (c.unreloaded_for.ensures ∙ ap (λ name. unreloaded_for name c.in-Err.e) c.in_ok-name.ensures))
+    (sym (c.unreloaded_for.ensures ∙ ap (λ name. unreloaded_for name c.in-Err.e) c.requires))
     (reload_refused c.args.desc.now c.args.m c.in_ok-homes.homes c.in_ok-layout.layout c.in_ok-layout.ensures.value
-    c.in_ok-homes.ensures.homes (rw c.as_slice.ensures.value at c.walk_numbers.ensures) c.in-Err.e c.in-Err.ensures.gives)
+    c.in_ok-homes.ensures.homes c.in-Err.e c.in-Err.ensures.gives)

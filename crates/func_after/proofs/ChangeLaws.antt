@@ -1,0 +1,34 @@
+-- What a pass makes that changes the function alone, from what its call gave.
+use Rattle.std.proofs.Common.{◌≡◌, List, Result, Ok, Err, sym, subst}
+use Rattle.rtx_tree.specs.declared.function.Function.{Function}
+use Rattle.pass_name.specs.declared.pass.Pass.TheVariants.{Lower, Split1, Split2}
+use Rattle.md_forms.specs.declared.form.Entry.{Entry}
+use Rattle.pass_refusal.specs.declared.refusal.PassRefusal.{PassRefusal}
+use Rattle.pass_refusal.specs.declared.refusal.PassRefusal.TheVariants as passes
+use Rattle.pass_refusal.specs.Outcome as outcome
+use Rattle.lower.specs.Lower.{LowerComes}
+use Rattle.split.specs.Split.{SplitComes}
+use Rattle.func_after.specs.After.{Changed, plainly, ChangeComes}
+
+-- what follows from what a pass comes to that gives a function and nothing beside it
+pub plain_gives : (P : Result Function PassRefusal → Type 0) (Q : Changed → Type 0) → ((r : Result Function PassRefusal) → P r → Q (plainly r)) →
+    (r : Result Function PassRefusal) → outcome.Gives r P → outcome.Gives (plainly r) Q
+plain_gives P Q follows (Ok g) gives = follows (Ok g) gives
+plain_gives P Q follows (Err passes.Memory) gives = tt
+plain_gives P Q follows (Err (passes.Unmatched uid insn)) gives = follows (Err (passes.Unmatched uid insn)) gives
+plain_gives P Q follows (Err (passes.NotEquated uid rule item left right)) gives = follows (Err (passes.NotEquated uid rule item left right)) gives
+plain_gives P Q follows (Err (passes.Limit which count)) gives = follows (Err (passes.Limit which count)) gives
+
+module _ (forms : List Entry) (f : Function) (r : Result Function PassRefusal) (c : Changed) (is : c ≡ plainly r) where
+  -- a line a pass
+  pub lowered : outcome.Gives r (LowerComes forms f) → outcome.Gives c (ChangeComes forms f Lower)
+  lowered gives = subst (λ (c : Changed). outcome.Gives c (ChangeComes forms f Lower)) (sym is)
+      (plain_gives (LowerComes forms f) (ChangeComes forms f Lower) (λ r comes. ChangeComes.lowers r comes) r gives)
+
+  pub split_first : outcome.Gives r (SplitComes forms Split1 f) → outcome.Gives c (ChangeComes forms f Split1)
+  split_first gives = subst (λ (c : Changed). outcome.Gives c (ChangeComes forms f Split1)) (sym is)
+      (plain_gives (SplitComes forms Split1 f) (ChangeComes forms f Split1) (λ r comes. ChangeComes.splits_first r comes) r gives)
+
+  pub split_again : outcome.Gives r (SplitComes forms Split2 f) → outcome.Gives c (ChangeComes forms f Split2)
+  split_again gives = subst (λ (c : Changed). outcome.Gives c (ChangeComes forms f Split2)) (sym is)
+      (plain_gives (SplitComes forms Split2 f) (ChangeComes forms f Split2) (λ r comes. ChangeComes.splits_again r comes) r gives)

@@ -1,13 +1,12 @@
 -- What the word of an instruction has at the places of its parts.
-use Rattle.std.proofs.Common.{◌≡◌, ℕ, ℤ, pos, negsuc, ◌+◌, ◌-◌, ◌*◌, ◌/◌, ◌%◌, ◌^◌, ◌<◌, ◌≤◌, ◌==◌, ◌&&◌, nat_lt, Bool, true, false, if◌then◌else◌, refl, sym, ◌∙◌, ap, arith}
+use Rattle.std.proofs.Common.{◌≡◌, ℕ, ℤ, pos, negsuc, ◌+◌, ◌*◌, ◌%◌, ◌<◌, ◌≤◌, nat_lt, Bool, true, false, if◌then◌else◌, refl, sym, ◌∙◌, ap, arith}
 use Rattle.std.specs.Prelude.{◌-ℤ◌, ◌≤ℤ◌}
 use Rattle.std.specs.Int.{cast_unsigned, w64}
 use Rattle.std.proofs.lemmas.Int.{ints}
 use Rattle.std.proofs.lemmas.Bool.Decides.{nat_tests}
 use Rattle.std.proofs.Math.Nat.{mod-eq_of_lt}
-use Rattle.rv_word.specs.Word.{moved, has_rd, has_rs1, has_rs2, part, register_bits, funct_bits, number_bits, encode_as, signed_from, number_in, base_in, Fits, IsWithin}
+use Rattle.rv_word.specs.Word.{moved, has_rd, has_rs1, has_rs2, part, encode_as, signed_from, number_in, base_in, Fits, IsWithin}
 use Rattle.rv_word.specs.declared.base.Base.{Base}
-use Rattle.rv_word.specs.declared.base.BaseOp.{BaseOp}
 use Rattle.rv_word.specs.declared.base.Codes.{Codes}
 use Rattle.rv_word.specs.declared.base.Format.{Format}
 use Rattle.rv_word.specs.declared.base.Format.TheVariants.{Register, Immediate, Count6, Count5, Store, Branch, Upper, Jump}

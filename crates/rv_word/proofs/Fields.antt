@@ -1,6 +1,6 @@
 -- The parts of a word, put in and cut out.
-use Rattle.std.proofs.Common.{◌≡◌, ℕ, ◌+◌, ◌*◌, ◌/◌, ◌%◌, ◌^◌, ◌<◌, arith}
-use Rattle.rv_word.specs.Word.{moved, encode_as}
+use Rattle.std.proofs.Common.{ℕ, ◌^◌, ◌<◌, arith}
+use Rattle.rv_word.specs.Word.{encode_as}
 use Rattle.rv_word.specs.declared.base.Base.{Base}
 use Rattle.rv_word.specs.declared.base.Codes.{Codes}
 use Rattle.rv_word.specs.declared.base.Format.{Format}

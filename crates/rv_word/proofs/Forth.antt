@@ -1,5 +1,5 @@
 -- A word has the codes and the parts of the instruction that it is found to be, and no bits beside them.
-use Rattle.std.proofs.Common.{◌≡◌, ℕ, ℤ, pos, negsuc, ◌+◌, ◌-◌, ◌*◌, ◌/◌, ◌%◌, ◌^◌, ◌<◌, ◌≤◌, ◌==◌, ◌&&◌, nat_lt, Bool, true, false, if◌then◌else◌, List, [], ◌∷◌, Option, Some, None, refl, sym, ◌∙◌, ap, arith}
+use Rattle.std.proofs.Common.{◌≡◌, ℕ, pos, negsuc, ◌+◌, ◌-◌, ◌*◌, ◌/◌, ◌%◌, ◌^◌, ◌<◌, ◌≤◌, ◌==◌, ◌&&◌, nat_lt, Bool, true, false, if◌then◌else◌, List, [], ◌∷◌, Some, refl, sym, ◌∙◌, ap, arith}
 use Rattle.std.specs.Prelude.{◌-ℤ◌, ◌≤ℤ◌}
 use Rattle.std.specs.Int.{cast_unsigned, w64}
 use Rattle.std.proofs.lemmas.Int.{ints}
@@ -8,7 +8,6 @@ use Rattle.std.proofs.lemmas.Nat.{mod_below}
 use Rattle.std.specs.Cmp.{unsigned_Decides}
 use Rattle.rv_word.specs.Table.{codes_of}
 use Rattle.rv_word.specs.Word.{moved, number_bits, encode_as, signed_from, number_in, base_in, has_functs, has_codes, find_op, Fits, IsWithin}
-use Rattle.rv_word.specs.declared.base.Base.{Base}
 use Rattle.rv_word.specs.declared.base.BaseOp.{BaseOp}
 use Rattle.rv_word.specs.declared.base.Codes.{Codes}
 use Rattle.rv_word.specs.declared.base.Format.{Format}

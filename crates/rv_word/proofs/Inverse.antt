@@ -1,15 +1,13 @@
 -- `decode` is the inverse of `encode`.
-use Rattle.std.proofs.Common.{◌≡◌, ℕ, ◌%◌, ◌^◌, ◌<◌, ◌==◌, ◌&&◌, nat_lt, Bool, true, Option, Some, None, option_map, refl, sym, ◌∙◌, ap, subst, arith}
+use Rattle.std.proofs.Common.{◌≡◌, ℕ, ◌%◌, ◌^◌, ◌<◌, ◌==◌, nat_lt, true, Option, Some, None, option_map, refl, sym, ◌∙◌, ap, subst, arith}
 use Rattle.std.specs.Int.{cast_unsigned, w64}
-use Rattle.std.specs.Cmp.{unsigned_Decides}
 use Rattle.std.proofs.lemmas.Bool.Decides.{nat_tests}
 use Rattle.rv_text.specs.Text.{Finds}
 use Rattle.rv_word.specs.Table.{codes_of, all_ops}
-use Rattle.rv_word.specs.Word.{moved, encode, encode_as, decode, find_op, base_in, has_functs, FitsBase, IsWordOf}
+use Rattle.rv_word.specs.Word.{moved, encode, decode, find_op, base_in, has_functs, FitsBase, IsWordOf}
 use Rattle.rv_word.specs.declared.base.Base.{Base}
 use Rattle.rv_word.specs.declared.base.BaseOp.{BaseOp}
 use Rattle.rv_word.specs.declared.base.Codes.{Codes}
-use Rattle.rv_word.specs.declared.base.Format.{Format}
 use Rattle.rv_word.specs.declared.base.Format.TheVariants.{Count6}
 use Rattle.rv_word.proofs.Looked.{found, small, is_small, is_even_at}
 use Rattle.rv_word.proofs.Back.{opcode_back, funct3_back, funct7_back, funct6_back, parts_back}

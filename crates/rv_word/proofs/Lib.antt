@@ -5,3 +5,5 @@ pub mod Forth
 pub mod Inverse
 pub mod OneWord
 pub mod Straight
+pub mod Ranges
+pub mod Behind

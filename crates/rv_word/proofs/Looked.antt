@@ -1,5 +1,5 @@
 -- The codes of each base instruction are its own: who looks them up finds it.
-use Rattle.std.proofs.Common.{◌≡◌, ℕ, ◌%◌, ◌==◌, ◌&&◌, nat_lt, Bool, true, if◌then◌else◌, List, [], ◌∷◌, Option, Some, None, refl, sym, ◌∙◌, ap}
+use Rattle.std.proofs.Common.{◌≡◌, ℕ, ◌%◌, ◌==◌, ◌&&◌, nat_lt, Bool, true, if◌then◌else◌, List, [], ◌∷◌, Option, Some, None, refl, ◌∙◌, ap}
 use Rattle.rv_word.specs.Table.{codes_of, all_ops}
 use Rattle.rv_word.specs.Word.{moved, find_op}
 use Rattle.rv_word.specs.declared.base.BaseOp.{BaseOp}

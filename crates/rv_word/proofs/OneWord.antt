@@ -1,24 +1,20 @@
 -- A line that has one word does what its word does.
-use Rattle.std.proofs.Common.{◌≡◌, ℕ, ℤ, pos, ◌+◌, ◌%◌, ◌^◌, ◌<◌, ◌==◌, ◌&&◌, nat_eq, bytes_eq, Bool, true, false, if◌then◌else◌, List, [], Option, Some, None, option_map, refl, sym, ◌∙◌, ap, arith}
+use Rattle.std.proofs.Common.{◌≡◌, ℕ, ◌+◌, ◌%◌, ◌^◌, ◌<◌, Bool, true, false, [], Option, Some, None, option_map, refl, sym, ◌∙◌, ap, arith}
 use Rattle.std.specs.Prelude.{not}
-use Rattle.std.specs.Ordering.{int_eq}
 use Rattle.std.proofs.Math.Nat.{mod-eq_of_lt}
-use Rattle.rtx_tree.specs.declared.machine.World.{World}
 use Rattle.rv_text.specs.Table.{row_of}
-use Rattle.rv_text.specs.Lines.{is_of_row, same_line, filled, has_all, bare}
+use Rattle.rv_text.specs.Lines.{is_of_row, same_line, has_all, bare}
 use Rattle.rv_text.specs.declared.line.Line.{Line}
 use Rattle.rv_text.specs.declared.action.Comparison.{Comparison}
 use Rattle.rv_text.specs.declared.action.Comparison.TheVariants.{Equal, NotEqual, Less, NotLess, LessUnsigned, NotLessUnsigned}
-use Rattle.rv_text.specs.declared.mnemonic.Mnemonic.{Mnemonic}
 use Rattle.rv_text.specs.declared.mnemonic.Mnemonic.TheVariants as mnemonic
 use Rattle.rv_text.proofs.Printing.{same_line_is}
 use Rattle.rv_text.proofs.Numbers.{and_true}
-use Rattle.rv_line.specs.Step.{register, with_register, of_both, compares, branch_end, place_of, register_call_end, return_end}
+use Rattle.rv_line.specs.Step.{register, with_register, of_both, compares, branch_end, register_call_end, return_end}
 use Rattle.rv_line.specs.declared.state.RvState.{RvState}
 use Rattle.rv_line.specs.declared.state.LineEnd.{LineEnd}
-use Rattle.rv_line.specs.declared.state.LineEnd.TheVariants.{Next, Jumped}
-use Rattle.rv_word.specs.Spelling.{spelling_of, one_word}
-use Rattle.rv_word.specs.Step.{step_word, HoldsWords, DoesAlike, OneWordDoes, turned, OppositeDoes}
+use Rattle.rv_line.specs.declared.state.LineEnd.TheVariants.{Next}
+use Rattle.rv_word.specs.Step.{OneWordDoes, turned, OppositeDoes}
 
 -- a register that holds 64 bits, plus 0
 plus_nothing : (value : Option ℕ) → ((number : ℕ) → value ≡ Some number → number < 2 ^ 64) → option_map (λ v. (v + 0) % 2 ^ 64) value ≡ value

@@ -1,26 +1,25 @@
 -- What li, la and call do, word by word.
-use Rattle.std.proofs.Common.{◌≡◌, ℕ, zero, suc, ℤ, pos, negsuc, ◌+◌, ◌-◌, ◌*◌, ◌/◌, ◌%◌, ◌^◌, ◌<◌, ◌≤◌, ◌==◌, ◌&&◌, nat_lt, nat_eq, bytes_eq, Bool, true, false, if◌then◌else◌, List, [], ◌∷◌, ◌++◌, length, Option, Some, None, option_map, is_some, ◌⊎◌, inl, inr, refl, sym, ◌∙◌, ap, subst, arith}
-use Rattle.std.specs.Prelude.{◌-ℤ◌, ◌≤ℤ◌, option_and_then, slice_get, slice_set}
+use Rattle.std.proofs.Common.{◌≡◌, ℕ, zero, suc, ℤ, pos, negsuc, ◌+◌, ◌-◌, ◌*◌, ◌/◌, ◌%◌, ◌^◌, ◌<◌, ◌≤◌, ◌==◌, nat_lt, Bool, true, false, if◌then◌else◌, List, [], ◌∷◌, ◌++◌, length, Option, Some, None, option_map, is_some, ◌⊎◌, inl, inr, refl, sym, ◌∙◌, ap, subst, arith}
+use Rattle.std.specs.Prelude.{◌-ℤ◌, option_and_then, slice_get, slice_set}
 use Rattle.std.specs.Int.{cast_unsigned, w64}
 use Rattle.std.specs.Fmt.{signed_decimal}
 use Rattle.std.specs.Cmp.{unsigned_Decides}
 use Rattle.std.proofs.lemmas.Int.{ints}
 use Rattle.std.proofs.lemmas.Bool.Decides.{nat_tests}
-use Rattle.bits64.specs.Words.{sign_extended, shifted_left, sum_of}
+use Rattle.bits64.specs.Words.{sign_extended}
 use Rattle.bits64.specs.declared.Width.{Width}
 use Rattle.bits64.specs.declared.Width.TheVariants.{W32, W64}
 use Rattle.rtx_tree.specs.declared.machine.World.{World}
-use Rattle.run_memory.specs.Symbols.{symbol_address}
 use Rattle.text_words.specs.Words.{fits_i64}
 use Rattle.rv_text.specs.Table.{row_of}
-use Rattle.rv_text.specs.Lines.{is_of_row, is_within, register_text, number_text, same_line, filled, bare, has_all}
+use Rattle.rv_text.specs.Lines.{is_within, register_text, number_text, same_line, filled, bare, has_all}
 use Rattle.rv_text.specs.declared.line.Line.{Line}
 use Rattle.rv_text.specs.declared.action.Operation.{Operation}
 use Rattle.rv_text.specs.declared.action.Operation.TheVariants.{Add, Sll}
 use Rattle.rv_text.specs.declared.mnemonic.Mnemonic.TheVariants as mnemonic
 use Rattle.rv_text.proofs.Numbers.{and_true}
 use Rattle.rv_text.proofs.Registers.{is_some_register}
-use Rattle.rv_line.specs.Step.{register, with_register, computed, of_both, set_rd, act, place_of, call_end, register_call_end}
+use Rattle.rv_line.specs.Step.{register, with_register, computed, of_both, set_rd, place_of, call_end, register_call_end}
 use Rattle.rv_line.specs.declared.state.RvState.{RvState}
 use Rattle.rv_line.specs.declared.state.LineEnd.{LineEnd}
 use Rattle.rv_line.specs.declared.state.LineEnd.TheVariants.{Next, Called}

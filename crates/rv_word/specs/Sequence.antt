@@ -1,7 +1,7 @@
 -- The words of lines that may have several: branches to far labels, li, la and call ("RISC-V Assembly
 -- Programmer's Manual", "Pseudoinstructions for RISC-V": far branches, and "Load Immediate"; RISC-V
 -- unprivileged manual, "Integer Register-Immediate Instructions": lui builds constants with addi).
-use Rattle.std.specs.Prelude.{◌≡◌, ℕ, zero, suc, ℤ, pos, negsuc, ◌-ℤ◌, ◌+◌, ◌*◌, ◌/◌, ◌%◌, ◌^◌, ◌<◌, ◌==◌, nat_lt, Bool, true, false, if◌then◌else◌, List, [], ◌∷◌, ◌++◌, Option, Some, None, length}
+use Rattle.std.specs.Prelude.{◌≡◌, ℕ, zero, suc, ℤ, pos, negsuc, ◌-ℤ◌, ◌+◌, ◌*◌, ◌/◌, ◌%◌, ◌^◌, ◌<◌, ◌==◌, nat_lt, Bool, true, false, if◌then◌else◌, List, [], ◌∷◌, ◌++◌, Some, length}
 use Rattle.std.specs.Int.{cast_unsigned, w64}
 use Rattle.rtx_tree.specs.declared.machine.World.{World}
 use Rattle.run_memory.specs.Symbols.{symbol_address}
@@ -13,8 +13,8 @@ use Rattle.rv_line.specs.Step.{with_register, act}
 use Rattle.rv_line.specs.declared.state.RvState.{RvState}
 use Rattle.rv_line.specs.declared.state.LineEnd.{LineEnd}
 use Rattle.rv_line.specs.declared.state.LineEnd.TheVariants as ends
-use Rattle.rv_word.specs.Word.{signed_from, encode}
-use Rattle.rv_word.specs.Spelling.{spelling_of, register_at, number_at, base_of, opposite}
+use Rattle.rv_word.specs.Word.{signed_from}
+use Rattle.rv_word.specs.Spelling.{register_at, number_at, base_of, opposite}
 use Rattle.rv_word.specs.Step.{step_word}
 use Rattle.rv_word.specs.declared.base.Base.{Base}
 use Rattle.rv_word.specs.declared.base.BaseOp.{BaseOp}

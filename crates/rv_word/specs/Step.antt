@@ -1,7 +1,7 @@
 -- What a base instruction does: what a line of its mnemonic does, so that nothing of it is defined
 -- twice. Only the two jumps that leave the place behind them in a register are said here: RISC-V
 -- unprivileged manual, "Unconditional Jump Instructions".
-use Rattle.std.specs.Prelude.{◌≡◌, ⊤, ℕ, ℤ, ◌<◌, ◌^◌, ◌==◌, true, if◌then◌else◌, List, [], Option, Some, None}
+use Rattle.std.specs.Prelude.{◌≡◌, ⊤, ℕ, ℤ, ◌<◌, ◌^◌, ◌==◌, true, if◌then◌else◌, [], Option, Some, None}
 use Rattle.rtx_tree.specs.declared.machine.World.{World}
 use Rattle.rv_text.specs.Table.{row_of}
 use Rattle.rv_text.specs.Lines.{is_of_row}

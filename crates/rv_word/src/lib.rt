@@ -9,11 +9,13 @@
 
 mod base;
 mod codes;
+mod sequence;
 mod spelling;
 mod spellings;
 mod word;
 
 pub use base::{Base, BaseOp, Codes, Format};
+pub use sequence::{push_words, word_count};
 pub use spelling::{Number, Place, Spelling};
 pub use spellings::spelling_of;
 pub use word::{decode, encode};

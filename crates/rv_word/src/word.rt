@@ -86,8 +86,8 @@ pub fn encode(base: Base) -> u32
 }
 
 /// A number that is read as two's complement, where there are twice `half` numbers.
-fn signed_from(half: u64, number: u64) -> i64
-    requires half_fits { half < 2 ^ 32 }
+pub(crate) fn signed_from(half: u64, number: u64) -> i64
+    requires half_fits { half < 2 ^ 52 }
     requires number_fits { number < 2 * half }
     ensures { result ≡ spec.signed_from half number }
 {

@@ -1,5 +1,5 @@
 -- A mask of so many ones takes so many low bits, and what is moved is not cut.
-use Rattle.std.proofs.Common.{◌≡◌, ◌+◌, ◌*◌, ◌-◌, ◌/◌, ◌%◌, ◌^◌, ◌<◌, ◌≤◌, ℕ, bit_and, sym, ◌∙◌, ap, arith}
+use Rattle.std.proofs.Common.{◌≡◌, ◌+◌, ◌*◌, ◌-◌, ◌/◌, ◌%◌, ◌^◌, ◌<◌, ◌≤◌, ℕ, bit_and, ◌∙◌, ap, arith}
 use Rattle.std.proofs.lemmas.Nat.{one_shl, and_mask, shl_whole, mod_below, pow_pos}
 use Rattle.std.proofs.Math.Nat.{mul_comm}
 use Rattle.rv_word.specs.Word.{moved}

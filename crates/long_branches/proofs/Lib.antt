@@ -1,0 +1,4 @@
+pub mod Flags
+pub mod Apart
+pub mod Rounds
+pub mod Places

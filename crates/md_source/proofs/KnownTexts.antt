@@ -15,7 +15,7 @@ shipped_is : (source : Source) (name text : List ℕ) → bytes_eq name shipped_
 shipped_is source name text test known = same_text shipped_text text (sym (ap (λ (b : Bool). cond b (Some shipped_text) (source name)) test) ∙ known)
 
 -- that of another name is known by what is known of the files
-elsewhere : (source : Source) (name : List ℕ) → bytes_eq name shipped_name ≡ false → text_of source name ≡ source name
+pub elsewhere : (source : Source) (name : List ℕ) → bytes_eq name shipped_name ≡ false → text_of source name ≡ source name
 elsewhere source name test = ap (λ (b : Bool). cond b (Some shipped_text) (source name)) test
 
 -- what was read of the one text that a name may have

@@ -1,4 +1,5 @@
 pub mod KnownTexts
 pub mod Comes
 pub mod Named
+pub mod Faults
 pub mod One

@@ -1,5 +1,6 @@
 pub mod Include
 pub mod Source
 pub mod Asked
+pub mod Faults
 pub mod Answers
 pub mod machine

@@ -8,7 +8,8 @@
 //! other. Where all files that the description is made of are known, it comes to one answer. The
 //! name `rv64im` is the shipped description. Files are asked for no name but the description's own
 //! and those that a text read before includes (`specs/Asked.antt`); a fault is answered only where
-//! their count of faults rose.
+//! their count of faults rose, and there the names asked end at the one that failed, with nothing
+//! refused before it (`specs/Faults.antt`).
 #![tactic(auto)]
 
 mod include;

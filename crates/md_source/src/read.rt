@@ -4,6 +4,7 @@ ghost use Rattle.byte_edge.specs.Causes.{Rose};
 ghost use Rattle.rtx_tree.specs.Limit.{most_bytes};
 ghost use Rattle.md_source.specs.Source.{Source, shipped_name};
 ghost use Rattle.md_source.specs.Answers.{Agrees, Gives};
+ghost use Rattle.md_source.specs.Faults.{FileFaults, AsksBy};
 ghost use Rattle.md_source.specs.machine.Steps.{TextReads, FileReads, AsksFor, AsksName, Fetched, IsSyntax};
 
 use crate::refusal::SourceRefusal;
@@ -90,6 +91,9 @@ pub fn read_file<F: Files>(
     ensures bound { IfOk result (λ read. read.used ≤ most_bytes) }
     ensures asks { AsksFor (F.asked files.old) (F.asked files.new) name.now result }
     ensures same { (n bytes : List ℕ) → F.holds files.new n bytes ↔ F.holds files.old n bytes }
+    ensures faulted { result ≡ Err SourceRefusal.ReadFault →
+        (source : Source) → Agrees source (F.holds files.old) → (within : ℕ) →
+        AsksBy (FileFaults source within used name.now) (F.asked files.old) (F.asked files.new) }
     ensures fault { result ≡ Err SourceRefusal.ReadFault →
         Rose (F.fault_count files.old) (F.fault_count files.new) }
     ensures quiet { result ≢ Err SourceRefusal.ReadFault →

@@ -6,6 +6,7 @@ ghost use Rattle.rtx_tree.specs.Limit.{most_bytes, most_within};
 ghost use Rattle.md_source.specs.Source.{Source, FileComes, DescriptionComes};
 ghost use Rattle.md_source.specs.Asked.{AreNamed, GrewBy, IsKnown};
 ghost use Rattle.md_source.specs.Answers.{Agrees, Gives};
+ghost use Rattle.md_source.specs.Faults.{FileAsks, FileFaults, FaultsAt, AsksBy};
 ghost use Rattle.md_source.specs.declared.refusal.SourceRefusal.{SourceRefusal};
 
 use crate::include::included_name;
@@ -41,6 +42,11 @@ fn gather_from<F: Files>(
     ensures asked { (source : Source) → Agrees source (F.holds files.old) →
         GrewBy (AreNamed source name.now) (F.asked files.old) (F.asked files.new) }
     ensures same { (n bytes : List ℕ) → F.holds files.new n bytes ↔ F.holds files.old n bytes }
+    ensures asks { (source : Source) → Agrees source (F.holds files.old) →
+        OnOk result (AsksBy (FileAsks source name.now) (F.asked files.old) (F.asked files.new)) }
+    ensures faulted { result ≡ Err SourceRefusal.ReadFault →
+        (source : Source) → Agrees source (F.holds files.old) →
+        AsksBy (FileFaults source within used name.now) (F.asked files.old) (F.asked files.new) }
     ensures fault { result ≡ Err SourceRefusal.ReadFault →
         Rose (F.fault_count files.old) (F.fault_count files.new) }
     ensures quiet { result ≢ Err SourceRefusal.ReadFault →
@@ -93,7 +99,11 @@ pub fn gather<F: Files>(alloc: Global, files: &mut F, name: &[u8]) -> Result<Tre
         GrewBy (AreNamed source name.now) (F.asked files.old) (F.asked files.new) }
     ensures same { (n bytes : List ℕ) → F.holds files.new n bytes ↔ F.holds files.old n bytes }
 
-    // Faults are counted.
+    // Faults are counted. The names asked for end at the one that failed, and nothing that is read
+    // before it is refused.
+    ensures faulted { result ≡ Err SourceRefusal.ReadFault →
+        (source : Source) → Agrees source (F.holds files.old) →
+        AsksBy (FaultsAt source name.now) (F.asked files.old) (F.asked files.new) }
     ensures fault { result ≡ Err SourceRefusal.ReadFault →
         Rose (F.fault_count files.old) (F.fault_count files.new) }
     ensures quiet { result ≢ Err SourceRefusal.ReadFault →

@@ -27,12 +27,12 @@ FileReads source used name outcome =
     (text : List ℕ) → text_of source name ≡ Some text → TextReads name used text outcome
 
 -- a file was fetched: of a name that holds these bytes they were given, or they are more than the
--- room
+-- room; after a fault they are not
 abbrev pub Fetched : (List ℕ → Type 0) → ℕ → Result (Vec ℕ Global) SourceRefusal → Type 0
 Fetched holds room (Ok bytes) =
     (text : List ℕ) → holds text → (bytes.items ≡ text) × (length text ≤ room)
 Fetched holds room (Err refusal.Text) = (text : List ℕ) → holds text → room < length text
-Fetched holds room (Err refusal.ReadFault) = Unit {0}
+Fetched holds room (Err refusal.ReadFault) = (text : List ℕ) → holds text → length text ≤ room
 Fetched holds room (Err refusal.Memory) = Unit {0}
 Fetched holds room (Err e) = ⊥
 

@@ -6,6 +6,8 @@ use Rattle.md_source.specs.Asked.{GrewBy}
 use Rattle.md_source.specs.Answers.{Agrees}
 use Rattle.md_source.proofs.Comes.{ComesOn}
 use Rattle.md_source.proofs.Named.{IsRead, AreOf}
+use Rattle.md_source.specs.Faults.{AsksBy}
+use Rattle.md_source.proofs.Faults.{Goes}
 use Rattle.md_source.proofs.trees.+gather_from.Given as goal
 
 abbrev pub decreases-gather_from : goal.decreases-gather_from
@@ -20,6 +22,7 @@ invariant-loop-tree g l = record {
   comes : (source : Source) → Agrees source (g.F.Files.holds l.fn.files) → ComesOn source l.within l.fn.used l.name l.trees l.used (into_iter_items l.tree-iterator);
   of : (source : Source) → Agrees source (g.F.Files.holds l.fn.files) → AreOf source l.name (into_iter_items l.tree-iterator);
   asked : (source : Source) → Agrees source (g.F.Files.holds l.fn.files) → GrewBy (IsRead source l.name) (g.F.Files.asked l.fn.files) (g.F.Files.asked l.files);
+  goes : (source : Source) → Agrees source (g.F.Files.holds l.fn.files) → AsksBy (Goes source l.within l.fn.used l.name l.used (into_iter_items l.tree-iterator)) (g.F.Files.asked l.fn.files) (g.F.Files.asked l.files);
   same : (n bytes : List ℕ) → g.F.Files.holds l.files n bytes ↔ g.F.Files.holds l.fn.files n bytes;
   count : g.F.Files.fault_count l.files ≡ g.F.Files.fault_count l.fn.files;
 }

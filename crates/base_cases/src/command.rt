@@ -1,6 +1,6 @@
 //! Words of a command line, and the command that they are.
 use case_text::Told;
-use rtlc_words::{Command, command_of};
+use rtlc_words::{Command, Told as Tells, command_of};
 use rtx_tree::Name;
 use std::alloc::{AllocError, Global};
 use std::str;
@@ -13,24 +13,22 @@ fn show_described(command: &str, name: &Option<Name>, told: &mut Told) {
     }
 }
 
-/// Appends a command with all its parts, in one line.
-fn show(command: &Command, told: &mut Told) {
-    match command {
-        Command::Asm { description } => show_described("asm", description, told),
-        Command::List { description } => show_described("list", description, told),
-        Command::Recog { description } => show_described("recog", description, told),
-        Command::Dump { description, pass } => {
-            show_described("dump", description, told);
+/// Appends what is told of functions, by a description.
+fn show_over(name: &Option<Name>, what: &Tells, told: &mut Told) {
+    match what {
+        Tells::Lines => show_described("asm", name, told),
+        Tells::Forms => show_described("recog", name, told),
+        Tells::Behind { pass } => {
+            show_described("dump", name, told);
             told.text(" behind ");
             told.text(pass.name());
         }
-        Command::Eval {
-            description,
+        Tells::Outcomes {
             function,
             steps,
             args,
         } => {
-            show_described("eval", description, told);
+            show_described("eval", name, told);
             told.text(" ");
             told.push(function.bytes());
             told.text(" for ");
@@ -41,6 +39,17 @@ fn show(command: &Command, told: &mut Told) {
                 told.show(*arg);
             }
         }
+    }
+}
+
+/// Appends a command with all its parts, in one line.
+fn show(command: &Command, told: &mut Told) {
+    match command {
+        Command::Over {
+            description,
+            told: what,
+        } => show_over(description, what, told),
+        Command::Listed { description } => show_described("list", description, told),
     }
 }
 

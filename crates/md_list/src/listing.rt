@@ -4,6 +4,7 @@ ghost use Rattle.byte_edge.specs.Causes.{Rose};
 ghost use Rattle.md_source.specs.Source.{Source};
 ghost use Rattle.md_source.specs.Asked.{AreNamed, GrewBy, IsKnown};
 ghost use Rattle.md_source.specs.Answers.{Agrees};
+ghost use Rattle.md_source.specs.Faults.{FaultsAt, AsksBy};
 ghost use Rattle.md_source.specs.declared.refusal.SourceRefusal.TheVariants as source_refusal;
 ghost use Rattle.md_list.specs.Answers.{Gives};
 ghost use Rattle.md_list.specs.machine.Steps.{GivesTrees};
@@ -65,7 +66,11 @@ pub fn list<F: Files>(alloc: Global, files: &mut F, name: &[u8]) -> Result<Vec<u
         GrewBy (AreNamed source name.now) (F.asked files.old) (F.asked files.new) }
     ensures same { (n bytes : List ℕ) → F.holds files.new n bytes ↔ F.holds files.old n bytes }
 
-    // Faults are counted.
+    // Faults are counted. The names asked for end at the one that failed, and nothing that is read
+    // before it is refused.
+    ensures faulted { result ≡ Err (refused.Source source_refusal.ReadFault) →
+        (source : Source) → Agrees source (F.holds files.old) →
+        AsksBy (FaultsAt source name.now) (F.asked files.old) (F.asked files.new) }
     ensures fault { result ≡ Err (refused.Source source_refusal.ReadFault) →
         Rose (F.fault_count files.old) (F.fault_count files.new) }
     ensures quiet { result ≢ Err (refused.Source source_refusal.ReadFault) →

@@ -6,6 +6,7 @@ ghost use Rattle.md_iter.specs.declared.substitution.Instance.{Instance};
 ghost use Rattle.md_source.specs.Source.{Source};
 ghost use Rattle.md_source.specs.Asked.{AreNamed, GrewBy, IsKnown};
 ghost use Rattle.md_source.specs.Answers.{Agrees};
+ghost use Rattle.md_source.specs.Faults.{FaultsAt, AsksBy};
 ghost use Rattle.md_forms.specs.declared.form.Entry.{Entry};
 ghost use Rattle.run_refusal.specs.declared.refusal.Refusal.{Refusal};
 ghost use Rattle.law_predicates.specs.Meaning.{PredicatesAre};
@@ -94,7 +95,11 @@ pub fn description_of<F: Files>(
         GrewBy (AreNamed source name.now) (F.asked files.old) (F.asked files.new) }
     ensures same { (n bytes : List ℕ) → F.holds files.new n bytes ↔ F.holds files.old n bytes }
 
-    // Faults are counted.
+    // Faults are counted. The names asked for end at the one that failed, and nothing that is read
+    // before it is refused.
+    ensures faulted { result ≡ Err Refusal.ReadFault →
+        (source : Source) → Agrees source (F.holds files.old) →
+        AsksBy (FaultsAt source name.now) (F.asked files.old) (F.asked files.new) }
     ensures fault { result ≡ Err Refusal.ReadFault →
         Rose (F.fault_count files.old) (F.fault_count files.new) }
     ensures quiet { result ≢ Err Refusal.ReadFault →

@@ -1,6 +1,6 @@
 -- What a command comes to, from what reading and listing gave.
 use Rattle.std.proofs.Common.{◌≡◌, ℕ, ◌++◌, List, [], Result, Ok, Err, Option, Some, None, Vec, refl, sym, ap, subst, ◌∙◌}
-use Rattle.std.specs.Prelude.{IfSome}
+use Rattle.std.specs.Prelude.{IfSome, IsSome}
 use Rattle.std.specs.declared.alloc.Global.{Global}
 use Rattle.std.proofs.lemmas.List.{append-nil}
 use Rattle.std.specs.Io.KnownBytes.{Consumes, IsAtEnd}
@@ -10,6 +10,7 @@ use Rattle.md_source.specs.declared.refusal.SourceRefusal.TheVariants as source
 use Rattle.md_source.specs.Source.{Source}
 use Rattle.md_source.specs.Asked.{AreNamed, GrewBy}
 use Rattle.md_source.specs.Answers.{Agrees}
+use Rattle.md_source.specs.Faults.{FaultsAt, AsksBy}
 use Rattle.md_list.specs.declared.refusal.ListRefusal.{ListRefusal}
 use Rattle.md_list.specs.declared.refusal.ListRefusal.TheVariants as listing
 use Rattle.md_list.specs.Listing.{ListComes}
@@ -19,7 +20,7 @@ use Rattle.func_input.specs.Outcome.{Gives as GivesText}
 use Rattle.rtlc_words.specs.declared.command.Command.{Command}
 use Rattle.rtlc_words.specs.declared.command.Command.TheVariants as commands
 use Rattle.rtlc_words.specs.Words.{command_of}
-use Rattle.rtlc_run.specs.Answer.{described, list_refused, CommandComes, Answers, HasForms, MayBeAsked, IsRefused}
+use Rattle.rtlc_run.specs.Answer.{described, list_refused, CommandComes, Answers, MayBeAsked, ReadFails, IsRefused}
 use Rattle.rtlc_run.specs.machine.Steps.{Gives, InputRefused, IsOwn}
 
 -- what was produced has any property that follows
@@ -106,19 +107,19 @@ told_read P r h is = subst (λ (x : Result (Vec ℕ Global) Refusal). GivesText 
 
 -- ---- descriptions
 
-list_refuses : (known : Source) (input : Option (List ℕ)) (name : Option (List ℕ)) (e : ListRefusal) → GivesList (ListComes known (described name)) (Err e) → Gives (Err (list_refused e)) (CommandComes known input (commands.List name))
-list_refuses known input name (listing.Source (source.Syntax file place)) h = CommandComes.listed name (Err (listing.Source (source.Syntax file place))) h
-list_refuses known input name (listing.Source source.Depth) h = CommandComes.listed name (Err (listing.Source source.Depth)) h
-list_refuses known input name (listing.Source source.Include) h = CommandComes.listed name (Err (listing.Source source.Include)) h
-list_refuses known input name (listing.Source source.Text) h = CommandComes.listed name (Err (listing.Source source.Text)) h
+list_refuses : (known : Source) (input : Option (List ℕ)) (name : Option (List ℕ)) (e : ListRefusal) → GivesList (ListComes known (described name)) (Err e) → Gives (Err (list_refused e)) (CommandComes known input (commands.Listed name))
+list_refuses known input name (listing.Source (source.Syntax file place)) h = ((Err (listing.Source (source.Syntax file place))), h, refl)
+list_refuses known input name (listing.Source source.Depth) h = ((Err (listing.Source source.Depth)), h, refl)
+list_refuses known input name (listing.Source source.Include) h = ((Err (listing.Source source.Include)), h, refl)
+list_refuses known input name (listing.Source source.Text) h = ((Err (listing.Source source.Text)), h, refl)
 list_refuses known input name (listing.Source source.ReadFault) h = tt
 list_refuses known input name (listing.Source source.Memory) h = tt
-list_refuses known input name listing.Forms h = CommandComes.listed name (Err listing.Forms) h
+list_refuses known input name listing.Forms h = ((Err listing.Forms), h, refl)
 list_refuses known input name listing.Memory h = tt
 
 -- what refused the list refuses the command
-pub list_unproduced : (known : Source) (input : Option (List ℕ)) (name : Option (List ℕ)) (e : ListRefusal) (told : Refusal) → told ≡ list_refused e → GivesList (ListComes known (described name)) (Err e) → Gives (Err told) (CommandComes known input (commands.List name))
-list_unproduced known input name e told is h = subst (λ (r : Refusal). Gives (Err r) (CommandComes known input (commands.List name))) (sym is) (list_refuses known input name e h)
+pub list_unproduced : (known : Source) (input : Option (List ℕ)) (name : Option (List ℕ)) (e : ListRefusal) (told : Refusal) → told ≡ list_refused e → GivesList (ListComes known (described name)) (Err e) → Gives (Err told) (CommandComes known input (commands.Listed name))
+list_unproduced known input name e told is h = subst (λ (r : Refusal). Gives (Err r) (CommandComes known input (commands.Listed name))) (sym is) (list_refuses known input name e h)
 
 -- ---- words
 
@@ -150,11 +151,32 @@ pub nothing_asked : (known : Source) (c : Option Command) (asked : Option (List 
 nothing_asked known c None = tt
 nothing_asked known c (Some names) = ([], sym (append-nil names), may_ask_nothing known c)
 
--- ---- before the input is read
+-- ---- faults
 
--- what a command has, its words have
-pub words_have_forms : (words : List (List ℕ)) (known : Source) (c : Command) → command_of words ≡ Some c → HasForms known (Some c) → HasForms known (command_of words)
-words_have_forms words known c is h = subst (HasForms known) (sym is) h
+-- a fault was told of the files of a list
+listing_fault : (e : ListRefusal) → list_refused e ≡ refusal.ReadFault → e ≡ listing.Source source.ReadFault
+listing_fault (listing.Source source.ReadFault) is = refl
+listing_fault (listing.Source (source.Syntax file place)) is = cc
+listing_fault (listing.Source source.Depth) is = cc
+listing_fault (listing.Source source.Include) is = cc
+listing_fault (listing.Source source.Text) is = cc
+listing_fault (listing.Source source.Memory) is = cc
+listing_fault listing.Forms is = cc
+listing_fault listing.Memory is = cc
+
+pub listing_failed : (e : ListRefusal) (told : Refusal) → told ≡ list_refused e → ◌≡◌ {A = Result (Vec ℕ Global) Refusal} (Err told) (Err refusal.ReadFault) →
+    ◌≡◌ {A = Result (Vec ℕ Global) ListRefusal} (Err e) (Err (listing.Source source.ReadFault))
+listing_failed e told is read = ap (λ (r : ListRefusal). Err r) (listing_fault e (let same : told ≡ refusal.ReadFault = cc in sym is ∙ same))
+
+-- a read that fails for a command fails for its words
+pub words_fail : (words : List (List ℕ)) (known : Source) (faults faults' input input' : ℕ) (asked asked' : Option (List (List ℕ))) (c : Command) → command_of words ≡ Some c → ReadFails known faults faults' input input' asked asked' (Some c) →
+    ReadFails known faults faults' input input' asked asked' (command_of words)
+words_fail words known faults faults' input input' asked asked' c is h = subst (ReadFails known faults faults' input input' asked asked') (sym is) h
+
+-- a read fails for words only that are a command
+pub fails_spoken : (known : Source) (faults faults' input input' : ℕ) (asked asked' : Option (List (List ℕ))) (o : Option Command) → ReadFails known faults faults' input input' asked asked' o → IsSome o
+fails_spoken known faults faults' input input' asked asked' _ (ReadFails.of_input name t forms come rose same) = refl
+fails_spoken known faults faults' input input' asked asked' _ (ReadFails.of_files c asks rose same) = refl
 
 -- ---- what is known of files
 

@@ -2,6 +2,7 @@
 use Rattle.std.proofs.Common.{◌≡◌, ℕ, ◌+◌, ◌≤◌, List, Result, Ok, Err, Option, Some, None, refl, sym, ap, subst, ◌∙◌, arith}
 use Rattle.std.specs.Prelude.{IfSome, IfOk, IsSome}
 use Rattle.std.specs.Io.KnownBytes.{Appends}
+use Rattle.rtx_tree.specs.declared.function.Function.{Function}
 use Rattle.rtx_tree.specs.declared.limit.Limit.TheVariants as limit
 use Rattle.run_refusal.specs.declared.refusal.Refusal.{Refusal}
 use Rattle.run_refusal.specs.declared.refusal.Refusal.TheVariants as refusal
@@ -11,32 +12,41 @@ use Rattle.md_forms.specs.declared.form.Entry.{Entry}
 use Rattle.md_iter.specs.Definition.{all_constants_in}
 use Rattle.tree_forms.specs.Trees.{expanded, forms_of}
 use Rattle.rtx_tree.specs.Limit.{most_forms}
+use Rattle.md_list.specs.declared.refusal.ListRefusal.{ListRefusal}
+use Rattle.md_list.specs.Listing.{ListComes}
+use Rattle.md_list.proofs.Lists.{one_list}
 use Rattle.md_named.specs.Named.{source_refused, FormsCome}
 use Rattle.md_named.proofs.Forms.{one_answer as one_forms}
 use Rattle.func_input.specs.Outcome.{Outcome}
-use Rattle.func_input.proofs.Inputs.{input_reached}
+use Rattle.func_input.specs.Input.{IsRead, IsInput}
+use Rattle.func_input.proofs.Inputs.{input_reached, input_last}
 use Rattle.func_input.proofs.One.{one_coming_to}
 use Rattle.law_assembly.specs.func_text.Recog.{FunctionsCome}
 use Rattle.law_assembly.proofs.func_text.One.{functions_one}
 use Rattle.law_assembly.specs.func_text.Dump as dump
 use Rattle.law_assembly.proofs.func_text.DumpOne as dump_one
-use Rattle.pass_name.specs.declared.pass.Pass.{Pass}
 use Rattle.law_assembly.specs.func_text.declared.assembly.Assembly.{Assembly}
 use Rattle.law_assembly.specs.func_text.declared.code.Coded.{Coded}
 use Rattle.law_assembly.specs.func_text.Assembly as assembly
 use Rattle.law_assembly.specs.func_text.Assembly.{AssemblyComes}
 use Rattle.law_assembly.specs.func_text.Compile.{TextComes, text_told}
 use Rattle.law_assembly.specs.func_text.Code.{CodeComes, IsCoded}
-use Rattle.law_assembly.proofs.func_text.OneAssembly.{one_coming_of}
+use Rattle.law_assembly.proofs.func_text.OneAssembly.{one_coming_of, one_assembly}
 use Rattle.law_assembly.proofs.func_text.Laws.{is_assembly}
 use Rattle.law_assembly.specs.func_text.func_after.Leads.{IsDescribed}
 use Rattle.law_assembly.proofs.Same.{input_does_same, input_does_framed, coded_is_same}
-use Rattle.law_assembly.proofs.func_text.CodeLaws.{one_code, code_coded}
+use Rattle.law_assembly.specs.func_text.Same.{DoesSame, DoesSameFramed}
+use Rattle.law_assembly.proofs.func_text.CodeLaws.{one_code, code_coded, code_has}
 use Rattle.code_eval.specs.Start.{stack_room}
 use Rattle.code_eval.specs.Eval.{eval_text, IsFair, ComesToSame}
 use Rattle.code_eval.proofs.Lawful.{agree}
-use Rattle.rtlc_run.specs.Answer.{Given, evaluated, EvalComes, RecogComes, DumpComes, ByForms}
-use Rattle.rtlc_run.specs.Written.{WritesLines, WritesSame, WritesSameFramed, WritesOutcomes, WritesForms, WritesDump}
+use Rattle.rtlc_words.specs.declared.command.Told.{Told}
+use Rattle.rtlc_words.specs.declared.command.Told.TheVariants as telling
+use Rattle.rtlc_words.specs.declared.command.Command.{Command}
+use Rattle.rtlc_words.specs.declared.command.Command.TheVariants as commands
+use Rattle.rtlc_run.specs.Told.{evaluated, EvalComes, ToldComes, Tells, HaveText}
+use Rattle.rtlc_run.specs.Answer.{Given, described, list_told, ByForms, CommandComes}
+use Rattle.rtlc_run.specs.Written.{WritesSame, WritesSameFramed, Means, HasText}
 
 -- ---- one answer
 
@@ -68,27 +78,17 @@ one_by comes one known left name _ _ enough (ByForms.by_forms forms o p come) (B
 text_one : IsOne TextComes
 text_one forms bytes a b p q = p.2 ∙ ap text_told (one_coming_of forms bytes p.0 q.0 p.1 q.1) ∙ sym q.2
 
-recog_one : IsOne RecogComes
-recog_one forms bytes a b p q = one_coming_to (FunctionsCome forms) bytes a b (functions_one forms) p q
-
-dumped_one : (pass : Pass) → IsOne (DumpComes pass)
-dumped_one pass forms bytes a b p q = one_coming_to (dump.FunctionsCome forms pass) bytes a b (dump_one.functions_one forms pass) p q
-
 trial_one : (function : List ℕ) (steps : ℕ) (args : List ℕ) → IsOne (EvalComes function steps args)
 trial_one function steps args forms bytes a b p q = p.2 ∙ ap (evaluated steps args) (one_code forms bytes function p.0 q.0 p.1 q.1) ∙ sym q.2
 
-pub one_text : (known : Source) (left : Option (List ℕ)) (name : List ℕ) (a b : Outcome) → IsKnown known name × IsSome left → ByForms TextComes known left name a → ByForms TextComes known left name b → a ≡ b
-one_text known left name a b enough p q = one_by TextComes text_one known left name a b enough p q
+told_one : (t : Told) → IsOne (ToldComes t)
+told_one telling.Lines forms bytes a b p q = text_one forms bytes a b p q
+told_one telling.Forms forms bytes a b p q = one_coming_to (FunctionsCome forms) bytes a b (functions_one forms) p q
+told_one (telling.Behind pass) forms bytes a b p q = one_coming_to (dump.FunctionsCome forms pass) bytes a b (dump_one.functions_one forms pass) p q
+told_one (telling.Outcomes function steps args) forms bytes a b p q = trial_one function steps args forms bytes a b p q
 
-pub one_recog : (known : Source) (left : Option (List ℕ)) (name : List ℕ) (a b : Outcome) → IsKnown known name × IsSome left → ByForms RecogComes known left name a → ByForms RecogComes known left name b → a ≡ b
-one_recog known left name a b enough p q = one_by RecogComes recog_one known left name a b enough p q
-
-pub one_dump : (pass : Pass) (known : Source) (left : Option (List ℕ)) (name : List ℕ) (a b : Outcome) → IsKnown known name × IsSome left → ByForms (DumpComes pass) known left name a → ByForms (DumpComes pass) known left name b → a ≡ b
-one_dump pass known left name a b enough p q = one_by (DumpComes pass) (dumped_one pass) known left name a b enough p q
-
-pub one_trial : (function : List ℕ) (steps : ℕ) (args : List ℕ) (known : Source) (left : Option (List ℕ)) (name : List ℕ) (a b : Outcome) → IsKnown known name × IsSome left → ByForms (EvalComes function steps args) known left name a →
-    ByForms (EvalComes function steps args) known left name b → a ≡ b
-one_trial function steps args known left name a b enough p q = one_by (EvalComes function steps args) (trial_one function steps args) known left name a b enough p q
+pub one_telling : (t : Told) (known : Source) (left : Option (List ℕ)) (name : List ℕ) (a b : Outcome) → IsKnown known name × IsSome left → ByForms (ToldComes t) known left name a → ByForms (ToldComes t) known left name b → a ≡ b
+one_telling t known left name a b enough p q = one_by (ToldComes t) (told_one t) known left name a b enough p q
 
 -- where the forms are known, the answer is by them
 pub by_known : (comes : List Entry → List ℕ → Outcome → Type 0) (known : Source) (bytes name : List ℕ) (forms : List Entry) (o : Outcome) → IsKnown known name → FormsCome known name (Ok forms) → ByForms comes known (Some bytes) name o → comes forms bytes o
@@ -113,13 +113,17 @@ told_text : (o : assembly.Outcome) (text : List ℕ) → Ok text ≡ text_told o
 told_text (Ok a) text is = (a, refl, (let same : text ≡ a.text = cc in sym same))
 told_text (Err e) text is = absurd (let no : ⊥ = cc in no)
 
-pub writes_lines : (known : Source) (left old new : Option (List ℕ)) (name text : List ℕ) → ByForms TextComes known left name (Ok text) → Appends old new text → WritesLines known name left old new
-writes_lines known None old new name text comes appends = tt
-writes_lines known (Some bytes) old new name text comes appends =
-    let by = reached TextComes known bytes name text (Ok text) refl comes in
-    let told = told_text by.own.0 text by.own.2 in
-    let r = input_reached (AssemblyComes by.forms) bytes told.0 by.own.0 told.1 by.own.1 in
-    (by.forms, by.come, r.functions, r.input, told.0, is_assembly by.forms r.functions told.0 (subst (AssemblyComes by.forms r.functions) told.1 r.own), subst (Appends old new) (sym told.2) appends)
+-- a list that was told
+told_list : (r : Result (List ℕ) ListRefusal) (text : List ℕ) → Ok text ≡ list_told r → r ≡ Ok text
+told_list (Ok other) text is = let same : other ≡ text = cc in ap (λ (t : List ℕ). Ok t) same
+told_list (Err e) text is = cc
+
+-- the input has functions, and the text is that of their assembly
+lines_told : (forms : List Entry) (bytes text : List ℕ) → TextComes forms bytes (Ok text) → Tells telling.Lines forms bytes text
+lines_told forms bytes text own =
+    let told = told_text own.0 text own.2 in
+    let r = input_reached (AssemblyComes forms) bytes told.0 own.0 told.1 own.1 in
+    (r.functions, r.input, told.0, is_assembly forms r.functions told.0 (subst (AssemblyComes forms r.functions) told.1 r.own), sym told.2)
 
 -- the forms that a description comes to are those of its constants and its instances
 described_is : (known : Source) (name : List ℕ) (given : Given) (forms : List Entry) → given ≡ Ok forms → FormsCome known name given →
@@ -133,18 +137,6 @@ described_is known name _ forms is (FormsCome.described trees comes few) =
 is_described : (known : Source) (name : List ℕ) (forms : List Entry) → FormsCome known name (Ok forms) → IsDescribed forms
 is_described known name forms come = described_is known name (Ok forms) forms refl come
 
-pub writes_same : (known : Source) (left old new : Option (List ℕ)) (name : List ℕ) → WritesLines known name left old new →
-    WritesSame left old new
-writes_same known None old new name h = tt
-writes_same known (Some bytes) old new name h =
-    (h.2, h.3, h.4.text, input_does_same h.0 bytes h.2 h.4 (is_described known name h.0 h.1) h.3 h.5, h.6)
-
-pub writes_framed : (known : Source) (left old new : Option (List ℕ)) (name : List ℕ) → WritesLines known name left old new →
-    WritesSameFramed known name left old new
-writes_framed known None old new name h = tt
-writes_framed known (Some bytes) old new name h =
-    (h.0, h.1, h.2, h.3, h.4.text, input_does_framed h.0 bytes h.2 h.4 (is_described known name h.0 h.1) h.3 h.5, h.6)
-
 -- the code of a function, tried fairly, comes to the same: its frame fits in the stack, and so do its locals
 comes_to_same : (forms : List Entry) (bytes name : List ℕ) (c : Coded) (steps : ℕ) (args : List ℕ) → IsDescribed forms →
     IsCoded forms bytes name c →
@@ -157,33 +149,68 @@ comes_to_same forms bytes name c steps args described coded fair =
     let room : c.function.locals ≤ stack_room = omega (arith, small, holds) in
     agree c.function c.items steps args fair made.0.layout.size made.4 fits room
 
-told_outcomes : (known : Source) (bytes name function : List ℕ) (steps : ℕ) (args text : List ℕ) (old new : Option (List ℕ)) (forms : List Entry) (r : Result Coded Refusal) → FormsCome known name (Ok forms) → CodeComes forms bytes function r →
-    Ok text ≡ evaluated steps args r → IfOk r (λ c. IsFair c.function steps args) → Appends old new text → WritesOutcomes known name (Some bytes) function steps args old new
-told_outcomes known bytes name function steps args text old new forms (Ok c) come comes is fair appends = let coded = code_coded forms bytes function c (Ok c) refl comes in (
-  forms,
-  come,
-  c,
-  coded,
-  record { fair = fair; same = comes_to_same forms bytes function c steps args (is_described known name forms come) coded fair },
-  subst (Appends old new) (let same : text ≡ eval_text c.function c.items steps args = cc in same) appends,
-)
-told_outcomes known bytes name function steps args text old new forms (Err e) come comes is fair appends = cc
+told_outcomes : (bytes function : List ℕ) (steps : ℕ) (args text : List ℕ) (forms : List Entry) (r : Result Coded Refusal) → IsDescribed forms → CodeComes forms bytes function r →
+    Ok text ≡ evaluated steps args r → IfOk r (λ c. IsFair c.function steps args) → Tells (telling.Outcomes function steps args) forms bytes text
+told_outcomes bytes function steps args text forms (Ok c) described comes is fair =
+    let coded = code_coded forms bytes function c (Ok c) refl comes in (
+      c,
+      coded,
+      record { fair = fair; same = comes_to_same forms bytes function c steps args described coded fair },
+      (let same : text ≡ eval_text c.function c.items steps args = cc in same),
+    )
+told_outcomes bytes function steps args text forms (Err e) described comes is fair = cc
 
-pub writes_outcomes : (known : Source) (left old new : Option (List ℕ)) (name function : List ℕ) (steps : ℕ) (args text : List ℕ) → ByForms (EvalComes function steps args) known left name (Ok text) → Appends old new text →
-    WritesOutcomes known name left function steps args old new
-writes_outcomes known None old new name function steps args text comes appends = tt
-writes_outcomes known (Some bytes) old new name function steps args text comes appends =
-    let by = reached (EvalComes function steps args) known bytes name text (Ok text) refl comes in
-    told_outcomes known bytes name function steps args text old new by.forms by.own.0 by.come by.own.1 by.own.2 by.own.3 appends
+-- what a text that was told says
+tells : (t : Told) (forms : List Entry) (bytes text : List ℕ) → IsDescribed forms → ToldComes t forms bytes (Ok text) → Tells t forms bytes text
+tells telling.Lines forms bytes text described own = lines_told forms bytes text own
+tells telling.Forms forms bytes text described own = let r = input_reached (FunctionsCome forms) bytes text (Ok text) refl own in (r.functions, r.input, r.own)
+tells (telling.Behind pass) forms bytes text described own = let r = input_reached (dump.FunctionsCome forms pass) bytes text (Ok text) refl own in (r.functions, r.input, r.own)
+tells (telling.Outcomes function steps args) forms bytes text described own = told_outcomes bytes function steps args text forms own.0 described own.1 own.2 own.3
 
-pub writes_forms : (known : Source) (left old new : Option (List ℕ)) (name text : List ℕ) → ByForms RecogComes known left name (Ok text) → Appends old new text → WritesForms known name left old new
-writes_forms known None old new name text comes appends = tt
-writes_forms known (Some bytes) old new name text comes appends =
-    let by = reached RecogComes known bytes name text (Ok text) refl comes in
-    let r = input_reached (FunctionsCome by.forms) bytes text (Ok text) refl by.own in (by.forms, by.come, r.functions, r.input, text, r.own, appends)
+-- what the answer to a command says, where it is a text
+pub means : (known : Source) (left : Option (List ℕ)) (c : Command) (text : List ℕ) → CommandComes known left c (Ok text) → Means known left c text
+means known None (commands.Over name t) text comes = tt
+means known (Some bytes) (commands.Over name t) text comes =
+    let by = reached (ToldComes t) known bytes (described name) text (Ok text) refl comes in
+    (by.forms, by.come, tells t by.forms bytes text (is_described known (described name) by.forms by.come) by.own)
+means known left (commands.Listed name) text comes = subst (ListComes known (described name)) (told_list comes.0 text comes.2) comes.1
 
-pub writes_dump : (pass : Pass) (known : Source) (left old new : Option (List ℕ)) (name text : List ℕ) → ByForms (DumpComes pass) known left name (Ok text) → Appends old new text → WritesDump pass known name left old new
-writes_dump pass known None old new name text comes appends = tt
-writes_dump pass known (Some bytes) old new name text comes appends =
-    let by = reached (DumpComes pass) known bytes name text (Ok text) refl comes in
-    let r = input_reached (dump.FunctionsCome by.forms pass) bytes text (Ok text) refl by.own in (by.forms, by.come, r.functions, r.input, text, r.own, appends)
+-- ---- what the text of an assembly does
+
+is_read : (bytes : List ℕ) (functions : List Function) → IsInput bytes functions → IsRead bytes functions
+is_read bytes functions input = record { within = input.within; trees = input.trees; reads = input.reads; stand = input.stand }
+
+pub writes_same : (known : Source) (left old new : Option (List ℕ)) (name : Option (List ℕ)) (text : List ℕ) → Means known left (commands.Over name telling.Lines) text → Appends old new text → WritesSame left old new
+writes_same known None old new name text h appends = tt
+writes_same known (Some bytes) old new name text h appends =
+    let told = h.2 in
+    let does = input_does_same h.0 bytes told.0 told.2 (is_described known (described name) h.0 h.1) told.1 told.3 in
+    (told.0, is_read bytes told.0 told.1, text, subst (DoesSame told.0) (sym told.4) does, appends)
+
+pub writes_framed : (known : Source) (left old new : Option (List ℕ)) (name : Option (List ℕ)) (text : List ℕ) → Means known left (commands.Over name telling.Lines) text → Appends old new text →
+    WritesSameFramed known (described name) left old new
+writes_framed known None old new name text h appends = tt
+writes_framed known (Some bytes) old new name text h appends =
+    let told = h.2 in
+    let does = input_does_framed h.0 bytes told.0 told.2 (is_described known (described name) h.0 h.1) told.1 told.3 in
+    (h.0, h.1, told.0, told.1, text, subst (DoesSameFramed h.0 told.0) (sym told.4) does, appends)
+
+-- ---- which functions have a text
+
+told_has : (t : Told) (forms : List Entry) (bytes : List ℕ) (functions : List Function) (o : Outcome) → IsInput bytes functions → HaveText t forms functions → ToldComes t forms bytes o → (text : List ℕ) × (o ≡ Ok text)
+told_has telling.Lines forms bytes functions o input have own =
+    let whole = one_assembly forms functions own.0 (Ok have.0) (input_last (AssemblyComes forms) bytes functions own.0 input own.1) have.1 in
+    (have.0.text, own.2 ∙ ap text_told whole)
+told_has telling.Forms forms bytes functions o input have own = (have.0, functions_one forms functions o (Ok have.0) (input_last (FunctionsCome forms) bytes functions o input own) have.1)
+told_has (telling.Behind pass) forms bytes functions o input have own =
+    (have.0, dump_one.functions_one forms pass functions o (Ok have.0) (input_last (dump.FunctionsCome forms pass) bytes functions o input own) have.1)
+told_has (telling.Outcomes function steps args) forms bytes functions o input have own =
+    let t = code_has forms bytes function functions have.0 own.0 input have.1 have.2 own.1 in
+    (eval_text t.0.function t.0.items steps args, own.2 ∙ ap (evaluated steps args) t.1)
+
+-- a command that has a text comes to one
+pub ends : (known : Source) (left : Option (List ℕ)) (c : Command) (o : Outcome) → HasText known left c → CommandComes known left c o → (text : List ℕ) × (o ≡ Ok text)
+ends known left (commands.Over name t) o has comes =
+    let here = subst (λ (i : Option (List ℕ)). ByForms (ToldComes t) known i (described name) o) has.4 comes in
+    told_has t has.1 has.3 has.5 o has.6 has.7 (by_known (ToldComes t) known has.3 (described name) has.1 o has.0 has.2 here)
+ends known left (commands.Listed name) o has comes = (has.1, comes.2 ∙ ap list_told (one_list known (described name) comes.0 (Ok has.1) has.0 comes.1 has.2))

@@ -1,5 +1,5 @@
 pub mod Commands
-pub mod Tasks
+pub mod Tellings
 pub mod Described
 pub mod Answered
 pub mod Runs

@@ -10,24 +10,21 @@ use Rattle.run_refusal.specs.declared.refusal.Refusal.TheVariants as refusal
 use Rattle.run_refusal.specs.Refusals.{status_of, has_values, line_of}
 use Rattle.md_source.specs.Source.{Source, shipped_name}
 use Rattle.md_source.specs.Asked.{AreNamed, IsKnown}
+use Rattle.md_source.specs.Faults.{FaultsAt, AsksBy}
 use Rattle.md_list.specs.declared.refusal.ListRefusal.{ListRefusal}
 use Rattle.md_list.specs.declared.refusal.ListRefusal.TheVariants as listing
 use Rattle.md_list.specs.Listing.{ListComes}
 use Rattle.md_forms.specs.declared.form.Entry.{Entry}
 use Rattle.rtx_tree.specs.Limit.{most_forms}
 use Rattle.md_named.specs.Named.{source_refused, FormsCome}
-use Rattle.func_input.specs.Input.{InputComesTo}
 use Rattle.func_input.specs.Outcome.{Outcome}
-use Rattle.law_assembly.specs.func_text.Compile.{TextComes}
-use Rattle.law_assembly.specs.func_text.Code.{IsUnnamed, CodeComes}
-use Rattle.law_assembly.specs.func_text.declared.code.Coded.{Coded}
-use Rattle.code_eval.specs.Eval.{eval_text, IsFair}
-use Rattle.law_assembly.specs.func_text.Recog.{FunctionsCome}
-use Rattle.law_assembly.specs.func_text.Dump as dump
-use Rattle.pass_name.specs.declared.pass.Pass.{Pass}
+use Rattle.law_assembly.specs.func_text.Code.{IsUnnamed}
+use Rattle.rtlc_words.specs.declared.command.Told.{Told}
+use Rattle.rtlc_words.specs.declared.command.Told.TheVariants as telling
 use Rattle.rtlc_words.specs.declared.command.Command.{Command}
 use Rattle.rtlc_words.specs.declared.command.Command.TheVariants as commands
 use Rattle.rtlc_words.specs.Words.{command_of}
+use Rattle.rtlc_run.specs.Told.{ToldComes}
 
 -- the description that the words name, or else the shipped one
 abbrev pub described : Option (List ℕ) → List ℕ
@@ -50,26 +47,6 @@ Given = Result (List Entry) Refusal
 
 -- ---- what a command comes to
 
-abbrev pub evaluated : ℕ → List ℕ → Result Coded Refusal → Outcome
-evaluated steps args (Ok c) = Ok (eval_text c.function c.items steps args)
-evaluated steps args (Err e) = Err e
-
--- `eval` over the bytes of an input: the outcomes of the function with a name, and of its code by
--- some forms, where they are tried fairly
-abbrev pub EvalComes : List ℕ → ℕ → List ℕ → List Entry → List ℕ → Outcome → Type 0
-EvalComes function steps args forms bytes outcome =
-    (answer : Result Coded Refusal) × CodeComes forms bytes function answer ×
-    (outcome ≡ evaluated steps args answer) ×
-    IfOk answer (λ c. IsFair c.function steps args)
-
--- `recog` over the bytes of an input
-abbrev pub RecogComes : List Entry → List ℕ → Outcome → Type 0
-RecogComes forms bytes outcome = InputComesTo (FunctionsCome forms) bytes outcome
-
--- `dump` over the bytes of an input
-abbrev pub DumpComes : Pass → List Entry → List ℕ → Outcome → Type 0
-DumpComes pass forms bytes outcome = InputComesTo (dump.FunctionsCome forms pass) bytes outcome
-
 -- A command over the functions of the input by a description, by what is known of the files and of
 -- the input: the description first, and then what the bytes of the input come to by its forms.
 pub data ByForms (comes : List Entry → List ℕ → Outcome → Type 0) (files : Source) (input : Option (List ℕ)) (name : List ℕ) : Outcome → Type 0 where
@@ -78,24 +55,13 @@ pub data ByForms (comes : List Entry → List ℕ → Outcome → Type 0) (files
       IfSome input (λ bytes. comes forms bytes outcome) → ByForms comes files input name outcome
 
 -- What a command comes to, by what is known of the bytes of the files and of the input. An input of
--- which nothing is known may come to anything; `list` does not look at it.
-pub data CommandComes (files : Source) (input : Option (List ℕ)) : Command → Outcome → Type 0 where
-  assembled : (name : Option (List ℕ)) (outcome : Outcome) →
-      ByForms TextComes files input (described name) outcome →
-      CommandComes files input (commands.Asm name) outcome
-  listed : (name : Option (List ℕ)) (r : Result (List ℕ) ListRefusal) →
-      ListComes files (described name) r →
-      CommandComes files input (commands.List name) (list_told r)
-  recognised : (name : Option (List ℕ)) (outcome : Outcome) →
-      ByForms RecogComes files input (described name) outcome →
-      CommandComes files input (commands.Recog name) outcome
-  dumped : (name : Option (List ℕ)) (pass : Pass) (outcome : Outcome) →
-      ByForms (DumpComes pass) files input (described name) outcome →
-      CommandComes files input (commands.Dump name pass) outcome
-  tries :
-      (name : Option (List ℕ)) (function : List ℕ) (steps : ℕ) (args : List ℕ) (outcome : Outcome) →
-      ByForms (EvalComes function steps args) files input (described name) outcome →
-      CommandComes files input (commands.Eval name function steps args) outcome
+-- which nothing is known may come to anything; a list does not look at it.
+abbrev pub CommandComes : Source → Option (List ℕ) → Command → Outcome → Type 0
+CommandComes files input (commands.Over name t) outcome =
+    ByForms (ToldComes t) files input (described name) outcome
+CommandComes files input (commands.Listed name) outcome =
+    (r : Result (List ℕ) ListRefusal) × ListComes files (described name) r ×
+    (outcome ≡ list_told r)
 
 -- ---- answers
 
@@ -107,17 +73,13 @@ pub data Answers (words : List (List ℕ)) (files : Source) (input : Option (Lis
 
 -- the name of the description of a command
 abbrev pub description_of : Command → List ℕ
-description_of (commands.Asm name) = described name
-description_of (commands.List name) = described name
-description_of (commands.Recog name) = described name
-description_of (commands.Dump name pass) = described name
-description_of (commands.Eval name function steps args) = described name
+description_of (commands.Over name t) = described name
+description_of (commands.Listed name) = described name
 
 -- whether the input is read
 abbrev pub reads_input : Option Command → Bool
-reads_input None = false
-reads_input (Some (commands.List name)) = false
-reads_input (Some _) = true
+reads_input (Some (commands.Over name t)) = true
+reads_input _ = false
 
 -- whether files may be asked
 abbrev pub reads_files : Option Command → Bool
@@ -127,27 +89,42 @@ reads_files (Some c) = true
 -- enough is known for one answer
 abbrev pub IsKnownFor : Source → Option (List ℕ) → Option Command → Type 0
 IsKnownFor files input None = Unit {0}
-IsKnownFor files input (Some (commands.List name)) = IsKnown files (described name)
-IsKnownFor files input (Some c) = IsKnown files (description_of c) × IsSome input
+IsKnownFor files input (Some (commands.Listed name)) = IsKnown files (described name)
+IsKnownFor files input (Some (commands.Over name t)) = IsKnown files (described name) × IsSome input
+
+-- what is told needs a function that the input lacks
+abbrev pub IsMissing : Told → List ℕ → Type 0
+IsMissing (telling.Outcomes function steps args) bytes = IsUnnamed bytes function
+IsMissing _ bytes = ⊥
 
 -- the words are no command, or they name no function of the input
 abbrev pub IsMisused : Option Command → Option (List ℕ) → Type 0
 IsMisused None input = Unit {0}
-IsMisused (Some (commands.Eval name function steps args)) input =
-    IfSome input (λ bytes. IsUnnamed bytes function)
-IsMisused (Some _) input = ⊥
-
--- what is known of the description before the input is read: it has come to its forms. Where the
--- words are no command the input is not read
-abbrev pub HasForms : Source → Option Command → Type 0
-HasForms files None = ⊥
-HasForms files (Some (commands.List name)) = Unit {0}
-HasForms files (Some c) = (forms : List Entry) × FormsCome files (description_of c) (Ok forms)
+IsMisused (Some (commands.Over name t)) input = IfSome input (λ bytes. IsMissing t bytes)
+IsMisused (Some (commands.Listed name)) input = ⊥
 
 -- the names that files may be asked for
 abbrev pub MayBeAsked : Source → Option Command → List (List ℕ) → Type 0
 MayBeAsked files None names = names ≡ []
 MayBeAsked files (Some c) names = AreNamed files (description_of c) names
+
+-- ---- faults
+
+-- no count of faults rose: not that of the files, of the input, or of the output
+abbrev pub NoneRose : (files files' input input' output output' : ℕ) → Type 0
+NoneRose files files' input input' output output' =
+    ¬ Rose files files' × ¬ Rose input input' × ¬ Rose output output'
+
+-- A read failed for a command: the input, which is read behind all that refuses the description; or
+-- a file, where the names asked for end at it and nothing that is read before it is refused. Where
+-- the words are no command nothing is read.
+pub data ReadFails (files : Source) (faults faults' input input' : ℕ) (asked asked' : Option (List (List ℕ))) : Option Command → Type 0 where
+  of_input : (name : Option (List ℕ)) (t : Told) (forms : List Entry) →
+      FormsCome files (described name) (Ok forms) → Rose input input' → faults' ≡ faults →
+      ReadFails files faults faults' input input' asked asked' (Some (commands.Over name t))
+  of_files : (c : Command) → AsksBy (FaultsAt files (description_of c)) asked asked' →
+      Rose faults faults' → input' ≡ input →
+      ReadFails files faults faults' input input' asked asked' (Some c)
 
 -- ---- what an answer is outside
 

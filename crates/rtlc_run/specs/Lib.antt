@@ -1,3 +1,4 @@
+pub mod Told
 pub mod Answer
 pub mod Written
 pub mod machine

@@ -6,8 +6,8 @@
 //!
 //! The words are read by `rtlc_words`; what the commands come to is `specs/Answer.antt`, over
 //! `md_list` for `list`; for the others over `md_named`, which gives the description, and
-//! `func_text`, and for `eval` over `code_eval`; what was written then is said in
-//! `specs/Written.antt`.
+//! `func_text`, and for `eval` over `code_eval`. What is told of functions is `specs/Told.antt`, case
+//! by case, and what was written then `specs/Written.antt`.
 #![tactic(auto)]
 
 mod program;

@@ -1,5 +1,5 @@
 //! The whole program as one call.
-ghost use Rattle.std.specs.Prelude.{◌≡◌, ◌≢◌, ◌⊎◌, ℕ, Ok, List, ◌≤◌, true, IfOk, IfErr, OnOk, OnErr, length, Some, None, Option, Err, Contains, ◌∷◌, [], false};
+ghost use Rattle.std.specs.Prelude.{◌≡◌, ◌≢◌, ◌⊎◌, ℕ, Ok, List, ◌≤◌, true, IfSome, IsSome, IfOk, IfErr, OnOk, OnErr, length, Some, Option, Err, Contains, ◌∷◌, [], false};
 ghost use Rattle.std.specs.Io.KnownBytes.{Appends, Consumes, IsAtEnd};
 ghost use Rattle.byte_edge.specs.Causes.{Rose};
 ghost use Rattle.rtx_tree.specs.declared.function.Function.{Function};
@@ -9,7 +9,7 @@ ghost use Rattle.rv_text.specs.declared.line.CodeItem.{CodeItem};
 ghost use Rattle.run_refusal.specs.Refusals.{has_values, line_of};
 ghost use Rattle.run_refusal.specs.declared.refusal.Refusal.TheVariants as refusal;
 ghost use Rattle.rtx_tree.specs.Limit.{most_bytes};
-ghost use Rattle.func_input.specs.Input.{IsInput};
+ghost use Rattle.func_input.specs.Input.{IsRead};
 ghost use Rattle.func_input.specs.Outcome.{Outcome};
 ghost use Rattle.law_assembly.specs.func_text.Same.{AreParts};
 ghost use Rattle.law_assembly.specs.func_text.Compile.{TextComes};
@@ -17,17 +17,19 @@ ghost use Rattle.law_assembly.specs.func_text.Code.{IsUnnamed};
 ghost use Rattle.md_source.specs.Source.{Source as Known};
 ghost use Rattle.md_source.specs.Asked.{AreNamed, GrewBy, IsKnown};
 ghost use Rattle.md_source.specs.Answers.{Agrees};
+ghost use Rattle.md_source.specs.Faults.{FaultsAt, AsksBy};
 ghost use Rattle.md_forms.specs.declared.form.Entry.{Entry};
-ghost use Rattle.md_list.specs.Listing.{ListComes};
 ghost use Rattle.md_named.specs.Named.{FormsCome};
-ghost use Rattle.pass_name.specs.declared.pass.Pass.{Pass};
+ghost use Rattle.rtlc_words.specs.declared.command.Command.{Command};
 ghost use Rattle.rtlc_words.specs.declared.command.Command.TheVariants as commands;
+ghost use Rattle.rtlc_words.specs.declared.command.Told.TheVariants as telling;
 ghost use Rattle.rtlc_words.specs.Words as spoken;
 ghost use Rattle.rtlc_words.specs.Words.{words_of};
 ghost use Rattle.rtlc_run.specs.Answer as spec;
-ghost use Rattle.rtlc_run.specs.Written.{WritesLines, WritesSame, WritesSameFramed, WritesList, WritesForms, WritesDump, WritesOutcomes, Completes, CompletesFor, CompletesBy, CompletesDump, IsDone};
-ghost use Rattle.rtlc_run.specs.machine.Steps.{Gives, IsOwn, InputRefused, TaskComes, Misuses, MisusesInput};
-ghost use Rattle.rtlc_run.specs.Answer.{EvalComes, RecogComes, DumpComes, ByForms, CommandComes, Answers, HasForms, IsMisused, reads_input, reads_files, IsKnownFor, MayBeAsked, Writes, WritesFront, IsRefused, Reports, HasCause, TellsCause, IsAnswered};
+ghost use Rattle.rtlc_run.specs.Told.{EvalComes, RecogComes, DumpComes, ToldComes};
+ghost use Rattle.rtlc_run.specs.Written.{WritesSame, WritesSameFramed, WritesText, HasText, IsDone};
+ghost use Rattle.rtlc_run.specs.machine.Steps.{Gives, IsOwn, InputRefused};
+ghost use Rattle.rtlc_run.specs.Answer.{ByForms, CommandComes, Answers, IsMissing, IsMisused, reads_input, reads_files, IsKnownFor, MayBeAsked, NoneRose, ReadFails, Writes, WritesFront, IsRefused, Reports, HasCause, TellsCause, IsAnswered};
 
 use byte_edge::{Files, ReadAll, Sink, Source, read_all, write_all_of};
 use code_eval::eval_text;
@@ -37,7 +39,7 @@ use md_list::{ListRefusal, list};
 use md_named::{description_of, source_refused};
 use md_source::SHIPPED;
 use pass_name::Pass;
-use rtlc_words::{Command, command_of};
+use rtlc_words::{Command, Told, command_of};
 use rtx_tree::{Limit, MOST_BYTES, MOST_FORMS, Name};
 use run_refusal::{MEMORY_LINE, Refusal, fixed_line, line, status};
 use std::alloc::Global;
@@ -62,25 +64,6 @@ fn input_bytes<S: Source>(alloc: Global, input: &mut S) -> Result<Vec<u8>, Refus
         }),
         Err(ReadAll::Memory) => Err(Refusal::Memory),
     }
-}
-
-/// What is made of the functions of the input by a description.
-#[derive(Drop)]
-enum Task {
-    /// The functions' assembly.
-    Assemble,
-    /// The form of each instruction.
-    Recognise,
-    /// The functions behind a pass.
-    Show {
-        pass: Pass,
-    },
-    /// The outcomes of one of the functions and of its code.
-    Try {
-        function: Name,
-        steps: u16,
-        args: [u64; 8],
-    },
 }
 
 /// The text of the assembly of the functions among bytes.
@@ -138,24 +121,24 @@ fn outcomes_of(
     Ok(eval_text(alloc, &coded.function, coded.items.as_slice(), steps, args)?)
 }
 
-/// What a task makes of bytes by a description.
+/// What is told of the functions among bytes by a description.
 fn made(
     alloc: Global,
     description: &Description,
     bytes: &[u8],
-    task: &Task,
+    told: &Told,
 ) -> Result<Vec<u8>, Refusal>
     requires { length bytes.now ≤ most_bytes }
-    ensures gives { Gives result (TaskComes task.now description.now bytes.now) }
-    ensures usage { result ≡ Err Refusal.Usage → Misuses task.now bytes.now }
+    ensures gives { Gives result (ToldComes told.now description.now bytes.now) }
+    ensures usage { result ≡ Err Refusal.Usage → IsMissing told.now bytes.now }
     ensures unwritten { result ≢ Err Refusal.WriteFault }
     ensures read { result ≢ Err Refusal.ReadFault }
 {
-    match task {
-        Task::Assemble => assembled(alloc, description, bytes),
-        Task::Recognise => recognised(alloc, description, bytes),
-        Task::Show { pass } => dumped(alloc, description, *pass, bytes),
-        Task::Try {
+    match told {
+        Told::Lines => assembled(alloc, description, bytes),
+        Told::Forms => recognised(alloc, description, bytes),
+        Told::Behind { pass } => dumped(alloc, description, *pass, bytes),
+        Told::Outcomes {
             function,
             steps,
             args,
@@ -163,16 +146,17 @@ fn made(
     }
 }
 
-/// What a task makes of the input by a description.
+/// What is told of the functions of the input by a description.
 fn made_of<S: Source>(
     alloc: Global,
     input: &mut S,
     description: &Description,
-    task: &Task,
+    told: &Told,
 ) -> Result<Vec<u8>, Refusal>
     ensures gives { (known : Known) (name : List ℕ) → FormsCome known name (Ok description.now) →
-        Gives result (ByForms (TaskComes task.now) known (S.left input.old) name) }
-    ensures usage { result ≡ Err Refusal.Usage → MisusesInput task.now (S.left input.old) }
+        Gives result (ByForms (ToldComes told.now) known (S.left input.old) name) }
+    ensures usage { result ≡ Err Refusal.Usage →
+        IfSome (S.left input.old) (λ bytes. IsMissing told.now bytes) }
     ensures unwritten { result ≢ Err Refusal.WriteFault }
     ensures fault { result ≡ Err Refusal.ReadFault →
         Rose (S.fault_count input.old) (S.fault_count input.new) }
@@ -180,7 +164,7 @@ fn made_of<S: Source>(
         S.fault_count input.new ≡ S.fault_count input.old }
 {
     let bytes = input_bytes(alloc, input)?;
-    made(alloc, description, &bytes, task)
+    made(alloc, description, &bytes, told)
 }
 
 fn list_refused(refusal: ListRefusal) -> Refusal
@@ -209,10 +193,13 @@ fn described(name: &Option<Name>) -> &[u8]
 /// The list of a description.
 fn listed<F: Files>(alloc: Global, files: &mut F, name: &Option<Name>) -> Result<Vec<u8>, Refusal>
     ensures gives { (known : Known) → Agrees known (F.holds files.old) → (input : Option (List ℕ)) →
-        Gives result (CommandComes known input (commands.List name.now)) }
+        Gives result (CommandComes known input (commands.Listed name.now)) }
     ensures asked { (known : Known) → Agrees known (F.holds files.old) →
         GrewBy (AreNamed known (spec.described name.now)) (F.asked files.old) (F.asked files.new) }
     ensures own { IsOwn result }
+    ensures faulted { result ≡ Err Refusal.ReadFault →
+        (known : Known) → Agrees known (F.holds files.old) →
+        AsksBy (FaultsAt known (spec.described name.now)) (F.asked files.old) (F.asked files.new) }
     ensures fault { result ≡ Err Refusal.ReadFault →
         Rose (F.fault_count files.old) (F.fault_count files.new) }
     ensures quiet { result ≢ Err Refusal.ReadFault →
@@ -224,25 +211,27 @@ fn listed<F: Files>(alloc: Global, files: &mut F, name: &Option<Name>) -> Result
     }
 }
 
-/// What a task makes of the input by the description of a name, which is looked at first.
+/// What is told of the functions of the input by the description of a name, which is looked at
+/// first.
 fn made_by<F: Files, S: Source>(
     alloc: Global,
     files: &mut F,
     input: &mut S,
     name: &Option<Name>,
-    task: &Task,
+    told: &Told,
 ) -> Result<Vec<u8>, Refusal>
     ensures gives { (known : Known) → Agrees known (F.holds files.old) →
-        Gives result (ByForms (TaskComes task.now) known (S.left input.old)
-        (spec.described name.now)) }
+        Gives result (CommandComes known (S.left input.old) (commands.Over name.now told.now)) }
     ensures asked { (known : Known) → Agrees known (F.holds files.old) →
         GrewBy (AreNamed known (spec.described name.now)) (F.asked files.old) (F.asked files.new) }
-    ensures usage { result ≡ Err Refusal.Usage → MisusesInput task.now (S.left input.old) }
+    ensures usage { result ≡ Err Refusal.Usage →
+        IfSome (S.left input.old) (λ bytes. IsMissing told.now bytes) }
     ensures unwritten { result ≢ Err Refusal.WriteFault }
-    ensures behind { result ≡ Err Refusal.ReadFault →
-        ¬ Rose (F.fault_count files.old) (F.fault_count files.new) →
-        (known : Known) → Agrees known (F.holds files.old) → (forms : List Entry) ×
-        FormsCome known (spec.described name.now) (Ok forms) }
+    ensures faulted { result ≡ Err Refusal.ReadFault →
+        (known : Known) → Agrees known (F.holds files.old) →
+        ReadFails known (F.fault_count files.old) (F.fault_count files.new)
+        (S.fault_count input.old) (S.fault_count input.new) (F.asked files.old) (F.asked files.new)
+        (Some (commands.Over name.now told.now)) }
     ensures fault { result ≡ Err Refusal.ReadFault →
         Rose (S.fault_count input.old) (S.fault_count input.new) ⊎
         Rose (F.fault_count files.old) (F.fault_count files.new) }
@@ -252,11 +241,11 @@ fn made_by<F: Files, S: Source>(
         F.fault_count files.new ≡ F.fault_count files.old }
 {
     let description = description_of(alloc, files, described(name))?;
-    made_of(alloc, input, &description, task)
+    made_of(alloc, input, &description, told)
 }
 
-/// The text that a command comes to. The description is looked at where the command has one, the
-/// input where it reads it.
+/// The text that a command comes to. The description is looked at first, and then the input where
+/// the command reads it.
 fn produced<F: Files, S: Source>(
     alloc: Global,
     command: Command,
@@ -269,9 +258,11 @@ fn produced<F: Files, S: Source>(
         GrewBy (MayBeAsked known (Some command)) (F.asked files.old) (F.asked files.new) }
     ensures unwritten { result ≢ Err Refusal.WriteFault }
     ensures usage { result ≡ Err Refusal.Usage → IsMisused (Some command) (S.left input.old) }
-    ensures behind { result ≡ Err Refusal.ReadFault →
-        ¬ Rose (F.fault_count files.old) (F.fault_count files.new) →
-        (known : Known) → Agrees known (F.holds files.old) → HasForms known (Some command) }
+    ensures faulted { result ≡ Err Refusal.ReadFault →
+        (known : Known) → Agrees known (F.holds files.old) →
+        ReadFails known (F.fault_count files.old) (F.fault_count files.new)
+        (S.fault_count input.old) (S.fault_count input.new) (F.asked files.old) (F.asked files.new)
+        (Some command) }
     ensures fault { result ≡ Err Refusal.ReadFault →
         Rose (S.fault_count input.old) (S.fault_count input.new) ⊎
         Rose (F.fault_count files.old) (F.fault_count files.new) }
@@ -283,29 +274,8 @@ fn produced<F: Files, S: Source>(
     ensures input { reads_input (Some command) ≡ false → input.new ≡ input.old }
 {
     match command {
-        Command::Asm { description } => {
-            made_by(alloc, files, input, &description, &Task::Assemble)
-        }
-        Command::List { description } => listed(alloc, files, &description),
-        Command::Recog { description } => {
-            made_by(alloc, files, input, &description, &Task::Recognise)
-        }
-        Command::Dump { description, pass } => {
-            made_by(alloc, files, input, &description, &Task::Show { pass })
-        }
-        Command::Eval {
-            description,
-            function,
-            steps,
-            args,
-        } => {
-            let task = Task::Try {
-                function,
-                steps,
-                args,
-            };
-            made_by(alloc, files, input, &description, &task)
-        }
+        Command::Over { description, told } => made_by(alloc, files, input, &description, &told),
+        Command::Listed { description } => listed(alloc, files, &description),
     }
 }
 
@@ -321,10 +291,11 @@ fn answered<F: Files, S: Source>(
     ensures usage { result ≡ Err Refusal.Usage →
         IsMisused (spoken.command_of (words_of words.now)) (S.left input.old) }
     ensures unwritten { result ≢ Err Refusal.WriteFault }
-    ensures behind { result ≡ Err Refusal.ReadFault →
-        ¬ Rose (F.fault_count files.old) (F.fault_count files.new) →
+    ensures faulted { result ≡ Err Refusal.ReadFault →
         (known : Known) → Agrees known (F.holds files.old) →
-        HasForms known (spoken.command_of (words_of words.now)) }
+        ReadFails known (F.fault_count files.old) (F.fault_count files.new)
+        (S.fault_count input.old) (S.fault_count input.new) (F.asked files.old) (F.asked files.new)
+        (spoken.command_of (words_of words.now)) }
     ensures asked { (known : Known) → Agrees known (F.holds files.old) →
         GrewBy (MayBeAsked known (spoken.command_of (words_of words.now))) (F.asked files.old)
         (F.asked files.new) }
@@ -367,10 +338,11 @@ fn attempt<F: Files, S: Source, K: Sink>(
         IsMisused (spoken.command_of (words_of words.now)) (S.left input.old) }
     ensures nothing { OnErr result (result ≢ Err Refusal.WriteFault →
         K.taken output.new ≡ K.taken output.old) }
-    ensures behind { result ≡ Err Refusal.ReadFault →
-        ¬ Rose (F.fault_count files.old) (F.fault_count files.new) →
+    ensures faulted { result ≡ Err Refusal.ReadFault →
         (known : Known) → Agrees known (F.holds files.old) →
-        HasForms known (spoken.command_of (words_of words.now)) }
+        ReadFails known (F.fault_count files.old) (F.fault_count files.new)
+        (S.fault_count input.old) (S.fault_count input.new) (F.asked files.old) (F.asked files.new)
+        (spoken.command_of (words_of words.now)) }
     ensures asked { (known : Known) → Agrees known (F.holds files.old) →
         GrewBy (MayBeAsked known (spoken.command_of (words_of words.now))) (F.asked files.old)
         (F.asked files.new) }
@@ -465,9 +437,9 @@ pub fn run<F: Files, S: Source, K: Sink, E: Sink>(
     // The answer: where no count rose and memory was there, the run ends with the answer to the
     // words, the files and the input.
     ensures answer { (known : Known) → Agrees known (F.holds files.old) →
-        ¬ Rose (F.fault_count files.old) (F.fault_count files.new) →
-        ¬ Rose (S.fault_count input.old) (S.fault_count input.new) →
-        ¬ Rose (K.fault_count output.old) (K.fault_count output.new) → result ≢ 8 →
+        NoneRose (F.fault_count files.old) (F.fault_count files.new) (S.fault_count input.old)
+        (S.fault_count input.new) (K.fault_count output.old) (K.fault_count output.new) →
+        result ≢ 8 →
         IsAnswered (words_of words.now) known (S.left input.old) result (K.taken output.old)
         (K.taken output.new)
         (E.taken errors.old) (E.taken errors.new) (E.fault_count errors.old)
@@ -479,39 +451,35 @@ pub fn run<F: Files, S: Source, K: Sink, E: Sink>(
         Answers (words_of words.now) known left a → Answers (words_of words.now) known left b →
         a ≡ b }
 
-    // `asm`: the text of status 0 by its lines, which are those of the description's forms; and an
-    // input that has an assembly is written.
-    ensures lines { (known : Known) → Agrees known (F.holds files.old) → (name : Option (List ℕ)) →
-        spoken.command_of (words_of words.now) ≡ Some (commands.Asm name) → result ≡ 0 →
-        WritesLines known (spec.described name) (S.left input.old) (K.taken output.old)
-        (K.taken output.new) }
+    // Every command: the text of status 0 says of the description and of the input what the command
+    // tells; and where its answer is a text, no count rose and memory was there, that is written.
+    ensures means { (known : Known) → Agrees known (F.holds files.old) → (c : Command) →
+        spoken.command_of (words_of words.now) ≡ Some c → result ≡ 0 →
+        WritesText known c (S.left input.old) (K.taken output.old) (K.taken output.new) }
+    ensures done { (known : Known) → Agrees known (F.holds files.old) → (c : Command) →
+        spoken.command_of (words_of words.now) ≡ Some c →
+        NoneRose (F.fault_count files.old) (F.fault_count files.new) (S.fault_count input.old)
+        (S.fault_count input.new) (K.fault_count output.old) (K.fault_count output.new) →
+        HasText known (S.left input.old) c → IsDone result }
 
-    ensures complete { (known : Known) → Agrees known (F.holds files.old) →
-        (name : Option (List ℕ)) →
-        spoken.command_of (words_of words.now) ≡ Some (commands.Asm name) →
-        IsKnown known (spec.described name) →
-        ¬ Rose (F.fault_count files.old) (F.fault_count files.new) →
-        ¬ Rose (S.fault_count input.old) (S.fault_count input.new) →
-        ¬ Rose (K.fault_count output.old) (K.fault_count output.new) →
-        Completes known (spec.described name) (S.left input.old) result }
-
-    // What the text of status 0 does: the lines that it spells for each function do what the
-    // function does, whatever the description, where there is room for a frame of some size, which
-    // is at most 1,048,560; so they do where there is room for the frame that the function has by
-    // the description.
+    // What the text of `asm` does: the lines that it spells for each function do what the function
+    // does, whatever the description, where there is room for a frame of some size, which is at most
+    // 1,048,560; so they do where there is room for the frame that the function has by the
+    // description.
     ensures behaves { (name : Option (List ℕ)) →
-        spoken.command_of (words_of words.now) ≡ Some (commands.Asm name) → result ≡ 0 →
-        WritesSame (S.left input.old) (K.taken output.old) (K.taken output.new) }
+        spoken.command_of (words_of words.now) ≡ Some (commands.Over name telling.Lines) →
+        result ≡ 0 → WritesSame (S.left input.old) (K.taken output.old) (K.taken output.new) }
     ensures framed { (known : Known) → Agrees known (F.holds files.old) →
         (name : Option (List ℕ)) →
-        spoken.command_of (words_of words.now) ≡ Some (commands.Asm name) → result ≡ 0 →
+        spoken.command_of (words_of words.now) ≡ Some (commands.Over name telling.Lines) →
+        result ≡ 0 →
         WritesSameFramed known (spec.described name) (S.left input.old) (K.taken output.old)
         (K.taken output.new) }
 
-    // The functions of an input are one list, and the forms of a description of which all is known
-    // are one list or one refusal.
-    ensures one_input { (bytes : List ℕ) (a b : List Function) → IsInput bytes a →
-        IsInput bytes b → a ≡ b }
+    // Bytes are read as the functions of one list only, and the forms of a description of which all
+    // is known are one list or one refusal.
+    ensures one_input { (bytes : List ℕ) (a b : List Function) → IsRead bytes a → IsRead bytes b →
+        a ≡ b }
     ensures one_description { (known : Known) (name : List ℕ) (a b : spec.Given) →
         IsKnown known name → FormsCome known name a → FormsCome known name b → a ≡ b }
 
@@ -526,78 +494,6 @@ pub fn run<F: Files, S: Source, K: Sink, E: Sink>(
     // lines.
     ensures endless { TakesEnough }
 
-    // `eval`: the text of status 0 has the outcomes that are defined for a function, over the lines
-    // and labels that its part of the
-    // assembly of the input spells; it is tried fairly, so that where its outcome has a value its
-    // lines come to the same one. And a
-    // function of an input that has an assembly has them.
-    ensures evaluates { (known : Known) → Agrees known (F.holds files.old) →
-        (name : Option (List ℕ)) (function : List ℕ) (steps : ℕ) (args : List ℕ) →
-        spoken.command_of (words_of words.now) ≡ Some (commands.Eval name function steps args) →
-        result ≡ 0 →
-        WritesOutcomes known (spec.described name) (S.left input.old) function steps args
-        (K.taken output.old) (K.taken output.new) }
-
-    ensures tried { (known : Known) → Agrees known (F.holds files.old) →
-        (name : Option (List ℕ)) (function : List ℕ) (steps : ℕ) (args : List ℕ) →
-        spoken.command_of (words_of words.now) ≡ Some (commands.Eval name function steps args) →
-        IsKnown known (spec.described name) →
-        ¬ Rose (F.fault_count files.old) (F.fault_count files.new) →
-        ¬ Rose (S.fault_count input.old) (S.fault_count input.new) →
-        ¬ Rose (K.fault_count output.old) (K.fault_count output.new) →
-        CompletesFor known (spec.described name) (S.left input.old) function result }
-
-    // `list`: the text of status 0 is the list of the description's forms, and a description that
-    // has a list is listed.
-    ensures lists { (known : Known) → Agrees known (F.holds files.old) → (name : Option (List ℕ)) →
-        spoken.command_of (words_of words.now) ≡ Some (commands.List name) → result ≡ 0 →
-        WritesList known (spec.described name) (K.taken output.old) (K.taken output.new) }
-
-    ensures listed { (known : Known) → Agrees known (F.holds files.old) →
-        (name : Option (List ℕ)) (text : List ℕ) →
-        spoken.command_of (words_of words.now) ≡ Some (commands.List name) →
-        IsKnown known (spec.described name) →
-        ListComes known (spec.described name) (Ok text) →
-        ¬ Rose (F.fault_count files.old) (F.fault_count files.new) →
-        ¬ Rose (S.fault_count input.old) (S.fault_count input.new) →
-        ¬ Rose (K.fault_count output.old) (K.fault_count output.new) → IsDone result }
-
-    // `recog`: the text of status 0 tells the form and the alternative of each instruction of the
-    // input, by the description's forms; and an input
-    // of which each instruction has them is told.
-    ensures recognises { (known : Known) → Agrees known (F.holds files.old) →
-        (name : Option (List ℕ)) →
-        spoken.command_of (words_of words.now) ≡ Some (commands.Recog name) → result ≡ 0 →
-        WritesForms known (spec.described name) (S.left input.old) (K.taken output.old)
-        (K.taken output.new) }
-
-    ensures recognised { (known : Known) → Agrees known (F.holds files.old) →
-        (name : Option (List ℕ)) →
-        spoken.command_of (words_of words.now) ≡ Some (commands.Recog name) →
-        IsKnown known (spec.described name) →
-        ¬ Rose (F.fault_count files.old) (F.fault_count files.new) →
-        ¬ Rose (S.fault_count input.old) (S.fault_count input.new) →
-        ¬ Rose (K.fault_count output.old) (K.fault_count output.new) →
-        CompletesBy known (spec.described name) (S.left input.old) result }
-
-    // `dump`: the text of status 0 has each function of the input as it is behind the pass, by the
-    // description's forms; and an input of which
-    // each function comes through the pass is told.
-    ensures dumps { (known : Known) → Agrees known (F.holds files.old) →
-        (name : Option (List ℕ)) (pass : Pass) →
-        spoken.command_of (words_of words.now) ≡ Some (commands.Dump name pass) → result ≡ 0 →
-        WritesDump pass known (spec.described name) (S.left input.old) (K.taken output.old)
-        (K.taken output.new) }
-
-    ensures dumped { (known : Known) → Agrees known (F.holds files.old) →
-        (name : Option (List ℕ)) (pass : Pass) →
-        spoken.command_of (words_of words.now) ≡ Some (commands.Dump name pass) →
-        IsKnown known (spec.described name) →
-        ¬ Rose (F.fault_count files.old) (F.fault_count files.new) →
-        ¬ Rose (S.fault_count input.old) (S.fault_count input.new) →
-        ¬ Rose (K.fault_count output.old) (K.fault_count output.new) →
-        CompletesDump pass known (spec.described name) (S.left input.old) result }
-
     // Each status has its cause.
     ensures statuses { Contains (0 ∷ 1 ∷ 2 ∷ 3 ∷ 4 ∷ 5 ∷ 6 ∷ 7 ∷ 8 ∷ []) result }
     ensures ok { result ≡ 0 → (known : Known) → Agrees known (F.holds files.old) →
@@ -610,10 +506,13 @@ pub fn run<F: Files, S: Source, K: Sink, E: Sink>(
     ensures read { result ≡ 6 → Rose (S.fault_count input.old) (S.fault_count input.new) ⊎
         Rose (F.fault_count files.old) (F.fault_count files.new) }
     ensures write { result ≡ 7 → Rose (K.fault_count output.old) (K.fault_count output.new) }
-    // A fault of the input comes behind all that refuses a description.
-    ensures behind { result ≡ 6 → ¬ Rose (F.fault_count files.old) (F.fault_count files.new) →
-        (known : Known) → Agrees known (F.holds files.old) →
-        HasForms known (spoken.command_of (words_of words.now)) }
+    // A fault of the input comes behind all that refuses a description; before one of the files
+    // nothing that is read is refused; and nothing is read where the words are no command.
+    ensures faulted { result ≡ 6 → (known : Known) → Agrees known (F.holds files.old) →
+        ReadFails known (F.fault_count files.old) (F.fault_count files.new)
+        (S.fault_count input.old) (S.fault_count input.new) (F.asked files.old) (F.asked files.new)
+        (spoken.command_of (words_of words.now)) }
+    ensures command { result ≡ 6 → IsSome (spoken.command_of (words_of words.now)) }
 
     // What is written: the text, a front of it after a write fault, and else nothing.
     ensures front { result ≡ 7 → (known : Known) → Agrees known (F.holds files.old) →

@@ -7,6 +7,8 @@ use Rattle.std.specs.Str.{bytes_eq, chars}
 use Rattle.std.specs.Str.Parse.{digits_value, starts_with_minus}
 use Rattle.std.specs.Fmt.{decimal}
 use Rattle.pass_name.specs.Pass.{pass_named}
+use Rattle.rtlc_words.specs.declared.command.Told.{Told}
+use Rattle.rtlc_words.specs.declared.command.Told.TheVariants as told
 use Rattle.rtlc_words.specs.declared.command.Command.{Command}
 use Rattle.rtlc_words.specs.declared.command.Command.TheVariants as commands
 
@@ -97,41 +99,47 @@ args_in words = if nat_le (length words) 8 then all_of (map (λ place. number_or
 
 -- ---- commands
 
--- the description of a command that takes no positional word
-abbrev pub only_description : Option (List ℕ) → List (List ℕ) → Option (Option (List ℕ))
-only_description name [] = Some name
-only_description name _ = None
+-- what is told where no positional word stands
+abbrev pub only : Told → List (List ℕ) → Option Told
+only t [] = Some t
+only t _ = None
 
-abbrev pub with_description : (Option (List ℕ) → Command) → Option (List ℕ) → List (List ℕ) →
-    Option Command
-with_description command name words = option_map command (only_description name words)
+-- the functions behind the pass that one positional word names
+abbrev pub behind : List (List ℕ) → Option Told
+behind (name ∷ []) = option_map (λ pass. told.Behind pass) (pass_named name)
+behind _ = None
 
-abbrev pub eval_with : Option (List ℕ) → List ℕ → Option ℕ → Option (List ℕ) → Option Command
-eval_with description function None args = None
-eval_with description function (Some steps) None = None
-eval_with description function (Some steps) (Some args) =
-    Some (commands.Eval description function steps args)
+abbrev pub outcomes_with : List ℕ → Option ℕ → Option (List ℕ) → Option Told
+outcomes_with function None args = None
+outcomes_with function (Some steps) None = None
+outcomes_with function (Some steps) (Some args) = Some (told.Outcomes function steps args)
 
--- the name of a function, a number of steps, and up to eight numbers, which are a0 to a7
-abbrev pub eval_by : Option (List ℕ) → List (List ℕ) → Option Command
-eval_by description (function ∷ steps ∷ args) =
-    eval_with description function (steps_in steps) (args_in args)
-eval_by description _ = None
+-- the outcomes of a function: its name, a number of steps, and up to eight numbers, which are a0 to
+-- a7
+abbrev pub outcomes : List (List ℕ) → Option Told
+outcomes (function ∷ steps ∷ args) = outcomes_with function (steps_in steps) (args_in args)
+outcomes _ = None
 
--- the name of a pass
-abbrev pub dump_by : Option (List ℕ) → List (List ℕ) → Option Command
-dump_by description (name ∷ []) =
-    option_map (λ pass. commands.Dump description pass) (pass_named name)
-dump_by description _ = None
+abbrev pub over_told : Option (List ℕ) → Option Told → Option Command
+over_told description t = option_map (λ what. commands.Over description what) t
+
+-- the functions of the input are told of, by a description
+abbrev pub over : (List (List ℕ) → Option Told) → Option (List ℕ) → List (List ℕ) → Option Command
+over told_by description words = over_told description (told_by words)
+
+-- the forms of a description are listed
+abbrev pub listed : Option (List ℕ) → List (List ℕ) → Option Command
+listed description [] = Some (commands.Listed description)
+listed description _ = None
 
 -- each command's name, and what it makes of a description and of positional words
 abbrev pub table : List (List ℕ × (Option (List ℕ) → List (List ℕ) → Option Command))
 table =
-    (codes "asm", with_description (λ d. commands.Asm d))
-    ∷ (codes "list", with_description (λ d. commands.List d))
-    ∷ (codes "recog", with_description (λ d. commands.Recog d))
-    ∷ (codes "dump", dump_by)
-    ∷ (codes "eval", eval_by)
+    (codes "asm", over (only told.Lines))
+    ∷ (codes "list", listed)
+    ∷ (codes "recog", over (only told.Forms))
+    ∷ (codes "dump", over behind)
+    ∷ (codes "eval", over outcomes)
     ∷ []
 
 abbrev pub command_by : List ℕ → Option (List ℕ) → List (List ℕ) → Option Command

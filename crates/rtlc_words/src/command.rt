@@ -14,41 +14,43 @@ use plain_data::Memory;
 use rtx_tree::Name;
 use std::alloc::Global;
 
-/// A command.
+/// What is told of the functions of an input.
 #[derive(Drop)]
-pub enum Command {
-    /// The assembly of the functions of the input, by a description.
-    Asm {
-        /// The name that stands behind `--md`, if there is one.
-        description: Option<Name>,
-    },
-    /// The list of the forms of a description.
-    List {
-        /// The name that stands behind `--md`, if there is one.
-        description: Option<Name>,
-    },
-    /// The form of a description that matches each instruction of the input, and its alternative.
-    Recog {
-        /// The name that stands behind `--md`, if there is one.
-        description: Option<Name>,
-    },
-    /// The functions of the input as they are behind a pass, by a description.
-    Dump {
-        /// The name that stands behind `--md`, if there is one.
-        description: Option<Name>,
+pub enum Told {
+    /// Their assembly.
+    Lines,
+    /// The form that matches each instruction, and its alternative.
+    Forms,
+    /// The functions as they are behind a pass.
+    Behind {
         /// The pass.
         pass: Pass,
     },
-    /// The outcomes of a function and of its code, by a description.
-    Eval {
-        /// The name that stands behind `--md`, if there is one.
-        description: Option<Name>,
+    /// The outcomes of a function and of its code.
+    Outcomes {
         /// The function's name.
         function: Name,
         /// How many steps the function is run for, from 1 to 1,000.
         steps: u16,
         /// `a0` to `a7`.
         args: [u64; 8],
+    },
+}
+
+/// A command. Its description is the name that stands behind `--md`, if there is one.
+#[derive(Drop)]
+pub enum Command {
+    /// Something is told of the functions of the input, by a description.
+    Over {
+        /// The description.
+        description: Option<Name>,
+        /// What is told.
+        told: Told,
+    },
+    /// The forms of a description are listed.
+    Listed {
+        /// The description.
+        description: Option<Name>,
     },
 }
 
@@ -61,37 +63,37 @@ fn name_of(alloc: Global, text: Option<&str>) -> Result<Option<Name>, Memory>
     }
 }
 
-/// The description of a command that takes no positional word, or `None` where there is such a
-/// word.
-fn described(
-    alloc: Global,
-    description: Option<&str>,
-    words: &[&str],
-) -> Result<Option<Option<Name>>, Memory>
-    ensures { IfOk result (λ found.
-        found ≡ spec.only_description (option_map (λ s.
-        s.now) description.entry) (words_of words.now)) }
+/// What is told where no positional word stands, or `None` where one does.
+fn only(told: Told, words: &[&str]) -> Option<Told>
+    ensures { result ≡ spec.only told (words_of words.now) }
 {
     match words {
-        [] => Ok(Some(name_of(alloc, description)?)),
-        _ => Ok(None),
+        [] => Some(told),
+        _ => None,
     }
 }
 
-fn eval_with(
+/// The functions behind the pass that the one positional word names.
+fn behind(words: &[&str]) -> Option<Told>
+    ensures { result ≡ spec.behind (words_of words.now) }
+{
+    match words {
+        [name] => Pass::named(name).map(|pass| Told::Behind { pass }),
+        _ => None,
+    }
+}
+
+fn outcomes_with(
     alloc: Global,
-    description: Option<&str>,
     function: &str,
     steps: &str,
     args: &[&str],
-) -> Result<Option<Command>, Memory>
-    ensures { IfOk result (λ command.
-        command ≡ spec.eval_with (option_map (λ s. s.now) description.entry) function.now
+) -> Result<Option<Told>, Memory>
+    ensures { IfOk result (λ told. told ≡ spec.outcomes_with function.now
         (spec.steps_in steps.now) (spec.args_in (words_of args.now))) }
 {
     match (steps_in(steps), args_in(args)) {
-        (Some(steps), Some(args)) => Ok(Some(Command::Eval {
-            description: name_of(alloc, description)?,
+        (Some(steps), Some(args)) => Ok(Some(Told::Outcomes {
             function: Name::of(alloc, function.as_bytes())?,
             steps,
             args,
@@ -100,48 +102,48 @@ fn eval_with(
     }
 }
 
-fn eval_of(
-    alloc: Global,
-    description: Option<&str>,
-    words: &[&str],
-) -> Result<Option<Command>, Memory>
-    ensures { IfOk result (λ command.
-        command ≡ spec.eval_by (option_map (λ s. s.now) description.entry) (words_of words.now)) }
+/// The outcomes of a function that the positional words name, for the steps and the numbers that
+/// they write.
+fn outcomes(alloc: Global, words: &[&str]) -> Result<Option<Told>, Memory>
+    ensures { IfOk result (λ told. told ≡ spec.outcomes (words_of words.now)) }
 {
     match words {
-        [function, steps, args @ ..] => eval_with(alloc, description, function, steps, args),
+        [function, steps, args @ ..] => outcomes_with(alloc, function, steps, args),
         _ => Ok(None),
     }
 }
 
-fn dump_with(
+/// The command that tells something of the functions, where something is told.
+fn over(
     alloc: Global,
     description: Option<&str>,
-    name: &str,
+    told: Option<Told>,
 ) -> Result<Option<Command>, Memory>
     ensures { IfOk result (λ command.
-        command ≡ option_map (λ pass. Command.Dump (option_map (λ s. s.now) description.entry) pass)
-        (pass_named name.now)) }
+        command ≡ spec.over_told (option_map (λ s. s.now) description.entry) told) }
 {
-    match Pass::named(name) {
-        Some(pass) => {
+    match told {
+        Some(told) => {
             let description = name_of(alloc, description)?;
-            Ok(Some(Command::Dump { description, pass }))
+            Ok(Some(Command::Over { description, told }))
         }
         None => Ok(None),
     }
 }
 
-fn dump_of(
+fn listed(
     alloc: Global,
     description: Option<&str>,
     words: &[&str],
 ) -> Result<Option<Command>, Memory>
     ensures { IfOk result (λ command.
-        command ≡ spec.dump_by (option_map (λ s. s.now) description.entry) (words_of words.now)) }
+        command ≡ spec.listed (option_map (λ s. s.now) description.entry) (words_of words.now)) }
 {
     match words {
-        [name] => dump_with(alloc, description, name),
+        [] => {
+            let description = name_of(alloc, description)?;
+            Ok(Some(Command::Listed { description }))
+        }
         _ => Ok(None),
     }
 }
@@ -158,17 +160,11 @@ fn command_by(
         s.now) description.entry) (words_of words.now)) }
 {
     match name {
-        "asm" => Ok(described(alloc, description, words)?.map(|description| Command::Asm {
-            description,
-        })),
-        "list" => Ok(described(alloc, description, words)?.map(|description| Command::List {
-            description,
-        })),
-        "recog" => Ok(described(alloc, description, words)?.map(|description| Command::Recog {
-            description,
-        })),
-        "dump" => dump_of(alloc, description, words),
-        "eval" => eval_of(alloc, description, words),
+        "asm" => over(alloc, description, only(Told::Lines, words)),
+        "list" => listed(alloc, description, words),
+        "recog" => over(alloc, description, only(Told::Forms, words)),
+        "dump" => over(alloc, description, behind(words)),
+        "eval" => over(alloc, description, outcomes(alloc, words)?),
         _ => Ok(None),
     }
 }

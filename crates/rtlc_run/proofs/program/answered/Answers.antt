@@ -4,7 +4,7 @@ use Rattle.rtlc_words.specs.declared.command.Command.{Command}
 use Rattle.rtlc_words.specs.Words.{command_of}
 use Rattle.rtlc_run.specs.Answer.{Answers, MayBeAsked}
 use Rattle.rtlc_words.specs.Words.{words_of}
-use Rattle.rtlc_run.proofs.Commands.{nothing_asked, words_produced, words_have_forms}
+use Rattle.rtlc_run.proofs.Commands.{nothing_asked, words_produced, words_fail}
 use Rattle.rtlc_run.proofs.program.answered.Goals as goal
 
 pub returns-in_err-command-clause-asked : goal.returns-in_err-command-clause-asked
@@ -21,6 +21,7 @@ pub returns-in-Some-clause-asked : goal.returns-in-Some-clause-asked
 returns-in-Some-clause-asked g c = λ known agrees.
     subst (λ (o : Option Command). GrewBy (MayBeAsked known o) (g.F.Files.asked c.args.files.now) (g.F.Files.asked c.produced.new.files)) (sym (sym c.in_ok-command.ensures ∙ c.in-Some.is)) (c.produced.ensures.asked known agrees)
 
-pub returns-in-Some-clause-behind : goal.returns-in-Some-clause-behind
-returns-in-Some-clause-behind g c = λ read calm known agrees.
-    words_have_forms (words_of c.args.words.now) known c.in-Some.command (sym c.in_ok-command.ensures ∙ c.in-Some.is) (c.produced.ensures.behind read calm known agrees)
+pub returns-in-Some-clause-faulted : goal.returns-in-Some-clause-faulted
+returns-in-Some-clause-faulted g c = λ read known agrees.
+    words_fail (words_of c.args.words.now) known (g.F.Files.fault_count c.args.files.now) (g.F.Files.fault_count c.produced.new.files) (g.S.Source.fault_count c.args.input.now) (g.S.Source.fault_count c.produced.new.input)
+    (g.F.Files.asked c.args.files.now) (g.F.Files.asked c.produced.new.files) c.in-Some.command (sym c.in_ok-command.ensures ∙ c.in-Some.is) (c.produced.ensures.faulted read known agrees)

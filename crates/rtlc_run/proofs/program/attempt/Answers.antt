@@ -28,7 +28,7 @@ returns-in_err-text-clause-quiet g c =
     let p = err_from_is_err_and c.from_residual.result c.from_residual.ensures.1 in
     λ other. c.in_err-text.ensures.quiet (λ is. other (err_on c.from_residual.result p.0 c.in_err-text.field-0.0 refusal.ReadFault p.1 p.2 is))
 
-pub returns-in_err-text-clause-behind : goal.returns-in_err-text-clause-behind
-returns-in_err-text-clause-behind g c =
+pub returns-in_err-text-clause-faulted : goal.returns-in_err-text-clause-faulted
+returns-in_err-text-clause-faulted g c =
     let p = err_from_is_err_and c.from_residual.result c.from_residual.ensures.1 in
-    λ read. c.in_err-text.ensures.behind (ap (λ (e : Refusal). Err e) (err_back c.from_residual.result p.0 c.in_err-text.field-0.0 refusal.ReadFault p.1 p.2 read))
+    λ read. c.in_err-text.ensures.faulted (ap (λ (e : Refusal). Err e) (err_back c.from_residual.result p.0 c.in_err-text.field-0.0 refusal.ReadFault p.1 p.2 read))

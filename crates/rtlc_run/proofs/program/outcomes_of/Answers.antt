@@ -1,5 +1,5 @@
 use Rattle.std.proofs.lemmas.Result.{err_from_is_err_and}
-use Rattle.rtlc_run.proofs.Tasks.{code_refused}
+use Rattle.rtlc_run.proofs.Tellings.{code_refused}
 use Rattle.rtlc_run.proofs.program.outcomes_of.Goals as goal
 
 pub returns-in_err-coded-clause-gives : goal.returns-in_err-coded-clause-gives

@@ -1,4 +1,4 @@
-use Rattle.rtlc_run.specs.Answer.{RecogComes}
+use Rattle.rtlc_run.specs.Told.{RecogComes}
 use Rattle.rtlc_run.proofs.Commands.{gives_text, told_is_own, told_read}
 use Rattle.rtlc_run.proofs.program.recognised.Goals as goal
 

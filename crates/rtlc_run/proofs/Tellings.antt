@@ -1,4 +1,4 @@
--- What a task makes of the input, from what the description and the input gave.
+-- What is told of the functions of the input, from what the description and the input gave.
 use Rattle.std.proofs.Common.{◌≡◌, ℕ, ◌+◌, ◌<◌, List, length, Result, Ok, Err, Option, Some, None, Vec, refl, sym, subst, arith}
 use Rattle.std.specs.Prelude.{IfSome}
 use Rattle.std.specs.declared.alloc.Global.{Global}
@@ -16,16 +16,17 @@ use Rattle.func_input.specs.Input.{InputComesTo, RefusesWith}
 use Rattle.func_input.specs.Outcome.{Outcome}
 use Rattle.law_assembly.specs.func_text.Assembly as assembly
 use Rattle.law_assembly.specs.func_text.Compile.{InputComes, TextComes}
-use Rattle.law_assembly.specs.func_text.Code.{IsUnnamed, CodeComes, Gives as GivesCode}
-use Rattle.rtlc_run.specs.declared.program.Task.{Task}
-use Rattle.rtlc_run.specs.declared.program.Task.TheVariants as task
-use Rattle.rtlc_run.specs.Answer.{EvalComes, ByForms}
-use Rattle.rtlc_run.specs.machine.Steps.{Gives, InputRefused, IsOwn, TaskComes, Misuses, MisusesInput}
+use Rattle.law_assembly.specs.func_text.Code.{CodeComes, Gives as GivesCode}
+use Rattle.rtlc_words.specs.declared.command.Told.{Told}
+use Rattle.rtlc_words.specs.declared.command.Told.TheVariants as telling
+use Rattle.rtlc_run.specs.Told.{EvalComes, ToldComes}
+use Rattle.rtlc_run.specs.Answer.{ByForms, IsMissing}
+use Rattle.rtlc_run.specs.machine.Steps.{Gives, InputRefused, IsOwn}
 use Rattle.rtlc_run.proofs.Commands.{of_input, gives_map}
 
 -- ---- the description
 
--- what refused the description refuses the task
+-- what refused the description refuses what is told
 pub forms_refuse : (comes : List Entry → List ℕ → Outcome → Type 0) (known : Source) (left : Option (List ℕ)) (name : List ℕ) (e : Refusal) → RefusesForms e (FormsCome known name) → Gives (Err e) (ByForms comes known left name)
 forms_refuse comes known left name refusal.Memory h = tt
 forms_refuse comes known left name refusal.ReadFault h = tt
@@ -47,24 +48,24 @@ forms_are_own known name _ h = (λ is. cc, λ is. cc)
 -- ---- an input that was not read
 
 -- bytes that are too many are no functions
-too_many : (t : Task) (forms : List Entry) (bytes : List ℕ) → most_bytes < length bytes → TaskComes t forms bytes (Err (refusal.Limit limit.Text (most_bytes + 1)))
-too_many task.Assemble forms bytes long = (Err (refusal.Limit limit.Text (most_bytes + 1)), InputComesTo.too_long long, refl)
-too_many task.Recognise forms bytes long = InputComesTo.too_long long
-too_many (task.Show pass) forms bytes long = InputComesTo.too_long long
-too_many (task.Try function steps args) forms bytes long =
+too_many : (t : Told) (forms : List Entry) (bytes : List ℕ) → most_bytes < length bytes → ToldComes t forms bytes (Err (refusal.Limit limit.Text (most_bytes + 1)))
+too_many telling.Lines forms bytes long = (Err (refusal.Limit limit.Text (most_bytes + 1)), InputComesTo.too_long long, refl)
+too_many telling.Forms forms bytes long = InputComesTo.too_long long
+too_many (telling.Behind pass) forms bytes long = InputComesTo.too_long long
+too_many (telling.Outcomes function steps args) forms bytes long =
     (Err (refusal.Limit limit.Text (most_bytes + 1)), CodeComes.unread (refusal.Limit limit.Text (most_bytes + 1)) (λ functions read. let within = read.within in omega (arith, long, within)) (InputComesTo.too_long long), refl, tt)
 
-too_many_left : (t : Task) (forms : List Entry) (left : Option (List ℕ)) (count : ℕ) → InputRefused left (refusal.Limit limit.Text count) → IfSome left (λ bytes. TaskComes t forms bytes (Err (refusal.Limit limit.Text count)))
+too_many_left : (t : Told) (forms : List Entry) (left : Option (List ℕ)) (count : ℕ) → InputRefused left (refusal.Limit limit.Text count) → IfSome left (λ bytes. ToldComes t forms bytes (Err (refusal.Limit limit.Text count)))
 too_many_left t forms None count h = tt
-too_many_left t forms (Some bytes) count h = subst (λ (n : ℕ). TaskComes t forms bytes (Err (refusal.Limit limit.Text n))) (sym h.0) (too_many t forms bytes h.1)
+too_many_left t forms (Some bytes) count h = subst (λ (n : ℕ). ToldComes t forms bytes (Err (refusal.Limit limit.Text n))) (sym h.0) (too_many t forms bytes h.1)
 
-unread_limit : (t : Task) (known : Source) (left : Option (List ℕ)) (name : List ℕ) (forms : List Entry) (which : Limit) (count : ℕ) → FormsCome known name (Ok forms) → InputRefused left (refusal.Limit which count) →
-    Gives (Err (refusal.Limit which count)) (ByForms (TaskComes t) known left name)
+unread_limit : (t : Told) (known : Source) (left : Option (List ℕ)) (name : List ℕ) (forms : List Entry) (which : Limit) (count : ℕ) → FormsCome known name (Ok forms) → InputRefused left (refusal.Limit which count) →
+    Gives (Err (refusal.Limit which count)) (ByForms (ToldComes t) known left name)
 unread_limit t known left name forms limit.Text count come h = ByForms.by_forms forms (Err (refusal.Limit limit.Text count)) come (too_many_left t forms left count h)
 unread_limit t known left name forms _ count come h = absurd h
 
--- an input that was not read refuses the task
-pub unread : (t : Task) (known : Source) (left : Option (List ℕ)) (name : List ℕ) (forms : List Entry) (e : Refusal) → FormsCome known name (Ok forms) → InputRefused left e → Gives (Err e) (ByForms (TaskComes t) known left name)
+-- an input that was not read refuses what is told
+pub unread : (t : Told) (known : Source) (left : Option (List ℕ)) (name : List ℕ) (forms : List Entry) (e : Refusal) → FormsCome known name (Ok forms) → InputRefused left e → Gives (Err e) (ByForms (ToldComes t) known left name)
 unread t known left name forms refusal.Memory come h = tt
 unread t known left name forms refusal.ReadFault come h = tt
 unread t known left name forms (refusal.Limit which count) come h = unread_limit t known left name forms which count come h
@@ -72,18 +73,15 @@ unread t known left name forms _ come h = absurd h
 
 -- ---- an input that was read
 
--- what the bytes that were read came to, the task comes to
-pub task_produced : (t : Task) (known : Source) (left left' : Option (List ℕ)) (name : List ℕ) (forms : List Entry) (bytes : List ℕ) (r : Result (Vec ℕ Global) Refusal) → FormsCome known name (Ok forms) →
-    Consumes left left' bytes × IsAtEnd left' → Gives r (TaskComes t forms bytes) → Gives r (ByForms (TaskComes t) known left name)
-task_produced t known left left' name forms bytes r come read h =
-    gives_map r (TaskComes t forms bytes) (ByForms (TaskComes t) known left name) (λ o comes. ByForms.by_forms forms o come (of_input (λ (bs : List ℕ). TaskComes t forms bs o) left left' bytes read comes)) h
+-- what the bytes that were read came to, the input comes to
+pub input_told : (t : Told) (known : Source) (left left' : Option (List ℕ)) (name : List ℕ) (forms : List Entry) (bytes : List ℕ) (r : Result (Vec ℕ Global) Refusal) → FormsCome known name (Ok forms) →
+    Consumes left left' bytes × IsAtEnd left' → Gives r (ToldComes t forms bytes) → Gives r (ByForms (ToldComes t) known left name)
+input_told t known left left' name forms bytes r come read h =
+    gives_map r (ToldComes t forms bytes) (ByForms (ToldComes t) known left name) (λ o comes. ByForms.by_forms forms o come (of_input (λ (bs : List ℕ). ToldComes t forms bs o) left left' bytes read comes)) h
 
--- the function that has no name is missing from the input
-pub misused : (t : Task) (left left' : Option (List ℕ)) (bytes : List ℕ) → Consumes left left' bytes × IsAtEnd left' → Misuses t bytes → MisusesInput t left
-misused task.Assemble left left' bytes read h = absurd h
-misused task.Recognise left left' bytes read h = absurd h
-misused (task.Show pass) left left' bytes read h = absurd h
-misused (task.Try function steps args) left left' bytes read h = of_input (λ (bs : List ℕ). IsUnnamed bs function) left left' bytes read h
+-- what is missing among the bytes that were read is missing in the input
+pub misused : (t : Told) (left left' : Option (List ℕ)) (bytes : List ℕ) → Consumes left left' bytes × IsAtEnd left' → IsMissing t bytes → IfSome left (λ bytes. IsMissing t bytes)
+misused t left left' bytes read h = of_input (λ (bs : List ℕ). IsMissing t bs) left left' bytes read h
 
 -- ---- texts
 

@@ -1,0 +1,6 @@
+use Rattle.std.proofs.Common.{◌≡◌, ◌++◌, ◌-◌}
+use Rattle.rtl_make.specs.Made as spec
+use Rattle.rtl_make.proofs.pattern.push_sums.Given as goal
+
+abbrev pub invariant-loop-k : goal.invariant-loop-k
+invariant-loop-k l = l.out ++ spec.each_from spec.summing l.k (16 - l.k) ≡ l.fn.out ++ spec.each_from spec.summing 1 15

@@ -1,9 +1,11 @@
 -- A chain with the return at its end keeps a function: its runs are the same, and none of them returns past the return.
-use Rattle.std.proofs.Common.{◌≡◌, ◌≢◌, ℕ, zero, suc, ◌+◌, ◌≤◌, ◌==◌, ◌&&◌, not, arith, if◌then◌else◌, Bool, true, false, List, [], ◌∷◌, ◌++◌, Option, Some, None, refl, sym, ap, subst, ◌∙◌, append-nil, inl}
-use Rattle.std.specs.Prelude.{slice_get, filter, is_some}
-use Rattle.std.specs.List.{AllByRecursion, IsDistinct, list_all}
+use Rattle.std.proofs.Common.{◌≡◌, ◌≢◌, ℕ, zero, suc, ◌+◌, ◌≤◌, ◌==◌, not, arith, if◌then◌else◌, Bool, true, false, List, [], ◌∷◌, ◌++◌, Option, Some, None, refl, sym, ap, subst, ◌∙◌, append-nil, inl}
+use Rattle.std.specs.Prelude.{pos, slice_get, filter, is_some}
+use Rattle.std.specs.List.{AllByRecursion, IsDistinct}
 use Rattle.std.proofs.lemmas.Bool.{false≢true}
 use Rattle.std.proofs.lemmas.List.Elements.{filter-append}
+use Rattle.rtx_tree.specs.declared.code.Code.TheVariants as code
+use Rattle.rtx_tree.specs.declared.code.Mode.TheVariants.{Void}
 use Rattle.rtx_tree.specs.declared.function.Insn.{Insn}
 use Rattle.rtx_tree.specs.declared.function.Function.{Function}
 use Rattle.rtx_tree.specs.declared.function.Kind.TheVariants as kind
@@ -21,8 +23,8 @@ use Rattle.func_run.specs.declared.outcome.Outcome.TheVariants.{Undefined}
 use Rattle.rtl_chain.specs.Counts.{greatest_uid}
 use Rattle.rtl_chain.specs.End.{return_insn, IsFinished}
 use Rattle.reg_uses.specs.Uses.{is_return_code, is_return}
-use Rattle.law_pass_needs.specs.sym_insns.Shape.{is_natural, all_natural}
-use Rattle.law_pass_needs.proofs.sym_insns.Shapes.{natural_out}
+use Rattle.rtx_open.proofs.Expressions.{node, none, gathers}
+use Rattle.law_pass_needs.specs.sym_insns.Shape.{natural_step, all_natural}
 use Rattle.law_function_kept.specs.Ends.{is_past, ends_past, EndsAtExit}
 use Rattle.law_function_kept.specs.Keeps.{Keeps, KeepsRun}
 use Rattle.law_function_kept.specs.Outcomes.{SameOutcome}
@@ -86,7 +88,7 @@ module _ (f : Function) where
   -- ---- the return
 
   return_natural : all_natural return_rtx ≡ true
-  return_natural = natural_out return_rtx ∙ ap (λ (o : Rtx-F Rtx). is_natural o.code o.number && list_all all_natural o.kids) (out-roll-Rtx _)
+  return_natural = gathers natural_step (node code.Return Void (pos 0) [] none)
 
   return_reloadable : IsInsnReloadable (return_insn f.insns)
   return_reloadable = rules_reloadable (return_insn f.insns) refl return_natural f.locals (record {

@@ -19,7 +19,7 @@ use Rattle.std_name.specs.declared.standard.Standard.{Standard}
 use Rattle.std_name.specs.Names.{standard_of}
 use Rattle.lower_insn.specs.declared.part.Prepared.{Prepared}
 use Rattle.lower_insn.specs.declared.part.Plan.{Plan}
-use Rattle.lower_insn.specs.Settings.{prepared, addressed, fitted}
+use Rattle.lower_insn.specs.Settings.{prepared, addressed, fitted, with_comparisons}
 
 -- operands by their numbers
 abbrev pub numbered : List StandardOperand → Ops
@@ -61,10 +61,15 @@ is_move name = starts_with ◌==◌ name (codes "mov")
 abbrev pub behind_addresses : Prepared → Prepared → Prepared
 behind_addresses a b = prepared (a.before ++ b.before) b.operands b.after b.next
 
--- the addresses of all operands first, then their predicates
+-- the addresses of all operands first, then what their predicates ask for
+abbrev pub values_for : Accepts → List Rtx → Bool → List StandardOperand → ℕ → Option Prepared
+values_for accepts patterns held operands next =
+    let a = addressed operands next in option_map (behind_addresses a) (fitted accepts patterns held 0 a.operands a.next)
+
+-- then comparisons of what the operands are by now, and what their predicates say
 abbrev pub prepared_for : Accepts → List Rtx → Bool → List StandardOperand → ℕ → Option Prepared
 prepared_for accepts patterns held operands next =
-    let a = addressed operands next in option_map (behind_addresses a) (fitted accepts patterns held 0 a.operands a.next)
+    option_and_then (with_comparisons accepts patterns) (values_for accepts patterns held operands next)
 
 -- ---- the plan: a form, what stands before what it emits, its operands, what stands behind, and the next free pseudo register
 

@@ -2,7 +2,7 @@
 -- GCC Internals, "Addressing Modes", "Machine-Independent Predicates" and "Standard Pattern Names
 -- For Generation". What a form does not take is set into a new pseudo register before the
 -- instruction, and what it does not set is set from one behind it.
-use Rattle.std.specs.Prelude.{ℕ, ◌+◌, Bool, not, ◌&&◌, if◌then◌else◌, List, [], ◌∷◌, ◌++◌, flat_map, Option, Some, None, option_map, option_and_then}
+use Rattle.std.specs.Prelude.{ℕ, ◌+◌, Bool, true, not, ◌&&◌, if◌then◌else◌, List, [], ◌∷◌, ◌++◌, flat_map, Option, Some, None, option_map, option_and_then}
 use Rattle.std.specs.List.{find}
 use Rattle.std.specs.Option.{option_map_or}
 use Rattle.rtx_tree.specs.declared.code.Code.{Code}
@@ -18,7 +18,7 @@ use Rattle.md_operand.specs.Addresses.{is_legitimate_address}
 use Rattle.md_match.specs.Pattern.{placeholders, gives_number}
 use Rattle.md_recog.specs.Match.{Accepts, names_predicate}
 use Rattle.std_name.specs.declared.standard.OperandRole.{OperandRole}
-use Rattle.std_name.specs.declared.standard.OperandRole.TheVariants.{Target, Input, Fixed}
+use Rattle.std_name.specs.declared.standard.OperandRole.TheVariants.{Target, Input, Comparison, Fixed}
 use Rattle.std_name.specs.declared.standard.StandardOperand.{StandardOperand}
 use Rattle.lower_insn.specs.declared.part.Prepared.{Prepared}
 
@@ -90,10 +90,12 @@ abbrev pub target_moved : Mode → StandardOperand → ℕ → Prepared
 target_moved mode operand next =
     prepared [] (with_tree operand (reg_of mode (pseudo next)) ∷ []) (set_rtx operand.tree (reg_of mode (pseudo next)) ∷ []) (next + 1)
 
--- a new register in the place of an operand that is refused; what has its place can't have one
+-- A new register in the place of an operand that is refused; what has its place can't have one. A
+-- comparison waits for its operands.
 abbrev pub replaced_by : OperandRole → Mode → StandardOperand → ℕ → Option Prepared
 replaced_by Input mode operand next = Some (input_set mode operand next)
 replaced_by Target mode operand next = Some (target_moved mode operand next)
+replaced_by Comparison mode operand next = Some (unchanged operand next)
 replaced_by Fixed mode operand next = None
 
 -- An operand with its placeholder. A new register has the operand's mode, or the placeholder's
@@ -116,3 +118,43 @@ abbrev pub fitted : Accepts → List Rtx → Bool → ℕ → List StandardOpera
 fitted accepts patterns held number [] next = Some (nothing next)
 fitted accepts patterns held number (operand ∷ operands) next =
     option_and_then (λ first. option_map (joined first) (fitted accepts patterns held (number + 1) operands first.next)) (fitted_one accepts patterns held number operand next)
+
+-- ---- comparisons
+
+-- A comparison is made of the two operands behind it: operand 1 of `cstoreMODE4` compares operands 2
+-- and 3, operand 0 of `cbranchMODE4` compares operands 1 and 2.
+abbrev pub compared_by : OperandRole → StandardOperand → List StandardOperand → StandardOperand
+compared_by Comparison operand (a ∷ b ∷ more) =
+    with_tree operand (tree_of (head_of operand.tree) (a.tree ∷ b.tree ∷ []))
+compared_by _ operand behind = operand
+
+-- operands, with comparisons of what the others are
+abbrev pub compared : List StandardOperand → List StandardOperand
+compared [] = []
+compared (operand ∷ operands) = compared_by operand.role operand operands ∷ compared operands
+
+-- whether a form takes a tree as the operand with a number; one without a placeholder for it asks
+-- nothing
+abbrev pub takes : Accepts → List Rtx → ℕ → Rtx → Bool
+takes accepts patterns number x =
+    option_map_or (λ p. not (refuses accepts p x)) (placeholder_of patterns number) true
+
+abbrev pub takes_comparison : OperandRole → Accepts → List Rtx → ℕ → Rtx → Bool
+takes_comparison Comparison accepts patterns number x = takes accepts patterns number x
+takes_comparison _ accepts patterns number x = true
+
+-- whether it takes each comparison, of the operands from a number on
+abbrev pub takes_comparisons : Accepts → List Rtx → ℕ → List StandardOperand → Bool
+takes_comparisons accepts patterns number [] = true
+takes_comparisons accepts patterns number (operand ∷ operands) =
+    takes_comparison operand.role accepts patterns number operand.tree && takes_comparisons accepts patterns (number + 1) operands
+
+-- prepared operands with their comparisons, if the form takes these
+abbrev pub with_operands : Prepared → List StandardOperand → Prepared
+with_operands p operands = prepared p.before operands p.after p.next
+
+abbrev pub with_comparisons : Accepts → List Rtx → Prepared → Option Prepared
+with_comparisons accepts patterns p =
+    if takes_comparisons accepts patterns 0 (compared p.operands)
+    then Some (with_operands p (compared p.operands))
+    else None

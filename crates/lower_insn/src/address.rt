@@ -1,30 +1,17 @@
 //! Addresses that are not legitimate.
-ghost use Rattle.std.specs.Prelude.{◌≡◌, [], ◌∷◌, IfOk};
-ghost use Rattle.rtx_tree.specs.Tree.{head_of, kids_of, tree_of};
+ghost use Rattle.std.specs.Prelude.{◌≡◌, IfOk};
+ghost use Rattle.rtx_tree.specs.Tree.{head_of, kids_of};
 ghost use Rattle.lower_insn.specs.Settings as spec;
 
 use crate::part::Prepared;
-use crate::prepared::{behind, copy_of, keep, nothing, pseudo, set_before, setting, with_tree};
+use crate::prepared::{
+    behind, copy_of, keep, nothing, over, pseudo, set_before, setting, with_tree,
+};
 use md_operand::legitimate_address;
 use plain_data::{Items, Memory};
 use rtx_tree::{Code, Mode, Rtx};
 use std::alloc::Global;
 use std_name::StandardOperand;
-
-/// A tree with another kid in the place of its own.
-fn over(alloc: Global, x: &Rtx, kid: Rtx) -> Result<Rtx, Memory>
-    ensures { IfOk result (λ y. y ≡ tree_of (head_of x.now) (kid ∷ [])) }
-{
-    let mut kids = Items::new(alloc);
-    kids.push(kid)?;
-    Ok(Rtx {
-        code: x.code,
-        mode: x.mode,
-        number: x.number,
-        name: x.name.copy(alloc)?,
-        kids,
-    })
-}
 
 /// One operand more: the memory at an address that a new register holds.
 fn set_address(
@@ -39,7 +26,9 @@ fn set_address(
     let next = so_far.next;
     let reg = pseudo(next)?;
     let set = setting(alloc, Rtx::reg(alloc, Mode::DI, reg), address.copy(alloc)?)?;
-    let memory = over(alloc, &operand.tree, Rtx::reg(alloc, Mode::DI, reg))?;
+    let mut kids = Items::new(alloc);
+    kids.push(Rtx::reg(alloc, Mode::DI, reg))?;
+    let memory = over(alloc, &operand.tree, kids)?;
     set_before(so_far, set, with_tree(operand, memory), behind(next)?)
 }
 

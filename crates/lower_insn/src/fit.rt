@@ -27,7 +27,7 @@ fn accepts(desc: &Description, placeholder: &Rtx, x: &Rtx) -> bool
 }
 
 /// Whether the predicate that a placeholder names refuses a tree.
-fn refuses(desc: &Description, placeholder: &Rtx, x: &Rtx) -> bool
+pub(crate) fn refuses(desc: &Description, placeholder: &Rtx, x: &Rtx) -> bool
     ensures { result ≡ spec.refuses (holds desc.now) placeholder.now x.now }
 {
     names_predicate(placeholder.code) && !accepts(desc, placeholder, x)
@@ -81,6 +81,7 @@ fn replace(
     match operand.role {
         OperandRole::Input => Ok(Some(set_input(alloc, mode, operand, so_far)?)),
         OperandRole::Target => Ok(Some(move_target(alloc, mode, operand, so_far)?)),
+        OperandRole::Comparison => Ok(Some(keep(so_far, copy_of(alloc, operand)?)?)),
         OperandRole::Fixed => Ok(None),
     }
 }

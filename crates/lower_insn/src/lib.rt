@@ -2,14 +2,16 @@
 //!
 //! Before registers have homes each instruction has to be matched by a form. For one that none
 //! matches, a description names forms by the standard names: [`lowered`] finds the form of its
-//! name, makes the operands what the form asks for (`specs/Settings.antt`), and gives what the form
-//! emits, with what stands before and behind (`specs/Lowered.antt`).
+//! name, makes the operands what the form asks for, comparisons last, of what the others are by
+//! then (`specs/Settings.antt`), and gives what the form emits, with what stands before and behind
+//! (`specs/Lowered.antt`).
 //!
 //! What makes operands so is lowered in the same way. [`lowered`] has a stack of its own of what is
 //! still to be made.
 #![tactic(auto)]
 
 mod address;
+mod comparison;
 mod emit;
 mod fit;
 mod form;

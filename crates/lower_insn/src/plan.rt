@@ -4,6 +4,7 @@ ghost use Rattle.md_pred.specs.Holds.{holds};
 ghost use Rattle.lower_insn.specs.Plan as spec;
 
 use crate::address::addressed;
+use crate::comparison::with_comparisons;
 use crate::fit::fitted;
 use crate::form::{form_for, numbered, patterns_at};
 use crate::part::{Plan, Prepared};
@@ -30,6 +31,25 @@ fn behind_addresses(a: Prepared, b: Prepared) -> Result<Prepared, Memory>
     })
 }
 
+/// The operands as a form's patterns ask for them, but comparisons.
+fn prepare_values(
+    alloc: Global,
+    desc: &Description,
+    patterns: &[Rtx],
+    held: bool,
+    operands: &[StandardOperand],
+    next: u32,
+) -> Result<Option<Prepared>, Memory>
+    ensures { IfOk result (λ all. all ≡ spec.values_for
+        (holds desc.now) patterns.now held operands.now next) }
+{
+    let a = addressed(alloc, operands, next)?;
+    match fitted(alloc, desc, patterns, held, a.operands.as_slice(), a.next)? {
+        Some(b) => Ok(Some(behind_addresses(a, b)?)),
+        None => Ok(None),
+    }
+}
+
 /// The operands as a form's patterns ask for them.
 fn prepare(
     alloc: Global,
@@ -42,9 +62,8 @@ fn prepare(
     ensures { IfOk result (λ all. all ≡ spec.prepared_for
         (holds desc.now) patterns.now held operands.now next) }
 {
-    let a = addressed(alloc, operands, next)?;
-    match fitted(alloc, desc, patterns, held, a.operands.as_slice(), a.next)? {
-        Some(b) => Ok(Some(behind_addresses(a, b)?)),
+    match prepare_values(alloc, desc, patterns, held, operands, next)? {
+        Some(values) => with_comparisons(alloc, desc, patterns, values),
         None => Ok(None),
     }
 }

@@ -2,12 +2,12 @@
 ghost use Rattle.std.specs.Prelude.{◌≡◌, ◌+◌, [], ◌∷◌, IfOk};
 ghost use Rattle.rtx_tree.specs.Registers as registers;
 ghost use Rattle.rtx_tree.specs.Patterns.{set_rtx};
-ghost use Rattle.rtx_tree.specs.Tree.{reg_of};
+ghost use Rattle.rtx_tree.specs.Tree.{reg_of, head_of, tree_of};
 ghost use Rattle.lower_insn.specs.Settings as spec;
 
 use crate::part::Prepared;
 use plain_data::{Items, Memory};
-use rtx_tree::{Code, Mode, Rtx};
+use rtx_tree::{Code, Kids, Mode, Rtx};
 use std::alloc::Global;
 use std_name::StandardOperand;
 
@@ -85,6 +85,19 @@ pub(crate) fn with_tree(operand: &StandardOperand, tree: Rtx) -> StandardOperand
         role: operand.role,
         mode: operand.mode,
     }
+}
+
+/// A tree with other kids in the place of its own.
+pub(crate) fn over(alloc: Global, x: &Rtx, kids: Kids) -> Result<Rtx, Memory>
+    ensures { IfOk result (λ y. y ≡ tree_of (head_of x.now) kids) }
+{
+    Ok(Rtx {
+        code: x.code,
+        mode: x.mode,
+        number: x.number,
+        name: x.name.copy(alloc)?,
+        kids,
+    })
 }
 
 /// The number of the register that a pseudo register is. A number past 32 bits finds no memory.

@@ -14,7 +14,7 @@ use Rattle.rtx_tree.specs.Patterns.{is_pc}
 use Rattle.rtl_func.specs.Shapes.{class_at, mode_at, has_mode, is_constant, is_called}
 use Rattle.std_name.specs.declared.standard.StandardOperand.{StandardOperand}
 use Rattle.std_name.specs.declared.standard.Standard.{Standard}
-use Rattle.std_name.specs.Operands.{is_vars, fits, target, input, fixed}
+use Rattle.std_name.specs.Operands.{is_vars, fits, target, input, comparison, fixed}
 
 -- ---- the words of names
 
@@ -86,7 +86,7 @@ compared_mode a b = if is_constant a then mode_at b else mode_at a
 
 -- the operands of a comparison, behind it
 abbrev pub compared : Mode → Rtx → Rtx → Rtx → List StandardOperand → List StandardOperand
-compared mode test a b more = fixed test ∷ input mode a ∷ input mode b ∷ more
+compared mode test a b more = comparison test ∷ input mode a ∷ input mode b ∷ more
 
 -- an operation on two values, of which the second has a mode where it is a constant
 abbrev pub binary_row : Rtx → Rtx → Rtx → Mode → Rtx → Option Standard

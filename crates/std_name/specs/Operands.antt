@@ -9,7 +9,7 @@ use Rattle.rtx_tree.specs.declared.tree.Rtx.{Rtx}
 use Rattle.rtx_tree.specs.Registers.{virtual_stack_vars}
 use Rattle.rtl_func.specs.Shapes.{class_at, mode_at, number_at, is_constant, is_place}
 use Rattle.std_name.specs.declared.standard.OperandRole.{OperandRole}
-use Rattle.std_name.specs.declared.standard.OperandRole.TheVariants.{Target, Input, Fixed}
+use Rattle.std_name.specs.declared.standard.OperandRole.TheVariants.{Target, Input, Comparison, Fixed}
 use Rattle.std_name.specs.declared.standard.StandardOperand.{StandardOperand}
 
 -- ---- what may stand as an operand
@@ -42,6 +42,7 @@ is_target x = is_place x && not (is_vars x)
 abbrev pub fits_role : OperandRole → Rtx → Bool
 fits_role Target x = is_target x
 fits_role Input x = is_leaf x
+fits_role Comparison x = true
 fits_role Fixed x = true
 
 abbrev pub fits : StandardOperand → Bool
@@ -66,6 +67,10 @@ target x = record { tree = x; role = Target; mode = mode_at x }
 abbrev pub input : Mode → Rtx → StandardOperand
 input there x = record { tree = x; role = Input; mode = mode_in there x }
 
--- a comparison, a label, or a constant that has its place
+-- a comparison of the two operands behind it
+abbrev pub comparison : Rtx → StandardOperand
+comparison x = record { tree = x; role = Comparison; mode = mode_at x }
+
+-- a label, or a constant that has its place
 abbrev pub fixed : Rtx → StandardOperand
 fixed x = record { tree = x; role = Fixed; mode = mode_at x }

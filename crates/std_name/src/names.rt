@@ -5,7 +5,7 @@ ghost use Rattle.rtl_func.specs.Shapes.{class_at};
 ghost use Rattle.std_name.specs.Names as spec;
 ghost use Rattle.std_name.specs.Operands as operands;
 
-use crate::operands::{fixed, input, is_vars, target};
+use crate::operands::{comparison, fixed, input, is_vars, target};
 use crate::standard::{Standard, StandardOperand};
 use crate::words::{row, word_of};
 use plain_data::{Items, Memory};
@@ -54,7 +54,7 @@ fn push_compared(
 ) -> Result<(), Memory>
     ensures { OnOk result (items.new ≡ items.old ++ spec.compared mode test.now a.now b.now []) }
 {
-    items.push(fixed(alloc, test)?)?;
+    items.push(comparison(alloc, test)?)?;
     items.push(input(alloc, mode, a)?)?;
     items.push(input(alloc, mode, b)?)
 }

@@ -38,7 +38,7 @@ pub fn fits(operand: &StandardOperand) -> bool
     match operand.role {
         OperandRole::Target => is_target(&operand.tree),
         OperandRole::Input => is_leaf(&operand.tree),
-        OperandRole::Fixed => true,
+        OperandRole::Comparison | OperandRole::Fixed => true,
     }
 }
 
@@ -75,7 +75,18 @@ pub fn input(alloc: Global, there: Mode, x: &Rtx) -> Result<StandardOperand, Mem
     })
 }
 
-/// A comparison, a label, or a constant that has its place, as an operand.
+/// A comparison of the two operands behind it, as an operand.
+pub fn comparison(alloc: Global, x: &Rtx) -> Result<StandardOperand, Memory>
+    ensures { IfOk result (λ operand. operand ≡ spec.comparison x.now) }
+{
+    Ok(StandardOperand {
+        tree: x.copy(alloc)?,
+        role: OperandRole::Comparison,
+        mode: x.mode,
+    })
+}
+
+/// A label, or a constant that has its place, as an operand.
 pub fn fixed(alloc: Global, x: &Rtx) -> Result<StandardOperand, Memory>
     ensures { IfOk result (λ operand. operand ≡ spec.fixed x.now) }
 {

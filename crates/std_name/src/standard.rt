@@ -10,7 +10,9 @@ pub enum OperandRole {
     Target,
     /// A value that it takes.
     Input,
-    /// A comparison, a label, or a constant that has its place: it can't be put into a register.
+    /// A comparison of the two operands behind it, of which it is made.
+    Comparison,
+    /// A label, or a constant that has its place: it can't be put into a register.
     Fixed,
 }
 

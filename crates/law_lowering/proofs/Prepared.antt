@@ -14,14 +14,14 @@ use Rattle.md_recog.specs.Match.{Accepts}
 use Rattle.md_forms.specs.declared.form.Entry.{Entry}
 use Rattle.md_pred.specs.Holds.{holds}
 use Rattle.std_name.specs.declared.standard.OperandRole.{OperandRole}
-use Rattle.std_name.specs.declared.standard.OperandRole.TheVariants.{Target, Input, Fixed}
+use Rattle.std_name.specs.declared.standard.OperandRole.TheVariants.{Target, Input, Comparison, Fixed}
 use Rattle.std_name.specs.declared.standard.StandardOperand.{StandardOperand}
 use Rattle.std_name.specs.declared.standard.Standard.{Standard}
 use Rattle.std_name.specs.Names.{standard_of}
 use Rattle.lower_insn.specs.declared.part.Plan.{Plan}
 use Rattle.lower_insn.specs.declared.part.Prepared.{Prepared}
-use Rattle.lower_insn.specs.Settings.{unchanged, joined, address_set, addressed_by, addressed_one, addressed, placeholder_of, refuses, input_set, target_moved, replaced_by, fitted_at, fitted_one, fitted}
-use Rattle.lower_insn.specs.Plan.{form_for, patterns_at, is_move, behind_addresses, prepared_for, plan, planned_by, planned_as, planned}
+use Rattle.lower_insn.specs.Settings.{unchanged, joined, address_set, addressed_by, addressed_one, addressed, placeholder_of, refuses, input_set, target_moved, replaced_by, fitted_at, fitted_one, fitted, compared_by, compared, takes_comparisons, with_operands, with_comparisons}
+use Rattle.lower_insn.specs.Plan.{form_for, patterns_at, is_move, behind_addresses, values_for, prepared_for, plan, planned_by, planned_as, planned}
 use Rattle.law_insn_replaced.proofs.law_pass_needs.Places.{all_joined}
 use Rattle.law_lowering.proofs.Keeping.{Keeps, AllKeep, parts_keep, other_parts, set_keeps, pseudo_keeps}
 use Rattle.law_lowering.proofs.Standard.{Good, AllGood, GoodStandard, good_standard}
@@ -95,6 +95,7 @@ good_replaced : (role : OperandRole) (m : Mode) (operand : StandardOperand) (nex
     IfSome (replaced_by role m operand next) GoodPrepared
 good_replaced Input m operand next good = good_input m operand next good
 good_replaced Target m operand next good = good_target m operand next good
+good_replaced Comparison m operand next good = good_unchanged operand next good
 good_replaced Fixed m operand next good = tt
 
 good_fitted_at : (accepts : Accepts) (held : Bool) (operand : StandardOperand) (next : ℕ) (p : Rtx) → Good operand →
@@ -127,13 +128,37 @@ good_fitted accepts patterns held number (operand ∷ operands) next good =
     (fitted accepts patterns held (number + 1) operands first.next) (good_fitted accepts patterns held (number + 1) operands first.next good.1))
     (fitted_one accepts patterns held number operand next) (good_fitted_one accepts patterns held number operand next good.0)
 
-good_prepared : (accepts : Accepts) (patterns : List Rtx) (held : Bool) (operands : List StandardOperand) (next : ℕ) → AllGood operands →
-    IfSome (prepared_for accepts patterns held operands next) GoodPrepared
-good_prepared accepts patterns held operands next good =
+good_values : (accepts : Accepts) (patterns : List Rtx) (held : Bool) (operands : List StandardOperand) (next : ℕ) → AllGood operands →
+    IfSome (values_for accepts patterns held operands next) GoodPrepared
+good_values accepts patterns held operands next good =
     let a = addressed operands next in
     let first = good_addressed operands next good in
     map_some GoodPrepared GoodPrepared (behind_addresses a) (λ b second. (all_joined Keeps a.before b.before first.0 second.0, second.1, second.2))
     (fitted accepts patterns held 0 a.operands a.next) (good_fitted accepts patterns held 0 a.operands a.next first.1)
+
+-- ---- comparisons
+
+good_compared_by : (role : OperandRole) (operand : StandardOperand) (behind : List StandardOperand) → Good operand → AllGood behind →
+    Good (compared_by role operand behind)
+good_compared_by Comparison operand (a ∷ b ∷ more) good all = other_parts operand.tree (a.tree ∷ b.tree ∷ []) good (all.0, (all.1.0, tt))
+good_compared_by _ operand behind good all = good
+
+good_compared : (operands : List StandardOperand) → AllGood operands → AllGood (compared operands)
+good_compared [] good = tt
+good_compared (operand ∷ operands) good = (good_compared_by operand.role operand operands good.0 good.1, good_compared operands good.1)
+
+good_with : (accepts : Accepts) (patterns : List Rtx) (p : Prepared) → GoodPrepared p → IfSome (with_comparisons accepts patterns p) GoodPrepared
+good_with accepts patterns p good = by (takes_comparisons accepts patterns 0 (compared p.operands))
+  where
+    by : (b : Bool) → IfSome (if b then Some (with_operands p (compared p.operands)) else None) GoodPrepared
+    by true = (good.0, good_compared p.operands good.1, good.2)
+    by false = tt
+
+good_prepared : (accepts : Accepts) (patterns : List Rtx) (held : Bool) (operands : List StandardOperand) (next : ℕ) → AllGood operands →
+    IfSome (prepared_for accepts patterns held operands next) GoodPrepared
+good_prepared accepts patterns held operands next good =
+    then_some GoodPrepared GoodPrepared (with_comparisons accepts patterns) (λ p is. good_with accepts patterns p is)
+    (values_for accepts patterns held operands next) (good_values accepts patterns held operands next good)
 
 -- ---- plans
 

@@ -1,6 +1,8 @@
 //! An instruction replaced by a sequence.
-ghost use Rattle.std.specs.Prelude.{◌≡◌, ◌<◌, ◌+◌, ◌^◌, length, slice_get, Some, IfOk, OnErr};
+ghost use Rattle.std.specs.Prelude.{◌≡◌, ◌<◌, ◌+◌, ◌^◌, length, slice_get, Some, IfOk, IfErr, OnErr};
 ghost use Rattle.rtx_tree.specs.declared.function.Insn.{Insn};
+ghost use Rattle.rtl_chain.specs.Counts.{instruction_count};
+ghost use Rattle.new_insns.specs.Replaced as windows;
 ghost use Rattle.pass_refusal.specs.md_forms.Forms.{names_of};
 ghost use Rattle.pass_refusal.specs.form_needs.Needs as needs;
 ghost use Rattle.pass_refusal.specs.equate.Side as sides;
@@ -14,7 +16,7 @@ use md_desc::Description;
 use new_insns::insns_for;
 use pass_refusal::{PassRefusal, Side, judge};
 use plain_data::{Items, Memory};
-use rtx_tree::{Insns, Kids};
+use rtx_tree::{Insn, Insns, Kids, Limit, MOST_MADE};
 use std::alloc::Global;
 use std::slice;
 
@@ -40,7 +42,12 @@ fn behind(place: u32) -> Result<u32, Memory>
 
 /// The instructions that a sequence makes in the place of one of a chain. Uids past 32 bits find no
 /// memory.
-fn made(alloc: Global, chain: &mut LiveChain, place: u32, sequence: Kids) -> Result<Insns, Memory>
+fn insns_of(
+    alloc: Global,
+    chain: &mut LiveChain,
+    place: u32,
+    sequence: Kids,
+) -> Result<Insns, Memory>
     requires { place < length chain.old.insns }
     ensures made { IfOk result (steps.AreMade chain.old place sequence) }
     ensures long { IfOk result (λ insns. length insns ≡ length sequence) }
@@ -51,6 +58,44 @@ fn made(alloc: Global, chain: &mut LiveChain, place: u32, sequence: Kids) -> Res
     };
     let old = chain.insn(place);
     insns_for(alloc, old, uid, sequence)
+}
+
+/// Refuses a function that would be too long with others in the place of the instruction at a
+/// place.
+fn keep_few(chain: &mut LiveChain, place: u32, new: &[Insn]) -> Result<(), PassRefusal>
+    requires { place < length chain.old.insns }
+    ensures few { steps.KeepsFew result
+        (instruction_count (windows.replaced chain.old place (place + 1) new.now).insns) }
+    ensures same { chain.new ≡ chain.old }
+{
+    let count = chain.count_with(place, new)?;
+    if count > MOST_MADE {
+        return Err(PassRefusal::Limit {
+            which: Limit::Instructions,
+            count: count as u64,
+        });
+    }
+    Ok(())
+}
+
+/// The instructions that a sequence makes in the place of one of a chain, where the function is not
+/// too long with them.
+fn made(
+    alloc: Global,
+    chain: &mut LiveChain,
+    place: u32,
+    sequence: Kids,
+) -> Result<Insns, PassRefusal>
+    requires { place < length chain.old.insns }
+    ensures made { IfOk result (steps.AreMade chain.old place sequence) }
+    ensures short { IfOk result (λ _. steps.IsShort chain.old place sequence) }
+    ensures refused { IfErr result (steps.RefusesLong chain.old place sequence) }
+    ensures long { IfOk result (λ insns. length insns ≡ length sequence) }
+    ensures same { chain.new ≡ chain.old }
+{
+    let insns = insns_of(alloc, chain, place, sequence)?;
+    keep_few(chain, place, insns.as_slice())?;
+    Ok(insns)
 }
 
 /// Compares the instruction at a place with what would stand in its place by a form, over the
@@ -99,9 +144,10 @@ fn insns_in(alloc: Global, side: Side) -> Insns
 ///
 /// # Errors
 ///
-/// What the comparison refuses: the first item in which they differ, with the instruction's uid and
-/// the name of the form, or the size of a term that is too large; or that memory ran out. The
-/// function is as before then.
+/// How many instructions the function would have, where that is more than 1,000,000. What the
+/// comparison refuses: the first item in which they differ, with the instruction's uid and the name
+/// of the form, or the size of a term that is too large. Or that memory ran out. The function is as
+/// before then.
 #[tactic(auto, using(crate::proofs::OneReplaced::one_replaced))]
 pub fn replace_insn(
     alloc: Global,

@@ -176,20 +176,20 @@ module _ (f : Function) (place : ℕ) (i : Insn) (at : slice_get f.insns place �
 -- a function does what it did with an instruction replaced, whatever registers this names
 pub replaced_does : (f : Function) (place : ℕ) (i : Insn) (rule : List ℕ) (sequence : List Rtx) (g : Function) → MarksAreEmpty f →
     RegistersAreNatural f → slice_get f.insns place ≡ Some i → ReplacedComes f place i rule sequence (Ok g) → Keeps f g
-replaced_does f place i rule sequence _ marks natural at (ReplacedComes.replaced live are small equated) =
+replaced_does f place i rule sequence _ marks natural at (ReplacedComes.replaced live are small equated short) =
     after_keeps f place i at sequence live are small equated marks natural
 
 -- a replaced instruction keeps the function
 pub insn_kept : (f : Function) (place : ℕ) (i : Insn) (rule : List ℕ) (sequence : List Rtx) (g : Function) → IsSound f →
     slice_get f.insns place ≡ Some i → is_kind i.kind ≡ true → AllByRecursion Keep sequence → ReplacedComes f place i rule sequence (Ok g) →
     PassKeeps f g
-insn_kept f place i rule sequence _ sound at is keep (ReplacedComes.replaced live are small equated) =
+insn_kept f place i rule sequence _ sound at is keep (ReplacedComes.replaced live are small equated short) =
     after_kept f place i at sequence live are small equated sound is keep
 
 -- and leaves the labels and barriers, whatever the function is
 pub insn_same : (f : Function) (place : ℕ) (i : Insn) (rule : List ℕ) (sequence : List Rtx) (g : Function) → slice_get f.insns place ≡ Some i →
     is_kind i.kind ≡ true → ReplacedComes f place i rule sequence (Ok g) → SameMarks f g
-insn_same f place i rule sequence _ at is (ReplacedComes.replaced live are small equated) =
+insn_same f place i rule sequence _ at is (ReplacedComes.replaced live are small equated short) =
     replaced_same f place i i (greatest_uid f.insns + 1) sequence at is
 
 -- an instruction names of the hard registers a0 to a7 alone

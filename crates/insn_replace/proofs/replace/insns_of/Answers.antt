@@ -1,5 +1,5 @@
 use Rattle.insn_replace.proofs.MadeLaws.{long_of}
-use Rattle.insn_replace.proofs.replace.made.Goals as goal
+use Rattle.insn_replace.proofs.replace.insns_of.Goals as goal
 
 pub returns-clause-long : goal.returns-clause-long
 returns-clause-long c = long_of c.insn-old.result.now c.in-Some.uid c.args.sequence c.insns_for.result c.insns_for.ensures

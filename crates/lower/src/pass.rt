@@ -84,8 +84,9 @@ fn lower_place(
 ///
 /// # Errors
 ///
-/// `Unmatched` where no form can make an instruction; `NotEquated`, or `Limit` of `TermSize`, where
-/// what would stand in its place is not equated with it; `Memory` where memory ran out.
+/// `Unmatched` where no form can make an instruction; `Limit` of `Instructions` where the function
+/// would be too long; `NotEquated`, or `Limit` of `TermSize`, where what would stand in an
+/// instruction's place is not equated with it; `Memory` where memory ran out.
 #[tactic(auto, using(crate::proofs::OneLower::lower_one, crate::proofs::Matched::lower_matched, crate::proofs::Kept::lower_same, crate::proofs::Kept::lower_kept))]
 pub fn lower(alloc: Global, desc: &Description, f: Function) -> Result<Function, PassRefusal>
     ensures gives { Gives result (LowerComes desc.now f) }

@@ -157,9 +157,9 @@ fn split_all(
 ///
 /// # Errors
 ///
-/// `NotEquated`, or `Limit` of `TermSize`, where a sequence is not equated with the instruction in
-/// whose place it would stand; `Limit` of `SplitDepth` at the ninth split that follows from others;
-/// `Memory` where memory ran out.
+/// `Limit` of `SplitDepth` at the ninth split that follows from others; `Limit` of `Instructions`
+/// where the function would be too long; `NotEquated`, or `Limit` of `TermSize`, where a sequence is
+/// not equated with the instruction in whose place it would stand; `Memory` where memory ran out.
 pub fn split(
     alloc: Global,
     desc: &Description,

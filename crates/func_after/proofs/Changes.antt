@@ -1,7 +1,9 @@
 -- What a pass made that gave something, from what comes of it.
 use Rattle.std.proofs.Common.{◌≡◌, ℕ, List, Result, Ok, Err, refl, sym, ap, subst, ◌∙◌}
 use Rattle.rtx_tree.specs.declared.function.Function.{Function}
+use Rattle.rtx_tree.specs.declared.limit.Limit.TheVariants.{Instructions}
 use Rattle.run_refusal.specs.declared.refusal.Refusal.{Refusal}
+use Rattle.run_refusal.specs.declared.refusal.Refusal.TheVariants as refusal
 use Rattle.pass_name.specs.declared.pass.Pass.{Pass}
 use Rattle.pass_name.specs.declared.pass.Pass.TheVariants.{Read, Lower, Split1, Reload, Frame, Split2, Output}
 use Rattle.md_forms.specs.declared.form.Entry.{Entry}
@@ -17,7 +19,7 @@ use Rattle.reload.specs.declared.refusal.ReloadRefusal.{ReloadRefusal}
 use Rattle.frame.specs.Framed.{FrameComes}
 use Rattle.func_after.specs.declared.change.Change.{Change}
 use Rattle.func_after.specs.declared.made.Made.{Made}
-use Rattle.func_after.specs.After.{Answer, Changed, plainly, told_for, told_reloaded, ChangeComes, PassComes}
+use Rattle.func_after.specs.After.{Answer, Changed, plainly, told_for, told_reloaded, count_of, IsShort, ChangeComes, PassMakes, PassComes}
 
 pub ok_is : (m n : Made) → ◌≡◌ {A = Answer} (Ok m) (Ok n) → m ≡ n
 ok_is m n is = cc
@@ -55,6 +57,19 @@ module _ (forms : List Entry) (f : Function) (c : Change) where
   pub again_by : (a : Changed) → a ≡ Ok c → ChangeComes forms f Split2 a → SplitComes forms Split2 f (Ok c.function)
   again_by _ is (ChangeComes.splits_again r comes) = subst (SplitComes forms Split2 f) (plain_is r c is) comes
 
+-- what a pass that gave something made
+module _ (forms : List Entry) (m next : Made) (pass : Pass) where
+  pub makes_of : (a : Answer) → a ≡ Ok next → PassComes forms m pass a → PassMakes forms m pass (Ok next)
+  makes_of _ is (PassComes.refused e makes) = apart next e is
+  makes_of _ is (PassComes.long n makes many) = apart next (refusal.Limit Instructions (count_of n)) is
+  makes_of _ is (PassComes.made n makes short) = subst (λ (n : Made). PassMakes forms m pass (Ok n)) (ok_is n next is) makes
+
+  -- is not too long
+  pub short_of : (a : Answer) → a ≡ Ok next → PassComes forms m pass a → IsShort next
+  short_of _ is (PassComes.refused e makes) = apart next e is
+  short_of _ is (PassComes.long n makes many) = apart next (refusal.Limit Instructions (count_of n)) is
+  short_of _ is (PassComes.made n makes short) = subst IsShort (ok_is n next is) short
+
 module _ (forms : List Entry) (m next : Made) where
   abbrev pub Made_by : Pass → Type 0
   Made_by pass = ChangeComes forms m.function pass (Ok (record { function = next.function }))
@@ -74,10 +89,13 @@ module _ (forms : List Entry) (m next : Made) where
   changed_by pass (Err e) is comes = absurd (let none : ⊥ = cc in none)
 
   -- whichever is neither reload nor the frame did
-  pub changes_of : (pass : Pass) (a : Answer) → a ≡ Ok next → (pass ≡ Reload → ⊥) → (pass ≡ Frame → ⊥) → PassComes forms m pass a → Changes pass
-  changes_of _ a is other else (PassComes.changes pass c _ comes told) = changed_by pass c (sym is ∙ told) comes
-  changes_of _ a is other else (PassComes.reloads homes r _ are does told) = absurd (other refl)
-  changes_of _ a is other else (PassComes.frames r _ comes told) = absurd (else refl)
+  changes_by : (pass : Pass) (a : Answer) → a ≡ Ok next → (pass ≡ Reload → ⊥) → (pass ≡ Frame → ⊥) → PassMakes forms m pass a → Changes pass
+  changes_by _ a is other else (PassMakes.changes pass c _ comes told) = changed_by pass c (sym is ∙ told) comes
+  changes_by _ a is other else (PassMakes.reloads homes r _ are does told) = absurd (other refl)
+  changes_by _ a is other else (PassMakes.frames r _ comes told) = absurd (else refl)
+
+  pub changes_of : (pass : Pass) → (pass ≡ Reload → ⊥) → (pass ≡ Frame → ⊥) → PassComes forms m pass (Ok next) → Changes pass
+  changes_of pass other else comes = changes_by pass (Ok next) refl other else (makes_of forms m next pass (Ok next) refl comes)
 
   -- ---- homes
 
@@ -93,15 +111,18 @@ module _ (forms : List Entry) (m next : Made) where
       (ap (λ (n : Made). Ok n.function) (sym same), ap (λ (n : Made). n.layout) same)
   reload_told name layout (Err e) is = absurd (let none : ⊥ = cc in none)
 
-  pub reloaded_of : (a : Answer) → a ≡ Ok next → PassComes forms m Reload a → Reloaded
-  reloaded_of a is (PassComes.changes _ c _ comes told) = no_reload forms m.function c comes
-  reloaded_of a is (PassComes.reloads homes r _ are does told) =
+  reloaded_by : (a : Answer) → a ≡ Ok next → PassMakes forms m Reload a → Reloaded
+  reloaded_by a is (PassMakes.changes _ c _ comes told) = no_reload forms m.function c comes
+  reloaded_by a is (PassMakes.reloads homes r _ are does told) =
       let gave = reload_told m.function.name (layout_of m.function homes) r (sym is ∙ told) in record {
         homes = homes;
         are = are;
         comes = subst (FunctionReloads forms homes (layout_of m.function homes) m.function) gave.0 does;
         layout_is = gave.1;
       }
+
+  pub reloaded_of : PassComes forms m Reload (Ok next) → Reloaded
+  reloaded_of comes = reloaded_by (Ok next) refl (makes_of forms m next Reload (Ok next) refl comes)
 
   -- ---- the frame
 
@@ -117,6 +138,9 @@ module _ (forms : List Entry) (m next : Made) where
   }
   frame_told (Err e) is comes = absurd (let none : ⊥ = cc in none)
 
-  pub framed_of : (a : Answer) → a ≡ Ok next → PassComes forms m Frame a → HasFrame
-  framed_of a is (PassComes.changes _ c _ comes told) = no_frame forms m.function c comes
-  framed_of a is (PassComes.frames r _ comes told) = frame_told r (sym is ∙ told) comes
+  framed_by : (a : Answer) → a ≡ Ok next → PassMakes forms m Frame a → HasFrame
+  framed_by a is (PassMakes.changes _ c _ comes told) = no_frame forms m.function c comes
+  framed_by a is (PassMakes.frames r _ comes told) = frame_told r (sym is ∙ told) comes
+
+  pub framed_of : PassComes forms m Frame (Ok next) → HasFrame
+  framed_of comes = framed_by (Ok next) refl (makes_of forms m next Frame (Ok next) refl comes)

@@ -69,7 +69,7 @@ module _ (forms : List Entry) where
   before_by : (pass : Pass) → (pass ≡ Reload → ⊥) → (pass ≡ Frame → ⊥) →
       ((f : Function) (c : Change) → IsSound f → ChangeComes forms f pass (Ok c) → PassKeeps f c.function) → Before pass
   before_by pass other else keeps m n comes sound =
-      keeps m.function (record { function = n.function }) sound (changes_of forms m n pass (Ok n) refl other else comes).comes
+      keeps m.function (record { function = n.function }) sound (changes_of forms m n pass other else comes).comes
 
   read_keeps : Before Read
   read_keeps = before_by Read (λ is. cc) (λ is. cc) (λ f c sound comes. subst (PassKeeps f) (read_by forms f c (Ok c) refl comes) (kept_refl f sound))
@@ -113,7 +113,7 @@ module _ (forms : List Entry) where
   behind_by : (pass : Pass) → (pass ≡ Reload → ⊥) → (pass ≡ Frame → ⊥) →
       ((f : Function) (c : Change) → ArePlaced f → ChangeComes forms f pass (Ok c) → Keeps f c.function × ArePlaced c.function) → Behind pass
   behind_by pass other else keeps m n comes placed =
-      let changes = changes_of forms m n pass (Ok n) refl other else comes in
+      let changes = changes_of forms m n pass other else comes in
       let kept = keeps m.function (record { function = n.function }) placed changes.comes in
       record { keeps = kept.0; placed = kept.1; layout_is = changes.layout_is }
 

@@ -14,8 +14,8 @@ use Rattle.reload.proofs.Marks.{reload_marks}
 use Rattle.frame.proofs.Kept.{frame_marks}
 use Rattle.func_after.specs.declared.change.Change.{Change}
 use Rattle.func_after.specs.declared.made.Made.{Made}
-use Rattle.func_after.specs.After.{Answer, Changed, as_read, all_passes, ChangeComes, PassComes, AfterComes}
-use Rattle.func_after.proofs.Changes.{plain_is, changed_by, reload_told, frame_told}
+use Rattle.func_after.specs.After.{Answer, Changed, as_read, all_passes, ChangeComes, PassMakes, AfterComes}
+use Rattle.func_after.proofs.Changes.{plain_is, makes_of, changed_by, reload_told, frame_told}
 use Rattle.func_after.proofs.Passing.{PassHolds, all_hold, every}
 
 module _ (forms : List Entry) where
@@ -30,15 +30,15 @@ module _ (forms : List Entry) where
       (same_marks forms Split2 f c.function (subst (SplitComes forms Split2 f) (plain_is r c is) comes)).name_is
   change_name f _ c _ is ChangeComes.writes = let same : record { function = f } ≡ c = cc in sym (ap (λ (d : Change). d.function.name) same)
 
-  pass_name : (m n : Made) (pass : Pass) (a : Answer) → a ≡ Ok n → PassComes forms m pass a → n.function.name ≡ m.function.name
-  pass_name m n _ a is (PassComes.changes pass c _ comes told) =
+  pass_name : (m n : Made) (pass : Pass) (a : Answer) → a ≡ Ok n → PassMakes forms m pass a → n.function.name ≡ m.function.name
+  pass_name m n _ a is (PassMakes.changes pass c _ comes told) =
       change_name m.function pass (record { function = n.function }) (Ok (record { function = n.function })) refl
       (changed_by forms m n pass c (sym is ∙ told) comes).comes
-  pass_name m n _ a is (PassComes.reloads homes r _ are does told) =
+  pass_name m n _ a is (PassMakes.reloads homes r _ are does told) =
       let gave = reload_told forms m n m.function.name (layout_of m.function homes) r (sym is ∙ told) in
       (reload_marks forms homes (layout_of m.function homes) m.function n.function
       (subst (FunctionReloads forms homes (layout_of m.function homes) m.function) gave.0 does)).name_is
-  pass_name m n _ a is (PassComes.frames r _ comes told) =
+  pass_name m n _ a is (PassMakes.frames r _ comes told) =
       (frame_marks forms m.function n.function m.layout (frame_told forms m n r (sym is ∙ told) comes).comes).name_is
 
 abbrev Named : Made → Made → Type 0
@@ -48,4 +48,4 @@ Named m n = n.function.name ≡ m.function.name
 pub after_name : (forms : List Entry) (f : Function) (m : Made) → AfterComes forms f (Ok m) → m.function.name ≡ f.name
 after_name forms f m comes =
     all_hold forms Named (λ m. refl) (λ l m n first second. second ∙ first) all_passes (as_read f) m (Ok m) refl
-    (every (PassHolds forms Named) (λ pass m n comes. pass_name forms m n pass (Ok n) refl comes) all_passes) comes
+    (every (PassHolds forms Named) (λ pass m n comes. pass_name forms m n pass (Ok n) refl (makes_of forms m n pass (Ok n) refl comes)) all_passes) comes

@@ -7,6 +7,7 @@ pub mod OneAfter
 pub mod Changes
 pub mod Passing
 pub mod Kept
+pub mod Short
 pub mod Stages
 pub mod Keeping
 pub use Rattle.law_passes.proofs.law_insn_replaced as law_insn_replaced

@@ -1,6 +1,8 @@
 -- What passes make of a function is one answer.
-use Rattle.std.proofs.Common.{◌≡◌, List, Ok, Err, refl, sym, ap, subst, ◌∙◌}
+use Rattle.std.proofs.Common.{◌≡◌, arith, List, Ok, Err, refl, sym, ap, subst, ◌∙◌}
 use Rattle.rtx_tree.specs.declared.function.Function.{Function}
+use Rattle.rtx_tree.specs.declared.limit.Limit.TheVariants.{Instructions}
+use Rattle.run_refusal.specs.declared.refusal.Refusal.TheVariants as refusal
 use Rattle.md_forms.specs.declared.form.Entry.{Entry}
 use Rattle.pass_name.specs.declared.pass.Pass.{Pass}
 use Rattle.pass_name.specs.declared.pass.Pass.TheVariants.{Split1, Frame, Split2}
@@ -13,7 +15,7 @@ use Rattle.reload.specs.Reload.{FunctionReloads}
 use Rattle.reload.proofs.One.{reload_one}
 use Rattle.frame.proofs.One.{frame_one}
 use Rattle.func_after.specs.declared.made.Made.{Made}
-use Rattle.func_after.specs.After.{Answer, Changed, plainly, told_for, told_reloaded, as_read, up_to, all_passes, ChangeComes, PassComes, PassesCome, IsBehind, AfterComes}
+use Rattle.func_after.specs.After.{Answer, Changed, plainly, told_for, told_reloaded, as_read, up_to, all_passes, count_of, ChangeComes, PassMakes, PassComes, PassesCome, IsBehind, AfterComes}
 use Rattle.func_after.proofs.Changes.{ok_is, apart, no_reload, no_frame}
 
 module _ (forms : List Entry) where
@@ -25,13 +27,13 @@ module _ (forms : List Entry) where
   change_one f _ _ _ (ChangeComes.splits_again r does) (ChangeComes.splits_again s does') = ap plainly (one_split forms Split2 f r s does does')
   change_one f _ _ _ ChangeComes.writes ChangeComes.writes = refl
 
-  pass_one : (m : Made) (pass : Pass) (a b : Answer) → PassComes forms m pass a → PassComes forms m pass b → a ≡ b
-  pass_one m _ _ _ (PassComes.changes pass c a comes is) (PassComes.changes _ d b comes' is') =
+  makes_one : (m : Made) (pass : Pass) (a b : Answer) → PassMakes forms m pass a → PassMakes forms m pass b → a ≡ b
+  makes_one m _ _ _ (PassMakes.changes pass c a comes is) (PassMakes.changes _ d b comes' is') =
       is ∙ ap (told_for m.function.name m.layout pass) (change_one m.function pass c d comes comes') ∙ sym is'
-  pass_one m _ _ _ (PassComes.changes _ c a comes is) (PassComes.reloads homes s b are does is') = no_reload forms m.function c comes
-  pass_one m _ _ _ (PassComes.changes _ c a comes is) (PassComes.frames s b does is') = no_frame forms m.function c comes
-  pass_one m _ _ _ (PassComes.reloads homes r a are does is) (PassComes.changes _ d b comes is') = no_reload forms m.function d comes
-  pass_one m _ _ _ (PassComes.reloads homes r a are does is) (PassComes.reloads homes' s b are' does' is') =
+  makes_one m _ _ _ (PassMakes.changes _ c a comes is) (PassMakes.reloads homes s b are does is') = no_reload forms m.function c comes
+  makes_one m _ _ _ (PassMakes.changes _ c a comes is) (PassMakes.frames s b does is') = no_frame forms m.function c comes
+  makes_one m _ _ _ (PassMakes.reloads homes r a are does is) (PassMakes.changes _ d b comes is') = no_reload forms m.function d comes
+  makes_one m _ _ _ (PassMakes.reloads homes r a are does is) (PassMakes.reloads homes' s b are' does' is') =
       let same : homes ≡ homes' = only m.function homes homes' are are' in
       is
       ∙ ap (told_reloaded m.function.name (layout_of m.function homes))
@@ -39,9 +41,26 @@ module _ (forms : List Entry) where
       (subst (λ (h : List HomeOf). FunctionReloads forms h (layout_of m.function h) m.function s) (sym same) does'))
       ∙ ap (λ (h : List HomeOf). told_reloaded m.function.name (layout_of m.function h) s) same
       ∙ sym is'
-  pass_one m _ _ _ (PassComes.frames r a does is) (PassComes.changes _ d b comes is') = no_frame forms m.function d comes
-  pass_one m _ _ _ (PassComes.frames r a does is) (PassComes.frames s b does' is') =
+  makes_one m _ _ _ (PassMakes.frames r a does is) (PassMakes.changes _ d b comes is') = no_frame forms m.function d comes
+  makes_one m _ _ _ (PassMakes.frames r a does is) (PassMakes.frames s b does' is') =
       is ∙ ap (λ r. told_for m.function.name m.layout Frame (plainly r)) (frame_one forms m.function m.layout r s does does') ∙ sym is'
+
+  -- what it makes is refused for what it refuses, or for its length, or is given
+  pass_one : (m : Made) (pass : Pass) (a b : Answer) → PassComes forms m pass a → PassComes forms m pass b → a ≡ b
+  pass_one m pass _ _ (PassComes.refused e makes) (PassComes.refused d makes') = makes_one m pass (Err e) (Err d) makes makes'
+  pass_one m pass _ _ (PassComes.refused e makes) (PassComes.long n makes' many) = apart n e (makes_one m pass (Err e) (Ok n) makes makes')
+  pass_one m pass _ _ (PassComes.refused e makes) (PassComes.made n makes' short) = apart n e (makes_one m pass (Err e) (Ok n) makes makes')
+  pass_one m pass _ _ (PassComes.long n makes many) (PassComes.refused e makes') = apart n e (makes_one m pass (Err e) (Ok n) makes' makes)
+  pass_one m pass _ _ (PassComes.long n makes many) (PassComes.long o makes' many') =
+      ap (λ (n : Made). Err (refusal.Limit Instructions (count_of n))) (ok_is n o (makes_one m pass (Ok n) (Ok o) makes makes'))
+  pass_one m pass _ _ (PassComes.long n makes many) (PassComes.made o makes' short) =
+      let same : n ≡ o = ok_is n o (makes_one m pass (Ok n) (Ok o) makes makes') in
+      absurd (omega (arith, ap count_of same, many, short))
+  pass_one m pass _ _ (PassComes.made n makes short) (PassComes.refused e makes') = apart n e (makes_one m pass (Err e) (Ok n) makes' makes)
+  pass_one m pass _ _ (PassComes.made n makes short) (PassComes.long o makes' many) =
+      let same : n ≡ o = ok_is n o (makes_one m pass (Ok n) (Ok o) makes makes') in
+      absurd (omega (arith, ap count_of same, short, many))
+  pass_one m pass _ _ (PassComes.made n makes short) (PassComes.made o makes' short') = makes_one m pass (Ok n) (Ok o) makes makes'
 
   passes_one : (passes : List Pass) (m : Made) (a b : Answer) → PassesCome forms passes m a → PassesCome forms passes m b → a ≡ b
   passes_one _ _ _ _ (PassesCome.done m) (PassesCome.done _) = refl

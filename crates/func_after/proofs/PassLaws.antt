@@ -1,5 +1,5 @@
 -- What a pass makes of what was made, from what its call gave.
-use Rattle.std.proofs.Common.{◌≡◌, ◌⊎◌, inl, inr, ℕ, List, Result, Ok, Err, refl, sym, ap, subst, ◌∙◌}
+use Rattle.std.proofs.Common.{◌≡◌, ◌≤◌, ◌<◌, ◌⊎◌, inl, inr, ℕ, List, Result, Ok, Err, refl, sym, ap, subst, ◌∙◌}
 use Rattle.rtx_tree.specs.declared.function.Function.{Function}
 use Rattle.pass_name.specs.declared.pass.Pass.{Pass}
 use Rattle.pass_name.specs.declared.pass.Pass.TheVariants.{Read, Reload, Frame, Output}
@@ -17,10 +17,14 @@ use Rattle.reload.specs.declared.refusal.ReloadRefusal.{ReloadRefusal}
 use Rattle.reload.specs.declared.refusal.ReloadRefusal.TheVariants as reloading
 use Rattle.frame.specs.Framed.{FrameComes}
 use Rattle.func_input.specs.Input.{RefusesWith}
+use Rattle.func_input.proofs.Refusing.{refuses_map}
 use Rattle.func_after.specs.declared.made.Made.{Made}
 use Rattle.run_refusal.specs.declared.refusal.Refusal.{Refusal}
+use Rattle.run_refusal.specs.declared.refusal.Refusal.TheVariants as refusal
+use Rattle.rtx_tree.specs.declared.limit.Limit.TheVariants.{Instructions}
+use Rattle.rtx_tree.specs.Limit.{most_made}
 use Rattle.func_after.specs.After as spec
-use Rattle.func_after.specs.After.{Answer, Changed, Gives, plainly, refused_for, unreloaded_for, ChangeComes, PassComes}
+use Rattle.func_after.specs.After.{Answer, Changed, Gives, plainly, refused_for, unreloaded_for, count_of, ChangeComes, PassMakes, PassComes}
 
 -- a refusal of a pass that is told, where what follows from it is known
 pub told_for : {A B : Type 0} (name : List ℕ) (at : Pass) (e : PassRefusal) (P : Result A PassRefusal → Type 0) (Q : Result B Refusal → Type 0) →
@@ -42,38 +46,38 @@ module _ (forms : List Entry) (m : Made) where
 
   -- ---- passes that change the function alone
 
-  change_gives : (pass : Pass) (c : Changed) → outcome.Gives c (ChangeComes forms m.function pass) → Gives (told pass c) (PassComes forms m pass)
-  change_gives pass (Ok c) comes = PassComes.changes pass (Ok c) (told pass (Ok c)) comes refl
-  change_gives pass (Err e) comes = told_for m.function.name pass e (ChangeComes forms m.function pass) (PassComes forms m pass)
-      (λ e comes. PassComes.changes pass (Err e) (told pass (Err e)) comes refl) comes
+  change_gives : (pass : Pass) (c : Changed) → outcome.Gives c (ChangeComes forms m.function pass) → Gives (told pass c) (PassMakes forms m pass)
+  change_gives pass (Ok c) comes = PassMakes.changes pass (Ok c) (told pass (Ok c)) comes refl
+  change_gives pass (Err e) comes = told_for m.function.name pass e (ChangeComes forms m.function pass) (PassMakes forms m pass)
+      (λ e comes. PassMakes.changes pass (Err e) (told pass (Err e)) comes refl) comes
 
   -- by the name that was kept
   pub change_told : (pass at : Pass) (name : List ℕ) (c : Changed) (answer : Answer) → at ≡ pass → name ≡ m.function.name →
-      answer ≡ spec.told_for name m.layout at c → outcome.Gives c (ChangeComes forms m.function pass) → Gives answer (PassComes forms m at)
+      answer ≡ spec.told_for name m.layout at c → outcome.Gives c (ChangeComes forms m.function pass) → Gives answer (PassMakes forms m at)
   change_told pass at name c answer here named is gives =
-      subst (λ (a : Answer). Gives a (PassComes forms m at))
+      subst (λ (a : Answer). Gives a (PassMakes forms m at))
       (sym (is ∙ ap (λ (n : List ℕ). spec.told_for n m.layout at c) named))
-      (subst (λ (p : Pass). Gives (told p c) (PassComes forms m p)) (sym here) (change_gives pass c gives))
+      (subst (λ (p : Pass). Gives (told p c) (PassMakes forms m p)) (sym here) (change_gives pass c gives))
 
   -- reading and writing leave what was made
-  pub rest_gave : (pass : Pass) → (pass ≡ Read) ⊎ (pass ≡ Output) → PassComes forms m pass (Ok m)
-  rest_gave pass (inl is) = subst (λ p. PassComes forms m p (Ok m)) (sym is)
-      (PassComes.changes Read (Ok (record { function = m.function })) (Ok m) ChangeComes.reads refl)
-  rest_gave pass (inr is) = subst (λ p. PassComes forms m p (Ok m)) (sym is)
-      (PassComes.changes Output (Ok (record { function = m.function })) (Ok m) ChangeComes.writes refl)
+  pub rest_gave : (pass : Pass) → (pass ≡ Read) ⊎ (pass ≡ Output) → PassMakes forms m pass (Ok m)
+  rest_gave pass (inl is) = subst (λ p. PassMakes forms m p (Ok m)) (sym is)
+      (PassMakes.changes Read (Ok (record { function = m.function })) (Ok m) ChangeComes.reads refl)
+  rest_gave pass (inr is) = subst (λ p. PassMakes forms m p (Ok m)) (sym is)
+      (PassMakes.changes Output (Ok (record { function = m.function })) (Ok m) ChangeComes.writes refl)
 
   -- ---- the frame
 
   frame_gives : (r : Result Function PassRefusal) → outcome.Gives r (FrameComes forms m.function m.layout) →
-      Gives (told Frame (plainly r)) (PassComes forms m Frame)
-  frame_gives (Ok g) comes = PassComes.frames (Ok g) (told Frame (plainly (Ok g))) comes refl
-  frame_gives (Err e) comes = told_for m.function.name Frame e (FrameComes forms m.function m.layout) (PassComes forms m Frame)
-      (λ e comes. PassComes.frames (Err e) (told Frame (plainly (Err e))) comes refl) comes
+      Gives (told Frame (plainly r)) (PassMakes forms m Frame)
+  frame_gives (Ok g) comes = PassMakes.frames (Ok g) (told Frame (plainly (Ok g))) comes refl
+  frame_gives (Err e) comes = told_for m.function.name Frame e (FrameComes forms m.function m.layout) (PassMakes forms m Frame)
+      (λ e comes. PassMakes.frames (Err e) (told Frame (plainly (Err e))) comes refl) comes
 
   pub frame_told : (name : List ℕ) (r : Result Function PassRefusal) (c : Changed) (answer : Answer) → name ≡ m.function.name → c ≡ plainly r →
-      answer ≡ spec.told_for name m.layout Frame c → outcome.Gives r (FrameComes forms m.function m.layout) → Gives answer (PassComes forms m Frame)
+      answer ≡ spec.told_for name m.layout Frame c → outcome.Gives r (FrameComes forms m.function m.layout) → Gives answer (PassMakes forms m Frame)
   frame_told name r c answer named made is gives =
-      subst (λ (a : Answer). Gives a (PassComes forms m Frame))
+      subst (λ (a : Answer). Gives a (PassMakes forms m Frame))
       (sym (is ∙ ap (λ (c : Changed). spec.told_for name m.layout Frame c) made ∙ ap (λ (n : List ℕ). spec.told_for n m.layout Frame (plainly r)) named))
       (frame_gives r gives)
 
@@ -81,13 +85,29 @@ module _ (forms : List Entry) (m : Made) where
 
   module _ (homes : List HomeOf) (layout : Layout) (layout_is : layout ≡ layout_of m.function homes) (are : AreHomes m.function homes) where
     pub reload_gave : (g : Function) → FunctionReloads forms homes layout m.function (Ok g) →
-        PassComes forms m Reload (Ok (record { function = g; layout = layout }))
-    reload_gave g gave = PassComes.reloads homes (Ok g) (Ok (record { function = g; layout = layout })) are
+        PassMakes forms m Reload (Ok (record { function = g; layout = layout }))
+    reload_gave g gave = PassMakes.reloads homes (Ok g) (Ok (record { function = g; layout = layout })) are
         (subst (λ (l : Layout). FunctionReloads forms homes l m.function (Ok g)) layout_is gave)
         (ap (λ (l : Layout). Ok (record { function = g; layout = l })) layout_is)
 
     pub reload_refused : (e : ReloadRefusal) → reloads.RefusesAs e (λ e. FunctionReloads forms homes layout m.function (Err e)) →
-        RefusesWith (unreloaded_for m.function.name e) (PassComes forms m Reload)
-    reload_refused e r = told_reloaded m.function.name e (λ e. FunctionReloads forms homes layout m.function (Err e)) (PassComes forms m Reload)
-        (λ e refuses. PassComes.reloads homes (Err e) (Err (unreloaded_for m.function.name e)) are
+        RefusesWith (unreloaded_for m.function.name e) (PassMakes forms m Reload)
+    reload_refused e r = told_reloaded m.function.name e (λ e. FunctionReloads forms homes layout m.function (Err e)) (PassMakes forms m Reload)
+        (λ e refuses. PassMakes.reloads homes (Err e) (Err (unreloaded_for m.function.name e)) are
         (subst (λ (l : Layout). FunctionReloads forms homes l m.function (Err e)) layout_is refuses) refl) r
+
+  -- ---- what was made, or its length
+
+  -- what a pass refuses is refused
+  pub pass_refused : (pass : Pass) (e : Refusal) → RefusesWith e (PassMakes forms m pass) → RefusesWith e (PassComes forms m pass)
+  pass_refused pass e r = refuses_map e (PassMakes forms m pass) (PassComes forms m pass) (λ e makes. PassComes.refused e makes) r
+
+  module _ (pass : Pass) (n : Made) (count : ℕ) (makes : PassMakes forms m pass (Ok n)) (is : count ≡ count_of n) where
+    -- what it makes too long is refused for its length
+    pub pass_long : most_made < count → PassComes forms m pass (Err (refusal.Limit Instructions count))
+    pass_long many = subst (λ (c : ℕ). PassComes forms m pass (Err (refusal.Limit Instructions c))) (sym is)
+        (PassComes.long n makes (subst (λ (c : ℕ). most_made < c) is many))
+
+    -- what else it makes is given
+    pub pass_made : count ≤ most_made → PassComes forms m pass (Ok n)
+    pass_made short = PassComes.made n makes (subst (λ (c : ℕ). c ≤ most_made) is short)

@@ -1,5 +1,5 @@
 -- What stands between the passes, from what comes of all of them.
-use Rattle.std.proofs.Common.{List, ◌∷◌, Ok, refl, subst, ◌∙◌}
+use Rattle.std.proofs.Common.{List, ◌∷◌, Ok, subst, ◌∙◌}
 use Rattle.rtx_tree.specs.declared.function.Function.{Function}
 use Rattle.pass_name.specs.declared.pass.Pass.TheVariants.{Reload, Frame}
 use Rattle.md_forms.specs.declared.form.Entry.{Entry}
@@ -31,8 +31,8 @@ stages_of forms f last comes =
     let front = middle_of forms before_homes (Reload ∷ Frame ∷ behind_frame) (as_read f) last comes in
     let homed = next_of forms Reload (Frame ∷ behind_frame) front.middle last front.rest in
     let framed = next_of forms Frame behind_frame homed.next last homed.rest in
-    let reload = reloaded_of forms front.middle homed.next (Ok homed.next) refl homed.comes in
-    let frame = framed_of forms homed.next framed.next (Ok framed.next) refl framed.comes in record {
+    let reload = reloaded_of forms front.middle homed.next homed.comes in
+    let frame = framed_of forms homed.next framed.next framed.comes in record {
       plain = front.middle;
       homes = reload.homes;
       moved = homed.next.function;

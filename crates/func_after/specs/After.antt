@@ -1,10 +1,13 @@
 -- What the passes make of a function, one behind the other: GCC Internals, "Passes and Files of the
 -- Compiler" ("RTL passes"). A pass goes on with what the one before it leaves, and what one refuses
--- is told by the function's name and the pass.
-use Rattle.std.specs.Prelude.{◌≡◌, ℕ, Bool, if◌then◌else◌, List, [], ◌∷◌, ◌++◌, Result, Ok, Err}
+-- is told by the function's name and the pass; a function that one makes too long is refused too.
+use Rattle.std.specs.Prelude.{◌≡◌, ℕ, ◌≤◌, ◌<◌, Bool, if◌then◌else◌, List, [], ◌∷◌, ◌++◌, Result, Ok, Err}
 use Rattle.std.specs.Str.{bytes_eq}
 use Rattle.rtx_tree.specs.declared.function.Insn.{Insn}
 use Rattle.rtx_tree.specs.declared.function.Function.{Function}
+use Rattle.rtx_tree.specs.declared.limit.Limit.TheVariants.{Instructions}
+use Rattle.rtx_tree.specs.Limit.{most_made}
+use Rattle.rtl_chain.specs.Counts.{instruction_count}
 use Rattle.pass_name.specs.Pass.{pass_name}
 use Rattle.pass_name.specs.declared.pass.Pass.{Pass}
 use Rattle.pass_name.specs.declared.pass.Pass.TheVariants.{Read, Lower, Split1, Reload, Frame, Split2, Output}
@@ -97,16 +100,32 @@ told_reloaded name layout (Err e) = Err (unreloaded_for name e)
 
 -- What a pass makes of what was made, by the forms of a description, or what it refuses. Registers
 -- have the homes that are defined for the function as it comes to reload.
-pub data PassComes (forms : List Entry) (m : Made) : Pass → Answer → Type 0 where
+pub data PassMakes (forms : List Entry) (m : Made) : Pass → Answer → Type 0 where
   changes : (pass : Pass) (c : Changed) (answer : Answer) → ChangeComes forms m.function pass c →
-      answer ≡ told_for m.function.name m.layout pass c → PassComes forms m pass answer
+      answer ≡ told_for m.function.name m.layout pass c → PassMakes forms m pass answer
   reloads : (homes : List HomeOf) (r : Result Function ReloadRefusal) (answer : Answer) →
       AreHomes m.function homes →
       FunctionReloads forms homes (layout_of m.function homes) m.function r →
-      answer ≡ told_reloaded m.function.name (layout_of m.function homes) r → PassComes forms m Reload answer
+      answer ≡ told_reloaded m.function.name (layout_of m.function homes) r → PassMakes forms m Reload answer
   frames : (r : Result Function PassRefusal) (answer : Answer) →
       FrameComes forms m.function m.layout r →
-      answer ≡ told_for m.function.name m.layout Frame (plainly r) → PassComes forms m Frame answer
+      answer ≡ told_for m.function.name m.layout Frame (plainly r) → PassMakes forms m Frame answer
+
+-- how many instructions the function has that was made
+abbrev pub count_of : Made → ℕ
+count_of m = instruction_count m.function.insns
+
+-- what was made is no longer than a function may become
+abbrev pub IsShort : Made → Type 0
+IsShort m = count_of m ≤ most_made
+
+-- What a pass comes to: what it makes, where that is not too long; what it refuses; or the number
+-- of instructions that it would make.
+pub data PassComes (forms : List Entry) (m : Made) (pass : Pass) : Answer → Type 0 where
+  refused : (e : Refusal) → PassMakes forms m pass (Err e) → PassComes forms m pass (Err e)
+  long : (n : Made) → PassMakes forms m pass (Ok n) → most_made < count_of n →
+      PassComes forms m pass (Err (refusal.Limit Instructions (count_of n)))
+  made : (n : Made) → PassMakes forms m pass (Ok n) → IsShort n → PassComes forms m pass (Ok n)
 
 -- ---- one behind the other
 

@@ -2,7 +2,7 @@
 ghost use Rattle.std.specs.Prelude.{◌≡◌};
 ghost use Rattle.pass_name.specs.declared.pass.Pass.TheVariants as passes;
 ghost use Rattle.func_after.specs.After as spec;
-ghost use Rattle.func_after.specs.After.{Gives, PassComes};
+ghost use Rattle.func_after.specs.After.{Gives, PassComes, PassMakes};
 
 use crate::change::{Change, lowered, plainly, split_again, split_first};
 use crate::made::Made;
@@ -14,7 +14,8 @@ use md_desc::Description;
 use pass_name::Pass;
 use pass_refusal::PassRefusal;
 use reload::reload;
-use rtx_tree::Name;
+use rtl_chain::instruction_count;
+use rtx_tree::{Limit, MOST_MADE, Name};
 use run_refusal::Refusal;
 use std::alloc::Global;
 
@@ -41,7 +42,7 @@ fn told(
 #[tactic(auto, using(crate::proofs::PassLaws::reload_gave, crate::proofs::PassLaws::reload_refused, reload_homes::proofs::OrderedLaws::ordered))]
 fn reloaded(alloc: Global, desc: &Description, name: Name, m: Made) -> Result<Made, Refusal>
     requires { name ≡ m.function.name }
-    ensures { Gives result (PassComes desc.now m passes.Reload) }
+    ensures { Gives result (PassMakes desc.now m passes.Reload) }
 {
     let function = m.function;
     let live = live_rows_of(alloc, &function)?;
@@ -57,22 +58,17 @@ fn reloaded(alloc: Global, desc: &Description, name: Name, m: Made) -> Result<Ma
 #[tactic(auto, using(crate::proofs::PassLaws::frame_told))]
 fn framed(alloc: Global, desc: &Description, name: Name, m: Made) -> Result<Made, Refusal>
     requires { name ≡ m.function.name }
-    ensures { Gives result (PassComes desc.now m passes.Frame) }
+    ensures { Gives result (PassMakes desc.now m passes.Frame) }
 {
     let Made { function, layout } = m;
     let change = plainly(frame(alloc, desc, function, &layout));
     told(name, layout, Pass::Frame, change)
 }
 
-/// What a pass makes of what was made.
+/// What a pass makes of what was made, or what it refuses.
 #[tactic(auto, using(crate::proofs::PassLaws::change_told))]
-pub(crate) fn passed(
-    alloc: Global,
-    desc: &Description,
-    m: Made,
-    pass: Pass,
-) -> Result<Made, Refusal>
-    ensures { Gives result (PassComes desc.now m pass) }
+fn made_by(alloc: Global, desc: &Description, m: Made, pass: Pass) -> Result<Made, Refusal>
+    ensures { Gives result (PassMakes desc.now m pass) }
 {
     let name = m.function.name.copy(alloc)?;
     match pass {
@@ -83,4 +79,25 @@ pub(crate) fn passed(
         Pass::Frame => framed(alloc, desc, name, m),
         Pass::Split2 => told(name, m.layout, pass, split_again(alloc, desc, m.function)),
     }
+}
+
+/// What a pass comes to: what it makes, where that is not too long.
+#[tactic(auto, using(crate::proofs::PassLaws::pass_refused, crate::proofs::PassLaws::pass_long, crate::proofs::PassLaws::pass_made))]
+pub(crate) fn passed(
+    alloc: Global,
+    desc: &Description,
+    m: Made,
+    pass: Pass,
+) -> Result<Made, Refusal>
+    ensures { Gives result (PassComes desc.now m pass) }
+{
+    let made = made_by(alloc, desc, m, pass)?;
+    let count = instruction_count(made.function.insns.as_slice());
+    if count > MOST_MADE {
+        return Err(Refusal::Limit {
+            which: Limit::Instructions,
+            count: count as u64,
+        });
+    }
+    Ok(made)
 }

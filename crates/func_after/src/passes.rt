@@ -65,7 +65,7 @@ pub fn behind(alloc: Global, desc: &Description, f: &Function, pass: Pass) -> Re
 /// # Errors
 ///
 /// As [`behind`] says for the last pass.
-#[tactic(auto, using(crate::proofs::PassesLaws::behind_all, crate::proofs::OneAfter::one_after, crate::proofs::Keeping::after_leads))]
+#[tactic(auto, using(crate::proofs::PassesLaws::behind_all, crate::proofs::OneAfter::one_after, crate::proofs::Keeping::after_leads, crate::proofs::Short::after_short))]
 pub fn after(alloc: Global, desc: &Description, f: &Function) -> Result<Made, Refusal>
     // What is told is given; a refusal is the one that is told.
     ensures gives { Gives result (AfterComes desc.now f.now) }
@@ -78,6 +78,10 @@ pub fn after(alloc: Global, desc: &Description, f: &Function) -> Result<Made, Re
     // behaviour of the function.
     ensures leads { (forms : List Entry) (f : Function) (m : Made) → IsDescribed forms → IsSound f →
         AfterComes forms f (Ok m) → LeadsToLines f m }
+
+    // What comes to output has at most 1,000,000 instructions.
+    ensures short { (forms : List Entry) (f : Function) (m : Made) → AfterComes forms f (Ok m) →
+        spec.IsShort m }
 {
     behind(alloc, desc, f, Pass::Output)
 }

@@ -50,6 +50,14 @@ fn show(command: &Command, told: &mut Told) {
             told: what,
         } => show_over(description, what, told),
         Command::Listed { description } => show_described("list", description, told),
+        Command::Made {
+            description,
+            number,
+        } => {
+            show_described("make", description, told);
+            told.text(" ");
+            told.show(*number);
+        }
     }
 }
 

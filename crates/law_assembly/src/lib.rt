@@ -1,11 +1,11 @@
 //! The assembly of an input does what its functions do.
 //!
-//! There is no code of its own here: four calls are passed on from `func_text`, which give of an
+//! There is no code of its own here: five calls are passed on from `func_text`, which give of an
 //! input its assembly, the code of one function, the forms of its instructions, and its functions
-//! behind a pass. The laws, in `proofs/Same.antt`, are of the first two: the lines and labels that
-//! stand beside each part of an assembly have the behaviour of the function, whatever the
-//! description, so the text does what the functions do; and the code of a function of an input does
-//! what the function does.
+//! behind a pass, and of functions their assembly, with a summary. The laws, in `proofs/Same.antt`,
+//! are of the first two: the lines and labels that stand beside each part of an assembly have the
+//! behaviour of the function, whatever the description, so the text does what the functions do; and
+//! the code of a function of an input does what the function does.
 #![tactic(auto)]
 
-pub use func_text::{assembly_of, code_of, dump_of, recog_of};
+pub use func_text::{Summary, assembly_of, code_of, compile, dump_of, recog_of};

@@ -33,10 +33,11 @@ fn numbered(alloc: Global, patterns: Kids) -> Result<Insns, Memory>
     Ok(insns)
 }
 
-/// The generated function with a number, which is at most 9,000: its name is `made`, it has the
-/// number and 32 instructions more, its arguments stand in a0 to a7, and its result in a0.
+/// The generated function with a number: its name is `made`, it has the number and 32 instructions
+/// more, its arguments stand in a0 to a7, and its result in a0. A uid has 32 bits, so the number has
+/// a bound.
 pub fn made(alloc: Global, number: u32) -> Result<Function, Memory>
-    requires { number ≤ 9000 }
+    requires { number < 4_294_967_263 }
     ensures { IfOk result (λ f. f ≡ spec.made number) }
 {
     let name = Name::of(alloc, b"made")?;

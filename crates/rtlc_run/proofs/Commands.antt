@@ -10,7 +10,6 @@ use Rattle.md_source.specs.declared.refusal.SourceRefusal.TheVariants as source
 use Rattle.md_source.specs.Source.{Source}
 use Rattle.md_source.specs.Asked.{AreNamed, GrewBy}
 use Rattle.md_source.specs.Answers.{Agrees}
-use Rattle.md_source.specs.Faults.{FaultsAt, AsksBy}
 use Rattle.md_list.specs.declared.refusal.ListRefusal.{ListRefusal}
 use Rattle.md_list.specs.declared.refusal.ListRefusal.TheVariants as listing
 use Rattle.md_list.specs.Listing.{ListComes}

@@ -1,6 +1,6 @@
 -- There is one answer by a description, and what it says of a text that was written.
-use Rattle.std.proofs.Common.{◌≡◌, ℕ, ◌+◌, ◌≤◌, List, Result, Ok, Err, Option, Some, None, refl, sym, ap, subst, ◌∙◌, arith}
-use Rattle.std.specs.Prelude.{IfSome, IfOk, IsSome}
+use Rattle.std.proofs.Common.{◌≡◌, ℕ, ◌+◌, ◌≤◌, List, [], ◌∷◌, Result, Ok, Err, Option, Some, None, refl, sym, ap, subst, ◌∙◌, arith}
+use Rattle.std.specs.Prelude.{IfOk, IsSome}
 use Rattle.std.specs.Io.KnownBytes.{Appends}
 use Rattle.rtx_tree.specs.declared.function.Function.{Function}
 use Rattle.rtx_tree.specs.declared.limit.Limit.TheVariants as limit
@@ -18,10 +18,10 @@ use Rattle.md_list.proofs.Lists.{one_list}
 use Rattle.md_named.specs.Named.{source_refused, FormsCome}
 use Rattle.md_named.proofs.Forms.{one_answer as one_forms}
 use Rattle.func_input.specs.Outcome.{Outcome}
-use Rattle.func_input.specs.Input.{IsRead, IsInput}
+use Rattle.func_input.specs.Input.{IsRead, IsInput, FunctionsComeTo}
 use Rattle.func_input.proofs.Inputs.{input_reached, input_last}
 use Rattle.func_input.proofs.One.{one_coming_to}
-use Rattle.law_assembly.specs.func_text.Recog.{FunctionsCome}
+use Rattle.law_assembly.specs.func_text.Recog.{FunctionsCome as FormsTold}
 use Rattle.law_assembly.proofs.func_text.One.{functions_one}
 use Rattle.law_assembly.specs.func_text.Dump as dump
 use Rattle.law_assembly.proofs.func_text.DumpOne as dump_one
@@ -29,9 +29,9 @@ use Rattle.law_assembly.specs.func_text.declared.assembly.Assembly.{Assembly}
 use Rattle.law_assembly.specs.func_text.declared.code.Coded.{Coded}
 use Rattle.law_assembly.specs.func_text.Assembly as assembly
 use Rattle.law_assembly.specs.func_text.Assembly.{AssemblyComes}
-use Rattle.law_assembly.specs.func_text.Compile.{TextComes, text_told}
+use Rattle.law_assembly.specs.func_text.Compile.{FunctionsCome, TextComes, text_told}
 use Rattle.law_assembly.specs.func_text.Code.{CodeComes, IsCoded}
-use Rattle.law_assembly.proofs.func_text.OneAssembly.{one_coming_of, one_assembly}
+use Rattle.law_assembly.proofs.func_text.OneAssembly.{one_coming, one_coming_of, one_assembly}
 use Rattle.law_assembly.proofs.func_text.Laws.{is_assembly}
 use Rattle.law_assembly.specs.func_text.func_after.Leads.{IsDescribed}
 use Rattle.law_assembly.proofs.Same.{input_does_same, input_does_framed, coded_is_same}
@@ -40,12 +40,14 @@ use Rattle.law_assembly.proofs.func_text.CodeLaws.{one_code, code_coded, code_ha
 use Rattle.code_eval.specs.Start.{stack_room}
 use Rattle.code_eval.specs.Eval.{eval_text, IsFair, ComesToSame}
 use Rattle.code_eval.proofs.Lawful.{agree}
+use Rattle.rtl_make.specs.Made.{made}
 use Rattle.rtlc_words.specs.declared.command.Told.{Told}
 use Rattle.rtlc_words.specs.declared.command.Told.TheVariants as telling
 use Rattle.rtlc_words.specs.declared.command.Command.{Command}
 use Rattle.rtlc_words.specs.declared.command.Command.TheVariants as commands
 use Rattle.rtlc_run.specs.Told.{evaluated, EvalComes, ToldComes, Tells, HaveText}
-use Rattle.rtlc_run.specs.Answer.{Given, described, list_told, ByForms, CommandComes}
+use Rattle.rtlc_run.specs.Generated.{summary_line, summary_told, SummaryComes, TellsSummary}
+use Rattle.rtlc_run.specs.Answer.{Given, described, list_told, ByForms, OverInput, CommandComes}
 use Rattle.rtlc_run.specs.Written.{WritesSame, WritesSameFramed, Means, HasText}
 
 -- ---- one answer
@@ -59,54 +61,64 @@ same_err a b e = cc
 not_both : (a : List Entry) (b : Refusal) → ◌≡◌ {A = Given} (Ok a) (Err b) → ⊥
 not_both a b e = cc
 
+-- what forms come to, they come to alone
+abbrev IsOne : (List Entry → Outcome → Type 0) → Type 0
+IsOne comes = (forms : List Entry) (a b : Outcome) → comes forms a → comes forms b → a ≡ b
+
+one_by : (comes : List Entry → Outcome → Type 0) → IsOne comes → (known : Source) (name : List ℕ) (a b : Outcome) → IsKnown known name → ByForms comes known name a → ByForms comes known name b → a ≡ b
+one_by comes one known name _ _ enough (ByForms.refused e p) (ByForms.refused f q) = ap (λ (r : Refusal). Err r) (same_err e f (one_forms known name (Err e) (Err f) enough p q))
+one_by comes one known name _ _ enough (ByForms.refused e p) (ByForms.by_forms forms o q come) = absurd (not_both forms e (one_forms known name (Ok forms) (Err e) enough q p))
+one_by comes one known name _ _ enough (ByForms.by_forms forms o p come) (ByForms.refused f q) = absurd (not_both forms f (one_forms known name (Ok forms) (Err f) enough p q))
+one_by comes one known name _ _ enough (ByForms.by_forms forms o p come) (ByForms.by_forms forms' o' q come') =
+    let same : forms ≡ forms' = same_ok forms forms' (one_forms known name (Ok forms) (Ok forms') enough p q) in
+    one forms' o o' (subst (λ (fs : List Entry). comes fs o) same come) come'
+
 -- what forms and bytes come to, they come to alone
-abbrev IsOne : (List Entry → List ℕ → Outcome → Type 0) → Type 0
-IsOne comes = (forms : List Entry) (bytes : List ℕ) (a b : Outcome) → comes forms bytes a → comes forms bytes b → a ≡ b
+abbrev IsOneOver : (List Entry → List ℕ → Outcome → Type 0) → Type 0
+IsOneOver comes = (forms : List Entry) (bytes : List ℕ) (a b : Outcome) → comes forms bytes a → comes forms bytes b → a ≡ b
 
-one_left : (comes : List Entry → List ℕ → Outcome → Type 0) → IsOne comes → (forms : List Entry) (left : Option (List ℕ)) (a b : Outcome) → IsSome left → IfSome left (λ bytes. comes forms bytes a) → IfSome left (λ bytes. comes forms bytes b) → a ≡ b
-one_left comes one forms None a b some p q = cc
-one_left comes one forms (Some bytes) a b some p q = one forms bytes a b p q
-
-one_by : (comes : List Entry → List ℕ → Outcome → Type 0) → IsOne comes → (known : Source) (left : Option (List ℕ)) (name : List ℕ) (a b : Outcome) → IsKnown known name × IsSome left → ByForms comes known left name a → ByForms comes known left name b → a ≡ b
-one_by comes one known left name _ _ enough (ByForms.refused e p) (ByForms.refused f q) = ap (λ (r : Refusal). Err r) (same_err e f (one_forms known name (Err e) (Err f) enough.0 p q))
-one_by comes one known left name _ _ enough (ByForms.refused e p) (ByForms.by_forms forms o q come) = absurd (not_both forms e (one_forms known name (Ok forms) (Err e) enough.0 q p))
-one_by comes one known left name _ _ enough (ByForms.by_forms forms o p come) (ByForms.refused f q) = absurd (not_both forms f (one_forms known name (Ok forms) (Err f) enough.0 p q))
-one_by comes one known left name _ _ enough (ByForms.by_forms forms o p come) (ByForms.by_forms forms' o' q come') =
-    let same : forms ≡ forms' = same_ok forms forms' (one_forms known name (Ok forms) (Ok forms') enough.0 p q) in
-    one_left comes one forms' left o o' enough.1 (subst (λ (fs : List Entry). IfSome left (λ bytes. comes fs bytes o)) same come) come'
-
-text_one : IsOne TextComes
+text_one : IsOneOver TextComes
 text_one forms bytes a b p q = p.2 ∙ ap text_told (one_coming_of forms bytes p.0 q.0 p.1 q.1) ∙ sym q.2
 
-trial_one : (function : List ℕ) (steps : ℕ) (args : List ℕ) → IsOne (EvalComes function steps args)
+trial_one : (function : List ℕ) (steps : ℕ) (args : List ℕ) → IsOneOver (EvalComes function steps args)
 trial_one function steps args forms bytes a b p q = p.2 ∙ ap (evaluated steps args) (one_code forms bytes function p.0 q.0 p.1 q.1) ∙ sym q.2
 
-told_one : (t : Told) → IsOne (ToldComes t)
+told_one : (t : Told) → IsOneOver (ToldComes t)
 told_one telling.Lines forms bytes a b p q = text_one forms bytes a b p q
-told_one telling.Forms forms bytes a b p q = one_coming_to (FunctionsCome forms) bytes a b (functions_one forms) p q
+told_one telling.Forms forms bytes a b p q = one_coming_to (FormsTold forms) bytes a b (functions_one forms) p q
 told_one (telling.Behind pass) forms bytes a b p q = one_coming_to (dump.FunctionsCome forms pass) bytes a b (dump_one.functions_one forms pass) p q
 told_one (telling.Outcomes function steps args) forms bytes a b p q = trial_one function steps args forms bytes a b p q
 
-pub one_telling : (t : Told) (known : Source) (left : Option (List ℕ)) (name : List ℕ) (a b : Outcome) → IsKnown known name × IsSome left → ByForms (ToldComes t) known left name a → ByForms (ToldComes t) known left name b → a ≡ b
-one_telling t known left name a b enough p q = one_by (ToldComes t) (told_one t) known left name a b enough p q
+told_left : (t : Told) (left : Option (List ℕ)) → IsSome left → IsOne (OverInput t left)
+told_left t None some forms a b p q = cc
+told_left t (Some bytes) some forms a b p q = told_one t forms bytes a b p q
+
+pub one_telling : (t : Told) (known : Source) (left : Option (List ℕ)) (name : List ℕ) (a b : Outcome) → IsKnown known name × IsSome left → ByForms (OverInput t left) known name a → ByForms (OverInput t left) known name b → a ≡ b
+one_telling t known left name a b enough p q = one_by (OverInput t left) (told_left t left enough.1) known name a b enough.0 p q
+
+summary_one : (number : ℕ) → IsOne (SummaryComes number)
+summary_one number forms a b p q = p.2 ∙ ap summary_told (one_coming forms (made number ∷ []) p.0 q.0 p.1 q.1) ∙ sym q.2
+
+pub one_summary : (number : ℕ) (known : Source) (name : List ℕ) (a b : Outcome) → IsKnown known name → ByForms (SummaryComes number) known name a → ByForms (SummaryComes number) known name b → a ≡ b
+one_summary number known name a b enough p q = one_by (SummaryComes number) (summary_one number) known name a b enough p q
 
 -- where the forms are known, the answer is by them
-pub by_known : (comes : List Entry → List ℕ → Outcome → Type 0) (known : Source) (bytes name : List ℕ) (forms : List Entry) (o : Outcome) → IsKnown known name → FormsCome known name (Ok forms) → ByForms comes known (Some bytes) name o → comes forms bytes o
-by_known comes known bytes name forms _ enough come (ByForms.refused e p) = absurd (not_both forms e (one_forms known name (Ok forms) (Err e) enough come p))
-by_known comes known bytes name forms _ enough come (ByForms.by_forms forms' o p own) =
-    subst (λ (fs : List Entry). comes fs bytes o) (same_ok forms' forms (one_forms known name (Ok forms') (Ok forms) enough p come)) own
+by_known : (comes : List Entry → Outcome → Type 0) (known : Source) (name : List ℕ) (forms : List Entry) (o : Outcome) → IsKnown known name → FormsCome known name (Ok forms) → ByForms comes known name o → comes forms o
+by_known comes known name forms _ enough come (ByForms.refused e p) = absurd (not_both forms e (one_forms known name (Ok forms) (Err e) enough come p))
+by_known comes known name forms _ enough come (ByForms.by_forms forms' o p own) =
+    subst (λ (fs : List Entry). comes fs o) (same_ok forms' forms (one_forms known name (Ok forms') (Ok forms) enough p come)) own
 
 -- ---- what was written
 
--- the forms by which an input came to a text
-record Reached (comes : List Entry → List ℕ → Outcome → Type 0) (known : Source) (bytes name text : List ℕ) : Type 0 where
+-- the forms by which a text came
+record Reached (comes : List Entry → Outcome → Type 0) (known : Source) (name text : List ℕ) : Type 0 where
   pub forms : List Entry
   pub come : FormsCome known name (Ok forms)
-  pub own : comes forms bytes (Ok text)
+  pub own : comes forms (Ok text)
 
-reached : (comes : List Entry → List ℕ → Outcome → Type 0) (known : Source) (bytes name text : List ℕ) (o : Outcome) → o ≡ Ok text → ByForms comes known (Some bytes) name o → Reached comes known bytes name text
-reached comes known bytes name text _ is (ByForms.refused e p) = absurd (let no : ⊥ = cc in no)
-reached comes known bytes name text _ is (ByForms.by_forms forms o p own) = record { forms = forms; come = p; own = subst (comes forms bytes) is own }
+reached : (comes : List Entry → Outcome → Type 0) (known : Source) (name text : List ℕ) (o : Outcome) → o ≡ Ok text → ByForms comes known name o → Reached comes known name text
+reached comes known name text _ is (ByForms.refused e p) = absurd (let no : ⊥ = cc in no)
+reached comes known name text _ is (ByForms.by_forms forms o p own) = record { forms = forms; come = p; own = subst (comes forms) is own }
 
 -- an assembly whose text was told
 told_text : (o : assembly.Outcome) (text : List ℕ) → Ok text ≡ text_told o → (a : Assembly) × (o ≡ Ok a) × (a.text ≡ text)
@@ -163,17 +175,35 @@ told_outcomes bytes function steps args text forms (Err e) described comes is fa
 -- what a text that was told says
 tells : (t : Told) (forms : List Entry) (bytes text : List ℕ) → IsDescribed forms → ToldComes t forms bytes (Ok text) → Tells t forms bytes text
 tells telling.Lines forms bytes text described own = lines_told forms bytes text own
-tells telling.Forms forms bytes text described own = let r = input_reached (FunctionsCome forms) bytes text (Ok text) refl own in (r.functions, r.input, r.own)
+tells telling.Forms forms bytes text described own = let r = input_reached (FormsTold forms) bytes text (Ok text) refl own in (r.functions, r.input, r.own)
 tells (telling.Behind pass) forms bytes text described own = let r = input_reached (dump.FunctionsCome forms pass) bytes text (Ok text) refl own in (r.functions, r.input, r.own)
 tells (telling.Outcomes function steps args) forms bytes text described own = told_outcomes bytes function steps args text forms own.0 described own.1 own.2 own.3
+
+-- a summary that was told
+summary_text : (o : assembly.Outcome) (text : List ℕ) → Ok text ≡ summary_told o → (a : Assembly) × (o ≡ Ok a) × (text ≡ summary_line a.summary)
+summary_text (Ok a) text is = (a, refl, (let same : text ≡ summary_line a.summary = cc in same))
+summary_text (Err e) text is = absurd (let no : ⊥ = cc in no)
+
+-- functions that come to an assembly have it
+admitted_come : (forms : List Entry) (functions : List Function) (o : assembly.Outcome) (a : Assembly) → o ≡ Ok a → FunctionsCome forms functions o → AssemblyComes forms functions (Ok a)
+admitted_come forms functions _ a is (FunctionsComeTo.refused e first) = absurd (let no : ⊥ = cc in no)
+admitted_come forms functions _ a is (FunctionsComeTo.admitted o none own) = subst (AssemblyComes forms functions) is own
+
+-- it is that of the assembly of the generated function
+tells_summary : (number : ℕ) (forms : List Entry) (text : List ℕ) → SummaryComes number forms (Ok text) → TellsSummary forms number text
+tells_summary number forms text own =
+    let told = summary_text own.0 text own.2 in
+    (told.0, is_assembly forms (made number ∷ []) told.0 (admitted_come forms (made number ∷ []) own.0 told.0 told.1 own.1), told.2)
 
 -- what the answer to a command says, where it is a text
 pub means : (known : Source) (left : Option (List ℕ)) (c : Command) (text : List ℕ) → CommandComes known left c (Ok text) → Means known left c text
 means known None (commands.Over name t) text comes = tt
 means known (Some bytes) (commands.Over name t) text comes =
-    let by = reached (ToldComes t) known bytes (described name) text (Ok text) refl comes in
+    let by = reached (OverInput t (Some bytes)) known (described name) text (Ok text) refl comes in
     (by.forms, by.come, tells t by.forms bytes text (is_described known (described name) by.forms by.come) by.own)
 means known left (commands.Listed name) text comes = subst (ListComes known (described name)) (told_list comes.0 text comes.2) comes.1
+means known left (commands.Made name number) text comes =
+    let by = reached (SummaryComes number) known (described name) text (Ok text) refl comes in (by.forms, by.come, tells_summary number by.forms text by.own)
 
 -- ---- what the text of an assembly does
 
@@ -201,7 +231,7 @@ told_has : (t : Told) (forms : List Entry) (bytes : List ℕ) (functions : List 
 told_has telling.Lines forms bytes functions o input have own =
     let whole = one_assembly forms functions own.0 (Ok have.0) (input_last (AssemblyComes forms) bytes functions own.0 input own.1) have.1 in
     (have.0.text, own.2 ∙ ap text_told whole)
-told_has telling.Forms forms bytes functions o input have own = (have.0, functions_one forms functions o (Ok have.0) (input_last (FunctionsCome forms) bytes functions o input own) have.1)
+told_has telling.Forms forms bytes functions o input have own = (have.0, functions_one forms functions o (Ok have.0) (input_last (FormsTold forms) bytes functions o input own) have.1)
 told_has (telling.Behind pass) forms bytes functions o input have own =
     (have.0, dump_one.functions_one forms pass functions o (Ok have.0) (input_last (dump.FunctionsCome forms pass) bytes functions o input own) have.1)
 told_has (telling.Outcomes function steps args) forms bytes functions o input have own =
@@ -211,6 +241,9 @@ told_has (telling.Outcomes function steps args) forms bytes functions o input ha
 -- a command that has a text comes to one
 pub ends : (known : Source) (left : Option (List ℕ)) (c : Command) (o : Outcome) → HasText known left c → CommandComes known left c o → (text : List ℕ) × (o ≡ Ok text)
 ends known left (commands.Over name t) o has comes =
-    let here = subst (λ (i : Option (List ℕ)). ByForms (ToldComes t) known i (described name) o) has.4 comes in
-    told_has t has.1 has.3 has.5 o has.6 has.7 (by_known (ToldComes t) known has.3 (described name) has.1 o has.0 has.2 here)
+    let here = subst (λ (i : Option (List ℕ)). ByForms (OverInput t i) known (described name) o) has.4 comes in
+    told_has t has.1 has.3 has.5 o has.6 has.7 (by_known (OverInput t (Some has.3)) known (described name) has.1 o has.0 has.2 here)
 ends known left (commands.Listed name) o has comes = (has.1, comes.2 ∙ ap list_told (one_list known (described name) comes.0 (Ok has.1) has.0 comes.1 has.2))
+ends known left (commands.Made name number) o has comes =
+    let own = by_known (SummaryComes number) known (described name) has.1 o has.0 has.2 comes in
+    (summary_line has.3.0.summary, own.2 ∙ ap summary_told (one_coming has.1 (made number ∷ []) own.0 (Ok has.3.0) own.1 has.3.1))

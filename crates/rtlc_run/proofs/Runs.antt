@@ -1,5 +1,5 @@
 -- There is one answer, and what it says of a text that was written.
-use Rattle.std.proofs.Common.{◌≡◌, ℕ, List, arith, eqb, Bool, true, false, Option, Some, None, refl, sym, ap, subst, ◌∙◌, inl, inr, Result, Ok}
+use Rattle.std.proofs.Common.{◌≡◌, ℕ, List, arith, eqb, Bool, true, false, Option, Some, None, refl, sym, ap, subst, ◌∙◌, inl, inr, Ok}
 use Rattle.std.proofs.lemmas.Bool.{eqb-true}
 use Rattle.md_source.specs.Source.{Source}
 use Rattle.md_list.proofs.Lists.{one_list}
@@ -11,7 +11,7 @@ use Rattle.rtlc_words.specs.Words.{command_of}
 use Rattle.rtlc_run.specs.Answer.{described, list_told, CommandComes, Answers, IsKnownFor, Writes, IsAnswered, status_of_answer}
 use Rattle.rtlc_run.specs.Written.{WritesSame, WritesSameFramed, WritesText, HasText, IsDone}
 use Rattle.rtlc_run.proofs.Described as described_by
-use Rattle.rtlc_run.proofs.Described.{one_telling, means, ends}
+use Rattle.rtlc_run.proofs.Described.{one_telling, one_summary, means, ends}
 
 -- ---- the command
 
@@ -30,6 +30,7 @@ comes_to words known input c _ is (Answers.spoken d o is' comes) = subst (λ (k 
 
 one_command : (known : Source) (input : Option (List ℕ)) (c : Command) (a b : Outcome) → IsKnownFor known input (Some c) → CommandComes known input c a → CommandComes known input c b → a ≡ b
 one_command known input (commands.Over name t) a b enough p q = one_telling t known input (described name) a b enough p q
+one_command known input (commands.Made name number) a b enough p q = one_summary number known (described name) a b enough p q
 one_command known input (commands.Listed name) a b enough p q = p.2 ∙ ap list_told (one_list known (described name) p.0 q.0 enough p.1 q.1) ∙ sym q.2
 
 pub one_answer : (words : List (List ℕ)) (known : Source) (input : Option (List ℕ)) (a b : Outcome) → IsKnownFor known input (command_of words) → Answers words known input a → Answers words known input b → a ≡ b

@@ -1,5 +1,5 @@
 -- What is told of the functions of the input, from what the description and the input gave.
-use Rattle.std.proofs.Common.{◌≡◌, ℕ, ◌+◌, ◌<◌, List, length, Result, Ok, Err, Option, Some, None, Vec, refl, sym, subst, arith}
+use Rattle.std.proofs.Common.{◌≡◌, ℕ, ◌+◌, ◌<◌, List, [], ◌∷◌, length, Result, Ok, Err, Option, Some, None, Vec, refl, sym, subst, arith}
 use Rattle.std.specs.Prelude.{IfSome}
 use Rattle.std.specs.declared.alloc.Global.{Global}
 use Rattle.std.specs.Io.KnownBytes.{Consumes, IsAtEnd}
@@ -15,30 +15,32 @@ use Rattle.md_named.specs.Answers.{RefusesForms}
 use Rattle.func_input.specs.Input.{InputComesTo, RefusesWith}
 use Rattle.func_input.specs.Outcome.{Outcome}
 use Rattle.law_assembly.specs.func_text.Assembly as assembly
-use Rattle.law_assembly.specs.func_text.Compile.{InputComes, TextComes}
+use Rattle.law_assembly.specs.func_text.Compile.{FunctionsCome, InputComes, TextComes}
 use Rattle.law_assembly.specs.func_text.Code.{CodeComes, Gives as GivesCode}
+use Rattle.rtl_make.specs.Made.{made}
 use Rattle.rtlc_words.specs.declared.command.Told.{Told}
 use Rattle.rtlc_words.specs.declared.command.Told.TheVariants as telling
 use Rattle.rtlc_run.specs.Told.{EvalComes, ToldComes}
-use Rattle.rtlc_run.specs.Answer.{ByForms, IsMissing}
+use Rattle.rtlc_run.specs.Generated.{SummaryComes}
+use Rattle.rtlc_run.specs.Answer.{ByForms, OverInput, IsMissing}
 use Rattle.rtlc_run.specs.machine.Steps.{Gives, InputRefused, IsOwn}
 use Rattle.rtlc_run.proofs.Commands.{of_input, gives_map}
 
 -- ---- the description
 
--- what refused the description refuses what is told
-pub forms_refuse : (comes : List Entry → List ℕ → Outcome → Type 0) (known : Source) (left : Option (List ℕ)) (name : List ℕ) (e : Refusal) → RefusesForms e (FormsCome known name) → Gives (Err e) (ByForms comes known left name)
-forms_refuse comes known left name refusal.Memory h = tt
-forms_refuse comes known left name refusal.ReadFault h = tt
-forms_refuse comes known left name refusal.Usage h = absurd h
-forms_refuse comes known left name refusal.WriteFault h = absurd h
-forms_refuse comes known left name (refusal.Syntax file place) h = ByForms.refused (refusal.Syntax file place) h
-forms_refuse comes known left name (refusal.Construct place what) h = ByForms.refused (refusal.Construct place what) h
-forms_refuse comes known left name (refusal.IllFormed function uid rule) h = ByForms.refused (refusal.IllFormed function uid rule) h
-forms_refuse comes known left name (refusal.Limit which count) h = ByForms.refused (refusal.Limit which count) h
-forms_refuse comes known left name (refusal.Unmatched function uid stage insn) h = ByForms.refused (refusal.Unmatched function uid stage insn) h
-forms_refuse comes known left name (refusal.Unsatisfied function uid form insn) h = ByForms.refused (refusal.Unsatisfied function uid form insn) h
-forms_refuse comes known left name (refusal.NotEquated function uid rule item l r) h = ByForms.refused (refusal.NotEquated function uid rule item l r) h
+-- what refused the description refuses the command
+pub forms_refuse : (comes : List Entry → Outcome → Type 0) (known : Source) (name : List ℕ) (e : Refusal) → RefusesForms e (FormsCome known name) → Gives (Err e) (ByForms comes known name)
+forms_refuse comes known name refusal.Memory h = tt
+forms_refuse comes known name refusal.ReadFault h = tt
+forms_refuse comes known name refusal.Usage h = absurd h
+forms_refuse comes known name refusal.WriteFault h = absurd h
+forms_refuse comes known name (refusal.Syntax file place) h = ByForms.refused (refusal.Syntax file place) h
+forms_refuse comes known name (refusal.Construct place what) h = ByForms.refused (refusal.Construct place what) h
+forms_refuse comes known name (refusal.IllFormed function uid rule) h = ByForms.refused (refusal.IllFormed function uid rule) h
+forms_refuse comes known name (refusal.Limit which count) h = ByForms.refused (refusal.Limit which count) h
+forms_refuse comes known name (refusal.Unmatched function uid stage insn) h = ByForms.refused (refusal.Unmatched function uid stage insn) h
+forms_refuse comes known name (refusal.Unsatisfied function uid form insn) h = ByForms.refused (refusal.Unsatisfied function uid form insn) h
+forms_refuse comes known name (refusal.NotEquated function uid rule item l r) h = ByForms.refused (refusal.NotEquated function uid rule item l r) h
 
 pub forms_are_own : (known : Source) (name : List ℕ) (e : Refusal) → RefusesForms e (FormsCome known name) → IsOwn (Err e)
 forms_are_own known name refusal.Usage h = absurd h
@@ -60,12 +62,12 @@ too_many_left t forms None count h = tt
 too_many_left t forms (Some bytes) count h = subst (λ (n : ℕ). ToldComes t forms bytes (Err (refusal.Limit limit.Text n))) (sym h.0) (too_many t forms bytes h.1)
 
 unread_limit : (t : Told) (known : Source) (left : Option (List ℕ)) (name : List ℕ) (forms : List Entry) (which : Limit) (count : ℕ) → FormsCome known name (Ok forms) → InputRefused left (refusal.Limit which count) →
-    Gives (Err (refusal.Limit which count)) (ByForms (ToldComes t) known left name)
+    Gives (Err (refusal.Limit which count)) (ByForms (OverInput t left) known name)
 unread_limit t known left name forms limit.Text count come h = ByForms.by_forms forms (Err (refusal.Limit limit.Text count)) come (too_many_left t forms left count h)
 unread_limit t known left name forms _ count come h = absurd h
 
 -- an input that was not read refuses what is told
-pub unread : (t : Told) (known : Source) (left : Option (List ℕ)) (name : List ℕ) (forms : List Entry) (e : Refusal) → FormsCome known name (Ok forms) → InputRefused left e → Gives (Err e) (ByForms (ToldComes t) known left name)
+pub unread : (t : Told) (known : Source) (left : Option (List ℕ)) (name : List ℕ) (forms : List Entry) (e : Refusal) → FormsCome known name (Ok forms) → InputRefused left e → Gives (Err e) (ByForms (OverInput t left) known name)
 unread t known left name forms refusal.Memory come h = tt
 unread t known left name forms refusal.ReadFault come h = tt
 unread t known left name forms (refusal.Limit which count) come h = unread_limit t known left name forms which count come h
@@ -75,9 +77,9 @@ unread t known left name forms _ come h = absurd h
 
 -- what the bytes that were read came to, the input comes to
 pub input_told : (t : Told) (known : Source) (left left' : Option (List ℕ)) (name : List ℕ) (forms : List Entry) (bytes : List ℕ) (r : Result (Vec ℕ Global) Refusal) → FormsCome known name (Ok forms) →
-    Consumes left left' bytes × IsAtEnd left' → Gives r (ToldComes t forms bytes) → Gives r (ByForms (ToldComes t) known left name)
+    Consumes left left' bytes × IsAtEnd left' → Gives r (ToldComes t forms bytes) → Gives r (ByForms (OverInput t left) known name)
 input_told t known left left' name forms bytes r come read h =
-    gives_map r (ToldComes t forms bytes) (ByForms (ToldComes t) known left name) (λ o comes. ByForms.by_forms forms o come (of_input (λ (bs : List ℕ). ToldComes t forms bs o) left left' bytes read comes)) h
+    gives_map r (ToldComes t forms bytes) (ByForms (OverInput t left) known name) (λ o comes. ByForms.by_forms forms o come (of_input (λ (bs : List ℕ). ToldComes t forms bs o) left left' bytes read comes)) h
 
 -- what is missing among the bytes that were read is missing in the input
 pub misused : (t : Told) (left left' : Option (List ℕ)) (bytes : List ℕ) → Consumes left left' bytes × IsAtEnd left' → IsMissing t bytes → IfSome left (λ bytes. IsMissing t bytes)
@@ -85,19 +87,26 @@ misused t left left' bytes read h = of_input (λ (bs : List ℕ). IsMissing t bs
 
 -- ---- texts
 
--- what refused the assembly refuses its text
+-- what refused an assembly refuses what is told of it
+assembly_refused : (P : assembly.Outcome → Type 0) (Q : Outcome → Type 0) → ((e : Refusal) → P (Err e) → Q (Err e)) → (e : Refusal) → RefusesWith e P → Gives (Err e) Q
+assembly_refused P Q follows refusal.Memory h = tt
+assembly_refused P Q follows refusal.Usage h = absurd h
+assembly_refused P Q follows refusal.ReadFault h = tt
+assembly_refused P Q follows refusal.WriteFault h = absurd h
+assembly_refused P Q follows (refusal.Syntax file place) h = follows (refusal.Syntax file place) h
+assembly_refused P Q follows (refusal.Construct place name) h = follows (refusal.Construct place name) h
+assembly_refused P Q follows (refusal.IllFormed function uid rule) h = follows (refusal.IllFormed function uid rule) h
+assembly_refused P Q follows (refusal.Limit which count) h = follows (refusal.Limit which count) h
+assembly_refused P Q follows (refusal.Unmatched function uid stage insn) h = follows (refusal.Unmatched function uid stage insn) h
+assembly_refused P Q follows (refusal.Unsatisfied function uid form insn) h = follows (refusal.Unsatisfied function uid form insn) h
+assembly_refused P Q follows (refusal.NotEquated function uid rule item left right) h = follows (refusal.NotEquated function uid rule item left right) h
+
+-- its text, and its summary
 pub text_refused : (forms : List Entry) (bytes : List ℕ) (e : Refusal) → RefusesWith e (InputComes forms bytes) → Gives (Err e) (TextComes forms bytes)
-text_refused forms bytes refusal.Memory h = tt
-text_refused forms bytes refusal.Usage h = absurd h
-text_refused forms bytes refusal.ReadFault h = tt
-text_refused forms bytes refusal.WriteFault h = absurd h
-text_refused forms bytes (refusal.Syntax file place) h = (Err (refusal.Syntax file place), h, refl)
-text_refused forms bytes (refusal.Construct place name) h = (Err (refusal.Construct place name), h, refl)
-text_refused forms bytes (refusal.IllFormed function uid rule) h = (Err (refusal.IllFormed function uid rule), h, refl)
-text_refused forms bytes (refusal.Limit which count) h = (Err (refusal.Limit which count), h, refl)
-text_refused forms bytes (refusal.Unmatched function uid stage insn) h = (Err (refusal.Unmatched function uid stage insn), h, refl)
-text_refused forms bytes (refusal.Unsatisfied function uid form insn) h = (Err (refusal.Unsatisfied function uid form insn), h, refl)
-text_refused forms bytes (refusal.NotEquated function uid rule item left right) h = (Err (refusal.NotEquated function uid rule item left right), h, refl)
+text_refused forms bytes e h = assembly_refused (InputComes forms bytes) (TextComes forms bytes) (λ e comes. (Err e, comes, refl)) e h
+
+pub summary_refused : (number : ℕ) (forms : List Entry) (e : Refusal) → RefusesWith e (FunctionsCome forms (made number ∷ [])) → Gives (Err e) (SummaryComes number forms)
+summary_refused number forms e h = assembly_refused (FunctionsCome forms (made number ∷ [])) (SummaryComes number forms) (λ e comes. (Err e, comes, refl)) e h
 
 -- such a refusal is no fault, and none of the words
 pub refusal_is_own : (P : assembly.Outcome → Type 0) (e : Refusal) → RefusesWith e P → IsOwn (Err e)

@@ -1,6 +1,6 @@
 -- What the program answers. It is one answer for the words, the files and the bytes of the input: a
 -- text, or a refusal with its values.
-use Rattle.std.specs.Prelude.{◌≡◌, ◌⊎◌, ◌+◌, ℕ, List, [], unwrap_or, Some, None, IsSome, Result, Ok, Err, IfSome, IfOk, Bool, true, false}
+use Rattle.std.specs.Prelude.{◌≡◌, ◌⊎◌, ◌+◌, ℕ, List, [], unwrap_or, Some, None, IsSome, Result, Ok, Err, IfSome, Bool, true, false}
 use Rattle.std.specs.declared.option.Option.{Option}
 use Rattle.std.specs.Io.KnownBytes.{Appends}
 use Rattle.byte_edge.specs.Causes.{Rose, TakesFront}
@@ -25,6 +25,7 @@ use Rattle.rtlc_words.specs.declared.command.Command.{Command}
 use Rattle.rtlc_words.specs.declared.command.Command.TheVariants as commands
 use Rattle.rtlc_words.specs.Words.{command_of}
 use Rattle.rtlc_run.specs.Told.{ToldComes}
+use Rattle.rtlc_run.specs.Generated.{SummaryComes}
 
 -- the description that the words name, or else the shipped one
 abbrev pub described : Option (List ℕ) → List ℕ
@@ -47,21 +48,28 @@ Given = Result (List Entry) Refusal
 
 -- ---- what a command comes to
 
--- A command over the functions of the input by a description, by what is known of the files and of
--- the input: the description first, and then what the bytes of the input come to by its forms.
-pub data ByForms (comes : List Entry → List ℕ → Outcome → Type 0) (files : Source) (input : Option (List ℕ)) (name : List ℕ) : Outcome → Type 0 where
-  refused : (e : Refusal) → FormsCome files name (Err e) → ByForms comes files input name (Err e)
+-- A command by a description, by what is known of the files: the description first, and then what
+-- something comes to by its forms.
+pub data ByForms (comes : List Entry → Outcome → Type 0) (files : Source) (name : List ℕ) : Outcome → Type 0 where
+  refused : (e : Refusal) → FormsCome files name (Err e) → ByForms comes files name (Err e)
   by_forms : (forms : List Entry) (outcome : Outcome) → FormsCome files name (Ok forms) →
-      IfSome input (λ bytes. comes forms bytes outcome) → ByForms comes files input name outcome
+      comes forms outcome → ByForms comes files name outcome
 
--- What a command comes to, by what is known of the bytes of the files and of the input. An input of
--- which nothing is known may come to anything; a list does not look at it.
+-- What the bytes of the input come to by some forms. An input of which nothing is known may come to
+-- anything.
+abbrev pub OverInput : Told → Option (List ℕ) → List Entry → Outcome → Type 0
+OverInput t input forms outcome = IfSome input (λ bytes. ToldComes t forms bytes outcome)
+
+-- What a command comes to, by what is known of the bytes of the files and of the input. A list and a
+-- generated function do not look at the input.
 abbrev pub CommandComes : Source → Option (List ℕ) → Command → Outcome → Type 0
 CommandComes files input (commands.Over name t) outcome =
-    ByForms (ToldComes t) files input (described name) outcome
+    ByForms (OverInput t input) files (described name) outcome
 CommandComes files input (commands.Listed name) outcome =
     (r : Result (List ℕ) ListRefusal) × ListComes files (described name) r ×
     (outcome ≡ list_told r)
+CommandComes files input (commands.Made name number) outcome =
+    ByForms (SummaryComes number) files (described name) outcome
 
 -- ---- answers
 
@@ -75,6 +83,7 @@ pub data Answers (words : List (List ℕ)) (files : Source) (input : Option (Lis
 abbrev pub description_of : Command → List ℕ
 description_of (commands.Over name t) = described name
 description_of (commands.Listed name) = described name
+description_of (commands.Made name number) = described name
 
 -- whether the input is read
 abbrev pub reads_input : Option Command → Bool
@@ -90,6 +99,7 @@ reads_files (Some c) = true
 abbrev pub IsKnownFor : Source → Option (List ℕ) → Option Command → Type 0
 IsKnownFor files input None = Unit {0}
 IsKnownFor files input (Some (commands.Listed name)) = IsKnown files (described name)
+IsKnownFor files input (Some (commands.Made name number)) = IsKnown files (described name)
 IsKnownFor files input (Some (commands.Over name t)) = IsKnown files (described name) × IsSome input
 
 -- what is told needs a function that the input lacks
@@ -102,6 +112,7 @@ abbrev pub IsMisused : Option Command → Option (List ℕ) → Type 0
 IsMisused None input = Unit {0}
 IsMisused (Some (commands.Over name t)) input = IfSome input (λ bytes. IsMissing t bytes)
 IsMisused (Some (commands.Listed name)) input = ⊥
+IsMisused (Some (commands.Made name number)) input = ⊥
 
 -- the names that files may be asked for
 abbrev pub MayBeAsked : Source → Option Command → List (List ℕ) → Type 0

@@ -1,4 +1,5 @@
 pub mod Told
+pub mod Generated
 pub mod Answer
 pub mod Written
 pub mod machine

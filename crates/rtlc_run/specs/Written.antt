@@ -13,6 +13,7 @@ use Rattle.law_assembly.specs.func_text.Same.{DoesSame, DoesSameFramed}
 use Rattle.rtlc_words.specs.declared.command.Command.{Command}
 use Rattle.rtlc_words.specs.declared.command.Command.TheVariants as commands
 use Rattle.rtlc_run.specs.Told.{Tells, HaveText}
+use Rattle.rtlc_run.specs.Generated.{TellsSummary, HasSummary}
 use Rattle.rtlc_run.specs.Answer.{described}
 
 -- ---- what the text of an assembly does
@@ -40,13 +41,16 @@ Means files input (commands.Over name t) text =
     IfSome input (λ bytes. (forms : List Entry) × FormsCome files (described name) (Ok forms) ×
     Tells t forms bytes text)
 Means files input (commands.Listed name) text = ListComes files (described name) (Ok text)
+Means files input (commands.Made name number) text =
+    (forms : List Entry) × FormsCome files (described name) (Ok forms) × TellsSummary forms number text
 
 -- such a text was written, and nothing else
 abbrev pub WritesText : Source → Command → (input old new : Option (List ℕ)) → Type 0
 WritesText files c input old new = (text : List ℕ) × Means files input c text × Appends old new text
 
 -- the answer to a command is a text: all is known that the description is made of, it has forms or
--- a list, and the input has functions that have a text by those forms
+-- a list, and by those forms the functions of the input have a text, or the generated function an
+-- assembly
 abbrev pub HasText : Source → Option (List ℕ) → Command → Type 0
 HasText files input (commands.Over name t) =
     IsKnown files (described name) × (forms : List Entry) ×
@@ -54,6 +58,9 @@ HasText files input (commands.Over name t) =
     (functions : List Function) × IsInput bytes functions × HaveText t forms functions
 HasText files input (commands.Listed name) =
     IsKnown files (described name) × (text : List ℕ) × ListComes files (described name) (Ok text)
+HasText files input (commands.Made name number) =
+    IsKnown files (described name) × (forms : List Entry) ×
+    FormsCome files (described name) (Ok forms) × HasSummary forms number
 
 -- a run that should end with a text does: its status is 0, or that of want of memory
 abbrev pub IsDone : ℕ → Type 0

@@ -6,11 +6,13 @@
 //!
 //! The words are read by `rtlc_words`; what the commands come to is `specs/Answer.antt`, over
 //! `md_list` for `list`; for the others over `md_named`, which gives the description, and
-//! `func_text`, and for `eval` over `code_eval`. What is told of functions is `specs/Told.antt`, case
-//! by case, and what was written then `specs/Written.antt`.
+//! `func_text`, for `eval` over `code_eval`, and for `make` over `rtl_make`. What is told of
+//! functions is `specs/Told.antt`, case by case, of the generated one `specs/Generated.antt`, and
+//! what was written then `specs/Written.antt`.
 #![tactic(auto)]
 
 mod program;
+mod summary;
 
 pub use program::{out_of_memory, run};
 pub use run_refusal::Refusal;

@@ -29,8 +29,9 @@ ghost use Rattle.rtlc_run.specs.Answer as spec;
 ghost use Rattle.rtlc_run.specs.Told.{EvalComes, RecogComes, DumpComes, ToldComes};
 ghost use Rattle.rtlc_run.specs.Written.{WritesSame, WritesSameFramed, WritesText, HasText, IsDone};
 ghost use Rattle.rtlc_run.specs.machine.Steps.{Gives, IsOwn, InputRefused};
-ghost use Rattle.rtlc_run.specs.Answer.{ByForms, CommandComes, Answers, IsMissing, IsMisused, reads_input, reads_files, IsKnownFor, MayBeAsked, NoneRose, ReadFails, Writes, WritesFront, IsRefused, Reports, HasCause, TellsCause, IsAnswered};
+ghost use Rattle.rtlc_run.specs.Answer.{ByForms, OverInput, CommandComes, Answers, IsMissing, IsMisused, reads_input, reads_files, IsKnownFor, MayBeAsked, NoneRose, ReadFails, Writes, WritesFront, IsRefused, Reports, HasCause, TellsCause, IsAnswered};
 
+use crate::summary::summary_of;
 use byte_edge::{Files, ReadAll, Sink, Source, read_all, write_all_of};
 use code_eval::eval_text;
 use law_assembly::{assembly_of, code_of, dump_of, recog_of};
@@ -154,7 +155,7 @@ fn made_of<S: Source>(
     told: &Told,
 ) -> Result<Vec<u8>, Refusal>
     ensures gives { (known : Known) (name : List ℕ) → FormsCome known name (Ok description.now) →
-        Gives result (ByForms (ToldComes told.now) known (S.left input.old) name) }
+        Gives result (ByForms (OverInput told.now (S.left input.old)) known name) }
     ensures usage { result ≡ Err Refusal.Usage →
         IfSome (S.left input.old) (λ bytes. IsMissing told.now bytes) }
     ensures unwritten { result ≢ Err Refusal.WriteFault }
@@ -209,6 +210,30 @@ fn listed<F: Files>(alloc: Global, files: &mut F, name: &Option<Name>) -> Result
         Ok(text) => Ok(text),
         Err(e) => Err(list_refused(e)),
     }
+}
+
+/// The summary of a generated function by the description of a name.
+fn generated<F: Files>(
+    alloc: Global,
+    files: &mut F,
+    name: &Option<Name>,
+    number: u16,
+) -> Result<Vec<u8>, Refusal>
+    ensures gives { (known : Known) → Agrees known (F.holds files.old) → (input : Option (List ℕ)) →
+        Gives result (CommandComes known input (commands.Made name.now number)) }
+    ensures asked { (known : Known) → Agrees known (F.holds files.old) →
+        GrewBy (AreNamed known (spec.described name.now)) (F.asked files.old) (F.asked files.new) }
+    ensures own { IsOwn result }
+    ensures faulted { result ≡ Err Refusal.ReadFault →
+        (known : Known) → Agrees known (F.holds files.old) →
+        AsksBy (FaultsAt known (spec.described name.now)) (F.asked files.old) (F.asked files.new) }
+    ensures fault { result ≡ Err Refusal.ReadFault →
+        Rose (F.fault_count files.old) (F.fault_count files.new) }
+    ensures quiet { result ≢ Err Refusal.ReadFault →
+        F.fault_count files.new ≡ F.fault_count files.old }
+{
+    let description = description_of(alloc, files, described(name))?;
+    summary_of(alloc, &description, number)
 }
 
 /// What is told of the functions of the input by the description of a name, which is looked at
@@ -276,6 +301,10 @@ fn produced<F: Files, S: Source>(
     match command {
         Command::Over { description, told } => made_by(alloc, files, input, &description, &told),
         Command::Listed { description } => listed(alloc, files, &description),
+        Command::Made {
+            description,
+            number,
+        } => generated(alloc, files, &description, number),
     }
 }
 
@@ -418,10 +447,10 @@ fn report<E: Sink>(alloc: Global, errors: &mut E, refusal: &Refusal) -> u8
 }
 
 /// The whole program. `words` are those after the program's name: `asm`, `list`, `recog`, `dump
-/// PASS`, or `eval NAME STEPS` with up to eight numbers, and `--md NAME` at most once. `files` are
-/// asked for a description that is named and for what it includes, `input` is read by all but
-/// `list`. The text is written to `output`, the line of a refusal to `errors`, and the exit status
-/// is given: 0, or that of the [`Refusal`].
+/// PASS`, `eval NAME STEPS` with up to eight numbers, or `make N`, and `--md NAME` at most once.
+/// `files` are asked for a description that is named and for what it includes, `input` is read by
+/// all but `list` and `make`. The text is written to `output`, the line of a refusal to `errors`,
+/// and the exit status is given: 0, or that of the [`Refusal`].
 ///
 /// A count rose in a call where it is greater after it than before, or stands after it at its last
 /// value. `Known` is what is known of the bytes of files by their names, and agrees with what the
@@ -533,8 +562,7 @@ pub fn run<F: Files, S: Source, K: Sink, E: Sink>(
     ensures calm { result ≢ 6 → F.fault_count files.new ≡ F.fault_count files.old }
 
     // Files are asked for the description that is named, if any, and for what is included, never
-    // for the shipped one; the input is read by all but
-    // `list`.
+    // for the shipped one; the input is read by all but `list` and `make`.
     ensures asked { (known : Known) → Agrees known (F.holds files.old) →
         GrewBy (MayBeAsked known (spoken.command_of (words_of words.now))) (F.asked files.old)
         (F.asked files.new) }

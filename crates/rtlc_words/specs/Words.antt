@@ -83,6 +83,10 @@ abbrev pub steps_in : List ℕ → Option ℕ
 steps_in word =
     option_and_then (λ n. if nat_le 1 n && nat_le n 1000 then Some n else None) (number_in word)
 
+-- from 0 to 9,000
+abbrev pub made_in : List ℕ → Option ℕ
+made_in word = option_and_then (λ n. if nat_le n 9000 then Some n else None) (number_in word)
+
 -- the number that a word writes; one that is missing writes 0
 abbrev pub number_or_zero : Option (List ℕ) → Option ℕ
 number_or_zero None = Some 0
@@ -132,6 +136,12 @@ abbrev pub listed : Option (List ℕ) → List (List ℕ) → Option Command
 listed description [] = Some (commands.Listed description)
 listed description _ = None
 
+-- the function with the number that one positional word writes is generated
+abbrev pub generated : Option (List ℕ) → List (List ℕ) → Option Command
+generated description (word ∷ []) =
+    option_map (λ number. commands.Made description number) (made_in word)
+generated description _ = None
+
 -- each command's name, and what it makes of a description and of positional words
 abbrev pub table : List (List ℕ × (Option (List ℕ) → List (List ℕ) → Option Command))
 table =
@@ -140,6 +150,7 @@ table =
     ∷ (codes "recog", over (only told.Forms))
     ∷ (codes "dump", over behind)
     ∷ (codes "eval", over outcomes)
+    ∷ (codes "make", generated)
     ∷ []
 
 abbrev pub command_by : List ℕ → Option (List ℕ) → List (List ℕ) → Option Command

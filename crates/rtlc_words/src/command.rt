@@ -4,10 +4,11 @@ ghost use Rattle.clap.specs.Words.{found_of, rows_of, subcommand_rows_of};
 ghost use Rattle.pass_name.specs.Pass.{pass_named};
 ghost use Rattle.rtlc_words.specs.machine.Grammar.{arguments_of, command_found};
 ghost use Rattle.rtlc_words.specs.Words as spec;
+ghost use Rattle.rtlc_words.specs.declared.command.Command.TheVariants as commands;
 ghost use Rattle.rtlc_words.specs.Words.{words_of};
 
 use crate::grammar::parsed;
-use crate::numbers::{args_in, steps_in};
+use crate::numbers::{args_in, made_in, steps_in};
 use clap::ArgMatches;
 use pass_name::Pass;
 use plain_data::Memory;
@@ -51,6 +52,13 @@ pub enum Command {
     Listed {
         /// The description.
         description: Option<Name>,
+    },
+    /// A function is generated, and a summary is told of it.
+    Made {
+        /// The description.
+        description: Option<Name>,
+        /// The function's number, from 0 to 9,000.
+        number: u16,
     },
 }
 
@@ -148,6 +156,42 @@ fn listed(
     }
 }
 
+/// The command that generates the function with a number, where there is a number.
+fn made_with(
+    alloc: Global,
+    description: Option<&str>,
+    number: Option<u16>,
+) -> Result<Option<Command>, Memory>
+    ensures { IfOk result (λ command. command ≡ option_map (λ n.
+        commands.Made (option_map (λ s. s.now) description.entry) n) number) }
+{
+    match number {
+        Some(number) => {
+            let description = name_of(alloc, description)?;
+            Ok(Some(Command::Made {
+                description,
+                number,
+            }))
+        }
+        None => Ok(None),
+    }
+}
+
+/// The command that generates the function with the number that the one positional word writes.
+fn generated(
+    alloc: Global,
+    description: Option<&str>,
+    words: &[&str],
+) -> Result<Option<Command>, Memory>
+    ensures { IfOk result (λ command.
+        command ≡ spec.generated (option_map (λ s. s.now) description.entry) (words_of words.now)) }
+{
+    match words {
+        [word] => made_with(alloc, description, made_in(word)),
+        _ => Ok(None),
+    }
+}
+
 /// The command of a name, with a description and positional words.
 fn command_by(
     alloc: Global,
@@ -165,6 +209,7 @@ fn command_by(
         "recog" => over(alloc, description, only(Told::Forms, words)),
         "dump" => over(alloc, description, behind(words)),
         "eval" => over(alloc, description, outcomes(alloc, words)?),
+        "make" => generated(alloc, description, words),
         _ => Ok(None),
     }
 }

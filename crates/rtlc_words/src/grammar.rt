@@ -86,7 +86,7 @@ fn program<'a>(alloc: Global) -> Result<Command<'a>, AllocError>
 {
     let program = with_two(bare(alloc), alloc, "asm", "list")?;
     let program = with_two(program, alloc, "recog", "dump")?;
-    with_command(program, alloc, "eval")
+    with_two(program, alloc, "eval", "make")
 }
 
 /// An error is the want of memory, or says that the words are refused.

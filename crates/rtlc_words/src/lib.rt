@@ -7,7 +7,8 @@
 //!
 //! The words are read by `clap`, as a command with one level of subcommands (`grammar`). What
 //! stands behind a command's name is checked by `command` and `numbers`. A command is what is told
-//! of the functions of the input ([`Told`]), or the list of a description. One more command is a
+//! of the functions of the input ([`Told`]), the list of a description, or the summary of a
+//! generated function. One more command is a
 //! line of `grammar::program`, a line of `command::command_by`, and a row of the definition's
 //! table; and a variant of [`Told`] where it tells what none told before.
 #![tactic(auto)]

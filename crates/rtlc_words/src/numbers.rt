@@ -30,6 +30,16 @@ pub(crate) fn steps_in(word: &str) -> Option<u16>
     }
 }
 
+/// The number of a generated function that a word writes, from 0 to 9,000.
+pub(crate) fn made_in(word: &str) -> Option<u16>
+    ensures { result ≡ spec.made_in word.now }
+{
+    match number_in(word) {
+        Some(number) if number <= 9000 => Some(number as u16),
+        _ => None,
+    }
+}
+
 /// The number that the word at a place writes, or 0 where there is no such word.
 fn number_at(words: &[&str], place: usize) -> Option<u64>
     ensures { result ≡ spec.number_or_zero (slice_get (words_of words.now) place) }

@@ -1,6 +1,5 @@
-use Rattle.std.specs.Prelude.{◌≡◌, ◌<◌, ℕ, List, length}
+use Rattle.std.specs.Prelude.{◌≡◌, ◌<◌, List, length}
 use Rattle.std.proofs.Common.{◌∙◌, ap, refl, subst, sym, arith}
-use Rattle.rtx_tree.specs.declared.function.Insn.{Insn}
 use Rattle.rtx_tree.specs.declared.tree.Rtx.{Rtx}
 use Rattle.rtl_make.specs.Made.{made, numbered, patterns}
 use Rattle.rtl_make.proofs.Turns.{patterns_length}

@@ -3,8 +3,7 @@ use Rattle.std.proofs.lemmas.Result.{err_from_is_err_and}
 use Rattle.run_refusal.specs.declared.refusal.Refusal.{Refusal}
 use Rattle.run_refusal.specs.declared.refusal.Refusal.TheVariants as refusal
 use Rattle.rtlc_words.specs.declared.command.Command.TheVariants as commands
-use Rattle.rtlc_run.specs.Told.{ToldComes}
-use Rattle.rtlc_run.specs.Answer.{ReadFails}
+use Rattle.rtlc_run.specs.Answer.{OverInput, ReadFails}
 use Rattle.rtlc_run.proofs.Answered.{err_back}
 use Rattle.rtlc_run.proofs.Commands.{nothing_known, nothing_agrees}
 use Rattle.rtlc_run.proofs.Tellings.{forms_refuse, forms_are_own}
@@ -14,7 +13,7 @@ pub returns-in_err-description-clause-gives : goal.returns-in_err-description-cl
 returns-in_err-description-clause-gives g c =
     let p = err_from_is_err_and c.from_residual.result c.from_residual.ensures.1 in
     λ known agrees. rw (p.1, p.2)
-    (forms_refuse (ToldComes c.args.told.now) known (g.S.Source.left c.args.input.now) _ c.in_err-description.field-0.0 (rw c.described.ensures at (c.in_err-description.ensures.gives known agrees)))
+    (forms_refuse (OverInput c.args.told.now (g.S.Source.left c.args.input.now)) known _ c.in_err-description.field-0.0 (rw c.described.ensures at (c.in_err-description.ensures.gives known agrees)))
 
 pub returns-in_err-description-clause-usage : goal.returns-in_err-description-clause-usage
 returns-in_err-description-clause-usage g c =

@@ -1,4 +1,4 @@
-use Rattle.std.proofs.Common.{refl, Some}
+use Rattle.std.proofs.Common.{refl}
 use Rattle.rtlc_words.specs.declared.command.Command.TheVariants as commands
 use Rattle.rtlc_run.specs.Answer.{ReadFails}
 use Rattle.rtlc_run.proofs.program.produced.Goals as goal
@@ -23,3 +23,13 @@ returns-in-Listed-clause-asked g c = λ known agrees. rw c.in-Listed.is (c.liste
 
 pub returns-in-Listed-clause-faulted : goal.returns-in-Listed-clause-faulted
 returns-in-Listed-clause-faulted g c = λ read known agrees. rw c.in-Listed.is (ReadFails.of_files (commands.Listed c.in-Listed.description) (c.listed.ensures.faulted read known agrees) (c.listed.ensures.fault read) refl)
+
+pub returns-in-Made-clause-gives : goal.returns-in-Made-clause-gives
+returns-in-Made-clause-gives g c = λ known agrees. rw c.in-Made.is (c.generated.ensures.gives known agrees (g.S.Source.left c.args.input.now))
+
+pub returns-in-Made-clause-asked : goal.returns-in-Made-clause-asked
+returns-in-Made-clause-asked g c = λ known agrees. rw c.in-Made.is (c.generated.ensures.asked known agrees)
+
+pub returns-in-Made-clause-faulted : goal.returns-in-Made-clause-faulted
+returns-in-Made-clause-faulted g c = λ read known agrees.
+    rw c.in-Made.is (ReadFails.of_files (commands.Made c.in-Made.description c.in-Made.number) (c.generated.ensures.faulted read known agrees) (c.generated.ensures.fault read) refl)

@@ -26,13 +26,13 @@ line_fills (Some Leap) line to long away address = refl
 line_fills (Some Long) line to long away address = refl
 line_fills (Some (Far op through)) line to long away address = refl
 
-item_fills : (unit : Placed) (at : ℕ) (item : CodeItem) (to : ℕ) → length (item_bases unit at item) ≡ width (Some (item_piece item to)) (is_long unit.longs at)
+pub item_fills : (unit : Placed) (at : ℕ) (item : CodeItem) (to : ℕ) → length (item_bases unit at item) ≡ width (Some (item_piece item to)) (is_long unit.longs at)
 item_fills unit at (Label function uid) to = refl
 item_fills unit at (Code line) to =
     line_fills (spelling_named line.name) line to (is_long unit.longs at) (further unit at line.target) (address_in unit.symbols line.target)
 
 module _ (unit : Placed) where
-  fills_from : (rest : List CodeItem) (at : ℕ) → ((k : ℕ) → slice_get rest k ≡ slice_get unit.items (at + k)) → place (pieces_of unit.items) unit.longs at + length (bases_from unit at rest) ≡ place (pieces_of unit.items) unit.longs (at + length rest)
+  pub fills_from : (rest : List CodeItem) (at : ℕ) → ((k : ℕ) → slice_get rest k ≡ slice_get unit.items (at + k)) → place (pieces_of unit.items) unit.longs at + length (bases_from unit at rest) ≡ place (pieces_of unit.items) unit.longs (at + length rest)
   fills_from [] at stands = let e : at ≡ at + 0 = omega arith in omega (arith, ap (place (pieces_of unit.items) unit.longs) e)
   fills_from (item ∷ rest) at stands =
       let first : at ≡ at + 0 = omega arith in

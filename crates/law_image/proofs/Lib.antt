@@ -1,0 +1,13 @@
+pub mod Steps
+pub mod Fits
+pub mod Keep
+pub mod Facts
+pub mod Standing
+pub mod Turns
+pub mod Sequences
+pub mod Acts
+pub mod Lines
+pub mod Runs
+pub mod Addresses
+pub mod Same
+pub mod Functions

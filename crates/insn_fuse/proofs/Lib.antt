@@ -1,2 +1,4 @@
 pub mod Paths
 pub mod Standing
+pub mod Kept
+pub mod Uses

@@ -55,7 +55,7 @@ all_of P [] = tt
 all_of P (y ∷ ys) = (y.1, all_of P ys)
 
 -- what holds of each tree whose parts it holds of
-tree_induction : (P : Rtx → Type 0) → ((x : Rtx) → AllByRecursion P (kids_of x) → P x) → (x : Rtx) → P x
+pub tree_induction : (P : Rtx → Type 0) → ((x : Rtx) → AllByRecursion P (kids_of x) → P x) → (x : Rtx) → P x
 tree_induction P step = ind-Rtx P (λ x y is.
     step (roll-Rtx x) (subst (λ (o : Rtx-F Rtx). AllByRecursion P o.kids) (sym (out-roll-Rtx x)) (subst (λ (z : Rtx-F Rtx). AllByRecursion P z.kids) is (all_of P y.kids))))
 

@@ -1,6 +1,8 @@
 //! Where a pattern reads a register.
-ghost use Rattle.std.specs.Prelude.{◌≡◌, ◌∷◌, ◌++◌, [], map, IfOk, OnOk, IfSome, IfNone, IsSome, List, ℕ, ◌≢◌};
+ghost use Rattle.std.specs.Prelude.{◌≡◌, ◌==◌, ◌↔◌, ◌∷◌, ◌++◌, [], map, IfOk, OnOk, IfSome, IfNone, IsSome, List, ℕ, ◌≢◌, false};
+ghost use Rattle.rtx_tree.specs.declared.tree.Rtx.{Rtx};
 ghost use Rattle.rtx_tree.specs.Tree.{head_of, part_at};
+ghost use Rattle.reg_uses.specs.Effects.{pattern_uses};
 ghost use Rattle.insn_fuse.specs.Fused as spec;
 
 use plain_data::{Items, Memory};
@@ -103,10 +105,14 @@ fn reads_at(alloc: Global, pattern: &Rtx, reg: u32) -> Result<Paths, Memory>
 }
 
 /// The place at which a pattern reads a register, or `None` where it reads it at none or at several.
+/// It reads a register other than 0 at none exactly where it does not use it.
+#[tactic(auto, using(crate::proofs::Uses::reads_are_uses))]
 pub fn use_of(alloc: Global, pattern: &Rtx, reg: u32) -> Result<Option<Path>, Memory>
     ensures one { IfOk result (λ place. IfSome place (λ path. spec.reads_at reg pattern.now ≡ path ∷ [])) }
     ensures none { IfOk result (λ place. IfNone place ((path : List ℕ) → spec.reads_at reg pattern.now ≢ path ∷ [])) }
     ensures there { IfOk result (λ place. IfSome place (λ path. IsSome (part_at pattern.now path))) }
+    ensures uses { (reg : ℕ) → (reg == 0) ≡ false → (x : Rtx) →
+        (spec.reads_at reg x ≡ []) ↔ (pattern_uses reg x ≡ false) }
 {
     let mut paths = reads_at(alloc, pattern, reg)?;
     if paths.len() == 1 {

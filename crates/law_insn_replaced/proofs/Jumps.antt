@@ -1,4 +1,4 @@
--- Instructions that agree with one jump to no label but its own.
+-- Instructions that agree with a window jump to no label but that of its jump.
 use Rattle.std.proofs.Common.{◌≡◌, ◌⊎◌, ⊎_elim, inl, inr, ℕ, ◌+◌, ◌&&◌, not, Bool, true, false, if◌then◌else◌, List, [], ◌∷◌, Option, Some, None, is_some, refl, sym, ap, subst, ◌∙◌}
 use Rattle.std.specs.Prelude.{option_and_then}
 use Rattle.std.specs.List.{AllByRecursion}
@@ -104,20 +104,28 @@ tells_from (i ∷ insns) index s t bad goes =
 all_tell : (insns : List Insn) (t : State) → run insns ≡ Runs t → AllByRecursion (Tells t) insns
 all_tell insns t runs = let does = does_run (bad_insn insns) (run_from 0 insns start) t runs in tells_from insns 0 start t does.fits does.goes
 
--- an instruction that is no jump leaves none
-kind_falls : (k : Kind) (i : Insn) → (k ≡ kind.Jump → ⊥) → (after_kind k 0 i start).jump ≡ falls
-kind_falls kind.Plain i other = made_jump 0 (effects_of [] [] i.pattern) start
-kind_falls kind.Jump i other = absurd (other refl)
-kind_falls kind.Call i other = refl
-kind_falls kind.Label i other = refl
-kind_falls kind.Barrier i other = refl
+-- it is no jump
+abbrev IsNoJump : Insn → Type 0
+IsNoJump i = i.kind ≡ kind.Jump → ⊥
 
-one_falls : (i : Insn) (t : State) → run (i ∷ []) ≡ Runs t → (i.kind ≡ kind.Jump → ⊥) → t.jump.target ≡ None
-one_falls i t runs other =
-    let does = does_run (bad_insn (i ∷ [])) (run_from 0 (i ∷ []) start) t runs in
-    let more : run_from 1 [] (after_kind i.kind 0 i start) ≡ Some t = goes_from [] 0 i start t does.goes in
-    let came : after_kind i.kind 0 i start ≡ t = cc in
-    sym (ap (λ (t : State). t.jump.target) came) ∙ ap (λ j. j.target) (kind_falls i.kind i other)
+-- what is no jump leaves the jump as it was
+kind_stays : (k : Kind) (index : ℕ) (i : Insn) (s : State) → (k ≡ kind.Jump → ⊥) → (after_kind k index i s).jump ≡ s.jump
+kind_stays kind.Plain index i s other = made_jump index (effects_of s.regs s.stores i.pattern) s
+kind_stays kind.Jump index i s other = absurd (other refl)
+kind_stays kind.Call index i s other = refl
+kind_stays kind.Label index i s other = refl
+kind_stays kind.Barrier index i s other = refl
+
+stays_from : (insns : List Insn) (index : ℕ) (s t : State) → AllByRecursion IsNoJump insns → run_from index insns s ≡ Some t → t.jump ≡ s.jump
+stays_from [] index s t none goes = let same : s ≡ t = cc in ap (λ (s : State). s.jump) (sym same)
+stays_from (i ∷ insns) index s t none goes =
+    stays_from insns (index + 1) (after_kind i.kind index i s) t none.1 (goes_from insns index i s t goes) ∙ kind_stays i.kind index i s none.0
+
+-- a window with no jump leads to no label
+all_fall : (insns : List Insn) (t : State) → run insns ≡ Runs t → AllByRecursion IsNoJump insns → t.jump.target ≡ None
+all_fall insns t runs none =
+    let does = does_run (bad_insn insns) (run_from 0 insns start) t runs in
+    ap (λ j. j.target) (stays_from insns 0 start t none does.goes)
 
 -- ---- a jump that is told of
 
@@ -160,38 +168,51 @@ flow_leads : (insns : List Insn) (flow : Flow) (uid place : ℕ) → NamesLabel 
 flow_leads insns flow uid place (inl is) at = subst (sorts.Leads insns) (sym is) (sorts.goes uid place at)
 flow_leads insns flow uid place (inr is) at = subst (sorts.Leads insns) (sym is) (sorts.branches uid place at)
 
-module _ (insns : List Insn) (i : Insn) (new : List Insn) (live : List ℕ) (a b : State) (runs_first : run (i ∷ []) ≡ Runs a) (runs_second : run new ≡ Runs b)
-    (agree : Agree false live a b) (own : LeadsWithin insns i) where
+module _ (insns old new : List Insn) (live : List ℕ) (a b : State) (runs_first : run old ≡ Runs a) (runs_second : run new ≡ Runs b)
+    (agree : Agree false live a b) (own : AllByRecursion (LeadsWithin insns) old) where
   -- a target that the one side lacks is none of the other
   no_target : (first second : Option ℕ) → first ≡ None → (second ≡ None → ⊥) → target_term first ≡ target_term second → ⊥
   no_target first None is some same = some refl
   no_target first (Some y) is some same = widths_differ (ap width_of (sym same ∙ ap target_term is))
 
-  own_place : Told a i → i.kind ≡ kind.Jump → (uid : ℕ) → (uid_in uid ≡ b.jump.target) → (b.jump.target ≡ None → ⊥) →
-      (place : ℕ) × (place_of uid insns ≡ Some place)
-  own_place told jump uid target some =
+  -- where a uid stands that is the target of the second side
+  abbrev Stands : ℕ → Type 0
+  Stands uid = (place : ℕ) × (place_of uid insns ≡ Some place)
+
+  own_place : (i : Insn) → LeadsWithin insns i → Told a i → i.kind ≡ kind.Jump → (uid : ℕ) → (uid_in uid ≡ b.jump.target) → (b.jump.target ≡ None → ⊥) → Stands uid
+  own_place i leads told jump uid target some =
       let same : uid ≡ told.names.uid = one_target uid told.names.uid b.jump.target a.jump.target target (sym told.target_is) (sym agree.jumps.1) some in
       subst (λ u. (place : ℕ) × (place_of u insns ≡ Some place)) (sym same)
       (⊎_elim
       (λ (back : is_return i ≡ true). absurd (true≢false (sym back ∙ told.none)))
       (λ (leads : sorts.Leads insns (jump_flow i.pattern)). flow_place insns (jump_flow i.pattern) told.names.uid told.names.flow_is leads)
-      (own jump))
+      (leads jump))
 
-  found : (k : Kind) → i.kind ≡ k → (uid : ℕ) → (uid_in uid ≡ b.jump.target) → (b.jump.target ≡ None → ⊥) → (place : ℕ) × (place_of uid insns ≡ Some place)
-  found kind.Jump is uid target some = own_place (told_jump a i (all_tell (i ∷ []) a runs_first).0 is) is uid target some
-  found kind.Plain is uid target some = absurd (no_target a.jump.target b.jump.target
-      (one_falls i a runs_first (λ jump. let both : kind.Plain ≡ kind.Jump = sym is ∙ jump in let none : ⊥ = cc in none)) some agree.jumps.1)
-  found kind.Call is uid target some = absurd (no_target a.jump.target b.jump.target
-      (one_falls i a runs_first (λ jump. let both : kind.Call ≡ kind.Jump = sym is ∙ jump in let none : ⊥ = cc in none)) some agree.jumps.1)
-  found kind.Label is uid target some = absurd (no_target a.jump.target b.jump.target
-      (one_falls i a runs_first (λ jump. let both : kind.Label ≡ kind.Jump = sym is ∙ jump in let none : ⊥ = cc in none)) some agree.jumps.1)
-  found kind.Barrier is uid target some = absurd (no_target a.jump.target b.jump.target
-      (one_falls i a runs_first (λ jump. let both : kind.Barrier ≡ kind.Jump = sym is ∙ jump in let none : ⊥ = cc in none)) some agree.jumps.1)
+  -- one of the window is the jump, or none
+  jump_in : (js : List Insn) → AllByRecursion (Tells a) js → AllByRecursion (LeadsWithin insns) js → (uid : ℕ) → (uid_in uid ≡ b.jump.target) → (b.jump.target ≡ None → ⊥) →
+      Stands uid ⊎ AllByRecursion IsNoJump js
+  jump_in [] tell lead uid target some = inr tt
+  jump_in (i ∷ js) tell lead uid target some = by_kind (jump_in js tell.1 lead.1 uid target some) i.kind refl
+    where
+      with_first : Stands uid ⊎ AllByRecursion IsNoJump js → IsNoJump i → Stands uid ⊎ (IsNoJump i × AllByRecursion IsNoJump js)
+      with_first others other = ⊎_elim (λ (found : Stands uid). inl found) (λ (none : AllByRecursion IsNoJump js). inr (other, none)) others
+
+      by_kind : Stands uid ⊎ AllByRecursion IsNoJump js → (k : Kind) → i.kind ≡ k → Stands uid ⊎ (IsNoJump i × AllByRecursion IsNoJump js)
+      by_kind others kind.Jump is = inl (own_place i lead.0 (told_jump a i tell.0 is) is uid target some)
+      by_kind others kind.Plain is = with_first others (λ jump. let both : kind.Plain ≡ kind.Jump = sym is ∙ jump in let none : ⊥ = cc in none)
+      by_kind others kind.Call is = with_first others (λ jump. let both : kind.Call ≡ kind.Jump = sym is ∙ jump in let none : ⊥ = cc in none)
+      by_kind others kind.Label is = with_first others (λ jump. let both : kind.Label ≡ kind.Jump = sym is ∙ jump in let none : ⊥ = cc in none)
+      by_kind others kind.Barrier is = with_first others (λ jump. let both : kind.Barrier ≡ kind.Jump = sym is ∙ jump in let none : ⊥ = cc in none)
+
+  found : (uid : ℕ) → (uid_in uid ≡ b.jump.target) → (b.jump.target ≡ None → ⊥) → Stands uid
+  found uid target some = ⊎_elim (λ (stands : Stands uid). stands)
+      (λ (none : AllByRecursion IsNoJump old). absurd (no_target a.jump.target b.jump.target (all_fall old a runs_first none) some agree.jumps.1))
+      (jump_in old (all_tell old a runs_first) own uid target some)
 
   one_leads : (j : Insn) → Tells b j → LeadsWithin insns j
   one_leads j tells jump =
       let told = told_jump b j tells jump in
-      let place = found i.kind refl told.names.uid (sym told.target_is) told.some in
+      let place = found told.names.uid (sym told.target_is) told.some in
       inr (flow_leads insns (jump_flow j.pattern) told.names.uid place.0 told.names.flow_is place.1)
 
   each_leads : (js : List Insn) → AllByRecursion (Tells b) js → AllByRecursion (LeadsWithin insns) js

@@ -145,8 +145,8 @@ module _ (f : Function) (place : ℕ) (i : Insn) (at : slice_get f.insns place �
     same_marks = replaced_same f place i i (greatest_uid f.insns + 1) sequence at is
 
     lead : AllByRecursion (LeadsWithin f.insns) new
-    lead = new_lead f.insns i new live alike.first alike.second alike.runs_first alike.runs_second alike.agree
-        (at_place (LeadsWithin f.insns) f.insns sound.reloadable.jumps place i at)
+    lead = new_lead f.insns (i ∷ []) new live alike.first alike.second alike.runs_first alike.runs_second alike.agree
+        (at_place (LeadsWithin f.insns) f.insns sound.reloadable.jumps place i at, tt)
 
     lead_behind : AllByRecursion (LeadsWithin after.insns) after.insns
     lead_behind = all_within_too f.insns after.insns after.insns same_marks.marks_are

@@ -44,7 +44,7 @@ insert x (a ∷ front) back far differ =
     IsDistinct-cons ◌==◌ a (front ++ x ∷ back) (apart_in a x front back (IsDistinct-head ◌==◌ a (front ++ back) differ) (flipped a x far.0)) (insert x front back far.1 (IsDistinct-tail ◌==◌ a (front ++ back) differ))
 
 -- one fewer
-remove : (x : ℕ) (front back : List ℕ) → IsDistinct ◌==◌ (front ++ x ∷ back) → IsDistinct ◌==◌ (front ++ back)
+pub remove : (x : ℕ) (front back : List ℕ) → IsDistinct ◌==◌ (front ++ x ∷ back) → IsDistinct ◌==◌ (front ++ back)
 remove x [] back differ = IsDistinct-tail ◌==◌ x back differ
 remove x (a ∷ front) back differ =
     IsDistinct-cons ◌==◌ a (front ++ back) (apart_out a x front back (IsDistinct-head ◌==◌ a (front ++ x ∷ back) differ)) (remove x front back (IsDistinct-tail ◌==◌ a (front ++ x ∷ back) differ))

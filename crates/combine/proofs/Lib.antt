@@ -1,0 +1,8 @@
+pub mod Windows
+pub mod Ends
+pub mod Front
+pub mod One
+pub mod Kept
+pub mod Depth
+pub mod Found
+pub mod Next

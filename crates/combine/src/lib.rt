@@ -1,0 +1,16 @@
+//! Instruction combination: pairs of instructions become one, until none is left.
+//!
+//! `specs/Combine.antt` says which pair is next and what comes of it. [`combine`] looks at the
+//! seconds of pairs from the left. Behind a pair that was combined it goes on with the place of its
+//! first, where the registers that are live in front of it stayed the same: no pair in front of it
+//! can be combined that could not before. Else it begins anew.
+#![tactic(auto)]
+
+mod link;
+mod made;
+mod pass;
+mod search;
+mod shallow;
+mod window;
+
+pub use pass::combine;

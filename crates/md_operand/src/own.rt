@@ -1,5 +1,5 @@
 //! The predicates that every description has.
-ghost use Rattle.std.specs.Prelude.{◌≡◌};
+ghost use Rattle.std.specs.Prelude.{◌≡◌, length, bytes_eq, None, Some, if◌then◌else◌};
 ghost use Rattle.md_operand.specs.declared.own.Own.TheVariants as owns;
 ghost use Rattle.md_operand.specs.Operand as spec;
 
@@ -92,37 +92,59 @@ fn general_operand(mode: Mode, x: &Rtx) -> bool
     register_operand(mode, x) || (immediate_operand(mode, x) || memory_operand(mode, x))
 }
 
+/// The predicate with a name of 17 bytes.
+fn of_seventeen(name: &[u8]) -> Option<Own>
+    requires { length name.now ≡ 17 }
+    ensures { result ≡ spec.own_named name.now }
+{
+    if name == b"const_int_operand".as_slice() {
+        Some(Own::ConstInt)
+    } else if name == b"immediate_operand".as_slice() {
+        Some(Own::Immediate)
+    } else if name == b"nonmemory_operand".as_slice() {
+        Some(Own::Nonmemory)
+    } else {
+        None
+    }
+}
+
+/// The predicate with a name of 15 bytes.
+fn of_fifteen(name: &[u8]) -> Option<Own>
+    requires { length name.now ≡ 15 }
+    ensures { result ≡ spec.own_named name.now }
+{
+    if name == b"general_operand".as_slice() {
+        Some(Own::General)
+    } else if name == b"address_operand".as_slice() {
+        Some(Own::Address)
+    } else {
+        None
+    }
+}
+
+/// The predicate, where a name is its own.
+fn alone(name: &[u8], text: &[u8], own: Own) -> Option<Own>
+    ensures { result ≡ (if bytes_eq name.now text.now then Some own else None) }
+{
+    if name == text { Some(own) } else { None }
+}
+
 impl Own {
-    /// The predicate with a name.
+    /// The predicate with a name, which is compared with names of its length alone.
     pub fn named(name: &[u8]) -> Option<Own>
         ensures { result ≡ spec.own_named name.now }
     {
-        if name == b"".as_slice() {
-            Some(Own::Anything)
-        } else if name == b"register_operand".as_slice() {
-            Some(Own::Register)
-        } else if name == b"const_int_operand".as_slice() {
-            Some(Own::ConstInt)
-        } else if name == b"immediate_operand".as_slice() {
-            Some(Own::Immediate)
-        } else if name == b"memory_operand".as_slice() {
-            Some(Own::Memory)
-        } else if name == b"nonimmediate_operand".as_slice() {
-            Some(Own::Nonimmediate)
-        } else if name == b"nonmemory_operand".as_slice() {
-            Some(Own::Nonmemory)
-        } else if name == b"general_operand".as_slice() {
-            Some(Own::General)
-        } else if name == b"address_operand".as_slice() {
-            Some(Own::Address)
-        } else if name == b"comparison_operator".as_slice() {
-            Some(Own::Comparison)
-        } else if name == b"ordered_comparison_operator".as_slice() {
-            Some(Own::OrderedComparison)
-        } else if name == b"frame_operand".as_slice() {
-            Some(Own::Frame)
-        } else {
-            None
+        match name.len() {
+            0 => Some(Own::Anything),
+            13 => alone(name, b"frame_operand", Own::Frame),
+            14 => alone(name, b"memory_operand", Own::Memory),
+            15 => of_fifteen(name),
+            16 => alone(name, b"register_operand", Own::Register),
+            17 => of_seventeen(name),
+            19 => alone(name, b"comparison_operator", Own::Comparison),
+            20 => alone(name, b"nonimmediate_operand", Own::Nonimmediate),
+            27 => alone(name, b"ordered_comparison_operator", Own::OrderedComparison),
+            _ => None,
         }
     }
 

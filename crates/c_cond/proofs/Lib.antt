@@ -18,3 +18,4 @@ pub mod GoesOn
 pub mod Pendings
 pub mod Outside
 pub use Rattle.c_words.proofs as c_words
+pub mod Readings

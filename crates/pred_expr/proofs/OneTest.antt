@@ -1,12 +1,11 @@
 -- The trees behind the word of a test give the smallest of their reasons: for each kind of test.
-use Rattle.std.proofs.Common.{◌≡◌, ◌≤◌, ℕ, ◌==◌, Bool, true, false, true≢false, List, Option, Some, None, Err, map, length, if◌then◌else◌, refl, sym, ap, subst, ◌∙◌, arith}
+use Rattle.std.proofs.Common.{◌≡◌, ◌≤◌, ℕ, ◌==◌, Bool, true, false, true≢false, List, Option, Some, None, Result, Ok, Err, map, length, if◌then◌else◌, refl, sym, ap, subst, ◌∙◌, arith}
 use Rattle.std.specs.Prelude.{is_some, Contains}
 use Rattle.std.specs.List.{AllByRecursion}
 use Rattle.std.proofs.lemmas.List.{length-map}
 use Rattle.rtx_tree.specs.declared.code.Mode.{Mode}
 use Rattle.rtx_tree.specs.declared.constants.Constant.{Constant}
 use Rattle.c_cond.specs.c_words.declared.atom.Dialect.TheVariants as dialect
-use Rattle.c_cond.specs.declared.goal.Goal.TheVariants as goal
 use Rattle.c_cond.specs.declared.tree.Tree as c_tree
 use Rattle.c_cond.specs.Grammar.{IsText, Condition}
 use Rattle.md_pattern.specs.lisp_read.declared.tree.Tree.{Tree}
@@ -25,14 +24,17 @@ use Rattle.pred_expr.specs.declared.question.Question.TheVariants as question
 use Rattle.pred_expr.specs.declared.question.Test.{Test}
 use Rattle.pred_expr.specs.declared.test.TestKind.{TestKind}
 use Rattle.pred_expr.specs.declared.test.TestKind.TheVariants as kind
-use Rattle.pred_expr.specs.machine.Reading.{tree_in}
+use Rattle.pred_expr.specs.Texts.{test_condition_of}
 use Rattle.pred_expr.specs.Test.{test_with, alone, text_in, codes_in, codes_by, condition_by, predicate_in, predicate_by, each, joined, behind, test_of}
 use Rattle.pred_expr.specs.HasReason.{kinds_of, HasReason}
-use Rattle.pred_expr.proofs.GrammarLaws.{test_condition_says}
+use Rattle.pred_expr.proofs.GrammarLaws.{test_condition_says, value_is, value_none}
 use Rattle.pred_expr.proofs.Questions.{Least, two_le, each_smallest, Behind, one_text, predicate, NoCode, all_codes}
 
 same_text : (a b : List ℕ) (o : Option (List ℕ)) → o ≡ Some a → o ≡ Some b → a ≡ b
 same_text a b o e f = cc
+
+err_ok : (s : Reason) (c : c_tree.Tree) → Err s ≡ Ok c → ⊥
+err_ok s c e = cc
 
 abbrev asks : TestKind → Bool
 asks kind.Codes = true
@@ -78,19 +80,22 @@ module _ (cs : List Constant) (word : List ℕ) (ts : List Tree) where
   of_condition : IsSmallest (Behind cs word kind.Condition ts) (condition_by cs (text_in ts))
   of_condition = by_text (text_in ts) refl
     where
-      by_tree : (text : List ℕ) (o : Option c_tree.Tree) → text_in ts ≡ Some text → tree_in dialect.Test goal.Condition cs text ≡ o → IsSmallest (Behind cs word kind.Condition ts) (or_aside reason.Condition o)
-      by_tree text None is none = (Behind.condition text refl is ((test_condition_says cs text).aside.0 (ap (λ o. or_aside reason.Condition o) none)), least)
+      by_tree : (text : List ℕ) (r : Result c_tree.Tree Reason) → text_in ts ≡ Some text → test_condition_of cs text ≡ r → IsSmallest (Behind cs word kind.Condition ts) r
+      by_tree text (Err s) is aside = subst (λ (r : Result c_tree.Tree Reason). IsSmallest (Behind cs word kind.Condition ts) r) (sym (value_none (test_condition_says cs text) none) ∙ aside) (Behind.condition text refl is none, least)
         where
+          none : (t : c_tree.Tree) → IsText dialect.Test cs Condition text t → ⊥
+          none t is_text = err_ok s t (sym aside ∙ value_is (test_condition_says cs text) t is_text)
+
           least : (r : Reason) → Behind cs word kind.Condition ts r → 6 ≤ number_of r
           least _ (Behind.wrong e) = not_both kind.Condition (one_text cs ts ∙ ap is_some is) e
           least _ (Behind.code _ _ same _ _ _) = absurd cc
           least _ (Behind.mode same e) = absurd cc
           least _ (Behind.condition _ _ _ _) = omega arith
           least r (Behind.inside _ fit has) = absurd (nothing_inside kind.Condition r (refl, tt) has)
-      by_tree text (Some c) is there = none_there
+      by_tree text (Ok c) is there = none_there
         where
           parsed : IsText dialect.Test cs Condition text c
-          parsed = ((test_condition_says cs text).tree c).0 (ap (λ o. or_aside reason.Condition o) there)
+          parsed = ((test_condition_says cs text).tree c).0 there
 
           none_there : (r : Reason) → Behind cs word kind.Condition ts r → ⊥
           none_there _ (Behind.wrong e) = true≢false (sym (one_text cs ts ∙ ap is_some is) ∙ e)
@@ -101,7 +106,7 @@ module _ (cs : List Constant) (word : List ℕ) (ts : List Tree) where
 
       by_text : (o : Option (List ℕ)) → text_in ts ≡ o → IsSmallest (Behind cs word kind.Condition ts) (condition_by cs o)
       by_text None is = misfit kind.Condition (one_text cs ts ∙ ap is_some is)
-      by_text (Some text) is = made (Behind cs word kind.Condition ts) (λ c. alone (question.Condition c)) (or_aside reason.Condition (tree_in dialect.Test goal.Condition cs text)) (by_tree text (tree_in dialect.Test goal.Condition cs text) is refl)
+      by_text (Some text) is = made (Behind cs word kind.Condition ts) (λ c. alone (question.Condition c)) (test_condition_of cs text) (by_tree text (test_condition_of cs text) is refl)
 
   of_predicate : IsSmallest (Behind cs word kind.Predicate ts) (predicate_by (mode_of_head word) (predicate_in ts))
   of_predicate = by_name (predicate_in ts) refl

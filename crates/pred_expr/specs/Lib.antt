@@ -1,4 +1,3 @@
 pub mod Texts
 pub mod Test
 pub mod HasReason
-pub mod machine

@@ -1,14 +1,14 @@
 use Rattle.std.proofs.Common.{refl}
 use Rattle.c_cond.specs.c_words.declared.atom.Dialect.TheVariants as Dialect
 use Rattle.c_cond.specs.Grammar.{IsText, Statements}
-use Rattle.pred_expr.proofs.GrammarLaws.{none_in, statements_is, statements_none, statements_says}
+use Rattle.pred_expr.proofs.GrammarLaws.{none_in, value_is, value_none, statements_says}
 use Rattle.pred_expr.proofs.texts.statements.Goals as goal
 
 pub returns-in-Ok-clause-value : goal.returns-in-Ok-clause-value
-returns-in-Ok-clause-value c = rw (statements_is Dialect.Condition c.args.constants.now c.args.text.now _ c.in-Ok.ensures.answers) refl
+returns-in-Ok-clause-value c = rw (value_is (statements_says c.args.constants.now c.args.text.now) _ c.in-Ok.ensures.answers) refl
 
 pub returns-in-Err-Outside-clause-value : goal.returns-in-Err-Outside-clause-value
-returns-in-Err-Outside-clause-value c = rw (statements_none Dialect.Condition c.args.constants.now c.args.text.now (none_in (IsText Dialect.Condition c.args.constants.now Statements) c.args.text.now _ _ c.in-Err-Outside.field-0-is c.in-Err-Outside.ensures.answers)) refl
+returns-in-Err-Outside-clause-value c = rw (value_none (statements_says c.args.constants.now c.args.text.now) (none_in (IsText Dialect.Condition c.args.constants.now Statements) c.args.text.now _ _ c.in-Err-Outside.field-0-is c.in-Err-Outside.ensures.answers)) refl
 
 pub returns-in-Ok-clause-grammar : goal.returns-in-Ok-clause-grammar
 returns-in-Ok-clause-grammar c bytes = statements_says c.args.constants.now bytes

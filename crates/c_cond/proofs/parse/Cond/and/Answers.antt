@@ -1,6 +1,5 @@
-use Rattle.std.proofs.Common.{◌≡◌, List, [], ◌∷◌, ◌++◌, append_assoc, arith}
-use Rattle.c_words.specs.declared.head.CondHead.{CondHead}
-use Rattle.c_cond.proofs.Answered.{and, tree_of-both, whole_both}
+use Rattle.std.proofs.Common.{◌≡◌, [], ◌∷◌, ◌++◌, append_assoc, arith}
+use Rattle.c_cond.proofs.Answered.{and, whole_both}
 use Rattle.c_cond.proofs.parse.Cond.and.Goals as goal
 
 heads_are : (c : goal.After-from_vec) → c.from_vec.result ≡ c.self.inside.heads ++ (c.other.inside.heads ++ and ∷ [])

@@ -51,5 +51,5 @@ module _ (f kept : Function) (same : kept ≡ f) (place : ℕ) (rule : List ℕ)
       ∙ (ap (λ (n : ℕ). replaced f place n new) behind
       ∙ ap (λ (xs : List Insn). replaced f place (place + 1) xs) (put ∙ made i here))) in
       subst (λ (h : Function). ReplacedComes f place i rule sequence (Ok h)) (sym comes)
-      (ReplacedComes.replaced equated.live equated.live_after equated.small
+      (ReplacedComes.replaced equated.live equated.live_after
       (subst (λ (xs : List Insn). Equated (i ∷ []) (Insns xs) equated.live) (made i here) equated.equated) (short i here).few)

@@ -33,7 +33,7 @@ module _ (f : Function) (place : ℕ) (i : Insn) (rule : List ℕ) (sequence : L
   compared_of : (o : Result Function PassRefusal) → count_with f place i sequence ≤ most_made → ReplacedComes f place i rule sequence o → IsCompared o
   compared_of _ few (ReplacedComes.long many) = absurd (omega (arith, few, many))
   compared_of _ few (ReplacedComes.refused live e after is short) = record { live = live; live_after = after; is = sym (ap outcome_by is) }
-  compared_of _ few (ReplacedComes.replaced live after small same short) =
+  compared_of _ few (ReplacedComes.replaced live after same short) =
       record { live = live; live_after = after; is = sym (ap (λ (v : Verdict). outcome_by (refused_by i.uid rule v)) same) }
 
   one_compared : (a b : Result Function PassRefusal) → IsCompared a → IsCompared b → a ≡ b
@@ -44,14 +44,14 @@ module _ (f : Function) (place : ℕ) (i : Insn) (rule : List ℕ) (sequence : L
       Err (refusal.Limit Instructions (count_with f place i sequence)) ≡ b
   long_of _ many (ReplacedComes.long more) = refl
   long_of _ many (ReplacedComes.refused live e after is short) = absurd (omega (arith, many, short))
-  long_of _ many (ReplacedComes.replaced live after small same short) = absurd (omega (arith, many, short))
+  long_of _ many (ReplacedComes.replaced live after same short) = absurd (omega (arith, many, short))
 
   one_of : (a b : Result Function PassRefusal) → ReplacedComes f place i rule sequence a → ReplacedComes f place i rule sequence b → a ≡ b
   one_of _ b (ReplacedComes.long many) y = long_of b many y
   one_of _ b (ReplacedComes.refused live e after is short) y =
       one_compared _ b (compared_of _ short (ReplacedComes.refused live e after is short)) (compared_of b short y)
-  one_of _ b (ReplacedComes.replaced live after small same short) y =
-      one_compared _ b (compared_of _ short (ReplacedComes.replaced live after small same short)) (compared_of b short y)
+  one_of _ b (ReplacedComes.replaced live after same short) y =
+      one_compared _ b (compared_of _ short (ReplacedComes.replaced live after same short)) (compared_of b short y)
 
 pub one_replaced : OneReplaced
 one_replaced f place i rule sequence a b x y = one_of f place i rule sequence a b x y

@@ -1,12 +1,11 @@
 -- An instruction of a function replaced by a sequence that is equated with it: GCC Internals,
 -- "Defining RTL Sequences for Code Generation" and "Defining How to Split Instructions".
-use Rattle.std.specs.Prelude.{◌≡◌, ℕ, ◌+◌, ◌≤◌, ◌<◌, ◌^◌, true, List, [], ◌∷◌, Some, Result, Ok, Err}
+use Rattle.std.specs.Prelude.{◌≡◌, ℕ, ◌+◌, ◌≤◌, ◌<◌, List, [], ◌∷◌, Some, Result, Ok, Err}
 use Rattle.rtx_tree.specs.declared.function.Insn.{Insn}
 use Rattle.rtx_tree.specs.declared.function.Function.{Function}
 use Rattle.rtx_tree.specs.declared.tree.Rtx.{Rtx}
 use Rattle.rtx_tree.specs.declared.limit.Limit.TheVariants.{Instructions}
 use Rattle.rtx_tree.specs.Limit.{most_made}
-use Rattle.rtx_tree.specs.RegSet.{has_reg}
 use Rattle.rtl_chain.specs.Counts.{greatest_uid, instruction_count}
 use Rattle.live.specs.Live.{AreLiveAfter}
 use Rattle.new_insns.specs.Made.{insns_for}
@@ -30,9 +29,8 @@ abbrev pub count_with : Function → ℕ → Insn → List Rtx → ℕ
 count_with f place i sequence = instruction_count (with_sequence f place i sequence).insns
 
 -- What a sequence in the place of an instruction comes to, by a rule: the function with it, where
--- that is not too long, and the sequence is equated with the instruction over what is live behind,
--- which has numbers of 32 bits; else the number of instructions, before any comparison, or what the
--- comparison refuses.
+-- that is not too long, and the sequence is equated with the instruction over what is live behind;
+-- else the number of instructions, before any comparison, or what the comparison refuses.
 pub data ReplacedComes (f : Function) (place : ℕ) (i : Insn) (rule : List ℕ) (sequence : List Rtx) : Result Function PassRefusal → Type 0 where
   long : most_made < count_with f place i sequence →
       ReplacedComes f place i rule sequence (Err (refusal.Limit Instructions (count_with f place i sequence)))
@@ -40,7 +38,6 @@ pub data ReplacedComes (f : Function) (place : ℕ) (i : Insn) (rule : List ℕ)
       refused_by i.uid rule (verdict (i ∷ []) (Insns (made f i sequence)) live) ≡ Some e →
       count_with f place i sequence ≤ most_made → ReplacedComes f place i rule sequence (Err e)
   replaced : (live : List ℕ) → AreLiveAfter f place live →
-      ((reg : ℕ) → has_reg live reg ≡ true → reg < 2 ^ 32) →
       Equated (i ∷ []) (Insns (made f i sequence)) live →
       count_with f place i sequence ≤ most_made → ReplacedComes f place i rule sequence (Ok (with_sequence f place i sequence))
 

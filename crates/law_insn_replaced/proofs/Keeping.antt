@@ -100,7 +100,7 @@ no_line : (before after : List Insn) → both_return before (Insns after) ≡ fa
 no_line before after = and_right (is_one_return before) false refl
 
 module _ (f : Function) (place : ℕ) (i : Insn) (at : slice_get f.insns place ≡ Some i) (sequence : List Rtx) (live : List ℕ)
-    (are : AreLiveAfter f place live) (small : (reg : ℕ) → has_reg live reg ≡ true → reg < 2 ^ 32)
+    (are : AreLiveAfter f place live)
     (equated : Equated (i ∷ []) (Insns (made f i sequence)) live) where
   abbrev new : List Insn
   new = made f i sequence
@@ -115,10 +115,7 @@ module _ (f : Function) (place : ℕ) (i : Insn) (at : slice_get f.insns place �
   compared : (reg : ℕ) → Live reg → is_live live reg ≡ true
   compared reg lives =
       let back : place + 1 - 1 ≡ place = omega arith in
-      let has = (are.each reg).1 (subst (IsLiveAfter f reg) back lives) in
-      let below = small reg has in
-      let low : nat_lt reg (2 ^ 32) ≡ true = grind (arith, nat_tests, below) in
-      ap (λ b. b && has_reg live reg) low ∙ has
+      (are.each reg).1 (subst (IsLiveAfter f reg) back lives)
 
   after_keeps : MarksAreEmpty f → RegistersAreNatural f → Keeps f after
   after_keeps marks natural =
@@ -176,20 +173,20 @@ module _ (f : Function) (place : ℕ) (i : Insn) (at : slice_get f.insns place �
 -- a function does what it did with an instruction replaced, whatever registers this names
 pub replaced_does : (f : Function) (place : ℕ) (i : Insn) (rule : List ℕ) (sequence : List Rtx) (g : Function) → MarksAreEmpty f →
     RegistersAreNatural f → slice_get f.insns place ≡ Some i → ReplacedComes f place i rule sequence (Ok g) → Keeps f g
-replaced_does f place i rule sequence _ marks natural at (ReplacedComes.replaced live are small equated short) =
-    after_keeps f place i at sequence live are small equated marks natural
+replaced_does f place i rule sequence _ marks natural at (ReplacedComes.replaced live are equated short) =
+    after_keeps f place i at sequence live are equated marks natural
 
 -- a replaced instruction keeps the function
 pub insn_kept : (f : Function) (place : ℕ) (i : Insn) (rule : List ℕ) (sequence : List Rtx) (g : Function) → IsSound f →
     slice_get f.insns place ≡ Some i → is_kind i.kind ≡ true → AllByRecursion Keep sequence → ReplacedComes f place i rule sequence (Ok g) →
     PassKeeps f g
-insn_kept f place i rule sequence _ sound at is keep (ReplacedComes.replaced live are small equated short) =
-    after_kept f place i at sequence live are small equated sound is keep
+insn_kept f place i rule sequence _ sound at is keep (ReplacedComes.replaced live are equated short) =
+    after_kept f place i at sequence live are equated sound is keep
 
 -- and leaves the labels and barriers, whatever the function is
 pub insn_same : (f : Function) (place : ℕ) (i : Insn) (rule : List ℕ) (sequence : List Rtx) (g : Function) → slice_get f.insns place ≡ Some i →
     is_kind i.kind ≡ true → ReplacedComes f place i rule sequence (Ok g) → SameMarks f g
-insn_same f place i rule sequence _ at is (ReplacedComes.replaced live are small equated short) =
+insn_same f place i rule sequence _ at is (ReplacedComes.replaced live are equated short) =
     replaced_same f place i i (greatest_uid f.insns + 1) sequence at is
 
 -- an instruction names of the hard registers a0 to a7 alone

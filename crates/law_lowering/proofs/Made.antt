@@ -60,4 +60,4 @@ module _ (f : Function) (place : ℕ) (i : Insn) (sequence : List Rtx) where
 
   -- the numbers of the registers of a sequence that takes the place of an instruction are natural ones
   pub replaced_natural : (rule : List ℕ) (g : Function) → ReplacedComes f place i rule sequence (Ok g) → list_all all_natural sequence ≡ true
-  replaced_natural rule _ (ReplacedComes.replaced live are small equated short) = all_passes all_natural sequence (equated_natural live equated)
+  replaced_natural rule _ (ReplacedComes.replaced live are equated short) = all_passes all_natural sequence (equated_natural live equated)

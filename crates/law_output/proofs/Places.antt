@@ -30,9 +30,7 @@ use Rattle.law_output.proofs.Shapes.{runs_last, both_returning}
 
 -- the hard registers that are live behind a place are among those that are compared
 compared : (f : Function) (place : ℕ) (live : List ℕ) → AreLiveAfter f place live → (reg : ℕ) → IsLiveBehind f place reg → is_live live reg ≡ true
-compared f place live are reg behind =
-    let small : nat_lt reg (2 ^ 32) ≡ true = grind (arith, tests, behind.1) in
-    ap (λ b. b && has_reg live reg) small ∙ (are.each reg).1 behind.0
+compared f place live are reg behind = (are.each reg).1 behind.0
 
 module _ (forms : List Entry) (number : ℕ) (f : Function) (ready : AreWritable f) where
   one_is : (place : ℕ) (i : Insn) → slice_get f.insns place ≡ Some i → IsInsnWritable i

@@ -89,7 +89,7 @@ module _ (forms : List Entry) where
   -- what stands before the place behind the sequence
   front_is : (f g : Function) (place : ℕ) (i : Insn) (rule : List ℕ) (s : List Rtx) → place < length f.insns → ReplacedComes f place i rule s (Ok g) →
       take (place + length s) g.insns ≡ take place f.insns ++ made f i s
-  front_is f _ place i rule s within (ReplacedComes.replaced live after small same short) =
+  front_is f _ place i rule s within (ReplacedComes.replaced live after same short) =
       let front = length-take-le place f.insns (omega (arith, within)) in
       let new = made_long i (greatest_uid f.insns + 1) s in
       let whole = length-append (take place f.insns) (made f i s) in

@@ -29,7 +29,7 @@ refuses_map (refusal.Limit which count) P Q on r = on _ r
 -- as many stand behind the sequence as behind the instruction
 replaced_behind : (f g : Function) (place : ℕ) (i : Insn) (rule : List ℕ) (s : List Rtx) → place < length f.insns → ReplacedComes f place i rule s (Ok g) →
     length g.insns + (place + 1) ≡ length f.insns + (place + length s)
-replaced_behind f _ place i rule s within (ReplacedComes.replaced live after small same short) =
+replaced_behind f _ place i rule s within (ReplacedComes.replaced live after same short) =
     let whole = length-append (take place f.insns) (made f i s ++ drop (place + 1) f.insns) in
     let rest = length-append (made f i s) (drop (place + 1) f.insns) in
     let front = length-take-le place f.insns (omega (arith, within)) in

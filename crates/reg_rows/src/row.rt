@@ -99,6 +99,13 @@ impl RegRow {
     pub fn contains(&self, reg: u32) -> bool
         ensures { result ≡ has self.now reg }
     {
+        words::contains(self.words.as_slice(), u64::from(reg))
+    }
+
+    /// Whether the set has a register, whatever its number.
+    pub fn has_number(&self, reg: u64) -> bool
+        ensures { result ≡ has self.now reg }
+    {
         words::contains(self.words.as_slice(), reg)
     }
 

@@ -6,11 +6,13 @@ use plain_data::Memory;
 
 const WORD: u32 = u64::BITS;
 
-pub fn contains(words: &[u64], reg: u32) -> bool
+const WIDE_WORD: u64 = WORD as u64;
+
+pub fn contains(words: &[u64], reg: u64) -> bool
     ensures { result ≡ has words.now reg }
 {
-    let word = (reg / WORD) as usize;
-    word < words.len() && (words[word] >> (reg % WORD)) & 1 == 1
+    let word = reg / WIDE_WORD;
+    word < words.len() as u64 && (words[word as usize] >> (reg % WIDE_WORD) as u32) & 1 == 1
 }
 
 pub fn insert(words: &mut [u64], reg: u32)

@@ -54,6 +54,13 @@ impl RegSet {
         self.row.contains(reg)
     }
 
+    /// Whether the set has a register, whatever its number.
+    pub fn has_number(&self, reg: u64) -> bool
+        ensures { result ≡ has_reg self.now reg }
+    {
+        self.row.has_number(reg)
+    }
+
     /// Puts register `reg` into the set. After `Memory` the set is as before.
     pub fn insert(&mut self, reg: u32) -> Result<(), Memory>
         ensures ok { OnOk result ((other : ℕ) →

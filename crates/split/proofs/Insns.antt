@@ -135,4 +135,4 @@ equated_shaped before after live i equated here is =
     each_shaped 0 after i (runs_good (bad_insn after) (run_from 0 after _) alike.second alike.runs_second) here is
 
 pub replaced_shaped : (f g : Function) (place : ℕ) (i : Insn) (rule : List ℕ) (sequence : List Rtx) (j : Insn) → ReplacedComes f place i rule sequence (Ok g) → In (made f i sequence) j → is_kind j.kind ≡ true → is_shaped j ≡ true
-replaced_shaped f _ place i rule sequence j (ReplacedComes.replaced live after small equated short) here is = equated_shaped (i ∷ []) (made f i sequence) live j equated here is
+replaced_shaped f _ place i rule sequence j (ReplacedComes.replaced live after equated short) here is = equated_shaped (i ∷ []) (made f i sequence) live j equated here is

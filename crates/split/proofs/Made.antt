@@ -24,7 +24,7 @@ replaced_long f place new within =
 
 -- what a replaced instruction comes to is the function with the others
 pub comes_to : (f g : Function) (place : ℕ) (i : Insn) (rule : List ℕ) (sequence : List Rtx) → ReplacedComes f place i rule sequence (Ok g) → g ≡ replaced f place (place + 1) (made f i sequence)
-comes_to f _ place i rule sequence (ReplacedComes.replaced live after small equated short) = refl
+comes_to f _ place i rule sequence (ReplacedComes.replaced live after equated short) = refl
 
 pub replaced_behind : (f g : Function) (place : ℕ) (i : Insn) (rule : List ℕ) (sequence : List Rtx) → place < length f.insns → ReplacedComes f place i rule sequence (Ok g) →
     length g.insns + (place + 1) ≡ length f.insns + (place + length sequence)

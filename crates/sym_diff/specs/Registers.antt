@@ -48,7 +48,7 @@ agrees (Some a) (Some b) =
     not (narrower (width_of b) (width_of a)) && same_tree (low_bits (width_of a) b) a
 
 abbrev pub is_live : List ℕ → ℕ → Bool
-is_live live reg = nat_lt reg (2 ^ 32) && has_reg live reg
+is_live live reg = has_reg live reg
 
 -- a0 to a7 and t0 to t6, which a function's own steps may change where they are not live
 abbrev pub is_free : ℕ → Bool

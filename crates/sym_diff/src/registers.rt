@@ -108,11 +108,7 @@ fn agrees(maker: &mut TermMaker, a: &Option<Term>, b: &Option<Term>) -> Result<b
 fn is_live(live: &RegSet, reg: u64) -> bool
     ensures { result ≡ spec.is_live live.now reg }
 {
-    if reg < 1 << 32 {
-        live.contains(reg as u32)
-    } else {
-        false
-    }
+    live.has_number(reg)
 }
 
 fn is_call_used(reg: u64) -> bool

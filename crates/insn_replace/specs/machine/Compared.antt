@@ -5,7 +5,6 @@ use Rattle.rtx_tree.specs.declared.function.Function.{Function}
 use Rattle.rtx_tree.specs.declared.tree.Rtx.{Rtx}
 use Rattle.rtx_tree.specs.declared.limit.Limit.TheVariants.{Instructions}
 use Rattle.rtx_tree.specs.Limit.{most_made}
-use Rattle.rtx_tree.specs.RegSet.{has_reg}
 use Rattle.live.specs.Live.{AreLiveAfter}
 use Rattle.pass_refusal.specs.equate.Side.{Side}
 use Rattle.pass_refusal.specs.equate.declared.verdict.Side as code
@@ -26,7 +25,6 @@ AreMade f place sequence insns =
 pub record IsSame (f : Function) (place : ℕ) (i : Insn) (side : Side) : Type 0 where
   pub live : List ℕ
   pub live_after : AreLiveAfter f place live
-  pub small : (reg : ℕ) → has_reg live reg ≡ true → reg < 2 ^ 32
   pub equated : Equated (i ∷ []) side live
 
 -- a comparison of them refuses

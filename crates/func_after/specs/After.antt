@@ -10,13 +10,14 @@ use Rattle.rtx_tree.specs.Limit.{most_made}
 use Rattle.rtl_chain.specs.Counts.{instruction_count}
 use Rattle.pass_name.specs.Pass.{pass_name}
 use Rattle.pass_name.specs.declared.pass.Pass.{Pass}
-use Rattle.pass_name.specs.declared.pass.Pass.TheVariants.{Read, Lower, Split1, Reload, Frame, Split2, Output}
+use Rattle.pass_name.specs.declared.pass.Pass.TheVariants.{Read, Lower, Combine, Split1, Reload, Frame, Split2, Output}
 use Rattle.run_refusal.specs.declared.refusal.Refusal.{Refusal}
 use Rattle.run_refusal.specs.declared.refusal.Refusal.TheVariants as refusal
 use Rattle.md_forms.specs.declared.form.Entry.{Entry}
 use Rattle.pass_refusal.specs.declared.refusal.PassRefusal.{PassRefusal}
 use Rattle.pass_refusal.specs.declared.refusal.PassRefusal.TheVariants as passes
 use Rattle.lower.specs.Lower.{LowerComes}
+use Rattle.combine.specs.Combine.{Combined}
 use Rattle.split.specs.Split.{SplitComes}
 use Rattle.assign.specs.Frame.{layout_of}
 use Rattle.assign.specs.Homes.{AreHomes}
@@ -32,9 +33,10 @@ use Rattle.func_after.specs.declared.made.Made.{Made}
 
 -- ---- what was made so far
 
--- a function as it was read; its frame is not laid out yet
+-- a function as it was read; nothing is combined and its frame is not laid out yet
 abbrev pub as_read : Function → Made
-as_read f = record { function = f; layout = record { size = 0; slots = []; saved = [] } }
+as_read f =
+    record { function = f; combined = 0; layout = record { size = 0; slots = []; saved = [] } }
 
 -- what was made, or a refusal
 abbrev pub Answer : Type 0
@@ -70,7 +72,7 @@ Changed = Result Change PassRefusal
 
 -- what a pass makes that gives a function and nothing beside it
 abbrev pub plainly : Result Function PassRefusal → Changed
-plainly (Ok g) = Ok (record { function = g })
+plainly (Ok g) = Ok (record { function = g; combined = 0 })
 plainly (Err e) = Err e
 
 -- What a pass that changes the function alone makes of it, by the forms of a description. Reading
@@ -79,6 +81,8 @@ pub data ChangeComes (forms : List Entry) (f : Function) : Pass → Changed → 
   reads : ChangeComes forms f Read (plainly (Ok f))
   lowers : (r : Result Function PassRefusal) → LowerComes forms f r →
       ChangeComes forms f Lower (plainly r)
+  combines : (n : ℕ) (g : Function) → Combined forms n f g →
+      ChangeComes forms f Combine (Ok (record { function = g; combined = n }))
   splits_first : (r : Result Function PassRefusal) → SplitComes forms Split1 f r →
       ChangeComes forms f Split1 (plainly r)
   splits_again : (r : Result Function PassRefusal) → SplitComes forms Split2 f r →
@@ -87,29 +91,39 @@ pub data ChangeComes (forms : List Entry) (f : Function) : Pass → Changed → 
 
 -- ---- one pass
 
--- what was made, by a name and the layout of the frame, where a pass changed the function, or what
--- the pass refuses
-abbrev pub told_for : List ℕ → Layout → Pass → Changed → Answer
-told_for name layout at (Ok c) = Ok (record { function = c.function; layout = layout })
-told_for name layout at (Err e) = Err (refused_for name at e)
+-- how many instructions are combined behind a pass: as many as before, unless it combines them
+abbrev pub combined_behind : Pass → ℕ → ℕ → ℕ
+combined_behind Combine before now = now
+combined_behind _ before now = before
+
+-- what was made, by a name, how many instructions were combined before, and the layout of the
+-- frame, where a pass changed the function, or what the pass refuses
+abbrev pub told_for : List ℕ → ℕ → Layout → Pass → Changed → Answer
+told_for name before layout at (Ok c) = Ok (record {
+  function = c.function;
+  combined = combined_behind at before c.combined;
+  layout = layout;
+})
+told_for name before layout at (Err e) = Err (refused_for name at e)
 
 -- the function that reload gives, with the layout of its frame, or the refusal
-abbrev pub told_reloaded : List ℕ → Layout → Result Function ReloadRefusal → Answer
-told_reloaded name layout (Ok g) = Ok (record { function = g; layout = layout })
-told_reloaded name layout (Err e) = Err (unreloaded_for name e)
+abbrev pub told_reloaded : List ℕ → ℕ → Layout → Result Function ReloadRefusal → Answer
+told_reloaded name before layout (Ok g) =
+    Ok (record { function = g; combined = before; layout = layout })
+told_reloaded name before layout (Err e) = Err (unreloaded_for name e)
 
 -- What a pass makes of what was made, by the forms of a description, or what it refuses. Registers
 -- have the homes that are defined for the function as it comes to reload.
 pub data PassMakes (forms : List Entry) (m : Made) : Pass → Answer → Type 0 where
   changes : (pass : Pass) (c : Changed) (answer : Answer) → ChangeComes forms m.function pass c →
-      answer ≡ told_for m.function.name m.layout pass c → PassMakes forms m pass answer
+      answer ≡ told_for m.function.name m.combined m.layout pass c → PassMakes forms m pass answer
   reloads : (homes : List HomeOf) (r : Result Function ReloadRefusal) (answer : Answer) →
       AreHomes m.function homes →
       FunctionReloads forms homes (layout_of m.function homes) m.function r →
-      answer ≡ told_reloaded m.function.name (layout_of m.function homes) r → PassMakes forms m Reload answer
+      answer ≡ told_reloaded m.function.name m.combined (layout_of m.function homes) r → PassMakes forms m Reload answer
   frames : (r : Result Function PassRefusal) (answer : Answer) →
       FrameComes forms m.function m.layout r →
-      answer ≡ told_for m.function.name m.layout Frame (plainly r) → PassMakes forms m Frame answer
+      answer ≡ told_for m.function.name m.combined m.layout Frame (plainly r) → PassMakes forms m Frame answer
 
 -- how many instructions the function has that was made
 abbrev pub count_of : Made → ℕ
@@ -141,7 +155,7 @@ pub data PassesCome (forms : List Entry) : List Pass → Made → Answer → Typ
 
 -- the passes before registers have homes
 abbrev pub before_homes : List Pass
-before_homes = Read ∷ Lower ∷ Split1 ∷ []
+before_homes = Read ∷ Lower ∷ Combine ∷ Split1 ∷ []
 
 -- those behind the frame
 abbrev pub behind_frame : List Pass

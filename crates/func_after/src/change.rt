@@ -5,6 +5,7 @@ ghost use Rattle.pass_refusal.specs.Outcome.{Gives};
 ghost use Rattle.func_after.specs.After as spec;
 ghost use Rattle.func_after.specs.After.{ChangeComes};
 
+use combine::combine;
 use lower::lower;
 use md_desc::Description;
 use pass_name::Pass;
@@ -18,6 +19,8 @@ use std::alloc::Global;
 pub struct Change {
     /// The function, as it is now.
     pub function: Function,
+    /// How many of its instructions the pass has combined.
+    pub combined: usize,
 }
 
 /// What a pass makes that gives a function and nothing beside it.
@@ -25,7 +28,10 @@ pub(crate) fn plainly(made: Result<Function, PassRefusal>) -> Result<Change, Pas
     ensures { result ≡ spec.plainly made }
 {
     match made {
-        Ok(function) => Ok(Change { function }),
+        Ok(function) => Ok(Change {
+            function,
+            combined: 0,
+        }),
         Err(e) => Err(e),
     }
 }
@@ -36,6 +42,19 @@ pub(crate) fn lowered(alloc: Global, desc: &Description, f: Function) -> Result<
     ensures { Gives result (ChangeComes desc.now f passes.Lower) }
 {
     plainly(lower(alloc, desc, f))
+}
+
+/// What combination makes.
+#[tactic(auto, using(crate::proofs::ChangeLaws::combined))]
+pub(crate) fn combined(
+    alloc: Global,
+    desc: &Description,
+    f: Function,
+) -> Result<Change, PassRefusal>
+    ensures { Gives result (ChangeComes desc.now f passes.Combine) }
+{
+    let (function, combined) = combine(alloc, desc, f)?;
+    Ok(Change { function, combined })
 }
 
 /// What the splits make before registers have homes.

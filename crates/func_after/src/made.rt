@@ -12,6 +12,8 @@ use std::alloc::Global;
 pub struct Made {
     /// The function, as it is now.
     pub function: Function,
+    /// How many of its instructions were combined.
+    pub combined: usize,
     /// The layout of its frame, once its registers have homes.
     pub layout: Layout,
 }
@@ -76,5 +78,9 @@ pub(crate) fn as_read(alloc: Global, f: &Function) -> Result<Made, Memory>
 {
     let function = copy_function(alloc, f)?;
     let layout = no_layout(alloc);
-    Ok(Made { function, layout })
+    Ok(Made {
+        function,
+        combined: 0,
+        layout,
+    })
 }

@@ -4,7 +4,7 @@ ghost use Rattle.pass_name.specs.declared.pass.Pass.TheVariants as passes;
 ghost use Rattle.func_after.specs.After as spec;
 ghost use Rattle.func_after.specs.After.{Gives, PassComes, PassMakes};
 
-use crate::change::{Change, lowered, plainly, split_again, split_first};
+use crate::change::{Change, combined, lowered, plainly, split_again, split_first};
 use crate::made::Made;
 use crate::refusal::{refused_for, unreloaded_for};
 use assign::{Layout, assign, layout};
@@ -19,19 +19,37 @@ use rtx_tree::{Limit, MOST_MADE, Name};
 use run_refusal::Refusal;
 use std::alloc::Global;
 
-/// What was made, by a name and the layout of the frame, where a pass changed the function, or what
-/// the pass refuses.
+/// How many instructions are combined behind a pass: as many as before, unless it combines them.
+fn combined_behind(pass: Pass, before: usize, now: usize) -> usize
+    ensures { result ≡ spec.combined_behind pass before now }
+{
+    match pass {
+        Pass::Combine => now,
+        Pass::Read
+        | Pass::Lower
+        | Pass::Split1
+        | Pass::Reload
+        | Pass::Frame
+        | Pass::Split2
+        | Pass::Output => before,
+    }
+}
+
+/// What was made, by a name, how many instructions were combined before, and the layout of the
+/// frame, where a pass changed the function, or what the pass refuses.
 fn told(
     name: Name,
+    before: usize,
     layout: Layout,
     pass: Pass,
     change: Result<Change, PassRefusal>,
 ) -> Result<Made, Refusal>
-    ensures { result ≡ spec.told_for name layout pass change }
+    ensures { result ≡ spec.told_for name before layout pass change }
 {
     match change {
         Ok(change) => Ok(Made {
             function: change.function,
+            combined: combined_behind(pass, before, change.combined),
             layout,
         }),
         Err(e) => Err(refused_for(name, pass, e)),
@@ -49,7 +67,11 @@ fn reloaded(alloc: Global, desc: &Description, name: Name, m: Made) -> Result<Ma
     let homes = assign(alloc, &function, live.as_slice())?;
     let layout = layout(alloc, &function, &homes)?;
     match reload(alloc, desc, function, &homes, &layout) {
-        Ok(function) => Ok(Made { function, layout }),
+        Ok(function) => Ok(Made {
+            function,
+            combined: m.combined,
+            layout,
+        }),
         Err(e) => Err(unreloaded_for(name, e)),
     }
 }
@@ -60,9 +82,13 @@ fn framed(alloc: Global, desc: &Description, name: Name, m: Made) -> Result<Made
     requires { name ≡ m.function.name }
     ensures { Gives result (PassMakes desc.now m passes.Frame) }
 {
-    let Made { function, layout } = m;
+    let Made {
+        function,
+        combined: before,
+        layout,
+    } = m;
     let change = plainly(frame(alloc, desc, function, &layout));
-    told(name, layout, Pass::Frame, change)
+    told(name, before, layout, Pass::Frame, change)
 }
 
 /// What a pass makes of what was made, or what it refuses.
@@ -73,11 +99,36 @@ fn made_by(alloc: Global, desc: &Description, m: Made, pass: Pass) -> Result<Mad
     let name = m.function.name.copy(alloc)?;
     match pass {
         Pass::Read | Pass::Output => Ok(m),
-        Pass::Lower => told(name, m.layout, pass, lowered(alloc, desc, m.function)),
-        Pass::Split1 => told(name, m.layout, pass, split_first(alloc, desc, m.function)),
+        Pass::Lower => told(
+            name,
+            m.combined,
+            m.layout,
+            pass,
+            lowered(alloc, desc, m.function),
+        ),
+        Pass::Combine => told(
+            name,
+            m.combined,
+            m.layout,
+            pass,
+            combined(alloc, desc, m.function),
+        ),
+        Pass::Split1 => told(
+            name,
+            m.combined,
+            m.layout,
+            pass,
+            split_first(alloc, desc, m.function),
+        ),
         Pass::Reload => reloaded(alloc, desc, name, m),
         Pass::Frame => framed(alloc, desc, name, m),
-        Pass::Split2 => told(name, m.layout, pass, split_again(alloc, desc, m.function)),
+        Pass::Split2 => told(
+            name,
+            m.combined,
+            m.layout,
+            pass,
+            split_again(alloc, desc, m.function),
+        ),
     }
 }
 

@@ -17,9 +17,10 @@ use run_refusal::Refusal;
 use std::alloc::Global;
 
 /// All passes before the text is written, in their order.
-static PASSES: [Pass; 6] = [
+static PASSES: [Pass; 7] = [
     Pass::Read,
     Pass::Lower,
+    Pass::Combine,
     Pass::Split1,
     Pass::Reload,
     Pass::Frame,

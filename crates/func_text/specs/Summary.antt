@@ -20,12 +20,11 @@ is_code _ = false
 abbrev pub line_count : List CodeItem → ℕ
 line_count items = length (filter is_code items)
 
--- Of a function that came in, what the passes made of it, and its lines and labels. No pass
--- combines instructions.
+-- of a function that came in, what the passes made of it, and its lines and labels
 abbrev pub summary_of : Function → Made → List CodeItem → Summary
 summary_of f m items = record {
   instructions = instruction_count f.insns;
-  combined = 0;
+  combined = m.combined;
   slots = length m.layout.slots;
   frame = m.layout.size;
   lines = line_count items;

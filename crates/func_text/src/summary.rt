@@ -55,7 +55,7 @@ pub(crate) fn summary_of(f: &Function, made: &Made, items: &[CodeItem]) -> Summa
 {
     Summary {
         instructions: instruction_count(f.insns.as_slice()) as u64,
-        combined: 0,
+        combined: made.combined as u64,
         slots: made.layout.slots.len() as u64,
         frame: made.layout.size,
         lines: line_count(items) as u64,

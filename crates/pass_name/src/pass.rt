@@ -9,6 +9,8 @@ pub enum Pass {
     Read,
     /// Expansion into instructions of the machine.
     Lower,
+    /// Pairs of instructions that become one.
+    Combine,
     /// Splits before registers have homes.
     Split1,
     /// Homes of registers, and the moves that forms ask for.
@@ -29,6 +31,7 @@ impl Pass {
         match self {
             Pass::Read => "read",
             Pass::Lower => "lower",
+            Pass::Combine => "combine",
             Pass::Split1 => "split1",
             Pass::Reload => "reload",
             Pass::Frame => "frame",
@@ -44,6 +47,7 @@ impl Pass {
         match name {
             "read" => Some(Pass::Read),
             "lower" => Some(Pass::Lower),
+            "combine" => Some(Pass::Combine),
             "split1" => Some(Pass::Split1),
             "reload" => Some(Pass::Reload),
             "frame" => Some(Pass::Frame),

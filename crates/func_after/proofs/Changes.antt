@@ -5,10 +5,11 @@ use Rattle.rtx_tree.specs.declared.limit.Limit.TheVariants.{Instructions}
 use Rattle.run_refusal.specs.declared.refusal.Refusal.{Refusal}
 use Rattle.run_refusal.specs.declared.refusal.Refusal.TheVariants as refusal
 use Rattle.pass_name.specs.declared.pass.Pass.{Pass}
-use Rattle.pass_name.specs.declared.pass.Pass.TheVariants.{Read, Lower, Split1, Reload, Frame, Split2, Output}
+use Rattle.pass_name.specs.declared.pass.Pass.TheVariants.{Read, Lower, Combine, Split1, Reload, Frame, Split2, Output}
 use Rattle.md_forms.specs.declared.form.Entry.{Entry}
 use Rattle.pass_refusal.specs.declared.refusal.PassRefusal.{PassRefusal}
 use Rattle.lower.specs.Lower.{LowerComes}
+use Rattle.combine.specs.Combine.{Combined}
 use Rattle.split.specs.Split.{SplitComes}
 use Rattle.assign.specs.Frame.{layout_of}
 use Rattle.assign.specs.Homes.{AreHomes}
@@ -19,7 +20,7 @@ use Rattle.reload.specs.declared.refusal.ReloadRefusal.{ReloadRefusal}
 use Rattle.frame.specs.Framed.{FrameComes}
 use Rattle.func_after.specs.declared.change.Change.{Change}
 use Rattle.func_after.specs.declared.made.Made.{Made}
-use Rattle.func_after.specs.After.{Answer, Changed, plainly, told_for, told_reloaded, count_of, IsShort, ChangeComes, PassMakes, PassComes}
+use Rattle.func_after.specs.After.{Answer, Changed, plainly, combined_behind, told_for, told_reloaded, count_of, IsShort, ChangeComes, PassMakes, PassComes}
 
 pub ok_is : (m n : Made) → ◌≡◌ {A = Answer} (Ok m) (Ok n) → m ≡ n
 ok_is m n is = cc
@@ -37,19 +38,23 @@ pub no_frame : {P : Type 0} (forms : List Entry) (f : Function) (c : Changed) �
 no_frame forms f c comes = elim comes [ ]
 
 pub plain_is : (r : Result Function PassRefusal) (c : Change) → plainly r ≡ Ok c → r ≡ Ok c.function
-plain_is (Ok g) c is = let same : record { function = g } ≡ c = cc in ap (λ (d : Change). Ok d.function) same
+plain_is (Ok g) c is = let same : record { function = g; combined = 0 } ≡ c = cc in ap (λ (d : Change). Ok d.function) same
 plain_is (Err e) c is = absurd (let none : ⊥ = cc in none)
 
 module _ (forms : List Entry) (f : Function) (c : Change) where
   -- reading and writing leave the function
   pub read_by : (a : Changed) → a ≡ Ok c → ChangeComes forms f Read a → f ≡ c.function
-  read_by _ is ChangeComes.reads = let same : record { function = f } ≡ c = cc in ap (λ (d : Change). d.function) same
+  read_by _ is ChangeComes.reads = let same : record { function = f; combined = 0 } ≡ c = cc in ap (λ (d : Change). d.function) same
 
   pub write_by : (a : Changed) → a ≡ Ok c → ChangeComes forms f Output a → f ≡ c.function
-  write_by _ is ChangeComes.writes = let same : record { function = f } ≡ c = cc in ap (λ (d : Change). d.function) same
+  write_by _ is ChangeComes.writes = let same : record { function = f; combined = 0 } ≡ c = cc in ap (λ (d : Change). d.function) same
 
   pub lower_by : (a : Changed) → a ≡ Ok c → ChangeComes forms f Lower a → LowerComes forms f (Ok c.function)
   lower_by _ is (ChangeComes.lowers r comes) = subst (LowerComes forms f) (plain_is r c is) comes
+
+  pub combine_by : (a : Changed) → a ≡ Ok c → ChangeComes forms f Combine a → Combined forms c.combined f c.function
+  combine_by _ is (ChangeComes.combines n g comes) = let same : record { function = g; combined = n } ≡ c = cc in
+      subst (λ (d : Change). Combined forms d.combined f d.function) same comes
 
   pub split_by : (a : Changed) → a ≡ Ok c → ChangeComes forms f Split1 a → SplitComes forms Split1 f (Ok c.function)
   split_by _ is (ChangeComes.splits_first r comes) = subst (SplitComes forms Split1 f) (plain_is r c is) comes
@@ -71,18 +76,20 @@ module _ (forms : List Entry) (m next : Made) (pass : Pass) where
   short_of _ is (PassComes.made n makes short) = subst IsShort (ok_is n next is) short
 
 module _ (forms : List Entry) (m next : Made) where
-  abbrev pub Made_by : Pass → Type 0
-  Made_by pass = ChangeComes forms m.function pass (Ok (record { function = next.function }))
+  abbrev pub Made_by : Pass → ℕ → Type 0
+  Made_by pass combined = ChangeComes forms m.function pass (Ok (record { function = next.function; combined = combined }))
 
   -- a pass changed the function alone, and left the layout
   pub record Changes (pass : Pass) : Type 0 where
-    pub comes : Made_by pass
+    pub combined : ℕ
+    pub comes : Made_by pass combined
     pub layout_is : next.layout ≡ m.layout
 
-  pub changed_by : (pass : Pass) (c : Changed) → ◌≡◌ {A = Answer} (Ok next) (told_for m.function.name m.layout pass c) → ChangeComes forms m.function pass c →
+  pub changed_by : (pass : Pass) (c : Changed) → ◌≡◌ {A = Answer} (Ok next) (told_for m.function.name m.combined m.layout pass c) → ChangeComes forms m.function pass c →
       Changes pass
-  changed_by pass (Ok c) is comes = let same = ok_is next (record { function = c.function; layout = m.layout }) is in record {
-    comes = subst (λ (g : Function). ChangeComes forms m.function pass (Ok (record { function = g })))
+  changed_by pass (Ok c) is comes = let same = ok_is next (record { function = c.function; combined = combined_behind pass m.combined c.combined; layout = m.layout }) is in record {
+    combined = c.combined;
+    comes = subst (λ (g : Function). ChangeComes forms m.function pass (Ok (record { function = g; combined = c.combined })))
         (sym (ap (λ (n : Made). n.function) same)) comes;
     layout_is = ap (λ (n : Made). n.layout) same;
   }
@@ -105,16 +112,16 @@ module _ (forms : List Entry) (m next : Made) where
     pub comes : FunctionReloads forms homes (layout_of m.function homes) m.function (Ok next.function)
     pub layout_is : next.layout ≡ layout_of m.function homes
 
-  pub reload_told : (name : List ℕ) (layout : Layout) (r : Result Function ReloadRefusal) →
-      ◌≡◌ {A = Answer} (Ok next) (told_reloaded name layout r) → (r ≡ Ok next.function) × (next.layout ≡ layout)
-  reload_told name layout (Ok g) is = let same = ok_is next (record { function = g; layout = layout }) is in
+  pub reload_told : (name : List ℕ) (before : ℕ) (layout : Layout) (r : Result Function ReloadRefusal) →
+      ◌≡◌ {A = Answer} (Ok next) (told_reloaded name before layout r) → (r ≡ Ok next.function) × (next.layout ≡ layout)
+  reload_told name before layout (Ok g) is = let same = ok_is next (record { function = g; combined = before; layout = layout }) is in
       (ap (λ (n : Made). Ok n.function) (sym same), ap (λ (n : Made). n.layout) same)
-  reload_told name layout (Err e) is = absurd (let none : ⊥ = cc in none)
+  reload_told name before layout (Err e) is = absurd (let none : ⊥ = cc in none)
 
   reloaded_by : (a : Answer) → a ≡ Ok next → PassMakes forms m Reload a → Reloaded
   reloaded_by a is (PassMakes.changes _ c _ comes told) = no_reload forms m.function c comes
   reloaded_by a is (PassMakes.reloads homes r _ are does told) =
-      let gave = reload_told m.function.name (layout_of m.function homes) r (sym is ∙ told) in record {
+      let gave = reload_told m.function.name m.combined (layout_of m.function homes) r (sym is ∙ told) in record {
         homes = homes;
         are = are;
         comes = subst (FunctionReloads forms homes (layout_of m.function homes) m.function) gave.0 does;
@@ -130,9 +137,9 @@ module _ (forms : List Entry) (m next : Made) where
     pub comes : FrameComes forms m.function m.layout (Ok next.function)
     pub layout_is : next.layout ≡ m.layout
 
-  pub frame_told : (r : Result Function PassRefusal) → ◌≡◌ {A = Answer} (Ok next) (told_for m.function.name m.layout Frame (plainly r)) →
+  pub frame_told : (r : Result Function PassRefusal) → ◌≡◌ {A = Answer} (Ok next) (told_for m.function.name m.combined m.layout Frame (plainly r)) →
       FrameComes forms m.function m.layout r → HasFrame
-  frame_told (Ok g) is comes = let same = ok_is next (record { function = g; layout = m.layout }) is in record {
+  frame_told (Ok g) is comes = let same = ok_is next (record { function = g; combined = m.combined; layout = m.layout }) is in record {
     comes = subst (λ (g : Function). FrameComes forms m.function m.layout (Ok g)) (sym (ap (λ (n : Made). n.function) same)) comes;
     layout_is = ap (λ (n : Made). n.layout) same;
   }

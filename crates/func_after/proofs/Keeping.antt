@@ -4,7 +4,7 @@ use Rattle.std.specs.List.{AllByRecursion}
 use Rattle.rtx_tree.specs.Limit.{most_frame}
 use Rattle.rtx_tree.specs.declared.function.Function.{Function}
 use Rattle.pass_name.specs.declared.pass.Pass.{Pass}
-use Rattle.pass_name.specs.declared.pass.Pass.TheVariants.{Read, Lower, Split1, Reload, Frame, Split2}
+use Rattle.pass_name.specs.declared.pass.Pass.TheVariants.{Read, Lower, Combine, Split1, Reload, Frame, Split2}
 use Rattle.rv_text.specs.declared.line.CodeItem.{CodeItem}
 use Rattle.md_forms.specs.declared.form.Entry.{Entry}
 use Rattle.md_forms.specs.Forms.{forms_of}
@@ -17,6 +17,7 @@ use Rattle.pass_refusal.specs.declared.refusal.PassRefusal.{PassRefusal}
 use Rattle.law_passes.specs.law_insn_replaced.Sound.{IsSound, PassKeeps}
 use Rattle.law_passes.proofs.law_insn_replaced.Keeping.{kept_refl, kept_trans}
 use Rattle.lower.proofs.Kept.{lower_kept}
+use Rattle.combine.proofs.Kept.{steps_kept}
 use Rattle.split.specs.Split.{SplitComes}
 use Rattle.split.proofs.Sound.{split_kept, split_does}
 use Rattle.reload.specs.law_frame.law_window_replaced.law_window_kept.law_function_kept.Keeps.{Keeps}
@@ -38,7 +39,7 @@ use Rattle.func_after.specs.declared.made.Made.{Made}
 use Rattle.func_after.specs.declared.change.Change.{Change}
 use Rattle.func_after.specs.After.{as_read, before_homes, behind_frame, ChangeComes, AfterComes}
 use Rattle.func_after.specs.Leads.{IsDescribed, LeadsToLines}
-use Rattle.func_after.proofs.Changes.{read_by, lower_by, split_by, again_by, changes_of}
+use Rattle.func_after.proofs.Changes.{read_by, lower_by, combine_by, split_by, again_by, changes_of}
 use Rattle.func_after.proofs.Passing.{PassHolds, all_hold}
 use Rattle.func_after.proofs.Stages.{Stages, stages_of}
 
@@ -69,7 +70,8 @@ module _ (forms : List Entry) where
   before_by : (pass : Pass) → (pass ≡ Reload → ⊥) → (pass ≡ Frame → ⊥) →
       ((f : Function) (c : Change) → IsSound f → ChangeComes forms f pass (Ok c) → PassKeeps f c.function) → Before pass
   before_by pass other else keeps m n comes sound =
-      keeps m.function (record { function = n.function }) sound (changes_of forms m n pass other else comes).comes
+      let changes = changes_of forms m n pass other else comes in
+      keeps m.function (record { function = n.function; combined = changes.combined }) sound changes.comes
 
   read_keeps : Before Read
   read_keeps = before_by Read (λ is. cc) (λ is. cc) (λ f c sound comes. subst (PassKeeps f) (read_by forms f c (Ok c) refl comes) (kept_refl f sound))
@@ -77,12 +79,15 @@ module _ (forms : List Entry) where
   lower_keeps : Before Lower
   lower_keeps = before_by Lower (λ is. cc) (λ is. cc) (λ f c sound comes. lower_kept forms f c.function sound (lower_by forms f c (Ok c) refl comes))
 
+  combine_keeps : Before Combine
+  combine_keeps = before_by Combine (λ is. cc) (λ is. cc) (λ f c sound comes. steps_kept forms c.combined f c.function sound (combine_by forms f c (Ok c) refl comes).0)
+
   split_keeps : Before Split1
   split_keeps = before_by Split1 (λ is. cc) (λ is. cc) (λ f c sound comes. split_kept forms f c.function sound (split_by forms f c (Ok c) refl comes))
 
   -- each of them keeps a sound function
   before_keeps : AllByRecursion Before before_homes
-  before_keeps = (read_keeps, (lower_keeps, (split_keeps, tt)))
+  before_keeps = (read_keeps, (lower_keeps, (combine_keeps, (split_keeps, tt))))
 
 -- ---- those behind the frame
 
@@ -114,7 +119,7 @@ module _ (forms : List Entry) where
       ((f : Function) (c : Change) → ArePlaced f → ChangeComes forms f pass (Ok c) → Keeps f c.function × ArePlaced c.function) → Behind pass
   behind_by pass other else keeps m n comes placed =
       let changes = changes_of forms m n pass other else comes in
-      let kept = keeps m.function (record { function = n.function }) placed changes.comes in
+      let kept = keeps m.function (record { function = n.function; combined = changes.combined }) placed changes.comes in
       record { keeps = kept.0; placed = kept.1; layout_is = changes.layout_is }
 
   again_does : (f g : Function) → ArePlaced f → SplitComes forms Split2 f (Ok g) → Keeps f g × ArePlaced g
@@ -159,8 +164,8 @@ module _ (forms : List Entry) (f : Function) (m : Made) (sound : IsSound f) (s :
   keeps : KeepsInFrame s.moved layout s.framed
   keeps = frame_keeps forms s.moved s.framed layout laid (placed_registers s.moved moved_placed) s.frames
 
-  last : KeepsPlaced (record { function = s.framed; layout = layout }) m
-  last = all_hold forms KeptPlaced placed_same placed_joined behind_frame (record { function = s.framed; layout = layout }) m
+  last : KeepsPlaced (record { function = s.framed; combined = s.combined; layout = layout }) m
+  last = all_hold forms KeptPlaced placed_same placed_joined behind_frame (record { function = s.framed; combined = s.combined; layout = layout }) m
       (Ok m) refl (behind_keeps forms) s.behind framed_placed
 
   same_by : IsDescribed forms → (items : List CodeItem) → SameWhereLeft m.function items → Same layout.size f items

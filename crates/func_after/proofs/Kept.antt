@@ -6,6 +6,7 @@ use Rattle.pass_name.specs.declared.pass.Pass.TheVariants.{Split1, Split2}
 use Rattle.md_forms.specs.declared.form.Entry.{Entry}
 use Rattle.lower.specs.Lower.{LowerComes}
 use Rattle.lower.proofs.Kept.{lower_same}
+use Rattle.combine.proofs.Kept.{steps_same}
 use Rattle.split.specs.Split.{SplitComes}
 use Rattle.split.proofs.Kept.{same_marks}
 use Rattle.assign.specs.Frame.{layout_of}
@@ -21,21 +22,25 @@ use Rattle.func_after.proofs.Passing.{PassHolds, all_hold, every}
 module _ (forms : List Entry) where
   -- a line a pass
   change_name : (f : Function) (pass : Pass) (c : Change) (a : Changed) → a ≡ Ok c → ChangeComes forms f pass a → c.function.name ≡ f.name
-  change_name f _ c _ is ChangeComes.reads = let same : record { function = f } ≡ c = cc in sym (ap (λ (d : Change). d.function.name) same)
+  change_name f _ c _ is ChangeComes.reads = let same : record { function = f; combined = 0 } ≡ c = cc in sym (ap (λ (d : Change). d.function.name) same)
   change_name f _ c _ is (ChangeComes.lowers r comes) =
       (lower_same forms f c.function (subst (LowerComes forms f) (plain_is r c is) comes)).name_is
+  change_name f _ c _ is (ChangeComes.combines n g comes) =
+      let same : record { function = g; combined = n } ≡ c = cc in
+      sym (ap (λ (d : Change). d.function.name) same) ∙ (steps_same forms n f g comes.0).name_is
   change_name f _ c _ is (ChangeComes.splits_first r comes) =
       (same_marks forms Split1 f c.function (subst (SplitComes forms Split1 f) (plain_is r c is) comes)).name_is
   change_name f _ c _ is (ChangeComes.splits_again r comes) =
       (same_marks forms Split2 f c.function (subst (SplitComes forms Split2 f) (plain_is r c is) comes)).name_is
-  change_name f _ c _ is ChangeComes.writes = let same : record { function = f } ≡ c = cc in sym (ap (λ (d : Change). d.function.name) same)
+  change_name f _ c _ is ChangeComes.writes = let same : record { function = f; combined = 0 } ≡ c = cc in sym (ap (λ (d : Change). d.function.name) same)
 
   pass_name : (m n : Made) (pass : Pass) (a : Answer) → a ≡ Ok n → PassMakes forms m pass a → n.function.name ≡ m.function.name
   pass_name m n _ a is (PassMakes.changes pass c _ comes told) =
-      change_name m.function pass (record { function = n.function }) (Ok (record { function = n.function })) refl
-      (changed_by forms m n pass c (sym is ∙ told) comes).comes
+      let changes = changed_by forms m n pass c (sym is ∙ told) comes in
+      change_name m.function pass (record { function = n.function; combined = changes.combined })
+      (Ok (record { function = n.function; combined = changes.combined })) refl changes.comes
   pass_name m n _ a is (PassMakes.reloads homes r _ are does told) =
-      let gave = reload_told forms m n m.function.name (layout_of m.function homes) r (sym is ∙ told) in
+      let gave = reload_told forms m n m.function.name m.combined (layout_of m.function homes) r (sym is ∙ told) in
       (reload_marks forms homes (layout_of m.function homes) m.function n.function
       (subst (FunctionReloads forms homes (layout_of m.function homes) m.function) gave.0 does)).name_is
   pass_name m n _ a is (PassMakes.frames r _ comes told) =

@@ -1,5 +1,5 @@
 -- What passes make of a function is one answer.
-use Rattle.std.proofs.Common.{◌≡◌, arith, List, Ok, Err, refl, sym, ap, subst, ◌∙◌}
+use Rattle.std.proofs.Common.{◌≡◌, ℕ, arith, List, Ok, Err, refl, sym, ap, subst, ◌∙◌}
 use Rattle.rtx_tree.specs.declared.function.Function.{Function}
 use Rattle.rtx_tree.specs.declared.limit.Limit.TheVariants.{Instructions}
 use Rattle.run_refusal.specs.declared.refusal.Refusal.TheVariants as refusal
@@ -7,6 +7,7 @@ use Rattle.md_forms.specs.declared.form.Entry.{Entry}
 use Rattle.pass_name.specs.declared.pass.Pass.{Pass}
 use Rattle.pass_name.specs.declared.pass.Pass.TheVariants.{Split1, Frame, Split2}
 use Rattle.lower.proofs.OneLower.{lower_one}
+use Rattle.combine.proofs.One.{combined_one}
 use Rattle.split.proofs.One.{one_split}
 use Rattle.assign.specs.Frame.{layout_of}
 use Rattle.assign.specs.declared.home.HomeOf.{HomeOf}
@@ -18,32 +19,40 @@ use Rattle.func_after.specs.declared.made.Made.{Made}
 use Rattle.func_after.specs.After.{Answer, Changed, plainly, told_for, told_reloaded, as_read, up_to, all_passes, count_of, ChangeComes, PassMakes, PassComes, PassesCome, IsBehind, AfterComes}
 use Rattle.func_after.proofs.Changes.{ok_is, apart, no_reload, no_frame}
 
+abbrev combining : ℕ → Function → Changed
+combining n g = Ok (record { function = g; combined = n })
+
+same_combining : (n k : ℕ) (g h : Function) → n ≡ k → g ≡ h → combining n g ≡ combining k h
+same_combining n k g h count function = λ i. combining (count i) (function i)
+
 module _ (forms : List Entry) where
   -- a line a pass
   change_one : (f : Function) (pass : Pass) (a b : Changed) → ChangeComes forms f pass a → ChangeComes forms f pass b → a ≡ b
   change_one f _ _ _ ChangeComes.reads ChangeComes.reads = refl
   change_one f _ _ _ (ChangeComes.lowers r does) (ChangeComes.lowers s does') = ap plainly (lower_one forms f r s does does')
+  change_one f _ _ _ (ChangeComes.combines n g does) (ChangeComes.combines k h does') =
+      let same = combined_one forms n k f g h does does' in same_combining n k g h same.0 same.1
   change_one f _ _ _ (ChangeComes.splits_first r does) (ChangeComes.splits_first s does') = ap plainly (one_split forms Split1 f r s does does')
   change_one f _ _ _ (ChangeComes.splits_again r does) (ChangeComes.splits_again s does') = ap plainly (one_split forms Split2 f r s does does')
   change_one f _ _ _ ChangeComes.writes ChangeComes.writes = refl
 
   makes_one : (m : Made) (pass : Pass) (a b : Answer) → PassMakes forms m pass a → PassMakes forms m pass b → a ≡ b
   makes_one m _ _ _ (PassMakes.changes pass c a comes is) (PassMakes.changes _ d b comes' is') =
-      is ∙ ap (told_for m.function.name m.layout pass) (change_one m.function pass c d comes comes') ∙ sym is'
+      is ∙ ap (told_for m.function.name m.combined m.layout pass) (change_one m.function pass c d comes comes') ∙ sym is'
   makes_one m _ _ _ (PassMakes.changes _ c a comes is) (PassMakes.reloads homes s b are does is') = no_reload forms m.function c comes
   makes_one m _ _ _ (PassMakes.changes _ c a comes is) (PassMakes.frames s b does is') = no_frame forms m.function c comes
   makes_one m _ _ _ (PassMakes.reloads homes r a are does is) (PassMakes.changes _ d b comes is') = no_reload forms m.function d comes
   makes_one m _ _ _ (PassMakes.reloads homes r a are does is) (PassMakes.reloads homes' s b are' does' is') =
       let same : homes ≡ homes' = only m.function homes homes' are are' in
       is
-      ∙ ap (told_reloaded m.function.name (layout_of m.function homes))
+      ∙ ap (told_reloaded m.function.name m.combined (layout_of m.function homes))
       (reload_one forms homes (layout_of m.function homes) m.function r s does
       (subst (λ (h : List HomeOf). FunctionReloads forms h (layout_of m.function h) m.function s) (sym same) does'))
-      ∙ ap (λ (h : List HomeOf). told_reloaded m.function.name (layout_of m.function h) s) same
+      ∙ ap (λ (h : List HomeOf). told_reloaded m.function.name m.combined (layout_of m.function h) s) same
       ∙ sym is'
   makes_one m _ _ _ (PassMakes.frames r a does is) (PassMakes.changes _ d b comes is') = no_frame forms m.function d comes
   makes_one m _ _ _ (PassMakes.frames r a does is) (PassMakes.frames s b does' is') =
-      is ∙ ap (λ r. told_for m.function.name m.layout Frame (plainly r)) (frame_one forms m.function m.layout r s does does') ∙ sym is'
+      is ∙ ap (λ r. told_for m.function.name m.combined m.layout Frame (plainly r)) (frame_one forms m.function m.layout r s does does') ∙ sym is'
 
   -- what it makes is refused for what it refuses, or for its length, or is given
   pass_one : (m : Made) (pass : Pass) (a b : Answer) → PassComes forms m pass a → PassComes forms m pass b → a ≡ b

@@ -42,7 +42,7 @@ told_reloaded name (reloading.Unsatisfied uid form insn) P Q follows r = follows
 
 module _ (forms : List Entry) (m : Made) where
   abbrev told : Pass → Changed → Answer
-  told pass c = spec.told_for m.function.name m.layout pass c
+  told pass c = spec.told_for m.function.name m.combined m.layout pass c
 
   -- ---- passes that change the function alone
 
@@ -53,18 +53,18 @@ module _ (forms : List Entry) (m : Made) where
 
   -- by the name that was kept
   pub change_told : (pass at : Pass) (name : List ℕ) (c : Changed) (answer : Answer) → at ≡ pass → name ≡ m.function.name →
-      answer ≡ spec.told_for name m.layout at c → outcome.Gives c (ChangeComes forms m.function pass) → Gives answer (PassMakes forms m at)
+      answer ≡ spec.told_for name m.combined m.layout at c → outcome.Gives c (ChangeComes forms m.function pass) → Gives answer (PassMakes forms m at)
   change_told pass at name c answer here named is gives =
       subst (λ (a : Answer). Gives a (PassMakes forms m at))
-      (sym (is ∙ ap (λ (n : List ℕ). spec.told_for n m.layout at c) named))
+      (sym (is ∙ ap (λ (n : List ℕ). spec.told_for n m.combined m.layout at c) named))
       (subst (λ (p : Pass). Gives (told p c) (PassMakes forms m p)) (sym here) (change_gives pass c gives))
 
   -- reading and writing leave what was made
   pub rest_gave : (pass : Pass) → (pass ≡ Read) ⊎ (pass ≡ Output) → PassMakes forms m pass (Ok m)
   rest_gave pass (inl is) = subst (λ p. PassMakes forms m p (Ok m)) (sym is)
-      (PassMakes.changes Read (Ok (record { function = m.function })) (Ok m) ChangeComes.reads refl)
+      (PassMakes.changes Read (Ok (record { function = m.function; combined = 0 })) (Ok m) ChangeComes.reads refl)
   rest_gave pass (inr is) = subst (λ p. PassMakes forms m p (Ok m)) (sym is)
-      (PassMakes.changes Output (Ok (record { function = m.function })) (Ok m) ChangeComes.writes refl)
+      (PassMakes.changes Output (Ok (record { function = m.function; combined = 0 })) (Ok m) ChangeComes.writes refl)
 
   -- ---- the frame
 
@@ -75,20 +75,20 @@ module _ (forms : List Entry) (m : Made) where
       (λ e comes. PassMakes.frames (Err e) (told Frame (plainly (Err e))) comes refl) comes
 
   pub frame_told : (name : List ℕ) (r : Result Function PassRefusal) (c : Changed) (answer : Answer) → name ≡ m.function.name → c ≡ plainly r →
-      answer ≡ spec.told_for name m.layout Frame c → outcome.Gives r (FrameComes forms m.function m.layout) → Gives answer (PassMakes forms m Frame)
+      answer ≡ spec.told_for name m.combined m.layout Frame c → outcome.Gives r (FrameComes forms m.function m.layout) → Gives answer (PassMakes forms m Frame)
   frame_told name r c answer named made is gives =
       subst (λ (a : Answer). Gives a (PassMakes forms m Frame))
-      (sym (is ∙ ap (λ (c : Changed). spec.told_for name m.layout Frame c) made ∙ ap (λ (n : List ℕ). spec.told_for n m.layout Frame (plainly r)) named))
+      (sym (is ∙ ap (λ (c : Changed). spec.told_for name m.combined m.layout Frame c) made ∙ ap (λ (n : List ℕ). spec.told_for n m.combined m.layout Frame (plainly r)) named))
       (frame_gives r gives)
 
   -- ---- homes
 
   module _ (homes : List HomeOf) (layout : Layout) (layout_is : layout ≡ layout_of m.function homes) (are : AreHomes m.function homes) where
     pub reload_gave : (g : Function) → FunctionReloads forms homes layout m.function (Ok g) →
-        PassMakes forms m Reload (Ok (record { function = g; layout = layout }))
-    reload_gave g gave = PassMakes.reloads homes (Ok g) (Ok (record { function = g; layout = layout })) are
+        PassMakes forms m Reload (Ok (record { function = g; combined = m.combined; layout = layout }))
+    reload_gave g gave = PassMakes.reloads homes (Ok g) (Ok (record { function = g; combined = m.combined; layout = layout })) are
         (subst (λ (l : Layout). FunctionReloads forms homes l m.function (Ok g)) layout_is gave)
-        (ap (λ (l : Layout). Ok (record { function = g; layout = l })) layout_is)
+        (ap (λ (l : Layout). Ok (record { function = g; combined = m.combined; layout = l })) layout_is)
 
     pub reload_refused : (e : ReloadRefusal) → reloads.RefusesAs e (λ e. FunctionReloads forms homes layout m.function (Err e)) →
         RefusesWith (unreloaded_for m.function.name e) (PassMakes forms m Reload)

@@ -1,5 +1,5 @@
 -- What stands between the passes, from what comes of all of them.
-use Rattle.std.proofs.Common.{List, ◌∷◌, Ok, subst, ◌∙◌}
+use Rattle.std.proofs.Common.{ℕ, List, ◌∷◌, Ok, subst, ◌∙◌}
 use Rattle.rtx_tree.specs.declared.function.Function.{Function}
 use Rattle.pass_name.specs.declared.pass.Pass.TheVariants.{Reload, Frame}
 use Rattle.md_forms.specs.declared.form.Entry.{Entry}
@@ -20,11 +20,12 @@ pub record Stages (forms : List Entry) (f : Function) (last : Made) : Type 0 whe
   pub homes : List HomeOf
   pub moved : Function
   pub framed : Function
+  pub combined : ℕ
   pub before : PassesCome forms before_homes (as_read f) (Ok plain)
   pub are : AreHomes plain.function homes
   pub reloads : FunctionReloads forms homes (layout_of plain.function homes) plain.function (Ok moved)
   pub frames : FrameComes forms moved (layout_of plain.function homes) (Ok framed)
-  pub behind : PassesCome forms behind_frame (record { function = framed; layout = layout_of plain.function homes }) (Ok last)
+  pub behind : PassesCome forms behind_frame (record { function = framed; combined = combined; layout = layout_of plain.function homes }) (Ok last)
 
 pub stages_of : (forms : List Entry) (f : Function) (last : Made) → AfterComes forms f (Ok last) → Stages forms f last
 stages_of forms f last comes =
@@ -37,10 +38,11 @@ stages_of forms f last comes =
       homes = reload.homes;
       moved = homed.next.function;
       framed = framed.next.function;
+      combined = framed.next.combined;
       before = front.first;
       are = reload.are;
       reloads = reload.comes;
       frames = subst (λ (l : Layout). FrameComes forms homed.next.function l (Ok framed.next.function)) reload.layout_is frame.comes;
-      behind = subst (λ (l : Layout). PassesCome forms behind_frame (record { function = framed.next.function; layout = l }) (Ok last))
+      behind = subst (λ (l : Layout). PassesCome forms behind_frame (record { function = framed.next.function; combined = framed.next.combined; layout = l }) (Ok last))
           (frame.layout_is ∙ reload.layout_is) framed.rest;
     }

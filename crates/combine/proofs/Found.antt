@@ -19,7 +19,8 @@ use Rattle.insn_fuse.proofs.Standing.{stands}
 use Rattle.md_forms.specs.declared.form.Entry.{Entry}
 use Rattle.md_desc.specs.Recog.{NoneMatches}
 use Rattle.law_window_put.specs.Put.{IsPut}
-use Rattle.combine.specs.Combine.{fused_window, levels, most_combined, passes, PassesBetween, Links, IsDeadBehind, IsFormed, Makes, Combines}
+use Rattle.rtx_tree.specs.Limit.{most_apart, most_combined}
+use Rattle.combine.specs.Combine.{fused_window, levels, passes, PassesBetween, Links, IsDeadBehind, IsFormed, Makes, Combines}
 use Rattle.combine.specs.machine.Found.{Linked, Made, Compared, PutBetween, Tried}
 use Rattle.combine.proofs.One.{some_one, register_one, path_one, made_one}
 
@@ -134,7 +135,7 @@ module _ (forms : List Entry) (f : Function) (first second : ℕ) where
     pub none_made : Made forms f first second path None → Tried forms f first second None
     none_made none x c = none x (makes_too x c)
 
-    pub put_tried : (x : Rtx) (end : ℕ) (o : Option (List Insn)) → first < second → second ≤ first + 16 → IsDeadBehind f register second → Makes forms f first second path x → end ≡ second + 1 → PutBetween f first end x o → Tried forms f first second o
+    pub put_tried : (x : Rtx) (end : ℕ) (o : Option (List Insn)) → first < second → second ≤ first + most_apart → IsDeadBehind f register second → Makes forms f first second path x → end ≡ second + 1 → PutBetween f first end x o → Tried forms f first second o
     put_tried x end None before near dead makes is none = λ y c.
         let same = made_one forms f first second path y x (makes_too y c) makes in
         none (subst (λ n. IsPut f first n (fused_window x (window f first n))) (sym is) (subst (λ z. IsPut f first (second + 1) (fused_window z (window f first (second + 1)))) same c.put))
@@ -166,7 +167,7 @@ put_made f g h first end x live old r same too order within are small is =
     ok_map r (Compared old x live) (PutBetween f first end x)
     (λ o. put_compared f first end x live old o order within are small (is ∙ ap (λ k. window k first end) (too ∙ same)))
 
-pub tried_made : {E : Type 0} (forms : List Entry) (f g : Function) (first second register : ℕ) (path : List ℕ) (x : Rtx) (end : ℕ) (r : Result (Option (List Insn)) E) → g ≡ f → Links f first second register path → first < second → second ≤ first + 16 →
+pub tried_made : {E : Type 0} (forms : List Entry) (f g : Function) (first second register : ℕ) (path : List ℕ) (x : Rtx) (end : ℕ) (r : Result (Option (List Insn)) E) → g ≡ f → Links f first second register path → first < second → second ≤ first + most_apart →
     IsDeadBehind f register second → Makes forms g first second path x → end ≡ second + 1 → IfOk r (PutBetween g first end x) → IfOk r (Tried forms f first second)
 tried_made forms f g first second register path x end r same links before near dead makes is =
     ok_map r (PutBetween g first end x) (Tried forms f first second)

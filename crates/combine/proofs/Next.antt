@@ -5,6 +5,7 @@ use Rattle.std.proofs.lemmas.Option.{slice_get_within}
 use Rattle.rtx_tree.specs.declared.tree.Rtx.{Rtx}
 use Rattle.rtx_tree.specs.declared.function.Insn.{Insn}
 use Rattle.rtx_tree.specs.declared.function.Function.{Function}
+use Rattle.rtx_tree.specs.Limit.{most_apart}
 use Rattle.live_chain.specs.Stays.{StaysBefore}
 use Rattle.new_insns.specs.Replaced.{replaced}
 use Rattle.md_forms.specs.declared.form.Entry.{Entry}
@@ -26,7 +27,7 @@ module _ (forms : List Entry) (f : Function) (second : ℕ) where
       (λ (behind : first ≤ i). none i x behind c)
       (cases_lt i first)
 
-  pub none_at_all : (first : ℕ) → NoneFrom forms f second first → first ≤ second - 16 → LastPair forms f second None
+  pub none_at_all : (first : ℕ) → NoneFrom forms f second first → first ≤ second - most_apart → LastPair forms f second None
   none_at_all first none near i x from c = ⊎_elim
       (λ (before : i < first). let apart = c.near in absurd (omega (arith, before, near, apart)))
       (λ (behind : first ≤ i). none i x behind c)

@@ -8,6 +8,7 @@ use Rattle.rtx_tree.specs.declared.function.Kind.{Kind}
 use Rattle.rtx_tree.specs.declared.function.Kind.TheVariants.{Plain, Barrier}
 use Rattle.rtx_tree.specs.declared.function.Insn.{Insn}
 use Rattle.rtx_tree.specs.declared.function.Function.{Function}
+use Rattle.rtx_tree.specs.Limit.{most_apart, most_combined}
 use Rattle.rtx_tree.specs.Patterns.{with_pattern}
 use Rattle.rtx_tree.specs.Tree.{kids_of}
 use Rattle.reg_uses.specs.Uses.{insn_uses, insn_defines}
@@ -46,10 +47,6 @@ deepest (n ∷ ns) = max n (deepest ns)
 -- the expressions of a tree that stand within each other
 unfoldable pub levels : Rtx → ℕ
 levels = fold-Rtx ℕ (λ x. suc (deepest x.kids))
-
--- a text is read 200 levels deep, of which the instruction around a pattern takes some
-abbrev pub most_combined : ℕ
-most_combined = 195
 
 -- ---- two that are linked
 
@@ -112,7 +109,7 @@ pub record Makes (forms : List Entry) (f : Function) (first second : ℕ) (path 
 -- two instructions of a function can be combined into one with this pattern
 pub record Combines (forms : List Entry) (f : Function) (first second : ℕ) (x : Rtx) : Type 0 where
   pub before : first < second
-  pub near : second ≤ first + 16
+  pub near : second ≤ first + most_apart
   pub register : ℕ
   pub path : List ℕ
   pub links : Links f first second register path

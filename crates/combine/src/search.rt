@@ -1,5 +1,6 @@
 //! The pair that is next.
 ghost use Rattle.std.specs.Prelude.{◌≡◌, ◌<◌, ◌≤◌, ◌+◌, length, IfOk};
+ghost use Rattle.rtx_tree.specs.Limit.{most_apart};
 ghost use Rattle.combine.specs.Combine as spec;
 ghost use Rattle.combine.specs.machine.Found as found;
 
@@ -9,11 +10,8 @@ use crate::window::put_between;
 use live_chain::LiveChain;
 use md_desc::Description;
 use plain_data::Memory;
-use rtx_tree::Insns;
+use rtx_tree::{Insns, MOST_APART};
 use std::alloc::Global;
-
-/// So far in front of the second of a pair its first may stand.
-const MOST_APART: u32 = 16;
 
 /// A pair, and what is to stand in the place of its window.
 #[derive(Drop)]
@@ -46,7 +44,7 @@ fn tried(
     second: u32,
 ) -> Result<Option<Insns>, Memory>
     requires order { first < second }
-    requires near { second ≤ first + 16 }
+    requires near { second ≤ first + most_apart }
     requires within { second < length chain.old.insns }
     ensures pair { IfOk result (found.Tried desc.now chain.old first second) }
     ensures same { chain.new ≡ chain.old }

@@ -1,6 +1,5 @@
 //! The window of a pair, compared with what is to stand in its place.
 ghost use Rattle.std.specs.Prelude.{◌≡◌, ◌<◌, ◌≤◌, ◌^◌, true, false, length, IfOk};
-ghost use Rattle.rtx_tree.specs.Patterns as patterns;
 ghost use Rattle.equate.specs.Side as sides;
 ghost use Rattle.equate.specs.Views.{side_of};
 ghost use Rattle.equate.specs.Equated.{Equated};
@@ -10,43 +9,9 @@ ghost use Rattle.combine.specs.machine.Found as found;
 use equate::{Side, Verdict, equate};
 use live_chain::LiveChain;
 use plain_data::{Items, Memory};
-use rtx_tree::{ArgUse, ArgUses, Insn, Insns, RegSet, Rtx};
+use rtx_tree::{Insn, Insns, RegSet, Rtx, copy_insns};
 use std::alloc::Global;
 use sym_term::TermRefusal;
-
-fn copy_uses(alloc: Global, uses: &[ArgUse]) -> Result<ArgUses, Memory>
-    ensures { IfOk result (λ copies. copies ≡ uses.now) }
-{
-    Items::from_slice(alloc, uses)
-}
-
-/// An instruction with another pattern.
-fn with_pattern(alloc: Global, insn: &Insn, pattern: Rtx) -> Result<Insn, Memory>
-    ensures { IfOk result (λ other. other ≡ patterns.with_pattern insn.now pattern) }
-{
-    Ok(Insn {
-        uid: insn.uid,
-        kind: insn.kind,
-        pattern,
-        uses: copy_uses(alloc, insn.uses.as_slice())?,
-    })
-}
-
-fn copy_insn(alloc: Global, insn: &Insn) -> Result<Insn, Memory>
-    ensures { IfOk result (λ copy. copy ≡ insn.now) }
-{
-    with_pattern(alloc, insn, insn.pattern.copy(alloc)?)
-}
-
-fn copy_insns(alloc: Global, insns: &[Insn]) -> Result<Insns, Memory>
-    ensures { IfOk result (λ copies. copies ≡ insns.now) }
-{
-    let mut copies = Items::new(alloc);
-    for insn in insns {
-        copies.push(copy_insn(alloc, insn)?)?;
-    }
-    Ok(copies)
-}
 
 /// Instructions with a pattern in the last.
 fn with_last(alloc: Global, insns: &[Insn], x: Rtx) -> Result<Insns, Memory>
@@ -56,7 +21,7 @@ fn with_last(alloc: Global, insns: &[Insn], x: Rtx) -> Result<Insns, Memory>
         return Ok(Items::new(alloc));
     };
     let mut new = copy_insns(alloc, before)?;
-    new.push(with_pattern(alloc, last, x)?)?;
+    new.push(last.with(alloc, x)?)?;
     Ok(new)
 }
 

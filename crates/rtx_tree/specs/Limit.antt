@@ -1,7 +1,7 @@
 -- The limits: their names, as messages write them, and their numbers.
 use Rattle.std.specs.Prelude.{ℕ, List, codes}
 use Rattle.rtx_tree.specs.declared.limit.Limit.{Limit}
-use Rattle.rtx_tree.specs.declared.limit.Limit.TheVariants.{Text, Depth, Include, Forms, Instructions, Pseudos, SplitDepth, TermSize, Frame, Output}
+use Rattle.rtx_tree.specs.declared.limit.Limit.TheVariants.{Text, Depth, Include, Forms, Instructions, Pseudos, SplitDepth, TermSize, Frame, Output, Image}
 
 -- the name of a limit
 abbrev pub limit_name : Limit → List ℕ
@@ -15,6 +15,7 @@ limit_name SplitDepth = codes "SplitDepth"
 limit_name TermSize = codes "TermSize"
 limit_name Frame = codes "Frame"
 limit_name Output = codes "Output"
+limit_name Image = codes "Image"
 
 -- ---- what is read
 
@@ -69,3 +70,18 @@ most_frame = 1048560
 -- Output: the bytes of an assembly; 256 MiB
 abbrev pub most_output : ℕ
 most_output = 268435456
+
+-- Image: the bytes of the words of an image; the greatest multiple of 4 below 2 ^ 20
+abbrev pub most_image : ℕ
+most_image = 1048572
+
+-- ---- what is only tried, and refused by no name
+
+-- the places from the first to the second of two instructions that are combined
+abbrev pub most_apart : ℕ
+most_apart = 16
+
+-- the expressions of a combined pattern within each other: a text is read 200 levels deep, of which
+-- the instruction around a pattern takes some
+abbrev pub most_combined : ℕ
+most_combined = 195

@@ -1,6 +1,5 @@
 //! Named numbers of a description.
 use crate::name::Name;
-use plain_data::Items;
 
 /// A name that stands for a number.
 #[derive(Drop)]
@@ -10,6 +9,3 @@ pub struct Constant {
     /// The number for which the name stands.
     pub number: i64,
 }
-
-/// Named numbers, in order.
-pub type Constants = Items<Constant>;

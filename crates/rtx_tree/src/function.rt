@@ -1,11 +1,11 @@
 //! Functions of RTL: chains of instructions.
-ghost use Rattle.std.specs.Prelude.{◌≡◌, ◌<◌, IfSome, length};
+ghost use Rattle.std.specs.Prelude.{◌≡◌, ◌<◌, IfOk, IfSome, length};
 ghost use Rattle.rtx_tree.specs.Patterns as spec;
 
 use crate::code::Mode;
 use crate::name::Name;
 use crate::tree::Rtx;
-use plain_data::Items;
+use plain_data::{Items, Memory};
 use std::alloc::Global;
 
 /// What stands in a place of a function's chain.
@@ -73,6 +73,36 @@ impl Insn {
     {
         self.pattern = pattern;
     }
+
+    /// An instruction like this one, with another pattern.
+    pub fn with(&self, alloc: Global, pattern: Rtx) -> Result<Insn, Memory>
+        ensures { IfOk result (λ other. other ≡ spec.with_pattern self.now pattern) }
+    {
+        Ok(Insn {
+            uid: self.uid,
+            kind: self.kind,
+            pattern,
+            uses: Items::from_slice(alloc, self.uses.as_slice())?,
+        })
+    }
+
+    /// A copy of the instruction.
+    pub fn copy(&self, alloc: Global) -> Result<Insn, Memory>
+        ensures { IfOk result (λ copy. copy ≡ self.now) }
+    {
+        self.with(alloc, self.pattern.copy(alloc)?)
+    }
+}
+
+/// Copies of instructions, in order.
+pub fn copy_insns(alloc: Global, insns: &[Insn]) -> Result<Insns, Memory>
+    ensures { IfOk result (λ copies. copies ≡ insns.now) }
+{
+    let mut copies = Items::new(alloc);
+    for insn in insns {
+        copies.push(insn.copy(alloc)?)?;
+    }
+    Ok(copies)
 }
 
 impl Function {
@@ -87,6 +117,19 @@ impl Function {
             result: None,
             result_reg: 10,
         }
+    }
+
+    /// A copy of the function.
+    pub fn copy(&self, alloc: Global) -> Result<Function, Memory>
+        ensures { IfOk result (λ copy. copy ≡ self.now) }
+    {
+        Ok(Function {
+            name: self.name.copy(alloc)?,
+            insns: copy_insns(alloc, self.insns.as_slice())?,
+            locals: self.locals,
+            result: self.result,
+            result_reg: self.result_reg,
+        })
     }
 }
 

@@ -27,13 +27,14 @@ mod tree;
 
 pub use class::{Class, HeadMode, Parts};
 pub use code::{Code, Mode};
-pub use constants::{Constant, Constants};
+pub use constants::Constant;
 pub use function::{
-    ArgUse, ArgUses, Function, Functions, Insn, Insns, Kind, is_label, label_place,
+    ArgUse, ArgUses, Function, Functions, Insn, Insns, Kind, copy_insns, is_label, label_place,
 };
 pub use limit::{
-    Limit, MOST_BYTES, MOST_FORMS, MOST_FRAME, MOST_INSTRUCTIONS, MOST_LEVELS, MOST_MADE,
-    MOST_NODES, MOST_OPEN, MOST_OUTPUT, MOST_PSEUDOS, MOST_SPLITS, MOST_WITHIN,
+    Limit, MOST_APART, MOST_BYTES, MOST_COMBINED, MOST_FORMS, MOST_FRAME, MOST_IMAGE,
+    MOST_INSTRUCTIONS, MOST_LEVELS, MOST_MADE, MOST_NODES, MOST_OPEN, MOST_OUTPUT, MOST_PSEUDOS,
+    MOST_SPLITS, MOST_WITHIN,
 };
 pub use machine::{ByteWrites, RangeAt, Ranges, Replies, Reply, Start, SymbolAt, Symbols, World};
 pub use memories::{MemByte, Memories};

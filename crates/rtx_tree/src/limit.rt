@@ -38,6 +38,15 @@ pub const MOST_FRAME: u64 = 1_048_560;
 /// `Output`: the bytes of an assembly; 256 MiB.
 pub const MOST_OUTPUT: usize = 268_435_456;
 
+/// `Image`: the bytes of the words of an image; the greatest multiple of 4 below 2^20.
+pub const MOST_IMAGE: u64 = 1_048_572;
+
+/// So many places lie between two instructions that are combined at most; no refusal names it.
+pub const MOST_APART: u32 = 16;
+
+/// So many expressions of a combined pattern stand within each other at most; no refusal names it.
+pub const MOST_COMBINED: u32 = 195;
+
 /// A quantity that has a limit.
 #[derive(Clone, Copy, Debug)]
 pub enum Limit {
@@ -61,6 +70,8 @@ pub enum Limit {
     Frame,
     /// Bytes of the text that is written.
     Output,
+    /// Bytes of an image.
+    Image,
 }
 
 impl Limit {
@@ -79,6 +90,7 @@ impl Limit {
             Limit::TermSize => "TermSize",
             Limit::Frame => "Frame",
             Limit::Output => "Output",
+            Limit::Image => "Image",
         }
     }
 

@@ -1,5 +1,5 @@
 use Rattle.std.proofs.Common.{◌≡◌, take}
-use Rattle.combine.proofs.window.copy_insns.Given as goal
+use Rattle.rtx_tree.proofs.function.copy_insns.Given as goal
 
 abbrev pub invariant-loop-insn : goal.invariant-loop-insn
 invariant-loop-insn l = l.copies ≡ take l.insn-index l.insns

@@ -1,5 +1,0 @@
-use Rattle.std.proofs.Common.{◌≡◌, take}
-use Rattle.func_after.proofs.made.copy_insns.Given as goal
-
-abbrev pub invariant-loop-insn : goal.invariant-loop-insn
-invariant-loop-insn l = l.copies ≡ take l.insn-index l.insns

@@ -1,12 +1,11 @@
 -- What is found of one pair.
 use Rattle.std.proofs.Common.{◌≡◌, ⊎_elim, ℕ, ◌+◌, ◌-◌, ◌<◌, ◌≤◌, true, false, List, [], ◌∷◌, length, Option, Some, None, sym, ap, subst, ◌∙◌, arith}
-use Rattle.std.specs.Prelude.{slice_get, IsSome, IfSome, IfOk, Result, Ok, Err, nat_le, ◌^◌}
+use Rattle.std.specs.Prelude.{slice_get, IsSome, IfSome, IfOk, Result, Ok, Err, nat_le}
 use Rattle.std.proofs.lemmas.Bool.{true≢false, cases_lt}
 use Rattle.std.proofs.lemmas.Bool.Decides.{nat_tests}
 use Rattle.rtx_tree.specs.declared.tree.Rtx.{Rtx}
 use Rattle.rtx_tree.specs.declared.function.Insn.{Insn}
 use Rattle.rtx_tree.specs.declared.function.Function.{Function}
-use Rattle.rtx_tree.specs.RegSet.{has_reg}
 use Rattle.rtx_tree.specs.Tree.{kids_of, part_at}
 use Rattle.live.specs.Live.{AreLiveAfter}
 use Rattle.live.proofs.LiveLists.{live_one}
@@ -109,13 +108,13 @@ module _ (forms : List Entry) (f : Function) (first second : ℕ) (path : List �
 
 -- ---- a window
 
-pub put_compared : (f : Function) (first end : ℕ) (x : Rtx) (live : List ℕ) (old : List Insn) (o : Option (List Insn)) → first < end → end ≤ length f.insns → AreLiveAfter f (end - 1) live → ((reg : ℕ) → has_reg live reg ≡ true → reg < 2 ^ 32) → old ≡ window f first end →
+pub put_compared : (f : Function) (first end : ℕ) (x : Rtx) (live : List ℕ) (old : List Insn) (o : Option (List Insn)) → first < end → end ≤ length f.insns → AreLiveAfter f (end - 1) live → old ≡ window f first end →
     Compared old x live o → PutBetween f first end x o
-put_compared f first end x live old None order within are small is none = λ put.
+put_compared f first end x live old None order within are is none = λ put.
     let lives = live_one f (end - 1) put.live live put.are are in
     none (subst (λ w. Equated w (Insns (fused_window x w)) live) (sym is) (subst (λ l. Equated (window f first end) (Insns (fused_window x (window f first end))) l) lives put.equated))
-put_compared f first end x live old (Some new) order within are small is both = (
-  record { order = order; within = within; live = live; are = are; small = small; equated = subst (λ w. Equated w (Insns (fused_window x w)) live) is both.0 },
+put_compared f first end x live old (Some new) order within are is both = (
+  record { order = order; within = within; live = live; are = are; equated = subst (λ w. Equated w (Insns (fused_window x w)) live) is both.0 },
   both.1 ∙ ap (fused_window x) is,
 )
 
@@ -162,10 +161,10 @@ ok_map (Err e) P Q step is = tt
 
 -- the chain is as it was
 pub put_made : {E : Type 0} (f g h : Function) (first end : ℕ) (x : Rtx) (live : List ℕ) (old : List Insn) (r : Result (Option (List Insn)) E) → g ≡ f → h ≡ g → first < end → end ≤ length f.insns → AreLiveAfter f (end - 1) live →
-    ((reg : ℕ) → has_reg live reg ≡ true → reg < 2 ^ 32) → old ≡ window h first end → IfOk r (Compared old x live) → IfOk r (PutBetween f first end x)
-put_made f g h first end x live old r same too order within are small is =
+    old ≡ window h first end → IfOk r (Compared old x live) → IfOk r (PutBetween f first end x)
+put_made f g h first end x live old r same too order within are is =
     ok_map r (Compared old x live) (PutBetween f first end x)
-    (λ o. put_compared f first end x live old o order within are small (is ∙ ap (λ k. window k first end) (too ∙ same)))
+    (λ o. put_compared f first end x live old o order within are (is ∙ ap (λ k. window k first end) (too ∙ same)))
 
 pub tried_made : {E : Type 0} (forms : List Entry) (f g : Function) (first second register : ℕ) (path : List ℕ) (x : Rtx) (end : ℕ) (r : Result (Option (List Insn)) E) → g ≡ f → Links f first second register path → first < second → second ≤ first + most_apart →
     IsDeadBehind f register second → Makes forms g first second path x → end ≡ second + 1 → IfOk r (PutBetween g first end x) → IfOk r (Tried forms f first second)

@@ -63,7 +63,6 @@ module _ (forms : List Entry) (f : Function) (first end : ℕ) (new : List Insn)
             (λ lives. (put.are.each reg).1 ((stays (b - 1) reg last).0 lives)),
           );
         };
-        small = put.small;
         equated = cc (same_window a b (omega (arith, order)) below, same, put.equated);
       }
 

@@ -1,7 +1,5 @@
 -- A function does what it did with a window replaced by what is equated with it.
-use Rattle.std.proofs.Common.{◌≡◌, ℕ, ◌-◌, ◌^◌, ◌<◌, ◌&&◌, true, List, nat_lt, ap, arith, ◌∙◌}
-use Rattle.std.proofs.lemmas.Bool.Decides.{nat_tests}
-use Rattle.rtx_tree.specs.RegSet.{has_reg}
+use Rattle.std.proofs.Common.{◌≡◌, ℕ, ◌-◌, true, List}
 use Rattle.rtx_tree.specs.declared.function.Insn.{Insn}
 use Rattle.rtx_tree.specs.declared.function.Function.{Function}
 use Rattle.live.specs.Live.{IsLiveAfter}
@@ -16,11 +14,7 @@ use Rattle.law_window_put.specs.Put.{IsPut}
 
 module _ (f : Function) (first end : ℕ) (new : List Insn) (put : IsPut f first end new) where
   compared : (reg : ℕ) → IsLiveAfter f reg (end - 1) → is_live put.live reg ≡ true
-  compared reg lives =
-      let has = (put.are.each reg).1 lives in
-      let below = put.small reg has in
-      let low : nat_lt reg (2 ^ 32) ≡ true = grind (arith, nat_tests, below) in
-      ap (λ b. b && has_reg put.live reg) low ∙ has
+  compared reg lives = (put.are.each reg).1 lives
 
   pub window_does : MarksAreEmpty f → RegistersAreNatural f → Keeps f (replaced f first end new)
   window_does marks natural =

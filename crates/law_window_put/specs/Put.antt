@@ -1,11 +1,10 @@
 -- Instructions in the place of a window of a function's chain with which they were compared over
 -- what is live behind it: GCC Internals, "Insns" and "Liveness information"; RISC-V ELF psABI,
 -- "Integer Calling Convention".
-use Rattle.std.specs.Prelude.{◌≡◌, ℕ, ◌-◌, ◌^◌, ◌<◌, ◌≤◌, true, false, List, length}
+use Rattle.std.specs.Prelude.{◌≡◌, ℕ, ◌-◌, ◌<◌, ◌≤◌, true, false, List, length}
 use Rattle.std.specs.List.{AllByRecursion}
 use Rattle.rtx_tree.specs.declared.function.Insn.{Insn}
 use Rattle.rtx_tree.specs.declared.function.Function.{Function}
-use Rattle.rtx_tree.specs.RegSet.{has_reg}
 use Rattle.rtl_step.specs.Step.{is_mark}
 use Rattle.rtl_func.specs.Calls.{argument_registers}
 use Rattle.live.specs.Live.{AreLiveAfter}
@@ -13,14 +12,12 @@ use Rattle.new_insns.specs.Replaced.{window}
 use Rattle.equate.specs.Side.{Insns}
 use Rattle.equate.specs.Equated.{Equated}
 
--- The window from one place up to another is equated with the instructions. What is live behind it
--- has numbers of 32 bits.
+-- the window from one place up to another is equated with the instructions
 pub record IsPut (f : Function) (first end : ℕ) (new : List Insn) : Type 0 where
   pub order : first < end
   pub within : end ≤ length f.insns
   pub live : List ℕ
   pub are : AreLiveAfter f (end - 1) live
-  pub small : (reg : ℕ) → has_reg live reg ≡ true → reg < 2 ^ 32
   pub equated : Equated (window f first end) (Insns new) live
 
 -- of the hard registers each instruction names a0 to a7 alone, and a call is handed these alone

@@ -66,6 +66,19 @@ count_in_place xs shown new place all old more i after at seen is_all is_old is_
     count_round is_instruction (take place xs) new (drop (place + 1) xs) ∙ ap (λ n. others + n) (sym is_more) in
     subst (λ g. IfSome after (λ n. n ≡ g)) (sym now) (step others was)
 
+-- the number with others in the place of a window
+pub count_in_window : (xs old new : List Insn) (first end all few more : ℕ) (after : Option ℕ) → first ≤ end → old ≡ slice_range xs first end →
+    all ≡ length (filter is_instruction xs) → few ≡ length (filter is_instruction old) → more ≡ length (filter is_instruction new) →
+    ((others : ℕ) → IfSome (Some all) (λ n. n ≡ others + few) → IfSome after (λ n. n ≡ others + more)) →
+    IfSome after (λ n. n ≡ length (filter is_instruction (take first xs ++ (new ++ drop end xs))))
+count_in_window xs old new first end all few more after order is_window is_all is_few is_more step =
+    let others = length (filter is_instruction (take first xs)) + length (filter is_instruction (drop end xs)) in
+    let was : all ≡ others + few =
+    is_all ∙ (ap (λ l. length (filter is_instruction l)) (window_parts xs first end order) ∙ (count_round is_instruction (take first xs) (slice_range xs first end) (drop end xs) ∙ ap (λ n. others + n) (sym (is_few ∙ ap (λ l. length (filter is_instruction l)) is_window)))) in
+    let now : length (filter is_instruction (take first xs ++ (new ++ drop end xs))) ≡ others + more =
+    count_round is_instruction (take first xs) new (drop end xs) ∙ ap (λ n. others + n) (sym is_more) in
+    subst (λ g. IfSome after (λ n. n ≡ g)) (sym now) (step others was)
+
 -- what is known of the number, where that of a window becomes another
 pub count_known : {X : Type 0} (p : X → Bool) (xs shown window new shown_new all : List X) (first end old more : ℕ) (before after : Option ℕ) → first ≤ end →
     shown ≡ xs → window ≡ slice_range shown first end → shown_new ≡ new → all ≡ take first xs ++ (new ++ drop end xs) →

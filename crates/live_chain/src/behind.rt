@@ -4,7 +4,7 @@ ghost use Rattle.std.specs.Prelude.{true, IfOk, OnOk, length};
 ghost use Rattle.reg_rows.specs.Row.{has};
 ghost use Rattle.rtx_tree.specs.declared.function.Function.{Function};
 ghost use Rattle.live_rows.specs.machine.Rows.{at_place};
-ghost use Rattle.live.specs.Live.{AreLiveRows, IsLiveAfter};
+ghost use Rattle.live.specs.Live.{AreLiveRows, IsLive, IsLiveAfter};
 
 use crate::leads::successors;
 use gap_list::GapList;
@@ -86,6 +86,13 @@ fn has_at(rows: &GapList<RegRow>, place: Option<u32>, reg: u32) -> bool
         Some(place) if (place as usize) < rows.len() => rows.item(place as usize).contains(reg),
         _ => false,
     }
+}
+
+/// Whether a register is live before a place, by the rows of what is live before each.
+pub fn is_before(rows: &GapList<RegRow>, place: u32, reg: u32) -> bool
+    ensures { (f : Function) → AreLiveRows f rows.now → (result ≡ true) ↔ IsLive f reg place }
+{
+    has_at(rows, Some(place), reg)
 }
 
 /// Whether the row of one of two places has a register.

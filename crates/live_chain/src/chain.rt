@@ -2,17 +2,17 @@
 ghost use Rattle.std.specs.Prelude.{◌≡◌, ◌↔◌, ◌+◌, ◌≤◌, ◌<◌, ◌^◌, ℕ, true, Some, length, slice_get};
 ghost use Rattle.std.specs.Prelude.{IfOk, IfSome, OnOk, OnErr};
 ghost use Rattle.rtx_tree.specs.RegSet.{has_reg};
-ghost use Rattle.live.specs.Live.{AreLiveAfter, AreLiveRows, IsLiveAfter};
+ghost use Rattle.live.specs.Live.{AreLiveAfter, AreLiveRows, IsLive, IsLiveAfter};
 ghost use Rattle.new_insns.specs.Replaced.{replaced, window};
 ghost use Rattle.live_chain.specs.Stays.{StaysBefore};
 ghost use Rattle.rtl_chain.specs.Counts as counts;
 ghost use Rattle.live_chain.specs.machine.Whole.{with_chain};
 
-use crate::behind::is_after;
+use crate::behind::{is_after, is_before};
 use crate::kept::{rows_inside, rows_joined};
 use crate::narrow::live_behind;
 use crate::numbers::{
-    count_after, count_beside, count_of, pseudo_after, pseudo_of, uid_after, uid_of,
+    count_after, count_around, count_beside, count_of, pseudo_after, pseudo_of, uid_after, uid_of,
 };
 use gap_list::GapList;
 use live::live_rows_of;
@@ -159,6 +159,24 @@ impl LiveChain {
         live
     }
 
+    /// Whether a register is live before a place.
+    ///
+    /// # Errors
+    ///
+    /// `Memory` where memory ran out.
+    pub fn is_live_before(&mut self, alloc: Global, place: u32, reg: u32) -> Result<bool, Memory>
+        ensures live { IfOk result (λ live. (live ≡ true) ↔ IsLive self.old reg place) }
+        ensures same { self.new ≡ self.old }
+    {
+        let rows = match self.rows.take() {
+            Some(rows) => rows,
+            None => rows_anew(alloc, &mut self.frame, &mut self.insns)?,
+        };
+        let live = is_before(&rows, place, reg);
+        self.rows = Some(rows);
+        Ok(live)
+    }
+
     /// The greatest uid of the chain, or 0 where there is none. It takes no memory.
     pub fn greatest_uid(&mut self) -> u32
         ensures uid { result ≡ counts.greatest_uid self.old.insns }
@@ -225,6 +243,31 @@ impl LiveChain {
     {
         let all = self.instruction_count()?;
         match count_beside(all, self.insn(place), new) {
+            Some(count) => Ok(count),
+            None => Err(Memory),
+        }
+    }
+
+    /// How many instructions the chain would have with others in the place of a window, that from
+    /// place `first` up to place `end`.
+    ///
+    /// # Errors
+    ///
+    /// `Memory` where so many have no number, or where memory ran out.
+    pub fn count_between(&mut self, first: u32, end: u32, new: &[Insn]) -> Result<usize, Memory>
+        requires order { first ≤ end }
+        requires within { end ≤ length self.old.insns }
+        ensures count { IfOk result (λ n. n
+            ≡ counts.instruction_count (replaced self.old first end new.now).insns) }
+        ensures same { self.new ≡ self.old }
+    {
+        let all = self.instruction_count()?;
+        self.insns.move_gap(end as usize)?;
+        // with the gap at its end the window stands in one piece
+        let Some(old) = self.insns.between(first as usize, end as usize) else {
+            return Err(Memory);
+        };
+        match count_around(all, old, new) {
             Some(count) => Ok(count),
             None => Err(Memory),
         }

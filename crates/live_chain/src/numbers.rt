@@ -1,5 +1,5 @@
 //! The numbers that are kept of a chain.
-ghost use Rattle.std.specs.Prelude.{◌≡◌, ◌+◌, ◌++◌, ℕ, List, max, true, Some, slice_get, take, drop, IfSome};
+ghost use Rattle.std.specs.Prelude.{◌≡◌, ◌≤◌, ◌+◌, ◌++◌, ℕ, List, max, true, Some, slice_get, slice_range, take, drop, IfSome};
 ghost use Rattle.rtx_tree.specs.declared.function.Insn.{Insn};
 ghost use Rattle.rtl_chain.specs.Counts as counts;
 
@@ -79,6 +79,16 @@ pub fn count_beside(all: usize, old: &Insn, new: &[Insn]) -> Option<usize>
         instruction_count(slice::from_ref(old)),
         instruction_count(new),
     )
+}
+
+/// How many instructions a chain has with others in the place of a window, by how many it has.
+pub fn count_around(all: usize, old: &[Insn], new: &[Insn]) -> Option<usize>
+    ensures { (xs : List Insn) (first end : ℕ) → first ≤ end → old.now ≡ slice_range xs first end →
+        all ≡ counts.instruction_count xs →
+        IfSome result (λ n. n
+        ≡ counts.instruction_count (take first xs ++ (new.now ++ drop end xs))) }
+{
+    count_after(Some(all), instruction_count(old), instruction_count(new))
 }
 
 /// How many instructions a chain has where those of a window become others, if it is known.

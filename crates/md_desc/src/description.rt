@@ -1,5 +1,5 @@
 //! A description with its tables.
-ghost use Rattle.std.specs.Prelude.{◌≡◌, ◌↔◌, ◌≤◌, ◌<◌, Some, None, IfOk, IfSome, IsTrue, length};
+ghost use Rattle.std.specs.Prelude.{◌≡◌, ◌↔◌, ◌≤◌, ◌<◌, ◌^◌, Some, None, IfOk, IfSome, IsTrue, length};
 ghost use Rattle.md_constr.specs.md_attr.Alternatives.{IsAlternative};
 ghost use Rattle.md_constr.specs.md_attr.machine.Tables.{AreAttributesOf};
 ghost use Rattle.md_constr.specs.md_attr.Values.{is_enabled};
@@ -36,6 +36,7 @@ pub struct Description {
     attributes: Attributes,
     insns: Tables,
     splits: Tables,
+    windows: Tables,
 }
 
 impl Model for Description {
@@ -53,7 +54,7 @@ impl Model for Description {
 
     ghost invariant = { λ description.
         AreTablesOf description.forms description.preds description.constraints
-        description.attributes description.insns description.splits };
+        description.attributes description.insns description.splits description.windows };
 }
 
 /// The tables that are asked of operands.
@@ -80,6 +81,7 @@ struct FormTables {
     attributes: Attributes,
     insns: Tables,
     splits: Tables,
+    windows: Tables,
 }
 
 impl FormTables {
@@ -87,14 +89,17 @@ impl FormTables {
         ensures gives { IfOk result (λ r. AreAttributesOf r.attributes forms.now) }
         ensures keyed { IfOk result (λ r. by_key.AreTablesOf half.Insn r.insns forms.now) }
         ensures split { IfOk result (λ r. by_key.AreTablesOf half.Split r.splits forms.now) }
+        ensures window { IfOk result (λ r. by_key.AreTablesOf half.Window r.windows forms.now) }
     {
         let attributes = Attributes::of(alloc, forms)?;
         let insns = Tables::of(alloc, Half::Insn, forms)?;
         let splits = Tables::of(alloc, Half::Split, forms)?;
+        let windows = Tables::of(alloc, Half::Window, forms)?;
         Ok(FormTables {
             attributes,
             insns,
             splits,
+            windows,
         })
     }
 }
@@ -114,6 +119,7 @@ impl Description {
             attributes: of_forms.attributes,
             insns: of_forms.insns,
             splits: of_forms.splits,
+            windows: of_forms.windows,
         })
     }
 
@@ -151,6 +157,14 @@ impl Description {
         ensures { by_key.AreTablesOf half.Split result.now self.now }
     {
         &self.splits
+    }
+
+    /// By which keys the forms that put others in the place of a window are found.
+    pub fn windows(&self) -> &Tables
+        ensures tables { by_key.AreTablesOf half.Window result.now self.now }
+        ensures short { length result.now.keys < 2 ^ 32 }
+    {
+        &self.windows
     }
 
     /// Whether a form is accepted and has an alternative.

@@ -18,7 +18,7 @@ use Rattle.recog_tree.specs.Key.{key_of, entry_key, is_tried_by, is_tried}
 use Rattle.recog_tree.specs.machine.Tables.{is_tried_at, NoneTried, IsNext}
 use Rattle.recog_tree.proofs.KeyLaw.{matching_is_tried}
 
-true_false : (b : Bool) → b ≡ true → b ≡ false → ⊥
+pub true_false : (b : Bool) → b ≡ true → b ≡ false → ⊥
 true_false b t f = let none : true ≡ false = sym t ∙ f in let never : ⊥ = cc in never
 
 -- a place more that isn't tried
@@ -34,7 +34,7 @@ over : (h : Half) (i : Rtx) (e : Option Entry) → option_map_or (is_tried_by (k
 over h i (Some e) = refl
 over h i None = refl
 
-tried_at_form : (h : Half) (t : List (Option Key)) (es : List Entry) (i : Rtx) (k : ℕ) → t ≡ map (entry_key h) es → is_tried_at t (key_of i) k ≡ option_map_or (is_tried h i) (slice_get es k) false
+pub tried_at_form : (h : Half) (t : List (Option Key)) (es : List Entry) (i : Rtx) (k : ℕ) → t ≡ map (entry_key h) es → is_tried_at t (key_of i) k ≡ option_map_or (is_tried h i) (slice_get es k) false
 tried_at_form h t es i k are =
     ap (λ ks. is_tried_at ks (key_of i) k) are ∙ (ap (λ o. option_map_or (is_tried_by (key_of i)) o false) (slice_get-map (entry_key h) es k) ∙ over h i (slice_get es k))
 
@@ -69,7 +69,7 @@ module _ (a : Accepts) (f : Facts) (h : Half) (i : Rtx) (t : List (Option Key)) 
 abbrev pub Looked : List (Option Key) → Key → ℕ → Option ℕ → Type 0
 Looked t i place r = MatchOption r (NoneTried t i place (length t)) (λ form. IsNext t i place form)
 
-looked_for : (t : List (Option Key)) (k i : Key) (place : ℕ) (r s : Option ℕ) → k ≡ i → r ≡ s → Looked t k place r → Looked t i place s
+pub looked_for : (t : List (Option Key)) (k i : Key) (place : ℕ) (r s : Option ℕ) → k ≡ i → r ≡ s → Looked t k place r → Looked t i place s
 looked_for t k i place r s same is h = subst (λ key. Looked t key place s) same (subst (λ o. Looked t k place o) is h)
 
 pub next_is : (t : List (Option Key)) (k i : Key) (place form : ℕ) (r : Option ℕ) → k ≡ i → r ≡ Some form → Looked t k place r → IsNext t i place form

@@ -16,7 +16,7 @@ use Rattle.md_recog.specs.declared.half.Half.{Half}
 use Rattle.md_recog.specs.declared.half.Half.TheVariants as half
 use Rattle.md_recog.specs.Recog.{has_half, is_scratch, window_of, patterns_of, EntryMatches}
 use Rattle.recog_tree.specs.Key.{is_wild, code_of, effect_source, source_of, key_of, fits_source, has_key, only_pattern, leading, form_key, judged_key, entry_key, is_tried_by, is_tried}
-use Rattle.recog_tree.proofs.Parts.{At, parts_at, one_of}
+use Rattle.recog_tree.proofs.Parts.{At, parts_at, one_of, first_of}
 use Rattle.recog_tree.proofs.Effects.{same_self, MadeOf, made_of, effect_fits}
 
 abbrev source_by : Bool → Rtx → Option Code
@@ -98,4 +98,13 @@ pub matching_is_tried : (a : Accepts) (f : Facts) (h : Half) (i : Rtx) (e : Entr
 matching_is_tried a f h i e o m =
     let first = leads h m.says i o m.matches.matches.shape.made in
     let key : entry_key h e ≡ Some (key_of first.pattern) = ap (judged_key h) m.accepted ∙ form_has h m.says first.pattern m.matches.has first.is in
+    ap (is_tried_by (key_of i)) key ∙ made_has_key first.pattern i o first.made
+
+-- and the first of several
+pub window_is_tried : (a : Accepts) (f : Facts) (i : Rtx) (more : List Rtx) (e : Entry) (o : Ops) → EntryMatches a f half.Window (i ∷ more) e o → is_tried half.Window i e ≡ true
+window_is_tried a f i more e o m =
+    let first = first_of (window_of m.says.patterns) i more o m.matches.matches.shape.made in
+    let leads = first_kept (λ p. not (is_scratch p)) m.says.patterns first.more first.pattern first.is in
+    let key : entry_key half.Window e ≡ Some (key_of first.pattern) =
+    ap (judged_key half.Window) m.accepted ∙ form_has half.Window m.says first.pattern m.matches.has leads in
     ap (is_tried_by (key_of i)) key ∙ made_has_key first.pattern i o first.made

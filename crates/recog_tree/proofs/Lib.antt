@@ -2,3 +2,4 @@ mod Parts
 mod Effects
 pub mod KeyLaw
 pub mod Found
+pub mod Windows

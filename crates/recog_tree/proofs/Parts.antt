@@ -40,3 +40,14 @@ pub one_of : (ps : List Rtx) (x : Rtx) (o : Ops) → all_instantiated ps o ≡ S
 one_of [] x o e = absurd (let none : ⊥ = cc in none)
 one_of (p ∷ []) x o e = record { pattern = p; is = refl; made = (front (instantiated p o) (Some []) x [] e).0 }
 one_of (p ∷ q ∷ ps) x o e = absurd (no_front (instantiated q o) (all_instantiated ps o) (front (instantiated p o) (all_instantiated (q ∷ ps) o) x [] e).1)
+
+-- the first of patterns that make several expressions makes the first of these
+pub record First (ps : List Rtx) (x : Rtx) (o : Ops) : Type 0 where
+  pub pattern : Rtx
+  pub more : List Rtx
+  pub is : ps ≡ pattern ∷ more
+  pub made : instantiated pattern o ≡ Some x
+
+pub first_of : (ps : List Rtx) (x : Rtx) (xs : List Rtx) (o : Ops) → all_instantiated ps o ≡ Some (x ∷ xs) → First ps x o
+first_of [] x xs o e = absurd (let none : ⊥ = cc in none)
+first_of (p ∷ ps) x xs o e = record { pattern = p; more = ps; is = refl; made = (front (instantiated p o) (all_instantiated ps o) x xs e).0 }

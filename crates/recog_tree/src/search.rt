@@ -1,12 +1,14 @@
 //! The first form of which a half matches an instruction, of those that have its key.
-ghost use Rattle.std.specs.Prelude.{◌≡◌, ◌↔◌, ◌+◌, ◌≤◌, ◌<◌, ◌^◌, ◌∷◌, [], true, Some, None, IfOk, length};
+ghost use Rattle.std.specs.Prelude.{◌≡◌, ◌↔◌, ◌+◌, ◌≤◌, ◌<◌, ◌^◌, ◌∷◌, [], true, Some, None, IfOk, MatchOption, List, length};
 ghost use Rattle.std.specs.List.{count_by};
 ghost use Rattle.md_forms.specs.declared.form.Entry.{Entry};
 ghost use Rattle.md_match.specs.Pattern.{Ops};
 ghost use Rattle.md_recog.specs.Recog.{IsFirst, NoneBetween, EntryMatches};
 ghost use Rattle.md_recog.specs.declared.recog.FormMatch.{FormMatch};
 ghost use Rattle.recog_tree.specs.Key.{is_tried};
+ghost use Rattle.recog_tree.specs.Windows.{NoneBegins, MayBegin};
 ghost use Rattle.recog_tree.specs.machine.Tables.{AreTablesOf};
+ghost use Rattle.md_recog.specs.declared.half.Half.TheVariants as half;
 
 use crate::key::key_of;
 use crate::tables::{Tables, next_tried};
@@ -54,4 +56,15 @@ pub fn recog<P: Preds, L: Ledger>(
         place = form + 1;
     }
     Ok(None)
+}
+
+/// The first form from an index on whose window may begin with an instruction, by the tables of
+/// windows: it has the instruction's key.
+pub fn next_window(tables: &Tables, insn: &Rtx, from: u32) -> Option<u32>
+    requires { length tables.now.keys < 2 ^ 32 }
+    ensures { (forms : List Entry) → AreTablesOf half.Window tables.now forms →
+        MatchOption result (NoneBegins forms insn.now from (length forms))
+        (λ form. MayBegin forms insn.now from form) }
+{
+    next_tried(tables, key_of(insn), from)
 }

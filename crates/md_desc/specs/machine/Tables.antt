@@ -14,10 +14,11 @@ use Rattle.recog_tree.specs.declared.tables.Tables.{Tables}
 use Rattle.recog_tree.specs.machine.Tables as by_key
 
 -- there are no more forms than a description may have, and each table is that of the forms
-pub record AreTablesOf (forms : List Entry) (preds : PredTable) (constraints : Constraints) (attributes : Attributes) (insns splits : Tables) : Type 0 where
+pub record AreTablesOf (forms : List Entry) (preds : PredTable) (constraints : Constraints) (attributes : Attributes) (insns splits windows : Tables) : Type 0 where
   pub short : length forms ≤ most_forms
   pub accepts : accepted_by preds ≡ holds forms
   pub asks : AreConstraintsOf constraints forms
   pub gives : AreAttributesOf attributes forms
   pub keyed : by_key.AreTablesOf half.Insn insns forms
   pub split : by_key.AreTablesOf half.Split splits forms
+  pub window : by_key.AreTablesOf half.Window windows forms

@@ -19,8 +19,6 @@ pub enum Pass {
     Frame,
     /// Splits once registers have homes.
     Split2,
-    /// Windows of the machine's instructions replaced by peepholes.
-    Peephole2,
     /// The assembly text.
     Output,
 }
@@ -38,7 +36,6 @@ impl Pass {
             Pass::Reload => "reload",
             Pass::Frame => "frame",
             Pass::Split2 => "split2",
-            Pass::Peephole2 => "peephole2",
             Pass::Output => "output",
         }
     }
@@ -55,7 +52,6 @@ impl Pass {
             "reload" => Some(Pass::Reload),
             "frame" => Some(Pass::Frame),
             "split2" => Some(Pass::Split2),
-            "peephole2" => Some(Pass::Peephole2),
             _ => None,
         }
     }

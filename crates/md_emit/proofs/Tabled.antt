@@ -1,6 +1,6 @@
--- What the tables of a description tell of the forms that split, and of those that have windows.
+-- What the tables of a description tell of the forms that split.
 use Rattle.std.proofs.Common.{◌≡◌, ◌↔◌, ℕ, Bool, List, [], ◌∷◌, length, Option, Some, None, Result, subst}
-use Rattle.std.specs.Prelude.{IfOk, MatchOption}
+use Rattle.std.specs.Prelude.{IfOk}
 use Rattle.rtx_tree.specs.declared.code.Mode.{Mode}
 use Rattle.rtx_tree.specs.declared.tree.Rtx.{Rtx}
 use Rattle.c_eval.specs.declared.facts.Facts.{Facts}
@@ -9,9 +9,8 @@ use Rattle.md_desc.specs.md_pred.declared.table.PredTable.{PredTable}
 use Rattle.md_desc.specs.md_pred.Holds.{holds}
 use Rattle.md_desc.specs.md_pred.machine.Table.{accepted_by}
 use Rattle.md_recog.specs.declared.half.Half.TheVariants as half
-use Rattle.md_recog.specs.Recog.{IsFirst, NoneBetween, MatchesHere}
+use Rattle.md_recog.specs.Recog.{IsFirst, NoneBetween}
 use Rattle.md_recog.specs.declared.recog.FormMatch.{FormMatch}
-use Rattle.recog_tree.specs.Windows.{NoneBegins, MayBegin}
 
 -- what holds by the forms that were looked at holds by those of the description, and what the table of predicates accepts is what they accept
 by_forms : (P : List Entry → (List ℕ → Rtx → Mode → Bool) → Type 0) (es fs gs : List Entry) (p : PredTable) → gs ≡ fs → fs ≡ es →
@@ -33,17 +32,3 @@ pub none_as : {E : Type 0} (es fs gs : List Entry) (p : PredTable) (facts : Fact
     IfOk r (λ r. r ≡ None → NoneBetween (holds es) facts half.Split (i ∷ []) es from (length es))
 none_as es fs gs p facts i from r looked same accepts h =
     by_forms (λ hs a. IfOk r (λ r. r ≡ None → NoneBetween a facts half.Split (i ∷ []) hs from (length hs))) es fs gs p looked same accepts h
-
--- ---- windows
-
-pub begins_as : (es fs : List Entry) (i : Rtx) (from : ℕ) (r : Option ℕ) → fs ≡ es →
-    MatchOption r (NoneBegins fs i from (length fs)) (λ form. MayBegin fs i from form) → MatchOption r (NoneBegins es i from (length es)) (λ form. MayBegin es i from form)
-begins_as es fs i from r same h = subst (λ (gs : List Entry). MatchOption r (NoneBegins gs i from (length gs)) (λ form. MayBegin gs i from form)) same h
-
-pub here_as : {E : Type 0} (es fs gs : List Entry) (p : PredTable) (facts : Facts) (xs ys : List Rtx) (form : ℕ) (r : Result (Option FormMatch) E) →
-    gs ≡ fs → fs ≡ es → accepted_by p ≡ holds es → xs ≡ ys →
-    IfOk r (λ r. (m : FormMatch) → (r ≡ Some m) ↔ MatchesHere (accepted_by p) facts half.Window xs gs form m) →
-    IfOk r (λ r. (m : FormMatch) → (r ≡ Some m) ↔ MatchesHere (holds es) facts half.Window ys es form m)
-here_as es fs gs p facts xs ys form r looked same accepts listed h =
-    by_forms (λ hs a. IfOk r (λ r. (m : FormMatch) → (r ≡ Some m) ↔ MatchesHere a facts half.Window ys hs form m)) es fs gs p looked same accepts
-    (subst (λ (zs : List Rtx). IfOk r (λ r. (m : FormMatch) → (r ≡ Some m) ↔ MatchesHere (accepted_by p) facts half.Window zs gs form m)) listed h)

@@ -3,9 +3,7 @@
 //!
 //! [`split_of`] gives the first form from an index on whose split half matches an instruction,
 //! [`named`] the first expander or instruction of a name, and [`emit`] what a form of the
-//! description emits with operands (`gen_emit`). Of the forms that put others in the place of a
-//! window [`next_window`] gives those whose window may begin with an instruction, [`window_size`]
-//! how many instructions it has, and [`window_match`] the operands with which it matches. [`keeps_to_arguments`] tells whether a sequence
+//! description emits with operands (`gen_emit`). [`keeps_to_arguments`] tells whether a sequence
 //! names no hard registers but those of arguments.
 #![tactic(auto)]
 
@@ -13,10 +11,8 @@ mod arguments;
 mod emitted;
 mod names;
 mod split;
-mod window;
 
 pub use arguments::keeps_to_arguments;
 pub use emitted::emit;
 pub use names::named;
 pub use split::split_of;
-pub use window::{next_window, window_match, window_size};

@@ -1,7 +1,7 @@
 -- What a pass makes that changes the function alone, from what its call gave.
 use Rattle.std.proofs.Common.{◌≡◌, ℕ, List, Result, Ok, Err, sym, subst}
 use Rattle.rtx_tree.specs.declared.function.Function.{Function}
-use Rattle.pass_name.specs.declared.pass.Pass.TheVariants.{Lower, Combine, Split1, Split2}
+use Rattle.pass_name.specs.declared.pass.Pass.TheVariants.{Lower, Combine, Split1, Split2, Peephole2}
 use Rattle.md_forms.specs.declared.form.Entry.{Entry}
 use Rattle.pass_refusal.specs.declared.refusal.PassRefusal.{PassRefusal}
 use Rattle.pass_refusal.specs.declared.refusal.PassRefusal.TheVariants as passes
@@ -9,6 +9,7 @@ use Rattle.pass_refusal.specs.Outcome as outcome
 use Rattle.lower.specs.Lower.{LowerComes}
 use Rattle.combine.specs.Combine.{Combined}
 use Rattle.split.specs.Split.{SplitComes}
+use Rattle.peep2.specs.Cover.{CoverComes}
 use Rattle.func_after.specs.After.{Changed, plainly, ChangeComes}
 
 -- what follows from what a pass comes to that gives a function and nothing beside it
@@ -38,3 +39,7 @@ module _ (forms : List Entry) (f : Function) (r : Result Function PassRefusal) (
   pub split_again : outcome.Gives r (SplitComes forms Split2 f) → outcome.Gives c (ChangeComes forms f Split2)
   split_again gives = subst (λ (c : Changed). outcome.Gives c (ChangeComes forms f Split2)) (sym is)
       (plain_gives (SplitComes forms Split2 f) (ChangeComes forms f Split2) (λ r comes. ChangeComes.splits_again r comes) r gives)
+
+  pub covered : outcome.Gives r (CoverComes forms f) → outcome.Gives c (ChangeComes forms f Peephole2)
+  covered gives = subst (λ (c : Changed). outcome.Gives c (ChangeComes forms f Peephole2)) (sym is)
+      (plain_gives (CoverComes forms f) (ChangeComes forms f Peephole2) (λ r comes. ChangeComes.covers r comes) r gives)

@@ -5,12 +5,13 @@ use Rattle.rtx_tree.specs.declared.limit.Limit.TheVariants.{Instructions}
 use Rattle.run_refusal.specs.declared.refusal.Refusal.{Refusal}
 use Rattle.run_refusal.specs.declared.refusal.Refusal.TheVariants as refusal
 use Rattle.pass_name.specs.declared.pass.Pass.{Pass}
-use Rattle.pass_name.specs.declared.pass.Pass.TheVariants.{Read, Lower, Combine, Split1, Reload, Frame, Split2, Output}
+use Rattle.pass_name.specs.declared.pass.Pass.TheVariants.{Read, Lower, Combine, Split1, Reload, Frame, Split2, Peephole2, Output}
 use Rattle.md_forms.specs.declared.form.Entry.{Entry}
 use Rattle.pass_refusal.specs.declared.refusal.PassRefusal.{PassRefusal}
 use Rattle.lower.specs.Lower.{LowerComes}
 use Rattle.combine.specs.Combine.{Combined}
 use Rattle.split.specs.Split.{SplitComes}
+use Rattle.peep2.specs.Cover.{CoverComes}
 use Rattle.assign.specs.Frame.{layout_of}
 use Rattle.assign.specs.Homes.{AreHomes}
 use Rattle.assign.specs.declared.home.HomeOf.{HomeOf}
@@ -61,6 +62,9 @@ module _ (forms : List Entry) (f : Function) (c : Change) where
 
   pub again_by : (a : Changed) → a ≡ Ok c → ChangeComes forms f Split2 a → SplitComes forms Split2 f (Ok c.function)
   again_by _ is (ChangeComes.splits_again r comes) = subst (SplitComes forms Split2 f) (plain_is r c is) comes
+
+  pub cover_by : (a : Changed) → a ≡ Ok c → ChangeComes forms f Peephole2 a → CoverComes forms f (Ok c.function)
+  cover_by _ is (ChangeComes.covers r comes) = subst (CoverComes forms f) (plain_is r c is) comes
 
 -- what a pass that gave something made
 module _ (forms : List Entry) (m next : Made) (pass : Pass) where

@@ -4,7 +4,7 @@ use Rattle.std.specs.List.{AllByRecursion}
 use Rattle.rtx_tree.specs.Limit.{most_frame}
 use Rattle.rtx_tree.specs.declared.function.Function.{Function}
 use Rattle.pass_name.specs.declared.pass.Pass.{Pass}
-use Rattle.pass_name.specs.declared.pass.Pass.TheVariants.{Read, Lower, Combine, Split1, Reload, Frame, Split2}
+use Rattle.pass_name.specs.declared.pass.Pass.TheVariants.{Read, Lower, Combine, Split1, Reload, Frame, Split2, Peephole2}
 use Rattle.rv_text.specs.declared.line.CodeItem.{CodeItem}
 use Rattle.md_forms.specs.declared.form.Entry.{Entry}
 use Rattle.md_forms.specs.Forms.{forms_of}
@@ -20,6 +20,9 @@ use Rattle.lower.proofs.Kept.{lower_kept}
 use Rattle.combine.proofs.Kept.{steps_kept}
 use Rattle.split.specs.Split.{SplitComes}
 use Rattle.split.proofs.Sound.{split_kept, split_does}
+use Rattle.peep2.specs.Cover.{CoverComes}
+use Rattle.peep2.proofs.Kept.{cover_does}
+use Rattle.peep2.proofs.Placed.{cover_placed}
 use Rattle.reload.specs.law_frame.law_window_replaced.law_window_kept.law_function_kept.Keeps.{Keeps}
 use Rattle.reload.proofs.law_frame.law_window_replaced.law_kept_composed.Keeping.{keeps_refl, keeps_trans}
 use Rattle.reload.specs.law_frame.Keeps.{IsLaidOut, KeepsInFrame}
@@ -39,7 +42,7 @@ use Rattle.func_after.specs.declared.made.Made.{Made}
 use Rattle.func_after.specs.declared.change.Change.{Change}
 use Rattle.func_after.specs.After.{as_read, before_homes, behind_frame, ChangeComes, AfterComes}
 use Rattle.func_after.specs.Leads.{IsDescribed, LeadsToLines}
-use Rattle.func_after.proofs.Changes.{read_by, lower_by, combine_by, split_by, again_by, changes_of}
+use Rattle.func_after.proofs.Changes.{read_by, lower_by, combine_by, split_by, again_by, cover_by, changes_of}
 use Rattle.func_after.proofs.Passing.{PassHolds, all_hold}
 use Rattle.func_after.proofs.Stages.{Stages, stages_of}
 
@@ -128,9 +131,13 @@ module _ (forms : List Entry) where
   again_keeps : Behind Split2
   again_keeps = behind_by Split2 (λ is. cc) (λ is. cc) (λ f c placed comes. again_does f c.function placed (again_by forms f c (Ok c) refl comes))
 
+  cover_keeps : Behind Peephole2
+  cover_keeps = behind_by Peephole2 (λ is. cc) (λ is. cc) (λ f c placed comes.
+      (cover_does forms f c.function placed (cover_by forms f c (Ok c) refl comes), cover_placed forms f c.function placed (cover_by forms f c (Ok c) refl comes)))
+
   -- each of them does what the function did, and leaves it placed
   behind_keeps : AllByRecursion Behind behind_frame
-  behind_keeps = (again_keeps, tt)
+  behind_keeps = (again_keeps, (cover_keeps, tt))
 
 -- ---- all
 

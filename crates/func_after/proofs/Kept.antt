@@ -9,6 +9,8 @@ use Rattle.lower.proofs.Kept.{lower_same}
 use Rattle.combine.proofs.Kept.{steps_same}
 use Rattle.split.specs.Split.{SplitComes}
 use Rattle.split.proofs.Kept.{same_marks}
+use Rattle.peep2.specs.Cover.{CoverComes}
+use Rattle.peep2.proofs.Kept.{cover_same}
 use Rattle.assign.specs.Frame.{layout_of}
 use Rattle.reload.specs.Reload.{FunctionReloads}
 use Rattle.reload.proofs.Marks.{reload_marks}
@@ -32,6 +34,8 @@ module _ (forms : List Entry) where
       (same_marks forms Split1 f c.function (subst (SplitComes forms Split1 f) (plain_is r c is) comes)).name_is
   change_name f _ c _ is (ChangeComes.splits_again r comes) =
       (same_marks forms Split2 f c.function (subst (SplitComes forms Split2 f) (plain_is r c is) comes)).name_is
+  change_name f _ c _ is (ChangeComes.covers r comes) =
+      (cover_same forms f c.function (subst (CoverComes forms f) (plain_is r c is) comes)).name_is
   change_name f _ c _ is ChangeComes.writes = let same : record { function = f; combined = 0 } ≡ c = cc in sym (ap (λ (d : Change). d.function.name) same)
 
   pass_name : (m n : Made) (pass : Pass) (a : Answer) → a ≡ Ok n → PassMakes forms m pass a → n.function.name ≡ m.function.name

@@ -9,6 +9,7 @@ use Rattle.pass_name.specs.declared.pass.Pass.TheVariants.{Split1, Frame, Split2
 use Rattle.lower.proofs.OneLower.{lower_one}
 use Rattle.combine.proofs.One.{combined_one}
 use Rattle.split.proofs.One.{one_split}
+use Rattle.peep2.proofs.One.{cover_one}
 use Rattle.assign.specs.Frame.{layout_of}
 use Rattle.assign.specs.declared.home.HomeOf.{HomeOf}
 use Rattle.assign.proofs.OneLaws.{only}
@@ -34,6 +35,7 @@ module _ (forms : List Entry) where
       let same = combined_one forms n k f g h does does' in same_combining n k g h same.0 same.1
   change_one f _ _ _ (ChangeComes.splits_first r does) (ChangeComes.splits_first s does') = ap plainly (one_split forms Split1 f r s does does')
   change_one f _ _ _ (ChangeComes.splits_again r does) (ChangeComes.splits_again s does') = ap plainly (one_split forms Split2 f r s does does')
+  change_one f _ _ _ (ChangeComes.covers r does) (ChangeComes.covers s does') = ap plainly (cover_one forms f r s does does')
   change_one f _ _ _ ChangeComes.writes ChangeComes.writes = refl
 
   makes_one : (m : Made) (pass : Pass) (a b : Answer) → PassMakes forms m pass a → PassMakes forms m pass b → a ≡ b

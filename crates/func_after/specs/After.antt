@@ -10,7 +10,7 @@ use Rattle.rtx_tree.specs.Limit.{most_made}
 use Rattle.rtl_chain.specs.Counts.{instruction_count}
 use Rattle.pass_name.specs.Pass.{pass_name}
 use Rattle.pass_name.specs.declared.pass.Pass.{Pass}
-use Rattle.pass_name.specs.declared.pass.Pass.TheVariants.{Read, Lower, Combine, Split1, Reload, Frame, Split2, Output}
+use Rattle.pass_name.specs.declared.pass.Pass.TheVariants.{Read, Lower, Combine, Split1, Reload, Frame, Split2, Peephole2, Output}
 use Rattle.run_refusal.specs.declared.refusal.Refusal.{Refusal}
 use Rattle.run_refusal.specs.declared.refusal.Refusal.TheVariants as refusal
 use Rattle.md_forms.specs.declared.form.Entry.{Entry}
@@ -19,6 +19,7 @@ use Rattle.pass_refusal.specs.declared.refusal.PassRefusal.TheVariants as passes
 use Rattle.lower.specs.Lower.{LowerComes}
 use Rattle.combine.specs.Combine.{Combined}
 use Rattle.split.specs.Split.{SplitComes}
+use Rattle.peep2.specs.Cover.{CoverComes}
 use Rattle.assign.specs.Frame.{layout_of}
 use Rattle.assign.specs.Homes.{AreHomes}
 use Rattle.assign.specs.declared.home.HomeOf.{HomeOf}
@@ -87,6 +88,8 @@ pub data ChangeComes (forms : List Entry) (f : Function) : Pass → Changed → 
       ChangeComes forms f Split1 (plainly r)
   splits_again : (r : Result Function PassRefusal) → SplitComes forms Split2 f r →
       ChangeComes forms f Split2 (plainly r)
+  covers : (r : Result Function PassRefusal) → CoverComes forms f r →
+      ChangeComes forms f Peephole2 (plainly r)
   writes : ChangeComes forms f Output (plainly (Ok f))
 
 -- ---- one pass
@@ -159,7 +162,7 @@ before_homes = Read ∷ Lower ∷ Combine ∷ Split1 ∷ []
 
 -- those behind the frame
 abbrev pub behind_frame : List Pass
-behind_frame = Split2 ∷ []
+behind_frame = Split2 ∷ Peephole2 ∷ []
 
 -- all before the text is written
 abbrev pub all_passes : List Pass

@@ -10,6 +10,7 @@ use lower::lower;
 use md_desc::Description;
 use pass_name::Pass;
 use pass_refusal::PassRefusal;
+use peep2::peep2;
 use rtx_tree::Function;
 use split::split;
 use std::alloc::Global;
@@ -79,4 +80,12 @@ pub(crate) fn split_again(
     ensures { Gives result (ChangeComes desc.now f passes.Split2) }
 {
     plainly(split(alloc, desc, f, Pass::Split2))
+}
+
+/// What peepholes make.
+#[tactic(auto, using(crate::proofs::ChangeLaws::covered))]
+pub(crate) fn covered(alloc: Global, desc: &Description, f: Function) -> Result<Change, PassRefusal>
+    ensures { Gives result (ChangeComes desc.now f passes.Peephole2) }
+{
+    plainly(peep2(alloc, desc, f))
 }

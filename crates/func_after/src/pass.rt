@@ -4,7 +4,7 @@ ghost use Rattle.pass_name.specs.declared.pass.Pass.TheVariants as passes;
 ghost use Rattle.func_after.specs.After as spec;
 ghost use Rattle.func_after.specs.After.{Gives, PassComes, PassMakes};
 
-use crate::change::{Change, combined, lowered, plainly, split_again, split_first};
+use crate::change::{Change, combined, covered, lowered, plainly, split_again, split_first};
 use crate::made::Made;
 use crate::refusal::{refused_for, unreloaded_for};
 use assign::{Layout, assign, layout};
@@ -31,6 +31,7 @@ fn combined_behind(pass: Pass, before: usize, now: usize) -> usize
         | Pass::Reload
         | Pass::Frame
         | Pass::Split2
+        | Pass::Peephole2
         | Pass::Output => before,
     }
 }
@@ -128,6 +129,13 @@ fn made_by(alloc: Global, desc: &Description, m: Made, pass: Pass) -> Result<Mad
             m.layout,
             pass,
             split_again(alloc, desc, m.function),
+        ),
+        Pass::Peephole2 => told(
+            name,
+            m.combined,
+            m.layout,
+            pass,
+            covered(alloc, desc, m.function),
         ),
     }
 }

@@ -17,7 +17,7 @@ use run_refusal::Refusal;
 use std::alloc::Global;
 
 /// All passes before the text is written, in their order.
-static PASSES: [Pass; 7] = [
+static PASSES: [Pass; 8] = [
     Pass::Read,
     Pass::Lower,
     Pass::Combine,
@@ -25,6 +25,7 @@ static PASSES: [Pass; 7] = [
     Pass::Reload,
     Pass::Frame,
     Pass::Split2,
+    Pass::Peephole2,
 ];
 
 /// All passes before the text is written.

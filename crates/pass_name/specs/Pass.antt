@@ -3,7 +3,7 @@
 use Rattle.std.specs.Prelude.{ℕ, List, codes, Option, Some, None, if◌then◌else◌}
 use Rattle.std.specs.Str.{bytes_eq}
 use Rattle.pass_name.specs.declared.pass.Pass.{Pass}
-use Rattle.pass_name.specs.declared.pass.Pass.TheVariants.{Read, Lower, Combine, Split1, Reload, Frame, Split2, Output}
+use Rattle.pass_name.specs.declared.pass.Pass.TheVariants.{Read, Lower, Combine, Split1, Reload, Frame, Split2, Peephole2, Output}
 
 abbrev pub pass_name : Pass → List ℕ
 pass_name Read = codes "read"
@@ -13,6 +13,7 @@ pass_name Split1 = codes "split1"
 pass_name Reload = codes "reload"
 pass_name Frame = codes "frame"
 pass_name Split2 = codes "split2"
+pass_name Peephole2 = codes "peephole2"
 pass_name Output = codes "output"
 
 -- the pass with a name behind which a function can be shown
@@ -24,4 +25,5 @@ pass_named name =
     if bytes_eq name (pass_name Split1) then Some Split1 else (
     if bytes_eq name (pass_name Reload) then Some Reload else (
     if bytes_eq name (pass_name Frame) then Some Frame else (
-    if bytes_eq name (pass_name Split2) then Some Split2 else None))))))
+    if bytes_eq name (pass_name Split2) then Some Split2 else (
+    if bytes_eq name (pass_name Peephole2) then Some Peephole2 else None)))))))

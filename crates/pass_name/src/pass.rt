@@ -19,6 +19,8 @@ pub enum Pass {
     Frame,
     /// Splits once registers have homes.
     Split2,
+    /// Windows of the machine's instructions replaced by peepholes.
+    Peephole2,
     /// The assembly text.
     Output,
 }
@@ -36,6 +38,7 @@ impl Pass {
             Pass::Reload => "reload",
             Pass::Frame => "frame",
             Pass::Split2 => "split2",
+            Pass::Peephole2 => "peephole2",
             Pass::Output => "output",
         }
     }
@@ -52,6 +55,7 @@ impl Pass {
             "reload" => Some(Pass::Reload),
             "frame" => Some(Pass::Frame),
             "split2" => Some(Pass::Split2),
+            "peephole2" => Some(Pass::Peephole2),
             _ => None,
         }
     }

@@ -1,0 +1,5 @@
+pub mod Each
+pub mod Does
+pub mod Counts
+pub mod Uids
+pub mod Kept

@@ -5,7 +5,7 @@ use Rattle.std.proofs.lemmas.Bool.{false≢true}
 use Rattle.rtx_tree.specs.declared.tree.Rtx.{Rtx}
 use Rattle.rtx_tree.specs.declared.function.Insn.{Insn}
 use Rattle.rtx_tree.specs.declared.function.Function.{Function}
-use Rattle.rtx_tree.specs.declared.function.Kind.TheVariants.{Plain, Jump, Call, Barrier}
+use Rattle.rtx_tree.specs.declared.function.Kind.TheVariants.{Plain, Jump, Call}
 use Rattle.rtl_func.specs.Kinds.{is_jump_tree, is_call_tree}
 use Rattle.rtl_chain.specs.Counts.{greatest_uid}
 use Rattle.law_pass_needs.specs.form_needs.Needs.{is_kind}

@@ -1,0 +1,120 @@
+//! The forms that put others in the place of a window of instructions.
+ghost use Rattle.std.specs.Prelude.{◌≡◌, ◌↔◌, ◌<◌, not, Some, IfOk, MatchOption, length, map};
+ghost use Rattle.std.specs.List.{count_by};
+ghost use Rattle.md_desc.specs.md_pred.Holds.{holds};
+ghost use Rattle.md_recog.specs.Recog.{MatchesHere, is_scratch};
+ghost use Rattle.md_recog.specs.declared.recog.FormMatch.{FormMatch};
+ghost use Rattle.md_recog.specs.declared.half.Half.TheVariants as half;
+ghost use Rattle.recog_tree.specs.Windows.{NoneBegins, MayBegin};
+ghost use Rattle.md_window.specs.Windows as spec;
+
+use c_eval::Facts;
+use md_desc::Description;
+use md_forms::Entry;
+use md_recog::{FormMatch, Half, Steps, is_scratch, match_at};
+use plain_data::Memory;
+use rtx_tree::{Insn, Rtx};
+use std::alloc::Global;
+use std::marker::Brand;
+use std::sync::ledger::{Blank, Ledger};
+
+/// The first form from an index on whose window may begin with an instruction.
+pub fn next_window(desc: &Description, insn: &Rtx, from: u32) -> Option<u32>
+    ensures { MatchOption result (NoneBegins desc.now insn.now from (length desc.now))
+        (λ form. MayBegin desc.now insn.now from form) }
+{
+    recog_tree::next_window(desc.windows(), insn, from)
+}
+
+/// How many of some elements of a window are instructions.
+fn count_insns(patterns: &[Rtx]) -> usize
+    ensures { result ≡ count_by (λ p. not (is_scratch p)) patterns.now }
+{
+    let mut count = 0;
+    for pattern in patterns {
+        if !is_scratch(pattern) {
+            count += 1;
+        }
+    }
+    count
+}
+
+fn size_of(entry: &Entry) -> usize
+    ensures { result ≡ spec.size_in entry.now.form }
+{
+    match &entry.form {
+        Ok(form) => count_insns(form.patterns.as_slice()),
+        Err(_) => 0,
+    }
+}
+
+/// How many instructions the window of the form with an index has, or 0 where it is not accepted.
+pub fn window_size(desc: &Description, form: u32) -> usize
+    ensures { result ≡ spec.window_size desc.now form }
+{
+    match desc.forms().as_slice().get(form as usize) {
+        Some(entry) => size_of(entry),
+        None => 0,
+    }
+}
+
+/// The patterns of instructions.
+fn patterns_of<'a>(alloc: Global, insns: &'a [Insn]) -> Result<Vec<&'a Rtx>, Memory>
+    ensures { IfOk result (λ r. map (λ p. p.now) r.items ≡ map (λ i. i.pattern) insns.now) }
+{
+    let mut patterns = Vec::new(alloc);
+    for insn in insns {
+        patterns.push(&insn.pattern)?;
+    }
+    Ok(patterns)
+}
+
+/// The match of the window of a form with instructions, by steps that are counted in a ledger.
+fn window_counted<L: Ledger>(
+    alloc: Global,
+    desc: &Description,
+    insns: &[Insn],
+    facts: &Facts,
+    form: u32,
+    blank: Blank,
+) -> Result<Option<FormMatch>, Memory>
+    requires name { blank.name ≡ L.name }
+    requires parts { blank.parts ≡ L.parts }
+    requires some { 0 < blank.parts }
+    requires form { form < length desc.now }
+    ensures { IfOk result (λ r. (m : FormMatch) → (r ≡ Some m) ↔ MatchesHere (holds desc.now)
+        facts.now half.Window (map (λ i. i.pattern) insns.now) desc.now form m) }
+{
+    let mut steps = Steps::<L>::new(blank);
+    let patterns = patterns_of(alloc, insns)?;
+    match_at(
+        alloc,
+        desc.forms().as_slice(),
+        Half::Window,
+        patterns.as_slice(),
+        facts,
+        desc.preds(),
+        form,
+        &mut steps,
+    )
+}
+
+/// The match of the window of a form with instructions, or `None` exactly where it does not match
+/// them. Its scratch registers are not given yet.
+///
+/// # Errors
+///
+/// `Memory` where memory ran out.
+pub fn window_match(
+    alloc: Global,
+    desc: &Description,
+    insns: &[Insn],
+    facts: &Facts,
+    form: u32,
+) -> Result<Option<FormMatch>, Memory>
+    requires { form < length desc.now }
+    ensures { IfOk result (λ r. (m : FormMatch) → (r ≡ Some m) ↔ MatchesHere (holds desc.now)
+        facts.now half.Window (map (λ i. i.pattern) insns.now) desc.now form m) }
+{
+    window_counted::<Brand>(alloc, desc, insns, facts, form, Blank::new(1))
+}

@@ -1,0 +1,2 @@
+pub mod OneComes
+pub mod Calls

@@ -20,9 +20,7 @@ use Rattle.lower.proofs.Kept.{lower_kept}
 use Rattle.combine.proofs.Kept.{steps_kept}
 use Rattle.split.specs.Split.{SplitComes}
 use Rattle.split.proofs.Sound.{split_kept, split_does}
-use Rattle.peep2.specs.Cover.{CoverComes}
-use Rattle.peep2.proofs.Kept.{cover_does}
-use Rattle.peep2.proofs.Placed.{cover_placed}
+use Rattle.law_peepholes.proofs.Placed.{peepholes_keep}
 use Rattle.reload.specs.law_frame.law_window_replaced.law_window_kept.law_function_kept.Keeps.{Keeps}
 use Rattle.reload.proofs.law_frame.law_window_replaced.law_kept_composed.Keeping.{keeps_refl, keeps_trans}
 use Rattle.reload.specs.law_frame.Keeps.{IsLaidOut, KeepsInFrame}
@@ -132,8 +130,7 @@ module _ (forms : List Entry) where
   again_keeps = behind_by Split2 (λ is. cc) (λ is. cc) (λ f c placed comes. again_does f c.function placed (again_by forms f c (Ok c) refl comes))
 
   cover_keeps : Behind Peephole2
-  cover_keeps = behind_by Peephole2 (λ is. cc) (λ is. cc) (λ f c placed comes.
-      (cover_does forms f c.function placed (cover_by forms f c (Ok c) refl comes), cover_placed forms f c.function placed (cover_by forms f c (Ok c) refl comes)))
+  cover_keeps = behind_by Peephole2 (λ is. cc) (λ is. cc) (λ f c placed comes. peepholes_keep forms f c.function placed (cover_by forms f c (Ok c) refl comes))
 
   -- each of them does what the function did, and leaves it placed
   behind_keeps : AllByRecursion Behind behind_frame

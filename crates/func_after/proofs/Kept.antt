@@ -10,7 +10,7 @@ use Rattle.combine.proofs.Kept.{steps_same}
 use Rattle.split.specs.Split.{SplitComes}
 use Rattle.split.proofs.Kept.{same_marks}
 use Rattle.peep2.specs.Cover.{CoverComes}
-use Rattle.peep2.proofs.Kept.{cover_same}
+use Rattle.peep2.proofs.Sound.{cover_same}
 use Rattle.assign.specs.Frame.{layout_of}
 use Rattle.reload.specs.Reload.{FunctionReloads}
 use Rattle.reload.proofs.Marks.{reload_marks}

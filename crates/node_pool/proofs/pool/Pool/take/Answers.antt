@@ -1,0 +1,31 @@
+use Rattle.std.proofs.Common.{◌≡◌, Some, None, ap, subst, sym, refl, ◌∙◌}
+use Rattle.node_pool.specs.Slots.{IsLive, value_at, spare_of}
+use Rattle.node_pool.specs.declared.slot.Slot.{Slot}
+use Rattle.node_pool.proofs.Kept.{live_slot, held, take_keeps, viewed, rose}
+use Rattle.node_pool.proofs.pool.Pool.take.Goals as goal
+
+pub invariant_of-self : goal.invariant_of-self
+invariant_of-self g c =
+    let new : Slot g.row.T.Denot = record { value = c.replace-held.new.dest; next = c.self.inside.first } in
+    take_keeps c.self.inside.slots.items c.args.id.index c.self.inside.first c.self.inside.spare c.index_mut-slot.result.now new c.in-Some.old
+    c.self.invariant
+    (live_slot c.self.inside.slots.items c.args.id.index c.index_mut-slot.result.now
+    (subst (λ l. IsLive l c.args.id.index) (sym c.self.view_is) c.requires) c.index_mut-slot.ensures.value)
+    (sym c.replace-held.ensures.value ∙ c.in-Some.is) c.replace-held.ensures.after refl
+
+pub returns-clause-slots : goal.returns-clause-slots
+returns-clause-slots g c =
+    let new : Slot g.row.T.Denot = record { value = c.replace-held.new.dest; next = c.self.inside.first } in
+    viewed c.self.inside.slots.items c.args.id.index new None c.args.self.now c.self.view_is c.replace-held.ensures.after
+
+pub returns-clause-old : goal.returns-clause-old
+returns-clause-old g c =
+    subst (λ l. value_at l c.args.id.index ≡ Some c.in-Some.old) c.self.view_is
+    (held c.self.inside.slots.items c.args.id.index c.index_mut-slot.result.now c.in-Some.old
+    (live_slot c.self.inside.slots.items c.args.id.index c.index_mut-slot.result.now
+    (subst (λ l. IsLive l c.args.id.index) (sym c.self.view_is) c.requires) c.index_mut-slot.ensures.value)
+    (sym c.replace-held.ensures.value ∙ c.in-Some.is))
+
+pub returns-clause-spare : goal.returns-clause-spare
+returns-clause-spare g c =
+    rose _ _ c.self.inside.spare (invariant_of-self g c).all (c.self.invariant.all ∙ ap spare_of c.self.view_is)

@@ -1,0 +1,2 @@
+-- What the contracts of private functions and the invariant alone cite.
+pub mod Links

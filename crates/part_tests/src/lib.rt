@@ -18,6 +18,8 @@ mod long_tests;
 #[cfg(test)]
 mod plain_data_tests;
 #[cfg(test)]
+mod pool_tests;
+#[cfg(test)]
 mod reg_tests;
 #[cfg(test)]
 mod rtx_tree_tests;

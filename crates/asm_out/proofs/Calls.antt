@@ -1,5 +1,5 @@
 -- What the calls have done, from what their parts did.
-use Rattle.std.proofs.Common.{◌≡◌, ℕ, ◌+◌, Bool, true, false, not, ◌&&◌, map, List, ◌∷◌, [], ◌++◌, length, Some, Ok, Err, refl, sym, ap, subst, ◌∙◌}
+use Rattle.std.proofs.Common.{◌≡◌, ℕ, ◌+◌, true, false, map, List, ◌∷◌, [], ◌++◌, length, Ok, Err, sym, ap, subst, ◌∙◌}
 use Rattle.std.specs.Prelude.{if◌then◌else◌, nat_le}
 use Rattle.rtx_tree.specs.declared.function.Insn.{Insn}
 use Rattle.rtx_tree.specs.declared.function.Function.{Function}
@@ -52,9 +52,3 @@ pub code_piece_is : (forms : List Entry) (number : ℕ) (i : Insn) (c : Chosen) 
     piece ≡ record { text = written t; items = map item.Code ls } → t ≡ text_of forms number i c → ls ≡ lines → piece ≡ code_piece forms number i c lines
 code_piece_is forms number i c lines ls t piece is texts same =
     is ∙ (ap (λ (t : List ℕ). record { text = written t; items = map item.Code ls }) texts ∙ ap (λ (ls : List Line). record { text = written (text_of forms number i c); items = map item.Code ls }) same)
-
--- what is neither a label nor silent needs a form
-pub not_silent : (label needs : Bool) → label ≡ false → (not label && not needs) ≡ false → needs ≡ true
-not_silent true needs l s = cc
-not_silent false true l s = refl
-not_silent false false l s = cc

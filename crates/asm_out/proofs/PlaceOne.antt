@@ -11,7 +11,7 @@ use Rattle.md_forms.specs.Forms.{names_of}
 use Rattle.md_desc.specs.declared.output.Chosen.{Chosen}
 use Rattle.md_desc.specs.Recog.{NoneMatchesOut}
 use Rattle.md_output.specs.Filled.{lines_of}
-use Rattle.form_needs.specs.Needs.{is_kind, is_note, is_label, is_held, output_facts, name_at}
+use Rattle.form_needs.specs.Needs.{is_kind, is_note, is_label, output_facts, name_at}
 use Rattle.form_needs.proofs.OneChosen.{chosen_one, chosen_not}
 use Rattle.pass_refusal.specs.equate.Side.{Lines}
 use Rattle.pass_refusal.specs.equate.Verdict.{Verdict}
@@ -31,42 +31,31 @@ use Rattle.live.proofs.LiveLists.{live_one}
 data Asked : Type 0 where
   OfLabel : Asked
   OfNothing : Asked
-  OfRefusal : Asked
   OfForm : Asked
 
--- by whether it is a label, an instruction, a note, and held
-abbrev asked_by : Bool → Bool → Bool → Bool → Asked
-asked_by true k n h = OfLabel
-asked_by false false n h = OfNothing
-asked_by false true true h = OfNothing
-asked_by false true false true = OfRefusal
-asked_by false true false false = OfForm
+-- by whether it is a label, an instruction, and a note
+abbrev asked_by : Bool → Bool → Bool → Asked
+asked_by true k n = OfLabel
+asked_by false false n = OfNothing
+asked_by false true true = OfNothing
+asked_by false true false = OfForm
 
-silent_asks : (l k n h : Bool) → (not l && not (k && not n)) ≡ true → asked_by l k n h ≡ OfNothing
-silent_asks true k n h e = cc
-silent_asks false false n h e = refl
-silent_asks false true true h e = refl
-silent_asks false true false h e = cc
+silent_asks : (l k n : Bool) → (not l && not (k && not n)) ≡ true → asked_by l k n ≡ OfNothing
+silent_asks true k n e = cc
+silent_asks false false n e = refl
+silent_asks false true true e = refl
+silent_asks false true false e = cc
 
-held_asks : (l k n h : Bool) → (l ≡ true → k ≡ false) → (k && not n) ≡ true → h ≡ true → asked_by l k n h ≡ OfRefusal
-held_asks true false n h apart e held = cc
-held_asks true true n h apart e held = absurd (let none : true ≡ false = apart refl in let never : ⊥ = cc in never)
-held_asks false false n h apart e held = cc
-held_asks false true true h apart e held = cc
-held_asks false true false true apart e held = refl
-held_asks false true false false apart e held = cc
+form_asks : (l k n : Bool) → (l ≡ true → k ≡ false) → (k && not n) ≡ true → asked_by l k n ≡ OfForm
+form_asks true false n apart e = cc
+form_asks true true n apart e = absurd (let none : true ≡ false = apart refl in let never : ⊥ = cc in never)
+form_asks false false n apart e = cc
+form_asks false true true apart e = cc
+form_asks false true false apart e = refl
 
-form_asks : (l k n h : Bool) → (l ≡ true → k ≡ false) → (k && not n) ≡ true → h ≡ false → asked_by l k n h ≡ OfForm
-form_asks true false n h apart e free = cc
-form_asks true true n h apart e free = absurd (let none : true ≡ false = apart refl in let never : ⊥ = cc in never)
-form_asks false false n h apart e free = cc
-form_asks false true true h apart e free = cc
-form_asks false true false true apart e free = cc
-form_asks false true false false apart e free = refl
-
-label_asks : (l k n h : Bool) → l ≡ true → asked_by l k n h ≡ OfLabel
-label_asks true k n h is = refl
-label_asks false k n h is = cc
+label_asks : (l k n : Bool) → l ≡ true → asked_by l k n ≡ OfLabel
+label_asks true k n is = refl
+label_asks false k n is = cc
 
 apart_kinds : (k : Kind) → is_label k ≡ true → is_kind k ≡ false
 apart_kinds kind.Plain h = cc
@@ -76,7 +65,7 @@ apart_kinds kind.Label h = refl
 apart_kinds kind.Barrier h = cc
 
 abbrev asked : Insn → Asked
-asked i = asked_by (is_label i.kind) (is_kind i.kind) (is_note (head_of i.pattern).code) (is_held i)
+asked i = asked_by (is_label i.kind) (is_kind i.kind) (is_note (head_of i.pattern).code)
 
 -- ---- what comes of each
 
@@ -99,7 +88,6 @@ module _ (forms : List Entry) (number : ℕ) (f : Function) (place : ℕ) (i : I
   abbrev Body : Asked → Outcome → Type 0
   Body OfLabel o = o ≡ Ok (label_piece number i.uid)
   Body OfNothing o = o ≡ Ok nothing
-  Body OfRefusal o = o ≡ Err (unmatched_insn i)
   Body OfForm o = (NoneMatchesOut forms output_facts i.pattern × (o ≡ Err (unmatched_insn i))) ⊎ IsCompared o
 
   as_asked : (k : Asked) (o : Outcome) → asked i ≡ k → Body k o → Body (asked i) o
@@ -107,19 +95,17 @@ module _ (forms : List Entry) (number : ℕ) (f : Function) (place : ℕ) (i : I
 
   body_of : (o : Outcome) → PlaceComes forms number f place i o → Body (asked i) o
   body_of _ (PlaceComes.label is small) =
-      as_asked OfLabel (Ok (label_piece number i.uid)) (label_asks (is_label i.kind) (is_kind i.kind) (is_note (head_of i.pattern).code) (is_held i) is) refl
+      as_asked OfLabel (Ok (label_piece number i.uid)) (label_asks (is_label i.kind) (is_kind i.kind) (is_note (head_of i.pattern).code) is) refl
   body_of _ (PlaceComes.silent is) =
-      as_asked OfNothing (Ok nothing) (silent_asks (is_label i.kind) (is_kind i.kind) (is_note (head_of i.pattern).code) (is_held i) is) refl
-  body_of _ (PlaceComes.held needs is) =
-      as_asked OfRefusal (Err (unmatched_insn i)) (held_asks (is_label i.kind) (is_kind i.kind) (is_note (head_of i.pattern).code) (is_held i) (apart_kinds i.kind) needs is) refl
-  body_of _ (PlaceComes.unmatched needs free none) =
-      as_asked OfForm (Err (unmatched_insn i)) (form_asks (is_label i.kind) (is_kind i.kind) (is_note (head_of i.pattern).code) (is_held i) (apart_kinds i.kind) needs free)
+      as_asked OfNothing (Ok nothing) (silent_asks (is_label i.kind) (is_kind i.kind) (is_note (head_of i.pattern).code) is) refl
+  body_of _ (PlaceComes.unmatched needs none) =
+      as_asked OfForm (Err (unmatched_insn i)) (form_asks (is_label i.kind) (is_kind i.kind) (is_note (head_of i.pattern).code) (apart_kinds i.kind) needs)
       (inl (none, refl))
   body_of _ (PlaceComes.refused c lines live e tried is) =
-      as_asked OfForm (Err e) (form_asks (is_label i.kind) (is_kind i.kind) (is_note (head_of i.pattern).code) (is_held i) (apart_kinds i.kind) tried.needs tried.free)
+      as_asked OfForm (Err e) (form_asks (is_label i.kind) (is_kind i.kind) (is_note (head_of i.pattern).code) (apart_kinds i.kind) tried.needs)
       (inr (record { c = c; lines = lines; live = live; tried = tried; is = sym (ap (λ r. outcome_by r (code_piece forms number i c lines)) is) }))
   body_of _ (PlaceComes.equated c lines live tried is) =
-      as_asked OfForm (Ok (code_piece forms number i c lines)) (form_asks (is_label i.kind) (is_kind i.kind) (is_note (head_of i.pattern).code) (is_held i) (apart_kinds i.kind) tried.needs tried.free)
+      as_asked OfForm (Ok (code_piece forms number i c lines)) (form_asks (is_label i.kind) (is_kind i.kind) (is_note (head_of i.pattern).code) (apart_kinds i.kind) tried.needs)
       (inr (record {
         c = c;
         lines = lines;
@@ -146,7 +132,6 @@ module _ (forms : List Entry) (number : ℕ) (f : Function) (place : ℕ) (i : I
   one_body : (k : Asked) (a b : Outcome) → Body k a → Body k b → a ≡ b
   one_body OfLabel a b x y = x ∙ sym y
   one_body OfNothing a b x y = x ∙ sym y
-  one_body OfRefusal a b x y = x ∙ sym y
   one_body OfForm a b x y = one_form a b x y
 
   place_one : (a b : Outcome) → PlaceComes forms number f place i a → PlaceComes forms number f place i b → a ≡ b

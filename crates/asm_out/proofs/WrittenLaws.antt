@@ -89,15 +89,13 @@ module _ (forms : List Entry) (number : ℕ) (f : Function) where
       put_first place i insns first rest piece (label_piece number i.uid) h both chain (AreWritten.label place i insns chain.body rest.items is small chain.are)
   grown place i insns _ first rest piece (PlaceComes.silent is) h both chain =
       put_first place i insns first rest piece nothing h both chain (AreWritten.silent place i insns chain.body rest.items is chain.are)
-  grown place i insns _ first rest piece (PlaceComes.held needs is) h both chain = cc
-  grown place i insns _ first rest piece (PlaceComes.unmatched needs free none) h both chain = cc
+  grown place i insns _ first rest piece (PlaceComes.unmatched needs none) h both chain = cc
   grown place i insns _ first rest piece (PlaceComes.refused c lines live e tried is) h both chain = cc
   grown place i insns _ first rest piece (PlaceComes.equated c lines live tried is) h both chain =
       put_first place i insns first rest piece (code_piece forms number i c lines) h both chain
       (AreWritten.lines place i insns c lines chain.body rest.items
       (record {
         needs = tried.needs;
-        free = tried.free;
         chosen = tried.chosen;
         read = read_all (lines_of (text_of forms number i c)) lines tried.read (equated_acting (i ∷ []) number lines live is);
         live = live;

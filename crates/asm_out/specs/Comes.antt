@@ -1,7 +1,7 @@
 -- What a function comes to at output: a text with the items that it spells, or the first refusal.
 -- GCC Internals, "Pattern Ordering" (the first match), "Multiple Alternative Constraints" and
 -- "Output Template".
-use Rattle.std.specs.Prelude.{◌≡◌, ◌<◌, ◌^◌, ℕ, ◌+◌, true, false, List, [], ◌∷◌, ◌++◌, length, map, nat_le, if◌then◌else◌, Some, Ok, Err}
+use Rattle.std.specs.Prelude.{◌≡◌, ◌<◌, ◌^◌, ℕ, ◌+◌, true, List, [], ◌∷◌, ◌++◌, length, map, nat_le, if◌then◌else◌, Some, Ok, Err}
 use Rattle.rtx_tree.specs.declared.function.Insn.{Insn}
 use Rattle.rtx_tree.specs.declared.function.Function.{Function}
 use Rattle.rv_text.specs.declared.line.Line.{Line}
@@ -11,7 +11,7 @@ use Rattle.md_forms.specs.declared.form.Entry.{Entry}
 use Rattle.md_forms.specs.Forms.{names_of}
 use Rattle.md_desc.specs.declared.output.Chosen.{Chosen}
 use Rattle.md_desc.specs.Recog.{IsChosen, NoneMatchesOut}
-use Rattle.pass_refusal.specs.form_needs.Needs.{is_label, is_silent, needs_form, is_held, output_facts, name_at}
+use Rattle.pass_refusal.specs.form_needs.Needs.{is_label, is_silent, needs_form, output_facts, name_at}
 use Rattle.pass_refusal.specs.equate.Side.{Lines}
 use Rattle.pass_refusal.specs.equate.Equated.{verdict, Equated}
 use Rattle.asm_out.specs.declared.piece.Piece.{Piece}
@@ -30,7 +30,6 @@ use Rattle.asm_out.specs.Outcome.{Outcome, only_text, nothing, outcome_behind}
 pub record IsTried (forms : List Entry) (number : ℕ) (f : Function) (place : ℕ) (i : Insn)
     (c : Chosen) (lines : List Line) (live : List ℕ) : Type 0 where
   pub needs : needs_form i ≡ true
-  pub free : is_held i ≡ false
   pub chosen : IsChosen forms output_facts i.pattern c
   pub read : AreLinesOf (text_of forms number i c) lines
   pub live_after : AreLiveAfter f place live
@@ -49,9 +48,7 @@ pub data PlaceComes (forms : List Entry) (number : ℕ) (f : Function) (place : 
   label : is_label i.kind ≡ true → i.uid < 2 ^ 32 →
       PlaceComes forms number f place i (Ok (label_piece number i.uid))
   silent : is_silent i ≡ true → PlaceComes forms number f place i (Ok nothing)
-  held : needs_form i ≡ true → is_held i ≡ true →
-      PlaceComes forms number f place i (Err (unmatched_insn i))
-  unmatched : needs_form i ≡ true → is_held i ≡ false →
+  unmatched : needs_form i ≡ true →
       NoneMatchesOut forms output_facts i.pattern →
       PlaceComes forms number f place i (Err (unmatched_insn i))
   refused : (c : Chosen) (lines : List Line) (live : List ℕ) (e : PassRefusal) →

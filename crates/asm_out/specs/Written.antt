@@ -1,7 +1,7 @@
 -- What is written of a function: its frame of lines, and in it for each label its line, and for
 -- each instruction that needs a form the filled template of the first that counts, the lines of
 -- which are equated with the instruction over what is live behind it.
-use Rattle.std.specs.Prelude.{◌≡◌, ◌<◌, ◌^◌, ℕ, ◌+◌, true, false, List, [], ◌∷◌, ◌++◌, map}
+use Rattle.std.specs.Prelude.{◌≡◌, ◌<◌, ◌^◌, ℕ, ◌+◌, true, List, [], ◌∷◌, ◌++◌, map}
 use Rattle.std.specs.List.{AllZip}
 use Rattle.rtx_tree.specs.declared.function.Insn.{Insn}
 use Rattle.rtx_tree.specs.declared.function.Function.{Function}
@@ -14,7 +14,7 @@ use Rattle.md_forms.specs.declared.form.Entry.{Entry}
 use Rattle.md_desc.specs.declared.output.Chosen.{Chosen}
 use Rattle.md_desc.specs.Recog.{IsChosen}
 use Rattle.md_output.specs.Filled.{lines_of}
-use Rattle.form_needs.specs.Needs.{is_label, is_silent, needs_form, is_held, output_facts}
+use Rattle.form_needs.specs.Needs.{is_label, is_silent, needs_form, output_facts}
 use Rattle.pass_refusal.specs.equate.Side.{Lines}
 use Rattle.pass_refusal.specs.equate.Equated.{Equated}
 use Rattle.asm_out.specs.declared.piece.Piece.{Piece}
@@ -27,7 +27,6 @@ use Rattle.asm_out.specs.Filled.{text_of, written}
 pub record AreInsnLines (forms : List Entry) (number : ℕ) (f : Function) (place : ℕ) (i : Insn)
     (c : Chosen) (lines : List Line) : Type 0 where
   pub needs : needs_form i ≡ true
-  pub free : is_held i ≡ false
   pub chosen : IsChosen forms output_facts i.pattern c
   pub read : AllZip IsTextOf (lines_of (text_of forms number i c)) lines
   pub live : List ℕ

@@ -81,7 +81,6 @@ pub fn chosen_piece(
     requires labels { (uid : ℕ) → map.get nat_cmp labels.now uid ≡ place_of uid f.now.insns }
     requires rows { AreLiveRows f.now rows.now }
     requires needs { needs.needs_form insn.now ≡ true }
-    requires free { needs.is_held insn.now ≡ false }
     requires chosen { IsChosen description.now needs.output_facts insn.now.pattern chosen.now }
     ensures { Gives result (PlaceComes description.now number f.now place insn.now) }
 {

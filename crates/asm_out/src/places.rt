@@ -12,7 +12,7 @@ ghost use Rattle.pass_refusal.specs.Outcome.{Gives};
 use crate::chosen::chosen_piece;
 use crate::frame::{label, only_text};
 use crate::piece::{Piece, append_piece};
-use form_needs::{is_held, is_silent, output_facts};
+use form_needs::{is_silent, output_facts};
 use md_desc::Description;
 use pass_refusal::{PassRefusal, unmatched};
 use reg_rows::RegRow;
@@ -36,7 +36,6 @@ fn insn_piece(
     requires labels { (uid : ℕ) → map.get nat_cmp labels.now uid ≡ place_of uid f.now.insns }
     requires rows { AreLiveRows f.now rows.now }
     requires needs { needs.needs_form insn.now ≡ true }
-    requires free { needs.is_held insn.now ≡ false }
     ensures { Gives result (PlaceComes description.now number f.now place insn.now) }
 {
     match description.recog_out(alloc, &insn.pattern, &output_facts(alloc))? {
@@ -82,9 +81,6 @@ fn item_piece(
     }
     if is_silent(insn) {
         return Ok(only_text(alloc, Vec::new(alloc)));
-    }
-    if is_held(insn) {
-        return Err(unmatched(alloc, insn)?);
     }
     insn_piece(alloc, description, number, f, labels, rows, place, insn)
 }

@@ -14,7 +14,7 @@ use Rattle.c_cond.specs.declared.part.Part.TheVariants as part
 use Rattle.c_cond.specs.declared.tree.Tree.{Tree}
 use Rattle.c_cond.specs.Tree.{node, leaf, heads_of}
 use Rattle.c_cond.specs.Grammar as grammar
-use Rattle.c_cond.specs.Grammar.{Sort, One, Parts, Statement, Statements, Condition, signature_of, predicate_parts, expression, unary_level, level}
+use Rattle.c_cond.specs.Grammar.{Sort, One, Parts, Statement, Statements, signature_of, predicate_parts, expression, unary_level, level}
 use Rattle.c_cond.specs.machine.Flat as flat
 use Rattle.c_cond.proofs.Growth.{heads_of_all, heads_of-node, one_head, heads_1, heads_2, heads_3, all_1}
 

@@ -10,7 +10,7 @@ use Rattle.c_cond.specs.Tree.{size_of, first_or_nothing}
 use Rattle.c_eval.specs.declared.reading.Reading.{Reading}
 use Rattle.c_eval.specs.declared.walk.Part.{Part}
 use Rattle.c_eval.specs.Fold.{fold_by, fold_step}
-use Rattle.c_eval.specs.machine.Places.{trees_at, count_at, MoreUpTo, IsStart, IsPart, EndsPart}
+use Rattle.c_eval.specs.machine.Places.{trees_at, count_at, MoreUpTo, IsPart, EndsPart}
 use Rattle.c_eval.proofs.Stacks.{with_head, trees_more, count_more, some_trees}
 use Rattle.c_eval.proofs.Lists.{readings_of, reads_one_more, map_reverse, takes_all}
 

@@ -53,11 +53,6 @@ homeless_step x = is_homeless x.code x.number || list_any (λ here. here) x.kids
 abbrev pub names_homeless : Rtx → Bool
 names_homeless = fold-Rtx Bool homeless_step
 
--- A register that is none of the machine has no place in a line: no form counts at output for an
--- instruction that names one.
-abbrev pub is_held : Insn → Bool
-is_held i = names_homeless i.pattern
-
 abbrev pub is_label : Kind → Bool
 is_label Label = true
 is_label _ = false

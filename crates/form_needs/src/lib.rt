@@ -1,9 +1,8 @@
 //! Which instructions need a form, and what conditions know.
 //!
 //! An instruction needs a form where it is none of labels, barriers, and a `use` or `clobber` alone
-//! ([`needs_form`]). No form counts at output for an instruction that names a pseudo register or
-//! the address of the locals, which have no place in a line ([`is_held`]). The facts are those of
-//! conditions before registers have homes and after ([`lower_facts`], [`output_facts`]).
+//! ([`needs_form`]). The facts are those of conditions before registers have homes and after
+//! ([`lower_facts`], [`output_facts`]).
 #![tactic(auto)]
 
 mod facts;
@@ -11,4 +10,4 @@ mod needs;
 
 pub use facts::{lower_facts, name_at, output_facts};
 pub use md_desc::Description;
-pub use needs::{is_held, is_kind, is_silent, needs_form};
+pub use needs::{is_kind, is_silent, needs_form};

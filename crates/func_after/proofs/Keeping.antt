@@ -29,7 +29,10 @@ use Rattle.frame.specs.Framed.{FrameComes}
 use Rattle.frame.proofs.Kept.{is_framed, frame_keeps}
 use Rattle.reload.proofs.WindowLaws.{reload_windows}
 use Rattle.reload.specs.Windows.{HasWindows}
+use Rattle.law_lines_ready.specs.law_no_pseudos.Hard.{IsHardFunction}
 use Rattle.law_lines_ready.specs.Placed.{ArePlaced}
+use Rattle.law_lines_ready.proofs.law_no_pseudos.Reloaded.{reload_hard}
+use Rattle.law_lines_ready.proofs.law_no_pseudos.Framed.{frame_hard}
 use Rattle.law_lines_ready.proofs.Reloaded.{reload_placed}
 use Rattle.law_lines_ready.proofs.Framed.{frame_placed}
 use Rattle.law_lines_ready.proofs.Split.{split_placed}
@@ -40,6 +43,7 @@ use Rattle.func_after.specs.declared.made.Made.{Made}
 use Rattle.func_after.specs.declared.change.Change.{Change}
 use Rattle.func_after.specs.After.{as_read, before_homes, behind_frame, ChangeComes, AfterComes}
 use Rattle.func_after.specs.Leads.{IsDescribed, LeadsToLines}
+use Rattle.func_after.proofs.Hard.{behind_hard}
 use Rattle.func_after.proofs.Changes.{read_by, lower_by, combine_by, split_by, again_by, cover_by, changes_of}
 use Rattle.func_after.proofs.Passing.{PassHolds, all_hold}
 use Rattle.func_after.proofs.Stages.{Stages, stages_of}
@@ -162,8 +166,14 @@ module _ (forms : List Entry) (f : Function) (m : Made) (sound : IsSound f) (s :
   laid = subst (λ (locals : ℕ). IsLaidOut locals layout) (sym (ap (λ (g : Function). g.locals) windows.function_is))
       (laid_out plain s.homes layout frame_is)
 
+  moved_hard : IsHardFunction s.moved
+  moved_hard = reload_hard forms s.homes layout plain s.moved s.are passes.sound.reloadable windows
+
   framed_placed : ArePlaced s.framed
   framed_placed = frame_placed layout laid.preserved s.moved s.framed moved_placed (is_framed forms s.moved s.framed layout s.frames)
+
+  framed_hard : IsHardFunction s.framed
+  framed_hard = frame_hard layout laid.preserved s.moved s.framed moved_hard (is_framed forms s.moved s.framed layout s.frames)
 
   keeps : KeepsInFrame s.moved layout s.framed
   keeps = frame_keeps forms s.moved s.framed layout laid (placed_registers s.moved moved_placed) s.frames
@@ -171,6 +181,9 @@ module _ (forms : List Entry) (f : Function) (m : Made) (sound : IsSound f) (s :
   last : KeepsPlaced (record { function = s.framed; combined = s.combined; layout = layout }) m
   last = all_hold forms KeptPlaced placed_same placed_joined behind_frame (record { function = s.framed; combined = s.combined; layout = layout }) m
       (Ok m) refl (behind_keeps forms) s.behind framed_placed
+
+  last_hard : IsDescribed forms → IsHardFunction m.function
+  last_hard described = behind_hard forms described (record { function = s.framed; combined = s.combined; layout = layout }) m s.behind framed_hard
 
   same_by : IsDescribed forms → (items : List CodeItem) → SameWhereLeft m.function items → Same layout.size f items
   same_by described items lines_do =
@@ -186,7 +199,7 @@ module _ (forms : List Entry) (f : Function) (m : Made) (sound : IsSound f) (s :
 
   leads_by : IsDescribed forms → LeadsToLines f m
   leads_by described = record {
-    writable = placed_writable m.function last.placed;
+    writable = placed_writable m.function last.placed (last_hard described);
     holds = subst (λ (l : Layout). f.locals ≤ l.size) (sym last.layout_is) holds;
     small = subst (λ (l : Layout). l.size ≤ most_frame) (sym last.layout_is)
         (small_by forms s.moved s.framed layout (Ok s.framed) refl s.frames);

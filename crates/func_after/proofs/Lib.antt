@@ -9,6 +9,7 @@ pub mod Passing
 pub mod Kept
 pub mod Short
 pub mod Stages
+pub mod Hard
 pub mod Keeping
 pub use Rattle.law_passes.proofs.law_insn_replaced as law_insn_replaced
 pub use Rattle.law_lines_ready.proofs.law_output as law_output

@@ -7,7 +7,7 @@ use Rattle.md_forms.specs.declared.form.Entry.{Entry}
 use Rattle.md_forms.specs.Forms.{names_of}
 use Rattle.md_desc.specs.declared.output.Chosen.{Chosen}
 use Rattle.md_desc.specs.Recog.{IsChosen}
-use Rattle.form_needs.specs.Needs.{needs_form, is_held, output_facts}
+use Rattle.form_needs.specs.Needs.{needs_form, output_facts}
 use Rattle.form_needs.proofs.OneChosen.{both, chosen_one, chosen_not}
 use Rattle.func_input.specs.Outcome.{Outcome}
 use Rattle.func_after.specs.Each.{EachComes}
@@ -26,21 +26,14 @@ module _ (es : List Entry) (function : List ℕ) (i : Insn) where
 
   output_one : (a b : Outcome) → OutputComes es function i a → OutputComes es function i b → a ≡ b
   output_one _ _ (OutputComes.free e) (OutputComes.free f) = refl
-  output_one _ _ (OutputComes.free e) (OutputComes.held f h) = absurd (both (needs_form i) f e)
-  output_one _ _ (OutputComes.free e) (OutputComes.chosen c f h m) = absurd (both (needs_form i) f e)
-  output_one _ _ (OutputComes.free e) (OutputComes.unmatched f h none) = absurd (both (needs_form i) f e)
-  output_one _ _ (OutputComes.held e h) (OutputComes.free f) = absurd (both (needs_form i) e f)
-  output_one _ _ (OutputComes.held e h) (OutputComes.held f k) = refl
-  output_one _ _ (OutputComes.held e h) (OutputComes.chosen c f k m) = absurd (both (is_held i) h k)
-  output_one _ _ (OutputComes.held e h) (OutputComes.unmatched f k none) = refl
-  output_one _ _ (OutputComes.chosen c e h m) (OutputComes.free f) = absurd (both (needs_form i) e f)
-  output_one _ _ (OutputComes.chosen c e h m) (OutputComes.held f k) = absurd (both (is_held i) k h)
-  output_one _ _ (OutputComes.chosen c e h m) (OutputComes.chosen d f k n) = ap (λ (t : List ℕ). Ok t) (same_line c d m n)
-  output_one _ _ (OutputComes.chosen c e h m) (OutputComes.unmatched f k none) = absurd (chosen_not es output_facts i.pattern c m none)
-  output_one _ _ (OutputComes.unmatched e h none) (OutputComes.free f) = absurd (both (needs_form i) e f)
-  output_one _ _ (OutputComes.unmatched e h none) (OutputComes.held f k) = refl
-  output_one _ _ (OutputComes.unmatched e h none) (OutputComes.chosen c f k m) = absurd (chosen_not es output_facts i.pattern c m none)
-  output_one _ _ (OutputComes.unmatched e h none) (OutputComes.unmatched f k other) = refl
+  output_one _ _ (OutputComes.free e) (OutputComes.chosen c f m) = absurd (both (needs_form i) f e)
+  output_one _ _ (OutputComes.free e) (OutputComes.unmatched f none) = absurd (both (needs_form i) f e)
+  output_one _ _ (OutputComes.chosen c e m) (OutputComes.free f) = absurd (both (needs_form i) e f)
+  output_one _ _ (OutputComes.chosen c e m) (OutputComes.chosen d f n) = ap (λ (t : List ℕ). Ok t) (same_line c d m n)
+  output_one _ _ (OutputComes.chosen c e m) (OutputComes.unmatched f none) = absurd (chosen_not es output_facts i.pattern c m none)
+  output_one _ _ (OutputComes.unmatched e none) (OutputComes.free f) = absurd (both (needs_form i) e f)
+  output_one _ _ (OutputComes.unmatched e none) (OutputComes.chosen c f m) = absurd (chosen_not es output_facts i.pattern c m none)
+  output_one _ _ (OutputComes.unmatched e none) (OutputComes.unmatched f other) = refl
 
 -- ---- functions
 

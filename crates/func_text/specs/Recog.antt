@@ -11,7 +11,7 @@ use Rattle.md_forms.specs.declared.form.Entry.{Entry}
 use Rattle.md_forms.specs.Forms.{names_of}
 use Rattle.md_desc.specs.declared.output.Chosen.{Chosen}
 use Rattle.md_desc.specs.Recog.{IsChosen, NoneMatchesOut}
-use Rattle.form_needs.specs.Needs.{needs_form, is_held, output_facts, name_at}
+use Rattle.form_needs.specs.Needs.{needs_form, output_facts, name_at}
 use Rattle.func_input.specs.Outcome.{Outcome}
 use Rattle.func_after.specs.Each.{EachComes}
 use Rattle.func_after.specs.After.{unmatched_at, AfterComes}
@@ -28,10 +28,8 @@ line_of names function uid form alternative = function ++ (32 ∷ (decimal uid +
 -- at output: the line of the first form that counts, with the lowest enabled alternative that fits
 pub data OutputComes (forms : List Entry) (function : List ℕ) (i : Insn) : Outcome → Type 0 where
   free : needs_form i ≡ false → OutputComes forms function i (Ok [])
-  held : needs_form i ≡ true → is_held i ≡ true →
-      OutputComes forms function i (Err (unmatched_at Output function i))
-  chosen : (c : Chosen) → needs_form i ≡ true → is_held i ≡ false → IsChosen forms output_facts i.pattern c → OutputComes forms function i (Ok (line_of (names_of forms) function i.uid c.form c.alternative))
-  unmatched : needs_form i ≡ true → is_held i ≡ false →
+  chosen : (c : Chosen) → needs_form i ≡ true → IsChosen forms output_facts i.pattern c → OutputComes forms function i (Ok (line_of (names_of forms) function i.uid c.form c.alternative))
+  unmatched : needs_form i ≡ true →
       NoneMatchesOut forms output_facts i.pattern →
       OutputComes forms function i (Err (unmatched_at Output function i))
 

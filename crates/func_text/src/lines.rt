@@ -7,7 +7,7 @@ ghost use Rattle.func_after.specs.Each.{EachComes};
 ghost use Rattle.func_text.specs.Recog as spec;
 ghost use Rattle.func_text.specs.Recog.{OutputComes};
 
-use form_needs::{is_held, name_at, needs_form, output_facts};
+use form_needs::{name_at, needs_form, output_facts};
 use func_after::unmatched;
 use md_desc::{Chosen, Description};
 use pass_name::Pass;
@@ -68,9 +68,6 @@ fn print_insn(
 {
     if !needs_form(insn) {
         return Ok(());
-    }
-    if is_held(insn) {
-        return Err(unmatched(alloc, Pass::Output, function, insn)?);
     }
     match desc.recog_out(alloc, &insn.pattern, &output_facts(alloc))? {
         Some(chosen) => Ok(print_chosen(names, function, insn.uid, &chosen, out)?),

@@ -2,7 +2,6 @@
 use Rattle.std.proofs.Common.{◌≡◌, List, ◌++◌, map, Option, sym, ap, ◌∙◌}
 use Rattle.std.specs.Prelude.{option_map}
 use Rattle.rtx_tree.specs.declared.tree.Rtx.{Rtx}
-use Rattle.md_match.specs.Pattern.{Ops, all_instantiated}
 
 -- instances put before those of other patterns, where these are there
 abbrev pub with_front : List Rtx → Option (List Rtx) → Option (List Rtx)

@@ -9,7 +9,7 @@ use Rattle.c_cond.specs.declared.tree.Tree.TheFolds.{fold-roll-Tree, ind-Tree, m
 use Rattle.c_cond.specs.Tree.{node}
 use Rattle.c_eval.specs.declared.facts.Facts.{Facts}
 use Rattle.md_recog.specs.Match.{Accepts}
-use Rattle.gen_emit.specs.Statements.{Meaning, meaning, meaning_by, meaning_step, number_in}
+use Rattle.gen_emit.specs.Statements.{Meaning, meaning, meaning_by, meaning_step}
 use Rattle.gen_emit.specs.machine.Plans.{size, size_step}
 
 -- ---- induction over trees

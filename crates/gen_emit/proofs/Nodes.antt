@@ -5,7 +5,7 @@ use Rattle.std.specs.List.{AllByRecursion}
 use Rattle.std.proofs.Math.Seq.{take-append_seam}
 use Rattle.std.proofs.lemmas.List.{take_all, append-nil}
 use Rattle.c_words.specs.declared.head.CondHead.{CondHead}
-use Rattle.c_cond.specs.declared.tree.Tree.{Tree, out-Tree, out-roll-Tree}
+use Rattle.c_cond.specs.declared.tree.Tree.{Tree, out-roll-Tree}
 use Rattle.c_cond.specs.declared.tree.Tree.TheOpen.{Tree-F}
 use Rattle.c_cond.specs.Tree.{node, size_of, first_or_nothing}
 use Rattle.c_eval.specs.machine.Places.{trees_at}

@@ -5,7 +5,6 @@ use Rattle.c_words.specs.declared.head.CondHead.{CondHead}
 use Rattle.c_eval.specs.declared.facts.Facts.{Facts}
 use Rattle.md_recog.specs.Match.{Accepts}
 use Rattle.gen_emit.specs.declared.draft.Draft.{Draft}
-use Rattle.gen_emit.specs.declared.draft.Ended.{Ended}
 use Rattle.gen_emit.specs.declared.layout.Parts.{Parts}
 use Rattle.gen_emit.specs.declared.plan.Task.TheVariants as task
 use Rattle.gen_emit.specs.declared.plan.Plan.{Plan}

@@ -3,7 +3,6 @@
 -- project.
 use Rattle.std.specs.Prelude.{ℕ, ℤ, List, [], ◌∷◌, map, if◌then◌else◌, Option, Some, None, option_map, option_and_then}
 use Rattle.rtx_tree.specs.declared.code.Mode.{Mode}
-use Rattle.rtx_tree.specs.declared.tree.Rtx.{Rtx}
 use Rattle.rtx_tree.specs.Tree.{const_of}
 use Rattle.rtx_tree.specs.Operands.{operand_at}
 use Rattle.c_words.specs.declared.head.Call.{Call}

@@ -10,7 +10,7 @@ use Rattle.func_run.specs.declared.outcome.Outcome.TheVariants as rtl
 use Rattle.rv_line.specs.Run.{entry, run}
 use Rattle.rv_line.specs.declared.outcome.CodeOutcome.{CodeOutcome}
 use Rattle.rv_line.specs.declared.outcome.CodeOutcome.TheVariants as code
-use Rattle.same_behaviour.specs.Lawful.{IsLawful, IsLawfulReply, IsLawfulWorld, seen_by_rtl}
+use Rattle.same_behaviour.specs.Lawful.{IsLawful, IsLawfulWorld, seen_by_rtl}
 use Rattle.same_behaviour.specs.Lawful as lawful
 use Rattle.same_behaviour.specs.Same.{SameOutcome}
 use Rattle.law_image.specs.WordsDo.{Comes, IsWordReply}

@@ -19,7 +19,7 @@ use Rattle.rv_text.specs.declared.action.Action.TheVariants.{SymbolAddress}
 use Rattle.rv_text.specs.declared.mnemonic.Mnemonic.{Mnemonic}
 use Rattle.rv_text.specs.declared.mnemonic.Mnemonic.TheVariants as mnemonic
 use Rattle.rv_line.specs.Run as lines
-use Rattle.rv_line.specs.Run.{Running, args_of, call_of}
+use Rattle.rv_line.specs.Run.{Running, call_of}
 use Rattle.rv_line.specs.Step.{set_rd, branch_end, call_end, act, step, step_as}
 use Rattle.rv_line.specs.declared.state.RvState.{RvState}
 use Rattle.rv_line.specs.declared.state.LineEnd.{LineEnd}

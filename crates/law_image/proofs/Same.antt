@@ -17,7 +17,7 @@ use Rattle.rv_image.specs.Image.{entries_from, first_entry, size_of, sizes, word
 use Rattle.rv_image.specs.declared.image.CodeUnit.{CodeUnit}
 use Rattle.rv_image.specs.declared.image.Image.{Image}
 use Rattle.words_run.specs.Run as words
-use Rattle.words_run.specs.Run.{Fetching, own_words, words_run}
+use Rattle.words_run.specs.Run.{Fetching, own_words}
 use Rattle.words_run.proofs.Own.{own_are}
 use Rattle.words_run.proofs.Fill.{words_fill}
 use Rattle.law_image.proofs.Turns.{fetching}

@@ -19,13 +19,12 @@ use Rattle.rtl_func.specs.Uids.{uids_of}
 use Rattle.rtl_step.specs.Step.{Stepped, step, is_mark, place_from}
 use Rattle.rtl_step.specs.declared.step.State.{State}
 use Rattle.func_run.specs.Run.{run_of, taken, entry_of, goes_on}
-use Rattle.func_run.specs.declared.outcome.Outcome.TheVariants.{Undefined}
 use Rattle.rtl_chain.specs.Counts.{greatest_uid}
 use Rattle.rtl_chain.specs.End.{return_insn, IsFinished}
 use Rattle.reg_uses.specs.Uses.{is_return_code, is_return}
 use Rattle.rtx_open.proofs.Expressions.{node, none, gathers}
 use Rattle.law_pass_needs.specs.sym_insns.Shape.{natural_step, all_natural}
-use Rattle.law_function_kept.specs.Ends.{is_past, ends_past, EndsAtExit}
+use Rattle.law_function_kept.specs.Ends.{is_past, ends_past}
 use Rattle.law_function_kept.specs.Keeps.{Keeps, KeepsRun}
 use Rattle.law_function_kept.specs.Outcomes.{SameOutcome}
 use Rattle.law_window_replaced.proofs.law_kept_composed.Keeping.{outcome_refl}

@@ -3,18 +3,18 @@ use Rattle.std.proofs.Common.{◌≡◌, ◌⊎◌, ⊎_elim, inl, inr, ℕ, ◌
 use Rattle.std.specs.Prelude.{option_and_then}
 use Rattle.std.specs.List.{AllByRecursion}
 use Rattle.std.proofs.lemmas.Bool.{false≢true, true≢false}
-use Rattle.rtx_tree.specs.declared.code.Code.TheVariants.{Set, LabelRef, IfThenElse}
+use Rattle.rtx_tree.specs.declared.code.Code.TheVariants.{Set, IfThenElse}
 use Rattle.rtx_tree.specs.declared.function.Insn.{Insn}
 use Rattle.rtx_tree.specs.declared.function.Kind.{Kind}
 use Rattle.rtx_tree.specs.declared.function.Kind.TheVariants as kind
 use Rattle.rtx_tree.specs.declared.tree.Rtx.{Rtx, out-Rtx}
-use Rattle.rtx_tree.specs.Patterns.{is_pc, label_of, place_of}
+use Rattle.rtx_tree.specs.Patterns.{label_of, place_of}
 use Rattle.rtl_func.specs.declared.flow.Flow.{Flow}
 use Rattle.rtl_func.specs.declared.flow.Flow.TheVariants.{Goes, Branches, Stops}
 use Rattle.rtl_func.specs.Successors.{goes_to, branches_to, source_flow_by, source_flow, jump_flow_by, jump_flow}
 use Rattle.reg_uses.specs.Uses.{is_return}
 use Rattle.term_tree.specs.Tree.{width_of}
-use Rattle.law_pass_needs.specs.sym_state.State.{State, Runs, falls, start}
+use Rattle.law_pass_needs.specs.sym_state.State.{State, Runs, start}
 use Rattle.law_pass_needs.specs.sym_insns.Effects.{uid_in, target_uid, jump_source, label_by, jump_label, has_target, effects_of}
 use Rattle.law_pass_needs.specs.sym_insns.Run.{after_kind, run_from, run}
 use Rattle.law_pass_needs.specs.sym_insns.Shape.{is_shaped, is_end, fits_kind, bad_from, bad_insn}

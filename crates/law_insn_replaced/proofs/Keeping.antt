@@ -4,7 +4,6 @@ use Rattle.std.specs.Prelude.{slice_get, take, drop, if◌then◌else◌}
 use Rattle.std.specs.List.{list_all, AllByRecursion}
 use Rattle.std.proofs.lemmas.Bool.{true≢false, and_parts, and_from, and_right}
 use Rattle.std.proofs.lemmas.Bool.Decides.{nat_tests}
-use Rattle.rtx_tree.specs.RegSet.{has_reg}
 use Rattle.rtx_tree.specs.declared.function.ArgUse.{ArgUse}
 use Rattle.rtx_tree.specs.declared.function.Insn.{Insn}
 use Rattle.rtx_tree.specs.declared.function.Function.{Function}
@@ -19,7 +18,6 @@ use Rattle.live.specs.Live.{IsLiveAfter, AreLiveAfter}
 use Rattle.insn_replace.specs.sym_diff.Registers.{is_live}
 use Rattle.insn_replace.proofs.law_insn_terms.Kept.{natural_insn}
 use Rattle.law_pass_needs.specs.form_needs.Needs.{is_kind}
-use Rattle.insn_replace.specs.pass_refusal.declared.refusal.PassRefusal.{PassRefusal}
 use Rattle.new_insns.specs.Made.{kind_of, uses_between, insn_for, insns_for}
 use Rattle.new_insns.specs.Replaced.{window, replaced}
 use Rattle.insn_replace.specs.equate.Side.{Insns, is_one_return, both_return}

@@ -23,7 +23,7 @@ use Rattle.term_mean.specs.Sums.{constant_in}
 use Rattle.sym_insns.specs.sym_state.State.{Changed, Need, Register, Lost, Access, Divisor, Symbol}
 use Rattle.sym_insns.specs.sym_state.Registers.{held, need_of, read_needs}
 use Rattle.sym_insns.specs.Value as spec
-use Rattle.sym_insns.specs.Value.{Made, Reading}
+use Rattle.sym_insns.specs.Value.{Reading}
 use Rattle.sym_insns.specs.Shape.{is_natural, natural_step, all_natural}
 use Rattle.law_insn_terms.proofs.Places.{same_number, IsNatural}
 use Rattle.law_insn_terms.proofs.Bools.{both_of, or_first, or_later}

@@ -3,7 +3,7 @@ use Rattle.std.proofs.Common.{◌≡◌, ◌≢◌, ℕ, ◌≤◌, arith, refl,
 use Rattle.rtx_tree.specs.declared.function.Function.{Function}
 use Rattle.rtx_tree.specs.declared.machine.Start.{Start}
 use Rattle.rtx_tree.specs.declared.machine.World.{World}
-use Rattle.func_run.specs.Run.{run_of, taken}
+use Rattle.func_run.specs.Run.{run_of}
 use Rattle.func_run.specs.declared.outcome.Outcome.{Outcome}
 use Rattle.func_run.specs.declared.outcome.Outcome.TheVariants.{Undefined, Running, Asked, Returned}
 use Rattle.law_function_kept.specs.Outcomes.{SameOutcome}

@@ -6,7 +6,6 @@ use Rattle.rtx_tree.specs.declared.code.Mode.{Mode}
 use Rattle.rtx_tree.specs.declared.function.Function.{Function}
 use Rattle.rtx_tree.specs.declared.machine.Start.{Start}
 use Rattle.rtx_tree.specs.declared.machine.World.{World}
-use Rattle.rtl_step.specs.declared.call.ArgValue.{ArgValue}
 use Rattle.rtl_step.specs.declared.call.CallEvent.{CallEvent}
 use Rattle.func_run.specs.Run.{run_of, taken}
 use Rattle.func_run.specs.declared.outcome.Outcome.{Outcome}
@@ -18,7 +17,7 @@ use Rattle.rv_line.specs.declared.outcome.CodeOutcome.{CodeOutcome}
 use Rattle.rv_line.specs.declared.outcome.CodeOutcome.TheVariants as code
 use Rattle.law_function_kept.specs.same_behaviour.Lawful.{IsLawful, IsLawfulReply, IsLawfulWorld, is_below_sp, seen_by_rtl}
 use Rattle.law_function_kept.specs.same_behaviour.Same as same
-use Rattle.law_function_kept.specs.same_behaviour.Same.{Same, SameFrom, SameCall, SameCalls, SameArg, SameArgs, SameResult}
+use Rattle.law_function_kept.specs.same_behaviour.Same.{Same, SameFrom, SameCall, SameCalls, SameResult}
 use Rattle.law_function_kept.proofs.same_behaviour.Kept.{memory_kept}
 use Rattle.law_function_kept.specs.Outcomes.{SameEvent, SameEvents, SameOutcome}
 use Rattle.law_function_kept.specs.Keeps.{Keeps, IsMachineStart, IsMachineReply, IsMachineWorld}

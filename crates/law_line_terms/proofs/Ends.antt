@@ -27,7 +27,7 @@ use Rattle.sym_lines.specs.sym_state.State.{State, Symbol, own_symbol, needs_at}
 use Rattle.sym_lines.specs.Compute.{relation_of}
 use Rattle.sym_lines.specs.Step as spec
 use Rattle.law_insn_terms.specs.Needs as needs
-use Rattle.law_insn_terms.specs.Needs.{is_met, are_met}
+use Rattle.law_insn_terms.specs.Needs.{are_met}
 use Rattle.law_insn_terms.specs.Shows.{IsOf}
 use Rattle.law_insn_terms.proofs.Values.{both_met}
 use Rattle.law_line_terms.specs.ShowsLine.{IsFirst, ShowsLine}

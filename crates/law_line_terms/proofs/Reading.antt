@@ -21,7 +21,7 @@ use Rattle.sym_lines.specs.sym_state.State.{State, Need, own_register}
 use Rattle.sym_lines.specs.sym_state.Registers.{held, term_held, need_of}
 use Rattle.sym_lines.specs.Step as spec
 use Rattle.law_insn_terms.specs.Needs as needs
-use Rattle.law_insn_terms.specs.Needs.{is_met, are_met}
+use Rattle.law_insn_terms.specs.Needs.{are_met}
 use Rattle.law_line_terms.specs.ShowsLine.{IsFirst, ShowsNumber, ShowsLine}
 
 module _ (v : Valuation) (f : needs.First) (first : List (Option ℕ)) (is_first : IsFirst v f first) where

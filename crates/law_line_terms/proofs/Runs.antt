@@ -17,10 +17,10 @@ use Rattle.term_mean.specs.Meaning.{Valuation, mean}
 use Rattle.term_mean.specs.Stores.{Stored}
 use Rattle.term_mean.proofs.SumLaws.{mean-constant}
 use Rattle.law_insn_terms.specs.law_window_runs.Beside.{IsMachine}
-use Rattle.law_insn_terms.specs.law_window_runs.Lines.{LinesCome, come_to, line_goes_on, lines_come}
+use Rattle.law_insn_terms.specs.law_window_runs.Lines.{come_to, line_goes_on, lines_come}
 use Rattle.law_insn_terms.specs.law_window_runs.Lines as window
 use Rattle.sym_lines.specs.sym_state.State as sym
-use Rattle.sym_lines.specs.sym_state.State.{State, Ran, Runs, start, is_within, ran}
+use Rattle.sym_lines.specs.sym_state.State.{State, Runs, start, is_within, ran}
 use Rattle.sym_lines.specs.Step.{act}
 use Rattle.sym_lines.specs.Run.{label_uid, fits_action, bad_from, bad_line, act_as, after, run_from, run}
 use Rattle.law_insn_terms.specs.Needs.{First}

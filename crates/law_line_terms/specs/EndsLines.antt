@@ -8,7 +8,7 @@ use Rattle.law_insn_terms.specs.law_window_runs.Beside.{reads}
 use Rattle.law_insn_terms.specs.law_window_runs.Lines.{Falls, Goes, Calls, LinesCome, lines_come}
 use Rattle.term_mean.specs.Meaning.{Valuation, mean}
 use Rattle.sym_lines.specs.sym_state.State as sym
-use Rattle.sym_lines.specs.sym_state.State.{State, Call, Runs}
+use Rattle.sym_lines.specs.sym_state.State.{State, Call}
 use Rattle.sym_lines.specs.sym_state.Registers.{left_by_call}
 use Rattle.sym_lines.specs.Step.{args_from}
 use Rattle.sym_lines.specs.Run.{label_uid}

@@ -6,3 +6,4 @@ pub mod Split
 pub mod Written
 pub mod Given
 pub use Rattle.law_output.proofs as law_output
+pub use Rattle.law_no_pseudos.proofs as law_no_pseudos

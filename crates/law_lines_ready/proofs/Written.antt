@@ -1,8 +1,8 @@
--- A function whose instructions are placed is one for which lines can be written.
+-- A function whose instructions are placed and name registers of the machine alone is one for which lines can be written.
 use Rattle.std.proofs.Common.{◌≡◌, inl, inr, ℕ, ◌<◌, ◌^◌, ◌==◌, ◌&&◌, not, Bool, true, false, List}
 use Rattle.std.proofs.Common.{[], ◌∷◌, Some, refl, sym, ap, ◌∙◌, arith}
 use Rattle.std.specs.Int.{cast_unsigned, w64}
-use Rattle.std.specs.List.{All, list_all}
+use Rattle.std.specs.List.{All, AllByRecursion, list_all}
 use Rattle.std.specs.Prelude.{ℤ, pos, negsuc}
 use Rattle.std.proofs.lemmas.Bool.{false≢true, true≢false, false_from_ne_true, and_parts, and_right, or_from}
 use Rattle.std.proofs.lemmas.Bool.Decides.{Decides-int_eq, nat_tests}
@@ -26,8 +26,8 @@ use Rattle.split.specs.form_needs.Needs.{is_kind, is_label, is_note, is_silent, 
 use Rattle.law_reload.proofs.law_rules.Mentions.{used_stands}
 use Rattle.law_reload.proofs.law_rules.Registers.{is_no_argument, stands_homeless}
 use Rattle.law_reload.specs.law_rules.ForLines.{UsesHard, IsQuiet}
-use Rattle.law_output.proofs.law_pass_needs.Places.{all_weaker}
 use Rattle.law_reload.proofs.law_window_replaced.Trees.{natural_here, natural_kids}
+use Rattle.law_no_pseudos.specs.Hard.{IsHardInsn, AreHardInsns, IsHardFunction}
 use Rattle.law_lines_ready.specs.Placed.{IsInsnPlaced, ArePlaced}
 use Rattle.law_output.specs.Ready.{IsInsnWritable, AreWritable}
 use Rattle.law_lines_ready.proofs.Notes.{form_unmarked}
@@ -140,14 +140,18 @@ named x natural = all_named (effects_of x) (effects_natural (head_of x).code (ki
 
 -- ---- an instruction, and a function
 
-insn_writable : (i : Insn) → IsInsnPlaced i → IsInsnWritable i
-insn_writable i is = record {
+insn_writable : (i : Insn) → IsInsnPlaced i → IsHardInsn i → IsInsnWritable i
+insn_writable i is hard = record {
   marks = is.marks;
   label = is.label;
   silent = silent i is;
-  formed = formed i is;
+  formed = λ needs. formed i is needs hard;
   named = λ plain. named i.pattern is.natural;
 }
 
-pub placed_writable : (f : Function) → ArePlaced f → AreWritable f
-placed_writable f placed = all_weaker IsInsnPlaced IsInsnWritable insn_writable f.insns placed
+each_writable : (insns : List Insn) → AllByRecursion IsInsnPlaced insns → AreHardInsns insns → AllByRecursion IsInsnWritable insns
+each_writable [] placed hard = tt
+each_writable (i ∷ insns) placed hard = (insn_writable i placed.0 hard.0, each_writable insns placed.1 hard.1)
+
+pub placed_writable : (f : Function) → ArePlaced f → IsHardFunction f → AreWritable f
+placed_writable f placed hard = each_writable f.insns placed hard

@@ -7,16 +7,14 @@ use Rattle.law_operands_replaced.specs.rtx_tree.declared.tree.Rtx.{Rtx}
 use Rattle.law_operands_replaced.specs.rtl_step.Effect.{effects_of, reg_after, regs_after, bytes_after, memory_after}
 use Rattle.law_operands_replaced.specs.rtl_step.Regs.{Regs}
 use Rattle.law_operands_replaced.specs.rtl_step.declared.effect.Effect.{Effect}
-use Rattle.law_operands_replaced.specs.law_window_kept.Same.{KnownToo}
 use Rattle.law_operands_replaced.specs.Held.{Held, Holds}
 use Rattle.law_operands_replaced.specs.Spare.{is_spare, KnowsRest, KeepsRest}
 use Rattle.law_operands_replaced.specs.Straight.{Straight, done, next}
 use Rattle.law_operands_replaced.proofs.Cells.{AreThere}
 use Rattle.law_operands_replaced.proofs.Delays.{Delays, delayed_memory, delayed_regs}
-use Rattle.law_operands_replaced.proofs.Ends.{IsOnRest, AreSpare, apart_of, after_alike, still_holds, Stays, Ended, fresh_holds}
+use Rattle.law_operands_replaced.proofs.Ends.{IsOnRest, AreSpare, apart_of, after_alike, still_holds, Ended, fresh_holds}
 use Rattle.law_operands_replaced.proofs.Fetches.{IsFresh, AllFetched, Rest, keeps_knows}
 use Rattle.law_operands_replaced.proofs.Instead.{Instead, instead_memory, instead_known, one_too}
-use Rattle.law_operands_replaced.proofs.Registers.{value_alike}
 use Rattle.law_operands_replaced.proofs.StraightLaws.{straight_both, straight_told}
 use Rattle.law_operands_fetched.proofs.Window.{AllStay, Leads, memory_both, regs_both, all_too, alike_knows, knows_alike, told_instead}
 

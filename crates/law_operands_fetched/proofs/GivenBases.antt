@@ -14,7 +14,7 @@ use Rattle.assign.specs.declared.home.Home.{Home}
 use Rattle.assign.specs.declared.home.Home.TheVariants.{Hard, Slot}
 use Rattle.assign.specs.declared.home.HomeOf.{HomeOf}
 use Rattle.assign.specs.declared.places.Layout.{Layout}
-use Rattle.reload_homes.specs.Homes.{home_of, register_in, register_numbered, register_by, register_at, place_by, place_for, homed}
+use Rattle.reload_homes.specs.Homes.{home_of, register_in, register_numbered, register_by, register_at, place_by, homed}
 use Rattle.reload_homes.specs.Homes as place_homes
 use Rattle.reload_homes.proofs.Rewrites.{homed_register, homed_over}
 use Rattle.reload_homes.proofs.Wrapping.{number_wraps}

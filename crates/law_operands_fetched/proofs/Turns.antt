@@ -25,10 +25,9 @@ use Rattle.law_operands_fetched.proofs.AsksBefore.{if_asked, turn_asks, far_asks
 use Rattle.law_operands_replaced.proofs.Fetches.{offset_by}
 use Rattle.law_operands_fetched.proofs.FetchOne.{far_part, far_base_fetched, itself_fetched, source_there, on_fetched, through_fetched}
 use Rattle.law_operands_fetched.proofs.Fetching as fetching
-use Rattle.law_operands_fetched.proofs.Fetching.{Fetching, Made, Told, made_none, made_both, once, each_told, spare_some, spare_no_pointer}
+use Rattle.law_operands_fetched.proofs.Fetching.{Fetching, Made, made_none, spare_some, spare_no_pointer}
 use Rattle.law_operands_fetched.proofs.OnRegister.{far_new, far_mode}
 use Rattle.law_operands_fetched.proofs.TurnParts as parts
-use Rattle.law_operands_fetched.proofs.TurnParts.{some_there}
 
 or_last : (a b : Bool) → a || (b || true) ≡ true
 or_last true b = refl

@@ -13,11 +13,10 @@ use Rattle.rtx_tree.specs.declared.code.Mode.{Mode}
 use Rattle.rtx_tree.specs.declared.machine.SymbolAt.{SymbolAt}
 use Rattle.rtx_tree.specs.declared.memories.MemByte.{MemByte}
 use Rattle.rtx_tree.specs.declared.tree.Rtx.{Rtx}
-use Rattle.rtl_func.specs.Shapes.{class_at, mode_at, is_place, is_effect, is_shaped}
+use Rattle.rtl_func.specs.Shapes.{class_at, is_effect}
 use Rattle.rtl_func.proofs.AllPass.{all_pass}
-use Rattle.rtl_step.specs.Effect.{effect_of, effect_by, clobber_effect, clobber_by, address_of, register_of, register_by, set_place}
+use Rattle.rtl_step.specs.Effect.{effect_of, effect_by, clobber_effect, clobber_by, register_of, register_by}
 use Rattle.rtl_step.specs.Regs.{Regs}
-use Rattle.rtl_step.specs.Value.{width_of}
 use Rattle.rtl_step.specs.declared.effect.Effect.{Effect}
 use Rattle.rtl_step.specs.declared.effect.Effect.TheVariants.{Nothing}
 use Rattle.md_match.specs.Pattern.{Ops, role_of, operand_numbered}
@@ -25,17 +24,14 @@ use Rattle.md_match.specs.declared.role.Role.{Role}
 use Rattle.md_match.specs.declared.role.Role.TheVariants.{Operand, Operator, Itself}
 use Rattle.reload_operands.specs.Put.{put}
 use Rattle.reload_operands.proofs.PutLaws.{put_operand}
-use Rattle.law_operands_replaced.specs.Places.{AtOnePlace, first, later, StandsFor, itself, part}
+use Rattle.law_operands_replaced.specs.Places.{first, itself, part}
 use Rattle.law_operands_replaced.specs.Spare.{is_spare, KnowsRest}
-use Rattle.law_operands_replaced.proofs.Addresses.{is_new_class, IsNewTree, AddressToo, all_same}
-use Rattle.law_operands_replaced.proofs.ElementTurns.{effect_code, key_of, NewFor, stays_for, moves_for, AllNew, AllReads, all_read, same_head, one_part, part_new, at_first, whole_kids, no_low, memory_is, same_target, memory_code_of}
+use Rattle.law_operands_replaced.proofs.Addresses.{is_new_class, IsNewTree, AddressToo}
+use Rattle.law_operands_replaced.proofs.ElementTurns.{NewFor, stays_for, moves_for, AllNew, AllReads, same_head, one_part, part_new, at_first, whole_kids, no_low, memory_code_of}
 use Rattle.law_operands_replaced.proofs.Keying.{TurnedAs, stays, result, unsets}
-use Rattle.law_operands_replaced.proofs.NewTrees.{Becomes, AllBecome, is_whole, is_lowpart, is_lowpart_class}
+use Rattle.law_operands_replaced.proofs.NewTrees.{is_whole, is_lowpart, is_lowpart_class}
 use Rattle.law_operands_replaced.proofs.NewTrees as trees
-use Rattle.law_operands_replaced.proofs.PutParts.{IsOver, put_over}
-use Rattle.law_operands_replaced.proofs.Putting.{MayStand, put_becomes}
-use Rattle.law_operands_replaced.proofs.SetTurns.{Fit, fit_first, fit_second, plain_set, TargetToo, register_same, memory_too, set_stays, target_over}
-use Rattle.law_operands_replaced.proofs.Turning.{IsSetting, IsLone, lone_opened, setting_opened}
+use Rattle.law_operands_replaced.proofs.Turning.{IsLone, lone_opened}
 
 register_any : (c : Code) (n : ℤ) (kids kids' : List Rtx) → is_lowpart_class (class_of_code c) ≡ false → register_by c n kids ≡ register_by c n kids'
 register_any code.Subreg n kids kids' low = absurd (let no : ⊥ = cc in no)

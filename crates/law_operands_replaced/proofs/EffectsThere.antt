@@ -6,14 +6,12 @@ use Rattle.bits64.specs.declared.Width.TheVariants.{W64}
 use Rattle.rtx_tree.specs.Tree.{head_of, kids_of}
 use Rattle.rtx_tree.specs.declared.code.Code.{Code}
 use Rattle.rtx_tree.specs.declared.code.Code.TheVariants as code
-use Rattle.rtx_tree.specs.declared.function.Kind.{Kind}
 use Rattle.rtx_tree.specs.declared.function.Kind.TheVariants as kinds
-use Rattle.rtx_tree.specs.declared.machine.Start.{Start}
 use Rattle.rtx_tree.specs.declared.machine.SymbolAt.{SymbolAt}
 use Rattle.rtx_tree.specs.declared.memories.MemByte.{MemByte}
 use Rattle.rtx_tree.specs.declared.tree.Rtx.{Rtx}
 use Rattle.run_memory.specs.RunMemory.{load}
-use Rattle.rtl_step.specs.Effect.{effect_of, effect_by, all_effects, one_effect, effects_of, effects_by, set_place, set_effect, address_of, register_of, clobber_by, clobber_effect, regs_after, memory_after}
+use Rattle.rtl_step.specs.Effect.{effect_of, effect_by, all_effects, one_effect, effects_of, effects_by, set_place, address_of, register_of, clobber_by}
 use Rattle.rtl_step.specs.Regs.{Regs, known_of}
 use Rattle.rtl_step.specs.Value.{width_of, value_of, of_two}
 use Rattle.rtl_step.specs.declared.effect.Effect.{Effect}

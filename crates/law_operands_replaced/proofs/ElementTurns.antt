@@ -6,8 +6,7 @@ use Rattle.std.proofs.lemmas.Bool.{and_parts}
 use Rattle.bits64.specs.declared.Width.{Width}
 use Rattle.rtx_tree.proofs.Trees.{head_of-tree, kids_of-tree}
 use Rattle.rtx_tree.specs.Code.{class_of_code}
-use Rattle.rtx_tree.specs.Tree.{RtxHead, head_of, kids_of, tree_of, reg_of}
-use Rattle.rtx_tree.specs.declared.class.Class.{Class}
+use Rattle.rtx_tree.specs.Tree.{RtxHead, head_of, kids_of, reg_of}
 use Rattle.rtx_tree.specs.declared.class.Class.TheVariants as class
 use Rattle.rtx_tree.specs.declared.code.Code.{Code}
 use Rattle.rtx_tree.specs.declared.code.Code.TheVariants as code
@@ -16,31 +15,29 @@ use Rattle.rtx_tree.specs.declared.machine.SymbolAt.{SymbolAt}
 use Rattle.rtx_tree.specs.declared.memories.MemByte.{MemByte}
 use Rattle.rtx_tree.specs.declared.tree.Rtx.{Rtx, out-roll-Rtx}
 use Rattle.rtx_tree.specs.declared.tree.Rtx.TheOpen.{Rtx-F}
-use Rattle.rtl_func.specs.Kinds.{is_plain_tree}
-use Rattle.rtl_func.specs.Shapes.{class_at, mode_at, is_place, is_operand, is_effect, is_shaped}
+use Rattle.rtl_func.specs.Shapes.{class_at, mode_at, is_place, is_operand}
 use Rattle.rtl_func.proofs.AllPass as nodes
 use Rattle.rtl_func.proofs.AllPass.{all_pass}
-use Rattle.rtl_step.specs.Effect.{effect_of, effect_by, set_effect, set_place, clobber_effect, clobber_by, address_of, address_part, register_of, register_by}
-use Rattle.rtl_step.specs.Regs.{Regs, known_of}
-use Rattle.rtl_step.specs.Value.{width_of, value_of, of_two}
+use Rattle.rtl_step.specs.Effect.{effect_of, effect_by, set_place, address_of, address_part}
+use Rattle.rtl_step.specs.Regs.{Regs}
+use Rattle.rtl_step.specs.Value.{width_of}
 use Rattle.rtl_step.specs.declared.effect.Effect.{Effect}
-use Rattle.rtl_step.specs.declared.effect.Effect.TheVariants.{Sets}
 use Rattle.md_match.specs.Pattern.{Ops, role_of, operand_numbered}
 use Rattle.md_match.specs.declared.role.Role.{Role}
 use Rattle.md_match.specs.declared.role.Role.TheVariants.{Operand, Operator, Itself}
-use Rattle.reload_operands.specs.Put.{put, parts_by, each_by}
+use Rattle.reload_operands.specs.Put.{put, parts_by}
 use Rattle.reload_operands.proofs.PutLaws.{put_operand}
 use Rattle.law_operands_replaced.specs.Places.{AtOnePlace, first, later, StandsFor, itself, part}
 use Rattle.law_operands_replaced.specs.Spare.{is_spare, KnowsRest}
-use Rattle.law_operands_replaced.proofs.Addresses.{is_new_class, IsNewTree, AddressToo, address_becomes}
-use Rattle.law_operands_replaced.proofs.Keying.{TurnedAs, stays, result, unsets}
+use Rattle.law_operands_replaced.proofs.Addresses.{IsNewTree, AddressToo, address_becomes}
+use Rattle.law_operands_replaced.proofs.Keying.{TurnedAs, stays, result}
 use Rattle.law_operands_replaced.proofs.NewTrees.{Becomes, is_whole, is_lowpart, whole_low}
 use Rattle.law_operands_replaced.proofs.NewTrees as trees
-use Rattle.law_operands_replaced.proofs.PutParts.{each_put, IsOver, over_is, parts_are, put_over}
+use Rattle.law_operands_replaced.proofs.PutParts.{each_put, over_is, put_over}
 use Rattle.law_operands_replaced.proofs.Putting.{MayStand, put_becomes}
 use Rattle.law_operands_replaced.proofs.SetTurns.{Fit, fit_first, fit_second, plain_set, TargetToo, register_same, memory_too, set_stays, target_over, source_too}
 use Rattle.law_operands_replaced.proofs.SetWidth.{set_width, no_register, binary_none}
-use Rattle.law_operands_replaced.proofs.Turning.{IsSetting, IsLone, SourceToo, lone_opened, setting_opened}
+use Rattle.law_operands_replaced.proofs.Turning.{IsSetting, SourceToo, setting_opened}
 
 -- the place of the result that an effect of a pattern sets, where it is an operand that is moved
 abbrev pub target_key : (ℤ → Option ℕ) → Role → ℤ → Option ℕ

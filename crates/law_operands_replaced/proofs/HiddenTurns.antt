@@ -11,7 +11,7 @@ use Rattle.rtx_tree.specs.declared.code.Code.TheVariants as code
 use Rattle.rtx_tree.specs.declared.machine.SymbolAt.{SymbolAt}
 use Rattle.rtx_tree.specs.declared.memories.MemByte.{MemByte}
 use Rattle.rtx_tree.specs.declared.tree.Rtx.{Rtx}
-use Rattle.rtl_func.specs.Shapes.{class_at, mode_at, is_place, is_operand, is_effect}
+use Rattle.rtl_func.specs.Shapes.{class_at, mode_at, is_place, is_effect}
 use Rattle.rtl_func.proofs.AllPass as nodes
 use Rattle.rtl_func.proofs.AllPass.{all_pass}
 use Rattle.rtl_step.specs.Effect.{effect_of, effect_by, clobber_effect, address_of, set_place}
@@ -19,13 +19,13 @@ use Rattle.rtl_step.specs.Regs.{Regs}
 use Rattle.rtl_step.specs.Value.{width_of}
 use Rattle.rtl_step.specs.declared.effect.Effect.{Effect}
 use Rattle.law_operands_replaced.specs.Spare.{KnowsRest}
-use Rattle.law_operands_replaced.proofs.Addresses.{IsNewTree, AddressToo, all_same, address_becomes}
+use Rattle.law_operands_replaced.proofs.Addresses.{IsNewTree, AddressToo, all_same}
 use Rattle.law_operands_replaced.proofs.EffectTurns.{effect_class, clobber_same, memory_clobber, binary_no_clobber}
 use Rattle.law_operands_replaced.proofs.ElementTurns.{effect_code, memory_code_of}
 use Rattle.law_operands_replaced.proofs.NewTrees.{Becomes, AllBecome, is_whole, is_lowpart, whole_low}
 use Rattle.law_operands_replaced.proofs.NewTrees as trees
 use Rattle.law_operands_replaced.proofs.PutParts.{IsOver}
-use Rattle.law_operands_replaced.proofs.SetTurns.{Fit, fit_first, fit_second, plain_set, TargetToo, register_same, memory_too, set_stays, target_over}
+use Rattle.law_operands_replaced.proofs.SetTurns.{Fit, fit_first, fit_second, plain_set, TargetToo, memory_too, set_stays, target_over}
 use Rattle.law_operands_replaced.proofs.SetWidth.{binary_none, no_register}
 use Rattle.law_operands_replaced.proofs.Turning.{IsSetting, IsLone, lone_opened, setting_opened}
 

@@ -4,10 +4,8 @@ use Rattle.std.specs.List.{list_all}
 use Rattle.std.specs.Prelude.{ℤ, option_map, option_and_then, unwrap_or}
 use Rattle.std.proofs.lemmas.Bool.{and_parts}
 use Rattle.std.proofs.lemmas.Bool.Decides.{nat_tests}
-use Rattle.rtx_tree.proofs.Trees.{kids_of-tree}
 use Rattle.rtx_tree.specs.Code.{class_of_code, is_effect_class}
 use Rattle.rtx_tree.specs.Tree.{RtxHead, head_of, kids_of}
-use Rattle.rtx_tree.specs.declared.class.Class.{Class}
 use Rattle.rtx_tree.specs.declared.class.Class.TheVariants as class
 use Rattle.rtx_tree.specs.declared.code.Code.{Code}
 use Rattle.rtx_tree.specs.declared.code.Code.TheVariants as code
@@ -16,33 +14,30 @@ use Rattle.rtx_tree.specs.declared.machine.SymbolAt.{SymbolAt}
 use Rattle.rtx_tree.specs.declared.memories.MemByte.{MemByte}
 use Rattle.rtx_tree.specs.declared.tree.Rtx.{Rtx, out-roll-Rtx}
 use Rattle.rtx_tree.specs.declared.tree.Rtx.TheOpen.{Rtx-F}
-use Rattle.rtl_func.specs.Kinds.{is_plain_tree}
 use Rattle.rtl_func.specs.Shapes.{class_at, mode_at, number_at, has_mode, is_effect, fits_row, is_bare, is_shaped}
 use Rattle.rtl_func.proofs.AllPass.{all_pass}
-use Rattle.rtl_step.specs.Effect.{effect_of, all_effects, one_effect, effects_of, effects_by}
+use Rattle.rtl_step.specs.Effect.{effect_of}
 use Rattle.rtl_step.specs.Regs.{Regs}
 use Rattle.rtl_step.specs.declared.effect.Effect.{Effect}
 use Rattle.md_constr.specs.Inputs as inputs
 use Rattle.md_match.specs.Pattern.{Ops, role_of, operand_numbered}
 use Rattle.md_match.specs.declared.role.Role.{Role}
 use Rattle.md_match.specs.declared.role.Role.TheVariants.{Operand, Operator, Itself}
-use Rattle.reload_operands.specs.Put.{each_by, parts_by, put}
-use Rattle.law_operands_replaced.specs.Places.{AtOnePlace, StandsFor}
+use Rattle.reload_operands.specs.Put.{put}
+use Rattle.law_operands_replaced.specs.Places.{StandsFor}
 use Rattle.law_operands_replaced.specs.Places as places
 use Rattle.law_operands_replaced.specs.Spare.{KnowsRest}
 use Rattle.reload_operands.proofs.PutLaws.{put_operand}
 use Rattle.law_operands_replaced.proofs.Addresses.{is_new_class}
 use Rattle.law_operands_replaced.proofs.EffectTurns.{effect_class, use_turns, clobber_turns}
-use Rattle.law_operands_replaced.proofs.ElementTurns.{effect_code, key_by, key_of, NewFor, stays_for, moves_for, AllNew, AllReads, set_turns, part_new}
-use Rattle.law_operands_replaced.proofs.HiddenTurns.{Read, effect_over, read_turns}
+use Rattle.law_operands_replaced.proofs.ElementTurns.{effect_code, key_by, key_of, NewFor, stays_for, moves_for, AllNew, AllReads, set_turns}
+use Rattle.law_operands_replaced.proofs.HiddenTurns.{Read, read_turns}
 use Rattle.law_operands_replaced.proofs.Keying as keying
-use Rattle.law_operands_replaced.proofs.Keying.{TurnedAs, AllTurnedAs, HasAllKeyed, all_keyed, one_keyed_alone}
-use Rattle.law_operands_replaced.proofs.NewTrees.{Becomes, AllBecome, is_whole}
+use Rattle.law_operands_replaced.proofs.Keying.{TurnedAs}
+use Rattle.law_operands_replaced.proofs.NewTrees.{Becomes, is_whole}
 use Rattle.law_operands_replaced.proofs.NewTrees as trees
-use Rattle.law_operands_replaced.proofs.PutParts.{each_put, IsOver, over_is, parts_are}
 use Rattle.law_operands_replaced.proofs.Putting.{put_becomes}
 use Rattle.law_operands_replaced.proofs.SetTurns.{Fit}
-use Rattle.law_operands_replaced.proofs.Turning.{IsSetting, IsLone}
 
 pub effect_codes : (c : Code) → (c ≡ code.Set) ⊎ ((c ≡ code.Use) ⊎ (c ≡ code.Clobber)) → is_effect_class (class_of_code c) ≡ true
 effect_codes c (inl is) = ap (λ c. is_effect_class (class_of_code c)) is

@@ -4,11 +4,10 @@ use Rattle.std.proofs.lemmas.Bool.{and_parts}
 use Rattle.std.specs.List.{list_all}
 use Rattle.std.specs.Prelude.{ℤ, pos, unwrap_or, option_map}
 use Rattle.bits64.specs.declared.Width.TheVariants.{W64}
-use Rattle.rtx_tree.proofs.Trees.{head_of-tree, kids_of-tree}
 use Rattle.rtx_tree.specs.Code.{class_of_code, is_place_class}
 use Rattle.rtx_tree.specs.Operands.{operand_at, put_at}
 use Rattle.rtx_tree.specs.Patterns.{is_pc, is_pc_code, label_uid, label_of}
-use Rattle.rtx_tree.specs.Tree.{RtxHead, head_of, kids_of, tree_of, reg_of}
+use Rattle.rtx_tree.specs.Tree.{head_of, kids_of, reg_of}
 use Rattle.rtx_tree.specs.declared.class.Class.{Class}
 use Rattle.rtx_tree.specs.declared.class.Class.TheVariants as class
 use Rattle.rtx_tree.specs.declared.code.Code.{Code}
@@ -18,18 +17,16 @@ use Rattle.rtx_tree.specs.declared.machine.SymbolAt.{SymbolAt}
 use Rattle.rtx_tree.specs.declared.memories.MemByte.{MemByte}
 use Rattle.rtx_tree.specs.declared.tree.Rtx.{Rtx, out-roll-Rtx}
 use Rattle.rtx_tree.specs.declared.tree.Rtx.TheOpen.{Rtx-F}
-use Rattle.rtl_func.specs.Kinds.{is_jump_by, is_jump_tree}
-use Rattle.rtl_func.specs.Shapes.{class_at, mode_at, number_at, has_mode, is_constant, is_constant_class, is_label_class, is_counter_class, is_comparison_class, is_jump_source_class, is_choice, is_set_to, fits_row, is_bare, is_shaped}
+use Rattle.rtl_func.specs.Shapes.{class_at, mode_at, number_at, has_mode, is_constant, is_label_class, is_counter_class, is_comparison_class, is_jump_source_class, is_choice, is_set_to, fits_row, is_bare, is_shaped}
 use Rattle.rtl_step.specs.Jump.{goes_to, chosen, branch, way_by, way_of, jump_by, jump_of}
 use Rattle.rtl_step.specs.Regs.{Regs}
 use Rattle.rtl_step.specs.Value.{value_of, of_two}
 use Rattle.rtl_step.specs.declared.jump.Way.{Way}
 use Rattle.rtl_step.specs.declared.jump.Way.TheVariants.{Goes}
-use Rattle.md_match.specs.Pattern.{Ops, role_of, operand_of, operand_numbered}
+use Rattle.md_match.specs.Pattern.{Ops, role_of, operand_numbered}
 use Rattle.md_match.specs.declared.role.Role.TheVariants.{Operand}
-use Rattle.reload_operands.specs.Put.{put, parts_by}
+use Rattle.reload_operands.specs.Put.{put}
 use Rattle.reload_operands.proofs.PutLaws.{put_operand}
-use Rattle.law_operands_replaced.proofs.PutParts.{each_put, over_is}
 use Rattle.law_operands_replaced.proofs.Valued.{IsThere}
 
 -- ---- an operand with something new for it alone

@@ -16,10 +16,10 @@ use Rattle.rtl_step.specs.Effect.{effect_of, all_effects, one_effect, regs_after
 use Rattle.rtl_step.specs.Regs.{Regs, known_of}
 use Rattle.rtl_step.specs.Value.{width_of}
 use Rattle.rtl_step.specs.declared.effect.Effect.{Effect}
-use Rattle.rtl_step.specs.declared.effect.Effect.TheVariants.{Nothing, Sets, Unsets, Stores}
+use Rattle.rtl_step.specs.declared.effect.Effect.TheVariants.{Sets, Unsets}
 use Rattle.law_operands_replaced.specs.Spare.{is_spare}
 use Rattle.law_operands_replaced.proofs.Elements.{IsSet, taken, moved_set}
-use Rattle.law_operands_replaced.proofs.Ends.{IsOnRest, apart_of, rest_alone}
+use Rattle.law_operands_replaced.proofs.Ends.{IsOnRest, rest_alone}
 use Rattle.law_operands_replaced.proofs.Instead as instead
 use Rattle.law_operands_replaced.proofs.Instead.{Instead}
 use Rattle.law_operands_replaced.proofs.Keyed.{Keyed, effects_in, with_kept, kept_of, last_by, last_of}

@@ -5,19 +5,19 @@ use Rattle.std.specs.Prelude.{ℤ}
 use Rattle.std.proofs.lemmas.Bool.{and_parts}
 use Rattle.std.proofs.lemmas.Bool.Decides.{nat_tests}
 use Rattle.std.proofs.lemmas.List.{length-map}
-use Rattle.rtx_tree.proofs.Trees.{head_of-tree, kids_of-tree, tree_of-parts}
+use Rattle.rtx_tree.proofs.Trees.{head_of-tree, kids_of-tree}
 use Rattle.rtx_tree.specs.Tree.{head_of, kids_of, tree_of}
 use Rattle.rtx_tree.specs.declared.tree.Rtx.{Rtx}
 use Rattle.rtl_func.proofs.AllPass as nodes
 use Rattle.rtl_func.proofs.AllPass.{all_pass}
-use Rattle.md_match.specs.Pattern.{Ops, role_of, operand_numbered}
+use Rattle.md_match.specs.Pattern.{Ops, role_of}
 use Rattle.md_match.specs.declared.role.Role.{Role}
 use Rattle.md_match.specs.declared.role.Role.TheVariants.{Operand, Operator, Itself}
 use Rattle.reload_operands.specs.Put.{each_by, parts_by, put}
 use Rattle.reload_operands.proofs.PutLaws.{put_operator, put_itself}
-use Rattle.law_operands_replaced.specs.Places.{AtOnePlace, first, later, StandsFor, part}
+use Rattle.law_operands_replaced.specs.Places.{AtOnePlace, first, later, part}
 use Rattle.law_operands_replaced.proofs.Addresses.{all_same}
-use Rattle.law_operands_replaced.proofs.NewTrees.{Becomes, AllBecome, none, next, is_whole}
+use Rattle.law_operands_replaced.proofs.NewTrees.{AllBecome, none, next, is_whole}
 use Rattle.law_operands_replaced.proofs.Putting.{MayStand, put_becomes}
 
 -- each part, with new trees put in

@@ -2,7 +2,6 @@
 use Rattle.std.proofs.Common.{◌≡◌, ◌≢◌, ℕ, ◌&&◌, ◌||◌, not, Bool, true, false, List, [], ◌∷◌, Option, Some, None, refl, sym, ap, subst, ◌∙◌}
 use Rattle.std.specs.List.{list_all, list_any}
 use Rattle.std.proofs.lemmas.Bool.{and_parts}
-use Rattle.bits64.specs.declared.Width.{Width}
 use Rattle.rtx_tree.proofs.Trees.{same_parts}
 use Rattle.rtx_tree.specs.Code.{class_of_code, is_place_class}
 use Rattle.rtx_tree.specs.Patterns.{is_pc, is_pc_code}
@@ -18,7 +17,7 @@ use Rattle.rtx_tree.specs.declared.tree.Rtx.{Rtx}
 use Rattle.rtl_func.specs.Kinds.{is_jump_by, is_jump_tree, is_plain_tree}
 use Rattle.rtl_func.specs.Shapes.{class_at, mode_at, number_at, has_mode, is_place, is_operand, is_set_to, is_call_class, is_counter_class, is_jump_source_class, is_bare, fits_row, is_shaped}
 use Rattle.rtl_func.proofs.AllPass.{all_pass, itself, within}
-use Rattle.rtl_step.specs.Effect.{effect_of, set_effect, clobber_effect, clobber_by, address_of, address_part, register_of, register_by}
+use Rattle.rtl_step.specs.Effect.{effect_of, set_effect, address_of, address_part}
 use Rattle.rtl_step.specs.Regs.{Regs}
 use Rattle.rtl_step.specs.Value.{width_of}
 use Rattle.rtl_step.specs.declared.effect.Effect.{Effect}
@@ -28,10 +27,10 @@ use Rattle.law_frame.proofs.law_window_replaced.Trees.{natural_kids, mentions_ki
 use Rattle.law_operands_replaced.specs.Spare.{KnowsRest, NamesNoSpare}
 use Rattle.law_operands_replaced.proofs.Addresses.{AddressToo, IsNewTree, address_becomes, becomes_reads}
 use Rattle.law_operands_replaced.proofs.Elements.{register_stays, memory_stays, source_reads}
-use Rattle.law_operands_replaced.proofs.NewTrees.{Becomes, AllBecome, none, next, over, is_lowpart, is_lowpart_class}
+use Rattle.law_operands_replaced.proofs.NewTrees.{Becomes, AllBecome, none, over, is_lowpart, is_lowpart_class}
 use Rattle.law_operands_replaced.proofs.PutParts.{IsOver}
 use Rattle.law_operands_replaced.proofs.Readings.{IsOwn, operand_own, own_here}
-use Rattle.law_operands_replaced.proofs.Turning.{IsSetting, IsLone, SourceToo, setting_opened, lone_opened}
+use Rattle.law_operands_replaced.proofs.Turning.{IsSetting, SourceToo, setting_opened}
 
 -- ---- trees
 

@@ -20,13 +20,11 @@ use Rattle.run_memory.specs.RunMemory.{load}
 use Rattle.rtl_func.specs.Shapes.{class_at, mode_at, number_at, has_mode, is_place, is_operand, is_set_to, is_call_class, is_counter_class, is_jump_source_class, is_bare, fits_row, is_shaped}
 use Rattle.rtl_func.proofs.AllPass as nodes
 use Rattle.rtl_func.proofs.AllPass.{all_pass}
-use Rattle.rtl_step.specs.Effect.{effect_of, set_effect, set_place, address_of, address_part, register_of, register_by}
+use Rattle.rtl_step.specs.Effect.{effect_of, set_place, address_of, address_part, register_of, register_by}
 use Rattle.rtl_step.specs.Regs.{Regs, known_of}
 use Rattle.rtl_step.specs.Value.{width_of, value_of, value_by, of_two, Reading}
 use Rattle.rtl_step.specs.declared.effect.Effect.{Effect}
 use Rattle.rtl_step.specs.declared.effect.Effect.TheVariants.{Sets, Stores}
-use Rattle.md_match.specs.Pattern.{role_of}
-use Rattle.md_match.specs.declared.role.Role.TheVariants.{Operand}
 use Rattle.law_operands_replaced.specs.Places.{AtOnePlace, first, later, At, here, inside}
 use Rattle.law_operands_replaced.proofs.Addresses.{memory_kid, memory_code}
 use Rattle.law_operands_replaced.proofs.NewTrees.{is_lowpart, is_whole, whole_low}

@@ -36,7 +36,7 @@ use Rattle.law_operands_replaced.proofs.Keying as keying
 use Rattle.law_operands_replaced.proofs.Keying.{AllTurnedAs, HasAllKeyed, all_keyed, one_keyed_alone}
 use Rattle.law_operands_replaced.proofs.NewTrees.{Becomes, AllBecome, is_whole}
 use Rattle.law_operands_replaced.proofs.NewTrees as trees
-use Rattle.law_operands_replaced.proofs.PutParts.{each_put, IsOver, over_is, parts_are}
+use Rattle.law_operands_replaced.proofs.PutParts.{each_put, over_is, parts_are}
 use Rattle.law_operands_replaced.proofs.ReadTrees.{NameNoSpare}
 use Rattle.law_operands_replaced.proofs.SetTurns.{Fit}
 

@@ -5,7 +5,6 @@ use Rattle.rtx_tree.specs.declared.function.Insn.{Insn}
 use Rattle.rtx_tree.specs.declared.function.Function.{Function}
 use Rattle.rtx_tree.specs.declared.function.Kind.{Kind}
 use Rattle.rtx_tree.specs.declared.function.Kind.TheVariants as kind
-use Rattle.rtx_tree.specs.RegSet.{has_reg}
 use Rattle.rv_text.specs.declared.line.Line.{Line}
 use Rattle.rv_text.specs.declared.line.CodeItem.{CodeItem}
 use Rattle.rv_text.specs.declared.line.CodeItem.TheVariants as item
@@ -42,7 +41,7 @@ module _ (forms : List Entry) (number : ℕ) (f : Function) (ready : AreWritable
       let back = both_returning number i lines returns in
       subst (λ l. AreItemsAt number f place i (map item.Code l)) (sym back.lines_are) (items.returning back.line back.is_jump back.is_return back.returns)
   lines_by place i lines c stands are false goes_on =
-      let hard = (one_is place i stands).formed are.needs are.free in
+      let hard = (one_is place i stands).formed are.needs in
       let alike = verdict_same (i ∷ []) (Lines number lines) are.live are.equated goes_on in
       items.window lines (record {
         is_none = hard.is_none;

@@ -13,10 +13,10 @@ use Rattle.rv_text.specs.declared.action.Action.TheVariants as action
 use Rattle.rv_text.specs.declared.action.Source.{Source}
 use Rattle.rv_text.specs.declared.action.Source.TheVariants as source
 use Rattle.rv_text.specs.declared.line.Line.{Line}
-use Rattle.sym_state.specs.State.{State, Ran, Runs, ran}
-use Rattle.asm_out.specs.sym_lines.Run.{is_end, fits_action, bad_from, bad_line, run_from, run}
+use Rattle.sym_state.specs.State.{State, Runs, ran}
+use Rattle.asm_out.specs.sym_lines.Run.{fits_action, bad_from, bad_line, run_from, run}
 use Rattle.sym_state.specs.State as state
-use Rattle.asm_out.specs.equate.Side.{Lines, is_jump, returns, is_one_return, returns_through, returns_by, is_one_return_line, both_return}
+use Rattle.asm_out.specs.equate.Side.{Lines, is_jump, returns, returns_through, returns_by, both_return}
 use Rattle.law_window_lines.specs.Items.{IsReturnLine, ret, jr, is_call, calls_last}
 
 -- ---- a call is the last

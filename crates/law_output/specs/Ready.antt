@@ -10,7 +10,7 @@ use Rattle.rtl_step.specs.Step.{is_mark}
 use Rattle.reg_uses.specs.Effects.{effects_of, pattern_defines}
 use Rattle.same_behaviour.specs.Ending.{IsUid}
 use Rattle.law_window_lines.specs.Left.{IsSetNamed}
-use Rattle.asm_out.specs.form_needs.Needs.{needs_form, names_homeless, is_silent}
+use Rattle.asm_out.specs.form_needs.Needs.{needs_form, is_silent}
 use Rattle.law_pass_needs.specs.law_rules.ForLines.{UsesHard, IsQuiet}
 
 pub record IsInsnWritable (i : Insn) : Type 0 where
@@ -19,8 +19,8 @@ pub record IsInsnWritable (i : Insn) : Type 0 where
   pub label : i.kind ≡ Label → IsUid i.uid
   -- what gives nothing at output is quiet
   pub silent : is_silent i ≡ true → IsQuiet i
-  -- what needs a form, and names no register without a home, uses hard registers alone
-  pub formed : needs_form i ≡ true → names_homeless i.pattern ≡ false → UsesHard i
+  -- what needs a form uses hard registers alone
+  pub formed : needs_form i ≡ true → UsesHard i
   -- the register that a `set` sets counts as it
   pub named : i.kind ≡ Plain →
       All (λ x. IsSetNamed (head_of x).code (kids_of x)) (effects_of i.pattern)

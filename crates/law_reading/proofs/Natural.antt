@@ -4,17 +4,16 @@ use Rattle.std.specs.Prelude.{slice_get}
 use Rattle.std.specs.List.{AllByRecursion}
 use Rattle.rtx_tree.specs.declared.code.Code.TheVariants.{Parallel}
 use Rattle.rtx_tree.specs.declared.code.Mode.TheVariants.{Void}
-use Rattle.rtx_tree.specs.declared.function.ArgUse.{ArgUse}
 use Rattle.rtx_tree.specs.declared.function.Insn.{Insn}
 use Rattle.rtx_tree.specs.declared.function.Function.{Function}
 use Rattle.rtx_tree.specs.declared.function.Kind.{Kind}
-use Rattle.rtx_tree.specs.declared.function.Kind.TheVariants.{Plain, Jump, Call, Label}
+use Rattle.rtx_tree.specs.declared.function.Kind.TheVariants.{Plain, Jump}
 use Rattle.rtx_tree.specs.declared.tree.Rtx.{Rtx}
 use Rattle.rtx_tree.specs.Patterns.{nothing_rtx}
 use Rattle.lisp_read.specs.declared.tree.Tree.{Tree}
 use Rattle.lisp_read.specs.declared.position.Position.TheVariants.{Pattern}
 use Rattle.lisp_read.specs.Expression.{read_at}
-use Rattle.lisp_read.specs.Parsed.{Parsed, stands, construct, parsed_map, parsed_then, each_parsed}
+use Rattle.lisp_read.specs.Parsed.{Parsed, stands, construct, parsed_map, each_parsed}
 use Rattle.rtl_read.specs.Call as call
 use Rattle.rtl_read.specs.Call.{is_kept, together, effects_of, call_of, uses_of}
 use Rattle.rtl_read.specs.Chain.{InsnParts, insn_with, insn_by, call_with, call_by, label_by}

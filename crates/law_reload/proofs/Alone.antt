@@ -28,7 +28,7 @@ use Rattle.law_homes.proofs.Setting.{Setting}
 use Rattle.reload.specs.Reload.{alone, with_homes}
 use Rattle.law_reload.specs.Steps as parts
 use Rattle.law_reload.proofs.Kept.{kept_too}
-use Rattle.law_reload.proofs.Windows.{Comes, DoesPlain, Does}
+use Rattle.law_reload.proofs.Windows.{DoesPlain, Does}
 use Rattle.law_reload.proofs.Windows as windows
 
 -- ---- an instruction that needs no form

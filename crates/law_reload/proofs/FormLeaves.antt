@@ -28,9 +28,9 @@ use Rattle.md_draft.specs.declared.draft.DraftEntry.{DraftEntry}
 use Rattle.md_draft.specs.Compact.{old_draft}
 use Rattle.md_draft.specs.Head.{head_named}
 use Rattle.md_draft.specs.Layout.{layout_of, part_at, is_whole}
-use Rattle.md_draft.specs.Patterns.{Judged, one_instruction, as_one, insn_patterns, window_patterns, is_window, if_there}
+use Rattle.md_draft.specs.Patterns.{one_instruction, as_one, insn_patterns, window_patterns, is_window}
 use Rattle.md_draft.specs.Patterns as patterns
-use Rattle.md_draft.specs.Draft.{matched_with, matched_in, made_in, printed_in, defined_in, draft_with, together, block_in, without, parts_draft, whole_draft, draft_in, draft_by, headed, head_in, entry_by, entry_of, condition_in}
+use Rattle.md_draft.specs.Draft.{matched_with, matched_in, made_in, printed_in, defined_in, draft_with, block_in, without, parts_draft, whole_draft, draft_in, draft_by, headed, head_in, entry_by, condition_in}
 use Rattle.md_forms.specs.declared.form.Entry.{Entry}
 use Rattle.md_forms.specs.declared.form.Form.{Form}
 use Rattle.md_forms.specs.md_tables.declared.tables.Tables.{Tables}

@@ -34,7 +34,7 @@ use Rattle.law_reload_moves.proofs.law_operands_fetched.FoundParts.{operand_has}
 use Rattle.law_reload_moves.proofs.FramedGood.{framed_natural}
 use Rattle.law_reload_moves.proofs.HomedTrees.{homed_natural}
 use Rattle.law_reload_moves.proofs.NewsLaws.{operand_of_match}
-use Rattle.reload.specs.Reload.{placed, with_homes, given_by, IsMatch}
+use Rattle.reload.specs.Reload.{placed, with_homes, given_by}
 use Rattle.reload.specs.Windows.{HasWindows}
 use Rattle.law_reload.proofs.EffectsKeep.{vars_kept}
 use Rattle.law_reload.proofs.NaturalWindows.{HomesAreNatural, reloaded_natural}

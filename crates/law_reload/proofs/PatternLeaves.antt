@@ -30,7 +30,7 @@ use Rattle.md_pattern.specs.declared.reason.Reason.TheVariants as reason
 use Rattle.md_pattern.specs.Reason.{both, judged_map, judged_with}
 use Rattle.md_pattern.specs.Word.{register_of}
 use Rattle.md_pattern.specs.Operand.{numbered, predicated, operand_in, scratch_in, dup_in}
-use Rattle.md_pattern.specs.Pattern.{Meaning, no_patterns, in_front, each, bare, or_aside, mode_for, node_with, matching_with, register_by, word_in, number_by, symbol_by, node_by, is_lowpart, parallel_by, operand_by, operator_by, operator_dup_by, behind, of_code, of_head, list_by, meaning_of, pattern_of, patterns_of}
+use Rattle.md_pattern.specs.Pattern.{Meaning, no_patterns, in_front, each, bare, or_aside, mode_for, node_with, matching_with, register_by, word_in, node_by, is_lowpart, parallel_by, operand_by, operator_by, operator_dup_by, behind, of_code, of_head, list_by, meaning_of, patterns_of}
 use Rattle.md_pattern.proofs.Meanings.{pattern_out, vector_out}
 use Rattle.law_reload_moves.specs.law_operands_replaced.Places.{is_leaf_as, is_leaf}
 

@@ -4,7 +4,6 @@ use Rattle.std.proofs.lemmas.Bool.{false≢true, and_parts}
 use Rattle.std.specs.List.{AllByRecursion, find, flat_map}
 use Rattle.std.specs.Option.{option_map_or}
 use Rattle.std.specs.Prelude.{slice_get}
-use Rattle.rtx_tree.specs.Tree.{head_of}
 use Rattle.rtx_tree.specs.declared.constants.Constant.{Constant}
 use Rattle.rtx_tree.specs.declared.tree.Rtx.{Rtx}
 use Rattle.md_iter.specs.declared.substitution.Instance.{Instance}
@@ -15,11 +14,10 @@ use Rattle.md_draft.specs.declared.draft.DraftEntry.{DraftEntry}
 use Rattle.md_forms.specs.declared.form.Entry.{Entry}
 use Rattle.md_forms.specs.declared.form.Form.{Form}
 use Rattle.md_forms.specs.md_tables.declared.tables.Tables.{Tables}
-use Rattle.md_forms.specs.Checks.{are_distinct, numbers_stand, matched, all_operands, operands_stand, alternatives_of, has_reason, later_reasons, reason_of, constraints_of, form_with, unless, form_of}
+use Rattle.md_forms.specs.Checks.{are_distinct, numbers_stand, matched, all_operands, operands_stand, alternatives_of, has_reason, reason_of, constraints_of, form_with, unless, form_of}
 use Rattle.md_forms.specs.Forms.{judged_form, finished, forms_in, draft_entry, forms_of}
 use Rattle.md_forms.specs.Names.{operands_in}
 use Rattle.md_forms.specs.md_tables.Tables.{tables_of}
-use Rattle.law_reload_moves.specs.reload_operands.Operands.{is_operator_code}
 use Rattle.law_reload_moves.specs.reload_operands.declared.operand.Operand.{Operand}
 use Rattle.law_reload_moves.proofs.NewsLaws.{operand_of_match}
 use Rattle.reload.specs.Reload.{placed, with_homes, patterns_by, patterns_in, patterns_at}

@@ -28,9 +28,9 @@ use Rattle.law_operands_fetched.specs.reload_homes.Homes.{home_of, slot_offset, 
 use Rattle.law_operands_fetched.specs.reload_choice.Sound.{IsSoundPlan}
 use Rattle.law_operands_fetched.specs.reload_choice.declared.given.Plan.{Plan}
 use Rattle.law_reload_moves.proofs.Chosen.{given}
-use Rattle.law_operands_fetched.proofs.law_operands_replaced.Keyed.{Keyed, IsIn, MayPass, MayPassBy, AreOrderly}
+use Rattle.law_operands_fetched.proofs.law_operands_replaced.Keyed.{IsIn, MayPass, MayPassBy, AreOrderly}
 use Rattle.law_operands_fetched.proofs.law_operands_replaced.Keying.{with_keys}
-use Rattle.law_reload_moves.proofs.Orderly.{SetsMemory, Differ, IsOutside, IsSole, pair_passes}
+use Rattle.law_reload_moves.proofs.Orderly.{Differ, IsOutside, IsSole, pair_passes}
 use Rattle.law_reload_moves.proofs.ResultRows.{Key, Row, Rows, none, more}
 
 -- ---- what some trees have differs

@@ -4,8 +4,7 @@ use Rattle.std.proofs.lemmas.Bool.{and_parts}
 use Rattle.std.specs.Prelude.{ℤ, pos, slice_get, drop}
 use Rattle.std.specs.Option.{option_map_or}
 use Rattle.law_operands_fetched.specs.bits64.declared.Width.TheVariants.{W64}
-use Rattle.law_operands_fetched.specs.rtx_tree.Tree.{RtxHead, head_of, kids_of, tree_of}
-use Rattle.law_operands_fetched.specs.rtx_tree.declared.code.Code.{Code}
+use Rattle.law_operands_fetched.specs.rtx_tree.Tree.{RtxHead, head_of, kids_of}
 use Rattle.law_operands_fetched.specs.rtx_tree.declared.code.Code.TheVariants as code
 use Rattle.law_operands_fetched.specs.rtx_tree.declared.function.Kind.{Kind}
 use Rattle.law_operands_fetched.specs.rtx_tree.declared.machine.SymbolAt.{SymbolAt}
@@ -28,16 +27,15 @@ use Rattle.law_operands_fetched.specs.reload_operands.Bases.{lives_in_slot, in_s
 use Rattle.law_operands_fetched.specs.reload_operands.Changes.{other_memory, any_other_memory, is_other_memory}
 use Rattle.law_operands_fetched.specs.reload_operands.declared.operand.Operand.{Operand}
 use Rattle.law_operands_fetched.specs.reload_choice.reload_fit.Fitting.{is_memory_code}
-use Rattle.law_operands_fetched.specs.reload_moves.declared.part.Part.{Part}
-use Rattle.law_operands_fetched.specs.reload_choice.Movable.{may_have_results, may_land, may_end}
-use Rattle.law_operands_fetched.specs.reload_choice.Sound.{IsPart, IsSoundPlan}
+use Rattle.law_operands_fetched.specs.reload_choice.Movable.{may_land}
+use Rattle.law_operands_fetched.specs.reload_choice.Sound.{IsSoundPlan}
 use Rattle.law_operands_fetched.specs.reload_choice.declared.given.Plan.{Plan}
 use Rattle.law_reload_moves.proofs.AllOrderly.{AllSole}
 use Rattle.law_reload_moves.proofs.Chosen.{given}
 use Rattle.law_reload_moves.proofs.InputPlaces.{no_operator_of}
 use Rattle.law_reload_moves.proofs.NewsLaws.{operand_of_match}
 use Rattle.law_reload_moves.proofs.Orderly.{SetsMemory}
-use Rattle.law_reload_moves.proofs.ResultRows.{Key, Row, Rows, none, more, IsKeyedRow, keyed_row}
+use Rattle.law_reload_moves.proofs.ResultRows.{Key, Row, Rows, none, more, keyed_row}
 use Rattle.law_reload_moves.proofs.SoleRows.{sole_rows, none_other, pair_is}
 
 -- where one lands in memory that is no slot, no other memory is changed, and no register of its address

@@ -17,17 +17,16 @@ use Rattle.law_operands_fetched.proofs.rtl_func.AllPass as nodes
 use Rattle.law_operands_fetched.proofs.rtl_func.AllPass.{all_pass}
 use Rattle.law_operands_fetched.proofs.md_match.Instantiated.{each_made, made_itself}
 use Rattle.law_operands_fetched.specs.md_match.Pattern.{Ops, role_of, operand_of, instantiated}
-use Rattle.law_operands_fetched.specs.md_match.declared.role.Role.{Role}
 use Rattle.law_operands_fetched.specs.md_match.declared.role.Role.TheVariants.{Operand, Itself}
 use Rattle.law_operands_fetched.specs.assign.declared.home.Home.{Home}
 use Rattle.law_operands_fetched.specs.assign.declared.home.Home.TheVariants.{Hard, Slot}
 use Rattle.law_operands_fetched.specs.assign.declared.home.HomeOf.{HomeOf}
 use Rattle.law_operands_fetched.specs.assign.declared.places.Layout.{Layout}
-use Rattle.law_operands_fetched.specs.reload_homes.Homes.{home_of, homed, register_at, place_by, place_for}
+use Rattle.law_operands_fetched.specs.reload_homes.Homes.{home_of, homed, register_at, place_by}
 use Rattle.law_operands_fetched.proofs.reload_homes.Rewrites.{homed_register, homed_over}
 use Rattle.law_operands_fetched.specs.reload_operands.Put.{is_lowpart_code, is_lowpart, any_inside, inside_low}
 use Rattle.law_operands_fetched.specs.law_operands_replaced.Places.{AtOnePlace, StandsFor, itself, part}
-use Rattle.law_reload_moves.proofs.Matched.{IsLow, IsMade, OneBeside, one_beside, made_by, made_length, over_made, alone, one_part, front, register_low, no_kids}
+use Rattle.law_reload_moves.proofs.Matched.{IsLow, one_beside, made_by, made_length, alone, one_part, front, register_low, no_kids}
 
 module _ (homes : List HomeOf) (layout : Layout) (found : Ops) where
   abbrev hm : Rtx → Rtx

@@ -3,10 +3,9 @@ use Rattle.std.proofs.Common.{◌≡◌, ◌≢◌, ◌⊎◌, inl, inr, ℕ, �
 use Rattle.std.proofs.lemmas.Bool.{and_parts, or_left}
 use Rattle.std.specs.List.{list_all, list_any}
 use Rattle.std.specs.Prelude.{ℤ, pos}
-use Rattle.law_operands_fetched.proofs.rtx_tree.Trees.{head_of-tree, kids_of-tree, same_parts}
+use Rattle.law_operands_fetched.proofs.rtx_tree.Trees.{kids_of-tree, same_parts}
 use Rattle.law_operands_fetched.specs.rtx_tree.Code.{class_of_code, is_effect_class}
 use Rattle.law_operands_fetched.specs.rtx_tree.Tree.{RtxHead, head_of, kids_of}
-use Rattle.law_operands_fetched.specs.rtx_tree.declared.class.Class.{Class}
 use Rattle.law_operands_fetched.specs.rtx_tree.declared.class.Class.TheVariants as class
 use Rattle.law_operands_fetched.specs.rtx_tree.declared.code.Code.{Code}
 use Rattle.law_operands_fetched.specs.rtx_tree.declared.code.Code.TheVariants as code
@@ -21,7 +20,7 @@ use Rattle.law_operands_fetched.proofs.rtl_func.AllPass.{all_pass}
 use Rattle.law_operands_fetched.specs.rtl_step.Call.{is_result, is_result_by, target_value}
 use Rattle.law_operands_fetched.specs.rtl_step.Regs.{Regs}
 use Rattle.law_operands_fetched.specs.md_constr.Inputs as inputs
-use Rattle.law_operands_fetched.specs.md_match.Pattern.{Ops, role_of, operand_numbered}
+use Rattle.law_operands_fetched.specs.md_match.Pattern.{Ops, role_of}
 use Rattle.law_operands_fetched.specs.md_match.declared.role.Role.{Role}
 use Rattle.law_operands_fetched.specs.md_match.declared.role.Role.TheVariants.{Operand, Operator, Itself}
 use Rattle.law_operands_fetched.specs.assign.declared.home.HomeOf.{HomeOf}
@@ -29,13 +28,10 @@ use Rattle.law_operands_fetched.specs.assign.declared.places.Layout.{Layout}
 use Rattle.law_operands_fetched.specs.reload_homes.Homes.{homed}
 use Rattle.law_operands_fetched.specs.reload_operands.Put.{parts_by, put}
 use Rattle.law_operands_fetched.specs.reload_moves.Registers as moves
-use Rattle.law_operands_fetched.specs.reload_choice.Movable.{is_plain, may_have_results, may_end}
+use Rattle.law_operands_fetched.specs.reload_choice.Movable.{is_plain, may_have_results}
 use Rattle.law_operands_fetched.specs.reload_choice.Sound.{IsPart, IsSoundPlan}
-use Rattle.law_operands_fetched.specs.reload_choice.declared.given.Given.{Given}
 use Rattle.law_operands_fetched.specs.reload_choice.declared.given.Plan.{Plan}
 use Rattle.law_operands_fetched.specs.law_operands_replaced.Places.{itself}
-use Rattle.law_operands_fetched.specs.law_operands_replaced.Spare.{KnowsRest}
-use Rattle.law_operands_fetched.proofs.law_operands_replaced.Addresses.{AddressToo}
 use Rattle.law_reload_moves.proofs.CallValues.{IsCall, IsTarget, call_is}
 use Rattle.law_reload_moves.proofs.CallValues as call
 use Rattle.law_operands_fetched.proofs.law_operands_replaced.Calling.{SameResult}

@@ -4,11 +4,10 @@ use Rattle.std.proofs.lemmas.Bool.{and_parts, or_cases}
 use Rattle.std.specs.List.{flat_map, list_all, list_any}
 use Rattle.std.specs.Prelude.{ℤ, pos, option_and_then}
 use Rattle.law_operands_fetched.specs.bits64.declared.Width.TheVariants.{W64}
-use Rattle.law_operands_fetched.proofs.rtx_tree.Trees.{head_of-tree, kids_of-tree}
+use Rattle.law_operands_fetched.proofs.rtx_tree.Trees.{kids_of-tree}
 use Rattle.law_operands_fetched.specs.rtx_tree.Code.{class_of_code, is_effect_class}
 use Rattle.law_operands_fetched.specs.rtx_tree.Operands.{put_at}
-use Rattle.law_operands_fetched.specs.rtx_tree.Tree.{RtxHead, head_of, kids_of, tree_of, reg_of}
-use Rattle.law_operands_fetched.specs.rtx_tree.declared.class.Class.{Class}
+use Rattle.law_operands_fetched.specs.rtx_tree.Tree.{RtxHead, head_of, kids_of, reg_of}
 use Rattle.law_operands_fetched.specs.rtx_tree.declared.class.Class.TheVariants as class
 use Rattle.law_operands_fetched.specs.rtx_tree.declared.code.Code.{Code}
 use Rattle.law_operands_fetched.specs.rtx_tree.declared.code.Code.TheVariants as code
@@ -22,7 +21,7 @@ use Rattle.law_operands_fetched.specs.rtl_func.Kinds.{is_call_by, is_call_tree}
 use Rattle.law_operands_fetched.specs.rtl_func.Shapes.{class_at, mode_at, number_at, has_mode, is_operand, is_constant, is_memory_class, is_call_class, is_called, is_effect, fits_row, is_shaped}
 use Rattle.law_operands_fetched.proofs.rtl_func.AllPass as nodes
 use Rattle.law_operands_fetched.proofs.rtl_func.AllPass.{all_pass}
-use Rattle.law_operands_fetched.specs.rtl_step.Call.{target_by, target_of, is_result, is_result_by, call_by, call_part, aligned_target, target_value}
+use Rattle.law_operands_fetched.specs.rtl_step.Call.{target_by, target_of, is_result, is_result_by, call_by, aligned_target, target_value}
 use Rattle.law_operands_fetched.specs.rtl_step.Effect.{address_of, address_part}
 use Rattle.law_operands_fetched.specs.rtl_step.Regs.{Regs}
 use Rattle.law_operands_fetched.specs.rtl_step.Value.{value_of}
@@ -32,7 +31,7 @@ use Rattle.law_operands_fetched.specs.md_match.Pattern.{Ops, role_of}
 use Rattle.law_operands_fetched.specs.md_match.declared.role.Role.TheVariants.{Operand, Itself}
 use Rattle.law_operands_fetched.specs.assign.declared.home.HomeOf.{HomeOf}
 use Rattle.law_operands_fetched.specs.assign.declared.places.Layout.{Layout}
-use Rattle.law_operands_fetched.specs.reload_homes.Homes.{homed, register_at}
+use Rattle.law_operands_fetched.specs.reload_homes.Homes.{homed}
 use Rattle.law_operands_fetched.specs.reload_operands.Directions.{has_number, is_input}
 use Rattle.law_operands_fetched.specs.reload_operands.Put.{put, parts_by}
 use Rattle.law_operands_fetched.proofs.reload_operands.NumberLaws.{has_in_both, has_in_each}
@@ -41,11 +40,10 @@ use Rattle.law_operands_fetched.proofs.law_operands_replaced.Addresses.{memory_k
 use Rattle.law_reload_moves.proofs.Besides.{no_place, beside_head, part_beside}
 use Rattle.law_reload_moves.proofs.ElementValues.{taken_role, none_at, one_at}
 use Rattle.law_reload_moves.proofs.GivenBeside.{first_of, second_of}
-use Rattle.law_reload_moves.proofs.InputPlaces.{StandsThere, is_operator_of, no_operator_of, at_pass}
+use Rattle.law_reload_moves.proofs.InputPlaces.{is_operator_of, no_operator_of, at_pass}
 use Rattle.law_reload_moves.proofs.InputValues.{pattern_other}
 use Rattle.law_operands_fetched.proofs.law_operands_replaced.JumpTrees.{row_at, is_bare_class, bare_kids}
-use Rattle.law_reload_moves.proofs.JumpValues.{Valued, alone, IsItself, replaced, in_value, no_parts_there, constant_there, over_head, untrue', Answer, itself_there, in_target, in_source}
-use Rattle.law_reload_moves.proofs.Matched.{IsLow}
+use Rattle.law_reload_moves.proofs.JumpValues.{Valued, alone, IsItself, replaced, in_value, constant_there, over_head, untrue', Answer, itself_there, in_target, in_source}
 use Rattle.law_operands_fetched.proofs.law_operands_replaced.NewTrees.{is_whole}
 use Rattle.law_operands_fetched.proofs.law_operands_replaced.PutParts.{each_put, over_is}
 use Rattle.law_reload_moves.proofs.TakenThere.{IsAt, part_at, taken_there}

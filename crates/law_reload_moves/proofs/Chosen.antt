@@ -13,7 +13,6 @@ use Rattle.law_operands_fetched.specs.assign.declared.places.Layout.{Layout}
 use Rattle.law_operands_fetched.specs.reload_homes.Homes.{homed}
 use Rattle.law_operands_fetched.specs.reload_operands.Put.{in_lowpart}
 use Rattle.law_operands_fetched.specs.reload_operands.Directions.{is_input, is_output, is_clobbered, is_hidden}
-use Rattle.law_operands_fetched.specs.reload_operands.Operands.{operand_for}
 use Rattle.law_operands_fetched.specs.reload_operands.declared.operand.Operand.{Operand}
 use Rattle.law_operands_fetched.specs.reload_moves.Moves.{own_of, base_of, far_of}
 use Rattle.law_operands_fetched.specs.reload_moves.Registers.{asks_of}
@@ -27,8 +26,8 @@ use Rattle.law_operands_fetched.specs.reload_choice.declared.given.Given.{Given}
 use Rattle.law_operands_fetched.specs.reload_choice.declared.given.Plan.{Plan}
 use Rattle.law_reload_moves.specs.Chosen.{chosen_from}
 use Rattle.law_operands_fetched.specs.law_operands_replaced.Places.{StandsFor}
-use Rattle.law_reload_moves.proofs.Matched.{IsFound, IsLow, places}
-use Rattle.law_reload_moves.proofs.NewsLaws.{IsNewFor, new_for, IsOperandOf, operand_of_match, moved_place, result_numbered}
+use Rattle.law_reload_moves.proofs.Matched.{places}
+use Rattle.law_reload_moves.proofs.NewsLaws.{new_for, operand_of_match, moved_place, result_numbered}
 
 -- a moved operand's new tree is its register
 pub moved_tree : (asks : List Ask) (p : Part) (x : Operand) (r : Rtx) → p.is_moved ≡ true → new_tree asks p x ≡ Some r → r ≡ reg_of x.mode (own_of asks p)

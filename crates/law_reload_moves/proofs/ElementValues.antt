@@ -11,14 +11,14 @@ use Rattle.law_operands_fetched.specs.rtx_tree.declared.code.Code.TheVariants as
 use Rattle.law_operands_fetched.specs.rtx_tree.declared.machine.SymbolAt.{SymbolAt}
 use Rattle.law_operands_fetched.specs.rtx_tree.declared.memories.MemByte.{MemByte}
 use Rattle.law_operands_fetched.specs.rtx_tree.declared.tree.Rtx.{Rtx}
-use Rattle.law_operands_fetched.specs.rtl_func.Shapes.{mode_at, is_effect, is_shaped}
+use Rattle.law_operands_fetched.specs.rtl_func.Shapes.{mode_at, is_shaped}
 use Rattle.law_operands_fetched.proofs.rtl_func.AllPass as nodes
 use Rattle.law_operands_fetched.proofs.rtl_func.AllPass.{all_pass}
-use Rattle.law_operands_fetched.specs.rtl_step.Effect.{effect_of, address_of, address_part, register_of, register_by, set_place}
+use Rattle.law_operands_fetched.specs.rtl_step.Effect.{effect_of, address_of, address_part, register_of, register_by}
 use Rattle.law_operands_fetched.specs.rtl_step.Regs.{Regs}
 use Rattle.law_operands_fetched.specs.rtl_step.Value.{width_of}
 use Rattle.law_operands_fetched.specs.rtl_step.declared.effect.Effect.{Effect}
-use Rattle.law_operands_fetched.specs.md_constr.Inputs.{taken_in, taken_inside, taken_at_by, taken_at, taken_by_parts, taken_by}
+use Rattle.law_operands_fetched.specs.md_constr.Inputs.{taken_in, taken_at_by, taken_at, taken_by_parts, taken_by}
 use Rattle.law_operands_fetched.proofs.md_match.Instantiated.{each_made}
 use Rattle.law_operands_fetched.specs.md_match.Pattern.{Ops, role_of, operand_of, instantiated}
 use Rattle.law_operands_fetched.specs.md_match.declared.role.Role.TheVariants.{Operand, Itself}

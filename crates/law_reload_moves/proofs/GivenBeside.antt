@@ -20,18 +20,18 @@ use Rattle.law_operands_fetched.specs.assign.declared.home.HomeOf.{HomeOf}
 use Rattle.law_operands_fetched.specs.assign.declared.places.Layout.{Layout}
 use Rattle.law_operands_fetched.specs.reload_homes.Homes.{homed, register_numbered, register_by, register_at}
 use Rattle.law_operands_fetched.proofs.reload_operands.NumberLaws.{has_in_each}
-use Rattle.law_operands_fetched.specs.reload_operands.Directions.{has_number, is_operator_code, clobbered_by_parts, clobbered_by, is_clobbered, is_hidden}
+use Rattle.law_operands_fetched.specs.reload_operands.Directions.{has_number, is_operator_code, clobbered_by_parts, clobbered_by, is_hidden}
 use Rattle.law_operands_fetched.specs.reload_choice.Sound.{IsSoundPlan}
 use Rattle.law_operands_fetched.specs.reload_choice.declared.given.Plan.{Plan}
 use Rattle.law_operands_fetched.specs.law_operands_replaced.Places.{AtOnePlace, first, later, StandsFor, itself, part}
 use Rattle.law_operands_fetched.specs.law_operands_replaced.Spare.{KnowsRest}
-use Rattle.law_reload_moves.proofs.Besides.{itself_made, no_place, beside_head, IsPartBeside, part_beside, low_inside}
+use Rattle.law_reload_moves.proofs.Besides.{itself_made, no_place, beside_head, part_beside, low_inside}
 use Rattle.law_reload_moves.proofs.Chosen.{given, asks, news, known_of, IsNewAt, new_at}
 use Rattle.law_reload_moves.proofs.GivenNews.{own, mode, tree, result_at, Reads, Lost, Free, AreFetched, new_is}
 use Rattle.law_operands_fetched.proofs.law_operands_replaced.InsnTurns.{IsBeside}
 use Rattle.law_reload_moves.proofs.Matched.{IsLow}
-use Rattle.law_reload_moves.proofs.NewsLaws.{moved_place, none_moved}
-use Rattle.law_reload_moves.proofs.TakenPlaces.{any_place, itself_number, IsEffectOf, IsRead, source_read, target_read, operator_hidden}
+use Rattle.law_reload_moves.proofs.NewsLaws.{none_moved}
+use Rattle.law_reload_moves.proofs.TakenPlaces.{any_place, itself_number, IsEffectOf, source_read, target_read, operator_hidden}
 use Rattle.law_operands_fetched.proofs.law_operands_replaced.WholeTurns.{IsWholeBeside}
 
 operand_changed : (c : Code) (k : ℕ) → role_of c ≡ Operand → has_number k (changed_here c (pos k)) ≡ true

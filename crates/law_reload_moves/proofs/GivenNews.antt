@@ -25,22 +25,21 @@ use Rattle.law_operands_fetched.specs.reload_operands.Directions.{is_clobbered}
 use Rattle.law_operands_fetched.specs.reload_operands.declared.operand.Operand.{Operand}
 use Rattle.law_operands_fetched.proofs.reload_moves.AskLaws.{own_asked, base_asked}
 use Rattle.law_operands_fetched.specs.reload_moves.Moves.{own_of, comes_in}
-use Rattle.law_operands_fetched.specs.reload_moves.Registers.{asks_of, ask, is_asked, base_ask, holds_base, register_for, is_result}
+use Rattle.law_operands_fetched.specs.reload_moves.Registers.{ask, base_ask, holds_base, register_for, is_result}
 use Rattle.law_operands_fetched.specs.reload_moves.declared.ask.Ask.{Ask}
 use Rattle.law_operands_fetched.specs.reload_moves.declared.ask.What.TheVariants.{Own, StayingBase, ResultBase}
 use Rattle.law_operands_fetched.specs.reload_moves.declared.part.Part.{Part}
-use Rattle.law_operands_fetched.specs.reload_choice.Insns.{new_tree, news_of}
-use Rattle.law_operands_fetched.specs.reload_choice.Movable.{are_same_inputs, are_same_outputs, is_alone, may_share, share}
+use Rattle.law_operands_fetched.specs.reload_choice.Insns.{new_tree}
+use Rattle.law_operands_fetched.specs.reload_choice.Movable.{are_same_inputs, are_same_outputs, is_alone, share}
 use Rattle.law_operands_fetched.specs.reload_choice.Sound.{IsPart, IsSoundPlan}
 use Rattle.law_operands_fetched.specs.reload_choice.declared.given.Given.{Given}
 use Rattle.law_operands_fetched.specs.reload_choice.declared.given.Plan.{Plan}
-use Rattle.law_reload_moves.specs.Chosen.{chosen_from}
 use Rattle.law_operands_fetched.specs.law_operands_replaced.Places.{StandsFor}
 use Rattle.law_operands_fetched.specs.law_operands_replaced.Spare.{is_spare, KnowsRest}
 use Rattle.law_operands_fetched.proofs.law_operands_replaced.Addresses.{IsNewTree}
 use Rattle.law_reload_moves.proofs.Chosen.{given, asks, news, moved_tree, known_of, IsNewAt, new_at}
 use Rattle.law_operands_fetched.proofs.law_operands_replaced.ElementTurns.{NewFor, stays_for, moves_for}
-use Rattle.law_reload_moves.proofs.NewsLaws.{moved_place, result_numbered}
+use Rattle.law_reload_moves.proofs.NewsLaws.{result_numbered}
 use Rattle.law_reload_moves.proofs.TakenPlaces.{IsRead}
 use Rattle.law_operands_fetched.proofs.law_operands_replaced.Valued.{HasValue}
 

@@ -8,15 +8,14 @@ use Rattle.std.specs.Prelude.{ℤ, pos, negsuc}
 use Rattle.law_operands_fetched.proofs.rtx_tree.Trees.{head_of-tree, kids_of-tree}
 use Rattle.law_operands_fetched.specs.rtx_tree.Code.{class_of_code, is_value_class}
 use Rattle.law_operands_fetched.specs.rtx_tree.Tree.{RtxHead, head_of, kids_of, tree_of, node_of, reg_of, const_of}
-use Rattle.law_operands_fetched.specs.rtx_tree.declared.class.Class.{Class}
 use Rattle.law_operands_fetched.specs.rtx_tree.declared.class.Class.TheVariants as class
 use Rattle.law_operands_fetched.specs.rtx_tree.declared.code.Code.{Code}
 use Rattle.law_operands_fetched.specs.rtx_tree.declared.code.Code.TheVariants as code
 use Rattle.law_operands_fetched.specs.rtx_tree.declared.code.Mode.{Mode}
 use Rattle.law_operands_fetched.specs.rtx_tree.declared.code.Mode.TheVariants.{Void, DI}
-use Rattle.law_operands_fetched.specs.rtx_tree.declared.tree.Rtx.{Rtx, out-Rtx, out-roll-Rtx}
+use Rattle.law_operands_fetched.specs.rtx_tree.declared.tree.Rtx.{Rtx, out-roll-Rtx}
 use Rattle.law_operands_fetched.specs.rtx_tree.declared.tree.Rtx.TheOpen.{Rtx-F}
-use Rattle.law_operands_fetched.specs.rtl_func.Shapes.{class_at, mode_at, number_at, has_mode, same_mode, is_constant_class, is_narrower, is_true_register, fits_one, is_operand, is_register_number, fits_row, is_bare, is_shaped}
+use Rattle.law_operands_fetched.specs.rtl_func.Shapes.{class_at, mode_at, number_at, has_mode, same_mode, is_constant_class, is_narrower, is_true_register, is_operand, is_register_number, fits_row, is_bare, is_shaped}
 use Rattle.law_operands_fetched.proofs.rtl_func.AllPass as nodes
 use Rattle.law_operands_fetched.proofs.rtl_func.AllPass.{all_pass, pass_out}
 use Rattle.law_operands_fetched.specs.sym_insns.Shape.{all_natural}
@@ -24,7 +23,7 @@ use Rattle.law_operands_fetched.specs.assign.declared.home.Home.{Home}
 use Rattle.law_operands_fetched.specs.assign.declared.home.Home.TheVariants.{Hard, Slot}
 use Rattle.law_operands_fetched.specs.assign.declared.home.HomeOf.{HomeOf}
 use Rattle.law_operands_fetched.specs.assign.declared.places.Layout.{Layout}
-use Rattle.law_operands_fetched.specs.reload_homes.Homes.{home_of, homed, register_numbered, register_in, register_by, register_at, place_by, place_for, slot_address, slot_offset}
+use Rattle.law_operands_fetched.specs.reload_homes.Homes.{home_of, homed, register_numbered, register_in, register_by, register_at, place_by, slot_address, slot_offset}
 use Rattle.law_operands_fetched.proofs.reload_homes.Rewrites.{homed_register, homed_over}
 use Rattle.law_operands_fetched.specs.rv_regs.Registers.{stack_pointer}
 use Rattle.law_operands_fetched.proofs.law_frame.law_window_replaced.Trees.{natural_kids}

@@ -5,28 +5,14 @@ use Rattle.std.specs.Int.{int_wrap, w64}
 use Rattle.std.specs.List.{AllByRecursion, list_all}
 use Rattle.std.specs.Ordering.{int_eq}
 use Rattle.std.specs.Prelude.{ℤ, pos, nat_le}
-use Rattle.law_operands_fetched.proofs.rtx_tree.Trees.{head_of-tree, kids_of-tree}
-use Rattle.law_operands_fetched.specs.rtx_tree.Code.{class_of_code, is_place_class, is_value_class, is_effect_class, mode_bits}
-use Rattle.law_operands_fetched.specs.rtx_tree.Tree.{RtxHead, head_of, kids_of, tree_of, node_of, reg_of, const_of}
+use Rattle.law_operands_fetched.specs.rtx_tree.Code.{is_place_class, is_value_class, is_effect_class, mode_bits}
 use Rattle.law_operands_fetched.specs.rtx_tree.declared.class.Class.{Class}
 use Rattle.law_operands_fetched.specs.rtx_tree.declared.class.Class.TheVariants as class
-use Rattle.law_operands_fetched.specs.rtx_tree.declared.code.Code.{Code}
 use Rattle.law_operands_fetched.specs.rtx_tree.declared.code.Code.TheVariants as code
 use Rattle.law_operands_fetched.specs.rtx_tree.declared.code.Mode.{Mode}
-use Rattle.law_operands_fetched.specs.rtx_tree.declared.code.Mode.TheVariants.{Void, DI}
-use Rattle.law_operands_fetched.specs.rtx_tree.declared.tree.Rtx.{Rtx, out-Rtx, roll-Rtx, out-roll-Rtx}
-use Rattle.law_operands_fetched.specs.rtx_tree.declared.tree.Rtx.TheOpen.{Rtx-F}
-use Rattle.law_operands_fetched.specs.rtl_func.Shapes.{class_at, mode_at, number_at, has_mode, same_mode, is_narrower, is_constant_class, is_constant, is_place, is_value, is_effect, is_operand, is_some_operand, is_moded, are_compared, is_register_number, is_jump_source_class, is_counter_class, is_comparison_class, is_label_class, is_call_class, is_memory_class, is_scratch_class, is_set_to, fits_none, fits_one, is_called, fits_two, is_choice, fits_three, fits_parts, fits_row, is_bare, is_shaped}
-use Rattle.law_operands_fetched.specs.sym_insns.Shape.{all_natural}
-use Rattle.law_operands_fetched.specs.assign.declared.home.Home.{Home}
-use Rattle.law_operands_fetched.specs.assign.declared.home.Home.TheVariants.{Hard, Slot}
-use Rattle.law_operands_fetched.specs.assign.declared.home.HomeOf.{HomeOf}
-use Rattle.law_operands_fetched.specs.assign.declared.places.Layout.{Layout}
-use Rattle.law_operands_fetched.specs.reload_homes.Homes.{home_of, homed, register_numbered, register_in, register_by, register_at, place_by, place_for, slot_address, slot_offset}
-use Rattle.law_operands_fetched.proofs.reload_homes.Rewrites.{homed_register, homed_over}
-use Rattle.law_operands_fetched.specs.rv_regs.Registers.{stack_pointer}
-use Rattle.law_operands_fetched.proofs.law_frame.law_window_replaced.Trees.{natural_kids}
-use Rattle.law_reload_moves.proofs.HomedTrees.{induction, low_placed, low_code}
+use Rattle.law_operands_fetched.specs.rtx_tree.declared.code.Mode.TheVariants.{DI}
+use Rattle.law_operands_fetched.specs.rtx_tree.declared.tree.Rtx.{Rtx}
+use Rattle.law_operands_fetched.specs.rtl_func.Shapes.{class_at, mode_at, has_mode, same_mode, is_narrower, is_constant_class, is_constant, is_place, is_value, is_effect, is_operand, is_some_operand, is_moded, are_compared, is_jump_source_class, is_counter_class, is_comparison_class, is_label_class, is_call_class, is_memory_class, is_scratch_class, is_set_to, fits_one, is_called, fits_two, fits_three, fits_parts, fits_row}
 use Rattle.law_operands_fetched.proofs.law_operands_replaced.NewTrees.{is_lowpart_class}
 
 -- a register or the low part of one; what stands for one

@@ -11,11 +11,10 @@ use Rattle.law_operands_fetched.specs.rtx_tree.Tree.{head_of, kids_of}
 use Rattle.law_operands_fetched.specs.rtx_tree.declared.code.Code.{Code}
 use Rattle.law_operands_fetched.specs.rtx_tree.declared.code.Code.TheVariants as code
 use Rattle.law_operands_fetched.specs.rtx_tree.declared.tree.Rtx.{Rtx}
-use Rattle.law_operands_fetched.specs.rtl_func.Shapes.{is_shaped}
 use Rattle.law_operands_fetched.proofs.rtl_func.AllPass as nodes
 use Rattle.law_operands_fetched.proofs.rtl_func.AllPass.{all_pass}
 use Rattle.law_operands_fetched.specs.md_constr.Inputs.{taken_here, taken_in}
-use Rattle.law_operands_fetched.proofs.md_match.Instantiated.{each_made, made_operand}
+use Rattle.law_operands_fetched.proofs.md_match.Instantiated.{made_operand}
 use Rattle.law_operands_fetched.proofs.md_match.Placeholders.{placeholders_out}
 use Rattle.law_operands_fetched.specs.md_match.Match.{IsAsked, IsAskedAs}
 use Rattle.law_operands_fetched.specs.md_match.Pattern.{Ops, role_of, placeholders, placeholders_as, operand_of, operand_numbered, instantiated}
@@ -23,15 +22,13 @@ use Rattle.law_operands_fetched.specs.md_match.declared.role.Role.{Role}
 use Rattle.law_operands_fetched.specs.md_match.declared.role.Role.TheVariants.{Operand, Operator, Itself}
 use Rattle.law_operands_fetched.specs.assign.declared.home.HomeOf.{HomeOf}
 use Rattle.law_operands_fetched.specs.assign.declared.places.Layout.{Layout}
-use Rattle.law_operands_fetched.specs.reload_homes.Homes.{homed, register_at}
+use Rattle.law_operands_fetched.specs.reload_homes.Homes.{homed}
 use Rattle.law_operands_fetched.specs.reload_operands.Directions.{has_number}
-use Rattle.law_operands_fetched.specs.reload_operands.Put.{is_lowpart_code, is_lowpart, any_inside, is_inside, inside_low}
+use Rattle.law_operands_fetched.specs.reload_operands.Put.{is_inside, inside_low}
 use Rattle.law_operands_fetched.proofs.reload_operands.InsideLaws.{inside_operand, inside_operator}
 use Rattle.law_operands_fetched.proofs.reload_operands.NumberLaws.{takes_out}
 use Rattle.law_operands_fetched.specs.law_operands_replaced.Places.{AtOnePlace, first, later, At, here, inside, is_leaf, is_leaf_as, is_empty}
-use Rattle.law_reload_moves.proofs.Besides.{IsPartBeside, part_beside}
-use Rattle.law_reload_moves.proofs.HomedTrees.{induction}
-use Rattle.law_reload_moves.proofs.Matched.{IsLow, IsMade, IsPlace, whole, lowpart, is_place, made_by, made_length, alone, front, no_kids}
+use Rattle.law_reload_moves.proofs.Matched.{IsPlace, made_by, made_length, alone}
 
 -- ---- lists
 

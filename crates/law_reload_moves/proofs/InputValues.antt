@@ -15,13 +15,13 @@ use Rattle.law_operands_fetched.proofs.rtl_func.AllPass.{all_pass}
 use Rattle.law_operands_fetched.specs.rtl_step.Effect.{effect_of, all_effects, one_effect, effects_of, effects_by}
 use Rattle.law_operands_fetched.specs.rtl_step.Regs.{Regs}
 use Rattle.law_operands_fetched.specs.rtl_step.declared.effect.Effect.{Effect}
-use Rattle.law_operands_fetched.specs.md_constr.Inputs.{taken_by_parts, taken_by, inputs_in}
+use Rattle.law_operands_fetched.specs.md_constr.Inputs.{taken_by}
 use Rattle.law_operands_fetched.specs.md_constr.Inputs as inputs
-use Rattle.law_operands_fetched.specs.md_match.Pattern.{Ops, role_of, operand_of}
+use Rattle.law_operands_fetched.specs.md_match.Pattern.{Ops, role_of}
 use Rattle.law_operands_fetched.specs.md_match.declared.role.Role.TheVariants.{Operand, Itself}
 use Rattle.law_operands_fetched.specs.assign.declared.home.HomeOf.{HomeOf}
 use Rattle.law_operands_fetched.specs.assign.declared.places.Layout.{Layout}
-use Rattle.law_operands_fetched.specs.reload_homes.Homes.{homed, register_at}
+use Rattle.law_operands_fetched.specs.reload_homes.Homes.{homed}
 use Rattle.law_operands_fetched.specs.reload_operands.Directions.{has_number, is_input}
 use Rattle.law_operands_fetched.proofs.reload_operands.NumberLaws.{has_in_each}
 use Rattle.law_operands_fetched.specs.law_operands_replaced.Places.{AtOnePlace, first, later}

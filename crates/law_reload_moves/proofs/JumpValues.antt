@@ -7,37 +7,36 @@ use Rattle.law_operands_fetched.specs.bits64.declared.Width.TheVariants.{W64}
 use Rattle.law_operands_fetched.proofs.rtx_tree.Trees.{head_of-tree, kids_of-tree}
 use Rattle.law_operands_fetched.specs.rtx_tree.Code.{class_of_code, is_effect_class}
 use Rattle.law_operands_fetched.specs.rtx_tree.Operands.{put_at}
-use Rattle.law_operands_fetched.specs.rtx_tree.Patterns.{is_pc, is_pc_code}
-use Rattle.law_operands_fetched.specs.rtx_tree.Tree.{RtxHead, head_of, kids_of, tree_of, reg_of}
+use Rattle.law_operands_fetched.specs.rtx_tree.Patterns.{is_pc}
+use Rattle.law_operands_fetched.specs.rtx_tree.Tree.{RtxHead, head_of, kids_of, reg_of}
 use Rattle.law_operands_fetched.specs.rtx_tree.declared.class.Class.{Class}
 use Rattle.law_operands_fetched.specs.rtx_tree.declared.class.Class.TheVariants as class
-use Rattle.law_operands_fetched.specs.rtx_tree.declared.code.Code.{Code}
 use Rattle.law_operands_fetched.specs.rtx_tree.declared.code.Code.TheVariants as code
 use Rattle.law_operands_fetched.specs.rtx_tree.declared.code.Mode.{Mode}
 use Rattle.law_operands_fetched.specs.rtx_tree.declared.machine.SymbolAt.{SymbolAt}
 use Rattle.law_operands_fetched.specs.rtx_tree.declared.memories.MemByte.{MemByte}
 use Rattle.law_operands_fetched.specs.rtx_tree.declared.tree.Rtx.{Rtx}
 use Rattle.law_operands_fetched.specs.rtl_func.Kinds.{is_jump_by, is_jump_tree}
-use Rattle.law_operands_fetched.specs.rtl_func.Shapes.{class_at, mode_at, is_constant, is_constant_class, is_label_class, is_counter_class, is_comparison_class, is_jump_source_class, is_effect, is_shaped}
+use Rattle.law_operands_fetched.specs.rtl_func.Shapes.{class_at, is_constant, is_constant_class, is_label_class, is_counter_class, is_comparison_class, is_jump_source_class, is_effect, is_shaped}
 use Rattle.law_operands_fetched.proofs.rtl_func.AllPass as nodes
 use Rattle.law_operands_fetched.proofs.rtl_func.AllPass.{all_pass}
 use Rattle.law_operands_fetched.specs.rtl_step.Jump.{way_of, jump_of}
 use Rattle.law_operands_fetched.specs.rtl_step.Regs.{Regs}
 use Rattle.law_operands_fetched.specs.rtl_step.Value.{value_of}
 use Rattle.law_operands_fetched.specs.rtl_step.declared.jump.Way.{Way}
-use Rattle.law_operands_fetched.specs.md_constr.Inputs.{taken_here, taken_in, taken_at_by, taken_at, taken_by_parts, taken_by}
+use Rattle.law_operands_fetched.specs.md_constr.Inputs.{taken_here, taken_in, taken_at, taken_by_parts, taken_by}
 use Rattle.law_operands_fetched.specs.md_constr.Inputs as inputs
 use Rattle.law_operands_fetched.specs.md_match.Pattern.{Ops, role_of}
 use Rattle.law_operands_fetched.specs.md_match.declared.role.Role.TheVariants.{Operand, Itself}
 use Rattle.law_operands_fetched.specs.assign.declared.home.HomeOf.{HomeOf}
 use Rattle.law_operands_fetched.specs.assign.declared.places.Layout.{Layout}
-use Rattle.law_operands_fetched.specs.reload_homes.Homes.{homed, register_at}
+use Rattle.law_operands_fetched.specs.reload_homes.Homes.{homed}
 use Rattle.law_operands_fetched.specs.reload_operands.Directions.{has_number, is_input}
 use Rattle.law_operands_fetched.specs.reload_operands.Put.{put, parts_by}
 use Rattle.law_operands_fetched.proofs.reload_operands.NumberLaws.{has_in_both, has_in_each, takes_out}
 use Rattle.law_operands_fetched.specs.law_operands_replaced.Places.{AtOnePlace, first, later, At, here, inside, is_leaf, is_leaf_as}
 use Rattle.law_reload_moves.proofs.Besides.{no_place, beside_head, part_beside}
-use Rattle.law_reload_moves.proofs.ElementValues.{IsValued, taken_role, low_nothing, is_subreg, not_low, none_at, one_at, valued_of}
+use Rattle.law_reload_moves.proofs.ElementValues.{IsValued, taken_role, low_nothing, is_subreg, not_low, none_at, one_at}
 use Rattle.law_reload_moves.proofs.GivenBeside.{first_of, second_of}
 use Rattle.law_reload_moves.proofs.InputPlaces.{StandsThere, no_operator_of, is_operator_of, at_pass, empty}
 use Rattle.law_reload_moves.proofs.InputValues.{pattern_other}
@@ -47,7 +46,7 @@ use Rattle.law_reload_moves.proofs.Matched.{IsLow}
 use Rattle.law_operands_fetched.proofs.law_operands_replaced.NewTrees.{is_whole}
 use Rattle.law_operands_fetched.proofs.law_operands_replaced.PutParts.{each_put, over_is}
 use Rattle.law_operands_fetched.proofs.law_operands_replaced.SetValues.{at_valued}
-use Rattle.law_reload_moves.proofs.TakenThere.{IsAt, part_at, PartThere, taken_there, parts_there}
+use Rattle.law_reload_moves.proofs.TakenThere.{IsAt, part_at, taken_there, parts_there}
 use Rattle.law_operands_fetched.proofs.law_operands_replaced.Valued.{IsThere, HasValue, constant_valued}
 use Rattle.law_operands_fetched.proofs.law_operands_replaced.InsnTurns.{two_of}
 

@@ -5,7 +5,7 @@ use Rattle.std.proofs.lemmas.Bool.{and_parts, eq-eqb, leb-true, or_left, or_righ
 use Rattle.std.proofs.lemmas.Bool.Decides.{nat_tests}
 use Rattle.std.specs.List.{list_all, list_any}
 use Rattle.std.specs.Prelude.{ℤ, pos, nat_le, slice_get, option_and_then}
-use Rattle.law_operands_fetched.specs.rtx_tree.Operands.{operand_at, put_at}
+use Rattle.law_operands_fetched.specs.rtx_tree.Operands.{put_at}
 use Rattle.law_operands_fetched.specs.rtx_tree.Tree.{reg_of}
 use Rattle.law_operands_fetched.specs.rtx_tree.declared.function.ArgUse.{ArgUse}
 use Rattle.law_operands_fetched.specs.rtx_tree.declared.function.Function.{Function}
@@ -29,7 +29,7 @@ use Rattle.law_operands_fetched.specs.rtl_step.declared.step.State.{State}
 use Rattle.reg_uses.specs.Uses.{has_argument}
 use Rattle.law_operands_fetched.specs.same_behaviour.Lawful.{IsMemory}
 use Rattle.law_operands_fetched.proofs.law_frame.law_window_replaced.Stands.{Stands}
-use Rattle.law_operands_fetched.specs.md_match.Pattern.{Ops, operand_numbered}
+use Rattle.law_operands_fetched.specs.md_match.Pattern.{Ops}
 use Rattle.law_operands_fetched.specs.reload_homes.Homes.{homed}
 use Rattle.law_operands_fetched.specs.reload_operands.Directions.{is_input}
 use Rattle.law_operands_fetched.specs.reload_operands.Put.{put}
@@ -49,7 +49,6 @@ use Rattle.law_operands_fetched.proofs.law_homes.Setting.{Setting, base, StandsI
 use Rattle.law_operands_fetched.proofs.law_homes.Tamed.{plain_tame}
 use Rattle.law_operands_fetched.specs.Onwards.{Onwards, ArePlain}
 use Rattle.law_operands_fetched.specs.law_operands_replaced.Spare.{is_spare, KeepsRest}
-use Rattle.law_operands_fetched.specs.law_operands_replaced.Straight.{Straight}
 use Rattle.law_operands_fetched.specs.Tame.{AreTame}
 use Rattle.law_operands_fetched.proofs.AroundWindow.{window_comes_from}
 use Rattle.law_reload_moves.proofs.CallInner.{call_turns, plan_results}
@@ -60,7 +59,6 @@ use Rattle.law_reload_moves.proofs.ElementValues.{IsValued}
 use Rattle.law_operands_fetched.proofs.law_operands_replaced.Fetches.{Rest}
 use Rattle.law_operands_fetched.proofs.Fetching.{Fetching}
 use Rattle.law_operands_fetched.proofs.GivenFetching.{fetching}
-use Rattle.law_reload_moves.proofs.GivenNews.{IsResultAt}
 use Rattle.law_reload_moves.proofs.InputPlaces.{no_operator_of}
 use Rattle.law_reload_moves.proofs.InputValues.{plain_valued}
 use Rattle.law_operands_fetched.proofs.law_operands_replaced.Jumping.{jump_becomes}

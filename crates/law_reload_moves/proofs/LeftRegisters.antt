@@ -7,7 +7,7 @@ use Rattle.std.specs.Int.{cast_unsigned, w64}
 use Rattle.std.specs.List.{cons_option, filter_map, list_all, list_any}
 use Rattle.std.specs.Prelude.{ℤ, pos, negsuc, nat_lt, option_and_then}
 use Rattle.law_operands_fetched.specs.bits64.declared.Width.{Width}
-use Rattle.law_operands_fetched.specs.rtx_tree.Tree.{RtxHead, head_of, kids_of, mentions_reg}
+use Rattle.law_operands_fetched.specs.rtx_tree.Tree.{head_of, kids_of, mentions_reg}
 use Rattle.law_operands_fetched.specs.rtx_tree.declared.code.Code.{Code}
 use Rattle.law_operands_fetched.specs.rtx_tree.declared.code.Code.TheVariants as code
 use Rattle.law_operands_fetched.specs.rtx_tree.declared.machine.SymbolAt.{SymbolAt}
@@ -15,7 +15,7 @@ use Rattle.law_operands_fetched.specs.rtx_tree.declared.memories.MemByte.{MemByt
 use Rattle.law_operands_fetched.specs.rtx_tree.declared.tree.Rtx.{Rtx}
 use Rattle.law_operands_fetched.specs.rtl_func.Shapes.{mode_at}
 use Rattle.law_operands_fetched.specs.rtl_step.Effect as effects
-use Rattle.law_operands_fetched.specs.rtl_step.Effect.{address_of, register_of, set_place, set_effect, clobber_by, clobber_effect, effect_by, effect_of, all_effects}
+use Rattle.law_operands_fetched.specs.rtl_step.Effect.{address_of, register_of, set_place, set_effect, clobber_by, effect_by, effect_of, all_effects}
 use Rattle.law_operands_fetched.specs.rtl_step.Regs.{Regs, known_of}
 use Rattle.law_operands_fetched.specs.rtl_step.Value.{width_of, value_of, of_two}
 use Rattle.law_operands_fetched.specs.rtl_step.declared.effect.Effect.{Effect}

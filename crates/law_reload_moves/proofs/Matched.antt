@@ -5,17 +5,16 @@ use Rattle.std.proofs.lemmas.Bool.Decides.{Decides-int_eq}
 use Rattle.std.specs.List.{list_all}
 use Rattle.std.specs.Ordering.{int_eq}
 use Rattle.std.specs.Prelude.{ℤ, pos, option_map, option_and_then}
-use Rattle.law_operands_fetched.proofs.rtx_tree.Trees.{kids_of-tree, head_of-tree}
+use Rattle.law_operands_fetched.proofs.rtx_tree.Trees.{kids_of-tree}
 use Rattle.law_operands_fetched.specs.rtx_tree.Code.{class_of_code}
-use Rattle.law_operands_fetched.specs.rtx_tree.Tree.{RtxHead, head_of, kids_of, tree_of, node_of, reg_of}
+use Rattle.law_operands_fetched.specs.rtx_tree.Tree.{RtxHead, head_of, kids_of, tree_of}
 use Rattle.law_operands_fetched.specs.rtx_tree.declared.class.Class.{Class}
 use Rattle.law_operands_fetched.specs.rtx_tree.declared.class.Class.TheVariants as class
 use Rattle.law_operands_fetched.specs.rtx_tree.declared.code.Code.{Code}
 use Rattle.law_operands_fetched.specs.rtx_tree.declared.code.Code.TheVariants as code
 use Rattle.law_operands_fetched.specs.rtx_tree.declared.code.Mode.{Mode}
-use Rattle.law_operands_fetched.specs.rtx_tree.declared.tree.Rtx.{Rtx, out-roll-Rtx}
-use Rattle.law_operands_fetched.specs.rtx_tree.declared.tree.Rtx.TheOpen.{Rtx-F}
-use Rattle.law_operands_fetched.specs.rtl_func.Shapes.{class_at, mode_at, number_at, is_true_register, is_narrower, is_bare, fits_row, is_shaped}
+use Rattle.law_operands_fetched.specs.rtx_tree.declared.tree.Rtx.{Rtx}
+use Rattle.law_operands_fetched.specs.rtl_func.Shapes.{class_at, mode_at, number_at, is_bare, fits_row, is_shaped}
 use Rattle.law_operands_fetched.proofs.rtl_func.AllPass as nodes
 use Rattle.law_operands_fetched.proofs.rtl_func.AllPass.{all_pass}
 use Rattle.law_operands_fetched.proofs.md_match.Instantiated.{each_made, made_operand, made_itself, made_operator, made_no_operator}
@@ -23,11 +22,10 @@ use Rattle.law_operands_fetched.specs.md_match.Pattern.{Ops, role_of, operand_of
 use Rattle.law_operands_fetched.specs.md_match.declared.role.Role.{Role}
 use Rattle.law_operands_fetched.specs.md_match.declared.role.Role.TheVariants.{Operand, Operator, Itself}
 use Rattle.law_operands_fetched.specs.assign.declared.home.Home.{Home}
-use Rattle.law_operands_fetched.specs.assign.declared.home.Home.TheVariants.{Hard, Slot}
 use Rattle.law_operands_fetched.specs.assign.declared.home.HomeOf.{HomeOf}
 use Rattle.law_operands_fetched.specs.assign.declared.places.Layout.{Layout}
-use Rattle.law_operands_fetched.specs.reload_homes.Homes.{home_of, homed, register_numbered, register_in, register_by, register_at, place_by, place_for, slot_address}
-use Rattle.law_operands_fetched.proofs.reload_homes.Rewrites.{homed_register, homed_over}
+use Rattle.law_operands_fetched.specs.reload_homes.Homes.{homed, register_numbered, register_by, register_at}
+use Rattle.law_operands_fetched.proofs.reload_homes.Rewrites.{homed_over}
 use Rattle.law_operands_fetched.specs.reload_operands.Put.{is_lowpart_code, is_lowpart, any_inside, is_inside, inside_low}
 use Rattle.law_operands_fetched.proofs.reload_operands.InsideLaws.{inside_operand, inside_operator, inside_itself}
 use Rattle.law_operands_fetched.specs.law_operands_replaced.Places.{AtOnePlace, first, later, StandsFor, itself, part}

@@ -6,19 +6,15 @@ use Rattle.std.specs.Prelude.{ℤ, is_some, slice_get}
 use Rattle.law_operands_fetched.specs.bits64.Words.{low}
 use Rattle.law_operands_fetched.specs.bits64.declared.Width.{Width}
 use Rattle.law_operands_fetched.specs.bits64.declared.Width.TheVariants.{W64}
-use Rattle.law_operands_fetched.specs.rtx_tree.Tree.{reg_of, mentions_reg}
+use Rattle.law_operands_fetched.specs.rtx_tree.Tree.{reg_of}
 use Rattle.law_operands_fetched.specs.rtx_tree.declared.machine.SymbolAt.{SymbolAt}
 use Rattle.law_operands_fetched.specs.rtx_tree.declared.memories.MemByte.{MemByte}
 use Rattle.law_operands_fetched.specs.rtx_tree.declared.tree.Rtx.{Rtx}
-use Rattle.law_operands_fetched.specs.run_memory.RunMemory.{load}
 use Rattle.law_operands_fetched.specs.rtl_func.Shapes.{mode_at}
-use Rattle.law_operands_fetched.specs.rtl_step.Effect.{effects_of, address_of, register_of, reg_after, regs_after, bytes_after, memory_after}
-use Rattle.law_operands_fetched.specs.rtl_step.Regs.{Regs, known_of, reg_value}
+use Rattle.law_operands_fetched.specs.rtl_step.Effect.{address_of, register_of}
+use Rattle.law_operands_fetched.specs.rtl_step.Regs.{Regs, known_of}
 use Rattle.law_operands_fetched.specs.rtl_step.Value.{width_of, value_of}
 use Rattle.law_operands_fetched.specs.rtl_step.declared.effect.Effect.{Effect}
-use Rattle.law_operands_fetched.specs.rtl_step.declared.effect.Effect.TheVariants.{Nothing, Sets, Unsets, Stores}
-use Rattle.law_operands_fetched.specs.sym_insns.Shape.{all_natural}
-use Rattle.law_operands_fetched.specs.law_window_kept.Same.{KnownToo}
 use Rattle.law_operands_fetched.specs.reload_operands.declared.operand.Operand.{Operand}
 use Rattle.law_operands_fetched.specs.reload_moves.Moves.{own_of, out_base, out_store, far_to, end_far_of}
 use Rattle.law_operands_fetched.specs.reload_moves.declared.ask.Ask.{Ask}
@@ -26,14 +22,14 @@ use Rattle.law_operands_fetched.specs.reload_moves.declared.moves.Move.TheVarian
 use Rattle.law_operands_fetched.specs.reload_moves.declared.part.Part.{Part}
 use Rattle.law_operands_fetched.specs.reload_choice.Insns.{reached, out_insn, insns_at, all_insns}
 use Rattle.law_operands_fetched.specs.law_operands_replaced.Held.{Held, Holds}
-use Rattle.law_operands_fetched.specs.law_operands_replaced.Spare.{is_spare, KnowsRest, KeepsRest, NamesNoSpare}
+use Rattle.law_operands_fetched.specs.law_operands_replaced.Spare.{KnowsRest, KeepsRest}
 use Rattle.law_operands_fetched.proofs.law_operands_replaced.Cells.{IsThere, AreThere}
 use Rattle.law_operands_fetched.proofs.law_operands_replaced.Ends.{Stays}
 use Rattle.law_operands_fetched.proofs.Endings.{EndedNear}
-use Rattle.law_operands_fetched.proofs.law_operands_replaced.Keyed.{Keyed, effects_in}
+use Rattle.law_operands_fetched.proofs.law_operands_replaced.Keyed.{Keyed}
 use Rattle.law_reload_moves.proofs.OutEffects.{IsPlaceSet, in_register, in_memory, IsOut, StandsOut, set_again, own_value, set_effects, there_after, among_there, all_there, ends_near}
 use Rattle.law_reload_moves.proofs.SteadyAddress.{Leaves, AllLeave, all_leave, AreLeft}
-use Rattle.law_reload_moves.proofs.ResultsEnd.{Among, AllAmong, Reached, ReachedBy, EndsNear, code_of}
+use Rattle.law_reload_moves.proofs.ResultsEnd.{Among, AllAmong, Reached, ReachedBy, EndsNear}
 
 -- ---- registers that effects leave
 

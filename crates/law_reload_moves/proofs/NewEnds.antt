@@ -17,12 +17,12 @@ use Rattle.law_operands_fetched.specs.rtx_tree.declared.machine.SymbolAt.{Symbol
 use Rattle.law_operands_fetched.specs.rtx_tree.declared.memories.MemByte.{MemByte}
 use Rattle.law_operands_fetched.specs.rtx_tree.declared.tree.Rtx.{Rtx, out-roll-Rtx}
 use Rattle.law_operands_fetched.specs.rtx_tree.declared.tree.Rtx.TheOpen.{Rtx-F}
-use Rattle.law_operands_fetched.proofs.rtx_tree.Trees.{head_of-tree, kids_of-tree}
-use Rattle.law_operands_fetched.specs.rtl_func.Shapes.{class_at, mode_at}
+use Rattle.law_operands_fetched.proofs.rtx_tree.Trees.{kids_of-tree}
+use Rattle.law_operands_fetched.specs.rtl_func.Shapes.{class_at}
 use Rattle.law_operands_fetched.proofs.rtl_func.AllPass.{all_pass, pass_out}
-use Rattle.law_operands_fetched.specs.rtl_step.Effect.{address_of, register_of}
+use Rattle.law_operands_fetched.specs.rtl_step.Effect.{address_of}
 use Rattle.law_operands_fetched.specs.rtl_step.Regs.{Regs, known_of, reg_value}
-use Rattle.law_operands_fetched.specs.rtl_step.Value.{width_of, value_of}
+use Rattle.law_operands_fetched.specs.rtl_step.Value.{value_of}
 use Rattle.law_operands_fetched.specs.rtl_step.declared.effect.Effect.{Effect}
 use Rattle.law_operands_fetched.specs.same_behaviour.Lawful.{IsMemory}
 use Rattle.law_operands_fetched.specs.reload_operands.declared.operand.Base.{Base}
@@ -34,7 +34,7 @@ use Rattle.law_operands_fetched.specs.reload_moves.declared.part.Part.{Part}
 use Rattle.law_operands_fetched.specs.reload_choice.reload_fit.Addressed.{address_on, addressed, addressed_by, address_in, on_register, far_offset}
 use Rattle.law_operands_fetched.specs.reload_choice.Insns.{far_insns, out_insn, insns_at, all_insns}
 use Rattle.law_operands_fetched.specs.law_operands_replaced.Held.{Held, Holds}
-use Rattle.law_operands_fetched.specs.law_operands_replaced.Spare.{is_spare, KnowsRest, KeepsRest}
+use Rattle.law_operands_fetched.specs.law_operands_replaced.Spare.{is_spare, KeepsRest}
 use Rattle.law_operands_fetched.proofs.law_operands_replaced.Addresses.{IsNewTree, address_is}
 use Rattle.law_operands_fetched.proofs.Based.{far_is, based_near, in_slot}
 use Rattle.law_operands_fetched.proofs.law_operands_replaced.Cells.{IsThere, AreThere}
@@ -45,7 +45,7 @@ use Rattle.law_operands_fetched.proofs.Fetching.{spare_some, spare_no_pointer}
 use Rattle.law_reload_moves.proofs.GivenSteady.{leaf_free}
 use Rattle.law_operands_fetched.proofs.law_operands_replaced.Keyed.{Keyed, effects_in}
 use Rattle.law_reload_moves.proofs.NearEnds.{there_still, reached_left}
-use Rattle.law_operands_fetched.proofs.OnRegister.{IsOperand, based_mode, based_class, based_new, far_mode, far_class, far_new}
+use Rattle.law_operands_fetched.proofs.OnRegister.{IsOperand, based_class, based_new, far_mode, far_class, far_new}
 use Rattle.law_reload_moves.proofs.OutEffects.{IsPlaceSet, in_register, in_memory, IsOut, StandsOut, set_again, own_value, set_effects}
 use Rattle.law_operands_fetched.proofs.law_operands_replaced.Registers.{value_alike}
 use Rattle.law_reload_moves.proofs.ResultsEnd.{Among, reached_all, EndsFar}

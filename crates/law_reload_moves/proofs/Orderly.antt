@@ -17,7 +17,7 @@ use Rattle.law_operands_fetched.specs.rtl_step.Effect.{address_of, register_of, 
 use Rattle.law_operands_fetched.specs.rtl_step.Regs.{Regs, known_of}
 use Rattle.law_operands_fetched.specs.rtl_step.Value.{width_of, value_of, of_two}
 use Rattle.law_operands_fetched.specs.rtl_step.declared.effect.Effect.{Effect}
-use Rattle.law_operands_fetched.specs.rtl_step.declared.effect.Effect.TheVariants.{Nothing, Sets, Unsets, Stores}
+use Rattle.law_operands_fetched.specs.rtl_step.declared.effect.Effect.TheVariants.{Sets, Stores}
 use Rattle.law_operands_fetched.specs.bits64.declared.Width.TheVariants as widths
 use Rattle.law_operands_fetched.specs.md_match.Pattern.{Ops}
 use Rattle.law_operands_fetched.specs.assign.declared.home.Home.TheVariants.{Slot}
@@ -31,9 +31,7 @@ use Rattle.law_operands_fetched.specs.reload_choice.Sound.{IsSoundPlan}
 use Rattle.law_operands_fetched.specs.reload_choice.declared.given.Plan.{Plan}
 use Rattle.law_reload_moves.proofs.Chosen.{given}
 use Rattle.law_operands_fetched.proofs.law_operands_replaced.Delays.{AreApart, Overrides}
-use Rattle.law_operands_fetched.proofs.law_operands_replaced.Keyed.{Keyed, IsIn, MayPass, MayPassBy, AreOrderly}
-use Rattle.law_operands_fetched.proofs.law_operands_replaced.Keying.{with_keys}
-use Rattle.law_reload_moves.proofs.ResultRows.{Key, Row, Rows, none, more, IsKeyedRow, keyed_row}
+use Rattle.law_reload_moves.proofs.ResultRows.{Key, Row, keyed_row}
 use Rattle.law_operands_fetched.proofs.law_operands_replaced.SetWidth.{set_width}
 use Rattle.law_reload_moves.proofs.Touches.{Touch, idle, sets, unsets, slot, other, touch, set_inverse, store_inverse}
 

@@ -5,28 +5,25 @@ use Rattle.std.specs.List.{list_all, list_any}
 use Rattle.std.specs.Prelude.{ℤ, pos, slice_get, unwrap_or}
 use Rattle.law_operands_fetched.proofs.rtx_tree.Trees.{head_of-tree, kids_of-tree, tree_of-parts}
 use Rattle.law_operands_fetched.specs.rtx_tree.Code.{class_of_code, is_effect_class}
-use Rattle.law_operands_fetched.specs.rtx_tree.Patterns.{is_pc, is_pc_code}
-use Rattle.law_operands_fetched.specs.rtx_tree.Tree.{RtxHead, head_of, kids_of, tree_of, reg_of}
+use Rattle.law_operands_fetched.specs.rtx_tree.Patterns.{is_pc}
+use Rattle.law_operands_fetched.specs.rtx_tree.Tree.{RtxHead, head_of, kids_of, tree_of}
 use Rattle.law_operands_fetched.specs.rtx_tree.declared.class.Class.{Class}
 use Rattle.law_operands_fetched.specs.rtx_tree.declared.class.Class.TheVariants as class
 use Rattle.law_operands_fetched.specs.rtx_tree.declared.code.Code.{Code}
 use Rattle.law_operands_fetched.specs.rtx_tree.declared.code.Code.TheVariants as code
-use Rattle.law_operands_fetched.specs.rtx_tree.declared.code.Mode.{Mode}
 use Rattle.law_operands_fetched.specs.rtx_tree.declared.function.Kind.{Kind}
 use Rattle.law_operands_fetched.specs.rtx_tree.declared.function.Kind.TheVariants as kinds
 use Rattle.law_operands_fetched.specs.rtx_tree.declared.machine.SymbolAt.{SymbolAt}
 use Rattle.law_operands_fetched.specs.rtx_tree.declared.memories.MemByte.{MemByte}
 use Rattle.law_operands_fetched.specs.rtx_tree.declared.tree.Rtx.{Rtx, out-roll-Rtx}
 use Rattle.law_operands_fetched.specs.rtx_tree.declared.tree.Rtx.TheOpen.{Rtx-F}
-use Rattle.law_operands_fetched.specs.rtl_func.Kinds.{is_jump_by, is_jump_tree, is_call_by, is_call_tree, kinds_agree}
-use Rattle.law_operands_fetched.specs.rtl_func.Shapes.{class_at, is_effect, is_call_class, is_shaped}
+use Rattle.law_operands_fetched.specs.rtl_func.Kinds.{is_jump_by, is_jump_tree}
+use Rattle.law_operands_fetched.specs.rtl_func.Shapes.{class_at, is_effect, is_shaped}
 use Rattle.law_operands_fetched.proofs.rtl_func.AllPass as nodes
 use Rattle.law_operands_fetched.proofs.rtl_func.AllPass.{all_pass}
-use Rattle.law_operands_fetched.specs.rtl_step.Effect.{address_of, address_part}
 use Rattle.law_operands_fetched.specs.rtl_step.Jump.{jump_of}
 use Rattle.law_operands_fetched.specs.rtl_step.Regs.{Regs}
 use Rattle.law_operands_fetched.specs.rtl_step.declared.jump.Way.{Way}
-use Rattle.law_operands_fetched.specs.sym_insns.Shape.{all_natural}
 use Rattle.law_operands_fetched.specs.md_constr.Inputs.{taken_in, taken_by_parts}
 use Rattle.law_operands_fetched.specs.md_constr.Inputs as inputs
 use Rattle.law_operands_fetched.specs.md_match.Pattern.{Ops, role_of, operand_numbered}
@@ -38,31 +35,26 @@ use Rattle.law_operands_fetched.specs.reload_homes.Homes.{homed}
 use Rattle.law_operands_fetched.specs.reload_operands.Directions.{has_number, scratches_in}
 use Rattle.law_operands_fetched.specs.reload_operands.Put.{each_by, parts_by, put}
 use Rattle.law_operands_fetched.proofs.reload_operands.PutLaws.{put_operand}
-use Rattle.law_operands_fetched.specs.reload_moves.Registers.{is_result}
-use Rattle.law_operands_fetched.specs.reload_moves.declared.part.Part.{Part}
-use Rattle.law_operands_fetched.specs.reload_choice.Movable.{is_plain, may_have_results, may_end}
 use Rattle.law_operands_fetched.specs.reload_choice.declared.given.Given.{Given}
 use Rattle.law_operands_fetched.specs.reload_choice.declared.given.Plan.{Plan}
-use Rattle.law_operands_fetched.specs.law_operands_replaced.Places.{AtOnePlace, first, later, StandsFor, itself, part}
-use Rattle.law_operands_fetched.specs.law_operands_replaced.Spare.{KnowsRest, NamesNoSpare}
-use Rattle.law_operands_fetched.proofs.law_operands_replaced.Addresses.{IsNewTree, is_new_class, AddressToo}
-use Rattle.law_reload_moves.proofs.Chosen.{given, asks, news}
-use Rattle.law_operands_fetched.proofs.law_operands_replaced.ElementTurns.{NewFor, stays_for, moves_for, AllNew, AllReads, all_read, part_new, key_by, target_key, key_of, memory_code_of}
+use Rattle.law_operands_fetched.specs.law_operands_replaced.Places.{first, itself, part}
+use Rattle.law_operands_fetched.specs.law_operands_replaced.Spare.{KnowsRest}
+use Rattle.law_operands_fetched.proofs.law_operands_replaced.Addresses.{IsNewTree, is_new_class}
+use Rattle.law_reload_moves.proofs.Chosen.{given, news}
+use Rattle.law_operands_fetched.proofs.law_operands_replaced.ElementTurns.{NewFor, stays_for, moves_for, AllNew, AllReads, all_read, part_new}
 use Rattle.law_operands_fetched.proofs.Fetching.{Fetching}
 use Rattle.law_reload_moves.proofs.GivenBeside.{none_new, whole_beside, first_of, second_of}
-use Rattle.law_reload_moves.proofs.GivenNews.{own, mode, tree, result_at, Reads, Lost, Free, AreFetched, IsResultAt, operand_of}
+use Rattle.law_reload_moves.proofs.GivenNews.{own, mode, tree, result_at, Reads, Lost, Free, AreFetched}
 use Rattle.law_operands_fetched.proofs.law_operands_replaced.HiddenTurns.{Read}
 use Rattle.law_operands_fetched.proofs.law_operands_replaced.InsnTurns.{IsBeside, operator_becomes, operand_stays, two_of}
 use Rattle.law_operands_fetched.proofs.law_operands_replaced.JumpTrees.{IsJump, returns, sets, jump_is, is_bare_class, bare_kids, pc_class}
 use Rattle.law_operands_fetched.proofs.law_operands_replaced.NewTrees.{Becomes, AllBecome, is_lowpart, is_whole, whole_low}
 use Rattle.law_operands_fetched.proofs.law_operands_replaced.NewTrees as trees
-use Rattle.law_reload_moves.proofs.PlainInner.{other, known, fetched, formed}
-use Rattle.law_operands_fetched.proofs.law_operands_replaced.PutParts.{each_put, over_is, parts_are}
+use Rattle.law_reload_moves.proofs.PlainInner.{other, known, fetched}
+use Rattle.law_operands_fetched.proofs.law_operands_replaced.PutParts.{each_put, over_is}
 use Rattle.law_operands_fetched.proofs.law_operands_replaced.Putting.{put_becomes}
-use Rattle.law_reload_moves.proofs.ResultKeys.{keyed_result, result_places, result_in}
 use Rattle.law_reload_moves.proofs.TakenPlaces.{IsEffectOf, IsRead, stands_taken, input_of, scratch_hidden}
 use Rattle.law_reload_moves.proofs.TakenThere.{IsAt}
-use Rattle.law_operands_fetched.proofs.law_operands_replaced.WholeTurns.{IsWholeBeside}
 
 -- a tree becomes another, in which new trees are read as those in whose places they stand
 pub record TurnsInto (symbols : List SymbolAt) (regs other : Regs) (m : List MemByte) (x y : Rtx) : Type 1 where

@@ -14,14 +14,14 @@ use Rattle.law_operands_fetched.specs.rtx_tree.declared.tree.Rtx.{Rtx}
 use Rattle.law_operands_fetched.proofs.rtx_tree.Trees.{head_of-tree, kids_of-tree}
 use Rattle.law_operands_fetched.specs.run_memory.RunMemory.{load}
 use Rattle.law_operands_fetched.specs.rtl_func.Shapes.{mode_at}
-use Rattle.law_operands_fetched.specs.rtl_step.Effect.{effect_of, effect_by, one_effect, effects_of, effects_by, address_of, register_of, set_place, set_effect, reg_after, bytes_after, memory_after}
-use Rattle.law_operands_fetched.specs.rtl_step.Regs.{Regs, known_of, reg_value}
+use Rattle.law_operands_fetched.specs.rtl_step.Effect.{effect_by, effects_of, effects_by, address_of, register_of, set_place, set_effect, reg_after, bytes_after, memory_after}
+use Rattle.law_operands_fetched.specs.rtl_step.Regs.{Regs, known_of}
 use Rattle.law_operands_fetched.specs.rtl_step.Value.{width_of, value_of, of_two}
 use Rattle.law_operands_fetched.specs.rtl_step.declared.effect.Effect.{Effect}
 use Rattle.law_operands_fetched.specs.rtl_step.declared.effect.Effect.TheVariants.{Nothing, Sets, Unsets, Stores}
 use Rattle.law_operands_fetched.specs.reload_choice.Insns.{set_of}
 use Rattle.law_operands_fetched.specs.law_operands_replaced.Spare.{KeepsRest}
-use Rattle.law_operands_fetched.specs.law_operands_replaced.Straight.{Straight, done, next}
+use Rattle.law_operands_fetched.specs.law_operands_replaced.Straight.{done, next}
 use Rattle.law_operands_fetched.proofs.law_operands_replaced.Cells.{IsThere, AreThere, still_there}
 use Rattle.law_operands_fetched.proofs.Endings.{EndedNear}
 use Rattle.law_operands_fetched.proofs.law_operands_replaced.Ends.{Stays}

@@ -22,7 +22,7 @@ use Rattle.law_operands_fetched.specs.rtl_func.Shapes.{is_effect}
 use Rattle.law_operands_fetched.specs.rtl_step.Effect.{effect_by, effect_of, effects_by, effects_of, one_effect, all_effects, register_by, set_effect}
 use Rattle.law_operands_fetched.specs.rtl_step.Regs.{Regs, known_of}
 use Rattle.law_operands_fetched.specs.rtl_step.declared.effect.Effect.{Effect}
-use Rattle.law_operands_fetched.specs.rtl_step.declared.effect.Effect.TheVariants.{Nothing, Sets, Unsets, Stores}
+use Rattle.law_operands_fetched.specs.rtl_step.declared.effect.Effect.TheVariants.{Sets, Stores}
 use Rattle.law_operands_fetched.specs.rtl_step.declared.step.State.{State}
 use Rattle.law_operands_fetched.specs.md_constr.Inputs as inputs
 use Rattle.law_operands_fetched.specs.assign.declared.home.Home.TheVariants.{Slot}

@@ -5,29 +5,26 @@ use Rattle.std.specs.FinMap.{get}
 use Rattle.std.specs.Prelude.{ℤ, slice_get}
 use Rattle.law_operands_fetched.specs.bits64.Words.{low}
 use Rattle.law_operands_fetched.specs.bits64.declared.Width.{Width}
-use Rattle.law_operands_fetched.specs.bits64.declared.Width.TheVariants.{W64}
 use Rattle.law_operands_fetched.specs.rtx_tree.declared.machine.SymbolAt.{SymbolAt}
 use Rattle.law_operands_fetched.specs.rtx_tree.declared.memories.MemByte.{MemByte}
 use Rattle.law_operands_fetched.specs.rtx_tree.declared.tree.Rtx.{Rtx}
-use Rattle.law_operands_fetched.specs.rtl_step.Effect.{regs_after, memory_after}
 use Rattle.law_operands_fetched.specs.rtl_step.Regs.{Regs, known_of}
 use Rattle.law_operands_fetched.specs.rtl_step.declared.effect.Effect.{Effect}
 use Rattle.law_operands_fetched.specs.rtl_step.declared.effect.Effect.TheVariants.{Nothing, Sets, Unsets, Stores}
 use Rattle.law_operands_fetched.specs.reload_moves.Registers.{is_result}
 use Rattle.law_operands_fetched.specs.reload_moves.declared.part.Part.{Part}
 use Rattle.law_operands_fetched.specs.law_operands_replaced.Held.{Held, Holds}
-use Rattle.law_operands_fetched.specs.law_operands_replaced.Spare.{is_spare, KnowsRest, KeepsRest}
+use Rattle.law_operands_fetched.specs.law_operands_replaced.Spare.{is_spare, KeepsRest}
 use Rattle.law_operands_fetched.proofs.law_operands_replaced.Elements.{IsSet}
 use Rattle.law_operands_fetched.proofs.law_operands_replaced.Elements as elements
-use Rattle.law_operands_fetched.proofs.law_operands_replaced.Ends.{IsOnRest, AreSpare, Stays}
+use Rattle.law_operands_fetched.proofs.law_operands_replaced.Ends.{AreSpare, Stays}
 use Rattle.law_operands_fetched.proofs.law_operands_replaced.Fetches.{IsFresh}
-use Rattle.law_operands_fetched.proofs.law_operands_replaced.Keyed.{Keyed, effects_in, kept_of, last_by, last_of}
+use Rattle.law_operands_fetched.proofs.law_operands_replaced.Keyed.{last_by, last_of}
 use Rattle.law_operands_fetched.proofs.law_operands_replaced.Keying.{with_keys}
 use Rattle.law_reload_moves.proofs.OutEffects.{IsPlaceSet, in_register, in_memory}
 use Rattle.law_operands_fetched.proofs.law_operands_replaced.Registers.{low_low}
 use Rattle.law_reload_moves.proofs.ResultKeys.{result_places}
 use Rattle.law_reload_moves.proofs.ResultsEnd.{Among, AllAmong}
-use Rattle.law_reload_moves.proofs.ResultsHeld.{IsLast}
 use Rattle.law_operands_fetched.proofs.Window.{AllStay}
 use Rattle.law_operands_fetched.proofs.law_operands_replaced.WholeTurns.{AllNone}
 

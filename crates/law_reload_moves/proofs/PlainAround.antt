@@ -3,7 +3,6 @@ use Rattle.std.proofs.Common.{◌≡◌, ◌≢◌, ◌⊎◌, inl, inr, ℕ, �
 use Rattle.std.proofs.lemmas.Bool.{or_left, or_right}
 use Rattle.std.specs.List.{flat_map, list_any}
 use Rattle.std.specs.Prelude.{ℤ, slice_get}
-use Rattle.law_operands_fetched.specs.rtx_tree.Tree.{head_of, kids_of}
 use Rattle.law_operands_fetched.specs.rtx_tree.declared.function.Kind.{Kind}
 use Rattle.law_operands_fetched.specs.rtx_tree.declared.function.Kind.TheVariants as kinds
 use Rattle.law_operands_fetched.specs.rtx_tree.declared.machine.SymbolAt.{SymbolAt}
@@ -20,12 +19,12 @@ use Rattle.law_operands_fetched.specs.assign.declared.home.HomeOf.{HomeOf}
 use Rattle.law_operands_fetched.specs.assign.declared.places.Layout.{Layout}
 use Rattle.law_operands_fetched.specs.reload_homes.Homes.{homed}
 use Rattle.law_operands_fetched.specs.reload_operands.declared.operand.Operand.{Operand}
-use Rattle.law_operands_fetched.specs.reload_moves.Moves.{out_store, out_moves, moves_after}
+use Rattle.law_operands_fetched.specs.reload_moves.Moves.{out_store, out_moves}
 use Rattle.law_operands_fetched.specs.reload_moves.Registers.{asks_of, is_result}
 use Rattle.law_operands_fetched.specs.reload_moves.declared.ask.Ask.{Ask}
 use Rattle.law_operands_fetched.specs.reload_moves.declared.moves.Move.{Move}
 use Rattle.law_operands_fetched.specs.reload_moves.declared.part.Part.{Part}
-use Rattle.law_operands_fetched.specs.reload_choice.Insns.{insns_of, all_insns, insns_before, insns_after}
+use Rattle.law_operands_fetched.specs.reload_choice.Insns.{all_insns, insns_before, insns_after}
 use Rattle.law_operands_fetched.specs.reload_choice.declared.given.Plan.{Plan}
 use Rattle.law_operands_fetched.specs.law_operands_replaced.Held.{Held, Holds}
 use Rattle.law_operands_fetched.specs.law_operands_replaced.Spare.{NamesNoSpare, KeepsRest}

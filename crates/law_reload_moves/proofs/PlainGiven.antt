@@ -35,11 +35,10 @@ use Rattle.law_operands_fetched.proofs.law_homes.Setting.{Setting, base, StandsI
 use Rattle.law_operands_fetched.proofs.law_homes.Tamed.{AllTame, tame_none, tame_more}
 use Rattle.law_operands_fetched.proofs.law_operands_replaced.Ends.{IsOnRest}
 use Rattle.law_reload_moves.proofs.LeftRegisters.{IsOnHard, AreOnHard}
-use Rattle.law_reload_moves.proofs.OutsideSlots.{IsAway, AllAway, effect_framed, insn_away}
+use Rattle.law_reload_moves.proofs.OutsideSlots.{AllAway, effect_framed, insn_away}
 use Rattle.law_reload_moves.proofs.ResultsEnd.{Among}
 use Rattle.law_reload_moves.proofs.SteadyAddress.{Leaves, AllLeave}
 use Rattle.law_reload_moves.proofs.Reloaded.{IsReloaded, w}
-use Rattle.law_operands_fetched.specs.law_operands_replaced.Spare.{is_spare}
 use Rattle.law_operands_fetched.specs.Tame.{IsTame, AreTame}
 
 module _ (c : Setting) where

@@ -4,7 +4,6 @@ use Rattle.std.proofs.Common.{◌≡◌, ◌≢◌, ◌⊎◌, inl, inr, ℕ, �
 use Rattle.std.proofs.lemmas.Bool.{and_parts}
 use Rattle.std.specs.List.{list_all}
 use Rattle.std.specs.Prelude.{ℤ, pos, slice_get}
-use Rattle.law_operands_fetched.specs.rtx_tree.Tree.{head_of, kids_of}
 use Rattle.law_operands_fetched.specs.rtx_tree.declared.function.Kind.{Kind}
 use Rattle.law_operands_fetched.specs.rtx_tree.declared.function.Kind.TheVariants as kinds
 use Rattle.law_operands_fetched.specs.rtx_tree.declared.machine.SymbolAt.{SymbolAt}
@@ -24,16 +23,13 @@ use Rattle.law_operands_fetched.specs.assign.declared.home.HomeOf.{HomeOf}
 use Rattle.law_operands_fetched.specs.assign.declared.places.Layout.{Layout}
 use Rattle.law_operands_fetched.specs.reload_homes.Homes.{homed}
 use Rattle.law_operands_fetched.specs.reload_operands.Put.{put}
-use Rattle.law_operands_fetched.specs.reload_operands.declared.operand.Operand.{Operand}
-use Rattle.law_operands_fetched.specs.reload_moves.declared.part.Part.{Part}
 use Rattle.law_operands_fetched.specs.reload_choice.Insns.{between}
 use Rattle.law_operands_fetched.specs.reload_choice.Movable.{is_formed_as}
-use Rattle.law_operands_fetched.specs.reload_choice.Sound.{IsPart, IsSoundPlan}
 use Rattle.law_operands_fetched.specs.reload_choice.declared.given.Given.{Given}
 use Rattle.law_operands_fetched.specs.reload_choice.declared.given.Plan.{Plan}
 use Rattle.law_operands_fetched.specs.law_operands_replaced.Spare.{KnowsRest, NamesNoSpare}
 use Rattle.law_operands_fetched.proofs.BeforeFetched.{BeforeFetched, before_fetched}
-use Rattle.law_reload_moves.proofs.Chosen.{given, asks, news}
+use Rattle.law_reload_moves.proofs.Chosen.{given, news}
 use Rattle.law_operands_fetched.proofs.law_operands_replaced.Fetches.{keeps_knows}
 use Rattle.law_operands_fetched.proofs.Fetching.{Fetching}
 use Rattle.law_reload_moves.proofs.GivenBeside.{none_new, whole_beside}
@@ -41,7 +37,6 @@ use Rattle.law_reload_moves.proofs.GivenNews.{own, mode, tree, result_at, Reads,
 use Rattle.law_operands_fetched.proofs.NewPlaces.{new_place}
 use Rattle.law_operands_fetched.proofs.NewReads.{new_tree_is}
 use Rattle.law_operands_fetched.proofs.law_operands_replaced.NewTrees.{is_whole}
-use Rattle.law_operands_fetched.proofs.law_operands_replaced.SetTurns.{Fit}
 use Rattle.law_reload_moves.proofs.TakenThere.{IsAt}
 use Rattle.law_operands_fetched.proofs.law_operands_replaced.WholeTurns.{InsnKeyed, insn_keyed, effects_exist}
 

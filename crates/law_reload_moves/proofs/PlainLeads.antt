@@ -27,7 +27,6 @@ use Rattle.law_reload_moves.proofs.Chosen.{given}
 use Rattle.law_operands_fetched.proofs.Fetching.{Fetching}
 use Rattle.law_reload_moves.proofs.GivenNews.{own, mode, tree, Free}
 use Rattle.law_operands_fetched.proofs.Keeping.{Stay}
-use Rattle.law_operands_fetched.proofs.law_operands_replaced.Keyed.{Keyed}
 use Rattle.law_operands_fetched.proofs.law_operands_replaced.Keying.{with_keys, AreOnRest}
 use Rattle.law_reload_moves.proofs.LateAddress.{address_late}
 use Rattle.law_reload_moves.proofs.Leads.{G, Here, Told, spared, d, plain_fetch, ResultsMayEnd, plain_leads_over}

@@ -11,29 +11,24 @@ use Rattle.law_operands_fetched.specs.rtx_tree.declared.code.Code.TheVariants as
 use Rattle.law_operands_fetched.specs.rtx_tree.declared.function.Insn.{Insn}
 use Rattle.law_operands_fetched.specs.rtx_tree.declared.tree.Rtx.{Rtx}
 use Rattle.law_operands_fetched.specs.rtl_func.Calls.{is_argument}
-use Rattle.law_operands_fetched.specs.rtl_func.Kinds.{kinds_agree}
 use Rattle.law_operands_fetched.specs.rtl_func.Modes.{shapes_agree}
 use Rattle.law_operands_fetched.specs.rtl_func.Nodes.{nodes_of}
 use Rattle.law_operands_fetched.specs.rtl_func.Shapes.{is_effect, is_register_number, is_shaped}
 use Rattle.law_operands_fetched.proofs.rtl_func.AllPass.{all_pass}
-use Rattle.law_operands_fetched.specs.rtl_step.Effect.{address_of}
 use Rattle.law_operands_fetched.specs.rtl_step.declared.step.State.{State}
 use Rattle.law_operands_fetched.specs.same_behaviour.Lawful.{IsMemory}
 use Rattle.law_operands_fetched.specs.sym_insns.Shape.{is_natural, all_natural}
 use Rattle.law_operands_fetched.specs.md_match.Match.{IsAsked, MatchesOne}
 use Rattle.law_operands_fetched.specs.md_match.Pattern.{Ops, placeholders, instantiated, all_some}
-use Rattle.law_operands_fetched.specs.assign.declared.home.Home.TheVariants.{Hard, Slot}
+use Rattle.law_operands_fetched.specs.assign.declared.home.Home.TheVariants.{Hard}
 use Rattle.law_operands_fetched.specs.reload_homes.FrameRefs.{framed}
-use Rattle.law_operands_fetched.specs.reload_homes.Homes.{home_of, homed, slot_offset}
+use Rattle.law_operands_fetched.specs.reload_homes.Homes.{home_of, homed}
 use Rattle.law_operands_fetched.specs.reload_operands.declared.operand.Operand.{Operand}
-use Rattle.law_operands_fetched.specs.reload_moves.Registers.{is_result}
-use Rattle.law_operands_fetched.specs.reload_moves.declared.part.Part.{Part}
-use Rattle.law_operands_fetched.specs.reload_choice.Sound.{IsPart, IsSoundPlan}
+use Rattle.law_operands_fetched.specs.reload_choice.Sound.{IsSoundPlan}
 use Rattle.law_operands_fetched.specs.reload_choice.declared.given.Given.{Given}
 use Rattle.law_operands_fetched.specs.reload_choice.declared.given.Plan.{Plan}
-use Rattle.law_operands_fetched.specs.law_homes.Stands.{has_home}
 use Rattle.law_operands_fetched.proofs.law_homes.HomesApart.{hard_home, slot_within}
-use Rattle.law_operands_fetched.proofs.law_homes.Setting.{Setting, IsNamed, named_of, base, StandsIn, frame_is, home_least, slot_room}
+use Rattle.law_operands_fetched.proofs.law_homes.Setting.{Setting, IsNamed, named_of, base, StandsIn, frame_is, slot_room}
 use Rattle.law_reload_moves.specs.Chosen.{chosen_from}
 use Rattle.law_operands_fetched.specs.law_operands_replaced.Places.{is_leaf}
 use Rattle.law_operands_fetched.specs.law_operands_replaced.Spare.{is_spare, NamesNoSpare}

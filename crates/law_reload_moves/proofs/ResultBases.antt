@@ -22,12 +22,12 @@ use Rattle.law_operands_fetched.specs.reload_homes.Homes.{homed}
 use Rattle.law_operands_fetched.specs.reload_operands.declared.operand.Base.{Base}
 use Rattle.law_operands_fetched.specs.reload_operands.declared.operand.Operand.{Operand}
 use Rattle.law_operands_fetched.specs.reload_moves.Moves.{own_of, base_of, end_far_of}
-use Rattle.law_operands_fetched.specs.reload_moves.Registers.{asks_of, ask, is_result, ends_far, holds_base, base_ask, register_for}
+use Rattle.law_operands_fetched.specs.reload_moves.Registers.{asks_of, ask, is_result, ends_far, base_ask, register_for}
 use Rattle.law_operands_fetched.specs.reload_moves.declared.ask.Ask.{Ask}
 use Rattle.law_operands_fetched.specs.reload_moves.declared.ask.What.TheVariants.{Own, ResultBase, ResultFar, StayingBase}
 use Rattle.law_operands_fetched.specs.reload_moves.declared.part.Part.{Part}
 use Rattle.law_operands_fetched.proofs.reload_moves.AskLaws.{own_asked, base_asked, end_far_asked}
-use Rattle.law_operands_fetched.specs.reload_choice.reload_fit.Addressed.{on_register, far_offset}
+use Rattle.law_operands_fetched.specs.reload_choice.reload_fit.Addressed.{on_register}
 use Rattle.law_operands_fetched.specs.reload_choice.Sound.{IsPart}
 use Rattle.law_operands_fetched.specs.reload_choice.declared.given.Plan.{Plan}
 use Rattle.law_operands_fetched.specs.law_operands_replaced.Held.{Held, Holds}
@@ -38,11 +38,11 @@ use Rattle.law_operands_fetched.proofs.law_operands_replaced.Cells.{IsThere, Are
 use Rattle.law_reload_moves.proofs.Chosen.{given}
 use Rattle.law_operands_fetched.proofs.Contents.{slot_of}
 use Rattle.law_operands_fetched.proofs.law_operands_replaced.EffectsThere.{effects_there}
-use Rattle.law_operands_fetched.proofs.law_operands_replaced.Ends.{IsOnRest, AreSpare}
+use Rattle.law_operands_fetched.proofs.law_operands_replaced.Ends.{AreSpare}
 use Rattle.law_operands_fetched.proofs.law_operands_replaced.Fetches.{IsFresh}
 use Rattle.law_operands_fetched.proofs.Fetching.{Fetching, spare_of, spare_some}
-use Rattle.law_reload_moves.proofs.GivenNews.{own, mode, tree, Free, own_spare, operand_of}
-use Rattle.law_operands_fetched.proofs.law_operands_replaced.Keyed.{Keyed, effects_in, last_of}
+use Rattle.law_reload_moves.proofs.GivenNews.{own, mode, tree, Free, own_spare}
+use Rattle.law_operands_fetched.proofs.law_operands_replaced.Keyed.{Keyed, last_of}
 use Rattle.law_operands_fetched.proofs.law_operands_replaced.Keying.{with_keys, AreOnRest}
 use Rattle.law_reload_moves.proofs.NewEnds.{based_stands, far_ends}
 use Rattle.law_operands_fetched.proofs.law_operands_replaced.NewTrees.{is_whole}

@@ -14,7 +14,7 @@ use Rattle.law_operands_fetched.specs.rtx_tree.declared.tree.Rtx.{Rtx}
 use Rattle.law_operands_fetched.specs.rtl_func.Shapes.{is_effect, mode_at}
 use Rattle.law_operands_fetched.proofs.rtl_func.AllPass.{all_pass}
 use Rattle.law_operands_fetched.specs.rtl_step.Effect.{effects_of, address_of}
-use Rattle.law_operands_fetched.specs.rtl_step.Regs.{Regs, known_of}
+use Rattle.law_operands_fetched.specs.rtl_step.Regs.{Regs}
 use Rattle.law_operands_fetched.specs.rtl_step.Value.{width_of, value_of}
 use Rattle.law_operands_fetched.specs.rtl_step.declared.effect.Effect.{Effect}
 use Rattle.law_operands_fetched.specs.sym_insns.Shape.{all_natural}
@@ -38,12 +38,12 @@ use Rattle.law_operands_fetched.specs.reload_choice.declared.given.Plan.{Plan}
 use Rattle.law_operands_fetched.specs.law_operands_replaced.Held.{Held, Holds}
 use Rattle.law_operands_fetched.specs.law_operands_replaced.Spare.{is_spare, KnowsRest, KeepsRest, NamesNoSpare}
 use Rattle.law_operands_fetched.proofs.Bounded.{value_low}
-use Rattle.law_operands_fetched.proofs.law_operands_replaced.Cells.{IsThere, AreThere}
+use Rattle.law_operands_fetched.proofs.law_operands_replaced.Cells.{IsThere}
 use Rattle.law_reload_moves.proofs.Chosen.{given}
 use Rattle.law_operands_fetched.proofs.law_operands_replaced.EffectsThere.{effects_there}
 use Rattle.law_operands_fetched.proofs.Fetching.{Fetching}
 use Rattle.law_reload_moves.proofs.GivenNews.{own_spare, operand_of, result_at}
-use Rattle.law_operands_fetched.proofs.law_operands_replaced.Keyed.{Keyed, effects_in, last_of}
+use Rattle.law_operands_fetched.proofs.law_operands_replaced.Keyed.{Keyed, last_of}
 use Rattle.law_operands_fetched.proofs.law_operands_replaced.Keying.{with_keys}
 use Rattle.law_reload_moves.proofs.NearEnds.{there_still, stands_out, near_end}
 use Rattle.law_operands_fetched.proofs.law_operands_replaced.NewTrees.{is_whole}
@@ -52,7 +52,7 @@ use Rattle.law_reload_moves.proofs.OutEffects.{IsOut, set_out, StandsOut}
 use Rattle.law_reload_moves.proofs.OwnHeld.{none_last, one_stays, own_held, own_gives}
 use Rattle.law_reload_moves.proofs.PlainInner.{g, Effects, plain_keyed}
 use Rattle.law_reload_moves.proofs.ResultRows.{Key, keyed_row}
-use Rattle.law_reload_moves.proofs.ResultsEnd.{Among, AllAmong, last_among, besides, Reached, reached_all, EndsNear, EndsFar}
+use Rattle.law_reload_moves.proofs.ResultsEnd.{Among, last_among, besides, Reached, reached_all, EndsNear, EndsFar}
 use Rattle.law_reload_moves.proofs.ResultsHeld.{IsLast, last_row}
 use Rattle.law_reload_moves.proofs.ResultsMayEnd.{list, hs}
 use Rattle.law_reload_moves.proofs.ResultsOrderly.{placed_keys}

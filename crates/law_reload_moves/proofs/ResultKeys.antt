@@ -8,7 +8,7 @@ use Rattle.law_operands_fetched.specs.rtx_tree.declared.code.Code.{Code}
 use Rattle.law_operands_fetched.specs.rtx_tree.declared.code.Code.TheVariants as code
 use Rattle.law_operands_fetched.specs.rtx_tree.declared.function.Kind.{Kind}
 use Rattle.law_operands_fetched.specs.rtx_tree.declared.tree.Rtx.{Rtx}
-use Rattle.law_operands_fetched.specs.md_constr.Inputs.{changed_at, set_by_parts, set_by, effects_of, outputs_in}
+use Rattle.law_operands_fetched.specs.md_constr.Inputs.{set_by_parts, set_by, effects_of, outputs_in}
 use Rattle.law_operands_fetched.specs.md_match.Pattern.{Ops, role_of}
 use Rattle.law_operands_fetched.specs.md_match.declared.role.Role.{Role}
 use Rattle.law_operands_fetched.specs.md_match.declared.role.Role.TheVariants.{Operand}

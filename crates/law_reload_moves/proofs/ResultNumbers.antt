@@ -18,7 +18,7 @@ use Rattle.law_operands_fetched.specs.reload_moves.declared.part.Part.{Part}
 use Rattle.law_operands_fetched.specs.reload_choice.Insns.{new_tree}
 use Rattle.law_operands_fetched.specs.reload_choice.reload_fit.Addressed.{on_register}
 use Rattle.std.specs.Prelude.{is_some}
-use Rattle.law_reload_moves.proofs.NewsLaws.{moved_place, new_result, result_of, result_with, result_in}
+use Rattle.law_reload_moves.proofs.NewsLaws.{new_result, result_of, result_with, result_in}
 
 -- ---- increasing numbers
 

@@ -3,7 +3,6 @@ use Rattle.std.proofs.Common.{◌≡◌, ◌≢◌, ◌⊎◌, inl, inr, ℕ, Bo
 use Rattle.std.specs.Prelude.{ℤ, pos, slice_get, option_map, option_and_then}
 use Rattle.law_operands_fetched.specs.rtx_tree.Operands.{operand_at}
 use Rattle.law_operands_fetched.specs.rtx_tree.Tree.{RtxHead, head_of, kids_of, tree_of}
-use Rattle.law_operands_fetched.specs.rtx_tree.declared.code.Code.{Code}
 use Rattle.law_operands_fetched.specs.rtx_tree.declared.code.Code.TheVariants as code
 use Rattle.law_operands_fetched.specs.rtx_tree.declared.function.Kind.{Kind}
 use Rattle.law_operands_fetched.specs.rtx_tree.declared.machine.SymbolAt.{SymbolAt}
@@ -16,8 +15,8 @@ use Rattle.law_operands_fetched.specs.sym_insns.Shape.{all_natural}
 use Rattle.law_operands_fetched.specs.rtl_step.Effect.{effect_of, effect_by, set_effect}
 use Rattle.law_operands_fetched.specs.rtl_step.Regs.{Regs}
 use Rattle.law_operands_fetched.specs.rtl_step.declared.effect.Effect.{Effect}
-use Rattle.law_operands_fetched.specs.md_match.Pattern.{Ops, role_of, operand_numbered, operand_of, instantiated}
-use Rattle.law_operands_fetched.specs.md_match.declared.role.Role.TheVariants.{Operand, Itself}
+use Rattle.law_operands_fetched.specs.md_match.Pattern.{Ops, role_of, operand_numbered, instantiated}
+use Rattle.law_operands_fetched.specs.md_match.declared.role.Role.TheVariants.{Operand}
 use Rattle.law_operands_fetched.proofs.md_match.Instantiated.{each_made, made_operand, made_itself}
 use Rattle.law_operands_fetched.specs.assign.declared.home.HomeOf.{HomeOf}
 use Rattle.law_operands_fetched.specs.assign.declared.places.Layout.{Layout}
@@ -30,7 +29,7 @@ use Rattle.law_operands_fetched.specs.reload_choice.Sound.{IsPart, IsSoundPlan}
 use Rattle.law_operands_fetched.specs.reload_choice.declared.given.Plan.{Plan}
 use Rattle.law_reload_moves.proofs.Chosen.{given, known_of}
 use Rattle.law_operands_fetched.proofs.law_operands_replaced.ElementTurns.{target_key, key_by, key_of}
-use Rattle.law_reload_moves.proofs.GivenNews.{IsResultAt, result_at}
+use Rattle.law_reload_moves.proofs.GivenNews.{result_at}
 use Rattle.law_reload_moves.proofs.ResultKeys.{keyed_is, keyed_result}
 use Rattle.law_reload_moves.proofs.TakenPlaces.{IsEffectOf}
 

@@ -14,7 +14,6 @@ use Rattle.law_operands_fetched.specs.reload_operands.declared.operand.Operand.{
 use Rattle.law_operands_fetched.specs.reload_moves.Moves.{out_store, out_moves}
 use Rattle.law_operands_fetched.specs.reload_moves.Registers.{is_result}
 use Rattle.law_operands_fetched.specs.reload_moves.declared.ask.Ask.{Ask}
-use Rattle.law_operands_fetched.specs.reload_moves.declared.moves.Move.{Move}
 use Rattle.law_operands_fetched.specs.reload_moves.declared.part.Part.{Part}
 use Rattle.law_operands_fetched.specs.reload_choice.Insns.{insns_of, all_insns}
 use Rattle.law_operands_fetched.specs.law_operands_replaced.Held.{Held, Holds}
@@ -22,7 +21,7 @@ use Rattle.law_operands_fetched.specs.law_operands_replaced.Spare.{is_spare, Kno
 use Rattle.law_operands_fetched.proofs.Endings.{EndsFrom, EndedNear, nothing, ends, near}
 use Rattle.law_operands_fetched.proofs.law_operands_replaced.Ends.{IsOnRest, Ended}
 use Rattle.law_operands_fetched.proofs.law_operands_replaced.Fetches.{IsFresh}
-use Rattle.law_operands_fetched.proofs.law_operands_replaced.Keyed.{Keyed, effects_in, with_kept, kept_of, last_by, last_of, with_last, out_of, IsIn, AreDistinct}
+use Rattle.law_operands_fetched.proofs.law_operands_replaced.Keyed.{Keyed, effects_in, with_kept, kept_of, last_of, with_last, out_of, IsIn, AreDistinct}
 use Rattle.law_reload_moves.proofs.ResultKeys.{result_places}
 use Rattle.law_reload_moves.proofs.ResultsHeld.{last_cases}
 use Rattle.law_operands_fetched.proofs.Window.{memory_both, regs_both}

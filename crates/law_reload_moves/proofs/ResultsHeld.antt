@@ -15,16 +15,14 @@ use Rattle.law_operands_fetched.proofs.run_memory.Laws.{Apart}
 use Rattle.law_operands_fetched.specs.rtl_step.Effect.{set_effect, regs_after}
 use Rattle.law_operands_fetched.specs.rtl_step.Regs.{Regs, known_of}
 use Rattle.law_operands_fetched.specs.rtl_step.declared.effect.Effect.{Effect}
-use Rattle.law_operands_fetched.specs.rtl_step.declared.effect.Effect.TheVariants.{Nothing, Sets, Unsets, Stores}
+use Rattle.law_operands_fetched.specs.rtl_step.declared.effect.Effect.TheVariants.{Sets, Stores}
 use Rattle.law_operands_fetched.specs.c_eval.Value.{same_tree}
 use Rattle.law_operands_fetched.proofs.c_eval.Same.{same_trees}
 use Rattle.law_operands_fetched.specs.md_match.Pattern.{Ops}
 use Rattle.law_operands_fetched.specs.assign.declared.home.HomeOf.{HomeOf}
 use Rattle.law_operands_fetched.specs.assign.declared.places.Layout.{Layout}
 use Rattle.law_operands_fetched.specs.reload_homes.Homes.{homed}
-use Rattle.law_operands_fetched.specs.reload_operands.declared.operand.Operand.{Operand}
 use Rattle.law_operands_fetched.specs.reload_moves.Moves.{own_of}
-use Rattle.law_operands_fetched.specs.reload_moves.declared.part.Part.{Part}
 use Rattle.law_operands_fetched.specs.reload_choice.Movable.{are_same_inputs, are_same_outputs, is_alone}
 use Rattle.law_operands_fetched.specs.reload_choice.Sound.{IsSoundPlan}
 use Rattle.law_operands_fetched.specs.reload_choice.declared.given.Plan.{Plan}
@@ -34,7 +32,7 @@ use Rattle.law_operands_fetched.specs.rtl_step.Value.{width_of}
 use Rattle.law_operands_fetched.proofs.law_operands_replaced.Elements.{IsSet}
 use Rattle.law_operands_fetched.proofs.law_operands_replaced.Delays.{AreApart, Overrides}
 use Rattle.law_reload_moves.proofs.GivenNews.{IsResultAt, own, mode, tree, Free, own_is, own_spare, one_holder, shares}
-use Rattle.law_operands_fetched.proofs.law_operands_replaced.Keyed.{Keyed, last_by, last_of, IsIn, MayPass, MayPassBy, AreOrderly, last_apart}
+use Rattle.law_operands_fetched.proofs.law_operands_replaced.Keyed.{Keyed, last_by, last_of, MayPass, MayPassBy, AreOrderly, last_apart}
 use Rattle.law_operands_fetched.proofs.law_operands_replaced.Keying.{with_keys, AllKeyed, AreOnRest, AreResults, IsHeld, all_held}
 use Rattle.law_reload_moves.proofs.Orderly.{overrides}
 use Rattle.law_reload_moves.proofs.ResultKeys.{keyed_result}

@@ -18,7 +18,7 @@ use Rattle.law_operands_fetched.proofs.rtl_func.AllPass.{all_pass}
 use Rattle.law_operands_fetched.specs.rtl_step.Regs.{Regs}
 use Rattle.law_operands_fetched.specs.rtl_step.declared.effect.Effect.{Effect}
 use Rattle.law_operands_fetched.specs.md_constr.Inputs as inputs
-use Rattle.law_operands_fetched.specs.md_constr.Inputs.{changed_here, changed_whole, changed_at_by, changed_at, set_by_parts, set_by, outputs_in}
+use Rattle.law_operands_fetched.specs.md_constr.Inputs.{changed_here, changed_whole, changed_at_by, changed_at, set_by_parts, set_by}
 use Rattle.law_operands_fetched.specs.md_match.Pattern.{Ops, role_of, instantiated}
 use Rattle.law_operands_fetched.specs.md_match.declared.role.Role.{Role}
 use Rattle.law_operands_fetched.specs.md_match.declared.role.Role.TheVariants.{Operand, Operator, Itself}
@@ -26,10 +26,8 @@ use Rattle.law_operands_fetched.proofs.md_match.Instantiated.{each_made, made_op
 use Rattle.law_operands_fetched.specs.assign.declared.home.HomeOf.{HomeOf}
 use Rattle.law_operands_fetched.specs.assign.declared.places.Layout.{Layout}
 use Rattle.law_operands_fetched.proofs.reload_operands.InsideLaws.{inside_operand, inside_operator, inside_itself}
-use Rattle.law_operands_fetched.proofs.reload_operands.NumberLaws.{has_in_each}
 use Rattle.law_operands_fetched.specs.reload_operands.Directions.{has_number}
-use Rattle.law_operands_fetched.specs.reload_operands.Put.{is_lowpart_code, is_lowpart, any_inside, is_inside, inside_low, in_lowpart}
-use Rattle.law_operands_fetched.specs.reload_operands.declared.operand.Operand.{Operand as OperandOf}
+use Rattle.law_operands_fetched.specs.reload_operands.Put.{is_lowpart_code, is_lowpart, any_inside, inside_low, in_lowpart}
 use Rattle.law_operands_fetched.specs.reload_choice.Sound.{IsSoundPlan}
 use Rattle.law_operands_fetched.specs.reload_choice.declared.given.Plan.{Plan}
 use Rattle.law_reload_moves.proofs.Chosen.{given}

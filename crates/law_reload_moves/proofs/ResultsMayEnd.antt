@@ -14,7 +14,7 @@ use Rattle.law_operands_fetched.proofs.run_memory.Laws.{Apart}
 use Rattle.law_operands_fetched.specs.rtl_func.Shapes.{is_effect}
 use Rattle.law_operands_fetched.proofs.rtl_func.AllPass.{all_pass}
 use Rattle.law_operands_fetched.specs.rtl_step.Effect.{effects_of, regs_after, memory_after}
-use Rattle.law_operands_fetched.specs.rtl_step.Regs.{Regs, known_of}
+use Rattle.law_operands_fetched.specs.rtl_step.Regs.{Regs}
 use Rattle.law_operands_fetched.specs.rtl_step.Value.{value_of}
 use Rattle.law_operands_fetched.specs.rtl_step.declared.effect.Effect.{Effect}
 use Rattle.law_operands_fetched.specs.sym_insns.Shape.{all_natural}
@@ -31,10 +31,9 @@ use Rattle.law_operands_fetched.specs.reload_moves.Moves.{own_of}
 use Rattle.law_operands_fetched.specs.reload_moves.Registers.{asks_of, is_result}
 use Rattle.law_operands_fetched.specs.reload_moves.declared.ask.Ask.{Ask}
 use Rattle.law_operands_fetched.specs.reload_moves.declared.part.Part.{Part}
-use Rattle.law_operands_fetched.specs.reload_choice.Sound.{IsPart}
 use Rattle.law_operands_fetched.specs.reload_choice.declared.given.Plan.{Plan}
 use Rattle.law_operands_fetched.specs.law_operands_replaced.Held.{Held, Holds}
-use Rattle.law_operands_fetched.specs.law_operands_replaced.Spare.{is_spare, KeepsRest, NamesNoSpare}
+use Rattle.law_operands_fetched.specs.law_operands_replaced.Spare.{KeepsRest, NamesNoSpare}
 use Rattle.law_reload_moves.proofs.AllOrderly.{EachOutside}
 use Rattle.law_reload_moves.proofs.Chosen.{given}
 use Rattle.law_reload_moves.proofs.EachLast.{each_last}
@@ -42,7 +41,7 @@ use Rattle.law_operands_fetched.proofs.law_operands_replaced.Ends.{IsOnRest, Are
 use Rattle.law_operands_fetched.proofs.Fetching.{Fetching}
 use Rattle.law_reload_moves.proofs.GivenNews.{own, mode, tree, Free, result_at, own_is, own_spare, operand_of}
 use Rattle.law_reload_moves.proofs.InputPlaces.{no_operator_of}
-use Rattle.law_operands_fetched.proofs.law_operands_replaced.Keyed.{Keyed, effects_in, kept_of, last_of, out_of, AreOrderly}
+use Rattle.law_operands_fetched.proofs.law_operands_replaced.Keyed.{Keyed, effects_in, kept_of, last_of, AreOrderly}
 use Rattle.law_operands_fetched.proofs.law_operands_replaced.Keying.{with_keys, AllKeyed, AreOnRest}
 use Rattle.law_operands_fetched.proofs.law_operands_replaced.NewTrees.{is_whole}
 use Rattle.law_reload_moves.proofs.OwnHeld as held
@@ -51,8 +50,8 @@ use Rattle.law_reload_moves.proofs.PlainAround.{keyed, MayEnd, none_end}
 use Rattle.law_reload_moves.proofs.PlainInner.{g, other, Effects, plain_keyed}
 use Rattle.law_reload_moves.proofs.ResultKeys.{result_places, results_distinct}
 use Rattle.law_reload_moves.proofs.ResultRows.{Key}
-use Rattle.law_reload_moves.proofs.ResultsEnd.{Among, AllAmong, kept_among, last_among, kept_besides, EndsNear, EndsFar, EndsAt, results_end}
-use Rattle.law_reload_moves.proofs.ResultsHeld.{IsLast, IsHeldBy, results_held}
+use Rattle.law_reload_moves.proofs.ResultsEnd.{Among, AllAmong, kept_among, last_among, kept_besides, EndsNear, EndsFar, results_end}
+use Rattle.law_reload_moves.proofs.ResultsHeld.{IsLast, results_held}
 use Rattle.law_reload_moves.proofs.ResultsOrderly.{placed_keys, results_orderly}
 use Rattle.law_reload_moves.proofs.RowsThere.{AllRows, all_rows}
 use Rattle.law_reload_moves.proofs.TakenThere.{IsAt}

@@ -10,7 +10,7 @@ use Rattle.law_operands_fetched.specs.rtx_tree.declared.machine.SymbolAt.{Symbol
 use Rattle.law_operands_fetched.specs.rtx_tree.declared.memories.MemByte.{MemByte}
 use Rattle.law_operands_fetched.specs.rtx_tree.declared.tree.Rtx.{Rtx}
 use Rattle.law_operands_fetched.proofs.run_memory.Laws.{Apart}
-use Rattle.law_operands_fetched.specs.rtl_func.Effects.{changed_register, parallels_change_once}
+use Rattle.law_operands_fetched.specs.rtl_func.Effects.{parallels_change_once}
 use Rattle.law_operands_fetched.specs.rtl_func.Shapes.{is_effect, is_shaped}
 use Rattle.law_operands_fetched.proofs.rtl_func.AllPass.{all_pass}
 use Rattle.law_operands_fetched.specs.rtl_step.Effect.{effects_of}
@@ -26,11 +26,10 @@ use Rattle.law_operands_fetched.specs.assign.declared.home.Home.TheVariants.{Slo
 use Rattle.law_operands_fetched.specs.assign.declared.home.HomeOf.{HomeOf}
 use Rattle.law_operands_fetched.specs.assign.declared.places.Layout.{Layout}
 use Rattle.law_operands_fetched.specs.reload_homes.Homes.{home_of, slot_offset, slot_address, homed}
-use Rattle.law_operands_fetched.specs.reload_operands.Changes.{changes_twice}
 use Rattle.law_operands_fetched.specs.reload_operands.declared.operand.Operand.{Operand as OperandOf}
 use Rattle.law_operands_fetched.specs.reload_choice.Sound.{IsSoundPlan}
 use Rattle.law_operands_fetched.specs.reload_choice.declared.given.Plan.{Plan}
-use Rattle.law_reload_moves.proofs.AllOrderly.{EachOutside, AllDiffer, orderly}
+use Rattle.law_reload_moves.proofs.AllOrderly.{EachOutside, orderly}
 use Rattle.law_reload_moves.proofs.AllSoles.{ends_there, all_soles}
 use Rattle.law_reload_moves.proofs.Chosen.{given}
 use Rattle.law_operands_fetched.proofs.law_operands_replaced.ElementTurns.{key_by, key_of}
@@ -40,7 +39,7 @@ use Rattle.law_operands_fetched.proofs.law_operands_replaced.Keyed.{IsIn, MayPas
 use Rattle.law_operands_fetched.proofs.law_operands_replaced.Keying.{with_keys}
 use Rattle.law_reload_moves.proofs.ResultKeys.{result_places, result_in, keyed_result}
 use Rattle.law_reload_moves.proofs.ResultRows.{Key, Row, Rows, none, more}
-use Rattle.law_reload_moves.proofs.RowsThere.{AllRows, all_rows}
+use Rattle.law_reload_moves.proofs.RowsThere.{all_rows}
 use Rattle.law_operands_fetched.proofs.law_operands_replaced.WholeTurns.{AllNone}
 
 -- ---- where none has a key

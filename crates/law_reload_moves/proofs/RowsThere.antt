@@ -34,8 +34,7 @@ use Rattle.law_operands_fetched.specs.reload_choice.declared.given.Plan.{Plan}
 use Rattle.law_reload_moves.proofs.AllOrderly.{AllDiffer, parallel_differs}
 use Rattle.law_reload_moves.proofs.Chosen.{given}
 use Rattle.law_reload_moves.proofs.ResultRows.{Row, Rows, none, more}
-use Rattle.law_reload_moves.proofs.TakenPlaces.{IsEffectOf}
-use Rattle.law_operands_fetched.proofs.law_operands_replaced.WholeTurns.{is_parallel, front_is}
+use Rattle.law_operands_fetched.proofs.law_operands_replaced.WholeTurns.{is_parallel}
 
 -- ---- an effect has no register in itself
 

@@ -23,34 +23,27 @@ use Rattle.law_operands_fetched.specs.bits64.declared.Width.TheVariants.{W64}
 use Rattle.law_operands_fetched.specs.md_constr.Inputs as inputs
 use Rattle.law_operands_fetched.specs.md_constr.Inputs.{changed_here, changed_at_by, changed_at, changed_by_parts, changed_by}
 use Rattle.law_operands_fetched.specs.md_match.Pattern.{Ops, role_of, operand_numbered, operand_of, instantiated}
-use Rattle.law_operands_fetched.specs.md_match.declared.role.Role.TheVariants.{Operand, Operator, Itself}
+use Rattle.law_operands_fetched.specs.md_match.declared.role.Role.TheVariants.{Operand, Operator}
 use Rattle.law_operands_fetched.proofs.md_match.Instantiated.{made_operand, made_no_operator}
 use Rattle.law_operands_fetched.specs.assign.declared.home.Home.TheVariants.{Slot}
 use Rattle.law_operands_fetched.specs.assign.declared.home.HomeOf.{HomeOf}
 use Rattle.law_operands_fetched.specs.assign.declared.places.Layout.{Layout}
-use Rattle.law_operands_fetched.specs.reload_homes.Homes.{home_of, slot_offset, slot_address, register_numbered, register_by, register_at, homed}
-use Rattle.law_operands_fetched.proofs.reload_homes.Rewrites.{homed_over}
-use Rattle.law_operands_fetched.specs.reload_operands.Bases.{lives_in_slot}
-use Rattle.law_operands_fetched.proofs.rtx_tree.Trees.{head_of-tree}
-use Rattle.law_operands_fetched.specs.rtx_tree.Tree.{tree_of}
+use Rattle.law_operands_fetched.specs.reload_homes.Homes.{home_of, slot_offset, slot_address, homed}
 use Rattle.law_operands_fetched.proofs.rtl_func.AllPass as nodes
 use Rattle.law_operands_fetched.proofs.rtl_func.AllPass.{all_pass}
-use Rattle.law_operands_fetched.specs.reload_operands.Changes.{target_by, target_of, is_memory_code, changes_memory, is_place_of, is_other_memory, any_other_memory}
+use Rattle.law_operands_fetched.specs.reload_operands.Changes.{target_by, is_memory_code, changes_memory, is_place_of, is_other_memory, any_other_memory}
 use Rattle.law_operands_fetched.specs.reload_operands.Directions.{has_number}
-use Rattle.law_operands_fetched.specs.reload_choice.Movable.{may_have_results, may_land}
 use Rattle.law_operands_fetched.specs.reload_operands.declared.operand.Operand.{Operand as OperandOf}
-use Rattle.law_operands_fetched.specs.reload_choice.Sound.{IsPart, IsSoundPlan}
+use Rattle.law_operands_fetched.specs.reload_choice.Sound.{IsSoundPlan}
 use Rattle.law_operands_fetched.specs.reload_choice.declared.given.Plan.{Plan}
-use Rattle.law_reload_moves.proofs.AllOrderly.{EachSole, AllSole}
+use Rattle.law_reload_moves.proofs.AllOrderly.{EachSole}
 use Rattle.law_reload_moves.proofs.Chosen.{given}
 use Rattle.law_operands_fetched.proofs.law_operands_replaced.ElementTurns.{target_key, key_by, key_of}
 use Rattle.law_reload_moves.proofs.GivenNews.{result_at}
-use Rattle.law_reload_moves.proofs.NewsLaws.{operand_of_match}
 use Rattle.law_reload_moves.proofs.RowsThere.{made_over}
 use Rattle.law_reload_moves.proofs.InputPlaces.{is_operator_as, is_operator_of, no_operator_of}
 use Rattle.law_reload_moves.proofs.Orderly.{SetsMemory}
-use Rattle.law_reload_moves.proofs.ResultKeys.{IsKeyed, keyed_is}
-use Rattle.law_reload_moves.proofs.ResultRows.{Key, Row, Rows, none, more, two_made, IsKeyedRow, keyed_row}
+use Rattle.law_reload_moves.proofs.ResultRows.{Key, Row, Rows, none, more, two_made}
 use Rattle.law_reload_moves.proofs.TakenPlaces.{IsEffectOf}
 
 -- ---- a set of memory

@@ -5,7 +5,6 @@ use Rattle.std.specs.FinMap.{get}
 use Rattle.std.specs.List.{AllByRecursion, list_all}
 use Rattle.std.specs.Prelude.{ℤ}
 use Rattle.law_operands_fetched.specs.bits64.declared.Width.{Width}
-use Rattle.law_operands_fetched.specs.rtx_tree.Code.{class_of_code}
 use Rattle.law_operands_fetched.specs.rtx_tree.Tree.{head_of, kids_of, mentions_reg}
 use Rattle.law_operands_fetched.specs.rtx_tree.declared.class.Class.{Class}
 use Rattle.law_operands_fetched.specs.rtx_tree.declared.class.Class.TheVariants as class
@@ -17,7 +16,7 @@ use Rattle.law_operands_fetched.specs.rtl_func.Shapes.{class_at, mode_at}
 use Rattle.law_operands_fetched.proofs.rtl_func.AllPass as nodes
 use Rattle.law_operands_fetched.proofs.rtl_func.AllPass.{all_pass}
 use Rattle.law_operands_fetched.specs.rtl_step.Effect.{reg_after, regs_after}
-use Rattle.law_operands_fetched.specs.rtl_step.Regs.{Regs, reg_value}
+use Rattle.law_operands_fetched.specs.rtl_step.Regs.{Regs}
 use Rattle.law_operands_fetched.specs.rtl_step.Value.{Reading, width_of, value_of, value_of_one, value_by}
 use Rattle.law_operands_fetched.specs.rtl_step.declared.effect.Effect.{Effect}
 use Rattle.law_operands_fetched.specs.rtl_step.declared.effect.Effect.TheVariants.{Nothing, Sets, Unsets, Stores}
@@ -25,7 +24,7 @@ use Rattle.law_operands_fetched.proofs.rtl_step.Values.{value_read}
 use Rattle.law_operands_fetched.specs.sym_insns.Shape.{all_natural}
 use Rattle.law_operands_fetched.specs.law_window_kept.Same.{KnownToo}
 use Rattle.law_operands_fetched.proofs.law_frame.law_window_replaced.Known.{values_too}
-use Rattle.law_operands_fetched.specs.law_operands_replaced.Spare.{is_spare, NamesNoSpare, KnowsRest}
+use Rattle.law_operands_fetched.specs.law_operands_replaced.Spare.{NamesNoSpare, KnowsRest}
 use Rattle.law_reload_moves.proofs.HomedTrees.{induction}
 use Rattle.law_operands_fetched.proofs.law_operands_replaced.ReadTrees.{read_in}
 use Rattle.law_operands_fetched.proofs.law_operands_replaced.Registers.{set_other, unset_other, value_alike}

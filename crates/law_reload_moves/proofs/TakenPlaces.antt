@@ -11,7 +11,7 @@ use Rattle.law_operands_fetched.specs.rtx_tree.declared.code.Code.{Code}
 use Rattle.law_operands_fetched.specs.rtx_tree.declared.code.Code.TheVariants as code
 use Rattle.law_operands_fetched.specs.rtx_tree.declared.tree.Rtx.{Rtx}
 use Rattle.law_operands_fetched.specs.rtx_tree.declared.tree.Rtx.TheFolds.{fold_out-Rtx}
-use Rattle.law_operands_fetched.specs.md_constr.Inputs.{taken_here, taken_in, taken_inside, taken_at_by, taken_at, taken_by_parts, taken_by, effects_of, inputs_in}
+use Rattle.law_operands_fetched.specs.md_constr.Inputs.{taken_here, taken_in, taken_at_by, taken_at, taken_by_parts, taken_by, effects_of}
 use Rattle.law_operands_fetched.specs.md_match.Pattern.{role_of}
 use Rattle.law_operands_fetched.specs.md_match.declared.role.Role.TheVariants.{Operand}
 use Rattle.law_operands_fetched.specs.reload_operands.Directions.{has_number, is_input, is_hidden, is_operator_code, scratch_here, scratch_step, scratches_in, reads_scratch, hides}

@@ -24,10 +24,10 @@ use Rattle.law_operands_fetched.specs.reload_operands.Directions.{has_number}
 use Rattle.law_operands_fetched.specs.reload_operands.Put.{is_lowpart_code, is_lowpart, any_inside, inside_low}
 use Rattle.law_operands_fetched.proofs.reload_operands.NumberLaws.{takes_out}
 use Rattle.law_operands_fetched.specs.law_operands_replaced.Places.{AtOnePlace, first, later, At, here, inside, is_leaf, is_leaf_as, is_empty}
-use Rattle.law_reload_moves.proofs.Besides.{IsPartBeside, part_beside}
+use Rattle.law_reload_moves.proofs.Besides.{part_beside}
 use Rattle.law_reload_moves.proofs.HomedTrees.{induction}
 use Rattle.law_reload_moves.proofs.InputPlaces.{found_at, each_asked, each_leaf, StandsThere, place_of_taken, taken_itself, asked_kids, low_taken}
-use Rattle.law_reload_moves.proofs.Matched.{IsLow, IsMade, IsPlace, whole, lowpart, is_place, made_by, made_length, alone, front, no_kids}
+use Rattle.law_reload_moves.proofs.Matched.{IsLow, IsPlace, whole, lowpart, is_place, made_by, made_length, alone, front, no_kids}
 
 each_holds : (P : Rtx → Type 0) (ps xs : List Rtx) (q y : Rtx) → AtOnePlace ps xs q y → AllByRecursion P ps → P q
 each_holds P _ _ _ _ (first p x ps xs) all = all.0

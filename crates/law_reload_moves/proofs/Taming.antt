@@ -9,21 +9,17 @@ use Rattle.law_operands_fetched.specs.bits64.declared.Width.{Width}
 use Rattle.law_operands_fetched.specs.bits64.declared.Width.TheVariants.{W8, W16, W32, W64}
 use Rattle.law_operands_fetched.specs.rtx_tree.RegSet.{has_reg}
 use Rattle.law_operands_fetched.specs.rtx_tree.declared.machine.Start.{Start}
-use Rattle.law_operands_fetched.specs.rv_regs.Registers.{return_address, stack_pointer, saved_registers}
+use Rattle.law_operands_fetched.specs.rv_regs.Registers.{return_address, saved_registers}
 use Rattle.law_operands_fetched.specs.rtl_step.declared.effect.Effect.{Effect}
-use Rattle.law_operands_fetched.specs.rtl_step.declared.effect.Effect.TheVariants.{Nothing, Sets, Unsets, Stores}
-use Rattle.law_operands_fetched.specs.same_behaviour.Lawful.{is_below_sp}
 use Rattle.law_operands_fetched.specs.assign.declared.places.Layout.{Layout}
 use Rattle.law_operands_fetched.specs.assign.declared.places.SavedAt.{SavedAt}
 use Rattle.law_operands_fetched.specs.assign.declared.places.SlotAt.{SlotAt}
-use Rattle.law_operands_fetched.specs.law_frame.Kept.{preserved_registers, is_saved, is_saved_at, is_in_slot, is_in_slots}
-use Rattle.law_operands_fetched.specs.law_homes.Kept.{is_unsaved}
+use Rattle.law_operands_fetched.specs.law_frame.Kept.{is_saved, is_saved_at, is_in_slot}
 use Rattle.law_operands_fetched.specs.law_homes.Tame.{IsFree}
 use Rattle.law_operands_fetched.specs.law_homes.Tame as homes
 use Rattle.law_operands_fetched.proofs.law_homes.Setting.{Setting}
 use Rattle.law_operands_fetched.proofs.law_homes.Tamed.{AllTame, tame_none, tame_more}
-use Rattle.law_operands_fetched.specs.law_operands_replaced.Spare.{is_spare}
-use Rattle.law_operands_fetched.specs.Tame.{IsHome, IsSpared, IsTame, AreTame}
+use Rattle.law_operands_fetched.specs.Tame.{IsHome, IsTame, AreTame}
 
 -- ---- a register that is saved
 

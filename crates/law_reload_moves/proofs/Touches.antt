@@ -8,7 +8,7 @@ use Rattle.std.specs.Prelude.{ℤ, pos, negsuc, is_some, option_map, option_and_
 use Rattle.law_operands_fetched.specs.bits64.declared.Width.{Width}
 use Rattle.law_operands_fetched.specs.bits64.declared.Width.TheVariants.{W64}
 use Rattle.law_operands_fetched.specs.rtx_tree.Code.{class_of_code}
-use Rattle.law_operands_fetched.specs.rtx_tree.Tree.{RtxHead, head_of, kids_of, tree_of, node_of, reg_of}
+use Rattle.law_operands_fetched.specs.rtx_tree.Tree.{RtxHead, head_of, kids_of, reg_of}
 use Rattle.law_operands_fetched.specs.rtx_tree.declared.code.Code.{Code}
 use Rattle.law_operands_fetched.specs.rtx_tree.declared.code.Code.TheVariants as code
 use Rattle.law_operands_fetched.specs.rtx_tree.declared.code.Mode.{Mode}
@@ -25,12 +25,11 @@ use Rattle.law_operands_fetched.proofs.rtl_func.AllPass as nodes
 use Rattle.law_operands_fetched.proofs.rtl_func.AllPass.{all_pass}
 use Rattle.law_operands_fetched.specs.rtl_step.Effect.{effect_of, effect_by, register_of, address_part, address_of, set_place, set_effect, clobber_by, clobber_effect}
 use Rattle.law_operands_fetched.specs.rtl_step.Effect as effects
-use Rattle.law_operands_fetched.specs.rtl_step.Regs.{Regs, known_of, reg_value}
+use Rattle.law_operands_fetched.specs.rtl_step.Regs.{Regs, known_of}
 use Rattle.law_operands_fetched.specs.rtl_step.Value.{width_of, value_of, of_two}
 use Rattle.law_operands_fetched.specs.rtl_step.declared.effect.Effect.{Effect}
 use Rattle.law_operands_fetched.specs.rtl_step.declared.effect.Effect.TheVariants.{Nothing, Sets, Unsets, Stores}
 use Rattle.law_operands_fetched.specs.rtl_step.declared.regs.Known.{Known}
-use Rattle.law_operands_fetched.specs.rv_regs.Registers.{stack_pointer}
 use Rattle.law_operands_fetched.specs.sym_insns.Shape.{is_natural, all_natural}
 use Rattle.law_operands_fetched.specs.assign.declared.home.Home.{Home}
 use Rattle.law_operands_fetched.specs.assign.declared.home.Home.TheVariants.{Hard, Slot}

@@ -1,5 +1,5 @@
 -- Registers above 31: none is an argument, and one that stands in a tree has no home.
-use Rattle.std.proofs.Common.{◌≡◌, ℕ, ◌<◌, Bool, true, false, ◌||◌, ◌==◌, List, [], ◌∷◌, map, refl, sym, ap, subst, ◌∙◌, inl, inr, arith}
+use Rattle.std.proofs.Common.{◌≡◌, ℕ, ◌<◌, Bool, true, false, ◌||◌, ◌==◌, List, [], ◌∷◌, sym, ap, subst, ◌∙◌, inl, inr, arith}
 use Rattle.std.specs.Prelude.{ℤ, pos, nat_le}
 use Rattle.std.specs.List.{list_any, list_all, AllByRecursion}
 use Rattle.std.proofs.lemmas.Bool.{false≢true, and_parts, or_cases, or_left, or_right, eqb-true, leb-true, lt-ltb}
@@ -7,12 +7,12 @@ use Rattle.std.proofs.lemmas.Bool.Decides.{Decides-int_eq}
 use Rattle.rtx_tree.specs.declared.code.Code.{Code}
 use Rattle.rtx_tree.specs.declared.code.Code.TheVariants.{Reg}
 use Rattle.rtx_tree.specs.declared.tree.Rtx.{Rtx}
-use Rattle.rtx_tree.specs.declared.tree.Rtx.TheFolds.{fold_out-Rtx}
 use Rattle.rtx_tree.specs.RegSet.{has_reg}
 use Rattle.rtx_tree.specs.Tree.{head_of, kids_of, is_reg_numbered, mentions_reg}
 use Rattle.rtx_tree.proofs.Trees.{mentions_out}
 use Rattle.rtl_func.specs.Calls.{is_argument}
-use Rattle.form_needs.specs.Needs.{is_homeless, homeless_step, names_homeless}
+use Rattle.form_needs.specs.Needs.{is_homeless, names_homeless}
+use Rattle.form_needs.proofs.Homeless.{homeless_out}
 use Rattle.func_input.proofs.rtl_print.TreeText.{rtx_induction}
 
 -- ---- registers of a list
@@ -27,15 +27,6 @@ one_of test (r ∷ regs) all reg is =
     ]
 
 -- ---- registers above 31
-
-any_in_map : {A : Type 0} (f : A → Bool) (xs : List A) → list_any (λ here. here) (map f xs) ≡ list_any f xs
-any_in_map f [] = refl
-any_in_map f (x ∷ xs) = ap (λ rest. f x || rest) (any_in_map f xs)
-
-homeless_out : (x : Rtx) → names_homeless x ≡ (is_homeless (head_of x).code (head_of x).number || list_any names_homeless (kids_of x))
-homeless_out x =
-    fold_out-Rtx Bool homeless_step x
-    ∙ ap (λ rest. is_homeless (head_of x).code (head_of x).number || rest) (any_in_map names_homeless (kids_of x))
 
 module _ (reg : ℕ) (above : 31 < reg) where
   of_register : (c : Code) (n : ℤ) → is_reg_numbered c n reg ≡ true → is_homeless c n ≡ true

@@ -17,7 +17,7 @@ use Rattle.rtl_func.specs.Effects.{place_register_by, place_register, changed_by
 use Rattle.rtl_func.specs.Modes.{register_by, register_at, shapes_agree}
 use Rattle.rtl_func.specs.Shapes.{class_at, mode_at, number_at, is_effect, is_bare, fits_row, is_shaped}
 use Rattle.rtl_func.proofs.AllPass.{all_pass, itself, within}
-use Rattle.reg_uses.specs.Effects.{is_register, place_is_by, place_is, effect_defines_by, effect_defines, effects_by, effects_of, pattern_defines}
+use Rattle.reg_uses.specs.Effects.{is_register, place_is_by, place_is, effect_defines_by, effect_defines, effects_by, pattern_defines}
 
 -- ---- places
 

@@ -20,11 +20,11 @@ use Rattle.term_tree.specs.Tree.{width_of}
 use Rattle.term_mean.specs.Meaning.{Valuation, mean}
 use Rattle.term_mean.specs.Sums.{constant}
 use Rattle.term_mean.proofs.SumLaws.{mean-constant}
-use Rattle.law_window_runs.specs.Insns.{InsnsEnd, InsnsCome, insns_come}
+use Rattle.law_window_runs.specs.Insns.{InsnsEnd, InsnsCome}
 use Rattle.law_window_runs.specs.Insns as rtl
 use Rattle.law_window_runs.specs.Lines.{LinesEnd, LinesCome}
 use Rattle.law_window_runs.specs.Lines as code_lines
-use Rattle.law_window_runs.specs.Same.{SameEnd, Starts, LinesDo, DoSame}
+use Rattle.law_window_runs.specs.Same.{SameEnd, Starts, DoSame}
 use Rattle.law_window_runs.specs.Same as window
 use Rattle.sym_diff.specs.sym_state.State.{State, Call, Jump, Runs}
 use Rattle.sym_diff.specs.sym_state.State as symbolic

@@ -7,7 +7,6 @@ use Rattle.bits64.specs.Words.{bits_of, low}
 use Rattle.rtl_step.specs.Regs.{known_of, known_in}
 use Rattle.rv_line.specs.Step.{register}
 use Rattle.term_tree.specs.Tree.{Tree, width_of}
-use Rattle.term_tree.specs.Form.{narrower}
 use Rattle.term_mean.specs.Meaning.{Valuation, mean}
 use Rattle.term_mean.specs.Compared.{low_bits}
 use Rattle.term_mean.proofs.CutLaws.{low-low}

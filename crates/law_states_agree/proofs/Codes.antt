@@ -11,7 +11,6 @@ use Rattle.bits64.specs.declared.Width.{Width}
 use Rattle.bits64.specs.declared.Width.TheVariants.{W8, W16, W32, W64}
 use Rattle.bits64.specs.Words.{bits_of, low}
 use Rattle.rtx_tree.specs.declared.machine.SymbolAt.{SymbolAt}
-use Rattle.rtx_tree.specs.declared.machine.World.{World}
 use Rattle.rtx_tree.specs.declared.memories.MemByte.{MemByte}
 use Rattle.rtx_tree.specs.Memories.{byte_at}
 use Rattle.rtx_tree.specs.declared.function.Insn.{Insn}
@@ -20,15 +19,13 @@ use Rattle.rtl_step.specs.declared.regs.Known.{Known}
 use Rattle.rtl_step.specs.Regs.{Regs, known_in, reg_value}
 use Rattle.rv_line.specs.Step.{register}
 use Rattle.rv_line.specs.declared.state.RvState.{RvState}
-use Rattle.same_behaviour.specs.Lawful.{IsMemory, IsWord, AreAddresses}
+use Rattle.same_behaviour.specs.Lawful.{IsMemory, AreAddresses}
 use Rattle.term_mean.specs.Meaning.{Valuation}
-use Rattle.term_mean.proofs.CutLaws.{low-low}
 use Rattle.law_line_terms.specs.law_insn_terms.Needs.{First}
-use Rattle.law_line_terms.specs.law_insn_terms.Shows.{IsOf, ShowsMemory}
 use Rattle.law_line_terms.specs.law_insn_terms.Means.{IsFirst, first_of}
 use Rattle.law_line_terms.proofs.law_insn_terms.Firsts.{first_shows}
 use Rattle.law_window_runs.specs.Uses.{window_uses}
-use Rattle.law_window_runs.specs.Beside.{reads, Agrees, Within, IsMachine, Beside}
+use Rattle.law_window_runs.specs.Beside.{reads, Agrees, Within}
 
 -- ---- symbols
 

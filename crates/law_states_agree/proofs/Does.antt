@@ -5,7 +5,7 @@ use Rattle.std.specs.Prelude.{if◌then◌else◌, is_some, not, option_map, opt
 use Rattle.std.specs.FinMap.{get}
 use Rattle.std.specs.List.{All}
 use Rattle.bits64.specs.declared.Width.{Width}
-use Rattle.bits64.specs.Words.{bits_of, low}
+use Rattle.bits64.specs.Words.{low}
 use Rattle.rtx_tree.specs.declared.machine.RangeAt.{RangeAt}
 use Rattle.rtx_tree.specs.declared.machine.World.{World}
 use Rattle.rtx_tree.specs.declared.memories.MemByte.{MemByte}
@@ -14,37 +14,33 @@ use Rattle.rtx_tree.specs.Registers.{is_call_used, virtual_stack_vars}
 use Rattle.rtx_tree.specs.declared.function.Insn.{Insn}
 use Rattle.run_memory.specs.RunMemory.{is_visible, visible}
 use Rattle.rtl_step.specs.declared.regs.Known.{Known}
-use Rattle.rtl_step.specs.Regs.{Regs, known_of, known_in, reg_value}
+use Rattle.rtl_step.specs.Regs.{Regs, known_in, reg_value}
 use Rattle.rv_text.specs.declared.line.Line.{Line}
 use Rattle.rv_line.specs.Step.{register}
 use Rattle.rv_line.specs.declared.state.RvState.{RvState}
-use Rattle.same_behaviour.specs.Lawful.{IsByte, IsMemory}
-use Rattle.term_tree.specs.Tree.{Tree, width_of}
-use Rattle.term_mean.specs.Meaning.{Valuation, mean}
-use Rattle.term_mean.specs.Compared.{low_bits}
-use Rattle.law_window_runs.specs.Insns.{InsnsEnd, InsnsCome, insns_come}
+use Rattle.same_behaviour.specs.Lawful.{IsMemory}
+use Rattle.term_tree.specs.Tree.{Tree}
+use Rattle.term_mean.specs.Meaning.{mean}
+use Rattle.law_window_runs.specs.Insns.{InsnsEnd, InsnsCome}
 use Rattle.law_window_runs.specs.Insns as insns
-use Rattle.law_window_runs.specs.Lines.{LinesCome, lines_come}
 use Rattle.law_window_runs.specs.Uses.{window_defines}
-use Rattle.law_window_runs.specs.Beside.{reads, Agrees, Within, IsMachine, Beside}
-use Rattle.law_window_runs.specs.Same.{SameEnd, Starts, LinesDo, IsKept}
+use Rattle.law_window_runs.specs.Beside.{reads, Agrees, Beside}
+use Rattle.law_window_runs.specs.Same.{Starts, IsKept}
 use Rattle.sym_diff.specs.sym_state.State.{State, Call, Runs, own_register}
 use Rattle.sym_diff.specs.sym_state.Registers.{held}
 use Rattle.law_line_terms.specs.sym_insns.Run as insns_run
 use Rattle.law_line_terms.specs.sym_lines.Run as lines_run
-use Rattle.law_line_terms.specs.law_insn_terms.Needs.{First}
-use Rattle.law_line_terms.specs.law_insn_terms.Shows.{ShowsMemory, ShowsRegister}
+use Rattle.law_line_terms.specs.law_insn_terms.Shows.{ShowsRegister}
 use Rattle.law_line_terms.specs.law_insn_terms.Means.{left_at, first_of, EndMeans}
 use Rattle.law_line_terms.specs.ShowsLine.{ShowsNumber}
-use Rattle.law_line_terms.specs.EndsLines.{EndsLines, LinesRun}
 use Rattle.sym_diff.specs.Registers.{is_live, is_free, one_calls, is_passed_over, value_behind}
 use Rattle.sym_diff.specs.Agree.{Agree, AgreesIn, Knows}
 use Rattle.law_line_terms.proofs.law_insn_terms.Left.{left_value}
 use Rattle.law_line_terms.proofs.law_insn_terms.Kept.{held_defined}
-use Rattle.law_states_agree.proofs.Windows.{WindowKeeps, window_keeps}
+use Rattle.law_states_agree.proofs.Windows.{WindowKeeps}
 use Rattle.law_states_agree.proofs.Twice as twice
-use Rattle.law_states_agree.proofs.Behind.{cut, known_value, IsKnown, kept_behind, changed_behind, not_missing}
-use Rattle.law_states_agree.proofs.Ends.{Left, not_passed, none_calls}
+use Rattle.law_states_agree.proofs.Behind.{cut, known_value, IsKnown, kept_behind, changed_behind}
+use Rattle.law_states_agree.proofs.Ends.{not_passed, none_calls}
 use Rattle.law_states_agree.proofs.Told.{Told}
 use Rattle.law_states_agree.proofs.Visible.{all_bytes, same_seen, seen_same}
 

@@ -12,7 +12,7 @@ use Rattle.rv_text.specs.Lines.{action_of}
 use Rattle.rv_text.specs.declared.action.Action.{Action}
 use Rattle.rv_text.specs.declared.action.Action.TheVariants as action
 use Rattle.rv_text.specs.declared.line.Line.{Line}
-use Rattle.rv_line.specs.Step.{register, source_value, place_of, of_both, set_rd, set_memory, stored, loaded, computed, act, step_as, step}
+use Rattle.rv_line.specs.Step.{register, source_value, place_of, of_both, set_rd, set_memory, loaded, computed, act, step_as, step}
 use Rattle.rv_line.specs.declared.state.RvState.{RvState}
 use Rattle.rv_line.specs.declared.state.LineEnd.{LineEnd}
 use Rattle.rv_line.specs.declared.state.LineEnd.TheVariants as ends

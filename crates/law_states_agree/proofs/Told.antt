@@ -3,8 +3,7 @@
 use Rattle.std.proofs.Common.{◌≡◌, ◌≢◌, ℕ, zero, suc, ◌+◌, ◌%◌, ◌^◌, ◌<◌, ◌==◌, ◌&&◌, ◌||◌, Bool, true, false, List, [], ◌∷◌, length, Option, Some, None, refl, sym, ◌∙◌, ap, subst, arith}
 use Rattle.std.specs.Prelude.{if◌then◌else◌, is_some, not, unwrap_or}
 use Rattle.std.specs.List.{All, list_all}
-use Rattle.bits64.specs.declared.Width.{Width}
-use Rattle.bits64.specs.Words.{bits_of, low}
+use Rattle.bits64.specs.Words.{low}
 use Rattle.rtx_tree.specs.declared.machine.RangeAt.{RangeAt}
 use Rattle.rtx_tree.specs.declared.machine.SymbolAt.{SymbolAt}
 use Rattle.rtx_tree.specs.declared.machine.World.{World}
@@ -16,33 +15,31 @@ use Rattle.rtl_step.specs.Regs.{Regs}
 use Rattle.rv_text.specs.declared.line.Line.{Line}
 use Rattle.rv_line.specs.Step.{register}
 use Rattle.rv_line.specs.declared.state.RvState.{RvState}
-use Rattle.same_behaviour.specs.Lawful.{AreAddresses}
 use Rattle.term_tree.specs.Tree.{Tree, width_of}
 use Rattle.term_mean.specs.Meaning.{Valuation, mean}
 use Rattle.term_mean.specs.Compared.{low_bits}
 use Rattle.term_mean.specs.Stores.{Stored}
-use Rattle.term_mean.proofs.SumLaws.{mean-cut}
-use Rattle.law_window_runs.specs.Insns.{InsnsEnd, InsnsCome, insns_come}
+use Rattle.law_window_runs.specs.Insns.{InsnsCome, insns_come}
 use Rattle.law_window_runs.specs.Insns as insns
 use Rattle.law_window_runs.specs.Lines.{LinesCome}
-use Rattle.law_window_runs.specs.Beside.{reads, Agrees, Beside}
-use Rattle.law_window_runs.specs.Same.{Starts, IsKept}
+use Rattle.law_window_runs.specs.Beside.{reads}
+use Rattle.law_window_runs.specs.Same.{Starts}
 use Rattle.sym_diff.specs.sym_state.State.{State, Call, Runs, own_register}
-use Rattle.sym_diff.specs.sym_state.Registers.{held, left_by_call}
+use Rattle.sym_diff.specs.sym_state.Registers.{held}
 use Rattle.law_line_terms.specs.sym_insns.Run as insns_run
 use Rattle.law_line_terms.specs.sym_lines.Run as lines_run
 use Rattle.law_line_terms.specs.law_insn_terms.Needs.{First}
 use Rattle.law_line_terms.specs.law_insn_terms.Shows.{ShowsMemory}
-use Rattle.law_line_terms.specs.law_insn_terms.Means.{Means, IsFirst, first_of, all_met, EndMeans, CallMeans, IsAligned, RunMeans}
+use Rattle.law_line_terms.specs.law_insn_terms.Means.{Means, first_of, all_met, IsAligned, RunMeans}
 use Rattle.law_line_terms.proofs.law_insn_terms.Firsts.{first_shows}
 use Rattle.law_line_terms.specs.ShowsLine.{ShowsNumber, ShowsLine}
 use Rattle.law_line_terms.specs.EndsLines.{EndsLines, falls, goes, calls, IsBefore, LinesRun}
 use Rattle.sym_diff.specs.Registers.{one_calls, is_passed_over}
 use Rattle.sym_diff.specs.Agree.{Agree, CallsAgree}
 use Rattle.law_line_terms.proofs.law_insn_terms.Left.{held_left}
-use Rattle.law_line_terms.proofs.law_insn_terms.Used.{IsUsed, needs_used}
+use Rattle.law_line_terms.proofs.law_insn_terms.Used.{needs_used}
 use Rattle.law_line_terms.proofs.Runs as line_runs
-use Rattle.law_states_agree.proofs.Codes.{symbol_number, symbol_is, symbol_word, byte_number, byte_is, code_number, code_is, code_reads, code_valuation, asked}
+use Rattle.law_states_agree.proofs.Codes.{symbol_is, symbol_word, byte_is, code_is, code_reads, code_valuation, asked}
 use Rattle.law_states_agree.proofs.Twice as twice
 use Rattle.law_states_agree.proofs.Covered.{all_covered}
 use Rattle.law_states_agree.proofs.Covered as covered

@@ -4,33 +4,31 @@ use Rattle.std.proofs.Common.{◌≡◌, ◌≢◌, ℕ, zero, suc, ◌+◌, ◌
 use Rattle.std.specs.Prelude.{if◌then◌else◌, is_some}
 use Rattle.std.specs.List.{All, list_all}
 use Rattle.std.specs.FinMap.{get}
-use Rattle.bits64.specs.declared.Width.{Width}
-use Rattle.bits64.specs.Words.{bits_of, low}
+use Rattle.bits64.specs.Words.{low}
 use Rattle.rtx_tree.specs.declared.machine.RangeAt.{RangeAt}
 use Rattle.rtx_tree.specs.declared.machine.SymbolAt.{SymbolAt}
 use Rattle.rtx_tree.specs.declared.memories.MemByte.{MemByte}
 use Rattle.rtx_tree.specs.Memories.{byte_at}
 use Rattle.rtx_tree.specs.declared.function.Insn.{Insn}
 use Rattle.rtl_step.specs.declared.regs.Known.{Known}
-use Rattle.rtl_step.specs.Regs.{Regs, known_of, reg_value}
+use Rattle.rtl_step.specs.Regs.{Regs, known_of}
 use Rattle.rv_line.specs.declared.state.RvState.{RvState}
 use Rattle.same_behaviour.specs.Lawful.{IsMemory, AreAddresses}
 use Rattle.term_tree.specs.Tree.{Tree, width_of}
 use Rattle.term_mean.specs.Meaning.{Valuation, mean}
-use Rattle.term_mean.specs.Stores.{Stored}
 use Rattle.term_mean.proofs.SumLaws.{mean-cut}
-use Rattle.law_window_runs.specs.Insns.{InsnsEnd, Calls, InsnsCome, insns_come}
+use Rattle.law_window_runs.specs.Insns.{InsnsCome, insns_come}
 use Rattle.law_window_runs.specs.Uses.{window_uses}
 use Rattle.law_window_runs.specs.Beside.{Agrees, Within}
 use Rattle.sym_diff.specs.sym_state.State.{State, Call, Need, NeedAt, Register, Lost, Access, Divisor, Symbol, Runs}
 use Rattle.sym_diff.specs.sym_state.Registers.{held}
 use Rattle.law_line_terms.specs.sym_insns.Run.{run}
 use Rattle.law_line_terms.specs.law_insn_terms.Needs.{First, is_met}
-use Rattle.law_line_terms.specs.law_insn_terms.Shows.{IsOf, ShowsMemory, ShowsRegister}
-use Rattle.law_line_terms.specs.law_insn_terms.Means.{IsFirst, first_of, all_met, left_at, Means, CallMeans, EndMeans, IsAligned, RunMeans, Comes}
+use Rattle.law_line_terms.specs.law_insn_terms.Shows.{ShowsRegister}
+use Rattle.law_line_terms.specs.law_insn_terms.Means.{IsFirst, first_of, all_met, left_at, Means, EndMeans, IsAligned, RunMeans, Comes}
 use Rattle.law_line_terms.proofs.law_insn_terms.Runs.{run_means, run_comes}
 use Rattle.law_line_terms.proofs.law_insn_terms.Used.{IsGoodNeed, IsUsed, needs_used}
-use Rattle.law_states_agree.proofs.Codes.{own_number, own_valuation, own_first, asked, asked_used, asked_own, asked_first, code_number, code_valuation}
+use Rattle.law_states_agree.proofs.Codes.{own_valuation, own_first, asked, asked_used, asked_own, asked_first, code_valuation}
 
 -- a valuation with the same registers, symbols and first memory is one of the same beginning
 pub first_moved : (first v : Valuation) (f : First) → IsFirst first f → ((reg : ℕ) → v.reg reg ≡ first.reg reg) → ((name : List ℕ) → v.sym name ≡ first.sym name) →

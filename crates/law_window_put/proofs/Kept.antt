@@ -23,10 +23,14 @@ use Rattle.reg_uses.specs.Uses.{insn_defines, is_call_kind}
 use Rattle.law_window_runs.specs.Uses.{window_defines}
 use Rattle.new_insns.specs.Replaced.{window, replaced}
 use Rattle.law_function_kept.specs.Keeps.{Keeps}
+use Rattle.law_window_replaced.specs.law_window_kept.Same.{CanReplace}
+use Rattle.law_window_replaced.proofs.Replacing.{replaced_keeps}
+use Rattle.live.specs.Live.{IsLiveAfter}
 use Rattle.law_pass_needs.specs.sym_state.State.{State, Runs, start}
 use Rattle.law_pass_needs.specs.sym_insns.Run.{run_from, run}
 use Rattle.law_pass_needs.specs.sym_insns.Shape.{is_shaped, is_natural, all_natural, fits_kind, is_end, bad_from, bad_insn}
 use Rattle.equate.specs.Side.{Insns}
+use Rattle.equate.specs.Equated.{Equated}
 use Rattle.equate.specs.Told.{Alike}
 use Rattle.equate.proofs.VerdictLaws.{verdict_same}
 use Rattle.equate.proofs.Soundness.{no_return}
@@ -43,7 +47,7 @@ use Rattle.law_insn_replaced.proofs.Jumps.{new_lead}
 use Rattle.law_insn_replaced.proofs.Labels.{all_within_too}
 use Rattle.law_insn_replaced.proofs.Vars.{LeavesVars, all_leave}
 use Rattle.law_window_put.specs.Put.{IsPut, KeepToArguments}
-use Rattle.law_window_put.proofs.Does.{window_does}
+use Rattle.law_window_put.proofs.Does.{put_replaces}
 
 -- ---- what can be compared
 
@@ -124,7 +128,7 @@ window_leaves (i ∷ insns) all =
     (or_from (pattern_defines virtual_stack_vars i.pattern) _ all.0 (and_right (is_call_kind i.kind) (is_call_used virtual_stack_vars) refl))
     (window_leaves insns all.1)
 
-module _ (f : Function) (first end : ℕ) (new : List Insn) (put : IsPut f first end new) where
+module _ (f : Function) (first end : ℕ) (new : List Insn) (order : first < end) where
   abbrev old : List Insn
   old = window f first end
 
@@ -133,7 +137,6 @@ module _ (f : Function) (first end : ℕ) (new : List Insn) (put : IsPut f first
 
   dropped : drop (end - first) (drop first f.insns) ≡ drop end f.insns
   dropped =
-      let order = put.order in
       let all : first + (end - first) ≡ end = omega (arith, order) in
       drop-drop (end - first) first f.insns ∙ ap (λ n. drop n f.insns) all
 
@@ -146,8 +149,8 @@ module _ (f : Function) (first end : ℕ) (new : List Insn) (put : IsPut f first
   marks_of middle = filter-append is_mark (take first f.insns) (middle ++ drop end f.insns) ∙ ap (λ rest. marks (take first f.insns) ++ rest) (filter-append is_mark middle (drop end f.insns))
 
   -- the labels and barriers are the function's, where the window has its own
-  pub same_marks : marks new ≡ marks old → SameMarks f after
-  same_marks same = record {
+  pub marks_stay : marks new ≡ marks old → SameMarks f after
+  marks_stay same = record {
     name_is = refl;
     marks_are = marks_of new ∙ (ap (λ ms. marks (take first f.insns) ++ (ms ++ marks (drop end f.insns))) same ∙ (sym (marks_of old) ∙ ap marks (sym chain_splits)));
     locals_are = refl;
@@ -155,43 +158,52 @@ module _ (f : Function) (first end : ℕ) (new : List Insn) (put : IsPut f first
     result_reg_is = refl;
   }
 
-  alike : Alike old (Insns new) put.live
-  alike = verdict_same old (Insns new) put.live put.equated (no_return old new)
-
   all_old : (P : Insn → Type 0) → AllByRecursion P f.insns → AllByRecursion P old
   all_old P all = all_taken P (end - first) (drop first f.insns) (all_dropped P first f.insns all)
 
   all_after : (P : Insn → Type 0) → AllByRecursion P f.insns → AllByRecursion P new → AllByRecursion P after.insns
   all_after P all made = all_joined P (take first f.insns) (new ++ drop end f.insns) (all_taken P first f.insns all) (all_joined P new (drop end f.insns) made (all_dropped P end f.insns all))
 
-  fit : AllByRecursion Fitting new
-  fit = all_fit new alike.second alike.runs_second
+  -- where the instructions are equated with the window over some registers, and can replace it
+  module _ (within : end ≤ length f.insns) (live : List ℕ) (equated : Equated old (Insns new) live) (can : CanReplace old new (λ reg. IsLiveAfter f reg (end - 1))) (sound : IsSound f) where
+    alike : Alike old (Insns new) live
+    alike = verdict_same old (Insns new) live equated (no_return old new)
 
-  module _ (sound : IsSound f) where
+    fit : AllByRecursion Fitting new
+    fit = all_fit new alike.second alike.runs_second
+
     leave : AllByRecursion LeavesVars new
-    leave = all_leave old new put.live alike.first alike.second alike.runs_first alike.runs_second alike.agree
+    leave = all_leave old new live alike.first alike.second alike.runs_first alike.runs_second alike.agree
         (window_leaves old (all_old LeavesVars (all_weaker IsInsnReloadable LeavesVars (λ i one. one.vars) f.insns sound.reloadable.each)))
 
     lead : AllByRecursion (LeadsWithin f.insns) new
-    lead = new_lead f.insns old new put.live alike.first alike.second alike.runs_first alike.runs_second alike.agree (all_old (LeadsWithin f.insns) sound.reloadable.jumps)
+    lead = new_lead f.insns old new live alike.first alike.second alike.runs_first alike.runs_second alike.agree (all_old (LeadsWithin f.insns) sound.reloadable.jumps)
 
     -- registers and marks
     does : Keeps f after
-    does = window_does f first end new put
+    does = replaced_keeps f first end new order within
         (λ p reg j there mark. (at_place IsInsnReady f.insns sound.ready p j there).marks mark reg)
-        (λ p j there. (at_place IsInsnReloadable f.insns sound.reloadable.each p j there).natural)
+        (λ p j there. (at_place IsInsnReloadable f.insns sound.reloadable.each p j there).natural) can
 
-    -- a sound function is kept, where the window's labels and barriers stay, its new instructions keep to a0 to a7, and uids differ
-    pub window_kept : marks new ≡ marks old → KeepToArguments new → UidsDiffer after → PassKeeps f after
-    window_kept same keep differ = record {
+    pub replaced_kept : marks new ≡ marks old → KeepToArguments new → UidsDiffer after → PassKeeps f after
+    replaced_kept same keep differ = record {
       keeps = does;
       sound = record {
         ready = all_after IsInsnReady sound.ready (all_weaker Fitting IsInsnReady ready new fit);
         reloadable = record {
           each = all_after IsInsnReloadable sound.reloadable.each (all_reloadable new fit leave keep);
-          jumps = all_within_too f.insns after.insns after.insns (same_marks same).marks_are (all_after (LeadsWithin f.insns) sound.reloadable.jumps lead);
+          jumps = all_within_too f.insns after.insns after.insns (marks_stay same).marks_are (all_after (LeadsWithin f.insns) sound.reloadable.jumps lead);
           uids = differ;
         };
       };
-      same = same_marks same;
+      same = marks_stay same;
     }
+
+module _ (f : Function) (first end : ℕ) (new : List Insn) (put : IsPut f first end new) where
+  -- the labels and barriers are the function's, where the window has its own
+  pub same_marks : marks new ≡ marks (window f first end) → SameMarks f (replaced f first end new)
+  same_marks same = marks_stay f first end new put.order same
+
+  -- a sound function is kept, where the window's labels and barriers stay, its new instructions keep to a0 to a7, and uids differ
+  pub window_kept : IsSound f → marks new ≡ marks (window f first end) → KeepToArguments new → UidsDiffer (replaced f first end new) → PassKeeps f (replaced f first end new)
+  window_kept sound same keep differ = replaced_kept f first end new put.order put.within put.live put.equated (put_replaces f first end new put) sound same keep differ

@@ -17,7 +17,7 @@ use Rattle.reg_uses.specs.Uses.{function_sets}
 use Rattle.live.specs.Live.{IsLive, IsLiveAfter}
 use Rattle.law_function_kept.specs.Outcomes.{SameEvent, SameEvents}
 use Rattle.law_window_runs.specs.Insns as window
-use Rattle.law_window_runs.specs.Insns.{InsnsCome, InsnsEnd, insns_come, insn_comes, come_to, come_after, end_of_way}
+use Rattle.law_window_runs.specs.Insns.{InsnsCome, InsnsEnd, insns_come, come_to}
 use Rattle.law_window_runs.specs.Same.{IsKept}
 use Rattle.law_window_kept.specs.Same.{KnownToo, InsnsDo, SameEnd, Starts, is_free}
 use Rattle.law_window_kept.specs.Same as keep

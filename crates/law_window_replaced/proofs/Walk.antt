@@ -26,7 +26,7 @@ use Rattle.law_window_kept.specs.Same.{KnownToo, CanReplace, leads_last, is_plai
 use Rattle.law_window_lines.proofs.Leads as leads_by
 use Rattle.law_window_lines.proofs.Leads.{LeadsBy, leads_on, jump_leads}
 use Rattle.law_window_lines.proofs.Simulation as machine
-use Rattle.law_window_lines.proofs.Simulation.{added, counted}
+use Rattle.law_window_lines.proofs.Simulation.{added}
 use Rattle.law_window_replaced.specs.Replaced as parts
 use Rattle.law_window_replaced.specs.Replaced.{AreReplaced}
 use Rattle.law_window_replaced.proofs.Inside.{Ended, catches_up, goes_both, calls_end, never_returns}

@@ -27,7 +27,7 @@ use Rattle.rtl_step.specs.declared.jump.Way.{Way}
 use Rattle.rtl_step.specs.declared.jump.Way.TheVariants as way
 use Rattle.rtl_func.specs.Paths.{leads}
 use Rattle.reg_uses.specs.Effects as uses
-use Rattle.reg_uses.specs.Effects.{place_is, place_is_by, pattern_defines}
+use Rattle.reg_uses.specs.Effects.{place_is, place_is_by}
 use Rattle.reg_uses.specs.Uses.{insn_uses, insn_defines, insn_sets, function_sets}
 use Rattle.live.specs.Live.{IsLive, IsLiveAfter, AtUse, Passing}
 use Rattle.same_behaviour.proofs.Places.{get_dropped, drop_next}

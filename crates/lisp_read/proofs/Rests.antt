@@ -11,7 +11,7 @@ use Rattle.lisp_read.specs.Places.{advance, place_after}
 use Rattle.lisp_read.specs.Part.{Part, Atom, Str, Block}
 use Rattle.lisp_read.specs.Nesting.{still_open}
 use Rattle.lisp_read.specs.Text as text
-use Rattle.lisp_read.specs.Text.{Each, NotClosing, NotStar, IsCommentBody, IsQuoted, IsBraced, IsAtom, EndsAtom, Spells, IsText}
+use Rattle.lisp_read.specs.Text.{Each, NotStar, IsCommentBody, IsQuoted, IsBraced, EndsAtom, Spells}
 use Rattle.lisp_read.specs.machine.Steps.{Front, State}
 use Rattle.lisp_read.specs.machine.Runs.{run, ◌>>=◌}
 use Rattle.lisp_read.proofs.Settles.{st, fr, settled, some_is}

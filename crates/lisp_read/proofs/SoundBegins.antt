@@ -10,7 +10,7 @@ use Rattle.lisp_read.specs.Places.{advance}
 use Rattle.lisp_read.specs.Part.{Part, Atom, Str, Block, Open, Close}
 use Rattle.lisp_read.specs.Nesting.{same_kind, still_open}
 use Rattle.lisp_read.specs.Text as text
-use Rattle.lisp_read.specs.Text.{Each, NotClosing, NotStar, IsCommentBody, IsQuoted, IsBraced, IsAtom, EndsAtom, Spells, IsText}
+use Rattle.lisp_read.specs.Text.{NotStar, Spells}
 use Rattle.lisp_read.specs.machine.Steps.{Front, at, begin, closed_in}
 use Rattle.lisp_read.proofs.Classes.{byte_of_class}
 use Rattle.lisp_read.proofs.Settles.{fr}

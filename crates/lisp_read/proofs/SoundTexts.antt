@@ -9,7 +9,7 @@ use Rattle.lisp_read.specs.Class.{class_of, not_zero, in_quotes, in_braces}
 use Rattle.lisp_read.specs.Places.{advance}
 use Rattle.lisp_read.specs.Part.{Part, Str, Block}
 use Rattle.lisp_read.specs.Text as text
-use Rattle.lisp_read.specs.Text.{Each, NotClosing, NotStar, IsCommentBody, IsQuoted, IsBraced, IsAtom, EndsAtom, Spells, IsText}
+use Rattle.lisp_read.specs.Text.{IsQuoted, IsBraced, Spells}
 use Rattle.lisp_read.specs.machine.Steps.{Front, in_string, in_string_escape, in_block, in_block_escape, closes_block}
 use Rattle.lisp_read.proofs.Classes.{byte_of_class}
 use Rattle.lisp_read.proofs.Settles.{fr}

@@ -31,7 +31,7 @@ behind_first false p q f g h = h
 not_behind : (x : ℕ) (xs : List ℕ) (reg : ℕ) → IsStrictlyIncreasing (x ∷ xs) → eqb x reg ≡ true → has_reg xs reg ≡ false
 not_behind x xs reg up is = not_true (has_reg xs reg) (λ h. let same = eqb-true x reg is in let below = above x xs reg up h in omega (arith, same, below))
 
-same_sets : (xs ys : List ℕ) → IsStrictlyIncreasing xs → IsStrictlyIncreasing ys → ((reg : ℕ) → has_reg xs reg ≡ has_reg ys reg) → xs ≡ ys
+pub same_sets : (xs ys : List ℕ) → IsStrictlyIncreasing xs → IsStrictlyIncreasing ys → ((reg : ℕ) → has_reg xs reg ≡ has_reg ys reg) → xs ≡ ys
 same_sets [] [] up up' same = refl
 same_sets [] (y ∷ ys) up up' same = absurd (false≢true (same y ∙ or_left (eqb y y) (has_reg ys y) (eq-eqb y y refl)))
 same_sets (x ∷ xs) [] up up' same = absurd (false≢true (sym (same x) ∙ or_left (eqb x x) (has_reg xs x) (eq-eqb x x refl)))
@@ -57,7 +57,7 @@ same_sets (x ∷ xs) (y ∷ ys) up up' same =
       ]
     ]
 
-agree : (p q : Bool) → (p ≡ true → q ≡ true) → (q ≡ true → p ≡ true) → p ≡ q
+pub agree : (p q : Bool) → (p ≡ true → q ≡ true) → (q ≡ true → p ≡ true) → p ≡ q
 agree true q f g = sym (f refl)
 agree false true f g = g refl
 agree false false f g = refl

@@ -6,11 +6,8 @@ use Rattle.rtx_tree.specs.declared.function.Function.{Function}
 use Rattle.rtx_tree.specs.declared.function.Insn.{Insn}
 use Rattle.rtx_tree.specs.Tree.{head_of}
 use Rattle.rtl_chain.specs.Counts.{greatest_uid, next_pseudo}
-use Rattle.rtl_func.specs.Calls.{has_argument, use_is_argument}
-use Rattle.rtl_func.specs.Nodes.{nodes_of}
 use Rattle.std.specs.List.{list_all}
 use Rattle.md_forms.specs.declared.form.Entry.{Entry}
-use Rattle.lower_insn.specs.md_emit.Emitted.{keeps_to_arguments}
 use Rattle.lower_insn.specs.form_needs.Needs.{is_kind, is_note, needs_form}
 use Rattle.law_lowering.specs.law_pass_needs.Left.{SameMarks}
 use Rattle.law_lowering.specs.law_pass_needs.Reloadable.{IsInsnReloadable}

@@ -7,7 +7,7 @@ use Rattle.rtx_tree.specs.declared.tree.Rtx.{Rtx}
 use Rattle.md_recog.specs.Match.{Accepts}
 use Rattle.std_name.specs.declared.standard.StandardOperand.{StandardOperand}
 use Rattle.lower_insn.specs.declared.part.Prepared.{Prepared}
-use Rattle.lower_insn.specs.Settings.{prepared, nothing, joined, unchanged, addressed_one, addressed, fitted_one, fitted}
+use Rattle.lower_insn.specs.Settings.{prepared, nothing, joined, addressed_one, addressed, fitted_one, fitted}
 
 -- ---- one operand more
 

@@ -3,17 +3,15 @@ use Rattle.std.proofs.Common.{◌≡◌, ◌⊎◌, ⊎_elim, inl, inr, ℕ, ◌
 use Rattle.std.specs.List.{All}
 use Rattle.rtx_tree.specs.declared.tree.Rtx.{Rtx}
 use Rattle.rtx_tree.specs.declared.function.Insn.{Insn}
-use Rattle.md_match.specs.Pattern.{Ops}
 use Rattle.md_forms.specs.declared.form.Entry.{Entry}
 use Rattle.form_needs.specs.Needs.{needs_form}
 use Rattle.gen_emit.specs.declared.emission.Emission.{Emission}
-use Rattle.pass_refusal.specs.declared.refusal.PassRefusal.{PassRefusal}
 use Rattle.lower_insn.specs.declared.part.Part.{Part}
 use Rattle.lower_insn.specs.declared.part.Part.TheVariants.{Lower, Emit, Emitted}
 use Rattle.lower_insn.specs.declared.part.Plan.{Plan}
 use Rattle.lower_insn.specs.declared.part.Uids.{Uids}
 use Rattle.lower_insn.specs.Plan.{planned, emission_of}
-use Rattle.lower_insn.specs.Lowered.{Answer, InsnAnswer, InsnLowers, IsMatched, IsUnmatched, Lowers, behind, by_form, parts_of, uids_for, unmatched_at, is_note_tree}
+use Rattle.lower_insn.specs.Lowered.{Answer, InsnAnswer, InsnLowers, IsMatched, IsUnmatched, Lowers, behind, by_form, parts_of, uids_for, is_note_tree}
 
 both : (b : Bool) → b ≡ true → b ≡ false → ⊥
 both b t f = let none : true ≡ false = sym t ∙ f in let never : ⊥ = cc in never

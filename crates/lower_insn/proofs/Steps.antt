@@ -7,7 +7,7 @@ use Rattle.md_match.specs.Pattern.{Ops}
 use Rattle.md_forms.specs.declared.form.Entry.{Entry}
 use Rattle.gen_emit.specs.declared.emission.Emission.{Emission}
 use Rattle.pass_refusal.specs.declared.refusal.PassRefusal.{PassRefusal}
-use Rattle.pass_refusal.specs.Outcome.{Gives, RefusesWith}
+use Rattle.pass_refusal.specs.Outcome.{RefusesWith}
 use Rattle.lower_insn.specs.declared.part.Part.{Part}
 use Rattle.lower_insn.specs.declared.part.Part.TheVariants.{Lower, Emit, Emitted}
 use Rattle.lower_insn.specs.declared.part.Plan.{Plan}

@@ -9,7 +9,7 @@ use Rattle.rtx_tree.specs.declared.code.Mode.TheVariants.{Void}
 use Rattle.rtx_tree.specs.declared.constants.Constant.{Constant}
 use Rattle.rtx_tree.specs.declared.tree.Rtx.{Rtx}
 use Rattle.rtx_tree.specs.Tree.{tree_of, node_of, named_of, reg_of, const_of}
-use Rattle.lisp_read.specs.declared.tree.Tree.{Tree, out-Tree}
+use Rattle.lisp_read.specs.declared.tree.Tree.{Tree}
 use Rattle.lisp_read.specs.declared.tree.Tree.TheOpen.{Tree-F}
 use Rattle.lisp_read.specs.declared.tree.Tree.TheFolds.{fold-Tree}
 use Rattle.lisp_read.specs.Shape.{atom_of, items_of, is_word, is_vector}
@@ -25,7 +25,7 @@ use Rattle.rtx_tree.specs.declared.class.Parts.TheVariants as parts
 use Rattle.md_pattern.specs.declared.operand.Operand.{Operand}
 use Rattle.md_pattern.specs.declared.pattern.Pattern.{Pattern}
 use Rattle.md_pattern.specs.declared.pattern.Patterns.{Patterns}
-use Rattle.md_pattern.specs.Reason.{judged_with, judged_map}
+use Rattle.md_pattern.specs.Reason.{judged_with}
 use Rattle.rtx_tree.specs.Code.{class_of_code, parts_of, head_mode_of}
 use Rattle.md_pattern.specs.Word.{number_of, register_of}
 use Rattle.md_pattern.specs.Operand.{numbered, predicated, operand_in, scratch_in, dup_in}

@@ -6,7 +6,7 @@ use Rattle.rtx_tree.specs.declared.tree.Rtx.{Rtx}
 use Rattle.md_match.specs.Pattern.{Ops}
 use Rattle.md_match.specs.machine.Collected.{MakesAll}
 use Rattle.md_match.proofs.Parts.{makes_first, as_many, opened}
-use Rattle.md_recog.specs.Match.{Accepts, are_accepted, all_accepted}
+use Rattle.md_recog.specs.Match.{Accepts, all_accepted}
 use Rattle.md_recog.proofs.Placed.{Tells, TellsAll}
 
 module _ (a : Accepts) (ps xs : List Rtx) where

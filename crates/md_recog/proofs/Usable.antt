@@ -6,7 +6,7 @@ use Rattle.c_eval.specs.declared.facts.Facts.{Facts}
 use Rattle.md_match.specs.Pattern.{Ops}
 use Rattle.md_match.specs.Match.{Matches}
 use Rattle.md_match.specs.machine.Collected.{MakesAll}
-use Rattle.md_recog.specs.Match.{Accepts, all_accepted, is_met, IsMatch}
+use Rattle.md_recog.specs.Match.{Accepts, is_met, IsMatch}
 use Rattle.md_recog.proofs.Placed.{TellsAll}
 
 -- which operands have the shape

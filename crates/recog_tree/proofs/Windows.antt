@@ -12,7 +12,7 @@ use Rattle.md_recog.specs.Recog.{MatchesAt}
 use Rattle.recog_tree.specs.declared.key.Key.{Key}
 use Rattle.recog_tree.specs.Key.{key_of, entry_key, is_tried}
 use Rattle.recog_tree.specs.Windows.{NoneBegins, MayBegin}
-use Rattle.recog_tree.specs.machine.Tables.{is_tried_at, NoneTried, IsNext}
+use Rattle.recog_tree.specs.machine.Tables.{is_tried_at, NoneTried}
 use Rattle.recog_tree.proofs.KeyLaw.{window_is_tried}
 use Rattle.recog_tree.proofs.Found.{Looked, looked_for, true_false, tried_at_form, as_long, within_forms}
 

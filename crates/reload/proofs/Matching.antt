@@ -8,7 +8,6 @@ use Rattle.rtx_tree.specs.declared.tree.Rtx.{Rtx}
 use Rattle.c_eval.specs.declared.facts.Facts.{Facts}
 use Rattle.md_match.specs.Pattern.{Ops}
 use Rattle.md_match.specs.Match.{Matches}
-use Rattle.md_match.specs.machine.Collected.{MakesAll}
 use Rattle.md_match.proofs.Parts.{as_many}
 use Rattle.md_forms.specs.declared.form.Entry.{Entry}
 use Rattle.md_desc.specs.md_recog.declared.half.Half.TheVariants as half

@@ -3,7 +3,7 @@
 use Rattle.std.specs.Prelude.{ℕ, ℤ, ◌==◌, nat_lt, Bool, not, ◌&&◌, ◌||◌, List, [], ◌∷◌, ◌++◌, flat_map, Option, Some, None, is_some, if◌then◌else◌}
 use Rattle.std.specs.List.{list_any}
 use Rattle.reload_moves.specs.declared.part.Part.{Part}
-use Rattle.reload_moves.specs.declared.ask.What.TheVariants.{Own, StayingBase, ResultBase, StayingFar, ResultFar}
+use Rattle.reload_moves.specs.declared.ask.What.TheVariants.{Own, StayingFar, ResultFar}
 use Rattle.reload_moves.specs.declared.ask.Ask.{Ask}
 use Rattle.reload_moves.specs.declared.moves.Move.{Move}
 use Rattle.reload_moves.specs.declared.moves.Move.TheVariants.{Far, Base, In, Out}

@@ -16,7 +16,7 @@ use Rattle.lisp_read.specs.Parsed.{Parsed, stands, outside}
 use Rattle.lisp_read.specs.Shape.{atom_of, items_of, is_nested, is_word}
 use Rattle.rtl_read.specs.Call.{call_of, uses_of}
 use Rattle.rtl_read.specs.Chain as chain
-use Rattle.rtl_read.specs.Chain.{InsnParts, insn_with, parts_with, insn_parts, insn_by, insn_of_parts, call_with, call_of_parts, leading_number, label_by, barrier, one_barrier, is_passed, entry_by, entry_of, item_of}
+use Rattle.rtl_read.specs.Chain.{InsnParts, insn_with, parts_with, insn_parts, insn_by, call_with, leading_number, label_by, barrier, one_barrier, is_passed, entry_by, entry_of, item_of}
 use Rattle.rtl_read.specs.Word.{number_of}
 use Rattle.tree_print.specs.Print.{depth_of}
 use Rattle.rtl_print.specs.Back.{is_settled}

@@ -15,7 +15,7 @@ use Rattle.lisp_read.specs.Parsed.{Parsed, stands, outside, parsed_map}
 use Rattle.lisp_read.specs.Shape.{atom_at, atom_of, is_text}
 use Rattle.rtl_read.specs.Call.{call_of, uses_of}
 use Rattle.rtl_read.specs.Chain as chain
-use Rattle.rtl_read.specs.Chain.{InsnParts, insn_with, parts_with, insn_parts, insn_by, insn_of_parts, call_with, leading_number, label_by, barrier, one_barrier, entry_by, entry_of, block_entries, item_by, item_of}
+use Rattle.rtl_read.specs.Chain.{insn_with, parts_with, insn_parts, insn_by, call_with, leading_number, label_by, barrier, one_barrier, entry_by, block_entries, item_by, item_of}
 use Rattle.rtl_read.specs.Word.{number_of}
 use Rattle.tree_print.specs.Print.{nowhere}
 use Rattle.rtl_print.specs.Back.{is_settled}

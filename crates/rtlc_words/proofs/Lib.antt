@@ -1,3 +1,4 @@
+pub mod Named
 pub mod Shapes
 pub mod Texts
 pub mod Dashed

@@ -7,7 +7,7 @@ use Rattle.clap.specs.Faults.{fault_of, step_fault, turn_fault, walk_fault}
 use Rattle.clap.specs.Simple.{entered, subcommand_of}
 use Rattle.clap.specs.declared.error.kind.ErrorKind.TheVariants as kind
 use Rattle.rtlc_words.specs.machine.Grammar.{command_found, found_in, program, where_none}
-use Rattle.rtlc_words.proofs.WordKinds.{WordKind, IsPlain, kind_of, dashes, given, plain, refused}
+use Rattle.rtlc_words.proofs.WordKinds.{IsPlain, kind_of, dashes, given, plain, refused}
 use Rattle.rtlc_words.proofs.WordKinds as kinds
 use Rattle.rtlc_words.proofs.Turns.{as_plain, plain_passes, refused_fails}
 use Rattle.rtlc_words.proofs.Program.{faults, made, names, start}

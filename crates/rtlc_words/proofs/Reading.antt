@@ -8,7 +8,7 @@ use Rattle.clap.specs.Faults.{settle_fault, use_fault}
 use Rattle.clap.specs.declared.error.kind.ErrorKind.TheVariants as kind
 use Rattle.rtlc_words.specs.Words.{arguments, described, is_dashed, named}
 use Rattle.rtlc_words.proofs.Shapes.{md, rules}
-use Rattle.rtlc_words.proofs.WordKinds.{IsPlain, IsRefused, WordKind, kind_of, dashes, given, plain, refused}
+use Rattle.rtlc_words.proofs.WordKinds.{kind_of, dashes, given, plain, refused}
 use Rattle.rtlc_words.proofs.WordKinds as kinds
 use Rattle.rtlc_words.proofs.Dashed.{double_dashed}
 use Rattle.rtlc_words.proofs.Both.{both, both_again, both_described, both_nothing, both_positioned, both_with_nothing, plain_word, refused_word}

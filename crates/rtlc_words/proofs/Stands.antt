@@ -9,7 +9,7 @@ use Rattle.clap.specs.declared.error.kind.ErrorKind.TheVariants as kind
 use Rattle.clap.specs.declared.builder.value_parser.ValueParser.TheVariants as vp
 use Rattle.rtlc_words.proofs.Shapes.{md, rules}
 use Rattle.rtlc_words.proofs.Shapes as shapes
-use Rattle.rtlc_words.proofs.WordKinds.{IsPlain, WordKind, kind_of, dashes, given, plain, refused}
+use Rattle.rtlc_words.proofs.WordKinds.{IsPlain, kind_of, dashes, given, plain, refused}
 use Rattle.rtlc_words.proofs.WordKinds as kinds
 use Rattle.rtlc_words.proofs.Rows.{Reads, reads_description, reads_words}
 use Rattle.rtlc_words.proofs.Turns.{Pending, held}

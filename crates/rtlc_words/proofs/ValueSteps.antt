@@ -4,7 +4,7 @@ use Rattle.std.specs.Bool.{⊤}
 use Rattle.clap.specs.Walk.{Held, Row, Step, Text, Waiting, Walk, after_step, idle, option, plain_word, positional, to_positional, used, value, walked, word_met}
 use Rattle.clap.specs.Kinds.{or_else}
 use Rattle.clap.specs.Faults.{positional_fault, settle_fault, step_fault, word_fault}
-use Rattle.rtlc_words.proofs.Shapes.{md, ready, rules}
+use Rattle.rtlc_words.proofs.Shapes.{md, rules}
 use Rattle.rtlc_words.proofs.Shapes as shapes
 use Rattle.rtlc_words.proofs.WordKinds.{IsPlain}
 use Rattle.rtlc_words.proofs.Steps.{at, gives, no_long, no_names, no_short, shape, unless}

@@ -151,6 +151,7 @@ table =
     ∷ (codes "dump", over behind)
     ∷ (codes "eval", over outcomes)
     ∷ (codes "make", generated)
+    ∷ (codes "image", over (only told.Words))
     ∷ []
 
 abbrev pub command_by : List ℕ → Option (List ℕ) → List (List ℕ) → Option Command

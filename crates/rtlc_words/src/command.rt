@@ -22,6 +22,8 @@ pub enum Told {
     Lines,
     /// The form that matches each instruction, and its alternative.
     Forms,
+    /// The words of their image.
+    Words,
     /// The functions as they are behind a pass.
     Behind {
         /// The pass.
@@ -210,6 +212,7 @@ fn command_by(
         "dump" => over(alloc, description, behind(words)),
         "eval" => over(alloc, description, outcomes(alloc, words)?),
         "make" => generated(alloc, description, words),
+        "image" => over(alloc, description, only(Told::Words, words)),
         _ => Ok(None),
     }
 }

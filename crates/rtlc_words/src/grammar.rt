@@ -86,7 +86,8 @@ fn program<'a>(alloc: Global) -> Result<Command<'a>, AllocError>
 {
     let program = with_two(bare(alloc), alloc, "asm", "list")?;
     let program = with_two(program, alloc, "recog", "dump")?;
-    with_two(program, alloc, "eval", "make")
+    let program = with_two(program, alloc, "eval", "make")?;
+    with_command(program, alloc, "image")
 }
 
 /// An error is the want of memory, or says that the words are refused.

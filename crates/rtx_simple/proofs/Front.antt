@@ -5,7 +5,7 @@ use denote.Param.Weighed.{most}
 use Rattle.rtx_tree.specs.declared.tree.Rtx.{Rtx, roll-Rtx}
 use Rattle.rtx_tree.specs.declared.tree.Rtx.TheFolds as folds
 use Rattle.rtx_tree.proofs.tree.Rtx.TheLaws.{the_size}
-use Rattle.rtx_tree.specs.Tree.{RtxHead, head_of, kids_of, tree_of}
+use Rattle.rtx_tree.specs.Tree.{head_of, kids_of, tree_of}
 use Rattle.rtx_tree.proofs.Trees.{tree_of-parts, head_of-tree, kids_of-tree}
 use Rattle.rtx_simple.specs.Simple.{settled, simplified}
 

@@ -2,12 +2,11 @@
 use Rattle.std.proofs.Common.{◌≡◌, ℕ, ℤ, zero, suc, Bool, true, false, List, [], ◌∷◌, map, Option, Some, None, refl, sym, ap, subst, ◌∙◌, if◌then◌else◌}
 use Rattle.std.specs.Prelude.{option_map, option_and_then, unwrap_or, ◌&&◌, not}
 use Rattle.std.specs.Option.{option_or}
-use Rattle.rtx_tree.specs.declared.code.Code.{Code}
 use Rattle.rtx_tree.specs.declared.code.Code.TheVariants as code
 use Rattle.rtx_tree.specs.declared.code.Mode.{Mode}
 use Rattle.rtx_tree.specs.declared.tree.Rtx.{Rtx}
 use Rattle.rtx_tree.specs.Tree.{RtxHead, head_of, kids_of, tree_of, node_of, const_of}
-use Rattle.rtx_tree.proofs.Trees.{head_of-tree, kids_of-tree}
+use Rattle.rtx_tree.proofs.Trees.{kids_of-tree}
 use Rattle.rtx_simple.specs.Simple.{is_constant, is_const_int, extended_constant, terms_by, added_by, added, with_added, wrapping_sum, joined_constants, without_zero, compared_with_zero, extension_cut, is_exchangeable, exchanged_by, constant_second, once, settled, IsSimple}
 use Rattle.rtx_simple.proofs.Hoisted.{constant_simple, zero_simple, cut_simple, added_part}
 use Rattle.rtx_simple.proofs.Options.{or_some, and_some, map_none}

@@ -85,3 +85,11 @@ most_apart = 16
 -- the instruction around a pattern takes some
 abbrev pub most_combined : ℕ
 most_combined = 195
+
+-- the places from the first to the second of two instructions of which the second has the first's value
+abbrev pub most_reused : ℕ
+most_reused = 64
+
+-- the instructions that are put in order together
+abbrev pub most_scheduled : ℕ
+most_scheduled = 64

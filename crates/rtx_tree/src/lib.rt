@@ -34,7 +34,7 @@ pub use function::{
 pub use limit::{
     Limit, MOST_APART, MOST_BYTES, MOST_COMBINED, MOST_FORMS, MOST_FRAME, MOST_IMAGE,
     MOST_INSTRUCTIONS, MOST_LEVELS, MOST_MADE, MOST_NODES, MOST_OPEN, MOST_OUTPUT, MOST_PSEUDOS,
-    MOST_SPLITS, MOST_WITHIN,
+    MOST_REUSED, MOST_SCHEDULED, MOST_SPLITS, MOST_WITHIN,
 };
 pub use machine::{ByteWrites, RangeAt, Ranges, Replies, Reply, Start, SymbolAt, Symbols, World};
 pub use memories::{MemByte, Memories};

@@ -47,6 +47,13 @@ pub const MOST_APART: u32 = 16;
 /// So many expressions of a combined pattern stand within each other at most; no refusal names it.
 pub const MOST_COMBINED: u32 = 195;
 
+/// So many places lie between two instructions of which the second has the first's value at most; no
+/// refusal names it.
+pub const MOST_REUSED: u32 = 64;
+
+/// So many instructions are put in order together at most; no refusal names it.
+pub const MOST_SCHEDULED: u32 = 64;
+
 /// A quantity that has a limit.
 #[derive(Clone, Copy, Debug)]
 pub enum Limit {

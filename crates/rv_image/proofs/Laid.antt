@@ -3,6 +3,7 @@ use Rattle.std.proofs.Common.{◌≡◌, ℕ, zero, suc, ◌+◌, ◌*◌, ◌<�
 use Rattle.std.proofs.Math.Seq.{drop-cons}
 use Rattle.std.proofs.lemmas.List.{take_more}
 use Rattle.rv_text.specs.declared.line.CodeItem.{CodeItem}
+use Rattle.rtx_tree.specs.Limit.{most_image}
 use Rattle.rtx_tree.specs.declared.machine.SymbolAt.{SymbolAt}
 use Rattle.rv_unit.specs.Layout.{IsLayout}
 use Rattle.rv_unit.specs.Words.{words_of}
@@ -108,7 +109,7 @@ laid_here units layouts at unit layout lent laid within unit_is layout_is lent_i
 
 -- ---- the image
 
-pub too_long : (units : List CodeUnit) (layouts lent : List Layout) (size : ℕ) → AreLaid units layouts → lent ≡ layouts → size ≡ 4 * words_in lent → 1048572 < size → IsTooLong units size
+pub too_long : (units : List CodeUnit) (layouts lent : List Layout) (size : ℕ) → AreLaid units layouts → lent ≡ layouts → size ≡ 4 * words_in lent → most_image < size → IsTooLong units size
 too_long units layouts lent size laid lent_is size_is more = record {
   sets = sets_of layouts;
   are_least = least_all units layouts laid;
@@ -116,7 +117,7 @@ too_long units layouts lent size laid lent_is size_is more = record {
   more = more;
 }
 
-pub image_is : (units : List CodeUnit) (layouts lent again : List Layout) (size : ℕ) (image : Image) → AreLaid units layouts → lent ≡ layouts → size ≡ 4 * words_in lent → size ≤ 1048572 → again ≡ layouts → IsLaidImage units again image → IsImage units image
+pub image_is : (units : List CodeUnit) (layouts lent again : List Layout) (size : ℕ) (image : Image) → AreLaid units layouts → lent ≡ layouts → size ≡ 4 * words_in lent → size ≤ most_image → again ≡ layouts → IsLaidImage units again image → IsImage units image
 image_is units layouts lent again size image laid lent_is size_is within again_is made =
     let bytes : size ≡ 4 * sizes units (sets_of layouts) =
     size_is ∙ ap (λ n. 4 * n) (ap words_in lent_is ∙ sizes_all units layouts laid) in

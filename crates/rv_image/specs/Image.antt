@@ -1,7 +1,8 @@
 -- The image of some functions: their words one behind the other, and the addresses of symbols.
-use Rattle.std.specs.Prelude.{◌≡◌, ℕ, ◌+◌, ◌*◌, ◌^◌, ◌<◌, ◌≤◌, Bool, true, false, List, [], ◌∷◌, ◌++◌, ◌||◌, length, Option, Some, None, if◌then◌else◌, bytes_eq, Result, Ok, Err}
+use Rattle.std.specs.Prelude.{◌≡◌, ◌≢◌, ℕ, ◌+◌, ◌*◌, ◌^◌, ◌<◌, ◌≤◌, Bool, true, false, List, [], ◌∷◌, ◌++◌, ◌||◌, length, Option, Some, None, if◌then◌else◌, bytes_eq, Result, Ok, Err}
 use Rattle.std.specs.List.{flat_map}
 use Rattle.long_branches.specs.Branches.{place, IsLeast}
+use Rattle.rtx_tree.specs.Limit.{most_image}
 use Rattle.rtx_tree.specs.declared.machine.SymbolAt.{SymbolAt}
 use Rattle.rv_text.specs.declared.line.CodeItem.{CodeItem}
 use Rattle.rv_text.specs.declared.line.CodeItem.TheVariants.{Label, Code}
@@ -90,21 +91,18 @@ words_with symbols (unit ∷ units) [] = []
 words_with symbols (unit ∷ units) (longs ∷ sets) =
     words_of (record { items = unit.items; longs = longs; symbols = symbols }) ++ words_with symbols units sets
 
--- the first function's entry, the first outside symbol's address, and the most bytes of an image
+-- the first function's entry, and the first outside symbol's address
 abbrev pub first_entry : ℕ
 first_entry = 2 ^ 30
 
 abbrev pub first_outside : ℕ
 first_outside = 2 ^ 21
 
-abbrev pub most_bytes : ℕ
-most_bytes = 1048572
-
 -- the image, by the least sets of long branches
 pub record IsImage (units : List CodeUnit) (image : Image) : Type 0 where
   pub sets : List (List Bool)
   pub are_least : AreLeast units sets
-  pub within : 4 * sizes units sets ≤ most_bytes
+  pub within : 4 * sizes units sets ≤ most_image
   pub entries : image.entries ≡ entries_from first_entry units sets
   pub outside : image.outside ≡ outside_from first_outside (outside_names units)
   pub words : image.words ≡ words_with (image.entries ++ image.outside) units sets
@@ -114,10 +112,14 @@ pub record IsTooLong (units : List CodeUnit) (size : ℕ) : Type 0 where
   pub sets : List (List Bool)
   pub are_least : AreLeast units sets
   pub size_is : size ≡ 4 * sizes units sets
-  pub more : most_bytes < size
+  pub more : most_image < size
 
 -- functions are assembled, or refused where they are too long; memory may run out
 abbrev pub IsAssembled : List CodeUnit → Result Image AssembleRefusal → Type 0
 IsAssembled units (Ok image) = IsImage units image
 IsAssembled units (Err (Limit size)) = IsTooLong units size
 IsAssembled units (Err Memory) = Unit {0}
+
+-- there is one image at most, or one number of bytes that are too many
+abbrev pub IsOne : Type 0
+IsOne = (units : List CodeUnit) (a b : Result Image AssembleRefusal) → a ≢ Err Memory → b ≢ Err Memory → IsAssembled units a → IsAssembled units b → a ≡ b

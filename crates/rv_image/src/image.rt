@@ -4,6 +4,9 @@ use rtx_tree::{Name, Symbols};
 use rv_text::CodeItem;
 use thiserror::Error;
 
+/// The address of the first word.
+pub const FIRST_ENTRY: u64 = 1_073_741_824;
+
 /// A function: its name, and its lines and labels.
 #[derive(Drop)]
 pub struct CodeUnit {

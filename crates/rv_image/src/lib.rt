@@ -12,5 +12,5 @@ mod outside;
 mod tests;
 mod units;
 
-pub use image::{AssembleRefusal, CodeUnit, Image};
+pub use image::{AssembleRefusal, CodeUnit, FIRST_ENTRY, Image};
 pub use units::assemble;

@@ -1,13 +1,13 @@
 //! Functions become an image.
 ghost use Rattle.std.specs.Prelude.{◌≡◌, ◌+◌, ◌*◌, ◌++◌, IfOk};
 ghost use Rattle.rv_image.specs.Image as spec;
-ghost use Rattle.rv_image.specs.Image.{IsAssembled};
+ghost use Rattle.rv_image.specs.Image.{IsAssembled, IsOne};
 ghost use Rattle.rv_image.specs.machine.Steps.{AreLaid, IsLaidImage, entries_in, words_by, words_in};
 
-use crate::image::{AssembleRefusal, CodeUnit, Image};
+use crate::image::{AssembleRefusal, CodeUnit, FIRST_ENTRY, Image};
 use crate::outside::{outside_names, outside_of};
 use plain_data::{Items, Memory};
-use rtx_tree::{SymbolAt, Symbols};
+use rtx_tree::{MOST_IMAGE, SymbolAt, Symbols};
 use rv_unit::{Layout, SymbolTable, layout_of, push_unit};
 use std::alloc::Global;
 
@@ -47,7 +47,7 @@ fn entries_of(alloc: Global, units: &[CodeUnit], layouts: &[Layout]) -> Result<S
     ensures { IfOk result (λ entries. entries ≡ entries_in spec.first_entry units.now layouts.now) }
 {
     let mut entries = Items::new(alloc);
-    let mut address: u64 = 1_073_741_824;
+    let mut address = FIRST_ENTRY;
     for (at, unit) in units.iter().enumerate() {
         let name = unit.name.copy(alloc)?;
         entries.push(SymbolAt { name, address })?;
@@ -113,13 +113,15 @@ fn image_of(alloc: Global, units: &[CodeUnit], layouts: &[Layout]) -> Result<Ima
     })
 }
 
-/// The image of some functions, or how many bytes it has where these are too many.
+/// The image of some functions, or how many bytes it has where these are too many. There is one.
+#[tactic(auto, using(crate::proofs::One::is_one))]
 pub fn assemble(alloc: Global, units: &[CodeUnit]) -> Result<Image, AssembleRefusal>
-    ensures { IsAssembled units.now result }
+    ensures gives { IsAssembled units.now result }
+    ensures one { IsOne }
 {
     let layouts = layouts_of(alloc, units)?;
     let size = bytes_of(layouts.as_slice())?;
-    if size > 1_048_572 {
+    if size > MOST_IMAGE {
         return Err(AssembleRefusal::Limit { size });
     }
     let image = image_of(alloc, units, layouts.as_slice())?;

@@ -4,10 +4,10 @@ use Rattle.std.specs.Prelude.{ℕ, ◌&&◌, ◌==◌, not, Bool, true, false, i
 use Rattle.rtx_tree.specs.declared.class.Class.{Class}
 use Rattle.rtx_tree.specs.declared.class.Class.TheVariants as class
 use Rattle.rtx_tree.specs.declared.code.Mode.{Mode}
-use Rattle.rtx_tree.specs.declared.code.Mode.TheVariants.{Void, DI}
+use Rattle.rtx_tree.specs.declared.code.Mode.TheVariants.{DI}
 use Rattle.rtx_tree.specs.declared.tree.Rtx.{Rtx}
 use Rattle.rtx_tree.specs.Registers.{virtual_stack_vars}
-use Rattle.rtl_func.specs.Shapes.{class_at, mode_at, number_at, is_constant, is_place}
+use Rattle.rtl_func.specs.Shapes.{class_at, mode_at, number_at, is_place}
 use Rattle.std_name.specs.declared.standard.OperandRole.{OperandRole}
 use Rattle.std_name.specs.declared.standard.OperandRole.TheVariants.{Target, Input, Comparison, Fixed}
 use Rattle.std_name.specs.declared.standard.StandardOperand.{StandardOperand}

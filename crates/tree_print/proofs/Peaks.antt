@@ -8,7 +8,7 @@ use Rattle.lisp_read.specs.declared.class.Bracket.{Bracket}
 use Rattle.lisp_read.specs.declared.class.Bracket.TheVariants.{Round, Square}
 use Rattle.lisp_read.specs.declared.tree.Tree.{Tree}
 use Rattle.lisp_read.specs.declared.tree.Tree.TheVariants as tree
-use Rattle.lisp_read.specs.Part.{Part, Atom, Str, Block, Open, Close, enclosed, parts_of, parts_of_all}
+use Rattle.lisp_read.specs.Part.{Part, Atom, Str, Block, Open, Close, parts_of, parts_of_all}
 use Rattle.lisp_read.specs.Nesting.{same_kind, still_open}
 use Rattle.tree_print.specs.Print.{depth_of, greatest}
 use Rattle.lisp_read.proofs.PartLemmas.{parts_of-Atom, parts_of-Str, parts_of-Block}

@@ -1,20 +1,18 @@
 -- The printed text of a tree is read as that tree, places aside.
 use Rattle.std.proofs.Common.{◌≡◌, ◌≤◌, ℕ, List, [], ◌∷◌, ◌++◌, length, map, take, drop, Option, Some, None, refl, sym, ap, subst, ◌∙◌}
 use Rattle.std.proofs.lemmas.List.{append-nil, take-append-drop}
-use Rattle.rtx_tree.specs.declared.place.Place.{Place}
 use Rattle.lisp_read.specs.declared.class.Bracket.{Bracket}
 use Rattle.lisp_read.specs.declared.tree.Tree.{Tree}
 use Rattle.lisp_read.specs.Places.{start, place_after}
 use Rattle.lisp_read.specs.Part.{Part, Atom, Str, Block, Open, Close, parts_of, parts_of_all}
-use Rattle.lisp_read.specs.Nesting.{still_open, IsNested}
+use Rattle.lisp_read.specs.Nesting.{still_open}
 use Rattle.lisp_read.specs.Text as text
 use Rattle.lisp_read.specs.Text.{Spells, IsText}
-use Rattle.lisp_read.specs.Reading.{NeverTooDeep}
 use Rattle.rtx_tree.specs.Limit.{most_open}
 use Rattle.tree_print.specs.Print.{printed_tree, unplaced, IsPrintable, ReadsBack}
 use Rattle.lisp_read.specs.machine.Steps.{State}
 use Rattle.lisp_read.specs.machine.Runs.{empty, run, finish, parts_in, ◌>>=◌, IsShallow, Reaches}
-use Rattle.lisp_read.proofs.Runs.{run-append, bind_assoc}
+use Rattle.lisp_read.proofs.Runs.{run-append}
 use Rattle.lisp_read.proofs.Settles.{st, fr, settled, run_finished}
 use Rattle.lisp_read.proofs.Rests.{Sounds, Rest}
 use Rattle.lisp_read.proofs.Sound.{sound}

@@ -14,8 +14,8 @@ use Rattle.lisp_read.specs.Class.{open_byte, close_byte}
 use Rattle.lisp_read.specs.Places.{advance, place_after}
 use Rattle.lisp_read.specs.Part.{Part, Atom, Str, Block, Open, Close, enclosed, parts_of, parts_of_all}
 use Rattle.lisp_read.specs.Text as text
-use Rattle.lisp_read.specs.Text.{Spells, EndsAtom, IsAtom, IsQuoted, IsBraced}
-use Rattle.tree_print.specs.Print.{printed_tree, bracketed, spaced, spaced_tree, IsAdmitted, AreAdmitted}
+use Rattle.lisp_read.specs.Text.{Spells, EndsAtom}
+use Rattle.tree_print.specs.Print.{printed_tree, spaced, spaced_tree, AreAdmitted}
 use Rattle.lisp_read.proofs.PartLemmas.{parts_of-Atom, parts_of-Str, parts_of-Block}
 use Rattle.tree_print.proofs.Nested.{parts_of_nested}
 use Rattle.lisp_read.proofs.Decodes.{nested}

@@ -12,4 +12,4 @@ pub returns : goal.returns
 returns c =
     let a = c.args in
     told_unmatched a.insn.now c.in_ok-unmatched-in-None.field-0 (PlaceComes a.description.now a.number a.f.now a.place a.insn.now) c.in_ok-unmatched-in-None.ensures
-    (PlaceComes.unmatched c.requires.needs c.requires.free (subst (λ f. NoneMatchesOut a.description.now f a.insn.now.pattern) c.output_facts.ensures (c.in_ok-chosen.ensures.none c.in-None.is)))
+    (PlaceComes.unmatched c.requires.needs (subst (λ f. NoneMatchesOut a.description.now f a.insn.now.pattern) c.output_facts.ensures (c.in_ok-chosen.ensures.none c.in-None.is)))

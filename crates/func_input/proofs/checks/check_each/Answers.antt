@@ -9,7 +9,7 @@ use Rattle.std.proofs.lemmas.Result.{err_from_is_err_and}
 use Rattle.rtx_tree.specs.declared.function.Function.{Function}
 use Rattle.rtl_func.specs.Rules.{has_name}
 use Rattle.func_input.specs.Refused.{refused_from, first_refused}
-use Rattle.func_input.specs.machine.Steps.{Checked, TellsOf}
+use Rattle.func_input.specs.machine.Steps.{TellsOf}
 use Rattle.func_input.specs.Input.{RefusesWith}
 use Rattle.func_input.proofs.Firsts.{drop_at, refused_here, checked_on, checked_here}
 use Rattle.func_input.proofs.checks.check_each.Goals as goal

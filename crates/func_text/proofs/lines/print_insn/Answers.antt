@@ -2,7 +2,7 @@ use Rattle.std.proofs.Common.{◌≡◌, true, false, [], sym, rules, subst}
 use Rattle.std.proofs.lemmas.List.{append-nil}
 use Rattle.pass_name.specs.declared.pass.Pass.TheVariants.{Output}
 use Rattle.md_desc.specs.Recog.{IsChosen, NoneMatchesOut}
-use Rattle.form_needs.specs.Needs.{needs_form, is_held}
+use Rattle.form_needs.specs.Needs.{needs_form}
 use Rattle.func_text.specs.Recog.{line_of, OutputComes}
 use Rattle.func_after.proofs.Told.{told_unmatched}
 use Rattle.func_text.proofs.lines.print_insn.Goals as goal
@@ -10,25 +10,17 @@ use Rattle.func_text.proofs.lines.print_insn.Goals as goal
 pub returns-then-not-needs_form : goal.returns-then-not-needs_form
 returns-then-not-needs_form c = let free : needs_form c.args.insn.now ≡ false = search rules in ([], OutputComes.free free, sym (append-nil c.args.out.now.items))
 
-pub returns-then-is_held : goal.returns-then-is_held
-returns-then-is_held c =
-    let needs : needs_form c.args.insn.now ≡ true = search rules in
-    let held : is_held c.args.insn.now ≡ true = search rules in
-    told_unmatched Output c.args.function.now c.args.insn.now c.in_ok-unmatched.field-0 (OutputComes c.args.desc.now c.args.function.now c.args.insn.now) c.in_ok-unmatched.ensures (OutputComes.held needs held)
-
 pub returns-in-Some : goal.returns-in-Some
 returns-in-Some c =
     let needs : needs_form c.args.insn.now ≡ true = search rules in
-    let free : is_held c.args.insn.now ≡ false = search rules in
     let chosen = c.in-Some.chosen in (
       line_of c.args.names.now c.args.function.now c.args.insn.now.uid chosen.form chosen.alternative,
-      rw c.requires (OutputComes.chosen chosen needs free (subst (λ f. IsChosen c.args.desc.now f c.args.insn.now.pattern chosen) c.output_facts.ensures ((c.in_ok-chosen.ensures.chosen chosen).0 c.in-Some.is))),
+      rw c.requires (OutputComes.chosen chosen needs (subst (λ f. IsChosen c.args.desc.now f c.args.insn.now.pattern chosen) c.output_facts.ensures ((c.in_ok-chosen.ensures.chosen chosen).0 c.in-Some.is))),
       c.in_ok-print_chosen-in-Some.ensures,
     )
 
 pub returns : goal.returns
 returns c =
     let needs : needs_form c.args.insn.now ≡ true = search rules in
-    let free : is_held c.args.insn.now ≡ false = search rules in
     told_unmatched Output c.args.function.now c.args.insn.now c.in_ok-unmatched-in-None.field-0 (OutputComes c.args.desc.now c.args.function.now c.args.insn.now) c.in_ok-unmatched-in-None.ensures
-    (OutputComes.unmatched needs free (subst (λ f. NoneMatchesOut c.args.desc.now f c.args.insn.now.pattern) c.output_facts.ensures (c.in_ok-chosen.ensures.none c.in-None.is)))
+    (OutputComes.unmatched needs (subst (λ f. NoneMatchesOut c.args.desc.now f c.args.insn.now.pattern) c.output_facts.ensures (c.in_ok-chosen.ensures.none c.in-None.is)))

@@ -1,6 +1,5 @@
 use Rattle.std.proofs.Common.{subst}
 use Rattle.md_desc.specs.Recog.{IsFirst, NoneMatches}
-use Rattle.lower_insn.specs.Lowered.{IsMatched}
 use Rattle.lower_insn.proofs.emit.is_matched.Goals as goal
 
 pub returns-in-Some : goal.returns-in-Some

@@ -1,6 +1,5 @@
 use Rattle.std.proofs.Common.{◌≡◌, max, drop, map}
-use Rattle.rtx_tree.specs.Tree.{head_of, kids_of}
-use Rattle.rtl_chain.specs.Counts.{greatest, next_pseudo_in, above_pseudo}
+use Rattle.rtl_chain.specs.Counts.{greatest, next_pseudo_in}
 use Rattle.rtl_chain.proofs.counts.+next_pseudo_in.Given as goal
 
 abbrev pub invariant-loop-kid : goal.invariant-loop-kid

@@ -1,6 +1,5 @@
 use Rattle.std.proofs.Common.{◌≡◌, map, drop}
 use Rattle.std.specs.List.{list_all}
-use Rattle.sym_term.specs.Views.{store_of}
 use Rattle.term_tree.specs.Small.{is_small}
 use Rattle.sym_state.specs.Views as views
 use Rattle.sym_state.proofs.limits.are_small_args.Given as goal

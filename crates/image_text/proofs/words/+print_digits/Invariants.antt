@@ -1,0 +1,4 @@
+use Rattle.image_text.proofs.words.+print_digits.Given as goal
+
+abbrev pub decreases-print_digits : goal.decreases-print_digits
+decreases-print_digits l = l.count

@@ -1,16 +1,18 @@
 -- Behind the frame a pass leaves a function that names registers of the machine alone one that does.
 use Rattle.std.proofs.Common.{List, Ok, refl, subst}
 use Rattle.std.specs.List.{AllByRecursion}
-use Rattle.pass_name.specs.declared.pass.Pass.TheVariants.{Split2}
+use Rattle.pass_name.specs.declared.pass.Pass.TheVariants.{Split2, Peephole2}
 use Rattle.md_forms.specs.declared.form.Entry.{Entry}
 use Rattle.split.specs.Split.{SplitComes}
+use Rattle.peep2.specs.Cover.{CoverComes}
 use Rattle.law_lines_ready.specs.law_no_pseudos.Hard.{IsHardFunction}
 use Rattle.law_lines_ready.proofs.law_no_pseudos.Split.{split_again_hard}
+use Rattle.law_peepholes.proofs.Hard.{peepholes_hard}
 use Rattle.func_after.specs.declared.made.Made.{Made}
 use Rattle.func_after.specs.declared.change.Change.{Change}
 use Rattle.func_after.specs.After.{behind_frame, PassesCome}
 use Rattle.func_after.specs.Leads.{IsDescribed}
-use Rattle.func_after.proofs.Changes.{again_by, changes_of}
+use Rattle.func_after.proofs.Changes.{again_by, cover_by, changes_of}
 use Rattle.func_after.proofs.Passing.{PassHolds, all_hold}
 
 abbrev KeptHard : Made → Made → Type 0
@@ -24,8 +26,15 @@ module _ (forms : List Entry) (described : IsDescribed forms) where
       split_again_hard described.0 described.1 m.function n.function hard
       (subst (λ (es : List Entry). SplitComes es Split2 m.function (Ok n.function)) described.2 (again_by forms m.function c (Ok c) refl changes.comes))
 
+  cover_hard : PassHolds forms KeptHard Peephole2
+  cover_hard m n comes hard =
+      let changes = changes_of forms m n Peephole2 (λ is. cc) (λ is. cc) comes in
+      let c : Change = record { function = n.function; combined = changes.combined } in
+      peepholes_hard described.0 described.1 m.function n.function hard
+      (subst (λ (es : List Entry). CoverComes es m.function (Ok n.function)) described.2 (cover_by forms m.function c (Ok c) refl changes.comes))
+
   each_hard : AllByRecursion (PassHolds forms KeptHard) behind_frame
-  each_hard = (again_hard, tt)
+  each_hard = (again_hard, (cover_hard, tt))
 
   pub behind_hard : (m n : Made) → PassesCome forms behind_frame m (Ok n) → IsHardFunction m.function → IsHardFunction n.function
   behind_hard m n comes = all_hold forms KeptHard (λ m hard. hard) (λ l m n first second hard. second (first hard)) behind_frame m n (Ok n) refl each_hard comes

@@ -5,8 +5,8 @@ use Rattle.pass_name.specs.declared.pass.Pass.TheVariants.{Split2, Peephole2}
 use Rattle.md_forms.specs.declared.form.Entry.{Entry}
 use Rattle.split.specs.Split.{SplitComes}
 use Rattle.peep2.specs.Cover.{CoverComes}
-use Rattle.law_lines_ready.specs.law_no_pseudos.Hard.{IsHardFunction}
-use Rattle.law_lines_ready.proofs.law_no_pseudos.Split.{split_again_hard}
+use Rattle.law_peepholes.specs.law_lines_ready.law_no_pseudos.Hard.{IsHardFunction}
+use Rattle.law_peepholes.proofs.law_lines_ready.law_no_pseudos.Split.{split_again_hard}
 use Rattle.law_peepholes.proofs.Hard.{peepholes_hard}
 use Rattle.func_after.specs.declared.made.Made.{Made}
 use Rattle.func_after.specs.declared.change.Change.{Change}

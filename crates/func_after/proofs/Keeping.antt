@@ -29,15 +29,15 @@ use Rattle.frame.specs.Framed.{FrameComes}
 use Rattle.frame.proofs.Kept.{is_framed, frame_keeps}
 use Rattle.reload.proofs.WindowLaws.{reload_windows}
 use Rattle.reload.specs.Windows.{HasWindows}
-use Rattle.law_lines_ready.specs.law_no_pseudos.Hard.{IsHardFunction}
-use Rattle.law_lines_ready.specs.Placed.{ArePlaced}
-use Rattle.law_lines_ready.proofs.law_no_pseudos.Reloaded.{reload_hard}
-use Rattle.law_lines_ready.proofs.law_no_pseudos.Framed.{frame_hard}
-use Rattle.law_lines_ready.proofs.Reloaded.{reload_placed}
-use Rattle.law_lines_ready.proofs.Framed.{frame_placed}
-use Rattle.law_lines_ready.proofs.Split.{split_placed}
-use Rattle.law_lines_ready.proofs.Written.{placed_writable}
-use Rattle.law_lines_ready.proofs.Given.{placed_natural, placed_marks, placed_registers}
+use Rattle.law_peepholes.specs.law_lines_ready.law_no_pseudos.Hard.{IsHardFunction}
+use Rattle.law_peepholes.specs.law_lines_ready.Placed.{ArePlaced}
+use Rattle.law_peepholes.proofs.law_lines_ready.law_no_pseudos.Reloaded.{reload_hard}
+use Rattle.law_peepholes.proofs.law_lines_ready.law_no_pseudos.Framed.{frame_hard}
+use Rattle.law_peepholes.proofs.law_lines_ready.Reloaded.{reload_placed}
+use Rattle.law_peepholes.proofs.law_lines_ready.Framed.{frame_placed}
+use Rattle.law_peepholes.proofs.law_lines_ready.Split.{split_placed}
+use Rattle.law_peepholes.proofs.law_lines_ready.Written.{placed_writable}
+use Rattle.law_peepholes.proofs.law_lines_ready.Given.{placed_natural, placed_marks, placed_registers}
 use Rattle.law_passes.proofs.Made.{size_holds, made_same}
 use Rattle.func_after.specs.declared.made.Made.{Made}
 use Rattle.func_after.specs.declared.change.Change.{Change}

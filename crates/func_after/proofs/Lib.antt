@@ -12,4 +12,4 @@ pub mod Stages
 pub mod Hard
 pub mod Keeping
 pub use Rattle.law_passes.proofs.law_insn_replaced as law_insn_replaced
-pub use Rattle.law_lines_ready.proofs.law_output as law_output
+pub use Rattle.law_peepholes.proofs.law_lines_ready.law_output as law_output

@@ -10,7 +10,7 @@ use Rattle.md_forms.specs.declared.form.Entry.{Entry}
 use Rattle.md_forms.specs.Forms.{forms_of}
 use Rattle.same_behaviour.specs.Same.{Same}
 use Rattle.law_window_lines.specs.Left.{SameWhereLeft}
-use Rattle.law_lines_ready.specs.law_output.Ready.{AreWritable}
+use Rattle.law_peepholes.specs.law_lines_ready.law_output.Ready.{AreWritable}
 use Rattle.func_after.specs.declared.made.Made.{Made}
 
 -- the forms are those of a description

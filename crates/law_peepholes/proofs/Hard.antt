@@ -28,8 +28,8 @@ use Rattle.law_emitted_hard.proofs.Trees.{reg_hard}
 use Rattle.law_emitted_hard.proofs.Operands.{put_hard}
 use Rattle.law_emitted_hard.proofs.Found.{found_hard}
 use Rattle.law_emitted_hard.proofs.Emitted.{emitted_hard}
-use Rattle.law_lines_ready.specs.law_no_pseudos.Hard.{IsHardInsn, AreHardInsns, IsHardFunction}
-use Rattle.law_lines_ready.proofs.law_output.law_pass_needs.Places.{all_joined, all_taken, all_dropped}
+use Rattle.law_window_placed.specs.law_lines_ready.law_no_pseudos.Hard.{IsHardInsn, AreHardInsns, IsHardFunction}
+use Rattle.law_window_placed.proofs.law_lines_ready.law_output.law_pass_needs.Places.{all_joined, all_taken, all_dropped}
 use Rattle.peep2.specs.form_needs.Needs.{name_at}
 use Rattle.peep2.specs.Scratch.{scratch_order, is_free, free_registers, natural, scratches_of, with_scratches}
 use Rattle.peep2.specs.Rewrite.{patterns_from, given_to, given_by, Makes, Rewrites}

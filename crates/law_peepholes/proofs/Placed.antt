@@ -3,8 +3,8 @@ use Rattle.std.proofs.Common.{List, Ok}
 use Rattle.rtx_tree.specs.declared.function.Function.{Function}
 use Rattle.md_forms.specs.declared.form.Entry.{Entry}
 use Rattle.law_function_kept.specs.Keeps.{Keeps}
-use Rattle.law_lines_ready.specs.Placed.{ArePlaced}
-use Rattle.law_lines_ready.proofs.Given.{placed_marks, placed_registers}
+use Rattle.law_window_placed.specs.law_lines_ready.Placed.{ArePlaced}
+use Rattle.law_window_placed.proofs.law_lines_ready.Given.{placed_marks, placed_registers}
 use Rattle.law_window_placed.proofs.Window.{window_placed}
 use Rattle.peep2.specs.Cover.{CoverComes}
 use Rattle.peep2.proofs.Kept.{kept}

@@ -1,0 +1,1 @@
+pub use Rattle.law_window_placed.specs.law_lines_ready as law_lines_ready

@@ -18,6 +18,7 @@ fn show_over(name: &Option<Name>, what: &Tells, told: &mut Told) {
     match what {
         Tells::Lines => show_described("asm", name, told),
         Tells::Forms => show_described("recog", name, told),
+        Tells::Words => show_described("image", name, told),
         Tells::Behind { pass } => {
             show_described("dump", name, told);
             told.text(" behind ");

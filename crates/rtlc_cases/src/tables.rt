@@ -77,6 +77,7 @@ fn answer(alloc: Global, table: &str, given: &[u8], input: &[u8], told: &mut Tol
         || cond_cases::answer(alloc, table, given, input, told)
         || desc_cases::answer(alloc, table, given, input, told)
         || code_cases::answer(alloc, table, given, input, told)
+        || word_cases::answer(alloc, table, input, told)
         || term_cases::answer(alloc, table, given, input, told)
         || equate_cases::answer(alloc, table, given, input, told)
 }

@@ -21,22 +21,25 @@ use Rattle.func_input.specs.Outcome.{Outcome}
 use Rattle.func_input.specs.Input.{IsRead, IsInput, FunctionsComeTo}
 use Rattle.func_input.proofs.Inputs.{input_reached, input_last}
 use Rattle.func_input.proofs.One.{one_coming_to}
-use Rattle.law_assembly.specs.func_text.Recog.{FunctionsCome as FormsTold}
-use Rattle.law_assembly.proofs.func_text.One.{functions_one}
-use Rattle.law_assembly.specs.func_text.Dump as dump
-use Rattle.law_assembly.proofs.func_text.DumpOne as dump_one
-use Rattle.law_assembly.specs.func_text.declared.assembly.Assembly.{Assembly}
-use Rattle.law_assembly.specs.func_text.declared.code.Coded.{Coded}
-use Rattle.law_assembly.specs.func_text.Assembly as assembly
-use Rattle.law_assembly.specs.func_text.Assembly.{AssemblyComes}
-use Rattle.law_assembly.specs.func_text.Compile.{FunctionsCome, TextComes, text_told}
-use Rattle.law_assembly.specs.func_text.Code.{CodeComes, IsCoded}
-use Rattle.law_assembly.proofs.func_text.OneAssembly.{one_coming, one_coming_of, one_assembly}
-use Rattle.law_assembly.proofs.func_text.Laws.{is_assembly}
-use Rattle.law_assembly.specs.func_text.func_after.Leads.{IsDescribed}
-use Rattle.law_assembly.proofs.Same.{input_does_same, input_does_framed, coded_is_same}
-use Rattle.law_assembly.specs.func_text.Same.{DoesSame, DoesSameFramed}
-use Rattle.law_assembly.proofs.func_text.CodeLaws.{one_code, code_coded, code_has}
+use Rattle.func_image.specs.Image.{TellsImage}
+use Rattle.func_image.proofs.One.{one_image_of, tells_image, has_image}
+use Rattle.func_image.proofs.Does.{does_in_words}
+use Rattle.func_image.specs.func_text.Recog.{FunctionsCome as FormsTold}
+use Rattle.func_image.proofs.func_text.One.{functions_one}
+use Rattle.func_image.specs.func_text.Dump as dump
+use Rattle.func_image.proofs.func_text.DumpOne as dump_one
+use Rattle.func_image.specs.func_text.declared.assembly.Assembly.{Assembly}
+use Rattle.func_image.specs.func_text.declared.code.Coded.{Coded}
+use Rattle.func_image.specs.func_text.Assembly as assembly
+use Rattle.func_image.specs.func_text.Assembly.{AssemblyComes}
+use Rattle.func_image.specs.func_text.Compile.{FunctionsCome, TextComes, text_told}
+use Rattle.func_image.specs.func_text.Code.{CodeComes, IsCoded}
+use Rattle.func_image.proofs.func_text.OneAssembly.{one_coming, one_coming_of, one_assembly}
+use Rattle.func_image.proofs.func_text.Laws.{is_assembly}
+use Rattle.func_image.specs.func_text.func_after.Leads.{IsDescribed}
+use Rattle.func_image.proofs.law_assembly.Same.{input_does_same, input_does_framed, coded_is_same}
+use Rattle.func_image.specs.func_text.Same.{DoesSame, DoesSameFramed}
+use Rattle.func_image.proofs.func_text.CodeLaws.{one_code, code_coded, code_has}
 use Rattle.code_eval.specs.Start.{stack_room}
 use Rattle.code_eval.specs.Eval.{eval_text, IsFair, ComesToSame}
 use Rattle.code_eval.proofs.Lawful.{agree}
@@ -48,7 +51,7 @@ use Rattle.rtlc_words.specs.declared.command.Command.TheVariants as commands
 use Rattle.rtlc_run.specs.Told.{evaluated, EvalComes, ToldComes, Tells, HaveText}
 use Rattle.rtlc_run.specs.Generated.{summary_line, summary_told, SummaryComes, TellsSummary}
 use Rattle.rtlc_run.specs.Answer.{Given, described, list_told, ByForms, OverInput, CommandComes}
-use Rattle.rtlc_run.specs.Written.{WritesSame, WritesSameFramed, Means, HasText}
+use Rattle.rtlc_run.specs.Written.{WritesSame, WritesSameFramed, WritesWords, Means, HasText}
 
 -- ---- one answer
 
@@ -86,6 +89,7 @@ trial_one function steps args forms bytes a b p q = p.2 ∙ ap (evaluated steps 
 told_one : (t : Told) → IsOneOver (ToldComes t)
 told_one telling.Lines forms bytes a b p q = text_one forms bytes a b p q
 told_one telling.Forms forms bytes a b p q = one_coming_to (FormsTold forms) bytes a b (functions_one forms) p q
+told_one telling.Words forms bytes a b p q = one_image_of forms bytes a b p q
 told_one (telling.Behind pass) forms bytes a b p q = one_coming_to (dump.FunctionsCome forms pass) bytes a b (dump_one.functions_one forms pass) p q
 told_one (telling.Outcomes function steps args) forms bytes a b p q = trial_one function steps args forms bytes a b p q
 
@@ -176,6 +180,7 @@ told_outcomes bytes function steps args text forms (Err e) described comes is fa
 tells : (t : Told) (forms : List Entry) (bytes text : List ℕ) → IsDescribed forms → ToldComes t forms bytes (Ok text) → Tells t forms bytes text
 tells telling.Lines forms bytes text described own = lines_told forms bytes text own
 tells telling.Forms forms bytes text described own = let r = input_reached (FormsTold forms) bytes text (Ok text) refl own in (r.functions, r.input, r.own)
+tells telling.Words forms bytes text described own = tells_image forms bytes text own
 tells (telling.Behind pass) forms bytes text described own = let r = input_reached (dump.FunctionsCome forms pass) bytes text (Ok text) refl own in (r.functions, r.input, r.own)
 tells (telling.Outcomes function steps args) forms bytes text described own = told_outcomes bytes function steps args text forms own.0 described own.1 own.2 own.3
 
@@ -225,6 +230,14 @@ writes_framed known (Some bytes) old new name text h appends =
     let does = input_does_framed h.0 bytes told.0 told.2 (is_described known (described name) h.0 h.1) told.1 told.3 in
     (h.0, h.1, told.0, told.1, text, subst (DoesSameFramed h.0 told.0) (sym told.4) does, appends)
 
+-- ---- what the text of an image does
+
+pub writes_words : (known : Source) (left old new : Option (List ℕ)) (name : Option (List ℕ)) (text : List ℕ) → Means known left (commands.Over name telling.Words) text → Appends old new text → WritesWords left old new
+writes_words known None old new name text h appends = tt
+writes_words known (Some bytes) old new name text h appends =
+    let told : TellsImage h.0 bytes text = h.2 in
+    (told.functions, is_read bytes told.functions told.input, text, does_in_words h.0 bytes text (is_described known (described name) h.0 h.1) told, appends)
+
 -- ---- which functions have a text
 
 told_has : (t : Told) (forms : List Entry) (bytes : List ℕ) (functions : List Function) (o : Outcome) → IsInput bytes functions → HaveText t forms functions → ToldComes t forms bytes o → (text : List ℕ) × (o ≡ Ok text)
@@ -232,6 +245,7 @@ told_has telling.Lines forms bytes functions o input have own =
     let whole = one_assembly forms functions own.0 (Ok have.0) (input_last (AssemblyComes forms) bytes functions own.0 input own.1) have.1 in
     (have.0.text, own.2 ∙ ap text_told whole)
 told_has telling.Forms forms bytes functions o input have own = (have.0, functions_one forms functions o (Ok have.0) (input_last (FormsTold forms) bytes functions o input own) have.1)
+told_has telling.Words forms bytes functions o input have own = has_image forms bytes functions o input have own
 told_has (telling.Behind pass) forms bytes functions o input have own =
     (have.0, dump_one.functions_one forms pass functions o (Ok have.0) (input_last (dump.FunctionsCome forms pass) bytes functions o input own) have.1)
 told_has (telling.Outcomes function steps args) forms bytes functions o input have own =

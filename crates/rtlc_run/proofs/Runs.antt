@@ -9,7 +9,7 @@ use Rattle.rtlc_words.specs.declared.command.Command.{Command}
 use Rattle.rtlc_words.specs.declared.command.Command.TheVariants as commands
 use Rattle.rtlc_words.specs.Words.{command_of}
 use Rattle.rtlc_run.specs.Answer.{described, list_told, CommandComes, Answers, IsKnownFor, Writes, IsAnswered, status_of_answer}
-use Rattle.rtlc_run.specs.Written.{WritesSame, WritesSameFramed, WritesText, HasText, IsDone}
+use Rattle.rtlc_run.specs.Written.{WritesSame, WritesSameFramed, WritesWords, WritesText, HasText, IsDone}
 use Rattle.rtlc_run.proofs.Described as described_by
 use Rattle.rtlc_run.proofs.Described.{one_telling, one_summary, means, ends}
 
@@ -54,6 +54,10 @@ pub writes_framed : (words : List (List ℕ)) (known : Source) (input old new : 
     WritesSameFramed known (described name) input old new
 writes_framed words known input old new name is h =
     let text = writes_text words known input old new (commands.Over name telling.Lines) is h in described_by.writes_framed known input old new name text.0 text.1 text.2
+
+pub writes_words : (words : List (List ℕ)) (known : Source) (input old new : Option (List ℕ)) (name : Option (List ℕ)) → command_of words ≡ Some (commands.Over name telling.Words) → Writes words known input old new → WritesWords input old new
+writes_words words known input old new name is h =
+    let text = writes_text words known input old new (commands.Over name telling.Words) is h in described_by.writes_words known input old new name text.0 text.1 text.2
 
 -- ---- what ends with a text
 

@@ -14,9 +14,9 @@ use Rattle.md_named.specs.Named.{FormsCome}
 use Rattle.md_named.specs.Answers.{RefusesForms}
 use Rattle.func_input.specs.Input.{InputComesTo, RefusesWith}
 use Rattle.func_input.specs.Outcome.{Outcome}
-use Rattle.law_assembly.specs.func_text.Assembly as assembly
-use Rattle.law_assembly.specs.func_text.Compile.{FunctionsCome, InputComes, TextComes}
-use Rattle.law_assembly.specs.func_text.Code.{CodeComes, Gives as GivesCode}
+use Rattle.func_image.specs.func_text.Assembly as assembly
+use Rattle.func_image.specs.func_text.Compile.{FunctionsCome, InputComes, TextComes}
+use Rattle.func_image.specs.func_text.Code.{CodeComes, Gives as GivesCode}
 use Rattle.rtl_make.specs.Made.{made}
 use Rattle.rtlc_words.specs.declared.command.Told.{Told}
 use Rattle.rtlc_words.specs.declared.command.Told.TheVariants as telling
@@ -53,6 +53,7 @@ forms_are_own known name _ h = (λ is. cc, λ is. cc)
 too_many : (t : Told) (forms : List Entry) (bytes : List ℕ) → most_bytes < length bytes → ToldComes t forms bytes (Err (refusal.Limit limit.Text (most_bytes + 1)))
 too_many telling.Lines forms bytes long = (Err (refusal.Limit limit.Text (most_bytes + 1)), InputComesTo.too_long long, refl)
 too_many telling.Forms forms bytes long = InputComesTo.too_long long
+too_many telling.Words forms bytes long = InputComesTo.too_long long
 too_many (telling.Behind pass) forms bytes long = InputComesTo.too_long long
 too_many (telling.Outcomes function steps args) forms bytes long =
     (Err (refusal.Limit limit.Text (most_bytes + 1)), CodeComes.unread (refusal.Limit limit.Text (most_bytes + 1)) (λ functions read. let within = read.within in omega (arith, long, within)) (InputComesTo.too_long long), refl, tt)

@@ -18,7 +18,7 @@ use Rattle.md_forms.specs.declared.form.Entry.{Entry}
 use Rattle.rtx_tree.specs.Limit.{most_forms}
 use Rattle.md_named.specs.Named.{source_refused, FormsCome}
 use Rattle.func_input.specs.Outcome.{Outcome}
-use Rattle.law_assembly.specs.func_text.Code.{IsUnnamed}
+use Rattle.func_image.specs.func_text.Code.{IsUnnamed}
 use Rattle.rtlc_words.specs.declared.command.Told.{Told}
 use Rattle.rtlc_words.specs.declared.command.Told.TheVariants as telling
 use Rattle.rtlc_words.specs.declared.command.Command.{Command}

@@ -5,11 +5,11 @@ use Rattle.std.specs.Fmt.{decimal}
 use Rattle.rtl_make.specs.Made.{made}
 use Rattle.md_forms.specs.declared.form.Entry.{Entry}
 use Rattle.func_input.specs.Outcome.{Outcome}
-use Rattle.law_assembly.specs.func_text.declared.assembly.Assembly.{Assembly}
-use Rattle.law_assembly.specs.func_text.declared.summary.Summary.{Summary}
-use Rattle.law_assembly.specs.func_text.Assembly as assembly
-use Rattle.law_assembly.specs.func_text.Compile.{FunctionsCome}
-use Rattle.law_assembly.specs.func_text.Lines.{IsAssembly}
+use Rattle.func_image.specs.func_text.declared.assembly.Assembly.{Assembly}
+use Rattle.func_image.specs.func_text.declared.summary.Summary.{Summary}
+use Rattle.func_image.specs.func_text.Assembly as assembly
+use Rattle.func_image.specs.func_text.Compile.{FunctionsCome}
+use Rattle.func_image.specs.func_text.Lines.{IsAssembly}
 
 -- ---- the line of a summary
 

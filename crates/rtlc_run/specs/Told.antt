@@ -6,14 +6,15 @@ use Rattle.run_refusal.specs.declared.refusal.Refusal.{Refusal}
 use Rattle.md_forms.specs.declared.form.Entry.{Entry}
 use Rattle.func_input.specs.Input.{InputComesTo, IsInput}
 use Rattle.func_input.specs.Outcome.{Outcome}
-use Rattle.law_assembly.specs.func_text.declared.assembly.Assembly.{Assembly}
-use Rattle.law_assembly.specs.func_text.Assembly.{AssemblyComes}
-use Rattle.law_assembly.specs.func_text.Compile.{TextComes}
-use Rattle.law_assembly.specs.func_text.Lines.{IsAssembly}
-use Rattle.law_assembly.specs.func_text.Recog.{FunctionsCome}
-use Rattle.law_assembly.specs.func_text.Dump as dump
-use Rattle.law_assembly.specs.func_text.Code.{CodeComes, IsCoded, has_named}
-use Rattle.law_assembly.specs.func_text.declared.code.Coded.{Coded}
+use Rattle.func_image.specs.Image.{ImageComes, TellsImage, HaveImage}
+use Rattle.func_image.specs.func_text.declared.assembly.Assembly.{Assembly}
+use Rattle.func_image.specs.func_text.Assembly.{AssemblyComes}
+use Rattle.func_image.specs.func_text.Compile.{TextComes}
+use Rattle.func_image.specs.func_text.Lines.{IsAssembly}
+use Rattle.func_image.specs.func_text.Recog.{FunctionsCome}
+use Rattle.func_image.specs.func_text.Dump as dump
+use Rattle.func_image.specs.func_text.Code.{CodeComes, IsCoded, has_named}
+use Rattle.func_image.specs.func_text.declared.code.Coded.{Coded}
 use Rattle.code_eval.specs.Eval.{eval_text, IsFair, ComesToSame}
 use Rattle.pass_name.specs.declared.pass.Pass.{Pass}
 use Rattle.rtlc_words.specs.declared.command.Told.{Told}
@@ -43,6 +44,7 @@ EvalComes function steps args forms bytes outcome =
 abbrev pub ToldComes : Told → List Entry → List ℕ → Outcome → Type 0
 ToldComes telling.Lines = TextComes
 ToldComes telling.Forms = RecogComes
+ToldComes telling.Words = ImageComes
 ToldComes (telling.Behind pass) = DumpComes pass
 ToldComes (telling.Outcomes function steps args) = EvalComes function steps args
 
@@ -55,14 +57,16 @@ pub record IsTried (c : Coded) (steps : ℕ) (args : List ℕ) : Type 0 where
   pub same : ComesToSame c.function c.items steps args
 
 -- The text is that of the assembly of the input's functions; it has the form and the alternative of
--- each instruction; each function as it is behind the pass; or the outcomes of the function with
--- the name, and of the lines and labels that its part of the assembly spells.
+-- each instruction; the words of the image of the assembly's lines; each function as it is behind
+-- the pass; or the outcomes of the function with the name, and of the lines and labels that its
+-- part of the assembly spells.
 abbrev pub Tells : Told → List Entry → List ℕ → List ℕ → Type 0
 Tells telling.Lines forms bytes text =
     (functions : List Function) × IsInput bytes functions × (a : Assembly) ×
     IsAssembly forms 0 functions a × (text ≡ a.text)
 Tells telling.Forms forms bytes text =
     (functions : List Function) × IsInput bytes functions × FunctionsCome forms functions (Ok text)
+Tells telling.Words forms bytes text = TellsImage forms bytes text
 Tells (telling.Behind pass) forms bytes text = (functions : List Function) ×
     IsInput bytes functions × dump.FunctionsCome forms pass functions (Ok text)
 Tells (telling.Outcomes function steps args) forms bytes text =
@@ -71,11 +75,12 @@ Tells (telling.Outcomes function steps args) forms bytes text =
 
 -- ---- which functions have one
 
--- They have an assembly; each instruction has a form; each comes through the pass; or they have an
--- assembly, and the name is that of one.
+-- They have an assembly; each instruction has a form; they have an assembly, and its lines an image;
+-- each comes through the pass; or they have an assembly, and the name is that of one.
 abbrev pub HaveText : Told → List Entry → List Function → Type 0
 HaveText telling.Lines forms functions = (a : Assembly) × AssemblyComes forms functions (Ok a)
 HaveText telling.Forms forms functions = (text : List ℕ) × FunctionsCome forms functions (Ok text)
+HaveText telling.Words forms functions = HaveImage forms functions
 HaveText (telling.Behind pass) forms functions =
     (text : List ℕ) × dump.FunctionsCome forms pass functions (Ok text)
 HaveText (telling.Outcomes function steps args) forms functions =

@@ -9,7 +9,8 @@ use Rattle.md_forms.specs.declared.form.Entry.{Entry}
 use Rattle.md_list.specs.Listing.{ListComes}
 use Rattle.md_named.specs.Named.{FormsCome}
 use Rattle.func_input.specs.Input.{IsRead, IsInput}
-use Rattle.law_assembly.specs.func_text.Same.{DoesSame, DoesSameFramed}
+use Rattle.func_image.specs.DoWords.{DoesInWords}
+use Rattle.func_image.specs.func_text.Same.{DoesSame, DoesSameFramed}
 use Rattle.rtlc_words.specs.declared.command.Command.{Command}
 use Rattle.rtlc_words.specs.declared.command.Command.TheVariants as commands
 use Rattle.rtlc_run.specs.Told.{Tells, HaveText}
@@ -32,6 +33,15 @@ WritesSameFramed files name input old new =
     IfSome input (λ bytes. (forms : List Entry) × FormsCome files name (Ok forms) ×
     (functions : List Function) × IsInput bytes functions ×
     (text : List ℕ) × DoesSameFramed forms functions text × Appends old new text)
+
+-- ---- what the text of an image does
+
+-- the text of an image was written, and nothing else, whose words do what the functions do as which
+-- the input is read
+abbrev pub WritesWords : Option (List ℕ) → Option (List ℕ) → Option (List ℕ) → Type 0
+WritesWords input old new =
+    IfSome input (λ bytes. (functions : List Function) × IsRead bytes functions ×
+    (text : List ℕ) × DoesInWords functions text × Appends old new text)
 
 -- ---- what each command tells
 

@@ -11,9 +11,10 @@ ghost use Rattle.run_refusal.specs.declared.refusal.Refusal.TheVariants as refus
 ghost use Rattle.rtx_tree.specs.Limit.{most_bytes};
 ghost use Rattle.func_input.specs.Input.{IsRead};
 ghost use Rattle.func_input.specs.Outcome.{Outcome};
-ghost use Rattle.law_assembly.specs.func_text.Same.{AreParts};
-ghost use Rattle.law_assembly.specs.func_text.Compile.{TextComes};
-ghost use Rattle.law_assembly.specs.func_text.Code.{IsUnnamed};
+ghost use Rattle.func_image.specs.Image.{ImageComes};
+ghost use Rattle.func_image.specs.func_text.Same.{AreParts};
+ghost use Rattle.func_image.specs.func_text.Compile.{TextComes};
+ghost use Rattle.func_image.specs.func_text.Code.{IsUnnamed};
 ghost use Rattle.md_source.specs.Source.{Source as Known};
 ghost use Rattle.md_source.specs.Asked.{AreNamed, GrewBy, IsKnown};
 ghost use Rattle.md_source.specs.Answers.{Agrees};
@@ -27,14 +28,14 @@ ghost use Rattle.rtlc_words.specs.Words as spoken;
 ghost use Rattle.rtlc_words.specs.Words.{words_of};
 ghost use Rattle.rtlc_run.specs.Answer as spec;
 ghost use Rattle.rtlc_run.specs.Told.{EvalComes, RecogComes, DumpComes, ToldComes};
-ghost use Rattle.rtlc_run.specs.Written.{WritesSame, WritesSameFramed, WritesText, HasText, IsDone};
+ghost use Rattle.rtlc_run.specs.Written.{WritesSame, WritesSameFramed, WritesWords, WritesText, HasText, IsDone};
 ghost use Rattle.rtlc_run.specs.machine.Steps.{Gives, IsOwn, InputRefused};
 ghost use Rattle.rtlc_run.specs.Answer.{ByForms, OverInput, CommandComes, Answers, IsMissing, IsMisused, reads_input, reads_files, IsKnownFor, MayBeAsked, NoneRose, ReadFails, Writes, WritesFront, IsRefused, Reports, HasCause, TellsCause, IsAnswered};
 
 use crate::summary::summary_of;
 use byte_edge::{Files, ReadAll, Sink, Source, read_all, write_all_of};
 use code_eval::eval_text;
-use law_assembly::{assembly_of, code_of, dump_of, recog_of};
+use func_image::{assembly_of, code_of, dump_of, image_of, recog_of};
 use md_desc::Description;
 use md_list::{ListRefusal, list};
 use md_named::{description_of, source_refused};
@@ -88,6 +89,16 @@ fn recognised(alloc: Global, description: &Description, bytes: &[u8]) -> Result<
     recog_of(alloc, description, bytes)
 }
 
+/// The words of the image of the functions among bytes.
+fn imaged(alloc: Global, description: &Description, bytes: &[u8]) -> Result<Vec<u8>, Refusal>
+    requires { length bytes.now ≤ most_bytes }
+    ensures gives { Gives result (ImageComes description.now bytes.now) }
+    ensures own { IsOwn result }
+    ensures read { result ≢ Err Refusal.ReadFault }
+{
+    image_of(alloc, description, bytes)
+}
+
 /// The functions among bytes as they are behind a pass.
 fn dumped(
     alloc: Global,
@@ -138,6 +149,7 @@ fn made(
     match told {
         Told::Lines => assembled(alloc, description, bytes),
         Told::Forms => recognised(alloc, description, bytes),
+        Told::Words => imaged(alloc, description, bytes),
         Told::Behind { pass } => dumped(alloc, description, *pass, bytes),
         Told::Outcomes {
             function,
@@ -447,7 +459,8 @@ fn report<E: Sink>(alloc: Global, errors: &mut E, refusal: &Refusal) -> u8
 }
 
 /// The whole program. `words` are those after the program's name: `asm`, `list`, `recog`, `dump
-/// PASS`, `eval NAME STEPS` with up to eight numbers, or `make N`, and `--md NAME` at most once.
+/// PASS`, `eval NAME STEPS` with up to eight numbers, `make N`, or `image`, and `--md NAME` at most
+/// once.
 /// `files` are asked for a description that is named and for what it includes, `input` is read by
 /// all but `list` and `make`. The text is written to `output`, the line of a refusal to `errors`,
 /// and the exit status is given: 0, or that of the [`Refusal`].
@@ -504,6 +517,13 @@ pub fn run<F: Files, S: Source, K: Sink, E: Sink>(
         result ≡ 0 →
         WritesSameFramed known (spec.described name) (S.left input.old) (K.taken output.old)
         (K.taken output.new) }
+
+    // What the text of `image` does: it is that of an image, and at the entry of each function there
+    // stand words that do what the function does, in each world that has the image's addresses,
+    // where there is room for a frame of some size, which is at most 1,048,560.
+    ensures words { (name : Option (List ℕ)) →
+        spoken.command_of (words_of words.now) ≡ Some (commands.Over name telling.Words) →
+        result ≡ 0 → WritesWords (S.left input.old) (K.taken output.old) (K.taken output.new) }
 
     // Bytes are read as the functions of one list only, and the forms of a description of which all
     // is known are one list or one refusal.

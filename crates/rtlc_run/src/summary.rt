@@ -4,7 +4,7 @@ ghost use Rattle.rtlc_run.specs.Generated as spec;
 ghost use Rattle.rtlc_run.specs.Generated.{SummaryComes};
 ghost use Rattle.rtlc_run.specs.machine.Steps.{Gives, IsOwn};
 
-use law_assembly::{Summary, compile};
+use func_image::{Summary, compile};
 use md_desc::Description;
 use plain_data::Memory;
 use rtl_make::made;

@@ -1,6 +1,6 @@
 use Rattle.std.proofs.Common.{ℕ, List, Ok, ap}
 use Rattle.std.proofs.lemmas.Result.{err_from_is_err_and}
-use Rattle.law_assembly.specs.func_text.Compile.{InputComes}
+use Rattle.func_image.specs.func_text.Compile.{InputComes}
 use Rattle.rtlc_run.proofs.Tellings.{text_refused, refusal_is_own, refusal_read}
 use Rattle.rtlc_run.proofs.program.assembled.Goals as goal
 

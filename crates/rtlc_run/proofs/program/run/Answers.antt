@@ -4,12 +4,12 @@ use Rattle.run_refusal.specs.declared.refusal.Refusal.TheVariants as refusal
 use Rattle.func_run.proofs.Law.{takes_enough}
 use Rattle.func_input.proofs.One.{one_read}
 use Rattle.rv_text.proofs.SpelledOnce.{spells_one}
-use Rattle.law_assembly.proofs.func_text.Parts.{one_cut}
+use Rattle.func_image.proofs.func_text.Parts.{one_cut}
 use Rattle.md_named.proofs.Forms.{one_answer as one_description}
 use Rattle.rtlc_words.specs.Words.{command_of, words_of}
 use Rattle.rtlc_run.proofs.Commands.{nothing_known, nothing_agrees, fails_spoken}
 use Rattle.rtlc_run.proofs.Answered.{answered_err, err_of, told_cause, read_status, read_told}
-use Rattle.rtlc_run.proofs.Runs.{one_answer, writes_text, writes_same, writes_framed, done}
+use Rattle.rtlc_run.proofs.Runs.{one_answer, writes_text, writes_same, writes_framed, writes_words, done}
 use Rattle.rtlc_run.proofs.Statuses.{status_is}
 use Rattle.rtlc_run.proofs.program.run.Goals as goal
 
@@ -50,6 +50,11 @@ pub returns-in-Ok-clause-framed : goal.returns-in-Ok-clause-framed
 returns-in-Ok-clause-framed g c = λ known agrees name is zero.
     writes_framed (words_of c.args.words.now) known (g.S.Source.left c.args.input.now) (g.K.Sink.taken c.args.output.now)
     (g.K.Sink.taken c.attempt.new.output) name is (c.in-Ok.ensures.done known agrees)
+
+pub returns-in-Ok-clause-words : goal.returns-in-Ok-clause-words
+returns-in-Ok-clause-words g c = λ name is zero.
+    writes_words (words_of c.args.words.now) nothing_known (g.S.Source.left c.args.input.now) (g.K.Sink.taken c.args.output.now)
+    (g.K.Sink.taken c.attempt.new.output) name is (c.in-Ok.ensures.done nothing_known (nothing_agrees (g.F.Files.holds c.args.files.now)))
 
 pub returns-in-Ok-clause-one_input : goal.returns-in-Ok-clause-one_input
 returns-in-Ok-clause-one_input g c = λ bytes a b p q. one_read bytes a b p q

@@ -2,7 +2,7 @@ use Rattle.std.proofs.Common.{◌≡◌, ◌∙◌, List, [], ◌∷◌, Ok, ap,
 use Rattle.std.proofs.lemmas.Result.{err_from_is_err_and}
 use Rattle.rtx_tree.specs.declared.function.Function.{Function}
 use Rattle.func_input.specs.Input.{RefusesWith}
-use Rattle.law_assembly.specs.func_text.Compile.{FunctionsCome}
+use Rattle.func_image.specs.func_text.Compile.{FunctionsCome}
 use Rattle.rtl_make.specs.Made.{made}
 use Rattle.rtlc_run.proofs.Tellings.{summary_refused, refusal_is_own, refusal_read}
 use Rattle.rtlc_run.proofs.summary.summary_of.Goals as goal

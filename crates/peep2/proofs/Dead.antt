@@ -9,8 +9,8 @@ use Rattle.rtx_tree.specs.declared.function.Function.{Function}
 use Rattle.rtx_tree.specs.RegSet.{has_reg}
 use Rattle.c_eval.specs.declared.facts.Facts.{Facts}
 use Rattle.live.specs.Live.{IsLive, IsLiveAfter}
+use Rattle.live.proofs.LiveLists.{same_sets, agree}
 use Rattle.peep2.specs.Rewrite.{AreDeadBefore, AreDeadAfter, AreDeadIn, AreFactsAt}
-use Rattle.peep2.proofs.Sets.{same_sets, agree}
 use Rattle.peep2.proofs.Lists.{pushed, same_lists}
 
 -- ---- one point

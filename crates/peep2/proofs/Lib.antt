@@ -1,4 +1,3 @@
-mod Sets
 mod Lists
 pub mod Dead
 pub mod Windows

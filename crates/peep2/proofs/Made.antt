@@ -1,8 +1,10 @@
 -- What a form makes of a window.
-use Rattle.std.proofs.Common.{◌≡◌, ◌↔◌, ℕ, List, Option, Some, None, Result, Ok, Err, refl, sym, ap, subst, ◌∙◌}
+use Rattle.std.proofs.Common.{◌≡◌, ◌↔◌, ℕ, ◌+◌, map, List, Option, Some, None, Result, Ok, Err, refl, sym, ap, subst, ◌∙◌}
 use Rattle.std.specs.Prelude.{IfOk}
 use Rattle.rtx_tree.specs.declared.tree.Rtx.{Rtx}
+use Rattle.rtx_tree.specs.declared.function.Insn.{Insn}
 use Rattle.rtx_tree.specs.declared.function.Function.{Function}
+use Rattle.new_insns.specs.Replaced.{window}
 use Rattle.c_eval.specs.declared.facts.Facts.{Facts}
 use Rattle.md_match.specs.Pattern.{Ops}
 use Rattle.md_forms.specs.declared.form.Entry.{Entry}
@@ -10,7 +12,7 @@ use Rattle.md_desc.specs.md_pred.Holds.{holds}
 use Rattle.md_recog.specs.declared.half.Half.TheVariants as half
 use Rattle.md_recog.specs.declared.recog.FormMatch.{FormMatch}
 use Rattle.md_recog.specs.Recog.{MatchesAt, MatchesHere}
-use Rattle.md_window.specs.Windows.{window_size}
+use Rattle.md_window.specs.Windows.{window_size, NeverMatchesAt}
 use Rattle.form_needs.proofs.OneChosen.{at_one}
 use Rattle.peep2.specs.Rewrite.{IsRun, patterns_from, AreFactsAt, rewritten_by, Makes, Rewrites}
 use Rattle.peep2.specs.machine.Steps.{RunTold, MakesTold, RewritesTold, FormTold}
@@ -79,6 +81,13 @@ module _ (forms : List Entry) (f : Function) (place form size : ℕ) (asked : si
   -- so many do not stand there
   pub stands_none : RunTold f place size None → FormTold forms f place form None
   stands_none not count s w = not (subst (λ n. IsRun f place n) (as_many forms f place count form s w ∙ sym asked) w.run)
+
+  -- they do, and have not the shape
+  pub none_fits : (end : ℕ) → end ≡ place + size → NeverMatchesAt forms (map (λ (i : Insn). i.pattern) (window f place end)) form → FormTold forms f place form None
+  none_fits end is never count s w =
+      let same : place + count ≡ end = ap (λ n. place + n) (as_many forms f place count form s w ∙ sym asked) ∙ sym is in
+      never (holds forms) w.facts w.makes.operands
+      (subst (λ n. MatchesAt (holds forms) w.facts half.Window (map (λ (i : Insn). i.pattern) (window f place n)) forms form w.makes.operands) same w.makes.matches)
 
   -- they do, and nothing is made of them
   pub made_none : RewritesTold forms f place size form None → FormTold forms f place form None

@@ -1,6 +1,8 @@
 //! The first form that rewrites a window at a place.
-ghost use Rattle.std.specs.Prelude.{◌≡◌, ◌+◌, ◌<◌, IfOk, length, map, option_map};
+ghost use Rattle.std.specs.Prelude.{◌≡◌, ◌+◌, ◌<◌, ◌≤◌, false, IfOk, length, map, option_map};
+ghost use Rattle.new_insns.specs.Replaced.{window};
 ghost use Rattle.md_emit.specs.Emitted as emitted;
+ghost use Rattle.md_window.specs.Windows.{NeverMatchesAt};
 ghost use Rattle.peep2.specs.Rewrite as spec;
 ghost use Rattle.peep2.specs.machine.Steps as steps;
 
@@ -13,7 +15,7 @@ use md_desc::Description;
 use md_emit::emit;
 use md_forms::{Entry, Form};
 use md_recog::FormMatch;
-use md_window::{next_window, window_match, window_size};
+use md_window::{has_shape, next_window, window_match, window_size};
 use plain_data::Memory;
 use rtx_tree::{Insn, Kids, Operands};
 use std::alloc::Global;
@@ -117,6 +119,30 @@ fn sequence_of(
     }
 }
 
+/// Whether the window of a form has the shape of what stands between two places. Where it has not,
+/// the form rewrites nothing there.
+fn fits_between(
+    alloc: Global,
+    desc: &Description,
+    chain: &mut LiveChain,
+    place: u32,
+    end: u32,
+    form: u32,
+) -> Result<bool, Memory>
+    requires order { place ≤ end }
+    requires within { end ≤ length chain.old.insns }
+    ensures never { IfOk result (λ fits. fits ≡ false → NeverMatchesAt desc.now
+        (map (λ i. i.pattern) (window chain.old place end)) form) }
+    ensures same { chain.new ≡ chain.old }
+{
+    chain.move_gap(end)?;
+    // with the gap at its end the window stands in one piece
+    let Some(insns) = chain.window(place, end) else {
+        return Err(Memory);
+    };
+    has_shape(alloc, desc, insns, form)
+}
+
 /// What a form makes of so many instructions of one block at a place.
 fn sequence_at(
     alloc: Global,
@@ -158,6 +184,10 @@ fn rewrite_by(
     let Some(end) = run_end(chain, place, size)? else {
         return Ok(None);
     };
+    // asked first: what conditions know takes more, and of most windows it is not wanted
+    if !fits_between(alloc, desc, chain, place, end, form)? {
+        return Ok(None);
+    }
     let count = size as u32;
     match sequence_at(alloc, desc, chain, place, count, end, form)? {
         Some(sequence) => Ok(Some(Rewrite {

@@ -27,7 +27,7 @@ abbrev unit_of : Function → List CodeItem → CodeUnit
 unit_of f items = record { name = f.name; items = items }
 
 -- without lines there are none
-no_units : (functions : List Function) → units_of functions [] ≡ []
+pub no_units : (functions : List Function) → units_of functions [] ≡ []
 no_units [] = refl
 no_units (f ∷ functions) = refl
 

@@ -20,7 +20,7 @@ use rv_text::CodeItem;
 use std::alloc::Global;
 
 /// Functions with their lines and labels.
-#[tactic(auto, using(crate::proofs::Comes::units_push))]
+#[tactic(auto, using(crate::proofs::Comes::no_units, crate::proofs::Comes::units_push))]
 fn units_of(
     alloc: Global,
     functions: &[Function],

@@ -13,7 +13,7 @@ use std::alloc::Global;
 /// Tells what comes of an input. Whether there is such a table.
 pub fn answer(alloc: Global, table: &str, input: &[u8], told: &mut Told) -> bool {
     match table {
-        "words" => lines::tell_words(alloc, input, told),
+        "words of lines" => lines::tell_words(alloc, input, told),
         "base instructions" => bases::tell_base(input, told),
         _ => return false,
     }

@@ -187,10 +187,12 @@ fn bytes_behind(alloc: Global, size: usize) -> Result<Result<usize, u64>, Refusa
     let f = Function::empty(alloc);
     match write_function(alloc, &description, 0, &f, &mut text, &mut items) {
         Ok(()) => Ok(Ok(text.len())),
-        Err(PassRefusal::Limit {
-            which: Limit::Output,
-            count,
-        }) => Ok(Err(count)),
+        Err(
+            PassRefusal::Limit {
+                which: Limit::Output,
+                count,
+            },
+        ) => Ok(Err(count)),
         Err(_) => Ok(Err(0)),
     }
 }
@@ -199,6 +201,11 @@ fn bytes_behind(alloc: Global, size: usize) -> Result<Result<usize, u64>, Refusa
 fn an_assembly_has_so_many_bytes(rt: HostRuntime) {
     let most = 268_435_456;
     assert!(rt; matches!(bytes_behind(rt.alloc(), most - LEAST), Ok(Ok(268_435_456))));
-    assert!(rt; matches!(bytes_behind(rt.alloc(), most - LEAST + 1), Ok(Err(268_435_457))));
+    assert!(rt;
+        matches!(
+            bytes_behind(rt.alloc(), most - LEAST + 1),
+            Ok(Err(268_435_457))
+        )
+    );
     assert!(rt; matches!(bytes_behind(rt.alloc(), most), Ok(Err(268_435_457))));
 }

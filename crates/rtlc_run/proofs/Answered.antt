@@ -6,8 +6,9 @@ use Rattle.std.specs.Io.KnownBytes.{Appends}
 use Rattle.byte_edge.specs.Causes.{Rose}
 use Rattle.run_refusal.specs.declared.refusal.Refusal.{Refusal}
 use Rattle.run_refusal.specs.declared.refusal.Refusal.TheVariants as refusal
-use Rattle.run_refusal.specs.Refusals.{status_of, has_values, line_of}
+use Rattle.run_refusal.specs.Refusals.{status_of, has_values}
 use Rattle.md_source.specs.Source.{Source}
+use Rattle.rtlc_run.specs.Shown.{line_told}
 use Rattle.rtlc_run.specs.Answer.{Answers, IsRefused, Reports, IsAnswered}
 
 -- ---- how a run ended
@@ -43,7 +44,7 @@ pub answered_err : (words : List (List ℕ)) (known : Source) (input : Option (L
 answered_err words known input e status output output' errors errors' faults faults' h r w other reports same =
     let itself : reports.told ≡ e = told_itself e reports.told status reports.status_is reports.which other in
     let is : status ≡ status_of e = reports.status_is ∙ ap status_of itself in
-    let line : ¬ Rose faults faults' → Appends errors errors' (line_of e) = λ calm. subst (λ (t : Refusal). Appends errors errors' (line_of t)) itself (reports.line calm) in
+    let line : ¬ Rose faults faults' → Appends errors errors' (line_told e) = λ calm. subst (λ (t : Refusal). Appends errors errors' (line_told t)) itself (reports.line calm) in
     (Err e, answers_of words known input e h r w (λ memory. other (is ∙ ap status_of memory)), record { status_is = is; written = appends_nothing output output' same; told = line })
 
 -- the refusal of an error

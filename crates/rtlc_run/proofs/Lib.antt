@@ -3,4 +3,5 @@ pub mod Tellings
 pub mod Described
 pub mod Answered
 pub mod Runs
+pub mod Bytes
 pub mod Statuses

@@ -7,7 +7,7 @@ use Rattle.byte_edge.specs.Causes.{Rose, TakesFront}
 use Rattle.rtx_tree.specs.declared.limit.Limit.TheVariants as limit
 use Rattle.run_refusal.specs.declared.refusal.Refusal.{Refusal}
 use Rattle.run_refusal.specs.declared.refusal.Refusal.TheVariants as refusal
-use Rattle.run_refusal.specs.Refusals.{status_of, has_values, line_of}
+use Rattle.run_refusal.specs.Refusals.{status_of, has_values}
 use Rattle.md_source.specs.Source.{Source, shipped_name}
 use Rattle.md_source.specs.Asked.{AreNamed, IsKnown}
 use Rattle.md_source.specs.Faults.{FaultsAt, AsksBy}
@@ -26,6 +26,7 @@ use Rattle.rtlc_words.specs.declared.command.Command.TheVariants as commands
 use Rattle.rtlc_words.specs.Words.{command_of}
 use Rattle.rtlc_run.specs.Told.{ToldComes}
 use Rattle.rtlc_run.specs.Generated.{SummaryComes}
+use Rattle.rtlc_run.specs.Shown.{line_told}
 
 -- the description that the words name, or else the shipped one
 abbrev pub described : Option (List ℕ) → List ℕ
@@ -151,7 +152,7 @@ text_of_answer (Err e) = []
 -- what it tells on the sink of errors
 abbrev pub line_of_answer : Outcome → List ℕ
 line_of_answer (Ok text) = []
-line_of_answer (Err e) = line_of e
+line_of_answer (Err e) = line_told e
 
 -- A run ended with an answer: its status, its text on the output, and its line on the sink of
 -- errors, unless that failed.
@@ -188,7 +189,7 @@ pub record Reports (e : Refusal) (status : ℕ) (errors errors' : Option (List �
   pub told : Refusal
   pub status_is : status ≡ status_of told
   pub which : (told ≡ e) ⊎ ((told ≡ refusal.Memory) × (has_values e ≡ true))
-  pub line : ¬ Rose faults faults' → Appends errors errors' (line_of told)
+  pub line : ¬ Rose faults faults' → Appends errors errors' (line_told told)
 
 -- a refusal of this status has its cause
 abbrev pub HasCause : List (List ℕ) → Source → Option (List ℕ) → ℕ → Type 0
@@ -200,7 +201,7 @@ abbrev pub TellsCause : List (List ℕ) → Source → Option (List ℕ) → ℕ
     Option (List ℕ) → Type 0
 TellsCause words files input status errors errors' =
     (e : Refusal) × (status_of e ≡ status) × IsRefused words files input e ×
-    Appends errors errors' (line_of e)
+    Appends errors errors' (line_told e)
 
 -- the run ended with the answer to the words, the files and the input
 abbrev pub IsAnswered : List (List ℕ) → Source → Option (List ℕ) → ℕ →

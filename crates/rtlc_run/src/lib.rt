@@ -2,7 +2,8 @@
 //! the outside, and gives the exit status. Its contract ties it to one answer, which is defined for
 //! the words, the files that a description is made of, and the bytes of the input: a text, or a
 //! refusal with its values. With status 0 that text was written and nothing else; each other status
-//! has its cause, and its line was told.
+//! has its cause, and its line was told, in which a question mark stands for each control character
+//! of a name.
 //!
 //! The words are read by `rtlc_words`; what the commands come to is `specs/Answer.antt`, over
 //! `md_list` for `list`; for the others over `md_named`, which gives the description, and
@@ -12,6 +13,7 @@
 #![tactic(auto)]
 
 mod program;
+mod shown;
 mod summary;
 
 pub use program::{out_of_memory, run};

@@ -6,7 +6,7 @@ ghost use Rattle.rtx_tree.specs.declared.function.Function.{Function};
 ghost use Rattle.func_run.specs.Run.{TakesEnough};
 ghost use Rattle.rv_text.specs.Body.{Spells};
 ghost use Rattle.rv_text.specs.declared.line.CodeItem.{CodeItem};
-ghost use Rattle.run_refusal.specs.Refusals.{has_values, line_of};
+ghost use Rattle.run_refusal.specs.Refusals.{has_values};
 ghost use Rattle.run_refusal.specs.declared.refusal.Refusal.TheVariants as refusal;
 ghost use Rattle.rtx_tree.specs.Limit.{most_bytes};
 ghost use Rattle.func_input.specs.Input.{IsRead};
@@ -27,11 +27,13 @@ ghost use Rattle.rtlc_words.specs.declared.command.Told.TheVariants as telling;
 ghost use Rattle.rtlc_words.specs.Words as spoken;
 ghost use Rattle.rtlc_words.specs.Words.{words_of};
 ghost use Rattle.rtlc_run.specs.Answer as spec;
+ghost use Rattle.rtlc_run.specs.Shown.{line_told};
 ghost use Rattle.rtlc_run.specs.Told.{EvalComes, RecogComes, DumpComes, ToldComes};
 ghost use Rattle.rtlc_run.specs.Written.{WritesSame, WritesSameFramed, WritesWords, WritesText, HasText, IsDone};
 ghost use Rattle.rtlc_run.specs.machine.Steps.{Gives, IsOwn, InputRefused};
 ghost use Rattle.rtlc_run.specs.Answer.{ByForms, OverInput, CommandComes, Answers, IsMissing, IsMisused, reads_input, reads_files, IsKnownFor, MayBeAsked, NoneRose, ReadFails, Writes, WritesFront, IsRefused, Reports, HasCause, TellsCause, IsAnswered};
 
+use crate::shown::line_told;
 use crate::summary::summary_of;
 use byte_edge::{Files, ReadAll, Sink, Source, read_all, write_all_of};
 use code_eval::eval_text;
@@ -43,7 +45,7 @@ use md_source::SHIPPED;
 use pass_name::Pass;
 use rtlc_words::{Command, Told, command_of};
 use rtx_tree::{Limit, MOST_BYTES, MOST_FORMS, Name};
-use run_refusal::{MEMORY_LINE, Refusal, fixed_line, line, status};
+use run_refusal::{MEMORY_LINE, Refusal, fixed_line, status};
 use std::alloc::Global;
 
 /// The bytes of the input, to its end.
@@ -422,22 +424,23 @@ fn tell<E: Sink>(errors: &mut E, text: &[u8])
 pub fn out_of_memory<E: Sink>(errors: &mut E) -> u8
     ensures status { result ≡ 8 }
     ensures told { ¬ Rose (E.fault_count errors.old) (E.fault_count errors.new) →
-        Appends (E.taken errors.old) (E.taken errors.new) (line_of refusal.Memory) }
+        Appends (E.taken errors.old) (E.taken errors.new) (line_told refusal.Memory) }
 {
     tell(errors, MEMORY_LINE);
     8
 }
 
 /// Tells of a refusal whose line has values in it, and gives the status.
-fn report_values<E: Sink>(alloc: Global, errors: &mut E, refusal: &Refusal) -> u8
-    requires { has_values refusal.now ≡ true }
-    ensures { Reports refusal.now result (E.taken errors.old) (E.taken errors.new)
+fn report_values<E: Sink>(alloc: Global, errors: &mut E, refusal: Refusal) -> u8
+    requires { has_values refusal ≡ true }
+    ensures { Reports refusal result (E.taken errors.old) (E.taken errors.new)
         (E.fault_count errors.old) (E.fault_count errors.new) }
 {
-    match line(alloc, refusal) {
+    let status = status(&refusal);
+    match line_told(alloc, refusal) {
         Ok(text) => {
             tell(errors, &text);
-            status(refusal)
+            status
         }
         Err(_) => out_of_memory(errors),
     }
@@ -445,14 +448,14 @@ fn report_values<E: Sink>(alloc: Global, errors: &mut E, refusal: &Refusal) -> u
 
 /// Tells of a refusal on its line, and gives the status: that of the refusal, or 8 where its line
 /// finds no memory.
-fn report<E: Sink>(alloc: Global, errors: &mut E, refusal: &Refusal) -> u8
-    ensures { Reports refusal.now result (E.taken errors.old) (E.taken errors.new)
+fn report<E: Sink>(alloc: Global, errors: &mut E, refusal: Refusal) -> u8
+    ensures { Reports refusal result (E.taken errors.old) (E.taken errors.new)
         (E.fault_count errors.old) (E.fault_count errors.new) }
 {
-    match fixed_line(refusal) {
+    match fixed_line(&refusal) {
         Some(text) => {
             tell(errors, text);
-            status(refusal)
+            status(&refusal)
         }
         None => report_values(alloc, errors, refusal),
     }
@@ -593,6 +596,6 @@ pub fn run<F: Files, S: Source, K: Sink, E: Sink>(
 {
     match attempt(alloc, words, files, input, output) {
         Ok(()) => 0,
-        Err(refusal) => report(alloc, errors, &refusal),
+        Err(refusal) => report(alloc, errors, refusal),
     }
 }

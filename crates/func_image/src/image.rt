@@ -76,11 +76,7 @@ fn image_read(
 /// `Syntax`, `Limit`, `Construct`, `IllFormed`, `Unmatched`, `Unsatisfied`, `NotEquated` as an
 /// assembly tells them; `Limit` of an image that has more than 1,048,572 bytes; `Memory` where
 /// memory ran out.
-pub fn image_of(
-    alloc: Global,
-    description: &Description,
-    bytes: &[u8],
-) -> Result<Vec<u8>, Refusal>
+pub fn image_of(alloc: Global, description: &Description, bytes: &[u8]) -> Result<Vec<u8>, Refusal>
     requires { length bytes.now ≤ most_bytes }
     ensures gives { Gives result (ImageComes description.now bytes.now) }
     ensures one { (forms : List Entry) (bytes : List ℕ) (a b : Outcome) →

@@ -6,7 +6,7 @@ use Rattle.func_image.proofs.image.image_read.Goals as goal
 
 pub returns-in_err-assembly : goal.returns-in_err-assembly
 returns-in_err-assembly c =
-    let p = err_from_is_err_and c.from_residual-in_err-assembly.result c.from_residual-in_err-assembly.ensures.1 in
+    let p = err_from_is_err_and c.from_residual.result c.from_residual.ensures.1 in
     rw (p.1, p.2) (image_refused c.args.description.now c.args.functions.now c.in_err-assembly.field-0.0 c.in_err-assembly.ensures.gives)
 
 pub units_of-requires : goal.units_of-requires

@@ -13,6 +13,7 @@ use Rattle.new_insns.specs.Replaced.{window}
 use Rattle.equate.specs.Side.{Insns}
 use Rattle.equate.specs.Equated.{Equated}
 use Rattle.form_needs.specs.Needs.{is_kind, lower_facts}
+use Rattle.reg_uses.specs.Uses.{insn_uses}
 use Rattle.insn_fuse.specs.Fused.{set_of, reads_at, fused}
 use Rattle.insn_fuse.proofs.Standing.{stands}
 use Rattle.md_forms.specs.declared.form.Entry.{Entry}
@@ -22,6 +23,7 @@ use Rattle.rtx_tree.specs.Limit.{most_apart, most_combined}
 use Rattle.combine.specs.Combine.{fused_window, levels, passes, PassesBetween, Links, IsDeadBehind, IsFormed, Makes, Combines}
 use Rattle.combine.specs.machine.Found.{Linked, Made, Compared, PutBetween, Tried}
 use Rattle.combine.proofs.One.{some_one, register_one, path_one, made_one}
+use Rattle.combine.proofs.Unused.{no_reads}
 
 -- ---- what stands between
 
@@ -66,6 +68,10 @@ module _ (f : Function) (first second : ℕ) (one : Insn) (at_first : slice_get 
       no_use none r path links =
           let same = some_one (slice_get f.insns second) links.other other links.at_second at_second in
           none path (ap (λ n. reads_at n other.pattern) (sym (register_is r path links)) ∙ (ap (λ (i : Insn). reads_at r i.pattern) (sym same) ∙ links.once))
+
+      -- it does not use the register
+      pub no_reader : insn_uses other register ≡ false → Linked f first second None
+      no_reader unused = no_use (λ path once. let none : path ∷ [] ≡ [] = sym once ∙ no_reads one other register sets unused in cc)
 
       pub no_pass : (PassesBetween f first second register → ⊥) → Linked f first second None
       no_pass none r path links = none (subst (PassesBetween f first second) (register_is r path links) links.between)

@@ -4,5 +4,6 @@ pub mod Front
 pub mod One
 pub mod Kept
 pub mod Depth
+mod Unused
 pub mod Found
 pub mod Next

@@ -70,6 +70,10 @@ pub fn link_of(
     if !is_kind(other.kind) {
         return Ok(None);
     }
+    // asked first, as it takes no memory, and of most pairs the second uses none of the first's
+    if !does_use(other, register) {
+        return Ok(None);
+    }
     let Some(path) = use_of(alloc, &other.pattern, register)? else {
         return Ok(None);
     };

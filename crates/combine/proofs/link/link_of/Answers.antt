@@ -1,7 +1,12 @@
 use Rattle.std.proofs.Common.{◌≡◌, [], ◌∷◌, sym, ◌∙◌}
 use Rattle.insn_fuse.specs.Fused.{reads_at}
-use Rattle.combine.proofs.Found.{path_of, no_pass}
+use Rattle.combine.proofs.Found.{path_of, no_reader, no_pass}
 use Rattle.combine.proofs.link.link_of.Goals as goal
+
+pub returns-then-not-does_use : goal.returns-then-not-does_use
+returns-then-not-does_use c =
+    no_reader c.args.chain.now c.args.first c.args.second c.insn.result.now c.insn.ensures c.insn-other.result.now c.insn-other.ensures c.in-Some.register (sym c.set_of.ensures ∙ c.in-Some.is)
+    (sym c.does_use.ensures ∙ c.if-not-does_use.true)
 
 pub returns-then-pass_between : goal.returns-then-pass_between
 returns-then-pass_between c = record {

@@ -96,16 +96,28 @@ is_source (source.Call part) x = is_call part x
 
 -- ---- jumps
 
+abbrev pub is_uid : List Rtx → Bool
+is_uid (uid ∷ []) = is_constant uid
+is_uid kids = false
+
 abbrev pub is_label_by : Code → List Rtx → Bool
-is_label_by code.LabelRef (uid ∷ []) = is_constant uid
+is_label_by code.LabelRef kids = is_uid kids
 is_label_by _ kids = false
 
 -- (label_ref UID)
 abbrev pub is_label : Rtx → Bool
 is_label x = is_label_by (out-Rtx x).code (kids_of x)
 
+-- a label, and the next instruction
+abbrev pub are_ways : Rtx → Rtx → Bool
+are_ways label next = is_label label && is_pc next
+
+abbrev pub are_choice : Mode → List Rtx → Bool
+are_choice m (test ∷ label ∷ next ∷ []) = is_test Void m test && are_ways label next
+are_choice m kids = false
+
 abbrev pub is_choice_by : Mode → Code → List Rtx → Bool
-is_choice_by m code.IfThenElse (test ∷ label ∷ next ∷ []) = is_test Void m test && (is_label label && is_pc next)
+is_choice_by m code.IfThenElse kids = are_choice m kids
 is_choice_by m _ kids = false
 
 -- (if_then_else (COMPARISON A B) (label_ref UID) (pc))

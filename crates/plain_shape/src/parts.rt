@@ -116,12 +116,33 @@ pub fn is_source(source: Source, x: &Rtx) -> bool
     }
 }
 
+fn is_uid(kids: &[Rtx]) -> bool
+    ensures { result ≡ spec.is_uid kids.now }
+{
+    match kids {
+        [uid] => is_constant(uid),
+        _ => false,
+    }
+}
+
 /// Whether a tree is `(label_ref UID)`.
 pub fn is_label(x: &Rtx) -> bool
     ensures { result ≡ spec.is_label x.now }
 {
-    match (x.code, x.kids.as_slice()) {
-        (Code::LabelRef, [uid]) => is_constant(uid),
+    matches!(x.code, Code::LabelRef) && is_uid(x.kids.as_slice())
+}
+
+fn are_ways(label: &Rtx, next: &Rtx) -> bool
+    ensures { result ≡ spec.are_ways label.now next.now }
+{
+    is_label(label) && next.is_pc()
+}
+
+fn are_choice(mode: Mode, kids: &[Rtx]) -> bool
+    ensures { result ≡ spec.are_choice mode kids.now }
+{
+    match kids {
+        [test, label, next] => is_test(Mode::Void, mode, test) && are_ways(label, next),
         _ => false,
     }
 }
@@ -130,10 +151,5 @@ pub fn is_label(x: &Rtx) -> bool
 pub fn is_choice(mode: Mode, x: &Rtx) -> bool
     ensures { result ≡ spec.is_choice mode x.now }
 {
-    match (x.code, x.kids.as_slice()) {
-        (Code::IfThenElse, [test, label, next]) => {
-            is_test(Mode::Void, mode, test) && (is_label(label) && next.is_pc())
-        }
-        _ => false,
-    }
+    matches!(x.code, Code::IfThenElse) && are_choice(mode, x.kids.as_slice())
 }

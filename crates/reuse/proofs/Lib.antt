@@ -1,0 +1,13 @@
+pub mod Parts
+pub mod Lists
+pub mod Anyhow
+pub mod Last
+pub mod Any
+pub mod Drop
+pub mod Second
+pub mod One
+pub mod Ends
+pub mod Kept
+pub mod Found
+pub mod Shift
+pub mod Next

@@ -1,0 +1,2 @@
+pub mod Reuse
+pub mod machine

@@ -1,0 +1,121 @@
+//! What stands between two instructions.
+ghost use Rattle.std.specs.Prelude.{◌≡◌, ◌+◌, ◌<◌, length, IfOk};
+ghost use Rattle.std.specs.List.{list_any, list_all};
+ghost use Rattle.rtx_tree.specs.Tree.{head_of};
+ghost use Rattle.new_insns.specs.Replaced.{window};
+ghost use Rattle.reuse.specs.Reuse as spec;
+
+use live_chain::LiveChain;
+use plain_data::Memory;
+use reg_uses::does_define;
+use rtx_tree::{Code, Insn, Kind, Rtx};
+
+/// Whether an instruction defines the register that an expression is. A number past 32 bits finds
+/// no memory.
+fn defines_this(insn: &Insn, x: &Rtx) -> Result<bool, Memory>
+    ensures { IfOk result (λ r. r ≡ spec.defined_by insn.now (head_of x.now).code (head_of x.now).number) }
+{
+    if !matches!(x.code, Code::Reg) || x.number < 0 {
+        return Ok(false);
+    }
+    match u32::try_from(x.number) {
+        Ok(reg) => Ok(does_define(insn, reg)),
+        Err(_) => Err(Memory),
+    }
+}
+
+/// Whether an instruction defines a register that stands in an expression.
+#[tactic(auto, using(crate::proofs::Parts::defined_out))]
+fn defines_part(insn: &Insn, x: &Rtx) -> Result<bool, Memory>
+    ensures { IfOk result (λ r. r ≡ spec.defines_part insn.now x.now) }
+{
+    if defines_this(insn, x)? {
+        return Ok(true);
+    }
+    for kid in x.kids.as_slice() {
+        if defines_part(insn, kid)? {
+            return Ok(true);
+        }
+    }
+    Ok(false)
+}
+
+/// Whether memory stands in an expression.
+#[tactic(auto, using(crate::proofs::Parts::memory_out))]
+fn has_memory(x: &Rtx) -> bool
+    ensures { result ≡ spec.has_memory x.now }
+{
+    if matches!(x.code, Code::Mem) {
+        return true;
+    }
+    for kid in x.kids.as_slice() {
+        if has_memory(kid) {
+            return true;
+        }
+    }
+    false
+}
+
+/// Whether an effect is a `set` of memory.
+fn effect_stores(x: &Rtx) -> bool
+    ensures { result ≡ spec.effect_stores x.now }
+{
+    match (x.code, x.kids.as_slice()) {
+        (Code::Set, [place, ..]) => matches!(place.code, Code::Mem),
+        _ => false,
+    }
+}
+
+/// Whether one of some effects is.
+fn any_stores(effects: &[Rtx]) -> bool
+    ensures { result ≡ list_any spec.effect_stores effects.now }
+{
+    effects.iter().any(|x| effect_stores(x))
+}
+
+/// Whether an instruction stores.
+fn stores(insn: &Insn) -> bool
+    ensures { result ≡ spec.stores insn.now }
+{
+    if matches!(insn.pattern.code, Code::Parallel) {
+        any_stores(insn.pattern.kids.as_slice())
+    } else {
+        effect_stores(&insn.pattern)
+    }
+}
+
+fn stands_between(kind: Kind) -> bool
+    ensures { result ≡ spec.stands_between kind }
+{
+    matches!(kind, Kind::Plain | Kind::Barrier)
+}
+
+/// Whether an instruction leads on to the next alone, and leaves what an expression is worth.
+pub fn keeps(insn: &Insn, source: &Rtx) -> Result<bool, Memory>
+    ensures { IfOk result (λ r. r ≡ spec.keeps source.now insn.now) }
+{
+    if !stands_between(insn.kind) {
+        return Ok(false);
+    }
+    if stores(insn) && has_memory(source) {
+        return Ok(false);
+    }
+    let defines = defines_part(insn, source)?;
+    Ok(!defines)
+}
+
+/// Whether the instructions behind a first place and in front of a second leave a register alone.
+pub fn all_leave(chain: &LiveChain, first: u32, second: u32, reg: u32) -> bool
+    requires order { first < second }
+    requires within { second < length chain.now.insns }
+    ensures { result ≡ list_all (spec.leaves reg) (window chain.now (first + 1) second) }
+{
+    let mut place = first + 1;
+    while place < second {
+        if does_define(chain.insn(place), reg) {
+            return false;
+        }
+        place += 1;
+    }
+    true
+}

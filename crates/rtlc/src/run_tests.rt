@@ -1,14 +1,10 @@
 //! Runs at the limits, of which the input is generated, and outcomes that no run meets.
-use asm_out::write_function;
 use byte_edge::{ByteFiles, ByteSink, ByteSource, Files, QuietFiles};
 use case_text::Told;
 use code_eval::{code_ending, print_line, rtl_ending};
 use func_run::Outcome;
-use md_named::description_of;
-use pass_refusal::PassRefusal;
 use plain_data::{Items, Memory};
-use rtlc_run::{Refusal, run};
-use rtx_tree::{Function, Limit};
+use rtlc_run::run;
 use rv_line::CodeOutcome;
 use std::alloc::Global;
 
@@ -171,41 +167,4 @@ fn registers_of_a_parallel_are_looked_up_at_once(rt: HostRuntime) {
     let text = long_parallel(rt.alloc(), 10_000);
     assert!(rt; text.is_whole());
     assert!(rt; is_assembled(rt.alloc(), &text.out, 2, "rtlc: p:5: rule 8\n"));
-}
-
-/// The text of the assembly of a function without a name and instructions has so many bytes.
-const LEAST: usize = 59;
-
-/// How many bytes there are behind so many and the assembly of a function without a name and
-/// instructions, or the number that is told where they are too many for an assembly; 0 where
-/// something else is told.
-fn bytes_behind(alloc: Global, size: usize) -> Result<Result<usize, u64>, Refusal> {
-    let mut files = QuietFiles::new(alloc);
-    let description = description_of(alloc, &mut files, b"rv64im")?;
-    let mut text = vec![in alloc; b' '; size].map_err(|_| Refusal::Memory)?;
-    let mut items = Vec::new(alloc);
-    let f = Function::empty(alloc);
-    match write_function(alloc, &description, 0, &f, &mut text, &mut items) {
-        Ok(()) => Ok(Ok(text.len())),
-        Err(
-            PassRefusal::Limit {
-                which: Limit::Output,
-                count,
-            },
-        ) => Ok(Err(count)),
-        Err(_) => Ok(Err(0)),
-    }
-}
-
-#[test]
-fn an_assembly_has_so_many_bytes(rt: HostRuntime) {
-    let most = 268_435_456;
-    assert!(rt; matches!(bytes_behind(rt.alloc(), most - LEAST), Ok(Ok(268_435_456))));
-    assert!(rt;
-        matches!(
-            bytes_behind(rt.alloc(), most - LEAST + 1),
-            Ok(Err(268_435_457))
-        )
-    );
-    assert!(rt; matches!(bytes_behind(rt.alloc(), most), Ok(Err(268_435_457))));
 }

@@ -155,3 +155,12 @@ def tested_bits(tree):
     shifted = Tree("ashift", "DI", (inner, constant(up))) if up else inner
     signs = {"eq": "ge", "ne": "lt"} if size == 1 else {"eq": "eq", "ne": "ne"}
     return Tree(signs[tree.code], "", (shifted, zero))
+
+
+def less_than_next(tree):
+    """A comparison by `at most` with a constant, as one by `less` with the next, which one instruction of the machine does."""
+    left, right = tree.parts
+    value = number(right)
+    if tree.code not in ("le", "leu") or value is None or not -2048 <= value < 2047 or (tree.code, value) == ("leu", -1):
+        return tree
+    return Tree({"le": "lt", "leu": "ltu"}[tree.code], tree.mode, (left, constant(value + 1)))

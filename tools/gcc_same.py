@@ -1,5 +1,5 @@
 """Trees that mean the same as others of GCC's RTL and are in the language, or are shorter there. A word is a value of 32 bits."""
-from gcc_dump import Refused, Tree, constant, is_pseudo, number, settings_of, within
+from gcc_dump import Refused, Tree, constant, is_pseudo, lowpart, number, settings_of, within
 
 MODES = {"QI": 8, "HI": 16, "SI": 32, "DI": 64}
 SUMS = {"plus", "minus", "mult", "div", "mod", "udiv", "umod", "neg"}
@@ -118,11 +118,15 @@ def widened(tree):
 
 
 def shifts_of_extract(tree):
-    """The bits of an extract as a shift to the upper end and one down."""
+    """The bits of an extract as a shift to the upper end and one down; those from a place on to the upper end of a word as one
+    shift of the word."""
     inner, size, place = tree.parts[0], number(tree.parts[1]), number(tree.parts[2])
     width = MODES[inner.mode] if inner.mode in ("SI", "DI") else 0
     if size is None or place is None or not width or inner.mode != tree.mode:
         raise Refused(tree.code)
+    if tree.code == "zero_extract" and width == 64 and place and size + place == 32:
+        word = inner.parts[0] if inner.code == "subreg" and inner.parts[0].mode == "SI" else lowpart("SI", inner)
+        return Tree("zero_extend", "DI", (Tree("lshiftrt", "SI", (word, constant(place))),))
     up = Tree("ashift", inner.mode, (inner, constant(width - size - place))) if size + place < width else inner
     return Tree("lshiftrt" if tree.code == "zero_extract" else "ashiftrt", inner.mode, (up, constant(width - size)))
 
@@ -155,3 +159,12 @@ def tested_bits(tree):
     shifted = Tree("ashift", "DI", (inner, constant(up))) if up else inner
     signs = {"eq": "ge", "ne": "lt"} if size == 1 else {"eq": "eq", "ne": "ne"}
     return Tree(signs[tree.code], "", (shifted, zero))
+
+
+def less_than_next(tree):
+    """A comparison by `at most` with a constant, as one by `less` with the next, which one instruction of the machine does."""
+    left, right = tree.parts
+    value = number(right)
+    if tree.code not in ("le", "leu") or value is None or not -2048 <= value < 2047 or (tree.code, value) == ("leu", -1):
+        return tree
+    return Tree({"le": "lt", "leu": "ltu"}[tree.code], tree.mode, (left, constant(value + 1)))

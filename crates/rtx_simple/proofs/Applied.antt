@@ -7,6 +7,7 @@ use Rattle.rtx_tree.specs.declared.code.Code.TheVariants as code
 use Rattle.rtx_tree.specs.declared.code.Mode.{Mode}
 use Rattle.rtx_tree.specs.declared.tree.Rtx.{Rtx}
 use Rattle.rtx_tree.specs.Tree.{RtxHead, head_of, kids_of, tree_of, node_of, const_of}
+use Rattle.rtx_pool.specs.Trees.{with_kids_turned}
 use Rattle.rtx_simple.specs.Simple.{is_constant, is_zero, is_exchangeable, exchanged_by, constant_second, tested, compared_by, compared_with_zero, wrapping_sum, terms_by, added_by, added, with_added, joined_constants}
 use Rattle.rtx_simple.specs.machine.Tests as tests
 
@@ -22,12 +23,26 @@ exchanges_by h (a ∷ b ∷ []) x applies = by_test (is_constant a && not (is_co
     by_test false applies = cc
 exchanges_by h (a ∷ b ∷ c ∷ kids) x applies = cc
 
-pub exchanges : (x : Rtx) (kids : List Rtx) → is_some (constant_second x) ≡ true → kids ≡ reverse (kids_of x) → tree_of (head_of x) kids ≡ unwrap_or (constant_second x) x
+pub exchanges : (x : Rtx) → is_some (constant_second x) ≡ true → with_kids_turned x ≡ unwrap_or (constant_second x) x
 unfolding constant_second
-exchanges x kids applies same = by_test (is_exchangeable (head_of x).code) applies
+exchanges x applies = by_test (is_exchangeable (head_of x).code) applies
   where
-    by_test : (t : Bool) → is_some (if t then exchanged_by (head_of x) (kids_of x) else None) ≡ true → tree_of (head_of x) kids ≡ unwrap_or (if t then exchanged_by (head_of x) (kids_of x) else None) x
-    by_test true applies = ap (tree_of (head_of x)) same ∙ exchanges_by (head_of x) (kids_of x) x applies
+    by_test : (t : Bool) → is_some (if t then exchanged_by (head_of x) (kids_of x) else None) ≡ true → with_kids_turned x ≡ unwrap_or (if t then exchanged_by (head_of x) (kids_of x) else None) x
+    by_test true applies = exchanges_by (head_of x) (kids_of x) x applies
+    by_test false applies = cc
+
+two_by : (h : RtxHead) (kids : List Rtx) → is_some (exchanged_by h kids) ≡ true → length kids ≡ 2
+two_by h [] applies = cc
+two_by h (a ∷ []) applies = cc
+two_by h (a ∷ b ∷ []) applies = refl
+two_by h (a ∷ b ∷ c ∷ kids) applies = cc
+
+pub exchanges_two : (x : Rtx) → is_some (constant_second x) ≡ true → length (kids_of x) ≡ 2
+unfolding constant_second
+exchanges_two x applies = by_test (is_exchangeable (head_of x).code) applies
+  where
+    by_test : (t : Bool) → is_some (if t then exchanged_by (head_of x) (kids_of x) else None) ≡ true → length (kids_of x) ≡ 2
+    by_test true applies = two_by (head_of x) (kids_of x) applies
     by_test false applies = cc
 
 -- ---- a comparison

@@ -1,5 +1,5 @@
 //! The rules, one by one. Each says whether it applies, and changes the tree where it does.
-ghost use Rattle.std.specs.Prelude.{◌≡◌, ◌<◌, length, reverse, slice_get, slice_set, Some, option_copied, unwrap_or};
+ghost use Rattle.std.specs.Prelude.{◌≡◌, ◌<◌, length, slice_get, slice_set, Some, option_copied, unwrap_or};
 ghost use Rattle.std.specs.Option.{is_some};
 ghost use Rattle.std.specs.Str.{bytes_eq};
 ghost use Rattle.rtx_tree.specs.Code.{mode_name};
@@ -7,10 +7,9 @@ ghost use Rattle.rtx_tree.specs.Tree.{head_of, kids_of, node_of, const_of};
 ghost use Rattle.rtx_simple.specs.Simple as spec;
 ghost use Rattle.rtx_simple.specs.machine.Tests as tests;
 
-use plain_data::Items;
-use rtx_tree::{Class, Code, Kids, Mode, Rtx};
+use rtx_pool::{hoist, set_head, swap};
+use rtx_tree::{Class, Code, Mode, Name, Rtx};
 use std::alloc::Global;
-use std::mem;
 
 fn is_constant(x: &Rtx) -> bool
     ensures { result ≡ spec.is_constant x.now }
@@ -25,20 +24,19 @@ fn is_zero(x: &Rtx) -> bool
 }
 
 /// The first kid in the place of the tree.
-fn hoist(x: &mut Rtx)
+fn raise(alloc: Global, x: &mut Rtx)
     requires { 0 < length (kids_of x.old) }
     ensures { slice_get (kids_of x.old) 0 ≡ Some x.new }
 {
-    let kid = x.kids.remove(0);
-    *x = kid;
+    hoist(alloc, x, &[], &[0]);
 }
 
 /// The operation of a code and a mode on the kids of the tree.
 fn remake(alloc: Global, x: &mut Rtx, code: Code, mode: Mode)
     ensures { x.new ≡ node_of code mode (kids_of x.old) }
 {
-    let kids = mem::replace(&mut x.kids, Items::new(alloc));
-    *x = Rtx::of_kids(alloc, code, mode, kids);
+    x.name = Name::empty(alloc);
+    set_head(alloc, x, &[], code, mode, 0);
 }
 
 // ---- an extension of a constant
@@ -65,14 +63,14 @@ fn extends_constant(x: &Rtx) -> bool
 
 /// An extension of a constant becomes the constant.
 #[tactic(auto, unfolding(crate::specs::Simple::extended_constant))]
-pub fn extended_constant(x: &mut Rtx) -> bool
+pub fn extended_constant(alloc: Global, x: &mut Rtx) -> bool
     ensures done { result ≡ is_some (spec.extended_constant x.old) }
     ensures tree { x.new ≡ unwrap_or (spec.extended_constant x.old) x.old }
 {
     if !extends_constant(x) {
         return false;
     }
-    hoist(x);
+    raise(alloc, x);
     true
 }
 
@@ -136,7 +134,7 @@ fn join(alloc: Global, x: &mut Rtx, sum: i64)
     ensures { spec.joined_constants x.old ≡ Some x.new }
 {
     let mode = x.mode;
-    hoist(x);
+    raise(alloc, x);
     put_constant(alloc, x, sum);
     remake(alloc, x, Code::Plus, mode);
 }
@@ -168,14 +166,14 @@ fn adds_zero(x: &Rtx) -> bool
 
 /// A sum with 0 becomes its first term.
 #[tactic(auto, unfolding(crate::specs::Simple::without_zero))]
-pub fn without_zero(x: &mut Rtx) -> bool
+pub fn without_zero(alloc: Global, x: &mut Rtx) -> bool
     ensures done { result ≡ is_some (spec.without_zero x.old) }
     ensures tree { x.new ≡ unwrap_or (spec.without_zero x.old) x.old }
 {
     if !adds_zero(x) {
         return false;
     }
-    hoist(x);
+    raise(alloc, x);
     true
 }
 
@@ -223,7 +221,7 @@ pub fn compared_with_zero(alloc: Global, x: &mut Rtx) -> bool
         return false;
     };
     let mode = x.mode;
-    hoist(x);
+    raise(alloc, x);
     remake(alloc, x, own, mode);
     true
 }
@@ -261,15 +259,15 @@ fn cuts_extension(x: &Rtx) -> bool
 
 /// The low part of an extension becomes what is extended, where that has the mode.
 #[tactic(auto, unfolding(crate::specs::Simple::extension_cut))]
-pub fn extension_cut(x: &mut Rtx) -> bool
+pub fn extension_cut(alloc: Global, x: &mut Rtx) -> bool
     ensures done { result ≡ is_some (spec.extension_cut x.old) }
     ensures tree { x.new ≡ unwrap_or (spec.extension_cut x.old) x.old }
 {
     if !cuts_extension(x) {
         return false;
     }
-    hoist(x);
-    hoist(x);
+    raise(alloc, x);
+    raise(alloc, x);
     true
 }
 
@@ -294,19 +292,8 @@ fn begins_with_constant(x: &Rtx) -> bool
     }
 }
 
-/// Two kids in the other order.
-#[tactic(auto, using(crate::proofs::Kids::exchanged))]
-fn exchange(alloc: Global, kids: &mut Kids)
-    requires { length kids.old ≡ 2 }
-    ensures { kids.new ≡ reverse kids.old }
-{
-    let first = kids.replace(0, Rtx::const_int(alloc, 0));
-    let second = kids.replace(1, first);
-    kids.replace(0, second);
-}
-
 /// A constant that stands before an expression goes behind it.
-#[tactic(auto, using(crate::proofs::Applied::exchanges), unfolding(crate::specs::Simple::constant_second))]
+#[tactic(auto, using(crate::proofs::Applied::exchanges, crate::proofs::Applied::exchanges_two), unfolding(crate::specs::Simple::constant_second))]
 pub fn constant_second(alloc: Global, x: &mut Rtx) -> bool
     ensures done { result ≡ is_some (spec.constant_second x.old) }
     ensures tree { x.new ≡ unwrap_or (spec.constant_second x.old) x.old }
@@ -314,6 +301,6 @@ pub fn constant_second(alloc: Global, x: &mut Rtx) -> bool
     if !begins_with_constant(x) {
         return false;
     }
-    exchange(alloc, &mut x.kids);
+    swap(alloc, x, &[]);
     true
 }

@@ -16,19 +16,19 @@ fn once(alloc: Global, x: &mut Rtx) -> bool
     ensures done { result ≡ is_some (spec.once x.old) }
     ensures tree { x.new ≡ unwrap_or (spec.once x.old) x.old }
 {
-    if extended_constant(x) {
+    if extended_constant(alloc, x) {
         return true;
     }
     if joined_constants(alloc, x) {
         return true;
     }
-    if without_zero(x) {
+    if without_zero(alloc, x) {
         return true;
     }
     if compared_with_zero(alloc, x) {
         return true;
     }
-    if extension_cut(x) {
+    if extension_cut(alloc, x) {
         return true;
     }
     constant_second(alloc, x)

@@ -1,5 +1,5 @@
 //! The pass over a function.
-ghost use Rattle.std.specs.Prelude.{◌≡◌, ◌+◌, ℕ, List, length, IfOk, OnOk};
+ghost use Rattle.std.specs.Prelude.{◌≡◌, ◌+◌, ℕ, List, length, IfOk, OnOk, OnErr};
 ghost use Rattle.rtx_tree.specs.declared.function.Function.{Function};
 ghost use Rattle.md_forms.specs.declared.form.Entry.{Entry};
 ghost use Rattle.law_insn_replaced.specs.Sound.{IsSound, PassKeeps};
@@ -20,6 +20,7 @@ fn put(alloc: Global, desc: &Description, chain: &mut LiveChain, pair: Pair) -> 
     requires { found.IsNext desc.now chain.old pair }
     ensures step { OnOk result (spec.IsStep desc.now chain.old chain.new) }
     ensures none { IfOk result (spec.NoneBefore desc.now chain.new) }
+    ensures err { OnErr result (chain.new ≡ chain.old) }
 {
     let Pair { first, second, new } = pair;
     let end = behind(second)?;
@@ -28,6 +29,23 @@ fn put(alloc: Global, desc: &Description, chain: &mut LiveChain, pair: Pair) -> 
     } else {
         Ok(0)
     }
+}
+
+/// Combines pairs of a chain's instructions, one behind the other, until none is left. Where memory
+/// runs out, some whole number of steps was made, and none by half.
+///
+/// # Errors
+///
+/// `Memory` where memory ran out, or for places past 32 bits.
+pub fn combine_chain(alloc: Global, desc: &Description, chain: &mut LiveChain) -> Result<(), Memory>
+    ensures whole { (n : ℕ) × spec.Steps desc.now n chain.old chain.new }
+    ensures none { OnOk result (spec.NoneLeft desc.now chain.new) }
+{
+    let mut from: u32 = 0;
+    while let Some(pair) = next_pair(alloc, desc, chain, from)? {
+        from = put(alloc, desc, chain, pair)?;
+    }
+    Ok(())
 }
 
 /// The function with pairs of its instructions combined, one behind the other, until none is left,
@@ -50,10 +68,7 @@ pub fn combine(alloc: Global, desc: &Description, f: Function) -> Result<(Functi
 {
     let mut chain = LiveChain::of(alloc, f);
     let long = chain.len();
-    let mut from: u32 = 0;
-    while let Some(pair) = next_pair(alloc, desc, &mut chain, from)? {
-        from = put(alloc, desc, &mut chain, pair)?;
-    }
+    combine_chain(alloc, desc, &mut chain)?;
     let count = long - chain.len();
     Ok((chain.into_function(alloc)?, count))
 }

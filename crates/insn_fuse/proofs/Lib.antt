@@ -2,3 +2,4 @@ pub mod Paths
 pub mod Standing
 pub mod Kept
 pub mod Uses
+pub mod Placed

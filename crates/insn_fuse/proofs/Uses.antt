@@ -7,7 +7,7 @@ use Rattle.rtx_tree.specs.declared.code.Code.TheVariants.{Mem, Set, Clobber, Par
 use Rattle.rtx_tree.specs.declared.tree.Rtx.{Rtx}
 use Rattle.rtx_tree.specs.Tree.{head_of, kids_of, is_reg_numbered, mentions_reg}
 use Rattle.rtx_tree.proofs.Trees.{mentions_out}
-use Rattle.reg_uses.specs.Effects.{reads, place_reads_by, place_reads, effect_uses_by, effect_uses, effects_by, pattern_uses}
+use Rattle.reg_uses.specs.Effects.{reads, place_reads_by, effect_uses_by, effect_uses, effects_by, pattern_uses}
 use Rattle.insn_fuse.specs.Fused.{behind_indices, here_too, mentioned_at, address_by, address_reads, effect_reads_by, effect_reads, reads_by, reads_at}
 use Rattle.insn_fuse.proofs.Paths.{mentioned_out}
 use Rattle.insn_fuse.proofs.Standing.{tree_induction}

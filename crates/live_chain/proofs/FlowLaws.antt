@@ -42,7 +42,7 @@ falls_by kind.Call x e = refl
 falls_by kind.Label x e = refl
 falls_by kind.Barrier x e = refl
 
-not_false : (b : Bool) → not b ≡ true → b ≡ false
+pub not_false : (b : Bool) → not b ≡ true → b ≡ false
 not_false true e = absurd (false≢true e)
 not_false false e = refl
 

@@ -10,3 +10,5 @@ pub mod WindowLaws
 pub mod KeptLaws
 pub mod LeadLaws
 pub mod NarrowLaws
+pub mod WideLaws
+pub mod DemandLaws

@@ -133,12 +133,12 @@ module _ (f : Function) (first end : ℕ) (new : List Insn) (rows within : List 
   forth : (reg : ℕ) →
       Carries f g reg here there old →
       (asks_for new reg ≡ true) ⊎ ((defines_in new reg ≡ false) × IsBehind g reg there)
-  forth reg (inl asks) = inl (sym (alike.demands.asks reg) ∙ asks)
+  forth reg (inl asks) = inl (sym ((alike.demands reg).asks) ∙ asks)
   forth reg (inr w) = by (asks_for old reg) refl
     where
       by : (asks : Bool) → asks_for old reg ≡ asks → (asks_for new reg ≡ true) ⊎ ((defines_in new reg ≡ false) × IsBehind g reg there)
-      by true is = inl (sym (alike.demands.asks reg) ∙ is)
-      by false is = inr (sym (alike.demands.defines reg is (from_behind reg w.one)) ∙ w.free, w.two)
+      by true is = inl (sym ((alike.demands reg).asks) ∙ is)
+      by false is = inr (sym ((alike.demands reg).defines is (from_behind reg w.one)) ∙ w.free, w.two)
 
   forth_live : (reg p : ℕ) → IsLive f reg p → IsCarried f g front old new reg p
   forth_live reg = carried f g front old new back reg f_is refl alike.ends.old_leads alike.ends.new_leads alike.ends.flow (returns reg) (forth reg)
@@ -146,12 +146,12 @@ module _ (f : Function) (first end : ℕ) (new : List Insn) (rows within : List 
   back_again : (reg : ℕ) →
       Carries g f reg there here new →
       (asks_for old reg ≡ true) ⊎ ((defines_in old reg ≡ false) × IsBehind f reg here)
-  back_again reg (inl asks) = inl (alike.demands.asks reg ∙ asks)
+  back_again reg (inl asks) = inl ((alike.demands reg).asks ∙ asks)
   back_again reg (inr w) = by (asks_for old reg) refl
     where
       by : (asks : Bool) → asks_for old reg ≡ asks → (asks_for old reg ≡ true) ⊎ ((defines_in old reg ≡ false) × IsBehind f reg here)
       by true is = inl is
-      by false is = inr (alike.demands.defines reg is (from_behind reg w.two) ∙ w.free, w.two)
+      by false is = inr ((alike.demands reg).defines is (from_behind reg w.two) ∙ w.free, w.two)
 
   back_live : (reg p : ℕ) → IsLive g reg p → IsCarried g f front new old reg p
   back_live reg = carried g f front new old back reg refl f_is alike.ends.new_leads alike.ends.old_leads (sym alike.ends.flow) (sym (returns reg)) (back_again reg)

@@ -9,7 +9,7 @@ ghost use Rattle.rtl_chain.specs.Counts as counts;
 ghost use Rattle.live_chain.specs.machine.Whole.{with_chain};
 
 use crate::behind::{is_after, is_before};
-use crate::kept::{rows_inside, rows_joined};
+use crate::kept::{is_same_before, rows_inside, rows_joined};
 use crate::narrow::live_behind;
 use crate::numbers::{
     count_after, count_around, count_beside, count_of, pseudo_after, pseudo_of, uid_after, uid_of,
@@ -339,9 +339,9 @@ impl LiveChain {
             old,
             new.as_slice(),
         )?;
-        let same = inside.is_some();
+        let same = is_same_before(first, &inside);
         self.insns.splice(first as usize, end as usize, new)?;
-        self.rows = rows_joined(self.rows.take(), first, end, inside);
+        self.rows = rows_joined(self.rows.take(), end, inside);
         self.greatest = greatest;
         self.next = next;
         self.count = count;

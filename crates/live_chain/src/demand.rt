@@ -4,7 +4,8 @@ ghost use Rattle.rtx_tree.specs.RegSet.{has_reg};
 ghost use Rattle.reg_rows.specs.Row.{has};
 ghost use Rattle.reg_uses.specs.Uses as insns;
 ghost use Rattle.live_chain.specs.machine.Window as spec;
-ghost use Rattle.live_chain.specs.machine.Demand.{IsDemandOf};
+ghost use Rattle.live_chain.specs.machine.Demand.{IsDemandOf, AreLikeLists};
+ghost use Rattle.live_chain.specs.machine.Window.{IsAlike};
 
 use plain_data::Memory;
 use reg_rows::RegRow;
@@ -66,48 +67,53 @@ pub fn demand_of(alloc: Global, window: &[Insn]) -> Result<Demand, Memory>
     Ok(demand)
 }
 
-/// Whether each of some registers is among others.
-fn are_among(regs: &[u32], others: &[u32]) -> bool
-    ensures { result ≡ true → (reg : ℕ) →
-        has_reg regs.now reg ≡ true → has_reg others.now reg ≡ true }
+/// Adds those of some registers that are live behind, and are among neither of two lists.
+fn add_live_but(
+    regs: &mut Regs,
+    more: &[u32],
+    asks: &[u32],
+    but: &[u32],
+    behind: &RegRow,
+) -> Result<(), Memory>
+    ensures { OnOk result ((reg : ℕ) → has_reg regs.new reg ≡
+        (has_reg regs.old reg || (has_reg more.now reg && (has behind.now reg &&
+        (not (has_reg asks.now reg) && not (has_reg but.now reg)))))) }
 {
-    for reg in regs {
-        if !is_among(others, *reg) {
-            return false;
+    for reg in more {
+        if behind.contains(*reg) && !is_among(asks, *reg) && !is_among(but, *reg) {
+            regs.push(*reg)?;
         }
     }
-    true
+    Ok(())
 }
 
-/// Whether each of some registers that is live behind, and is not among those that are asked for,
-/// is among others.
-fn defines_too(regs: &[u32], others: &[u32], asks: &[u32], behind: &RegRow) -> bool
-    ensures { result ≡ true → (reg : ℕ) → has_reg regs.now reg ≡ true →
-        has_reg asks.now reg ≡ false → has behind.now reg ≡ true → has_reg others.now reg ≡ true }
+/// The registers in which two demands differ: one asks for them and the other does not, or one
+/// defines them and the other does not, where neither asks for them and they are live behind.
+fn differing(alloc: Global, old: &Demand, new: &Demand, behind: &RegRow) -> Result<Regs, Memory>
+    ensures { IfOk result (λ differing. (reg : ℕ) → has_reg differing reg ≡ false →
+        AreLikeLists old.now new.now (has behind.now) reg) }
 {
-    for reg in regs {
-        if behind.contains(*reg) && !is_among(asks, *reg) && !is_among(others, *reg) {
-            return false;
-        }
-    }
-    true
+    let mut regs = Regs::new(alloc);
+    let (asks, asks_too) = (old.asks.as_slice(), new.asks.as_slice());
+    let (defines, defines_too) = (old.defines.as_slice(), new.defines.as_slice());
+    add_but(&mut regs, asks, asks_too)?;
+    add_but(&mut regs, asks_too, asks)?;
+    add_live_but(&mut regs, defines, asks, defines_too, behind)?;
+    add_live_but(&mut regs, defines_too, asks, defines, behind)?;
+    Ok(regs)
 }
 
-/// Whether two windows ask for the same registers.
-pub fn ask_alike(old: &Demand, new: &Demand) -> bool
-    ensures { result ≡ true → (reg : ℕ) → has_reg old.now.asks reg ≡ has_reg new.now.asks reg }
+/// The registers in which two windows differ, where these are live behind them.
+pub fn differing_between(
+    alloc: Global,
+    old: &[Insn],
+    new: &[Insn],
+    behind: &RegRow,
+) -> Result<Regs, Memory>
+    ensures { IfOk result (λ differing. (reg : ℕ) → has_reg differing reg ≡ false →
+        IsAlike old.now new.now (has behind.now) reg) }
 {
-    are_among(old.asks.as_slice(), new.asks.as_slice())
-        && are_among(new.asks.as_slice(), old.asks.as_slice())
-}
-
-/// Whether two windows define the same of the registers that are live behind and that the first
-/// doesn't ask for.
-pub fn define_alike(old: &Demand, new: &Demand, behind: &RegRow) -> bool
-    ensures { result ≡ true → (reg : ℕ) → has_reg old.now.asks reg ≡ false →
-        has behind.now reg ≡ true → has_reg old.now.defines reg ≡ has_reg new.now.defines reg }
-{
-    let asks = old.asks.as_slice();
-    defines_too(old.defines.as_slice(), new.defines.as_slice(), asks, behind)
-        && defines_too(new.defines.as_slice(), old.defines.as_slice(), asks, behind)
+    let was = demand_of(alloc, old)?;
+    let is = demand_of(alloc, new)?;
+    differing(alloc, &was, &is, behind)
 }

@@ -1,16 +1,17 @@
 //! Rows that are kept where a window is replaced.
-ghost use Rattle.std.specs.Prelude.{◌≡◌, ◌≤◌, ◌<◌, ◌^◌, true, length, slice_range, IfOk, IfSome};
+ghost use Rattle.std.specs.Prelude.{◌≡◌, ◌≤◌, true, length, slice_range, IfOk, IfSome, IsSome};
 ghost use Rattle.std.specs.List.{splice};
 ghost use Rattle.rtx_tree.specs.declared.function.Function.{Function};
 ghost use Rattle.reg_rows.specs.Row.{has};
 ghost use Rattle.live.specs.Live.{AreLiveRows};
 ghost use Rattle.new_insns.specs.Replaced.{replaced};
 ghost use Rattle.live_chain.specs.Stays.{StaysBefore};
-ghost use Rattle.live_chain.specs.machine.Window.{AreLikeEnds, AreLikeDemands, AreSameOutside};
+ghost use Rattle.live_chain.specs.machine.Window.{AreLikeEnds, AreInside};
 
 use crate::behind::row_after;
-use crate::demand::{ask_alike, define_alike, demand_of};
+use crate::demand::differing_between;
 use crate::sets::same_sets;
+use crate::wide::block_to;
 use crate::window::{leads_last, same_flow};
 use crate::within::rows_within;
 use gap_list::GapList;
@@ -26,40 +27,39 @@ fn are_like_ends(old: &[Insn], new: &[Insn]) -> bool
     leads_last(old) && leads_last(new) && same_flow(old, new) && same_sets(old, new)
 }
 
-/// Whether two windows are seen to ask for the same registers, and to define the same of the others
-/// that are live behind.
-fn are_like_demands(
+/// The rows of what is live before the places from one on, up to the end of a window.
+#[derive(Drop)]
+pub struct Inside {
+    pub from: u32,
+    pub rows: Items<RegRow>,
+}
+
+/// The rows of instructions in the place of a window, and of those in front of it from where on
+/// both ask alike, if there are such.
+fn rows_from(
     alloc: Global,
+    insns: &GapList<Insn>,
+    first: u32,
     old: &[Insn],
     new: &[Insn],
     behind: &RegRow,
-) -> Result<bool, Memory>
-    ensures { IfOk result (λ alike.
-        alike ≡ true → AreLikeDemands old.now new.now (has behind.now)) }
+) -> Result<Option<Inside>, Memory>
+    requires within { first ≤ length insns.now }
+    ensures { IfOk result (λ inside. IfSome inside (AreInside insns.now first old.now new.now (has behind.now))) }
 {
-    let was = demand_of(alloc, old)?;
-    let is = demand_of(alloc, new)?;
-    Ok(ask_alike(&was, &is) && define_alike(&was, &is, behind))
+    let differing = differing_between(alloc, old, new, behind)?;
+    let Some(from) = block_to(alloc, insns, first, differing)? else {
+        return Ok(None);
+    };
+    let Some(front) = insns.between(from as usize, first as usize) else {
+        return Ok(None);
+    };
+    let rows = rows_within(alloc, front, new, behind)?;
+    Ok(Some(Inside { from, rows }))
 }
 
-/// Whether two windows are seen to be the same from outside.
-fn are_same_outside(
-    alloc: Global,
-    old: &[Insn],
-    new: &[Insn],
-    behind: &RegRow,
-) -> Result<bool, Memory>
-    ensures { IfOk result (λ same. same ≡ true → AreSameOutside old.now new.now (has behind.now)) }
-{
-    if are_like_ends(old, new) {
-        are_like_demands(alloc, old, new, behind)
-    } else {
-        Ok(false)
-    }
-}
-
-/// The rows of instructions in the place of a window, if the rows outside it are seen to stay as
-/// they are.
+/// The rows of instructions in the place of a window, if the rows outside it, and outside what
+/// stands in front of it up to where both ask alike, are seen to stay as they are.
 fn rows_for(
     alloc: Global,
     insns: &GapList<Insn>,
@@ -68,26 +68,23 @@ fn rows_for(
     end: u32,
     old: &[Insn],
     new: &[Insn],
-) -> Result<Option<Items<RegRow>>, Memory>
+) -> Result<Option<Inside>, Memory>
     requires order { first ≤ end }
     requires within { end ≤ length insns.now }
     requires old { old.now ≡ slice_range insns.now first end }
     ensures rows { (f : Function) → f.insns ≡ insns.now → AreLiveRows f rows.now →
         IfOk result (λ inside. IfSome inside (λ inside.
-        AreLiveRows (replaced f first end new.now) (splice rows.now first end inside))) }
+        AreLiveRows (replaced f first end new.now) (splice rows.now inside.from end inside.rows))) }
     ensures stays { (f : Function) → f.insns ≡ insns.now → AreLiveRows f rows.now →
-        IfOk result (λ inside. IfSome inside (λ inside.
+        IfOk result (λ inside. IfSome inside (λ inside. inside.from ≡ first →
         StaysBefore f (replaced f first end new.now) first)) }
+    ensures order { IfOk result (λ inside. IfSome inside (λ inside. inside.from ≤ first)) }
 {
-    if first == end || insns.len() > u32::MAX as usize {
+    if first == end || insns.len() > u32::MAX as usize || !are_like_ends(old, new) {
         return Ok(None);
     }
     let behind = row_after(alloc, insns, rows, end - 1)?;
-    if are_same_outside(alloc, old, new, &behind)? {
-        Ok(Some(rows_within(alloc, new, &behind)?))
-    } else {
-        Ok(None)
-    }
+    rows_from(alloc, insns, first, old, new, &behind)
 }
 
 /// The rows of instructions in the place of a window, if the function's rows are known.
@@ -99,16 +96,17 @@ pub fn rows_inside(
     end: u32,
     old: &[Insn],
     new: &[Insn],
-) -> Result<Option<Items<RegRow>>, Memory>
+) -> Result<Option<Inside>, Memory>
     requires order { first ≤ end }
     requires within { end ≤ length insns.now }
     requires old { old.now ≡ slice_range insns.now first end }
     ensures rows { (f : Function) → f.insns ≡ insns.now → IfSome rows.now (AreLiveRows f) →
         IfOk result (λ inside. IfSome inside (λ inside. IfSome rows.now (λ rows.
-        AreLiveRows (replaced f first end new.now) (splice rows first end inside)))) }
+        AreLiveRows (replaced f first end new.now) (splice rows inside.from end inside.rows)))) }
     ensures stays { (f : Function) → f.insns ≡ insns.now → IfSome rows.now (AreLiveRows f) →
-        IfOk result (λ inside. IfSome inside (λ inside.
+        IfOk result (λ inside. IfSome inside (λ inside. inside.from ≡ first →
         StaysBefore f (replaced f first end new.now) first)) }
+    ensures order { IfOk result (λ inside. IfSome inside (λ inside. inside.from ≤ first)) }
 {
     match rows {
         Some(rows) => rows_for(alloc, insns, rows, first, end, old, new),
@@ -116,24 +114,33 @@ pub fn rows_inside(
     }
 }
 
+/// Whether what is live in front of a window is seen to stay.
+pub fn is_same_before(first: u32, inside: &Option<Inside>) -> bool
+    ensures { result ≡ true → IsSome inside.now × (IfSome inside.now (λ inside. inside.from ≡ first)) }
+{
+    match inside {
+        Some(inside) => inside.from == first,
+        None => false,
+    }
+}
+
 /// The rows with others in the place of a window's, if both are known. Where memory runs out they
 /// are no longer known.
 pub fn rows_joined(
     rows: Option<GapList<RegRow>>,
-    first: u32,
     end: u32,
-    inside: Option<Items<RegRow>>,
+    inside: Option<Inside>,
 ) -> Option<GapList<RegRow>>
-    requires order { first ≤ end }
+    requires order { IfSome inside (λ inside. inside.from ≤ end) }
     requires within { IfSome rows (λ rows. end ≤ length rows) }
     ensures { (f : Function) →
         IfSome inside (λ inside. IfSome rows (λ rows.
-        AreLiveRows f (splice rows first end inside))) →
+        AreLiveRows f (splice rows inside.from end inside.rows))) →
         IfSome result (AreLiveRows f) }
 {
     let mut rows = rows?;
-    let inside = inside?;
-    match rows.splice(first as usize, end as usize, inside) {
+    let Inside { from, rows: inside } = inside?;
+    match rows.splice(from as usize, end as usize, inside) {
         Ok(()) => Some(rows),
         Err(_) => None,
     }

@@ -6,8 +6,10 @@
 //! for an answer is kept for the next ones. Where a window is replaced, what is live outside it is
 //! kept if the old and the new window are the same from outside (`specs/machine/Window.antt`): they
 //! ask for the same registers, define the same of the others that are live behind, and lead to the
-//! same places. Then what is live within follows from what is live behind. Else it is forgotten, and
-//! computed anew at the next question.
+//! same places. Then what is live within follows from what is live behind. Where they differ in some
+//! registers, both windows are seen with what stands in front of them in the block, up to where each
+//! of these registers is used or defined: wider windows that are the same from outside. Else what is
+//! live is forgotten, and computed anew at the next question.
 #![tactic(auto)]
 
 mod behind;
@@ -18,6 +20,7 @@ mod leads;
 mod narrow;
 mod numbers;
 mod sets;
+mod wide;
 mod window;
 mod within;
 

@@ -1,9 +1,8 @@
 //! Windows of a chain as they are seen from outside.
-ghost use Rattle.std.specs.Prelude.{◌≡◌, ◌&&◌, not, true, MatchOption};
+ghost use Rattle.std.specs.Prelude.{◌≡◌, true, MatchOption};
 ghost use Rattle.std.specs.List.{list_all};
 ghost use Rattle.rtx_tree.specs.Patterns as patterns;
 ghost use Rattle.rtl_func.specs.declared.flow.Flow.TheVariants.{Falls};
-ghost use Rattle.rtl_func.specs.Blocks.{is_jump_kind};
 ghost use Rattle.rtl_func.specs.Successors.{source_flow, jump_flow};
 ghost use Rattle.live_chain.specs.machine.Window as spec;
 
@@ -18,12 +17,19 @@ fn is_inner(insn: &Insn) -> bool
     !matches!(insn.kind, Kind::Label) && !is_return(insn)
 }
 
-/// Whether each of some instructions is neither a label nor a return, nor a jump.
-fn all_pass(insns: &[Insn]) -> bool
-    ensures { result ≡
-        list_all (λ i. spec.is_inner i && not (is_jump_kind i.kind)) insns.now }
+/// Whether an instruction leads on to the next alone, and is entered from the one in front of it
+/// alone: it is neither a label nor a return, nor a jump.
+pub fn passes(insn: &Insn) -> bool
+    ensures { result ≡ spec.passes insn.now }
 {
-    insns.iter().all(|insn| is_inner(insn) && !is_jump(insn))
+    is_inner(insn) && !is_jump(insn)
+}
+
+/// Whether each of some instructions does.
+fn all_pass(insns: &[Insn]) -> bool
+    ensures { result ≡ list_all spec.passes insns.now }
+{
+    insns.iter().all(passes)
 }
 
 /// Whether a window is left at its end alone, by no return, and entered at its beginning alone.

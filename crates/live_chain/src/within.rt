@@ -1,6 +1,7 @@
 //! The rows of a window's instructions, by what is live behind it.
-ghost use Rattle.std.specs.Prelude.{◌≡◌, ℕ, ◌||◌, ◌&&◌, not, IfOk, OnOk};
+ghost use Rattle.std.specs.Prelude.{◌≡◌, ℕ, ◌||◌, ◌&&◌, not, List, ◌++◌, IfOk, OnOk};
 ghost use Rattle.rtx_tree.specs.RegSet.{has_reg};
+ghost use Rattle.rtx_tree.specs.declared.function.Insn.{Insn};
 ghost use Rattle.reg_rows.specs.Row.{has};
 ghost use Rattle.reg_uses.specs.Uses as insns;
 ghost use Rattle.live_chain.specs.machine.Window.{AreRowsOf, first_has};
@@ -60,16 +61,36 @@ fn row_in_front(
     }
 }
 
-/// The registers that are live before each instruction of a window.
-pub fn rows_within(alloc: Global, window: &[Insn], behind: &RegRow) -> Result<Items<RegRow>, Memory>
-    ensures { IfOk result (AreRowsOf window.now (has behind.now)) }
+/// Puts the rows of a window in front of those of what follows it.
+pub fn add_rows(
+    alloc: Global,
+    window: &[Insn],
+    behind: &RegRow,
+    rows: &mut Items<RegRow>,
+) -> Result<(), Memory>
+    ensures { OnOk result ((after : List Insn) → AreRowsOf after (has behind.now) rows.old →
+        AreRowsOf (window.now ++ after) (has behind.now) rows.new) }
 {
-    let mut rows = Items::new(alloc);
     let mut at = window.len();
     while at > 0 {
         at -= 1;
         let row = row_in_front(alloc, &window[at], rows.as_slice(), behind)?;
         rows.insert(0, row)?;
     }
+    Ok(())
+}
+
+/// The registers that are live before each instruction of two windows, one behind the other.
+pub fn rows_within(
+    alloc: Global,
+    front: &[Insn],
+    window: &[Insn],
+    behind: &RegRow,
+) -> Result<Items<RegRow>, Memory>
+    ensures { IfOk result (AreRowsOf (front.now ++ window.now) (has behind.now)) }
+{
+    let mut rows = Items::new(alloc);
+    add_rows(alloc, window, behind, &mut rows)?;
+    add_rows(alloc, front, behind, &mut rows)?;
     Ok(rows)
 }

@@ -1,13 +1,14 @@
 -- A window of a chain as it is seen from outside: GCC Internals, "Liveness information", "Insns"
 -- and "Jump Patterns".
-use Rattle.std.specs.Prelude.{◌≡◌, ℕ, ◌<◌, Bool, true, false, ◌||◌, ◌&&◌, not, List, [], ◌∷◌, length, drop}
-use Rattle.std.specs.List.{list_any}
+use Rattle.std.specs.Prelude.{◌≡◌, ℕ, ◌<◌, ◌≤◌, Bool, true, false, ◌||◌, ◌&&◌, not, List, [], ◌∷◌, ◌++◌, length, drop, slice_range}
+use Rattle.std.specs.List.{list_any, list_all}
 use Rattle.reg_rows.specs.Row.{has}
 use Rattle.reg_rows.specs.Table.{has_at}
 use Rattle.rtx_tree.specs.declared.function.Insn.{Insn}
 use Rattle.rtx_tree.specs.Patterns.{is_label_kind}
 use Rattle.rtx_tree.specs.RegSet.{has_reg}
 use Rattle.rv_regs.specs.Registers.{kept_registers}
+use Rattle.live_chain.specs.declared.kept.Inside.{Inside}
 use Rattle.reg_uses.specs.Uses.{insn_uses, insn_defines, insn_sets, is_return}
 use Rattle.rtl_func.specs.declared.flow.Flow.{Flow}
 use Rattle.rtl_func.specs.declared.flow.Flow.TheVariants.{Falls}
@@ -37,11 +38,19 @@ flow_behind (i ∷ j ∷ window) = flow_behind (j ∷ window)
 abbrev pub is_inner : Insn → Bool
 is_inner i = not (is_label_kind i.kind) && not (is_return i)
 
+-- an instruction leads on to the next alone, and is entered from the one in front of it alone
+abbrev pub passes : Insn → Bool
+passes i = is_inner i && not (is_jump_kind i.kind)
+
 -- the window is left at its end alone, by no return, and entered at its beginning alone
 abbrev pub leads_last : List Insn → Bool
 leads_last [] = true
 leads_last (i ∷ []) = is_inner i
-leads_last (i ∷ j ∷ window) = (is_inner i && not (is_jump_kind i.kind)) && leads_last (j ∷ window)
+leads_last (i ∷ j ∷ window) = passes i && leads_last (j ∷ window)
+
+-- an instruction of the window uses the register or defines it
+abbrev pub names_in : List Insn → ℕ → Bool
+names_in window reg = list_any (λ i. insn_uses i reg || insn_defines i reg) window
 
 -- two windows are entered and left alike: they lead to the same places, and set the same of the
 -- registers that a return uses where they are set
@@ -51,17 +60,17 @@ pub record AreLikeEnds (old new : List Insn) : Type 0 where
   pub flow : flow_behind old ≡ flow_behind new
   pub sets : (reg : ℕ) → has_reg kept_registers reg ≡ true → sets_in old reg ≡ sets_in new reg
 
--- two windows that ask for the same registers, and of the others that are live behind define the
--- same
-pub record AreLikeDemands (old new : List Insn) (behind : ℕ → Bool) : Type 0 where
-  pub asks : (reg : ℕ) → asks_for old reg ≡ asks_for new reg
-  pub defines : (reg : ℕ) → asks_for old reg ≡ false → behind reg ≡ true →
+-- two windows are alike in a register: both ask for it, or neither does, and then, where it is live
+-- behind, both define it, or neither does
+pub record IsAlike (old new : List Insn) (behind : ℕ → Bool) (reg : ℕ) : Type 0 where
+  pub asks : asks_for old reg ≡ asks_for new reg
+  pub defines : asks_for old reg ≡ false → behind reg ≡ true →
       defines_in old reg ≡ defines_in new reg
 
 -- two windows are the same from outside, where these registers are live behind them
 pub record AreSameOutside (old new : List Insn) (behind : ℕ → Bool) : Type 0 where
   pub ends : AreLikeEnds old new
-  pub demands : AreLikeDemands old new behind
+  pub demands : (reg : ℕ) → IsAlike old new behind reg
 
 -- the register is live before the window, where these are live behind it
 abbrev pub is_live_before : List Insn → (ℕ → Bool) → ℕ → Bool
@@ -78,3 +87,18 @@ pub record AreRowsOf (window : List Insn) (behind : ℕ → Bool) (rows : List (
 abbrev pub first_has : List (List ℕ) → List ℕ → ℕ → Bool
 first_has [] behind reg = has behind reg
 first_has (row ∷ rows) behind reg = has row reg
+
+-- the window from one place up to another leads on from each of its instructions to the next alone,
+-- and each of these registers is used or defined in it
+pub record IsBlockTo (insns : List Insn) (from first : ℕ) (regs : List ℕ) : Type 0 where
+  pub order : from ≤ first
+  pub passing : list_all passes (slice_range insns from first) ≡ true
+  pub named : (reg : ℕ) → has_reg regs reg ≡ true → names_in (slice_range insns from first) reg ≡ true
+
+-- rows of a new window, and of what stands in front of it from where on the old one and it, both with
+-- what stands there, are the same from outside
+pub record AreInside (insns : List Insn) (first : ℕ) (old new : List Insn) (behind : ℕ → Bool) (inside : Inside) : Type 0 where
+  pub order : inside.from ≤ first
+  pub passing : list_all passes (slice_range insns inside.from first) ≡ true
+  pub demands : (reg : ℕ) → IsAlike (slice_range insns inside.from first ++ old) (slice_range insns inside.from first ++ new) behind reg
+  pub rows : AreRowsOf (slice_range insns inside.from first ++ new) behind inside.rows

@@ -18,7 +18,7 @@ invariant_of-self-2 c =
     c.in_ok-splice.ensures.ok ∙ ap (λ l. splice l a.first a.end a.new) c.move_gap.ensures in
     record {
       live = live_joined f (with_chain was.frame all) a.first a.end c.as_slice-4.result.now a.new was.rows
-          c.take.result c.in_ok-inside.inside c.rows_joined.result c.as_slice-4.ensures.value
+          c.take.result c.rows_joined.result c.in_ok-inside.inside c.as_slice-4.ensures.value
           c.take.ensures.value (ap (with_chain was.frame) same)
           (c.in_ok-inside.ensures.rows f (sym c.move_gap.ensures) c.self.invariant.live) c.rows_joined.ensures;
       uid = known_after (λ i. i.uid) was.insns c.move_gap.new.self c.in-Some.old.now a.new
@@ -48,5 +48,5 @@ returns-clause-stays c = λ told.
     let all = c.splice.new.self in
     subst (λ g. StaysBefore g (with_chain was.frame all) a.first) c.self.view_is
     (subst (λ g. StaysBefore f g a.first) (sym (ap (with_chain was.frame) same))
-    (stays_told f a.first a.end c.as_slice-4.result.now a.new c.in_ok-inside.inside c.is_some-same.result c.as_slice-4.ensures.value
-    c.is_some-same.ensures (c.in_ok-inside.ensures.stays f (sym c.move_gap.ensures) c.self.invariant.live) told))
+    (stays_told f a.first a.end c.as_slice-4.result.now a.new c.in_ok-inside.inside c.is_same_before-same.result c.as_slice-4.ensures.value
+    c.is_same_before-same.ensures (c.in_ok-inside.ensures.stays f (sym c.move_gap.ensures) c.self.invariant.live) told))

@@ -17,13 +17,12 @@ ghost use Rattle.asm_out.specs.machine.Steps as steps;
 
 use crate::lines::{code_piece, read_lines, text_of};
 use crate::piece::Piece;
+use crate::setting::Setting;
 use live::live_after_by;
 use md_desc::{Chosen, Description};
 use pass_refusal::{PassRefusal, Side, judge};
 use plain_data::Items;
-use reg_rows::RegRow;
-use rtl_func::Labels;
-use rtx_tree::{Function, Insn, RegSet};
+use rtx_tree::{Insn, RegSet};
 use rv_text::Line;
 use std::alloc::Global;
 use std::slice;
@@ -67,33 +66,31 @@ fn lines_in(alloc: Global, side: Side) -> Items<Line>
 /// with it over the registers that are live behind it. More lines than 32 bits count find no
 /// memory.
 pub fn chosen_piece(
-    alloc: Global,
-    description: &Description,
-    number: u32,
-    f: &Function,
-    labels: &Labels,
-    rows: &[RegRow],
+    setting: &Setting,
     place: u32,
     insn: &Insn,
     chosen: &Chosen,
 ) -> Result<Piece, PassRefusal>
-    requires short { length f.now.insns < 2 ^ 32 }
-    requires labels { (uid : ℕ) → map.get nat_cmp labels.now uid ≡ place_of uid f.now.insns }
-    requires rows { AreLiveRows f.now rows.now }
+    requires short { length setting.now.function.now.insns < 2 ^ 32 }
+    requires labels { (uid : ℕ) → map.get nat_cmp setting.now.labels.now uid ≡
+        place_of uid setting.now.function.now.insns }
+    requires rows { AreLiveRows setting.now.function.now setting.now.rows.now }
     requires needs { needs.needs_form insn.now ≡ true }
-    requires chosen { IsChosen description.now needs.output_facts insn.now.pattern chosen.now }
-    ensures { Gives result (PlaceComes description.now number f.now place insn.now) }
+    requires chosen { IsChosen setting.now.description.now needs.output_facts insn.now.pattern chosen.now }
+    ensures { Gives result
+        (PlaceComes setting.now.description.now setting.now.number setting.now.function.now place insn.now) }
 {
-    let text = text_of(alloc, description, number, insn, chosen)?;
+    let alloc = setting.alloc;
+    let text = text_of(alloc, setting.description, setting.number, insn, chosen)?;
     let lines = read_lines(alloc, text.as_slice())?;
     if lines.len() > u32::MAX as usize {
         return Err(PassRefusal::Memory);
     }
-    let live = live_after_by(alloc, f, labels, rows, place)?;
+    let live = live_after_by(alloc, setting.function, setting.labels, setting.rows, place)?;
     let side = Side::Lines {
-        function: number,
+        function: setting.number,
         lines,
     };
-    compare(alloc, description, chosen.form, insn, &side, &live)?;
+    compare(alloc, setting.description, chosen.form, insn, &side, &live)?;
     Ok(code_piece(alloc, text.as_slice(), lines_in(alloc, side))?)
 }

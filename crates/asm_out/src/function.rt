@@ -14,6 +14,7 @@ ghost use Rattle.asm_out.specs.Written.{AreWritten, IsWritten};
 use crate::frame::{closing, opening};
 use crate::piece::append_piece;
 use crate::places::write_places;
+use crate::setting::Setting;
 use live::live_rows_of;
 use md_desc::Description;
 use pass_refusal::PassRefusal;
@@ -70,16 +71,15 @@ fn write_chain(
     }
     let labels = labels_of(alloc, f.insns.as_slice())?;
     let rows = live_rows_of(alloc, f)?;
-    write_places(
+    let setting = Setting {
         alloc,
         description,
         number,
-        f,
-        &labels,
-        rows.as_slice(),
-        out,
-        items,
-    )
+        function: f,
+        labels: &labels,
+        rows: rows.as_slice(),
+    };
+    write_places(&setting, out, items)
 }
 
 /// Appends the parts of a function's text.

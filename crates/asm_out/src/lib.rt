@@ -15,6 +15,7 @@ mod lines;
 mod piece;
 mod places;
 mod refusal;
+mod setting;
 
 pub use function::write_function;
 pub use piece::Piece;

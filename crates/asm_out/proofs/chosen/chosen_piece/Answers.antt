@@ -8,7 +8,7 @@ use Rattle.asm_out.proofs.chosen.chosen_piece.Goals as goal
 pub returns-in_err-compare : goal.returns-in_err-compare
 returns-in_err-compare c =
     let a = c.args in
-    let tried : IsTried a.description.now a.number a.f.now a.place a.insn.now a.chosen.now c.in_ok-lines.lines c.in_ok-live.live = record {
+    let tried : IsTried a.setting.now.description.now a.setting.now.number a.setting.now.function.now a.place a.insn.now a.chosen.now c.in_ok-lines.lines c.in_ok-live.live = record {
       needs = c.requires.needs;
       chosen = c.requires.chosen;
       read = subst (λ (t : List ℕ). AreLinesOf t c.in_ok-lines.lines) (c.as_slice.ensures.value ∙ c.in_ok-text.ensures) c.in_ok-lines.ensures;
@@ -16,18 +16,18 @@ returns-in_err-compare c =
     } in
     let p = err_from_is_err_and c.from_residual-in_err-compare.result c.from_residual-in_err-compare.ensures.1 in
     rw (p.1, p.2)
-    (judged_wrong a.description.now a.number a.f.now a.place a.insn.now a.chosen.now c.in_ok-lines.lines c.in_ok-live.live tried c.in_err-compare.field-0.0 c.in_err-compare.ensures)
+    (judged_wrong a.setting.now.description.now a.setting.now.number a.setting.now.function.now a.place a.insn.now a.chosen.now c.in_ok-lines.lines c.in_ok-live.live tried c.in_err-compare.field-0.0 c.in_err-compare.ensures)
 
 pub returns : goal.returns
 returns c =
     let a = c.args in
-    let tried : IsTried a.description.now a.number a.f.now a.place a.insn.now a.chosen.now c.in_ok-lines.lines c.in_ok-live.live = record {
+    let tried : IsTried a.setting.now.description.now a.setting.now.number a.setting.now.function.now a.place a.insn.now a.chosen.now c.in_ok-lines.lines c.in_ok-live.live = record {
       needs = c.requires.needs;
       chosen = c.requires.chosen;
       read = subst (λ (t : List ℕ). AreLinesOf t c.in_ok-lines.lines) (c.as_slice.ensures.value ∙ c.in_ok-text.ensures) c.in_ok-lines.ensures;
       live_after = c.in_ok-live.ensures;
     } in
     let piece = c.in_ok-code_piece.field-0 in
-    judged_same a.description.now a.number a.f.now a.place a.insn.now a.chosen.now c.in_ok-lines.lines c.in_ok-live.live tried piece c.in_ok-compare.ensures
-    (code_piece_is a.description.now a.number a.insn.now a.chosen.now c.in_ok-lines.lines c.lines_in.result c.as_slice-2.result.now piece c.in_ok-code_piece.ensures
+    judged_same a.setting.now.description.now a.setting.now.number a.setting.now.function.now a.place a.insn.now a.chosen.now c.in_ok-lines.lines c.in_ok-live.live tried piece c.in_ok-compare.ensures
+    (code_piece_is a.setting.now.description.now a.setting.now.number a.insn.now a.chosen.now c.in_ok-lines.lines c.lines_in.result c.as_slice-2.result.now piece c.in_ok-code_piece.ensures
     (c.as_slice-2.ensures.value ∙ c.in_ok-text.ensures) c.lines_in.ensures)

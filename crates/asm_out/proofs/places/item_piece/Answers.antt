@@ -9,10 +9,10 @@ pub returns-then-is_label : goal.returns-then-is_label
 returns-then-is_label c =
     let a = c.args in
     let is : is_label a.insn.now.kind ≡ true = search rules in
-    subst (λ (p : Piece). PlaceComes a.description.now a.number a.f.now a.place a.insn.now (Ok p)) (sym c.in_ok-label.ensures.piece) (PlaceComes.label is c.in_ok-label.ensures.small)
+    subst (λ (p : Piece). PlaceComes a.setting.now.description.now a.setting.now.number a.setting.now.function.now a.place a.insn.now (Ok p)) (sym c.in_ok-label.ensures.piece) (PlaceComes.label is c.in_ok-label.ensures.small)
 
 pub returns-then-is_silent : goal.returns-then-is_silent
 returns-then-is_silent c =
     let a = c.args in
     let is : is_silent a.insn.now ≡ true = search rules in
-    subst (λ (p : Piece). PlaceComes a.description.now a.number a.f.now a.place a.insn.now (Ok p)) (sym (c.only_text.ensures ∙ ap only_text c.new.ensures.items)) (PlaceComes.silent is)
+    subst (λ (p : Piece). PlaceComes a.setting.now.description.now a.setting.now.number a.setting.now.function.now a.place a.insn.now (Ok p)) (sym (c.only_text.ensures ∙ ap only_text c.new.ensures.items)) (PlaceComes.silent is)

@@ -7,4 +7,4 @@ use Rattle.asm_out.proofs.places.write_places.Given as goal
 abbrev pub invariant-loop-place : goal.invariant-loop-place
 invariant-loop-place l =
     Appends {A = Unit {0}} l.initial.out.items l.out.items l.initial.items.items l.items.items (Ok tt)
-    (PartsCome (PartComes l.description l.number l.f) (length l.initial.out.items) (places_from 0 (take l.place l.f.insns)))
+    (PartsCome (PartComes l.setting.description.now l.setting.number l.setting.function.now) (length l.initial.out.items) (places_from 0 (take l.place l.setting.function.now.insns)))

@@ -1,0 +1,4 @@
+pub mod Lexes
+pub mod WayLaws
+pub mod JoinLaws
+pub mod StateLaws

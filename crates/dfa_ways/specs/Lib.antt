@@ -1,0 +1,4 @@
+pub mod Tokens
+pub mod Ways
+pub mod Expression
+pub mod machine

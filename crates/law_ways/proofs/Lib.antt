@@ -1,0 +1,4 @@
+pub mod JoinedWays
+pub mod LevelWays
+pub mod StateWays
+pub mod WholeWays

@@ -16,7 +16,7 @@ use Rattle.dfa_ways.specs.declared.expression.Read.{Read}
 use Rattle.dfa_ways.specs.declared.expression.Read.TheVariants as read
 use Rattle.dfa_ways.specs.declared.expression.State.{State}
 use Rattle.dfa_ways.specs.Tokens.{tokens}
-use Rattle.dfa_ways.specs.Ways.{Way, Ways, most_units, no_cycle, one_cycle, all_joined, one_of, repeated}
+use Rattle.dfa_ways.specs.Ways.{Ways, most_units, no_cycle, one_cycle, all_joined, one_of, repeated}
 
 -- ---- words
 

@@ -1,5 +1,5 @@
 -- How long ways are that are made one, and how many there are.
-use Rattle.std.proofs.Common.{◌≡◌, ℕ, zero, suc, ◌+◌, ◌*◌, ◌<◌, ◌≤◌, ◌==◌, Bool, true, false, cond, List, [], ◌∷◌, ◌++◌, Option, Some, None, option_map, option_and_then, length, max, refl, sym, ap, subst, ◌∙◌, arith}
+use Rattle.std.proofs.Common.{◌≡◌, ℕ, ◌+◌, ◌*◌, ◌≤◌, ◌==◌, Bool, true, false, cond, List, [], ◌∷◌, ◌++◌, Option, Some, None, option_map, option_and_then, length, max, refl, sym, ap, subst, ◌∙◌, arith}
 use Rattle.std.specs.Prelude.{bit_and, bit_or, nat_le}
 use Rattle.std.specs.List.{AllByRecursion}
 use Rattle.std.proofs.lemmas.Bool.{leb-true}
@@ -7,7 +7,7 @@ use Rattle.std.proofs.lemmas.List.{length-append}
 use Rattle.md_text.specs.Lists.{each}
 use Rattle.dfa_ways.specs.declared.way.Joint.{Joint}
 use Rattle.dfa_ways.specs.declared.way.Joint.TheVariants as joint
-use Rattle.dfa_ways.specs.Ways.{Way, Ways, at_once, in_turn, joined, with_each, product, all_joined, one_of, repeated}
+use Rattle.dfa_ways.specs.Ways.{Way, Ways, at_once, joined, with_each, product, all_joined}
 
 -- ---- what a value comes of
 

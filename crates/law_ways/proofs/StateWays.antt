@@ -1,5 +1,5 @@
 -- What holds of an expression as far as it was read.
-use Rattle.std.proofs.Common.{◌≡◌, ℕ, ◌<◌, ◌≤◌, ◌&&◌, Bool, List, [], ◌∷◌, Option, Some, None, option_map, option_and_then, length, refl, sym, ap, subst, ◌∙◌, lit<, lit≤, arith}
+use Rattle.std.proofs.Common.{◌≡◌, ℕ, ◌≤◌, ◌&&◌, List, [], ◌∷◌, Some, None, option_map, option_and_then, subst, lit<, lit≤}
 use Rattle.std.specs.Prelude.{nat_le}
 use Rattle.std.specs.List.{AllByRecursion}
 use Rattle.std.proofs.lemmas.Bool.{leb-true, and_parts}
@@ -14,7 +14,7 @@ use Rattle.dfa_ways.specs.declared.expression.Read.TheVariants as read
 use Rattle.dfa_ways.specs.declared.expression.State.{State}
 use Rattle.dfa_ways.specs.Ways.{Ways, no_cycle, one_cycle, repeated}
 use Rattle.dfa_ways.specs.Expression.{new_level, units_of, element_of, count_by, count_of, counted, behind_term, whole, with_word, behind_word, term_of, star_behind, behind_star, opened, behind_open, closed, behind_close, behind_sign, behind_mark, behind, behind_all, ended_in, ended, start}
-use Rattle.law_ways.specs.Lawful.{IsWay, AreWays}
+use Rattle.law_ways.specs.Lawful.{AreWays}
 use Rattle.law_ways.proofs.JoinedWays.{mapped, led, tested, some_is}
 use Rattle.law_ways.proofs.LevelWays.{repeated_ways, IsSound, new_sound, sign_sound, whole_ways}
 

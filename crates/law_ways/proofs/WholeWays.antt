@@ -1,9 +1,7 @@
 -- An expression has ways.
-use Rattle.std.proofs.Common.{◌≡◌, ℕ, List, Some}
 use Rattle.dfa_ways.specs.Tokens.{tokens}
-use Rattle.dfa_ways.specs.Ways.{Ways}
 use Rattle.dfa_ways.specs.Expression.{start, behind_all, ended, ways_of}
-use Rattle.law_ways.specs.Lawful.{AreWays, HaveWays}
+use Rattle.law_ways.specs.Lawful.{HaveWays}
 use Rattle.law_ways.proofs.JoinedWays.{led}
 use Rattle.law_ways.proofs.StateWays.{start_still, all_still, end_ways}
 

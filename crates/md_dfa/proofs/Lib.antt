@@ -1,0 +1,3 @@
+pub mod UnitLaws
+pub mod TestLaws
+pub mod ListLaws

@@ -1,0 +1,4 @@
+pub mod Units
+pub mod Test
+pub mod Reservations
+pub mod Pipeline

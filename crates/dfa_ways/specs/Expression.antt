@@ -16,7 +16,8 @@ use Rattle.dfa_ways.specs.declared.expression.Read.{Read}
 use Rattle.dfa_ways.specs.declared.expression.Read.TheVariants as read
 use Rattle.dfa_ways.specs.declared.expression.State.{State}
 use Rattle.dfa_ways.specs.Tokens.{tokens}
-use Rattle.dfa_ways.specs.Ways.{Ways, most_units, no_cycle, one_cycle, all_joined, one_of, repeated}
+use Rattle.rtx_tree.specs.Limit.{most_units, most_times}
+use Rattle.dfa_ways.specs.Ways.{Ways, no_cycle, one_cycle, all_joined, one_of, repeated}
 
 -- ---- words
 
@@ -35,10 +36,6 @@ units_of units word =
 
 unfoldable pub element_of : List (List ℕ) → List ℕ → Option Ways
 element_of units word = option_map one_cycle (units_of units word)
-
--- so many times may an element stand behind itself
-abbrev pub most_times : ℕ
-most_times = 1000
 
 abbrev pub count_by : ℕ → Option ℕ
 count_by n = if nat_le 1 n && nat_le n most_times then Some n else None

@@ -2,6 +2,7 @@
 -- way has a set of units for each cycle, from the first on: unit u is bit u of the set.
 use Rattle.std.specs.Prelude.{ℕ, zero, suc, ◌+◌, ◌*◌, ◌==◌, nat_le, bit_and, bit_or, List, [], ◌∷◌, ◌++◌, Option, Some, None, if◌then◌else◌, length, option_map, option_and_then}
 use Rattle.md_text.specs.Lists.{each}
+use Rattle.rtx_tree.specs.Limit.{most_ways, most_cycles}
 use Rattle.dfa_ways.specs.declared.way.Joint.{Joint}
 use Rattle.dfa_ways.specs.declared.way.Joint.TheVariants as joint
 
@@ -10,18 +11,6 @@ Way = List ℕ
 
 abbrev pub Ways : Type 0
 Ways = List Way
-
--- so many units are told apart
-abbrev pub most_units : ℕ
-most_units = 64
-
--- so many ways may an expression have, and each of its parts
-abbrev pub most_ways : ℕ
-most_ways = 64
-
--- so many cycles may a way have
-abbrev pub most_cycles : ℕ
-most_cycles = 64
 
 -- ---- two ways as one
 

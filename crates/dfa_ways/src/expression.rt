@@ -9,7 +9,7 @@ use crate::token::{Mark, Token, tokens_of};
 use crate::way::{Way, Ways};
 use md_text::operand_number;
 use plain_data::Memory;
-use rtx_tree::Name;
+use rtx_tree::{MOST_TIMES, Name};
 use std::alloc::Global;
 use std::marker::Model;
 use text_words::same;
@@ -83,9 +83,6 @@ pub struct State {
     /// What was read of the term.
     pub read: Read,
 }
-
-/// So many times may an element stand behind itself.
-const MOST_TIMES: u32 = 1000;
 
 /// The number that a text writes, from 1 to 1,000.
 #[tactic(auto, unfolding(crate::specs::Expression::count_of))]

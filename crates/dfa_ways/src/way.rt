@@ -1,8 +1,10 @@
 //! Ways, and two of them as one.
 ghost use Rattle.std.specs.Prelude.{◌≡◌, ◌+◌, ◌*◌, ◌++◌, nat_le, IfOk, OnOk};
+ghost use Rattle.rtx_tree.specs.Limit as limits;
 ghost use Rattle.dfa_ways.specs.Ways as spec;
 
 use plain_data::{Items, Memory};
+use rtx_tree::{MOST_CYCLES, MOST_WAYS};
 use std::alloc::Global;
 
 /// The units that are taken in each cycle, from the first on: unit u is bit u.
@@ -20,29 +22,23 @@ pub enum Joint {
     AtOnce,
 }
 
-/// So many ways may an expression have.
-const MOST_WAYS: usize = 64;
-
-/// So many cycles may a way have.
-const MOST_CYCLES: usize = 64;
-
 /// Whether there is room for so many cycles behind so many.
 fn is_short(first: usize, second: usize) -> bool
-    ensures { result ≡ nat_le (first + second) spec.most_cycles }
+    ensures { result ≡ nat_le (first + second) limits.most_cycles }
 {
     first <= MOST_CYCLES && second <= MOST_CYCLES - first
 }
 
 /// Whether there is room for so many ways beside so many.
 pub fn are_few(first: usize, second: usize) -> bool
-    ensures { result ≡ nat_le (first + second) spec.most_ways }
+    ensures { result ≡ nat_le (first + second) limits.most_ways }
 {
     first <= MOST_WAYS && second <= MOST_WAYS - first
 }
 
 /// Whether there is room for so many ways of each of so many.
 pub fn are_few_joined(first: usize, second: usize) -> bool
-    ensures { result ≡ nat_le (first * second) spec.most_ways }
+    ensures { result ≡ nat_le (first * second) limits.most_ways }
 {
     match first.checked_mul(second) {
         Some(count) => count <= MOST_WAYS,

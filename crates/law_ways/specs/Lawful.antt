@@ -2,7 +2,8 @@
 -- cycle or more, and not too many.
 use Rattle.std.specs.Prelude.{◌≡◌, ℕ, ◌<◌, ◌≤◌, List, Some, length}
 use Rattle.std.specs.List.{AllByRecursion}
-use Rattle.dfa_ways.specs.Ways.{Way, Ways, most_ways, most_cycles}
+use Rattle.rtx_tree.specs.Limit.{most_ways, most_cycles}
+use Rattle.dfa_ways.specs.Ways.{Way, Ways}
 use Rattle.dfa_ways.specs.Expression.{ways_of}
 
 pub record IsWay (x : Way) : Type 0 where

@@ -1,5 +1,6 @@
 -- Reservations: GCC Internals, "Specifying processor pipeline description".
 use Rattle.std.specs.Prelude.{ℕ, nat_le, List, [], ◌∷◌, Option, Some, None, if◌then◌else◌, codes, option_and_then}
+use Rattle.rtx_tree.specs.Limit.{most_latency}
 use Rattle.lisp_read.specs.declared.tree.Tree.{Tree}
 use Rattle.lisp_read.specs.Shape.{atom_of, string_of, items_of, is_word}
 use Rattle.md_text.specs.Template.{operand_number}
@@ -8,10 +9,6 @@ use Rattle.dfa_ways.specs.Expression.{ways_of}
 use Rattle.md_dfa.specs.declared.test.Test.{Test}
 use Rattle.md_dfa.specs.declared.reservation.Reservation.{Reservation}
 use Rattle.md_dfa.specs.Test.{test_of}
-
--- so many cycles may an instruction take
-abbrev pub most_latency : ℕ
-most_latency = 1000
 
 abbrev pub latency_by : ℕ → Option ℕ
 latency_by n = if nat_le n most_latency then Some n else None

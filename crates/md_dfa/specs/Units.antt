@@ -6,7 +6,7 @@ use Rattle.std.specs.Str.{bytes_eq}
 use Rattle.lisp_read.specs.declared.tree.Tree.{Tree}
 use Rattle.lisp_read.specs.Shape.{string_of, items_of, is_word}
 use Rattle.md_text.specs.Lists.{members}
-use Rattle.dfa_ways.specs.Ways.{most_units}
+use Rattle.rtx_tree.specs.Limit.{most_units}
 
 -- both parts are strings
 abbrev pub names_by : Option (List ℕ) → Option (List ℕ) → List (List ℕ)

@@ -10,7 +10,7 @@ use lisp_read::{Tree, atom, is_word, items, string};
 use md_iter::Instance;
 use md_text::operand_number;
 use plain_data::{Items, Memory};
-use rtx_tree::Name;
+use rtx_tree::{MOST_LATENCY, Name};
 use std::alloc::Global;
 
 /// A reservation: which instructions it is of, how many cycles they take, and which units.
@@ -23,9 +23,6 @@ pub struct Reservation {
     /// The ways in which they take units, in the order in which they are tried.
     pub ways: Ways,
 }
-
-/// So many cycles may an instruction take.
-const MOST_LATENCY: u32 = 1000;
 
 /// The number that a text writes, from 0 to 1,000.
 #[tactic(auto, unfolding(crate::specs::Reservations::latency_of))]

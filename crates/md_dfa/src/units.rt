@@ -9,12 +9,9 @@ use md_forms::copied_names;
 use md_iter::Instance;
 use md_text::members_of;
 use plain_data::{Items, Memory};
-use rtx_tree::Name;
+use rtx_tree::{MOST_UNITS, Name};
 use std::alloc::Global;
 use text_words::same;
-
-/// So many units may there be.
-const MOST_UNITS: usize = 64;
 
 /// The names of units that a form defines: `(define_cpu_unit "NAMES" "AUTOMATON")`.
 #[tactic(auto, unfolding(crate::specs::Units::names_in))]

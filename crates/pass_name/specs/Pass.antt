@@ -3,11 +3,12 @@
 use Rattle.std.specs.Prelude.{ℕ, List, codes, Option, Some, None, if◌then◌else◌}
 use Rattle.std.specs.Str.{bytes_eq}
 use Rattle.pass_name.specs.declared.pass.Pass.{Pass}
-use Rattle.pass_name.specs.declared.pass.Pass.TheVariants.{Read, Lower, Combine, Split1, Reload, Frame, Split2, Peephole2, Output}
+use Rattle.pass_name.specs.declared.pass.Pass.TheVariants.{Read, Lower, Reuse, Combine, Split1, Reload, Frame, Split2, Peephole2, Output}
 
 abbrev pub pass_name : Pass → List ℕ
 pass_name Read = codes "read"
 pass_name Lower = codes "lower"
+pass_name Reuse = codes "reuse"
 pass_name Combine = codes "combine"
 pass_name Split1 = codes "split1"
 pass_name Reload = codes "reload"
@@ -16,7 +17,7 @@ pass_name Split2 = codes "split2"
 pass_name Peephole2 = codes "peephole2"
 pass_name Output = codes "output"
 
--- the pass with a name behind which a function can be shown
+-- the pass of the usual road with a name behind which a function can be shown
 abbrev pub pass_named : List ℕ → Option Pass
 pass_named name =
     if bytes_eq name (pass_name Read) then Some Read else (

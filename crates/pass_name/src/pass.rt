@@ -9,6 +9,8 @@ pub enum Pass {
     Read,
     /// Expansion into instructions of the machine.
     Lower,
+    /// Repeated values that are used again, and sets of dead registers that go.
+    Reuse,
     /// Pairs of instructions that become one.
     Combine,
     /// Splits before registers have homes.
@@ -33,6 +35,7 @@ impl Pass {
         match self {
             Pass::Read => "read",
             Pass::Lower => "lower",
+            Pass::Reuse => "reuse",
             Pass::Combine => "combine",
             Pass::Split1 => "split1",
             Pass::Reload => "reload",
@@ -43,7 +46,8 @@ impl Pass {
         }
     }
 
-    /// The pass with a name behind which a function can be shown, or `None` where there is none.
+    /// The pass of the usual road with a name behind which a function can be shown, or `None` where
+    /// there is none.
     pub fn named(name: &str) -> Option<Pass>
         ensures { result ≡ spec.pass_named name.now }
     {

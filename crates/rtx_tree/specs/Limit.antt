@@ -93,3 +93,25 @@ most_reused = 64
 -- the instructions that are put in order together
 abbrev pub most_scheduled : ℕ
 most_scheduled = 64
+
+-- ---- what a description of pipelines may say; what says more is passed over
+
+-- the units that are told apart
+abbrev pub most_units : ℕ
+most_units = 64
+
+-- the ways of an expression, and of each of its parts
+abbrev pub most_ways : ℕ
+most_ways = 64
+
+-- the cycles of a way
+abbrev pub most_cycles : ℕ
+most_cycles = 64
+
+-- the times that an expression stands behind itself
+abbrev pub most_times : ℕ
+most_times = 1000
+
+-- the cycles that an instruction takes
+abbrev pub most_latency : ℕ
+most_latency = 1000

@@ -32,9 +32,10 @@ pub use function::{
     ArgUse, ArgUses, Function, Functions, Insn, Insns, Kind, copy_insns, is_label, label_place,
 };
 pub use limit::{
-    Limit, MOST_APART, MOST_BYTES, MOST_COMBINED, MOST_FORMS, MOST_FRAME, MOST_IMAGE,
-    MOST_INSTRUCTIONS, MOST_LEVELS, MOST_MADE, MOST_NODES, MOST_OPEN, MOST_OUTPUT, MOST_PSEUDOS,
-    MOST_REUSED, MOST_SCHEDULED, MOST_SPLITS, MOST_WITHIN,
+    Limit, MOST_APART, MOST_BYTES, MOST_COMBINED, MOST_CYCLES, MOST_FORMS, MOST_FRAME, MOST_IMAGE,
+    MOST_INSTRUCTIONS, MOST_LATENCY, MOST_LEVELS, MOST_MADE, MOST_NODES, MOST_OPEN, MOST_OUTPUT,
+    MOST_PSEUDOS, MOST_REUSED, MOST_SCHEDULED, MOST_SPLITS, MOST_TIMES, MOST_UNITS, MOST_WAYS,
+    MOST_WITHIN,
 };
 pub use machine::{ByteWrites, RangeAt, Ranges, Replies, Reply, Start, SymbolAt, Symbols, World};
 pub use memories::{MemByte, Memories};

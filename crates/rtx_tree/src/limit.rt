@@ -54,6 +54,21 @@ pub const MOST_REUSED: u32 = 64;
 /// So many instructions are put in order together at most; no refusal names it.
 pub const MOST_SCHEDULED: u32 = 64;
 
+/// So many units of a pipeline are told apart at most; a reservation that names more is passed over.
+pub const MOST_UNITS: usize = 64;
+
+/// So many ways has an expression of a reservation at most.
+pub const MOST_WAYS: usize = 64;
+
+/// So many cycles has a way at most.
+pub const MOST_CYCLES: usize = 64;
+
+/// So many times stands an expression behind itself at most.
+pub const MOST_TIMES: u32 = 1_000;
+
+/// So many cycles takes an instruction at most.
+pub const MOST_LATENCY: u32 = 1_000;
+
 /// A quantity that has a limit.
 #[derive(Clone, Copy, Debug)]
 pub enum Limit {

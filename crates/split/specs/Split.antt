@@ -21,7 +21,7 @@ use Rattle.law_insn_replaced.specs.insn_replace.Replace.{ReplacedComes}
 use Rattle.law_insn_replaced.specs.pass_refusal.declared.refusal.PassRefusal.{PassRefusal}
 use Rattle.law_insn_replaced.specs.pass_refusal.declared.refusal.PassRefusal.TheVariants as refusal
 use Rattle.pass_name.specs.declared.pass.Pass.{Pass}
-use Rattle.pass_name.specs.declared.pass.Pass.TheVariants.{Read, Lower, Combine, Split1, Reload, Frame, Split2, Peephole2, Output}
+use Rattle.pass_name.specs.declared.pass.Pass.TheVariants.{Read, Lower, Reuse, Combine, Split1, Reload, Frame, Split2, Peephole2, Output}
 use Rattle.rtx_tree.specs.Limit.{most_splits}
 
 -- ---- what forms make of an instruction
@@ -30,6 +30,7 @@ use Rattle.rtx_tree.specs.Limit.{most_splits}
 abbrev pub has_homes : Pass → Bool
 has_homes Read = false
 has_homes Lower = false
+has_homes Reuse = false
 has_homes Combine = false
 has_homes Split1 = false
 has_homes Reload = false

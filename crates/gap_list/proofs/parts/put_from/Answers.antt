@@ -19,12 +19,14 @@ loop-item-preserved g c =
     let long = long_parts front.items back.items l front.len back.len (front.len + back.len) refl front.ok.0 back.ok.0 refl in
     let count : length c.loop-item.left ≡ length left + 1 = ap length c.in-Some.ensures ∙ length-append left (item ∷ []) in
     record {
-      list = (item ∷ done,
-          split ∙ (ap (λ k. k ++ done) c.in-Some.ensures ∙ append_assoc left (item ∷ []) done),
-          put_less l now (c.put_at.new.front.items ++ reverse c.put_at.new.back.items) done rest (a.first + length left) item
-          (omega (arith, c.loop-item.invariant.room, count, long))
-          (was ∙ ap (λ n. take n l ++ (done ++ rest)) (omega (arith, count)))
-          (c.put_at.ensures.list ∙ ap (λ n. set now (a.first + n) item) c.len-in-Some.ensures));
+      list = (
+        item ∷ done,
+        split ∙ (ap (λ k. k ++ done) c.in-Some.ensures ∙ append_assoc left (item ∷ []) done),
+        put_less l now (c.put_at.new.front.items ++ reverse c.put_at.new.back.items) done rest (a.first + length left) item
+            (omega (arith, c.loop-item.invariant.room, count, long))
+            (was ∙ ap (λ n. take n l ++ (done ++ rest)) (omega (arith, count)))
+            (c.put_at.ensures.list ∙ ap (λ n. set now (a.first + n) item) c.len-in-Some.ensures),
+      );
       long = omega (arith, c.loop-item.invariant.long, c.put_at.ensures.long);
       room = omega (arith, c.loop-item.invariant.room, count);
       end = c.loop-item.invariant.end;

@@ -10,7 +10,7 @@ ghost use Rattle.rtl_chain.specs.Counts as counts;
 ghost use Rattle.live_chain.specs.machine.Whole.{with_chain};
 
 use crate::behind::{is_after, is_before};
-use crate::kept::{WindowRows, is_same_before, rows_inside, rows_joined, rows_put};
+use crate::kept::{WindowRows, is_same_before, move_rows, rows_inside, rows_joined, rows_put};
 use crate::narrow::live_behind;
 use crate::numbers::{
     count_after, count_around, count_beside, count_of, count_put, pseudo_after, pseudo_of,
@@ -369,6 +369,7 @@ impl LiveChain {
         ensures same { self.new ≡ self.old }
     {
         self.insns.move_gap(end as usize)?;
+        move_rows(&mut self.rows, end)?;
         // with the gap at its end the window stands in one piece
         let Some(old) = self.insns.between(first as usize, end as usize) else {
             return Err(Memory);

@@ -137,6 +137,17 @@ pub fn rows_joined(
     }
 }
 
+/// Moves the gap of the rows to a place, if they are known.
+pub fn move_rows(rows: &mut Option<GapList<RegRow>>, place: u32) -> Result<(), Memory>
+    requires { IfSome rows.old (λ rows. place ≤ length rows) }
+    ensures { rows.new ≡ rows.old }
+{
+    match rows {
+        Some(rows) => rows.move_gap(place as usize),
+        None => Ok(()),
+    }
+}
+
 /// The rows with others in the place of a window's, which are as many or fewer, if both are known.
 /// It takes no memory.
 pub fn rows_put(

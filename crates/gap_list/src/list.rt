@@ -1,9 +1,9 @@
 //! A list with a gap.
-ghost use Rattle.std.specs.Prelude.{◌≡◌, ◌<◌, ◌≤◌, ◌++◌, [], length, reverse, slice_get, slice_range};
+ghost use Rattle.std.specs.Prelude.{◌≡◌, ◌+◌, ◌<◌, ◌≤◌, ◌++◌, [], length, reverse, slice_get, slice_range};
 ghost use Rattle.std.specs.Prelude.{Some, IfOk, IfSome, OnOk, OnErr};
 ghost use Rattle.std.specs.List.{splice};
 
-use crate::parts::shift;
+use crate::parts::{out_from, put_from, shift};
 use plain_data::{Items, Memory};
 use std::alloc::Global;
 use std::marker::Model;
@@ -126,5 +126,16 @@ impl<T: Drop> GapList<T> {
         shift(&mut self.front, &mut self.back, end)?;
         let _gone = self.front.splice(first..end, new.into_vec())?;
         Ok(())
+    }
+
+    /// Puts new elements in the place of those between two places, which are as many or more. It
+    /// takes no memory, wherever the gap stands.
+    pub fn put_within(&mut self, first: usize, end: usize, new: Items<T>)
+        requires shorter { first + length new ≤ end }
+        requires within { end ≤ length self.old }
+        ensures { self.new ≡ splice self.old first end new }
+    {
+        let behind = put_from(&mut self.front, &mut self.back, first, new);
+        out_from(&mut self.front, &mut self.back, behind, end - behind);
     }
 }

@@ -7,7 +7,7 @@ use Rattle.rtx_tree.specs.declared.function.Insn.{Insn}
 use Rattle.rtx_tree.specs.RegSet.{has_reg}
 use Rattle.live_chain.specs.declared.demand.Demand.{Demand}
 use Rattle.live_chain.specs.machine.Demand.{IsDemandOf, AreLikeLists}
-use Rattle.live_chain.specs.machine.Window.{asks_for, defines_in, IsAlike}
+use Rattle.live_chain.specs.machine.Window.{IsAlike}
 
 left_none : (a b : Bool) → (a || b) ≡ false → a ≡ false
 left_none true b e = absurd (false≢true (sym e))

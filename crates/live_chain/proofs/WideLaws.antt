@@ -1,24 +1,23 @@
 -- Windows with what stands in front of them: from where each register in which they differ is used or defined, they are alike.
 use Rattle.std.proofs.Common.{◌≡◌, ◌↔◌, ℕ, zero, suc, ◌+◌, ◌-◌, ◌<◌, ◌≤◌, Bool, true, false, ◌||◌, ◌&&◌, not, List, [], ◌∷◌, ◌++◌, length, take, drop, drop-drop, Some, inl, inr, ◌⊎◌, refl, sym, ap, subst, ◌∙◌, arith}
-use Rattle.std.specs.Prelude.{slice_get, slice_range, Option}
+use Rattle.std.specs.Prelude.{slice_get, slice_range}
 use Rattle.std.specs.List.{list_any, list_all}
 use Rattle.std.proofs.lemmas.Bool.{or_cases, or_left, or_right, and_from, and_parts, false≢true}
 use lib.Seq.{take-nil}
+use Rattle.std.proofs.lemmas.List.{length-append, length-drop, length-take-le}
 use Rattle.std.proofs.lemmas.List.Folds.{list_any-append}
 use Rattle.std.proofs.lemmas.Option.{same_Some}
 use Rattle.rtx_tree.specs.declared.function.Insn.{Insn}
 use Rattle.rtx_tree.specs.declared.function.Function.{Function}
 use Rattle.rtx_tree.specs.RegSet.{has_reg}
-use Rattle.rv_regs.specs.Registers.{kept_registers}
 use Rattle.reg_uses.specs.Uses.{insn_uses, insn_defines, insn_sets}
-use Rattle.rtl_func.specs.declared.flow.Flow.TheVariants.{Falls}
 use Rattle.rtl_func.specs.Blocks.{is_jump_kind}
-use Rattle.rtl_func.specs.Successors.{flow_of}
 use Rattle.live.specs.Live.{IsLiveAfter, AreLiveRows}
 use Rattle.new_insns.specs.Replaced.{window, replaced}
-use Rattle.live_chain.specs.declared.kept.Inside.{Inside}
+use Rattle.live_chain.specs.declared.kept.WindowRows.{WindowRows}
 use Rattle.live_chain.specs.Stays.{StaysBefore}
-use Rattle.live_chain.specs.machine.Window.{asks_for, defines_in, sets_in, names_in, flow_behind, is_inner, leads_last, passes, IsAlike, AreLikeEnds, AreSameOutside, AreInside}
+use Rattle.live_chain.specs.Rows.{AreRowsFor}
+use Rattle.live_chain.specs.machine.Window.{asks_for, defines_in, names_in, flow_behind, is_inner, leads_last, passes, IsAlike, AreLikeEnds, AreSameOutside, AreInside}
 use Rattle.live_chain.proofs.FlowLaws.{falls_by, not_false, both_left, both_right}
 use Rattle.live_chain.proofs.RowLaws.{rows_exact, stays_before}
 
@@ -170,7 +169,7 @@ wide_replaced f from first end new l =
     ap (λ (insns : List Insn). record f { insns = insns })
     (sym (ap (λ front. front ++ (new ++ drop end f.insns)) (front_parts f.insns from first l) ∙ append_parts (take from f.insns) (slice_range f.insns from first) new (drop end f.insns)))
 
-module _ (f : Function) (first end : ℕ) (old new : List Insn) (rows : List (List ℕ)) (live_behind : ℕ → Bool) (inside : Inside) (order : first < end) (fits : end ≤ length f.insns)
+module _ (f : Function) (first end : ℕ) (old new : List Insn) (rows : List (List ℕ)) (live_behind : ℕ → Bool) (inside : WindowRows) (order : first < end) (fits : end ≤ length f.insns)
     (exact : AreLiveRows f rows) (is_behind : (reg : ℕ) → (live_behind reg ≡ true) ↔ IsLiveAfter f reg (end - 1))
     (is : old ≡ window f first end) (ends : AreLikeEnds old new) (are : AreInside f.insns first old new live_behind inside) where
   abbrev front : List Insn
@@ -183,10 +182,28 @@ module _ (f : Function) (first end : ℕ) (old new : List Insn) (rows : List (Li
   outside = subst (λ w. AreSameOutside w (front ++ new) live_behind) (sym whole) (record { ends = ends_wide front old new are.passing ends; demands = are.demands })
 
   -- the rows of the function with the new window, by those of the new window and of what stands in front of it
-  pub wide_rows : AreLiveRows (replaced f first end new) (take inside.from rows ++ (inside.rows ++ drop end rows))
+  wide_rows : AreLiveRows (replaced f first end new) (take inside.from rows ++ (inside.rows ++ drop end rows))
   wide_rows = subst (λ g. AreLiveRows g (take inside.from rows ++ (inside.rows ++ drop end rows))) (wide_replaced f inside.from first end new are.order)
       (rows_exact f inside.from end (front ++ new) rows inside.rows live_behind (omega (arith, order, are.order)) fits exact is_behind outside are.rows)
 
-  pub wide_stays : inside.from ≡ first → StaysBefore f (replaced f first end new) first
+  wide_stays : inside.from ≡ first → StaysBefore f (replaced f first end new) first
   wide_stays here = subst (λ n. StaysBefore f (replaced f first end new) n) here (subst (λ g. StaysBefore f g inside.from) (wide_replaced f inside.from first end new are.order)
       (stays_before f inside.from end (front ++ new) rows inside.rows live_behind (omega (arith, order, are.order)) fits exact is_behind outside are.rows))
+
+  wide_long : inside.from + length inside.rows ≡ first + length new
+  wide_long =
+      let rest = length-drop inside.from f.insns in
+      let before = length-take-le (first - inside.from) (drop inside.from f.insns) (omega (arith, rest, order, fits)) in
+      let both = length-append front new in
+      omega (arith, are.rows.long, before, both, are.order)
+
+-- rows of what stands in front of the new window and of it are rows for the window
+pub wide_made : (f : Function) (first end : ℕ) (old new : List Insn) (rows : List (List ℕ)) (live_behind : ℕ → Bool) (inside : WindowRows) → first < end → end ≤ length f.insns →
+    AreLiveRows f rows → ((reg : ℕ) → (live_behind reg ≡ true) ↔ IsLiveAfter f reg (end - 1)) →
+    old ≡ window f first end → AreLikeEnds old new → AreInside f.insns first old new live_behind inside → AreRowsFor f first end new inside
+wide_made f first end old new rows live_behind inside order fits exact is_behind is ends are = record {
+  order = are.order;
+  long = wide_long f first end old new rows live_behind inside order fits exact is_behind is ends are;
+  rows = λ others too. wide_rows f first end old new others live_behind inside order fits too is_behind is ends are;
+  stays = wide_stays f first end old new rows live_behind inside order fits exact is_behind is ends are;
+}

@@ -4,15 +4,17 @@ ghost use Rattle.std.specs.Prelude.{IfOk, IfSome, OnOk, OnErr};
 ghost use Rattle.rtx_tree.specs.RegSet.{has_reg};
 ghost use Rattle.live.specs.Live.{AreLiveAfter, AreLiveRows, IsLive, IsLiveAfter};
 ghost use Rattle.new_insns.specs.Replaced.{replaced, window};
+ghost use Rattle.live_chain.specs.Rows.{AreRowsFor};
 ghost use Rattle.live_chain.specs.Stays.{StaysBefore};
 ghost use Rattle.rtl_chain.specs.Counts as counts;
 ghost use Rattle.live_chain.specs.machine.Whole.{with_chain};
 
 use crate::behind::{is_after, is_before};
-use crate::kept::{is_same_before, rows_inside, rows_joined};
+use crate::kept::{WindowRows, is_same_before, move_rows, rows_inside, rows_joined, rows_put};
 use crate::narrow::live_behind;
 use crate::numbers::{
-    count_after, count_around, count_beside, count_of, pseudo_after, pseudo_of, uid_after, uid_of,
+    count_after, count_around, count_beside, count_of, count_put, pseudo_after, pseudo_of,
+    pseudo_put, uid_after, uid_of, uid_put,
 };
 use gap_list::GapList;
 use live::live_rows_of;
@@ -346,5 +348,56 @@ impl LiveChain {
         self.next = next;
         self.count = count;
         Ok(same)
+    }
+
+    /// The rows for new instructions in the place of a window, that from place `first` up to place
+    /// `end`, if those outside it, but for some in front of it, are seen to stay.
+    ///
+    /// # Errors
+    ///
+    /// `Memory` where memory ran out.
+    pub fn rows_for(
+        &mut self,
+        alloc: Global,
+        first: u32,
+        end: u32,
+        new: &[Insn],
+    ) -> Result<Option<WindowRows>, Memory>
+        requires order { first ≤ end }
+        requires within { end ≤ length self.old.insns }
+        ensures rows { IfOk result (λ rows. IfSome rows (AreRowsFor self.old first end new.now)) }
+        ensures same { self.new ≡ self.old }
+    {
+        self.insns.move_gap(end as usize)?;
+        move_rows(&mut self.rows, end)?;
+        // with the gap at its end the window stands in one piece
+        let Some(old) = self.insns.between(first as usize, end as usize) else {
+            return Err(Memory);
+        };
+        rows_inside(alloc, &self.insns, &self.rows, first, end, old, new)
+    }
+
+    /// Puts new instructions, with the rows that were made for them, in the place of a window that
+    /// has as many or more. It takes no memory, so once both are made nothing is refused. Says
+    /// whether after each place in front of the window the same registers are seen to be live as
+    /// before.
+    pub fn fuse(&mut self, first: u32, end: u32, new: Insns, rows: Option<WindowRows>) -> bool
+        requires shorter { first + length new ≤ end }
+        requires within { end ≤ length self.old.insns }
+        requires rows { IfSome rows (AreRowsFor self.old first end new) }
+        ensures replaced { self.new ≡ replaced self.old first end new }
+        ensures stays { result ≡ true → StaysBefore self.old self.new first }
+    {
+        let old = self.insns.between(first as usize, end as usize);
+        let greatest = uid_put(self.greatest, old, new.as_slice());
+        let next = pseudo_put(self.next, old, new.as_slice());
+        let count = count_put(self.count, old, new.as_slice());
+        let same = is_same_before(first, &rows);
+        self.insns.put_within(first as usize, end as usize, new);
+        self.rows = rows_put(self.rows.take(), end, rows);
+        self.greatest = greatest;
+        self.next = next;
+        self.count = count;
+        same
     }
 }

@@ -1,11 +1,10 @@
 //! Rows that are kept where a window is replaced.
-ghost use Rattle.std.specs.Prelude.{◌≡◌, ◌≤◌, true, length, slice_range, IfOk, IfSome, IsSome};
+ghost use Rattle.std.specs.Prelude.{◌≡◌, ◌+◌, ◌≤◌, true, length, slice_range, IfOk, IfSome, IsSome};
 ghost use Rattle.std.specs.List.{splice};
 ghost use Rattle.rtx_tree.specs.declared.function.Function.{Function};
 ghost use Rattle.reg_rows.specs.Row.{has};
 ghost use Rattle.live.specs.Live.{AreLiveRows};
-ghost use Rattle.new_insns.specs.Replaced.{replaced};
-ghost use Rattle.live_chain.specs.Stays.{StaysBefore};
+ghost use Rattle.live_chain.specs.Rows.{AreRowsFor};
 ghost use Rattle.live_chain.specs.machine.Window.{AreLikeEnds, AreInside};
 
 use crate::behind::row_after;
@@ -29,7 +28,7 @@ fn are_like_ends(old: &[Insn], new: &[Insn]) -> bool
 
 /// The rows of what is live before the places from one on, up to the end of a window.
 #[derive(Drop)]
-pub struct Inside {
+pub struct WindowRows {
     pub from: u32,
     pub rows: Items<RegRow>,
 }
@@ -43,7 +42,7 @@ fn rows_from(
     old: &[Insn],
     new: &[Insn],
     behind: &RegRow,
-) -> Result<Option<Inside>, Memory>
+) -> Result<Option<WindowRows>, Memory>
     requires within { first ≤ length insns.now }
     ensures { IfOk result (λ inside. IfSome inside (AreInside insns.now first old.now new.now (has behind.now))) }
 {
@@ -55,7 +54,7 @@ fn rows_from(
         return Ok(None);
     };
     let rows = rows_within(alloc, front, new, behind)?;
-    Ok(Some(Inside { from, rows }))
+    Ok(Some(WindowRows { from, rows }))
 }
 
 /// The rows of instructions in the place of a window, if the rows outside it, and outside what
@@ -68,16 +67,12 @@ fn rows_for(
     end: u32,
     old: &[Insn],
     new: &[Insn],
-) -> Result<Option<Inside>, Memory>
+) -> Result<Option<WindowRows>, Memory>
     requires order { first ≤ end }
     requires within { end ≤ length insns.now }
     requires old { old.now ≡ slice_range insns.now first end }
-    ensures rows { (f : Function) → f.insns ≡ insns.now → AreLiveRows f rows.now →
-        IfOk result (λ inside. IfSome inside (λ inside.
-        AreLiveRows (replaced f first end new.now) (splice rows.now inside.from end inside.rows))) }
-    ensures stays { (f : Function) → f.insns ≡ insns.now → AreLiveRows f rows.now →
-        IfOk result (λ inside. IfSome inside (λ inside. inside.from ≡ first →
-        StaysBefore f (replaced f first end new.now) first)) }
+    ensures made { (f : Function) → f.insns ≡ insns.now → AreLiveRows f rows.now →
+        IfOk result (λ inside. IfSome inside (AreRowsFor f first end new.now)) }
     ensures order { IfOk result (λ inside. IfSome inside (λ inside. inside.from ≤ first)) }
 {
     if first == end || insns.len() > u32::MAX as usize || !are_like_ends(old, new) {
@@ -96,16 +91,12 @@ pub fn rows_inside(
     end: u32,
     old: &[Insn],
     new: &[Insn],
-) -> Result<Option<Inside>, Memory>
+) -> Result<Option<WindowRows>, Memory>
     requires order { first ≤ end }
     requires within { end ≤ length insns.now }
     requires old { old.now ≡ slice_range insns.now first end }
-    ensures rows { (f : Function) → f.insns ≡ insns.now → IfSome rows.now (AreLiveRows f) →
-        IfOk result (λ inside. IfSome inside (λ inside. IfSome rows.now (λ rows.
-        AreLiveRows (replaced f first end new.now) (splice rows inside.from end inside.rows)))) }
-    ensures stays { (f : Function) → f.insns ≡ insns.now → IfSome rows.now (AreLiveRows f) →
-        IfOk result (λ inside. IfSome inside (λ inside. inside.from ≡ first →
-        StaysBefore f (replaced f first end new.now) first)) }
+    ensures made { (f : Function) → f.insns ≡ insns.now → IfSome rows.now (AreLiveRows f) →
+        IfOk result (λ inside. IfSome inside (AreRowsFor f first end new.now)) }
     ensures order { IfOk result (λ inside. IfSome inside (λ inside. inside.from ≤ first)) }
 {
     match rows {
@@ -115,7 +106,7 @@ pub fn rows_inside(
 }
 
 /// Whether what is live in front of a window is seen to stay.
-pub fn is_same_before(first: u32, inside: &Option<Inside>) -> bool
+pub fn is_same_before(first: u32, inside: &Option<WindowRows>) -> bool
     ensures { result ≡ true → IsSome inside.now × (IfSome inside.now (λ inside. inside.from ≡ first)) }
 {
     match inside {
@@ -129,7 +120,7 @@ pub fn is_same_before(first: u32, inside: &Option<Inside>) -> bool
 pub fn rows_joined(
     rows: Option<GapList<RegRow>>,
     end: u32,
-    inside: Option<Inside>,
+    inside: Option<WindowRows>,
 ) -> Option<GapList<RegRow>>
     requires order { IfSome inside (λ inside. inside.from ≤ end) }
     requires within { IfSome rows (λ rows. end ≤ length rows) }
@@ -139,9 +130,40 @@ pub fn rows_joined(
         IfSome result (AreLiveRows f) }
 {
     let mut rows = rows?;
-    let Inside { from, rows: inside } = inside?;
+    let WindowRows { from, rows: inside } = inside?;
     match rows.splice(from as usize, end as usize, inside) {
         Ok(()) => Some(rows),
         Err(_) => None,
     }
+}
+
+/// Moves the gap of the rows to a place, if they are known.
+pub fn move_rows(rows: &mut Option<GapList<RegRow>>, place: u32) -> Result<(), Memory>
+    requires { IfSome rows.old (λ rows. place ≤ length rows) }
+    ensures { rows.new ≡ rows.old }
+{
+    match rows {
+        Some(rows) => rows.move_gap(place as usize),
+        None => Ok(()),
+    }
+}
+
+/// The rows with others in the place of a window's, which are as many or fewer, if both are known.
+/// It takes no memory.
+pub fn rows_put(
+    rows: Option<GapList<RegRow>>,
+    end: u32,
+    inside: Option<WindowRows>,
+) -> Option<GapList<RegRow>>
+    requires shorter { IfSome inside (λ inside. inside.from + length inside.rows ≤ end) }
+    requires within { IfSome rows (λ rows. end ≤ length rows) }
+    ensures { (f : Function) →
+        IfSome inside (λ inside. IfSome rows (λ rows.
+        AreLiveRows f (splice rows inside.from end inside.rows))) →
+        IfSome result (AreLiveRows f) }
+{
+    let mut rows = rows?;
+    let WindowRows { from, rows: inside } = inside?;
+    rows.put_within(from as usize, end as usize, inside);
+    Some(rows)
 }

@@ -25,3 +25,4 @@ mod window;
 mod within;
 
 pub use chain::LiveChain;
+pub use kept::WindowRows;

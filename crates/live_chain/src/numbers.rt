@@ -1,5 +1,6 @@
 //! The numbers that are kept of a chain.
-ghost use Rattle.std.specs.Prelude.{◌≡◌, ◌≤◌, ◌+◌, ◌++◌, ℕ, List, max, true, Some, slice_get, slice_range, take, drop, IfSome};
+ghost use Rattle.std.specs.Prelude.{◌≡◌, ◌≤◌, ◌<◌, ◌+◌, ◌++◌, ℕ, List, max, true, false, Some, None, slice_get, slice_range, take, drop, IfSome};
+ghost use Rattle.std.specs.List.{splice};
 ghost use Rattle.rtx_tree.specs.declared.function.Insn.{Insn};
 ghost use Rattle.rtl_chain.specs.Counts as counts;
 
@@ -27,18 +28,22 @@ pub fn pseudo_of(insns: &GapList<Insn>) -> u64
 }
 
 /// Whether the greatest of some numbers tells what it is where one of them, `old`, becomes `new`:
-/// then it is the greater of it and `new`.
+/// then it is the greater of it and `new`. It doesn't only where it was `old` itself, and `new` is
+/// less.
 fn tells(greatest: u64, old: u64, new: u64) -> bool
-    ensures { (others : ℕ) → greatest ≡ max others old → result ≡ true →
+    ensures told { (others : ℕ) → greatest ≡ max others old → result ≡ true →
         max greatest new ≡ max others new }
+    ensures lost { result ≡ false → (greatest ≤ old) × (new < greatest) }
 {
     old < greatest || greatest <= new
 }
 
-/// The greatest uid of a chain where that of a window becomes another, if it is known.
+/// The greatest uid of a chain where that of a window becomes another, if it is known, and the window
+/// didn't have it, or the other isn't less.
 pub fn uid_after(greatest: Option<u32>, old: u32, new: u32) -> Option<u32>
-    ensures { (others : ℕ) → IfSome greatest (λ g. g ≡ max others old) →
+    ensures after { (others : ℕ) → IfSome greatest (λ g. g ≡ max others old) →
         IfSome result (λ g. g ≡ max others new) }
+    ensures lost { result ≡ None → IfSome greatest (λ g. (g ≤ old) × (new < g)) }
 {
     match greatest {
         Some(greatest) if tells(u64::from(greatest), u64::from(old), u64::from(new)) => {
@@ -48,15 +53,40 @@ pub fn uid_after(greatest: Option<u32>, old: u32, new: u32) -> Option<u32>
     }
 }
 
-/// The next pseudo register of a chain where that of a window becomes another, if it is known.
+/// The greatest uid of a chain with others in the place of a window, if it and the window are known.
+pub fn uid_put(greatest: Option<u32>, window: Option<&[Insn]>, new: &[Insn]) -> Option<u32>
+    ensures { (xs : List Insn) (first end : ℕ) → first ≤ end →
+        IfSome window.entry (λ old. old.now ≡ slice_range xs first end) →
+        IfSome greatest (λ n. n ≡ counts.greatest_uid xs) →
+        IfSome result (λ n. n ≡ counts.greatest_uid (splice xs first end new.now)) }
+{
+    let old = window?;
+    uid_after(greatest, greatest_uid(old), greatest_uid(new))
+}
+
+/// The next pseudo register of a chain where that of a window becomes another, if it is known, and
+/// the window didn't have it, or the other isn't less.
 pub fn pseudo_after(next: Option<u64>, old: u64, new: u64) -> Option<u64>
-    ensures { (others : ℕ) → IfSome next (λ n. n ≡ max others old) →
+    ensures after { (others : ℕ) → IfSome next (λ n. n ≡ max others old) →
         IfSome result (λ n. n ≡ max others new) }
+    ensures lost { result ≡ None → IfSome next (λ n. (n ≤ old) × (new < n)) }
 {
     match next {
         Some(next) if tells(next, old, new) => Some(next.max(new)),
         _ => None,
     }
+}
+
+/// The next pseudo register of a chain with others in the place of a window, if it and the window are
+/// known.
+pub fn pseudo_put(next: Option<u64>, window: Option<&[Insn]>, new: &[Insn]) -> Option<u64>
+    ensures { (xs : List Insn) (first end : ℕ) → first ≤ end →
+        IfSome window.entry (λ old. old.now ≡ slice_range xs first end) →
+        IfSome next (λ n. n ≡ counts.next_pseudo xs) →
+        IfSome result (λ n. n ≡ counts.next_pseudo (splice xs first end new.now)) }
+{
+    let old = window?;
+    pseudo_after(next, next_pseudo(old), next_pseudo(new))
 }
 
 /// How many instructions a chain has, where the number has 64 bits.
@@ -98,4 +128,16 @@ pub fn count_after(count: Option<usize>, old: usize, new: usize) -> Option<usize
 {
     let others = count?.checked_sub(old)?;
     others.checked_add(new)
+}
+
+/// How many instructions a chain has with others in the place of a window, if it and the window are
+/// known.
+pub fn count_put(count: Option<usize>, window: Option<&[Insn]>, new: &[Insn]) -> Option<usize>
+    ensures { (xs : List Insn) (first end : ℕ) → first ≤ end →
+        IfSome window.entry (λ old. old.now ≡ slice_range xs first end) →
+        IfSome count (λ n. n ≡ counts.instruction_count xs) →
+        IfSome result (λ n. n ≡ counts.instruction_count (splice xs first end new.now)) }
+{
+    let old = window?;
+    count_after(count, instruction_count(old), instruction_count(new))
 }

@@ -8,7 +8,7 @@ use Rattle.rtx_tree.specs.declared.function.Insn.{Insn}
 use Rattle.rtx_tree.specs.Patterns.{is_label_kind}
 use Rattle.rtx_tree.specs.RegSet.{has_reg}
 use Rattle.rv_regs.specs.Registers.{kept_registers}
-use Rattle.live_chain.specs.declared.kept.Inside.{Inside}
+use Rattle.live_chain.specs.declared.kept.WindowRows.{WindowRows}
 use Rattle.reg_uses.specs.Uses.{insn_uses, insn_defines, insn_sets, is_return}
 use Rattle.rtl_func.specs.declared.flow.Flow.{Flow}
 use Rattle.rtl_func.specs.declared.flow.Flow.TheVariants.{Falls}
@@ -97,7 +97,7 @@ pub record IsBlockTo (insns : List Insn) (from first : ℕ) (regs : List ℕ) : 
 
 -- rows of a new window, and of what stands in front of it from where on the old one and it, both with
 -- what stands there, are the same from outside
-pub record AreInside (insns : List Insn) (first : ℕ) (old new : List Insn) (behind : ℕ → Bool) (inside : Inside) : Type 0 where
+pub record AreInside (insns : List Insn) (first : ℕ) (old new : List Insn) (behind : ℕ → Bool) (inside : WindowRows) : Type 0 where
   pub order : inside.from ≤ first
   pub passing : list_all passes (slice_range insns inside.from first) ≡ true
   pub demands : (reg : ℕ) → IsAlike (slice_range insns inside.from first ++ old) (slice_range insns inside.from first ++ new) behind reg

@@ -1,4 +1,4 @@
-use Rattle.std.proofs.Common.{◌≡◌, ◌++◌, List, rules, sym, ap, subst}
+use Rattle.std.proofs.Common.{◌++◌, List, rules, subst}
 use Rattle.std.specs.Prelude.{slice_range}
 use Rattle.reg_rows.specs.Row.{has}
 use Rattle.rtx_tree.specs.declared.function.Insn.{Insn}

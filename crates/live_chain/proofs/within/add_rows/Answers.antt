@@ -1,4 +1,4 @@
-use Rattle.std.proofs.Common.{◌-◌, ◌&&◌, ◌||◌, ◌++◌, not, List, drop, length, drop_of_length-le, le_refl, sym, ap, subst, ◌∙◌, arith}
+use Rattle.std.proofs.Common.{◌-◌, ◌&&◌, ◌||◌, ◌++◌, not, List, drop, drop_of_length-le, le_refl, sym, ap, subst, ◌∙◌, arith}
 use Rattle.reg_rows.specs.Row.{has}
 use Rattle.rtx_tree.specs.declared.function.Insn.{Insn}
 use Rattle.reg_uses.specs.Uses.{insn_uses, insn_defines}

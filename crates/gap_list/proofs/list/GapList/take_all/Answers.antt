@@ -1,4 +1,4 @@
-use Rattle.std.proofs.Common.{◌≡◌, ◌++◌, length, reverse, ap, sym, ◌∙◌}
+use Rattle.std.proofs.Common.{◌≡◌, ◌++◌, length, reverse, ap, ◌∙◌}
 use Rattle.gap_list.proofs.GapLaws.{none_behind, all_in_front, long_parts}
 use Rattle.gap_list.proofs.list.GapList.take_all.Goals as goal
 

@@ -4,7 +4,7 @@ use Rattle.rtl_chain.specs.Counts.{next_pseudo_in, is_instruction}
 use Rattle.live_chain.specs.machine.Whole.{with_chain}
 use Rattle.live_chain.proofs.NumberLaws.{known_after}
 use Rattle.live_chain.proofs.CountLaws.{count_known}
-use Rattle.live_chain.proofs.KeptLaws.{live_joined, stays_told}
+use Rattle.live_chain.proofs.KeptLaws.{live_joined, rows_told, stays_told}
 use Rattle.live_chain.specs.Stays.{StaysBefore}
 use Rattle.live_chain.proofs.chain.LiveChain.replace.Goals as goal
 
@@ -20,17 +20,19 @@ invariant_of-self-2 c =
       live = live_joined f (with_chain was.frame all) a.first a.end c.as_slice-4.result.now a.new was.rows
           c.take.result c.rows_joined.result c.in_ok-inside.inside c.as_slice-4.ensures.value
           c.take.ensures.value (ap (with_chain was.frame) same)
-          (c.in_ok-inside.ensures.rows f (sym c.move_gap.ensures) c.self.invariant.live) c.rows_joined.ensures;
+          (rows_told f a.first a.end c.as_slice-4.result.now was.rows c.in_ok-inside.inside c.self.invariant.live
+          (c.in_ok-inside.ensures.made f (sym c.move_gap.ensures) c.self.invariant.live))
+          c.rows_joined.ensures;
       uid = known_after (λ i. i.uid) was.insns c.move_gap.new.self c.in-Some.old.now a.new
           c.as_slice.result.now all a.first a.end c.greatest_uid.result c.greatest_uid-2.result was.greatest
           c.uid_after-greatest.result c.requires.order c.move_gap.ensures c.in-Some.ensures
           c.as_slice.ensures.value same c.greatest_uid.ensures c.greatest_uid-2.ensures c.self.invariant.uid
-          c.uid_after-greatest.ensures;
+          c.uid_after-greatest.ensures.after;
       pseudo = known_after (λ i. next_pseudo_in i.pattern) was.insns c.move_gap.new.self c.in-Some.old.now a.new
           c.as_slice-2.result.now all a.first a.end c.next_pseudo.result c.next_pseudo-2.result was.next
           c.pseudo_after-next.result c.requires.order c.move_gap.ensures c.in-Some.ensures
           c.as_slice-2.ensures.value same c.next_pseudo.ensures c.next_pseudo-2.ensures c.self.invariant.pseudo
-          c.pseudo_after-next.ensures;
+          c.pseudo_after-next.ensures.after;
       instructions = count_known is_instruction was.insns c.move_gap.new.self c.in-Some.old.now a.new
           c.as_slice-3.result.now all a.first a.end c.instruction_count.result c.instruction_count-2.result was.count
           c.count_after-count.result c.requires.order c.move_gap.ensures c.in-Some.ensures
@@ -49,4 +51,4 @@ returns-clause-stays c = λ told.
     subst (λ g. StaysBefore g (with_chain was.frame all) a.first) c.self.view_is
     (subst (λ g. StaysBefore f g a.first) (sym (ap (with_chain was.frame) same))
     (stays_told f a.first a.end c.as_slice-4.result.now a.new c.in_ok-inside.inside c.is_same_before-same.result c.as_slice-4.ensures.value
-    c.is_same_before-same.ensures (c.in_ok-inside.ensures.stays f (sym c.move_gap.ensures) c.self.invariant.live) told))
+    c.is_same_before-same.ensures (c.in_ok-inside.ensures.made f (sym c.move_gap.ensures) c.self.invariant.live) told))

@@ -2,8 +2,10 @@
 //!
 //! A [`LiveChain`] answers which registers are live after a place of its function, which numbers the
 //! function's uids and its pseudo registers leave free, and how many instructions it has, and puts
-//! new instructions in the place of a window. Contracts see the function alone. What was computed
-//! for an answer is kept for the next ones. Where a window is replaced, what is live outside it is
+//! new instructions in the place of a window. Where they are as many or fewer, all that takes memory
+//! can be made first ([`LiveChain::rows_for`]), and they are put in then without any
+//! ([`LiveChain::fuse`]). Contracts see the function alone. What was computed for an answer is kept
+//! for the next ones. Where a window is replaced, what is live outside it is
 //! kept if the old and the new window are the same from outside (`specs/machine/Window.antt`): they
 //! ask for the same registers, define the same of the others that are live behind, and lead to the
 //! same places. Then what is live within follows from what is live behind. Where they differ in some

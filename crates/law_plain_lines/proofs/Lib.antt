@@ -7,3 +7,4 @@ pub mod OneLine
 pub mod Computes
 pub mod TwoRegisters
 pub mod WithConstant
+pub mod OneRegister

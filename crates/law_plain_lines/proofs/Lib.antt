@@ -8,3 +8,5 @@ pub mod Computes
 pub mod TwoRegisters
 pub mod WithConstant
 pub mod OneRegister
+pub mod Values
+pub mod ConstantValues

@@ -91,7 +91,7 @@ row op v c m w k wide term needs insn_small line_small insn_wide line_wide same 
 -- ---- sums
 
 -- the terms of a line on 32 bits, which cuts the constant first
-small_line : (t : Tree) (u : Tree) (f : Tree → Tree) → u ≡ t → IsSmall (f t) → IsSmall (f u)
+pub small_line : (t : Tree) (u : Tree) (f : Tree → Tree) → u ≡ t → IsSmall (f t) → IsSmall (f u)
 small_line t u f e small = subst (λ v. IsSmall (f v)) (sym e) small
 
 pub addi_si : ConstantRow operation.Add W32 code.Plus SI W32 W32
@@ -147,7 +147,7 @@ xori_di = row operation.Xor W64 code.Xor DI W64 W64 refl (λ p. refl) (λ p. ref
 -- ---- shifts
 
 -- a line on 32 bits cuts the count first
-small_count : (h : Head) (a c : ℕ) → IsSmall (one [] heads.Sext W64 (shifted h W32 (part W32 a) (constant W64 c))) →
+pub small_count : (h : Head) (a c : ℕ) → IsSmall (one [] heads.Sext W64 (shifted h W32 (part W32 a) (constant W64 c))) →
     IsSmall (one [] heads.Sext W64 (shifted h W32 (part W32 a) (low_bits W32 (constant W64 c))))
 small_count h a c small =
     subst (λ t. IsSmall (one [] heads.Sext W64 (shifted h W32 (part W32 a) t))) (sym (low_constant_32 c))

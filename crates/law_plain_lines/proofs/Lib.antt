@@ -3,5 +3,10 @@ pub mod Called
 pub mod Equated
 pub mod Effects
 pub mod Rows
+pub mod OneLine
+pub mod Computes
 pub mod TwoRegisters
-pub mod Arithmetic
+pub mod WithConstant
+pub mod OneRegister
+pub mod Values
+pub mod ConstantValues

@@ -13,6 +13,7 @@ use Rattle.term_mean.specs.Compared.{low_bits}
 use Rattle.term_mean.proofs.NormalWidths.{width-built}
 use Rattle.sym_state.specs.Makers.{minus_one}
 use Rattle.law_plain_terms.specs.Rows.{part, Extends, ExtendsShift, ExtendsWith}
+use Rattle.law_plain_terms.proofs.Shifts.{whole_count}
 use Rattle.law_plain_terms.proofs.Back.{extended_64, low_same, low_constant_32, low_constant_8}
 
 -- an extension has 64 bits
@@ -34,14 +35,14 @@ addi_x a n = whole_64 (summed W32 0 ((1, part W32 a) ∷ (1, low_bits W32 (const
 count_x : (h : Head) (a n : ℕ) → low_bits W64 (extended_64 (shifted h W32 (part W32 a) (low_bits W32 (constant W64 n)))) ≡ extended_64 (shifted h W32 (part W32 a) (constant W8 n))
 count_x h a n = whole_64 (shifted h W32 (part W32 a) (low_bits W32 (constant W64 n))) ∙ (ap (λ t. extended_64 (shifted h W32 (part W32 a) t)) (low_constant_32 n) ∙ ap (λ t. extended_64 (shifted_by h W32 (part W32 a) t)) (low_constant_8 n))
 
-pub slli_x : ExtendsWith operation.Sll code.Ashift W8
-slli_x a n = count_x heads.Shl a n
+pub slli_x : ExtendsWith operation.Sll code.Ashift W64
+slli_x a n = count_x heads.Shl a n ∙ ap extended_64 (whole_count heads.Shl W32 (part W32 a) n)
 
-pub srli_x : ExtendsWith operation.Srl code.Lshiftrt W8
-srli_x a n = count_x heads.Shr a n
+pub srli_x : ExtendsWith operation.Srl code.Lshiftrt W64
+srli_x a n = count_x heads.Shr a n ∙ ap extended_64 (whole_count heads.Shr W32 (part W32 a) n)
 
-pub srai_x : ExtendsWith operation.Sra code.Ashiftrt W8
-srai_x a n = count_x heads.Sar a n
+pub srai_x : ExtendsWith operation.Sra code.Ashiftrt W64
+srai_x a n = count_x heads.Sar a n ∙ ap extended_64 (whole_count heads.Sar W32 (part W32 a) n)
 
 -- ---- and by a register
 

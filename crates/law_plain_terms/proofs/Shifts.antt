@@ -1,5 +1,5 @@
 -- Shifts, by a register and by a constant.
-use Rattle.std.proofs.Common.{◌≡◌, ℕ, zero, suc, ◌%◌, ◌^◌, ◌*◌, refl, ◌∙◌, ap, arith, Option, Some, None, [], ◌∷◌}
+use Rattle.std.proofs.Common.{◌≡◌, ℕ, zero, suc, ◌%◌, ◌^◌, ◌*◌, refl, sym, ◌∙◌, ap, arith, Option, Some, None, [], ◌∷◌}
 use Rattle.bits64.specs.declared.Width.{Width}
 use Rattle.bits64.specs.declared.Width.TheVariants.{W8, W32, W64}
 use Rattle.bits64.specs.Words.{low, sum_of, product_of}
@@ -72,10 +72,9 @@ count_32 : (h : Head) (c a : ℕ) → Back (shifted_by h W32 (part W32 a) (const
 count_32 h c a back =
     ap (λ t. low_bits W32 (extended_64 (shifted h W32 (part W32 a) t))) (low_constant_32 c) ∙ (ap (λ t. low_bits W32 (extended_64 (shifted_by h W32 (part W32 a) t))) (low_constant_8 c) ∙ back)
 
-count_64 : (h : Head) (c a : ℕ) → width_of (shifted h W64 (whole a) (constant W8 c)) ≡ W64 →
-    low_bits W64 (shifted h W64 (whole a) (constant W64 c)) ≡ shifted h W64 (whole a) (constant W8 c)
-count_64 h c a wide =
-    ap (λ t. low_bits W64 (shifted_by h W64 (whole a) t)) (low_constant_64_8 c) ∙ low_same W64 (shifted h W64 (whole a) (constant W8 c)) wide
+-- a constant count is cut to 8 bits
+pub whole_count : (h : Head) (w : Width) (a : Tree) (c : ℕ) → shifted h w a (constant W8 c) ≡ shifted h w a (constant W64 c)
+whole_count h w a c = ap (λ t. shifted_by h w a t) (sym (low_constant_64_8 c))
 
 -- the count that is left
 abbrev rest_32 : ℕ → ℕ
@@ -83,21 +82,21 @@ rest_32 c = low W8 (low W8 c) % 32
 
 pub slli_32 : ShiftsBy operation.Sll W32 code.Ashift W32
 unfolding cut_32
-slli_32 a c = count_32 heads.Shl c a (back_shl (rest_32 c) a)
+slli_32 a c = count_32 heads.Shl c a (back_shl (rest_32 c) a) ∙ whole_count heads.Shl W32 (part W32 a) c
 
 pub srli_32 : ShiftsBy operation.Srl W32 code.Lshiftrt W32
 unfolding cut_32
-srli_32 a c = count_32 heads.Shr c a (back_shr (rest_32 c) a)
+srli_32 a c = count_32 heads.Shr c a (back_shr (rest_32 c) a) ∙ whole_count heads.Shr W32 (part W32 a) c
 
 pub srai_32 : ShiftsBy operation.Sra W32 code.Ashiftrt W32
 unfolding cut_32
-srai_32 a c = count_32 heads.Sar c a (back_sar (rest_32 c) a)
+srai_32 a c = count_32 heads.Sar c a (back_sar (rest_32 c) a) ∙ whole_count heads.Sar W32 (part W32 a) c
 
 pub slli_64 : ShiftsBy operation.Sll W64 code.Ashift W64
-slli_64 a c = count_64 heads.Shl c a (width-built [] heads.Shl W64 0 [] (whole a ∷ constant W8 c ∷ []))
+slli_64 a c = low_same W64 (shifted heads.Shl W64 (whole a) (constant W64 c)) (width-built [] heads.Shl W64 0 [] (whole a ∷ constant W64 c ∷ []))
 
 pub srli_64 : ShiftsBy operation.Srl W64 code.Lshiftrt W64
-srli_64 a c = count_64 heads.Shr c a (width-built [] heads.Shr W64 0 [] (whole a ∷ constant W8 c ∷ []))
+srli_64 a c = low_same W64 (shifted heads.Shr W64 (whole a) (constant W64 c)) (width-built [] heads.Shr W64 0 [] (whole a ∷ constant W64 c ∷ []))
 
 pub srai_64 : ShiftsBy operation.Sra W64 code.Ashiftrt W64
-srai_64 a c = count_64 heads.Sar c a (width-built [] heads.Sar W64 0 [] (whole a ∷ constant W8 c ∷ []))
+srai_64 a c = low_same W64 (shifted heads.Sar W64 (whole a) (constant W64 c)) (width-built [] heads.Sar W64 0 [] (whole a ∷ constant W64 c ∷ []))

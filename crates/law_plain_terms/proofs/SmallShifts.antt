@@ -1,5 +1,5 @@
 -- Shifts of the plain rows are within the limit on terms.
-use Rattle.std.proofs.Common.{ℕ, zero, suc, ◌%◌, ◌^◌, ◌*◌, refl, Option, Some, None}
+use Rattle.std.proofs.Common.{ℕ, zero, suc, ◌%◌, ◌^◌, ◌*◌, refl, subst, Option, Some, None}
 use Rattle.bits64.specs.declared.Width.{Width}
 use Rattle.bits64.specs.declared.Width.TheVariants.{W8, W32, W64}
 use Rattle.bits64.specs.Words.{low, sum_of, product_of}
@@ -12,6 +12,7 @@ use Rattle.term_mean.specs.Sums.{constant}
 use Rattle.term_mean.specs.Shifts.{by_constant, right_exact, left_of, shifted, two_parts}
 use Rattle.term_mean.specs.Masks.{cut_32}
 use Rattle.law_plain_terms.specs.Rows.{part, whole, IsSmall, AreSmall}
+use Rattle.law_plain_terms.proofs.Shifts.{whole_count}
 use Rattle.law_plain_terms.proofs.SmallSums.{small_part, small_whole}
 
 -- ---- by a constant
@@ -56,23 +57,41 @@ small_sar_whole (suc k) a = small_right_whole (left_of W64 (suc k)) heads.Sar Si
 abbrev rest : ℕ → ℕ → ℕ
 rest bits c = low W8 (low W8 c) % bits
 
-pub slli_32 : (a c : ℕ) → AreSmall (shifted heads.Shl W32 (part W32 a) (constant W8 c))
+slli_low_32 : (a c : ℕ) → AreSmall (shifted heads.Shl W32 (part W32 a) (constant W8 c))
 unfolding cut_32
-slli_32 a c = small_shl (rest 32 c) a
+slli_low_32 a c = small_shl (rest 32 c) a
 
-pub srli_32 : (a c : ℕ) → AreSmall (shifted heads.Shr W32 (part W32 a) (constant W8 c))
+pub slli_32 : (a c : ℕ) → AreSmall (shifted heads.Shl W32 (part W32 a) (constant W64 c))
+slli_32 a c = subst AreSmall (whole_count heads.Shl W32 (part W32 a) c) (slli_low_32 a c)
+
+srli_low_32 : (a c : ℕ) → AreSmall (shifted heads.Shr W32 (part W32 a) (constant W8 c))
 unfolding cut_32
-srli_32 a c = small_shr (rest 32 c) a
+srli_low_32 a c = small_shr (rest 32 c) a
 
-pub srai_32 : (a c : ℕ) → AreSmall (shifted heads.Sar W32 (part W32 a) (constant W8 c))
+pub srli_32 : (a c : ℕ) → AreSmall (shifted heads.Shr W32 (part W32 a) (constant W64 c))
+srli_32 a c = subst AreSmall (whole_count heads.Shr W32 (part W32 a) c) (srli_low_32 a c)
+
+srai_low_32 : (a c : ℕ) → AreSmall (shifted heads.Sar W32 (part W32 a) (constant W8 c))
 unfolding cut_32
-srai_32 a c = small_sar (rest 32 c) a
+srai_low_32 a c = small_sar (rest 32 c) a
 
-pub slli_64 : (a c : ℕ) → IsSmall (shifted heads.Shl W64 (whole a) (constant W8 c))
-slli_64 a c = small_shl_whole (rest 64 c) a
+pub srai_32 : (a c : ℕ) → AreSmall (shifted heads.Sar W32 (part W32 a) (constant W64 c))
+srai_32 a c = subst AreSmall (whole_count heads.Sar W32 (part W32 a) c) (srai_low_32 a c)
 
-pub srli_64 : (a c : ℕ) → IsSmall (shifted heads.Shr W64 (whole a) (constant W8 c))
-srli_64 a c = small_shr_whole (rest 64 c) a
+slli_low_64 : (a c : ℕ) → IsSmall (shifted heads.Shl W64 (whole a) (constant W8 c))
+slli_low_64 a c = small_shl_whole (rest 64 c) a
 
-pub srai_64 : (a c : ℕ) → IsSmall (shifted heads.Sar W64 (whole a) (constant W8 c))
-srai_64 a c = small_sar_whole (rest 64 c) a
+pub slli_64 : (a c : ℕ) → IsSmall (shifted heads.Shl W64 (whole a) (constant W64 c))
+slli_64 a c = subst IsSmall (whole_count heads.Shl W64 (whole a) c) (slli_low_64 a c)
+
+srli_low_64 : (a c : ℕ) → IsSmall (shifted heads.Shr W64 (whole a) (constant W8 c))
+srli_low_64 a c = small_shr_whole (rest 64 c) a
+
+pub srli_64 : (a c : ℕ) → IsSmall (shifted heads.Shr W64 (whole a) (constant W64 c))
+srli_64 a c = subst IsSmall (whole_count heads.Shr W64 (whole a) c) (srli_low_64 a c)
+
+srai_low_64 : (a c : ℕ) → IsSmall (shifted heads.Sar W64 (whole a) (constant W8 c))
+srai_low_64 a c = small_sar_whole (rest 64 c) a
+
+pub srai_64 : (a c : ℕ) → IsSmall (shifted heads.Sar W64 (whole a) (constant W64 c))
+srai_64 a c = subst IsSmall (whole_count heads.Sar W64 (whole a) c) (srai_low_64 a c)

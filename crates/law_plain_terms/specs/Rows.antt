@@ -56,10 +56,10 @@ abbrev pub Shifts : Operation → Width → Code → Width → Type 0
 Shifts operation v code w = (a b : ℕ) →
     low_bits w (computed operation Second v (whole a) (whole b)) ≡ binary [] code w (part w a) (part W8 b)
 
--- and a shift by a constant
+-- and a shift by a constant, of which all bits are read
 abbrev pub ShiftsBy : Operation → Width → Code → Width → Type 0
 ShiftsBy operation v code w = (a c : ℕ) →
-    low_bits w (computed operation Immediate v (whole a) (constant W64 c)) ≡ binary [] code w (part w a) (constant W8 c)
+    low_bits w (computed operation Immediate v (whole a) (constant W64 c)) ≡ binary [] code w (part w a) (constant W64 c)
 
 -- `not`, whose line is the exclusive or with -1
 abbrev pub Complements : Width → Type 0

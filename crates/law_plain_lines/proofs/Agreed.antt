@@ -63,33 +63,33 @@ none_changed (Some y) none some = cc
 pub set_agrees : (live : List ℕ) (reg : ℕ) (t u : Tree) (had needs : List NeedAt) → IsKnown t u → AreCovered had needs →
     difference true live (sets reg t had) (sets reg u needs) ≡ None
 set_agrees live reg t u had needs known covered = agreed true live (sets reg t had) (sets reg u needs) (record {
-    registers = λ r asked. record {
-      known = λ is_live t' e. held_known (reg == r) r t u t' known e;
-      kept = λ within none some. absurd (changed_both (reg == r) t u none some);
-    };
-    stores = refl;
-    jumps = (refl, refl);
-    calls = tt;
-    needs = covered;
-  })
+  registers = λ r asked. record {
+    known = λ is_live t' e. held_known (reg == r) r t u t' known e;
+    kept = λ within none some. absurd (changed_both (reg == r) t u none some);
+  };
+  stores = refl;
+  jumps = (refl, refl);
+  calls = tt;
+  needs = covered;
+})
 
 -- nothing is changed in no register
 pub store_agrees : (live : List ℕ) (s : Store) (had needs : List NeedAt) → AreCovered had needs →
     difference true live (stores s had) (stores s needs) ≡ None
 store_agrees live s had needs covered = agreed true live (stores s had) (stores s needs) (record {
-    registers = λ r asked. record { known = λ is_live t e. own_known r t e; kept = λ within none some. absurd (none_changed (held [] r) refl some) };
-    stores = refl;
-    jumps = (refl, refl);
-    calls = tt;
-    needs = covered;
-  })
+  registers = λ r asked. record { known = λ is_live t e. own_known r t e; kept = λ within none some. absurd (none_changed (held [] r) refl some) };
+  stores = refl;
+  jumps = (refl, refl);
+  calls = tt;
+  needs = covered;
+})
 
 pub jump_agrees : (live : List ℕ) (j : Jump) (had needs : List NeedAt) → AreCovered had needs →
     difference true live (jumps j had) (jumps j needs) ≡ None
 jump_agrees live j had needs covered = agreed true live (jumps j had) (jumps j needs) (record {
-    registers = λ r asked. record { known = λ is_live t e. own_known r t e; kept = λ within none some. absurd (none_changed (held [] r) refl some) };
-    stores = refl;
-    jumps = (refl, refl);
-    calls = tt;
-    needs = covered;
-  })
+  registers = λ r asked. record { known = λ is_live t e. own_known r t e; kept = λ within none some. absurd (none_changed (held [] r) refl some) };
+  stores = refl;
+  jumps = (refl, refl);
+  calls = tt;
+  needs = covered;
+})

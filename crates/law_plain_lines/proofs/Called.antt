@@ -65,13 +65,13 @@ left_unset reg t e = go (held (left_by_call []) reg) refl e
 pub call_agrees : (live : List ℕ) (target : Tree) (result : Option Mode) (had args : List Arg) (needs more : List NeedAt) → ArgumentsAgree had args → AreCovered needs more →
     difference true live (calls target result had needs) (calls target None args more) ≡ None
 call_agrees live target result had args needs more same covered =
-  agreed true live (calls target result had needs) (calls target None args more) (record {
-    registers = λ r asked. record {
-      known = λ is_live t e. subst (λ o. Knows o t) (sym e) (itself_known t (left_unset r t e));
-      kept = λ within none some. absurd (left_both (held (left_by_call []) r) none some);
-    };
-    stores = refl;
-    jumps = (refl, refl);
-    calls = record { target = refl; args = same; more = λ f. cc; result = λ f. cc };
-    needs = covered;
-  })
+    agreed true live (calls target result had needs) (calls target None args more) (record {
+      registers = λ r asked. record {
+        known = λ is_live t e. subst (λ o. Knows o t) (sym e) (itself_known t (left_unset r t e));
+        kept = λ within none some. absurd (left_both (held (left_by_call []) r) none some);
+      };
+      stores = refl;
+      jumps = (refl, refl);
+      calls = record { target = refl; args = same; more = λ f. cc; result = λ f. cc };
+      needs = covered;
+    })

@@ -55,18 +55,18 @@ row : (m : Mode) (w : Width) (x : With → Written) (t : With → Tree) (op : Op
     ((p : With) → IsSmall (t p)) → ((p : With) → IsSmall (line_value op v p)) → ((p : With) → trees.width_of (t p) ≡ w) → ((p : With) → trees.width_of (line_value op v p) ≡ W64) →
     ((p : With) → low_bits w (line_value op v p) ≡ t p) → ConstantValueRow m w x t op v j
 row m w x t op v j wide term needs insn_small line_small insn_wide line_wide same = record {
-    wide = wide;
-    term = term;
-    needs = needs;
-    covered = λ p. one_covered (suc p.0) j [];
-    small_needs = λ p. refl;
-    small_asked = λ p. refl;
-    insn_small = insn_small;
-    line_small = line_small;
-    insn_wide = insn_wide;
-    line_wide = line_wide;
-    same = same;
-  }
+  wide = wide;
+  term = term;
+  needs = needs;
+  covered = λ p. one_covered (suc p.0) j [];
+  small_needs = λ p. refl;
+  small_asked = λ p. refl;
+  insn_small = insn_small;
+  line_small = line_small;
+  insn_wide = insn_wide;
+  line_wide = line_wide;
+  same = same;
+}
 
 -- ---- values of SI, extended
 

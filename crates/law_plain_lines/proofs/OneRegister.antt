@@ -61,18 +61,18 @@ OneRow m w o x t u = Row m w x t u (λ a. Register (suc a) o ∷ []) (λ a. is_s
 row : (m : Mode) (w o : Width) (x : ℕ → Written) (t u : ℕ → Tree) → width_of m ≡ Some w → ((a : ℕ) → (made (x a) w).term ≡ t a) → ((a : ℕ) → (made (x a) w).needs ≡ Register (suc a) o ∷ []) →
     ((a : ℕ) → IsSmall (t a)) → ((a : ℕ) → IsSmall (u a)) → ((a : ℕ) → trees.width_of (t a) ≡ w) → ((a : ℕ) → trees.width_of (u a) ≡ W64) → ((a : ℕ) → low_bits w (u a) ≡ t a) → OneRow m w o x t u
 row m w o x t u wide term needs insn_small line_small insn_wide line_wide same = record {
-    wide = wide;
-    term = term;
-    needs = needs;
-    covered = λ a. one_covered (suc a) o [];
-    small_needs = λ a. refl;
-    small_asked = λ a. refl;
-    insn_small = insn_small;
-    line_small = line_small;
-    insn_wide = insn_wide;
-    line_wide = line_wide;
-    same = same;
-  }
+  wide = wide;
+  term = term;
+  needs = needs;
+  covered = λ a. one_covered (suc a) o [];
+  small_needs = λ a. refl;
+  small_asked = λ a. refl;
+  insn_small = insn_small;
+  line_small = line_small;
+  insn_wide = insn_wide;
+  line_wide = line_wide;
+  same = same;
+}
 
 -- ---- the negative and the complement
 

@@ -67,18 +67,18 @@ row : (op : Operation) (v : Width) (c : Code) (m : Mode) (w : Width) (o : Mode) 
     ((p : Two) → trees.width_of (value c w k p) ≡ w) → ((p : Two) → trees.width_of (line_value op v p) ≡ W64) → ((p : Two) → low_bits w (line_value op v p) ≡ value c w k p) →
     OperationRow op v c m w o k
 row op v c m w o k wide term needs small_needs insn_small line_small insn_wide line_wide same = record {
-    wide = wide;
-    term = term;
-    needs = needs;
-    covered = λ p. two_covered (suc p.0) (suc p.1) w k (divisor_needs c (part k p.1));
-    small_needs = small_needs;
-    small_asked = λ p. refl;
-    insn_small = insn_small;
-    line_small = line_small;
-    insn_wide = insn_wide;
-    line_wide = line_wide;
-    same = same;
-  }
+  wide = wide;
+  term = term;
+  needs = needs;
+  covered = λ p. two_covered (suc p.0) (suc p.1) w k (divisor_needs c (part k p.1));
+  small_needs = small_needs;
+  small_asked = λ p. refl;
+  insn_small = insn_small;
+  line_small = line_small;
+  insn_wide = insn_wide;
+  line_wide = line_wide;
+  same = same;
+}
 
 -- ---- sums and differences
 

@@ -51,18 +51,18 @@ row : (m : Mode) (w : Width) (x : Two → Written) (t : Two → Tree) (op : Oper
     ((p : Two) → IsSmall (t p)) → ((p : Two) → IsSmall (line_value op v p)) → ((p : Two) → trees.width_of (t p) ≡ w) → ((p : Two) → trees.width_of (line_value op v p) ≡ W64) →
     ((p : Two) → low_bits w (line_value op v p) ≡ t p) → ValueRow m w x t op v j k
 row m w x t op v j k wide term needs insn_small line_small insn_wide line_wide same = record {
-    wide = wide;
-    term = term;
-    needs = needs;
-    covered = λ p. two_covered (suc p.0) (suc p.1) j k [];
-    small_needs = λ p. refl;
-    small_asked = λ p. refl;
-    insn_small = insn_small;
-    line_small = line_small;
-    insn_wide = insn_wide;
-    line_wide = line_wide;
-    same = same;
-  }
+  wide = wide;
+  term = term;
+  needs = needs;
+  covered = λ p. two_covered (suc p.0) (suc p.1) j k [];
+  small_needs = λ p. refl;
+  small_asked = λ p. refl;
+  insn_small = insn_small;
+  line_small = line_small;
+  insn_wide = insn_wide;
+  line_wide = line_wide;
+  same = same;
+}
 
 -- ---- values of SI, extended
 

@@ -75,18 +75,18 @@ row : (op : Operation) (v : Width) (c : Code) (m : Mode) (w k : Width) → width
     ((p : With) → trees.width_of (value c w k p) ≡ w) → ((p : With) → trees.width_of (line_value op v p) ≡ W64) → ((p : With) → low_bits w (line_value op v p) ≡ value c w k p) →
     ConstantRow op v c m w k
 row op v c m w k wide term needs insn_small line_small insn_wide line_wide same = record {
-    wide = wide;
-    term = term;
-    needs = needs;
-    covered = λ p. one_covered (suc p.0) w [];
-    small_needs = λ p. refl;
-    small_asked = λ p. refl;
-    insn_small = insn_small;
-    line_small = line_small;
-    insn_wide = insn_wide;
-    line_wide = line_wide;
-    same = same;
-  }
+  wide = wide;
+  term = term;
+  needs = needs;
+  covered = λ p. one_covered (suc p.0) w [];
+  small_needs = λ p. refl;
+  small_asked = λ p. refl;
+  insn_small = insn_small;
+  line_small = line_small;
+  insn_wide = insn_wide;
+  line_wide = line_wide;
+  same = same;
+}
 
 -- ---- sums
 

@@ -45,6 +45,7 @@ unfolding zero_test
 is_test Less a b e r = ap (λ p. tested (difference Less a b) (difference p b a)) r
 is_test Equal a b e r = refl
 is_test Greater a b e r = ap (λ p. tested (difference Greater a b) (sum W64 0 (placed (ordering_then p Equal) W64 1 (whole b) (minus_one W64, whole a) [] ((1, whole b) ∷ [])))) e
+
 -- ---- the test, made by a comparison of the difference with 1 or with 0
 
 zero_is_zero : equals_zero W64 (constant W64 0) ≡ constant W8 1
